@@ -1,0 +1,5 @@
+pub mod Matrix
+pub mod MatrixLayout
+pub mod Indices
+pub mod Signing
+pub mod Words

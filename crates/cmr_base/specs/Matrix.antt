@@ -1,0 +1,49 @@
+-- A matrix as a list of rows, all of one width.
+use Rattle.std.specs.Prelude.{◌≡◌, ◌<◌, ◌≤◌, ◌+◌, ◌≤ℤ◌, ℕ, zero, suc, ℤ, pos, negsuc, Bool, true, false, List, [], ◌∷◌, length, take, drop, count_by, slice_index_or, slice_set}
+
+-- the rows, and how long each is: a matrix without rows has a width too
+pub record Matrix : Type 0 where
+  pub rows : List (List ℤ)
+  pub width : ℕ
+
+abbrev pub height : Matrix → ℕ
+height m = length m.rows
+
+-- a row, counted from 0
+abbrev pub row_of : Matrix → ℕ → List ℤ
+row_of m row = slice_index_or m.rows row []
+
+-- the entry in a row and a column, counted from 0
+abbrev pub entry : Matrix → ℕ → ℕ → ℤ
+entry m row column = slice_index_or (row_of m row) column (pos 0)
+
+-- the same with one entry changed
+abbrev pub with_entry : Matrix → ℕ → ℕ → ℤ → Matrix
+with_entry m row column value = record { rows = slice_set m.rows row (slice_set (row_of m row) column value); width = m.width }
+
+-- -1, 0 or 1
+pub record IsEntry (z : ℤ) : Type 0 where
+  pub low : negsuc 0 ≤ℤ z
+  pub high : z ≤ℤ pos 1
+
+-- what every matrix is
+pub record IsMatrix (m : Matrix) : Type 0 where
+  pub rectangular : (row : ℕ) → row < height m → length (row_of m row) ≡ m.width
+  pub small : (row column : ℕ) → IsEntry (entry m row column)
+  pub height_in : height m ≤ 1000
+  pub width_in : m.width ≤ 1000
+
+abbrev pub is_nonzero : ℤ → Bool
+is_nonzero (pos zero) = false
+is_nonzero (pos (suc n)) = true
+is_nonzero (negsuc n) = true
+
+-- how many entries are not 0
+abbrev pub nonzeros_of : List (List ℤ) → ℕ
+nonzeros_of [] = 0
+nonzeros_of (row ∷ rows) = count_by is_nonzero row + nonzeros_of rows
+
+-- cells laid out row by row, cut into n rows
+abbrev pub rows_of : ℕ → ℕ → List ℤ → List (List ℤ)
+rows_of zero width cells = []
+rows_of (suc n) width cells = take width cells ∷ rows_of n width (drop width cells)

@@ -1,0 +1,58 @@
+-- Signings of a set of rows, and total unimodularity by them.
+use Rattle.std.specs.Prelude.{◌≡◌, ◌<◌, ◌≤◌, ◌⊎◌, ◌+◌, ◌*◌, ◌^◌, ℕ, ℤ, pos, negsuc, ◌+ℤ◌, ◌*ℤ◌, List, [], ◌∷◌, length, slice_index}
+use Rattle.std.specs.List.{AllByRecursion}
+use Rattle.std.specs.List.Sorted.{IsStrictlyIncreasing}
+use Rattle.cmr_base.specs.Matrix.{Matrix, height, entry, IsEntry}
+
+-- +1 or -1
+abbrev pub IsSign : ℤ → Type 0
+IsSign z = (z ≡ pos 1) ⊎ (z ≡ negsuc 0)
+
+-- the sum of some rows in a column, each row times its sign
+abbrev pub signed_sum : Matrix → List ℕ → List ℤ → ℕ → ℤ
+signed_sum m [] signs column = pos 0
+signed_sum m (row ∷ rows) [] column = pos 0
+signed_sum m (row ∷ rows) (sign ∷ signs) column = (sign *ℤ entry m row column) +ℤ signed_sum m rows signs column
+
+-- a signing of the rows: in every column the sum is -1, 0 or 1
+pub record IsSigning (m : Matrix) (rows : List ℕ) (signs : List ℤ) : Type 0 where
+  pub one_each : length signs ≡ length rows
+  pub each : AllByRecursion IsSign signs
+  pub sums : (column : ℕ) → column < m.width → IsEntry (signed_sum m rows signs column)
+
+-- a set of rows, as its numbers from the least to the greatest
+pub record IsRowSet (m : Matrix) (rows : List ℕ) : Type 0 where
+  pub rising : IsStrictlyIncreasing rows
+  pub in_range : (k : ℕ) → k < length rows → slice_index rows k < height m
+
+-- every set of rows has a signing
+abbrev pub IsTotallyUnimodular : Matrix → Type 0
+IsTotallyUnimodular m = (rows : List ℕ) → IsRowSet m rows → (signs : List ℤ) × IsSigning m rows signs
+
+-- the number of a row set: row r counts 2^r
+abbrev pub set_number : List ℕ → ℕ
+set_number [] = 0
+set_number (row ∷ rows) = 2 ^ row + set_number rows
+
+-- the number of a list of signs: a -1 at place k counts 2^k
+abbrev pub sign_bit : ℤ → ℕ
+sign_bit (pos n) = 0
+sign_bit (negsuc n) = 1
+
+abbrev pub sign_number : List ℤ → ℕ
+sign_number [] = 0
+sign_number (sign ∷ signs) = sign_bit sign + 2 * sign_number signs
+
+-- the first signing in the order of the signs' numbers
+pub record IsFirstSigning (m : Matrix) (rows : List ℕ) (signs : List ℤ) : Type 0 where
+  pub signing : IsSigning m rows signs
+  pub first : (others : List ℤ) → IsSigning m rows others → sign_number signs ≤ sign_number others
+
+abbrev pub HasNoSigning : Matrix → List ℕ → Type 0
+HasNoSigning m rows = (signs : List ℤ) → IsSigning m rows signs → ⊥
+
+-- the least row set without a signing
+pub record IsLeastUnsigned (m : Matrix) (rows : List ℕ) : Type 0 where
+  pub row_set : IsRowSet m rows
+  pub unsigned : HasNoSigning m rows
+  pub least : (others : List ℕ) → IsRowSet m others → set_number others < set_number rows → (signs : List ℤ) × IsSigning m others signs

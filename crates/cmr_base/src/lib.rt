@@ -1,0 +1,21 @@
+//! Matrices with entries -1, 0 and 1, sets of their lines, and the small types that every crate above
+//! shares. Line numbers are counted from 0.
+#![tactic(auto)]
+
+mod indices;
+mod item_list;
+mod matrix;
+mod memory;
+mod word;
+
+pub use indices::Indices;
+pub use item_list::{ItemList, SignList, WordList};
+pub use matrix::{MAX_COLUMNS, MAX_ROWS, Matrix};
+pub use memory::Memory;
+pub use word::Word;
+
+/// The most bytes that a matrix text may have: 16 MiB.
+pub const MAX_TEXT: usize = 16_777_216;
+
+/// The most bytes that the text of some evidence may have: 256 MiB.
+pub const MAX_EVIDENCE: usize = 268_435_456;

@@ -1,0 +1,39 @@
+// Words of the command line.
+ghost use Rattle.std.specs.Prelude.{◌≡◌, ◌<◌, ◌++◌, [], ◌∷◌, length, slice_index_or, IfOk, OnOk, OnErr};
+
+use crate::Memory;
+use std::alloc::Global;
+use std::marker::Model;
+
+/// A word of the command line. Contracts see it as the bytes of its text.
+#[derive(Debug, Drop)]
+pub struct Word {
+    text: String,
+}
+
+impl Model for Word {
+    ghost use Rattle.std.specs.Prelude.{List, ℕ};
+    ghost use Rattle.std.specs.String.{string_bytes};
+
+    ghost Value = { List ℕ };
+
+    ghost view = { λ a. string_bytes a.text };
+}
+
+impl Word {
+    /// The word of a text.
+    pub fn new(alloc: Global, text: &str) -> Result<Word, Memory>
+        ensures { IfOk result (λ word. word ≡ text.now) }
+    {
+        Ok(Word {
+            text: String::from_str(alloc, text)?,
+        })
+    }
+
+    /// Its text.
+    pub fn text(&self) -> &str
+        ensures { result.now ≡ self.now }
+    {
+        self.text.as_str()
+    }
+}
