@@ -1,8 +1,8 @@
--- Signings of a set of rows, and total unimodularity by them.
-use Rattle.std.specs.Prelude.{◌≡◌, ◌<◌, ◌≤◌, ◌⊎◌, ◌+◌, ◌*◌, ◌^◌, ℕ, ℤ, pos, negsuc, ◌+ℤ◌, ◌*ℤ◌, List, [], ◌∷◌, length, slice_index}
+-- Signings of a set of rows, and total unimodularity by them (Ghouila-Houri).
+use Rattle.std.specs.Prelude.{◌≡◌, ◌<◌, ◌≤◌, ◌⊎◌, ◌+◌, ◌*◌, ℕ, ℤ, pos, negsuc, ◌+ℤ◌, ◌*ℤ◌, List, [], ◌∷◌, length}
 use Rattle.std.specs.List.{AllByRecursion}
-use Rattle.std.specs.List.Sorted.{IsStrictlyIncreasing}
-use Rattle.cmr_base.specs.Matrix.{Matrix, height, entry, IsEntry}
+use Rattle.cmr_base.specs.Matrix.{Matrix, entry, IsEntry}
+use Rattle.cmr_base.specs.LineSets.{IsRowSet, set_number}
 
 -- +1 or -1
 abbrev pub IsSign : ℤ → Type 0
@@ -20,19 +20,9 @@ pub record IsSigning (m : Matrix) (rows : List ℕ) (signs : List ℤ) : Type 0 
   pub each : AllByRecursion IsSign signs
   pub sums : (column : ℕ) → column < m.width → IsEntry (signed_sum m rows signs column)
 
--- a set of rows, as its numbers from the least to the greatest
-pub record IsRowSet (m : Matrix) (rows : List ℕ) : Type 0 where
-  pub rising : IsStrictlyIncreasing rows
-  pub in_range : (k : ℕ) → k < length rows → slice_index rows k < height m
-
--- every set of rows has a signing
+-- totally unimodular: every set of rows has a signing
 abbrev pub IsTotallyUnimodular : Matrix → Type 0
 IsTotallyUnimodular m = (rows : List ℕ) → IsRowSet m rows → (signs : List ℤ) × IsSigning m rows signs
-
--- the number of a row set: row r counts 2^r
-abbrev pub set_number : List ℕ → ℕ
-set_number [] = 0
-set_number (row ∷ rows) = 2 ^ row + set_number rows
 
 -- the number of a list of signs: a -1 at place k counts 2^k
 abbrev pub sign_bit : ℤ → ℕ
@@ -48,6 +38,7 @@ pub record IsFirstSigning (m : Matrix) (rows : List ℕ) (signs : List ℤ) : Ty
   pub signing : IsSigning m rows signs
   pub first : (others : List ℤ) → IsSigning m rows others → sign_number signs ≤ sign_number others
 
+-- the rows have no signing
 abbrev pub HasNoSigning : Matrix → List ℕ → Type 0
 HasNoSigning m rows = (signs : List ℤ) → IsSigning m rows signs → ⊥
 

@@ -4,7 +4,8 @@ use Rattle.std.proofs.lemmas.Bool.{cases_lt, cases_eq}
 use Rattle.std.proofs.Math.Nat.{pow-suc, pow-le-pow_right, zero-mul, eq_of_mul-eq-mul_right}
 use Rattle.std.proofs.Math.Pow.{pow_pos}
 use Rattle.std.specs.List.Sorted.{IsStrictlyIncreasing}
-use Rattle.cmr_base.specs.Signing.{set_number, IsRowSet, IsSigning}
+use Rattle.cmr_base.specs.Signing.{IsSigning}
+use Rattle.cmr_base.specs.LineSets.{set_number, IsRowSet}
 use Rattle.cmr_base.specs.Matrix.{Matrix, height}
 use Rattle.ghouila.specs.Numbered.{set_numbered}
 

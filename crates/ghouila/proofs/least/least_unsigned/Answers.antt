@@ -1,6 +1,6 @@
 use Rattle.std.proofs.Common.{List, ◌≡◌, ◌≤◌, ◌^◌, ◌*◌, ◌∙◌, ℕ, length, ap, sym, subst, arith}
 use Rattle.cmr_base.specs.Matrix.{Matrix, height}
-use Rattle.cmr_base.specs.Signing.{IsRowSet, set_number}
+use Rattle.cmr_base.specs.LineSets.{IsRowSet, set_number}
 use Rattle.ghouila.specs.Numbered.{set_numbered}
 use Rattle.ghouila.proofs.SetNumbers.{numbered_row_set, row_set_number, set_number-set_numbered, set_rises, short, all_signed_more}
 use Rattle.ghouila.proofs.least.least_unsigned.Goals as goal

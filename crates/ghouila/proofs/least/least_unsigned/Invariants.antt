@@ -1,5 +1,6 @@
 use Rattle.std.proofs.Common.{◌<◌, ℕ, ℤ, List}
-use Rattle.cmr_base.specs.Signing.{IsRowSet, IsSigning, set_number}
+use Rattle.cmr_base.specs.Signing.{IsSigning}
+use Rattle.cmr_base.specs.LineSets.{IsRowSet, set_number}
 use Rattle.ghouila.proofs.least.least_unsigned.Given as goal
 
 -- each lesser row set has a signing

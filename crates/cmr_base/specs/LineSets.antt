@@ -1,0 +1,23 @@
+-- Sets of rows and of columns, and the submatrix on them.
+use Rattle.std.specs.Prelude.{◌<◌, ◌+◌, ◌^◌, ℕ, List, [], ◌∷◌, length, map, slice_index}
+use Rattle.std.specs.List.Sorted.{IsStrictlyIncreasing}
+use Rattle.cmr_base.specs.Matrix.{Matrix, height, entry}
+
+-- a set of rows: their numbers, rising
+pub record IsRowSet (m : Matrix) (rows : List ℕ) : Type 0 where
+  pub rising : IsStrictlyIncreasing rows
+  pub in_range : (k : ℕ) → k < length rows → slice_index rows k < height m
+
+-- a set of columns: their numbers, rising
+pub record IsColumnSet (m : Matrix) (columns : List ℕ) : Type 0 where
+  pub rising : IsStrictlyIncreasing columns
+  pub in_range : (k : ℕ) → k < length columns → slice_index columns k < m.width
+
+-- the number by which sets are ordered: line k, counted from 0, adds 2^k
+abbrev pub set_number : List ℕ → ℕ
+set_number [] = 0
+set_number (line ∷ lines) = 2 ^ line + set_number lines
+
+-- the submatrix on some rows and columns, in their order
+abbrev pub submatrix : Matrix → List ℕ → List ℕ → Matrix
+submatrix m rows columns = record { rows = map (λ row. map (entry m row) columns) rows; width = length columns }
