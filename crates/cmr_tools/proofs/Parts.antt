@@ -1,0 +1,29 @@
+-- Parts of a line, joined one after another.
+use Rattle.std.proofs.Common.{◌≡◌, ◌<◌, ◌+◌, ◌++◌, ◌∷◌, ◌∙◌, ℕ, List, [], length, map, take, drop, get_or, ap, sym, inl, inr, refl, arith}
+use Rattle.std.specs.List.{concat}
+use Rattle.std.proofs.lemmas.List.{append-nil, drop_more, map-append, take-append-drop, take-append-le, take_all, take_more}
+use Rattle.std.proofs.lemmas.List.Folds.{concat-append}
+use Rattle.std.proofs.lemmas.Bool.{cases_lt}
+use Rattle.std.proofs.Math.Seq.{take-append-add}
+
+pub one_more : {X : Type 0} (f : X → List ℕ) (xs : List X) (i : ℕ) (d : X) → i < length xs → concat (map f (take (i + 1) xs)) ≡ concat (map f (take i xs)) ++ f (get_or xs i d)
+one_more f xs i d h =
+    ap (λ ys. concat (map f ys)) (take_more xs i d h)
+    ∙ ap concat (map-append f (take i xs) (get_or xs i d ∷ []))
+    ∙ concat-append (map f (take i xs)) (f (get_or xs i d) ∷ [])
+    ∙ ap (λ r. concat (map f (take i xs)) ++ r) (append-nil (f (get_or xs i d)))
+
+pub at : {X : Type 0} (f : X → List ℕ) (xs : List X) (i : ℕ) (d : X) → i < length xs → concat (map f xs) ≡ concat (map f (take i xs)) ++ (f (get_or xs i d) ++ concat (map f (drop (i + 1) xs)))
+at f xs i d h =
+    ap (λ ys. concat (map f ys)) (sym (take-append-drop i xs) ∙ ap (λ r. take i xs ++ r) (drop_more xs i d h))
+    ∙ ap concat (map-append f (take i xs) (get_or xs i d ∷ drop (i + 1) xs))
+    ∙ concat-append (map f (take i xs)) (f (get_or xs i d) ∷ map f (drop (i + 1) xs))
+
+-- a front of one part, behind the parts before it, is a front of the whole
+pub front : (done part rest : List ℕ) (n : ℕ) → (k : ℕ) × (done ++ take n part ≡ take k (done ++ (part ++ rest)))
+front done part rest n = elim (cases_lt (length part) n) [
+  | inl past ↦ (length done + length part,
+      ap (λ p. done ++ p) (take_all n part (omega arith) ∙ sym (take_all (length part) part (omega arith)) ∙ sym (take-append-le (length part) part rest (omega arith))) ∙ sym (take-append-add done (part ++ rest) (length part)))
+  | inr within ↦ (length done + n,
+      ap (λ p. done ++ p) (sym (take-append-le n part rest (omega arith))) ∙ sym (take-append-add done (part ++ rest) n))
+]

@@ -1,0 +1,42 @@
+use Rattle.std.proofs.Common.{◌≡◌, ◌∙◌, ◌++◌, take, drop, map, ◌+◌, ap, sym, inl, inr, append_assoc, arith, [], get_or}
+use Rattle.std.specs.List.{concat}
+use Rattle.cmr_tools.proofs.Parts.{one_more, at, front}
+use Rattle.cmr_tools.proofs.error_lines.write_parts.Goals as goal
+
+pub loop-part-preserved : goal.loop-part-preserved
+loop-part-preserved g c =
+    let before = c.loop-part.invariant in
+    let parts = c.args.parts.now in
+    let wrote = c.in_default.ensures in
+    record {
+      written = λ told.
+          wrote.whole (before.tells ∙ told)
+          ∙ ap (λ got. got ++ c.as_bytes.result.now) (before.written told)
+          ∙ append_assoc (g.E.Sink.got c.args.err.now) (concat (map (λ p. p.now) (take c.loop-part.part-index parts))) c.as_bytes.result.now
+          ∙ ap (λ r. g.E.Sink.got c.args.err.now ++ r)
+          (ap (λ r. concat (map (λ p. p.now) (take c.loop-part.part-index parts)) ++ r) c.as_bytes.ensures.value
+          ∙ sym (one_more (λ p. p.now) parts c.loop-part.part-index (record { ref_ptr = (0, 0); now = [] }) (omega arith)));
+      tells = wrote.tells ∙ before.tells;
+      later = omega (arith, wrote.cause.later, before.later);
+    }
+
+pub returns-in-Err : goal.returns-in-Err
+returns-in-Err g c = λ told.
+    let before = c.loop-part.invariant in
+    let parts = c.args.parts.now in
+    let i = c.loop-part.part-index in
+    let wrote = c.in-Err.ensures in
+    let done = concat (map (λ p. p.now) (take i parts)) in
+    let rest = concat (map (λ p. p.now) (drop (i + 1) parts)) in
+    let n = (wrote.front (before.tells ∙ told)).0 in
+    let cut = front done c.as_bytes.result.now rest n in
+    inr (
+      elim wrote.cause.failed [ inl up ↦ inl (omega (arith, before.later)) | inr last ↦ inr last ],
+      cut.0,
+      (wrote.front (before.tells ∙ told)).1
+      ∙ ap (λ got. got ++ take n c.as_bytes.result.now) (before.written told)
+      ∙ append_assoc (g.E.Sink.got c.args.err.now) done (take n c.as_bytes.result.now)
+      ∙ ap (λ r. g.E.Sink.got c.args.err.now ++ r) (cut.1 ∙ ap (take cut.0)
+      (ap (λ p. done ++ (p ++ rest)) c.as_bytes.ensures.value
+      ∙ sym (at (λ p. p.now) parts i (record { ref_ptr = (0, 0); now = [] }) (omega arith)))),
+    )

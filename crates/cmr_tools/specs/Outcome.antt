@@ -1,0 +1,53 @@
+-- The report that an outcome or a stop makes.
+use Rattle.std.specs.Prelude.{◌++◌, ℕ, List, [], ◌∷◌, map, codes, Result, Ok, Err}
+use Rattle.std.specs.Fmt.{decimal}
+use Rattle.matrix_text.specs.declared.error.TextKind.{TextKind}
+use Rattle.matrix_text.specs.declared.error.TextKind.TheVariants as kinds
+use Rattle.cmr_tools.specs.declared.outcome.OutputFile.{OutputFile}
+use Rattle.cmr_tools.specs.declared.outcome.Outcome.{Outcome}
+use Rattle.cmr_tools.specs.declared.outcome.Stop.{Stop}
+use Rattle.cmr_tools.specs.declared.outcome.Stop.TheVariants as stops
+use Rattle.cmr_tools.specs.Report.{Report, File, refusal}
+
+abbrev pub kind_name : TextKind → List ℕ
+kind_name kinds.NotNumber = codes "NotNumber"
+kind_name kinds.TooBig = codes "TooBig"
+kind_name kinds.TooManyRows = codes "TooManyRows"
+kind_name kinds.TooManyColumns = codes "TooManyColumns"
+kind_name kinds.BadEntry = codes "BadEntry"
+kind_name kinds.NotBinary = codes "NotBinary"
+kind_name kinds.Short = codes "Short"
+kind_name kinds.Extra = codes "Extra"
+
+abbrev pub file_of : OutputFile → File
+file_of file = record { name = file.name.now; bytes = file.bytes.items }
+
+abbrev pub outcome_report : Outcome → Report
+outcome_report outcome = record { status = outcome.status; output = outcome.output.items; error = []; files = map file_of outcome.files.items }
+
+-- the line on a text at fault
+abbrev pub fault_line : List ℕ → List ℕ → List ℕ → List ℕ
+fault_line name kind place = codes "cmr: " ++ name ++ codes ": " ++ kind ++ codes " at byte " ++ place ++ codes "\n"
+
+abbrev pub cannot_write_line : List ℕ → List ℕ
+cannot_write_line name = codes "cmr: cannot write " ++ name ++ codes "\n"
+
+abbrev pub bad_words : Report
+bad_words = refusal 2 (codes "cmr: bad command line\n")
+
+abbrev pub too_long : List ℕ → Report
+too_long name = refusal 3 (codes "cmr: " ++ name ++ codes ": TooLong\n")
+
+abbrev pub bad_text : List ℕ → TextKind → ℕ → Report
+bad_text name kind place = refusal 3 (fault_line name (kind_name kind) (decimal place))
+
+abbrev pub many_rows : List ℕ → Report
+many_rows name = refusal 3 (codes "cmr: " ++ name ++ codes ": more than 8 rows\n")
+
+abbrev pub stop_report : Stop → Report
+stop_report stops.BadWords = bad_words
+stop_report (stops.CannotRead name) = refusal 4 (codes "cmr: cannot read " ++ name.now ++ codes "\n")
+stop_report (stops.TooLong name) = too_long name.now
+stop_report (stops.BadText name kind place) = bad_text name.now kind place
+stop_report (stops.ManyRows name) = many_rows name.now
+stop_report stops.Memory = refusal 5 (codes "cmr: out of memory\n")

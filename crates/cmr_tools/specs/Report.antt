@@ -1,0 +1,32 @@
+-- What a run is to give, and what the names of a shelf hold.
+use Rattle.std.specs.Prelude.{ℕ, List, [], ◌∷◌, Option, Some, if◌then◌else◌}
+use Rattle.std.specs.Str.{bytes_eq}
+
+-- what each name holds, where it is there
+abbrev pub Held : Type 0
+Held = List ℕ → Option (List ℕ)
+
+-- a file that a run writes
+pub record File : Type 0 where
+  pub name : List ℕ
+  pub bytes : List ℕ
+
+-- The status, all of standard output and of standard error, and the files in the order in which they are written.
+pub record Report : Type 0 where
+  pub status : ℕ
+  pub output : List ℕ
+  pub error : List ℕ
+  pub files : List File
+
+-- a status and a line of standard error, and nothing else
+abbrev pub refusal : ℕ → List ℕ → Report
+refusal status line = record { status = status; output = []; error = line; files = [] }
+
+-- what the names hold after a file was written
+abbrev pub with_file : Held → File → Held
+with_file held file name = if bytes_eq name file.name then Some file.bytes else held name
+
+-- what the names hold after some files were written in order
+abbrev pub with_files : Held → List File → Held
+with_files held [] = held
+with_files held (file ∷ files) = with_files (with_file held file) files
