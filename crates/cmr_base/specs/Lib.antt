@@ -5,4 +5,3 @@ pub mod LineSets
 pub mod Sums
 pub mod Signing
 pub mod Violator
-pub mod Words

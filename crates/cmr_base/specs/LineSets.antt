@@ -1,5 +1,6 @@
 -- Sets of rows and of columns, and the submatrix on them.
-use Rattle.std.specs.Prelude.{◌<◌, ◌+◌, ◌^◌, ℕ, List, [], ◌∷◌, length, map, slice_index}
+use Rattle.std.specs.Prelude.{◌<◌, ◌+◌, ◌^◌, ◌==◌, not, filter, ℕ, List, [], ◌∷◌, length, map, slice_index}
+use Rattle.std.specs.List.{range_with_len}
 use Rattle.std.specs.List.Sorted.{IsStrictlyIncreasing}
 use Rattle.cmr_base.specs.Matrix.{Matrix, height, entry}
 
@@ -21,3 +22,15 @@ set_number (line ∷ lines) = 2 ^ line + set_number lines
 -- the submatrix on some rows and columns, in their order
 abbrev pub submatrix : Matrix → List ℕ → List ℕ → Matrix
 submatrix m rows columns = record { rows = map (λ row. map (entry m row) columns) rows; width = length columns }
+
+-- each below the bound
+abbrev pub AllBelow : ℕ → List ℕ → Type 0
+AllBelow bound lines = (k : ℕ) → k < length lines → slice_index lines k < bound
+
+-- the lines from 0 on, so many
+abbrev pub first_lines : ℕ → List ℕ
+first_lines count = range_with_len 0 count
+
+-- the set without a line
+abbrev pub without : List ℕ → ℕ → List ℕ
+without lines gone = filter (λ line. not (line == gone)) lines

@@ -1,0 +1,89 @@
+// Sets of lines.
+ghost use Rattle.std.specs.Prelude.{◌≡◌, ◌≤◌, ◌+◌, length, IfOk};
+ghost use Rattle.cmr_base.specs.LineSets.{first_lines, without};
+
+use crate::{Indices, Memory};
+use std::alloc::Global;
+
+/// A set of lines: some rows and some columns of a matrix. A submatrix is named by the lines that it has.
+#[derive(Debug, Drop)]
+pub struct LineSet {
+    pub rows: Indices,
+    pub columns: Indices,
+}
+
+impl LineSet {
+    /// All lines of a matrix of these sizes.
+    pub fn all(alloc: Global, rows: u32, columns: u32) -> Result<LineSet, Memory>
+        ensures rows { IfOk result (λ lines. lines.rows ≡ first_lines rows) }
+        ensures columns { IfOk result (λ lines. lines.columns ≡ first_lines columns) }
+    {
+        Ok(LineSet {
+            rows: first_lines(alloc, rows)?,
+            columns: first_lines(alloc, columns)?,
+        })
+    }
+
+    /// The set without a row. Nothing else goes where the row is not in the set.
+    pub fn without_row(&self, alloc: Global, row: u32) -> Result<LineSet, Memory>
+        ensures rows { IfOk result (λ lines. lines.rows ≡ without self.now.rows row) }
+        ensures columns { IfOk result (λ lines. lines.columns ≡ self.now.columns) }
+    {
+        Ok(LineSet {
+            rows: without(alloc, &self.rows, row)?,
+            columns: copy_of(alloc, &self.columns)?,
+        })
+    }
+
+    /// The set without a column. Nothing else goes where the column is not in the set.
+    pub fn without_column(&self, alloc: Global, column: u32) -> Result<LineSet, Memory>
+        ensures rows { IfOk result (λ lines. lines.rows ≡ self.now.rows) }
+        ensures columns { IfOk result (λ lines. lines.columns ≡ without self.now.columns column) }
+    {
+        Ok(LineSet {
+            rows: copy_of(alloc, &self.rows)?,
+            columns: without(alloc, &self.columns, column)?,
+        })
+    }
+
+    /// How many lines there are, rows and columns.
+    pub fn size(&self) -> u32
+        requires rows { length self.now.rows ≤ 1000 }
+        requires columns { length self.now.columns ≤ 1000 }
+        ensures { result ≡ length self.now.rows + length self.now.columns }
+    {
+        self.rows.len() as u32 + self.columns.len() as u32
+    }
+}
+
+fn first_lines(alloc: Global, count: u32) -> Result<Indices, Memory>
+    ensures { IfOk result (λ lines. lines ≡ first_lines count) }
+{
+    let mut lines = Indices::new(alloc);
+    for line in 0..count {
+        lines.push(line)?;
+    }
+    Ok(lines)
+}
+
+fn copy_of(alloc: Global, lines: &Indices) -> Result<Indices, Memory>
+    ensures { IfOk result (λ copy. copy ≡ lines.now) }
+{
+    let mut copy = Indices::new(alloc);
+    for line in lines.as_slice() {
+        copy.push(*line)?;
+    }
+    Ok(copy)
+}
+
+fn without(alloc: Global, lines: &Indices, gone: u32) -> Result<Indices, Memory>
+    ensures { IfOk result (λ rest. rest ≡ without lines.now gone) }
+{
+    let mut rest = Indices::new(alloc);
+    for line in lines.as_slice() {
+        if *line != gone {
+            rest.push(*line)?;
+        }
+    }
+    Ok(rest)
+}

@@ -1,0 +1,4 @@
+pub mod Words
+pub mod Result
+pub mod Numbers
+pub mod Reading
