@@ -1,3 +1,9 @@
+pub mod Words
 pub mod Report
 pub mod Outcome
 pub mod Written
+pub mod Inputs
+pub mod Stopped
+pub mod Ending
+pub mod Tu
+pub mod Run

@@ -3,11 +3,10 @@ use Rattle.std.specs.Prelude.{◌++◌, ℕ, List, [], ◌∷◌, map, codes, Re
 use Rattle.std.specs.Fmt.{decimal}
 use Rattle.matrix_text.specs.declared.error.TextKind.{TextKind}
 use Rattle.matrix_text.specs.declared.error.TextKind.TheVariants as kinds
-use Rattle.cmr_tools.specs.declared.outcome.OutputFile.{OutputFile}
 use Rattle.cmr_tools.specs.declared.outcome.Outcome.{Outcome}
 use Rattle.cmr_tools.specs.declared.outcome.Stop.{Stop}
 use Rattle.cmr_tools.specs.declared.outcome.Stop.TheVariants as stops
-use Rattle.cmr_tools.specs.Report.{Report, File, refusal}
+use Rattle.cmr_tools.specs.Report.{Report, refusal}
 
 abbrev pub kind_name : TextKind → List ℕ
 kind_name kinds.NotNumber = codes "NotNumber"
@@ -18,12 +17,14 @@ kind_name kinds.BadEntry = codes "BadEntry"
 kind_name kinds.NotBinary = codes "NotBinary"
 kind_name kinds.Short = codes "Short"
 kind_name kinds.Extra = codes "Extra"
-
-abbrev pub file_of : OutputFile → File
-file_of file = record { name = file.name.now; bytes = file.bytes.items }
+kind_name kinds.RowOutOfRange = codes "RowOutOfRange"
+kind_name kinds.ColumnOutOfRange = codes "ColumnOutOfRange"
+kind_name kinds.TwiceNamed = codes "TwiceNamed"
+kind_name kinds.NotRising = codes "NotRising"
+kind_name kinds.OtherSize = codes "OtherSize"
 
 abbrev pub outcome_report : Outcome → Report
-outcome_report outcome = record { status = outcome.status; output = outcome.output.items; error = []; files = map file_of outcome.files.items }
+outcome_report outcome = record { status = outcome.status; output = outcome.output.items; error = []; files = [] }
 
 -- the line on a text at fault
 abbrev pub fault_line : List ℕ → List ℕ → List ℕ → List ℕ
@@ -44,10 +45,21 @@ bad_text name kind place = refusal 3 (fault_line name (kind_name kind) (decimal 
 abbrev pub many_rows : List ℕ → Report
 many_rows name = refusal 3 (codes "cmr: " ++ name ++ codes ": more than 8 rows\n")
 
+abbrev pub cannot_read : List ℕ → Report
+cannot_read name = refusal 4 (codes "cmr: cannot read " ++ name ++ codes "\n")
+
+abbrev pub out_of_memory : Report
+out_of_memory = refusal 5 (codes "cmr: out of memory\n")
+
 abbrev pub stop_report : Stop → Report
 stop_report stops.BadWords = bad_words
-stop_report (stops.CannotRead name) = refusal 4 (codes "cmr: cannot read " ++ name.now ++ codes "\n")
+stop_report (stops.CannotRead name) = cannot_read name.now
 stop_report (stops.TooLong name) = too_long name.now
 stop_report (stops.BadText name kind place) = bad_text name.now kind place
 stop_report (stops.ManyRows name) = many_rows name.now
-stop_report stops.Memory = refusal 5 (codes "cmr: out of memory\n")
+stop_report stops.Memory = out_of_memory
+
+-- the report of an outcome, or of the stop that stands in its place
+abbrev pub ended_report : Result Outcome Stop → Report
+ended_report (Ok outcome) = outcome_report outcome
+ended_report (Err stop) = stop_report stop

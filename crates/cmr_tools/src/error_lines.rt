@@ -76,5 +76,10 @@ fn kind_name(kind: TextKind) -> &'static str
         TextKind::NotBinary => "NotBinary",
         TextKind::Short => "Short",
         TextKind::Extra => "Extra",
+        TextKind::RowOutOfRange => "RowOutOfRange",
+        TextKind::ColumnOutOfRange => "ColumnOutOfRange",
+        TextKind::TwiceNamed => "TwiceNamed",
+        TextKind::NotRising => "NotRising",
+        TextKind::OtherSize => "OtherSize",
     }
 }

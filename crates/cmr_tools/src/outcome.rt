@@ -1,19 +1,13 @@
 // What a tool decided, or why it decided nothing.
+ghost use Rattle.std.specs.Prelude.{◌≡◌};
+
 use matrix_text::TextKind;
 
-/// A file that is to be written.
+/// What a tool decided: its status, and the bytes of standard output.
 #[derive(Debug, Drop)]
-pub struct OutputFile<'a> {
-    pub name: &'a str,
-    pub bytes: Vec<u8>,
-}
-
-/// What a tool decided: its status, and what is to be written.
-#[derive(Debug, Drop)]
-pub struct Outcome<'a> {
+pub struct Outcome {
     pub status: u8,
     pub output: Vec<u8>,
-    pub files: Vec<OutputFile<'a>>,
 }
 
 /// Why a run has no outcome.
@@ -25,4 +19,20 @@ pub enum Stop<'a> {
     BadText { name: &'a str, kind: TextKind, place: usize },
     ManyRows { name: &'a str },
     Memory,
+}
+
+impl Stop<'_> {
+    ghost use Rattle.cmr_tools.specs.Outcome.{stop_report};
+
+    /// The status with which the program ends.
+    pub fn status(&self) -> u8
+        ensures { result ≡ (stop_report self.now).status }
+    {
+        match self {
+            Stop::BadWords => 2,
+            Stop::TooLong { .. } | Stop::BadText { .. } | Stop::ManyRows { .. } => 3,
+            Stop::CannotRead { .. } => 4,
+            Stop::Memory => 5,
+        }
+    }
 }

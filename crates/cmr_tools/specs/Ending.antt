@@ -1,0 +1,64 @@
+-- What stands on the devices when a run ends.
+use Rattle.std.specs.Prelude.{◌≡◌, ◌≢◌, ◌<◌, ◌⊎◌, ◌++◌, ℕ, List, [], ◌∷◌, length, take, Option, Some, slice_get, codes, Result, Ok, Err}
+use Rattle.cmr_io.specs.Causes.{Rose}
+use Rattle.cmr_tools.specs.Report.{Held, File, Report, with_files}
+use Rattle.cmr_tools.specs.declared.outcome.Outcome.{Outcome}
+use Rattle.cmr_tools.specs.declared.outcome.Stop.{Stop}
+use Rattle.cmr_tools.specs.Outcome.{cannot_write_line, outcome_report, stop_report}
+use Rattle.cmr_tools.specs.Written.{IsWritten}
+
+-- what the names hold, what standard output and standard error have got, and how often a call on each has failed
+pub record Devices : Type 0 where
+  pub held : Held
+  pub output : List ℕ
+  pub error : List ℕ
+  pub shelf_faults : ℕ
+  pub output_faults : ℕ
+  pub error_faults : ℕ
+
+abbrev pub devices : Held → List ℕ → List ℕ → ℕ → ℕ → ℕ → Devices
+devices held output error shelf_faults output_faults error_faults = record {
+  held = held;
+  output = output;
+  error = error;
+  shelf_faults = shelf_faults;
+  output_faults = output_faults;
+  error_faults = error_faults;
+}
+
+-- All files of the report and all of its standard output were written, and its line to standard error.
+pub record IsDelivered (report : Report) (before after : Devices) : Type 0 where
+  pub files : (name : List ℕ) → after.held name ≡ with_files before.held report.files name
+  pub output : after.output ≡ before.output ++ report.output
+  pub error : IsWritten before.error after.error before.error_faults after.error_faults report.error
+
+-- A file could not be written: those before it are whole, it is as before or holds a front of its bytes, and
+-- nothing was put to standard output.
+pub record IsStoppedAt (file : File) (files : List File) (before after : Devices) : Type 0 where
+  pub earlier : (name : List ℕ) → name ≢ file.name → after.held name ≡ with_files before.held files name
+  pub faulty : (after.held file.name ≡ with_files before.held files file.name) ⊎ ((n : ℕ) × (after.held file.name ≡ Some (take n file.bytes)))
+  pub output : after.output ≡ before.output
+  pub error : IsWritten before.error after.error before.error_faults after.error_faults (cannot_write_line file.name)
+  pub cause : Rose before.shelf_faults after.shelf_faults
+
+-- the same with the file's place on the report's list
+abbrev pub IsUnwritten : Report → Devices → Devices → Type 0
+IsUnwritten report before after = (k : ℕ) × (file : File) × (slice_get report.files k ≡ Some file) × IsStoppedAt file (take k report.files) before after
+
+-- Standard output failed: all files are whole, and a front of it was put.
+pub record IsCutShort (report : Report) (before after : Devices) : Type 0 where
+  pub files : (name : List ℕ) → after.held name ≡ with_files before.held report.files name
+  pub output : (n : ℕ) × (after.output ≡ before.output ++ take n report.output)
+  pub error : IsWritten before.error after.error before.error_faults after.error_faults (cannot_write_line (codes "-"))
+  pub cause : Rose before.output_faults after.output_faults
+
+-- How a report is carried out: whole, or with status 4 from a device.
+pub data IsCarriedOut (report : Report) (before after : Devices) (status : ℕ) : Type 0 where
+  delivered : status ≡ report.status → IsDelivered report before after → IsCarriedOut report before after status
+  unwritten : status ≡ 4 → IsUnwritten report before after → IsCarriedOut report before after status
+  cut_short : status ≡ 4 → IsCutShort report before after → IsCarriedOut report before after status
+
+-- what was decided is carried out: the report of an outcome, or the status and the line of a stop
+abbrev pub CarriesOut : Result Outcome Stop → Devices → Devices → ℕ → Type 0
+CarriesOut (Ok outcome) before after status = IsCarriedOut (outcome_report outcome) before after status
+CarriesOut (Err stop) before after status = (status ≡ (stop_report stop).status) × IsDelivered (stop_report stop) before after

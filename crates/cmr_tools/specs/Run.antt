@@ -1,0 +1,54 @@
+-- What a run reports, and how it ends.
+use Rattle.std.specs.Prelude.{◌≡◌, ◌≢◌, ◌≤◌, ◌⊎◌, ◌++◌, ℕ, Bool, false, IsTrue, List, length, Option, Some, None, Result, Ok, Err, codes}
+use Rattle.cmr_base.specs.Matrix.{Matrix}
+use Rattle.cmr_io.specs.Causes.{Rose}
+use Rattle.cmr_tools.specs.declared.outcome.Outcome.{Outcome}
+use Rattle.cmr_tools.specs.declared.outcome.Stop.{Stop}
+use Rattle.cmr_tools.specs.declared.outcome.Stop.TheVariants as stops
+use Rattle.cmr_tools.specs.Words.{Order, tu}
+use Rattle.cmr_tools.specs.Report.{Held, Report}
+use Rattle.cmr_tools.specs.Outcome.{bad_text, bad_words, cannot_read, many_rows, out_of_memory, outcome_report, too_long}
+use Rattle.cmr_tools.specs.Inputs.{reading, whole, matrix_in}
+use Rattle.cmr_tools.specs.Ending.{Devices, IsDelivered, IsCarriedOut}
+use Rattle.cmr_tools.specs.Words.Tu.{TuOrder}
+use Rattle.cmr_tools.specs.Tu.{TuReports}
+
+-- The report of a run, from what the words order and what the names hold. Refused words order nothing.
+abbrev pub Reports : Option Order → Held → Report → Type 0
+Reports None held report = report ≡ bad_words
+Reports (Some (tu o)) held report = TuReports o held report
+
+-- a file that is read for an order
+abbrev pub IsInput : Option Order → List ℕ → Type 0
+IsInput None name = ⊥
+IsInput (Some (tu o)) name = name ≡ o.file
+
+-- How a run ends: its report is carried out, or a file cannot be read, or memory is refused, and then nothing
+-- is written but the line of standard error.
+pub data HasEnded (order : Option Order) (before after : Devices) (status : ℕ) : Type 0 where
+  reported : (report : Report) → Reports order before.held report → IsCarriedOut report before after status → HasEnded order before after status
+  unread : (name : List ℕ) → IsInput order name → Rose before.shelf_faults after.shelf_faults → status ≡ 4 → IsDelivered (cannot_read name) before after → HasEnded order before after status
+  no_memory : status ≡ 5 → IsDelivered out_of_memory before after → HasEnded order before after status
+
+-- the status is the report's, but for a device or for want of memory
+abbrev pub IsComplete : Option Order → Held → ℕ → Type 0
+IsComplete order held status = (report : Report) → Reports order held report → (status ≡ report.status) ⊎ (status ≡ 4) ⊎ (status ≡ 5)
+
+-- the matrix that `tu` is to test
+pub record IsGiven (order : Option Order) (held : Held) (m : Matrix) : Type 0 where
+  pub options : TuOrder
+  pub bytes : List ℕ
+  pub ordered : order ≡ Some (tu options)
+  pub read : reading held 16777216 options.file ≡ whole bytes
+  pub matrix : matrix_in options.form false bytes ≡ Ok m
+
+-- What an outcome or a stop says for an order, before anything is written: it is the report, but for a file that
+-- cannot be read, of which a calm shelf says that there is no report, and for want of memory.
+abbrev pub Ends : Option Order → Held → Bool → Result Outcome Stop → Type 0
+Ends order held calm (Ok outcome) = Reports order held (outcome_report outcome)
+Ends order held calm (Err stops.BadWords) = Reports order held bad_words
+Ends order held calm (Err (stops.CannotRead name)) = IsInput order name.now × (IsTrue calm → (report : Report) → ¬ (Reports order held report))
+Ends order held calm (Err (stops.TooLong name)) = Reports order held (too_long name.now)
+Ends order held calm (Err (stops.BadText name kind place)) = Reports order held (bad_text name.now kind place)
+Ends order held calm (Err (stops.ManyRows name)) = Reports order held (many_rows name.now)
+Ends order held calm (Err stops.Memory) = Unit {0}
