@@ -1,5 +1,6 @@
 -- A matrix as a list of rows, all of one width.
-use Rattle.std.specs.Prelude.{◌≡◌, ◌<◌, ◌≤◌, ◌+◌, ◌≤ℤ◌, ℕ, zero, suc, ℤ, pos, negsuc, Bool, true, false, List, [], ◌∷◌, length, take, drop, count_by, slice_index_or, slice_set}
+use Rattle.std.specs.Prelude.{◌≡◌, ◌<◌, ◌≤◌, ◌+◌, ◌≤ℤ◌, ℕ, zero, suc, ℤ, pos, negsuc, Bool, true, false, List, [], ◌∷◌, length, take, drop, count_by, map, slice_index_or, slice_set}
+use Rattle.std.specs.List.{range_with_len}
 
 -- the rows, and how long each is: a matrix without rows has a width too
 pub record Matrix : Type 0 where
@@ -16,6 +17,14 @@ row_of m row = slice_index_or m.rows row []
 -- the entry in a row and a column, counted from 0
 abbrev pub entry : Matrix → ℕ → ℕ → ℤ
 entry m row column = slice_index_or (row_of m row) column (pos 0)
+
+-- a column, counted from 0
+abbrev pub column_of : Matrix → ℕ → List ℤ
+column_of m column = map (λ row. slice_index_or row column (pos 0)) m.rows
+
+-- the columns as rows
+abbrev pub transposed : Matrix → Matrix
+transposed m = record { rows = map (column_of m) (range_with_len 0 m.width); width = height m }
 
 -- the same with one entry changed
 abbrev pub with_entry : Matrix → ℕ → ℕ → ℤ → Matrix

@@ -1,8 +1,9 @@
 // Matrices.
-ghost use Rattle.std.specs.Prelude.{◌≡◌, ◌<◌, ◌≤◌, ◌*◌, ℕ, length, slice_index_or, IfOk, pos, replicate, count_by};
-ghost use Rattle.cmr_base.specs.Matrix.{Matrix, height, entry, with_entry, IsMatrix, IsEntry, rows_of, nonzeros_of, is_nonzero};
+ghost use Rattle.std.specs.Prelude.{◌≡◌, ◌<◌, ◌≤◌, ◌*◌, ◌++◌, ℕ, map, length, slice_index_or, IfOk, OnOk, pos, replicate, count_by};
+ghost use Rattle.cmr_base.specs.Matrix.{Matrix, height, row_of, column_of, entry, with_entry, transposed, IsMatrix, IsEntry, rows_of, nonzeros_of, is_nonzero};
+ghost use Rattle.cmr_base.specs.LineSets.{AllBelow, submatrix};
 
-use crate::Memory;
+use crate::{LineSet, Memory};
 use std::alloc::Global;
 use std::marker::Model;
 
@@ -89,6 +90,16 @@ impl Matrix {
         self.cells[row as usize * self.columns as usize + column as usize]
     }
 
+    /// The entries of a row, from the first column to the last.
+    pub fn row(&self, row: u32) -> &[i8]
+        requires { row < height self.now }
+        ensures entries { result.now ≡ row_of self.now row }
+        ensures shape { IsMatrix self.now }
+    {
+        let from = row as usize * self.columns as usize;
+        &self.cells[from..from + self.columns as usize]
+    }
+
     /// Changes that entry and no other.
     pub fn set(&mut self, row: u32, column: u32, value: i8)
         requires row { row < height self.old }
@@ -105,6 +116,54 @@ impl Matrix {
     {
         count_nonzeros(&self.cells) as u32
     }
+
+    /// The submatrix on some lines, with its rows and columns in the matrix's order.
+    pub fn part(&self, alloc: Global, lines: &LineSet) -> Result<Matrix, Memory>
+        requires rows { AllBelow (height self.now) lines.now.rows }
+        requires columns { AllBelow self.now.width lines.now.columns }
+        ensures { IfOk result (λ part. part ≡ submatrix self.now lines.now.rows lines.now.columns) }
+    {
+        let rows = lines.rows.as_slice();
+        let columns = lines.columns.as_slice();
+        prove!(rows.len() <= self.rows() as usize);
+        prove!(columns.len() <= self.columns() as usize);
+        let mut cells = Vec::with_capacity(alloc, rows.len() * columns.len())?;
+        for row in rows {
+            push_chosen(&mut cells, self.row(*row), columns)?;
+        }
+        Ok(Matrix::from_cells(rows.len() as u32, columns.len() as u32, cells))
+    }
+
+    /// The matrix with rows and columns exchanged.
+    pub fn transposed(&self, alloc: Global) -> Result<Matrix, Memory>
+        ensures { IfOk result (λ m. m ≡ transposed self.now) }
+    {
+        let mut cells = Vec::with_capacity(alloc, self.cells.len())?;
+        for column in 0..self.columns() {
+            self.push_column(column, &mut cells)?;
+        }
+        Ok(Matrix::from_cells(self.columns(), self.rows(), cells))
+    }
+
+    fn push_column(&self, column: u32, cells: &mut Vec<i8>) -> Result<(), Memory>
+        requires { column < self.now.width }
+        ensures { OnOk result (cells.new.items ≡ cells.old.items ++ column_of self.now column) }
+    {
+        for row in 0..self.rows() {
+            cells.push(self.entry(row, column))?;
+        }
+        Ok(())
+    }
+}
+
+fn push_chosen(cells: &mut Vec<i8>, row: &[i8], columns: &[u32]) -> Result<(), Memory>
+    requires { AllBelow (length row.now) columns.now }
+    ensures { OnOk result (cells.new.items ≡ cells.old.items ++ map (λ column. slice_index_or row.now column (pos 0)) columns.now) }
+{
+    for column in columns {
+        cells.push(row[*column as usize])?;
+    }
+    Ok(())
 }
 
 fn count_nonzeros(cells: &[i8]) -> usize

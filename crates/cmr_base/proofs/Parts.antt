@@ -1,0 +1,155 @@
+-- Cells that are made one row after another, and the entries of a submatrix and of a transposed matrix.
+use Rattle.std.proofs.Common.{◌≡◌, ◌<◌, ◌≤◌, ◌*◌, ◌+◌, ◌++◌, ◌∙◌, ℕ, zero, suc, ℤ, pos, List, [], ◌∷◌, map, length, take, drop, get_or, refl, ap, sym, subst, ◌⊎◌, inl, inr, arith, length-append}
+use Rattle.std.proofs.lemmas.List.{take_all, get_or-map, get_or_past, take_more, length-map, append-nil}
+use Rattle.std.proofs.lemmas.List.Concat.{flat_map-append}
+use Rattle.std.proofs.lemmas.Bool.{cases_lt}
+use Rattle.std.proofs.lemmas.Int.{ints}
+use Rattle.std.proofs.lemmas.List.FromFn.{length-range_with_len, get_or-map-range_with_len, length-map-range_with_len}
+use Rattle.std.proofs.Math.Nat.{suc-mul, zero-mul}
+use Rattle.std.proofs.Math.Seq.{take-append_seam, drop-append_seam}
+use Rattle.std.specs.List.{flat_map, range_with_len}
+use Rattle.std.specs.List.Sorted.{IsStrictlyIncreasing}
+use Rattle.cmr_base.specs.Matrix.{Matrix, height, entry, column_of, transposed, IsMatrix, IsEntry, rows_of}
+use Rattle.cmr_base.specs.LineSets.{AllBelow, submatrix}
+
+pub length-cells : {A : Type 0} (f : A → List ℤ) (w : ℕ) (xs : List A) → ((x : A) → length (f x) ≡ w) → length (flat_map f xs) ≡ length xs * w
+length-cells f w [] each = sym (zero-mul w)
+length-cells f w (x ∷ xs) each = omega (arith, length-append (f x) (flat_map f xs), each x, length-cells f w xs each, suc-mul (length xs) w)
+
+take_front : (xs ys : List ℤ) (w : ℕ) → length xs ≡ w → take w (xs ++ ys) ≡ xs
+take_front xs ys w e = subst (λ n. take n (xs ++ ys) ≡ xs) e (take-append_seam xs ys)
+
+drop_front : (xs ys : List ℤ) (w : ℕ) → length xs ≡ w → drop w (xs ++ ys) ≡ ys
+drop_front xs ys w e = subst (λ n. drop n (xs ++ ys) ≡ ys) e (drop-append_seam xs ys)
+
+-- cells made row by row are those rows
+pub rows_of-flat_map : {A : Type 0} (f : A → List ℤ) (w : ℕ) (xs : List A) → ((x : A) → length (f x) ≡ w) → rows_of (length xs) w (flat_map f xs) ≡ map f xs
+rows_of-flat_map f w [] each = refl
+rows_of-flat_map f w (x ∷ xs) each = rw (take_front (f x) (flat_map f xs) w (each x), drop_front (f x) (flat_map f xs) w (each x)) (ap (λ rows. f x ∷ rows) (rows_of-flat_map f w xs each))
+
+either_side : (P : ℤ → Type 0) (xs ys : List ℤ) (k : ℕ) → ((j : ℕ) → P (get_or xs j (pos 0))) → ((j : ℕ) → P (get_or ys j (pos 0))) → P (get_or (xs ++ ys) k (pos 0))
+either_side P [] ys k left right = right k
+either_side P (x ∷ xs) ys zero left right = left 0
+either_side P (x ∷ xs) ys (suc k) left right = either_side P xs ys k (λ j. left (suc j)) right
+
+pub each-flat_map : {A : Type 0} (P : ℤ → Type 0) (f : A → List ℤ) (xs : List A) → P (pos 0) → ((x : A) (j : ℕ) → P (get_or (f x) j (pos 0))) → (k : ℕ) → P (get_or (flat_map f xs) k (pos 0))
+each-flat_map P f [] z each k = z
+each-flat_map P f (x ∷ xs) z each k = either_side P (f x) (flat_map f xs) k (each x) (each-flat_map P f xs z each)
+
+-- entries of a list made by a function, or 0 past the end
+pub each-map : {A : Type 0} (P : ℤ → Type 0) (f : A → ℤ) (xs : List A) → P (pos 0) → ((x : A) → P (f x)) → (k : ℕ) → P (get_or (map f xs) k (pos 0))
+each-map P f [] z each k = z
+each-map P f (x ∷ xs) z each zero = each x
+each-map P f (x ∷ xs) z each (suc k) = each-map P f xs z each k
+
+-- an entry of a submatrix
+pub entry-submatrix : (m : Matrix) (rows columns : List ℕ) (i j : ℕ) → i < length rows → j < length columns → entry (submatrix m rows columns) i j ≡ entry m (get_or rows i 0) (get_or columns j 0)
+entry-submatrix m rows columns i j hi hj =
+    ap (λ row. get_or row j (pos 0)) (get_or-map (λ row. map (entry m row) columns) rows i 0 [] hi)
+    ∙ get_or-map (entry m (get_or rows i 0)) columns j 0 (pos 0) hj
+
+zero_is_entry : IsEntry (pos 0)
+zero_is_entry = record { low = omega (arith, ints); high = omega (arith, ints) }
+
+pub is_matrix-submatrix : (m : Matrix) (rows columns : List ℕ) → IsMatrix m → length rows ≤ 1000 → length columns ≤ 1000 → IsMatrix (submatrix m rows columns)
+is_matrix-submatrix m rows columns is few_rows few_columns = record {
+  rectangular = λ row h. ap length (get_or-map (λ r. map (entry m r) columns) rows row 0 [] (omega (arith, h, length-map rows (λ r. map (entry m r) columns)))) ∙ length-map columns (entry m (get_or rows row 0));
+  small = λ row column. small rows row column;
+  height_in = omega (arith, few_rows, length-map rows (λ r. map (entry m r) columns));
+  width_in = few_columns;
+}
+  where
+    small : (rs : List ℕ) (row column : ℕ) → IsEntry (get_or (get_or (map (λ r. map (entry m r) columns) rs) row []) column (pos 0))
+    small [] row column = zero_is_entry
+    small (r ∷ rs) zero column = each-map IsEntry (entry m r) columns zero_is_entry (is.small r) column
+    small (r ∷ rs) (suc row) column = small rs row column
+
+-- a column of the matrix is a row of the transposed one
+pub row-transposed : (m : Matrix) (column : ℕ) → column < m.width → get_or (transposed m).rows column [] ≡ column_of m column
+row-transposed m column h = get_or-map-range_with_len (column_of m) 0 m.width column column [] h (omega arith)
+
+height-transposed : (m : Matrix) → height (transposed m) ≡ m.width
+height-transposed m = length-map-range_with_len (column_of m) 0 m.width
+
+get_or-column_of : (rows : List (List ℤ)) (row column : ℕ) → get_or (map (λ r. get_or r column (pos 0)) rows) row (pos 0) ≡ get_or (get_or rows row []) column (pos 0)
+get_or-column_of [] row column = refl
+get_or-column_of (r ∷ rows) zero column = refl
+get_or-column_of (r ∷ rows) (suc row) column = get_or-column_of rows row column
+
+pub entry-transposed : (m : Matrix) (row column : ℕ) → IsMatrix m → entry (transposed m) column row ≡ entry m row column
+entry-transposed m row column is = elim (cases_lt column m.width) [
+  | inl inside ↦ ap (λ r. get_or r row (pos 0)) (row-transposed m column inside) ∙ get_or-column_of m.rows row column
+  | inr outside ↦
+      ap (λ r. get_or r row (pos 0)) (get_or_past (transposed m).rows column [] (omega (arith, height-transposed m)))
+      ∙ sym (beyond (cases_lt row (height m)) outside)
+]
+  where
+    beyond : (row < height m) ⊎ (height m ≤ row) → m.width ≤ column → entry m row column ≡ pos 0
+    beyond (inl low) out = get_or_past (get_or m.rows row []) column (pos 0) (omega (arith, is.rectangular row low))
+    beyond (inr high) out = ap (λ r. get_or r column (pos 0)) (get_or_past m.rows row [] high)
+
+pub is_matrix-transposed : (m : Matrix) → IsMatrix m → IsMatrix (transposed m)
+is_matrix-transposed m is = record {
+  rectangular = λ column h. ap length (row-transposed m column (omega (arith, h, height-transposed m))) ∙ length-map m.rows (λ r. get_or r column (pos 0));
+  small = λ column row. subst IsEntry (sym (entry-transposed m row column is)) (is.small row column);
+  height_in = omega (arith, height-transposed m, is.width_in);
+  width_in = is.height_in;
+}
+
+-- rising lines below a bound are at most so many
+pub length-rising : (lines : List ℕ) (bound : ℕ) → IsStrictlyIncreasing lines → AllBelow bound lines → length lines ≤ bound
+length-rising lines bound rising below = by (length lines) refl
+  where
+    at_least : (k : ℕ) → k < length lines → k ≤ get_or lines k 0
+    at_least zero h = omega arith
+    at_least (suc k) h =
+        let next : k + 1 ≡ suc k = omega arith in
+        let up : get_or lines k 0 < get_or lines (suc k) 0 = subst (λ n. get_or lines k 0 < get_or lines n 0) next (rising k (omega arith)) in
+        omega (arith, up, at_least k (omega arith))
+
+    by : (n : ℕ) → n ≡ length lines → length lines ≤ bound
+    by zero e = omega arith
+    by (suc n) e = omega (arith, at_least n (omega arith), below n (omega arith))
+
+-- one more row of cells
+pub more_cells : {A : Type 0} (f : A → List ℤ) (xs : List A) (i : ℕ) (d : A) → i < length xs → flat_map f (take (i + 1) xs) ≡ flat_map f (take i xs) ++ f (get_or xs i d)
+more_cells f xs i d h =
+    ap (flat_map f) (take_more xs i d h) ∙ flat_map-append f (take i xs) (get_or xs i d ∷ []) ∙ ap (λ last. flat_map f (take i xs) ++ last) (append-nil (f (get_or xs i d)))
+
+-- the cells of a transposed matrix
+pub record AreTransposed (m : Matrix) (cells : List ℤ) : Type 0 where
+  pub whole : length cells ≡ m.width * height m
+  pub small : (k : ℕ) → IsEntry (get_or cells k (pos 0))
+  pub cut : rows_of m.width (height m) cells ≡ (transposed m).rows
+
+pub transposed_cells : (m : Matrix) → IsMatrix m → AreTransposed m (flat_map (column_of m) (range_with_len 0 m.width))
+transposed_cells m is =
+    let numbers = range_with_len 0 m.width in
+    let count : length numbers ≡ m.width = length-range_with_len 0 m.width in
+    let each : (column : ℕ) → length (column_of m column) ≡ height m = λ column. length-map m.rows (λ r. get_or r column (pos 0)) in
+    record {
+      whole = length-cells (column_of m) (height m) numbers each ∙ ap (λ n. n * height m) count;
+      small = each-flat_map IsEntry (column_of m) numbers zero_is_entry (λ column j. subst IsEntry (sym (get_or-column_of m.rows j column)) (is.small j column));
+      cut = subst (λ n. rows_of n (height m) (flat_map (column_of m) numbers) ≡ map (column_of m) numbers) count (rows_of-flat_map (column_of m) (height m) numbers each);
+    }
+
+-- the cells of a submatrix
+pub record ArePart (m : Matrix) (rows columns : List ℕ) (cells : List ℤ) : Type 0 where
+  pub whole : length cells ≡ length rows * length columns
+  pub small : (k : ℕ) → IsEntry (get_or cells k (pos 0))
+  pub cut : rows_of (length rows) (length columns) cells ≡ (submatrix m rows columns).rows
+
+pub part_cells : (m : Matrix) (rows columns : List ℕ) → IsMatrix m → ArePart m rows columns (flat_map (λ row. map (entry m row) columns) rows)
+part_cells m rows columns is =
+    let each : (row : ℕ) → length (map (entry m row) columns) ≡ length columns = λ row. length-map columns (entry m row) in
+    record {
+      whole = length-cells (λ row. map (entry m row) columns) (length columns) rows each;
+      small = each-flat_map IsEntry (λ row. map (entry m row) columns) rows zero_is_entry (λ row. each-map IsEntry (entry m row) columns zero_is_entry (is.small row));
+      cut = rows_of-flat_map (λ row. map (entry m row) columns) (length columns) rows each;
+    }
+
+pub all_transposed : (m : Matrix) (cells : List ℤ) (column : ℕ) → IsMatrix m → cells ≡ flat_map (column_of m) (range_with_len 0 column) → column ≡ m.width → AreTransposed m cells
+all_transposed m cells column is so_far all = subst (AreTransposed m) (sym (so_far ∙ ap (λ n. flat_map (column_of m) (range_with_len 0 n)) all)) (transposed_cells m is)
+
+pub all_of_part : (m : Matrix) (rows columns : List ℕ) (cells : List ℤ) (i : ℕ) → IsMatrix m → cells ≡ flat_map (λ row. map (entry m row) columns) (take i rows) → length rows ≤ i → ArePart m rows columns cells
+all_of_part m rows columns cells i is so_far all = subst (ArePart m rows columns) (sym (so_far ∙ ap (flat_map (λ row. map (entry m row) columns)) (take_all i rows all))) (part_cells m rows columns is)
