@@ -1,16 +1,44 @@
 -- What the words of matrix texts stand for.
-use Rattle.std.specs.Prelude.{nat_le, if◌then◌else◌, ℕ, zero, suc, ℤ, pos, negsuc, Bool, List, Result, Ok, Err}
+use Rattle.std.specs.Prelude.{◌==◌, nat_le, nat_lt, if◌then◌else◌, ℕ, zero, suc, ℤ, pos, negsuc, Bool, List, Result, Ok, Err}
 use Rattle.text_fields.specs.Result.{◌>>=◌, renamed}
 use Rattle.text_fields.specs.Numbers.{count_in, signed_in}
 use Rattle.matrix_text.specs.declared.error.TextKind.{TextKind}
-use Rattle.matrix_text.specs.declared.error.TextKind.TheVariants.{BadEntry, NotBinary}
+use Rattle.matrix_text.specs.declared.error.TextKind.TheVariants.{BadEntry, NotBinary, ColumnOutOfRange, TwiceNamed, NotRising, OtherSize}
 use Rattle.matrix_text.specs.Kinds.{text_kind}
+
+-- a count
+abbrev pub count : List ℕ → Result ℕ TextKind
+count word = renamed text_kind (count_in word)
 
 -- a count of at most so much
 abbrev pub limited : ℕ → TextKind → List ℕ → Result ℕ TextKind
 limited most beyond word = do
-  n ← renamed text_kind (count_in word)
+  n ← count word
   if nat_le n most then Ok n else Err beyond
+
+-- a count that is the matrix's own
+abbrev pub own_size : ℕ → List ℕ → Result ℕ TextKind
+own_size size word = do
+  n ← count word
+  if n == size then Ok n else Err OtherSize
+
+-- the number of a line, from 1 to so many
+abbrev pub line_in : ℕ → TextKind → List ℕ → Result ℕ TextKind
+line_in most outside word = do
+  n ← limited most outside word
+  if n == 0 then Err outside else Ok n
+
+-- a line's number above the one before it
+abbrev pub rising_line_in : ℕ → TextKind → ℕ → List ℕ → Result ℕ TextKind
+rising_line_in most outside before word = do
+  n ← line_in most outside word
+  if nat_lt before n then Ok n else Err NotRising
+
+-- a column's number that is not taken
+abbrev pub free_column_in : ℕ → (ℕ → Bool) → List ℕ → Result ℕ TextKind
+free_column_in most is_taken word = do
+  n ← line_in most ColumnOutOfRange word
+  if is_taken n then Err TwiceNamed else Ok n
 
 -- -1, 0 and 1 are allowed, and in a 0/1 matrix not -1
 abbrev pub allowed : Bool → ℤ → Result ℤ TextKind

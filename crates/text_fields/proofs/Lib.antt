@@ -1,2 +1,4 @@
 pub mod Runs
 pub mod Times
+pub mod Results
+pub mod Fields

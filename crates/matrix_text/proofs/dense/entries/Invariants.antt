@@ -3,7 +3,7 @@ use Rattle.cmr_base.specs.Matrix.{IsEntry}
 use Rattle.text_fields.specs.Reading.{times, another, fields}
 use Rattle.matrix_text.specs.declared.error.TextKind.TheVariants.{Short}
 use Rattle.matrix_text.specs.Values.{entry_in}
-use Rattle.matrix_text.proofs.dense.entry_fields.Given as goal
+use Rattle.matrix_text.proofs.dense.entries.Given as goal
 
 abbrev pub invariant-loop : goal.invariant-loop
 invariant-loop l = record {

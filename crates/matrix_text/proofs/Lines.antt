@@ -1,0 +1,45 @@
+-- Numbers of lines.
+use Rattle.std.proofs.Common.{◌≡◌, ◌<◌, ◌≤◌, ◌+◌, ◌-◌, ◌*◌, ◌∙◌, ℕ, suc, Bool, false, cond, leb, eqb, List, length, get_or, take, drop, Ok, Err, ap, sym, subst, arith}
+use Rattle.std.proofs.lemmas.Bool.{leb-true}
+use Rattle.std.proofs.lemmas.List.{get_or-take, get_or-drop, length-take-le, length-drop}
+use Rattle.std.proofs.Math.Nat.{suc-mul, mul-le-mul_right}
+use Rattle.text_fields.specs.Words.{Text}
+use Rattle.text_fields.specs.Reading.{field}
+use Rattle.text_fields.proofs.Fields.{field-same}
+use Rattle.text_fields.proofs.Results.{bind-same, bind_ok, guard_ok, bar_ok}
+use Rattle.matrix_text.specs.declared.error.TextKind.{TextKind}
+use Rattle.matrix_text.specs.declared.error.TextKind.TheVariants.{Short, ColumnOutOfRange, TwiceNamed}
+use Rattle.matrix_text.specs.Values.{count, limited, line_in, free_column_in}
+
+pub limited_ok : (most : ℕ) (beyond : TextKind) (word : List ℕ) (n : ℕ) → limited most beyond word ≡ Ok n → (count word ≡ Ok n) × (n ≤ most)
+limited_ok most beyond word n h =
+    let b = bind_ok (count word) (λ k. cond (leb k most) (Ok k) (Err beyond)) n h in
+    let g = guard_ok (leb b.0 most) b.0 n beyond b.2 in
+    (b.1 ∙ ap Ok g.1, subst (λ k. k ≤ most) g.1 (leb-true b.0 most g.0))
+
+pub line_in_ok : (most : ℕ) (outside : TextKind) (word : List ℕ) (n : ℕ) → line_in most outside word ≡ Ok n → (count word ≡ Ok n) × (0 < n) × (n ≤ most)
+line_in_ok most outside word n h =
+    let b = bind_ok (limited most outside word) (λ k. cond (eqb k 0) (Err outside) (Ok k)) n h in
+    let g = bar_ok (eqb b.0 0) b.0 n outside b.2 in
+    let l = limited_ok most outside word b.0 b.1 in
+    let above : 0 < b.0 = grind (arith, g.0) in
+    (l.0 ∙ ap Ok g.1, omega (arith, g.1), omega (arith, g.1, l.1))
+
+-- only the columns that there are matter
+pub free_column_in-same : (most : ℕ) (f g : ℕ → Bool) → ((n : ℕ) → 0 < n → n ≤ most → f n ≡ g n) → (word : List ℕ) → free_column_in most f word ≡ free_column_in most g word
+free_column_in-same most f g same word = bind-same (line_in most ColumnOutOfRange word) (λ n. cond (f n) (Err TwiceNamed) (Ok n)) (λ n. cond (g n) (Err TwiceNamed) (Ok n)) (λ n is. let ok = line_in_ok most ColumnOutOfRange word n is in ap (λ (t : Bool). cond t (Err TwiceNamed) (Ok n)) (same n ok.1 ok.2))
+
+-- the columns of a row that are taken, read from the row's part of all places
+pub row_part : (width start : ℕ) (taken : List Bool) → start + width ≤ length taken → (text : Text)
+    → field Short (free_column_in width (λ n. get_or taken (start + (n - 1)) false)) text ≡ field Short (free_column_in (length (take (start + width - start) (drop start taken))) (λ n. get_or (take (start + width - start) (drop start taken)) (n - 1) false)) text
+row_part width start taken fits text =
+    let part = take (start + width - start) (drop start taken) in
+    let all : start + width - start ≡ width = omega arith in
+    let len : length part ≡ width = ap (λ k. length (take k (drop start taken))) all ∙ length-take-le width (drop start taken) (omega (arith, length-drop start taken)) in
+    let at : (n : ℕ) → 0 < n → n ≤ width → get_or taken (start + (n - 1)) false ≡ get_or part (n - 1) false =
+    λ n above within. sym (ap (λ k. get_or (take k (drop start taken)) (n - 1) false) all ∙ get_or-take width (drop start taken) (n - 1) false (omega arith) ∙ get_or-drop start taken (n - 1) false) in
+    field-same Short (free_column_in width (λ n. get_or taken (start + (n - 1)) false)) (free_column_in width (λ n. get_or part (n - 1) false)) text (free_column_in-same width (λ n. get_or taken (start + (n - 1)) false) (λ n. get_or part (n - 1) false) at)
+    ∙ ap (λ k. field Short (free_column_in k (λ n. get_or part (n - 1) false)) text) (sym len)
+
+pub row_fits : (row rows width : ℕ) → 0 < row → row ≤ rows → (row - 1) * width + width ≤ rows * width
+row_fits row rows width above within = let next : suc (row - 1) ≡ row = omega arith in omega (arith, suc-mul (row - 1) width, ap (λ k. k * width) next, mul-le-mul_right width within)

@@ -1,0 +1,11 @@
+use Rattle.std.proofs.Common.{◌≡◌, ◌-◌, List, []}
+use Rattle.text_fields.specs.Reading.{times}
+use Rattle.matrix_text.specs.Sparse.{Triple, another_triple}
+use Rattle.matrix_text.proofs.Places.{AreHeld}
+use Rattle.matrix_text.proofs.sparse.matrix_by_triples.Given as goal
+
+abbrev pub invariant-loop : goal.invariant-loop
+invariant-loop l =
+    (triples : List Triple)
+    × (times (another_triple l.binary l.rows l.columns) (l.count - l.counter) triples l.words ≡ times (another_triple l.binary l.rows l.columns) l.count [] l.fn.words)
+    × AreHeld l.rows l.columns l.taken.items l.cells.items triples

@@ -1,0 +1,64 @@
+-- Sparse texts: the sizes and a count, and then so many triples.
+use Rattle.std.specs.Prelude.{◌==◌, ◌&&◌, ◌++◌, if◌then◌else◌, ℕ, ℤ, pos, Bool, List, [], ◌∷◌, map, Result, Ok}
+use Rattle.std.specs.List.{list_any, range_with_len}
+use Rattle.cmr_base.specs.Matrix.{Matrix}
+use Rattle.text_fields.specs.Words.{Text}
+use Rattle.text_fields.specs.Result.{◌>>=◌}
+use Rattle.text_fields.specs.Reading.{Fault, field, times, ended}
+use Rattle.matrix_text.specs.declared.error.TextKind.{TextKind}
+use Rattle.matrix_text.specs.declared.error.TextKind.TheVariants.{Short, Extra, TooManyRows, TooManyColumns, RowOutOfRange}
+use Rattle.matrix_text.specs.Values.{limited, count, line_in, free_column_in, entry_in}
+
+-- the value in a row and a column, counted from 1
+pub record Triple : Type 0 where
+  pub row : ℕ
+  pub column : ℕ
+  pub value : ℤ
+
+abbrev pub names : ℕ → ℕ → Triple → Bool
+names row column triple = (triple.row == row) && (triple.column == column)
+
+-- some triple names this place
+abbrev pub is_named : List Triple → ℕ → ℕ → Bool
+is_named triples row column = list_any (names row column) triples
+
+-- the value of the triple that names a place, else 0
+abbrev pub value_at : List Triple → ℕ → ℕ → ℤ
+value_at [] row column = pos 0
+value_at (triple ∷ triples) row column = if names row column triple then triple.value else value_at triples row column
+
+-- the matrix of these sizes with the triples' values in their places
+abbrev pub matrix_of_triples : ℕ → ℕ → List Triple → Matrix
+matrix_of_triples height width triples = record {
+  rows = map (λ row. map (value_at triples row) (range_with_len 1 width)) (range_with_len 1 height);
+  width = width;
+}
+
+-- a row and a column of a place that is not taken
+abbrev pub free_place : ℕ → ℕ → (ℕ → ℕ → Bool) → Text → Result ((ℕ × ℕ) × Text) (Fault TextKind)
+free_place height width is_taken text = do
+  row ← field Short (line_in height RowOutOfRange) text
+  column ← field Short (free_column_in width (is_taken row.0)) row.1
+  Ok ((row.0, column.0), column.1)
+
+-- one more triple, whose place those before it do not name
+abbrev pub another_triple : Bool → ℕ → ℕ → List Triple → Text → Result (List Triple × Text) (Fault TextKind)
+another_triple binary height width triples text = do
+  place ← free_place height width (is_named triples) text
+  value ← field Short (entry_in binary) place.1
+  Ok (triples ++ (record { row = (place.0).0; column = (place.0).1; value = value.0 }) ∷ [], value.1)
+
+-- the matrix that so many triples stand for
+abbrev pub matrix_by_triples : Bool → ℕ → ℕ → ℕ → Text → Result (Matrix × Text) (Fault TextKind)
+matrix_by_triples binary height width n text = do
+  triples ← times (another_triple binary height width) n [] text
+  Ok (matrix_of_triples height width triples.0, triples.1)
+
+-- the matrix that a sparse text stands for, or its first fault
+abbrev pub sparse : Bool → Text → Result Matrix (Fault TextKind)
+sparse binary text = do
+  height ← field Short (limited 1000 TooManyRows) text
+  width ← field Short (limited 1000 TooManyColumns) height.1
+  n ← field Short count width.1
+  matrix ← matrix_by_triples binary height.0 width.0 n.0 n.1
+  ended Extra matrix.0 matrix.1

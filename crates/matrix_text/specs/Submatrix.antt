@@ -1,0 +1,34 @@
+-- Submatrix texts: the matrix's sizes, two counts, and then so many rows and so many columns.
+use Rattle.std.specs.Prelude.{◌-◌, ◌+◌, ◌++◌, ℕ, List, [], ◌∷◌, fold, Result, Ok}
+use Rattle.cmr_base.specs.declared.line_set.LineSet.{LineSet}
+use Rattle.text_fields.specs.Words.{Text}
+use Rattle.text_fields.specs.Result.{◌>>=◌}
+use Rattle.text_fields.specs.Reading.{Fault, field, times, ended}
+use Rattle.matrix_text.specs.declared.error.TextKind.{TextKind}
+use Rattle.matrix_text.specs.declared.error.TextKind.TheVariants.{Short, Extra, RowOutOfRange, ColumnOutOfRange}
+use Rattle.matrix_text.specs.Values.{own_size, limited, rising_line_in}
+
+-- the number of the last line, counted from 1; 0 where there is none
+abbrev pub last_number : List ℕ → ℕ
+last_number lines = fold (λ before line. line + 1) 0 lines
+
+-- one more line, above the one before it
+abbrev pub another_line : ℕ → TextKind → List ℕ → Text → Result (List ℕ × Text) (Fault TextKind)
+another_line most outside lines text = do
+  number ← field Short (rising_line_in most outside (last_number lines)) text
+  Ok (lines ++ (number.0 - 1) ∷ [], number.1)
+
+-- so many rising lines
+abbrev pub rising_lines : ℕ → TextKind → ℕ → Text → Result (List ℕ × Text) (Fault TextKind)
+rising_lines most outside n text = times (another_line most outside) n [] text
+
+-- the lines that a submatrix text names in a matrix of these sizes, or its first fault
+abbrev pub submatrix : ℕ → ℕ → Text → Result LineSet (Fault TextKind)
+submatrix height width text = do
+  same_height ← field Short (own_size height) text
+  same_width ← field Short (own_size width) same_height.1
+  row_count ← field Short (limited height RowOutOfRange) same_width.1
+  column_count ← field Short (limited width ColumnOutOfRange) row_count.1
+  rows ← rising_lines height RowOutOfRange row_count.0 column_count.1
+  columns ← rising_lines width ColumnOutOfRange column_count.0 rows.1
+  ended Extra (record { rows = rows.0; columns = columns.0 }) columns.1

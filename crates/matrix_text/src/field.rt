@@ -1,0 +1,73 @@
+// What the next word of a text stands for.
+ghost use Rattle.std.specs.Prelude.{◌≤◌, ◌<◌, ◌-◌, ℕ, IfOk, length, slice_index_or, false};
+ghost use Rattle.cmr_base.specs.Matrix.{IsEntry};
+ghost use Rattle.text_fields.specs.Reading.{field, Reads};
+ghost use Rattle.matrix_text.specs.declared.error.TextKind.TheVariants.{Short};
+ghost use Rattle.matrix_text.specs.Values.{count, limited, own_size, line_in, rising_line_in, free_column_in, entry_in};
+
+use crate::error::{TextError, TextKind};
+use crate::value;
+use text_fields::{Words, at_place};
+
+pub fn count(words: &mut Words<'_>) -> Result<u32, TextError>
+    ensures { Reads (λ n. n) words.new result (field Short count words.old) }
+{
+    let (place, word) = words.due(TextKind::Short)?;
+    at_place(place, value::count(word))
+}
+
+pub fn limited(words: &mut Words<'_>, most: u32, beyond: TextKind) -> Result<u32, TextError>
+    ensures read { Reads (λ n. n) words.new result (field Short (limited most beyond) words.old) }
+    ensures within { IfOk result (λ n. n ≤ most) }
+{
+    let (place, word) = words.due(TextKind::Short)?;
+    at_place(place, value::limited(word, most, beyond))
+}
+
+pub fn own_size(words: &mut Words<'_>, size: u32) -> Result<u32, TextError>
+    ensures { Reads (λ n. n) words.new result (field Short (own_size size) words.old) }
+{
+    let (place, word) = words.due(TextKind::Short)?;
+    at_place(place, value::own_size(word, size))
+}
+
+pub fn line(words: &mut Words<'_>, most: u32, outside: TextKind) -> Result<u32, TextError>
+    ensures read { Reads (λ n. n) words.new result (field Short (line_in most outside) words.old) }
+    ensures above { IfOk result (λ n. 0 < n) }
+    ensures within { IfOk result (λ n. n ≤ most) }
+{
+    let (place, word) = words.due(TextKind::Short)?;
+    at_place(place, value::line_in(word, most, outside))
+}
+
+pub fn rising_line(
+    words: &mut Words<'_>,
+    most: u32,
+    outside: TextKind,
+    before: u32,
+) -> Result<u32, TextError>
+    ensures read { Reads (λ n. n) words.new result (field Short (rising_line_in most outside before) words.old) }
+    ensures above { IfOk result (λ n. before < n) }
+    ensures within { IfOk result (λ n. n ≤ most) }
+{
+    let (place, word) = words.due(TextKind::Short)?;
+    at_place(place, value::rising_line_in(word, most, outside, before))
+}
+
+pub fn free_column(words: &mut Words<'_>, taken: &[bool]) -> Result<u32, TextError>
+    requires { length taken.now ≤ 1000 }
+    ensures read { Reads (λ n. n) words.new result (field Short (free_column_in (length taken.now) (λ n. slice_index_or taken.now (n - 1) false)) words.old) }
+    ensures above { IfOk result (λ n. 0 < n) }
+    ensures within { IfOk result (λ n. n ≤ length taken.now) }
+{
+    let (place, word) = words.due(TextKind::Short)?;
+    at_place(place, value::free_column_in(word, taken))
+}
+
+pub fn entry(words: &mut Words<'_>, binary: bool) -> Result<i8, TextError>
+    ensures read { Reads (λ z. z) words.new result (field Short (entry_in binary) words.old) }
+    ensures small { IfOk result IsEntry }
+{
+    let (place, word) = words.due(TextKind::Short)?;
+    at_place(place, value::entry_in(word, binary))
+}
