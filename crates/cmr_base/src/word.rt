@@ -3,6 +3,7 @@ ghost use Rattle.std.specs.Prelude.{◌≡◌, ◌<◌, ◌++◌, [], ◌∷◌,
 
 use crate::Memory;
 use std::alloc::Global;
+use std::convert::AsStr;
 use std::marker::Model;
 
 /// A word of the command line. Contracts see it as the bytes of its text.
@@ -34,6 +35,14 @@ impl Word {
     pub fn text(&self) -> &str
         ensures { result.now ≡ self.now }
     {
+        self.text.as_str()
+    }
+}
+
+impl AsStr for Word {
+    ghost text = { λ word. word };
+
+    fn as_str(&self) -> &str {
         self.text.as_str()
     }
 }

@@ -1,0 +1,26 @@
+//! What the words of the command line ask for.
+
+/// How the text of a matrix is laid out.
+#[derive(Clone, Copy, Debug, PartialEq, Eq)]
+pub enum MatrixForm {
+    /// The two sizes and all entries, row by row.
+    Dense,
+    /// The two sizes, the number of nonzeros, and a row, a column and a value for each nonzero.
+    Sparse,
+}
+
+/// What `tu` is asked to do. A file of the name `-` is standard input.
+#[derive(Clone, Copy, Debug)]
+pub struct TuOptions<'a> {
+    /// The form of the matrix text.
+    pub form: MatrixForm,
+    /// The file that holds the matrix text.
+    pub file: &'a str,
+}
+
+/// A tool with its options.
+#[derive(Clone, Copy, Debug)]
+pub enum Command<'a> {
+    /// Tests whether a matrix is totally unimodular.
+    Tu(TuOptions<'a>),
+}
