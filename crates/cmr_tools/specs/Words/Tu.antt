@@ -1,9 +1,9 @@
 -- What the words behind `tu` order.
-use Rattle.std.specs.Prelude.{ℕ, List, Option, Some, codes}
-use Rattle.clap.specs.Words.{App, Row, Text, with_rule}
+use Rattle.std.specs.Prelude.{ℕ, List, [], ◌∷◌, Option, Some, codes}
+use Rattle.clap.specs.Words.{App, Row, Text}
 use Rattle.cmr_tools.specs.declared.options.MatrixForm.{MatrixForm}
 use Rattle.cmr_tools.specs.declared.options.TuOptions.{TuOptions}
-use Rattle.cmr_tools.specs.Words.Arguments.{bare_app, file_in, file_rule, form_in, form_rule, matches_with_input}
+use Rattle.cmr_tools.specs.Words.Arguments.{file_in, file_rule, form_in, form_rule, matches_with_input, tool_app}
 use Rattle.cmr_tools.specs.Words.Reading.{◌>>=◌}
 
 -- the options of `tu`
@@ -13,7 +13,7 @@ pub record TuOrder : Type 0 where
 
 -- [-i FORMAT] [FILE]
 abbrev pub tu_app : App
-tu_app = with_rule (with_rule (bare_app (codes "tu")) form_rule) file_rule
+tu_app = tool_app (codes "tu") (form_rule ∷ file_rule ∷ [])
 
 abbrev pub tu_order_in : List Row → Option TuOrder
 tu_order_in rows = do

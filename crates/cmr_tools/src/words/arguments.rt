@@ -1,5 +1,5 @@
 //! Arguments that the tools share, and the reading of words by one command of `clap`.
-ghost use Rattle.std.specs.Prelude.{◌≡◌, IfOk, true, false, option_map};
+ghost use Rattle.std.specs.Prelude.{◌≡◌, IfOk, [], true, false, option_map};
 ghost use Rattle.std.specs.List.{list_any};
 ghost use Rattle.clap.specs.Words.{app_of, first_of, found_of, is_simple_and_free, rows_of, rule_of, with_rule};
 ghost use Rattle.cmr_tools.specs.Words.Arguments as arguments;
@@ -21,7 +21,7 @@ const FILE: &str = "file";
 
 /// A command with no argument. A name of the program, help and version are no words of it.
 pub fn bare_command<'a>(alloc: Global, name: &'a str) -> Command<'a>
-    ensures { app_of result ≡ arguments.bare_app name.now }
+    ensures { app_of result ≡ arguments.tool_app name.now [] }
 {
     Command::new(alloc, name)
         .no_binary_name(true)
