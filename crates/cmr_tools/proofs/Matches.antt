@@ -1,18 +1,18 @@
 -- What `clap` promises of a parse, as what the command makes of the words.
-use Rattle.std.proofs.Common.{◌≡◌, ◌≢◌, ◌⊎◌, inl, inr, refl, List, [], ◌∷◌, Option, Some, None, Result, Ok, Err, Bool, true, false, map, sym, ap, subst, ◌∙◌}
+use Rattle.std.proofs.Common.{◌≡◌, ◌≢◌, inl, inr, refl, List, [], ◌∷◌, Option, Some, None, Result, Ok, Err, true, false, map, subst}
 use Rattle.std.specs.List.{list_any}
 use Rattle.std.specs.Result.{IsErrAnd}
 use Rattle.std.proofs.lemmas.Bool.{and_parts}
 use Rattle.std.proofs.lemmas.List.{map-id}
-use Rattle.clap.specs.Words.{App, FailsBy, HasKind, HasMatchesOf, IsAmong, Kinds, Row, Text, fault_of, found_of, is_simple, is_simple_and_free, kind_of, matches_of, rows_of}
+use Rattle.clap.specs.Words.{App, HasKind, HasMatchesOf, IsAmong, Kinds, Row, Text, fault_of, found_of, is_simple, is_simple_and_free, kind_of, matches_of, rows_of}
 use Rattle.clap.specs.declared.error.Error.{Error}
 use Rattle.clap.specs.declared.error.kind.ErrorKind.{ErrorKind}
 use Rattle.clap.specs.declared.error.kind.ErrorKind.TheVariants.{OutOfMemory}
 use Rattle.clap.specs.declared.parser.matches.ArgMatches.{ArgMatches}
 use Rattle.cmr_tools.specs.declared.words.WordsError.{WordsError}
 use Rattle.cmr_tools.specs.declared.words.WordsError.TheVariants.{Refused, Memory}
-use Rattle.cmr_tools.specs.Words.Arguments.{faultless, is_dash, matches_in}
-use Rattle.cmr_tools.specs.Words.Reading.{Gives}
+use Rattle.cmr_tools.specs.Words.Arguments.{faultless, is_dash, matches_in, matches_with_input}
+use Rattle.cmr_tools.specs.Words.Reading.{Gives, ◌>>=◌}
 
 pub simple_of_free : (a : App) → is_simple_and_free a ≡ true → is_simple a ≡ true
 simple_of_free a free = (and_parts _ _ free).0
@@ -40,3 +40,10 @@ matches_refused a words e (Err Refused) none (inl memory) cause = absurd (cause 
 matches_refused a words e (Err Refused) none (inr among) cause =
     let fault : IsAmong (kind_of e) (fault_of a words) = subst (λ (ws : List Text). IsAmong (kind_of e) (fault_of a ws)) (map-id words) among in
     rw none (faultless-among (kind_of e) (fault_of a words) (matches_of a words) fault)
+
+-- a reading that begins with the matches of a command
+pub Gives-matches_with_input : {X Y : Type 0} (view : X → Y) (a b : App) (words : List Text) (rows : List Row) (f : List Row → Option Y) (r : Result X WordsError)
+    → a ≡ b → matches_with_input a words ≡ Some rows → Gives view r (f rows) → Gives view r (matches_with_input b words >>= f)
+Gives-matches_with_input view a b words rows f r same found read =
+    let taken : matches_with_input b words ≡ Some rows = subst (λ (x : App). matches_with_input x words ≡ Some rows) same found in
+    rw taken read

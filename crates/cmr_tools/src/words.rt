@@ -8,6 +8,8 @@ ghost use Rattle.cmr_tools.specs.Words.{order, order_of};
 ghost use Rattle.cmr_tools.specs.Words.Reading.{Gives};
 
 mod arguments;
+#[cfg(test)]
+mod tests;
 mod tu;
 
 use crate::options::Command;

@@ -10,9 +10,10 @@ use Rattle.cmr_tools.specs.declared.options.MatrixForm.{MatrixForm}
 use Rattle.cmr_tools.specs.declared.options.MatrixForm.TheVariants.{Dense, Sparse}
 use Rattle.cmr_tools.specs.Words.Reading.{◌>>=◌}
 
--- a command with no argument; a name of the program, help and version are no words of it
-abbrev pub bare_app : Text → App
-bare_app name = on_top (λ s. record s {
+-- a command with these arguments; a name of the program, help and version are no words of it
+abbrev pub tool_app : Text → List Rule → App
+tool_app name rules = on_top (λ s. record s {
+  rules = rules;
   no_binary_name = true;
   disable_help_flag = true;
   disable_version_flag = true;

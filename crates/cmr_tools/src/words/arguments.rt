@@ -1,5 +1,5 @@
-// Arguments that the tools share, and the reading of words by one command.
-ghost use Rattle.std.specs.Prelude.{◌≡◌, IfOk, true, false, option_map};
+//! Arguments that the tools share, and the reading of words by one command of `clap`.
+ghost use Rattle.std.specs.Prelude.{◌≡◌, IfOk, [], true, false, option_map};
 ghost use Rattle.std.specs.List.{list_any};
 ghost use Rattle.clap.specs.Words.{app_of, first_of, found_of, is_simple_and_free, rows_of, rule_of, with_rule};
 ghost use Rattle.cmr_tools.specs.Words.Arguments as arguments;
@@ -21,7 +21,7 @@ const FILE: &str = "file";
 
 /// A command with no argument. A name of the program, help and version are no words of it.
 pub fn bare_command<'a>(alloc: Global, name: &'a str) -> Command<'a>
-    ensures { app_of result ≡ arguments.bare_app name.now }
+    ensures { app_of result ≡ arguments.tool_app name.now [] }
 {
     Command::new(alloc, name)
         .no_binary_name(true)
@@ -74,12 +74,10 @@ fn has_dash(words: &[Word]) -> bool
 }
 
 /// What the command makes of the words, none of which may be `-`.
-fn matches_in<'a>(
-    command: Command<'a>,
-    words: &'a [Word],
-) -> Result<ArgMatches<'a>, WordsError>
+fn matches_in<'a>(command: Command<'a>, words: &'a [Word]) -> Result<ArgMatches<'a>, WordsError>
     requires { is_simple_and_free (app_of command) ≡ true }
-    ensures { Gives (λ m. rows_of (found_of m)) result (arguments.matches_in (app_of command.entry) words.now) }
+    ensures { Gives (λ m. rows_of (found_of m)) result
+        (arguments.matches_in (app_of command.entry) words.now) }
 {
     if has_dash(words) {
         return Err(WordsError::Refused);
@@ -101,7 +99,8 @@ pub fn matches_with_input<'a>(
     words: &'a [Word],
 ) -> Result<ArgMatches<'a>, WordsError>
     requires { is_simple_and_free (app_of command) ≡ true }
-    ensures { Gives (λ m. rows_of (found_of m)) result (arguments.matches_with_input (app_of command.entry) words.now) }
+    ensures { Gives (λ m. rows_of (found_of m)) result
+        (arguments.matches_with_input (app_of command.entry) words.now) }
 {
     if !ends_in_dash(words) {
         return matches_in(command, words);

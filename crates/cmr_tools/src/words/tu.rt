@@ -1,13 +1,12 @@
-// The words of `tu`: [-i FORMAT] [FILE].
+//! The words of `tu`: `[-i FORMAT] [FILE]`.
 ghost use Rattle.std.specs.Prelude.{◌≡◌, IfOk};
-ghost use Rattle.clap.specs.Words.{app_of};
+ghost use Rattle.clap.specs.Words.{app_of, found_of, rows_of};
 ghost use Rattle.cmr_tools.specs.Words.Reading.{Gives};
-ghost use Rattle.cmr_tools.specs.Words.Tu.{tu_app, tu_order, tu_order_of};
+ghost use Rattle.cmr_tools.specs.Words.Tu.{tu_app, tu_order, tu_order_in, tu_order_of};
 
 use crate::options::TuOptions;
-use crate::words::WordsError;
-use crate::words::arguments;
-use clap::Command;
+use crate::words::{WordsError, arguments};
+use clap::{ArgMatches, Command};
 use cmr_base::Word;
 use std::alloc::{AllocError, Global};
 
@@ -19,13 +18,19 @@ fn tu_command<'a>(alloc: Global) -> Result<Command<'a>, AllocError>
     arguments::add(with_form, arguments::file_operand(alloc))
 }
 
+fn options_in<'a>(matches: &ArgMatches<'a>) -> Result<TuOptions<'a>, WordsError>
+    ensures { Gives tu_order_of result (tu_order_in (rows_of (found_of matches.now))) }
+{
+    Ok(TuOptions {
+        form: arguments::form_in(matches)?,
+        file: arguments::file_in(matches),
+    })
+}
+
 /// The options that the words behind `tu` give.
 pub fn read_tu<'a>(alloc: Global, words: &'a [Word]) -> Result<TuOptions<'a>, WordsError>
     ensures { Gives tu_order_of result (tu_order words.now) }
 {
     let matches = arguments::matches_with_input(tu_command(alloc)?, words)?;
-    Ok(TuOptions {
-        form: arguments::form_in(&matches)?,
-        file: arguments::file_in(&matches),
-    })
+    options_in(&matches)
 }

@@ -5,7 +5,7 @@ use Rattle.cmr_tools.proofs.words.arguments.matches_in.Goals as goal
 
 pub returns-in_err-try_get_matches_from : goal.returns-in_err-try_get_matches_from
 returns-in_err-try_get_matches_from c =
-    matches_refused (app_of c.args.command) c.args.words.now _ c.from_residual.result (sym c.has_dash.ensures ∙ c.if-has_dash.false)
+    matches_refused (app_of c.args.command) c.args.words.now c.in_err-try_get_matches_from.field-0.0 c.from_residual.result (sym c.has_dash.ensures ∙ c.if-has_dash.false)
     (c.in_err-try_get_matches_from.ensures.kinds c.requires) c.from_residual.ensures.1
 
 pub returns : goal.returns
