@@ -1,8 +1,8 @@
 // Carrying out what a tool decided.
-ghost use Rattle.std.specs.Prelude.{◌≡◌, ◌≤◌, ◌⊎◌, IsTrue};
+ghost use Rattle.std.specs.Prelude.{◌≡◌, ◌≤◌, ◌⊎◌, IfErr, IsTrue};
 ghost use Rattle.cmr_io.specs.Causes.{Rose};
 ghost use Rattle.cmr_tools.specs.Ending.{devices, CarriesOut, IsCarriedOut};
-ghost use Rattle.cmr_tools.specs.Outcome.{ended_report, outcome_report};
+ghost use Rattle.cmr_tools.specs.Outcome.{ended_report, outcome_report, stop_report};
 
 use crate::error_lines::{write_cannot_write, write_stop};
 use crate::outcome::{Outcome, Stop};
@@ -22,6 +22,7 @@ pub fn carry_out<S: Shelf, O: Sink, E: Sink>(
         (devices (S.content shelf.new) (O.got out.new) (E.got err.new) (S.faults shelf.new) (O.faults out.new) (E.faults err.new))
         result }
     ensures status { (result ≡ (ended_report ended.now).status) ⊎ ((result ≡ 4) × Rose (O.faults out.old) (O.faults out.new)) }
+    ensures stopped { IfErr ended.now (λ stop. result ≡ (stop_report stop).status) }
     ensures later { S.faults shelf.old ≤ S.faults shelf.new }
 {
     match ended {
