@@ -1,0 +1,10 @@
+-- Whole reads and writes.
+use Rattle.std.specs.Prelude.{◌≡◌, ◌<◌, ◌≤◌, ◌++◌, ℕ, List, Option, Some, length, take}
+
+-- what was given stands in front of what is left, and is at most so many bytes
+abbrev pub HasGivenAtMost : ℕ → Option (List ℕ) → List ℕ → Type 0
+HasGivenAtMost most content left = (given : List ℕ) × (content ≡ Some (given ++ left)) × (length given ≤ most)
+
+-- some of the bytes were appended, those at the front, and not all
+abbrev pub AppendsFront : List ℕ → List ℕ → List ℕ → Type 0
+AppendsFront old new bytes = (count : ℕ) × (count < length bytes) × (new ≡ old ++ take count bytes)
