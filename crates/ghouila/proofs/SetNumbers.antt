@@ -3,24 +3,11 @@ use Rattle.std.proofs.Common.{◌≡◌, ◌≢◌, ◌<◌, ◌≤◌, ◌+◌,
 use Rattle.std.proofs.lemmas.Bool.{cases_lt, cases_eq}
 use Rattle.std.proofs.Math.Nat.{pow-suc, pow-le-pow_right, zero-mul, eq_of_mul-eq-mul_right}
 use Rattle.std.proofs.Math.Pow.{pow_pos}
-use Rattle.std.specs.List.Sorted.{IsStrictlyIncreasing}
 use Rattle.cmr_base.specs.Signing.{IsSigning}
 use Rattle.cmr_base.specs.LineSets.{set_number, IsRowSet}
 use Rattle.cmr_base.specs.Matrix.{Matrix, height}
+use Rattle.cmr_base.proofs.RisingLists.{RisesIn, rises_from_lower, row_set_rises, rising_row_set}
 use Rattle.ghouila.specs.Numbered.{set_numbered}
-
--- each number from low on and below high, and each above the one before it
-abbrev pub RisesIn : ℕ → ℕ → List ℕ → Type 0
-RisesIn low high [] = Unit {0}
-RisesIn low high (row ∷ rows) = (low ≤ row) × (row < high) × RisesIn (row + 1) high rows
-
-pub rises_in : (low high : ℕ) (rows : List ℕ) → IsStrictlyIncreasing rows → ((k : ℕ) → k < length rows → get_or rows k 0 < high) → (0 < length rows → low ≤ get_or rows 0 0) → RisesIn low high rows
-rises_in low high [] rises below from = tt
-rises_in low high (row ∷ rows) rises below from = (
-  from (omega arith),
-  below 0 (omega arith),
-  rises_in (row + 1) high rows (λ k h. let next : suc k + 1 ≡ suc (k + 1) = omega arith in subst (λ n. get_or rows k 0 < get_or (row ∷ rows) n 0) next (rises (suc k) (omega arith))) (λ k h. below (suc k) (omega arith)) (λ h. let up = rises 0 (omega arith) in omega (arith, up)),
-)
 
 two_more : (n : ℕ) → 2 ^ (n + 1) ≡ 2 ^ n * 2
 two_more n = ap (λ k. 2 ^ k) (add-one n) ∙ pow-suc 2 n
@@ -114,27 +101,8 @@ set_rises (suc count) first high number end =
     let later = set_rises count (first + 1) high (number / 2) (omega arith) in
     elim (eqb (number % 2) 1) as (λ b. RisesIn first high (cond b (first ∷ set_numbered count (first + 1) (number / 2)) (set_numbered count (first + 1) (number / 2)))) [
       | true ↦ (omega arith, omega arith, later)
-      | false ↦ rises_lower first (first + 1) high (set_numbered count (first + 1) (number / 2)) (omega arith) later
+      | false ↦ rises_from_lower first (first + 1) high (set_numbered count (first + 1) (number / 2)) (omega arith) later
     ]
-  where
-    rises_lower : (low mid high : ℕ) (rows : List ℕ) → low ≤ mid → RisesIn mid high rows → RisesIn low high rows
-    rises_lower low mid high [] h rises = tt
-    rises_lower low mid high (row ∷ rows) h rises = (omega (arith, rises.0), rises.1, rises.2)
-
-pub inside : (low high : ℕ) (rows : List ℕ) → RisesIn low high rows → (k : ℕ) → k < length rows → get_or rows k 0 < high
-inside low high [] rises k h = absurd (omega arith)
-inside low high (row ∷ rows) rises zero h = rises.1
-inside low high (row ∷ rows) rises (suc k) h = inside (row + 1) high rows rises.2 k (omega arith)
-
-pub increasing : (low high : ℕ) (rows : List ℕ) → RisesIn low high rows → (k : ℕ) → suc k < length rows → get_or rows k 0 < get_or rows (suc k) 0
-increasing low high [] rises k h = absurd (omega arith)
-increasing low high (row ∷ []) rises k h = absurd (omega arith)
-increasing low high (row ∷ next ∷ rows) rises zero h = omega (arith, rises.2.0)
-increasing low high (row ∷ next ∷ rows) rises (suc k) h = increasing (row + 1) high (next ∷ rows) rises.2 k (omega arith)
-
-pub short : (low high : ℕ) (rows : List ℕ) → RisesIn low high rows → low ≤ high → length rows + low ≤ high
-short low high [] rises h = omega arith
-short low high (row ∷ rows) rises h = omega (arith, rises.0, rises.1, short (row + 1) high rows rises.2 (omega (arith, rises.1)))
 
 bounded : (low high : ℕ) (rows : List ℕ) → RisesIn low high rows → low ≤ high → set_number rows + 2 ^ low ≤ 2 ^ high
 bounded low high [] rises h = let two : 0 < 2 = omega arith in omega (arith, pow-le-pow_right two h)
@@ -144,9 +112,6 @@ bounded low high (row ∷ rows) rises h =
     let later = bounded (row + 1) high rows rises.2 (omega (arith, rises.1)) in
     omega (arith, up, later, two_more row)
 
-row_set_rises : (m : Matrix) (rows : List ℕ) → IsRowSet m rows → RisesIn 0 (height m) rows
-row_set_rises m rows is = rises_in 0 (height m) rows is.rising is.in_range (λ h. omega arith)
-
 pub row_set_number : (m : Matrix) (rows : List ℕ) → IsRowSet m rows → set_number rows < 2 ^ height m
 row_set_number m rows is = omega (arith, bounded 0 (height m) rows (row_set_rises m rows is) (omega arith))
 
@@ -154,12 +119,7 @@ pub row_set_is : (m : Matrix) (rows : List ℕ) → IsRowSet m rows → set_numb
 row_set_is m rows is = set_numbered-unique (height m) 0 (height m) rows (set_number rows) (omega arith) (row_set_rises m rows is) (omega arith)
 
 pub numbered_row_set : (m : Matrix) (number : ℕ) → IsRowSet m (set_numbered (height m) 0 number)
-numbered_row_set m number =
-    let rises = set_rises (height m) 0 (height m) number (omega arith) in
-    record {
-      rising = λ k h. let next : k + 1 ≡ suc k = omega arith in rw next (increasing 0 (height m) _ rises k (omega arith));
-      in_range = inside 0 (height m) _ rises;
-    }
+numbered_row_set m number = rising_row_set m (set_numbered (height m) 0 number) (set_rises (height m) 0 (height m) number (omega arith))
 
 -- one more set that has a signing
 pub all_signed_more : (m : Matrix) (rows : List ℕ) (number : ℕ) → rows ≡ set_numbered (height m) 0 number → (signs : List ℤ) × IsSigning m rows signs

@@ -2,14 +2,15 @@ use Rattle.std.proofs.Common.{List, ◌≡◌, ◌≤◌, ◌^◌, ◌*◌, ◌�
 use Rattle.cmr_base.specs.Matrix.{Matrix, height}
 use Rattle.cmr_base.specs.LineSets.{IsRowSet, set_number}
 use Rattle.ghouila.specs.Numbered.{set_numbered}
-use Rattle.ghouila.proofs.SetNumbers.{numbered_row_set, row_set_number, set_number-set_numbered, set_rises, short, all_signed_more}
+use Rattle.ghouila.proofs.SetNumbers.{numbered_row_set, row_set_number, set_number-set_numbered, set_rises, all_signed_more}
+use Rattle.cmr_base.proofs.RisingLists.{rising_short}
 use Rattle.ghouila.proofs.least.least_unsigned.Goals as goal
 
 row_set : (m : Matrix) (rows : List ℕ) (number : ℕ) → rows ≡ set_numbered (height m) 0 number → IsRowSet m rows
 row_set m rows number e = subst (IsRowSet m) (sym e) (numbered_row_set m number)
 
 few : (m : Matrix) (rows : List ℕ) (number : ℕ) → rows ≡ set_numbered (height m) 0 number → length rows ≤ height m
-few m rows number e = subst (λ rs. length rs ≤ height m) (sym e) (omega (arith, short 0 (height m) (set_numbered (height m) 0 number) (set_rises (height m) 0 (height m) number (omega arith)) (omega arith)))
+few m rows number e = subst (λ rs. length rs ≤ height m) (sym e) (omega (arith, rising_short 0 (height m) (set_numbered (height m) 0 number) (set_rises (height m) 0 (height m) number (omega arith)) (omega arith)))
 
 pub has_signing-requires-clause-in_range : goal.has_signing-requires-clause-in_range
 has_signing-requires-clause-in_range c =
