@@ -1,10 +1,10 @@
 -- Parts of a line, joined one after another.
-use Rattle.std.proofs.Common.{◌≡◌, ◌<◌, ◌+◌, ◌++◌, ◌∷◌, ◌∙◌, ℕ, List, [], length, map, take, drop, get_or, ap, sym, inl, inr, refl, arith}
+use Rattle.std.proofs.Common.{◌≡◌, ◌<◌, ◌+◌, ◌++◌, ◌∷◌, ◌∙◌, ℕ, List, [], length, map, take, drop, get_or, ap, sym, arith}
 use Rattle.std.specs.List.{concat}
-use Rattle.std.proofs.lemmas.List.{append-nil, drop_more, map-append, take-append-drop, take-append-le, take_all, take_more}
+use Rattle.std.proofs.lemmas.List.{append-nil, append_assoc, drop_more, length-append, map-append, take-append-drop, take-append-le, take_more}
 use Rattle.std.proofs.lemmas.List.Folds.{concat-append}
-use Rattle.std.proofs.lemmas.Bool.{cases_lt}
 use Rattle.std.proofs.Math.Seq.{take-append-add}
+use Rattle.cmr_io.specs.Whole.{AppendsFront}
 
 pub one_more : {X : Type 0} (f : X → List ℕ) (xs : List X) (i : ℕ) (d : X) → i < length xs → concat (map f (take (i + 1) xs)) ≡ concat (map f (take i xs)) ++ f (get_or xs i d)
 one_more f xs i d h =
@@ -20,10 +20,11 @@ at f xs i d h =
     ∙ concat-append (map f (take i xs)) (f (get_or xs i d) ∷ map f (drop (i + 1) xs))
 
 -- a front of one part, behind the parts before it, is a front of the whole
-pub front : (done part rest : List ℕ) (n : ℕ) → (k : ℕ) × (done ++ take n part ≡ take k (done ++ (part ++ rest)))
-front done part rest n = elim (cases_lt (length part) n) [
-  | inl past ↦ (length done + length part,
-      ap (λ p. done ++ p) (take_all n part (omega arith) ∙ sym (take_all (length part) part (omega arith)) ∙ sym (take-append-le (length part) part rest (omega arith))) ∙ sym (take-append-add done (part ++ rest) (length part)))
-  | inr within ↦ (length done + n,
-      ap (λ p. done ++ p) (sym (take-append-le n part rest (omega arith))) ∙ sym (take-append-add done (part ++ rest) n))
-]
+pub front : (old done part rest new : List ℕ) → AppendsFront (old ++ done) new part → AppendsFront old new (done ++ (part ++ rest))
+front old done part rest new (n, less, e) = (
+  length done + n,
+  omega (arith, length-append done (part ++ rest), length-append part rest),
+  e ∙ append_assoc old done (take n part)
+  ∙ ap (λ p. old ++ (done ++ p)) (sym (take-append-le n part rest (omega arith)))
+  ∙ ap (λ p. old ++ p) (sym (take-append-add done (part ++ rest) n)),
+)

@@ -1,6 +1,8 @@
 -- What stands on the devices when a run ends.
-use Rattle.std.specs.Prelude.{◌≡◌, ◌≢◌, ◌<◌, ◌⊎◌, ◌++◌, ℕ, List, [], ◌∷◌, length, take, Option, Some, slice_get, codes, Result, Ok, Err}
+use Rattle.std.specs.Prelude.{◌≡◌, ◌≢◌, ◌≤◌, ◌⊎◌, ◌++◌, ℕ, Bool, IsTrue, List, [], ◌∷◌, length, take, Option, Some, IsSomeAnd, slice_get, codes, Result, Ok, Err}
+use Rattle.std.specs.List.{AllByRecursion}
 use Rattle.cmr_io.specs.Causes.{Rose}
+use Rattle.cmr_io.specs.Whole.{AppendsFront}
 use Rattle.cmr_tools.specs.Report.{Held, File, Report, with_files}
 use Rattle.cmr_tools.specs.declared.outcome.Outcome.{Outcome}
 use Rattle.cmr_tools.specs.declared.outcome.Stop.{Stop}
@@ -26,6 +28,34 @@ devices held output error shelf_faults output_faults error_faults = record {
   error_faults = error_faults;
 }
 
+-- Which devices tell their bytes, which are calm, and what rooms they have.
+pub record Standing : Type 0 where
+  pub shelf_tells : Bool
+  pub output_tells : Bool
+  pub error_tells : Bool
+  pub shelf_is_calm : Bool
+  pub shelf_room : List ℕ → Option ℕ
+  pub output_is_calm : Bool
+  pub output_room : ℕ
+
+abbrev pub standing : Bool → Bool → Bool → Bool → (List ℕ → Option ℕ) → Bool → ℕ → Standing
+standing shelf_tells output_tells error_tells shelf_is_calm shelf_room output_is_calm output_room = record {
+  shelf_tells = shelf_tells;
+  output_tells = output_tells;
+  error_tells = error_tells;
+  shelf_is_calm = shelf_is_calm;
+  shelf_room = shelf_room;
+  output_is_calm = output_is_calm;
+  output_room = output_room;
+}
+
+-- the devices are calm and have room for the files and for standard output
+pub record IsReadyFor (report : Report) (devices : Standing) : Type 0 where
+  pub shelf : IsTrue devices.shelf_is_calm
+  pub output : IsTrue devices.output_is_calm
+  pub rooms : AllByRecursion (λ file. IsSomeAnd (devices.shelf_room file.name) (λ room. length file.bytes ≤ room)) report.files
+  pub room : length report.output ≤ devices.output_room
+
 -- All files of the report and all of its standard output were written, and its line to standard error.
 pub record IsDelivered (report : Report) (before after : Devices) : Type 0 where
   pub files : (name : List ℕ) → after.held name ≡ with_files before.held report.files name
@@ -48,7 +78,7 @@ IsUnwritten report before after = (k : ℕ) × (file : File) × (slice_get repor
 -- Standard output failed: all files are whole, and a front of it was put.
 pub record IsCutShort (report : Report) (before after : Devices) : Type 0 where
   pub files : (name : List ℕ) → after.held name ≡ with_files before.held report.files name
-  pub output : (n : ℕ) × (after.output ≡ before.output ++ take n report.output)
+  pub output : AppendsFront before.output after.output report.output
   pub error : IsWritten before.error after.error before.error_faults after.error_faults (cannot_write_line (codes "-"))
   pub cause : Rose before.output_faults after.output_faults
 

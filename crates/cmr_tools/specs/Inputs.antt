@@ -5,6 +5,7 @@ use Rattle.text_fields.specs.Words.{text_of}
 use Rattle.text_fields.specs.Reading.{Fault}
 use Rattle.matrix_text.specs.declared.error.TextKind.{TextKind}
 use Rattle.matrix_text.specs.Dense.{dense}
+use Rattle.matrix_text.specs.Sparse.{sparse}
 use Rattle.cmr_tools.specs.declared.options.MatrixForm.{MatrixForm}
 use Rattle.cmr_tools.specs.declared.options.MatrixForm.TheVariants.{Dense, Sparse}
 use Rattle.cmr_tools.specs.Report.{Held}
@@ -25,4 +26,4 @@ reading held most name = reading_of most (held name)
 -- the matrix that a text of this form stands for, or its first fault
 abbrev pub matrix_in : MatrixForm → Bool → List ℕ → Result Matrix (Fault TextKind)
 matrix_in Dense binary bytes = dense binary (text_of bytes)
-matrix_in Sparse binary bytes = dense binary (text_of bytes)
+matrix_in Sparse binary bytes = sparse binary (text_of bytes)

@@ -9,7 +9,7 @@ use Rattle.cmr_tools.specs.Words.{Order, tu}
 use Rattle.cmr_tools.specs.Report.{Held, Report}
 use Rattle.cmr_tools.specs.Outcome.{bad_text, bad_words, cannot_read, many_rows, out_of_memory, outcome_report, too_long}
 use Rattle.cmr_tools.specs.Inputs.{reading, whole, matrix_in}
-use Rattle.cmr_tools.specs.Ending.{Devices, IsDelivered, IsCarriedOut}
+use Rattle.cmr_tools.specs.Ending.{Devices, Standing, IsDelivered, IsReadyFor, IsCarriedOut}
 use Rattle.cmr_tools.specs.Words.Tu.{TuOrder}
 use Rattle.cmr_tools.specs.Tu.{TuReports}
 
@@ -30,10 +30,6 @@ pub data HasEnded (order : Option Order) (before after : Devices) (status : ℕ)
   unread : (name : List ℕ) → IsInput order name → Rose before.shelf_faults after.shelf_faults → status ≡ 4 → IsDelivered (cannot_read name) before after → HasEnded order before after status
   no_memory : status ≡ 5 → IsDelivered out_of_memory before after → HasEnded order before after status
 
--- the status is the report's, but for a device or for want of memory
-abbrev pub IsComplete : Option Order → Held → ℕ → Type 0
-IsComplete order held status = (report : Report) → Reports order held report → (status ≡ report.status) ⊎ (status ≡ 4) ⊎ (status ≡ 5)
-
 -- the matrix that `tu` is to test
 pub record IsGiven (order : Option Order) (held : Held) (m : Matrix) : Type 0 where
   pub options : TuOrder
@@ -41,6 +37,21 @@ pub record IsGiven (order : Option Order) (held : Held) (m : Matrix) : Type 0 wh
   pub ordered : order ≡ Some (tu options)
   pub read : reading held 16777216 options.file ≡ whole bytes
   pub matrix : matrix_in options.form false bytes ≡ Ok m
+
+-- What is promised of a run, whatever its order.
+pub record Runs (order : Option Order) (standing : Standing) (before after : Devices) (status : ℕ) : Type 0 where
+  -- where the devices tell their bytes: what stands on them
+  pub ended : IsTrue standing.shelf_tells → IsTrue standing.output_tells → IsTrue standing.error_tells → HasEnded order before after status
+  -- the status is the report's, but for a device or for want of memory
+  pub complete : IsTrue standing.shelf_tells → (report : Report) → Reports order before.held report → (status ≡ report.status) ⊎ (status ≡ 4) ⊎ (status ≡ 5)
+  -- where the devices are ready, no device gives a status
+  pub ready : (report : Report) → Reports order before.held report → IsReadyFor report standing → (status ≡ report.status) ⊎ (status ≡ 5)
+  -- status 2 comes exactly where the words are refused, unless memory is
+  pub refused : order ≡ None → (status ≡ 2) ⊎ (status ≡ 5)
+  pub refused_only : status ≡ 2 → order ≡ None
+  -- status 4 comes only where a call of the shelf or of standard output failed
+  pub device : status ≡ 4 → Rose before.shelf_faults after.shelf_faults ⊎ Rose before.output_faults after.output_faults
+  pub statuses : status ≤ 5
 
 -- What an outcome or a stop says for an order, before anything is written: it is the report, but for a file that
 -- cannot be read, of which a calm shelf says that there is no report, and for want of memory.

@@ -8,7 +8,7 @@ use crate::options::MatrixForm;
 use crate::outcome::Stop;
 use cmr_base::Matrix;
 use cmr_io::{ReadError, Shelf, read_whole};
-use matrix_text::{TextError, read_dense};
+use matrix_text::{TextError, read_dense, read_sparse};
 use std::alloc::Global;
 
 /// All that a file of a tool holds, or why the run ends: it cannot be read, or it has more than `most` bytes.
@@ -48,7 +48,7 @@ pub fn read_matrix<'a>(
 {
     let read = match form {
         MatrixForm::Dense => read_dense(alloc, bytes, binary),
-        MatrixForm::Sparse => read_dense(alloc, bytes, binary),
+        MatrixForm::Sparse => read_sparse(alloc, bytes, binary),
     };
     match read {
         Ok(matrix) => Ok(matrix),

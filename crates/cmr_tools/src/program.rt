@@ -1,11 +1,10 @@
 // The call that the program makes.
-ghost use Rattle.std.specs.Prelude.{◌≡◌, ◌≢◌, ◌≤◌, ◌⊎◌, ◌++◌, ℕ, List, Some, None, IsTrue, OnErr, IfErr, IfOk};
+ghost use Rattle.std.specs.Prelude.{◌≡◌, ℕ, List, Some, None, IsTrue};
 ghost use Rattle.cmr_base.specs.Matrix.{Matrix};
 ghost use Rattle.cmr_base.specs.Signing.{IsTotallyUnimodular, IsLeastUnsigned};
-ghost use Rattle.cmr_io.specs.Causes.{Rose};
-ghost use Rattle.cmr_tools.specs.Words.{order};
-ghost use Rattle.cmr_tools.specs.Ending.{devices};
-ghost use Rattle.cmr_tools.specs.Run.{HasEnded, IsComplete, IsGiven};
+ghost use Rattle.cmr_tools.specs.Words.{order, order_of};
+ghost use Rattle.cmr_tools.specs.Ending.{devices, standing};
+ghost use Rattle.cmr_tools.specs.Run.{IsGiven, Runs};
 
 use crate::carry_out::carry_out;
 use crate::options::Command;
@@ -26,23 +25,38 @@ pub fn run<R: Threads + Sync, S: Shelf, O: Sink, E: Sink>(
     out: &mut O,
     err: &mut E,
 ) -> u8
-    ensures ended { IsTrue (S.tells shelf.old) → IsTrue (O.tells out.old) → IsTrue (E.tells err.old) → HasEnded (order words.now)
+    ensures runs { Runs (order words.now)
+        (standing (S.tells shelf.old) (O.tells out.old) (E.tells err.old) (S.is_calm shelf.old) (λ _. None) (O.is_calm out.old) (O.room out.old))
         (devices (S.content shelf.old) (O.got out.old) (E.got err.old) (S.faults shelf.old) (O.faults out.old) (E.faults err.old))
         (devices (S.content shelf.new) (O.got out.new) (E.got err.new) (S.faults shelf.new) (O.faults out.new) (E.faults err.new))
         result }
-    ensures complete { IsTrue (S.tells shelf.old) → IsComplete (order words.now) (S.content shelf.old) result }
-
-    ensures refused { order words.now ≡ None → (result ≡ 2) ⊎ (result ≡ 5) }
-    ensures refused_only { result ≡ 2 → order words.now ≡ None }
-    ensures device { result ≡ 4 → Rose (S.faults shelf.old) (S.faults shelf.new) ⊎ Rose (O.faults out.old) (O.faults out.new) }
-    ensures statuses { result ≤ 5 }
-
     ensures yes { IsTrue (S.tells shelf.old) → result ≡ 0 → (m : Matrix) × IsGiven (order words.now) (S.content shelf.old) m × IsTotallyUnimodular m }
     ensures no { IsTrue (S.tells shelf.old) → result ≡ 1 → (m : Matrix) × IsGiven (order words.now) (S.content shelf.old) m × (rows : List ℕ) × IsLeastUnsigned m rows }
 {
     match read_words(alloc, words) {
-        Ok(Command::Tu(options)) => tu(rt, alloc, &options, shelf, out, err),
+        Ok(command) => obey(rt, alloc, &command, shelf, out, err),
         Err(WordsError::Refused) => carry_out(&Err(Stop::BadWords), shelf, out, err),
         Err(WordsError::Memory) => carry_out(&Err(Stop::Memory), shelf, out, err),
+    }
+}
+
+fn obey<R: Threads + Sync, S: Shelf, O: Sink, E: Sink>(
+    rt: &R,
+    alloc: Global,
+    command: &Command<'_>,
+    shelf: &mut S,
+    out: &mut O,
+    err: &mut E,
+) -> u8
+    ensures runs { Runs (Some (order_of command.now))
+        (standing (S.tells shelf.old) (O.tells out.old) (E.tells err.old) (S.is_calm shelf.old) (λ _. None) (O.is_calm out.old) (O.room out.old))
+        (devices (S.content shelf.old) (O.got out.old) (E.got err.old) (S.faults shelf.old) (O.faults out.old) (E.faults err.old))
+        (devices (S.content shelf.new) (O.got out.new) (E.got err.new) (S.faults shelf.new) (O.faults out.new) (E.faults err.new))
+        result }
+    ensures yes { IsTrue (S.tells shelf.old) → result ≡ 0 → (m : Matrix) × IsGiven (Some (order_of command.now)) (S.content shelf.old) m × IsTotallyUnimodular m }
+    ensures no { IsTrue (S.tells shelf.old) → result ≡ 1 → (m : Matrix) × IsGiven (Some (order_of command.now)) (S.content shelf.old) m × (rows : List ℕ) × IsLeastUnsigned m rows }
+{
+    match command {
+        Command::Tu(options) => tu(rt, alloc, options, shelf, out, err),
     }
 }

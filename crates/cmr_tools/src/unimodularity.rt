@@ -1,13 +1,13 @@
 // Testing total unimodularity.
-ghost use Rattle.std.specs.Prelude.{◌≡◌, ◌≢◌, ◌⊎◌, ◌++◌, ◌≤◌, ℕ, List, Some, IfOk, IfErr, OnOk, IsTrue, false};
+ghost use Rattle.std.specs.Prelude.{None, ◌≡◌, ◌≢◌, ◌⊎◌, ◌++◌, ◌≤◌, ℕ, List, Some, IfOk, IfErr, OnOk, IsTrue, false};
 ghost use Rattle.cmr_tools.specs.Inputs.{matrix_in};
 ghost use Rattle.cmr_tools.specs.Outcome.{ended_report, outcome_report};
 ghost use Rattle.cmr_base.specs.Matrix.{Matrix, height};
 ghost use Rattle.cmr_base.specs.Signing.{IsTotallyUnimodular, IsLeastUnsigned};
 ghost use Rattle.cmr_tools.specs.Tu.{TuReads, TuStops, line_numbers, tu_no, tu_yes};
 ghost use Rattle.cmr_io.specs.Causes.{Rose};
-ghost use Rattle.cmr_tools.specs.Ending.{devices};
-ghost use Rattle.cmr_tools.specs.Run.{Ends, HasEnded, IsComplete, IsGiven};
+ghost use Rattle.cmr_tools.specs.Ending.{devices, standing};
+ghost use Rattle.cmr_tools.specs.Run.{Ends, IsGiven, Runs};
 ghost use Rattle.cmr_tools.specs.Words as order;
 ghost use Rattle.cmr_tools.specs.Stopped.{IsCaused};
 ghost use Rattle.cmr_tools.specs.Words.Tu.{tu_order_of};
@@ -36,15 +36,11 @@ pub fn tu<R: Threads + Sync, S: Shelf, O: Sink, E: Sink>(
     out: &mut O,
     err: &mut E,
 ) -> u8
-    ensures ended { IsTrue (S.tells shelf.old) → IsTrue (O.tells out.old) → IsTrue (E.tells err.old) → HasEnded (Some (order.tu (tu_order_of options.now)))
+    ensures runs { Runs (Some (order.tu (tu_order_of options.now)))
+        (standing (S.tells shelf.old) (O.tells out.old) (E.tells err.old) (S.is_calm shelf.old) (λ _. None) (O.is_calm out.old) (O.room out.old))
         (devices (S.content shelf.old) (O.got out.old) (E.got err.old) (S.faults shelf.old) (O.faults out.old) (E.faults err.old))
         (devices (S.content shelf.new) (O.got out.new) (E.got err.new) (S.faults shelf.new) (O.faults out.new) (E.faults err.new))
         result }
-    ensures complete { IsTrue (S.tells shelf.old) → IsComplete (Some (order.tu (tu_order_of options.now))) (S.content shelf.old) result }
-
-    ensures device { result ≡ 4 → Rose (S.faults shelf.old) (S.faults shelf.new) ⊎ Rose (O.faults out.old) (O.faults out.new) }
-    ensures statuses { (result ≤ 5) × (result ≢ 2) }
-
     ensures yes { IsTrue (S.tells shelf.old) → result ≡ 0 → (m : Matrix) × IsGiven (Some (order.tu (tu_order_of options.now))) (S.content shelf.old) m × IsTotallyUnimodular m }
     ensures no { IsTrue (S.tells shelf.old) → result ≡ 1 → (m : Matrix) × IsGiven (Some (order.tu (tu_order_of options.now))) (S.content shelf.old) m × (rows : List ℕ) × IsLeastUnsigned m rows }
 {
@@ -61,6 +57,7 @@ fn examine<'a, S: Shelf>(
     ensures ends { IsTrue (S.tells shelf.old) → Ends (Some (order.tu (tu_order_of options.now))) (S.content shelf.old) (S.is_calm shelf.old) result }
     ensures content { (other : List ℕ) → S.content shelf.new other ≡ S.content shelf.old other }
     ensures tells { S.tells shelf.new ≡ S.tells shelf.old }
+    ensures calm { IsTrue (S.is_calm shelf.old) → IsTrue (S.is_calm shelf.new) }
     ensures later { S.faults shelf.old ≤ S.faults shelf.new }
     ensures statuses { ((ended_report result).status ≤ 5) × ((ended_report result).status ≢ 2) }
     ensures cause { (ended_report result).status ≡ 4 → Rose (S.faults shelf.old) (S.faults shelf.new) }

@@ -1,6 +1,7 @@
-use Rattle.std.proofs.Common.{◌≡◌, ◌∙◌, ◌++◌, take, drop, map, ◌+◌, ap, sym, inl, inr, append_assoc, arith, [], get_or}
+use Rattle.std.proofs.Common.{◌≡◌, ◌∙◌, ◌++◌, take, drop, map, ◌+◌, ap, sym, subst, inl, inr, append_assoc, arith, [], get_or}
 use Rattle.std.specs.List.{concat}
 use Rattle.cmr_tools.proofs.Parts.{one_more, at, front}
+use Rattle.cmr_io.specs.Whole.{AppendsFront}
 use Rattle.cmr_tools.proofs.error_lines.write_parts.Goals as goal
 
 pub loop-part-preserved : goal.loop-part-preserved
@@ -25,18 +26,14 @@ returns-in-Err g c = λ told.
     let before = c.loop-part.invariant in
     let parts = c.args.parts.now in
     let i = c.loop-part.part-index in
+    let old = g.E.Sink.got c.args.err.now in
+    let new = g.E.Sink.got c.write_whole.new.sink in
     let wrote = c.in-Err.ensures in
     let done = concat (map (λ p. p.now) (take i parts)) in
     let rest = concat (map (λ p. p.now) (drop (i + 1) parts)) in
-    let n = (wrote.front (before.tells ∙ told)).0 in
-    let cut = front done c.as_bytes.result.now rest n in
+    let all = ap (λ p. done ++ (p ++ rest)) c.as_bytes.ensures.value ∙ sym (at (λ p. p.now) parts i (record { ref_ptr = (0, 0); now = [] }) (omega arith)) in
+    let cut = subst (λ got. AppendsFront got new c.as_bytes.result.now) (before.written told) (wrote.front (before.tells ∙ told)) in
     inr (
       elim wrote.cause.failed [ inl up ↦ inl (omega (arith, before.later)) | inr last ↦ inr last ],
-      cut.0,
-      (wrote.front (before.tells ∙ told)).1
-      ∙ ap (λ got. got ++ take n c.as_bytes.result.now) (before.written told)
-      ∙ append_assoc (g.E.Sink.got c.args.err.now) done (take n c.as_bytes.result.now)
-      ∙ ap (λ r. g.E.Sink.got c.args.err.now ++ r) (cut.1 ∙ ap (take cut.0)
-      (ap (λ p. done ++ (p ++ rest)) c.as_bytes.ensures.value
-      ∙ sym (at (λ p. p.now) parts i (record { ref_ptr = (0, 0); now = [] }) (omega arith)))),
+      subst (AppendsFront old new) all (front old done c.as_bytes.result.now rest new cut),
     )
