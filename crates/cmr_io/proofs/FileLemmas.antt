@@ -1,20 +1,38 @@
 -- The files of a shelf in memory.
-use Rattle.std.proofs.Common.{◌≡◌, ◌≢◌, ◌<◌, ◌+◌, ◌∙◌, ◌||◌, ℕ, zero, suc, Bool, true, false, List, [], ◌∷◌, ◌++◌, None, length, take, drop, get_or, refl, ap, sym, arith}
+use Rattle.std.proofs.Common.{◌≡◌, ◌≢◌, ◌<◌, ◌+◌, ◌∙◌, ◌||◌, ◌&&◌, ℕ, zero, suc, Bool, true, false, not, List, [], ◌∷◌, ◌++◌, Option, Some, None, length, take, drop, get_or, is_some, unwrap_or, nat_le, ◌-◌, if◌then◌else◌, refl, ap, sym, arith}
 use Rattle.std.specs.Str.{bytes_eq}
-use Rattle.std.proofs.Math.ListN.{set}
+use Rattle.std.proofs.Math.ListN.{set, length-set}
 use Rattle.std.proofs.lemmas.Slice.Eq.{bytes_eq-Decides}
 use Rattle.std.proofs.lemmas.Bool.{false_from_ne_true}
-use Rattle.std.proofs.lemmas.List.{take-append-drop, drop-drop}
+use Rattle.std.proofs.lemmas.List.{take-append-drop, drop-drop, get_or-set_same}
 use Rattle.cmr_io.specs.declared.memory_file.File.{File}
-use Rattle.cmr_io.specs.Files.{name_of, held_by, is_named, has_name, content_in, IsFirst, bytes_at}
+use Rattle.cmr_io.specs.Files.{name_of, held_by, room_for, is_named, has_name, of_first, content_in, room_in, IsFirst, bytes_at, name_at, is_writable, is_writable_at}
+use Rattle.cmr_io.specs.Writes.{Writes}
+use Rattle.cmr_io.specs.Begun.{is_writing, file_written}
+use Rattle.cmr_io.specs.MemoryShelf.{target_by, got_by}
+use Rattle.cmr_io.specs.declared.memory_shelf.Begun.{Begun}
+use Rattle.cmr_io.specs.declared.memory_shelf.Begun.TheVariants.{Nothing, Read, Write}
+use borrow.Author.Tests.{leb-true}
 
 neither : (a b : Bool) → (a || b) ≡ false → (a ≡ false) × (b ≡ false)
 neither true b h = absurd (cc)
 neither false b h = (refl, h)
 
+both : (a b : Bool) → (a && b) ≡ true → (a ≡ true) × (b ≡ true)
+both true b h = (refl, h)
+both false b h = absurd (cc)
+
+is_not : (a : Bool) → not a ≡ true → a ≡ false
+is_not true h = absurd (cc)
+is_not false h = refl
+
 is_other : (bytes name other : List ℕ) → bytes_eq bytes name ≡ true → other ≢ name → bytes_eq bytes other ≡ false
 is_other bytes name other h ne =
     false_from_ne_true (bytes_eq bytes other) (λ same. ne (sym ((bytes_eq-Decides bytes other).0 same) ∙ (bytes_eq-Decides bytes name).0 h))
+
+-- a file with another's name has the names that the other has
+is_named-same : (name : List ℕ) (file old : File) (b : Bool) → name_of file ≡ name_of old → is_named name old ≡ b → is_named name file ≡ b
+is_named-same name file old b same h = ap (λ (bytes : List ℕ). bytes_eq bytes name) same ∙ h
 
 -- no file has the name
 pub has_name-none : (name : List ℕ) (files : List File) → ((k : ℕ) (file : File) → k < length files → is_named name (get_or files k file) ≡ false) → has_name name files ≡ false
@@ -29,55 +47,161 @@ IsFirst-none_before name (x ∷ files) zero file other lt named = named
 IsFirst-none_before name (x ∷ files) (suc i) file other lt named =
     (other 0 x (omega arith), IsFirst-none_before name files i file (λ k y below. other (suc k) y (omega arith)) (omega arith) named)
 
-pub content_in-none : (name : List ℕ) (files : List File) → has_name name files ≡ false → content_in files name ≡ None
-content_in-none name [] h = refl
-content_in-none name (file ∷ files) h =
+-- a file in the place of the first with a name
+pub IsFirst-set : (name : List ℕ) (files : List File) (i : ℕ) (file old : File) → IsFirst name files i → old ≡ get_or files i old → name_of file ≡ name_of old → IsFirst name (set files i file) i
+IsFirst-set name [] i file old h is same = absurd h
+IsFirst-set name (x ∷ files) zero file old h is same = is_named-same name file x true (same ∙ ap name_of is) h
+IsFirst-set name (x ∷ files) (suc i) file old h is same = (h.0, IsFirst-set name files i file old h.1 is same)
+
+pub of_first-none : {A : Type 0} → (view : File → Option A) (name : List ℕ) (files : List File) → has_name name files ≡ false → of_first view files name ≡ None
+of_first-none view name [] h = refl
+of_first-none view name (file ∷ files) h =
     let p = neither (is_named name file) (has_name name files) h in
-    rw p.0 (content_in-none name files p.1)
+    rw p.0 (of_first-none view name files p.1)
 
--- what is held by the first file with a name
-pub content_in-first : (name : List ℕ) (files : List File) (i : ℕ) (file : File) → IsFirst name files i → file ≡ get_or files i file → content_in files name ≡ held_by file
-content_in-first name [] i file h is = absurd h
-content_in-first name (x ∷ files) zero file h is = rw (h, is) refl
-content_in-first name (x ∷ files) (suc i) file h is = rw h.0 (content_in-first name files i file h.1 is)
+-- what the first file with a name shows
+pub of_first-first : {A : Type 0} → (view : File → Option A) (name : List ℕ) (files : List File) (i : ℕ) (file : File) → IsFirst name files i → file ≡ get_or files i file → of_first view files name ≡ view file
+of_first-first view name [] i file h is = absurd h
+of_first-first view name (x ∷ files) zero file h is = rw (h, is) refl
+of_first-first view name (x ∷ files) (suc i) file h is = rw h.0 (of_first-first view name files i file h.1 is)
 
--- the first file with a name, replaced by another with that name
-pub content_in-set_first : (name : List ℕ) (files : List File) (i : ℕ) (file old : File) → IsFirst name files i → old ≡ get_or files i old → name_of file ≡ name_of old → content_in (set files i file) name ≡ held_by file
-content_in-set_first name [] i file old h is same = absurd h
-content_in-set_first name (x ∷ files) zero file old h is same =
-    let named : is_named name file ≡ true = ap (λ (bytes : List ℕ). bytes_eq bytes name) (same ∙ ap name_of is) ∙ h in
-    rw named refl
-content_in-set_first name (x ∷ files) (suc i) file old h is same = rw h.0 (content_in-set_first name files i file old h.1 is same)
+-- the first file with a name, in whose place another is put
+pub of_first-set : {A : Type 0} → (view : File → Option A) (name : List ℕ) (files : List File) (i : ℕ) (file old : File) → i < length files → IsFirst name files i → old ≡ get_or files i old → name_of file ≡ name_of old → of_first view (set files i file) name ≡ view file
+of_first-set view name files i file old lt h is same =
+    of_first-first view name (set files i file) i file (IsFirst-set name files i file old h is same) (sym (get_or-set_same files i file file lt))
 
--- names but that of a file that is replaced
-pub content_in-set_other : (name other : List ℕ) (files : List File) (i : ℕ) (file old : File) → other ≢ name → IsFirst name files i → old ≡ get_or files i old → name_of file ≡ name_of old → content_in (set files i file) other ≡ content_in files other
-content_in-set_other name other [] i file old ne h is same = absurd h
-content_in-set_other name other (x ∷ files) zero file old ne h is same =
+-- other names than that of a file that is replaced
+pub of_first-set_other : {A : Type 0} → (view : File → Option A) (name other : List ℕ) (files : List File) (i : ℕ) (file old : File) → other ≢ name → IsFirst name files i → old ≡ get_or files i old → name_of file ≡ name_of old → of_first view (set files i file) other ≡ of_first view files other
+of_first-set_other view name other [] i file old ne h is same = absurd h
+of_first-set_other view name other (x ∷ files) zero file old ne h is same =
     let before : is_named other x ≡ false = is_other (name_of x) name other h ne in
-    let after : is_named other file ≡ false = ap (λ (bytes : List ℕ). bytes_eq bytes other) (same ∙ ap name_of is) ∙ before in
-    rw (before, after) refl
-content_in-set_other name other (x ∷ files) (suc i) file old ne h is same = rw (content_in-set_other name other files i file old ne h.1 is same) refl
+    rw (before, is_named-same other file x false (same ∙ ap name_of is) before) refl
+of_first-set_other view name other (x ∷ files) (suc i) file old ne h is same = rw (of_first-set_other view name other files i file old ne h.1 is same) refl
+
+-- a file that is replaced by one that shows the same
+pub of_first-set_same : {A : Type 0} → (view : File → Option A) (name : List ℕ) (files : List File) (i : ℕ) (file old : File) → i < length files → old ≡ get_or files i old → name_of file ≡ name_of old → view file ≡ view old → of_first view (set files i file) name ≡ of_first view files name
+of_first-set_same view name [] i file old lt is same shown = absurd (omega arith)
+of_first-set_same view name (x ∷ files) zero file old lt is same shown =
+    let named : is_named name file ≡ is_named name x = ap (λ (bytes : List ℕ). bytes_eq bytes name) (same ∙ ap name_of is) in
+    rw (named, shown ∙ ap view is) refl
+of_first-set_same view name (x ∷ files) (suc i) file old lt is same shown = rw (of_first-set_same view name files i file old (omega arith) is same shown) refl
 
 -- a file that is added
-pub content_in-push : (name : List ℕ) (files : List File) (file : File) → has_name name files ≡ false → name_of file ≡ name → content_in (files ++ file ∷ []) name ≡ held_by file
-content_in-push name [] file none same =
-    let named : is_named name file ≡ true = (bytes_eq-Decides (name_of file) name).1 same in
-    rw named refl
-content_in-push name (x ∷ files) file none same =
+pub of_first-push : {A : Type 0} → (view : File → Option A) (name : List ℕ) (files : List File) (file : File) → has_name name files ≡ false → name_of file ≡ name → of_first view (files ++ file ∷ []) name ≡ view file
+of_first-push view name [] file none same = rw ((bytes_eq-Decides (name_of file) name).1 same) refl
+of_first-push view name (x ∷ files) file none same =
     let p = neither (is_named name x) (has_name name files) none in
-    rw p.0 (content_in-push name files file p.1 same)
+    rw p.0 (of_first-push view name files file p.1 same)
 
-pub content_in-push_other : (name other : List ℕ) (files : List File) (file : File) → other ≢ name → name_of file ≡ name → content_in (files ++ file ∷ []) other ≡ content_in files other
-content_in-push_other name other [] file ne same =
-    let named : is_named other file ≡ false = is_other (name_of file) name other ((bytes_eq-Decides (name_of file) name).1 same) ne in
-    rw named refl
-content_in-push_other name other (x ∷ files) file ne same = rw (content_in-push_other name other files file ne same) refl
+pub of_first-push_other : {A : Type 0} → (view : File → Option A) (name other : List ℕ) (files : List File) (file : File) → other ≢ name → name_of file ≡ name → of_first view (files ++ file ∷ []) other ≡ of_first view files other
+of_first-push_other view name other [] file ne same = rw (is_other (name_of file) name other ((bytes_eq-Decides (name_of file) name).1 same) ne) refl
+of_first-push_other view name other (x ∷ files) file ne same = rw (of_first-push_other view name other files file ne same) refl
+
+if_none : {A : Type 0} → (b : Bool) (x : Option A) → x ≡ None → (if b then x else None) ≡ None
+if_none true x none = none
+if_none false x none = refl
+
+-- a file that is added and shows nothing
+pub of_first-push_none : {A : Type 0} → (view : File → Option A) (name : List ℕ) (files : List File) (file : File) → view file ≡ None → of_first view (files ++ file ∷ []) name ≡ of_first view files name
+of_first-push_none view name [] file none = if_none (is_named name file) (view file) none
+of_first-push_none view name (x ∷ files) file none = rw (of_first-push_none view name files file none) refl
 
 pub bytes_at-read : (files : List File) (i : ℕ) (file : File) → i < length files → file ≡ get_or files i file → bytes_at files i ≡ file.bytes.items
 bytes_at-read [] i file lt is = absurd (omega arith)
 bytes_at-read (x ∷ files) zero file lt is = ap (λ (y : File). y.bytes.items) (sym is)
 bytes_at-read (x ∷ files) (suc i) file lt is = bytes_at-read files i file (omega arith) is
 
+pub name_at-first : (name : List ℕ) (files : List File) (i : ℕ) → IsFirst name files i → name_at files i ≡ name
+name_at-first name [] i h = absurd h
+name_at-first name (x ∷ files) zero h = (bytes_eq-Decides (name_of x) name).0 h
+name_at-first name (x ∷ files) (suc i) h = name_at-first name files i h.1
+
+-- the file that is written is the first with its name
+pub IsFirst-writable : (files : List File) (i : ℕ) → is_writable_at files i ≡ true → IsFirst (name_at files i) files i
+IsFirst-writable [] i h = absurd (cc)
+IsFirst-writable (x ∷ files) zero h = (bytes_eq-Decides (name_of x) (name_of x)).1 refl
+IsFirst-writable (x ∷ files) (suc i) h =
+    let p = both (not (is_named (name_at files i) x)) (is_writable_at files i) h in
+    (is_not (is_named (name_at files i) x) p.0, IsFirst-writable files i p.1)
+
+pub is_writable-read : (files : List File) (i : ℕ) (file : File) → is_writable_at files i ≡ true → file ≡ get_or files i file → is_writable file ≡ true
+is_writable-read [] i file h is = absurd (cc)
+is_writable-read (x ∷ files) zero file h is = rw is h
+is_writable-read (x ∷ files) (suc i) file h is =
+    is_writable-read files i file (both (not (is_named (name_at files i) x)) (is_writable_at files i) h).1 is
+
+pub is_writable_at-first : (name : List ℕ) (files : List File) (i : ℕ) (file : File) → IsFirst name files i → file ≡ get_or files i file → is_writable file ≡ true → is_writable_at files i ≡ true
+is_writable_at-first name [] i file h is writable = absurd h
+is_writable_at-first name (x ∷ files) zero file h is writable = rw (← is) writable
+is_writable_at-first name (x ∷ files) (suc i) file h is writable =
+    let other : is_named (name_at files i) x ≡ false = rw (name_at-first name files i h.1) h.0 in
+    rw other (is_writable_at-first name files i file h.1 is writable)
+
+pub IsFirst-within : (name : List ℕ) (files : List File) (i : ℕ) → IsFirst name files i → i < length files
+IsFirst-within name [] i h = absurd h
+IsFirst-within name (x ∷ files) zero h = omega arith
+IsFirst-within name (x ∷ files) (suc i) h = let lt = IsFirst-within name files i h.1 in omega arith
+
+-- there is a file at an index
+file_at : (files : List File) (i : ℕ) → i < length files → (file : File) × (file ≡ get_or files i file)
+file_at [] i lt = absurd (omega arith)
+file_at (x ∷ files) zero lt = (x, refl)
+file_at (x ∷ files) (suc i) lt = file_at files i (omega arith)
+
+room_is_full : (there : Bool) (room : Option ℕ) (count : ℕ) → (there && is_some room && nat_le count (unwrap_or room 0)) ≡ true → unwrap_or room 0 - count ≡ 0 → room ≡ Some count
+room_is_full true None count h full = absurd (cc)
+room_is_full true (Some room) count h full = let le = leb-true count room h in let e : room ≡ count = omega arith in ap Some e
+room_is_full false room count h full = absurd (cc)
+
+is_first_of : (a b c : Bool) → (a && b && c) ≡ true → a ≡ true
+is_first_of true b c h = refl
+is_first_of false b c h = absurd (cc)
+
+is_there-writable : (file : File) → is_writable file ≡ true → file.is_there ≡ true
+is_there-writable file h = is_first_of file.is_there (is_some file.room) (nat_le (length file.bytes.items) (unwrap_or file.room 0)) h
+
+-- a file that is written
+pub content_in-writable : (files : List File) (i : ℕ) → is_writable_at files i ≡ true → content_in files (name_at files i) ≡ Some (bytes_at files i)
+content_in-writable files i h =
+    let first = IsFirst-writable files i h in
+    let within = IsFirst-within (name_at files i) files i first in
+    let at = file_at files i within in
+    let there = is_there-writable at.0 (is_writable-read files i at.0 h at.1) in
+    of_first-first held_by (name_at files i) files i at.0 first at.1 ∙ rw there (ap Some (sym (bytes_at-read files i at.0 within at.1)))
+
+-- a file that is written has got as much as its room
+pub room_in-full : (files : List File) (i : ℕ) → is_writable_at files i ≡ true → unwrap_or (room_in files (name_at files i)) 0 - length (bytes_at files i) ≡ 0 → room_in files (name_at files i) ≡ Some (length (bytes_at files i))
+room_in-full files i h full =
+    let first = IsFirst-writable files i h in
+    let within = IsFirst-within (name_at files i) files i first in
+    let at = file_at files i within in
+    let room = of_first-first room_for (name_at files i) files i at.0 first at.1 in
+    let bytes = bytes_at-read files i at.0 within at.1 in
+    let left = rw (room, bytes) at full in
+    rw (room, bytes) (room_is_full (at.0).is_there (at.0).room (length (at.0).bytes.items) (is_writable-read files i at.0 h at.1) left)
+
+-- what is written, where a write is begun
+pub content_in-got : (files : List File) (begun : Begun) → is_writing begun ≡ true → ((file : ℕ) → file_written begun ≡ Some file → is_writable_at files file ≡ true) → content_in files (target_by files begun) ≡ Some (got_by files begun)
+content_in-got files Nothing writing writable = absurd (cc)
+content_in-got files (Read file at) writing writable = absurd (cc)
+content_in-got files (Write file) writing writable = content_in-writable files file (writable file refl)
+
 -- a front that was copied, and what is left
 pub copied_and_left : (bytes copy : List ℕ) (at n : ℕ) → copy ≡ take n (drop at bytes) → drop at bytes ≡ copy ++ drop (at + n) bytes
 copied_and_left bytes copy at n same = rw (same, ← drop-drop n at bytes) (sym (take-append-drop n (drop at bytes)))
+
+-- a writable file in the place of one
+pub Writes-set : (name : List ℕ) (files : List File) (i : ℕ) (file old : File) (bytes : List ℕ) → i < length files → IsFirst name files i → old ≡ get_or files i old → name_of file ≡ name_of old → room_for file ≡ room_for old → held_by file ≡ Some bytes → file.bytes.items ≡ bytes → is_writable file ≡ true → Writes files (set files i file) i bytes
+Writes-set name files i file old bytes lt h is same room held items writable =
+    let first : IsFirst name (set files i file) i = IsFirst-set name files i file old h is same in
+    let here : file ≡ get_or (set files i file) i file = sym (get_or-set_same files i file file lt) in
+    let within : i < length (set files i file) = simp length-set lt in
+    let named : name_at (set files i file) i ≡ name = name_at-first name (set files i file) i first in
+    record {
+      bytes_are = bytes_at-read (set files i file) i file within here ∙ items;
+      held = rw named (of_first-first held_by name (set files i file) i file first here ∙ held);
+      others = λ other ne. of_first-set_other held_by name other files i file old (λ e. ne (e ∙ sym named)) h is same;
+      rooms = λ other. of_first-set_same room_for other files i file old lt is same room;
+      writable = is_writable_at-first name (set files i file) i file first here writable;
+      in_range = within;
+    }

@@ -1,5 +1,5 @@
 -- The files of a shelf in memory.
-use Rattle.std.specs.Prelude.{◌≡◌, ℕ, zero, suc, Bool, true, false, List, [], ◌∷◌, Option, Some, None, if◌then◌else◌}
+use Rattle.std.specs.Prelude.{◌≡◌, ◌&&◌, ◌-◌, ℕ, zero, suc, Bool, true, false, not, nat_le, List, [], ◌∷◌, Option, Some, None, length, unwrap_or, is_some, if◌then◌else◌}
 use Rattle.std.specs.List.{list_any}
 use Rattle.std.specs.String.{string_bytes}
 use Rattle.std.specs.Str.{bytes_eq}
@@ -12,6 +12,18 @@ name_of file = string_bytes file.name
 abbrev pub held_by : File → Option (List ℕ)
 held_by file = if file.is_there then Some file.bytes.items else None
 
+-- the room that was prepared for a file
+abbrev pub room_for : File → Option ℕ
+room_for file = file.room
+
+-- how many more bytes its room allows
+abbrev pub room_left : File → ℕ
+room_left file = unwrap_or file.room 0 - length file.bytes.items
+
+-- it is there, and holds no more than its room
+abbrev pub is_writable : File → Bool
+is_writable file = file.is_there && is_some file.room && nat_le (length file.bytes.items) (unwrap_or file.room 0)
+
 abbrev pub is_named : List ℕ → File → Bool
 is_named name file = bytes_eq (name_of file) name
 
@@ -19,10 +31,18 @@ is_named name file = bytes_eq (name_of file) name
 abbrev pub has_name : List ℕ → List File → Bool
 has_name name files = list_any (is_named name) files
 
--- what the first file with a name holds
+-- what the first file with a name shows
+abbrev pub of_first : {A : Type 0} → (File → Option A) → List File → List ℕ → Option A
+of_first view [] name = None
+of_first view (file ∷ files) name = if is_named name file then view file else of_first view files name
+
+-- what a name holds
 abbrev pub content_in : List File → List ℕ → Option (List ℕ)
-content_in [] name = None
-content_in (file ∷ files) name = if is_named name file then held_by file else content_in files name
+content_in files name = of_first held_by files name
+
+-- the room of a name
+abbrev pub room_in : List File → List ℕ → Option ℕ
+room_in files name = of_first room_for files name
 
 -- the first file with a name is at the index
 abbrev pub IsFirst : List ℕ → List File → ℕ → Type 0
@@ -35,3 +55,15 @@ abbrev pub bytes_at : List File → ℕ → List ℕ
 bytes_at [] i = []
 bytes_at (file ∷ files) zero = file.bytes.items
 bytes_at (file ∷ files) (suc i) = bytes_at files i
+
+-- the name of the file at an index
+abbrev pub name_at : List File → ℕ → List ℕ
+name_at [] i = []
+name_at (file ∷ files) zero = name_of file
+name_at (file ∷ files) (suc i) = name_at files i
+
+-- the file at an index is writable, and the first with its name
+abbrev pub is_writable_at : List File → ℕ → Bool
+is_writable_at [] i = false
+is_writable_at (file ∷ files) zero = is_writable file
+is_writable_at (file ∷ files) (suc i) = not (is_named (name_at files i) file) && is_writable_at files i

@@ -1,5 +1,5 @@
 -- Whole reads and writes.
-use Rattle.std.specs.Prelude.{◌≡◌, ◌<◌, ◌≤◌, ◌++◌, ℕ, List, Option, Some, length, take}
+use Rattle.std.specs.Prelude.{◌≡◌, ◌<◌, ◌≤◌, ◌++◌, ◌⊎◌, ℕ, List, [], Option, Some, length, take}
 
 -- what was given stands in front of what is left, and is at most so many bytes
 abbrev pub HasGivenAtMost : ℕ → Option (List ℕ) → List ℕ → Type 0
@@ -8,3 +8,11 @@ HasGivenAtMost most content left = (given : List ℕ) × (content ≡ Some (give
 -- some of the bytes were appended, those at the front, and not all
 abbrev pub AppendsFront : List ℕ → List ℕ → List ℕ → Type 0
 AppendsFront old new bytes = (count : ℕ) × (count < length bytes) × (new ≡ old ++ take count bytes)
+
+-- what a name holds is as before, or it holds nothing
+abbrev pub StaysOrEmptied : Option (List ℕ) → Option (List ℕ) → Type 0
+StaysOrEmptied old new = (new ≡ old) ⊎ (new ≡ Some [])
+
+-- what a name holds is as before, or a front of the bytes
+abbrev pub StaysOrHoldsFront : Option (List ℕ) → Option (List ℕ) → List ℕ → Type 0
+StaysOrHoldsFront old new bytes = (new ≡ old) ⊎ ((count : ℕ) × (new ≡ Some (take count bytes)))

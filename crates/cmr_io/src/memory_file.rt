@@ -1,7 +1,6 @@
 // A name of a shelf in memory, with what it holds and the room that was prepared for it.
-ghost use Rattle.std.specs.Prelude.{◌≡◌, ◌≤◌, None, Some, IfOk, OnOk, OnErr, vec_capacity, length};
+ghost use Rattle.std.specs.Prelude.{◌≡◌, ◌≤◌, ◌++◌, [], true, None, Some, IfOk, IsTrue, is_some, vec_capacity, length, min, take};
 ghost use Rattle.std.specs.Option.{ForSome};
-ghost use Rattle.std.specs.String.{string_bytes};
 
 use std::alloc::{AllocError, Global};
 
@@ -16,13 +15,13 @@ pub struct File {
 }
 
 impl File {
-    ghost use Rattle.cmr_io.specs.Files.{held_by, is_named, name_of};
+    ghost use Rattle.cmr_io.specs.Files.{held_by, is_named, name_of, room_for, room_left, is_writable};
 
     /// A file that holds the bytes, and has no room.
     pub fn holding(alloc: Global, name: &str, bytes: &[u8]) -> Result<File, AllocError>
         ensures name { IfOk result (λ file. name_of file ≡ name.now) }
         ensures held { IfOk result (λ file. held_by file ≡ Some bytes.now) }
-        ensures room { IfOk result (λ file. file.room ≡ None) }
+        ensures room { IfOk result (λ file. room_for file ≡ None) }
     {
         Ok(File {
             name: String::from_str(alloc, name)?,
@@ -32,33 +31,69 @@ impl File {
         })
     }
 
-    /// The bytes, in a vector that has its room.
-    pub fn to_hold(&self, alloc: Global, bytes: &[u8]) -> Result<Vec<u8>, AllocError>
-        ensures bytes { IfOk result (λ held. held.items ≡ bytes.now) }
-        ensures reserved { IfOk result (λ held. ForSome self.now.room (λ room. room ≤ vec_capacity held)) }
+    /// A file that is not there, and has the room.
+    pub fn prepared(alloc: Global, name: &str, room: usize) -> Result<File, AllocError>
+        ensures name { IfOk result (λ file. name_of file ≡ name.now) }
+        ensures held { IfOk result (λ file. held_by file ≡ None) }
+        ensures room { IfOk result (λ file. room_for file ≡ Some room) }
     {
-        let least = self.room.unwrap_or(0);
-        let mut held = Vec::with_capacity(alloc, bytes.len().max(least))?;
-        held.extend_from_slice(bytes)?;
-        Ok(held)
+        Ok(File {
+            name: String::from_str(alloc, name)?,
+            bytes: Vec::with_capacity(alloc, room)?,
+            is_there: false,
+            room: Some(room),
+        })
     }
 
     /// Makes it hold the bytes of a vector that has its room.
-    pub fn hold(&mut self, held: Vec<u8>)
-        requires { ForSome self.old.room (λ room. room ≤ vec_capacity held) }
-        ensures held { held_by self.new ≡ Some held.items }
+    pub fn hold(&mut self, bytes: Vec<u8>)
+        requires { ForSome (room_for self.old) (λ room. room ≤ vec_capacity bytes) }
+        ensures held { held_by self.new ≡ Some bytes.items }
         ensures name { name_of self.new ≡ name_of self.old }
-        ensures room { self.new.room ≡ self.old.room }
+        ensures room { room_for self.new ≡ room_for self.old }
     {
-        self.bytes = held;
+        self.bytes = bytes;
         self.is_there = true;
     }
 
-    /// Whether it has the name.
-    pub fn is_named(&self, name: &str) -> bool
-        ensures { result ≡ is_named name.now self.now }
+    /// Gives it the room, with its bytes in a vector that has this room.
+    pub fn prepare(&mut self, bytes: Vec<u8>, room: usize)
+        requires bytes { bytes.items ≡ self.old.bytes.items }
+        requires reserved { room ≤ vec_capacity bytes }
+        ensures held { held_by self.new ≡ held_by self.old }
+        ensures name { name_of self.new ≡ name_of self.old }
+        ensures room { room_for self.new ≡ Some room }
     {
-        self.name.as_str() == name
+        self.bytes = bytes;
+        self.room = Some(room);
+    }
+
+    /// Makes it hold nothing.
+    pub fn empty(&mut self)
+        ensures bytes { self.new.bytes.items ≡ [] }
+        ensures held { held_by self.new ≡ Some [] }
+        ensures name { name_of self.new ≡ name_of self.old }
+        ensures room { room_for self.new ≡ room_for self.old }
+        ensures writable { is_writable self.new ≡ is_some (room_for self.old) }
+    {
+        self.bytes.clear();
+        self.is_there = true;
+    }
+
+    /// Appends as much of the piece as its room allows, and says how much.
+    pub fn put(&mut self, piece: &[u8]) -> usize
+        requires { IsTrue (is_writable self.old) }
+        ensures count { result ≡ min (length piece.now) (room_left self.old) }
+        ensures bytes { self.new.bytes.items ≡ self.old.bytes.items ++ take result piece.now }
+        ensures held { held_by self.new ≡ Some self.new.bytes.items }
+        ensures name { name_of self.new ≡ name_of self.old }
+        ensures room { room_for self.new ≡ room_for self.old }
+        ensures writable { is_writable self.new ≡ true }
+    {
+        let room = self.room.unwrap_or(0) - self.bytes.len();
+        let count = room.min(piece.len());
+        self.bytes.extend_from_slice(&piece[..count]).unwrap();
+        count
     }
 
     /// Its bytes.
@@ -68,10 +103,34 @@ impl File {
         &self.bytes
     }
 
+    /// The room that was prepared for it.
+    pub fn room(&self) -> Option<usize>
+        ensures { result ≡ room_for self.now }
+    {
+        self.room
+    }
+
+    /// Whether it has the name.
+    pub fn is_named(&self, name: &str) -> bool
+        ensures { result ≡ is_named name.now self.now }
+    {
+        self.name.as_str() == name
+    }
+
     /// Whether it is there.
     pub fn is_there(&self) -> bool
         ensures { result ≡ self.now.is_there }
     {
         self.is_there
     }
+}
+
+/// The bytes, in a vector that has the room.
+pub fn with_room(alloc: Global, bytes: &[u8], room: usize) -> Result<Vec<u8>, AllocError>
+    ensures bytes { IfOk result (λ held. held.items ≡ bytes.now) }
+    ensures reserved { IfOk result (λ held. room ≤ vec_capacity held) }
+{
+    let mut held = Vec::with_capacity(alloc, bytes.len().max(room))?;
+    held.extend_from_slice(bytes)?;
+    Ok(held)
 }

@@ -1,6 +1,6 @@
 use Rattle.std.proofs.Common.{◌∙◌, sym}
 use Rattle.cmr_io.proofs.FileLemmas.{bytes_at-read}
-use Rattle.cmr_io.proofs.memory_shelf.bytes_of.Goals as goal
+use Rattle.cmr_io.proofs.memory_files.bytes_of.Goals as goal
 
 pub returns : goal.returns
 returns c =

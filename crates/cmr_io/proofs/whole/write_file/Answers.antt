@@ -1,0 +1,32 @@
+use Rattle.std.proofs.Common.{◌≡◌, ◌++◌, List, ℕ, Some, take, arith, ◌∙◌, true, ap, subst}
+use Rattle.std.proofs.lemmas.List.{length-drop}
+use Rattle.cmr_io.proofs.WholeLemmas.{rest, take-more}
+use Rattle.cmr_io.proofs.whole.write_file.Goals as goal
+
+pub rest-preserved : goal.rest-preserved
+rest-preserved g c =
+    let S = g.S.Shelf in
+    let before = c.rest.invariant in
+    let put = c.in_ok-done.ensures in
+    let bytes = c.args.bytes.now in
+    let done = c.rest.done in
+    let count = c.in_ok-done.field-0 in
+    let got = λ (told : S.tells c.args.shelf.now ≡ true).
+    put.taken (before.tells ∙ told)
+    ∙ ap (λ xs. xs ++ take count (rest bytes done)) (before.got told)
+    ∙ take-more bytes done count in
+    record {
+      within = omega (arith, put.within, length-drop done bytes);
+      writing = put.begun;
+      reading = put.reading ∙ before.reading;
+      target = λ told. put.target ∙ before.target told;
+      got = got;
+      holds = λ told.
+          subst (λ (name : List ℕ). S.content c.put.new.self name ≡ Some (S.got c.put.new.self)) (before.target told) (put.holds (before.tells ∙ told))
+          ∙ ap Some (got told);
+      others = λ told other ne. put.others other (λ e. ne (e ∙ before.target told)) ∙ before.others told other ne;
+      room = λ other. put.room other ∙ before.room other;
+      tells = put.tells ∙ before.tells;
+      calm = λ calm. put.calm (before.calm calm);
+      later = omega (arith, put.cause.later, before.later);
+    }
