@@ -1,8 +1,10 @@
 -- Numbers of lines.
-use Rattle.std.proofs.Common.{◌≡◌, ◌<◌, ◌≤◌, ◌+◌, ◌-◌, ◌*◌, ◌∙◌, ℕ, suc, Bool, false, cond, leb, eqb, List, length, get_or, take, drop, Ok, Err, ap, sym, subst, arith}
+use Rattle.std.proofs.Common.{◌≡◌, ◌<◌, ◌≤◌, ◌+◌, ◌-◌, ◌*◌, ◌∙◌, ℕ, zero, suc, zero-le, Bool, false, cond, leb, eqb, List, [], ◌∷◌, length, get_or, take, drop, Ok, Err, ap, sym, subst, arith}
 use Rattle.std.proofs.lemmas.Bool.{leb-true}
 use Rattle.std.proofs.lemmas.List.{get_or-take, get_or-drop, length-take-le, length-drop}
 use Rattle.std.proofs.Math.Nat.{suc-mul, mul-le-mul_right}
+use Rattle.std.specs.List.Sorted.{IsStrictlyIncreasing}
+use Rattle.cmr_base.specs.LineSets.{AllBelow}
 use Rattle.text_fields.specs.Words.{Text}
 use Rattle.text_fields.specs.Reading.{field}
 use Rattle.text_fields.proofs.Fields.{field-same}
@@ -43,3 +45,15 @@ row_part width start taken fits text =
 
 pub row_fits : (row rows width : ℕ) → 0 < row → row ≤ rows → (row - 1) * width + width ≤ rows * width
 row_fits row rows width above within = let next : suc (row - 1) ≡ row = omega arith in omega (arith, suc-mul (row - 1) width, ap (λ k. k * width) next, mul-le-mul_right width within)
+
+rising_at : (lines : List ℕ) → IsStrictlyIncreasing lines → (k : ℕ) → k < length lines → k ≤ get_or lines k 0
+rising_at lines rising zero h = zero-le
+rising_at lines rising (suc k) h =
+    let next : k + 1 ≡ suc k = omega arith in
+    let above : get_or lines k 0 < get_or lines (suc k) 0 = subst (λ i. get_or lines k 0 < get_or lines i 0) next (rising k (omega arith)) in
+    omega (arith, rising_at lines rising k (omega arith))
+
+-- there are no more rising lines than lines
+pub rising_count : (bound : ℕ) (lines : List ℕ) → IsStrictlyIncreasing lines → AllBelow bound lines → length lines ≤ bound
+rising_count bound [] rising below = zero-le
+rising_count bound (line ∷ lines) rising below = omega (arith, rising_at (line ∷ lines) rising (length lines) (omega arith), below (length lines) (omega arith))

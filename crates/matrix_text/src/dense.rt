@@ -1,17 +1,20 @@
 // Dense texts.
-ghost use Rattle.std.specs.Prelude.{◌≡◌, ℕ, pos, length, IfOk, slice_index_or};
-ghost use Rattle.cmr_base.specs.Matrix.{Matrix, IsEntry};
+ghost use Rattle.std.specs.Prelude.{◌≡◌, ◌<◌, ℕ, pos, false, length, map, IfOk, OnOk, slice_index_or};
+ghost use Rattle.std.specs.Fmt.{signed_decimal};
+ghost use Rattle.cmr_base.specs.Matrix.{Matrix, height, row_of, IsEntry};
 ghost use Rattle.text_fields.specs.Words.{text_of};
 ghost use Rattle.text_fields.specs.Reading.{fields, Gives, Reads};
+ghost use Rattle.text_fields.specs.Written.{with_line};
 ghost use Rattle.matrix_text.specs.declared.error.TextKind.TheVariants.{Short};
 ghost use Rattle.matrix_text.specs.Values.{entry_in};
 ghost use Rattle.matrix_text.specs.Dense.{dense};
+ghost use Rattle.matrix_text.specs.Canonical.{dense_text};
 
 use crate::error::{TextError, TextKind};
 use crate::field;
-use cmr_base::{MAX_COLUMNS, MAX_ROWS, Matrix};
+use cmr_base::{MAX_COLUMNS, MAX_ROWS, Matrix, Memory};
 use std::alloc::Global;
-use text_fields::Words;
+use text_fields::{Words, Writer};
 
 /// The matrix that a dense text stands for, or the text's first fault.
 pub fn read_dense(alloc: Global, bytes: &[u8], binary: bool) -> Result<Matrix, TextError>
@@ -40,4 +43,27 @@ fn entries(
         cells.push(field::entry(words, binary)?)?;
     }
     Ok(cells)
+}
+
+/// The canonical dense text of a matrix.
+pub fn write_dense(alloc: Global, matrix: &Matrix) -> Result<Vec<u8>, Memory>
+    ensures { IfOk result (λ v. v.items ≡ dense_text matrix.now) }
+{
+    let mut text = Writer::new(alloc);
+    text.numbers(&[matrix.rows(), matrix.columns()])?;
+    for row in 0..matrix.rows() {
+        write_row(&mut text, matrix, row)?;
+    }
+    Ok(text.into_bytes())
+}
+
+fn write_row(text: &mut Writer, matrix: &Matrix, row: u32) -> Result<(), Memory>
+    requires row { row < height matrix.now }
+    requires at_start { text.old.is_begun ≡ false }
+    ensures { OnOk result (text.new ≡ with_line text.old (map signed_decimal (row_of matrix.now row))) }
+{
+    for column in 0..matrix.columns() {
+        text.entry(matrix.entry(row, column))?;
+    }
+    text.end_line()
 }

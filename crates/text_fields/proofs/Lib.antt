@@ -2,3 +2,5 @@ pub mod Runs
 pub mod Times
 pub mod Results
 pub mod Fields
+pub mod Lines
+pub mod Entries
