@@ -4,3 +4,6 @@ pub mod Results
 pub mod Fields
 pub mod Lines
 pub mod Entries
+pub mod LineWords
+pub mod Decimals
+pub mod Spelled

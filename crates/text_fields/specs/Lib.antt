@@ -3,3 +3,4 @@ pub mod Result
 pub mod Numbers
 pub mod Reading
 pub mod Written
+pub mod Spelling
