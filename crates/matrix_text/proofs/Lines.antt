@@ -1,9 +1,12 @@
 -- Numbers of lines.
-use Rattle.std.proofs.Common.{◌≡◌, ◌<◌, ◌≤◌, ◌+◌, ◌-◌, ◌*◌, ◌∙◌, ℕ, suc, Bool, false, cond, leb, eqb, List, length, get_or, take, drop, Ok, Err, ap, sym, subst, arith}
-use Rattle.std.proofs.lemmas.Bool.{leb-true}
+use Rattle.std.proofs.Common.{◌≡◌, ◌<◌, ◌≤◌, ◌+◌, ◌-◌, ◌*◌, ◌∙◌, ℕ, zero, suc, zero-le, Bool, true, false, cond, leb, eqb, List, [], ◌∷◌, length, get_or, take, drop, Ok, Err, refl, ap, sym, subst, arith}
+use Rattle.std.proofs.lemmas.Bool.{leb-true, le-leb}
 use Rattle.std.proofs.lemmas.List.{get_or-take, get_or-drop, length-take-le, length-drop}
 use Rattle.std.proofs.Math.Nat.{suc-mul, mul-le-mul_right}
+use Rattle.std.specs.List.Sorted.{IsStrictlyIncreasing}
+use Rattle.cmr_base.specs.LineSets.{AllBelow}
 use Rattle.text_fields.specs.Words.{Text}
+use Rattle.text_fields.specs.Numbers.{count_in}
 use Rattle.text_fields.specs.Reading.{field}
 use Rattle.text_fields.proofs.Fields.{field-same}
 use Rattle.text_fields.proofs.Results.{bind-same, bind_ok, guard_ok, bar_ok}
@@ -16,6 +19,9 @@ limited_ok most beyond word n h =
     let b = bind_ok (count word) (λ k. cond (leb k most) (Ok k) (Err beyond)) n h in
     let g = guard_ok (leb b.0 most) b.0 n beyond b.2 in
     (b.1 ∙ ap Ok g.1, subst (λ k. k ≤ most) g.1 (leb-true b.0 most g.0))
+
+pub limited_again : (most : ℕ) (beyond : TextKind) (word : List ℕ) (n : ℕ) → count_in word ≡ Ok n → n ≤ most → limited most beyond word ≡ Ok n
+limited_again most beyond word n h le = let t : leb n most ≡ true = le-leb n most le in rw (h, t) refl
 
 pub line_in_ok : (most : ℕ) (outside : TextKind) (word : List ℕ) (n : ℕ) → line_in most outside word ≡ Ok n → (count word ≡ Ok n) × (0 < n) × (n ≤ most)
 line_in_ok most outside word n h =
@@ -43,3 +49,15 @@ row_part width start taken fits text =
 
 pub row_fits : (row rows width : ℕ) → 0 < row → row ≤ rows → (row - 1) * width + width ≤ rows * width
 row_fits row rows width above within = let next : suc (row - 1) ≡ row = omega arith in omega (arith, suc-mul (row - 1) width, ap (λ k. k * width) next, mul-le-mul_right width within)
+
+rising_at : (lines : List ℕ) → IsStrictlyIncreasing lines → (k : ℕ) → k < length lines → k ≤ get_or lines k 0
+rising_at lines rising zero h = zero-le
+rising_at lines rising (suc k) h =
+    let next : k + 1 ≡ suc k = omega arith in
+    let above : get_or lines k 0 < get_or lines (suc k) 0 = subst (λ i. get_or lines k 0 < get_or lines i 0) next (rising k (omega arith)) in
+    omega (arith, rising_at lines rising k (omega arith))
+
+-- there are no more rising lines than lines
+pub rising_count : (bound : ℕ) (lines : List ℕ) → IsStrictlyIncreasing lines → AllBelow bound lines → length lines ≤ bound
+rising_count bound [] rising below = zero-le
+rising_count bound (line ∷ lines) rising below = omega (arith, rising_at (line ∷ lines) rising (length lines) (omega arith), below (length lines) (omega arith))

@@ -1,14 +1,33 @@
 -- Dense texts: the sizes, and then the entries row by row.
-use Rattle.std.specs.Prelude.{◌*◌, Bool, Result}
+use Rattle.std.specs.Prelude.{◌≡◌, ◌≤◌, ◌*◌, ℕ, ℤ, Bool, List, ◌∷◌, length, Result, Ok}
 use Rattle.cmr_base.specs.Matrix.{Matrix, rows_of}
 use Rattle.text_fields.specs.Words.{Text}
 use Rattle.text_fields.specs.Result.{◌>>=◌}
+use Rattle.text_fields.specs.Numbers.{count_in}
+use Rattle.text_fields.specs.Spelling.{Spell}
 use Rattle.text_fields.specs.Reading.{Fault, field, fields, ended}
 use Rattle.matrix_text.specs.declared.error.TextKind.{TextKind}
 use Rattle.matrix_text.specs.declared.error.TextKind.TheVariants.{Short, Extra, TooManyRows, TooManyColumns}
 use Rattle.matrix_text.specs.Values.{limited, entry_in}
 
--- the matrix that a dense text stands for, or its first fault
+-- these words are a dense text of the matrix: two counts, and then the entries row by row
+pub record IsDense (binary : Bool) (words : List (List ℕ)) (m : Matrix) : Type 0 where
+  pub height : ℕ
+  pub width : ℕ
+  pub cells : List ℤ
+  pub height_word : List ℕ
+  pub width_word : List ℕ
+  pub entry_words : List (List ℕ)
+  pub words_are : words ≡ height_word ∷ width_word ∷ entry_words
+  pub height_is : count_in height_word ≡ Ok height
+  pub width_is : count_in width_word ≡ Ok width
+  pub height_in : height ≤ 1000
+  pub width_in : width ≤ 1000
+  pub entries_are : Spell (entry_in binary) entry_words cells
+  pub count : length cells ≡ height * width
+  pub matrix : m ≡ record { rows = rows_of height width cells; width = width }
+
+-- reading: the matrix that a dense text stands for, or its first fault
 abbrev pub dense : Bool → Text → Result Matrix (Fault TextKind)
 dense binary text = do
   height ← field Short (limited 1000 TooManyRows) text

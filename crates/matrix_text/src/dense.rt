@@ -1,20 +1,35 @@
 // Dense texts.
-ghost use Rattle.std.specs.Prelude.{◌≡◌, ℕ, pos, length, IfOk, slice_index_or};
-ghost use Rattle.cmr_base.specs.Matrix.{Matrix, IsEntry};
+ghost use Rattle.std.specs.Prelude.{◌≡◌, ◌<◌, ℕ, pos, true, false, length, map, Ok, IfOk, OnOk, slice_index_or};
+ghost use Rattle.std.specs.Fmt.{signed_decimal};
+ghost use Rattle.cmr_base.specs.Matrix.{Matrix, height, row_of, IsEntry};
 ghost use Rattle.text_fields.specs.Words.{text_of};
+ghost use Rattle.text_fields.specs.Spelling.{words_in};
 ghost use Rattle.text_fields.specs.Reading.{fields, Gives, Reads};
+ghost use Rattle.text_fields.specs.Written.{with_line};
 ghost use Rattle.matrix_text.specs.declared.error.TextKind.TheVariants.{Short};
-ghost use Rattle.matrix_text.specs.Values.{entry_in};
-ghost use Rattle.matrix_text.specs.Dense.{dense};
+ghost use Rattle.matrix_text.specs.Values.{entry_in, IsBinary};
+ghost use Rattle.matrix_text.specs.Dense.{IsDense, dense};
+ghost use Rattle.matrix_text.specs.Canonical.{dense_text};
 
 use crate::error::{TextError, TextKind};
 use crate::field;
-use cmr_base::{MAX_COLUMNS, MAX_ROWS, Matrix};
+use cmr_base::{MAX_COLUMNS, MAX_ROWS, Matrix, Memory};
 use std::alloc::Global;
-use text_fields::Words;
+use text_fields::{Words, Writer};
 
 /// The matrix that a dense text stands for, or the text's first fault.
 pub fn read_dense(alloc: Global, bytes: &[u8], binary: bool) -> Result<Matrix, TextError>
+    // What is read is a dense text of the matrix.
+    ensures found { IfOk result (IsDense binary (words_in bytes.now)) }
+    // A dense text of a matrix is read as this matrix, unless memory runs out.
+    ensures only { (m : Matrix) → IsDense binary (words_in bytes.now) m → Gives (λ m. m) result (Ok m) }
+    // Which fault is the first.
+    ensures exact { Gives (λ m. m) result (dense binary (text_of bytes.now)) }
+{
+    dense_matrix(alloc, bytes, binary)
+}
+
+fn dense_matrix(alloc: Global, bytes: &[u8], binary: bool) -> Result<Matrix, TextError>
     ensures { Gives (λ m. m) result (dense binary (text_of bytes.now)) }
 {
     let mut words = Words::new(bytes);
@@ -40,4 +55,30 @@ fn entries(
         cells.push(field::entry(words, binary)?)?;
     }
     Ok(cells)
+}
+
+/// The canonical dense text of a matrix.
+pub fn write_dense(alloc: Global, matrix: &Matrix) -> Result<Vec<u8>, Memory>
+    ensures text { IfOk result (λ v. v.items ≡ dense_text matrix.now) }
+    // It is read again as the same matrix, as a 0/1 matrix too where no entry is -1.
+    ensures again { IfOk result (λ v. dense false (text_of v.items) ≡ Ok matrix.now) }
+    ensures binary_again { IsBinary matrix.now → IfOk result (λ v. dense true (text_of v.items) ≡ Ok matrix.now) }
+{
+    let mut text = Writer::new(alloc);
+    text.numbers(&[matrix.rows(), matrix.columns()])?;
+    for row in 0..matrix.rows() {
+        write_row(&mut text, matrix, row)?;
+    }
+    Ok(text.into_bytes())
+}
+
+fn write_row(text: &mut Writer, matrix: &Matrix, row: u32) -> Result<(), Memory>
+    requires row { row < height matrix.now }
+    requires at_start { text.old.is_begun ≡ false }
+    ensures { OnOk result (text.new ≡ with_line text.old (map signed_decimal (row_of matrix.now row))) }
+{
+    for column in 0..matrix.columns() {
+        text.entry(matrix.entry(row, column))?;
+    }
+    text.end_line()
 }

@@ -1,15 +1,17 @@
 // Sparse texts.
-ghost use Rattle.std.specs.Prelude.{◌≡◌, ◌≤◌, ◌<◌, ◌*◌, ◌+◌, ◌-◌, ℕ, length, IfOk, slice_index_or, false};
-ghost use Rattle.cmr_base.specs.Matrix.{Matrix};
+ghost use Rattle.std.specs.Prelude.{◌≡◌, ◌≤◌, ◌<◌, ◌*◌, ◌+◌, ◌-◌, ℕ, length, map, fold, IfOk, OnOk, slice_index_or, false};
+ghost use Rattle.cmr_base.specs.Matrix.{Matrix, IsEntry, height, row_of};
 ghost use Rattle.text_fields.specs.Words.{text_of};
 ghost use Rattle.text_fields.specs.Reading.{Gives, Reads};
-ghost use Rattle.matrix_text.specs.Sparse.{sparse, free_place, matrix_by_triples};
+ghost use Rattle.text_fields.specs.Written.{with_line};
+ghost use Rattle.matrix_text.specs.Sparse.{Triple, sparse, free_place, matrix_by_triples};
+ghost use Rattle.matrix_text.specs.Canonical.{sparse_text, row_triples, triple_line};
 
 use crate::error::{TextError, TextKind};
 use crate::field;
-use cmr_base::{MAX_COLUMNS, MAX_ROWS, Matrix};
+use cmr_base::{MAX_COLUMNS, MAX_ROWS, Matrix, Memory};
 use std::alloc::Global;
-use text_fields::Words;
+use text_fields::{Words, Writer};
 
 /// The matrix that a sparse text stands for, or the text's first fault. Memory is taken by the matrix's sizes, and
 /// not by the count of triples.
@@ -69,4 +71,42 @@ fn free_place(
     let start = (row as usize - 1) * columns as usize;
     let column = field::free_column(words, &taken[start..start + columns as usize])?;
     Ok((row, column))
+}
+
+/// The canonical sparse text of a matrix.
+pub fn write_sparse(alloc: Global, matrix: &Matrix) -> Result<Vec<u8>, Memory>
+    ensures { IfOk result (λ v. v.items ≡ sparse_text matrix.now) }
+{
+    let mut text = Writer::new(alloc);
+    text.numbers(&[matrix.rows(), matrix.columns(), matrix.nonzeros()])?;
+    for row in 0..matrix.rows() {
+        write_row(&mut text, matrix, row)?;
+    }
+    Ok(text.into_bytes())
+}
+
+// A line for each nonzero of a row.
+fn write_row(text: &mut Writer, matrix: &Matrix, row: u32) -> Result<(), Memory>
+    requires row { row < height matrix.now }
+    requires at_start { text.old.is_begun ≡ false }
+    ensures { OnOk result (text.new ≡ fold with_line text.old (map triple_line (row_triples (row + 1) 1 (row_of matrix.now row)))) }
+{
+    for column in 0..matrix.columns() {
+        let entry = matrix.entry(row, column);
+        if entry != 0 {
+            write_triple(text, row + 1, column + 1, entry)?;
+        }
+    }
+    Ok(())
+}
+
+fn write_triple(text: &mut Writer, row: u32, column: u32, entry: i8) -> Result<(), Memory>
+    requires small { IsEntry entry }
+    requires at_start { text.old.is_begun ≡ false }
+    ensures { OnOk result (text.new ≡ with_line text.old (triple_line (record { row = row; column = column; value = entry }))) }
+{
+    text.number(row)?;
+    text.number(column)?;
+    text.entry(entry)?;
+    text.end_line()
 }

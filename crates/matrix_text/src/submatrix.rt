@@ -1,13 +1,17 @@
 // Submatrix texts.
+ghost use Rattle.std.specs.Prelude.{◌≡◌, ◌≤◌, false, map, IfOk, OnOk};
+ghost use Rattle.cmr_base.specs.LineSets.{AllBelow};
 ghost use Rattle.text_fields.specs.Words.{text_of};
 ghost use Rattle.text_fields.specs.Reading.{Gives, Reads};
+ghost use Rattle.text_fields.specs.Written.{with_line};
+ghost use Rattle.matrix_text.specs.Canonical.{submatrix_text, number_of_line};
 ghost use Rattle.matrix_text.specs.Submatrix.{submatrix, rising_lines};
 
 use crate::error::{TextError, TextKind};
 use crate::field;
-use cmr_base::{Indices, LineSet};
+use cmr_base::{Indices, LineSet, MAX_COLUMNS, MAX_ROWS, Memory};
 use std::alloc::Global;
-use text_fields::Words;
+use text_fields::{Words, Writer};
 
 /// The lines that a submatrix text names in a matrix of these sizes, or the text's first fault.
 pub fn read_submatrix(
@@ -54,4 +58,38 @@ fn rising_lines(
         before = number;
     }
     Ok(lines)
+}
+
+/// The canonical submatrix text of some lines in a matrix of these sizes.
+pub fn write_submatrix(
+    alloc: Global,
+    lines: &LineSet,
+    rows: u32,
+    columns: u32,
+) -> Result<Vec<u8>, Memory>
+    requires rows { rows ≤ MAX_ROWS }
+    requires columns { columns ≤ MAX_COLUMNS }
+    requires rows_in { AllBelow rows lines.now.rows }
+    requires columns_in { AllBelow columns lines.now.columns }
+    ensures { IfOk result (λ v. v.items ≡ submatrix_text rows columns lines.now) }
+{
+    let mut text = Writer::new(alloc);
+    let row_count = lines.rows.len() as u32;
+    let column_count = lines.columns.len() as u32;
+    text.numbers(&[rows, columns, row_count, column_count])?;
+    write_lines(&mut text, &lines.rows)?;
+    write_lines(&mut text, &lines.columns)?;
+    Ok(text.into_bytes())
+}
+
+// A line of the numbers of some rows or columns.
+fn write_lines(text: &mut Writer, lines: &Indices) -> Result<(), Memory>
+    requires within { AllBelow 1000 lines.now }
+    requires at_start { text.old.is_begun ≡ false }
+    ensures { OnOk result (text.new ≡ with_line text.old (map number_of_line lines.now)) }
+{
+    for line in lines.as_slice() {
+        text.number(*line + 1)?;
+    }
+    text.end_line()
 }

@@ -1,8 +1,10 @@
 -- Fields of a text.
-use Rattle.std.proofs.Common.{◌≡◌, ◌∙◌, ℕ, List, [], ◌∷◌, Result, Ok, Err, refl, ap, sym}
+use Rattle.std.proofs.Common.{◌≡◌, ◌∙◌, ℕ, zero, suc, List, [], ◌∷◌, ◌++◌, length, append_assoc, Result, Ok, Err, refl, ap, sym}
+use Rattle.std.proofs.lemmas.List.{append-nil}
 use Rattle.text_fields.specs.Words.{Text}
 use Rattle.text_fields.specs.Result.{◌>>=◌}
-use Rattle.text_fields.specs.Reading.{Fault, due_of, due, placed, field, Fails}
+use Rattle.text_fields.specs.Reading.{Fault, due_of, due, placed, field, another, times, ended_of, ended, Fails}
+use Rattle.text_fields.specs.Spelling.{texts_of, Spell}
 use Rattle.text_fields.specs.declared.error.FieldError.{FieldError}
 use Rattle.text_fields.specs.declared.error.FieldError.TheVariants as errors
 use Rattle.text_fields.proofs.Results.{bind_ok, ok_same}
@@ -47,3 +49,66 @@ field-same short f g text same = λ j. field short (λ word. same word j) text
 pub bind_fails : {A B K : Type 0} (e : FieldError K) (r : Result A (Fault K)) (f : A → Result B (Fault K)) → Fails e r → Fails e (r >>= f)
 bind_fails errors.Memory r f h = tt
 bind_fails (errors.Fault kind place) r f h = rw h refl
+
+-- so many fields were read, behind those before them: these words spelled them
+pub record AreFields {A K : Type 0} (parse : List ℕ → Result A K) (n : ℕ) (text : Text) (before values : List A) (rest : Text) : Type 0 where
+  pub front : List (ℕ × List ℕ)
+  pub read : List A
+  pub words_are : text.words ≡ front ++ rest.words
+  pub size_is : text.size ≡ rest.size
+  pub values_are : values ≡ before ++ read
+  pub spell : Spell parse (texts_of front) read
+  pub count : length read ≡ n
+
+another_ok : {A K : Type 0} (short : K) (parse : List ℕ → Result A K) (before : List A) (text : Text) (next : List A × Text) → another short parse before text ≡ Ok next → (x : A) × (field short parse text ≡ Ok (x, next.1)) × (next.0 ≡ before ++ x ∷ [])
+another_ok {A} short parse before text next h =
+    let b = bind_ok (field short parse text) (λ (value : A × Text). Ok (before ++ value.0 ∷ [], value.1)) next h in
+    let e = ok_same (before ++ b.0.0 ∷ [], b.0.1) next b.2 in
+    (b.0.0, b.1 ∙ ap (λ (p : List A × Text). Ok (b.0.0, p.1)) e, sym (ap (λ (p : List A × Text). p.0) e))
+
+pub fields_ok : {A K : Type 0} (short : K) (parse : List ℕ → Result A K) (n : ℕ) (before : List A) (text : Text) (values : List A) (rest : Text) → times (another short parse) n before text ≡ Ok (values, rest) → AreFields parse n text before values rest
+fields_ok {A} short parse zero before text values rest h =
+    let e = ok_same (before, text) (values, rest) h in
+    record {
+      front = [];
+      read = [];
+      words_are = ap (λ (p : List A × Text). (p.1).words) e;
+      size_is = ap (λ (p : List A × Text). (p.1).size) e;
+      values_are = sym (ap (λ (p : List A × Text). p.0) e) ∙ sym (append-nil before);
+      spell = tt;
+      count = refl;
+    }
+fields_ok {A} short parse (suc n) before text values rest h =
+    let b = bind_ok (another short parse before text) (λ (next : List A × Text). times (another short parse) n next.0 next.1) (values, rest) h in
+    let one = another_ok short parse before text b.0 b.1 in
+    let first = field_ok short parse text one.0 b.0.1 one.1 in
+    let later = fields_ok short parse n b.0.0 b.0.1 values rest b.2 in
+    record {
+      front = first.word ∷ later.front;
+      read = one.0 ∷ later.read;
+      words_are = first.words_are ∙ ap (λ words. first.word ∷ words) later.words_are;
+      size_is = first.size_is ∙ later.size_is;
+      values_are = later.values_are ∙ ap (λ front. front ++ later.read) one.2 ∙ append_assoc before (one.0 ∷ []) later.read;
+      spell = (first.parsed, later.spell);
+      count = ap suc later.count;
+    }
+
+-- a word that stands for a value is read as a field
+pub field_again : {A K : Type 0} (short : K) (parse : List ℕ → Result A K) (size : ℕ) (word : ℕ × List ℕ) (words : List (ℕ × List ℕ)) (x : A) → parse word.1 ≡ Ok x → field short parse (record { size = size; words = word ∷ words }) ≡ Ok (x, record { size = size; words = words })
+field_again short parse size word words x h = rw h refl
+
+-- words that spell values are read as fields
+pub fields_again : {A K : Type 0} (short : K) (parse : List ℕ → Result A K) (size : ℕ) (words later : List (ℕ × List ℕ)) (before values : List A) → Spell parse (texts_of words) values
+    → times (another short parse) (length values) before (record { size = size; words = words ++ later }) ≡ Ok (before ++ values, record { size = size; words = later })
+fields_again short parse size [] later before [] spell = ap (λ values. Ok (values, record { size = size; words = later })) (sym (append-nil before))
+fields_again short parse size [] later before (x ∷ values) spell = absurd spell
+fields_again short parse size (word ∷ words) later before [] spell = absurd spell
+fields_again short parse size (word ∷ words) later before (x ∷ values) spell =
+    rw spell.0 (fields_again short parse size words later (before ++ x ∷ []) values spell.1 ∙ ap (λ vs. Ok (vs, record { size = size; words = later })) (append_assoc before (x ∷ []) values))
+
+pub ended_ok : {A K : Type 0} (extra : K) (made : A) (text : Text) (x : A) → ended extra made text ≡ Ok x → (text.words ≡ []) × (made ≡ x)
+ended_ok extra made text x h = go text.words h
+  where
+    go : (words : List (ℕ × List ℕ)) → ended_of extra made words ≡ Ok x → (words ≡ []) × (made ≡ x)
+    go [] h = (refl, ok_same made x h)
+    go (word ∷ words) h = absurd (cc)

@@ -2,3 +2,8 @@ pub mod Runs
 pub mod Times
 pub mod Results
 pub mod Fields
+pub mod Lines
+pub mod Entries
+pub mod LineWords
+pub mod Decimals
+pub mod Spelled

@@ -2,3 +2,5 @@ pub mod Words
 pub mod Result
 pub mod Numbers
 pub mod Reading
+pub mod Written
+pub mod Spelling

@@ -1,10 +1,12 @@
-//! What every form of text shares: words with their places, numbers, and reading to the first fault.
+//! What every form of text shares: words with their places, numbers, reading to the first fault, and writing.
 #![tactic(auto)]
 
 mod error;
 mod number;
 mod words;
+mod writer;
 
 pub use error::{FieldError, NumberFault};
 pub use number::{count_in, signed_in};
 pub use words::{Words, at_place};
+pub use writer::Writer;

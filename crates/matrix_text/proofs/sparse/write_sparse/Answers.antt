@@ -1,0 +1,45 @@
+use Rattle.std.proofs.Common.{◌≡◌, ◌<◌, ◌≤◌, ◌∙◌, ◌+◌, ◌++◌, ◌∷◌, [], ℕ, ℤ, false, List, length, get_or, refl, ap, map, drop, sym, arith}
+use Rattle.std.specs.Prelude.{fold}
+use Rattle.std.specs.Fmt.{decimal}
+use Rattle.std.proofs.lemmas.List.{drop_more, drop_all, map-append}
+use Rattle.std.proofs.lemmas.List.Sums.{fold-append}
+use Rattle.cmr_base.specs.Matrix.{height, nonzeros_of}
+use Rattle.text_fields.specs.Written.{Draft, with_line, text_of_lines}
+use Rattle.text_fields.proofs.Lines.{lines_written, lines_end}
+use Rattle.matrix_text.specs.Canonical.{triple_line, row_triples, triples_from}
+use Rattle.matrix_text.proofs.sparse.write_sparse.Goals as goal
+
+-- the lines of a row before those of the rows behind it
+row_first : (draft : Draft) (rows : List (List ℤ)) (row : ℕ) → row < length rows → fold with_line (fold with_line draft (map triple_line (row_triples (row + 1) 1 (get_or rows row [])))) (map triple_line (triples_from (row + 1 + 1) (drop (row + 1) rows))) ≡ fold with_line draft (map triple_line (triples_from (row + 1) (drop row rows)))
+row_first draft rows row h =
+    let here = row_triples (row + 1) 1 (get_or rows row []) in
+    let behind = triples_from (row + 1 + 1) (drop (row + 1) rows) in
+    sym (ap (λ rest. fold with_line draft (map triple_line (triples_from (row + 1) rest))) (drop_more rows row [] h)
+    ∙ ap (fold with_line draft) (map-append triple_line here behind)
+    ∙ fold-append with_line draft (map triple_line here) (map triple_line behind))
+
+pub loop-row-preserved : goal.loop-row-preserved
+loop-row-preserved c =
+    let rows = c.args.matrix.now.rows in
+    let row = c.loop-row.row in
+    let here = map triple_line (row_triples (row + 1) 1 (get_or rows row [])) in
+    let made : c.write_row.new.text ≡ fold with_line c.loop-row.text here = c.in_ok-write_row.ensures in
+    let inside : row < length rows = omega (arith, c.rows-row-end.ensures.rows) in
+    rw made (record {
+      written = row_first c.loop-row.text rows row inside ∙ c.loop-row.invariant.written;
+      at_start = lines_end c.loop-row.text here c.loop-row.invariant.at_start;
+    })
+
+pub returns : goal.returns
+returns c =
+    let rows = c.args.matrix.now.rows in
+    let past : length rows ≤ c.loop-row.row = omega (arith, c.rows-row-end.ensures.rows) in
+    let first : c.numbers.new.self ≡ with_line (record { bytes = []; is_begun = false }) (decimal (height c.args.matrix.now) ∷ decimal c.args.matrix.now.width ∷ decimal (nonzeros_of rows) ∷ []) =
+    rw (c.in_ok-numbers.ensures, c.new-text.ensures, c.rows.ensures.rows, c.columns.ensures.columns, c.nonzeros.ensures) refl in
+    let none = drop_all c.loop-row.row rows past in
+    let all : c.loop-row.text ≡ fold with_line c.numbers.new.self (map triple_line (triples_from 1 rows)) =
+    ap (λ rest. fold with_line c.loop-row.text (map triple_line (triples_from (c.loop-row.row + 1) rest))) (sym none) ∙ c.loop-row.invariant.written in
+    c.into_bytes.ensures
+    ∙ ap (λ (d : Draft). d.bytes) all
+    ∙ lines_written c.numbers.new.self (map triple_line (triples_from 1 rows))
+    ∙ ap (λ (d : Draft). d.bytes ++ text_of_lines (map triple_line (triples_from 1 rows))) first

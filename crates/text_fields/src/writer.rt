@@ -1,0 +1,111 @@
+// Canonical texts.
+ghost use Rattle.std.specs.Prelude.{◌≡◌, [], false, OnOk, map};
+ghost use Rattle.std.specs.Fmt.{decimal, signed_decimal};
+ghost use Rattle.cmr_base.specs.Matrix.{IsEntry};
+ghost use Rattle.text_fields.specs.Written.{with_word, with_end, with_line};
+
+use cmr_base::Memory;
+use itoa::Buffer;
+use std::alloc::Global;
+use std::marker::Model;
+
+/// A canonical text as far as it is written: lines of words with one space between them. Where memory is refused,
+/// what was written is of no use.
+#[derive(Drop)]
+pub struct Writer {
+    bytes: Vec<u8>,
+    is_begun: bool,
+    digits: Buffer,
+}
+
+impl Model for Writer {
+    ghost use Rattle.text_fields.specs.Written.{Draft};
+
+    ghost Value = { Draft };
+
+    ghost view = { λ a. record { bytes = a.bytes.items; is_begun = a.is_begun } };
+}
+
+impl Writer {
+    /// The empty text.
+    pub fn new(alloc: Global) -> Self
+        ensures { result ≡ record { bytes = []; is_begun = false } }
+    {
+        Writer {
+            bytes: Vec::new(alloc),
+            is_begun: false,
+            digits: Buffer::new(),
+        }
+    }
+
+    /// Adds a word to the last line.
+    pub fn word(&mut self, word: &[u8]) -> Result<(), Memory>
+        ensures { OnOk result (self.new ≡ with_word self.old word.now) }
+    {
+        if self.is_begun {
+            self.bytes.push(b' ')?;
+        }
+        self.is_begun = true;
+        self.bytes.extend_from_slice(word)?;
+        Ok(())
+    }
+
+    /// Adds a number to the last line.
+    pub fn number(&mut self, number: u32) -> Result<(), Memory>
+        ensures { OnOk result (self.new ≡ with_word self.old (decimal number)) }
+    {
+        if self.is_begun {
+            self.bytes.push(b' ')?;
+        }
+        self.is_begun = true;
+        let digits = self.digits.format(number);
+        self.bytes.extend_from_slice(digits.as_bytes())?;
+        Ok(())
+    }
+
+    /// Adds an entry to the last line.
+    pub fn entry(&mut self, entry: i8) -> Result<(), Memory>
+        requires { IsEntry entry }
+        ensures { OnOk result (self.new ≡ with_word self.old (signed_decimal entry)) }
+    {
+        self.word(entry_word(entry))
+    }
+
+    /// Ends the last line.
+    pub fn end_line(&mut self) -> Result<(), Memory>
+        ensures { OnOk result (self.new ≡ with_end self.old) }
+    {
+        self.bytes.push(b'\n')?;
+        self.is_begun = false;
+        Ok(())
+    }
+
+    /// Adds a line of numbers.
+    pub fn numbers(&mut self, numbers: &[u32]) -> Result<(), Memory>
+        requires { self.old.is_begun ≡ false }
+        ensures { OnOk result (self.new ≡ with_line self.old (map decimal numbers.now)) }
+    {
+        for number in numbers {
+            self.number(*number)?;
+        }
+        self.end_line()
+    }
+
+    /// The bytes of the text.
+    pub fn into_bytes(self) -> Vec<u8>
+        ensures { result.items ≡ self.bytes }
+    {
+        self.bytes
+    }
+}
+
+fn entry_word(entry: i8) -> &'static [u8]
+    requires { IsEntry entry }
+    ensures { result.now ≡ signed_decimal entry }
+{
+    match entry {
+        0 => b"0",
+        1 => b"1",
+        _ => b"-1",
+    }
+}
