@@ -11,6 +11,7 @@ use Rattle.std.specs.List.{flat_map, range_with_len}
 use Rattle.std.specs.List.Sorted.{IsStrictlyIncreasing}
 use Rattle.cmr_base.specs.Matrix.{Matrix, height, entry, column_of, transposed, IsMatrix, IsEntry, rows_of}
 use Rattle.cmr_base.specs.LineSets.{AllBelow, submatrix}
+use Rattle.cmr_base.proofs.RisingLists.{rises_in, rising_short}
 
 pub length-cells : {A : Type 0} (f : A → List ℤ) (w : ℕ) (xs : List A) → ((x : A) → length (f x) ≡ w) → length (flat_map f xs) ≡ length xs * w
 length-cells f w [] each = sym (zero-mul w)
@@ -98,18 +99,7 @@ is_matrix-transposed m is = record {
 
 -- rising lines below a bound are at most so many
 pub length-rising : (lines : List ℕ) (bound : ℕ) → IsStrictlyIncreasing lines → AllBelow bound lines → length lines ≤ bound
-length-rising lines bound rising below = by (length lines) refl
-  where
-    at_least : (k : ℕ) → k < length lines → k ≤ get_or lines k 0
-    at_least zero h = omega arith
-    at_least (suc k) h =
-        let next : k + 1 ≡ suc k = omega arith in
-        let up : get_or lines k 0 < get_or lines (suc k) 0 = subst (λ n. get_or lines k 0 < get_or lines n 0) next (rising k (omega arith)) in
-        omega (arith, up, at_least k (omega arith))
-
-    by : (n : ℕ) → n ≡ length lines → length lines ≤ bound
-    by zero e = omega arith
-    by (suc n) e = omega (arith, at_least n (omega arith), below n (omega arith))
+length-rising lines bound rising below = omega (arith, rising_short 0 bound lines (rises_in 0 bound lines rising below (λ h. omega arith)) (omega arith))
 
 -- one more row of cells
 pub more_cells : {A : Type 0} (f : A → List ℤ) (xs : List A) (i : ℕ) (d : A) → i < length xs → flat_map f (take (i + 1) xs) ≡ flat_map f (take i xs) ++ f (get_or xs i d)

@@ -1,5 +1,5 @@
 -- Sets of rows and of columns, and the submatrix on them.
-use Rattle.std.specs.Prelude.{◌<◌, ◌+◌, ◌^◌, ◌==◌, not, filter, ℕ, List, [], ◌∷◌, length, map, slice_index}
+use Rattle.std.specs.Prelude.{◌<◌, ◌+◌, ◌^◌, ◌/◌, ◌%◌, ◌==◌, if◌then◌else◌, not, filter, ℕ, zero, suc, List, [], ◌∷◌, length, map, slice_index}
 use Rattle.std.specs.List.{range_with_len}
 use Rattle.std.specs.List.Sorted.{IsStrictlyIncreasing}
 use Rattle.cmr_base.specs.Matrix.{Matrix, height, entry}
@@ -34,3 +34,9 @@ first_lines count = range_with_len 0 count
 -- the set without a line
 abbrev pub without : List ℕ → ℕ → List ℕ
 without lines gone = filter (λ line. not (line == gone)) lines
+
+-- the set with this number, of so many lines from a first one on, which counts 1 here
+abbrev pub set_numbered : ℕ → ℕ → ℕ → List ℕ
+set_numbered zero first number = []
+set_numbered (suc count) first number =
+    if number % 2 == 1 then first ∷ set_numbered count (first + 1) (number / 2) else set_numbered count (first + 1) (number / 2)
