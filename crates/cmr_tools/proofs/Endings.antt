@@ -12,8 +12,8 @@ use Rattle.cmr_tools.specs.Ending.{Devices, Standing, devices, IsReadyFor, IsCar
 use Rattle.cmr_tools.specs.Run.{Reports, HasEnded, reported, unread, no_memory, Ends, Runs}
 use Rattle.cmr_tools.proofs.Reports.{one_report}
 
-pub same_held : (f g : Held) → ((name : List ℕ) → f name ≡ g name) → f ≡ g
-same_held f g h = λ i. λ name. h name i
+pub pointwise : {A B : Type 0} (f g : A → B) → ((x : A) → f x ≡ g x) → f ≡ g
+pointwise f g h = λ i. λ x. h x i
 
 rose_from : (before mid now : ℕ) → before ≤ mid → Rose mid now → Rose before now
 rose_from before mid now h (inl up) = inl (omega arith)
@@ -62,12 +62,12 @@ seen_from ended held read output error before mid out err after status same h do
     carried : (report : Report) (held : Held) (output error : List ℕ) (before mid out err : ℕ) (after : Devices) (status : ℕ) → before ≤ mid
         → IsCarriedOut report (devices held output error mid out err) after status → IsCarriedOut report (devices held output error before out err) after status
     carried report held output error before mid out err after status h (delivered e d) = delivered e (record { files = d.files; output = d.output; error = d.error })
-    carried report held output error before mid out err after status h (unwritten e u) = unwritten e (u.0, u.1, u.2, record {
-      earlier = u.3.earlier;
-      faulty = u.3.faulty;
-      output = u.3.output;
-      error = u.3.error;
-      cause = rose_from before mid after.shelf_faults h u.3.cause;
+    carried report held output error before mid out err after status h (unwritten e u) = unwritten e (record {
+      place = u.place;
+      left = u.left;
+      output = u.output;
+      error = u.error;
+      cause = rose_from before mid after.shelf_faults h u.cause;
     })
     carried report held output error before mid out err after status h (cut_short e c) = cut_short e (record { files = c.files; output = c.output; error = c.error; cause = c.cause })
 
@@ -97,7 +97,7 @@ pub runs : (order : Option Order) (standing : Standing) (held read : Held) (outp
 runs order standing held read output error before mid out err ended after status decided carried = record {
   ended = λ told out_told err_told.
       has_ended order standing.shelf_is_calm ended (devices held output error before out err) after status (decided.ends told)
-      (seen_from ended held read output error before mid out err after status (same_held read held decided.content) decided.later (carried.carried_out told out_told err_told))
+      (seen_from ended held read output error before mid out err after status (pointwise read held decided.content) decided.later (carried.carried_out told out_told err_told))
       (λ four. rose_until before mid after.shelf_faults carried.later (decided.cause four));
   complete = λ told report is. elim (the_report order held standing.shelf_is_calm ended (decided.ends told) report is) [
     | inl same ↦ elim carried.given [ inl s ↦ inl (s ∙ ap (λ (r : Report). r.status) same) | inr cut ↦ inr (inl cut.0) ]

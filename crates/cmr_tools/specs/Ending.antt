@@ -2,7 +2,7 @@
 use Rattle.std.specs.Prelude.{◌≡◌, ◌≢◌, ◌≤◌, ◌⊎◌, ◌++◌, ℕ, Bool, IsTrue, List, [], ◌∷◌, length, take, Option, Some, IsSomeAnd, slice_get, codes, Result, Ok, Err}
 use Rattle.std.specs.List.{AllByRecursion}
 use Rattle.cmr_io.specs.Causes.{Rose}
-use Rattle.cmr_io.specs.Whole.{AppendsFront}
+use Rattle.cmr_io.specs.Whole.{AppendsFront, StaysOrHoldsFront}
 use Rattle.cmr_tools.specs.Report.{Held, File, Report, with_files}
 use Rattle.cmr_tools.specs.declared.outcome.Outcome.{Outcome}
 use Rattle.cmr_tools.specs.declared.outcome.Stop.{Stop}
@@ -49,11 +49,15 @@ standing shelf_tells output_tells error_tells shelf_is_calm shelf_room output_is
   output_room = output_room;
 }
 
+-- each file fits into the room of its name
+abbrev pub HasRooms : (List ℕ → Option ℕ) → List File → Type 0
+HasRooms room files = AllByRecursion (λ file. IsSomeAnd (room file.name) (λ most. length file.bytes ≤ most)) files
+
 -- the devices are calm and have room for the files and for standard output
 pub record IsReadyFor (report : Report) (devices : Standing) : Type 0 where
   pub shelf : IsTrue devices.shelf_is_calm
   pub output : IsTrue devices.output_is_calm
-  pub rooms : AllByRecursion (λ file. IsSomeAnd (devices.shelf_room file.name) (λ room. length file.bytes ≤ room)) report.files
+  pub rooms : HasRooms devices.shelf_room report.files
   pub room : length report.output ≤ devices.output_room
 
 -- All files of the report and all of its standard output were written, and its line to standard error.
@@ -62,18 +66,19 @@ pub record IsDelivered (report : Report) (before after : Devices) : Type 0 where
   pub output : after.output ≡ before.output ++ report.output
   pub error : IsWritten before.error after.error before.error_faults after.error_faults report.error
 
--- A file could not be written: those before it are whole, it is as before or holds a front of its bytes, and
--- nothing was put to standard output.
-pub record IsStoppedAt (file : File) (files : List File) (before after : Devices) : Type 0 where
-  pub earlier : (name : List ℕ) → name ≢ file.name → after.held name ≡ with_files before.held files name
-  pub faulty : (after.held file.name ≡ with_files before.held files file.name) ⊎ ((n : ℕ) × (after.held file.name ≡ Some (take n file.bytes)))
-  pub output : after.output ≡ before.output
-  pub error : IsWritten before.error after.error before.error_faults after.error_faults (cannot_write_line file.name)
-  pub cause : Rose before.shelf_faults after.shelf_faults
+-- The file at a place could not be written: those before it are whole, and it is as before or holds a front of its bytes.
+abbrev pub IsLeftAt : ℕ → List File → Held → Held → Type 0
+IsLeftAt k files before after = (file : File) × (slice_get files k ≡ Some file)
+    × ((name : List ℕ) → name ≢ file.name → after name ≡ with_files before (take k files) name)
+    × StaysOrHoldsFront (with_files before (take k files) file.name) (after file.name) file.bytes
 
--- the same with the file's place on the report's list
-abbrev pub IsUnwritten : Report → Devices → Devices → Type 0
-IsUnwritten report before after = (k : ℕ) × (file : File) × (slice_get report.files k ≡ Some file) × IsStoppedAt file (take k report.files) before after
+-- A file could not be written, and nothing was put to standard output.
+pub record IsUnwritten (report : Report) (before after : Devices) : Type 0 where
+  pub place : ℕ
+  pub left : IsLeftAt place report.files before.held after.held
+  pub output : after.output ≡ before.output
+  pub error : IsWritten before.error after.error before.error_faults after.error_faults (cannot_write_line left.0.name)
+  pub cause : Rose before.shelf_faults after.shelf_faults
 
 -- Standard output failed: all files are whole, and a front of it was put.
 pub record IsCutShort (report : Report) (before after : Devices) : Type 0 where

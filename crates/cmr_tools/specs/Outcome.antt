@@ -3,10 +3,11 @@ use Rattle.std.specs.Prelude.{◌++◌, ℕ, List, [], ◌∷◌, map, codes, Re
 use Rattle.std.specs.Fmt.{decimal}
 use Rattle.matrix_text.specs.declared.error.TextKind.{TextKind}
 use Rattle.matrix_text.specs.declared.error.TextKind.TheVariants as kinds
+use Rattle.cmr_tools.specs.declared.outcome.OutputFile.{OutputFile}
 use Rattle.cmr_tools.specs.declared.outcome.Outcome.{Outcome}
 use Rattle.cmr_tools.specs.declared.outcome.Stop.{Stop}
 use Rattle.cmr_tools.specs.declared.outcome.Stop.TheVariants as stops
-use Rattle.cmr_tools.specs.Report.{Report, refusal}
+use Rattle.cmr_tools.specs.Report.{File, Report, refusal}
 
 abbrev pub kind_name : TextKind → List ℕ
 kind_name kinds.NotNumber = codes "NotNumber"
@@ -23,8 +24,16 @@ kind_name kinds.TwiceNamed = codes "TwiceNamed"
 kind_name kinds.NotRising = codes "NotRising"
 kind_name kinds.OtherSize = codes "OtherSize"
 
+abbrev pub file_of : OutputFile → File
+file_of file = record { name = file.name.now; bytes = file.bytes.items }
+
 abbrev pub outcome_report : Outcome → Report
-outcome_report outcome = record { status = outcome.status; output = outcome.output.items; error = []; files = [] }
+outcome_report outcome = record {
+  status = outcome.status;
+  output = outcome.output.items;
+  error = [];
+  files = map file_of outcome.files.items;
+}
 
 -- the line on a text at fault
 abbrev pub fault_line : List ℕ → List ℕ → List ℕ → List ℕ

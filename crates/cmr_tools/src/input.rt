@@ -23,6 +23,7 @@ pub fn read_input<'a, S: Shelf>(
     ensures stopped { IfErr result (λ stop. IsTrue (S.tells shelf.old) → StopsReading (S.content shelf.old) most name.entry.now (S.is_calm shelf.old) stop) }
     ensures cause { IfErr result (IsCaused name.entry.now (S.faults shelf.old) (S.faults shelf.new)) }
     ensures content { (other : List ℕ) → S.content shelf.new other ≡ S.content shelf.old other }
+    ensures room { (other : List ℕ) → S.room shelf.new other ≡ S.room shelf.old other }
     ensures tells { S.tells shelf.new ≡ S.tells shelf.old }
     ensures calm { IsTrue (S.is_calm shelf.old) → IsTrue (S.is_calm shelf.new) }
     ensures later { S.faults shelf.old ≤ S.faults shelf.new }

@@ -3,11 +3,20 @@ ghost use Rattle.std.specs.Prelude.{◌≡◌};
 
 use matrix_text::TextKind;
 
-/// What a tool decided: its status, and the bytes of standard output.
+/// A file that is to be written.
 #[derive(Debug, Drop)]
-pub struct Outcome {
+pub struct OutputFile<'a> {
+    pub name: &'a str,
+    pub bytes: Vec<u8>,
+}
+
+/// What a tool decided: its status, the bytes of standard output, and the files in the order in which they
+/// are written.
+#[derive(Debug, Drop)]
+pub struct Outcome<'a> {
     pub status: u8,
     pub output: Vec<u8>,
+    pub files: Vec<OutputFile<'a>>,
 }
 
 /// Why a run has no outcome.

@@ -1,5 +1,5 @@
 // Testing total unimodularity.
-ghost use Rattle.std.specs.Prelude.{None, ◌≡◌, ◌≢◌, ◌⊎◌, ◌++◌, ◌≤◌, ℕ, List, Some, IfOk, IfErr, OnOk, IsTrue, false};
+ghost use Rattle.std.specs.Prelude.{◌≡◌, ◌≢◌, ◌⊎◌, ◌++◌, ◌≤◌, ℕ, List, Some, IfOk, IfErr, OnOk, IsTrue, false};
 ghost use Rattle.cmr_tools.specs.Inputs.{matrix_in};
 ghost use Rattle.cmr_tools.specs.Outcome.{ended_report, outcome_report};
 ghost use Rattle.cmr_base.specs.Matrix.{Matrix, height};
@@ -37,7 +37,7 @@ pub fn tu<R: Threads + Sync, S: Shelf, O: Sink, E: Sink>(
     err: &mut E,
 ) -> u8
     ensures runs { Runs (Some (order.tu (tu_order_of options.now)))
-        (standing (S.tells shelf.old) (O.tells out.old) (E.tells err.old) (S.is_calm shelf.old) (λ _. None) (O.is_calm out.old) (O.room out.old))
+        (standing (S.tells shelf.old) (O.tells out.old) (E.tells err.old) (S.is_calm shelf.old) (S.room shelf.old) (O.is_calm out.old) (O.room out.old))
         (devices (S.content shelf.old) (O.got out.old) (E.got err.old) (S.faults shelf.old) (O.faults out.old) (E.faults err.old))
         (devices (S.content shelf.new) (O.got out.new) (E.got err.new) (S.faults shelf.new) (O.faults out.new) (E.faults err.new))
         result }
@@ -53,11 +53,12 @@ fn examine<'a, S: Shelf>(
     alloc: Global,
     options: &TuOptions<'a>,
     shelf: &mut S,
-) -> Result<Outcome, Stop<'a>>
+) -> Result<Outcome<'a>, Stop<'a>>
     ensures ends { IsTrue (S.tells shelf.old) → Ends (Some (order.tu (tu_order_of options.now))) (S.content shelf.old) (S.is_calm shelf.old) result }
     ensures content { (other : List ℕ) → S.content shelf.new other ≡ S.content shelf.old other }
     ensures tells { S.tells shelf.new ≡ S.tells shelf.old }
     ensures calm { IsTrue (S.is_calm shelf.old) → IsTrue (S.is_calm shelf.new) }
+    ensures room { (other : List ℕ) → S.room shelf.new other ≡ S.room shelf.old other }
     ensures later { S.faults shelf.old ≤ S.faults shelf.new }
     ensures statuses { ((ended_report result).status ≤ 5) × ((ended_report result).status ≢ 2) }
     ensures cause { (ended_report result).status ≡ 4 → Rose (S.faults shelf.old) (S.faults shelf.new) }
@@ -72,7 +73,7 @@ fn decide<'a>(
     alloc: Global,
     options: &TuOptions<'a>,
     bytes: &[u8],
-) -> Result<Outcome, Stop<'a>>
+) -> Result<Outcome<'a>, Stop<'a>>
     ensures decided { IfOk result (λ outcome. TuReads (tu_order_of options.now) (matrix_in options.now.form false bytes.now) (outcome_report outcome)) }
     ensures status { IfOk result (λ outcome. outcome.status ≤ 1) }
     ensures stopped { IfErr result (TuStops (tu_order_of options.now) (matrix_in options.now.form false bytes.now)) }
@@ -90,14 +91,22 @@ fn decide<'a>(
     }
 }
 
-fn verdict(alloc: Global, matrix: &Matrix) -> Result<Outcome, Memory>
+fn verdict<'a>(alloc: Global, matrix: &Matrix) -> Result<Outcome<'a>, Memory>
     requires { height matrix.now ≤ 8 }
     ensures { IfOk result (λ outcome. (IsTotallyUnimodular matrix.now × (outcome_report outcome ≡ tu_yes))
         ⊎ ((rows : List ℕ) × IsLeastUnsigned matrix.now rows × (outcome_report outcome ≡ tu_no rows))) }
 {
     match least_unsigned(alloc, matrix)? {
-        None => Ok(Outcome { status: YES, output: b"totally unimodular: yes\n".to_vec(alloc)? }),
-        Some(rows) => Ok(Outcome { status: NO, output: no_text(alloc, &rows)? }),
+        None => Ok(Outcome {
+            status: YES,
+            output: b"totally unimodular: yes\n".to_vec(alloc)?,
+            files: Vec::new(alloc),
+        }),
+        Some(rows) => Ok(Outcome {
+            status: NO,
+            output: no_text(alloc, &rows)?,
+            files: Vec::new(alloc),
+        }),
     }
 }
 

@@ -1,12 +1,25 @@
-use Rattle.std.proofs.Common.{refl, subst}
-use Rattle.cmr_io.specs.Whole.{AppendsFront}
-use Rattle.cmr_tools.specs.Ending.{cut_short}
+use Rattle.std.proofs.Common.{◌≡◌, ◌<◌, ◌∙◌, ap, map, refl, subst, sym, length}
+use Rattle.cmr_tools.specs.Report.{File}
+use Rattle.cmr_tools.specs.Outcome.{cannot_write_line, file_of}
+use Rattle.cmr_tools.specs.Written.{IsWritten}
+use Rattle.cmr_tools.specs.Ending.{IsLeftAt, unwritten}
+use Rattle.cmr_tools.proofs.Files.{file_at}
 use Rattle.cmr_tools.proofs.carry_out.deliver.Goals as goal
 
 pub returns-in-Err-clause-carried_out : goal.returns-in-Err-clause-carried_out
-returns-in-Err-clause-carried_out g c = λ told out_told err_told. cut_short refl (record {
-  files = λ name. refl;
-  output = subst (AppendsFront (g.O.Sink.got c.args.out.now) (g.O.Sink.got c.write_whole.new.sink)) c.deref.ensures.value (c.in-Err.ensures.front out_told);
-  error = c.write_cannot_write.ensures err_told;
-  cause = c.in-Err.ensures.cause.failed;
-})
+returns-in-Err-clause-carried_out g c = λ told out_told err_told.
+    let S = g.S.Shelf in
+    let E = g.E.Sink in
+    let files = c.args.outcome.now.files.items in
+    let place = c.in-Err.field-0.place in
+    let left : IsLeftAt place (map file_of files) (S.content c.args.shelf.now) (S.content c.write_files.new.shelf) =
+    subst (λ fs. IsLeftAt place (map file_of fs) (S.content c.args.shelf.now) (S.content c.write_files.new.shelf)) c.deref.ensures.value (c.in-Err.ensures.left told) in
+    let within : place < length files = subst (λ fs. place < length fs) c.deref.ensures.value c.in-Err.ensures.within in
+    unwritten refl (record {
+      place = place;
+      left = left;
+      output = refl;
+      error = subst (λ name. IsWritten (E.got c.args.err.now) (E.got c.write_cannot_write.new.err) (E.faults c.args.err.now) (E.faults c.write_cannot_write.new.err) (cannot_write_line name))
+          (ap (λ (f : File). f.name) (file_at files place c.index.result.now left.0 within c.index.ensures left.1)) (c.write_cannot_write.ensures err_told);
+      cause = c.in-Err.ensures.cause.failed;
+    })

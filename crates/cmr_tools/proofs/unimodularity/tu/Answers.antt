@@ -1,9 +1,9 @@
-use Rattle.std.proofs.Common.{◌≡◌, ◌∙◌, Some, None, sym, inl, inr, arith}
+use Rattle.std.proofs.Common.{◌≡◌, ◌∙◌, Some, None, subst, sym, inl, inr, arith}
 use Rattle.cmr_tools.specs.Words.{tu}
 use Rattle.cmr_tools.specs.Words.Tu.{tu_order_of}
-use Rattle.cmr_tools.specs.Ending.{devices, standing}
+use Rattle.cmr_tools.specs.Ending.{devices, standing, HasRooms}
 use Rattle.cmr_tools.specs.Outcome.{ended_report}
-use Rattle.cmr_tools.proofs.Endings.{runs}
+use Rattle.cmr_tools.proofs.Endings.{pointwise, runs}
 use Rattle.cmr_tools.proofs.Decided.{decided, answered_yes}
 use Rattle.cmr_tools.proofs.unimodularity.tu.Goals as goal
 
@@ -18,7 +18,7 @@ returns-clause-runs g c =
     let read = c.examine-ended in
     let done = c.carry_out in
     runs (Some (tu (tu_order_of c.args.options.now)))
-    (standing (S.tells shelf) (O.tells out) (E.tells err) (S.is_calm shelf) (λ name. None) (O.is_calm out) (O.room out))
+    (standing (S.tells shelf) (O.tells out) (E.tells err) (S.is_calm shelf) (S.room shelf) (O.is_calm out) (O.room out))
     (S.content shelf) (S.content read.new.shelf) (O.got out) (E.got err) (S.faults shelf) (S.faults read.new.shelf) (O.faults out) (E.faults err) read.result
     (devices (S.content done.new.shelf) (O.got done.new.out) (E.got done.new.err) (S.faults done.new.shelf) (O.faults done.new.out) (E.faults done.new.err)) done.result
     (record {
@@ -34,7 +34,7 @@ returns-clause-runs g c =
     (record {
       carried_out = λ told. done.ensures.carried_out (read.ensures.tells ∙ told);
       given = done.ensures.status;
-      ready = λ room. done.ensures.ready (record { shelf = read.ensures.calm room.shelf; output = room.output; rooms = room.rooms; room = room.room });
+      ready = λ room. done.ensures.ready (record { shelf = read.ensures.calm room.shelf; output = room.output; rooms = subst (λ rooms. HasRooms rooms (ended_report read.result).files) (sym (pointwise (S.room read.new.shelf) (S.room shelf) read.ensures.room)) room.rooms; room = room.room });
       stopped = done.ensures.stopped;
       later = done.ensures.later;
     })
