@@ -1,7 +1,7 @@
 -- What a shelf of files has open.
 use Rattle.std.specs.Prelude.{Bool, true, false}
-use Rattle.cmr_io.specs.declared.real.Open.{Open}
-use Rattle.cmr_io.specs.declared.real.Open.TheVariants.{Nothing, Read, Input, Write}
+use Rattle.cmr_io.specs.declared.real_shelf.Open.{Open}
+use Rattle.cmr_io.specs.declared.real_shelf.Open.TheVariants.{Nothing, Read, Input, Write}
 
 -- a read is begun
 abbrev pub is_reading : {F I : Type 0} → Open F I → Bool

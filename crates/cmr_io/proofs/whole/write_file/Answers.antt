@@ -25,7 +25,7 @@ rest-preserved g c =
           subst (λ (name : List ℕ). S.content c.put.new.self name ≡ Some (S.got c.put.new.self)) (before.target told) (put.holds (before.tells ∙ told))
           ∙ ap Some (got told);
       others = λ told other ne. put.others other (λ e. ne (e ∙ before.target told)) ∙ before.others told other ne;
-      room = λ other. put.room other ∙ before.room other;
+      rooms = λ other. put.rooms other ∙ before.rooms other;
       tells = put.tells ∙ before.tells;
       calm = λ calm. put.calm (before.calm calm);
       later = omega (arith, put.cause.later, before.later);

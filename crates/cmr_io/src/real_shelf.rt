@@ -1,0 +1,142 @@
+// The files of the system and standard input: the edge, of whose bytes nothing is claimed.
+ghost use Rattle.std.specs.Prelude.{◌≡◌, ◌≤◌, ◌<◌, [], false, true, None, IsTrue, IfOk, is_ok, length};
+ghost use Rattle.cmr_io.specs.Causes.{HasCause};
+ghost use Rattle.cmr_io.specs.Calls.{counted};
+ghost use Rattle.cmr_io.specs.FileShelf.{new_shelf};
+
+use crate::device::{Failed, Shelf};
+use crate::fault_count::FaultCount;
+use crate::retry::{read_counted, write_counted};
+use std::fs;
+use std::marker::Model;
+use std::rt::Files;
+
+/// What a shelf of files has open.
+#[derive(Drop)]
+pub enum Open<F, I> {
+    Nothing,
+    Read(F),
+    Input(I),
+    Write(F),
+}
+
+/// The files of the system. The name `-`, where it is read, is standard input. Contracts see whether a
+/// read or a write is begun, and the count of faults.
+#[derive(Drop)]
+pub struct RealShelf<'a, R: Files + Input> {
+    rt: &'a R,
+    open: Open<R::File, R::Reader>,
+    faults: FaultCount,
+}
+
+impl<'a, R: Files + Input> Model for RealShelf<'a, R> {
+    ghost use Rattle.cmr_io.specs.FileShelf.{FileShelf};
+    ghost use Rattle.cmr_io.specs.Open.{is_reading, is_writing};
+
+    ghost Value = { FileShelf };
+
+    ghost view = { λ shelf. record { reading = is_reading shelf.open; writing = is_writing shelf.open; faults = shelf.faults } };
+}
+
+impl<'a, R: Files + Input> RealShelf<'a, R> {
+    /// A shelf of the files that the runtime reaches, of which none is open.
+    pub fn new(rt: &'a R) -> Self
+        ensures { result ≡ new_shelf }
+    {
+        RealShelf {
+            rt,
+            open: Open::Nothing,
+            faults: FaultCount::new(),
+        }
+    }
+}
+
+impl<R: Files + Input> Shelf for RealShelf<'_, R> {
+    ghost tells = { λ _. false };
+
+    ghost content = { λ _ _. None };
+
+    ghost is_reading = { λ shelf. shelf.reading };
+
+    ghost left = { λ _. [] };
+
+    ghost is_writing = { λ shelf. shelf.writing };
+
+    ghost target = { λ _. [] };
+
+    ghost got = { λ _. [] };
+
+    ghost faults = { λ shelf. shelf.faults };
+
+    ghost is_calm = { λ _. false };
+
+    ghost room = { λ _ _. None };
+
+    ghost calm_tells = { λ shelf calm. calm };
+
+    fn begin_read(&mut self, name: &str) -> Result<(), Failed>
+        ensures count { self.new.faults ≡ counted result self.old.faults }
+        ensures begun { self.new.reading ≡ is_ok result }
+        ensures ended { self.new.writing ≡ false }
+        ensures cause { HasCause self.old.faults self.new.faults result }
+    {
+        if name == "-" {
+            self.open = Open::Input(self.rt.reader());
+            return Ok(());
+        }
+        self.open = Open::Nothing;
+        match fs::open(self.rt, name) {
+            Ok(file) => {
+                self.open = Open::Read(file);
+                Ok(())
+            }
+            Err(_) => Err(self.faults.fault()),
+        }
+    }
+
+    fn next(&mut self, into: &mut [u8]) -> Result<usize, Failed>
+        requires { IsTrue self.old.reading }
+        ensures count { self.new.faults ≡ counted result self.old.faults }
+        ensures within { IfOk result (λ count. count ≤ length into.new) }
+        ensures begun { self.new.reading ≡ true }
+        ensures writing { self.new.writing ≡ self.old.writing }
+        ensures cause { HasCause self.old.faults self.new.faults result }
+    {
+        match &mut self.open {
+            Open::Read(file) => read_counted(file, into, &mut self.faults),
+            Open::Input(input) => read_counted(input, into, &mut self.faults),
+            Open::Nothing | Open::Write(_) => unreachable!(),
+        }
+    }
+
+    fn begin_write(&mut self, name: &str) -> Result<(), Failed>
+        ensures count { self.new.faults ≡ counted result self.old.faults }
+        ensures begun { self.new.writing ≡ is_ok result }
+        ensures ended { self.new.reading ≡ false }
+        ensures cause { HasCause self.old.faults self.new.faults result }
+    {
+        self.open = Open::Nothing;
+        match fs::create(self.rt, name) {
+            Ok(file) => {
+                self.open = Open::Write(file);
+                Ok(())
+            }
+            Err(_) => Err(self.faults.fault()),
+        }
+    }
+
+    fn put(&mut self, piece: &[u8]) -> Result<usize, Failed>
+        requires { IsTrue self.old.writing }
+        ensures count { self.new.faults ≡ counted result self.old.faults }
+        ensures within { IfOk result (λ count. count ≤ length piece.now) }
+        ensures some { IfOk result (λ count. 0 < length piece.now → 0 < count) }
+        ensures begun { self.new.writing ≡ true }
+        ensures reading { self.new.reading ≡ self.old.reading }
+        ensures cause { HasCause self.old.faults self.new.faults result }
+    {
+        let Open::Write(file) = &mut self.open else {
+            unreachable!()
+        };
+        write_counted(file, piece, &mut self.faults)
+    }
+}

@@ -1,0 +1,52 @@
+// Reads and writes that are tried again where a signal interrupted them.
+ghost use Rattle.std.specs.Prelude.{◌≡◌, ◌≤◌, ◌<◌, IfOk, length};
+ghost use Rattle.cmr_io.specs.Causes.{HasCause};
+ghost use Rattle.cmr_io.specs.Calls.{counted};
+
+use crate::device::Failed;
+use crate::fault_count::FaultCount;
+use std::io::{ErrorKind, Read, Write};
+
+/// One read. A fault of the system is counted.
+pub fn read_counted<R: Read>(
+    reader: &mut R,
+    into: &mut [u8],
+    faults: &mut FaultCount,
+) -> Result<usize, Failed>
+    ensures within { IfOk result (λ count. count ≤ length into.new) }
+    ensures count { faults.new ≡ counted result faults.old }
+    ensures cause { HasCause faults.old faults.new result }
+{
+    for _ in 0..u64::MAX {
+        match reader.read(into) {
+            Ok(count) => return Ok(count),
+            Err(error) if error.kind() == ErrorKind::Interrupted => {}
+            Err(_) => break,
+        }
+    }
+    Err(faults.fault())
+}
+
+/// One write. A fault of the system is counted, and so is a write of some bytes that takes none.
+pub fn write_counted<W: Write>(
+    writer: &mut W,
+    piece: &[u8],
+    faults: &mut FaultCount,
+) -> Result<usize, Failed>
+    ensures within { IfOk result (λ count. count ≤ length piece.now) }
+    ensures some { IfOk result (λ count. 0 < length piece.now → 0 < count) }
+    ensures count { faults.new ≡ counted result faults.old }
+    ensures cause { HasCause faults.old faults.new result }
+{
+    if piece.is_empty() {
+        return Ok(0);
+    }
+    for _ in 0..u64::MAX {
+        match writer.write(piece) {
+            Ok(count) if count > 0 => return Ok(count),
+            Err(error) if error.kind() == ErrorKind::Interrupted => {}
+            _ => break,
+        }
+    }
+    Err(faults.fault())
+}
