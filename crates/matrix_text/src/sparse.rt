@@ -1,10 +1,11 @@
 // Sparse texts.
-ghost use Rattle.std.specs.Prelude.{◌≡◌, ◌≤◌, ◌<◌, ◌*◌, ◌+◌, ◌-◌, ℕ, length, map, fold, Ok, IfOk, OnOk, slice_index_or, false};
+ghost use Rattle.std.specs.Prelude.{◌≡◌, ◌≤◌, ◌<◌, ◌*◌, ◌+◌, ◌-◌, ℕ, length, map, fold, Ok, IfOk, OnOk, slice_index_or, true, false};
 ghost use Rattle.cmr_base.specs.Matrix.{Matrix, IsEntry, height, row_of};
 ghost use Rattle.text_fields.specs.Words.{text_of};
 ghost use Rattle.text_fields.specs.Spelling.{words_in};
 ghost use Rattle.text_fields.specs.Reading.{Gives, Reads};
 ghost use Rattle.text_fields.specs.Written.{with_line};
+ghost use Rattle.matrix_text.specs.Values.{IsBinary};
 ghost use Rattle.matrix_text.specs.Sparse.{Triple, IsSparse, sparse, free_place, matrix_by_triples};
 ghost use Rattle.matrix_text.specs.Canonical.{sparse_text, row_triples, triple_line};
 
@@ -87,7 +88,10 @@ fn free_place(
 
 /// The canonical sparse text of a matrix.
 pub fn write_sparse(alloc: Global, matrix: &Matrix) -> Result<Vec<u8>, Memory>
-    ensures { IfOk result (λ v. v.items ≡ sparse_text matrix.now) }
+    ensures text { IfOk result (λ v. v.items ≡ sparse_text matrix.now) }
+    // It is read again as the same matrix, as a 0/1 matrix too where no entry is -1.
+    ensures again { IfOk result (λ v. sparse false (text_of v.items) ≡ Ok matrix.now) }
+    ensures binary_again { IsBinary matrix.now → IfOk result (λ v. sparse true (text_of v.items) ≡ Ok matrix.now) }
 {
     let mut text = Writer::new(alloc);
     text.numbers(&[matrix.rows(), matrix.columns(), matrix.nonzeros()])?;
