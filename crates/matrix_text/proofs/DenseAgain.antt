@@ -40,7 +40,7 @@ cells_count width [] all = sym (zero-mul width)
 cells_count width (row ∷ rows) all = length-append row (flat_map (λ row. row) rows) ∙ omega (arith, all.0, cells_count width rows all.1, suc-mul (length rows) width)
 
 -- an entry that may stand in the matrix is read as it was written
-entry_in_again : (binary : Bool) (z : ℤ) → IsEntry z → (IsTrue binary → z ≢ negsuc 0) → entry_in binary (signed_decimal z) ≡ Ok z
+pub entry_in_again : (binary : Bool) (z : ℤ) → IsEntry z → (IsTrue binary → z ≢ negsuc 0) → entry_in binary (signed_decimal z) ≡ Ok z
 entry_in_again binary z small may = rw (entry_again z small) (elim (entry_cases z small) [
   | inl e ↦ subst (λ y. allowed binary y ≡ Ok y) (sym e) (minus binary (λ is. may is e))
   | inr (inl e) ↦ rw e refl

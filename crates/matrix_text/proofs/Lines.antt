@@ -1,5 +1,6 @@
 -- Numbers of lines.
 use Rattle.std.proofs.Common.{◌≡◌, ◌<◌, ◌≤◌, ◌+◌, ◌-◌, ◌*◌, ◌∙◌, ℕ, zero, suc, zero-le, Bool, true, false, cond, leb, eqb, List, [], ◌∷◌, length, get_or, take, drop, Ok, Err, refl, ap, sym, subst, arith}
+use Rattle.std.proofs.lemmas.Bool.Decides.{nat_tests}
 use Rattle.std.proofs.lemmas.Bool.{leb-true, le-leb}
 use Rattle.std.proofs.lemmas.List.{get_or-take, get_or-drop, length-take-le, length-drop}
 use Rattle.std.proofs.Math.Nat.{suc-mul, mul-le-mul_right}
@@ -61,3 +62,6 @@ rising_at lines rising (suc k) h =
 pub rising_count : (bound : ℕ) (lines : List ℕ) → IsStrictlyIncreasing lines → AllBelow bound lines → length lines ≤ bound
 rising_count bound [] rising below = zero-le
 rising_count bound (line ∷ lines) rising below = omega (arith, rising_at (line ∷ lines) rising (length lines) (omega arith), below (length lines) (omega arith))
+
+pub line_in_again : (most : ℕ) (outside : TextKind) (word : List ℕ) (n : ℕ) → count_in word ≡ Ok n → 0 < n → n ≤ most → line_in most outside word ≡ Ok n
+line_in_again most outside word n h above within = let t : eqb n 0 ≡ false = grind (arith, nat_tests) in rw (limited_again most outside word n h within, t) refl

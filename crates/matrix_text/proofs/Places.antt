@@ -1,16 +1,15 @@
 -- Places of a matrix, row by row, and what triples put there.
-use Rattle.std.proofs.Common.{◌≡◌, ◌<◌, ◌≤◌, ◌≢◌, ◌+◌, ◌-◌, ◌*◌, ◌/◌, ◌%◌, ◌∙◌, inl, inr, ℕ, zero, suc, ℤ, pos, Bool, true, false, cond, ◌||◌, ◌&&◌, eqb, List, [], ◌∷◌, ◌++◌, length, get_or, set, take, drop, refl, ap, sym, arith, length-set}
+use Rattle.std.proofs.Common.{◌≡◌, ◌<◌, ◌≤◌, ◌≢◌, ◌+◌, ◌-◌, ◌*◌, ◌/◌, ◌%◌, ◌∙◌, inl, inr, ℕ, zero, suc, ℤ, pos, Bool, true, false, cond, ◌||◌, ◌&&◌, eqb, List, [], ◌∷◌, ◌++◌, length, get_or, set, refl, ap, sym, arith, length-set}
 use Rattle.std.specs.Prelude.{map, replicate}
 use Rattle.std.specs.List.{range_with_len}
 use Rattle.std.proofs.lemmas.Int.{ints}
 use Rattle.std.proofs.lemmas.Bool.{cases_eq}
 use Rattle.std.proofs.lemmas.Bool.Decides.{nat_tests}
-use Rattle.std.proofs.lemmas.List.{ext_get_or, get_or-set_same, get_or-set_other, get_or-replicate, length-replicate, get_or-take, get_or-drop, length-take-le, length-drop, length-map}
+use Rattle.std.proofs.lemmas.List.{ext_get_or, get_or-set_same, get_or-set_other, get_or-replicate, length-replicate, length-map}
 use Rattle.std.proofs.lemmas.List.Folds.{list_any-append}
 use Rattle.std.proofs.lemmas.List.FromFn.{length-range_with_len, get_or-map-range_with_len}
 use Rattle.std.proofs.lemmas.Nat.{mul-add-lt, div-mul-add, mod-mul-add}
-use Rattle.std.proofs.Math.Nat.{suc-mul, mul-le-mul_right}
-use Rattle.cmr_base.proofs.Rows.{length-rows_of, row-rows_of}
+use Rattle.cmr_base.proofs.Rows.{length-rows_of, length-row, entry-rows_of}
 use Rattle.cmr_base.specs.Matrix.{Matrix, IsEntry, rows_of}
 use Rattle.matrix_text.specs.Sparse.{Triple, names, is_named, value_at, matrix_of_triples}
 
@@ -57,7 +56,7 @@ none_held height width = record {
     inside : (row column : ℕ) → row < height → column < width → row * width + column < height * width
     inside row column hr hc = omega (arith, mul-add-lt row width column height hr hc)
 
-value_unnamed : (triples : List Triple) (row column : ℕ) → is_named triples row column ≡ false → value_at triples row column ≡ pos 0
+pub value_unnamed : (triples : List Triple) (row column : ℕ) → is_named triples row column ≡ false → value_at triples row column ≡ pos 0
 value_unnamed [] row column h = refl
 value_unnamed (t ∷ triples) row column h =
     let first : names row column t ≡ false = grind (arith, h) in
@@ -141,16 +140,18 @@ module _ (height width : ℕ) (taken : List Bool) (cells : List ℤ) (triples : 
     small = small_set cells ((t.row - 1) * width + (t.column - 1)) t.value small held.small;
   }
 
+-- rows as a table of their entries
+pub table_of : (height width : ℕ) (rows : List (List ℤ)) (f : ℕ → ℕ → ℤ) → length rows ≡ height → ((row : ℕ) → row < height → length (get_or rows row []) ≡ width)
+    → ((row column : ℕ) → row < height → column < width → get_or (get_or rows row []) column (pos 0) ≡ f (row + 1) (column + 1))
+    → rows ≡ map (λ row. map (f row) (range_with_len 1 width)) (range_with_len 1 height)
+table_of height width rows f high wide at = ext_get_or [] rows (map (λ row. map (f row) (range_with_len 1 width)) (range_with_len 1 height)) (high ∙ sym (length-map (range_with_len 1 height) (λ (row : ℕ). map (f row) (range_with_len 1 width)) ∙ length-range_with_len 1 height)) (λ row h. let hr : row < height = omega arith in row_is row hr ∙ sym (get_or-map-range_with_len (λ (row : ℕ). map (f row) (range_with_len 1 width)) 1 height row (row + 1) [] hr (omega arith)))
+  where
+    row_is : (row : ℕ) → row < height → get_or rows row [] ≡ map (f (row + 1)) (range_with_len 1 width)
+    row_is row hr =
+        let len = wide row hr in
+        ext_get_or (pos 0) (get_or rows row []) (map (f (row + 1)) (range_with_len 1 width)) (len ∙ sym (length-map (range_with_len 1 width) (f (row + 1)) ∙ length-range_with_len 1 width)) (λ column h. let hc : column < width = omega (arith, len) in at row column hr hc ∙ sym (get_or-map-range_with_len (f (row + 1)) 1 width column (column + 1) (pos 0) hc (omega arith)))
+
 -- the cells' rows are the matrix of the triples
 pub held_matrix : (height width : ℕ) (taken : List Bool) (cells : List ℤ) (triples : List Triple) → AreHeld height width taken cells triples
     → ◌≡◌ {A = Matrix} (record { rows = rows_of height width cells; width = width }) (matrix_of_triples height width triples)
-held_matrix height width taken cells triples held = ap (λ (rows : List (List ℤ)). record { rows = rows; width = width }) all
-  where
-    row_is : (row : ℕ) → row < height → take width (drop (row * width) cells) ≡ map (value_at triples (row + 1)) (range_with_len 1 width)
-    row_is row hr =
-        let whole : row * width + width ≤ length cells = omega (arith, held.cells_whole, suc-mul row width, mul-le-mul_right width (hr)) in
-        let len : length (take width (drop (row * width) cells)) ≡ width = length-take-le width (drop (row * width) cells) (omega (arith, length-drop (row * width) cells)) in
-        ext_get_or (pos 0) (take width (drop (row * width) cells)) (map (value_at triples (row + 1)) (range_with_len 1 width)) (len ∙ sym (length-map (range_with_len 1 width) (value_at triples (row + 1)) ∙ length-range_with_len 1 width)) (λ column h. let hc : column < width = omega (arith, len) in get_or-take width (drop (row * width) cells) column (pos 0) hc ∙ get_or-drop (row * width) cells column (pos 0) ∙ held.values row column hr hc ∙ sym (get_or-map-range_with_len (value_at triples (row + 1)) 1 width column (column + 1) (pos 0) hc (omega arith)))
-
-    all : rows_of height width cells ≡ map (λ row. map (value_at triples row) (range_with_len 1 width)) (range_with_len 1 height)
-    all = ext_get_or [] (rows_of height width cells) (map (λ row. map (value_at triples row) (range_with_len 1 width)) (range_with_len 1 height)) (length-rows_of height width cells ∙ sym (length-map (range_with_len 1 height) (λ (row : ℕ). map (value_at triples row) (range_with_len 1 width)) ∙ length-range_with_len 1 height)) (λ row h. let hr : row < height = omega (arith, length-rows_of height width cells) in row-rows_of height width cells row hr ∙ row_is row hr ∙ sym (get_or-map-range_with_len (λ (row : ℕ). map (value_at triples row) (range_with_len 1 width)) 1 height row (row + 1) [] hr (omega arith)))
+held_matrix height width taken cells triples held = ap (λ (rows : List (List ℤ)). record { rows = rows; width = width }) (table_of height width (rows_of height width cells) (value_at triples) (length-rows_of height width cells) (λ row hr. length-row height width cells row held.cells_whole hr) (λ row column hr hc. entry-rows_of height width cells row column (pos 0) hr hc ∙ held.values row column hr hc))

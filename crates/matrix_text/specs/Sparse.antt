@@ -1,9 +1,10 @@
 -- Sparse texts: the sizes and a count, and then so many triples.
-use Rattle.std.specs.Prelude.{◌==◌, ◌&&◌, ◌++◌, if◌then◌else◌, ℕ, ℤ, pos, Bool, List, [], ◌∷◌, map, Result, Ok}
-use Rattle.std.specs.List.{list_any, range_with_len}
+use Rattle.std.specs.Prelude.{◌≡◌, ◌<◌, ◌≤◌, false, length, ◌==◌, ◌&&◌, ◌++◌, if◌then◌else◌, ℕ, ℤ, pos, Bool, List, [], ◌∷◌, map, Result, Ok}
+use Rattle.std.specs.List.{AllByRecursion, list_any, range_with_len}
 use Rattle.cmr_base.specs.Matrix.{Matrix}
 use Rattle.text_fields.specs.Words.{Text}
 use Rattle.text_fields.specs.Result.{◌>>=◌}
+use Rattle.text_fields.specs.Numbers.{count_in}
 use Rattle.text_fields.specs.Reading.{Fault, field, times, ended}
 use Rattle.matrix_text.specs.declared.error.TextKind.{TextKind}
 use Rattle.matrix_text.specs.declared.error.TextKind.TheVariants.{Short, Extra, TooManyRows, TooManyColumns, RowOutOfRange}
@@ -34,6 +35,45 @@ matrix_of_triples height width triples = record {
   width = width;
 }
 
+-- each three words stand for a triple
+abbrev pub SpellTriples : Bool → List (List ℕ) → List Triple → Type 0
+SpellTriples binary [] [] = Unit {0}
+SpellTriples binary (row ∷ column ∷ value ∷ words) (triple ∷ triples) =
+    (count_in row ≡ Ok triple.row) × (count_in column ≡ Ok triple.column) × (entry_in binary value ≡ Ok triple.value) × SpellTriples binary words triples
+SpellTriples binary _ _ = ⊥
+
+-- in the matrix of these sizes
+pub record IsPlaced (height width : ℕ) (triple : Triple) : Type 0 where
+  pub row_above : 0 < triple.row
+  pub row_in : triple.row ≤ height
+  pub column_above : 0 < triple.column
+  pub column_in : triple.column ≤ width
+
+-- no place is named twice
+abbrev pub NameOnce : List Triple → Type 0
+NameOnce [] = Unit {0}
+NameOnce (triple ∷ triples) = (is_named triples triple.row triple.column ≡ false) × NameOnce triples
+
+-- these words are a sparse text of the matrix
+pub record IsSparse (binary : Bool) (words : List (List ℕ)) (m : Matrix) : Type 0 where
+  pub height : ℕ
+  pub width : ℕ
+  pub triples : List Triple
+  pub height_word : List ℕ
+  pub width_word : List ℕ
+  pub count_word : List ℕ
+  pub triple_words : List (List ℕ)
+  pub words_are : words ≡ height_word ∷ width_word ∷ count_word ∷ triple_words
+  pub height_is : count_in height_word ≡ Ok height
+  pub width_is : count_in width_word ≡ Ok width
+  pub height_in : height ≤ 1000
+  pub width_in : width ≤ 1000
+  pub count_is : count_in count_word ≡ Ok (length triples)
+  pub triples_are : SpellTriples binary triple_words triples
+  pub placed : AllByRecursion (IsPlaced height width) triples
+  pub once : NameOnce triples
+  pub matrix : m ≡ matrix_of_triples height width triples
+
 -- a row and a column of a place that is not taken
 abbrev pub free_place : ℕ → ℕ → (ℕ → ℕ → Bool) → Text → Result ((ℕ × ℕ) × Text) (Fault TextKind)
 free_place height width is_taken text = do
@@ -54,7 +94,7 @@ matrix_by_triples binary height width n text = do
   triples ← times (another_triple binary height width) n [] text
   Ok (matrix_of_triples height width triples.0, triples.1)
 
--- the matrix that a sparse text stands for, or its first fault
+-- reading: the matrix that a sparse text stands for, or its first fault
 abbrev pub sparse : Bool → Text → Result Matrix (Fault TextKind)
 sparse binary text = do
   height ← field Short (limited 1000 TooManyRows) text

@@ -1,12 +1,40 @@
 -- Submatrix texts: the matrix's sizes, two counts, and then so many rows and so many columns.
-use Rattle.std.specs.Prelude.{◌-◌, ◌+◌, ◌++◌, ℕ, List, [], ◌∷◌, fold, Result, Ok}
+use Rattle.std.specs.Prelude.{◌≡◌, ◌-◌, ◌+◌, ◌++◌, ℕ, List, [], ◌∷◌, length, map, fold, Result, Ok}
+use Rattle.std.specs.List.Sorted.{IsStrictlyIncreasing}
+use Rattle.cmr_base.specs.LineSets.{AllBelow}
 use Rattle.cmr_base.specs.declared.line_set.LineSet.{LineSet}
 use Rattle.text_fields.specs.Words.{Text}
 use Rattle.text_fields.specs.Result.{◌>>=◌}
+use Rattle.text_fields.specs.Numbers.{count_in}
+use Rattle.text_fields.specs.Spelling.{Spell}
 use Rattle.text_fields.specs.Reading.{Fault, field, times, ended}
 use Rattle.matrix_text.specs.declared.error.TextKind.{TextKind}
 use Rattle.matrix_text.specs.declared.error.TextKind.TheVariants.{Short, Extra, RowOutOfRange, ColumnOutOfRange}
 use Rattle.matrix_text.specs.Values.{own_size, limited, rising_line_in}
+
+-- the numbers of lines, counted from 1
+abbrev pub numbers_of : List ℕ → List ℕ
+numbers_of lines = map (λ line. line + 1) lines
+
+-- these words are a submatrix text of the lines, in a matrix of these sizes
+pub record IsSubmatrix (height width : ℕ) (words : List (List ℕ)) (lines : LineSet) : Type 0 where
+  pub height_word : List ℕ
+  pub width_word : List ℕ
+  pub row_count_word : List ℕ
+  pub column_count_word : List ℕ
+  pub row_words : List (List ℕ)
+  pub column_words : List (List ℕ)
+  pub words_are : words ≡ height_word ∷ width_word ∷ row_count_word ∷ column_count_word ∷ (row_words ++ column_words)
+  pub height_is : count_in height_word ≡ Ok height
+  pub width_is : count_in width_word ≡ Ok width
+  pub row_count : count_in row_count_word ≡ Ok (length lines.rows)
+  pub column_count : count_in column_count_word ≡ Ok (length lines.columns)
+  pub rows_are : Spell count_in row_words (numbers_of lines.rows)
+  pub columns_are : Spell count_in column_words (numbers_of lines.columns)
+  pub rows_rise : IsStrictlyIncreasing lines.rows
+  pub columns_rise : IsStrictlyIncreasing lines.columns
+  pub rows_in : AllBelow height lines.rows
+  pub columns_in : AllBelow width lines.columns
 
 -- the number of the last line, counted from 1; 0 where there is none
 abbrev pub last_number : List ℕ → ℕ
@@ -22,7 +50,7 @@ another_line most outside lines text = do
 abbrev pub rising_lines : ℕ → TextKind → ℕ → Text → Result (List ℕ × Text) (Fault TextKind)
 rising_lines most outside n text = times (another_line most outside) n [] text
 
--- the lines that a submatrix text names in a matrix of these sizes, or its first fault
+-- reading: the lines that a submatrix text names in a matrix of these sizes, or its first fault
 abbrev pub submatrix : ℕ → ℕ → Text → Result LineSet (Fault TextKind)
 submatrix height width text = do
   same_height ← field Short (own_size height) text

@@ -1,10 +1,12 @@
 // Sparse texts.
-ghost use Rattle.std.specs.Prelude.{◌≡◌, ◌≤◌, ◌<◌, ◌*◌, ◌+◌, ◌-◌, ℕ, length, map, fold, IfOk, OnOk, slice_index_or, false};
+ghost use Rattle.std.specs.Prelude.{◌≡◌, ◌≤◌, ◌<◌, ◌*◌, ◌+◌, ◌-◌, ℕ, length, map, fold, Ok, IfOk, OnOk, slice_index_or, true, false};
 ghost use Rattle.cmr_base.specs.Matrix.{Matrix, IsEntry, height, row_of};
 ghost use Rattle.text_fields.specs.Words.{text_of};
+ghost use Rattle.text_fields.specs.Spelling.{words_in};
 ghost use Rattle.text_fields.specs.Reading.{Gives, Reads};
 ghost use Rattle.text_fields.specs.Written.{with_line};
-ghost use Rattle.matrix_text.specs.Sparse.{Triple, sparse, free_place, matrix_by_triples};
+ghost use Rattle.matrix_text.specs.Values.{IsBinary};
+ghost use Rattle.matrix_text.specs.Sparse.{Triple, IsSparse, sparse, free_place, matrix_by_triples};
 ghost use Rattle.matrix_text.specs.Canonical.{sparse_text, row_triples, triple_line};
 
 use crate::error::{TextError, TextKind};
@@ -16,6 +18,17 @@ use text_fields::{Words, Writer};
 /// The matrix that a sparse text stands for, or the text's first fault. Memory is taken by the matrix's sizes, and
 /// not by the count of triples.
 pub fn read_sparse(alloc: Global, bytes: &[u8], binary: bool) -> Result<Matrix, TextError>
+    // What is read is a sparse text of the matrix.
+    ensures found { IfOk result (IsSparse binary (words_in bytes.now)) }
+    // A sparse text of a matrix is read as this matrix, unless memory runs out.
+    ensures only { (m : Matrix) → IsSparse binary (words_in bytes.now) m → Gives (λ m. m) result (Ok m) }
+    // Which fault is the first.
+    ensures exact { Gives (λ m. m) result (sparse binary (text_of bytes.now)) }
+{
+    sparse_matrix(alloc, bytes, binary)
+}
+
+fn sparse_matrix(alloc: Global, bytes: &[u8], binary: bool) -> Result<Matrix, TextError>
     ensures { Gives (λ m. m) result (sparse binary (text_of bytes.now)) }
 {
     let mut words = Words::new(bytes);
@@ -75,7 +88,10 @@ fn free_place(
 
 /// The canonical sparse text of a matrix.
 pub fn write_sparse(alloc: Global, matrix: &Matrix) -> Result<Vec<u8>, Memory>
-    ensures { IfOk result (λ v. v.items ≡ sparse_text matrix.now) }
+    ensures text { IfOk result (λ v. v.items ≡ sparse_text matrix.now) }
+    // It is read again as the same matrix, as a 0/1 matrix too where no entry is -1.
+    ensures again { IfOk result (λ v. sparse false (text_of v.items) ≡ Ok matrix.now) }
+    ensures binary_again { IsBinary matrix.now → IfOk result (λ v. sparse true (text_of v.items) ≡ Ok matrix.now) }
 {
     let mut text = Writer::new(alloc);
     text.numbers(&[matrix.rows(), matrix.columns(), matrix.nonzeros()])?;

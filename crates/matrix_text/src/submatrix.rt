@@ -1,11 +1,13 @@
 // Submatrix texts.
-ghost use Rattle.std.specs.Prelude.{◌≡◌, ◌≤◌, false, map, IfOk, OnOk};
+ghost use Rattle.std.specs.Prelude.{◌≡◌, ◌≤◌, false, map, Ok, IfOk, OnOk};
+ghost use Rattle.cmr_base.specs.declared.line_set.LineSet.{LineSet};
 ghost use Rattle.cmr_base.specs.LineSets.{AllBelow};
 ghost use Rattle.text_fields.specs.Words.{text_of};
+ghost use Rattle.text_fields.specs.Spelling.{words_in};
 ghost use Rattle.text_fields.specs.Reading.{Gives, Reads};
 ghost use Rattle.text_fields.specs.Written.{with_line};
 ghost use Rattle.matrix_text.specs.Canonical.{submatrix_text, number_of_line};
-ghost use Rattle.matrix_text.specs.Submatrix.{submatrix, rising_lines};
+ghost use Rattle.matrix_text.specs.Submatrix.{IsSubmatrix, submatrix, rising_lines};
 
 use crate::error::{TextError, TextKind};
 use crate::field;
@@ -20,6 +22,17 @@ pub fn read_submatrix(
     rows: u32,
     columns: u32,
 ) -> Result<LineSet, TextError>
+    // What is read is a submatrix text of the lines.
+    ensures found { IfOk result (IsSubmatrix rows columns (words_in bytes.now)) }
+    // A submatrix text of some lines is read as these lines, unless memory runs out.
+    ensures only { (lines : LineSet) → IsSubmatrix rows columns (words_in bytes.now) lines → Gives (λ lines. lines) result (Ok lines) }
+    // Which fault is the first.
+    ensures exact { Gives (λ lines. lines) result (submatrix rows columns (text_of bytes.now)) }
+{
+    lines_of_text(alloc, bytes, rows, columns)
+}
+
+fn lines_of_text(alloc: Global, bytes: &[u8], rows: u32, columns: u32) -> Result<LineSet, TextError>
     ensures { Gives (λ lines. lines) result (submatrix rows columns (text_of bytes.now)) }
 {
     let mut words = Words::new(bytes);
@@ -71,7 +84,9 @@ pub fn write_submatrix(
     requires columns { columns ≤ MAX_COLUMNS }
     requires rows_in { AllBelow rows lines.now.rows }
     requires columns_in { AllBelow columns lines.now.columns }
-    ensures { IfOk result (λ v. v.items ≡ submatrix_text rows columns lines.now) }
+    ensures text { IfOk result (λ v. v.items ≡ submatrix_text rows columns lines.now) }
+    // It is read again as the same lines.
+    ensures again { IfOk result (λ v. submatrix rows columns (text_of v.items) ≡ Ok lines.now) }
 {
     let mut text = Writer::new(alloc);
     let row_count = lines.rows.len() as u32;

@@ -1,14 +1,14 @@
 -- Decimals are words that stand for their numbers.
-use Rattle.std.proofs.Common.{◌≡◌, ◌<◌, ◌≤◌, ◌+◌, ◌*◌, ◌-◌, ◌^◌, ◌∙◌, ◌&&◌, cond, eqb, ltb, ℕ, Bool, true, false, List, [], ◌∷◌, length, Ok, refl, ap, sym, subst, arith, rules}
-use Rattle.std.specs.Prelude.{fold, nat_lt}
-use Rattle.std.specs.List.{list_all, AllByRecursion}
+use Rattle.std.proofs.Common.{◌≡◌, ◌<◌, ◌+◌, ◌*◌, ◌-◌, ◌^◌, ◌∙◌, eqb, ltb, ℕ, true, false, List, [], ◌∷◌, length, Ok, refl, ap, sym, subst, arith, rules}
+use Rattle.std.specs.Prelude.{fold}
+use Rattle.std.specs.List.{list_all}
 use Rattle.std.specs.Char.{is_ascii_digit}
 use Rattle.std.specs.Fmt.{decimal}
 use Rattle.std.proofs.lemmas.Fmt.{digits_decimal, digits_value-decimal, decimal_nonempty}
 use Rattle.std.proofs.lemmas.Str.Parse.{IsNumeralModel, numerals_by_fold}
 use Rattle.std.proofs.lemmas.Bool.Decides.{nat_tests}
 use Rattle.text_fields.specs.Words.{is_space}
-use Rattle.text_fields.specs.Numbers.{number_of, magnitude, after_plus, count_in}
+use Rattle.text_fields.specs.Numbers.{number_of, count_in}
 use Rattle.text_fields.proofs.LineWords.{IsSolid, IsWord}
 
 abbrev read_on : ℕ → List ℕ → ℕ

@@ -1,4 +1,4 @@
-use Rattle.std.proofs.Common.{◌≡◌, ◌<◌, ◌≤◌, ◌∙◌, ◌+◌, ◌++◌, ◌∷◌, [], ℕ, ℤ, false, List, length, get_or, refl, ap, map, drop, sym, arith}
+use Rattle.std.proofs.Common.{true, ◌≡◌, ◌<◌, ◌≤◌, ◌∙◌, ◌+◌, ◌++◌, ◌∷◌, [], ℕ, ℤ, false, List, length, get_or, refl, ap, map, drop, sym, arith}
 use Rattle.std.specs.Prelude.{fold}
 use Rattle.std.specs.Fmt.{decimal}
 use Rattle.std.proofs.lemmas.List.{drop_more, drop_all, map-append}
@@ -7,6 +7,9 @@ use Rattle.cmr_base.specs.Matrix.{height, nonzeros_of}
 use Rattle.text_fields.specs.Written.{Draft, with_line, text_of_lines}
 use Rattle.text_fields.proofs.Lines.{lines_written, lines_end}
 use Rattle.matrix_text.specs.Canonical.{triple_line, row_triples, triples_from}
+use Rattle.text_fields.specs.Words.{text_of}
+use Rattle.matrix_text.specs.Sparse.{sparse}
+use Rattle.matrix_text.proofs.SparseAgain.{sparse_again}
 use Rattle.matrix_text.proofs.sparse.write_sparse.Goals as goal
 
 -- the lines of a row before those of the rows behind it
@@ -30,8 +33,8 @@ loop-row-preserved c =
       at_start = lines_end c.loop-row.text here c.loop-row.invariant.at_start;
     })
 
-pub returns : goal.returns
-returns c =
+pub returns-clause-text : goal.returns-clause-text
+returns-clause-text c =
     let rows = c.args.matrix.now.rows in
     let past : length rows ≤ c.loop-row.row = omega (arith, c.rows-row-end.ensures.rows) in
     let first : c.numbers.new.self ≡ with_line (record { bytes = []; is_begun = false }) (decimal (height c.args.matrix.now) ∷ decimal c.args.matrix.now.width ∷ decimal (nonzeros_of rows) ∷ []) =
@@ -43,3 +46,9 @@ returns c =
     ∙ ap (λ (d : Draft). d.bytes) all
     ∙ lines_written c.numbers.new.self (map triple_line (triples_from 1 rows))
     ∙ ap (λ (d : Draft). d.bytes ++ text_of_lines (map triple_line (triples_from 1 rows))) first
+
+pub returns-clause-again : goal.returns-clause-again
+returns-clause-again c = ap (λ text. sparse false (text_of text)) (returns-clause-text c) ∙ sparse_again false c.args.matrix.now c.rows.ensures.shape (λ h. absurd (cc))
+
+pub returns-clause-binary_again : goal.returns-clause-binary_again
+returns-clause-binary_again c = λ is_binary. ap (λ text. sparse true (text_of text)) (returns-clause-text c) ∙ sparse_again true c.args.matrix.now c.rows.ensures.shape (λ h. is_binary)

@@ -1,4 +1,9 @@
-use Rattle.std.proofs.Common.{arith}
+use Rattle.std.proofs.Common.{◌≡◌, ap, ◌∙◌, arith}
+use Rattle.std.proofs.lemmas.Grind.{common_steps}
+use Rattle.text_fields.specs.Words.{text_of}
+use Rattle.matrix_text.specs.Submatrix.{submatrix}
+use Rattle.matrix_text.specs.Canonical.{submatrix_text}
+use Rattle.matrix_text.proofs.SubmatrixAgain.{submatrix_again}
 use Rattle.matrix_text.proofs.Lines.{rising_count}
 use Rattle.matrix_text.proofs.submatrix.write_submatrix.Goals as goal
 
@@ -7,3 +12,8 @@ overflow_cast-row_count c = let few = rising_count c.args.rows c.args.lines.now.
 
 pub overflow_cast-column_count : goal.overflow_cast-column_count
 overflow_cast-column_count c = let few = rising_count c.args.columns c.args.lines.now.columns c.len-column_count.ensures.rising c.requires.columns_in in omega (arith, c.len-column_count.ensures.len)
+
+pub returns-clause-again : goal.returns-clause-again
+returns-clause-again c =
+    let text : c.into_bytes.result.items ≡ submatrix_text c.args.rows c.args.columns c.args.lines.now = grind (arith, common_steps) in
+    ap (λ text. submatrix c.args.rows c.args.columns (text_of text)) text ∙ submatrix_again c.args.rows c.args.columns c.args.lines.now c.requires.rows c.requires.columns c.len-row_count.ensures.rising c.len-column_count.ensures.rising c.requires.rows_in c.requires.columns_in

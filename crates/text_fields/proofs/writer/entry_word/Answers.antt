@@ -1,4 +1,4 @@
-use Rattle.std.proofs.Common.{◌≡◌, ℤ, pos, negsuc, sym, arith, rules}
+use Rattle.std.proofs.Common.{◌≡◌, pos, negsuc, sym, arith, rules}
 use Rattle.std.proofs.lemmas.Int.{ints}
 use Rattle.text_fields.proofs.Entries.{zero_text, one_text, minus_one_text}
 use Rattle.text_fields.proofs.writer.entry_word.Goals as goal

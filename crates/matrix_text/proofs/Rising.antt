@@ -1,0 +1,117 @@
+-- Rising lists of lines, read one after another.
+use Rattle.std.proofs.Common.{◌≡◌, ◌<◌, ◌≤◌, ◌+◌, ◌-◌, ◌∙◌, ℕ, zero, suc, true, List, [], ◌∷◌, ◌++◌, length, get_or, cond, ltb, Ok, Err, refl, ap, sym, subst, append_assoc, arith}
+use Rattle.std.specs.List.Sorted.{IsStrictlyIncreasing}
+use Rattle.std.proofs.lemmas.Bool.Decides.{nat_tests}
+use Rattle.std.proofs.lemmas.List.{append-nil}
+use Rattle.std.proofs.lemmas.List.Sums.{fold_push}
+use Rattle.cmr_base.specs.LineSets.{AllBelow}
+use Rattle.text_fields.specs.Words.{Text}
+use Rattle.text_fields.specs.Numbers.{count_in}
+use Rattle.text_fields.specs.Spelling.{texts_of, Spell}
+use Rattle.text_fields.specs.Reading.{field, times}
+use Rattle.text_fields.proofs.Results.{bind_ok, guard_ok, ok_same, renamed_ok}
+use Rattle.text_fields.proofs.Fields.{field_ok}
+use Rattle.matrix_text.specs.declared.error.TextKind.{TextKind}
+use Rattle.matrix_text.specs.declared.error.TextKind.TheVariants.{Short, NotRising}
+use Rattle.matrix_text.specs.Kinds.{text_kind}
+use Rattle.matrix_text.specs.Values.{line_in, rising_line_in}
+use Rattle.matrix_text.specs.Submatrix.{numbers_of, last_number, another_line}
+use Rattle.matrix_text.proofs.Lines.{line_in_ok, line_in_again}
+
+-- each line from low on and below high, and above the one before it
+abbrev pub RisesIn : ℕ → ℕ → List ℕ → Type 0
+RisesIn low high [] = Unit {0}
+RisesIn low high (line ∷ lines) = (low ≤ line) × (line < high) × RisesIn (line + 1) high lines
+
+pub rises_in : (low high : ℕ) (lines : List ℕ) → IsStrictlyIncreasing lines → AllBelow high lines → (0 < length lines → low ≤ get_or lines 0 0) → RisesIn low high lines
+rises_in low high [] rises below from = tt
+rises_in low high (line ∷ lines) rises below from = (
+  from (omega arith),
+  below 0 (omega arith),
+  rises_in (line + 1) high lines (λ k h. let next : suc k + 1 ≡ suc (k + 1) = omega arith in subst (λ n. get_or lines k 0 < get_or (line ∷ lines) n 0) next (rises (suc k) (omega arith))) (λ k h. below (suc k) (omega arith)) (λ h. let up = rises 0 (omega arith) in omega (arith, up)),
+)
+
+pub increasing : (low high : ℕ) (lines : List ℕ) → RisesIn low high lines → IsStrictlyIncreasing lines
+increasing low high [] rises k h = absurd (omega arith)
+increasing low high (line ∷ []) rises k h = absurd (omega arith)
+increasing low high (line ∷ next ∷ lines) rises zero h = omega (arith, rises.2.0)
+increasing low high (line ∷ next ∷ lines) rises (suc k) h =
+    let more : suc k + 1 ≡ suc (k + 1) = omega arith in
+    subst (λ n. get_or (next ∷ lines) k 0 < get_or (line ∷ next ∷ lines) n 0) (sym more) (increasing (line + 1) high (next ∷ lines) rises.2 k (omega arith))
+
+pub all_below : (low high : ℕ) (lines : List ℕ) → RisesIn low high lines → AllBelow high lines
+all_below low high [] rises k h = absurd (omega arith)
+all_below low high (line ∷ lines) rises zero h = rises.1
+all_below low high (line ∷ lines) rises (suc k) h = all_below (line + 1) high lines rises.2 k (omega arith)
+
+rising_line_ok : (most : ℕ) (outside : TextKind) (before : ℕ) (word : List ℕ) (n : ℕ) → rising_line_in most outside before word ≡ Ok n → (count_in word ≡ Ok n) × (0 < n) × (n ≤ most) × (before < n)
+rising_line_ok most outside before word n h =
+    let b = bind_ok (line_in most outside word) (λ k. cond (ltb before k) (Ok k) (Err NotRising)) n h in
+    let g = guard_ok (ltb before b.0) b.0 n NotRising b.2 in
+    let l = line_in_ok most outside word b.0 b.1 in
+    let above : before < b.0 = grind (arith, nat_tests, g.0) in
+    (renamed_ok text_kind (count_in word) b.0 l.0 ∙ ap Ok g.1, omega (arith, g.1, l.1), omega (arith, g.1, l.2), omega (arith, g.1))
+
+rising_line_again : (most : ℕ) (outside : TextKind) (before : ℕ) (word : List ℕ) (n : ℕ) → count_in word ≡ Ok n → 0 < n → n ≤ most → before < n → rising_line_in most outside before word ≡ Ok n
+rising_line_again most outside before word n h some within above =
+    let t : ltb before n ≡ true = grind (arith, nat_tests) in
+    rw (line_in_again most outside word n h some within, t) refl
+
+-- so many lines were read, behind those before them
+pub record AreLines (most n : ℕ) (text : Text) (before lines : List ℕ) (rest : Text) : Type 0 where
+  pub front : List (ℕ × List ℕ)
+  pub read : List ℕ
+  pub words_are : text.words ≡ front ++ rest.words
+  pub lines_are : lines ≡ before ++ read
+  pub spell : Spell count_in (texts_of front) (numbers_of read)
+  pub count : length read ≡ n
+  pub rises : RisesIn (last_number before) most read
+
+another_line_ok : (most : ℕ) (outside : TextKind) (before : List ℕ) (text : Text) (next : List ℕ × Text) → another_line most outside before text ≡ Ok next
+    → (number : ℕ) × (field Short (rising_line_in most outside (last_number before)) text ≡ Ok (number, next.1)) × (next.0 ≡ before ++ (number - 1) ∷ [])
+another_line_ok most outside before text next h =
+    let b = bind_ok (field Short (rising_line_in most outside (last_number before)) text) (λ (number : ℕ × Text). Ok (before ++ (number.0 - 1) ∷ [], number.1)) next h in
+    let e = ok_same (before ++ (b.0.0 - 1) ∷ [], b.0.1) next b.2 in
+    (b.0.0, b.1 ∙ ap (λ (p : List ℕ × Text). Ok (b.0.0, p.1)) e, sym (ap (λ (p : List ℕ × Text). p.0) e))
+
+pub lines_ok : (most : ℕ) (outside : TextKind) (n : ℕ) (before : List ℕ) (text : Text) (lines : List ℕ) (rest : Text) → times (another_line most outside) n before text ≡ Ok (lines, rest) → AreLines most n text before lines rest
+lines_ok most outside zero before text lines rest h =
+    let e = ok_same (before, text) (lines, rest) h in
+    record {
+      front = [];
+      read = [];
+      words_are = ap (λ (p : List ℕ × Text). (p.1).words) e;
+      lines_are = sym (ap (λ (p : List ℕ × Text). p.0) e) ∙ sym (append-nil before);
+      spell = tt;
+      count = refl;
+      rises = tt;
+    }
+lines_ok most outside (suc n) before text lines rest h =
+    let b = bind_ok (another_line most outside before text) (λ (next : List ℕ × Text). times (another_line most outside) n next.0 next.1) (lines, rest) h in
+    let one = another_line_ok most outside before text b.0 b.1 in
+    let first = field_ok Short (rising_line_in most outside (last_number before)) text one.0 b.0.1 one.1 in
+    let ok = rising_line_ok most outside (last_number before) first.word.1 one.0 first.parsed in
+    let later = lines_ok most outside n b.0.0 b.0.1 lines rest b.2 in
+    let number : one.0 ≡ (one.0 - 1) + 1 = omega (arith, ok.1) in
+    let last : last_number b.0.0 ≡ (one.0 - 1) + 1 = ap last_number one.2 ∙ fold_push (λ (before line : ℕ). line + 1) 0 before (one.0 - 1) in
+    record {
+      front = first.word ∷ later.front;
+      read = (one.0 - 1) ∷ later.read;
+      words_are = first.words_are ∙ ap (λ words. first.word ∷ words) later.words_are;
+      lines_are = later.lines_are ∙ ap (λ front. front ++ later.read) one.2 ∙ append_assoc before ((one.0 - 1) ∷ []) later.read;
+      spell = (ok.0 ∙ ap Ok number, later.spell);
+      count = ap suc later.count;
+      rises = (omega (arith, ok.3), omega (arith, ok.1, ok.2), subst (λ low. RisesIn low most later.read) last later.rises);
+    }
+
+-- words that spell rising lines are read as these lines
+pub lines_again : (most : ℕ) (outside : TextKind) (size : ℕ) (words later : List (ℕ × List ℕ)) (before lines : List ℕ) → Spell count_in (texts_of words) (numbers_of lines) → RisesIn (last_number before) most lines
+    → times (another_line most outside) (length lines) before (record { size = size; words = words ++ later }) ≡ Ok (before ++ lines, record { size = size; words = later })
+lines_again most outside size [] later before [] spell rises = ap (λ lines. Ok (lines, record { size = size; words = later })) (sym (append-nil before))
+lines_again most outside size [] later before (line ∷ lines) spell rises = absurd spell
+lines_again most outside size (word ∷ words) later before [] spell rises = absurd spell
+lines_again most outside size (word ∷ words) later before (line ∷ lines) spell rises =
+    let one = rising_line_again most outside (last_number before) word.1 (line + 1) spell.0 (omega arith) (omega (arith, rises.1)) (omega (arith, rises.0)) in
+    let back : line + 1 - 1 ≡ line = omega arith in
+    let last = fold_push (λ (before line : ℕ). line + 1) 0 before line in
+    rw (one, back) (lines_again most outside size words later (before ++ line ∷ []) lines spell.1 (subst (λ low. RisesIn low most lines) (sym last) rises.2) ∙ ap (λ ls. Ok (ls, record { size = size; words = later })) (append_assoc before (line ∷ []) lines))

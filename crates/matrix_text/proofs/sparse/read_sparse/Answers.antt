@@ -1,0 +1,9 @@
+use Rattle.text_fields.specs.Words.{text_of}
+use Rattle.matrix_text.proofs.SparseTexts.{found, only}
+use Rattle.matrix_text.proofs.sparse.read_sparse.Goals as goal
+
+pub returns-clause-found : goal.returns-clause-found
+returns-clause-found c = found c.args.binary (text_of c.args.bytes.now) c.sparse_matrix.result c.sparse_matrix.ensures
+
+pub returns-clause-only : goal.returns-clause-only
+returns-clause-only c = only c.args.binary (text_of c.args.bytes.now) c.sparse_matrix.result c.sparse_matrix.ensures
