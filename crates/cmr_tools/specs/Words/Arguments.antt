@@ -1,10 +1,12 @@
 -- The arguments that the tools share. `clap` defines what a command makes of its words.
-use Rattle.std.specs.Prelude.{ℕ, ◌-◌, Bool, true, false, List, [], ◌∷◌, length, take, slice_get, Option, Some, None, if◌then◌else◌, codes, unwrap_or}
+use Rattle.std.specs.Prelude.{ℕ, pos, ◌-◌, Bool, true, false, List, [], ◌∷◌, length, take, slice_get, Option, Some, None, if◌then◌else◌, codes, unwrap_or}
 use Rattle.std.specs.List.{list_any}
 use Rattle.std.specs.Option.{option_map_or}
 use Rattle.std.specs.Str.{bytes_eq}
+use Rattle.std.specs.Str.Parse.{digits_value, without_leading_sign}
 use Rattle.clap.specs.Words.{App, Kinds, Row, Rule, Text, fault_of, first_of, matches_of, new_app, new_rule}
 use Rattle.clap.specs.Simple.{on_top}
+use Rattle.clap.specs.ValueTests.{is_signed_in}
 use Rattle.clap.specs.declared.builder.action.ArgAction.TheVariants.{Set}
 use Rattle.cmr_tools.specs.declared.options.MatrixForm.{MatrixForm}
 use Rattle.cmr_tools.specs.declared.options.MatrixForm.TheVariants.{Dense, Sparse}
@@ -26,6 +28,14 @@ value_rule id letter = record (new_rule id) { short = Some letter; action = Some
 -- [-i FORMAT]
 abbrev pub form_rule : Rule
 form_rule = value_rule (codes "format") 105
+
+-- [--lines L]
+abbrev pub lines_rule : Rule
+lines_rule = record (new_rule (codes "lines")) { long = Some (codes "lines"); action = Some Set }
+
+-- [-E FILE]
+abbrev pub fault_rule : Rule
+fault_rule = value_rule (codes "fault") 69
 
 -- [FILE]
 abbrev pub file_rule : Rule
@@ -65,6 +75,19 @@ form_named name = if bytes_eq name (codes "dense") then Some Dense
 -- FORMAT, dense where it is left out
 abbrev pub form_in : List Row → Option MatrixForm
 form_in rows = option_map_or form_named (first_of (codes "format") rows) (Some Dense)
+
+-- a number from 0 to `most`, as clap's parsers of numbers with a range take it
+abbrev pub number_up_to : ℕ → Text → Option ℕ
+number_up_to most text = if is_signed_in (pos 0) (pos most) text
+    then Some (digits_value 10 (without_leading_sign text)) else None
+
+-- L is 0 to 24, and 14 where it is left out
+abbrev pub lines_in : List Row → Option ℕ
+lines_in rows = option_map_or (number_up_to 24) (first_of (codes "lines") rows) (Some 14)
+
+-- the file of `-E`
+abbrev pub fault_in : List Row → Option Text
+fault_in rows = first_of (codes "fault") rows
 
 -- FILE, standard input where it is left out
 abbrev pub file_in : List Row → Text

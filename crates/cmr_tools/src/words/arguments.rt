@@ -14,8 +14,17 @@ use std::alloc::{AllocError, Global};
 // The word that stands for standard input.
 const DASH: &str = "-";
 
+// L where it is left out, and the most that it may be.
+const USUAL_LINES: u32 = 14;
+
+const MOST_LINES: u32 = 24;
+
 // The ids of arguments.
 const FORMAT: &str = "format";
+
+const LINES: &str = "lines";
+
+const FAULT: &str = "fault";
 
 const FILE: &str = "file";
 
@@ -43,6 +52,22 @@ pub fn form_option<'a>(alloc: Global) -> Arg<'a>
     ensures local { result.global ≡ false }
 {
     value_option(alloc, FORMAT, 'i')
+}
+
+/// The option `--lines L`.
+pub fn lines_option<'a>(alloc: Global) -> Arg<'a>
+    ensures rule { rule_of result ≡ arguments.lines_rule }
+    ensures local { result.global ≡ false }
+{
+    Arg::new(alloc, LINES).long(LINES).action(ArgAction::Set)
+}
+
+/// The option `-E FILE`.
+pub fn fault_option<'a>(alloc: Global) -> Arg<'a>
+    ensures rule { rule_of result ≡ arguments.fault_rule }
+    ensures local { result.global ≡ false }
+{
+    value_option(alloc, FAULT, 'E')
 }
 
 /// The operand FILE.
@@ -121,6 +146,33 @@ pub fn form_in(matches: &ArgMatches<'_>) -> Result<MatrixForm, WordsError>
         Some("sparse") => Ok(MatrixForm::Sparse),
         Some(_) => Err(WordsError::Refused),
     }
+}
+
+// A number from 0 to `most`, as `clap` reads the numbers of a range: a sign may stand first.
+fn number_up_to(most: u32, text: &str) -> Option<u32>
+    ensures { result ≡ arguments.number_up_to most text.now }
+{
+    match text.parse::<i64>() {
+        Ok(number) if 0 <= number && number <= i64::from(most) => Some(number as u32),
+        _ => None,
+    }
+}
+
+/// The number L, 14 where it is left out.
+pub fn lines_in(matches: &ArgMatches<'_>) -> Result<u32, WordsError>
+    ensures { Gives (λ lines. lines) result (arguments.lines_in (rows_of (found_of matches.now))) }
+{
+    match value_in(matches, LINES) {
+        None => Ok(USUAL_LINES),
+        Some(text) => number_up_to(MOST_LINES, text).ok_or(WordsError::Refused),
+    }
+}
+
+/// The file of `-E`.
+pub fn fault_in<'a>(matches: &ArgMatches<'a>) -> Option<&'a str>
+    ensures { option_map (λ name. name.now) result ≡ arguments.fault_in (rows_of (found_of matches.now)) }
+{
+    value_in(matches, FAULT)
 }
 
 /// FILE, which is standard input where it is left out.

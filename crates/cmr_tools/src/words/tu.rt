@@ -1,4 +1,4 @@
-//! The words of `tu`: `[-i FORMAT] [FILE]`.
+//! The words of `tu`: `[-i FORMAT] [--lines L] [-E FILE] [FILE]`.
 ghost use Rattle.std.specs.Prelude.{◌≡◌, IfOk};
 ghost use Rattle.clap.specs.Words.{app_of, found_of, rows_of};
 ghost use Rattle.cmr_tools.specs.Words.Reading.{Gives};
@@ -15,7 +15,9 @@ fn tu_command<'a>(alloc: Global) -> Result<Command<'a>, AllocError>
 {
     let bare = arguments::bare_command(alloc, "tu");
     let with_form = arguments::add(bare, arguments::form_option(alloc))?;
-    arguments::add(with_form, arguments::file_operand(alloc))
+    let with_lines = arguments::add(with_form, arguments::lines_option(alloc))?;
+    let with_fault = arguments::add(with_lines, arguments::fault_option(alloc))?;
+    arguments::add(with_fault, arguments::file_operand(alloc))
 }
 
 fn options_in<'a>(matches: &ArgMatches<'a>) -> Result<TuOptions<'a>, WordsError>
@@ -23,6 +25,8 @@ fn options_in<'a>(matches: &ArgMatches<'a>) -> Result<TuOptions<'a>, WordsError>
 {
     Ok(TuOptions {
         form: arguments::form_in(matches)?,
+        lines: arguments::lines_in(matches)?,
+        fault: arguments::fault_in(matches),
         file: arguments::file_in(matches),
     })
 }
