@@ -7,7 +7,7 @@ use Rattle.clap.specs.Values.{IsSignedIn}
 use Rattle.clap.specs.ValueTests.{accepts, is_signed_in}
 use Rattle.clap.specs.declared.builder.value_parser.ValueParser.TheVariants as vp
 use Rattle.clap.proofs.ValueTestLemmas.{Accepts-accepts, accepts-Accepts}
-use Rattle.cmr_tools.specs.Words.Arguments.{number_up_to}
+use Rattle.cmr_tools.specs.Words.Parsing.{number_up_to}
 
 number_up_to-some : (most : ℕ) (text : List ℕ) → IsSignedIn (pos 0) (pos most) text → number_up_to most text ≡ Some (digits_value 10 (without_leading_sign text))
 number_up_to-some most text h = ap (λ (b : Bool). cond b (Some (digits_value 10 (without_leading_sign text))) None) (Accepts-accepts false (vp.Signed (pos 0) (pos most)) text h)

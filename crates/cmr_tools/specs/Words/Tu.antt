@@ -3,7 +3,8 @@ use Rattle.std.specs.Prelude.{ℕ, List, [], ◌∷◌, Option, Some, codes, opt
 use Rattle.clap.specs.Words.{App, Row, Text}
 use Rattle.cmr_tools.specs.declared.options.MatrixForm.{MatrixForm}
 use Rattle.cmr_tools.specs.declared.options.TuOptions.{TuOptions}
-use Rattle.cmr_tools.specs.Words.Arguments.{fault_in, fault_rule, file_in, file_rule, form_in, form_rule, lines_in, lines_rule, matches_with_input, tool_app}
+use Rattle.cmr_tools.specs.Words.Arguments.{fault_rule, file_rule, form_rule, lines_rule, tool_app}
+use Rattle.cmr_tools.specs.Words.Parsing.{fault_in, file_in, form_in, lines_in, matches_with_input}
 use Rattle.cmr_tools.specs.Words.Reading.{◌>>=◌}
 
 -- the options of `tu`

@@ -1,7 +1,7 @@
 use Rattle.std.proofs.Common.{arith}
 use Rattle.std.proofs.lemmas.Int.{ints}
 use Rattle.cmr_tools.proofs.Numbers.{number_read, number_up_to-none}
-use Rattle.cmr_tools.proofs.words.arguments.number_up_to.Goals as goal
+use Rattle.cmr_tools.proofs.words.parsing.number_up_to.Goals as goal
 
 pub returns-in-Ok : goal.returns-in-Ok
 returns-in-Ok c =
