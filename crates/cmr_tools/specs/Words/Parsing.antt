@@ -1,4 +1,4 @@
--- What the command of a tool makes of its words, and the values of the arguments that the tools share.
+-- What the command of a tool makes of its words, and the values of the arguments that tools share.
 use Rattle.std.specs.Prelude.{ℕ, pos, ◌-◌, Bool, false, List, [], ◌∷◌, length, take, slice_get, Option, Some, None, if◌then◌else◌, codes, unwrap_or}
 use Rattle.std.specs.List.{list_any}
 use Rattle.std.specs.Option.{option_map_or}

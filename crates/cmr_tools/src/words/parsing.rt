@@ -1,4 +1,4 @@
-//! What the command of a tool makes of its words, and the values of the arguments that the tools share.
+//! What the command of a tool makes of its words, and the values of the arguments that tools share.
 ghost use Rattle.std.specs.Prelude.{◌≡◌, true, option_map};
 ghost use Rattle.std.specs.List.{list_any};
 ghost use Rattle.clap.specs.Words.{app_of, first_of, found_of, is_simple_and_free, rows_of};
@@ -103,7 +103,8 @@ pub fn lines_in(matches: &ArgMatches<'_>) -> Result<u32, WordsError>
 
 /// The file of `-E`.
 pub fn fault_in<'a>(matches: &ArgMatches<'a>) -> Option<&'a str>
-    ensures { option_map (λ name. name.now) result ≡ parsing.fault_in (rows_of (found_of matches.now)) }
+    ensures { option_map (λ name. name.now) result
+        ≡ parsing.fault_in (rows_of (found_of matches.now)) }
 {
     value_in(matches, FAULT)
 }
