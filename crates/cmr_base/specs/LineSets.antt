@@ -1,8 +1,9 @@
 -- Sets of rows and of columns, and the submatrix on them.
-use Rattle.std.specs.Prelude.{◌<◌, ◌+◌, ◌^◌, ◌/◌, ◌%◌, ◌==◌, if◌then◌else◌, not, filter, ℕ, zero, suc, List, [], ◌∷◌, length, map, slice_index}
+use Rattle.std.specs.Prelude.{◌<◌, ◌+◌, ◌^◌, ◌/◌, ◌%◌, ◌==◌, if◌then◌else◌, not, filter, ℕ, zero, suc, ℤ, List, [], ◌∷◌, length, map, slice_index}
 use Rattle.std.specs.List.{range_with_len}
 use Rattle.std.specs.List.Sorted.{IsStrictlyIncreasing}
 use Rattle.cmr_base.specs.Matrix.{Matrix, height, entry}
+use Rattle.cmr_base.specs.Sums.{sum_over}
 
 -- a set of rows: their numbers, rising
 pub record IsRowSet (m : Matrix) (rows : List ℕ) : Type 0 where
@@ -40,3 +41,7 @@ abbrev pub set_numbered : ℕ → ℕ → ℕ → List ℕ
 set_numbered zero first number = []
 set_numbered (suc count) first number =
     if number % 2 == 1 then first ∷ set_numbered count (first + 1) (number / 2) else set_numbered count (first + 1) (number / 2)
+
+-- the sum of the entries of a submatrix
+abbrev pub submatrix_sum : Matrix → List ℕ → List ℕ → ℤ
+submatrix_sum m rows columns = sum_over rows (λ row. sum_over columns (λ column. entry m row column))

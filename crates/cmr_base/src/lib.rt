@@ -6,6 +6,7 @@ mod indices;
 mod item_list;
 mod line_set;
 mod matrix;
+mod matrix_sum;
 mod memory;
 mod word;
 

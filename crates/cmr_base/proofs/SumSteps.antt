@@ -1,0 +1,22 @@
+-- Sums in a loop.
+use Rattle.std.proofs.Common.{ℕ, ◌+◌, ◌<◌, ◌≤◌, ℤ, pos, List, ◌∷◌, ◌≡◌, ◌+ℤ◌, ◌≤ℤ◌, get_or, drop, length, arith, w8, w32, to_z, of_z, neg_ℤ}
+use Rattle.std.proofs.lemmas.Int.{ints}
+use Rattle.std.proofs.lemmas.List.{drop_more}
+use Rattle.cmr_base.specs.Matrix.{IsEntry}
+use Rattle.cmr_base.specs.Sums.{sum_over}
+use Rattle.cmr_base.proofs.Integers.{sums}
+
+-- one more item
+pub sum_over-drop_more : (xs : List ℕ) (i : ℕ) (f : ℕ → ℤ) (old new : ℤ) → i < length xs → new ≡ old +ℤ f (get_or xs i 0) → old +ℤ sum_over (drop i xs) f ≡ sum_over xs f
+    → new +ℤ sum_over (drop (i + 1) xs) f ≡ sum_over xs f
+sum_over-drop_more xs i f old new h e so_far = step old new (f (get_or xs i 0)) (sum_over (drop (i + 1) xs) f) (sum_over (drop i xs) f) (sum_over xs f) e (first (drop_more xs i 0 h)) so_far
+  where
+    first : drop i xs ≡ get_or xs i 0 ∷ drop (i + 1) xs → sum_over (drop i xs) f ≡ f (get_or xs i 0) +ℤ sum_over (drop (i + 1) xs) f
+    first e = rw e (λ j. f (get_or xs i 0) +ℤ sum_over (drop (i + 1) xs) f)
+
+    step : (o n x r d t : ℤ) → n ≡ o +ℤ x → d ≡ x +ℤ r → o +ℤ d ≡ t → n +ℤ r ≡ t
+    step o n x r d t e f g = omega (arith, sums)
+
+-- an i32 keeps a sum of at most a thousand entries
+pub kept_entry : (old x : ℤ) (i : ℕ) → i ≤ 1000 → neg_ℤ (pos i) ≤ℤ old → old ≤ℤ pos i → IsEntry x → to_z w32 (of_z w32 (old +ℤ to_z w32 (of_z w32 (to_z w8 (of_z w8 x))))) ≡ old +ℤ x
+kept_entry old x i few low high small = let l = small.low in let h = small.high in omega (arith, ints)
