@@ -4,12 +4,14 @@
 
 mod indices;
 mod item_list;
+mod line_set;
 mod matrix;
 mod memory;
 mod word;
 
 pub use indices::Indices;
 pub use item_list::{ItemList, SignList, WordList};
+pub use line_set::LineSet;
 pub use matrix::{MAX_COLUMNS, MAX_ROWS, Matrix};
 pub use memory::Memory;
 pub use word::Word;
