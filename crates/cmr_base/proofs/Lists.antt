@@ -1,6 +1,6 @@
 -- What holds of each item of a list, and a list with one item more.
-use Rattle.std.proofs.Common.{◌≡◌, ◌++◌, ◌∙◌, Bool, true, false, ℤ, ◌+ℤ◌, List, [], ◌∷◌, refl, ap, sym, subst, arith}
-use Rattle.std.specs.List.{AllByRecursion}
+use Rattle.std.proofs.Common.{◌≡◌, ◌<◌, ◌++◌, ◌∙◌, ℕ, zero, suc, Bool, true, false, ℤ, ◌+ℤ◌, List, [], ◌∷◌, length, get_or, take, map, refl, ap, sym, subst, arith}
+use Rattle.std.specs.List.{AllByRecursion, Contains}
 use Rattle.cmr_base.specs.Sums.{sum_over}
 use Rattle.cmr_base.proofs.Integers.{sums}
 use Rattle.cmr_base.proofs.SumLaws.{sum_over-append}
@@ -77,3 +77,49 @@ IsJoined false item fewer more = more ≡ fewer
 pub joined_later : {A : Type 0} (yes : Bool) (x item : A) (fewer more : List A) → IsJoined yes item fewer more → IsJoined yes item (x ∷ fewer) (x ∷ more)
 joined_later true x item fewer more h = one_more_later x item fewer more h
 joined_later false x item fewer more h = ap (λ xs. x ∷ xs) h
+
+-- ---- by places
+
+pub all_at : {A : Type 0} (P : A → Type 0) (xs : List A) (k : ℕ) (d : A) → AllByRecursion P xs → k < length xs → P (get_or xs k d)
+all_at P [] k d all h = absurd (omega arith)
+all_at P (x ∷ xs) zero d all h = all.0
+all_at P (x ∷ xs) (suc k) d all h = all_at P xs k d all.1 (omega arith)
+
+pub all_by_places : {A : Type 0} (P : A → Type 0) (xs : List A) (d : A) → ((k : ℕ) → k < length xs → P (get_or xs k d)) → AllByRecursion P xs
+all_by_places P [] d h = tt
+all_by_places P (x ∷ xs) d h = (h zero (omega arith), all_by_places P xs d (λ k l. h (suc k) (omega arith)))
+
+pub all-take : {A : Type 0} (P : A → Type 0) (n : ℕ) (xs : List A) → AllByRecursion P xs → AllByRecursion P (take n xs)
+all-take P zero xs all = tt
+all-take P (suc n) [] all = tt
+all-take P (suc n) (x ∷ xs) all = (all.0, all-take P n xs all.1)
+
+pub all_contained : {A : Type 0} (P : A → Type 0) (xs : List A) (x : A) → AllByRecursion P xs → Contains xs x → P x
+all_contained P xs x all there = subst P there.2 (all_at P xs there.0 x all there.1)
+
+pub all-map : {A B : Type 0} (P : A → Type 0) (f : B → A) (xs : List B) → AllByRecursion (λ x. P (f x)) xs → AllByRecursion P (map f xs)
+all-map P f [] h = tt
+all-map P f (x ∷ xs) h = (h.0, all-map P f xs h.1)
+
+-- ---- membership
+
+pub contains_first : {A : Type 0} (x : A) (xs : List A) → Contains (x ∷ xs) x
+contains_first x xs = (zero, omega arith, refl)
+
+pub contains_later : {A : Type 0} (x y : A) (xs : List A) → Contains xs x → Contains (y ∷ xs) x
+contains_later x y xs there = (suc there.0, let h = there.1 in omega arith, there.2)
+
+pub all_contain : {A : Type 0} (xs : List A) → AllByRecursion (Contains xs) xs
+all_contain [] = tt
+all_contain (x ∷ xs) = (contains_first x xs, all_weaker (Contains xs) (Contains (x ∷ xs)) (λ y there. contains_later y x xs there) xs (all_contain xs))
+
+pub contains_one_more : {A : Type 0} (item : A) (fewer more : List A) → HasOneMore item fewer more → (x : A) → Contains (item ∷ fewer) x → Contains more x
+contains_one_more item fewer more h x there =
+    all_contained (Contains more) (item ∷ fewer) x (item_of_one_more (Contains more) item fewer more h (all_contain more), all_without (Contains more) item fewer more h (all_contain more)) there
+
+pub one_more_nil : {A : Type 0} (x : A) (xs : List A) → HasOneMore x [] xs → xs ≡ x ∷ []
+one_more_nil {A = A} x xs h = h.more_is ∙ go h.front h.back h.fewer_is
+  where
+    go : (front back : List A) → [] ≡ front ++ back → front ++ x ∷ back ≡ x ∷ []
+    go [] back e = ap (λ ys. x ∷ ys) (sym e)
+    go (y ∷ front) back e = absurd cc

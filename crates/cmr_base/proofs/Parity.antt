@@ -1,12 +1,8 @@
 -- Even and odd numbers, and multiples of four.
 use Rattle.std.proofs.Common.{◌≡◌, ◌+◌, ◌⊎◌, inl, inr, ℕ, zero, suc, ℤ, pos, negsuc, neg_ℤ, ◌+ℤ◌, ◌*ℤ◌, ◌-ℤ◌, List, [], ◌∷◌, refl, arith}
 use Rattle.std.specs.List.{AllByRecursion}
-use Rattle.cmr_base.specs.Sums.{sum_over, IsEven, IsTwoModFour}
+use Rattle.cmr_base.specs.Sums.{sum_over, IsEven, IsOdd, IsTwoModFour}
 use Rattle.cmr_base.proofs.Integers.{sums, products}
-
--- one less than an even number
-abbrev pub IsOdd : ℤ → Type 0
-IsOdd z = IsEven (z +ℤ pos 1)
 
 -- four times a whole number
 abbrev pub IsFour : ℤ → Type 0

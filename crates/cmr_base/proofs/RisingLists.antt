@@ -1,6 +1,6 @@
 -- Rising lists of numbers, and the rising list of what stands an odd number of times in a list.
-use Rattle.std.proofs.Common.{◌≡◌, ◌≢◌, ◌<◌, ◌≤◌, ◌+◌, ◌⊎◌, inl, inr, ℕ, zero, suc, Bool, true, false, cond, nat_eq, nat_lt, ℤ, pos, ◌+ℤ◌, ◌-ℤ◌, List, [], ◌∷◌, length, get_or, refl, ap, sym, subst, arith}
-use Rattle.std.specs.List.{AllByRecursion}
+use Rattle.std.proofs.Common.{◌≡◌, ◌≢◌, ◌<◌, ◌≤◌, ◌+◌, ◌⊎◌, inl, inr, ℕ, zero, suc, Bool, true, false, cond, nat_eq, nat_lt, ℤ, pos, ◌+ℤ◌, ◌-ℤ◌, List, [], ◌∷◌, length, take, get_or, map, refl, ap, sym, subst, arith}
+use Rattle.std.specs.List.{AllByRecursion, range_with_len}
 use Rattle.std.specs.List.Sorted.{IsStrictlyIncreasing}
 use Rattle.std.proofs.lemmas.Bool.{cases_eq}
 use Rattle.std.proofs.lemmas.Bool.Decides.{nat_tests}
@@ -32,6 +32,20 @@ pub rising_in_range : (low high : ℕ) (xs : List ℕ) → RisesIn low high xs �
 rising_in_range low high [] rises k h = absurd (omega arith)
 rising_in_range low high (x ∷ xs) rises zero h = rises.1
 rising_in_range low high (x ∷ xs) rises (suc k) h = rising_in_range (x + 1) high xs rises.2 k (omega arith)
+
+pub rising_at_least : (low high : ℕ) (xs : List ℕ) → RisesIn low high xs → (k : ℕ) → k < length xs → low ≤ get_or xs k 0
+rising_at_least low high [] rises k h = absurd (omega arith)
+rising_at_least low high (x ∷ xs) rises zero h = rises.0
+rising_at_least low high (x ∷ xs) rises (suc k) h = let from = rising_at_least (x + 1) high xs rises.2 k (omega arith) in omega (arith, rises.0)
+
+-- what stands before a place is below what stands there
+pub rising_front : (low high : ℕ) (xs : List ℕ) → RisesIn low high xs → (k : ℕ) → k < length xs → AllByRecursion (λ x. x < get_or xs k 0) (take k xs)
+rising_front low high [] rises k h = absurd (omega arith)
+rising_front low high (x ∷ xs) rises zero h = tt
+rising_front low high (x ∷ xs) rises (suc k) h = (
+  let from = rising_at_least (x + 1) high xs rises.2 k (omega arith) in omega arith,
+  rising_front (x + 1) high xs rises.2 k (omega arith),
+)
 
 next_above : (low high : ℕ) (xs : List ℕ) → RisesIn low high xs → (k : ℕ) → suc k < length xs → get_or xs k 0 < get_or xs (suc k) 0
 next_above low high [] rises k h = absurd (omega arith)
@@ -186,3 +200,21 @@ split_at low high n (x ∷ xs) rises = elim (cases_eq x n) [
         apart = (other, later.apart);
       }
 ]
+
+pub row_set_short : (m : Matrix) (rows : List ℕ) → IsStrictlyIncreasing rows → ((k : ℕ) → k < length rows → get_or rows k 0 < height m) → length rows ≤ height m
+row_set_short m rows rises inside = let short = rising_short 0 (height m) rows (row_set_rises m rows (record { rising = rises; in_range = inside })) (omega arith) in omega arith
+
+-- ---- ranges and maps
+
+pub rises-range : (first count high : ℕ) → high ≡ first + count → RisesIn first high (range_with_len first count)
+rises-range first zero high e = tt
+rises-range first (suc count) high e = (omega arith, omega arith, rises-range (first + 1) count high (omega arith))
+
+-- a rising function of rising numbers
+pub rises-map : (f : ℕ → ℕ) (low high from top : ℕ) (xs : List ℕ) → ((x y : ℕ) → x < y → y < high → f x < f y) → ((x : ℕ) → x < high → f x < top) → ((x : ℕ) → low ≤ x → x < high → from ≤ f x) → RisesIn low high xs → RisesIn from top (map f xs)
+rises-map f low high from top [] up below above rises = tt
+rises-map f low high from top (x ∷ xs) up below above rises = (
+  above x rises.0 rises.1,
+  below x rises.1,
+  rises-map f (x + 1) high (f x + 1) top xs up below (λ y h l. let higher : x < y = omega arith in omega (arith, up x y higher l)) rises.2,
+)

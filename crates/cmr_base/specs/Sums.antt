@@ -10,6 +10,10 @@ sum_over (x ∷ xs) f = f x +ℤ sum_over xs f
 abbrev pub IsEven : ℤ → Type 0
 IsEven z = (k : ℤ) × (z ≡ k +ℤ k)
 
+-- one less than an even number
+abbrev pub IsOdd : ℤ → Type 0
+IsOdd z = IsEven (z +ℤ pos 1)
+
 -- two more than a multiple of four
 abbrev pub IsTwoModFour : ℤ → Type 0
 IsTwoModFour z = (k : ℤ) × (z ≡ pos 2 +ℤ ((k +ℤ k) +ℤ (k +ℤ k)))

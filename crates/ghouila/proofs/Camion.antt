@@ -5,29 +5,26 @@ use Rattle.std.proofs.lemmas.Bool.{cases_lt, cases_eq}
 use Rattle.cmr_base.specs.Matrix.{IsEntry}
 use Rattle.cmr_base.specs.Signing.{IsSign}
 use Rattle.cmr_base.specs.Violator.{IsViolator}
-use Rattle.cmr_base.specs.Sums.{sum_over, IsEven}
+use Rattle.cmr_base.specs.Sums.{sum_over, IsEven, IsOdd}
 use Rattle.cmr_base.proofs.Integers.{sums, products}
-use Rattle.cmr_base.proofs.Parity.{IsOdd, even_or_odd}
+use Rattle.cmr_base.proofs.Parity.{even_or_odd}
 use Rattle.cmr_base.proofs.SumLaws.{sum_over-map}
 use Rattle.cmr_base.proofs.Lists.{IsJoined, one_more_first, all_without}
 use Rattle.cmr_base.proofs.RisingLists.{IsSplitAt, split_at, odd_times, all-odd_times, rises-odd_times}
 use Rattle.cmr_base.proofs.ViolatorLemmas.{violator-odd_times}
-use Rattle.ghouila.specs.Pivot.{pivoted}
-use Rattle.ghouila.proofs.PivotSums.{reduced, pivoted_at, pivoted_apart}
-use Rattle.ghouila.proofs.PivotBack.{HasParity, bit, violator_after, violator_before}
+use Rattle.ghouila.specs.Pivot.{reduced, pivoted, IsTernaryRow}
+use Rattle.ghouila.specs.Found.{HasParity, bit}
+use Rattle.ghouila.proofs.PivotSums.{pivoted_at, pivoted_apart}
+use Rattle.ghouila.proofs.PivotBack.{violator_after, violator_before}
 use Rattle.ghouila.proofs.SignedSums.{signed, entry_zero, zero_or_sign, pivot_sign, pivot_column_vanishes, column_keeps_sum, aside_entry}
 use Rattle.ghouila.proofs.Square.{small_or_square, square_violator}
 
--- in the first columns a row has entries -1, 0 and 1
-abbrev pub IsSmallRow : ℕ → (ℕ → ℤ) → Type 0
-IsSmallRow width f = (j : ℕ) → j < width → IsEntry (f j)
-
 -- a signing of these rows, as pairs of a row and its sign
-pub record SignsRows (width : ℕ) (M : ℕ → ℕ → ℤ) (R : List ℕ) : Type 0 where
+pub record SignsPairs (width : ℕ) (M : ℕ → ℕ → ℤ) (R : List ℕ) : Type 0 where
   pub pairs : List (ℕ × ℤ)
   pub rows : map (λ p. p.0) pairs ≡ R
   pub signs : AllByRecursion (λ p. IsSign p.1) pairs
-  pub entries : IsSmallRow width (λ j. signed (λ p. p.1) pairs (λ p. M p.0 j))
+  pub entries : IsTernaryRow width (λ j. signed (λ p. p.1) pairs (λ p. M p.0 j))
 
 -- a violator within these sizes
 pub record HasViolatorIn (height width : ℕ) (M : ℕ → ℕ → ℤ) : Type 0 where
@@ -42,11 +39,11 @@ sum_of_pairs pairs R f e = sym (sum_over-map (λ p. p.0) pairs f) ∙ ap (λ xs.
 
 -- ---- one row
 
-module _ (height width : ℕ) (M : ℕ → ℕ → ℤ) (r c : ℕ) (u : IsSign (M r c)) (r_in : r < height) (c_in : c < width) (top : IsSmallRow width (M r)) where
+module _ (height width : ℕ) (M : ℕ → ℕ → ℤ) (r c : ℕ) (u : IsSign (M r c)) (r_in : r < height) (c_in : c < width) (top : IsTernaryRow width (M r)) where
   square_in : (i j : ℕ) → i < height → j < width → IsViolator M (r ∷ i ∷ []) (c ∷ j ∷ []) → HasViolatorIn height width M
   square_in i j i_in j_in v = record { rows = r ∷ i ∷ []; columns = c ∷ j ∷ []; rows_in = (r_in, (i_in, tt)); columns_in = (c_in, (j_in, tt)); violator = v }
 
-  first_columns : (i k : ℕ) → i < height → k ≤ width → IsSmallRow width (M i) → IsSmallRow k (reduced M r c i) ⊎ HasViolatorIn height width M
+  first_columns : (i k : ℕ) → i < height → k ≤ width → IsTernaryRow width (M i) → IsTernaryRow k (reduced M r c i) ⊎ HasViolatorIn height width M
   first_columns i zero i_in k_in h = inl (λ j l. absurd (omega arith))
   first_columns i (suc k) i_in k_in h = elim (first_columns i k i_in (omega arith) h) [
     | inr v ↦ inr v
@@ -56,7 +53,7 @@ module _ (height width : ℕ) (M : ℕ → ℕ → ℤ) (r c : ℕ) (u : IsSign 
     ]
   ]
     where
-      more : (k : ℕ) → IsSmallRow k (reduced M r c i) → IsEntry (reduced M r c i k) → (j : ℕ) → j < suc k → IsEntry (reduced M r c i j)
+      more : (k : ℕ) → IsTernaryRow k (reduced M r c i) → IsEntry (reduced M r c i k) → (j : ℕ) → j < suc k → IsEntry (reduced M r c i j)
       more k below here j l = elim (cases_lt j k) [
         | inl lt ↦ below j lt
         | inr ge ↦ let e : k ≡ j = omega arith in subst (λ (x : ℕ). IsEntry (reduced M r c i x)) e here
@@ -72,7 +69,7 @@ module _ (height width : ℕ) (M : ℕ → ℕ → ℤ) (r c : ℕ) (u : IsSign 
       kept : (p : ℤ) → IsEntry p → IsEntry (neg_ℤ (negsuc 0 *ℤ p))
       kept p h = let one : negsuc 0 *ℤ p ≡ neg_ℤ p = simp products in record { low = let l = h.low in omega (arith, sums); high = let l = h.high in omega (arith, sums) }
 
-  row_after : (i : ℕ) → i < height → IsSmallRow width (M i) → IsSmallRow width (pivoted M r c i) ⊎ HasViolatorIn height width M
+  row_after : (i : ℕ) → i < height → IsTernaryRow width (M i) → IsTernaryRow width (pivoted M r c i) ⊎ HasViolatorIn height width M
   row_after i i_in h = elim (first_columns i width i_in (omega arith) h) [
     | inr v ↦ inr v
     | inl small ↦ inl (λ j l. elim (cases_eq j c) [
@@ -81,7 +78,7 @@ module _ (height width : ℕ) (M : ℕ → ℕ → ℤ) (r c : ℕ) (u : IsSign 
     ])
   ]
 
-  rows_after : (R : List ℕ) → AllByRecursion (λ i. i < height) R → AllByRecursion (λ i. IsSmallRow width (M i)) R → AllByRecursion (λ i. IsSmallRow width (pivoted M r c i)) R ⊎ HasViolatorIn height width M
+  rows_after : (R : List ℕ) → AllByRecursion (λ i. i < height) R → AllByRecursion (λ i. IsTernaryRow width (M i)) R → AllByRecursion (λ i. IsTernaryRow width (pivoted M r c i)) R ⊎ HasViolatorIn height width M
   rows_after [] inside h = inl tt
   rows_after (i ∷ R) inside h = elim (row_after i inside.0 h.0) [
     | inr v ↦ inr v
@@ -148,7 +145,7 @@ module _ (height width : ℕ) (M : ℕ → ℕ → ℤ) (r c : ℕ) (u : IsSign 
           }
 
   -- the row's sign follows from those of the others
-  pivot_signed : (R : List ℕ) → IsOdd (sum_over R (λ i. M i c)) → SignsRows width (pivoted M r c) R → SignsRows width M (r ∷ R)
+  pivot_signed : (R : List ℕ) → IsOdd (sum_over R (λ i. M i c)) → SignsPairs width (pivoted M r c) R → SignsPairs width M (r ∷ R)
   pivot_signed R odd s =
       let sign = signed (λ p. p.1) s.pairs (λ p. pivoted M r c p.0 c) in
       record {
@@ -166,7 +163,7 @@ module _ (height width : ℕ) (M : ℕ → ℕ → ℤ) (r c : ℕ) (u : IsSign 
       }
 
 -- where no column of the row is odd in the others, it is put aside
-put_aside : (width : ℕ) (M : ℕ → ℕ → ℤ) (r : ℕ) (R : List ℕ) → IsSmallRow width (M r) → ((j : ℕ) → j < width → (M r j ≡ pos 0) ⊎ IsEven (sum_over R (λ i. M i j))) → SignsRows width M R → SignsRows width M (r ∷ R)
+put_aside : (width : ℕ) (M : ℕ → ℕ → ℤ) (r : ℕ) (R : List ℕ) → IsTernaryRow width (M r) → ((j : ℕ) → j < width → (M r j ≡ pos 0) ⊎ IsEven (sum_over R (λ i. M i j))) → SignsPairs width M R → SignsPairs width M (r ∷ R)
 put_aside width M r R top quiet s = record {
   pairs = (r, pos 1) ∷ s.pairs;
   rows = ap (λ (xs : List ℕ). r ∷ xs) s.rows;
@@ -186,7 +183,7 @@ record HasPivot (width : ℕ) (M : ℕ → ℕ → ℤ) (r : ℕ) (R : List ℕ)
   sign : IsSign (M r column)
   odd : IsOdd (sum_over R (λ i. M i column))
 
-pivot_or_quiet : (width : ℕ) (M : ℕ → ℕ → ℤ) (r : ℕ) (R : List ℕ) → IsSmallRow width (M r) → (n : ℕ) → n ≤ width → HasPivot width M r R ⊎ ((j : ℕ) → j < n → (M r j ≡ pos 0) ⊎ IsEven (sum_over R (λ i. M i j)))
+pivot_or_quiet : (width : ℕ) (M : ℕ → ℕ → ℤ) (r : ℕ) (R : List ℕ) → IsTernaryRow width (M r) → (n : ℕ) → n ≤ width → HasPivot width M r R ⊎ ((j : ℕ) → j < n → (M r j ≡ pos 0) ⊎ IsEven (sum_over R (λ i. M i j)))
 pivot_or_quiet width M r R top zero n_in = inr (λ j l. absurd (omega arith))
 pivot_or_quiet width M r R top (suc n) n_in = elim (pivot_or_quiet width M r R top n (omega arith)) [
   | inl p ↦ inl p
@@ -205,7 +202,7 @@ pivot_or_quiet width M r R top (suc n) n_in = elim (pivot_or_quiet width M r R t
       | inr ge ↦ let e : n ≡ j = omega arith in subst (λ (x : ℕ). (M r x ≡ pos 0) ⊎ IsEven (sum_over R (λ i. M i x))) e here
     ]
 
-pub signed_or_violated : (height width : ℕ) (R : List ℕ) (M : ℕ → ℕ → ℤ) → AllByRecursion (λ i. i < height) R → AllByRecursion (λ i. IsSmallRow width (M i)) R → SignsRows width M R ⊎ HasViolatorIn height width M
+pub signed_or_violated : (height width : ℕ) (R : List ℕ) (M : ℕ → ℕ → ℤ) → AllByRecursion (λ i. i < height) R → AllByRecursion (λ i. IsTernaryRow width (M i)) R → SignsPairs width M R ⊎ HasViolatorIn height width M
 signed_or_violated height width [] M inside h = inl (record { pairs = []; rows = refl; signs = tt; entries = λ j l. entry_zero })
 signed_or_violated height width (r ∷ R) M inside h = elim (pivot_or_quiet width M r R h.0 width (omega arith)) [
   | inl p ↦ elim (rows_after height width M r p.column p.sign inside.0 p.inside h.0 R inside.1 h.1) [

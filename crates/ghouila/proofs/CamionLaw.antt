@@ -13,7 +13,7 @@ use Rattle.cmr_base.proofs.RisingLists.{rising_below, row_set_rises, column_set_
 use Rattle.cmr_base.proofs.ViolatorLemmas.{violator-odd_times}
 use Rattle.ghouila.specs.Laws.{CamionEquivalence, ViolatorsHaveNoSigning}
 use Rattle.ghouila.proofs.SignedSums.{signed, even_change-signed, four_change-signed, signed-sum_over, even_entry}
-use Rattle.ghouila.proofs.Camion.{SignsRows, HasViolatorIn, signed_or_violated}
+use Rattle.ghouila.proofs.Camion.{SignsPairs, HasViolatorIn, signed_or_violated}
 
 -- ---- signs in a list beside the rows, and as pairs
 
@@ -49,7 +49,7 @@ as_many : (pairs : List (ℕ × ℤ)) → length (map (λ p. p.1) pairs) ≡ len
 as_many [] = refl
 as_many (p ∷ pairs) = ap suc (as_many pairs)
 
-signing_of_pairs : (m : Matrix) (rows : List ℕ) → SignsRows m.width (entry m) rows → (signs : List ℤ) × IsSigning m rows signs
+signing_of_pairs : (m : Matrix) (rows : List ℕ) → SignsPairs m.width (entry m) rows → (signs : List ℤ) × IsSigning m rows signs
 signing_of_pairs m rows s = (
   map (λ p. p.1) s.pairs,
   subst (λ (xs : List ℕ). IsSigning m xs (map (λ p. p.1) s.pairs)) s.rows (record {

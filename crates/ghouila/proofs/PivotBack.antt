@@ -1,23 +1,16 @@
 -- From a violator after a pivot to one before it.
 use Rattle.std.proofs.Common.{◌≡◌, ◌≢◌, ◌⊎◌, inl, inr, ◌∙◌, ℕ, Bool, true, false, ℤ, pos, negsuc, neg_ℤ, ◌+ℤ◌, ◌*ℤ◌, ◌-ℤ◌, List, [], ◌∷◌, refl, ap, sym, subst, arith}
 use Rattle.std.specs.List.{AllByRecursion}
-use Rattle.cmr_base.specs.Sums.{sum_over, IsEven, IsTwoModFour}
+use Rattle.cmr_base.specs.Sums.{sum_over, IsEven, IsOdd, IsTwoModFour}
 use Rattle.cmr_base.specs.Signing.{IsSign}
 use Rattle.cmr_base.specs.Violator.{IsViolator}
 use Rattle.cmr_base.proofs.Integers.{sums, products, mul_assoc, one-mul}
-use Rattle.cmr_base.proofs.Parity.{IsOdd, even_not_odd, even-add, even-mul_right, four-mul_evens, four-mul_right, two_mod_four-add}
+use Rattle.cmr_base.proofs.Parity.{even_not_odd, even-add, even-mul_right, four-mul_evens, four-mul_right, two_mod_four-add}
 use Rattle.cmr_base.proofs.SumLaws.{sum_over-add, sum_over_same}
 use Rattle.cmr_base.proofs.Lists.{HasOneMore, IsJoined, all_of, all_weaker, all_both, all-one_more, sum_over-one_more, all_without, item_of_one_more}
 use Rattle.ghouila.specs.Pivot.{pivoted}
+use Rattle.ghouila.specs.Found.{HasParity, bit}
 use Rattle.ghouila.proofs.PivotSums.{pivoted_at, sum_over_row, sum_over_column, sum_over_pivot_column}
-
-abbrev pub HasParity : Bool → ℤ → Type 0
-HasParity true z = IsOdd z
-HasParity false z = IsEven z
-
-abbrev pub bit : Bool → ℤ
-bit true = pos 1
-bit false = pos 0
 
 -- a violator on R and C after the pivot at r and c, with the column c counted apart: t where it was there
 pub record IsViolatorAfter (M : ℕ → ℕ → ℤ) (r c : ℕ) (R C : List ℕ) (t : Bool) : Type 0 where
@@ -33,11 +26,11 @@ odd_by_sign : (a h : ℤ) → IsSign a → IsOdd h → IsEven (a *ℤ h +ℤ pos
 odd_by_sign a h (inl e) (k, f) = (k, rw e (simp products (omega (arith, sums))))
 odd_by_sign a h (inr e) (k, f) = (pos 1 -ℤ k, rw e (simp products (omega (arith, sums))))
 
-sign_and_odd : (a h : ℤ) → IsSign a → IsOdd h → IsEven (a +ℤ h)
+pub sign_and_odd : (a h : ℤ) → IsSign a → IsOdd h → IsEven (a +ℤ h)
 sign_and_odd a h (inl e) (k, f) = (k, rw e (omega (arith, sums)))
 sign_and_odd a h (inr e) (k, f) = (k -ℤ pos 1, rw e (omega (arith, sums)))
 
-square : (a : ℤ) → IsSign a → a *ℤ a ≡ pos 1
+pub square : (a : ℤ) → IsSign a → a *ℤ a ≡ pos 1
 square a (inl e) = rw e refl
 square a (inr e) = rw e refl
 

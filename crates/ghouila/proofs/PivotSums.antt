@@ -6,11 +6,7 @@ use Rattle.cmr_base.specs.Sums.{sum_over}
 use Rattle.cmr_base.proofs.Integers.{sums, products}
 use Rattle.cmr_base.proofs.SumLaws.{sum_over-sub, sum_over-scale, sum_over-scale_right, sum_over_same}
 use Rattle.cmr_base.proofs.Lists.{all_weaker}
-use Rattle.ghouila.specs.Pivot.{pivoted}
-
--- an entry after the pivot, but for those of its own column
-abbrev pub reduced : (ℕ → ℕ → ℤ) → ℕ → ℕ → ℕ → ℕ → ℤ
-reduced M r c i j = M i j -ℤ M r c *ℤ (M i c *ℤ M r j)
+use Rattle.ghouila.specs.Pivot.{reduced, pivoted}
 
 apart : (j c : ℕ) → j ≢ c → nat_eq j c ≡ false
 apart j c h = grind (arith, nat_tests)

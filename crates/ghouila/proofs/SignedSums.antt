@@ -3,9 +3,9 @@ use Rattle.std.proofs.Common.{◌≡◌, ◌≢◌, ◌⊎◌, inl, inr, ◌∙�
 use Rattle.std.specs.List.{AllByRecursion}
 use Rattle.cmr_base.specs.Matrix.{IsEntry}
 use Rattle.cmr_base.specs.Signing.{IsSign}
-use Rattle.cmr_base.specs.Sums.{sum_over, IsEven}
+use Rattle.cmr_base.specs.Sums.{sum_over, IsEven, IsOdd}
 use Rattle.cmr_base.proofs.Integers.{sums, products}
-use Rattle.cmr_base.proofs.Parity.{IsOdd, IsFour, odd_by_difference}
+use Rattle.cmr_base.proofs.Parity.{IsFour, odd_by_difference}
 use Rattle.cmr_base.proofs.SumLaws.{sum_over-scale, sum_over-exchange, sum_over_same}
 use Rattle.cmr_base.proofs.Lists.{all_of}
 use Rattle.ghouila.specs.Pivot.{pivoted}

@@ -1,7 +1,57 @@
--- Pivots that take a row away.
-use Rattle.std.specs.Prelude.{ℕ, ℤ, ◌-ℤ◌, ◌*ℤ◌, neg_ℤ, ◌==◌, if◌then◌else◌}
+-- Pivots that take a row away from a matrix.
+use Rattle.std.specs.Prelude.{◌≡◌, ◌≢◌, ◌<◌, ◌⊎◌, ℕ, ℤ, pos, ◌-ℤ◌, ◌*ℤ◌, neg_ℤ, ◌==◌, if◌then◌else◌, List, length, slice_index}
+use Rattle.std.specs.List.{AllByRecursion}
+use Rattle.cmr_base.specs.Matrix.{Matrix, height, entry, IsEntry}
+use Rattle.cmr_base.specs.Signing.{IsSign}
+use Rattle.cmr_base.specs.Sums.{sum_over, IsEven, IsOdd}
 
--- the matrix after a pivot at a row and a column, without that row
+-- the row is none of these
+abbrev pub IsOutside : ℕ → List ℕ → Type 0
+IsOutside row rows = AllByRecursion (λ other. other ≢ row) rows
+
+-- what the pivot at a row and a column leaves of an entry
+abbrev pub reduced : (ℕ → ℕ → ℤ) → ℕ → ℕ → ℕ → ℕ → ℤ
+reduced M row column i j = M i j -ℤ M row column *ℤ (M i column *ℤ M row j)
+
+-- the matrix after the pivot, without that row; in the pivot's column the entries are turned
 abbrev pub pivoted : (ℕ → ℕ → ℤ) → ℕ → ℕ → ℕ → ℕ → ℤ
-pivoted M row column i j =
-    if j == column then neg_ℤ (M row column *ℤ M i column) else M i j -ℤ M row column *ℤ (M i column *ℤ M row j)
+pivoted M row column i j = if j == column then neg_ℤ (M row column *ℤ M i column) else reduced M row column i j
+
+-- -1, 0 or 1 in each of the first columns
+abbrev pub IsTernaryRow : ℕ → (ℕ → ℤ) → Type 0
+IsTernaryRow width f = (column : ℕ) → column < width → IsEntry (f column)
+
+-- a nonzero in a column with an even number of them: where entries are -1, 0 and 1, the sum is as even as their number
+pub record IsPivot (m : Matrix) (rows : List ℕ) (place column : ℕ) : Type 0 where
+  pub within : place < length rows
+  pub column_in : column < m.width
+  pub nonzero : IsSign (entry m (slice_index rows place) column)
+  pub even : IsEven (sum_over rows (λ row. entry m row column))
+
+-- the column has no nonzero in the rows, or an odd number of them
+abbrev pub HasNoPivot : Matrix → List ℕ → ℕ → Type 0
+HasNoPivot m rows column = AllByRecursion (λ row. entry m row column ≡ pos 0) rows ⊎ IsOdd (sum_over rows (λ row. entry m row column))
+
+-- four signs, in two rows and two columns, whose product is -1: alone they are a violator
+pub record IsSquareViolator (a p q x : ℤ) : Type 0 where
+  pub corner : IsSign a
+  pub below : IsSign p
+  pub beside : IsSign q
+  pub across : IsSign x
+  pub opposite : x ≡ neg_ℤ (a *ℤ (p *ℤ q))
+
+-- the entries in these two rows and columns are one
+pub record HasSquareViolator (m : Matrix) (row column other_row other_column : ℕ) : Type 0 where
+  pub row_in : other_row < height m
+  pub column_in : other_column < m.width
+  pub square : IsSquareViolator (entry m row column) (entry m other_row column) (entry m row other_column) (entry m other_row other_column)
+
+-- a matrix of the same size, the same but for these rows
+pub record KeepsOthers (before after : Matrix) (rows : List ℕ) : Type 0 where
+  pub same_height : height after ≡ height before
+  pub same_width : after.width ≡ before.width
+  pub others : (i j : ℕ) → IsOutside i rows → entry after i j ≡ entry before i j
+
+-- the pivot is made in each of these rows
+abbrev pub PivotsRows : Matrix → Matrix → ℕ → ℕ → List ℕ → Type 0
+PivotsRows before after row column rows = AllByRecursion (λ i. (j : ℕ) → j < before.width → entry after i j ≡ pivoted (entry before) row column i j) rows

@@ -1,0 +1,79 @@
+-- A pivot made in a matrix, entry by entry and row by row.
+use Rattle.std.proofs.Common.{◌≡◌, ◌≢◌, ◌<◌, ◌≤◌, ◌+◌, ◌++◌, ◌∙◌, inl, inr, ℕ, ℤ, neg_ℤ, ◌*ℤ◌, List, [], ◌∷◌, refl, sym, subst, arith}
+use Rattle.std.proofs.lemmas.Bool.{cases_eq}
+use Rattle.cmr_base.specs.Matrix.{Matrix, height, entry, with_entry, IsMatrix, IsEntry}
+use Rattle.cmr_base.proofs.Entries.{height-with_entry, entry-with_entry_same, entry-with_entry_other_column, entry-with_entry_other_row, is_matrix-with_entry}
+use Rattle.cmr_base.proofs.Lists.{all-append, all_both, all_front, all_back}
+use Rattle.ghouila.specs.Pivot.{IsOutside, reduced, pivoted, KeepsOthers, PivotsRows}
+use Rattle.ghouila.proofs.PivotSums.{pivoted_apart, pivoted_at}
+
+pub keeps_all : (m : Matrix) (rows : List ℕ) → KeepsOthers m m rows
+keeps_all m rows = record { same_height = refl; same_width = refl; others = λ i j out. refl }
+
+pub keeps_with_entry : (before now : Matrix) (other column : ℕ) (value : ℤ) → KeepsOthers before now (other ∷ []) → KeepsOthers before (with_entry now other column value) (other ∷ [])
+keeps_with_entry before now other column value keeps = record {
+  same_height = height-with_entry now other column value ∙ keeps.same_height;
+  same_width = keeps.same_width;
+  others = λ i j out. entry-with_entry_other_row now other column value i j (λ e. out.0 (sym e)) ∙ keeps.others i j out;
+}
+
+-- the entries of one row are reduced in the columns before k
+pub record IsReduced (before now : Matrix) (row column other k : ℕ) : Type 0 where
+  pub shape : IsMatrix now
+  pub others : KeepsOthers before now (other ∷ [])
+  pub done : (j : ℕ) → j < k → entry now other j ≡ reduced (entry before) row column other j
+  pub ahead : (j : ℕ) → k ≤ j → entry now other j ≡ entry before other j
+
+pub reduced_none : (m : Matrix) (row column other : ℕ) → IsMatrix m → IsReduced m m row column other 0
+reduced_none m row column other is = record { shape = is; others = keeps_all m (other ∷ []); done = λ j h. absurd (omega arith); ahead = λ j h. refl }
+
+module _ (before now : Matrix) (row column other k : ℕ) (other_in : other < height before) (r : IsReduced before now row column other k) where
+  inside : other < height now
+  inside = let e = r.others.same_height in omega arith
+
+  pub reduced_more : (value : ℤ) → k < before.width → IsEntry value → value ≡ reduced (entry before) row column other k → IsReduced before (with_entry now other k value) row column other (k + 1)
+  reduced_more value k_in small e = record {
+    shape = is_matrix-with_entry now other k value inside small r.shape;
+    others = keeps_with_entry before now other k value r.others;
+    done = λ j h. elim (cases_eq j k) [
+      | inl same ↦ subst (λ x. entry (with_entry now other k value) other x ≡ reduced (entry before) row column other x) (sym same)
+          (entry-with_entry_same now other k value inside r.shape (let w = r.others.same_width in omega arith) ∙ e)
+      | inr apart ↦ entry-with_entry_other_column now other k value inside j apart ∙ r.done j (omega arith)
+    ];
+    ahead = λ j h. entry-with_entry_other_column now other k value inside j (omega arith) ∙ r.ahead j (omega arith);
+  }
+
+  pub reduced_all : (value : ℤ) → column < before.width → before.width ≤ k → value ≡ neg_ℤ (entry before row column *ℤ entry before other column) → PivotsRows before (with_entry now other column value) row column (other ∷ [])
+  reduced_all value column_in all e = (
+    λ j h. elim (cases_eq j column) [
+      | inl same ↦ subst (λ x. entry (with_entry now other column value) other x ≡ pivoted (entry before) row column other x) (sym same)
+          (entry-with_entry_same now other column value inside r.shape (let w = r.others.same_width in omega arith) ∙ e ∙ sym (pivoted_at (entry before) row column other))
+      | inr apart ↦ entry-with_entry_other_column now other column value inside j apart ∙ r.done j (omega arith) ∙ sym (pivoted_apart (entry before) row column other j apart)
+    ],
+    tt,
+  )
+
+-- ---- row by row
+
+pub pivoted_same : (M N : ℕ → ℕ → ℤ) (row column i j : ℕ) → M row column ≡ N row column → M i column ≡ N i column → M row j ≡ N row j → M i j ≡ N i j → pivoted M row column i j ≡ pivoted N row column i j
+pivoted_same M N row column i j a p q x = cc
+
+pub reduced_same : (M N : ℕ → ℕ → ℤ) (row column i j : ℕ) → M row column ≡ N row column → M i column ≡ N i column → M row j ≡ N row j → M i j ≡ N i j → reduced M row column i j ≡ reduced N row column i j
+reduced_same M N row column i j a p q x = cc
+
+module _ (before now after : Matrix) (row column other : ℕ) (rows : List ℕ) (row_out : IsOutside row rows) (other_out : IsOutside other rows) (apart : IsOutside row (other ∷ [])) where
+  pub keeps_more : KeepsOthers before now rows → KeepsOthers now after (other ∷ []) → KeepsOthers before after (rows ++ other ∷ [])
+  keeps_more keeps step = record {
+    same_height = step.same_height ∙ keeps.same_height;
+    same_width = step.same_width ∙ keeps.same_width;
+    others = λ i j out. step.others i j (all_back (λ x. x ≢ i) rows (other ∷ []) out) ∙ keeps.others i j (all_front (λ x. x ≢ i) rows (other ∷ []) out);
+  }
+
+  pub pivots_more : column < before.width → PivotsRows before now row column rows → KeepsOthers before now rows → PivotsRows now after row column (other ∷ []) → KeepsOthers now after (other ∷ []) → PivotsRows before after row column (rows ++ other ∷ [])
+  pivots_more column_in pivots keeps step kept = all-append (λ i. (j : ℕ) → j < before.width → entry after i j ≡ pivoted (entry before) row column i j) rows (other ∷ [])
+      (all_both (λ i. i ≢ other) (λ i. (j : ℕ) → j < before.width → entry now i j ≡ pivoted (entry before) row column i j) (λ i. (j : ℕ) → j < before.width → entry after i j ≡ pivoted (entry before) row column i j)
+      (λ i ne is j h. kept.others i j ((λ e. ne (sym e)), tt) ∙ is j h) rows other_out pivots) (
+        λ j h. step.0 j (let w = keeps.same_width in omega arith)
+            ∙ pivoted_same (entry now) (entry before) row column other j (keeps.others row column row_out) (keeps.others other column other_out) (keeps.others row j row_out) (keeps.others other j other_out),
+        tt,
+      )

@@ -1,0 +1,151 @@
+use Rattle.std.proofs.Common.{◌≡◌, ◌<◌, ◌+◌, ◌*◌, ◌∙◌, ◌⊎◌, ℕ, List, [], ◌∷◌, ℤ, ◌+ℤ◌, pos, length, get_or, ap, sym, subst, arith, vec_len, Bool, false}
+use Rattle.std.specs.List.{AllByRecursion, remove, Contains}
+use Rattle.std.specs.Prelude.{◌==◌}
+use Rattle.std.proofs.lemmas.Bool.Decides.{nat_tests}
+use Rattle.std.proofs.lemmas.List.{get_or_read}
+use Rattle.cmr_base.specs.Matrix.{height, entry}
+use Rattle.cmr_base.specs.LineSets.{IsRowSet}
+use Rattle.cmr_base.specs.Signing.{IsSign}
+use Rattle.cmr_base.specs.Sums.{sum_over, IsEven, IsOdd}
+use Rattle.cmr_base.proofs.Lists.{HasOneMore, all_contained, contains_first, contains_later}
+use Rattle.ghouila.specs.Pivot.{IsOutside, reduced, IsTernaryRow, IsPivot, HasNoPivot, KeepsOthers, PivotsRows}
+use Rattle.ghouila.specs.Found.{SignsRows, MarksViolator, MarksAnew}
+use Rattle.ghouila.specs.Outcome.{IsOutcome}
+use mathlib.Core.Path.{fun_ext}
+use Rattle.ghouila.proofs.LeftRows.{one_more-remove, row_set-remove, outside-remove, pivot_odd, aside_quiet}
+use Rattle.ghouila.proofs.SignsBack.{signs_before_pivot, signs_with_aside}
+use Rattle.ghouila.proofs.MarksBack.{marks_among_more, marks_before_pivot}
+use Rattle.ghouila.proofs.OutcomeLemmas.{found_reordered, violated_with_row}
+use Rattle.ghouila.proofs.by_pivots.+sign_rows.Goals as goal
+
+anew_by_same : (f g : ℕ → ℤ) (column : ℕ) (old new : List Bool) → ((j : ℕ) → f j ≡ g j) → MarksAnew f column old new → MarksAnew g column old new
+anew_by_same f g column old new same anew = subst (λ h. MarksAnew h column old new) (fun_ext same) anew
+
+nonempty : (n : ℕ) (empty : Bool) → empty ≡ (n == 0) → empty ≡ false → 0 < n
+nonempty n empty e f = grind (arith, nat_tests)
+
+pub sign_left-sign_by_pivot-requires : goal.sign_left-sign_by_pivot-requires
+sign_left-sign_by_pivot-requires t c =
+    let m = c.args.work.now in
+    let left = c.args.left.items in
+    let place = c.in-Some.pivot.place in
+    let column = c.in-Some.pivot.column in
+    let pivot : IsPivot m left place column = subst (λ xs. IsPivot m xs place column) c.deref.ensures.value c.in-Some.ensures.some in
+    let row : c.remove-row.result ≡ get_or left place 0 = get_or_read left place c.remove-row.result pivot.within c.remove-row.ensures.value 0 in
+    let more : HasOneMore (get_or left place 0) (remove left place) left = one_more-remove left place pivot.within in
+    let odd : IsOdd (sum_over (remove left place) (λ r. entry m r column)) = pivot_odd m left (remove left place) (get_or left place 0) column more pivot.nonzero pivot.even in
+    let falls : 2 * vec_len c.remove-row.new.self + 2 < t = omega (arith, c.decreases, c.remove-row.ensures.len) in (
+      falls,
+      (
+        subst (IsRowSet m) (sym c.remove-row.ensures.items) (row_set-remove m left place pivot.within c.requires),
+        (
+          subst (λ r. r < height m) (sym row) (c.requires.in_range place pivot.within),
+          (
+            subst (λ r. IsOutside r c.remove-row.new.self.items) (sym row) (subst (IsOutside (get_or left place 0)) (sym c.remove-row.ensures.items) (outside-remove m left place pivot.within c.requires)),
+            (
+              pivot.column_in,
+              (
+                subst (λ r. IsSign (entry m r column)) (sym row) pivot.nonzero,
+                subst (λ xs. IsOdd (sum_over xs (λ r. entry m r column))) (sym c.remove-row.ensures.items) odd,
+              ),
+            ),
+          ),
+        ),
+      ),
+    )
+
+pub sign_left-sign_aside-requires : goal.sign_left-sign_aside-requires
+sign_left-sign_aside-requires t c =
+    let m = c.args.work.now in
+    let left = c.args.left.items in
+    let call = c.remove-row-in-None in
+    let within : 0 < length left = omega (arith, nonempty (vec_len c.args.left) c.is_empty.result c.is_empty.ensures c.if-is_empty.false, c.args.left.ok.0) in
+    let none : (column : ℕ) → column < m.width → HasNoPivot m left column = subst (λ xs. (column : ℕ) → column < m.width → HasNoPivot m xs column) c.deref.ensures.value c.in-None.ensures.none in
+    let row : call.result ≡ get_or left 0 0 = get_or_read left 0 call.result within call.ensures.value 0 in
+    let more : HasOneMore (get_or left 0 0) (remove left 0) left = one_more-remove left 0 within in
+    let items : call.new.self.items ≡ remove left 0 = call.ensures.items in
+    let falls : 2 * vec_len call.new.self + 2 < t = omega (arith, c.decreases, call.ensures.len) in (
+      falls,
+      (
+        subst (IsRowSet m) (sym items) (row_set-remove m left 0 within c.requires),
+        (
+          subst (λ r. r < height m) (sym row) (c.requires.in_range 0 within),
+          (
+            subst (λ r. IsOutside r call.new.self.items) (sym row) (subst (IsOutside (get_or left 0 0)) (sym items) (outside-remove m left 0 within c.requires)),
+            (
+              λ j h. c.first_pivot.ensures.shape.small call.result j,
+              λ j h. subst (λ r. (entry m r j ≡ pos 0) ⊎ IsEven (sum_over call.new.self.items (λ r'. entry m r' j))) (sym row)
+                  (subst (λ xs. (entry m (get_or left 0 0) j ≡ pos 0) ⊎ IsEven (sum_over xs (λ r'. entry m r' j))) (sym items)
+                  (aside_quiet m left (remove left 0) (get_or left 0 0) j more (c.first_pivot.ensures.shape.small (get_or left 0 0) j) (none j h))),
+            ),
+          ),
+        ),
+      ),
+    )
+
+pub sign_left-returns-in-Some-clause-found : goal.sign_left-returns-in-Some-clause-found
+sign_left-returns-in-Some-clause-found t c =
+    let m = c.args.work.now in
+    let left = c.args.left.items in
+    let place = c.in-Some.pivot.place in
+    let pivot : IsPivot m left place c.in-Some.pivot.column = subst (λ xs. IsPivot m xs place c.in-Some.pivot.column) c.deref.ensures.value c.in-Some.ensures.some in
+    let row : c.remove-row.result ≡ get_or left place 0 = get_or_read left place c.remove-row.result pivot.within c.remove-row.ensures.value 0 in
+    let more : HasOneMore c.remove-row.result c.remove-row.new.self.items left =
+    subst (λ r. HasOneMore r c.remove-row.new.self.items left) (sym row) (subst (λ xs. HasOneMore (get_or left place 0) xs left) (sym c.remove-row.ensures.items) (one_more-remove left place pivot.within)) in
+    found_reordered m c.remove-row.result c.remove-row.new.self.items left more c.sign_by_pivot.result c.sign_by_pivot.ensures.found
+
+pub sign_aside-returns-in_default-clause-found : goal.sign_aside-returns-in_default-clause-found
+sign_aside-returns-in_default-clause-found t c = violated_with_row c.args.work.now c.args.row c.args.left.items c.in_ok-violated.violated c.in_default.not-Signed c.in_ok-violated.ensures.found
+
+pub sign_aside-returns-in-Signed-clause-found : goal.sign_aside-returns-in-Signed-clause-found
+sign_aside-returns-in-Signed-clause-found t c =
+    let m = c.args.work.now in
+    let left = c.args.left.items in
+    let s = c.in-Signed.signs in
+    let found : SignsRows m left s.signs.items s.sums.items = subst (IsOutcome m left) c.in-Signed.is c.in_ok-violated.ensures.found in
+    let keeps = c.in_ok-violated.ensures.others in
+    rw c.sign_aside.ensures.signs (signs_with_aside m c.args.row left s.signs.items s.sums.items c.sign_aside.new.self.sums.items c.requires.row c.requires.apart c.requires.small c.requires.quiet found c.sign_aside.ensures.sum_each
+    (λ j h. c.sign_aside.ensures.sums j (let w = keeps.same_width in omega arith) ∙ ap (λ z. get_or s.sums.items j (pos 0) +ℤ z) (keeps.others c.args.row j c.requires.apart)))
+
+pub sign_by_pivot-returns-in-Some-clause-found : goal.sign_by_pivot-returns-in-Some-clause-found
+sign_by_pivot-returns-in-Some-clause-found t c =
+    let m = c.args.work.now in
+    let left = c.args.left.items in
+    let corner = c.in-Some.corner in
+    let there : Contains left corner.row = subst (λ xs. Contains xs corner.row) c.deref.ensures.value c.in-Some.ensures.some.0 in
+    marks_among_more m (c.args.row ∷ corner.row ∷ []) (c.args.row ∷ left) c.in_ok-lines.lines.rows.items c.in_ok-lines.lines.columns.items c.in_ok-lines.lines.odd.items
+    (λ r in_pair. all_contained (Contains (c.args.row ∷ left)) (c.args.row ∷ corner.row ∷ []) r (contains_first c.args.row left, (contains_later corner.row c.args.row left there, tt)) in_pair)
+    c.in_ok-lines.ensures
+
+pub sign_by_pivot-make_pivot-requires-clause-small : goal.sign_by_pivot-make_pivot-requires-clause-small
+sign_by_pivot-make_pivot-requires-clause-small t c =
+    let m = c.args.work.now in
+    let small = c.in_default.ensures.none in
+    subst (AllByRecursion (λ other. IsTernaryRow m.width (reduced (entry m) c.args.row c.args.column other))) (c.deref.ensures.value ∙ sym c.deref-2.ensures.value) small
+
+pub sign_by_pivot-returns-in-Signed-clause-found : goal.sign_by_pivot-returns-in-Signed-clause-found
+sign_by_pivot-returns-in-Signed-clause-found t c =
+    let m = c.args.work.now in
+    let after = c.make_pivot.new.work in
+    let left = c.args.left.items in
+    let s = c.in-Signed.signs in
+    let found : SignsRows after left s.signs.items s.sums.items = subst (IsOutcome after left) c.in-Signed.is c.in_ok-signs.ensures.found in
+    let pivots : PivotsRows m after c.args.row c.args.column left = subst (PivotsRows m after c.args.row c.args.column) c.deref-2.ensures.value c.make_pivot.ensures.pivoted in
+    let keeps : KeepsOthers m after left = subst (KeepsOthers m after) c.deref-2.ensures.value c.make_pivot.ensures.others in
+    rw (c.sign_pivot.ensures.signs, c.sign_pivot.ensures.sums)
+    (signs_before_pivot m after c.args.row c.args.column left s.signs.items s.sums.items keeps.same_height keeps.same_width c.requires.row c.requires.column c.requires.apart c.requires.nonzero c.requires.odd pivots found)
+
+pub sign_by_pivot-returns-in-Violated-clause-found : goal.sign_by_pivot-returns-in-Violated-clause-found
+sign_by_pivot-returns-in-Violated-clause-found t c =
+    let m = c.args.work.now in
+    let after = c.make_pivot.new.work in
+    let last = c.sign_left.new.work in
+    let left = c.args.left.items in
+    let v = c.in-Violated.lines in
+    let found : MarksViolator after left v.rows.items v.columns.items v.odd.items = subst (IsOutcome after left) c.in-Violated.is c.in_ok-signs.ensures.found in
+    let pivots : PivotsRows m after c.args.row c.args.column left = subst (PivotsRows m after c.args.row c.args.column) c.deref-2.ensures.value c.make_pivot.ensures.pivoted in
+    let keeps : KeepsOthers m after left = subst (KeepsOthers m after) c.deref-2.ensures.value c.make_pivot.ensures.others in
+    let same_row : (j : ℕ) → entry last c.args.row j ≡ entry m c.args.row j = λ j. c.sign_left.ensures.others.others c.args.row j c.requires.apart ∙ keeps.others c.args.row j c.requires.apart in
+    rw (c.undo_pivot.ensures.rows, c.undo_pivot.ensures.odd)
+    (marks_before_pivot m after c.args.row c.args.column left c.requires.row c.requires.column c.requires.apart c.requires.nonzero keeps.same_height keeps.same_width pivots v.rows.items v.columns.items v.odd.items c.undo_pivot.new.self.columns.items found
+    (anew_by_same (entry last c.args.row) (entry m c.args.row) c.args.column v.columns.items c.undo_pivot.new.self.columns.items same_row c.undo_pivot.ensures.columns))

@@ -1,0 +1,33 @@
+use Rattle.std.proofs.Common.{◌≡◌, ◌∙◌, inl, inr, ◌-ℤ◌, ◌*ℤ◌, subst, sym, below_more, arith, rules, w8, SFits}
+use Rattle.std.proofs.lemmas.Int.{to_z-of_z}
+use Rattle.std.proofs.lemmas.Bool.{false≢true}
+use Rattle.cmr_base.specs.Matrix.{entry, IsEntry}
+use Rattle.cmr_base.specs.Signing.{IsSign}
+use Rattle.ghouila.specs.Pivot.{reduced}
+use Rattle.ghouila.proofs.Bytes.{reduced_bytes}
+use Rattle.ghouila.proofs.Square.{small_or_square}
+use Rattle.ghouila.proofs.pivots.square_violator_in.Goals as goal
+
+pub returns-then-not-is_entry-clause-some : goal.returns-then-not-is_entry-clause-some
+returns-then-not-is_entry-clause-some c =
+    let z = c.reduced-left.result in
+    let fits : SFits w8 z = search rules in
+    let a = c.entry.ensures in let p = c.entry-2.ensures in let x = c.entry-in-loop-last.ensures in let q = c.entry-in-loop-last-2.ensures in let f = c.product-factor.ensures in
+    let value : z ≡ c.entry-in-loop-last.result -ℤ c.entry.result *ℤ (c.entry-2.result *ℤ c.entry-in-loop-last-2.result) = reduced_bytes c.entry.result c.entry-2.result c.entry-in-loop-last-2.result c.entry-in-loop-last.result c.product-factor.result z a.small p.small q.small x.small f.small f.value c.reduced-left.ensures in
+    elim (small_or_square c.entry.result c.entry-2.result c.entry-in-loop-last-2.result c.entry-in-loop-last.result (subst IsSign (sym a.value) c.requires.nonzero) p.small q.small x.small) [
+      | inl small ↦ absurd (false≢true (sym c.if-not-is_entry.true ∙ c.is_entry.ensures.1 (subst IsEntry (sym (to_z-of_z w8 z fits ∙ value)) small)))
+      | inr square ↦ record {
+        row_in = c.requires.other;
+        column_in = omega arith;
+        square = rw (← a.value, ← p.value, ← q.value, ← x.value) square;
+      }
+    ]
+
+pub loop-last-preserved : goal.loop-last-preserved
+loop-last-preserved c =
+    let z = c.reduced-left.result in
+    let fits : SFits w8 z = search rules in
+    let a = c.entry.ensures in let p = c.entry-2.ensures in let x = c.entry-in-loop-last.ensures in let q = c.entry-in-loop-last-2.ensures in let f = c.product-factor.ensures in
+    let value : z ≡ c.entry-in-loop-last.result -ℤ c.entry.result *ℤ (c.entry-2.result *ℤ c.entry-in-loop-last-2.result) = reduced_bytes c.entry.result c.entry-2.result c.entry-in-loop-last-2.result c.entry-in-loop-last.result c.product-factor.result z a.small p.small q.small x.small f.small f.value c.reduced-left.ensures in
+    let is : z ≡ reduced (entry c.args.work.now) c.args.row c.args.column c.args.other c.loop-last.last = cc in
+    below_more _ _ c.loop-last.invariant (subst IsEntry (to_z-of_z w8 z fits ∙ is) (c.is_entry.ensures.0 c.if-not-is_entry.false))

@@ -1,0 +1,54 @@
+-- What is found for some rows of a matrix, on the way back through the pivots.
+use Rattle.std.specs.Prelude.{◌≡◌, ◌<◌, ◌+◌, ◌*ℤ◌, ◌+ℤ◌, ℕ, ℤ, pos, Bool, true, false, if◌then◌else◌, List, [], ◌∷◌, length, slice_index, slice_index_or, slice_set}
+use Rattle.std.specs.List.{AllByRecursion, Contains}
+use Rattle.cmr_base.specs.Matrix.{Matrix, height, entry}
+use Rattle.cmr_base.specs.Signing.{IsSign}
+use Rattle.cmr_base.specs.Sums.{sum_over, IsEven, IsOdd}
+use Rattle.cmr_base.specs.Violator.{IsViolator}
+use Rattle.ghouila.specs.Pivot.{IsTernaryRow}
+
+-- the matrix on these rows, in their order
+pub record IsOnRows (m work : Matrix) (rows : List ℕ) : Type 0 where
+  pub same_height : height work ≡ length rows
+  pub same_width : work.width ≡ m.width
+  pub entries : (place column : ℕ) → place < length rows → column < m.width → entry work place column ≡ entry m (slice_index rows place) column
+
+-- yes where the number is odd
+abbrev pub HasParity : Bool → ℤ → Type 0
+HasParity true z = IsOdd z
+HasParity false z = IsEven z
+
+-- the numbers of the marked places, counted from a first one
+abbrev pub marked_from : ℕ → List Bool → List ℕ
+marked_from first [] = []
+marked_from first (mark ∷ marks) = if mark then first ∷ marked_from (first + 1) marks else marked_from (first + 1) marks
+
+abbrev pub marked : List Bool → List ℕ
+marked marks = marked_from 0 marks
+
+-- a signing of the rows, with the sums that it gives
+pub record SignsRows (m : Matrix) (rows : List ℕ) (signs sums : List ℤ) : Type 0 where
+  pub one_each : length signs ≡ height m
+  pub sum_each : length sums ≡ m.width
+  pub each : AllByRecursion (λ row. IsSign (slice_index_or signs row (pos 0))) rows
+  pub sums_are : (column : ℕ) → column < m.width → slice_index_or sums column (pos 0) ≡ sum_over rows (λ row. slice_index_or signs row (pos 0) *ℤ entry m row column)
+  pub entries : IsTernaryRow m.width (λ column. slice_index_or sums column (pos 0))
+
+-- a violator on marked lines, with rows among these, and the parity of its rows' sum in every column
+pub record MarksViolator (m : Matrix) (rows : List ℕ) (row_marks column_marks odd : List Bool) : Type 0 where
+  pub row_each : length row_marks ≡ height m
+  pub column_each : length column_marks ≡ m.width
+  pub odd_each : length odd ≡ m.width
+  pub among : (row : ℕ) → slice_index_or row_marks row false ≡ true → Contains rows row
+  pub violator : IsViolator (entry m) (marked row_marks) (marked column_marks)
+  pub parity : (column : ℕ) → column < m.width → HasParity (slice_index_or odd column false) (sum_over (marked row_marks) (λ row. entry m row column))
+
+abbrev pub bit : Bool → ℤ
+bit true = pos 1
+bit false = pos 0
+
+-- a column is marked anew: where the row's entries in the other marked columns, and 1 if it was marked, add up to an odd number
+pub record MarksAnew (row : ℕ → ℤ) (column : ℕ) (old new : List Bool) : Type 0 where
+  pub mark : Bool
+  pub new_is : new ≡ slice_set old column mark
+  pub parity : HasParity mark (sum_over (marked (slice_set old column false)) row +ℤ bit (slice_index_or old column false))

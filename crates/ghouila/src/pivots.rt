@@ -1,0 +1,158 @@
+// Pivots that take a row away.
+ghost use Rattle.std.specs.Prelude.{◌≡◌, ◌<◌, ◌≤◌, ◌-ℤ◌, ◌*ℤ◌, ◌≤ℤ◌, pos, negsuc, ℕ, [], ◌∷◌, length, IfSome, IfNone, IsTrue, ◌↔◌};
+ghost use Rattle.std.specs.List.{AllByRecursion, Contains};
+ghost use Rattle.cmr_base.specs.Matrix.{Matrix, height, entry, IsEntry, IsMatrix};
+ghost use Rattle.cmr_base.specs.LineSets.{IsRowSet};
+ghost use Rattle.cmr_base.specs.Signing.{IsSign};
+ghost use Rattle.ghouila.specs.Numbered.{InRows};
+ghost use Rattle.ghouila.specs.Pivot.{IsOutside, reduced, IsTernaryRow, IsPivot, HasNoPivot, IsSquareViolator, HasSquareViolator, KeepsOthers, PivotsRows};
+
+use cmr_base::Matrix;
+
+/// Where a pivot is made: the place of the row among the rows that are left, and the column.
+#[derive(Debug, Clone, Copy)]
+pub struct Pivot {
+    pub place: usize,
+    pub column: u32,
+}
+
+/// A row and a column that are a violator with those of a pivot.
+#[derive(Debug, Clone, Copy)]
+pub struct Corner {
+    pub row: u32,
+    pub column: u32,
+}
+
+/// The first column with an even number, at least two, of nonzeros in the rows left, at the first of them.
+pub fn first_pivot(work: &Matrix, left: &[u32]) -> Option<Pivot>
+    requires { InRows work.now left.now }
+    ensures some { IfSome result (λ pivot. IsPivot work.now left.now pivot.place pivot.column) }
+    ensures none { IfNone result ((column : ℕ) → column < work.now.width → HasNoPivot work.now left.now column) }
+    ensures shape { IsMatrix work.now }
+{
+    for column in 0..work.columns() {
+        if let Some(place) = pivot_in(work, left, column) {
+            return Some(Pivot { place, column });
+        }
+    }
+    None
+}
+
+// The place of the first nonzero of the column, where the column has an even number of them.
+fn pivot_in(work: &Matrix, left: &[u32], column: u32) -> Option<usize>
+    requires rows { InRows work.now left.now }
+    requires column { column < work.now.width }
+    ensures some { IfSome result (λ place. IsPivot work.now left.now place column) }
+    ensures none { IfNone result (HasNoPivot work.now left.now column) }
+{
+    let mut first = None;
+    let mut odd = false;
+    for (place, row) in left.iter().enumerate() {
+        if work.entry(*row, column) != 0 {
+            odd = !odd;
+            if first.is_none() {
+                first = Some(place);
+            }
+        }
+    }
+    if odd { None } else { first }
+}
+
+/// The first row left, and column, at which the pivot would give a 2 or a -2.
+pub fn first_square_violator(work: &Matrix, left: &[u32], row: u32, column: u32) -> Option<Corner>
+    requires rows { InRows work.now left.now }
+    requires row { row < height work.now }
+    requires column { column < work.now.width }
+    requires nonzero { IsSign (entry work.now row column) }
+    ensures some { IfSome result (λ corner. Contains left.now corner.row × HasSquareViolator work.now row column corner.row corner.column) }
+    ensures none { IfNone result (AllByRecursion (λ other. IsTernaryRow work.now.width (reduced (entry work.now) row column other)) left.now) }
+{
+    for other in left {
+        if let Some(last) = square_violator_in(work, row, column, *other) {
+            return Some(Corner {
+                row: *other,
+                column: last,
+            });
+        }
+    }
+    None
+}
+
+fn square_violator_in(work: &Matrix, row: u32, column: u32, other: u32) -> Option<u32>
+    requires row { row < height work.now }
+    requires column { column < work.now.width }
+    requires other { other < height work.now }
+    requires nonzero { IsSign (entry work.now row column) }
+    ensures some { IfSome result (λ last. HasSquareViolator work.now row column other last) }
+    ensures none { IfNone result (IsTernaryRow work.now.width (reduced (entry work.now) row column other)) }
+{
+    let factor = product(work.entry(row, column), work.entry(other, column));
+    for last in 0..work.columns() {
+        let left = reduced(work.entry(other, last), factor, work.entry(row, last));
+        if !is_entry(left) {
+            return Some(last);
+        }
+    }
+    None
+}
+
+fn is_entry(z: i8) -> bool
+    ensures { IsTrue result ↔ IsEntry z }
+{
+    -1 <= z && z <= 1
+}
+
+fn product(a: i8, b: i8) -> i8
+    requires first { IsEntry a }
+    requires second { IsEntry b }
+    ensures value { result ≡ a *ℤ b }
+    ensures small { IsEntry result }
+{
+    a * b
+}
+
+fn reduced(entry: i8, factor: i8, top: i8) -> i8
+    requires entry { IsEntry entry }
+    requires factor { IsEntry factor }
+    requires top { IsEntry top }
+    ensures { result ≡ entry -ℤ factor *ℤ top }
+{
+    entry - product(factor, top)
+}
+
+/// Makes the pivot in the rows left.
+pub fn make_pivot(work: &mut Matrix, left: &[u32], row: u32, column: u32)
+    requires rows { IsRowSet work.old left.now }
+    requires row { row < height work.old }
+    requires apart { IsOutside row left.now }
+    requires column { column < work.old.width }
+    requires nonzero { IsSign (entry work.old row column) }
+    requires small { AllByRecursion (λ other. IsTernaryRow work.old.width (reduced (entry work.old) row column other)) left.now }
+    ensures pivoted { PivotsRows work.old work.new row column left.now }
+    ensures others { KeepsOthers work.old work.new left.now }
+{
+    for other in left {
+        pivot_row(work, row, column, *other);
+    }
+}
+
+fn pivot_row(work: &mut Matrix, row: u32, column: u32, other: u32)
+    requires row { row < height work.old }
+    requires other { other < height work.old }
+    requires apart { IsOutside row (other ∷ []) }
+    requires column { column < work.old.width }
+    requires nonzero { IsSign (entry work.old row column) }
+    requires small { IsTernaryRow work.old.width (reduced (entry work.old) row column other) }
+    ensures pivoted { PivotsRows work.old work.new row column (other ∷ []) }
+    ensures others { KeepsOthers work.old work.new (other ∷ []) }
+{
+    let factor = product(work.entry(row, column), work.entry(other, column));
+    if factor == 0 {
+        return;
+    }
+    for last in 0..work.columns() {
+        let left = reduced(work.entry(other, last), factor, work.entry(row, last));
+        work.set(other, last, left);
+    }
+    work.set(other, column, -factor);
+}
