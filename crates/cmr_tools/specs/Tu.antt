@@ -1,16 +1,15 @@
 -- What `tu` reports.
-use Rattle.std.specs.Prelude.{◌≡◌, ◌⊎◌, ◌+◌, ◌++◌, ℕ, nat_lt, MatchBool, Bool, false, IsTrue, List, [], ◌∷◌, Result, Ok, Err, codes}
+use Rattle.std.specs.Prelude.{◌≡◌, ◌⊎◌, ◌+◌, ◌++◌, ℕ, nat_lt, MatchBool, false, List, [], ◌∷◌, Result, Ok, Err, codes}
 use Rattle.std.specs.Fmt.{decimal}
 use Rattle.cmr_base.specs.Matrix.{Matrix, height}
 use Rattle.cmr_base.specs.Signing.{IsTotallyUnimodular, IsLeastUnsigned}
 use Rattle.text_fields.specs.Reading.{Fault}
 use Rattle.matrix_text.specs.declared.error.TextKind.{TextKind}
-use Rattle.cmr_tools.specs.declared.outcome.Outcome.{Outcome}
 use Rattle.cmr_tools.specs.declared.outcome.Stop.{Stop}
 use Rattle.cmr_tools.specs.declared.outcome.Stop.TheVariants as stops
 use Rattle.cmr_tools.specs.Words.Tu.{TuOrder}
 use Rattle.cmr_tools.specs.Report.{Held, Report}
-use Rattle.cmr_tools.specs.Outcome.{bad_text, many_rows, outcome_report, stop_report, too_long}
+use Rattle.cmr_tools.specs.Outcome.{bad_text, many_rows, stop_report, too_long}
 use Rattle.cmr_tools.specs.Inputs.{Reading, missing, above_limit, whole, reading, matrix_in}
 
 -- numbers of lines, counted from 1, each after a space

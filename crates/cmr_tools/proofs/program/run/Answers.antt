@@ -1,4 +1,4 @@
-use Rattle.std.proofs.Common.{◌≡◌, ◌≤◌, None, Err, refl, subst, inl, arith}
+use Rattle.std.proofs.Common.{◌≡◌, None, Err, refl, subst, inl, arith}
 use Rattle.cmr_tools.specs.declared.outcome.Stop.TheVariants as stops
 use Rattle.cmr_tools.specs.Words.{order, order_of}
 use Rattle.cmr_tools.specs.Words.Reading.{Gives}
