@@ -25,7 +25,7 @@ pub enum Open<F, I> {
 #[derive(Drop)]
 pub struct RealShelf<'a, R: Files + Input> {
     rt: &'a R,
-    open: Open<R::File, R::Reader>,
+    opened: Open<R::File, R::Reader>,
     faults: FaultCount,
 }
 
@@ -35,7 +35,7 @@ impl<'a, R: Files + Input> Model for RealShelf<'a, R> {
 
     ghost Value = { FileShelf };
 
-    ghost view = { λ shelf. record { reading = is_reading shelf.open; writing = is_writing shelf.open; faults = shelf.faults } };
+    ghost view = { λ shelf. record { reading = is_reading shelf.opened; writing = is_writing shelf.opened; faults = shelf.faults } };
 }
 
 impl<'a, R: Files + Input> RealShelf<'a, R> {
@@ -45,7 +45,7 @@ impl<'a, R: Files + Input> RealShelf<'a, R> {
     {
         RealShelf {
             rt,
-            open: Open::Nothing,
+            opened: Open::Nothing,
             faults: FaultCount::new(),
         }
     }
@@ -81,13 +81,13 @@ impl<R: Files + Input> Shelf for RealShelf<'_, R> {
         ensures cause { HasCause self.old.faults self.new.faults result }
     {
         if name == "-" {
-            self.open = Open::Input(self.rt.reader());
+            self.opened = Open::Input(self.rt.reader());
             return Ok(());
         }
-        self.open = Open::Nothing;
+        self.opened = Open::Nothing;
         match fs::open(self.rt, name) {
             Ok(file) => {
-                self.open = Open::Read(file);
+                self.opened = Open::Read(file);
                 Ok(())
             }
             Err(_) => Err(self.faults.fault()),
@@ -102,7 +102,7 @@ impl<R: Files + Input> Shelf for RealShelf<'_, R> {
         ensures writing { self.new.writing ≡ self.old.writing }
         ensures cause { HasCause self.old.faults self.new.faults result }
     {
-        match &mut self.open {
+        match &mut self.opened {
             Open::Read(file) => read_counted(file, into, &mut self.faults),
             Open::Input(input) => read_counted(input, into, &mut self.faults),
             Open::Nothing | Open::Write(_) => unreachable!(),
@@ -115,10 +115,10 @@ impl<R: Files + Input> Shelf for RealShelf<'_, R> {
         ensures ended { self.new.reading ≡ false }
         ensures cause { HasCause self.old.faults self.new.faults result }
     {
-        self.open = Open::Nothing;
+        self.opened = Open::Nothing;
         match fs::create(self.rt, name) {
             Ok(file) => {
-                self.open = Open::Write(file);
+                self.opened = Open::Write(file);
                 Ok(())
             }
             Err(_) => Err(self.faults.fault()),
@@ -134,7 +134,7 @@ impl<R: Files + Input> Shelf for RealShelf<'_, R> {
         ensures reading { self.new.reading ≡ self.old.reading }
         ensures cause { HasCause self.old.faults self.new.faults result }
     {
-        let Open::Write(file) = &mut self.open else {
+        let Open::Write(file) = &mut self.opened else {
             unreachable!()
         };
         write_counted(file, piece, &mut self.faults)

@@ -1,5 +1,6 @@
 // Reads and writes that are tried again where a signal interrupted them.
-ghost use Rattle.std.specs.Prelude.{◌≡◌, ◌≤◌, ◌<◌, IfOk, length};
+ghost use Rattle.std.specs.Prelude.{◌≡◌, ◌≤◌, ◌<◌, IfOk, OnErr, length, take};
+ghost use Rattle.std.specs.Io.KnownBytes.{Keeps, Appends, Consumes, IsAtEnd};
 ghost use Rattle.cmr_io.specs.Causes.{HasCause};
 ghost use Rattle.cmr_io.specs.Calls.{counted};
 
@@ -14,6 +15,9 @@ pub fn read_counted<R: Read>(
     faults: &mut FaultCount,
 ) -> Result<usize, Failed>
     ensures within { IfOk result (λ count. count ≤ length into.new) }
+    ensures given { IfOk result (λ count. Consumes (R.remaining reader.old) (R.remaining reader.new) (take count into.new)) }
+    ensures end { IfOk result (λ count. count ≡ 0 → 0 < length into.new → IsAtEnd (R.remaining reader.new)) }
+    ensures err { OnErr result (Keeps (R.remaining reader.old) (R.remaining reader.new)) }
     ensures count { faults.new ≡ counted result faults.old }
     ensures cause { HasCause faults.old faults.new result }
 {
@@ -21,7 +25,7 @@ pub fn read_counted<R: Read>(
         match reader.read(into) {
             Ok(count) => return Ok(count),
             Err(error) if error.kind() == ErrorKind::Interrupted => {}
-            Err(_) => break,
+            Err(_) => return Err(faults.fault()),
         }
     }
     Err(faults.fault())
@@ -35,6 +39,8 @@ pub fn write_counted<W: Write>(
 ) -> Result<usize, Failed>
     ensures within { IfOk result (λ count. count ≤ length piece.now) }
     ensures some { IfOk result (λ count. 0 < length piece.now → 0 < count) }
+    ensures taken { IfOk result (λ count. Appends (W.contents writer.old) (W.contents writer.new) (take count piece.now)) }
+    ensures err { OnErr result (Keeps (W.contents writer.old) (W.contents writer.new)) }
     ensures count { faults.new ≡ counted result faults.old }
     ensures cause { HasCause faults.old faults.new result }
 {
@@ -45,7 +51,7 @@ pub fn write_counted<W: Write>(
         match writer.write(piece) {
             Ok(count) if count > 0 => return Ok(count),
             Err(error) if error.kind() == ErrorKind::Interrupted => {}
-            _ => break,
+            _ => return Err(faults.fault()),
         }
     }
     Err(faults.fault())

@@ -1,5 +1,5 @@
 -- What a yes and a no of `tu` say of the matrix.
-use Rattle.std.proofs.Common.{◌≡◌, ◌≤◌, ◌⊎◌, ◌∙◌, ℕ, Bool, true, false, nat_lt, MatchBool, List, Option, Some, None, Result, Ok, Err, ap, sym, inl, inr, refl, arith}
+use Rattle.std.proofs.Common.{◌≡◌, ◌≤◌, ℕ, Bool, true, false, nat_lt, MatchBool, List, Option, Some, None, Result, Ok, Err, ap, inl, inr, refl, arith}
 use Rattle.cmr_base.specs.Matrix.{Matrix, height}
 use Rattle.cmr_base.specs.Signing.{IsTotallyUnimodular, IsLeastUnsigned}
 use Rattle.text_fields.specs.Reading.{Fault}
@@ -12,7 +12,7 @@ use Rattle.cmr_tools.specs.Words.Tu.{TuOrder}
 use Rattle.cmr_tools.specs.Report.{Held, Report}
 use Rattle.cmr_tools.specs.Outcome.{ended_report, many_rows}
 use Rattle.cmr_tools.specs.Inputs.{Reading, missing, above_limit, whole, reading, matrix_in}
-use Rattle.cmr_tools.specs.Tu.{TuAnswers, TuDecides, TuReads, TuOpens, tu_yes, tu_no}
+use Rattle.cmr_tools.specs.Tu.{TuAnswers, TuDecides, TuReads, TuOpens}
 use Rattle.cmr_tools.specs.Run.{Reports, Ends, IsGiven}
 
 decided_on : (o : TuOrder) (m : Matrix) (r : Report) → TuDecides o m r → r.status ≤ 1 → TuAnswers m r

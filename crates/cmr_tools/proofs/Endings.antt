@@ -1,5 +1,5 @@
 -- How a run ends, from what was decided and how that was carried out. Each tool's call rests on `runs`.
-use Rattle.std.proofs.Common.{◌≡◌, ◌<◌, ◌≤◌, ◌⊎◌, ◌+◌, ◌^◌, ◌∙◌, ℕ, Bool, IsTrue, List, Option, None, Result, Ok, Err, ap, sym, subst, inl, inr, arith, refl}
+use Rattle.std.proofs.Common.{◌≡◌, ◌≤◌, ◌⊎◌, ◌∙◌, ℕ, Bool, IsTrue, List, Option, None, Result, Ok, Err, ap, sym, subst, inl, inr, arith, refl}
 use Rattle.std.specs.Prelude.{IfErr}
 use Rattle.cmr_io.specs.Causes.{Rose}
 use Rattle.cmr_tools.specs.declared.outcome.Outcome.{Outcome}

@@ -46,8 +46,7 @@ pub left_at : (held mid new : Held) (files : List OutputFile) (k : ℕ) (file : 
     → StaysOrHoldsFront (mid (file_of file).name) (new (file_of file).name) (file_of file).bytes
     → IsLeftAt k (map file_of files) held new
 left_at held mid new files k file h is before others front =
-    let same = take-map files k in
-    (
+    let same = take-map files k in (
       file_of file,
       slice_get-map file_of files k ∙ ap (option_map file_of) (slice_get-get_or files k file h ∙ ap Some (sym is)),
       (λ name other. others name other ∙ before name ∙ ap (λ fs. with_files held fs name) (sym same)),

@@ -25,6 +25,6 @@ front old done part rest new (n, less, e) = (
   length done + n,
   omega (arith, length-append done (part ++ rest), length-append part rest),
   e ∙ append_assoc old done (take n part)
-  ∙ ap (λ p. old ++ (done ++ p)) (sym (take-append-le n part rest (omega arith)))
-  ∙ ap (λ p. old ++ p) (sym (take-append-add done (part ++ rest) n)),
+      ∙ ap (λ p. old ++ (done ++ p)) (sym (take-append-le n part rest (omega arith)))
+      ∙ ap (λ p. old ++ p) (sym (take-append-add done (part ++ rest) n)),
 )

@@ -1,5 +1,5 @@
 -- What stands on the devices when a run ends.
-use Rattle.std.specs.Prelude.{◌≡◌, ◌≢◌, ◌≤◌, ◌⊎◌, ◌++◌, ℕ, Bool, IsTrue, List, [], ◌∷◌, length, take, Option, Some, IsSomeAnd, slice_get, codes, Result, Ok, Err}
+use Rattle.std.specs.Prelude.{◌≡◌, ◌≢◌, ◌≤◌, ◌++◌, ℕ, Bool, IsTrue, List, length, take, Option, Some, IsSomeAnd, slice_get, codes, Result, Ok, Err}
 use Rattle.std.specs.List.{AllByRecursion}
 use Rattle.cmr_io.specs.Causes.{Rose}
 use Rattle.cmr_io.specs.Whole.{AppendsFront, StaysOrHoldsFront}

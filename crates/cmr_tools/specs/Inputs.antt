@@ -1,5 +1,5 @@
 -- What the files of a tool hold, and what their texts stand for.
-use Rattle.std.specs.Prelude.{◌≡◌, ℕ, nat_lt, if◌then◌else◌, Bool, List, length, Option, Some, None, Result, Ok, Err}
+use Rattle.std.specs.Prelude.{ℕ, nat_lt, if◌then◌else◌, Bool, List, length, Option, Some, None, Result}
 use Rattle.cmr_base.specs.Matrix.{Matrix}
 use Rattle.text_fields.specs.Words.{text_of}
 use Rattle.text_fields.specs.Reading.{Fault}

@@ -1,5 +1,5 @@
 -- The report that an outcome or a stop makes.
-use Rattle.std.specs.Prelude.{◌++◌, ℕ, List, [], ◌∷◌, map, codes, Result, Ok, Err}
+use Rattle.std.specs.Prelude.{◌++◌, ℕ, List, [], map, codes, Result, Ok, Err}
 use Rattle.std.specs.Fmt.{decimal}
 use Rattle.matrix_text.specs.declared.error.TextKind.{TextKind}
 use Rattle.matrix_text.specs.declared.error.TextKind.TheVariants as kinds

@@ -23,10 +23,20 @@ pub struct Outcome<'a> {
 #[derive(Clone, Copy, Debug)]
 pub enum Stop<'a> {
     BadWords,
-    CannotRead { name: &'a str },
-    TooLong { name: &'a str },
-    BadText { name: &'a str, kind: TextKind, place: usize },
-    ManyRows { name: &'a str },
+    CannotRead {
+        name: &'a str,
+    },
+    TooLong {
+        name: &'a str,
+    },
+    BadText {
+        name: &'a str,
+        kind: TextKind,
+        place: usize,
+    },
+    ManyRows {
+        name: &'a str,
+    },
     Memory,
 }
 

@@ -69,11 +69,7 @@ fn examine<'a, S: Shelf>(
     }
 }
 
-fn decide<'a>(
-    alloc: Global,
-    options: &TuOptions<'a>,
-    bytes: &[u8],
-) -> Result<Outcome<'a>, Stop<'a>>
+fn decide<'a>(alloc: Global, options: &TuOptions<'a>, bytes: &[u8]) -> Result<Outcome<'a>, Stop<'a>>
     ensures decided { IfOk result (λ outcome. TuReads (tu_order_of options.now) (matrix_in options.now.form false bytes.now) (outcome_report outcome)) }
     ensures status { IfOk result (λ outcome. outcome.status ≤ 1) }
     ensures stopped { IfErr result (TuStops (tu_order_of options.now) (matrix_in options.now.form false bytes.now)) }

@@ -1,4 +1,4 @@
-use Rattle.std.proofs.Common.{◌≡◌, ◌<◌, ◌∙◌, ap, map, refl, subst, sym, length}
+use Rattle.std.proofs.Common.{◌<◌, ap, map, refl, subst, length}
 use Rattle.cmr_tools.specs.Report.{File}
 use Rattle.cmr_tools.specs.Outcome.{cannot_write_line, file_of}
 use Rattle.cmr_tools.specs.Written.{IsWritten}

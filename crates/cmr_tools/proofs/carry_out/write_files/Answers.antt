@@ -1,4 +1,4 @@
-use Rattle.std.proofs.Common.{◌≡◌, ◌∙◌, ◌≤◌, inl, inr, arith}
+use Rattle.std.proofs.Common.{◌∙◌, arith}
 use Rattle.cmr_tools.proofs.Files.{one_more, left_at, room_at}
 use Rattle.cmr_tools.proofs.carry_out.write_files.Goals as goal
 

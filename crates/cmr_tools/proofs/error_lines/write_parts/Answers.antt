@@ -1,4 +1,4 @@
-use Rattle.std.proofs.Common.{◌≡◌, ◌∙◌, ◌++◌, take, drop, map, ◌+◌, ap, sym, subst, inl, inr, append_assoc, arith, [], get_or}
+use Rattle.std.proofs.Common.{◌∙◌, ◌++◌, take, drop, map, ◌+◌, ap, sym, subst, inl, inr, append_assoc, arith, []}
 use Rattle.std.specs.List.{concat}
 use Rattle.cmr_tools.proofs.Parts.{one_more, at, front}
 use Rattle.cmr_io.specs.Whole.{AppendsFront}

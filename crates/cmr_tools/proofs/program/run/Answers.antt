@@ -1,4 +1,4 @@
-use Rattle.std.proofs.Common.{◌≡◌, ◌≤◌, None, Err, refl, subst, inl, arith}
+use Rattle.std.proofs.Common.{◌≡◌, None, Err, refl, subst, inl, arith}
 use Rattle.cmr_tools.specs.declared.outcome.Stop.TheVariants as stops
 use Rattle.cmr_tools.specs.Words.{order, order_of}
 use Rattle.cmr_tools.specs.Words.Reading.{Gives}
@@ -17,23 +17,23 @@ returns-in-Err-Refused-clause-runs g c =
     let done = c.carry_out in
     let e : order c.args.words.now ≡ None = subst (λ f. Gives order_of (Err f) (order c.args.words.now)) c.in-Err-Refused.field-0-is c.in-Err-Refused.ensures in
     rw e (runs None
-      (standing (S.tells shelf) (O.tells out) (E.tells err) (S.is_calm shelf) (S.room shelf) (O.is_calm out) (O.room out))
-      (S.content shelf) (S.content shelf) (O.got out) (E.got err) (S.faults shelf) (S.faults shelf) (O.faults out) (E.faults err) (Err stops.BadWords)
-      (devices (S.content done.new.shelf) (O.got done.new.out) (E.got done.new.err) (S.faults done.new.shelf) (O.faults done.new.out) (E.faults done.new.err)) done.result
-      (record {
-        told = g.met.S.Shelf.calm_tells shelf;
-        ends = λ told. refl;
-        content = λ name. refl;
-        later = omega arith;
-        within = omega arith;
-        refused = λ none. inl refl;
-        refused_only = λ two. refl;
-        cause = λ four. absurd (omega arith);
-      })
-      (record {
-        carried_out = done.ensures.carried_out;
-        given = done.ensures.status;
-        ready = done.ensures.ready;
-        stopped = done.ensures.stopped;
-        later = done.ensures.later;
-      }))
+    (standing (S.tells shelf) (O.tells out) (E.tells err) (S.is_calm shelf) (S.room shelf) (O.is_calm out) (O.room out))
+    (S.content shelf) (S.content shelf) (O.got out) (E.got err) (S.faults shelf) (S.faults shelf) (O.faults out) (E.faults err) (Err stops.BadWords)
+    (devices (S.content done.new.shelf) (O.got done.new.out) (E.got done.new.err) (S.faults done.new.shelf) (O.faults done.new.out) (E.faults done.new.err)) done.result
+    (record {
+      told = g.met.S.Shelf.calm_tells shelf;
+      ends = λ told. refl;
+      content = λ name. refl;
+      later = omega arith;
+      within = omega arith;
+      refused = λ none. inl refl;
+      refused_only = λ two. refl;
+      cause = λ four. absurd (omega arith);
+    })
+    (record {
+      carried_out = done.ensures.carried_out;
+      given = done.ensures.status;
+      ready = done.ensures.ready;
+      stopped = done.ensures.stopped;
+      later = done.ensures.later;
+    }))

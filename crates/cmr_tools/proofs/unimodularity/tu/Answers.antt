@@ -1,4 +1,4 @@
-use Rattle.std.proofs.Common.{◌≡◌, ◌∙◌, Some, None, subst, sym, inl, inr, arith}
+use Rattle.std.proofs.Common.{◌≡◌, ◌∙◌, Some, subst, sym, inl, inr, arith}
 use Rattle.cmr_tools.specs.Words.{tu}
 use Rattle.cmr_tools.specs.Words.Tu.{tu_order_of}
 use Rattle.cmr_tools.specs.Ending.{devices, standing, HasRooms}
