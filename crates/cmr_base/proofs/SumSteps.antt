@@ -1,5 +1,5 @@
 -- Sums in a loop.
-use Rattle.std.proofs.Common.{ℕ, ◌+◌, ◌<◌, ◌≤◌, ℤ, pos, List, ◌∷◌, ◌≡◌, ◌+ℤ◌, ◌≤ℤ◌, get_or, drop, length, arith, w8, w32, to_z, of_z, neg_ℤ}
+use Rattle.std.proofs.Common.{ℕ, ◌+◌, ◌*◌, ◌<◌, ◌≤◌, SFits, ℤ, pos, List, ◌∷◌, ◌≡◌, ◌+ℤ◌, ◌≤ℤ◌, get_or, drop, length, arith, w8, w32, to_z, of_z, neg_ℤ}
 use Rattle.std.proofs.lemmas.Int.{ints}
 use Rattle.std.proofs.lemmas.List.{drop_more}
 use Rattle.cmr_base.specs.Matrix.{IsEntry}
@@ -20,3 +20,16 @@ sum_over-drop_more xs i f old new h e so_far = step old new (f (get_or xs i 0)) 
 -- an i32 keeps a sum of at most a thousand entries
 pub kept_entry : (old x : ℤ) (i : ℕ) → i ≤ 1000 → neg_ℤ (pos i) ≤ℤ old → old ≤ℤ pos i → IsEntry x → to_z w32 (of_z w32 (old +ℤ to_z w32 (of_z w32 (to_z w8 (of_z w8 x))))) ≡ old +ℤ x
 kept_entry old x i few low high small = let l = small.low in let h = small.high in omega (arith, ints)
+
+-- and of at most a thousand rows of that many entries
+pub kept_row : (old x : ℤ) (i : ℕ) → i < 1000 → neg_ℤ (pos (1000 * i)) ≤ℤ old → old ≤ℤ pos (1000 * i) → neg_ℤ (pos 1000) ≤ℤ x → x ≤ℤ pos 1000 → to_z w32 (of_z w32 (old +ℤ to_z w32 (of_z w32 x))) ≡ old +ℤ x
+kept_row old x i few low high from to = omega (arith, ints)
+
+pub row_fits : (old x : ℤ) (i : ℕ) → i < 1000 → neg_ℤ (pos (1000 * i)) ≤ℤ old → old ≤ℤ pos (1000 * i) → neg_ℤ (pos 1000) ≤ℤ x → x ≤ℤ pos 1000 → SFits w32 (old +ℤ to_z w32 (of_z w32 x))
+row_fits old x i few low high from to = omega (arith, ints)
+
+pub lower_row : (old x new : ℤ) (i : ℕ) → new ≡ old +ℤ x → neg_ℤ (pos (1000 * i)) ≤ℤ old → neg_ℤ (pos 1000) ≤ℤ x → neg_ℤ (pos (1000 * (i + 1))) ≤ℤ new
+lower_row old x new i e low from = omega (arith, ints)
+
+pub higher_row : (old x new : ℤ) (i : ℕ) → new ≡ old +ℤ x → old ≤ℤ pos (1000 * i) → x ≤ℤ pos 1000 → new ≤ℤ pos (1000 * (i + 1))
+higher_row old x new i e high to = omega (arith, ints)

@@ -1,7 +1,7 @@
 use Rattle.std.proofs.Common.{◌≡◌, ◌*◌, ◌+ℤ◌, ◌≤ℤ◌, pos, neg_ℤ, drop}
 use Rattle.cmr_base.specs.Matrix.{entry}
 use Rattle.cmr_base.specs.Sums.{sum_over}
-use Rattle.cmr_base.proofs.matrix_sum.Matrix.sum.Given as goal
+use Rattle.cmr_base.proofs.matrix.Matrix.sum.Given as goal
 
 -- the sum so far and that of the rest are all
 abbrev pub invariant-loop-row : goal.invariant-loop-row
