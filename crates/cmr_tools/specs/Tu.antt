@@ -1,19 +1,15 @@
 -- What `tu` reports.
-use Rattle.std.specs.Prelude.{◌≡◌, ◌⊎◌, ◌+◌, ◌++◌, ℕ, ℤ, nat_lt, min, MatchBool, false, List, [], ◌∷◌, length, Option, Some, None, Result, Ok, Err, codes}
-use Rattle.std.specs.Fmt.{decimal, signed_decimal}
-use Rattle.std.specs.List.{range_with_len}
-use Rattle.cmr_base.specs.Matrix.{Matrix, height, entry}
-use Rattle.cmr_base.specs.Sums.{sum_over}
-use Rattle.cmr_base.specs.Signing.{IsTotallyUnimodular}
-use Rattle.cmr_base.specs.Violator.{IsLeastViolator}
+use Rattle.std.specs.Prelude.{◌≡◌, ◌⊎◌, ◌+◌, ◌++◌, ℕ, nat_lt, MatchBool, false, List, [], ◌∷◌, Result, Ok, Err, codes}
+use Rattle.std.specs.Fmt.{decimal}
+use Rattle.cmr_base.specs.Matrix.{Matrix, height}
+use Rattle.cmr_base.specs.Signing.{IsTotallyUnimodular, IsLeastUnsigned}
 use Rattle.text_fields.specs.Reading.{Fault}
 use Rattle.matrix_text.specs.declared.error.TextKind.{TextKind}
-use Rattle.matrix_text.specs.Canonical.{submatrix_text}
 use Rattle.cmr_tools.specs.declared.outcome.Stop.{Stop}
 use Rattle.cmr_tools.specs.declared.outcome.Stop.TheVariants as stops
 use Rattle.cmr_tools.specs.Words.Tu.{TuOrder}
-use Rattle.cmr_tools.specs.Report.{Held, File, Report}
-use Rattle.cmr_tools.specs.Outcome.{bad_text, stop_report, too_long}
+use Rattle.cmr_tools.specs.Report.{Held, Report}
+use Rattle.cmr_tools.specs.Outcome.{bad_text, many_rows, stop_report, too_long}
 use Rattle.cmr_tools.specs.Inputs.{Reading, missing, above_limit, whole, reading, matrix_in}
 
 -- numbers of lines, counted from 1, each after a space
@@ -21,46 +17,22 @@ abbrev pub line_numbers : List ℕ → List ℕ
 line_numbers [] = []
 line_numbers (line ∷ lines) = codes " " ++ decimal (line + 1) ++ line_numbers lines
 
--- a set of lines as it is printed
-abbrev pub line_set : List ℕ → List ℕ → List ℕ
-line_set rows columns = codes "rows" ++ line_numbers rows ++ codes " columns" ++ line_numbers columns
-
--- a file of this name, where one is asked for
-abbrev pub asked_file : Option (List ℕ) → List ℕ → List File
-asked_file None bytes = []
-asked_file (Some name) bytes = record { name = name; bytes = bytes } ∷ []
-
--- the sum of the entries of a submatrix
-abbrev pub submatrix_sum : Matrix → List ℕ → List ℕ → ℤ
-submatrix_sum m rows columns = sum_over rows (λ row. sum_over columns (λ column. entry m row column))
+abbrev pub answers : ℕ → List ℕ → Report
+answers status output = record { status = status; output = output; error = []; files = [] }
 
 abbrev pub tu_yes : Report
-tu_yes = record { status = 0; output = codes "totally unimodular: yes\n"; error = []; files = [] }
+tu_yes = answers 0 (codes "totally unimodular: yes\n")
 
-abbrev pub tu_no : TuOrder → Matrix → List ℕ → List ℕ → Report
-tu_no o m rows columns = record {
-  status = 1;
-  output = codes "totally unimodular: no\nviolator " ++ line_set rows columns ++ codes " sum " ++ signed_decimal (submatrix_sum m rows columns) ++ codes "\n";
-  error = [];
-  files = asked_file o.fault (submatrix_text (height m) m.width (record { rows = rows; columns = columns }));
-}
+abbrev pub tu_no : List ℕ → Report
+tu_no rows = answers 1 (codes "totally unimodular: no\nrows" ++ line_numbers rows ++ codes "\n")
 
-abbrev pub tu_undecided : Matrix → Report
-tu_undecided m = record {
-  status = 6;
-  output = codes "totally unimodular: undecided\nopen " ++ line_set (range_with_len 0 (height m)) (range_with_len 0 m.width) ++ codes "\n";
-  error = [];
-  files = [];
-}
+-- on a matrix within the limit of eight rows
+abbrev pub TuAnswers : Matrix → Report → Type 0
+TuAnswers m report = (IsTotallyUnimodular m × (report ≡ tu_yes)) ⊎ ((rows : List ℕ) × IsLeastUnsigned m rows × (report ≡ tu_no rows))
 
--- within the budget: a yes where each row set has a signing, and else a no with the least violator
-abbrev pub TuAnswers : TuOrder → Matrix → Report → Type 0
-TuAnswers o m report = (IsTotallyUnimodular m × (report ≡ tu_yes))
-    ⊎ ((rows columns : List ℕ) × IsLeastViolator m rows columns × (report ≡ tu_no o m rows columns))
-
--- on a matrix: undecided where its shorter side has more lines than the budget
+-- on a matrix
 abbrev pub TuDecides : TuOrder → Matrix → Report → Type 0
-TuDecides o m report = MatchBool (nat_lt o.lines (min (height m) m.width)) (report ≡ tu_undecided m) (TuAnswers o m report)
+TuDecides o m report = MatchBool (nat_lt 8 (height m)) (report ≡ many_rows o.file) (TuAnswers m report)
 
 -- on what a text stands for
 abbrev pub TuReads : TuOrder → Result Matrix (Fault TextKind) → Report → Type 0
@@ -83,4 +55,5 @@ TuStops o read stops.BadWords = ⊥
 TuStops o read (stops.CannotRead name) = ⊥
 TuStops o read (stops.TooLong name) = ⊥
 TuStops o read (stops.BadText name kind place) = TuReads o read (stop_report (stops.BadText name kind place))
+TuStops o read (stops.ManyRows name) = TuReads o read (stop_report (stops.ManyRows name))
 TuStops o read stops.Memory = Unit {0}
