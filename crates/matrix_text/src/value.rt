@@ -90,7 +90,11 @@ pub fn allowed(entry: i8, binary: bool) -> Result<i8, TextKind>
     ensures value { result ≡ allowed binary entry }
     ensures small { IfOk result IsEntry }
 {
-    if binary && entry < 0 { Err(TextKind::NotBinary) } else { Ok(entry) }
+    if binary && entry < 0 {
+        Err(TextKind::NotBinary)
+    } else {
+        Ok(entry)
+    }
 }
 
 /// An entry.
