@@ -1,8 +1,7 @@
 -- Entries that stand right between white bytes.
-use Rattle.std.proofs.Common.{◌≡◌, ◌≢◌, ◌<◌, ◌≤◌, ◌+◌, ◌-◌, ◌∙◌, ℕ, zero, suc, ℤ, pos, negsuc, neg_ℤ, Bool, true, false, eqb, List, [], ◌∷◌, length, drop, get_or, refl, ap, sym, subst, inl, inr, arith}
+use Rattle.std.proofs.Common.{◌≡◌, ◌≢◌, ◌<◌, ◌≤◌, ◌+◌, ◌-◌, ◌∙◌, ℕ, zero, suc, ℤ, pos, negsuc, neg_ℤ, true, false, List, [], ◌∷◌, length, drop, get_or, refl, ap, subst, inl, inr, arith}
 use Rattle.std.specs.Fmt.{signed_decimal}
 use Rattle.std.proofs.lemmas.Bool.{cases_eq}
-use Rattle.std.proofs.lemmas.Bool.Decides.{nat_tests}
 use Rattle.text_fields.specs.Words.{is_space, with_word, run_and_words, words_from}
 use Rattle.text_fields.proofs.Runs.{words_skip, run_more, run_stops}
 use Rattle.text_fields.proofs.Entries.{zero_text, one_text, minus_one_text}
@@ -51,7 +50,7 @@ entry_words bytes at zero entry inside before small none from to plus minus spac
     rw here (plus_word bytes at size entry inside before digit (omega arith) (plus refl) (subst (λ k. is_space (get_or bytes (k + 1) 0) ≡ true) here space))
 entry_words bytes at (suc zero) entry inside before small none from to plus minus space =
     let digit : get_or bytes (at + 1 + 1) 0 ≡ 49 = omega arith in
-    let sign : get_or bytes (at + 1) 0 ≡ 45 = elim (cases_eq (get_or bytes (at + 1) 0) 45) [ | inl e ↦ e | inr ne ↦ absurd (let h = none ne in omega arith) ] in
+    let sign : get_or bytes (at + 1) 0 ≡ 45 = elim (cases_eq (get_or bytes (at + 1) 0) 45) [ inl e ↦ e | inr ne ↦ absurd (let h = none ne in omega arith) ] in
     let size : get_or bytes (at + 1 + 1) 0 - 48 ≡ 1 = omega arith in
     minus_word bytes at entry inside before sign digit (minus refl ∙ ap (λ n. neg_ℤ (pos n)) size) space
 entry_words bytes at (suc (suc n)) entry inside before small none from to plus minus space = absurd (omega arith)

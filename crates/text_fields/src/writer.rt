@@ -111,5 +111,9 @@ fn spaced_entry(entry: i8) -> ([u8; 3], usize)
     ensures text { take result.1 result.0 ≡ 32 ∷ signed_decimal entry }
 {
     let digit = b'0' + entry.unsigned_abs();
-    if entry < 0 { ([b' ', b'-', digit], 3) } else { ([b' ', digit, digit], 2) }
+    if entry < 0 {
+        ([b' ', b'-', digit], 3)
+    } else {
+        ([b' ', digit, digit], 2)
+    }
 }

@@ -1,9 +1,8 @@
-use Rattle.std.proofs.Common.{◌≡◌, ◌∙◌, ◌∷◌, ℤ, Result, ap, subst, sym, rules, SFits, w8}
+use Rattle.std.proofs.Common.{◌≡◌, ◌∙◌, ℤ, Result, ap, subst, sym, rules, SFits, w8}
 use Rattle.std.specs.Fmt.{signed_decimal}
 use Rattle.std.proofs.lemmas.Int.{to_z-of_z}
 use Rattle.text_fields.specs.Result.{◌>>=◌, renamed}
-use Rattle.text_fields.specs.Reading.{placed, Gives, Reads}
-use Rattle.text_fields.specs.declared.error.FieldError.{FieldError}
+use Rattle.text_fields.specs.Reading.{placed, Gives}
 use Rattle.text_fields.proofs.Entries.{entry_again}
 use Rattle.text_fields.proofs.Fields.{placed_reads}
 use Rattle.matrix_text.specs.declared.error.TextKind.{TextKind}
