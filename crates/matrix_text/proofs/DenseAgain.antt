@@ -1,5 +1,5 @@
 -- A dense text that was written is read again as the same matrix.
-use Rattle.std.proofs.Common.{◌≡◌, ◌≢◌, ◌<◌, ◌*◌, ◌∙◌, ℕ, suc, ℤ, pos, negsuc, Bool, true, false, List, [], ◌∷◌, length, get_or, map, Ok, refl, ap, sym, subst, inl, inr, arith}
+use Rattle.std.proofs.Common.{◌≡◌, ◌≢◌, ◌*◌, ◌∙◌, ℕ, ℤ, negsuc, Bool, true, false, List, [], ◌∷◌, length, map, Ok, refl, ap, sym, subst, inl, inr, arith}
 use Rattle.std.specs.Prelude.{IsTrue}
 use Rattle.std.specs.Fmt.{decimal, signed_decimal}
 use Rattle.std.specs.List.{AllByRecursion, flat_map}
@@ -14,20 +14,8 @@ use Rattle.text_fields.proofs.Spelled.{Spell-rows, words-rows}
 use Rattle.matrix_text.specs.Values.{allowed, entry_in}
 use Rattle.matrix_text.specs.Dense.{dense}
 use Rattle.matrix_text.specs.Canonical.{dense_lines, dense_text}
+use Rattle.matrix_text.proofs.Entries.{all_entries, all_widths}
 use Rattle.matrix_text.proofs.DenseTexts.{dense_only}
-
--- what holds of each entry, and of 0, holds of all of them
-row_entries : (P : ℤ → Type 0) (row : List ℤ) → ((k : ℕ) → P (get_or row k (pos 0))) → AllByRecursion P row
-row_entries P [] each = tt
-row_entries P (z ∷ row) each = (each 0, row_entries P row (λ k. each (suc k)))
-
-pub all_entries : (P : ℤ → Type 0) (rows : List (List ℤ)) → ((r k : ℕ) → P (get_or (get_or rows r []) k (pos 0))) → AllByRecursion (AllByRecursion P) rows
-all_entries P [] each = tt
-all_entries P (row ∷ rows) each = (row_entries P row (each 0), all_entries P rows (λ r. each (suc r)))
-
-pub all_widths : (width : ℕ) (rows : List (List ℤ)) → ((r : ℕ) → r < length rows → length (get_or rows r []) ≡ width) → AllByRecursion (λ row. length row ≡ width) rows
-all_widths width [] each = tt
-all_widths width (row ∷ rows) each = (each 0 (omega arith), all_widths width rows (λ r h. each (suc r) (omega arith)))
 
 -- rows, one after another, are cut into the same rows
 rows_again : (width : ℕ) (rows : List (List ℤ)) → AllByRecursion (λ row. length row ≡ width) rows → rows_of (length rows) width (flat_map (λ row. row) rows) ≡ rows

@@ -1,5 +1,5 @@
 -- Reading gives exactly the matrix whose dense text the words are.
-use Rattle.std.proofs.Common.{◌≡◌, ◌≤◌, ◌*◌, ◌∙◌, ℕ, ℤ, Bool, List, [], ◌∷◌, ◌++◌, length, Result, Ok, Err, refl, ap, sym, subst}
+use Rattle.std.proofs.Common.{◌≡◌, ◌*◌, ◌∙◌, ℕ, ℤ, Bool, List, [], ◌∷◌, ◌++◌, length, Result, Ok, Err, refl, ap, sym, subst}
 use Rattle.std.specs.Prelude.{IfOk}
 use Rattle.std.proofs.lemmas.List.{append-nil}
 use Rattle.cmr_base.specs.Matrix.{Matrix, rows_of}
@@ -9,14 +9,13 @@ use Rattle.text_fields.specs.Numbers.{count_in}
 use Rattle.text_fields.specs.Spelling.{texts_of, Spell}
 use Rattle.text_fields.specs.Reading.{field, fields, ended, Gives}
 use Rattle.text_fields.specs.declared.error.FieldError.{FieldError}
-use Rattle.text_fields.proofs.Results.{bind_ok, renamed_ok}
-use Rattle.text_fields.proofs.Fields.{field_ok, fields_ok, fields_again, ended_ok}
+use Rattle.text_fields.proofs.Results.{bind_ok}
+use Rattle.text_fields.proofs.Fields.{fields_ok, fields_again, ended_ok}
 use Rattle.matrix_text.specs.declared.error.TextKind.{TextKind}
 use Rattle.matrix_text.specs.declared.error.TextKind.TheVariants.{Short, Extra, TooManyRows, TooManyColumns}
-use Rattle.matrix_text.specs.Kinds.{text_kind}
 use Rattle.matrix_text.specs.Values.{limited, entry_in}
 use Rattle.matrix_text.specs.Dense.{IsDense, dense}
-use Rattle.matrix_text.proofs.Lines.{limited_ok, limited_again}
+use Rattle.matrix_text.proofs.Lines.{size_found, limited_again}
 
 entries_found : (binary : Bool) (height width : ℕ) (text : Text) (m : Matrix) → (fields Short (entry_in binary) (height * width) text >>= λ cells. ended Extra (record { rows = rows_of height width cells.0; width = width }) cells.1) ≡ Ok m
     → (cells : List ℤ) × Spell (entry_in binary) (texts_of text.words) cells × (length cells ≡ height * width) × (m ≡ record { rows = rows_of height width cells; width = width })
@@ -27,14 +26,6 @@ entries_found binary height width text m h =
     let words : text.words ≡ all.front = all.words_are ∙ ap (λ ws. all.front ++ ws) end.0 ∙ append-nil all.front in
     (b.0.0, subst (λ ws. Spell (entry_in binary) (texts_of ws) b.0.0) (sym words) (subst (Spell (entry_in binary) (texts_of all.front)) (sym all.values_are) all.spell), ap length all.values_are ∙ all.count, sym end.1)
 
--- a count of at most so much that was read
-size_found : (most : ℕ) (beyond : TextKind) (text : Text) (n : ℕ) (rest : Text) → field Short (limited most beyond) text ≡ Ok (n, rest)
-    → (word : ℕ × List ℕ) × (text.words ≡ word ∷ rest.words) × (count_in word.1 ≡ Ok n) × (n ≤ most)
-size_found most beyond text n rest h =
-    let f = field_ok Short (limited most beyond) text n rest h in
-    let l = limited_ok most beyond f.word.1 n f.parsed in
-    (f.word, f.words_are, renamed_ok text_kind (count_in f.word.1) n l.0, l.1)
-
 two_words : (first second : ℕ × List ℕ) (words later rest : List (ℕ × List ℕ)) → words ≡ first ∷ later → later ≡ second ∷ rest → texts_of words ≡ first.1 ∷ second.1 ∷ texts_of rest
 two_words first second words later rest e h = rw (e, h) refl
 
@@ -43,8 +34,8 @@ pub dense_found : (binary : Bool) (text : Text) (m : Matrix) → dense binary te
 dense_found binary text m h =
     let b = bind_ok (field Short (limited 1000 TooManyRows) text) (λ (height : ℕ × Text). field Short (limited 1000 TooManyColumns) height.1 >>= λ width. fields Short (entry_in binary) (height.0 * width.0) width.1 >>= λ cells. ended Extra (record { rows = rows_of height.0 width.0 cells.0; width = width.0 }) cells.1) m h in
     let d = bind_ok (field Short (limited 1000 TooManyColumns) b.0.1) (λ (width : ℕ × Text). fields Short (entry_in binary) (b.0.0 * width.0) width.1 >>= λ cells. ended Extra (record { rows = rows_of b.0.0 width.0 cells.0; width = width.0 }) cells.1) m b.2 in
-    let rows = size_found 1000 TooManyRows text b.0.0 b.0.1 b.1 in
-    let columns = size_found 1000 TooManyColumns b.0.1 d.0.0 d.0.1 d.1 in
+    let rows = size_found 1000 TooManyRows text b.0 b.1 in
+    let columns = size_found 1000 TooManyColumns b.0.1 d.0 d.1 in
     let all = entries_found binary b.0.0 d.0.0 d.0.1 m d.2 in
     record {
       height = b.0.0;

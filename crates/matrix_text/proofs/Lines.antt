@@ -9,10 +9,11 @@ use Rattle.cmr_base.specs.LineSets.{AllBelow}
 use Rattle.text_fields.specs.Words.{Text}
 use Rattle.text_fields.specs.Numbers.{count_in}
 use Rattle.text_fields.specs.Reading.{field}
-use Rattle.text_fields.proofs.Fields.{field-same}
-use Rattle.text_fields.proofs.Results.{bind-same, bind_ok, guard_ok, bar_ok}
+use Rattle.text_fields.proofs.Fields.{field_ok, field-same}
+use Rattle.text_fields.proofs.Results.{bind-same, bind_ok, guard_ok, bar_ok, renamed_ok}
 use Rattle.matrix_text.specs.declared.error.TextKind.{TextKind}
 use Rattle.matrix_text.specs.declared.error.TextKind.TheVariants.{Short, ColumnOutOfRange, TwiceNamed}
+use Rattle.matrix_text.specs.Kinds.{text_kind}
 use Rattle.matrix_text.specs.Values.{count, limited, line_in, free_column_in}
 
 pub limited_ok : (most : ℕ) (beyond : TextKind) (word : List ℕ) (n : ℕ) → limited most beyond word ≡ Ok n → (count word ≡ Ok n) × (n ≤ most)
@@ -23,6 +24,13 @@ limited_ok most beyond word n h =
 
 pub limited_again : (most : ℕ) (beyond : TextKind) (word : List ℕ) (n : ℕ) → count_in word ≡ Ok n → n ≤ most → limited most beyond word ≡ Ok n
 limited_again most beyond word n h le = let t : leb n most ≡ true = le-leb n most le in rw (h, t) refl
+
+-- a count of at most so much that was read
+pub size_found : (most : ℕ) (beyond : TextKind) (text : Text) (n : ℕ × Text) → field Short (limited most beyond) text ≡ Ok n → (word : ℕ × List ℕ) × (text.words ≡ word ∷ (n.1).words) × (count_in word.1 ≡ Ok n.0) × (n.0 ≤ most)
+size_found most beyond text n h =
+    let f = field_ok Short (limited most beyond) text n.0 n.1 h in
+    let l = limited_ok most beyond f.word.1 n.0 f.parsed in
+    (f.word, f.words_are, renamed_ok text_kind (count_in f.word.1) n.0 l.0, l.1)
 
 pub line_in_ok : (most : ℕ) (outside : TextKind) (word : List ℕ) (n : ℕ) → line_in most outside word ≡ Ok n → (count word ≡ Ok n) × (0 < n) × (n ≤ most)
 line_in_ok most outside word n h =

@@ -17,7 +17,8 @@ use Rattle.matrix_text.specs.Values.{entry_in}
 use Rattle.matrix_text.specs.Sparse.{Triple, names, is_named, value_at, SpellTriples, IsPlaced, NameOnce, sparse}
 use Rattle.matrix_text.specs.Canonical.{row_triples, triples_from, triple_line, sparse_lines, sparse_text}
 use Rattle.matrix_text.proofs.Places.{table_of, value_unnamed}
-use Rattle.matrix_text.proofs.DenseAgain.{all_entries, all_widths, entry_in_again}
+use Rattle.matrix_text.proofs.Entries.{all_entries, all_widths}
+use Rattle.matrix_text.proofs.DenseAgain.{entry_in_again}
 use Rattle.matrix_text.proofs.SparseTexts.{sparse_only}
 
 -- what holds of a nonzero's triple and of those behind it

@@ -1,5 +1,5 @@
 -- Reading gives exactly the matrix whose sparse text the words are.
-use Rattle.std.proofs.Common.{◌≡◌, ◌≤◌, ◌∙◌, ℕ, zero, suc, ℤ, Bool, false, eqb, List, [], ◌∷◌, ◌++◌, length, Result, Ok, Err, refl, ap, sym, subst, append_assoc, arith}
+use Rattle.std.proofs.Common.{◌≡◌, ◌∙◌, ℕ, zero, suc, ℤ, Bool, false, eqb, List, [], ◌∷◌, ◌++◌, length, Result, Ok, Err, refl, ap, sym, subst, append_assoc, arith}
 use Rattle.std.specs.Prelude.{IfOk}
 use Rattle.std.specs.List.{AllByRecursion}
 use Rattle.std.proofs.lemmas.Bool.Decides.{nat_tests}
@@ -19,7 +19,7 @@ use Rattle.matrix_text.specs.declared.error.TextKind.TheVariants.{Short, Extra, 
 use Rattle.matrix_text.specs.Kinds.{text_kind}
 use Rattle.matrix_text.specs.Values.{count, limited, entry_in}
 use Rattle.matrix_text.specs.Sparse.{Triple, names, is_named, matrix_of_triples, SpellTriples, IsPlaced, NameOnce, IsSparse, free_place, another_triple, matrix_by_triples, sparse}
-use Rattle.matrix_text.proofs.Lines.{limited_ok, limited_again}
+use Rattle.matrix_text.proofs.Lines.{size_found, limited_again}
 use Rattle.matrix_text.proofs.FreePlaces.{free_place_ok, free_place_again}
 
 names_back : (s t : Triple) → names s.row s.column t ≡ false → names t.row t.column s ≡ false
@@ -141,12 +141,6 @@ triples_again binary height width size (r ∷ c ∷ v ∷ words) later before (t
     let moved = sym (append_assoc before (t ∷ []) triples) in
     rw (place, spell.2) (triples_again binary height width size words later (before ++ t ∷ []) triples spell.3 placed.1 (subst NameOnce moved once) ∙ ap (λ ts. Ok (ts, record { size = size; words = later })) (append_assoc before (t ∷ []) triples))
 
-size_found : (most : ℕ) (beyond : TextKind) (text : Text) (n : ℕ × Text) → field Short (limited most beyond) text ≡ Ok n → (word : ℕ × List ℕ) × (text.words ≡ word ∷ (n.1).words) × (count_in word.1 ≡ Ok n.0) × (n.0 ≤ most)
-size_found most beyond text n h =
-    let f = field_ok Short (limited most beyond) text n.0 n.1 h in
-    let l = limited_ok most beyond f.word.1 n.0 f.parsed in
-    (f.word, f.words_are, renamed_ok text_kind (count_in f.word.1) n.0 l.0, l.1)
-
 count_found : (text : Text) (n : ℕ × Text) → field Short count text ≡ Ok n → (word : ℕ × List ℕ) × (text.words ≡ word ∷ (n.1).words) × (count_in word.1 ≡ Ok n.0)
 count_found text n h =
     let f = field_ok Short count text n.0 n.1 h in
@@ -164,19 +158,22 @@ list_found : (binary : Bool) (height width n : ℕ) (text : Text) (m : Matrix) �
 list_found binary height width n text m h =
     let a = bind_ok (matrix_by_triples binary height width n text) (λ (matrix : Matrix × Text). ended Extra matrix.0 matrix.1) m h in
     let b = bind_ok (times (another_triple binary height width) n [] text) (λ (triples : List Triple × Text). Ok (matrix_of_triples height width triples.0, triples.1)) a.0 a.1 in
-    let e = ok_same (matrix_of_triples height width b.0.0, b.0.1) a.0 b.2 in
-    let end = ended_ok Extra a.0.0 a.0.1 m a.2 in
-    let all = triples_ok binary height width n [] text b.0.0 b.0.1 b.1 in
-    let none : (b.0.1).words ≡ [] = ap (λ (p : Matrix × Text). (p.1).words) e ∙ end.0 in
-    let words : text.words ≡ all.front = all.words_are ∙ ap (λ ws. all.front ++ ws) none ∙ append-nil all.front in
-    record {
-      triples = b.0.0;
-      spell = subst (λ ws. SpellTriples binary (texts_of ws) b.0.0) (sym words) (subst (SpellTriples binary (texts_of all.front)) (sym all.triples_are) all.spell);
-      count = ap length all.triples_are ∙ all.count;
-      placed = subst (AllByRecursion (IsPlaced height width)) (sym all.triples_are) all.placed;
-      once = all.once tt;
-      matrix = sym (ap (λ (p : Matrix × Text). p.0) e ∙ end.1);
-    }
+    go a.0 b.0 (ok_same (matrix_of_triples height width b.0.0, b.0.1) a.0 b.2) b.1 a.2
+  where
+    go : (made : Matrix × Text) (read : List Triple × Text) → ◌≡◌ {A = Matrix × Text} (matrix_of_triples height width read.0, read.1) made → times (another_triple binary height width) n [] text ≡ Ok read → ended Extra made.0 made.1 ≡ Ok m → IsList binary height width n (texts_of text.words) m
+    go made read e hr he =
+        let end = ended_ok Extra made.0 made.1 m he in
+        let all = triples_ok binary height width n [] text read.0 read.1 hr in
+        let none : (read.1).words ≡ [] = ap (λ (p : Matrix × Text). (p.1).words) e ∙ end.0 in
+        let words : text.words ≡ all.front = all.words_are ∙ ap (λ ws. all.front ++ ws) none ∙ append-nil all.front in
+        record {
+          triples = read.0;
+          spell = subst (λ ws. SpellTriples binary (texts_of ws) read.0) (sym words) (subst (SpellTriples binary (texts_of all.front)) (sym all.triples_are) all.spell);
+          count = ap length all.triples_are ∙ all.count;
+          placed = subst (AllByRecursion (IsPlaced height width)) (sym all.triples_are) all.placed;
+          once = all.once tt;
+          matrix = sym (ap (λ (p : Matrix × Text). p.0) e ∙ end.1);
+        }
 
 three_words : (a b c : ℕ × List ℕ) (words x y rest : List (ℕ × List ℕ)) → words ≡ a ∷ x → x ≡ b ∷ y → y ≡ c ∷ rest → texts_of words ≡ a.1 ∷ b.1 ∷ c.1 ∷ texts_of rest
 three_words a b c words x y rest e f g = rw (e, f, g) refl
@@ -187,29 +184,33 @@ sparse_found binary text m h =
     let a = bind_ok (field Short (limited 1000 TooManyRows) text) (λ (height : ℕ × Text). field Short (limited 1000 TooManyColumns) height.1 >>= λ width. field Short count width.1 >>= λ n. matrix_by_triples binary height.0 width.0 n.0 n.1 >>= λ matrix. ended Extra matrix.0 matrix.1) m h in
     let b = bind_ok (field Short (limited 1000 TooManyColumns) a.0.1) (λ (width : ℕ × Text). field Short count width.1 >>= λ n. matrix_by_triples binary a.0.0 width.0 n.0 n.1 >>= λ matrix. ended Extra matrix.0 matrix.1) m a.2 in
     let d = bind_ok (field Short count b.0.1) (λ (n : ℕ × Text). matrix_by_triples binary a.0.0 b.0.0 n.0 n.1 >>= λ matrix. ended Extra matrix.0 matrix.1) m b.2 in
-    let height = size_found 1000 TooManyRows text a.0 a.1 in
-    let width = size_found 1000 TooManyColumns a.0.1 b.0 b.1 in
-    let n = count_found b.0.1 d.0 d.1 in
-    let all = list_found binary a.0.0 b.0.0 d.0.0 d.0.1 m d.2 in
-    record {
-      height = a.0.0;
-      width = b.0.0;
-      triples = all.triples;
-      height_word = height.0.1;
-      width_word = width.0.1;
-      count_word = n.0.1;
-      triple_words = texts_of (d.0.1).words;
-      words_are = three_words height.0 width.0 n.0 text.words (a.0.1).words (b.0.1).words (d.0.1).words height.1 width.1 n.1;
-      height_is = height.2;
-      width_is = width.2;
-      height_in = height.3;
-      width_in = width.3;
-      count_is = n.2 ∙ ap Ok (sym all.count);
-      triples_are = all.spell;
-      placed = all.placed;
-      once = all.once;
-      matrix = all.matrix;
-    }
+    go a.0 b.0 d.0 a.1 b.1 d.1 d.2
+  where
+    go : (a b d : ℕ × Text) → field Short (limited 1000 TooManyRows) text ≡ Ok a → field Short (limited 1000 TooManyColumns) a.1 ≡ Ok b → field Short count b.1 ≡ Ok d → (matrix_by_triples binary a.0 b.0 d.0 d.1 >>= λ matrix. ended Extra matrix.0 matrix.1) ≡ Ok m → IsSparse binary (texts_of text.words) m
+    go a b d ha hb hd h =
+        let height = size_found 1000 TooManyRows text a ha in
+        let width = size_found 1000 TooManyColumns a.1 b hb in
+        let n = count_found b.1 d hd in
+        let all = list_found binary a.0 b.0 d.0 d.1 m h in
+        record {
+          height = a.0;
+          width = b.0;
+          triples = all.triples;
+          height_word = height.0.1;
+          width_word = width.0.1;
+          count_word = n.0.1;
+          triple_words = texts_of (d.1).words;
+          words_are = three_words height.0 width.0 n.0 text.words (a.1).words (b.1).words (d.1).words height.1 width.1 n.1;
+          height_is = height.2;
+          width_is = width.2;
+          height_in = height.3;
+          width_in = width.3;
+          count_is = n.2 ∙ ap Ok (sym all.count);
+          triples_are = all.spell;
+          placed = all.placed;
+          once = all.once;
+          matrix = all.matrix;
+        }
 
 -- what is a sparse text is read
 pub sparse_only : (binary : Bool) (size : ℕ) (words : List (ℕ × List ℕ)) (m : Matrix) → IsSparse binary (texts_of words) m → sparse binary (record { size = size; words = words }) ≡ Ok m

@@ -17,7 +17,7 @@ use Rattle.matrix_text.specs.declared.error.TextKind.TheVariants.{Short, Extra, 
 use Rattle.matrix_text.specs.Kinds.{text_kind}
 use Rattle.matrix_text.specs.Values.{count, limited, own_size}
 use Rattle.matrix_text.specs.Submatrix.{IsSubmatrix, numbers_of, rising_lines, submatrix}
-use Rattle.matrix_text.proofs.Lines.{limited_ok, limited_again, rising_count}
+use Rattle.matrix_text.proofs.Lines.{size_found, limited_again, rising_count}
 use Rattle.matrix_text.proofs.Rising.{RisesIn, rises_in, increasing, all_below, lines_ok, lines_again}
 
 own_size_found : (size : ℕ) (text : Text) (n : ℕ) (rest : Text) → field Short (own_size size) text ≡ Ok (n, rest) → (word : ℕ × List ℕ) × (text.words ≡ word ∷ rest.words) × (count_in word.1 ≡ Ok size)
@@ -27,12 +27,6 @@ own_size_found size text n rest h =
     let g = guard_ok (eqb b.0 size) b.0 n OtherSize b.2 in
     let same : b.0 ≡ size = grind (arith, nat_tests, g.0) in
     (f.word, f.words_are, renamed_ok text_kind (count_in f.word.1) b.0 b.1 ∙ ap Ok same)
-
-size_found : (most : ℕ) (beyond : TextKind) (text : Text) (n : ℕ) (rest : Text) → field Short (limited most beyond) text ≡ Ok (n, rest) → (word : ℕ × List ℕ) × (text.words ≡ word ∷ rest.words) × (count_in word.1 ≡ Ok n)
-size_found most beyond text n rest h =
-    let f = field_ok Short (limited most beyond) text n rest h in
-    let l = limited_ok most beyond f.word.1 n f.parsed in
-    (f.word, f.words_are, renamed_ok text_kind (count_in f.word.1) n l.0)
 
 -- the two lists and the end
 abbrev lines_behind : ℕ → ℕ → ℕ → ℕ → Text → Result LineSet (Fault TextKind)
@@ -56,25 +50,29 @@ lists_found : (height width p q : ℕ) (text : Text) (lines : LineSet) → lines
 lists_found height width p q text lines h =
     let a = bind_ok (rising_lines height RowOutOfRange p text) (λ (rows : List ℕ × Text). rising_lines width ColumnOutOfRange q rows.1 >>= λ columns. ended Extra (record { rows = rows.0; columns = columns.0 }) columns.1) lines h in
     let b = bind_ok (rising_lines width ColumnOutOfRange q a.0.1) (λ (columns : List ℕ × Text). ended Extra (record { rows = a.0.0; columns = columns.0 }) columns.1) lines a.2 in
-    let rows = lines_ok height RowOutOfRange p [] text a.0.0 a.0.1 a.1 in
-    let columns = lines_ok width ColumnOutOfRange q [] a.0.1 b.0.0 b.0.1 b.1 in
-    let end = ended_ok Extra (record { rows = a.0.0; columns = b.0.0 }) b.0.1 lines b.2 in
-    let rows_are : rows.read ≡ lines.rows = sym rows.lines_are ∙ ap (λ (l : LineSet). l.rows) end.1 in
-    let columns_are : columns.read ≡ lines.columns = sym columns.lines_are ∙ ap (λ (l : LineSet). l.columns) end.1 in
-    record {
-      row_words = texts_of rows.front;
-      column_words = texts_of columns.front;
-      words_are = both rows.front columns.front text.words (a.0.1).words (b.0.1).words rows.words_are columns.words_are end.0;
-      rows_are = subst (λ ls. Spell count_in (texts_of rows.front) (numbers_of ls)) rows_are rows.spell;
-      columns_are = subst (λ ls. Spell count_in (texts_of columns.front) (numbers_of ls)) columns_are columns.spell;
-      row_count = ap length (sym rows_are) ∙ rows.count;
-      column_count = ap length (sym columns_are) ∙ columns.count;
-      rows_rise = subst (RisesIn 0 height) rows_are rows.rises;
-      columns_rise = subst (RisesIn 0 width) columns_are columns.rises;
-    }
+    go a.0 b.0 a.1 b.1 b.2
   where
     both : (front next words later rest : List (ℕ × List ℕ)) → words ≡ front ++ later → later ≡ next ++ rest → rest ≡ [] → texts_of words ≡ texts_of front ++ texts_of next
     both front next words later rest e g none = ap texts_of (e ∙ ap (λ ws. front ++ ws) (g ∙ ap (λ ws. next ++ ws) none ∙ append-nil next)) ∙ map-append (λ (word : ℕ × List ℕ). word.1) front next
+
+    go : (a b : List ℕ × Text) → rising_lines height RowOutOfRange p text ≡ Ok a → rising_lines width ColumnOutOfRange q a.1 ≡ Ok b → ended Extra (record { rows = a.0; columns = b.0 }) b.1 ≡ Ok lines → AreLists height width p q (texts_of text.words) lines
+    go a b ha hb he =
+        let rows = lines_ok height RowOutOfRange p [] text a.0 a.1 ha in
+        let columns = lines_ok width ColumnOutOfRange q [] a.1 b.0 b.1 hb in
+        let end = ended_ok Extra (record { rows = a.0; columns = b.0 }) b.1 lines he in
+        let rows_are : rows.read ≡ lines.rows = sym rows.lines_are ∙ ap (λ (l : LineSet). l.rows) end.1 in
+        let columns_are : columns.read ≡ lines.columns = sym columns.lines_are ∙ ap (λ (l : LineSet). l.columns) end.1 in
+        record {
+          row_words = texts_of rows.front;
+          column_words = texts_of columns.front;
+          words_are = both rows.front columns.front text.words (a.1).words (b.1).words rows.words_are columns.words_are end.0;
+          rows_are = subst (λ ls. Spell count_in (texts_of rows.front) (numbers_of ls)) rows_are rows.spell;
+          columns_are = subst (λ ls. Spell count_in (texts_of columns.front) (numbers_of ls)) columns_are columns.spell;
+          row_count = ap length (sym rows_are) ∙ rows.count;
+          column_count = ap length (sym columns_are) ∙ columns.count;
+          rows_rise = subst (RisesIn 0 height) rows_are rows.rises;
+          columns_rise = subst (RisesIn 0 width) columns_are columns.rises;
+        }
 
 four_words : (a b c d : ℕ × List ℕ) (words x y z rest : List (ℕ × List ℕ)) → words ≡ a ∷ x → x ≡ b ∷ y → y ≡ c ∷ z → z ≡ d ∷ rest → texts_of words ≡ a.1 ∷ b.1 ∷ c.1 ∷ d.1 ∷ texts_of rest
 four_words a b c d words x y z rest e f g h = rw (e, f, g, h) refl
@@ -86,30 +84,34 @@ submatrix_found height width text lines h =
     let b = bind_ok (field Short (own_size width) a.0.1) (λ (same : ℕ × Text). counts_behind height width same.1) lines a.2 in
     let d = bind_ok (field Short (limited height RowOutOfRange) b.0.1) (λ (p : ℕ × Text). field Short (limited width ColumnOutOfRange) p.1 >>= λ q. lines_behind height width p.0 q.0 q.1) lines b.2 in
     let e = bind_ok (field Short (limited width ColumnOutOfRange) d.0.1) (λ (q : ℕ × Text). lines_behind height width d.0.0 q.0 q.1) lines d.2 in
-    let same_height = own_size_found height text a.0.0 a.0.1 a.1 in
-    let same_width = own_size_found width a.0.1 b.0.0 b.0.1 b.1 in
-    let rows = size_found height RowOutOfRange b.0.1 d.0.0 d.0.1 d.1 in
-    let columns = size_found width ColumnOutOfRange d.0.1 e.0.0 e.0.1 e.1 in
-    let lists = lists_found height width d.0.0 e.0.0 e.0.1 lines e.2 in
-    record {
-      height_word = same_height.0.1;
-      width_word = same_width.0.1;
-      row_count_word = rows.0.1;
-      column_count_word = columns.0.1;
-      row_words = lists.row_words;
-      column_words = lists.column_words;
-      words_are = four_words same_height.0 same_width.0 rows.0 columns.0 text.words (a.0.1).words (b.0.1).words (d.0.1).words (e.0.1).words same_height.1 same_width.1 rows.1 columns.1 ∙ ap (λ ws. same_height.0.1 ∷ same_width.0.1 ∷ rows.0.1 ∷ columns.0.1 ∷ ws) lists.words_are;
-      height_is = same_height.2;
-      width_is = same_width.2;
-      row_count = rows.2 ∙ ap Ok (sym lists.row_count);
-      column_count = columns.2 ∙ ap Ok (sym lists.column_count);
-      rows_are = lists.rows_are;
-      columns_are = lists.columns_are;
-      rows_rise = increasing 0 height lines.rows lists.rows_rise;
-      columns_rise = increasing 0 width lines.columns lists.columns_rise;
-      rows_in = all_below 0 height lines.rows lists.rows_rise;
-      columns_in = all_below 0 width lines.columns lists.columns_rise;
-    }
+    go a.0 b.0 d.0 e.0 a.1 b.1 d.1 e.1 e.2
+  where
+    go : (a b d e : ℕ × Text) → field Short (own_size height) text ≡ Ok a → field Short (own_size width) a.1 ≡ Ok b → field Short (limited height RowOutOfRange) b.1 ≡ Ok d → field Short (limited width ColumnOutOfRange) d.1 ≡ Ok e → lines_behind height width d.0 e.0 e.1 ≡ Ok lines → IsSubmatrix height width (texts_of text.words) lines
+    go a b d e ha hb hd he h =
+        let same_height = own_size_found height text a.0 a.1 ha in
+        let same_width = own_size_found width a.1 b.0 b.1 hb in
+        let rows = size_found height RowOutOfRange b.1 d hd in
+        let columns = size_found width ColumnOutOfRange d.1 e he in
+        let lists = lists_found height width d.0 e.0 e.1 lines h in
+        record {
+          height_word = same_height.0.1;
+          width_word = same_width.0.1;
+          row_count_word = rows.0.1;
+          column_count_word = columns.0.1;
+          row_words = lists.row_words;
+          column_words = lists.column_words;
+          words_are = four_words same_height.0 same_width.0 rows.0 columns.0 text.words (a.1).words (b.1).words (d.1).words (e.1).words same_height.1 same_width.1 rows.1 columns.1 ∙ ap (λ ws. same_height.0.1 ∷ same_width.0.1 ∷ rows.0.1 ∷ columns.0.1 ∷ ws) lists.words_are;
+          height_is = same_height.2;
+          width_is = same_width.2;
+          row_count = rows.2 ∙ ap Ok (sym lists.row_count);
+          column_count = columns.2 ∙ ap Ok (sym lists.column_count);
+          rows_are = lists.rows_are;
+          columns_are = lists.columns_are;
+          rows_rise = increasing 0 height lines.rows lists.rows_rise;
+          columns_rise = increasing 0 width lines.columns lists.columns_rise;
+          rows_in = all_below 0 height lines.rows lists.rows_rise;
+          columns_in = all_below 0 width lines.columns lists.columns_rise;
+        }
 
 own_size_again : (size : ℕ) (word : List ℕ) → count_in word ≡ Ok size → own_size size word ≡ Ok size
 own_size_again size word h = let same : eqb size size ≡ true = grind (arith, nat_tests) in rw (h, same) refl

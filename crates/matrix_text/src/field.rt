@@ -68,6 +68,9 @@ pub fn entry(words: &mut Words<'_>, binary: bool) -> Result<i8, TextError>
     ensures read { Reads (λ z. z) words.new result (field Short (entry_in binary) words.old) }
     ensures small { IfOk result IsEntry }
 {
+    if let Some((place, entry)) = words.next_entry() {
+        return at_place(place, value::allowed(entry, binary));
+    }
     let (place, word) = words.due(TextKind::Short)?;
     at_place(place, value::entry_in(word, binary))
 }

@@ -1,7 +1,7 @@
 // What a word of a matrix text stands for.
 ghost use Rattle.std.specs.Prelude.{◌≡◌, ◌≤◌, ◌<◌, ◌-◌, ℕ, IfOk, length, slice_index_or, true, false};
 ghost use Rattle.cmr_base.specs.Matrix.{IsEntry};
-ghost use Rattle.matrix_text.specs.Values.{count, limited, own_size, line_in, rising_line_in, free_column_in, entry_in};
+ghost use Rattle.matrix_text.specs.Values.{count, limited, own_size, line_in, rising_line_in, free_column_in, allowed, entry_in};
 
 use crate::error::TextKind;
 use text_fields::{count_in, signed_in};
@@ -81,6 +81,19 @@ pub fn free_column_in(word: &[u8], taken: &[bool]) -> Result<u32, TextKind>
         Err(TextKind::TwiceNamed)
     } else {
         Ok(number)
+    }
+}
+
+/// An entry that may stand in the matrix.
+pub fn allowed(entry: i8, binary: bool) -> Result<i8, TextKind>
+    requires { IsEntry entry }
+    ensures value { result ≡ allowed binary entry }
+    ensures small { IfOk result IsEntry }
+{
+    if binary && entry < 0 {
+        Err(TextKind::NotBinary)
+    } else {
+        Ok(entry)
     }
 }
 

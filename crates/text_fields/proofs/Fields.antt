@@ -3,7 +3,7 @@ use Rattle.std.proofs.Common.{◌≡◌, ◌∙◌, ℕ, zero, suc, List, [], �
 use Rattle.std.proofs.lemmas.List.{append-nil}
 use Rattle.text_fields.specs.Words.{Text}
 use Rattle.text_fields.specs.Result.{◌>>=◌}
-use Rattle.text_fields.specs.Reading.{Fault, due_of, due, placed, field, another, times, ended_of, ended, Fails}
+use Rattle.text_fields.specs.Reading.{Fault, due_of, due, placed, field, another, times, ended_of, ended, Fails, Gives, Reads}
 use Rattle.text_fields.specs.Spelling.{texts_of, Spell}
 use Rattle.text_fields.specs.declared.error.FieldError.{FieldError}
 use Rattle.text_fields.specs.declared.error.FieldError.TheVariants as errors
@@ -112,3 +112,8 @@ ended_ok extra made text x h = go text.words h
     go : (words : List (ℕ × List ℕ)) → ended_of extra made words ≡ Ok x → (words ≡ []) × (made ≡ x)
     go [] h = (refl, ok_same made x h)
     go (word ∷ words) h = absurd (cc)
+
+-- what a word gave, with the text behind it
+pub placed_reads : {A K : Type 0} (place : ℕ) (parsed : Result A K) (rest : Text) (r : Result A (FieldError K)) → Gives (λ x. x) r (placed place parsed) → Reads (λ x. x) rest r (placed place parsed >>= λ value. Ok (value, rest))
+placed_reads place parsed rest (Ok x) gives = rw gives refl
+placed_reads {A} place parsed rest (Err e) fails = bind_fails e (placed place parsed) (λ (value : A). Ok (value, rest)) fails

@@ -7,3 +7,4 @@ pub mod Entries
 pub mod LineWords
 pub mod Decimals
 pub mod Spelled
+pub mod EntryWords

@@ -1,8 +1,8 @@
 -- Lines of words, word by word.
-use Rattle.std.proofs.Common.{◌≡◌, ◌∙◌, ℕ, Bool, true, false, List, [], ◌∷◌, ◌++◌, refl, ap, sym, append_assoc}
+use Rattle.std.proofs.Common.{◌≡◌, ◌≤◌, ◌∙◌, ℕ, Bool, true, false, List, [], ◌∷◌, ◌++◌, length, map, take, refl, ap, sym, append_assoc}
 use Rattle.std.specs.Prelude.{fold}
 use Rattle.std.specs.List.{join_with_byte}
-use Rattle.std.proofs.lemmas.List.{append-nil}
+use Rattle.std.proofs.lemmas.List.{append-nil, take_all}
 use Rattle.text_fields.specs.Written.{text_line, text_of_lines, Draft, with_word, with_end, with_line}
 
 -- words in a line that has one already
@@ -25,6 +25,11 @@ line_written draft words none = go draft.bytes draft.is_begun none words
     go bytes true none words = absurd (cc)
     go bytes false none [] = refl
     go bytes false none (word ∷ words) = ap with_end (words_behind bytes word words) ∙ ap (λ b. record { bytes = b; is_begun = false }) (append_assoc bytes (join_with_byte 32 (word ∷ words)) (10 ∷ []))
+
+-- a line whose words were written one after another
+pub line_ended : {A : Type 0} (draft start : Draft) (write : A → List ℕ) (values : List A) (n : ℕ) → draft ≡ fold with_word start (map write (take n values)) → length values ≤ n → start.is_begun ≡ false → with_end draft ≡ with_line start (map write values)
+line_ended draft start write values n written past none =
+    ap with_end written ∙ ap (λ vs. with_end (fold with_word start (map write vs))) (take_all n values past) ∙ line_written start (map write values) none
 
 -- lines one after another
 pub lines_written : (draft : Draft) (lines : List (List (List ℕ))) → (fold with_line draft lines).bytes ≡ draft.bytes ++ text_of_lines lines

@@ -1,5 +1,5 @@
 // Canonical texts.
-ghost use Rattle.std.specs.Prelude.{◌≡◌, [], false, OnOk, map};
+ghost use Rattle.std.specs.Prelude.{◌≡◌, ◌≤◌, ◌∷◌, [], false, take, OnOk, map};
 ghost use Rattle.std.specs.Fmt.{decimal, signed_decimal};
 ghost use Rattle.cmr_base.specs.Matrix.{IsEntry};
 ghost use Rattle.text_fields.specs.Written.{with_word, with_end, with_line};
@@ -68,7 +68,11 @@ impl Writer {
         requires { IsEntry entry }
         ensures { OnOk result (self.new ≡ with_word self.old (signed_decimal entry)) }
     {
-        self.word(entry_word(entry))
+        let (bytes, end) = spaced_entry(entry);
+        let start = usize::from(!self.is_begun);
+        self.is_begun = true;
+        self.bytes.extend_from_slice(&bytes[start..end])?;
+        Ok(())
     }
 
     /// Ends the last line.
@@ -99,13 +103,17 @@ impl Writer {
     }
 }
 
-fn entry_word(entry: i8) -> &'static [u8]
+// A space and the text of an entry, and how many bytes they are. No branch rests on which entry it is.
+fn spaced_entry(entry: i8) -> ([u8; 3], usize)
     requires { IsEntry entry }
-    ensures { result.now ≡ signed_decimal entry }
+    ensures above { 2 ≤ result.1 }
+    ensures within { result.1 ≤ 3 }
+    ensures text { take result.1 result.0 ≡ 32 ∷ signed_decimal entry }
 {
-    match entry {
-        0 => b"0",
-        1 => b"1",
-        _ => b"-1",
+    let digit = b'0' + entry.unsigned_abs();
+    if entry < 0 {
+        ([b' ', b'-', digit], 3)
+    } else {
+        ([b' ', digit, digit], 2)
     }
 }
