@@ -23,7 +23,8 @@ fn find(files: &[File], name: &str) -> Option<usize>
 /// The index of the first file with the name, where that file is there.
 pub fn find_there(files: &[File], name: &str) -> Option<usize>
     ensures none { IfNone result (content_in files.now name.now ≡ None) }
-    ensures some { IfSome result (λ file. content_in files.now name.now ≡ Some (bytes_at files.now file)) }
+    ensures some { IfSome result (λ file. content_in files.now name.now
+        ≡ Some (bytes_at files.now file)) }
     ensures within { IfSome result (λ file. file < length files.now) }
 {
     let file = find(files, name)?;
@@ -42,8 +43,10 @@ pub fn hold(
     bytes: &[u8],
 ) -> Result<(), AllocError>
     ensures here { OnOk result (content_in files.new.items name.now ≡ Some bytes.now) }
-    ensures others { OnOk result ((other : List ℕ) → other ≢ name.now → content_in files.new.items other ≡ content_in files.old.items other) }
-    ensures rooms { OnOk result ((other : List ℕ) → room_in files.new.items other ≡ room_in files.old.items other) }
+    ensures others { OnOk result ((other : List ℕ) → other ≢ name.now
+        → content_in files.new.items other ≡ content_in files.old.items other) }
+    ensures rooms { OnOk result ((other : List ℕ)
+        → room_in files.new.items other ≡ room_in files.old.items other) }
     ensures err { OnErr result (files.new.items ≡ files.old.items) }
     ensures len { OnErr result (vec_len files.new ≡ vec_len files.old) }
 {
@@ -66,8 +69,10 @@ pub fn prepare(
     room: usize,
 ) -> Result<(), AllocError>
     ensures here { OnOk result (room_in files.new.items name.now ≡ Some room) }
-    ensures others { OnOk result ((other : List ℕ) → other ≢ name.now → room_in files.new.items other ≡ room_in files.old.items other) }
-    ensures content { OnOk result ((other : List ℕ) → content_in files.new.items other ≡ content_in files.old.items other) }
+    ensures others { OnOk result ((other : List ℕ) → other ≢ name.now
+        → room_in files.new.items other ≡ room_in files.old.items other) }
+    ensures content { OnOk result ((other : List ℕ)
+        → content_in files.new.items other ≡ content_in files.old.items other) }
     ensures err { OnErr result (files.new.items ≡ files.old.items) }
     ensures len { OnErr result (vec_len files.new ≡ vec_len files.old) }
 {

@@ -16,7 +16,8 @@ pub fn read_counted<R: Read>(
 ) -> Result<usize, Failed>
     ensures within { IfOk result (λ count. count ≤ length into.new) }
     ensures given { IfOk result (λ count. Consumes (R.remaining reader.old) (R.remaining reader.new) (take count into.new)) }
-    ensures end { IfOk result (λ count. count ≡ 0 → 0 < length into.new → IsAtEnd (R.remaining reader.new)) }
+    ensures end { IfOk result (λ count. count ≡ 0 → 0 < length into.new
+        → IsAtEnd (R.remaining reader.new)) }
     ensures err { OnErr result (Keeps (R.remaining reader.old) (R.remaining reader.new)) }
     ensures count { faults.new ≡ counted result faults.old }
     ensures cause { HasCause faults.old faults.new result }

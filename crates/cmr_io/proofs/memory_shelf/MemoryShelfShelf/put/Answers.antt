@@ -7,7 +7,7 @@ use Rattle.cmr_io.proofs.FileLemmas.{content_in-got, room_in-full}
 use Rattle.cmr_io.proofs.memory_shelf.MemoryShelfShelf.put.Goals as goal
 
 pub returns-in_err-step-clause-holds : goal.returns-in_err-step-clause-holds
-returns-in_err-step-clause-holds c = λ told.
+returns-in_err-step-clause-holds c =
     content_in-got c.args.self.now.files.items c.args.self.now.begun c.requires c.args.self.now.writable
 
 pub put-count-requires-clause-within : goal.put-count-requires-clause-within
