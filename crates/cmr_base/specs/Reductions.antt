@@ -1,5 +1,5 @@
 -- Series-parallel reductions: reducible lines are removed, one after another.
-use Rattle.std.specs.Prelude.{◌≡◌, ◌+◌, ◌==◌, ◌&&◌, not, if◌then◌else◌, Bool, ℕ, zero, suc, ℤ, neg_ℤ, List, [], ◌∷◌, ◌++◌, map, length, find, count_by, Contains, Option, Some, None, IsSome, option_map}
+use Rattle.std.specs.Prelude.{◌≡◌, ◌+◌, ◌==◌, ◌&&◌, not, if◌then◌else◌, Bool, ℕ, zero, suc, ℤ, neg_ℤ, List, [], ◌∷◌, ◌++◌, map, find, count_by, Contains, Option, Some, None, IsSome, option_map}
 use Rattle.std.specs.List.{list_all}
 use Rattle.std.specs.Option.{option_or}
 use Rattle.std.specs.Ordering.{int_eq}
