@@ -1,0 +1,4 @@
+pub mod Thin
+pub mod Embeddings
+pub mod Orders
+pub mod Submatrices

@@ -1,0 +1,4 @@
+//! Series-parallel reductions.
+#![tactic(auto)]
+
+pub mod laws;
