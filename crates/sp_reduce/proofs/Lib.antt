@@ -2,3 +2,4 @@ pub mod Thin
 pub mod Embeddings
 pub mod Orders
 pub mod Submatrices
+pub mod Views
