@@ -1,24 +1,14 @@
--- Why a line is reducible, said of the line as a row or a column alike.
-use Rattle.std.proofs.Common.{◌≡◌, ◌<◌, ◌≤◌, ◌&&◌, ◌||◌, ◌∙◌, inl, inr, ℕ, Bool, true, false, cond, not, eqb, ℤ, neg_ℤ, List, [], ◌∷◌, find, Option, Some, None, is_some, option_map, refl, ap, sym, subst, arith, ne_eqb, eq-eqb}
+-- A line is reducible where it has few nonzeros, and else exactly where it has a twin.
+use Rattle.std.proofs.Common.{◌≡◌, ◌<◌, ◌≤◌, ◌&&◌, ◌||◌, ◌∙◌, inl, inr, ℕ, Bool, true, false, cond, not, eqb, ℤ, neg_ℤ, List, [], ◌∷◌, find, Option, Some, None, is_some, option_map, refl, ap, sym, arith, ne_eqb, eq-eqb}
 use Rattle.std.specs.List.{list_any}
 use Rattle.std.specs.Option.{option_or}
 use Rattle.std.proofs.lemmas.Bool.{cases_eq}
 use Rattle.cmr_base.specs.declared.line.Line.{Line}
-use Rattle.cmr_base.specs.declared.line.Line.TheVariants.{Row, Column}
 use Rattle.cmr_base.specs.declared.line.Reason.TheVariants.{Unit as One, Copy, Negative}
-use Rattle.cmr_base.specs.Matrix.{Matrix, height, is_nonzero}
-use Rattle.cmr_base.specs.LineSets.{AllBelow}
-use Rattle.cmr_base.specs.Reductions.{nonzeros_at, equal_at, first_equal, first_reason, line_reason, HasLine}
-use Rattle.cmr_base.proofs.Members.{IsIn, in_from_contains, place_of, place_is}
-use Rattle.sp_reduce.specs.LineViews.{beside, across, entry_at, IsLineOf, is_twin}
+use Rattle.cmr_base.specs.Matrix.{is_nonzero}
+use Rattle.cmr_base.specs.Reductions.{nonzeros_at, equal_at, first_equal, first_reason}
+use Rattle.sp_reduce.specs.Kinds.{is_twin}
 use Rattle.sp_reduce.proofs.Thin.{nonzero_found}
-
-all_below_in : (bound : ℕ) (lines : List ℕ) (x : ℕ) → AllBelow bound lines → IsIn x lines → x < bound
-all_below_in bound lines x below h = let w = place_is x lines h in subst (λ (y : ℕ). y < bound) w.there (below (place_of x lines) w.in_range)
-
-pub line_of_matrix : (m : Matrix) (rows columns : List ℕ) (line : Line) → AllBelow (height m) rows → AllBelow m.width columns → HasLine rows columns line → IsLineOf m line
-line_of_matrix m rows columns (Row i) r c h = all_below_in (height m) rows i r (in_from_contains rows i h)
-line_of_matrix m rows columns (Column j) r c h = all_below_in m.width columns j c (in_from_contains columns j h)
 
 is_some_find : (test : ℕ → Bool) (xs : List ℕ) → is_some (find test xs) ≡ list_any test xs
 is_some_find test [] = refl
@@ -50,10 +40,6 @@ some_or : {X : Type 0} (o p : Option X) → is_some (option_or o p) ≡ (is_some
 some_or None p = refl
 some_or (Some x) p = refl
 
--- another line of the table that equals this one, or is its negative
-abbrev pub is_other : Bool → (ℕ → ℕ → ℤ) → List ℕ → ℕ → ℕ → Bool
-is_other binary M places line k = not (eqb k line) && (equal_at places (M k) (M line) || not binary && equal_at places (M k) (λ j. neg_ℤ (M line j)))
-
 module _ (M : ℕ → ℕ → ℤ) (kind cross : ℕ → Line) (lines places : List ℕ) (line : ℕ) where
   copies : is_some (option_map (λ k. Copy (kind k)) (first_equal M lines places line (M line))) ≡ list_any (λ k. not (eqb k line) && equal_at places (M k) (M line)) lines
   copies = some_map (λ k. Copy (kind k)) (first_equal M lines places line (M line)) ∙ is_some_find (λ k. not (eqb k line) && equal_at places (M k) (M line)) lines
@@ -77,10 +63,10 @@ module _ (M : ℕ → ℕ → ℤ) (kind cross : ℕ → Line) (lines places : L
       rw (ne_eqb (nonzeros_at places (M line)) 0 (omega (arith, many)), ne_eqb (nonzeros_at places (M line)) 1 (omega (arith, many)))
       (some_or (option_map (λ k. Copy (kind k)) (first_equal M lines places line (M line))) (cond binary None (option_map (λ k. Negative (kind k)) (first_equal M lines places line (λ j. neg_ℤ (M line j))))))
 
-  pub reason_of_twin : (binary : Bool) → 1 < nonzeros_at places (M line) → is_some (first_reason binary M kind cross lines places line) ≡ list_any (is_other binary M places line) lines
+  pub reason_of_twin : (binary : Bool) → 1 < nonzeros_at places (M line) → is_some (first_reason binary M kind cross lines places line) ≡ list_any (is_twin binary M places line) lines
   reason_of_twin true many =
       not_thin true many ∙ or_false (is_some (option_map (λ k. Copy (kind k)) (first_equal M lines places line (M line)))) ∙ copies
-      ∙ any_agree (λ k. not (eqb k line) && equal_at places (M k) (M line)) (is_other true M places line)
+      ∙ any_agree (λ k. not (eqb k line) && equal_at places (M k) (M line)) (is_twin true M places line)
       (λ k. plain (not (eqb k line)) (equal_at places (M k) (M line))) lines
     where
       or_false : (b : Bool) → (b || false) ≡ b
@@ -93,7 +79,7 @@ module _ (M : ℕ → ℕ → ℤ) (kind cross : ℕ → Line) (lines places : L
   reason_of_twin false many =
       not_thin false many ∙ both copies negatives
       ∙ any_or (λ k. not (eqb k line) && equal_at places (M k) (M line)) (λ k. not (eqb k line) && equal_at places (M k) (λ j. neg_ℤ (M line j))) lines
-      ∙ any_agree (λ k. not (eqb k line) && equal_at places (M k) (M line) || not (eqb k line) && equal_at places (M k) (λ j. neg_ℤ (M line j))) (is_other false M places line)
+      ∙ any_agree (λ k. not (eqb k line) && equal_at places (M k) (M line) || not (eqb k line) && equal_at places (M k) (λ j. neg_ℤ (M line j))) (is_twin false M places line)
       (λ k. plain (not (eqb k line)) (equal_at places (M k) (M line)) (equal_at places (M k) (λ j. neg_ℤ (M line j)))) lines
     where
       both : {a b c d : Bool} → a ≡ c → b ≡ d → (a || b) ≡ (c || d)
@@ -102,12 +88,3 @@ module _ (M : ℕ → ℕ → ℤ) (kind cross : ℕ → Line) (lines places : L
       plain : (n a b : Bool) → (n && a || n && b) ≡ (n && (a || b))
       plain true a b = refl
       plain false a b = refl
-
-pub thin_is_reducible : (binary : Bool) (M : ℕ → ℕ → ℤ) (rows columns : List ℕ) (line : Line) → nonzeros_at (across rows columns line) (entry_at M line) ≤ 1 → is_some (line_reason binary M rows columns line) ≡ true
-thin_is_reducible binary M rows columns (Row i) few = reason_of_thin M Row Column rows columns i binary few
-thin_is_reducible binary M rows columns (Column j) few = reason_of_thin (λ j i. M i j) Column Row columns rows j binary few
-
-pub reducible_by_twin : (binary : Bool) (M : ℕ → ℕ → ℤ) (rows columns : List ℕ) (line : Line) → 1 < nonzeros_at (across rows columns line) (entry_at M line)
-    → is_some (line_reason binary M rows columns line) ≡ list_any (is_twin binary M (across rows columns line) line) (beside rows columns line)
-reducible_by_twin binary M rows columns (Row i) many = reason_of_twin M Row Column rows columns i binary many
-reducible_by_twin binary M rows columns (Column j) many = reason_of_twin (λ j i. M i j) Column Row columns rows j binary many

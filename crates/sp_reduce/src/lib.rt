@@ -1,8 +1,8 @@
 //! Series-parallel reductions.
 #![tactic(auto)]
 
+mod kind;
 pub mod laws;
-mod line_view;
 mod reducible;
 
 pub use cmr_base::{Reason, Step, StepList};

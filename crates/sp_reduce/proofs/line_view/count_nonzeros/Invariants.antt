@@ -1,9 +1,0 @@
-use Rattle.std.proofs.Common.{◌≡◌, ◌≤◌, take}
-use Rattle.cmr_base.specs.Matrix.{entry}
-use Rattle.cmr_base.specs.Reductions.{nonzeros_at}
-use Rattle.sp_reduce.specs.LineViews.{entry_at}
-use Rattle.sp_reduce.proofs.line_view.count_nonzeros.Given as goal
-
--- the nonzeros so far
-abbrev pub invariant-others : goal.invariant-others
-invariant-others l = (l.count ≡ nonzeros_at (take l.other-index l.across) (entry_at (entry l.matrix) l.line)) × (l.count ≤ l.other-index)
