@@ -4,6 +4,7 @@
 
 mod indices;
 mod item_list;
+mod line;
 mod line_set;
 mod matrix;
 mod matrix_sum;
@@ -12,6 +13,7 @@ mod word;
 
 pub use indices::Indices;
 pub use item_list::{ItemList, SignList, WordList};
+pub use line::{Line, LineList, Reason, Step, StepList};
 pub use line_set::LineSet;
 pub use matrix::{MAX_COLUMNS, MAX_ROWS, Matrix};
 pub use memory::Memory;

@@ -1,0 +1,5 @@
+pub mod Thin
+pub mod Embeddings
+pub mod Orders
+pub mod Submatrices
+pub mod Views
