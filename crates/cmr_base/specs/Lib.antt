@@ -5,3 +5,5 @@ pub mod LineSets
 pub mod Sums
 pub mod Signing
 pub mod Violator
+pub mod CyclePlaces
+pub mod Supports
