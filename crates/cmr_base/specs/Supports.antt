@@ -14,9 +14,9 @@ pub record HaveOneSupport (m n : Matrix) : Type 0 where
   pub zeros_same : (row column : ℕ) → (entry m row column ≡ pos 0) ↔ (entry n row column ≡ pos 0)
 
 -- the second is the first with some rows and columns multiplied by -1
-pub record AgreeUpToSigns (m n : Matrix) : Type 0 where
+pub record AgreeUpToSigns (M N : ℕ → ℕ → ℤ) : Type 0 where
   pub row_sign : ℕ → ℤ
   pub column_sign : ℕ → ℤ
   pub row_signs : (row : ℕ) → IsSign (row_sign row)
   pub column_signs : (column : ℕ) → IsSign (column_sign column)
-  pub entries : (row column : ℕ) → entry n row column ≡ row_sign row *ℤ (column_sign column *ℤ entry m row column)
+  pub entries : (row column : ℕ) → N row column ≡ row_sign row *ℤ (column_sign column *ℤ M row column)
