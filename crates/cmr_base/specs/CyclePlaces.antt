@@ -1,7 +1,7 @@
 -- Cycle places: a row and two of its columns, with the least of the shortest paths between them through earlier rows.
-use Rattle.std.specs.Prelude.{◌≡◌, ◌≢◌, ◌<◌, ◌⊎◌, ◌↔◌, ℕ, ℤ, pos, List, [], ◌∷◌, length}
-use Rattle.std.specs.List.{Contains}
+use Rattle.std.specs.Prelude.{◌≡◌, ◌≢◌, ◌<◌, ◌⊎◌, ◌↔◌, ℕ, ℤ, pos, ◌+ℤ◌, List, [], ◌∷◌, length}
 use Rattle.cmr_base.specs.Matrix.{Matrix, entry}
+use Rattle.cmr_base.specs.Members.{IsIn}
 use Rattle.cmr_base.specs.LineSets.{IsRowSet, IsColumnSet}
 use Rattle.cmr_base.specs.Sums.{sum_over, IsTwoModFour}
 
@@ -38,6 +38,12 @@ path_columns [] = []
 path_columns (r ∷ []) = []
 path_columns (r ∷ j ∷ lines) = j ∷ path_columns lines
 
+-- the sum of the entries at which a path passes from c through its lines to d
+abbrev pub path_sum : (ℕ → ℕ → ℤ) → ℕ → ℕ → List ℕ → ℤ
+path_sum M c d [] = pos 0
+path_sum M c d (r ∷ []) = M r c +ℤ M r d
+path_sum M c d (r ∷ j ∷ lines) = (M r c +ℤ M r j) +ℤ path_sum M j d lines
+
 -- the lines of a place's cycle: those of its path, and row t
 abbrev pub cycle_rows : ℕ → List ℕ → List ℕ
 cycle_rows t path = t ∷ path_rows path
@@ -68,5 +74,5 @@ pub record IsCycleFault (m : Matrix) (rows columns : List ℕ) : Type 0 where
   pub first : (t c d : ℕ) (other : List ℕ) → IsFaultAt (entry m) t c d other → ¬ (IsEarlierPlace t c d row first_column last_column)
   pub row_set : IsRowSet m rows
   pub column_set : IsColumnSet m columns
-  pub rows_are : (line : ℕ) → Contains rows line ↔ Contains (cycle_rows row path) line
-  pub columns_are : (line : ℕ) → Contains columns line ↔ Contains (cycle_columns first_column last_column path) line
+  pub rows_are : (line : ℕ) → IsIn line rows ↔ IsIn line (cycle_rows row path)
+  pub columns_are : (line : ℕ) → IsIn line columns ↔ IsIn line (cycle_columns first_column last_column path)

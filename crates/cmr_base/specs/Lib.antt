@@ -5,5 +5,6 @@ pub mod LineSets
 pub mod Sums
 pub mod Signing
 pub mod Violator
+pub mod Members
 pub mod CyclePlaces
 pub mod Supports

@@ -14,14 +14,9 @@ use Rattle.ghouila.proofs.SignProducts.{sign_nonzero}
 use Rattle.ghouila.proofs.Cycles.{two_terms, cycle_sum, by_places, same_below}
 use Rattle.ghouila.proofs.SignedSums.{zero_or_sign}
 use Rattle.ghouila.proofs.Chords.{Linked, Chord, find_chord, forward, backward}
-use Rattle.cmr_base.proofs.Members.{IsIn, IsDistinct, all_in}
-use Rattle.cmr_base.specs.CyclePlaces.{IsPath, IsCyclePlace, path_rows, path_columns, cycle_rows, cycle_columns}
-
--- the entries of a path's rows where it passes
-abbrev pub path_sum : (ℕ → ℕ → ℤ) → ℕ → ℕ → List ℕ → ℤ
-path_sum M c d [] = pos 0
-path_sum M c d (r ∷ []) = M r c +ℤ M r d
-path_sum M c d (r ∷ j ∷ rest) = (M r c +ℤ M r j) +ℤ path_sum M j d rest
+use Rattle.cmr_base.specs.Members.{IsIn}
+use Rattle.cmr_base.proofs.Members.{IsDistinct, all_in}
+use Rattle.cmr_base.specs.CyclePlaces.{IsPath, IsCyclePlace, path_rows, path_columns, path_sum, cycle_rows, cycle_columns}
 
 -- x, then the values of f
 abbrev pub before : ℕ → (ℕ → ℕ) → ℕ → ℕ
