@@ -6,6 +6,9 @@ ghost use Rattle.cmr_base.specs.CyclePlaces.{HasNoCycleFault, IsCycleFault, path
 ghost use Rattle.cmr_base.specs.Violator.{IsViolator};
 ghost use Rattle.camion_sign.specs.State.{IsBuilt};
 
+#[cfg(test)]
+mod tests;
+
 use crate::search::first_fault;
 use cmr_base::{Indices, LineSet, Matrix, Memory};
 use std::alloc::Global;
