@@ -7,3 +7,6 @@ pub mod Signing
 pub mod Violator
 pub mod Reductions
 pub mod GreedySets
+pub mod Members
+pub mod CyclePlaces
+pub mod Supports

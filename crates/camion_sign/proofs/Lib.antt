@@ -1,0 +1,10 @@
+pub mod FullSquares
+pub mod Tests
+pub mod Breadth
+pub mod Descent
+pub mod Reach
+pub mod Spread
+pub mod Nearer
+pub mod FirstFaults
+pub mod LineLists
+pub mod FaultViolator

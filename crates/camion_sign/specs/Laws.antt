@@ -1,0 +1,16 @@
+-- Laws of matrices without cycle fault.
+use Rattle.std.specs.Prelude.{◌≡◌, ◌≢◌, ◌*ℤ◌, ℕ, pos}
+use Rattle.cmr_base.specs.Matrix.{Matrix, entry}
+use Rattle.cmr_base.specs.CyclePlaces.{HasNoCycleFault}
+use Rattle.ghouila.specs.Laws.{IsTernary}
+
+-- two rows and two columns in which all four entries are nonzeros
+pub record IsFullSquare (m : Matrix) (i k c d : ℕ) : Type 0 where
+  pub upper_left : entry m i c ≢ pos 0
+  pub upper_right : entry m i d ≢ pos 0
+  pub lower_left : entry m k c ≢ pos 0
+  pub lower_right : entry m k d ≢ pos 0
+
+-- without cycle fault the product of these four is 1
+abbrev pub FullSquaresHaveProductOne : Type 0
+FullSquaresHaveProductOne = (m : Matrix) → IsTernary m → HasNoCycleFault (entry m) → (i k c d : ℕ) → IsFullSquare m i k c d → (entry m i c *ℤ entry m i d) *ℤ (entry m k c *ℤ entry m k d) ≡ pos 1
