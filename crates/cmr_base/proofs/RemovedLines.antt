@@ -9,7 +9,9 @@ use Rattle.cmr_base.specs.declared.line.Line.TheVariants.{Row, Column}
 use Rattle.cmr_base.specs.Matrix.{Matrix, height}
 use Rattle.cmr_base.specs.LineSets.{IsRowSet, IsColumnSet, first_lines}
 use Rattle.cmr_base.specs.Reductions.{HasLine, rows_without, columns_without, lines_of}
-use Rattle.cmr_base.proofs.Members.{IsIn, IsWithin, in_from_contains, contains_from_in, in-get_or, without_in, within-without, without-within, without_increases, without_shorter}
+use Rattle.cmr_base.specs.Members.{IsIn}
+use Rattle.cmr_base.proofs.Members.{IsWithin}
+use Rattle.cmr_base.proofs.ListsWithout.{in_from_contains, contains_from_in, in-get_or, without_in, within-without, without-within, without_increases, without_shorter}
 
 pub rows_increase : (line : Line) (rows : List ℕ) → IsStrictlyIncreasing rows → IsStrictlyIncreasing (rows_without rows line)
 rows_increase (Row i) rows h = without_increases i rows h

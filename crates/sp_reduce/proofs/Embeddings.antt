@@ -11,7 +11,9 @@ use Rattle.cmr_base.specs.Matrix.{is_nonzero}
 use Rattle.cmr_base.specs.LineSets.{without}
 use Rattle.cmr_base.specs.Reductions.{nonzeros_at, equal_at, first_equal, first_reason, IsFullRemoval, IsSeriesParallelOn}
 use Rattle.cmr_base.proofs.Integers.{sums, products}
-use Rattle.cmr_base.proofs.Members.{true_is_false, IsIn, IsWithin, increasing_distinct, in_without, without_in, without_increases, preimage, contains_from_in, empty_from_none}
+use Rattle.cmr_base.specs.Members.{IsIn}
+use Rattle.cmr_base.proofs.Members.{IsWithin}
+use Rattle.cmr_base.proofs.ListsWithout.{true_is_false, increasing_distinct, in_without, without_in, without_increases, preimage, contains_from_in, empty_from_none}
 use Rattle.sp_reduce.proofs.Thin.{and_is, is_and, not_is, found_is, is_found, equal_is, is_equal, IsThin, thin_from_count, count_from_thin, nonzero_found}
 
 -- what a line may be multiplied by

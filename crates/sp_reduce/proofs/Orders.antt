@@ -6,7 +6,7 @@ use Rattle.cmr_base.specs.declared.line.Line.{Line}
 use Rattle.cmr_base.specs.declared.line.Reason.{Reason}
 use Rattle.cmr_base.specs.declared.line.Step.{Step}
 use Rattle.cmr_base.specs.Reductions.{line_reason, HasLine, rows_without, columns_without, IsFullRemoval, IsSeriesParallelOn, first_step, lines_of, Removal, removal_on}
-use Rattle.cmr_base.proofs.Members.{true_is_false}
+use Rattle.cmr_base.proofs.ListsWithout.{true_is_false}
 use Rattle.cmr_base.proofs.RemovedLines.{IsAmong, among_from_has_line, has_line_from_among, rows_increase, columns_increase, rows_within, columns_within, fewer_lines}
 use Rattle.sp_reduce.proofs.Embeddings.{series_parallel-within}
 

@@ -8,7 +8,9 @@ use Rattle.cmr_base.specs.LineSets.{IsRowSet, IsColumnSet, first_lines, submatri
 use Rattle.cmr_base.specs.Reductions.{IsSeriesParallel, IsSeriesParallelOn}
 use Rattle.cmr_base.proofs.Integers.{products}
 use Rattle.cmr_base.proofs.Parts.{entry-submatrix}
-use Rattle.cmr_base.proofs.Members.{IsIn, IsWithin, in-get_or, increasing_distinct, same_place, place_of, place_is}
+use Rattle.cmr_base.specs.Members.{IsIn}
+use Rattle.cmr_base.proofs.Members.{IsWithin}
+use Rattle.cmr_base.proofs.ListsWithout.{in-get_or, increasing_distinct, same_place, place_of, place_is}
 use Rattle.cmr_base.proofs.RemovedLines.{first_lines_increase, in_first_lines, first_lines_in}
 use Rattle.cmr_base.proofs.GreedyLemmas.{IsInherited, greedy_set_minimal}
 use Rattle.sp_reduce.specs.Laws.{SubmatricesAreSeriesParallel, RestDecides, GreedySetIsMinimal}

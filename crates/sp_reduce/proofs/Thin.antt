@@ -5,7 +5,9 @@ use Rattle.std.proofs.lemmas.List.Sums.{sum_by-cons}
 use Rattle.std.proofs.lemmas.Bool.Decides.{Decides-int_eq}
 use Rattle.cmr_base.specs.Matrix.{is_nonzero}
 use Rattle.cmr_base.specs.Reductions.{nonzeros_at, equal_at}
-use Rattle.cmr_base.proofs.Members.{true_is_false, IsIn, IsDistinct}
+use Rattle.cmr_base.specs.Members.{IsIn}
+use Rattle.cmr_base.proofs.Members.{IsDistinct}
+use Rattle.cmr_base.proofs.ListsWithout.{true_is_false}
 
 pub nonzero_is : (z : ℤ) → is_nonzero z ≡ true → z ≢ pos 0
 nonzero_is (pos zero) e f = true_is_false (sym e)
