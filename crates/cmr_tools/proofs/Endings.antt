@@ -7,7 +7,7 @@ use Rattle.cmr_tools.specs.declared.outcome.Stop.{Stop}
 use Rattle.cmr_tools.specs.declared.outcome.Stop.TheVariants as stops
 use Rattle.cmr_tools.specs.Words.{Order}
 use Rattle.cmr_tools.specs.Report.{Held, Report}
-use Rattle.cmr_tools.specs.Outcome.{ended_report, outcome_report, bad_words, too_long, bad_text, many_rows, stop_report}
+use Rattle.cmr_tools.specs.Outcome.{ended_report, outcome_report, bad_words, too_long, bad_text, stop_report}
 use Rattle.cmr_tools.specs.Ending.{Devices, Standing, devices, IsReadyFor, IsCarriedOut, delivered, unwritten, cut_short, CarriesOut}
 use Rattle.cmr_tools.specs.Run.{Reports, HasEnded, reported, unread, no_memory, Ends, Runs}
 use Rattle.cmr_tools.proofs.Reports.{one_report}
@@ -29,7 +29,7 @@ pub record IsDecided (order : Option Order) (standing : Standing) (held read : H
   pub ends : IsTrue standing.shelf_tells → Ends order held standing.shelf_is_calm ended
   pub content : (name : List ℕ) → read name ≡ held name
   pub later : before ≤ mid
-  pub within : (ended_report ended).status ≤ 5
+  pub within : (ended_report ended).status ≤ 6
   pub refused : order ≡ None → (ended ≡ Err stops.BadWords) ⊎ (ended ≡ Err stops.Memory)
   pub refused_only : (ended_report ended).status ≡ 2 → order ≡ None
   pub cause : (ended_report ended).status ≡ 4 → Rose before mid
@@ -50,7 +50,6 @@ has_ended order calm (Ok outcome) before after status ends done cause = reported
 has_ended order calm (Err stops.BadWords) before after status ends done cause = reported bad_words ends (delivered done.0 done.1)
 has_ended order calm (Err (stops.TooLong name)) before after status ends done cause = reported (too_long name.now) ends (delivered done.0 done.1)
 has_ended order calm (Err (stops.BadText name kind place)) before after status ends done cause = reported (bad_text name.now kind place) ends (delivered done.0 done.1)
-has_ended order calm (Err (stops.ManyRows name)) before after status ends done cause = reported (many_rows name.now) ends (delivered done.0 done.1)
 has_ended order calm (Err (stops.CannotRead name)) before after status ends done cause = unread name.now ends.0 (cause refl) done.0 done.1
 has_ended order calm (Err stops.Memory) before after status ends done cause = no_memory done.0 done.1
 
@@ -83,7 +82,6 @@ the_report order held calm (Ok outcome) ends report is = inl (one_report order h
 the_report order held calm (Err stops.BadWords) ends report is = inl (one_report order held _ report ends is)
 the_report order held calm (Err (stops.TooLong name)) ends report is = inl (one_report order held _ report ends is)
 the_report order held calm (Err (stops.BadText name kind place)) ends report is = inl (one_report order held _ report ends is)
-the_report order held calm (Err (stops.ManyRows name)) ends report is = inl (one_report order held _ report ends is)
 the_report order held calm (Err (stops.CannotRead name)) ends report is = inr (inl (refl, λ is_calm. ends.1 is_calm report is))
 the_report order held calm (Err stops.Memory) ends report is = inr (inr refl)
 

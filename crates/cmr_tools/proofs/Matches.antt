@@ -11,7 +11,7 @@ use Rattle.clap.specs.declared.error.kind.ErrorKind.TheVariants.{OutOfMemory}
 use Rattle.clap.specs.declared.parser.matches.ArgMatches.{ArgMatches}
 use Rattle.cmr_tools.specs.declared.words.WordsError.{WordsError}
 use Rattle.cmr_tools.specs.declared.words.WordsError.TheVariants.{Refused, Memory}
-use Rattle.cmr_tools.specs.Words.Arguments.{faultless, is_dash, matches_in, matches_with_input}
+use Rattle.cmr_tools.specs.Words.Parsing.{faultless, is_dash, matches_in, matches_with_input}
 use Rattle.cmr_tools.specs.Words.Reading.{Gives, ◌>>=◌}
 
 pub simple_of_free : (a : App) → is_simple_and_free a ≡ true → is_simple a ≡ true

@@ -51,9 +51,6 @@ too_long name = refusal 3 (codes "cmr: " ++ name ++ codes ": TooLong\n")
 abbrev pub bad_text : List ℕ → TextKind → ℕ → Report
 bad_text name kind place = refusal 3 (fault_line name (kind_name kind) (decimal place))
 
-abbrev pub many_rows : List ℕ → Report
-many_rows name = refusal 3 (codes "cmr: " ++ name ++ codes ": more than 8 rows\n")
-
 abbrev pub cannot_read : List ℕ → Report
 cannot_read name = refusal 4 (codes "cmr: cannot read " ++ name ++ codes "\n")
 
@@ -65,7 +62,6 @@ stop_report stops.BadWords = bad_words
 stop_report (stops.CannotRead name) = cannot_read name.now
 stop_report (stops.TooLong name) = too_long name.now
 stop_report (stops.BadText name kind place) = bad_text name.now kind place
-stop_report (stops.ManyRows name) = many_rows name.now
 stop_report stops.Memory = out_of_memory
 
 -- the report of an outcome, or of the stop that stands in its place

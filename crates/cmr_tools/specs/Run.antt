@@ -7,7 +7,7 @@ use Rattle.cmr_tools.specs.declared.outcome.Stop.{Stop}
 use Rattle.cmr_tools.specs.declared.outcome.Stop.TheVariants as stops
 use Rattle.cmr_tools.specs.Words.{Order, tu}
 use Rattle.cmr_tools.specs.Report.{Held, Report}
-use Rattle.cmr_tools.specs.Outcome.{bad_text, bad_words, cannot_read, many_rows, out_of_memory, outcome_report, too_long}
+use Rattle.cmr_tools.specs.Outcome.{bad_text, bad_words, cannot_read, out_of_memory, outcome_report, too_long}
 use Rattle.cmr_tools.specs.Inputs.{reading, whole, matrix_in}
 use Rattle.cmr_tools.specs.Ending.{Devices, Standing, IsDelivered, IsReadyFor, IsCarriedOut}
 use Rattle.cmr_tools.specs.Words.Tu.{TuOrder}
@@ -22,6 +22,10 @@ Reports (Some (tu o)) held report = TuReports o held report
 abbrev pub IsInput : Option Order → List ℕ → Type 0
 IsInput None name = ⊥
 IsInput (Some (tu o)) name = name ≡ o.file
+
+-- the numbers of an order are in their ranges
+abbrev pub IsInRanges : Order → Type 0
+IsInRanges (tu o) = o.lines ≤ 24
 
 -- How a run ends: its report is carried out, or a file cannot be read, or memory is refused, and then nothing
 -- is written but the line of standard error.
@@ -51,7 +55,7 @@ pub record Runs (order : Option Order) (standing : Standing) (before after : Dev
   pub refused_only : status ≡ 2 → order ≡ None
   -- status 4 comes only where a call of the shelf or of standard output failed
   pub device : status ≡ 4 → Rose before.shelf_faults after.shelf_faults ⊎ Rose before.output_faults after.output_faults
-  pub statuses : status ≤ 5
+  pub statuses : status ≤ 6
 
 -- What an outcome or a stop says for an order, before anything is written: it is the report, but for a file that
 -- cannot be read, of which a calm shelf says that there is no report, and for want of memory.
@@ -61,5 +65,4 @@ Ends order held calm (Err stops.BadWords) = Reports order held bad_words
 Ends order held calm (Err (stops.CannotRead name)) = IsInput order name.now × (IsTrue calm → (report : Report) → ¬ (Reports order held report))
 Ends order held calm (Err (stops.TooLong name)) = Reports order held (too_long name.now)
 Ends order held calm (Err (stops.BadText name kind place)) = Reports order held (bad_text name.now kind place)
-Ends order held calm (Err (stops.ManyRows name)) = Reports order held (many_rows name.now)
 Ends order held calm (Err stops.Memory) = Unit {0}

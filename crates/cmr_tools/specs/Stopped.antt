@@ -15,7 +15,6 @@ StopsReading held most name calm stops.BadWords = ⊥
 StopsReading held most name calm (stops.CannotRead file) = IsTrue calm → reading held most name ≡ missing
 StopsReading held most name calm (stops.TooLong file) = reading held most name ≡ above_limit
 StopsReading held most name calm (stops.BadText file kind place) = ⊥
-StopsReading held most name calm (stops.ManyRows file) = ⊥
 StopsReading held most name calm stops.Memory = Unit {0}
 
 -- what a stop says of the text that was read
@@ -24,7 +23,6 @@ StopsMatrix read name stops.BadWords = ⊥
 StopsMatrix read name (stops.CannotRead file) = ⊥
 StopsMatrix read name (stops.TooLong file) = ⊥
 StopsMatrix read name (stops.BadText file kind place) = (file.now ≡ name) × (read ≡ Err (kind, place))
-StopsMatrix read name (stops.ManyRows file) = ⊥
 StopsMatrix read name stops.Memory = Unit {0}
 
 -- the file that a stop of reading names, and the cause of a fault
@@ -33,5 +31,4 @@ IsCaused name before now stops.BadWords = ⊥
 IsCaused name before now (stops.CannotRead file) = (file.now ≡ name) × Rose before now
 IsCaused name before now (stops.TooLong file) = file.now ≡ name
 IsCaused name before now (stops.BadText file kind place) = ⊥
-IsCaused name before now (stops.ManyRows file) = ⊥
 IsCaused name before now stops.Memory = Unit {0}

@@ -1,15 +1,18 @@
 -- What `tu` reports.
-use Rattle.std.specs.Prelude.{◌≡◌, ◌⊎◌, ◌+◌, ◌++◌, ℕ, nat_lt, MatchBool, false, List, [], ◌∷◌, Result, Ok, Err, codes}
-use Rattle.std.specs.Fmt.{decimal}
+use Rattle.std.specs.Prelude.{◌≡◌, ◌≤◌, ◌⊎◌, ◌+◌, ◌++◌, ℕ, ℤ, nat_lt, min, MatchBool, false, List, [], ◌∷◌, length, Option, Some, None, Result, Ok, Err, codes}
+use Rattle.std.specs.Fmt.{decimal, signed_decimal}
 use Rattle.cmr_base.specs.Matrix.{Matrix, height}
-use Rattle.cmr_base.specs.Signing.{IsTotallyUnimodular, IsLeastUnsigned}
+use Rattle.cmr_base.specs.LineSets.{first_lines, submatrix_sum}
+use Rattle.cmr_base.specs.Signing.{IsTotallyUnimodular}
+use Rattle.cmr_base.specs.Violator.{IsLeastViolator}
 use Rattle.text_fields.specs.Reading.{Fault}
 use Rattle.matrix_text.specs.declared.error.TextKind.{TextKind}
+use Rattle.matrix_text.specs.Canonical.{submatrix_text}
 use Rattle.cmr_tools.specs.declared.outcome.Stop.{Stop}
 use Rattle.cmr_tools.specs.declared.outcome.Stop.TheVariants as stops
 use Rattle.cmr_tools.specs.Words.Tu.{TuOrder}
-use Rattle.cmr_tools.specs.Report.{Held, Report}
-use Rattle.cmr_tools.specs.Outcome.{bad_text, many_rows, stop_report, too_long}
+use Rattle.cmr_tools.specs.Report.{Held, File, Report}
+use Rattle.cmr_tools.specs.Outcome.{bad_text, stop_report, too_long}
 use Rattle.cmr_tools.specs.Inputs.{Reading, missing, above_limit, whole, reading, matrix_in}
 
 -- numbers of lines, counted from 1, each after a space
@@ -17,22 +20,45 @@ abbrev pub line_numbers : List ℕ → List ℕ
 line_numbers [] = []
 line_numbers (line ∷ lines) = codes " " ++ decimal (line + 1) ++ line_numbers lines
 
-abbrev pub answers : ℕ → List ℕ → Report
-answers status output = record { status = status; output = output; error = []; files = [] }
+-- a set of lines as it is printed
+abbrev pub line_set : List ℕ → List ℕ → List ℕ
+line_set rows columns = codes "rows" ++ line_numbers rows ++ codes " columns" ++ line_numbers columns
+
+-- a file of this name, where one is asked for
+abbrev pub asked_file : Option (List ℕ) → List ℕ → List File
+asked_file None bytes = []
+asked_file (Some name) bytes = record { name = name; bytes = bytes } ∷ []
 
 abbrev pub tu_yes : Report
-tu_yes = answers 0 (codes "totally unimodular: yes\n")
+tu_yes = record { status = 0; output = codes "totally unimodular: yes\n"; error = []; files = [] }
 
-abbrev pub tu_no : List ℕ → Report
-tu_no rows = answers 1 (codes "totally unimodular: no\nrows" ++ line_numbers rows ++ codes "\n")
+abbrev pub no_output : List ℕ → List ℕ → ℤ → List ℕ
+no_output rows columns sum = codes "totally unimodular: no\nviolator " ++ line_set rows columns ++ codes " sum " ++ signed_decimal sum ++ codes "\n"
 
--- on a matrix within the limit of eight rows
-abbrev pub TuAnswers : Matrix → Report → Type 0
-TuAnswers m report = (IsTotallyUnimodular m × (report ≡ tu_yes)) ⊎ ((rows : List ℕ) × IsLeastUnsigned m rows × (report ≡ tu_no rows))
+abbrev pub tu_no : TuOrder → Matrix → List ℕ → List ℕ → Report
+tu_no o m rows columns = record {
+  status = 1;
+  output = no_output rows columns (submatrix_sum m rows columns);
+  error = [];
+  files = asked_file o.fault (submatrix_text (height m) m.width (record { rows = rows; columns = columns }));
+}
 
--- on a matrix
+abbrev pub tu_undecided : Matrix → Report
+tu_undecided m = record {
+  status = 6;
+  output = codes "totally unimodular: undecided\nopen " ++ line_set (first_lines (height m)) (first_lines m.width) ++ codes "\n";
+  error = [];
+  files = [];
+}
+
+-- within the budget: a yes where each row set has a signing, and else a no with the least violator
+abbrev pub TuAnswers : TuOrder → Matrix → Report → Type 0
+TuAnswers o m report = (IsTotallyUnimodular m × (report ≡ tu_yes))
+    ⊎ ((rows columns : List ℕ) × IsLeastViolator m rows columns × (report ≡ tu_no o m rows columns))
+
+-- on a matrix: undecided where its shorter side has more lines than the budget
 abbrev pub TuDecides : TuOrder → Matrix → Report → Type 0
-TuDecides o m report = MatchBool (nat_lt 8 (height m)) (report ≡ many_rows o.file) (TuAnswers m report)
+TuDecides o m report = MatchBool (nat_lt o.lines (min (height m) m.width)) (report ≡ tu_undecided m) (TuAnswers o m report)
 
 -- on what a text stands for
 abbrev pub TuReads : TuOrder → Result Matrix (Fault TextKind) → Report → Type 0
@@ -49,11 +75,14 @@ TuOpens o (whole bytes) report = TuReads o (matrix_in o.form false bytes) report
 abbrev pub TuReports : TuOrder → Held → Report → Type 0
 TuReports o held report = TuOpens o (reading held 16777216 o.file) report
 
+-- the statuses of a yes, a no and undecided
+abbrev pub IsAnswer : ℕ → Type 0
+IsAnswer status = (status ≤ 1) ⊎ (status ≡ 6)
+
 -- the stops on what a text stands for
 abbrev pub TuStops : TuOrder → Result Matrix (Fault TextKind) → Stop → Type 0
 TuStops o read stops.BadWords = ⊥
 TuStops o read (stops.CannotRead name) = ⊥
 TuStops o read (stops.TooLong name) = ⊥
 TuStops o read (stops.BadText name kind place) = TuReads o read (stop_report (stops.BadText name kind place))
-TuStops o read (stops.ManyRows name) = TuReads o read (stop_report (stops.ManyRows name))
 TuStops o read stops.Memory = Unit {0}

@@ -1,5 +1,6 @@
 -- What the words of the command line order.
 pub mod Arguments
+pub mod Parsing
 pub mod Reading
 pub mod Tu
 use Rattle.std.specs.Prelude.{ℕ, List, [], ◌∷◌, Option, Some, None, option_map, if◌then◌else◌, codes}

@@ -19,7 +19,6 @@ pub fn write_stop<E: Sink>(err: &mut E, stop: &Stop<'_>)
         Stop::CannotRead { name } => write_line(err, "cmr: cannot read ", name, "\n"),
         Stop::TooLong { name } => write_line(err, "cmr: ", name, ": TooLong\n"),
         Stop::BadText { name, kind, place } => write_fault(err, name, kind_name(*kind), *place),
-        Stop::ManyRows { name } => write_line(err, "cmr: ", name, ": more than 8 rows\n"),
         Stop::Memory => write_line(err, "cmr: out of memory", "", "\n"),
     }
 }

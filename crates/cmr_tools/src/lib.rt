@@ -6,6 +6,7 @@ mod error_lines;
 mod input;
 mod options;
 mod outcome;
+mod printed;
 mod program;
 mod unimodularity;
 mod words;

@@ -10,16 +10,20 @@ pub enum MatrixForm {
 }
 
 /// What `tu` is asked to do. A file of the name `-` is standard input.
-#[derive(Clone, Copy, Debug)]
+#[derive(Clone, Copy, Debug, PartialEq, Eq)]
 pub struct TuOptions<'a> {
     /// The form of the matrix text.
     pub form: MatrixForm,
+    /// The most lines on the shorter side of a part that is searched whole, 0 to 24.
+    pub lines: u32,
+    /// The file that gets the violator where there is one.
+    pub fault: Option<&'a str>,
     /// The file that holds the matrix text.
     pub file: &'a str,
 }
 
 /// A tool with its options.
-#[derive(Clone, Copy, Debug)]
+#[derive(Clone, Copy, Debug, PartialEq, Eq)]
 pub enum Command<'a> {
     /// Tests whether a matrix is totally unimodular.
     Tu(TuOptions<'a>),

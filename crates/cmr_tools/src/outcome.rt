@@ -34,9 +34,6 @@ pub enum Stop<'a> {
         kind: TextKind,
         place: usize,
     },
-    ManyRows {
-        name: &'a str,
-    },
     Memory,
 }
 
@@ -49,7 +46,7 @@ impl Stop<'_> {
     {
         match self {
             Stop::BadWords => 2,
-            Stop::TooLong { .. } | Stop::BadText { .. } | Stop::ManyRows { .. } => 3,
+            Stop::TooLong { .. } | Stop::BadText { .. } => 3,
             Stop::CannotRead { .. } => 4,
             Stop::Memory => 5,
         }

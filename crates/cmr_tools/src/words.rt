@@ -8,6 +8,7 @@ ghost use Rattle.cmr_tools.specs.Words.{order, order_of};
 ghost use Rattle.cmr_tools.specs.Words.Reading.{Gives};
 
 mod arguments;
+mod parsing;
 #[cfg(test)]
 mod tests;
 mod tu;

@@ -1,8 +1,17 @@
-use crate::options::{Command, MatrixForm};
+use crate::options::{Command, MatrixForm, TuOptions};
 use crate::words::{WordsError, read_words};
 use cmr_base::{Word, WordList};
 use std::process::Abort;
 use std::test::Fail;
+
+fn named(file: &str) -> TuOptions<'_> {
+    TuOptions {
+        form: MatrixForm::Dense,
+        lines: 14,
+        fault: None,
+        file,
+    }
+}
 
 fn words<R: AllocGlobal>(rt: &R, texts: &[&str]) -> Result<WordList, Fail> {
     let alloc = rt.alloc();
@@ -16,13 +25,10 @@ fn words<R: AllocGlobal>(rt: &R, texts: &[&str]) -> Result<WordList, Fail> {
 fn reads<R: Abort + AllocGlobal>(
     rt: &R,
     texts: &[&str],
-    form: MatrixForm,
-    file: &str,
+    options: TuOptions<'_>,
 ) -> Result<(), Fail> {
     let words = words(rt, texts)?;
-    let Command::Tu(options) = read_words(rt.alloc(), &words)?;
-    assert_eq!(rt; options.form, form);
-    assert_eq!(rt; options.file, file);
+    assert_eq!(rt; read_words(rt.alloc(), &words)?, Command::Tu(options));
     Ok(())
 }
 
@@ -33,36 +39,39 @@ fn refuses<R: Abort + AllocGlobal>(rt: &R, texts: &[&str]) -> Result<(), Fail> {
 }
 
 #[test]
-fn tu_takes(rt: HostRuntime) -> Result<(), Fail> {
-    use MatrixForm::{Dense, Sparse};
-
-    reads(&rt, &["tu"], Dense, "-")?;
-    reads(&rt, &["tu", "-"], Dense, "-")?;
-    reads(&rt, &["tu", "f"], Dense, "f")?;
-    reads(&rt, &["tu", ""], Dense, "")?;
-    reads(&rt, &["tu", "--", "-"], Dense, "-")?;
-    reads(&rt, &["tu", "--", "-t"], Dense, "-t")?;
-    reads(&rt, &["tu", "help"], Dense, "help")?;
-    reads(&rt, &["tu", "-i", "dense", "f"], Dense, "f")?;
-    reads(&rt, &["tu", "-i", "sparse", "f"], Sparse, "f")?;
-    reads(&rt, &["tu", "-isparse", "f"], Sparse, "f")?;
-    reads(&rt, &["tu", "-i=sparse", "f"], Sparse, "f")?;
-    reads(&rt, &["tu", "f", "-i", "sparse"], Sparse, "f")?;
-    reads(&rt, &["tu", "-i", "sparse"], Sparse, "-")?;
-    reads(&rt, &["tu", "-i", "sparse", "-"], Sparse, "-")?;
+fn files(rt: HostRuntime) -> Result<(), Fail> {
+    reads(&rt, &["tu"], named("-"))?;
+    reads(&rt, &["tu", "-"], named("-"))?;
+    reads(&rt, &["tu", "--", "-"], named("-"))?;
+    reads(&rt, &["tu", "f"], named("f"))?;
+    reads(&rt, &["tu", ""], named(""))?;
+    reads(&rt, &["tu", "help"], named("help"))?;
+    reads(&rt, &["tu", "--", "-t"], named("-t"))?;
+    refuses(&rt, &["tu", "f", "g"])?;
+    refuses(&rt, &["tu", "f", "-"])?;
+    refuses(&rt, &["tu", "-", "f"])?;
+    refuses(&rt, &["tu", "-", "-"])?;
+    refuses(&rt, &["tu", "--", "-", "-"])?;
     Ok(())
 }
 
 #[test]
-fn refused_words(rt: HostRuntime) -> Result<(), Fail> {
-    refuses(&rt, &[])?;
-    refuses(&rt, &[""])?;
-    refuses(&rt, &["-"])?;
-    refuses(&rt, &["rank", "f"])?;
-    refuses(&rt, &["tu", "f", "-"])?;
-    refuses(&rt, &["tu", "-", "f"])?;
-    refuses(&rt, &["tu", "-", "-"])?;
-    refuses(&rt, &["tu", "f", "g"])?;
+fn forms(rt: HostRuntime) -> Result<(), Fail> {
+    let sparse = TuOptions {
+        form: MatrixForm::Sparse,
+        ..named("f")
+    };
+    let sparse_input = TuOptions {
+        file: "-",
+        ..sparse
+    };
+    reads(&rt, &["tu", "-i", "dense", "f"], named("f"))?;
+    reads(&rt, &["tu", "-i", "sparse", "f"], sparse)?;
+    reads(&rt, &["tu", "f", "-i", "sparse"], sparse)?;
+    reads(&rt, &["tu", "-isparse", "f"], sparse)?;
+    reads(&rt, &["tu", "-i=sparse", "f"], sparse)?;
+    reads(&rt, &["tu", "-i", "sparse"], sparse_input)?;
+    reads(&rt, &["tu", "-i", "sparse", "-"], sparse_input)?;
     refuses(&rt, &["tu", "-i"])?;
     refuses(&rt, &["tu", "-i", "-"])?;
     refuses(&rt, &["tu", "-i", "-", "f"])?;
@@ -70,11 +79,92 @@ fn refused_words(rt: HostRuntime) -> Result<(), Fail> {
     refuses(&rt, &["tu", "-i", "Dense", "f"])?;
     refuses(&rt, &["tu", "-i", "", "f"])?;
     refuses(&rt, &["tu", "-i", "dense", "-i", "dense", "f"])?;
-    refuses(&rt, &["tu", "-t"])?;
-    refuses(&rt, &["tu", "-w", "1"])?;
+    Ok(())
+}
+
+#[test]
+fn lines(rt: HostRuntime) -> Result<(), Fail> {
+    let three = TuOptions {
+        lines: 3,
+        ..named("f")
+    };
+    reads(&rt, &["tu", "--lines", "3", "f"], three)?;
+    reads(&rt, &["tu", "--lines=3", "f"], three)?;
+    reads(&rt, &["tu", "--lines", "+3", "f"], three)?;
+    reads(&rt, &["tu", "--lines", "003", "f"], three)?;
+    reads(
+        &rt,
+        &["tu", "--lines", "0", "f"],
+        TuOptions { lines: 0, ..three },
+    )?;
+    reads(
+        &rt,
+        &["tu", "--lines", "24", "f"],
+        TuOptions { lines: 24, ..three },
+    )?;
+    refuses(&rt, &["tu", "--lines"])?;
+    refuses(&rt, &["tu", "--lines", "25", "f"])?;
+    refuses(&rt, &["tu", "--lines", "99999999999999999999", "f"])?;
+    refuses(&rt, &["tu", "--lines", "-1", "f"])?;
+    refuses(&rt, &["tu", "--lines=-1", "f"])?;
+    refuses(&rt, &["tu", "--lines", "x", "f"])?;
+    refuses(&rt, &["tu", "--lines", " 3", "f"])?;
+    refuses(&rt, &["tu", "--lines", "3 ", "f"])?;
+    refuses(&rt, &["tu", "--lines", "+", "f"])?;
+    refuses(&rt, &["tu", "--lines", "", "f"])?;
+    refuses(&rt, &["tu", "--lin", "3", "f"])?;
+    refuses(&rt, &["tu", "--lines", "3", "--lines", "3", "f"])?;
+    Ok(())
+}
+
+#[test]
+fn fault_files(rt: HostRuntime) -> Result<(), Fail> {
+    let e = TuOptions {
+        fault: Some("e"),
+        ..named("f")
+    };
+    let dash = TuOptions {
+        fault: Some("-"),
+        ..e
+    };
+    let empty = TuOptions {
+        fault: Some(""),
+        ..e
+    };
+    let all = TuOptions {
+        form: MatrixForm::Sparse,
+        lines: 3,
+        ..e
+    };
+    reads(&rt, &["tu", "-E", "e", "f"], e)?;
+    reads(&rt, &["tu", "-Ee", "-"], TuOptions { file: "-", ..e })?;
+    reads(&rt, &["tu", "-E-", "f"], dash)?;
+    reads(&rt, &["tu", "-E=-", "f"], dash)?;
+    reads(&rt, &["tu", "-E=", "f"], empty)?;
+    reads(
+        &rt,
+        &["tu", "--lines", "3", "-E", "e", "-isparse", "f"],
+        all,
+    )?;
+    refuses(&rt, &["tu", "-E"])?;
+    refuses(&rt, &["tu", "-E", "-"])?;
+    refuses(&rt, &["tu", "-E", "-", "f"])?;
+    refuses(&rt, &["tu", "-E", "e", "-E", "e", "f"])?;
+    Ok(())
+}
+
+#[test]
+fn other_words(rt: HostRuntime) -> Result<(), Fail> {
+    refuses(&rt, &[])?;
+    refuses(&rt, &[""])?;
+    refuses(&rt, &["-"])?;
+    refuses(&rt, &["f"])?;
+    refuses(&rt, &["rank", "f"])?;
+    refuses(&rt, &["--help"])?;
     refuses(&rt, &["tu", "-h"])?;
     refuses(&rt, &["tu", "--help"])?;
     refuses(&rt, &["tu", "--version"])?;
-    refuses(&rt, &["--help"])?;
+    refuses(&rt, &["tu", "-t"])?;
+    refuses(&rt, &["tu", "-w", "1"])?;
     Ok(())
 }

@@ -1,10 +1,11 @@
-//! The words of `tu`: `[-i FORMAT] [FILE]`.
+//! The words of `tu`: `[-i FORMAT] [--lines L] [-E FILE] [FILE]`.
 ghost use Rattle.std.specs.Prelude.{◌≡◌, IfOk};
 ghost use Rattle.clap.specs.Words.{app_of, found_of, rows_of};
 ghost use Rattle.cmr_tools.specs.Words.Reading.{Gives};
 ghost use Rattle.cmr_tools.specs.Words.Tu.{tu_app, tu_order, tu_order_in, tu_order_of};
 
 use crate::options::TuOptions;
+use crate::words::parsing::{fault_in, file_in, form_in, lines_in, matches_with_input};
 use crate::words::{WordsError, arguments};
 use clap::{ArgMatches, Command};
 use cmr_base::Word;
@@ -15,15 +16,19 @@ fn tu_command<'a>(alloc: Global) -> Result<Command<'a>, AllocError>
 {
     let bare = arguments::bare_command(alloc, "tu");
     let with_form = arguments::add(bare, arguments::form_option(alloc))?;
-    arguments::add(with_form, arguments::file_operand(alloc))
+    let with_lines = arguments::add(with_form, arguments::lines_option(alloc))?;
+    let with_fault = arguments::add(with_lines, arguments::fault_option(alloc))?;
+    arguments::add(with_fault, arguments::file_operand(alloc))
 }
 
 fn options_in<'a>(matches: &ArgMatches<'a>) -> Result<TuOptions<'a>, WordsError>
     ensures { Gives tu_order_of result (tu_order_in (rows_of (found_of matches.now))) }
 {
     Ok(TuOptions {
-        form: arguments::form_in(matches)?,
-        file: arguments::file_in(matches),
+        form: form_in(matches)?,
+        lines: lines_in(matches)?,
+        fault: fault_in(matches),
+        file: file_in(matches),
     })
 }
 
@@ -31,6 +36,6 @@ fn options_in<'a>(matches: &ArgMatches<'a>) -> Result<TuOptions<'a>, WordsError>
 pub fn read_tu<'a>(alloc: Global, words: &'a [Word]) -> Result<TuOptions<'a>, WordsError>
     ensures { Gives tu_order_of result (tu_order words.now) }
 {
-    let matches = arguments::matches_with_input(tu_command(alloc)?, words)?;
+    let matches = matches_with_input(tu_command(alloc)?, words)?;
     options_in(&matches)
 }

@@ -9,8 +9,5 @@ returns-in-CannotRead g c = rw c.in-CannotRead.is c.write_line-in-CannotRead.ens
 pub returns-in-TooLong : goal.returns-in-TooLong
 returns-in-TooLong g c = rw c.in-TooLong.is c.write_line-in-TooLong.ensures
 
-pub returns-in-ManyRows : goal.returns-in-ManyRows
-returns-in-ManyRows g c = rw c.in-ManyRows.is c.write_line-in-ManyRows.ensures
-
 pub returns-in-Memory : goal.returns-in-Memory
 returns-in-Memory g c = rw c.in-Memory.is c.write_line-in-Memory.ensures

@@ -1,7 +1,7 @@
 use Rattle.std.proofs.Common.{sym, ◌∙◌}
 use Rattle.clap.specs.Words.{app_of}
 use Rattle.cmr_tools.proofs.Matches.{matches_found, matches_refused}
-use Rattle.cmr_tools.proofs.words.arguments.matches_in.Goals as goal
+use Rattle.cmr_tools.proofs.words.parsing.matches_in.Goals as goal
 
 pub returns-in_err-try_get_matches_from : goal.returns-in_err-try_get_matches_from
 returns-in_err-try_get_matches_from c =

@@ -1,6 +1,6 @@
 use Rattle.std.proofs.Common.{◌≡◌, ◌++◌, drop}
 use Rattle.cmr_tools.specs.Tu.{line_numbers}
-use Rattle.cmr_tools.proofs.unimodularity.push_line_numbers.Given as goal
+use Rattle.cmr_tools.proofs.printed.push_line_numbers.Given as goal
 
 -- the numbers so far and those of the rest are all
 abbrev pub invariant-loop-line : goal.invariant-loop-line

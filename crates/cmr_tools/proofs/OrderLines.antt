@@ -1,0 +1,48 @@
+-- The lines that words name are in their range.
+use Rattle.std.proofs.Common.{◌≡◌, ℕ, ◌≤◌, List, [], ◌∷◌, Option, Some, None, option_map, Bool, true, false, cond, refl, ap, subst, ◌∙◌, arith, codes}
+use Rattle.std.specs.Option.{option_map_or}
+use Rattle.std.specs.Str.{bytes_eq}
+use Rattle.clap.specs.Words.{Row, Text, first_of}
+use Rattle.cmr_tools.specs.declared.options.MatrixForm.{MatrixForm}
+use Rattle.cmr_tools.specs.Words.{order, tu}
+use Rattle.cmr_tools.specs.Words.Parsing.{fault_in, file_in, form_in, lines_in, matches_with_input, number_up_to}
+use Rattle.cmr_tools.specs.Words.Reading.{◌>>=◌}
+use Rattle.cmr_tools.specs.Words.Tu.{TuOrder, tu_app, tu_order, tu_order_in}
+use Rattle.cmr_tools.proofs.Numbers.{number_up_to-le}
+
+lines_in-le : (rows : List Row) (lines : ℕ) → lines_in rows ≡ Some lines → lines ≤ 24
+lines_in-le rows lines e = go (first_of (codes "lines") rows) e
+  where
+    go : (text : Option Text) → option_map_or (number_up_to 24) text (Some 14) ≡ Some lines → lines ≤ 24
+    go None e = let same : 14 ≡ lines = cc in omega arith
+    go (Some text) e = number_up_to-le 24 text lines e
+
+-- the lines that words of `tu` name
+pub tu_order-lines : (words : List Text) (o : TuOrder) → tu_order words ≡ Some o → o.lines ≤ 24
+tu_order-lines words o e = go (matches_with_input tu_app words) e
+  where
+    of_values : (form : Option MatrixForm) (lines : Option ℕ) (rows : List Row) → ((n : ℕ) → lines ≡ Some n → n ≤ 24)
+        → (form >>= (λ f. lines >>= (λ l. Some (record { form = f; lines = l; fault = fault_in rows; file = file_in rows })))) ≡ Some o → o.lines ≤ 24
+    of_values None lines rows within e = cc
+    of_values (Some f) None rows within e = cc
+    of_values (Some f) (Some l) rows within e =
+        let same : ◌≡◌ {A = TuOrder} (record { form = f; lines = l; fault = fault_in rows; file = file_in rows }) o = cc in
+        subst (λ (x : TuOrder). x.lines ≤ 24) same (within l refl)
+
+    go : (rows : Option (List Row)) → (rows >>= tu_order_in) ≡ Some o → o.lines ≤ 24
+    go None e = cc
+    go (Some rows) e = of_values (form_in rows) (lines_in rows) rows (lines_in-le rows) e
+
+pub order-lines : (words : List Text) (o : TuOrder) → order words ≡ Some (tu o) → o.lines ≤ 24
+order-lines [] o e = cc
+order-lines (tool ∷ words) o e = go (bytes_eq tool (codes "tu")) e
+  where
+    of_order : (found : Option TuOrder) → tu_order words ≡ found → option_map tu found ≡ Some (tu o) → o.lines ≤ 24
+    of_order None is e = cc
+    of_order (Some x) is e =
+        let same : x ≡ o = cc in
+        tu_order-lines words o (is ∙ ap Some same)
+
+    go : (b : Bool) → cond b (option_map tu (tu_order words)) None ≡ Some (tu o) → o.lines ≤ 24
+    go true e = of_order (tu_order words) refl e
+    go false e = cc

@@ -1,0 +1,117 @@
+//! What the command of a tool makes of its words, and the values of the arguments that tools share.
+ghost use Rattle.std.specs.Prelude.{◌≡◌, true, option_map};
+ghost use Rattle.std.specs.List.{list_any};
+ghost use Rattle.clap.specs.Words.{app_of, first_of, found_of, is_simple_and_free, rows_of};
+ghost use Rattle.cmr_tools.specs.Words.Parsing as parsing;
+ghost use Rattle.cmr_tools.specs.Words.Reading.{Gives};
+
+use crate::options::MatrixForm;
+use crate::words::WordsError;
+use crate::words::arguments::{FAULT, FILE, FORMAT, LINES};
+use clap::{ArgMatches, Command};
+use cmr_base::Word;
+
+// The word that stands for standard input.
+const DASH: &str = "-";
+
+// L where it is left out, and the most that it may be.
+const USUAL_LINES: u32 = 14;
+
+const MOST_LINES: u32 = 24;
+
+fn ends_in_dash(words: &[Word]) -> bool
+    ensures { result ≡ parsing.ends_in_dash words.now }
+{
+    words.last().is_some_and(|last| last.text() == DASH)
+}
+
+fn has_dash(words: &[Word]) -> bool
+    ensures { result ≡ list_any parsing.is_dash words.now }
+{
+    words.iter().any(|word| word.text() == DASH)
+}
+
+/// What the command makes of the words, none of which may be `-`.
+fn matches_in<'a>(command: Command<'a>, words: &'a [Word]) -> Result<ArgMatches<'a>, WordsError>
+    requires { is_simple_and_free (app_of command) ≡ true }
+    ensures { Gives (λ m. rows_of (found_of m)) result
+        (parsing.matches_in (app_of command.entry) words.now) }
+{
+    if has_dash(words) {
+        return Err(WordsError::Refused);
+    }
+    Ok(command.try_get_matches_from(words)?)
+}
+
+/// The value of an option or operand.
+fn value_in<'a>(matches: &ArgMatches<'a>, id: &str) -> Option<&'a str>
+    ensures { option_map (λ s. s.now) result ≡ first_of id.now (rows_of (found_of matches.now)) }
+{
+    matches.get_str(id)
+}
+
+/// What a command whose last argument is [FILE] makes of the words. A last word `-` is taken out, and
+/// then no FILE may stand beside it.
+pub fn matches_with_input<'a>(
+    command: Command<'a>,
+    words: &'a [Word],
+) -> Result<ArgMatches<'a>, WordsError>
+    requires { is_simple_and_free (app_of command) ≡ true }
+    ensures { Gives (λ m. rows_of (found_of m)) result
+        (parsing.matches_with_input (app_of command.entry) words.now) }
+{
+    if !ends_in_dash(words) {
+        return matches_in(command, words);
+    }
+    let matches = matches_in(command, &words[..words.len() - 1])?;
+    match value_in(&matches, FILE) {
+        None => Ok(matches),
+        Some(_) => Err(WordsError::Refused),
+    }
+}
+
+/// The form that FORMAT names, dense where it is left out.
+pub fn form_in(matches: &ArgMatches<'_>) -> Result<MatrixForm, WordsError>
+    ensures { Gives (λ form. form) result (parsing.form_in (rows_of (found_of matches.now))) }
+{
+    match value_in(matches, FORMAT) {
+        None | Some("dense") => Ok(MatrixForm::Dense),
+        Some("sparse") => Ok(MatrixForm::Sparse),
+        Some(_) => Err(WordsError::Refused),
+    }
+}
+
+// A number from 0 to `most`, as `clap` reads the numbers of a range: a sign may stand first.
+fn number_up_to(most: u32, text: &str) -> Option<u32>
+    ensures { result ≡ parsing.number_up_to most text.now }
+{
+    match text.parse::<i64>() {
+        Ok(number) if 0 <= number && number <= i64::from(most) => Some(number as u32),
+        _ => None,
+    }
+}
+
+/// The number L, 14 where it is left out.
+pub fn lines_in(matches: &ArgMatches<'_>) -> Result<u32, WordsError>
+    ensures { Gives (λ lines. lines) result (parsing.lines_in (rows_of (found_of matches.now))) }
+{
+    match value_in(matches, LINES) {
+        None => Ok(USUAL_LINES),
+        Some(text) => number_up_to(MOST_LINES, text).ok_or(WordsError::Refused),
+    }
+}
+
+/// The file of `-E`.
+pub fn fault_in<'a>(matches: &ArgMatches<'a>) -> Option<&'a str>
+    ensures { option_map (λ name. name.now) result
+        ≡ parsing.fault_in (rows_of (found_of matches.now)) }
+{
+    value_in(matches, FAULT)
+}
+
+/// FILE, which is standard input where it is left out.
+pub fn file_in<'a>(matches: &ArgMatches<'a>) -> &'a str
+    ensures { result.now ≡ parsing.file_in (rows_of (found_of matches.now)) }
+{
+    value_in(matches, FILE).unwrap_or(DASH)
+}
