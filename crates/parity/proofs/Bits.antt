@@ -1,12 +1,12 @@
 -- Laws of bits: common columns, and where two numbers differ.
-use Rattle.std.proofs.Common.{◌≡◌, ◌≢◌, ◌<◌, ◌≤◌, ◌+◌, ◌-◌, ◌*◌, ◌/◌, ◌%◌, ◌^◌, ◌∙◌, ◌⊎◌, ℕ, zero, suc, refl, ap, ap₂, sym, subst, inl, inr, arith, min}
+use Rattle.std.proofs.Common.{◌≡◌, ◌≢◌, ◌<◌, ◌≤◌, ◌+◌, ◌*◌, ◌/◌, ◌%◌, ◌^◌, ◌∙◌, ◌⊎◌, ℕ, zero, suc, ap, ap₂, sym, subst, inl, inr, arith, min}
 use Rattle.std.specs.Prelude.{bit_and, bit_xor, count_ones}
 use Rattle.std.specs.Int.{bit_at}
-use Rattle.std.proofs.lemmas.Nat.Bits.{bit_at_and, bit_at_xor, same_from_bits, bit_at-lt, bit_at_lowest, bit_at-suc, bit_at-zero, bit_at-pow_same, bit_at-pow_other, and_pow}
+use Rattle.std.proofs.lemmas.Nat.Bits.{bit_at_and, bit_at_xor, same_from_bits, bit_at-lt, bit_at_lowest, bit_at-suc, bit_at-pow_same, bit_at-pow_other, and_pow}
 use Rattle.std.proofs.lemmas.Bool.{cases_lt, cases_eq}
 use lib.Count.{ones_step, ones_cat, ones-le}
 use Rattle.std.proofs.Math.Pow.{pow_pos}
-use lib.Bits.{xor_self, and_comm}
+use lib.Bits.{and_comm}
 use Rattle.parity.specs.Equations.{common, IsLowest}
 
 half_xor : (a b : ℕ) → bit_xor a b / 2 ≡ bit_xor (a / 2) (b / 2)

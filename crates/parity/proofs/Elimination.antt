@@ -1,5 +1,5 @@
 -- Elimination over two values: what reducing by a basis leaves, and the least solution.
-use Rattle.std.proofs.Common.{◌≡◌, ◌≢◌, ◌<◌, ◌≤◌, ◌+◌, ◌%◌, ◌^◌, ◌∙◌, ◌⊎◌, ◌++◌, ℕ, List, [], ◌∷◌, refl, ap, ap₂, sym, subst, inl, inr, arith, min}
+use Rattle.std.proofs.Common.{◌≡◌, ◌≢◌, ◌<◌, ◌≤◌, ◌^◌, ◌∙◌, ◌⊎◌, ◌++◌, ℕ, List, [], ◌∷◌, refl, ap, ap₂, sym, subst, inl, inr, arith}
 use Rattle.std.specs.Prelude.{bit_and, bit_xor}
 use Rattle.std.specs.List.{AllByRecursion}
 use Rattle.std.specs.Int.{bit_at}

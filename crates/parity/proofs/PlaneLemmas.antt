@@ -1,9 +1,9 @@
 -- Rows of entries as bits of words.
-use Rattle.std.proofs.Common.{◌≡◌, ◌<◌, ◌≤◌, ◌+◌, ◌-◌, ◌*◌, ◌/◌, ◌%◌, ◌^◌, ◌∙◌, ◌++◌, ◌⊎◌, ℕ, zero, suc, Bool, true, false, cond, ℤ, pos, List, [], ◌∷◌, length, take, drop, get_or, refl, ap, ap₂, sym, subst, inl, inr, arith, min, length-append}
+use Rattle.std.proofs.Common.{◌≡◌, ◌<◌, ◌≤◌, ◌+◌, ◌-◌, ◌*◌, ◌%◌, ◌^◌, ◌∙◌, ◌++◌, ℕ, zero, suc, Bool, true, false, cond, ℤ, pos, List, [], ◌∷◌, length, take, drop, get_or, refl, ap, sym, subst, inl, inr, arith, min, length-append}
 use Rattle.std.proofs.lemmas.Bool.{cases_lt}
 use Rattle.std.specs.Prelude.{bit_or}
 use Rattle.std.specs.List.{flat_map}
-use Rattle.std.proofs.lemmas.List.{drop-append-le, drop-drop, length-drop, length-take, length-take-le, take-append-le, take_all, take_more}
+use Rattle.std.proofs.lemmas.List.{drop-drop, length-drop, length-take-le, take_all, take_more}
 use Rattle.std.proofs.lemmas.Nat.{one_shl, or_comm, or_shifted}
 use Rattle.std.proofs.Math.Nat.{mul-le-mul_right, pow-suc, suc-mul, zero-mul}
 use Rattle.std.proofs.Math.Seq.{drop-append_seam, take-append_seam}

@@ -1,6 +1,6 @@
 -- A column set makes a violator with some rows exactly where its number solves their equations.
-use Rattle.std.proofs.Common.{◌≡◌, ◌<◌, ◌≤◌, ◌+◌, ◌*◌, ◌/◌, ◌%◌, ◌^◌, ◌∙◌, ◌⊎◌, ℕ, zero, suc, Bool, ℤ, pos, negsuc, neg_ℤ, ◌+ℤ◌, cond, List, [], ◌∷◌, ◌++◌, map, take, length, get_or, refl, ap, ap₂, sym, subst, inl, inr, arith, min, true, false}
-use Rattle.std.specs.Prelude.{bit_and, bit_xor, count_ones}
+use Rattle.std.proofs.Common.{◌≡◌, ◌<◌, ◌≤◌, ◌+◌, ◌/◌, ◌%◌, ◌^◌, ◌∙◌, ◌⊎◌, ℕ, zero, suc, Bool, ℤ, pos, negsuc, neg_ℤ, ◌+ℤ◌, cond, List, [], ◌∷◌, ◌++◌, map, take, length, get_or, refl, ap, ap₂, sym, subst, inl, inr, arith, min, true, false}
+use Rattle.std.specs.Prelude.{bit_and, count_ones}
 use Rattle.std.specs.List.{AllByRecursion}
 use Rattle.std.specs.Int.{bit_at}
 use Rattle.std.proofs.lemmas.Nat.Bits.{bit_at_and, bit_at_xor, bit_at_lowest, bit_at-suc, bit_at-lt, bit_at-zero, bit_at_above, same_from_bits}
@@ -10,7 +10,7 @@ use Rattle.std.proofs.lemmas.Nat.{xor_lt, and_le_l}
 use Rattle.std.proofs.Math.Nat.{pow-suc}
 use Rattle.std.proofs.lemmas.Bool.{cases_lt}
 use Rattle.cmr_base.specs.Matrix.{Matrix, height, row_of, entry, IsMatrix, IsEntry, is_nonzero}
-use Rattle.cmr_base.specs.LineSets.{set_number, set_numbered, IsColumnSet}
+use Rattle.cmr_base.specs.LineSets.{set_number, set_numbered}
 use Rattle.cmr_base.specs.Sums.{sum_over, IsEven, IsTwoModFour}
 use Rattle.cmr_base.specs.Violator.{IsViolator, IsLeastColumnSet, HasNoColumnSet}
 use Rattle.cmr_base.proofs.Integers.{sums}

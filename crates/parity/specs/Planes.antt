@@ -1,7 +1,7 @@
 -- A matrix in planes of bits, and sums modulo 4 in two planes.
-use Rattle.std.specs.Prelude.{◌≡◌, ◌<◌, ◌≤◌, ◌+◌, ◌*◌, ◌/◌, ◌==◌, if◌then◌else◌, ℕ, zero, suc, ℤ, pos, negsuc, ◌+ℤ◌, Bool, true, false, List, [], ◌∷◌, length, map, take, drop, bit_and, bit_xor}
+use Rattle.std.specs.Prelude.{◌≡◌, ◌+◌, ◌*◌, ◌/◌, if◌then◌else◌, ℕ, zero, suc, ℤ, pos, negsuc, ◌+ℤ◌, Bool, true, false, List, [], ◌∷◌, map, take, drop, bit_and, bit_xor}
 use Rattle.std.specs.Int.{bit_at}
-use Rattle.cmr_base.specs.Matrix.{Matrix, height, row_of, entry, is_nonzero}
+use Rattle.cmr_base.specs.Matrix.{Matrix, row_of, entry, is_nonzero}
 use Rattle.cmr_base.specs.Sums.{sum_over}
 
 abbrev pub is_minus : ℤ → Bool

@@ -1,4 +1,4 @@
-use Rattle.std.specs.Prelude.{◌≡◌, ℤ, Bool}
+use Rattle.std.specs.Prelude.{◌≡◌}
 use Rattle.std.specs.List.{flat_map}
 use Rattle.cmr_base.specs.Matrix.{Matrix, IsMatrix, is_nonzero}
 use Rattle.parity.specs.declared.planes.Planes.TheInside.{Inside}

@@ -1,10 +1,16 @@
+ghost use Rattle.std.specs.Prelude.{◌≡◌, IfOk};
+ghost use Rattle.cmr_base.specs.Matrix.{height};
+
 use crate::{first_column_set, is_violator};
 use cmr_base::{Indices, LineSet, Matrix};
 use std::alloc::Global;
 use std::test::Fail;
 
 // The matrix 1 1/1 -1.
-fn square(alloc: Global) -> Result<Matrix, Fail> {
+fn square(alloc: Global) -> Result<Matrix, Fail>
+    ensures rows { IfOk result (λ m. height m ≡ 2) }
+    ensures columns { IfOk result (λ m. m.width ≡ 2) }
+{
     let mut matrix = Matrix::zero(alloc, 2, 2)?;
     matrix.set(0, 0, 1);
     matrix.set(0, 1, 1);

@@ -1,7 +1,7 @@
-use Rattle.std.proofs.Common.{◌≡◌, ◌<◌, ◌+◌, ◌^◌, ◌∙◌, ◌++◌, ◌∷◌, [], ap, sym, subst, take, get_or, arith, List, ℕ}
-use Rattle.parity.specs.Equations.{Equation, IsBasis, IsLowest, System, number_of, reduced}
+use Rattle.std.proofs.Common.{◌≡◌, ◌+◌, ◌∙◌, ◌++◌, ◌∷◌, [], ap, sym, subst, take, get_or, arith, List, ℕ}
+use Rattle.parity.specs.Equations.{IsBasis, IsLowest, System, number_of, reduced}
 use Rattle.parity.specs.Planes.{equations_of, outside, support_of}
-use Rattle.parity.proofs.Elimination.{basis_none, basis_push, basis_skip}
+use Rattle.parity.proofs.Elimination.{basis_push, basis_skip}
 use Rattle.parity.proofs.Systems.{equations_more, outside_apart, outside_lt, support_of-lt}
 use Rattle.parity.proofs.column_search.eliminate.Goals as goal
 use Rattle.parity.proofs.column_search.eliminate.Goals.{in-Some+in_ok-push, in_default}

@@ -1,4 +1,4 @@
-use Rattle.std.proofs.Common.{◌≡◌, take, length}
+use Rattle.std.proofs.Common.{◌≡◌, take}
 use Rattle.parity.specs.Equations.{IsBasis}
 use Rattle.parity.specs.Planes.{equations_of}
 use Rattle.parity.proofs.column_search.eliminate.Given as goal

@@ -1,4 +1,4 @@
-use Rattle.std.proofs.Common.{◌≡◌, ◌<◌, ◌+◌, ◌^◌, ◌∙◌, [], ap, ap₂, sym, subst, take, get_or, arith}
+use Rattle.std.proofs.Common.{◌≡◌, ◌<◌, ◌+◌, ◌^◌, ◌∙◌, [], ap, ap₂, sym, subst, take, get_or}
 use Rattle.std.proofs.Math.Pow.{pow_pos}
 use Rattle.parity.specs.Planes.{AreSums, SumPlanes, minus_of, support_of, with_row}
 use Rattle.parity.proofs.ColumnSums.{no_sums, sums_more, twos_small}

@@ -1,4 +1,4 @@
-use Rattle.std.proofs.Common.{◌≡◌, ◌∙◌, ◌++◌, ◌∷◌, [], ◌<◌, ◌≤◌, ◌+◌, ◌-◌, ◌*◌, ap, sym, take, drop, length, min, List, ℕ, ℤ, arith, append_assoc}
+use Rattle.std.proofs.Common.{◌∙◌, ◌++◌, ◌∷◌, [], ◌+◌, ◌-◌, ◌*◌, ap, sym, take, drop, List, ℕ, arith, append_assoc}
 use Rattle.parity.specs.Planes.{bits_of, words_of}
 use Rattle.parity.specs.PlaneTests.{test_of}
 use Rattle.parity.proofs.PlaneLemmas.{take_capped, words_of_more}

@@ -1,7 +1,6 @@
-use Rattle.std.proofs.Common.{◌≡◌, ◌∙◌, ◌<◌, ◌*◌, ◌^◌, ◌%◌, SFits, length, ap, sym, get_or, take, pos, w8, rules, arith, ℕ, ℤ, true, false}
+use Rattle.std.proofs.Common.{◌∙◌, ◌*◌, ◌^◌, ◌%◌, SFits, ap, sym, get_or, pos, w8, rules, arith}
 use Rattle.std.specs.Prelude.{bit_or}
 use Rattle.std.proofs.lemmas.Int.{to_z-of_z}
-use Rattle.parity.specs.Planes.{bits_of}
 use Rattle.parity.specs.PlaneTests.{test_of}
 use Rattle.parity.proofs.PlaneLemmas.{with_bit, without_bit}
 use Rattle.parity.proofs.planes.word_of.Goals as goal

@@ -1,4 +1,4 @@
-use Rattle.std.proofs.Common.{◌≡◌, ◌∙◌, sym, rules, arith}
+use Rattle.std.proofs.Common.{◌∙◌, sym, rules, arith}
 use Rattle.parity.proofs.WordLemmas.{AreWords, number_of-outside}
 use Rattle.parity.proofs.sums.write_outside.Goals as goal
 

@@ -1,7 +1,6 @@
-use Rattle.std.proofs.Common.{◌≡◌, ◌∙◌, ◌+◌, ◌+ℤ◌, SFits, ap, sym, take, get_or, pos, rules, w8, arith, List, ℕ, ℤ}
+use Rattle.std.proofs.Common.{◌≡◌, ◌∙◌, SFits, get_or, rules, w8, arith}
 use Rattle.std.proofs.lemmas.Int.{ints, to_z-of_z}
 use Rattle.cmr_base.specs.Matrix.{entry}
-use Rattle.cmr_base.specs.Sums.{sum_over}
 use Rattle.parity.proofs.ColumnSums.{sum_over-take_more}
 use Rattle.parity.proofs.violator.column_sum.Goals as goal
 

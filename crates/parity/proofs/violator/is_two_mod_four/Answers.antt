@@ -1,4 +1,4 @@
-use Rattle.std.proofs.Common.{◌≡◌, ◌∙◌, ℤ, pos, nat_eq, ap, sym, subst, of_z, w32}
+use Rattle.std.proofs.Common.{◌∙◌, ℤ, pos, nat_eq, ap, sym, subst, of_z, w32}
 use Rattle.std.specs.Prelude.{◌↔◌, IsTrue}
 use Rattle.std.specs.Int.{int_rem_euclid}
 use Rattle.std.proofs.lemmas.Int.{to_z-of_z}

@@ -1,9 +1,8 @@
-use Rattle.std.proofs.Common.{◌≡◌, ◌∙◌, ◌≤◌, ap, ap₂, sym, subst, length, arith, rules, SFits, w32, List, ℕ, true, false}
-use Rattle.std.specs.Prelude.{◌↔◌, IsTrue}
+use Rattle.std.proofs.Common.{◌∙◌, ap, sym, subst, length, arith, rules, SFits, w32, List, ℕ}
 use Rattle.std.proofs.lemmas.Bool.{false≢true}
 use Rattle.std.proofs.lemmas.Int.{to_z-of_z}
 use Rattle.cmr_base.specs.Sums.{IsTwoModFour}
-use Rattle.cmr_base.specs.Matrix.{Matrix, entry, height}
+use Rattle.cmr_base.specs.Matrix.{entry, height}
 use Rattle.cmr_base.specs.Violator.{IsViolator}
 use Rattle.cmr_base.proofs.Parts.{length-rising}
 use Rattle.parity.proofs.violator.is_violator.Goals as goal

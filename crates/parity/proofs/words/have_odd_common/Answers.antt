@@ -1,5 +1,5 @@
-use Rattle.std.proofs.Common.{◌≡◌, ◌+◌, ◌%◌, ◌<◌, ℕ, drop, eqb, get_or, rules, arith}
-use Rattle.std.specs.Prelude.{◌↔◌, IsTrue, bit_and, count_ones}
+use Rattle.std.proofs.Common.{◌≡◌, ◌+◌, ◌%◌, ◌<◌, ℕ, eqb, rules, arith}
+use Rattle.std.specs.Prelude.{◌↔◌, IsTrue}
 use Rattle.std.proofs.lemmas.Bool.Decides.{nat_tests}
 use Rattle.parity.proofs.WordLemmas.{AreWords, ones_end, ones_more}
 use Rattle.parity.proofs.words.have_odd_common.Goals as goal

@@ -1,4 +1,4 @@
-use Rattle.std.proofs.Common.{◌≡◌, ◌<◌, get_or, rules, arith, w64}
+use Rattle.std.proofs.Common.{get_or, rules, arith, w64}
 use Rattle.std.proofs.lemmas.Nat.Bits.{bit_at-trailing_zeros}
 use Rattle.std.specs.Int.{trailing_zeros}
 use Rattle.parity.proofs.WordLemmas.{AreWords, number_of-lowest, number_of-none}

@@ -1,4 +1,4 @@
-use Rattle.std.proofs.Common.{◌≡◌, ◌<◌, ◌*◌, ◌/◌, ◌%◌, ◌^◌, get_or, rules, arith}
+use Rattle.std.proofs.Common.{◌≡◌, ◌<◌, ◌*◌, ◌%◌, ◌^◌, rules, arith}
 use Rattle.std.proofs.lemmas.Nat.{one_shl}
 use Rattle.parity.proofs.WordLemmas.{AreWords, number_of-toggle}
 use Rattle.parity.proofs.words.toggle.Goals as goal

@@ -1,7 +1,6 @@
-use Rattle.std.proofs.Common.{◌≡◌, ◌<◌, ◌∙◌, ap, length, List, ℕ, get_or, arith, Some}
-use Rattle.std.specs.Prelude.{slice_get}
+use Rattle.std.proofs.Common.{◌≡◌, ◌<◌, ◌∙◌, ap, length, get_or, arith}
 use Rattle.std.proofs.lemmas.List.{get_or_read}
-use Rattle.parity.specs.Equations.{Equation, System, number_of}
+use Rattle.parity.specs.Equations.{System}
 use Rattle.parity.proofs.BasisLemmas.{count_is, ends_inside, equation_at, length_at}
 use Rattle.parity.proofs.basis.Basis.get.Goals as goal
 

@@ -1,4 +1,4 @@
-use Rattle.std.proofs.Common.{◌≡◌, ◌∙◌, ◌++◌, ◌∷◌, [], ap, ap₂, sym, subst, List, ℕ, rules}
+use Rattle.std.proofs.Common.{◌≡◌, ◌∙◌, ◌++◌, ◌∷◌, [], ap, ap₂, sym, List, ℕ, rules}
 use Rattle.parity.specs.Equations.{Equation, System, number_of}
 use Rattle.parity.specs.BasisView.{paired}
 use Rattle.parity.proofs.BasisLemmas.{paired-push}

@@ -1,5 +1,5 @@
-use Rattle.std.proofs.Common.{◌≡◌, ◌∙◌, ◌+◌, ◌∷◌, ap, sym, drop, List}
-use Rattle.parity.specs.Equations.{Equation, cleared_by, number_of, reduced}
+use Rattle.std.proofs.Common.{◌∙◌, ◌+◌, ap, sym, drop, List}
+use Rattle.parity.specs.Equations.{Equation, number_of, reduced}
 use Rattle.parity.proofs.BasisLemmas.{drop-equation}
 use Rattle.parity.proofs.basis.Basis.reduce.Goals as goal
 

@@ -1,4 +1,4 @@
-use Rattle.std.proofs.Common.{◌≡◌, ◌∙◌, ◌+◌, ◌-◌, ◌∷◌, ap, ap₂, sym, drop, arith, List}
+use Rattle.std.proofs.Common.{◌≡◌, ◌∙◌, ◌+◌, ◌-◌, ap, sym, drop, arith, List}
 use Rattle.parity.specs.Equations.{Equation, corrected_by, number_of, solved}
 use Rattle.parity.proofs.BasisLemmas.{drop-equation}
 use Rattle.parity.proofs.basis.Basis.solve.Goals as goal

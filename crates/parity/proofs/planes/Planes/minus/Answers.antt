@@ -1,5 +1,5 @@
-use Rattle.std.proofs.Common.{◌≡◌, ◌∙◌, ◌<◌, ap, sym, subst, arith, length}
-use Rattle.cmr_base.specs.Matrix.{Matrix, height, is_nonzero}
+use Rattle.std.proofs.Common.{◌∙◌, ◌<◌, ap, sym, subst, arith, length}
+use Rattle.cmr_base.specs.Matrix.{Matrix, height}
 use Rattle.parity.specs.Equations.{number_of}
 use Rattle.parity.specs.Planes.{is_minus, minus_of, words_for}
 use Rattle.parity.proofs.PlaneLemmas.{plane_row}

@@ -1,7 +1,7 @@
-use Rattle.std.proofs.Common.{◌≡◌, ◌∙◌, ◌<◌, ap, sym, subst, arith, length}
+use Rattle.std.proofs.Common.{◌∙◌, ◌<◌, ap, sym, subst, arith, length}
 use Rattle.cmr_base.specs.Matrix.{Matrix, height, is_nonzero}
 use Rattle.parity.specs.Equations.{number_of}
-use Rattle.parity.specs.Planes.{is_minus, support_of, words_for}
+use Rattle.parity.specs.Planes.{support_of, words_for}
 use Rattle.parity.proofs.PlaneLemmas.{plane_row}
 use Rattle.parity.proofs.planes.Planes.support.Goals as goal
 
