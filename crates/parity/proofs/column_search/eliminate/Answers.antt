@@ -1,0 +1,44 @@
+use Rattle.std.proofs.Common.{◌≡◌, ◌+◌, ◌∙◌, ◌++◌, ◌∷◌, [], ap, sym, subst, take, get_or, arith, List, ℕ}
+use Rattle.parity.specs.Equations.{IsBasis, IsLowest, System, number_of, reduced}
+use Rattle.parity.specs.Planes.{equations_of, outside, support_of}
+use Rattle.parity.proofs.Elimination.{basis_push, basis_skip}
+use Rattle.parity.proofs.Systems.{equations_more, outside_apart, outside_lt, support_of-lt}
+use Rattle.parity.proofs.column_search.eliminate.Goals as goal
+use Rattle.parity.proofs.column_search.eliminate.Goals.{in-Some+in_ok-push, in_default}
+
+pub lowest-requires : goal.lowest-requires
+lowest-requires c = omega (arith, c.support.ensures.shape.width_in)
+
+pub push-requires-clause-pivot : goal.push-requires-clause-pivot
+push-requires-clause-pivot c = omega (arith, c.in-Some.ensures.inside)
+
+pub loop-row-preserved : goal.loop-row-preserved
+loop-row-preserved c =
+    let m = c.args.planes.now in
+    let gone = c.args.sums.now.ones in
+    let rows = c.args.rows.now in
+    let i = c.loop-row.row-index in
+    let es = c.loop-row.basis.equations in
+    let before = equations_of m gone (take i rows) in
+    let row = outside gone (support_of m (get_or rows i 0)) in
+    let more = sym (equations_more m gone rows i c.loop-row-test.true) in
+    let left : number_of c.reduce.new.columns ≡ reduced es row = c.reduce.ensures ∙ ap (reduced es) (c.mask_row.ensures ∙ ap (outside gone) c.support.ensures.columns) in
+    let small = outside_lt gone (support_of m (get_or rows i 0)) m.width (support_of-lt m (get_or rows i 0) c.support.ensures.shape (c.requires.rows i c.loop-row-test.true)) in
+    elim c.match-lowest.branch [
+      | in-Some+in_ok-push w ↦
+          let pivot = w.in-Some.pivot in
+          let after : c.match-lowest.basis ≡ record { words = c.loop-row.basis.words; equations = es ++ record { pivot = pivot; columns = reduced es row } ∷ [] } =
+          w.basis-is ∙ w.in_ok-push.ensures.ok ∙ ap (λ (n : ℕ). record { words = c.loop-row.basis.words; equations = es ++ record { pivot = pivot; columns = n } ∷ [] }) left in
+          record {
+            so_far = subst (λ (s : System). IsBasis m.width gone (equations_of m gone (take (i + 1) rows)) s.equations) (sym after)
+                (subst (λ (rs : List ℕ). IsBasis m.width gone rs (es ++ record { pivot = pivot; columns = reduced es row } ∷ [])) more
+                (basis_push m.width gone before es row pivot c.loop-row.invariant.so_far (outside_apart gone (support_of m (get_or rows i 0))) small (subst (λ (n : ℕ). IsLowest n pivot) left w.in-Some.ensures.some)));
+            words = ap (λ (s : System). s.words) after ∙ c.loop-row.invariant.words;
+          }
+      | in_default w ↦ record {
+        so_far = subst (λ (s : System). IsBasis m.width gone (equations_of m gone (take (i + 1) rows)) s.equations) (sym w.basis-is)
+            (subst (λ (rs : List ℕ). IsBasis m.width gone rs es) more
+            (basis_skip m.width gone before es row c.loop-row.invariant.so_far (sym left ∙ w.in_default.ensures.none)));
+        words = ap (λ (s : System). s.words) w.basis-is ∙ c.loop-row.invariant.words;
+      }
+    ]

@@ -1,0 +1,55 @@
+-- Equations over two values. A set of columns is the number with the bits of its columns, and an equation is the set of columns
+-- of which a solution has an even number.
+use Rattle.std.specs.Prelude.{◌≡◌, ◌<◌, ◌+◌, ◌*◌, ◌%◌, ◌^◌, ◌==◌, if◌then◌else◌, ℕ, List, [], ◌∷◌, bit_and, bit_xor, count_ones}
+use Rattle.std.specs.List.{AllByRecursion}
+use Rattle.std.specs.Int.{bit_at}
+
+-- the number that the words make, the lowest first
+abbrev pub number_of : List ℕ → ℕ
+number_of [] = 0
+number_of (word ∷ words) = number_of words * 2 ^ 64 + word
+
+-- 1 where an odd number of columns is in both sets, else 0
+abbrev pub common : ℕ → ℕ → ℕ
+common a b = count_ones (bit_and a b) % 2
+
+-- the least column of the set
+pub record IsLowest (number column : ℕ) : Type 0 where
+  pub there : bit_at number column ≡ 1
+  pub none_below : (other : ℕ) → other < column → bit_at number other ≡ 0
+
+-- an equation with its pivot
+pub record Equation : Type 0 where
+  pub pivot : ℕ
+  pub columns : ℕ
+
+-- equations of so many words
+pub record System : Type 0 where
+  pub words : ℕ
+  pub equations : List Equation
+
+-- one equation added where its pivot is in the set
+abbrev pub cleared_by : Equation → ℕ → ℕ
+cleared_by e number = if bit_at number e.pivot == 1 then bit_xor number e.columns else number
+
+-- all of them, from the first to the last
+abbrev pub reduced : List Equation → ℕ → ℕ
+reduced [] number = number
+reduced (e ∷ es) number = reduced es (cleared_by e number)
+
+-- the pivot taken in or out where the equation does not hold
+abbrev pub corrected_by : Equation → ℕ → ℕ
+corrected_by e number = if common e.columns number == 1 then bit_xor number (2 ^ e.pivot) else number
+
+-- all of them, from the last to the first
+abbrev pub solved : List Equation → ℕ → ℕ
+solved [] number = number
+solved (e ∷ es) number = corrected_by e (solved es number)
+
+-- the equations that some rows leave: they follow from the rows, and the rows are reduced to nothing by them. All are sets of the first columns, without those that are gone
+pub record IsBasis (width gone : ℕ) (rows : List ℕ) (es : List Equation) : Type 0 where
+  pub follow : (set : ℕ) → AllByRecursion (λ row. common row set ≡ 0) rows → AllByRecursion (λ e. common e.columns set ≡ 0) es
+  pub cleared : AllByRecursion (λ row. reduced es row ≡ 0) rows
+  pub lowest : AllByRecursion (λ e. IsLowest e.columns e.pivot) es
+  pub apart : AllByRecursion (λ e. bit_and e.columns gone ≡ 0) es
+  pub small : AllByRecursion (λ e. e.columns < 2 ^ width) es

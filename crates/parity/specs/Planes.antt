@@ -1,0 +1,58 @@
+-- A matrix in planes of bits, and sums modulo 4 in two planes.
+use Rattle.std.specs.Prelude.{◌≡◌, ◌+◌, ◌*◌, ◌/◌, if◌then◌else◌, ℕ, zero, suc, ℤ, pos, negsuc, ◌+ℤ◌, Bool, true, false, List, [], ◌∷◌, map, take, drop, bit_and, bit_xor}
+use Rattle.std.specs.Int.{bit_at}
+use Rattle.cmr_base.specs.Matrix.{Matrix, row_of, entry, is_nonzero}
+use Rattle.cmr_base.specs.Sums.{sum_over}
+
+abbrev pub is_minus : ℤ → Bool
+is_minus (pos n) = false
+is_minus (negsuc n) = true
+
+-- the number with a bit at each entry that passes, the first entry the lowest
+abbrev pub bits_of : (ℤ → Bool) → List ℤ → ℕ
+bits_of test [] = 0
+bits_of test (z ∷ zs) = bits_of test zs * 2 + (if test z then 1 else 0)
+
+-- how many words have the bits of so many columns
+abbrev pub words_for : ℕ → ℕ
+words_for columns = (columns + 63) / 64
+
+-- the same bits in words
+abbrev pub words_of : ℕ → (ℤ → Bool) → List ℤ → List ℕ
+words_of zero test zs = []
+words_of (suc n) test zs = bits_of test (take 64 zs) ∷ words_of n test (drop 64 zs)
+
+-- the columns in which a row is not 0
+abbrev pub support_of : Matrix → ℕ → ℕ
+support_of m row = bits_of is_nonzero (row_of m row)
+
+-- the columns in which a row is -1
+abbrev pub minus_of : Matrix → ℕ → ℕ
+minus_of m row = bits_of is_minus (row_of m row)
+
+-- the columns of the one set that are not in the other
+abbrev pub outside : ℕ → ℕ → ℕ
+outside gone number = bit_xor number (bit_and number gone)
+
+-- two planes of so many words: the low and the high bits of column sums modulo 4
+pub record SumPlanes : Type 0 where
+  pub words : ℕ
+  pub ones : ℕ
+  pub twos : ℕ
+
+-- the planes with one row added
+abbrev pub with_row : SumPlanes → ℕ → ℕ → SumPlanes
+with_row p support minus = record { words = p.words; ones = bit_xor p.ones support; twos = bit_xor p.twos (bit_xor (bit_and p.ones support) minus) }
+
+-- low and high bit of a sum modulo 4
+pub record HasResidue (sum : ℤ) (low high : ℕ) : Type 0 where
+  pub fours : ℤ
+  pub is : sum ≡ (pos low +ℤ (pos high +ℤ pos high)) +ℤ ((fours +ℤ fours) +ℤ (fours +ℤ fours))
+
+-- two planes have the sums of some rows in each column
+pub record AreSums (m : Matrix) (rows : List ℕ) (ones twos : ℕ) : Type 0 where
+  pub each : (column : ℕ) → HasResidue (sum_over rows (λ row. entry m row column)) (bit_at ones column) (bit_at twos column)
+
+-- the equations of some rows, in the columns that are not gone
+abbrev pub equations_of : Matrix → ℕ → List ℕ → List ℕ
+equations_of m gone rows = map (λ row. outside gone (support_of m row)) rows

@@ -1,0 +1,10 @@
+use Rattle.std.specs.Prelude.{◌≡◌, length}
+use Rattle.parity.specs.declared.sums.Sums.TheInside.{Inside}
+use Rattle.parity.specs.Equations.{number_of}
+use Rattle.parity.specs.Planes.{SumPlanes}
+
+abbrev pub planes_of : Inside → SumPlanes
+planes_of a = record { words = length a.ones.items; ones = number_of a.ones.items; twos = number_of a.twos.items }
+
+abbrev pub AreAlike : Inside → Type 0
+AreAlike a = length a.twos.items ≡ length a.ones.items

@@ -1,0 +1,179 @@
+// The least column set that makes a violator with given rows.
+ghost use Rattle.std.specs.Prelude.{◌≡◌, ◌<◌, ◌≤◌, ◌*◌, ◌^◌, IfOk, IfSome, IfNone, OnOk, length};
+ghost use Rattle.cmr_base.specs.Matrix.{height};
+ghost use Rattle.cmr_base.specs.LineSets.{AllBelow, set_numbered};
+ghost use Rattle.cmr_base.specs.Violator.{HasNoColumnSet, IsLeastColumnSet};
+ghost use Rattle.parity.specs.Equations.{IsBasis, IsLowest, number_of, reduced, solved};
+ghost use Rattle.parity.specs.Planes.{AreSums, equations_of, outside, words_for};
+
+use crate::basis::Basis;
+use crate::planes::Planes;
+use crate::sums::Sums;
+use crate::words::{clear, empty_set, is_set, lowest, toggle};
+use cmr_base::{Indices, Matrix, Memory};
+use std::alloc::Global;
+use std::marker::Model;
+
+/// The column set of least number that makes a violator with exactly these rows, or `None` where no column set
+/// does. Column c, counted from 0, adds 2^c to a set's number.
+pub fn first_column_set(
+    alloc: Global,
+    matrix: &Matrix,
+    rows: &Indices,
+) -> Result<Option<Indices>, Memory>
+    requires { AllBelow (height matrix.now) rows.now }
+    ensures least { IfOk result (λ answer. IfSome answer (IsLeastColumnSet matrix.now rows.now)) }
+    ensures none { IfOk result (λ answer. IfNone answer (HasNoColumnSet matrix.now rows.now)) }
+{
+    ColumnSearch::new(alloc, matrix)?.first(alloc, rows.as_slice())
+}
+
+/// The search for column sets of one matrix, for many row sets in turn. Room is taken once, so that a search which
+/// finds nothing takes none. Contracts see the matrix.
+#[derive(Drop)]
+pub struct ColumnSearch<'a> {
+    planes: Planes<'a>,
+    sums: Sums,
+    basis: Basis,
+    equation: Vec<u64>,
+}
+
+impl<'a> Model for ColumnSearch<'a> {
+    ghost use Rattle.cmr_base.specs.Matrix.{Matrix};
+
+    ghost Value = { Matrix };
+
+    ghost use Rattle.parity.specs.SearchView.{matrix_of, IsReady};
+
+    ghost view = { matrix_of };
+
+    ghost invariant = { IsReady };
+}
+
+impl<'a> ColumnSearch<'a> {
+    /// A search in this matrix.
+    pub fn new(alloc: Global, matrix: &'a Matrix) -> Result<ColumnSearch<'a>, Memory>
+        ensures { IfOk result (λ search. search ≡ matrix.entry.now) }
+    {
+        let planes = Planes::new(alloc, matrix)?;
+        let words = planes.words();
+        Ok(ColumnSearch {
+            sums: Sums::new(alloc, words)?,
+            basis: Basis::new(alloc, words, matrix.rows() as usize)?,
+            equation: empty_set(alloc, words)?,
+            planes,
+        })
+    }
+
+    /// The column set of least number that makes a violator with exactly these rows, or `None` where no column
+    /// set does.
+    pub fn first(&mut self, alloc: Global, rows: &[u32]) -> Result<Option<Indices>, Memory>
+        requires { AllBelow (height self.old) rows.now }
+        ensures same { self.new ≡ self.old }
+        ensures least { IfOk result (λ answer. IfSome answer (IsLeastColumnSet self.old rows.now)) }
+        ensures none { IfOk result (λ answer. IfNone answer (HasNoColumnSet self.old rows.now)) }
+    {
+        sum_columns(&self.planes, &mut self.sums, rows);
+        eliminate(
+            &self.planes,
+            &self.sums,
+            &mut self.basis,
+            &mut self.equation,
+            rows,
+        )?;
+        match free_column(&self.sums, &self.basis, &mut self.equation) {
+            None => Ok(None),
+            Some(free) => {
+                let count = self.planes.matrix().columns();
+                Ok(Some(solution(alloc, &self.basis, &mut self.equation, free, count)?))
+            }
+        }
+    }
+}
+
+// The sums of the rows in each column, modulo 4.
+fn sum_columns(planes: &Planes<'_>, sums: &mut Sums, rows: &[u32])
+    requires rows { AllBelow (height planes.now) rows.now }
+    requires words { sums.old.words ≡ words_for planes.now.width }
+    ensures sums { AreSums planes.now rows.now sums.new.ones sums.new.twos }
+    ensures words { sums.new.words ≡ sums.old.words }
+    ensures small { sums.new.twos < 2 ^ planes.now.width }
+{
+    sums.clear();
+    for row in rows {
+        sums.add_row(planes.support(*row), planes.minus(*row));
+    }
+}
+
+// One equation for each row: the chosen columns have an even number of its nonzeros.
+fn eliminate(
+    planes: &Planes<'_>,
+    sums: &Sums,
+    basis: &mut Basis,
+    equation: &mut [u64],
+    rows: &[u32],
+) -> Result<(), Memory>
+    requires rows { AllBelow (height planes.now) rows.now }
+    requires sums { sums.now.words ≡ words_for planes.now.width }
+    requires basis { basis.old.words ≡ words_for planes.now.width }
+    requires equation { length equation.old ≡ words_for planes.now.width }
+    ensures basis { OnOk result (IsBasis planes.now.width sums.now.ones (equations_of planes.now sums.now.ones rows.now) basis.new.equations) }
+    ensures words { basis.new.words ≡ basis.old.words }
+{
+    basis.clear();
+    for row in rows {
+        sums.mask_row(planes.support(*row), equation);
+        basis.reduce(equation);
+        if let Some(pivot) = lowest(equation) {
+            basis.push(pivot, equation)?;
+        }
+    }
+    Ok(())
+}
+
+// The least column in what the equations leave of the columns whose sum is 2 modulo 4, of which a solution has an odd
+// number. Where they leave none, there is no solution.
+fn free_column(sums: &Sums, basis: &Basis, equation: &mut [u64]) -> Option<u32>
+    requires basis { basis.now.words ≡ sums.now.words }
+    requires equation { length equation.old ≡ sums.now.words }
+    requires few { 64 * length equation.old < 2 ^ 32 }
+    ensures some { IfSome result (IsLowest (reduced basis.now.equations (outside sums.now.ones sums.now.twos))) }
+    ensures inside { IfSome result (λ free. free < 64 * length equation.old) }
+    ensures none { IfNone result (reduced basis.now.equations (outside sums.now.ones sums.now.twos) ≡ 0) }
+{
+    sums.write_halves(equation);
+    basis.reduce(equation);
+    lowest(equation)
+}
+
+// The columns that solve the equations of the basis, from one column on that is no pivot.
+fn solution(
+    alloc: Global,
+    basis: &Basis,
+    columns: &mut [u64],
+    free: u32,
+    count: u32,
+) -> Result<Indices, Memory>
+    requires words { length columns.old ≡ basis.now.words }
+    requires free { free < 64 * length columns.old }
+    requires count { count ≤ 64 * length columns.old }
+    ensures { IfOk result (λ set. set ≡ set_numbered count 0 (solved basis.now.equations (2 ^ free))) }
+{
+    clear(columns);
+    toggle(columns, free);
+    basis.solve(columns);
+    columns_in(alloc, columns, count)
+}
+
+fn columns_in(alloc: Global, words: &[u64], count: u32) -> Result<Indices, Memory>
+    requires { count ≤ 64 * length words.now }
+    ensures { IfOk result (λ set. set ≡ set_numbered count 0 (number_of words.now)) }
+{
+    let mut columns = Indices::new(alloc);
+    for column in 0..count {
+        if is_set(words, column) {
+            columns.push(column)?;
+        }
+    }
+    Ok(columns)
+}

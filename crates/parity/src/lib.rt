@@ -1,0 +1,14 @@
+//! Sums of submatrices by parity: violators, and the least column set that makes one with given rows.
+#![tactic(auto)]
+
+mod basis;
+mod column_search;
+mod planes;
+mod sums;
+#[cfg(test)]
+mod tests;
+mod violator;
+mod words;
+
+pub use column_search::{ColumnSearch, first_column_set};
+pub use violator::is_violator;
