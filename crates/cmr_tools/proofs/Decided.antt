@@ -1,9 +1,10 @@
 -- What a yes, a no and undecided of `tu` say of the matrix.
 use Rattle.std.proofs.Common.{◌≡◌, ◌≤◌, ◌<◌, ◌⊎◌, ℕ, Bool, true, false, nat_lt, min, MatchBool, List, Option, Some, None, Result, Ok, Err, ap, inl, inr, refl, arith}
 use Rattle.std.proofs.lemmas.Bool.Decides.{Decides-ltb}
-use Rattle.cmr_base.specs.Matrix.{Matrix, height}
+use Rattle.cmr_base.specs.Matrix.{Matrix, height, IsMatrix}
 use Rattle.cmr_base.specs.Signing.{HasNoSigning, IsTotallyUnimodular}
-use Rattle.cmr_base.specs.Violator.{IsLeastViolator}
+use Rattle.cmr_base.specs.Violator.{HasNoViolator, IsLeastViolator}
+use Rattle.ghouila.proofs.CamionLaw.{camion}
 use Rattle.text_fields.specs.Reading.{Fault}
 use Rattle.matrix_text.specs.declared.error.TextKind.{TextKind}
 use Rattle.cmr_tools.specs.declared.outcome.Outcome.{Outcome}
@@ -14,7 +15,7 @@ use Rattle.cmr_tools.specs.Words.Tu.{TuOrder}
 use Rattle.cmr_tools.specs.Report.{Held, Report}
 use Rattle.cmr_tools.specs.Outcome.{ended_report}
 use Rattle.cmr_tools.specs.Inputs.{Reading, missing, above_limit, whole, reading, matrix_in}
-use Rattle.cmr_tools.specs.Tu.{IsAnswer, TuAnswers, TuDecides, TuReads, TuOpens, tu_undecided}
+use Rattle.cmr_tools.specs.Tu.{IsAnswer, TuAnswers, TuDecides, TuReads, TuOpens, tu_undecided, tu_yes}
 use Rattle.cmr_tools.specs.Run.{Reports, Ends, IsGiven}
 use Rattle.cmr_tools.proofs.Reports.{no_signing}
 
@@ -28,7 +29,7 @@ status_of : (r s : Report) → r ≡ s → r.status ≡ s.status
 status_of r s e = ap (λ (x : Report). x.status) e
 
 -- the matrix that was given, and what was decided on it
-Decision : Option Order → Held → Report → Type 0
+abbrev pub Decision : Option Order → Held → Report → Type 0
 Decision order held r = (m : Matrix) × (given : IsGiven order held m) × TuDecides given.options m r
 
 decided_text : (o : TuOrder) (held : Held) (bytes : List ℕ) → reading held 16777216 o.file ≡ whole bytes → (read : Result Matrix (Fault TextKind)) → matrix_in o.form false bytes ≡ read → (r : Report) → TuReads o read r → IsAnswer r.status → Decision (Some (tu o)) held r
@@ -61,7 +62,7 @@ decided order held calm (Err stops.Memory) a (inr six) = absurd (omega arith)
 answer_of : (o : TuOrder) (m : Matrix) (r : Report) → TuDecides o m r → r.status ≤ 1 → TuAnswers o m r
 answer_of o m r = go (nat_lt o.lines (min (height m) m.width))
   where
-    go : (above : Bool) → MatchBool above (r ≡ tu_undecided m) (TuAnswers o m r) → r.status ≤ 1 → TuAnswers o m r
+    go : (above : Bool) → MatchBool above (r ≡ tu_undecided (height m) m.width) (TuAnswers o m r) → r.status ≤ 1 → TuAnswers o m r
     go true a low = let s = status_of r _ a in absurd (omega arith)
     go false a low = a
 
@@ -86,6 +87,14 @@ decided_open o m r a e = go (nat_lt o.lines (min (height m) m.width)) refl a
     answered (inl b) = let s = status_of r _ b.1 in omega arith
     answered (inr b) = let s = status_of r _ b.3 in omega arith
 
-    go : (above : Bool) → nat_lt o.lines (min (height m) m.width) ≡ above → MatchBool above (r ≡ tu_undecided m) (TuAnswers o m r) → o.lines < min (height m) m.width
+    go : (above : Bool) → nat_lt o.lines (min (height m) m.width) ≡ above → MatchBool above (r ≡ tu_undecided (height m) m.width) (TuAnswers o m r) → o.lines < min (height m) m.width
     go true is b = (Decides-ltb o.lines (min (height m) m.width)).0 is
     go false is b = absurd (answered b)
+
+-- without a violator and within the budget, a yes is decided
+pub yes_decides : (o : TuOrder) (m : Matrix) (r : Report) → IsMatrix m → min (height m) m.width ≤ o.lines → HasNoViolator m → r ≡ tu_yes → TuDecides o m r
+yes_decides o m r shape within none e = go (nat_lt o.lines (min (height m) m.width)) refl
+  where
+    go : (above : Bool) → nat_lt o.lines (min (height m) m.width) ≡ above → MatchBool above (r ≡ tu_undecided (height m) m.width) (TuAnswers o m r)
+    go true is = let more = (Decides-ltb o.lines (min (height m) m.width)).0 is in absurd (omega arith)
+    go false is = inl ((camion m shape.small).1 none, e)

@@ -4,7 +4,8 @@ use Rattle.std.specs.Option.{option_map_or}
 use Rattle.std.specs.Str.{bytes_eq}
 use Rattle.clap.specs.Words.{Row, Text, first_of}
 use Rattle.cmr_tools.specs.declared.options.MatrixForm.{MatrixForm}
-use Rattle.cmr_tools.specs.Words.{order, tu}
+use Rattle.cmr_tools.specs.Run.{IsInRanges}
+use Rattle.cmr_tools.specs.Words.{Order, order, tu}
 use Rattle.cmr_tools.specs.Words.Parsing.{fault_in, file_in, form_in, lines_in, matches_with_input, number_up_to}
 use Rattle.cmr_tools.specs.Words.Reading.{◌>>=◌}
 use Rattle.cmr_tools.specs.Words.Tu.{TuOrder, tu_app, tu_order, tu_order_in}
@@ -46,3 +47,7 @@ order-lines (tool ∷ words) o e = go (bytes_eq tool (codes "tu")) e
     go : (b : Bool) → cond b (option_map tu (tu_order words)) None ≡ Some (tu o) → o.lines ≤ 24
     go true e = of_order (tu_order words) refl e
     go false e = cc
+
+-- the numbers that words order are in their ranges
+pub in_ranges : (words : List Text) (ordered : Order) → order words ≡ Some ordered → IsInRanges ordered
+in_ranges words (tu o) e = order-lines words o e

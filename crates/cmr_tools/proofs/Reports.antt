@@ -87,7 +87,7 @@ one_answer o m r s (inr a) (inr b) =
 one_decision : (o : TuOrder) (m : Matrix) (r s : Report) → TuDecides o m r → TuDecides o m s → r ≡ s
 one_decision o m r s = go (nat_lt o.lines (min (height m) m.width))
   where
-    go : (above : Bool) → MatchBool above (r ≡ tu_undecided m) (TuAnswers o m r) → MatchBool above (s ≡ tu_undecided m) (TuAnswers o m s) → r ≡ s
+    go : (above : Bool) → MatchBool above (r ≡ tu_undecided (height m) m.width) (TuAnswers o m r) → MatchBool above (s ≡ tu_undecided (height m) m.width) (TuAnswers o m s) → r ≡ s
     go true a b = a ∙ sym b
     go false a b = one_answer o m r s a b
 

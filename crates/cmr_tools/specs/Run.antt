@@ -1,6 +1,6 @@
 -- What a run reports, and how it ends.
-use Rattle.std.specs.Prelude.{◌≡◌, ◌≤◌, ◌⊎◌, ℕ, Bool, false, IsTrue, List, Option, Some, None, Result, Ok, Err}
-use Rattle.cmr_base.specs.Matrix.{Matrix}
+use Rattle.std.specs.Prelude.{◌<◌, ◌≡◌, ◌≤◌, ◌⊎◌, ℕ, Bool, false, IsTrue, List, Option, Some, None, Result, Ok, Err}
+use Rattle.cmr_base.specs.Matrix.{Matrix, height}
 use Rattle.cmr_io.specs.Causes.{Rose}
 use Rattle.cmr_tools.specs.declared.outcome.Outcome.{Outcome}
 use Rattle.cmr_tools.specs.declared.outcome.Stop.{Stop}
@@ -41,6 +41,11 @@ pub record IsGiven (order : Option Order) (held : Held) (m : Matrix) : Type 0 wh
   pub ordered : order ≡ Some (tu options)
   pub read : reading held 16777216 options.file ≡ whole bytes
   pub matrix : matrix_in options.form false bytes ≡ Ok m
+
+-- that matrix, whose shorter side has more lines than the budget
+pub record IsAboveBudget (order : Option Order) (held : Held) (m : Matrix) : Type 0 where
+  pub given : IsGiven order held m
+  pub above : given.options.lines < min (height m) m.width
 
 -- What is promised of a run, whatever its order.
 pub record Runs (order : Option Order) (standing : Standing) (before after : Devices) (status : ℕ) : Type 0 where

@@ -43,10 +43,11 @@ tu_no o m rows columns = record {
   files = asked_file o.fault (submatrix_text (height m) m.width (record { rows = rows; columns = columns }));
 }
 
-abbrev pub tu_undecided : Matrix → Report
-tu_undecided m = record {
+-- of so many rows and columns
+abbrev pub tu_undecided : ℕ → ℕ → Report
+tu_undecided rows columns = record {
   status = 6;
-  output = codes "totally unimodular: undecided\nopen " ++ line_set (first_lines (height m)) (first_lines m.width) ++ codes "\n";
+  output = codes "totally unimodular: undecided\nopen " ++ line_set (first_lines rows) (first_lines columns) ++ codes "\n";
   error = [];
   files = [];
 }
@@ -58,7 +59,7 @@ TuAnswers o m report = (IsTotallyUnimodular m × (report ≡ tu_yes))
 
 -- on a matrix: undecided where its shorter side has more lines than the budget
 abbrev pub TuDecides : TuOrder → Matrix → Report → Type 0
-TuDecides o m report = MatchBool (nat_lt o.lines (min (height m) m.width)) (report ≡ tu_undecided m) (TuAnswers o m report)
+TuDecides o m report = MatchBool (nat_lt o.lines (min (height m) m.width)) (report ≡ tu_undecided (height m) m.width) (TuAnswers o m report)
 
 -- on what a text stands for
 abbrev pub TuReads : TuOrder → Result Matrix (Fault TextKind) → Report → Type 0

@@ -1,11 +1,11 @@
 // The call that the program makes.
-ghost use Rattle.std.specs.Prelude.{◌≡◌, ◌<◌, ℕ, List, Some, IsTrue, min};
-ghost use Rattle.cmr_base.specs.Matrix.{Matrix, height};
+ghost use Rattle.std.specs.Prelude.{◌≡◌, ℕ, List, Some, IsTrue};
+ghost use Rattle.cmr_base.specs.Matrix.{Matrix};
 ghost use Rattle.cmr_base.specs.Signing.{HasNoSigning, IsTotallyUnimodular};
 ghost use Rattle.cmr_base.specs.Violator.{IsLeastViolator};
 ghost use Rattle.cmr_tools.specs.Words.{order, order_of};
 ghost use Rattle.cmr_tools.specs.Ending.{devices, standing};
-ghost use Rattle.cmr_tools.specs.Run.{IsGiven, IsInRanges, Runs};
+ghost use Rattle.cmr_tools.specs.Run.{IsAboveBudget, IsGiven, IsInRanges, Runs};
 
 use crate::carry_out::carry_out;
 use crate::options::Command;
@@ -34,8 +34,7 @@ pub fn run<R: Threads + Sync, S: Shelf, O: Sink, E: Sink>(
     ensures yes { IsTrue (S.tells shelf.old) → result ≡ 0 → (m : Matrix) × IsGiven (order words.now) (S.content shelf.old) m × IsTotallyUnimodular m }
     ensures no { IsTrue (S.tells shelf.old) → result ≡ 1 → (m : Matrix) × IsGiven (order words.now) (S.content shelf.old) m
         × (rows columns : List ℕ) × IsLeastViolator m rows columns × HasNoSigning m rows }
-    ensures undecided { IsTrue (S.tells shelf.old) → result ≡ 6 → (m : Matrix) × (given : IsGiven (order words.now) (S.content shelf.old) m)
-        × (given.options.lines < min (height m) m.width) }
+    ensures undecided { IsTrue (S.tells shelf.old) → result ≡ 6 → (m : Matrix) × IsAboveBudget (order words.now) (S.content shelf.old) m }
 {
     match read_words(alloc, words) {
         Ok(command) => obey(rt, alloc, &command, shelf, out, err),
@@ -61,8 +60,7 @@ fn obey<R: Threads + Sync, S: Shelf, O: Sink, E: Sink>(
     ensures yes { IsTrue (S.tells shelf.old) → result ≡ 0 → (m : Matrix) × IsGiven (Some (order_of command.now)) (S.content shelf.old) m × IsTotallyUnimodular m }
     ensures no { IsTrue (S.tells shelf.old) → result ≡ 1 → (m : Matrix) × IsGiven (Some (order_of command.now)) (S.content shelf.old) m
         × (rows columns : List ℕ) × IsLeastViolator m rows columns × HasNoSigning m rows }
-    ensures undecided { IsTrue (S.tells shelf.old) → result ≡ 6 → (m : Matrix) × (given : IsGiven (Some (order_of command.now)) (S.content shelf.old) m)
-        × (given.options.lines < min (height m) m.width) }
+    ensures undecided { IsTrue (S.tells shelf.old) → result ≡ 6 → (m : Matrix) × IsAboveBudget (Some (order_of command.now)) (S.content shelf.old) m }
 {
     match command {
         Command::Tu(options) => tu(rt, alloc, options, shelf, out, err),

@@ -1,5 +1,5 @@
 // Testing total unimodularity.
-ghost use Rattle.std.specs.Prelude.{◌≡◌, ◌≢◌, ◌<◌, ◌≤◌, ℕ, List, Some, IfOk, IfErr, IsTrue, false, map, min, option_map};
+ghost use Rattle.std.specs.Prelude.{◌≡◌, ◌≢◌, ◌≤◌, ℕ, List, Some, IfOk, IfErr, IsTrue, false, map, option_map};
 ghost use Rattle.cmr_base.specs.LineSets.{AllBelow};
 ghost use Rattle.cmr_base.specs.Matrix.{Matrix, height};
 ghost use Rattle.cmr_base.specs.Signing.{HasNoSigning, IsTotallyUnimodular};
@@ -9,7 +9,7 @@ ghost use Rattle.matrix_text.specs.Canonical.{submatrix_text};
 ghost use Rattle.cmr_tools.specs.Ending.{devices, standing};
 ghost use Rattle.cmr_tools.specs.Inputs.{matrix_in};
 ghost use Rattle.cmr_tools.specs.Outcome.{ended_report, file_of, outcome_report};
-ghost use Rattle.cmr_tools.specs.Run.{Ends, IsGiven, Runs};
+ghost use Rattle.cmr_tools.specs.Run.{Ends, IsAboveBudget, IsGiven, Runs};
 ghost use Rattle.cmr_tools.specs.Tu.{IsAnswer, TuDecides, TuReads, TuStops, asked_file, no_output, tu_no, tu_undecided, tu_yes};
 ghost use Rattle.cmr_tools.specs.Words as order;
 ghost use Rattle.cmr_tools.specs.Words.Tu.{tu_order_of};
@@ -53,8 +53,7 @@ pub fn tu<R: Threads + Sync, S: Shelf, O: Sink, E: Sink>(
     ensures yes { IsTrue (S.tells shelf.old) → result ≡ 0 → (m : Matrix) × IsGiven (Some (order.tu (tu_order_of options.now))) (S.content shelf.old) m × IsTotallyUnimodular m }
     ensures no { IsTrue (S.tells shelf.old) → result ≡ 1 → (m : Matrix) × IsGiven (Some (order.tu (tu_order_of options.now))) (S.content shelf.old) m
         × (rows columns : List ℕ) × IsLeastViolator m rows columns × HasNoSigning m rows }
-    ensures undecided { IsTrue (S.tells shelf.old) → result ≡ 6 → (m : Matrix) × (given : IsGiven (Some (order.tu (tu_order_of options.now))) (S.content shelf.old) m)
-        × (given.options.lines < min (height m) m.width) }
+    ensures undecided { IsTrue (S.tells shelf.old) → result ≡ 6 → (m : Matrix) × IsAboveBudget (Some (order.tu (tu_order_of options.now))) (S.content shelf.old) m }
 {
     let ended = examine(rt, alloc, options, shelf);
     carry_out(&ended, shelf, out, err)
@@ -113,10 +112,12 @@ fn test<'a, R: Threads + Sync>(
     ensures decided { IfOk result (λ outcome. TuDecides (tu_order_of options.now) matrix.now (outcome_report outcome)) }
     ensures status { IfOk result (λ outcome. IsAnswer outcome.status) }
 {
+    let rows = matrix.rows();
+    let columns = matrix.columns();
     match least_violator(rt, alloc, matrix, options.lines, ONE_WORKER)? {
         Search::Clean => yes(alloc),
         Search::Found(lines) => no(alloc, options, matrix, &lines),
-        Search::TooMany { .. } => undecided(alloc, matrix),
+        Search::TooMany { .. } => undecided(alloc, rows, columns),
     }
 }
 
@@ -167,7 +168,7 @@ fn fault_files<'a>(
 ) -> Result<Vec<OutputFile<'a>>, Memory>
     requires rows { AllBelow (height matrix.now) lines.now.rows }
     requires columns { AllBelow matrix.now.width lines.now.columns }
-    ensures { IfOk result (λ files. map file_of files.items ≡ asked_file (option_map (λ name. name.now) fault) (submatrix_text (height matrix.now) matrix.now.width lines.now)) }
+    ensures { IfOk result (λ files. map file_of files.items ≡ asked_file (option_map (λ name. name.now) fault.entry) (submatrix_text (height matrix.now) matrix.now.width lines.now)) }
 {
     let mut files = Vec::new(alloc);
     if let Some(name) = fault {
@@ -177,10 +178,10 @@ fn fault_files<'a>(
     Ok(files)
 }
 
-fn undecided<'a>(alloc: Global, matrix: &Matrix) -> Result<Outcome<'a>, Memory>
-    ensures { IfOk result (λ outcome. outcome_report outcome ≡ tu_undecided matrix.now) }
+fn undecided<'a>(alloc: Global, rows: u32, columns: u32) -> Result<Outcome<'a>, Memory>
+    ensures { IfOk result (λ outcome. outcome_report outcome ≡ tu_undecided rows columns) }
 {
-    let lines = LineSet::all(alloc, matrix.rows(), matrix.columns())?;
+    let lines = LineSet::all(alloc, rows, columns)?;
     let mut output = b"totally unimodular: undecided\nopen ".to_vec(alloc)?;
     push_line_set(&mut output, &lines)?;
     output.push(b'\n')?;

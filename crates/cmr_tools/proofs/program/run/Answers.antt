@@ -4,6 +4,7 @@ use Rattle.cmr_tools.specs.Words.{order, order_of}
 use Rattle.cmr_tools.specs.Words.Reading.{Gives}
 use Rattle.cmr_tools.specs.Ending.{devices, standing}
 use Rattle.cmr_tools.proofs.Endings.{runs}
+use Rattle.cmr_tools.proofs.OrderLines.{in_ranges}
 use Rattle.cmr_tools.proofs.program.run.Goals as goal
 
 pub returns-in-Err-Refused-clause-runs : goal.returns-in-Err-Refused-clause-runs
@@ -37,3 +38,6 @@ returns-in-Err-Refused-clause-runs g c =
       stopped = done.ensures.stopped;
       later = done.ensures.later;
     }))
+
+pub obey-requires-after_bounds : goal.obey-requires-after_bounds
+obey-requires-after_bounds g c κs within = in_ranges c.args.words.now (order_of c.in-Ok.command) c.in-Ok.ensures
