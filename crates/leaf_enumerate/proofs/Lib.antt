@@ -1,0 +1,2 @@
+pub mod TransposedLemmas
+pub mod RowSets
