@@ -46,21 +46,19 @@ one_by_rows : (m : Matrix) (rows columns rows' columns' : List ℕ) → IsLeastB
 one_by_rows m rows columns rows' columns' x y =
     let same : rows ≡ rows' = same_set (height m) rows rows' (row_set_rises m rows x.row_set) (row_set_rises m rows' y.row_set)
     (x.rows_least rows' columns' y.row_set y.columns_least.column_set y.columns_least.violator) (y.rows_least rows columns x.row_set x.columns_least.column_set x.columns_least.violator) in
-    let here : IsLeastColumnSet m rows' columns = subst (λ rs. IsLeastColumnSet m rs columns) same x.columns_least in
-    (
+    let here : IsLeastColumnSet m rows' columns = subst (λ rs. IsLeastColumnSet m rs columns) same x.columns_least in (
       same,
       same_set m.width columns columns' (column_set_rises m columns here.column_set) (column_set_rises m columns' y.columns_least.column_set)
-      (here.least columns' y.columns_least.column_set y.columns_least.violator) (y.columns_least.least columns here.column_set here.violator),
+          (here.least columns' y.columns_least.column_set y.columns_least.violator) (y.columns_least.least columns here.column_set here.violator),
     )
 
 one_by_columns : (m : Matrix) (rows columns rows' columns' : List ℕ) → IsLeastByColumns m rows columns → IsLeastByColumns m rows' columns' → (rows ≡ rows') × (columns ≡ columns')
 one_by_columns m rows columns rows' columns' x y =
     let same : columns ≡ columns' = same_set m.width columns columns' (column_set_rises m columns x.column_set) (column_set_rises m columns' y.column_set)
     (x.columns_least rows' columns' y.rows_least.row_set y.column_set y.rows_least.violator) (y.columns_least rows columns x.rows_least.row_set x.column_set x.rows_least.violator) in
-    let here : IsLeastRowSet m rows columns' = subst (λ cs. IsLeastRowSet m rows cs) same x.rows_least in
-    (
+    let here : IsLeastRowSet m rows columns' = subst (λ cs. IsLeastRowSet m rows cs) same x.rows_least in (
       same_set (height m) rows rows' (row_set_rises m rows here.row_set) (row_set_rises m rows' y.rows_least.row_set)
-      (here.least rows' y.rows_least.row_set y.rows_least.violator) (y.rows_least.least rows here.row_set here.violator),
+          (here.least rows' y.rows_least.row_set y.rows_least.violator) (y.rows_least.least rows here.row_set here.violator),
       same,
     )
 

@@ -1,5 +1,5 @@
 -- What a run reports, and how it ends.
-use Rattle.std.specs.Prelude.{◌<◌, ◌≡◌, ◌≤◌, ◌⊎◌, ℕ, Bool, false, IsTrue, List, Option, Some, None, Result, Ok, Err}
+use Rattle.std.specs.Prelude.{min, ◌<◌, ◌≡◌, ◌≤◌, ◌⊎◌, ℕ, Bool, false, IsTrue, List, Option, Some, None, Result, Ok, Err}
 use Rattle.cmr_base.specs.Matrix.{Matrix, height}
 use Rattle.cmr_io.specs.Causes.{Rose}
 use Rattle.cmr_tools.specs.declared.outcome.Outcome.{Outcome}

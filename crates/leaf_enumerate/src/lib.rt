@@ -3,5 +3,7 @@
 
 mod row_sets;
 mod search;
+#[cfg(test)]
+mod tests;
 
 pub use search::{Search, least_violator};
