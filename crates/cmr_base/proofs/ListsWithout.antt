@@ -4,8 +4,8 @@ use Rattle.std.specs.List.Sorted.{IsStrictlyIncreasing}
 use Rattle.std.proofs.lemmas.Bool.{eqb-false, true≢false, cases_eq}
 use Rattle.std.proofs.lemmas.List.Kept.{IsStrictlyIncreasing-filter}
 use Rattle.cmr_base.specs.LineSets.{without}
-use Rattle.cmr_base.specs.Members.{IsIn}
-use Rattle.cmr_base.proofs.Members.{IsDistinct, IsWithin}
+use Rattle.cmr_base.specs.Members.{IsIn, IsDistinct}
+use Rattle.cmr_base.proofs.Members.{IsWithin}
 
 pub true_is_false : {A : Type 0} → true ≡ false → A
 true_is_false e = absurd (true≢false e)

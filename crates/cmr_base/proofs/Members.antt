@@ -3,15 +3,10 @@ use Rattle.std.proofs.Common.{◌≡◌, ◌≢◌, ◌<◌, ◌≤◌, ◌+◌,
 use Rattle.std.specs.List.{AllByRecursion}
 use Rattle.std.specs.List.Sorted.{IsStrictlyIncreasing}
 use Rattle.std.proofs.lemmas.Bool.Decides.{nat_tests}
-use Rattle.cmr_base.specs.Members.{IsIn}
+use Rattle.cmr_base.specs.Members.{IsIn, IsDistinct}
 use Rattle.cmr_base.specs.Sums.{sum_over}
 use Rattle.cmr_base.proofs.Integers.{sums}
 use Rattle.cmr_base.proofs.RisingLists.{RisesIn, rises_in, rising_increases}
-
--- no number stands twice
-abbrev pub IsDistinct : List ℕ → Type 0
-IsDistinct [] = Unit {0}
-IsDistinct (x ∷ xs) = (¬ (IsIn x xs)) × IsDistinct xs
 
 -- each number of the first is in the second
 abbrev pub IsWithin : List ℕ → List ℕ → Type 0

@@ -52,24 +52,26 @@ entry-submatrix m rows columns i j hi hj =
 zero_is_entry : IsEntry (pos 0)
 zero_is_entry = record { low = omega (arith, ints); high = omega (arith, ints) }
 
+-- what holds of 0 and of each entry of a matrix holds of each entry of a submatrix
+pub each-submatrix : (P : ℤ → Type 0) (m : Matrix) (rows columns : List ℕ) → P (pos 0) → ((row column : ℕ) → P (entry m row column))
+    → (row column : ℕ) → P (entry (submatrix m rows columns) row column)
+each-submatrix P m [] columns z each row column = z
+each-submatrix P m (r ∷ rs) columns z each zero column = each-map P (entry m r) columns z (each r) column
+each-submatrix P m (r ∷ rs) columns z each (suc row) column = each-submatrix P m rs columns z each row column
+
 pub is_matrix-submatrix : (m : Matrix) (rows columns : List ℕ) → IsMatrix m → length rows ≤ 1000 → length columns ≤ 1000 → IsMatrix (submatrix m rows columns)
 is_matrix-submatrix m rows columns is few_rows few_columns = record {
   rectangular = λ row h. ap length (get_or-map (λ r. map (entry m r) columns) rows row 0 [] (omega (arith, h, length-map rows (λ r. map (entry m r) columns)))) ∙ length-map columns (entry m (get_or rows row 0));
-  small = λ row column. small rows row column;
+  small = each-submatrix IsEntry m rows columns zero_is_entry is.small;
   height_in = omega (arith, few_rows, length-map rows (λ r. map (entry m r) columns));
   width_in = few_columns;
 }
-  where
-    small : (rs : List ℕ) (row column : ℕ) → IsEntry (get_or (get_or (map (λ r. map (entry m r) columns) rs) row []) column (pos 0))
-    small [] row column = zero_is_entry
-    small (r ∷ rs) zero column = each-map IsEntry (entry m r) columns zero_is_entry (is.small r) column
-    small (r ∷ rs) (suc row) column = small rs row column
 
 -- a column of the matrix is a row of the transposed one
 pub row-transposed : (m : Matrix) (column : ℕ) → column < m.width → get_or (transposed m).rows column [] ≡ column_of m column
 row-transposed m column h = get_or-map-range_with_len (column_of m) 0 m.width column column [] h (omega arith)
 
-height-transposed : (m : Matrix) → height (transposed m) ≡ m.width
+pub height-transposed : (m : Matrix) → height (transposed m) ≡ m.width
 height-transposed m = length-map-range_with_len (column_of m) 0 m.width
 
 get_or-column_of : (rows : List (List ℤ)) (row column : ℕ) → get_or (map (λ r. get_or r column (pos 0)) rows) row (pos 0) ≡ get_or (get_or rows row []) column (pos 0)

@@ -10,3 +10,12 @@ pub mod GreedySets
 pub mod Members
 pub mod CyclePlaces
 pub mod Supports
+pub mod Trees
+pub mod Splits
+pub mod Cuts
+pub mod GrownTrees
+pub mod TurnedNetworks
+pub mod Incidences
+pub mod RootedTrees
+pub mod Comparisons
+pub mod WrittenColumns

@@ -1,7 +1,7 @@
 // Lists that grow at their end.
 ghost use Rattle.std.specs.Prelude.{◌≡◌, ◌<◌, ◌++◌, [], ◌∷◌, length, slice_get, Some, OnOk, OnErr};
 
-use crate::{Memory, Word};
+use crate::{Indices, Memory, Word};
 use std::alloc::Global;
 use std::marker::Model;
 
@@ -13,6 +13,12 @@ pub struct ItemList<T> {
 
 /// Signs, +1 or -1, one for each row of a set of rows.
 pub type SignList = ItemList<i8>;
+
+/// Sets of rows into which the rows of a matrix fall, in an order.
+pub type PartList = ItemList<Indices>;
+
+/// Sides, 0 or 1, one for each of some parts.
+pub type SideList = ItemList<u8>;
 
 /// The words of a command line.
 pub type WordList = ItemList<Word>;

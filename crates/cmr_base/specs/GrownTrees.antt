@@ -1,0 +1,51 @@
+-- The tree and the walks of given sides: arcs hung one after another, each at the node where the sides say.
+use Rattle.std.specs.Prelude.{ℕ, suc, Bool, true, false, List, [], ◌∷◌, cond, map, nat_eq, length}
+use Rattle.cmr_base.specs.declared.network.Pair.{Pair}
+use Rattle.cmr_base.specs.Cuts.{differ}
+use Rattle.cmr_base.specs.LineSets.{first_lines}
+
+-- the arc of a row, which hangs at a node
+pub record HungArc : Type 0 where
+  pub row : ℕ
+  pub node : ℕ
+
+-- Of a list of hung arcs the last comes first. The tree begins with node 0, and the k-th arc leads from the node where it
+-- hangs to the new node k. This is the node that lies beyond exactly the arcs of a set.
+abbrev pub node_of : List HungArc → (ℕ → Bool) → ℕ
+node_of [] is_in = 0
+node_of (arc ∷ arcs) is_in = cond (is_in arc.row) (suc (length arcs)) (node_of arcs is_in)
+
+-- the arcs of some rows, the last one first, where `beyond r s` says that arc s lies beyond arc r
+abbrev pub grown : (ℕ → ℕ → Bool) → List ℕ → List HungArc
+grown beyond [] = []
+grown beyond (row ∷ rows) =
+    let arcs = grown beyond rows in
+    record { row = row; node = node_of arcs (λ r. beyond r row) } ∷ arcs
+
+-- from the node where the arc of a row hangs to its new node
+abbrev pub pair_of : List HungArc → ℕ → Pair
+pair_of [] row = record { tail = 0; head = 0 }
+pair_of (arc ∷ arcs) row = cond (nat_eq row arc.row) (record { tail = arc.node; head = suc (length arcs) }) (pair_of arcs row)
+
+-- the same, or turned round
+abbrev pub turned : Bool → Pair → Pair
+turned as_it_is pair = cond as_it_is pair (record { tail = pair.head; head = pair.tail })
+
+-- node 0 is where the first end of column 0 is
+module _ (side : ℕ → ℕ → Bool) (lies : Bool → ℕ → ℕ → Bool) where
+  abbrev pub beyond : ℕ → ℕ → Bool
+  beyond r s = differ (lies true r 0) (side r s)
+
+  -- the arcs beyond which an end of a column lies
+  abbrev pub place : Bool → ℕ → ℕ → Bool
+  place end column r = differ (lies true r 0) (lies end r column)
+
+  -- the arcs of the first m rows in their order, grown in the order of a list of them
+  abbrev pub arcs_by : List ℕ → ℕ → List Pair
+  arcs_by order m = map (λ r. turned (lies true r 0) (pair_of (grown beyond order) r)) (first_lines m)
+
+  -- the walks of the first n columns
+  abbrev pub walks_by : List ℕ → ℕ → List Pair
+  walks_by order n =
+      let arcs = grown beyond order in
+      map (λ column. record { tail = node_of arcs (place true column); head = node_of arcs (place false column) }) (first_lines n)
