@@ -14,8 +14,8 @@ use Rattle.ghouila.proofs.SignProducts.{sign_nonzero}
 use Rattle.ghouila.proofs.Cycles.{two_terms, cycle_sum, by_places, same_below}
 use Rattle.ghouila.proofs.SignedSums.{zero_or_sign}
 use Rattle.ghouila.proofs.Chords.{Linked, Chord, find_chord, forward, backward}
-use Rattle.cmr_base.specs.Members.{IsIn}
-use Rattle.cmr_base.proofs.Members.{IsDistinct, all_in}
+use Rattle.cmr_base.specs.Members.{IsIn, IsDistinct}
+use Rattle.cmr_base.proofs.Members.{all_in}
 use Rattle.cmr_base.specs.CyclePlaces.{IsPath, IsCyclePlace, path_rows, path_columns, path_sum, cycle_rows, cycle_columns}
 
 -- x, then the values of f

@@ -1,10 +1,9 @@
 // Signings by pivots.
 ghost use Rattle.std.specs.Prelude.{◌≡◌, ◌<◌, ◌⊎◌, ◌∷◌, [], ℕ, pos, IfOk};
 ghost use Rattle.cmr_base.specs.Matrix.{Matrix, height, entry};
-ghost use Rattle.cmr_base.specs.LineSets.{IsRowSet};
+ghost use Rattle.cmr_base.specs.LineSets.{AllBelow, IsRowSet};
 ghost use Rattle.cmr_base.specs.Signing.{IsSign};
 ghost use Rattle.cmr_base.specs.Sums.{sum_over, IsEven, IsOdd};
-ghost use Rattle.ghouila.specs.Numbered.{InRows};
 ghost use Rattle.ghouila.specs.Pivot.{IsOutside, IsTernaryRow, KeepsOthers};
 ghost use Rattle.ghouila.specs.Found.{IsOnRows};
 ghost use Rattle.ghouila.specs.Outcome.{IsOutcome};
@@ -36,7 +35,7 @@ enum Outcome {
 /// row, or its part in a violator, follows from what is found for the others. The time is at most the number
 /// of rows squared times the number of columns.
 pub fn sign_or_violate(alloc: Global, matrix: &Matrix, rows: &Indices) -> Result<Signing, Memory>
-    requires { InRows matrix.now rows.now }
+    requires { AllBelow (height matrix.now) rows.now }
     ensures { IfOk result (SignsOrViolates matrix.now rows.now) }
 {
     let rows = rows.as_slice();

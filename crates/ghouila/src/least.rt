@@ -1,8 +1,8 @@
 // The least row set without a signing, by trying each.
 ghost use Rattle.std.specs.Prelude.{◌≡◌, ◌<◌, ◌≤◌, ◌^◌, ℕ, ℤ, List, IsTrue, false, IfOk, IfSome, IfNone, length, slice_index};
+ghost use Rattle.cmr_base.specs.LineSets.{AllBelow, set_numbered};
 ghost use Rattle.cmr_base.specs.Matrix.{height};
 ghost use Rattle.cmr_base.specs.Signing.{IsTotallyUnimodular, IsLeastUnsigned, HasNoSigning, IsSigning};
-ghost use Rattle.ghouila.specs.Numbered.{set_numbered, InRows};
 
 use crate::plain::{choices, plain_signing};
 use cmr_base::{Indices, Matrix, Memory};
@@ -41,7 +41,7 @@ fn rows_with_number(alloc: Global, count: u32, number: u32) -> Result<Indices, M
 }
 
 fn has_signing(alloc: Global, matrix: &Matrix, rows: &Indices) -> Result<bool, Memory>
-    requires in_range { InRows matrix.now rows.now }
+    requires in_range { AllBelow (height matrix.now) rows.now }
     requires few { length rows.now ≤ 24 }
     ensures yes { IfOk result (λ yes. IsTrue yes → (signs : List ℤ) × IsSigning matrix.now rows.now signs) }
     ensures no { IfOk result (λ yes. yes ≡ false → HasNoSigning matrix.now rows.now) }

@@ -2,9 +2,8 @@
 ghost use Rattle.std.specs.Prelude.{◌≡◌, ◌<◌, ◌≤◌, ◌-ℤ◌, ◌*ℤ◌, ◌≤ℤ◌, pos, negsuc, ℕ, [], ◌∷◌, length, IfSome, IfNone, IsTrue, ◌↔◌};
 ghost use Rattle.std.specs.List.{AllByRecursion, Contains};
 ghost use Rattle.cmr_base.specs.Matrix.{Matrix, height, entry, IsEntry, IsMatrix};
-ghost use Rattle.cmr_base.specs.LineSets.{IsRowSet};
+ghost use Rattle.cmr_base.specs.LineSets.{AllBelow, IsRowSet};
 ghost use Rattle.cmr_base.specs.Signing.{IsSign};
-ghost use Rattle.ghouila.specs.Numbered.{InRows};
 ghost use Rattle.ghouila.specs.Pivot.{IsOutside, reduced, IsTernaryRow, IsPivot, HasNoPivot, IsSquareViolator, HasSquareViolator, KeepsOthers, PivotsRows};
 
 use cmr_base::Matrix;
@@ -25,7 +24,7 @@ pub struct Corner {
 
 /// The first column with an even number, at least two, of nonzeros in the rows left, at the first of them.
 pub fn first_pivot(work: &Matrix, left: &[u32]) -> Option<Pivot>
-    requires { InRows work.now left.now }
+    requires { AllBelow (height work.now) left.now }
     ensures some { IfSome result (λ pivot. IsPivot work.now left.now pivot.place pivot.column) }
     ensures none { IfNone result ((column : ℕ) → column < work.now.width → HasNoPivot work.now left.now column) }
     ensures shape { IsMatrix work.now }
@@ -40,7 +39,7 @@ pub fn first_pivot(work: &Matrix, left: &[u32]) -> Option<Pivot>
 
 // The place of the first nonzero of the column, where the column has an even number of them.
 fn pivot_in(work: &Matrix, left: &[u32], column: u32) -> Option<usize>
-    requires rows { InRows work.now left.now }
+    requires rows { AllBelow (height work.now) left.now }
     requires column { column < work.now.width }
     ensures some { IfSome result (λ place. IsPivot work.now left.now place column) }
     ensures none { IfNone result (HasNoPivot work.now left.now column) }
@@ -60,7 +59,7 @@ fn pivot_in(work: &Matrix, left: &[u32], column: u32) -> Option<usize>
 
 /// The first row left, and column, at which the pivot would give a 2 or a -2.
 pub fn first_square_violator(work: &Matrix, left: &[u32], row: u32, column: u32) -> Option<Corner>
-    requires rows { InRows work.now left.now }
+    requires rows { AllBelow (height work.now) left.now }
     requires row { row < height work.now }
     requires column { column < work.now.width }
     requires nonzero { IsSign (entry work.now row column) }

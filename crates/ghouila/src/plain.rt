@@ -1,9 +1,10 @@
 // The plain search for a signing: each choice of signs in turn.
 ghost use Rattle.std.specs.Prelude.{◌≡◌, ◌<◌, ◌≤◌, ◌+◌, ◌^◌, ◌*ℤ◌, ℕ, ℤ, List, IfOk, IfSome, IfNone, IsTrue, length, slice_index, slice_index_or, pos};
 ghost use Rattle.std.specs.List.{AllByRecursion};
+ghost use Rattle.cmr_base.specs.LineSets.{AllBelow};
 ghost use Rattle.cmr_base.specs.Matrix.{Matrix, height, IsEntry};
 ghost use Rattle.cmr_base.specs.Signing.{IsSign, signed_sum, IsSigning, IsFirstSigning, HasNoSigning};
-ghost use Rattle.ghouila.specs.Numbered.{low_sign, signs_numbered, IsChoice, InRows};
+ghost use Rattle.ghouila.specs.Numbered.{low_sign, signs_numbered, IsChoice};
 
 use cmr_base::{Indices, Matrix, Memory, SignList};
 use std::alloc::Global;
@@ -14,7 +15,7 @@ pub fn plain_signing(
     matrix: &Matrix,
     rows: &Indices,
 ) -> Result<Option<SignList>, Memory>
-    requires in_range { InRows matrix.now rows.now }
+    requires in_range { AllBelow (height matrix.now) rows.now }
     requires few { length rows.now ≤ 24 }
     ensures first { IfOk result (λ answer. IfSome answer (IsFirstSigning matrix.now rows.now)) }
     ensures none { IfOk result (λ answer. IfNone answer (HasNoSigning matrix.now rows.now)) }

@@ -1,5 +1,6 @@
 ghost use Rattle.std.specs.Prelude.{IfOk};
-ghost use Rattle.ghouila.specs.Numbered.{InRows};
+ghost use Rattle.cmr_base.specs.LineSets.{AllBelow};
+ghost use Rattle.cmr_base.specs.Matrix.{height};
 
 use crate::{Signing, plain_signing, sign_or_violate};
 use cmr_base::{Indices, Matrix, Memory};
@@ -19,7 +20,7 @@ fn set_minus_one(matrix: &mut Matrix, row: u32, column: u32) {
 }
 
 fn all_rows(alloc: Global, matrix: &Matrix) -> Result<Indices, Memory>
-    ensures { IfOk result (InRows matrix.now) }
+    ensures { IfOk result (AllBelow (height matrix.now)) }
 {
     let mut rows = Indices::new(alloc);
     for row in 0..matrix.rows() {

@@ -1,2 +1,1 @@
-pub mod TransposedLemmas
 pub mod RowSets

@@ -1,16 +1,16 @@
-use Rattle.std.proofs.Common.{List, ◌≡◌, ◌≤◌, ◌^◌, ◌*◌, ◌∙◌, ℕ, length, ap, sym, subst, arith}
+use Rattle.std.proofs.Common.{List, ◌≡◌, ◌≤◌, ◌^◌, ◌∙◌, ℕ, length, ap, sym, subst, arith}
 use Rattle.cmr_base.specs.Matrix.{Matrix, height}
-use Rattle.cmr_base.specs.LineSets.{IsRowSet, set_number}
-use Rattle.ghouila.specs.Numbered.{set_numbered}
-use Rattle.ghouila.proofs.SetNumbers.{numbered_row_set, row_set_number, set_number-set_numbered, set_rises, all_signed_more}
-use Rattle.cmr_base.proofs.RisingLists.{rising_short}
+use Rattle.cmr_base.specs.LineSets.{IsRowSet, set_number, set_numbered}
+use Rattle.cmr_base.proofs.RisingLists.{rising_short, row_set_rises}
+use Rattle.cmr_base.proofs.SetNumbers.{row_set-numbered, set_number-lt, number_of_numbered, numbered_rises}
+use Rattle.ghouila.proofs.SignedSets.{all_signed_more}
 use Rattle.ghouila.proofs.least.least_unsigned.Goals as goal
 
 row_set : (m : Matrix) (rows : List ℕ) (number : ℕ) → rows ≡ set_numbered (height m) 0 number → IsRowSet m rows
-row_set m rows number e = subst (IsRowSet m) (sym e) (numbered_row_set m number)
+row_set m rows number e = subst (IsRowSet m) (sym e) (row_set-numbered m number)
 
 few : (m : Matrix) (rows : List ℕ) (number : ℕ) → rows ≡ set_numbered (height m) 0 number → length rows ≤ height m
-few m rows number e = subst (λ rs. length rs ≤ height m) (sym e) (omega (arith, rising_short 0 (height m) (set_numbered (height m) 0 number) (set_rises (height m) 0 (height m) number (omega arith)) (omega arith)))
+few m rows number e = subst (λ rs. length rs ≤ height m) (sym e) (omega (arith, rising_short 0 (height m) (set_numbered (height m) 0 number) (numbered_rises (height m) 0 (height m) number (omega arith)) (omega arith)))
 
 pub has_signing-requires-clause-in_range : goal.has_signing-requires-clause-in_range
 has_signing-requires-clause-in_range c =
@@ -30,7 +30,7 @@ loop-number-preserved c =
 pub returns-clause-none : goal.returns-clause-none
 returns-clause-none c = λ rows is.
     let total : 2 ^ c.rows-count.result ≡ 2 ^ height c.args.matrix.now = ap (λ n. 2 ^ n) c.rows-count.ensures.rows in
-    c.loop-number.invariant rows is (omega (arith, row_set_number c.args.matrix.now rows is, total))
+    c.loop-number.invariant rows is (omega (arith, set_number-lt (height c.args.matrix.now) rows (row_set_rises c.args.matrix.now rows is), total))
 
 pub returns-then-not-signed-clause-least : goal.returns-then-not-signed-clause-least
 returns-then-not-signed-clause-least c =
@@ -38,7 +38,7 @@ returns-then-not-signed-clause-least c =
     let number = c.loop-number.number in
     let e : c.in_ok-rows.rows ≡ set_numbered (height m) 0 number = c.in_ok-rows.ensures ∙ ap (λ n. set_numbered n 0 number) c.rows-count.ensures.rows in
     let total : 2 ^ c.rows-count.result ≡ 2 ^ height m = ap (λ n. 2 ^ n) c.rows-count.ensures.rows in
-    let place : set_number c.in_ok-rows.rows ≡ number * 2 ^ 0 = ap set_number e ∙ set_number-set_numbered (height m) 0 number (omega (arith, total)) in
+    let place : set_number c.in_ok-rows.rows ≡ number = ap set_number e ∙ number_of_numbered (height m) number (omega (arith, total)) in
     record {
       row_set = row_set m c.in_ok-rows.rows number e;
       unsigned = c.in_ok-signed.ensures.no c.if-not-signed.true;

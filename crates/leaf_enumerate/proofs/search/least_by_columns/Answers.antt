@@ -1,8 +1,8 @@
 use Rattle.std.proofs.Common.{ap, subst, arith}
 use Rattle.cmr_base.specs.Matrix.{Matrix, height}
 use Rattle.cmr_base.specs.Violator.{HasNoViolator, IsLeastByRows}
-use Rattle.leaf_enumerate.proofs.TransposedLemmas.{height-transposed}
-use Rattle.leaf_enumerate.proofs.TransposedLemmas.{least_from_transposed, none_from_transposed}
+use Rattle.cmr_base.proofs.Parts.{height-transposed}
+use Rattle.cmr_base.proofs.TransposedLemmas.{least_from_transposed, none_from_transposed}
 use Rattle.leaf_enumerate.proofs.search.least_by_columns.Goals as goal
 
 pub least_by_rows-requires : goal.least_by_rows-requires
