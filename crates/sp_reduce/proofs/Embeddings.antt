@@ -32,7 +32,7 @@ pub record HasTwin (binary : Bool) (M : ℕ → ℕ → ℤ) (R C : List ℕ) (i
 abbrev pub IsReducible : Bool → (ℕ → ℕ → ℤ) → List ℕ → List ℕ → ℕ → Type 0
 IsReducible binary M R C i = IsThin C (M i) ⊎ HasTwin binary M R C i
 
-some_map : {X Y : Type 0} (f : X → Y) (o : Option X) → is_some (option_map f o) ≡ is_some o
+pub some_map : {X Y : Type 0} (f : X → Y) (o : Option X) → is_some (option_map f o) ≡ is_some o
 some_map f None = refl
 some_map f (Some x) = refl
 

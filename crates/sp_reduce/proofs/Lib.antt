@@ -3,3 +3,17 @@ pub mod Embeddings
 pub mod Orders
 pub mod Submatrices
 pub mod Views
+pub mod Searches
+pub mod Weights
+pub mod SideLemmas
+pub mod WithoutLemmas
+pub mod Meanings
+pub mod Renewals
+pub mod KindLemmas
+pub mod ChangeLemmas
+pub mod Pairs
+pub mod StatedOrder
+pub mod Loops
+pub mod Greedy
+pub mod RunLemmas
+pub mod Passes

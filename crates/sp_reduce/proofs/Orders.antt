@@ -21,11 +21,11 @@ pub put_back : (binary : Bool) (M : ℕ → ℕ → ℤ) (R C : List ℕ) (line 
 put_back binary M R C l stays some (order, ends) = (l ∷ order, (stays, some, ends))
 
 -- what the search gives is reducible; where it gives none no line is
-record IsFound (binary : Bool) (M : ℕ → ℕ → ℤ) (R C : List ℕ) (lines : List Line) (step : Step) : Type 0 where
-  among : IsAmong step.line lines
-  some : IsSome (line_reason binary M R C step.line)
+pub record IsFound (binary : Bool) (M : ℕ → ℕ → ℤ) (R C : List ℕ) (lines : List Line) (step : Step) : Type 0 where
+  pub among : IsAmong step.line lines
+  pub some : IsSome (line_reason binary M R C step.line)
 
-search_is : (binary : Bool) (M : ℕ → ℕ → ℤ) (R C : List ℕ) (ls : List Line) (step : Step) → first_step binary M R C ls ≡ Some step → IsFound binary M R C ls step
+pub search_is : (binary : Bool) (M : ℕ → ℕ → ℤ) (R C : List ℕ) (ls : List Line) (step : Step) → first_step binary M R C ls ≡ Some step → IsFound binary M R C ls step
 search_is binary M R C [] step e = true_is_false (sym (ap is_some e))
 search_is binary M R C (l ∷ ls) step e = go (line_reason binary M R C l) refl e (λ h. search_is binary M R C ls step h)
   where
@@ -71,14 +71,14 @@ series_parallel_from_rest binary M (suc n) R C r c =
     go (Some step) e r c again = let w = search_is binary M R C (lines_of R C) step e in
         put_back binary M R C step.line (has_line_from_among step.line R C w.among) w.some (again step.line r c)
 
-empty : (xs : List ℕ) → length xs ≤ 0 → xs ≡ []
-empty [] l = refl
-empty (x ∷ xs) l = absurd (omega arith)
+pub empty_from_length : (xs : List ℕ) → length xs ≤ 0 → xs ≡ []
+empty_from_length [] l = refl
+empty_from_length (x ∷ xs) l = absurd (omega arith)
 
 -- and what is series-parallel has a rest with no lines
 pub rest_from_series_parallel : (binary : Bool) (M : ℕ → ℕ → ℤ) (n : ℕ) (R C : List ℕ) → length R + length C ≤ n → IsStrictlyIncreasing R → IsStrictlyIncreasing C → IsSeriesParallelOn binary M R C
     → ((removal_on binary M n R C).rows ≡ []) × ((removal_on binary M n R C).columns ≡ [])
-rest_from_series_parallel binary M zero R C l r c sp = (empty R (omega arith), empty C (omega arith))
+rest_from_series_parallel binary M zero R C l r c sp = (empty_from_length R (omega arith), empty_from_length C (omega arith))
 rest_from_series_parallel binary M (suc n) R C l r c sp =
     go (first_step binary M R C (lines_of R C)) refl
     (λ x m. rest_from_series_parallel binary M n (rows_without R x) (columns_without C x) m (rows_increase x R r) (columns_increase x C c) (any_first binary M R C x r c sp))

@@ -1,17 +1,17 @@
 -- The lines of a matrix and those of its submatrices.
-use Rattle.std.proofs.Common.{◌≡◌, ◌<◌, ◌+◌, ◌∙◌, inl, ℕ, Bool, ℤ, pos, ◌*ℤ◌, List, length, map, get_or, refl, ap, ap₂, sym, subst, arith}
+use Rattle.std.proofs.Common.{◌≡◌, ◌↔◌, [], ◌<◌, ◌+◌, ◌∙◌, inl, ℕ, Bool, ℤ, pos, ◌*ℤ◌, List, length, map, get_or, refl, ap, ap₂, sym, subst, arith}
 use Rattle.std.specs.List.Sorted.{IsStrictlyIncreasing}
 use Rattle.std.proofs.lemmas.List.{length-map}
 use Rattle.std.proofs.lemmas.List.FromFn.{length-range_with_len}
 use Rattle.cmr_base.specs.Matrix.{Matrix, height, entry}
 use Rattle.cmr_base.specs.LineSets.{IsRowSet, IsColumnSet, first_lines, submatrix}
-use Rattle.cmr_base.specs.Reductions.{IsSeriesParallel, IsSeriesParallelOn}
+use Rattle.cmr_base.specs.Reductions.{IsSeriesParallel, IsSeriesParallelOn, removal_on}
 use Rattle.cmr_base.proofs.Integers.{products}
 use Rattle.cmr_base.proofs.Parts.{entry-submatrix}
 use Rattle.cmr_base.specs.Members.{IsIn}
 use Rattle.cmr_base.proofs.Members.{IsWithin}
 use Rattle.cmr_base.proofs.ListsWithout.{in-get_or, increasing_distinct, same_place, place_of, place_is}
-use Rattle.cmr_base.proofs.RemovedLines.{first_lines_increase, in_first_lines, first_lines_in}
+use Rattle.cmr_base.proofs.RemovedLines.{first_lines_increase, in_first_lines, first_lines_in, row_set_from_within, column_set_from_within}
 use Rattle.cmr_base.proofs.GreedyLemmas.{IsInherited, greedy_set_minimal}
 use Rattle.sp_reduce.specs.Laws.{SubmatricesAreSeriesParallel, RestDecides, GreedySetIsMinimal}
 use Rattle.sp_reduce.proofs.Embeddings.{Embeds, series_parallel-embeds, series_parallel-within}
@@ -74,10 +74,10 @@ lines_from_submatrix binary m R C r c sp =
     let v = subst (λ (n : ℕ). IsSeriesParallelOn binary (entry (submatrix m R C)) (first_lines n) (first_lines (length C))) (height-submatrix m R C) sp in
     series_parallel-embeds binary (entry m) (entry (submatrix m R C)) v.0 R C (first_lines (length R)) (first_lines (length C)) r c (embeds_submatrix binary m R C) v.1
 
-row_set_within : (m : Matrix) (rows : List ℕ) → IsRowSet m rows → IsWithin rows (first_lines (height m))
+pub row_set_within : (m : Matrix) (rows : List ℕ) → IsRowSet m rows → IsWithin rows (first_lines (height m))
 row_set_within m rows is x h = let w = place_is x rows h in in_first_lines (height m) x (subst (λ (y : ℕ). y < height m) w.there (is.in_range (place_of x rows) w.in_range))
 
-column_set_within : (m : Matrix) (columns : List ℕ) → IsColumnSet m columns → IsWithin columns (first_lines m.width)
+pub column_set_within : (m : Matrix) (columns : List ℕ) → IsColumnSet m columns → IsWithin columns (first_lines m.width)
 column_set_within m columns is x h = let w = place_is x columns h in in_first_lines m.width x (subst (λ (y : ℕ). y < m.width) w.there (is.in_range (place_of x columns) w.in_range))
 
 pub submatrices : SubmatricesAreSeriesParallel
@@ -102,3 +102,24 @@ pub greedy_set : GreedySetIsMinimal
 greedy_set binary m rows columns lack g =
     greedy_set_minimal (IsSeriesParallel binary) m (series_parallel_inherited binary m) rows columns
     (λ sp. lack (lines_from_submatrix binary m (first_lines (height m)) (first_lines m.width) (first_lines_increase (height m)) (first_lines_increase m.width) sp)) g
+
+-- ---- the submatrix on some lines, by the stated order
+
+pub rest_decides : (binary : Bool) (m : Matrix) (R C : List ℕ) → IsStrictlyIncreasing R → IsStrictlyIncreasing C
+    → (((removal_on binary (entry m) (length R + length C) R C).rows ≡ []) × ((removal_on binary (entry m) (length R + length C) R C).columns ≡ [])) ↔ IsSeriesParallel binary (submatrix m R C)
+rest_decides binary m R C r c = (
+  (λ e. submatrix_from_lines binary m R C r c (series_parallel_from_rest binary (entry m) (length R + length C) R C e.0 e.1)),
+  (λ sp. rest_from_series_parallel binary (entry m) (length R + length C) R C (omega arith) r c (lines_from_submatrix binary m R C r c sp)),
+)
+
+pub whole_submatrix : (binary : Bool) (m : Matrix) → IsSeriesParallel binary (submatrix m (first_lines (height m)) (first_lines m.width)) → IsSeriesParallel binary m
+whole_submatrix binary m sp = lines_from_submatrix binary m (first_lines (height m)) (first_lines m.width) (first_lines_increase (height m)) (first_lines_increase m.width) sp
+
+pub submatrix_whole : (binary : Bool) (m : Matrix) → IsSeriesParallel binary m → IsSeriesParallel binary (submatrix m (first_lines (height m)) (first_lines m.width))
+submatrix_whole binary m sp = submatrix_from_lines binary m (first_lines (height m)) (first_lines m.width) (first_lines_increase (height m)) (first_lines_increase m.width) sp
+
+pub all_rows : (m : Matrix) → IsRowSet m (first_lines (height m))
+all_rows m = row_set_from_within m (first_lines (height m)) (first_lines_increase (height m)) (λ x h. h)
+
+pub all_columns : (m : Matrix) → IsColumnSet m (first_lines m.width)
+all_columns m = column_set_from_within m (first_lines m.width) (first_lines_increase m.width) (λ x h. h)

@@ -5,8 +5,7 @@ use Rattle.std.proofs.lemmas.List.Sums.{sum_by-cons}
 use Rattle.std.proofs.lemmas.Bool.Decides.{Decides-int_eq}
 use Rattle.cmr_base.specs.Matrix.{is_nonzero}
 use Rattle.cmr_base.specs.Reductions.{nonzeros_at, equal_at}
-use Rattle.cmr_base.specs.Members.{IsIn}
-use Rattle.cmr_base.proofs.Members.{IsDistinct}
+use Rattle.cmr_base.specs.Members.{IsIn, IsDistinct}
 use Rattle.cmr_base.proofs.ListsWithout.{true_is_false}
 
 pub nonzero_is : (z : ℤ) → is_nonzero z ≡ true → z ≢ pos 0
@@ -25,6 +24,10 @@ and_is false b e = true_is_false (sym e)
 
 pub is_and : (a b : Bool) → a ≡ true → b ≡ true → a && b ≡ true
 is_and a b e f = rw (e, f) refl
+
+pub false_is : (b : Bool) → (b ≡ true → ⊥) → b ≡ false
+false_is true none = absurd (none refl)
+false_is false none = refl
 
 pub not_is : (b : Bool) → not b ≡ true → b ≡ false
 not_is true e = true_is_false (sym e)
@@ -73,7 +76,7 @@ none_counted (x ∷ xs) f h =
     let e = none_counted xs f (λ y i. h y (inr i)) in
     nonzeros_cons x xs f ∙ rw (h x (inl refl)) (omega (arith, e))
 
-counted_none : (xs : List ℕ) (f : ℕ → ℤ) → nonzeros_at xs f ≡ 0 → (x : ℕ) → IsIn x xs → f x ≢ pos 0 → ⊥
+pub counted_none : (xs : List ℕ) (f : ℕ → ℤ) → nonzeros_at xs f ≡ 0 → (x : ℕ) → IsIn x xs → f x ≢ pos 0 → ⊥
 counted_none [] f e x h d = h
 counted_none (y ∷ ys) f e x h d = go (is_nonzero (f y)) refl (sym (nonzeros_cons y ys f) ∙ e) h (λ k i. counted_none ys f k x i d)
   where

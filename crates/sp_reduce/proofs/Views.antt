@@ -9,6 +9,7 @@ use Rattle.cmr_base.specs.Matrix.{is_nonzero}
 use Rattle.cmr_base.specs.Reductions.{nonzeros_at, equal_at, first_equal, first_reason}
 use Rattle.sp_reduce.specs.Kinds.{is_twin}
 use Rattle.sp_reduce.proofs.Thin.{nonzero_found}
+use Rattle.sp_reduce.proofs.Embeddings.{some_map}
 
 is_some_find : (test : ℕ → Bool) (xs : List ℕ) → is_some (find test xs) ≡ list_any test xs
 is_some_find test [] = refl
@@ -31,10 +32,6 @@ any_or p q (x ∷ xs) = swap (p x) (list_any p xs) (q x) (list_any q xs) ∙ ap 
 any_agree : (p q : ℕ → Bool) → ((x : ℕ) → p x ≡ q x) → (xs : List ℕ) → list_any p xs ≡ list_any q xs
 any_agree p q same [] = refl
 any_agree p q same (x ∷ xs) = rw (same x, any_agree p q same xs) refl
-
-some_map : {X Y : Type 0} (f : X → Y) (o : Option X) → is_some (option_map f o) ≡ is_some o
-some_map f None = refl
-some_map f (Some x) = refl
 
 some_or : {X : Type 0} (o p : Option X) → is_some (option_or o p) ≡ (is_some o || is_some p)
 some_or None p = refl

@@ -17,6 +17,14 @@ abbrev pub cross_named : Kind → ℕ → Line
 cross_named Rows number = Column number
 cross_named Columns number = Row number
 
+abbrev pub number_of : Line → ℕ
+number_of (Row number) = number
+number_of (Column number) = number
+
+abbrev pub other_kind : Kind → Kind
+other_kind Rows = Columns
+other_kind Columns = Rows
+
 -- how many lines of the kind there are, and how many of the other kind
 abbrev pub size_of : Matrix → Kind → ℕ
 size_of m Rows = height m

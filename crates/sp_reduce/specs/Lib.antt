@@ -1,2 +1,5 @@
 pub mod Laws
 pub mod Kinds
+pub mod Sides
+pub mod Changes
+pub mod Runs

@@ -1,10 +1,10 @@
 // Rows and columns alike: lines of one kind, and those of the other kind, which they cross.
-ghost use Rattle.std.specs.Prelude.{◌≡◌, ◌<◌, neg_ℤ};
+ghost use Rattle.std.specs.Prelude.{◌≡◌, ◌<◌, ◌≤◌, neg_ℤ};
 ghost use Rattle.std.specs.Ordering.{int_eq};
 ghost use Rattle.cmr_base.specs.Matrix.{entry, is_nonzero, IsEntry};
 ghost use Rattle.cmr_base.specs.LineSets.{AllBelow};
 ghost use Rattle.cmr_base.specs.Reductions.{nonzeros_at, equal_at};
-ghost use Rattle.sp_reduce.specs.Kinds.{line_named, cross_named, size_of, cross_size, table};
+ghost use Rattle.sp_reduce.specs.Kinds.{number_of, line_named, cross_named, size_of, cross_size, table};
 
 use cmr_base::{Line, Matrix};
 
@@ -15,6 +15,17 @@ pub enum Kind {
 }
 
 impl Kind {
+    // How many lines of this kind there are.
+    pub fn size(self, matrix: &Matrix) -> u32
+        ensures size { result ≡ size_of matrix.now self }
+        ensures few { result ≤ 1000 }
+    {
+        match self {
+            Kind::Rows => matrix.rows(),
+            Kind::Columns => matrix.columns(),
+        }
+    }
+
     // The line of this kind with a number.
     pub fn line(self, number: u32) -> Line
         ensures { result ≡ line_named self number }
@@ -33,6 +44,14 @@ impl Kind {
             Kind::Rows => Line::Column(number),
             Kind::Columns => Line::Row(number),
         }
+    }
+}
+
+pub fn number_of(line: Line) -> u32
+    ensures { result ≡ number_of line }
+{
+    match line {
+        Line::Row(number) | Line::Column(number) => number,
     }
 }
 

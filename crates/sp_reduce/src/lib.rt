@@ -1,9 +1,17 @@
 //! Series-parallel reductions.
 #![tactic(auto)]
 
+mod changes;
 mod kind;
 pub mod laws;
+mod minimal;
 mod reducible;
+mod removal;
+mod side;
+#[cfg(test)]
+mod tests;
 
 pub use cmr_base::{Reason, Step, StepList};
+pub use minimal::minimal_not_sp;
 pub use reducible::is_reducible_line;
+pub use removal::{Reduction, reduce};

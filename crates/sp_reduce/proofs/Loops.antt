@@ -1,0 +1,108 @@
+-- Loops over the lines of a side: the lines so far are done, and the others are as they were.
+use Rattle.std.proofs.Common.{◌≡◌, ◌<◌, ◌≤◌, ◌+◌, ◌*◌, ◌^◌, ◌++◌, ◌∙◌, inl, inr, ℕ, Bool, false, cond, Fits, w64, List, [], ◌∷◌, length, get_or, sym, ap, subst, arith}
+use Rattle.std.specs.List.Sorted.{IsStrictlyIncreasing}
+use Rattle.std.proofs.lemmas.Bool.{cases_eq}
+use Rattle.std.proofs.lemmas.List.{get_or_append_left}
+use Rattle.std.proofs.Math.Seq.{get_or-append_seam}
+use Rattle.cmr_base.specs.Matrix.{Matrix, height, entry, IsMatrix}
+use Rattle.cmr_base.specs.LineSets.{AllBelow}
+use Rattle.cmr_base.proofs.Members.{distinct_few}
+use Rattle.cmr_base.proofs.ListsWithout.{increasing_distinct, place_of, place_is}
+use Rattle.sp_reduce.specs.declared.kind.Kind.{Kind}
+use Rattle.sp_reduce.specs.declared.kind.Kind.TheVariants.{Rows, Columns}
+use Rattle.sp_reduce.specs.declared.side.Side.{Side}
+use Rattle.sp_reduce.specs.Kinds.{table, is_twin}
+use Rattle.sp_reduce.specs.Sides.{weight, IsAcross}
+use Rattle.sp_reduce.specs.Changes.{crosses, HasForgotten, IsSameAt, IsUnsettled}
+
+-- ---- how many lines there are
+
+pub rising_few : (bound : ℕ) (lines : List ℕ) → IsStrictlyIncreasing lines → AllBelow bound lines → length lines ≤ bound
+rising_few bound lines rises below = distinct_few bound lines (increasing_distinct lines rises)
+    (λ x h. let w = place_is x lines h in subst (λ (y : ℕ). y < bound) w.there (below (place_of x lines) w.in_range))
+
+pub across_few : (m : Matrix) (kind : Kind) (across : List ℕ) → IsMatrix m → IsAcross m kind across → length across ≤ 1000
+across_few m Rows across shape is = let few = rising_few m.width across is.rising is.in_range in let small = shape.width_in in omega (arith, few, small)
+across_few m Columns across shape is = let few = rising_few (height m) across is.rising is.in_range in let small = shape.height_in in omega (arith, few, small)
+
+pub weights_fit : (sum place more : ℕ) → sum ≤ place * 1000 ^ 5 → place < 1000 → more ≤ 1000 ^ 5 → Fits w64 (sum + more)
+weights_fit sum place more h few small = omega (arith, h, few, small)
+
+-- ---- the numbers of the lines so far
+
+pub pushed_each : (xs ys : List ℕ) (x : ℕ) (f : ℕ → ℕ) (count : ℕ) → length xs ≡ count → ys ≡ xs ++ x ∷ [] → x ≡ f count
+    → ((at : ℕ) → at < count → get_or xs at 0 ≡ f at) → (at : ℕ) → at < count + 1 → get_or ys at 0 ≡ f at
+pushed_each xs ys x f count long e here each at h = elim (cases_eq at count) [
+  | inl q ↦
+      ap (λ (zs : List ℕ). get_or zs at 0) e ∙ ap (λ (k : ℕ). get_or (xs ++ x ∷ []) k 0) (q ∙ sym long) ∙ get_or-append_seam xs x [] 0
+      ∙ here ∙ ap f (sym q)
+  | inr d ↦ ap (λ (zs : List ℕ). get_or zs at 0) e ∙ get_or_append_left xs (x ∷ []) 0 at (omega (arith, h, d, long)) ∙ each at (omega (arith, h, d))
+]
+
+-- ---- a crossing line is forgotten
+
+module _ (m : Matrix) (start now new : Side) (gone place : ℕ) (same : now ≡ record start { counts = now.counts; sums = now.sums; settled = now.settled }) (rest : (at : ℕ) → place ≤ at → IsSameAt start now at) where
+  crosses_same : (at : ℕ) → crosses m now gone at ≡ crosses m start gone at
+  crosses_same at = ap (λ (s : Side). crosses m s gone at) same
+
+  forgotten_here : HasForgotten m now new gone place → HasForgotten m start new gone place
+  forgotten_here h =
+      let was = rest place (omega arith) in
+      record {
+        count = ap (λ (b : Bool). get_or new.counts.items place 0 + cond b 1 0) (sym (crosses_same place)) ∙ h.count ∙ was.count;
+        sum = ap (λ (b : Bool). get_or new.sums.items place 0 + cond b (weight gone) 0) (sym (crosses_same place)) ∙ h.sum ∙ was.sum;
+        was = λ e. sym was.settled ∙ h.was e;
+        many = λ e c. h.many e (crosses_same place ∙ c);
+      }
+
+  pub forgotten_more : ((at : ℕ) → at < place → HasForgotten m start now gone at) → HasForgotten m now new gone place → ((at : ℕ) → (at ≡ place → ⊥) → IsSameAt now new at)
+      → (at : ℕ) → at < place + 1 → HasForgotten m start new gone at
+  forgotten_more done here others at h = elim (cases_eq at place) [
+    | inl q ↦ subst (λ (k : ℕ). HasForgotten m start new gone k) (sym q) (forgotten_here here)
+    | inr d ↦
+        let was = done at (omega (arith, h, d)) in
+        let is = others at d in
+        record {
+          count = ap (λ (n : ℕ). n + cond (crosses m start gone at) 1 0) is.count ∙ was.count;
+          sum = ap (λ (n : ℕ). n + cond (crosses m start gone at) (weight gone) 0) is.sum ∙ was.sum;
+          was = λ e. was.was (sym is.settled ∙ e);
+          many = λ e c. subst (λ (n : ℕ). 1 < n) (sym is.count) (was.many (sym is.settled ∙ e) c);
+        }
+  ]
+
+  pub others_left : ((at : ℕ) → (at ≡ place → ⊥) → IsSameAt now new at) → (at : ℕ) → place + 1 ≤ at → IsSameAt start new at
+  others_left others at h =
+      let was = rest at (omega (arith, h)) in
+      let is = others at (λ e. omega (arith, h, e)) in
+      record { count = is.count ∙ was.count; sum = is.sum ∙ was.sum; settled = is.settled ∙ was.settled }
+
+-- ---- lines are settled no more
+
+module _ (binary : Bool) (m : Matrix) (start now new : Side) (across : List ℕ) (changed place : ℕ) (same : now ≡ record start { settled = now.settled })
+    (rest : (at : ℕ) → place ≤ at → get_or now.settled.items at false ≡ get_or start.settled.items at false) where
+  unsettled_here : IsUnsettled binary m now new across changed place → IsUnsettled binary m start new across changed place
+  unsettled_here h = record {
+    was = λ e. sym (rest place (omega arith)) ∙ h.was e;
+    other = h.other;
+    no_twin = λ e.
+        ap (λ (s : Side). is_twin binary (table (entry m) s.kind) across (get_or s.stays.items changed 0) (get_or s.stays.items place 0)) (sym same)
+        ∙ h.no_twin e;
+  }
+
+  pub unsettled_more : ((at : ℕ) → at < place → IsUnsettled binary m start now across changed at) → IsUnsettled binary m now new across changed place
+      → ((at : ℕ) → (at ≡ place → ⊥) → get_or new.settled.items at false ≡ get_or now.settled.items at false)
+      → (at : ℕ) → at < place + 1 → IsUnsettled binary m start new across changed at
+  unsettled_more done here others at h = elim (cases_eq at place) [
+    | inl q ↦ subst (λ (k : ℕ). IsUnsettled binary m start new across changed k) (sym q) (unsettled_here here)
+    | inr d ↦
+        let was = done at (omega (arith, h, d)) in
+        record {
+          was = λ e. was.was (sym (others at d) ∙ e);
+          other = λ e. was.other (sym (others at d) ∙ e);
+          no_twin = λ e. was.no_twin (sym (others at d) ∙ e);
+        }
+  ]
+
+  pub marks_left : ((at : ℕ) → (at ≡ place → ⊥) → get_or new.settled.items at false ≡ get_or now.settled.items at false)
+      → (at : ℕ) → place + 1 ≤ at → get_or new.settled.items at false ≡ get_or start.settled.items at false
+  marks_left others at h = others at (λ e. omega (arith, h, e)) ∙ rest at (omega (arith, h))

@@ -1,0 +1,79 @@
+-- The lines of one kind that stay, and what is known of each.
+use Rattle.std.specs.Prelude.{◌≡◌, ◌<◌, ◌+◌, ◌^◌, ◌&&◌, ◌==◌, not, if◌then◌else◌, Bool, true, false, ℕ, ℤ, neg_ℤ, List, [], ◌∷◌, length, slice_index, slice_index_or, sum_by, find, Option, Some, None, option_map}
+use Rattle.std.specs.Option.{option_or}
+use Rattle.std.specs.List.Sorted.{IsStrictlyIncreasing}
+use Rattle.cmr_base.specs.declared.line.Reason.{Reason}
+use Rattle.cmr_base.specs.declared.line.Reason.TheVariants.{Copy, Negative}
+use Rattle.cmr_base.specs.declared.line.Step.{Step}
+use Rattle.cmr_base.specs.Matrix.{Matrix, entry, is_nonzero}
+use Rattle.cmr_base.specs.LineSets.{AllBelow}
+use Rattle.cmr_base.specs.Reductions.{nonzeros_at, equal_at}
+use Rattle.sp_reduce.specs.declared.kind.Kind.{Kind}
+use Rattle.sp_reduce.specs.declared.side.Found.{Found}
+use Rattle.sp_reduce.specs.declared.side.Side.{Side}
+use Rattle.sp_reduce.specs.Kinds.{line_named, size_of, cross_size, table, reason_for}
+
+-- sums of these tell sets of lines apart, mostly
+abbrev pub weight : ℕ → ℕ
+weight number = (number + 1) ^ 5
+
+-- the weights of the nonzero places
+abbrev pub weight_at : List ℕ → (ℕ → ℤ) → ℕ
+weight_at places f = sum_by (λ k. if is_nonzero (f k) then weight k else 0) places
+
+-- each line that stays has a count, a sum and a mark
+pub record IsParallel (side : Side) : Type 0 where
+  pub counts : length side.counts.items ≡ length side.stays.items
+  pub sums : length side.sums.items ≡ length side.stays.items
+  pub settled : length side.settled.items ≡ length side.stays.items
+
+-- rising numbers of lines of the matrix
+pub record IsSide (m : Matrix) (side : Side) : Type 0 where
+  pub rising : IsStrictlyIncreasing side.stays.items
+  pub in_range : AllBelow (size_of m side.kind) side.stays.items
+  pub parallel : IsParallel side
+
+-- rising numbers of crossing lines
+pub record IsAcross (m : Matrix) (kind : Kind) (across : List ℕ) : Type 0 where
+  pub rising : IsStrictlyIncreasing across
+  pub in_range : AllBelow (cross_size m kind) across
+
+-- the counts and sums are those of the nonzeros in these crossing lines
+pub record IsCounted (m : Matrix) (side : Side) (across : List ℕ) : Type 0 where
+  pub counts : (at : ℕ) → at < length side.stays.items
+      → slice_index side.counts.items at ≡ nonzeros_at across (table (entry m) side.kind (slice_index side.stays.items at))
+  pub sums : (at : ℕ) → at < length side.stays.items
+      → slice_index side.sums.items at ≡ weight_at across (table (entry m) side.kind (slice_index side.stays.items at))
+
+-- a marked line is not reducible
+abbrev pub IsSettled : Bool → Matrix → Side → List ℕ → Type 0
+IsSettled binary m side across = (at : ℕ) → at < length side.stays.items → slice_index_or side.settled.items at false ≡ true
+    → reason_for binary (entry m) side.kind side.stays.items across (slice_index side.stays.items at) ≡ None
+
+-- the step with the first reducible line of some lines of the kind
+abbrev pub first_step_of : Bool → (ℕ → ℕ → ℤ) → Kind → List ℕ → List ℕ → List ℕ → Option Step
+first_step_of binary M kind own across [] = None
+first_step_of binary M kind own across (line ∷ lines) =
+    option_or (option_map (λ reason. record { line = line_named kind line; reason = reason }) (reason_for binary M kind own across line))
+    (first_step_of binary M kind own across lines)
+
+-- another line that equals this one
+abbrev pub is_copy : (ℕ → ℕ → ℤ) → List ℕ → ℕ → ℕ → Bool
+is_copy M across line twin = not (twin == line) && equal_at across (M twin) (M line)
+
+-- another line that is the negative of this one
+abbrev pub is_negative : (ℕ → ℕ → ℤ) → List ℕ → ℕ → ℕ → Bool
+is_negative M across line twin = not (twin == line) && equal_at across (M twin) (λ other. neg_ℤ (M line other))
+
+-- why a line with two nonzeros or more is reducible
+abbrev pub twin_reason : Bool → (ℕ → ℕ → ℤ) → Kind → List ℕ → List ℕ → ℕ → Option Reason
+twin_reason binary M kind own across line =
+    option_or (option_map (λ twin. Copy (line_named kind twin)) (find (is_copy (table M kind) across line) own))
+    (if binary then None else option_map (λ twin. Negative (line_named kind twin)) (find (is_negative (table M kind) across line) own))
+
+-- a line was found at a place: it is the first that is reducible, for this reason
+pub record IsFirst (binary : Bool) (m : Matrix) (side : Side) (across : List ℕ) (found : Found) : Type 0 where
+  pub in_range : found.place < length side.stays.items
+  pub reason : reason_for binary (entry m) side.kind side.stays.items across (slice_index side.stays.items found.place) ≡ Some found.reason
+  pub step : first_step_of binary (entry m) side.kind side.stays.items across side.stays.items
+      ≡ Some (record { line = line_named side.kind (slice_index side.stays.items found.place); reason = found.reason })

@@ -1,0 +1,114 @@
+// The stated order of removals.
+ghost use Rattle.std.specs.Prelude.{◌≡◌, ◌≤◌, ◌+◌, length, MatchOption, None, Some, IfOk, IfSome};
+ghost use Rattle.std.specs.List.Sorted.{IsStrictlyIncreasing};
+ghost use Rattle.cmr_base.specs.Matrix.{height, entry, IsMatrix};
+ghost use Rattle.cmr_base.specs.LineSets.{AllBelow, without};
+ghost use Rattle.cmr_base.specs.Reductions.{first_step, lines_of, rows_without, columns_without, removal, removal_on};
+ghost use Rattle.sp_reduce.specs.declared.kind.Kind.TheVariants.{Rows};
+ghost use Rattle.sp_reduce.specs.Kinds.{number_of, line_named};
+ghost use Rattle.sp_reduce.specs.Sides.{first_step_of};
+ghost use Rattle.sp_reduce.specs.Changes.{ArePaired};
+
+use crate::kind::Kind;
+use crate::side::Side;
+use cmr_base::{Indices, LineSet, Matrix, Memory, Step, StepList};
+use std::alloc::Global;
+
+/// Removals in the stated order, and the lines that are left.
+#[derive(Debug, Drop)]
+pub struct Reduction {
+    pub steps: StepList,
+    pub rest: LineSet,
+}
+
+/// Removes the first reducible row as long as there is one, and where no row is reducible the first reducible column,
+/// until neither is. With `binary` a line is not reducible as the negative of another.
+pub fn reduce(alloc: Global, matrix: &Matrix, binary: bool) -> Result<Reduction, Memory>
+    ensures steps { IfOk result (λ reduction. reduction.steps ≡ (removal binary matrix.now).steps) }
+    ensures rows { IfOk result (λ reduction. reduction.rest.rows ≡ (removal binary matrix.now).rows) }
+    ensures columns { IfOk result (λ reduction. reduction.rest.columns ≡ (removal binary matrix.now).columns) }
+{
+    let lines = LineSet::all(alloc, matrix.rows(), matrix.columns())?;
+    reduce_lines(alloc, matrix, &lines, binary)
+}
+
+// The same from these lines on.
+pub fn reduce_lines(
+    alloc: Global,
+    matrix: &Matrix,
+    lines: &LineSet,
+    binary: bool,
+) -> Result<Reduction, Memory>
+    requires shape { IsMatrix matrix.now }
+    requires rows { AllBelow (height matrix.now) lines.now.rows }
+    requires columns { AllBelow matrix.now.width lines.now.columns }
+    ensures steps { IfOk result (λ reduction. reduction.steps ≡ (removal_on binary (entry matrix.now) (length lines.now.rows + length lines.now.columns) lines.now.rows lines.now.columns).steps) }
+    ensures rows { IfOk result (λ reduction. reduction.rest.rows ≡ (removal_on binary (entry matrix.now) (length lines.now.rows + length lines.now.columns) lines.now.rows lines.now.columns).rows) }
+    ensures columns { IfOk result (λ reduction. reduction.rest.columns ≡ (removal_on binary (entry matrix.now) (length lines.now.rows + length lines.now.columns) lines.now.rows lines.now.columns).columns) }
+{
+    let row_numbers = lines.rows.as_slice();
+    let column_numbers = lines.columns.as_slice();
+    let mut rows = Side::new(alloc, matrix, Kind::Rows, row_numbers, column_numbers)?;
+    let mut columns = Side::new(alloc, matrix, Kind::Columns, column_numbers, row_numbers)?;
+    let mut steps = StepList::new(alloc);
+    'steps: while let Some(step) = next_step(matrix, &mut rows, &mut columns, binary) {
+        steps.push(step)?;
+    }
+    let rest = LineSet {
+        rows: indices_of(alloc, &rows.stays)?,
+        columns: indices_of(alloc, &columns.stays)?,
+    };
+    Ok(Reduction { steps, rest })
+}
+
+// The next step of the stated order, which is made.
+fn next_step(matrix: &Matrix, rows: &mut Side, columns: &mut Side, binary: bool) -> Option<Step>
+    requires shape { IsMatrix matrix.now }
+    requires kind { rows.old.kind ≡ Rows }
+    requires paired { ArePaired binary matrix.now rows.old columns.old }
+    ensures kind { rows.new.kind ≡ Rows }
+    ensures paired { ArePaired binary matrix.now rows.new columns.new }
+    ensures step { MatchOption result
+        ((first_step binary (entry matrix.now) rows.old.stays.items columns.old.stays.items (lines_of rows.old.stays.items columns.old.stays.items) ≡ None)
+        × (rows.new.stays.items ≡ rows.old.stays.items) × (columns.new.stays.items ≡ columns.old.stays.items))
+        (λ step. (first_step binary (entry matrix.now) rows.old.stays.items columns.old.stays.items (lines_of rows.old.stays.items columns.old.stays.items) ≡ Some step)
+        × (rows.new.stays.items ≡ rows_without rows.old.stays.items step.line) × (columns.new.stays.items ≡ columns_without columns.old.stays.items step.line)) }
+{
+    match remove_first(matrix, rows, columns, binary) {
+        Some(step) => Some(step),
+        None => remove_first(matrix, columns, rows, binary),
+    }
+}
+
+// The first reducible line of one side goes.
+fn remove_first(matrix: &Matrix, own: &mut Side, across: &mut Side, binary: bool) -> Option<Step>
+    requires shape { IsMatrix matrix.now }
+    requires paired { ArePaired binary matrix.now own.old across.old }
+    ensures kind { own.new.kind ≡ own.old.kind }
+    ensures paired { ArePaired binary matrix.now own.new across.new }
+    ensures across { across.new.stays.items ≡ across.old.stays.items }
+    ensures named { IfSome result (λ step. step.line ≡ line_named own.old.kind (number_of step.line)) }
+    ensures step { MatchOption result
+        ((first_step_of binary (entry matrix.now) own.old.kind own.old.stays.items across.old.stays.items own.old.stays.items ≡ None) × (own.new.stays.items ≡ own.old.stays.items))
+        (λ step. (first_step_of binary (entry matrix.now) own.old.kind own.old.stays.items across.old.stays.items own.old.stays.items ≡ Some step)
+        × (own.new.stays.items ≡ without own.old.stays.items (number_of step.line))) }
+{
+    let found = own.first_reducible(matrix, &across.stays, binary)?;
+    let line = own.remove(found.place);
+    across.renew(matrix, line, found.reason, &own.stays, binary);
+    Some(Step {
+        line: own.kind.line(line),
+        reason: found.reason,
+    })
+}
+
+pub fn indices_of(alloc: Global, numbers: &[u32]) -> Result<Indices, Memory>
+    requires { IsStrictlyIncreasing numbers.now }
+    ensures { IfOk result (λ indices. indices ≡ numbers.now) }
+{
+    let mut indices = Indices::new(alloc);
+    for number in numbers {
+        indices.push(*number)?;
+    }
+    Ok(indices)
+}

@@ -1,0 +1,295 @@
+// The lines of one kind that stay, and what is known of each.
+ghost use Rattle.std.specs.Prelude.{IfOk, if◌then◌else◌, Bool, ◌≡◌, ◌<◌, ◌≤◌, ◌&&◌, ◌==◌, ◌^◌, not, neg_ℤ, length, slice_index, slice_get, find, Some, None, MatchOption};
+ghost use Rattle.std.specs.List.Sorted.{IsStrictlyIncreasing};
+ghost use Rattle.cmr_base.specs.Matrix.{entry, is_nonzero, IsMatrix};
+ghost use Rattle.cmr_base.specs.LineSets.{AllBelow};
+ghost use Rattle.cmr_base.specs.Reductions.{nonzeros_at, equal_at, first_equal};
+ghost use Rattle.sp_reduce.specs.Kinds.{size_of, cross_size, table, line_named, reason_for, is_twin};
+ghost use Rattle.sp_reduce.specs.Sides.{weight, weight_at, is_copy, is_negative, twin_reason, IsParallel, IsSide, IsAcross, IsCounted, IsSettled, IsFirst, first_step_of};
+
+use crate::kind::{Kind, are_equal, are_opposite, count_nonzeros, is_nonzero};
+use cmr_base::{Matrix, Memory, Reason};
+use std::alloc::Global;
+
+// Each line that stays has the count of its nonzeros in the crossing lines that stay, and the sum of the weights of
+// these crossing lines: lines with different sums are no twins. A settled line is known not to be reducible.
+#[derive(Debug, Drop)]
+pub struct Side {
+    pub kind: Kind,
+    pub stays: Vec<u32>,
+    pub counts: Vec<u32>,
+    pub sums: Vec<u64>,
+    pub settled: Vec<bool>,
+}
+
+// The first reducible line, by its place among those that stay.
+#[derive(Clone, Copy, Debug)]
+pub struct Found {
+    pub place: usize,
+    pub reason: Reason,
+}
+
+pub fn weight(number: u32) -> u64
+    requires { number < 1000 }
+    ensures value { result ≡ weight number }
+    ensures small { result ≤ 1000 ^ 5 }
+{
+    (u64::from(number) + 1).pow(5)
+}
+
+impl Side {
+    // Counts the nonzeros of some lines in some crossing lines.
+    pub fn new(
+        alloc: Global,
+        matrix: &Matrix,
+        kind: Kind,
+        stays: &[u32],
+        across: &[u32],
+    ) -> Result<Side, Memory>
+        requires shape { IsMatrix matrix.now }
+        requires stays_rise { IsStrictlyIncreasing stays.now }
+        requires stays_in { AllBelow (size_of matrix.now kind) stays.now }
+        requires across { IsAcross matrix.now kind across.now }
+        ensures kind { IfOk result (λ side. side.kind ≡ kind) }
+        ensures stays { IfOk result (λ side. side.stays.items ≡ stays.now) }
+        ensures side { IfOk result (IsSide matrix.now) }
+        ensures counted { IfOk result (λ side. IsCounted matrix.now side across.now) }
+        ensures settled { IfOk result (λ side. (binary : Bool) → IsSettled binary matrix.now side across.now) }
+    {
+        let mut counts = Vec::with_capacity(alloc, stays.len())?;
+        let mut sums = Vec::with_capacity(alloc, stays.len())?;
+        'lines: for line in stays {
+            counts.push(count_nonzeros(matrix, kind, *line, across) as u32)?;
+            sums.push(weigh(matrix, kind, *line, across))?;
+        }
+        Ok(Side {
+            kind,
+            stays: Vec::from_slice(alloc, stays)?,
+            counts,
+            sums,
+            settled: vec![in alloc; false; stays.len()]?,
+        })
+    }
+
+    // The first reducible line. Lines that are found not to be reducible are settled.
+    pub fn first_reducible(
+        &mut self,
+        matrix: &Matrix,
+        across: &[u32],
+        binary: bool,
+    ) -> Option<Found>
+        requires side { IsSide matrix.now self.old }
+        requires across { IsAcross matrix.now self.old.kind across.now }
+        requires counted { IsCounted matrix.now self.old across.now }
+        requires settled { IsSettled binary matrix.now self.old across.now }
+        ensures found { MatchOption result
+            (first_step_of binary (entry matrix.now) self.old.kind self.old.stays.items across.now self.old.stays.items ≡ None)
+            (IsFirst binary matrix.now self.old across.now) }
+        ensures same { self.new ≡ record self.old { settled = self.new.settled } }
+        ensures long { length self.new.settled.items ≡ length self.old.stays.items }
+        ensures settled { IsSettled binary matrix.now self.new across.now }
+    {
+        'places: for place in 0..self.stays.len() {
+            if let Some(reason) = self.examine(matrix, place, across, binary) {
+                return Some(Found { place, reason });
+            }
+        }
+        None
+    }
+
+    // Why the line at a place is reducible. It is settled where it is not.
+    fn examine(
+        &mut self,
+        matrix: &Matrix,
+        place: usize,
+        across: &[u32],
+        binary: bool,
+    ) -> Option<Reason>
+        requires side { IsSide matrix.now self.old }
+        requires across { IsAcross matrix.now self.old.kind across.now }
+        requires counted { IsCounted matrix.now self.old across.now }
+        requires settled { IsSettled binary matrix.now self.old across.now }
+        requires place { place < length self.old.stays.items }
+        ensures reason { result ≡ reason_for binary (entry matrix.now) self.old.kind self.old.stays.items across.now (slice_index self.old.stays.items place) }
+        ensures same { self.new ≡ record self.old { settled = self.new.settled } }
+        ensures long { length self.new.settled.items ≡ length self.old.stays.items }
+        ensures settled { IsSettled binary matrix.now self.new across.now }
+    {
+        if self.settled[place] {
+            return None;
+        }
+        let reason = self.reason(matrix, place, across, binary);
+        self.settled[place] = reason.is_none();
+        reason
+    }
+
+    fn reason(&self, matrix: &Matrix, place: usize, across: &[u32], binary: bool) -> Option<Reason>
+        requires side { IsSide matrix.now self.now }
+        requires across { IsAcross matrix.now self.now.kind across.now }
+        requires counted { IsCounted matrix.now self.now across.now }
+        requires place { place < length self.now.stays.items }
+        ensures { result ≡ reason_for binary (entry matrix.now) self.now.kind self.now.stays.items across.now (slice_index self.now.stays.items place) }
+    {
+        match self.counts[place] {
+            0 => Some(Reason::Zero),
+            1 => {
+                let other = first_nonzero(matrix, self.kind, self.stays[place], across)?;
+                Some(Reason::Unit(self.kind.crossing(other)))
+            }
+            _ => self.twin_reason(matrix, place, across, binary),
+        }
+    }
+
+    fn twin_reason(
+        &self,
+        matrix: &Matrix,
+        place: usize,
+        across: &[u32],
+        binary: bool,
+    ) -> Option<Reason>
+        requires side { IsSide matrix.now self.now }
+        requires across { IsAcross matrix.now self.now.kind across.now }
+        requires counted { IsCounted matrix.now self.now across.now }
+        requires place { place < length self.now.stays.items }
+        ensures { result ≡ twin_reason binary (entry matrix.now) self.now.kind self.now.stays.items across.now (slice_index self.now.stays.items place) }
+    {
+        if let Some(twin) = self.first_copy(matrix, place, across) {
+            return Some(Reason::Copy(self.kind.line(twin)));
+        }
+        if binary {
+            return None;
+        }
+        let twin = self.first_negative(matrix, place, across)?;
+        Some(Reason::Negative(self.kind.line(twin)))
+    }
+
+    fn first_copy(&self, matrix: &Matrix, place: usize, across: &[u32]) -> Option<u32>
+        requires side { IsSide matrix.now self.now }
+        requires across { IsAcross matrix.now self.now.kind across.now }
+        requires counted { IsCounted matrix.now self.now across.now }
+        requires place { place < length self.now.stays.items }
+        ensures { result ≡ find (is_copy (table (entry matrix.now) self.now.kind) across.now (slice_index self.now.stays.items place)) self.now.stays.items }
+    {
+        'places: for other in 0..self.stays.len() {
+            if self.is_copy(matrix, place, other, across) {
+                return Some(self.stays[other]);
+            }
+        }
+        None
+    }
+
+    fn first_negative(&self, matrix: &Matrix, place: usize, across: &[u32]) -> Option<u32>
+        requires side { IsSide matrix.now self.now }
+        requires across { IsAcross matrix.now self.now.kind across.now }
+        requires counted { IsCounted matrix.now self.now across.now }
+        requires place { place < length self.now.stays.items }
+        ensures { result ≡ find (is_negative (table (entry matrix.now) self.now.kind) across.now (slice_index self.now.stays.items place)) self.now.stays.items }
+    {
+        'places: for other in 0..self.stays.len() {
+            if self.is_negative(matrix, place, other, across) {
+                return Some(self.stays[other]);
+            }
+        }
+        None
+    }
+
+    pub fn are_twins(
+        &self,
+        matrix: &Matrix,
+        place: usize,
+        other: usize,
+        across: &[u32],
+        binary: bool,
+    ) -> bool
+        requires side { IsSide matrix.now self.now }
+        requires across { IsAcross matrix.now self.now.kind across.now }
+        requires counted { IsCounted matrix.now self.now across.now }
+        requires place { place < length self.now.stays.items }
+        requires other { other < length self.now.stays.items }
+        ensures { result ≡ is_twin binary (table (entry matrix.now) self.now.kind) across.now (slice_index self.now.stays.items place) (slice_index self.now.stays.items other) }
+    {
+        self.is_copy(matrix, place, other, across)
+            || !binary && self.is_negative(matrix, place, other, across)
+    }
+
+    // Whether the lines at two places are not one, and have one sum.
+    fn may_be_twins(&self, place: usize, other: usize) -> bool
+        requires parallel { IsParallel self.now }
+        requires place { place < length self.now.stays.items }
+        requires other { other < length self.now.stays.items }
+        ensures { result ≡ (not (slice_index self.now.stays.items other == slice_index self.now.stays.items place) && slice_index self.now.sums.items other == slice_index self.now.sums.items place) }
+    {
+        self.stays[other] != self.stays[place] && self.sums[other] == self.sums[place]
+    }
+
+    fn is_copy(&self, matrix: &Matrix, place: usize, other: usize, across: &[u32]) -> bool
+        requires side { IsSide matrix.now self.now }
+        requires across { IsAcross matrix.now self.now.kind across.now }
+        requires counted { IsCounted matrix.now self.now across.now }
+        requires place { place < length self.now.stays.items }
+        requires other { other < length self.now.stays.items }
+        ensures { result ≡ is_copy (table (entry matrix.now) self.now.kind) across.now (slice_index self.now.stays.items place) (slice_index self.now.stays.items other) }
+    {
+        self.may_be_twins(place, other)
+            && are_equal(
+                matrix,
+                self.kind,
+                self.stays[place],
+                self.stays[other],
+                across,
+            )
+    }
+
+    fn is_negative(&self, matrix: &Matrix, place: usize, other: usize, across: &[u32]) -> bool
+        requires side { IsSide matrix.now self.now }
+        requires across { IsAcross matrix.now self.now.kind across.now }
+        requires counted { IsCounted matrix.now self.now across.now }
+        requires place { place < length self.now.stays.items }
+        requires other { other < length self.now.stays.items }
+        ensures { result ≡ is_negative (table (entry matrix.now) self.now.kind) across.now (slice_index self.now.stays.items place) (slice_index self.now.stays.items other) }
+    {
+        self.may_be_twins(place, other)
+            && are_opposite(
+                matrix,
+                self.kind,
+                self.stays[place],
+                self.stays[other],
+                across,
+            )
+    }
+}
+
+// The weights of the crossing lines in which the line has a nonzero.
+fn weigh(matrix: &Matrix, kind: Kind, line: u32, across: &[u32]) -> u64
+    requires shape { IsMatrix matrix.now }
+    requires line { line < size_of matrix.now kind }
+    requires across { IsAcross matrix.now kind across.now }
+    ensures { result ≡ weight_at across.now (table (entry matrix.now) kind line) }
+{
+    let mut sum = 0;
+    'others: for other in across {
+        sum += weight_if(is_nonzero(matrix, kind, line, *other), *other);
+    }
+    sum
+}
+
+fn weight_if(counts: bool, number: u32) -> u64
+    requires { number < 1000 }
+    ensures value { result ≡ (if counts then weight number else 0) }
+    ensures small { result ≤ 1000 ^ 5 }
+{
+    if counts { weight(number) } else { 0 }
+}
+
+fn first_nonzero(matrix: &Matrix, kind: Kind, line: u32, across: &[u32]) -> Option<u32>
+    requires line { line < size_of matrix.now kind }
+    requires across { AllBelow (cross_size matrix.now kind) across.now }
+    ensures { result ≡ find (λ other. is_nonzero (table (entry matrix.now) kind line other)) across.now }
+{
+    'others: for other in across {
+        if is_nonzero(matrix, kind, line, *other) {
+            return Some(*other);
+        }
+    }
+    None
+}
