@@ -1,113 +1,197 @@
--- The first fault.
-use Rattle.std.proofs.Common.{ℕ, ◌+◌, List, ◌≡◌, ◌<◌, ◌≤◌, pos, Bool, true, false, get_or, Option, Some, None, MatchOption, ◌⊎◌, inl, inr, ◌∙◌, sym, refl, arith, subst}
+-- What a walk says of places and of faults.
+use Rattle.std.proofs.Common.{ℕ, zero, suc, ◌+◌, List, [], ◌∷◌, ◌++◌, ◌≡◌, ◌≢◌, ◌<◌, ℤ, pos, ◌+ℤ◌, Bool, true, length, get_or, reverse, Option, Some, MatchOption, ◌⊎◌, inl, inr, ◌∙◌, sym, ap, refl, arith, subst, append_assoc}
 use Rattle.std.proofs.lemmas.Bool.{cases_lt}
-use Rattle.cmr_base.specs.Matrix.{Matrix, entry}
-use Rattle.cmr_base.specs.CyclePlaces.{IsCyclePlace, IsFaultAt}
-use Rattle.camion_sign.proofs.Descent.{place_unique}
-use Rattle.camion_sign.proofs.Tests.{true_is_false}
-use Rattle.camion_sign.specs.State.{far_at, AreDistances, HasNoFaultAt, IsLeastBelow, IsBest}
-use Rattle.camion_sign.specs.declared.search.Fault.{Fault}
-use Rattle.camion_sign.proofs.Reach.{any_default}
+use Rattle.std.proofs.lemmas.List.{reverse-append}
+use Rattle.cmr_base.specs.Matrix.{Matrix, entry, IsEntry}
+use Rattle.cmr_base.specs.CyclePlaces.{IsPath, IsNotAfter, IsCyclePlace, IsFaultAt, cycle_rows, cycle_columns, path_sum}
+use Rattle.cmr_base.specs.Sums.{sum_over, IsTwoModFour}
+use Rattle.cmr_base.proofs.Integers.{sums}
+use Rattle.ghouila.proofs.Routes.{route, place_sum}
+use Rattle.camion_sign.specs.declared.walk.Step.{Step}
+use Rattle.camion_sign.specs.declared.walk.Walk.{Walk}
+use Rattle.camion_sign.specs.declared.fault.Fault.{Fault}
+use Rattle.camion_sign.specs.Trails.{IsUpTo, IsTrail, trail_sum}
+use Rattle.camion_sign.specs.Walks.{HasWalked, TwoIf, flip, step_at, place_in}
+use Rattle.camion_sign.specs.Faults.{HasNoFaultAt, IsColumnFault, IsFirstFault}
+use Rattle.camion_sign.proofs.Trails.{not_after, path_trail, trail_path}
+use Rattle.camion_sign.proofs.Walks.{two_add}
+use Rattle.camion_sign.proofs.EntryTests.{two_not}
+use Rattle.camion_sign.proofs.Steps.{any_default, step_is}
 
--- one more column
-pub none_more : (m : Matrix) (t d x : ℕ) → ((y : ℕ) → y < x → HasNoFaultAt m t y d) → HasNoFaultAt m t x d → (y : ℕ) → y < x + 1 → HasNoFaultAt m t y d
-none_more m t d x before here y l = elim (cases_lt y x) [
+-- the path of a place is the only one
+same_list : (p q : List ℕ) → length p ≡ length q → IsNotAfter p q → IsNotAfter q p → p ≡ q
+same_list [] [] e a b = refl
+same_list [] (y ∷ ys) e a b = absurd (omega arith)
+same_list (x ∷ xs) [] e a b = absurd (omega arith)
+same_list (x ∷ xs) (y ∷ ys) e a b = go a b (λ f g. same_list xs ys (omega arith) f g)
+  where
+    go : (x < y) ⊎ ((x ≡ y) × IsNotAfter xs ys) → (y < x) ⊎ ((y ≡ x) × IsNotAfter ys xs) → (IsNotAfter xs ys → IsNotAfter ys xs → xs ≡ ys) → x ∷ xs ≡ y ∷ ys
+    go (inl l) (inl m) k = absurd (omega arith)
+    go (inl l) (inr (q, g)) k = absurd (omega arith)
+    go (inr (q, f)) (inl m) k = absurd (omega arith)
+    go (inr (q, f)) (inr (s, g)) k = ap (λ (v : ℕ). v ∷ xs) q ∙ ap (λ (vs : List ℕ). y ∷ vs) (k f g)
+
+pub place_unique : (M : ℕ → ℕ → ℤ) (t c d : ℕ) (p q : List ℕ) → IsCyclePlace M t c d p → IsCyclePlace M t c d q → p ≡ q
+place_unique M t c d p q a b = go (a.least q b.is_path) (b.least p a.is_path)
+  where
+    go : (length p < length q) ⊎ ((length p ≡ length q) × IsNotAfter p q) → (length q < length p) ⊎ ((length q ≡ length p) × IsNotAfter q p) → p ≡ q
+    go (inl l) (inl m) = absurd (omega arith)
+    go (inl l) (inr m) = absurd (let e = m.0 in omega arith)
+    go (inr l) (inl m) = absurd (let e = l.0 in omega arith)
+    go (inr l) (inr m) = same_list p q l.0 l.1 m.1
+
+module _ (m : Matrix) (t c d : ℕ) (walk : Walk) (w : HasWalked m t c walk) (order : c < d) (met : place_in walk.places.items d < 4294967295) where
+  -- the step by which column d was reached is not the first
+  pub later_step : 0 < place_in walk.places.items d
+  later_step = positive (place_in walk.places.items d) refl
+    where
+      positive : (j : ℕ) → place_in walk.places.items d ≡ j → 0 < j
+      positive zero e = absurd (let a = ap (λ (j : ℕ). (step_at walk.steps.items j).column) e in let b = w.queue.first in let v = (w.queue.listed d met).1 in omega arith)
+      positive (suc j) e = omega arith
+
+  -- the trail to column d ends with the row of that step, and d
+  pub key_is : (key : List ℕ) → key ≡ w.key (step_at walk.steps.items (place_in walk.places.items d)).before → w.key (place_in walk.places.items d) ≡ (key ++ (step_at walk.steps.items (place_in walk.places.items d)).row ∷ []) ++ d ∷ []
+  key_is key e =
+      w.queue.parent (place_in walk.places.items d) later_step (w.queue.listed d met).0
+      ∙ ap (λ (x : ℕ). w.key (step_at walk.steps.items (place_in walk.places.items d)).before ++ (step_at walk.steps.items (place_in walk.places.items d)).row ∷ x ∷ []) (w.queue.listed d met).1
+      ∙ ap (λ (k : List ℕ). k ++ (step_at walk.steps.items (place_in walk.places.items d)).row ∷ d ∷ []) (sym e)
+      ∙ sym (append_assoc key ((step_at walk.steps.items (place_in walk.places.items d)).row ∷ []) (d ∷ []))
+
+  module _ (first : entry m t c ≢ pos 0) (last : entry m t d ≢ pos 0) (lines : List ℕ) (lines_are : w.key (place_in walk.places.items d) ≡ lines ++ d ∷ []) where
+    path : IsPath (entry m) t c d lines × (trail_sum (entry m) c (lines ++ d ∷ []) ≡ path_sum (entry m) c d lines)
+    path = trail_path (entry m) t c d lines (subst (IsTrail (entry m) t c) lines_are (w.queue.trail (place_in walk.places.items d) (w.queue.listed d met).0))
+
+    pub is_place : IsCyclePlace (entry m) t c d lines
+    is_place = record {
+      order = order;
+      first = first;
+      last = last;
+      is_path = path.0;
+      least = λ other h. let v = path_trail (entry m) t c d other h in
+          not_after lines other d (subst (λ (k : List ℕ). IsUpTo k (other ++ d ∷ [])) lines_are (w.least d (other ++ d ∷ []) met v.0 v.1));
+    }
+
+    -- whether its cycle has the sum 2 modulo 4
+    pub is_fault_if : (same : Bool) → TwoIf same (entry m t c +ℤ entry m t d)
+        → ((flip (step_at walk.steps.items (place_in walk.places.items d)).is_two same ≡ true) → IsFaultAt (entry m) t c d lines) × (IsFaultAt (entry m) t c d lines → flip (step_at walk.steps.items (place_in walk.places.items d)).is_two same ≡ true)
+    is_fault_if same two = (
+      (λ f. record { place = is_place; two_mod_four = subst IsTwoModFour (sym sum) (subst (λ (b : Bool). TwoIf b (trail_sum (entry m) c (lines ++ d ∷ []) +ℤ (entry m t c +ℤ entry m t d))) f whole) }),
+      (λ f. two_not (trail_sum (entry m) c (lines ++ d ∷ []) +ℤ (entry m t c +ℤ entry m t d)) (flip (step_at walk.steps.items (place_in walk.places.items d)).is_two same) whole (subst IsTwoModFour sum f.two_mod_four)),
+    )
+      where
+        small : (i j : ℕ) → IsEntry (entry m i j)
+        small i j = w.fits.matrix.small i j
+
+        plain : (a b s : ℤ) → s ≡ b → a +ℤ b ≡ s +ℤ a
+        plain a b s e = omega (arith, sums)
+
+        sum : sum_over (cycle_rows t lines) (λ i. sum_over (cycle_columns c d lines) (λ j. entry m i j)) ≡ trail_sum (entry m) c (lines ++ d ∷ []) +ℤ (entry m t c +ℤ entry m t d)
+        sum = place_sum (entry m) small t c d lines is_place (route (entry m) small t c d lines path.0)
+            ∙ plain (entry m t c +ℤ entry m t d) (path_sum (entry m) c d lines) (trail_sum (entry m) c (lines ++ d ∷ [])) path.1
+
+        whole : TwoIf (flip (step_at walk.steps.items (place_in walk.places.items d)).is_two same) (trail_sum (entry m) c (lines ++ d ∷ []) +ℤ (entry m t c +ℤ entry m t d))
+        whole = two_add (step_at walk.steps.items (place_in walk.places.items d)).is_two same (trail_sum (entry m) c (lines ++ d ∷ [])) (entry m t c +ℤ entry m t d)
+            (subst (λ (k : List ℕ). TwoIf (step_at walk.steps.items (place_in walk.places.items d)).is_two (trail_sum (entry m) c k)) lines_are (w.queue.sums (place_in walk.places.items d) (w.queue.listed d met).0)) two
+
+  -- the same, without the lines
+  pub fault_if : entry m t c ≢ pos 0 → entry m t d ≢ pos 0 → (same : Bool) → TwoIf same (entry m t c +ℤ entry m t d)
+      → ((flip (step_at walk.steps.items (place_in walk.places.items d)).is_two same ≡ true) → (lines : List ℕ) × IsFaultAt (entry m) t c d lines) × ((lines : List ℕ) × IsFaultAt (entry m) t c d lines → flip (step_at walk.steps.items (place_in walk.places.items d)).is_two same ≡ true)
+  fault_if first last same two =
+      let lines = w.key (step_at walk.steps.items (place_in walk.places.items d)).before ++ (step_at walk.steps.items (place_in walk.places.items d)).row ∷ [] in
+      let k = key_is (w.key (step_at walk.steps.items (place_in walk.places.items d)).before) refl in
+      let v = is_fault_if first last lines k same two in (
+        (λ f. (lines, v.0 f)),
+        (λ f. v.1 (subst (IsFaultAt (entry m) t c d) (place_unique (entry m) t c d f.0 lines f.1.place (is_place first last lines k)) f.1)),
+      )
+
+-- a place whose row is 0 in one of its columns has no fault, nor has one that no path makes
+pub none_zero : (m : Matrix) (t c d : ℕ) → entry m t d ≡ pos 0 → HasNoFaultAt m t c d
+none_zero m t c d z lines f = f.place.last z
+
+pub none_order : (m : Matrix) (t c d : ℕ) → d < c + 1 → HasNoFaultAt m t c d
+none_order m t c d l lines f = let o = f.place.order in omega arith
+
+pub none_unmet : (m : Matrix) (t c d : ℕ) (walk : Walk) → HasWalked m t c walk → place_in walk.places.items d ≡ 4294967295 → HasNoFaultAt m t c d
+none_unmet m t c d walk w e lines f = w.none d lines f.place.order f.place.last e f.place.is_path
+
+pub column_fault : (m : Matrix) (t c d : ℕ) (lines : List ℕ) → (path : List ℕ) × IsFaultAt (entry m) t c d path → IsCyclePlace (entry m) t c d lines → ((y : ℕ) → y < d → HasNoFaultAt m t c y) → IsColumnFault m t c d lines
+column_fault m t c d lines f place none = record { fault = subst (IsFaultAt (entry m) t c d) (place_unique (entry m) t c d f.0 lines f.1.place place) f.1; least = none }
+
+-- ---- one more column, or row
+
+pub one_more_last : (m : Matrix) (t c d : ℕ) → ((y : ℕ) → y < d → HasNoFaultAt m t c y) → HasNoFaultAt m t c d → (y : ℕ) → y < d + 1 → HasNoFaultAt m t c y
+one_more_last m t c d before here y l = elim (cases_lt y d) [
   | inl lt ↦ before y lt
-  | inr ge ↦ let q : x ≡ y = omega arith in subst (λ (z : ℕ). HasNoFaultAt m t z d) q here
+  | inr ge ↦ let q : d ≡ y = omega arith in subst (HasNoFaultAt m t c) q here
 ]
 
-pub none_zero : (m : Matrix) (t c d : ℕ) → entry m t c ≡ pos 0 → HasNoFaultAt m t c d
-none_zero m t c d z path f = f.place.first z
-
-pub none_far : (m : Matrix) (t c d f : ℕ) (far : List ℕ) → AreDistances m t d far → c < m.width → f ≡ get_or far c f → f ≡ 4294967295 → HasNoFaultAt m t c d
-none_far m t c d f far a l f_is f_top path g =
-    let r = a.reached c path g.place.is_path in
-    let e : far_at far c ≡ f = any_default far c 4294967295 f (let s = a.size in omega arith) ∙ sym f_is in omega arith
-
-pub none_path : (m : Matrix) (t c d : ℕ) (lines : List ℕ) (b : Bool) → IsCyclePlace (entry m) t c d lines → ((b ≡ true) → IsFaultAt (entry m) t c d lines) × (IsFaultAt (entry m) t c d lines → b ≡ true) → b ≡ false → HasNoFaultAt m t c d
-none_path m t c d lines b p iff e path f =
-    let same = place_unique (entry m) t c d path lines f.place p in
-    true_is_false (sym (iff.1 (subst (IsFaultAt (entry m) t c d) same f)) ∙ e)
-
-order_of : (m : Matrix) (t c d : ℕ) → d ≤ c → HasNoFaultAt m t c d
-order_of m t c d l path f = let o = f.place.order in omega arith
-
--- column d adds no fault before end
-pub row_limit : (m : Matrix) (t d end : ℕ) (best next : Option Fault) → next ≡ best → IsBest m t d best → MatchOption best (end ≡ d) (λ f. (end ≤ d) × (end ≤ f.first) × ((end ≡ d) ⊎ (end ≡ f.first)))
-    → ((x : ℕ) → x < end → HasNoFaultAt m t x d) → IsBest m t (d + 1) next
-row_limit m t d end best next e w l none = subst (IsBest m t (d + 1)) (sym e) (go best w l)
+-- the first fault of the first row with one
+pub first_of_rows : (m : Matrix) (t : ℕ) (found : Option Fault) (f : Fault) → found ≡ Some f → ((r x y : ℕ) → r < t → HasNoFaultAt m r x y)
+    → MatchOption found ((x y : ℕ) → HasNoFaultAt m t x y) (λ f. (f.row ≡ t) × IsColumnFault m t f.first f.last f.lines.items × ((x y : ℕ) → x < f.first → HasNoFaultAt m t x y)) → IsFirstFault m f.row f.first f.last f.lines.items
+first_of_rows m t found f is before h = go (subst (λ (o : Option Fault). MatchOption o ((x y : ℕ) → HasNoFaultAt m t x y) (λ f. (f.row ≡ t) × IsColumnFault m t f.first f.last f.lines.items × ((x y : ℕ) → x < f.first → HasNoFaultAt m t x y))) is h)
   where
-    go : (best : Option Fault) → IsBest m t d best → MatchOption best (end ≡ d) (λ f. (end ≤ d) × (end ≤ f.first) × ((end ≡ d) ⊎ (end ≡ f.first))) → IsBest m t (d + 1) best
-    go None w l = λ x y k. elim (cases_lt y d) [
-      | inl lt ↦ w x y lt
-      | inr ge ↦ let q : d ≡ y = omega arith in subst (λ (z : ℕ). HasNoFaultAt m t x z) q (elim (cases_lt x d) [ inl lt ↦ none x (omega arith) | inr ge' ↦ order_of m t x d ge' ])
-    ]
-    go (Some f) (r, w) l = (
-      r,
-      record {
-        low = let a = w.low in omega arith;
-        fault = w.fault;
-        first = λ x y k b. elim (cases_lt y d) [
-          | inl lt ↦ w.first x y lt b
-          | inr ge ↦ let q : d ≡ y = omega arith in subst (λ (z : ℕ). HasNoFaultAt m t x z) q (elim b [
-            | inl lt ↦ elim l.2 [
-              | inl a ↦ elim (cases_lt x d) [ inl k' ↦ none x (omega arith) | inr ge' ↦ order_of m t x d ge' ]
-              | inr a ↦ none x (omega arith)
-            ]
-            | inr p ↦ absurd (let a = w.low in let z = p.1 in omega arith)
-          ])
-        ];
-      },
-    )
+    go : (f.row ≡ t) × IsColumnFault m t f.first f.last f.lines.items × ((x y : ℕ) → x < f.first → HasNoFaultAt m t x y) → IsFirstFault m f.row f.first f.last f.lines.items
+    go (row, fault, none) = rw row (record {
+      fault = fault.fault;
+      first = λ r x y e. elim e [
+        | inl l ↦ before r x y l
+        | inr p ↦ subst (λ (z : ℕ). HasNoFaultAt m z x y) (sym p.0) (elim p.1 [
+          | inl l ↦ none x y l
+          | inr q ↦ subst (λ (z : ℕ). HasNoFaultAt m t z y) (sym q.0) (fault.least y q.1)
+        ])
+      ];
+    })
 
-pub row_zero : (m : Matrix) (t d : ℕ) (best next : Option Fault) → next ≡ best → IsBest m t d best → entry m t d ≡ pos 0 → IsBest m t (d + 1) next
-row_zero m t d best next e w z = subst (IsBest m t (d + 1)) (sym e) (go best w)
+-- ---- what was read of a walk
+
+pub is_met : (m : Matrix) (t c d : ℕ) (walk : Walk) (place : ℕ) → HasWalked m t c walk → d < m.width → place ≡ get_or walk.places.items d place → place ≢ 4294967295 → place_in walk.places.items d < 4294967295
+is_met m t c d walk place w l e other =
+    let a = any_default walk.places.items d place 4294967295 (let f = w.fits.places in omega arith) in
+    let b = w.queue.topped d in omega arith
+
+pub met_step : (m : Matrix) (t c d : ℕ) (walk : Walk) (place : ℕ) (step : Step) → HasWalked m t c walk → d < m.width → place ≡ get_or walk.places.items d place → place_in walk.places.items d < 4294967295 → step ≡ get_or walk.steps.items place step
+    → step_at walk.steps.items (place_in walk.places.items d) ≡ step
+met_step m t c d walk place step w l e met f =
+    let a : place_in walk.places.items d ≡ place = any_default walk.places.items d 4294967295 place (let g = w.fits.places in omega arith) ∙ sym e in
+    ap (step_at walk.steps.items) a ∙ step_is walk.steps.items place step (let b = (w.queue.listed d met).0 in omega arith) f
+
+-- ---- the path, backwards
+
+pub begin_back : (m : Matrix) (t c d : ℕ) (walk : Walk) (step : Step) (lines : List ℕ) → c < d → place_in walk.places.items d < 4294967295 → step_at walk.steps.items (place_in walk.places.items d) ≡ step → lines ≡ step.row ∷ []
+    → (w : HasWalked m t c walk) → w.key (place_in walk.places.items d) ≡ w.key step.before ++ (reverse lines ++ d ∷ [])
+begin_back m t c d walk step lines order met e f w =
+    key_is m t c d walk w order met (w.key (step_at walk.steps.items (place_in walk.places.items d)).before) refl
+    ∙ ap (λ (s : Step). (w.key s.before ++ s.row ∷ []) ++ d ∷ []) e
+    ∙ append_assoc (w.key step.before) (step.row ∷ []) (d ∷ [])
+    ∙ ap (λ (v : List ℕ). w.key step.before ++ (reverse v ++ d ∷ [])) (sym f)
+
+pub before_in : (m : Matrix) (t c d : ℕ) (walk : Walk) (step : Step) → HasWalked m t c walk → c < d → place_in walk.places.items d < 4294967295 → step_at walk.steps.items (place_in walk.places.items d) ≡ step → step.before < length walk.steps.items
+before_in m t c d walk step w order met e =
+    let a = w.queue.earlier (place_in walk.places.items d) (later_step m t c d walk w order met) (w.queue.listed d met).0 in
+    let b = ap (λ (s : Step). s.before) e in let k = (w.queue.listed d met).0 in omega arith
+
+pub earlier_place : (m : Matrix) (t c : ℕ) (walk : Walk) (place : ℕ) (step : Step) → HasWalked m t c walk → place ≢ 0 → place < length walk.steps.items → step ≡ get_or walk.steps.items place step → step.before < place
+earlier_place m t c walk place step w other l e =
+    let a = w.queue.earlier place (positive place other) l in
+    let b = ap (λ (s : Step). s.before) (step_is walk.steps.items place step l e) in omega arith
   where
-    here : (x : ℕ) → HasNoFaultAt m t x d
-    here x path f = f.place.last z
+    positive : (n : ℕ) → n ≢ 0 → 0 < n
+    positive n h = omega arith
 
-    go : (best : Option Fault) → IsBest m t d best → IsBest m t (d + 1) best
-    go None w = λ x y k. elim (cases_lt y d) [
-      | inl lt ↦ w x y lt
-      | inr ge ↦ let q : d ≡ y = omega arith in subst (λ (v : ℕ). HasNoFaultAt m t x v) q (here x)
-    ]
-    go (Some f) (r, w) = (
-      r,
-      record {
-        low = let a = w.low in omega arith;
-        fault = w.fault;
-        first = λ x y k b. elim (cases_lt y d) [
-          | inl lt ↦ w.first x y lt b
-          | inr ge ↦ let q : d ≡ y = omega arith in subst (λ (v : ℕ). HasNoFaultAt m t x v) q (here x)
-        ];
-      },
-    )
-
--- a fault found before end is the best
-pub row_found : (m : Matrix) (t d end : ℕ) (best next : Option Fault) (f : Fault) → next ≡ Some f → IsBest m t d best → MatchOption best (end ≡ d) (λ f. (end ≤ d) × (end ≤ f.first) × ((end ≡ d) ⊎ (end ≡ f.first)))
-    → (f.row ≡ t) × (f.last ≡ d) × IsLeastBelow m t d end f.first f.lines.items → IsBest m t (d + 1) next
-row_found m t d end best next f e w l (r, last, g) = subst (IsBest m t (d + 1)) (sym e) (
-  r,
-  record {
-    low = omega arith;
-    fault = subst (λ (z : ℕ). IsFaultAt (entry m) t f.first z f.lines.items) (sym last) g.fault;
-    first = λ x y k b. elim (cases_lt y d) [
-      | inl lt ↦ go best w l x y lt b
-      | inr ge ↦ let q : d ≡ y = omega arith in subst (λ (z : ℕ). HasNoFaultAt m t x z) q (elim b [ inl lt ↦ g.least x lt | inr p ↦ absurd (let a = p.1 in omega arith) ])
-    ];
-  },
-)
+pub go_back : (m : Matrix) (t c d : ℕ) (walk : Walk) (place : ℕ) (step : Step) (lines more : List ℕ) → place ≢ 0 → place < length walk.steps.items → step ≡ get_or walk.steps.items place step → more ≡ (lines ++ step.column ∷ []) ++ step.row ∷ []
+    → ((w : HasWalked m t c walk) → w.key (place_in walk.places.items d) ≡ w.key place ++ (reverse lines ++ d ∷ []))
+    → (w : HasWalked m t c walk) → w.key (place_in walk.places.items d) ≡ w.key step.before ++ (reverse more ++ d ∷ [])
+go_back m t c d walk place step lines more other l e f before w =
+    before w
+    ∙ ap (λ (k : List ℕ). k ++ (reverse lines ++ d ∷ [])) (w.queue.parent place (positive place other) l ∙ ap (λ (s : Step). w.key s.before ++ s.row ∷ s.column ∷ []) (step_is walk.steps.items place step l e))
+    ∙ append_assoc (w.key step.before) (step.row ∷ step.column ∷ []) (reverse lines ++ d ∷ [])
+    ∙ ap (λ (v : List ℕ). w.key step.before ++ (v ++ d ∷ [])) (sym (ap reverse f ∙ reverse-append (lines ++ step.column ∷ []) (step.row ∷ []) ∙ ap (λ (v : List ℕ). step.row ∷ v) (reverse-append lines (step.column ∷ []))))
   where
-    go : (best : Option Fault) → IsBest m t d best → MatchOption best (end ≡ d) (λ f. (end ≤ d) × (end ≤ f.first) × ((end ≡ d) ⊎ (end ≡ f.first))) → (x y : ℕ) → y < d → (x < f.first) ⊎ ((x ≡ f.first) × (y < f.last)) → HasNoFaultAt m t x y
-    go None w l x y k b = w x y k
-    go (Some h) (r, w) l x y k b = w.first x y k (inl (let low = g.low in let s = l.1 in elim b [ inl lt ↦ omega arith | inr p ↦ let a = p.0 in omega arith ]))
+    positive : (n : ℕ) → n ≢ 0 → 0 < n
+    positive n h = omega arith
 
--- what `fault_below` says of what it gave
-pub from_some : (m : Matrix) (t d end : ℕ) (o : Option Fault) (f : Fault) → o ≡ Some f → MatchOption o ((x : ℕ) → x < end → HasNoFaultAt m t x d) (λ f. (f.row ≡ t) × (f.last ≡ d) × IsLeastBelow m t d end f.first f.lines.items)
-    → (f.row ≡ t) × (f.last ≡ d) × IsLeastBelow m t d end f.first f.lines.items
-from_some m t d end o f e h = subst (λ (x : Option Fault). MatchOption x ((x : ℕ) → x < end → HasNoFaultAt m t x d) (λ f. (f.row ≡ t) × (f.last ≡ d) × IsLeastBelow m t d end f.first f.lines.items)) e h
-
-pub from_none : (m : Matrix) (t d end : ℕ) (o : Option Fault) → ((f : Fault) → o ≡ Some f → ⊥) → MatchOption o ((x : ℕ) → x < end → HasNoFaultAt m t x d) (λ f. (f.row ≡ t) × (f.last ≡ d) × IsLeastBelow m t d end f.first f.lines.items)
-    → (x : ℕ) → x < end → HasNoFaultAt m t x d
-from_none m t d end None e h = h
-from_none m t d end (Some f) e h = absurd (e f refl)
+pub path_back : (m : Matrix) (t c d : ℕ) (walk : Walk) (place : ℕ) (lines path : List ℕ) → HasWalked m t c walk → c < d → place_in walk.places.items d < 4294967295 → entry m t c ≢ pos 0 → entry m t d ≢ pos 0 → place ≡ 0 → path ≡ reverse lines
+    → ((w : HasWalked m t c walk) → w.key (place_in walk.places.items d) ≡ w.key place ++ (reverse lines ++ d ∷ [])) → IsCyclePlace (entry m) t c d path
+path_back m t c d walk place lines path w order met first last z e k =
+    is_place m t c d walk w order met first last path
+    (k w ∙ ap (λ (v : List ℕ). v ++ (reverse lines ++ d ∷ [])) (ap w.key z ∙ w.queue.start) ∙ ap (λ (v : List ℕ). v ++ d ∷ []) (sym e))

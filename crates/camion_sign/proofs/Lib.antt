@@ -1,10 +1,11 @@
 pub mod FullSquares
-pub mod Tests
-pub mod Breadth
-pub mod Descent
-pub mod Reach
-pub mod Spread
-pub mod Nearer
+pub mod Comparisons
+pub mod LineCuts
+pub mod NonzeroLists
+pub mod Trails
+pub mod Walks
+pub mod Steps
+pub mod EntryTests
 pub mod FirstFaults
 pub mod LineLists
 pub mod FaultViolator

@@ -4,10 +4,10 @@ use Rattle.std.proofs.lemmas.Bool.{cases_eq}
 use Rattle.cmr_base.proofs.Members.{in-append, in_at, increasing-append}
 use Rattle.cmr_base.specs.Matrix.{Matrix, height, entry, IsMatrix}
 use Rattle.cmr_base.specs.Members.{IsIn}
-use Rattle.camion_sign.specs.declared.search.Fault.{Fault}
+use Rattle.camion_sign.specs.declared.fault.Fault.{Fault}
 use Rattle.cmr_base.specs.CyclePlaces.{HasNoCycleFault, IsPath, IsCycleFault, path_rows, path_columns, cycle_rows, cycle_columns}
-use Rattle.camion_sign.specs.State.{IsBuilt, IsFirstFault}
-use Rattle.camion_sign.proofs.Reach.{within}
+use Rattle.camion_sign.specs.Faults.{IsBuilt, IsFirstFault}
+use Rattle.camion_sign.proofs.Steps.{within}
 use Rattle.ghouila.proofs.SignsUnique.{row_in}
 
 pub in_rows_first : (xs : List ℕ) (x : ℕ) → 0 < length xs → get_or xs 0 0 ≡ x → IsIn x (path_rows xs)

@@ -1,3 +1,7 @@
-pub mod Distances
-pub mod State
+pub mod Nonzeros
+pub mod NonzerosView
+pub mod SupportView
+pub mod Trails
+pub mod Walks
+pub mod Faults
 pub mod Laws

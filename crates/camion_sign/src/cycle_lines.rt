@@ -4,12 +4,9 @@ ghost use Rattle.cmr_base.specs.Matrix.{height, entry};
 ghost use Rattle.cmr_base.specs.Members.{IsIn};
 ghost use Rattle.cmr_base.specs.CyclePlaces.{HasNoCycleFault, IsCycleFault, path_rows, path_columns, cycle_rows, cycle_columns};
 ghost use Rattle.cmr_base.specs.Violator.{IsViolator};
-ghost use Rattle.camion_sign.specs.State.{IsBuilt};
+ghost use Rattle.camion_sign.specs.Faults.{IsBuilt};
 
-#[cfg(test)]
-mod tests;
-
-use crate::search::first_fault;
+use crate::fault::first_fault;
 use cmr_base::{Indices, LineSet, Matrix, Memory};
 use std::alloc::Global;
 

@@ -2,9 +2,13 @@
 #![tactic(auto)]
 
 mod cycle_lines;
-mod distances;
+mod fault;
 pub mod laws;
-mod least_path;
-mod search;
+mod nonzeros;
+mod reach;
+mod support;
+#[cfg(test)]
+mod tests;
+mod walk;
 
 pub use cycle_lines::cycle_fault;

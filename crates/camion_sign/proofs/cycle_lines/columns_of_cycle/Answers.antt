@@ -1,7 +1,7 @@
 use Rattle.std.proofs.Common.{inl, inr, ◌∙◌, sym}
 use Rattle.cmr_base.specs.Members.{IsIn}
 use Rattle.cmr_base.specs.CyclePlaces.{cycle_columns}
-use Rattle.camion_sign.proofs.Tests.{true_is_false}
+use Rattle.camion_sign.proofs.Comparisons.{true_is_false}
 use Rattle.camion_sign.proofs.LineLists.{above, pushed, passed_by, built_to}
 use Rattle.camion_sign.proofs.cycle_lines.columns_of_cycle.Goals as goal
 use Rattle.camion_sign.proofs.cycle_lines.columns_of_cycle.Goals.{then-x-c+in_ok-push, then-x-c-via-then-x-c, then-x-c-via-else-x-c+then-x-d, then-x-c-via-else-x-c+else-x-d+then-stands_in_columns, else-x-c+else-x-d+else-stands_in_columns}

@@ -1,7 +1,7 @@
 use Rattle.std.proofs.Common.{inl, inr, ◌∙◌, sym}
 use Rattle.cmr_base.specs.Members.{IsIn}
 use Rattle.cmr_base.specs.CyclePlaces.{cycle_rows}
-use Rattle.camion_sign.proofs.Tests.{true_is_false}
+use Rattle.camion_sign.proofs.Comparisons.{true_is_false}
 use Rattle.camion_sign.proofs.LineLists.{above, pushed, passed_by, built_to}
 use Rattle.camion_sign.proofs.cycle_lines.rows_of_cycle.Goals as goal
 use Rattle.camion_sign.proofs.cycle_lines.rows_of_cycle.Goals.{then-x-t+in_ok-push, then-x-t-via-then-x-t, then-x-t-via-else-x-t+then-stands_in_rows, else-x-t+else-stands_in_rows}

@@ -1,0 +1,85 @@
+-- The places of the nonzeros of a row.
+use Rattle.std.proofs.Common.{ℕ, zero, suc, ◌+◌, Bool, true, false, cond, List, [], ◌∷◌, ◌≡◌, ◌≢◌, ◌<◌, ◌≤◌, ℤ, pos, negsuc, length, get_or, map, inl, inr, ◌∙◌, sym, ap, refl, arith, subst, zero-add}
+use Rattle.std.proofs.lemmas.List.{get_or-map}
+use Rattle.std.proofs.lemmas.List.FromFn.{length-map-range_with_len}
+use Rattle.cmr_base.specs.Matrix.{Matrix, height, row_of, column_of, entry, IsMatrix, transposed, is_nonzero}
+use Rattle.cmr_base.specs.Members.{IsIn}
+use Rattle.cmr_base.proofs.Parts.{entry-transposed}
+use Rattle.cmr_base.proofs.Members.{in_at}
+use Rattle.cmr_base.proofs.RisingLists.{RisesIn, rises_from_lower, rising_at_least}
+use Rattle.camion_sign.proofs.Comparisons.{true_is_false}
+use Rattle.camion_sign.specs.Nonzeros.{AreNonzeros, nonzeros_from}
+
+nonzero_is : (z : ℤ) → is_nonzero z ≡ true → z ≢ pos 0
+nonzero_is z t e = true_is_false (sym t ∙ ap is_nonzero e)
+
+zero_is : (z : ℤ) → is_nonzero z ≡ false → z ≡ pos 0
+zero_is (pos zero) e = refl
+zero_is (pos (suc n)) e = true_is_false e
+zero_is (negsuc n) e = true_is_false e
+
+rises : (place high : ℕ) (line : List ℤ) → place + length line ≤ high → RisesIn place high (nonzeros_from place line)
+rises place high [] l = tt
+rises place high (z ∷ line) l = go (is_nonzero z) (rises (place + 1) high line (omega arith))
+  where
+    go : (b : Bool) → RisesIn (place + 1) high (nonzeros_from (place + 1) line) → RisesIn place high (cond b (place ∷ nonzeros_from (place + 1) line) (nonzeros_from (place + 1) line))
+    go true h = (omega arith, omega arith, h)
+    go false h = rises_from_lower place (place + 1) high (nonzeros_from (place + 1) line) (omega arith) h
+
+is_in : (place : ℕ) (line : List ℤ) (j : ℕ) → get_or line j (pos 0) ≢ pos 0 → IsIn (place + j) (nonzeros_from place line)
+is_in place [] j n = absurd (n refl)
+is_in place (z ∷ line) zero n = go (is_nonzero z) refl
+  where
+    go : (b : Bool) → is_nonzero z ≡ b → IsIn (place + 0) (cond b (place ∷ nonzeros_from (place + 1) line) (nonzeros_from (place + 1) line))
+    go true e = inl (omega arith)
+    go false e = absurd (n (zero_is z e))
+is_in place (z ∷ line) (suc j) n = go (is_nonzero z) (let e : (place + 1) + j ≡ place + suc j = omega arith in subst (λ (x : ℕ). IsIn x (nonzeros_from (place + 1) line)) e (is_in (place + 1) line j n))
+  where
+    go : (b : Bool) → IsIn (place + suc j) (nonzeros_from (place + 1) line) → IsIn (place + suc j) (cond b (place ∷ nonzeros_from (place + 1) line) (nonzeros_from (place + 1) line))
+    go true h = inr h
+    go false h = h
+
+in_is : (place : ℕ) (line : List ℤ) (x : ℕ) → IsIn x (nonzeros_from place line) → (j : ℕ) × (x ≡ place + j) × (get_or line j (pos 0) ≢ pos 0)
+in_is place [] x h = absurd h
+in_is place (z ∷ line) x h = go (is_nonzero z) refl (λ g. in_is (place + 1) line x g) h
+  where
+    later : (j : ℕ) × (x ≡ (place + 1) + j) × (get_or line j (pos 0) ≢ pos 0) → (j : ℕ) × (x ≡ place + j) × (get_or (z ∷ line) j (pos 0) ≢ pos 0)
+    later v = (suc v.0, let e = v.1 in omega arith, v.2)
+
+    go : (b : Bool) → is_nonzero z ≡ b → (IsIn x (nonzeros_from (place + 1) line) → (j : ℕ) × (x ≡ (place + 1) + j) × (get_or line j (pos 0) ≢ pos 0)) → IsIn x (cond b (place ∷ nonzeros_from (place + 1) line) (nonzeros_from (place + 1) line)) → (j : ℕ) × (x ≡ place + j) × (get_or (z ∷ line) j (pos 0) ≢ pos 0)
+    go true e k (inl q) = (0, omega arith, nonzero_is z e)
+    go true e k (inr g) = later (k g)
+    go false e k g = later (k g)
+
+place_of : (xs : List ℕ) (x : ℕ) → IsIn x xs → (k : ℕ) × (k < length xs) × (get_or xs k 0 ≡ x)
+place_of [] x h = absurd h
+place_of (y ∷ ys) x (inl e) = (0, omega arith, sym e)
+place_of (y ∷ ys) x (inr h) = let v = place_of ys x h in (suc v.0, let l = v.1 in omega arith, v.2)
+
+rising_pairs : (low high : ℕ) (xs : List ℕ) → RisesIn low high xs → (i j : ℕ) → i < j → j < length xs → get_or xs i 0 < get_or xs j 0
+rising_pairs low high [] h i j l m = absurd (omega arith)
+rising_pairs low high (x ∷ xs) h i zero l m = absurd (omega arith)
+rising_pairs low high (x ∷ xs) h zero (suc j) l m = let a = rising_at_least (x + 1) high xs h.2 j (omega arith) in omega arith
+rising_pairs low high (x ∷ xs) h (suc i) (suc j) l m = rising_pairs (x + 1) high xs h.2 i j (omega arith) (omega arith)
+
+are_nonzeros : (f : ℕ → ℤ) (line : List ℤ) → ((j : ℕ) → get_or line j (pos 0) ≡ f j) → AreNonzeros f (nonzeros_from 0 line)
+are_nonzeros f line same = record {
+  rising = rising_pairs 0 (length line) (nonzeros_from 0 line) (rises 0 (length line) line (omega arith));
+  nonzero = λ k l z.
+      let v = in_is 0 line (get_or (nonzeros_from 0 line) k 0) (in_at (nonzeros_from 0 line) k l) in
+      let e : v.0 ≡ get_or (nonzeros_from 0 line) k 0 = let q = v.1 in omega arith in
+      v.2 (same v.0 ∙ ap f e ∙ z);
+  all = λ x n. place_of (nonzeros_from 0 line) x (subst (λ (y : ℕ). IsIn y (nonzeros_from 0 line)) (zero-add x) (is_in 0 line x (λ z. n (sym (same x) ∙ z))));
+}
+
+-- the list of a row
+pub of_row : (m : Matrix) (lists : List (List ℕ)) (row : ℕ) → lists ≡ map (nonzeros_from 0) m.rows → row < height m → AreNonzeros (entry m row) (get_or lists row [])
+of_row m lists row e l =
+    subst (AreNonzeros (entry m row)) (sym (ap (λ (ls : List (List ℕ)). get_or ls row []) e ∙ get_or-map (nonzeros_from 0) m.rows row [] [] l))
+    (are_nonzeros (entry m row) (row_of m row) (λ j. refl))
+
+-- the list of a column, which is a row of the transposed matrix
+pub of_column : (m : Matrix) (lists : List (List ℕ)) (column : ℕ) → IsMatrix m → lists ≡ map (nonzeros_from 0) (transposed m).rows → column < m.width → AreNonzeros (λ row. entry m row column) (get_or lists column [])
+of_column m lists column is e l =
+    subst (AreNonzeros (λ row. entry m row column)) (sym (ap (λ (ls : List (List ℕ)). get_or ls column []) e ∙ get_or-map (nonzeros_from 0) (transposed m).rows column [] [] (omega (arith, length-map-range_with_len (column_of m) 0 m.width))))
+    (are_nonzeros (λ row. entry m row column) (row_of (transposed m) column) (λ j. entry-transposed m j column is))

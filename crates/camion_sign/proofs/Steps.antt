@@ -1,0 +1,493 @@
+-- The state of a walk, as lists.
+use Rattle.std.proofs.Common.{ℕ, zero, suc, ◌+◌, ◌-◌, Bool, true, false, List, [], ◌∷◌, ◌++◌, ◌≡◌, ◌≢◌, ◌<◌, ◌≤◌, ℤ, pos, ◌+ℤ◌, length, get_or, set, replicate, ◌⊎◌, inl, inr, ◌∙◌, sym, ap, refl, arith, subst, get_or-set_same, get_or-set_other, length-set, add-one}
+use Rattle.std.proofs.lemmas.Bool.{cases_lt, cases_eq}
+use Rattle.std.proofs.lemmas.List.{get_or_append_left}
+use Rattle.std.proofs.Math.Seq.{get_or-append_seam}
+use Rattle.cmr_base.specs.Matrix.{Matrix, height, entry, IsMatrix, row_of}
+use Rattle.cmr_base.specs.CyclePlaces.{IsPath}
+use Rattle.camion_sign.specs.declared.walk.Step.{Step}
+use Rattle.camion_sign.specs.declared.walk.Walk.{Walk}
+use Rattle.camion_sign.specs.Nonzeros.{AreNonzeros}
+use Rattle.camion_sign.specs.Trails.{IsUpTo}
+use Rattle.camion_sign.specs.Walks.{Progress, IsQueue, Goes, IsMet, IsFront, IsSettled, TwoIf, flip, step_at, place_in, progress, FitsMatrix, IsWalking, IsReaching, IsOpen, GrowsFrom, IsUntouched, NoneWaits, IsSpreading, HasSettled, IsGoing, HasWalked}
+use Rattle.camion_sign.proofs.Trails.{path_trail}
+use Rattle.camion_sign.proofs.Walks.{IsOneMore, few, fewer, met_before, next, settles, least, all_met, all_settled, begin, with_key, kept_here, reached, visit}
+
+-- entries beside the matrix are 0
+past_row : (xs : List ℤ) (i : ℕ) → length xs ≤ i → get_or xs i (pos 0) ≡ pos 0
+past_row [] i l = refl
+past_row (x ∷ xs) zero l = absurd (omega arith)
+past_row (x ∷ xs) (suc i) l = past_row xs i (omega arith)
+
+pub within : (m : Matrix) (row x : ℕ) → IsMatrix m → row < height m → entry m row x ≢ pos 0 → x < m.width
+within m row x is l h = elim (cases_lt x m.width) [
+  | inl lt ↦ lt
+  | inr ge ↦ absurd (h (past_row (row_of m row) x (let e = is.rectangular row l in omega arith)))
+]
+
+push_length : (steps : List Step) (step : Step) → length (steps ++ step ∷ []) ≡ suc (length steps)
+push_length [] step = refl
+push_length (y ∷ ys) step = let e = push_length ys step in omega arith
+
+-- the lists after a column was reached
+one_more : (steps : List Step) (places : List ℕ) (used : List Bool) (x r h : ℕ) (two : Bool) → x < length places
+    → IsOneMore (progress steps places used) (progress (steps ++ record { column = x; row = r; before = h; is_two = two } ∷ []) (set places x (length steps)) used) x r h two
+one_more steps places used x r h two l = record {
+  count = push_length steps (record { column = x; row = r; before = h; is_two = two });
+  column = ap (λ v. v.column) last;
+  columns = λ j m. ap (λ v. v.column) (before j m);
+  row = ap (λ v. v.row) last;
+  rows = λ j m. ap (λ v. v.row) (before j m);
+  before = ap (λ v. v.before) last;
+  befores = λ j m. ap (λ v. v.before) (before j m);
+  is_two = ap (λ v. v.is_two) last;
+  twos = λ j m. ap (λ v. v.is_two) (before j m);
+  place = get_or-set_same places x (length steps) 4294967295 l;
+  places = λ z q. get_or-set_other places x z (length steps) 4294967295 q;
+  used = λ q. refl;
+}
+  where
+    last : step_at (steps ++ record { column = x; row = r; before = h; is_two = two } ∷ []) (length steps) ≡ record { column = x; row = r; before = h; is_two = two }
+    last = get_or-append_seam steps (record { column = x; row = r; before = h; is_two = two }) [] (record { column = 0; row = 0; before = 0; is_two = false })
+
+    before : (j : ℕ) → j < length steps → step_at (steps ++ record { column = x; row = r; before = h; is_two = two } ∷ []) j ≡ step_at steps j
+    before j m = get_or_append_left steps (record { column = x; row = r; before = h; is_two = two } ∷ []) (record { column = 0; row = 0; before = 0; is_two = false }) j m
+
+pub any_default : (xs : List ℕ) (i d e : ℕ) → i < length xs → get_or xs i d ≡ get_or xs i e
+any_default [] i d e l = absurd (omega arith)
+any_default (x ∷ xs) zero d e l = refl
+any_default (x ∷ xs) (suc i) d e l = any_default xs i d e (omega arith)
+
+any_bool : (xs : List Bool) (i : ℕ) (d e : Bool) → i < length xs → get_or xs i d ≡ get_or xs i e
+any_bool [] i d e l = absurd (omega arith)
+any_bool (x ∷ xs) zero d e l = refl
+any_bool (x ∷ xs) (suc i) d e l = any_bool xs i d e (omega arith)
+
+pub any_step : (xs : List Step) (i : ℕ) (d e : Step) → i < length xs → get_or xs i d ≡ get_or xs i e
+any_step [] i d e l = absurd (omega arith)
+any_step (x ∷ xs) zero d e l = refl
+any_step (x ∷ xs) (suc i) d e l = any_step xs i d e (omega arith)
+
+pub step_is : (steps : List Step) (j : ℕ) (step : Step) → j < length steps → step ≡ get_or steps j step → step_at steps j ≡ step
+step_is steps j step l e = any_step steps j (record { column = 0; row = 0; before = 0; is_two = false }) step l ∙ sym e
+
+same_progress : (walk : Walk) (steps : List Step) (places : List ℕ) (used : List Bool) → walk.steps.items ≡ steps → walk.places.items ≡ places → walk.used.items ≡ used
+    → progress walk.steps.items walk.places.items walk.used.items ≡ progress steps places used
+same_progress walk steps places used e f g =
+    ap (λ (v : List Step). progress v walk.places.items walk.used.items) e ∙ ap (λ (v : List ℕ). progress steps v walk.used.items) f ∙ ap (λ (v : List Bool). progress steps places v) g
+
+grows_same : (walk : Walk) → GrowsFrom walk walk
+grows_same walk = record { longer = omega arith; steps = λ j l. refl; places = λ x l. l }
+
+-- ---- the columns of a row
+
+pub start_row : (m : Matrix) (t c h r : ℕ) (columns : List ℕ) (from : Step) (walk : Walk) → IsWalking m t c h r walk → IsOpen m t h walk → from ≡ get_or walk.steps.items h from → IsReaching m t c h r columns 0 from walk walk
+start_row m t c h r columns from walk w o e = record {
+  fits = w.fits;
+  grows = grows_same walk;
+  used = refl;
+  within = o.within;
+  from_is = step_is walk.steps.items h from o.within e;
+  key = w.key;
+  front = fewer (entry m) t c m.width (progress walk.steps.items walk.places.items walk.used.items) w.key h (λ s x. r ≤ s) (λ s x. (r < s) ⊎ ((r ≡ s) × ((i : ℕ) → i < 0 → get_or columns i 0 < x))) w.front
+      (λ s x q. elim q [ inl l ↦ omega arith | inr p ↦ let f = p.0 in omega arith ]);
+  met = λ i l. absurd (omega arith);
+}
+
+module _ (m : Matrix) (t c h r : ℕ) (columns : List ℕ) (k : ℕ) (from : Step) (old walk : Walk) (w : IsReaching m t c h r columns k from old walk) (nonzeros : AreNonzeros (entry m r) columns) (inside : k < length columns) where
+  here : ((i : ℕ) → i < k → get_or columns i 0 < get_or columns k 0)
+  here i l = nonzeros.rising i k l inside
+
+  one_step : (s x : ℕ) → (r < s) ⊎ ((r ≡ s) × ((i : ℕ) → i < k + 1 → get_or columns i 0 < x)) → (r < s) ⊎ ((r ≡ s) × ((i : ℕ) → i < k → get_or columns i 0 < x))
+  one_step s x (inl l) = inl l
+  one_step s x (inr p) = inr (p.0, λ i l. p.1 i (omega arith))
+
+  -- the column was reached before
+  pub pass_column : (walk2 : Walk) (place : ℕ) → walk2 ≡ walk → get_or columns k 0 < m.width → place ≡ get_or walk.places.items (get_or columns k 0) place → place ≢ 4294967295 → IsReaching m t c h r columns (k + 1) from old walk2
+  pass_column walk2 place e low place_is other = subst (IsReaching m t c h r columns (k + 1) from old) (sym e) (record {
+    fits = w.fits;
+    grows = w.grows;
+    used = w.used;
+    within = w.within;
+    from_is = w.from_is;
+    key = w.key;
+    front = fewer (entry m) t c m.width (progress walk.steps.items walk.places.items walk.used.items) w.key h (λ s x. (r < s) ⊎ ((r ≡ s) × ((i : ℕ) → i < k → get_or columns i 0 < x))) (λ s x. (r < s) ⊎ ((r ≡ s) × ((i : ℕ) → i < k + 1 → get_or columns i 0 < x))) w.front one_step;
+    met = λ i l. elim (cases_lt i k) [
+      | inl lt ↦ w.met i lt
+      | inr ge ↦ let q : k ≡ i = omega arith in
+          subst (λ (j : ℕ). IsMet (entry m) t c m.width (progress walk.steps.items walk.places.items walk.used.items) w.key (get_or columns j 0) (w.key h ++ r ∷ get_or columns j 0 ∷ [])) q
+          (met_before (entry m) t c m.width (progress walk.steps.items walk.places.items walk.used.items) w.key h r (get_or columns k 0) (λ s x. (r < s) ⊎ ((r ≡ s) × ((i : ℕ) → i < k → get_or columns i 0 < x))) w.front w.within
+          (let a = any_default walk.places.items (get_or columns k 0) 4294967295 place (let f = w.fits.places in omega arith) in let b = w.front.queue.topped (get_or columns k 0) in omega arith) (inr (refl, here)))
+    ];
+  })
+
+  -- the column is reached now
+  pub reach_column : (walk2 : Walk) (place : ℕ) (same : Bool) → get_or columns k 0 < m.width → place ≡ get_or walk.places.items (get_or columns k 0) place → place ≡ 4294967295
+      → Goes (entry m) t c m.width (progress walk.steps.items walk.places.items walk.used.items) w.key h → r < t → entry m r from.column ≢ pos 0 → TwoIf same (entry m r from.column +ℤ entry m r (get_or columns k 0))
+      → walk2.steps.items ≡ walk.steps.items ++ record { column = get_or columns k 0; row = r; before = h; is_two = flip from.is_two same } ∷ []
+      → walk2.places.items ≡ set walk.places.items (get_or columns k 0) (length walk.steps.items) → walk2.used.items ≡ walk.used.items
+      → IsReaching m t c h r columns (k + 1) from old walk2
+  reach_column walk2 place same low place_is unmet goes early leads two steps2 places2 used2 = record {
+    fits = record { matrix = w.fits.matrix; places = ap length places2 ∙ length-set walk.places.items x (length walk.steps.items) ∙ w.fits.places; used = ap length used2 ∙ w.fits.used };
+    grows = record {
+      longer = let a = w.grows.longer in let b = more in omega arith;
+      steps = λ j l. kept j (let a = w.grows.longer in omega arith) ∙ w.grows.steps j l;
+      places = λ y l. rw places2 (grown y (w.grows.places y l));
+    };
+    used = used2 ∙ w.used;
+    within = let a = w.within in let b = more in omega arith;
+    from_is = kept h w.within ∙ w.from_is;
+    key = with_key M t c m.width s s' w.key h r x same;
+    front = subst (λ (v : Progress). IsFront M t c m.width v (with_key M t c m.width s s' w.key h r x same) h Q) (sym now) (visit M t c m.width s s' w.key h r x same P Q top_width w.front w.within one unmet' goes early leads' to low (inr (refl, here)) two' still);
+    met = λ i l. subst (λ (v : Progress). IsMet M t c m.width v (with_key M t c m.width s s' w.key h r x same) (get_or columns i 0) (with_key M t c m.width s s' w.key h r x same h ++ r ∷ get_or columns i 0 ∷ [])) (sym now) (elim (cases_lt i k) [
+      | inl lt ↦ kept_here M t c m.width s s' w.key h r x same P Q top_width w.front w.within one unmet' (get_or columns i 0) r (get_or columns i 0) (w.met i lt)
+      | inr ge ↦ let q : k ≡ i = omega arith in
+          subst (λ (j : ℕ). IsMet M t c m.width s' (with_key M t c m.width s s' w.key h r x same) (get_or columns j 0) (with_key M t c m.width s s' w.key h r x same h ++ r ∷ get_or columns j 0 ∷ [])) q
+          (reached M t c m.width s s' w.key h r x same P Q top_width w.front w.within one unmet')
+    ]);
+  }
+    where
+      M : ℕ → ℕ → ℤ
+      M = entry m
+
+      x : ℕ
+      x = get_or columns k 0
+
+      new : Step
+      new = record { column = x; row = r; before = h; is_two = flip from.is_two same }
+
+      s : Progress
+      s = progress walk.steps.items walk.places.items walk.used.items
+
+      s' : Progress
+      s' = progress (walk.steps.items ++ new ∷ []) (set walk.places.items x (length walk.steps.items)) walk.used.items
+
+      P : ℕ → ℕ → Type 0
+      P q y = (r < q) ⊎ ((r ≡ q) × ((i : ℕ) → i < k → get_or columns i 0 < y))
+
+      Q : ℕ → ℕ → Type 0
+      Q q y = (r < q) ⊎ ((r ≡ q) × ((i : ℕ) → i < k + 1 → get_or columns i 0 < y))
+
+      now : progress walk2.steps.items walk2.places.items walk2.used.items ≡ s'
+      now = same_progress walk2 (walk.steps.items ++ new ∷ []) (set walk.places.items x (length walk.steps.items)) walk.used.items steps2 places2 used2
+
+      top_width : m.width < 4294967295
+      top_width = let a = w.fits.matrix.width_in in omega arith
+
+      one : IsOneMore s s' x r h (flip (s.is_two h) same)
+      one = subst (λ (step : Step). IsOneMore s (progress (walk.steps.items ++ record { column = x; row = r; before = h; is_two = flip step.is_two same } ∷ []) (set walk.places.items x (length walk.steps.items)) walk.used.items) x r h (flip (s.is_two h) same))
+          w.from_is (one_more walk.steps.items walk.places.items walk.used.items x r h (flip (s.is_two h) same) (let e = w.fits.places in omega arith))
+
+      unmet' : place_in walk.places.items x ≡ 4294967295
+      unmet' = any_default walk.places.items x 4294967295 place (let e = w.fits.places in omega arith) ∙ sym place_is ∙ unmet
+
+      leads' : M r (s.column h) ≢ pos 0
+      leads' = subst (λ (step : Step). M r step.column ≢ pos 0) (sym w.from_is) leads
+
+      two' : TwoIf same (M r (s.column h) +ℤ M r x)
+      two' = subst (λ (step : Step). TwoIf same (M r step.column +ℤ M r x)) (sym w.from_is) two
+
+      to : M r x ≢ pos 0
+      to = nonzeros.nonzero k inside
+
+      still : (q y : ℕ) → Q q y → P q y × ((r < q) ⊎ ((r ≡ q) × (x < y)))
+      still q y (inl l) = (inl l, inl l)
+      still q y (inr p) = (inr (p.0, λ i l. p.1 i (omega arith)), inr (p.0, p.1 k (omega arith)))
+
+      more : length walk2.steps.items ≡ suc (length walk.steps.items)
+      more = ap length steps2 ∙ push_length walk.steps.items new
+
+      kept : (j : ℕ) → j < length walk.steps.items → step_at walk2.steps.items j ≡ step_at walk.steps.items j
+      kept j l = ap (λ (steps : List Step). step_at steps j) steps2 ∙ get_or_append_left walk.steps.items (new ∷ []) (record { column = 0; row = 0; before = 0; is_two = false }) j l
+
+      grown : (y : ℕ) → place_in walk.places.items y < 4294967295 → place_in (set walk.places.items x (length walk.steps.items)) y < 4294967295
+      grown y l = elim (cases_eq y x) [
+        | inl q ↦ absurd (let e = ap (place_in walk.places.items) q in let u = unmet' in omega arith)
+        | inr q ↦ let e = get_or-set_other walk.places.items x y (length walk.steps.items) 4294967295 q in omega arith
+      ]
+
+-- all columns of the row are reached: the row is gone through
+pub end_row : (m : Matrix) (t c h r : ℕ) (columns : List ℕ) (k : ℕ) (from : Step) (old walk walk2 : Walk) → IsReaching m t c h r columns k from old walk → AreNonzeros (entry m r) columns → length columns ≤ k → r < height m
+    → walk2.steps.items ≡ walk.steps.items → walk2.places.items ≡ walk.places.items → walk2.used.items ≡ set walk.used.items r true → IsWalking m t c h (r + 1) walk2
+end_row m t c h r columns k from old walk walk2 w nonzeros l tall steps2 places2 used2 = record {
+  fits = record { matrix = w.fits.matrix; places = ap length places2 ∙ w.fits.places; used = ap length used2 ∙ length-set walk.used.items r true ∙ w.fits.used };
+  key = w.key;
+  front = subst (λ (v : Progress). IsFront (entry m) t c m.width v w.key h (λ s x. r + 1 ≤ s)) (sym (same_progress walk2 walk.steps.items walk.places.items (set walk.used.items r true) steps2 places2 used2)) (record {
+    queue = record {
+      some = w.front.queue.some;
+      first = w.front.queue.first;
+      start = w.front.queue.start;
+      inside = w.front.queue.inside;
+      placed = w.front.queue.placed;
+      listed = w.front.queue.listed;
+      topped = w.front.queue.topped;
+      sorted = w.front.queue.sorted;
+      trail = w.front.queue.trail;
+      ends = w.front.queue.ends;
+      sums = w.front.queue.sums;
+      earlier = w.front.queue.earlier;
+      parent = w.front.queue.parent;
+    };
+    fits = w.front.fits;
+    done = w.front.done;
+    gone = λ s x u n. elim (cases_eq s r) [
+      | inl q ↦
+          let v = nonzeros.all x (subst (λ (y : ℕ). entry m y x ≢ pos 0) q n) in
+          let met = w.met v.0 (let a = v.1 in omega arith) in
+          let met' = subst (λ (y : ℕ). IsMet (entry m) t c m.width (progress walk.steps.items walk.places.items walk.used.items) w.key y (w.key h ++ r ∷ y ∷ [])) v.2 met in
+          (met'.0, λ k. subst (λ (y : ℕ). IsUpTo (w.key (place_in walk.places.items x)) (w.key h ++ y ∷ x ∷ [])) (sym q) met'.1)
+      | inr q ↦ w.front.gone s x (sym (get_or-set_other walk.used.items r s true false q) ∙ u) n
+    ];
+    front = λ j s x a b q. w.front.front j s x a b (inl (omega arith));
+  });
+}
+
+-- only the marks of rows are changed
+pub grows_used : (old walk walk2 : Walk) → GrowsFrom old walk → walk2.steps.items ≡ walk.steps.items → walk2.places.items ≡ walk.places.items → GrowsFrom old walk2
+grows_used old walk walk2 g steps2 places2 = record {
+  longer = let a = g.longer in let b = ap length steps2 in omega arith;
+  steps = λ j l. ap (λ (steps : List Step). step_at steps j) steps2 ∙ g.steps j l;
+  places = λ x l. let a = g.places x l in let b = ap (λ (places : List ℕ). place_in places x) places2 in omega arith;
+}
+
+pub same_goes : (m : Matrix) (t c h r : ℕ) (columns : List ℕ) (k : ℕ) (from : Step) (old walk : Walk) (w : IsReaching m t c h r columns k from old walk) → IsOpen m t h old → Goes (entry m) t c m.width (progress walk.steps.items walk.places.items walk.used.items) w.key h
+same_goes m t c h r columns k from old walk w o = elim o.goes [ inl z ↦ inl z | inr z ↦ inr (ap (λ (v : Step). entry m t v.column) (w.grows.steps h o.within) ∙ z) ]
+
+-- ---- the rows of a column
+
+pub start_rows : (m : Matrix) (t c h pending : ℕ) (rows : List ℕ) (walk : Walk) → IsWalking m t c h 0 walk → IsOpen m t h walk → pending ≤ m.width → NoneWaits m t c pending walk.places.items → IsSpreading m t c h rows 0 pending walk walk
+start_rows m t c h pending rows walk w o l waits = record {
+  low = 0;
+  walking = w;
+  low_in = omega arith;
+  ahead = λ i a b. omega arith;
+  gone = λ i a. absurd (omega arith);
+  open_is = o;
+  column_is = refl;
+  pending_in = l;
+  waits = waits;
+}
+
+module _ (m : Matrix) (t c h : ℕ) (rows : List ℕ) (k column : ℕ) (old walk : Walk) {pending : ℕ} (w : IsSpreading m t c h rows k pending old walk) (nonzeros : AreNonzeros (λ r. entry m r column) rows) where
+  -- the next row was gone through before
+  pub pass_row : (walk2 : Walk) (pending2 : ℕ) (b : Bool) → k < length rows → get_or rows k 0 < t → t < height m → b ≡ get_or walk.used.items (get_or rows k 0) b → b ≡ true → walk2 ≡ walk → pending2 ≡ pending → IsSpreading m t c h rows (k + 1) pending2 old walk2
+  pass_row walk2 pending2 b inside early tall b_is t_is e f =
+      subst (λ (v : Walk). IsSpreading m t c h rows (k + 1) pending2 old v) (sym e) (subst (λ (v : ℕ). IsSpreading m t c h rows (k + 1) v old walk) (sym f) (record {
+        low = w.low;
+        walking = w.walking;
+        low_in = w.low_in;
+        ahead = λ i a b. w.ahead i (omega arith) b;
+        gone = λ i a. elim (cases_lt i k) [
+          | inl lt ↦ w.gone i lt
+          | inr ge ↦ let q : k ≡ i = omega arith in
+              subst (λ (j : ℕ). get_or walk.used.items (get_or rows j 0) false ≡ true) q (any_bool walk.used.items (get_or rows k 0) false b (let s = w.walking.fits.used in omega arith) ∙ sym b_is ∙ t_is)
+        ];
+        open_is = w.open_is;
+        column_is = w.column_is;
+        pending_in = w.pending_in;
+        waits = w.waits;
+      }))
+
+  -- the next row is gone through now
+  pub take_row : (walk1 walk2 : Walk) (pending1 pending2 : ℕ) → k < length rows → get_or rows k 0 < t → t < height m → IsWalking m t c h (get_or rows k 0 + 1) walk1 → GrowsFrom walk walk1 → walk1.used.items ≡ set walk.used.items (get_or rows k 0) true
+      → pending ≤ pending1 → pending1 ≤ m.width → ((d : ℕ) → pending ≤ d → d < pending1 → entry m t d ≢ pos 0 → (place_in walk1.places.items d ≢ 4294967295) ⊎ IsUntouched m t d)
+      → walk2 ≡ walk1 → pending2 ≡ pending1 → IsSpreading m t c h rows (k + 1) pending2 old walk2
+  take_row walk1 walk2 pending1 pending2 inside early tall walking grows used le wide waits e f =
+      subst (λ (v : Walk). IsSpreading m t c h rows (k + 1) pending2 old v) (sym e) (subst (λ (v : ℕ). IsSpreading m t c h rows (k + 1) v old walk1) (sym f) (record {
+        low = get_or rows k 0 + 1;
+        walking = walking;
+        low_in = omega arith;
+        ahead = λ i a b. let l = nonzeros.rising k i (omega arith) b in omega arith;
+        gone = λ i a. ap (λ (v : List Bool). get_or v (get_or rows i 0) false) used ∙ (elim (cases_lt i k) [
+          | inl lt ↦ let l = nonzeros.rising i k lt inside in get_or-set_other walk.used.items (get_or rows k 0) (get_or rows i 0) true false (λ q. omega arith) ∙ w.gone i lt
+          | inr ge ↦ let q : k ≡ i = omega arith in
+              subst (λ (j : ℕ). get_or (set walk.used.items (get_or rows k 0) true) (get_or rows j 0) false ≡ true) q (get_or-set_same walk.used.items (get_or rows k 0) true false (let s = w.walking.fits.used in omega arith))
+        ]);
+        open_is = record {
+          within = let a = w.open_is.within in let b = grows.longer in omega arith;
+          goes = elim w.open_is.goes [ inl z ↦ inl z | inr z ↦ inr (ap (λ (v : Step). entry m t v.column) (grows.steps h w.open_is.within) ∙ z) ];
+        };
+        column_is = ap (λ (v : Step). v.column) (grows.steps h w.open_is.within) ∙ w.column_is;
+        pending_in = wide;
+        waits = λ d a b n. elim (cases_lt d pending) [
+          | inl lt ↦ elim (w.waits d a lt n) [
+            | inl l ↦ inl (λ e. let g = grows.places d (let b = w.walking.front.queue.topped d in omega arith) in omega arith)
+            | inr u ↦ inr u
+          ]
+          | inr ge ↦ waits d ge b n
+        ];
+      }))
+
+  -- each row before t that meets the column is gone through, or comes later
+  gone_or_later : column ≡ (step_at walk.steps.items h).column → (r : ℕ) → r < t → entry m r (step_at walk.steps.items h).column ≢ pos 0 → (get_or walk.used.items r false ≡ true) ⊎ ((i : ℕ) × (k ≤ i) × (i < length rows) × (get_or rows i 0 ≡ r))
+  gone_or_later e r early leads =
+      let v = nonzeros.all r (subst (λ (y : ℕ). entry m r y ≢ pos 0) (sym e) leads) in
+      elim (cases_lt v.0 k) [
+        | inl lt ↦ inl (subst (λ (y : ℕ). get_or walk.used.items y false ≡ true) v.2 (w.gone v.0 lt))
+        | inr ge ↦ inr (v.0, ge, v.1, v.2)
+      ]
+
+  -- the rows before t are done: there is no further one, or the next is not before t
+  pub end_rows : column ≡ (step_at old.steps.items h).column → (length rows ≤ k) ⊎ ((k < length rows) × (t ≤ get_or rows k 0)) → IsWalking m t c (h + 1) 0 walk
+  end_rows column_is end = subst (λ (n : ℕ). IsWalking m t c n 0 walk) (sym (add-one h)) (record {
+    fits = w.walking.fits;
+    key = w.walking.key;
+    front = next (entry m) t c m.width (progress walk.steps.items walk.places.items walk.used.items) w.walking.key h t 0 (λ s x. w.low ≤ s) (λ s x. 0 ≤ s) w.walking.front w.open_is.within w.low_in
+        (λ r goes early leads. elim (gone_or_later (column_is ∙ sym w.column_is) r early leads) [
+          | inl u ↦ u
+          | inr v ↦ absurd (late v.0 v.1 v.2 (let e = v.3 in omega arith))
+        ]);
+  })
+    where
+      late : (i : ℕ) → k ≤ i → i < length rows → get_or rows i 0 < t → ⊥
+      late i a b early = elim end [
+        | inl l ↦ omega arith
+        | inr l ↦ elim (cases_lt k i) [
+          | inl lt ↦ let u = nonzeros.rising k i lt b in let v = l.1 in omega arith
+          | inr ge ↦ let q : i ≡ k = omega arith in let u = ap (λ (j : ℕ). get_or rows j 0) q in let v = l.1 in omega arith
+        ]
+      ]
+
+  -- no column waits: the walk may end here
+  pub settle_rows : column ≡ (step_at old.steps.items h).column → HasSettled m t c walk
+  settle_rows column_is = record {
+    fits = w.walking.fits;
+    key = w.walking.key;
+    queue = w.walking.front.queue;
+    settled = settles (entry m) t c m.width (progress walk.steps.items walk.places.items walk.used.items) w.walking.key h t 0 (λ s x. w.low ≤ s) w.walking.front w.open_is.within w.low_in
+        (λ r x early leads. elim (gone_or_later (column_is ∙ sym w.column_is) r early leads) [
+          | inl u ↦ inl u
+          | inr v ↦ inr (let a = w.ahead v.0 v.1 v.2 in let e = v.3 in omega arith)
+        ]);
+  }
+
+-- ---- the last columns that wait
+
+pub untouched : (m : Matrix) (t x : ℕ) (rows : List ℕ) → AreNonzeros (λ r. entry m r x) rows → (length rows ≤ 0) ⊎ (t ≤ get_or rows 0 0) → IsUntouched m t x
+untouched m t x rows nonzeros (inl l) r early n = let v = nonzeros.all r n in let a = v.1 in omega arith
+untouched m t x rows nonzeros (inr h) r early n = later (nonzeros.all r n)
+  where
+    later : (k : ℕ) × (k < length rows) × (get_or rows k 0 ≡ r) → ⊥
+    later (zero, l, e) = omega arith
+    later (suc k, l, e) = let d = nonzeros.rising 0 (suc k) (omega arith) l in omega arith
+
+pub one_more_settled : (m : Matrix) (t c from x : ℕ) (places : List ℕ) → ((d : ℕ) → from ≤ d → d < x → entry m t d ≢ pos 0 → (place_in places d ≢ 4294967295) ⊎ IsUntouched m t d)
+    → (entry m t x ≢ pos 0 → (place_in places x ≢ 4294967295) ⊎ IsUntouched m t x) → (d : ℕ) → from ≤ d → d < x + 1 → entry m t d ≢ pos 0 → (place_in places d ≢ 4294967295) ⊎ IsUntouched m t d
+one_more_settled m t c from x places before here d a b n = elim (cases_lt d x) [
+  | inl lt ↦ before d a lt n
+  | inr ge ↦ let q : x ≡ d = omega arith in subst (λ (y : ℕ). entry m t y ≢ pos 0 → (place_in places y ≢ 4294967295) ⊎ IsUntouched m t y) q here n
+]
+
+pub is_reached : (places : List ℕ) (x place : ℕ) → x < length places → place ≡ get_or places x place → place ≢ 4294967295 → place_in places x ≢ 4294967295
+is_reached places x place l e other q = other (e ∙ any_default places x place 4294967295 l ∙ q)
+
+-- ---- the whole walk
+
+copies_length : {A : Type 0} (n : ℕ) (v : A) → length (replicate n v) ≡ n
+copies_length zero v = refl
+copies_length (suc n) v = let e = copies_length n v in omega arith
+
+copies_same : (n i v : ℕ) → get_or (replicate n v) i v ≡ v
+copies_same zero i v = refl
+copies_same (suc n) zero v = refl
+copies_same (suc n) (suc i) v = copies_same n i v
+
+copies_false : (n i : ℕ) → get_or (replicate n false) i false ≡ false
+copies_false zero i = refl
+copies_false (suc n) zero = refl
+copies_false (suc n) (suc i) = copies_false n i
+
+pub begin_walk : (m : Matrix) (t c : ℕ) (walk walk2 : Walk) → FitsMatrix m walk → c < m.width → walk2.steps.items ≡ record { column = c; row = 0; before = 0; is_two = false } ∷ []
+    → walk2.places.items ≡ set (replicate (length walk.places.items) 4294967295) c 0 → walk2.used.items ≡ replicate (length walk.used.items) false → IsGoing m t c 0 (c + 1) walk2
+begin_walk m t c walk walk2 f l steps2 places2 used2 = record {
+  state = inl (record {
+    fits = record {
+      matrix = f.matrix;
+      places = ap length places2 ∙ length-set (replicate (length walk.places.items) 4294967295) c 0 ∙ copies_length {A = ℕ} (length walk.places.items) 4294967295 ∙ f.places;
+      used = ap length used2 ∙ copies_length (length walk.used.items) false ∙ f.used;
+    };
+    key = λ j. [];
+    front = subst (λ (v : Progress). IsFront (entry m) t c m.width v (λ j. []) 0 (λ r x. 0 ≤ r)) (sym (same_progress walk2 first (set (replicate (length walk.places.items) 4294967295) c 0) (replicate (length walk.used.items) false) steps2 places2 used2))
+        (begin (entry m) t c m.width (progress first (set (replicate (length walk.places.items) 4294967295) c 0) (replicate (length walk.used.items) false)) (λ r x. 0 ≤ r) l refl refl refl
+        (get_or-set_same (replicate (length walk.places.items) 4294967295) c 0 4294967295 (let e = copies_length {A = ℕ} (length walk.places.items) 4294967295 in let g = f.places in omega arith))
+        (λ z q. get_or-set_other (replicate (length walk.places.items) 4294967295) c z 0 4294967295 q ∙ copies_same (length walk.places.items) z 4294967295)
+        (λ r. copies_false (length walk.used.items) r));
+  });
+  pending_in = omega arith;
+  waits = λ d a b. absurd (omega arith);
+}
+  where
+    first : List Step
+    first = record { column = c; row = 0; before = 0; is_two = false } ∷ []
+
+pub is_walking : (m : Matrix) (t c h pending : ℕ) (walk : Walk) → IsGoing m t c h pending walk → pending < m.width → IsWalking m t c h 0 walk
+is_walking m t c h pending walk g l = elim g.state [ inl w ↦ w | inr s ↦ absurd (let e = s.0 in omega arith) ]
+
+pub smaller : (m : Matrix) (t c h pending : ℕ) (walk : Walk) → IsGoing m t c h pending walk → pending < m.width → h < length walk.steps.items → m.width - (h + 1) < m.width - h
+smaller m t c h pending walk g l k =
+    let w = is_walking m t c h pending walk g l in
+    let f = few (entry m) t c m.width (progress walk.steps.items walk.places.items walk.used.items) w.key w.front.queue in omega arith
+
+-- a column in which row t is not 0 leads nowhere
+pub skip_place : (m : Matrix) (t c h pending pending2 : ℕ) (walk walk2 : Walk) (step : Step) → IsGoing m t c h pending walk → pending < m.width → h < length walk.steps.items → h ≢ 0 → step ≡ get_or walk.steps.items h step → entry m t step.column ≢ pos 0
+    → walk2 ≡ walk → pending2 ≡ pending → IsGoing m t c (h + 1) pending2 walk2
+skip_place m t c h pending pending2 walk walk2 step g l k other step_is' n e f =
+    subst (λ (v : Walk). IsGoing m t c (h + 1) pending2 v) (sym e) (subst (λ (v : ℕ). IsGoing m t c (h + 1) v walk) (sym f) (record {
+      state = inl (subst (λ (v : ℕ). IsWalking m t c v 0 walk) (sym (add-one h)) (record {
+        fits = w.fits;
+        key = w.key;
+        front = next (entry m) t c m.width (progress walk.steps.items walk.places.items walk.used.items) w.key h 0 0 (λ r x. 0 ≤ r) (λ r x. 0 ≤ r) w.front k (omega arith)
+            (λ r goes early leads. absurd (elim goes [ inl z ↦ other z | inr z ↦ n (ap (λ (v : Step). entry m t v.column) (sym (step_is walk.steps.items h step k step_is')) ∙ z) ]));
+      }));
+      pending_in = g.pending_in;
+      waits = g.waits;
+    }))
+  where
+    w : IsWalking m t c h 0 walk
+    w = is_walking m t c h pending walk g l
+
+pub went_on : (m : Matrix) (t c h pending pending2 : ℕ) (walk walk2 : Walk) → IsWalking m t c (h + 1) 0 walk ⊎ ((pending ≡ m.width) × HasSettled m t c walk) → pending ≤ m.width → NoneWaits m t c pending walk.places.items → walk2 ≡ walk → pending2 ≡ pending → IsGoing m t c (h + 1) pending2 walk2
+went_on m t c h pending pending2 walk walk2 state l waits e f =
+    subst (λ (v : Walk). IsGoing m t c (h + 1) pending2 v) (sym e) (subst (λ (v : ℕ). IsGoing m t c (h + 1) v walk) (sym f) (record { state = state; pending_in = l; waits = waits }))
+
+path_touches : (m : Matrix) (t c d : ℕ) (lines : List ℕ) → IsPath (entry m) t c d lines → (r : ℕ) × (r < t) × (entry m r d ≢ pos 0)
+path_touches m t c d [] h = absurd h
+path_touches m t c d (r ∷ []) h = (r, h.0, h.2)
+path_touches m t c d (r ∷ j ∷ lines) h = path_touches m t j d lines h.4
+
+pub end_walk : (m : Matrix) (t c h pending : ℕ) (walk : Walk) → IsGoing m t c h pending walk → t < height m → (length walk.steps.items ≤ h) ⊎ (m.width ≤ pending) → HasWalked m t c walk
+end_walk m t c h pending walk g tall end = elim g.state [
+  | inl w ↦ elim (cases_lt h (length walk.steps.items)) [
+    | inl lt ↦ from_settled w.fits w.key w.front.queue
+        (settles (entry m) t c m.width (progress walk.steps.items walk.places.items walk.used.items) w.key h 0 0 (λ r x. 0 ≤ r) w.front lt (omega arith) (λ r x early leads. inr (omega arith)))
+        (elim end [ inl l ↦ absurd (omega arith) | inr l ↦ l ])
+    | inr ge ↦ from_all w (let k = w.front.fits in omega arith)
+  ]
+  | inr s ↦ from_settled s.1.fits s.1.key s.1.queue s.1.settled (let e = s.0 in omega arith)
+]
+  where
+    from_settled : FitsMatrix m walk → (key : ℕ → List ℕ) → IsQueue (entry m) t c m.width (progress walk.steps.items walk.places.items walk.used.items) key → IsSettled (entry m) t c m.width (progress walk.steps.items walk.places.items walk.used.items) key → m.width ≤ pending → HasWalked m t c walk
+    from_settled fits key queue settled wide = record {
+      fits = fits;
+      key = key;
+      queue = queue;
+      least = least (entry m) t c m.width (progress walk.steps.items walk.places.items walk.used.items) key queue settled;
+      none = λ d lines order n unmet h. elim (g.waits d order (let a = within m t d fits.matrix tall n in omega arith) n) [
+        | inl met ↦ met unmet
+        | inr u ↦ let v = path_touches m t c d lines h in u v.0 v.1 v.2
+      ];
+    }
+
+    from_all : IsWalking m t c h 0 walk → h ≡ length walk.steps.items → HasWalked m t c walk
+    from_all w e =
+        let front = subst (λ (v : ℕ). IsFront (entry m) t c m.width (progress walk.steps.items walk.places.items walk.used.items) w.key v (λ r x. 0 ≤ r)) e w.front in
+        record {
+          fits = w.fits;
+          key = w.key;
+          queue = w.front.queue;
+          least = least (entry m) t c m.width (progress walk.steps.items walk.places.items walk.used.items) w.key w.front.queue (all_settled (entry m) t c m.width (progress walk.steps.items walk.places.items walk.used.items) w.key (λ r x. 0 ≤ r) front);
+          none = λ d lines order n unmet h.
+              let v = path_trail (entry m) t c d lines h in
+              let met = all_met (entry m) t c m.width (progress walk.steps.items walk.places.items walk.used.items) w.key (λ r x. 0 ≤ r) front (lines ++ d ∷ []) v.0 in
+              let q = ap (place_in walk.places.items) v.1 in omega arith;
+        }

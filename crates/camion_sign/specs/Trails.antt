@@ -1,0 +1,39 @@
+-- Paths from a column on, with the column in which they end.
+use Rattle.std.specs.Prelude.{ℕ, List, [], ◌∷◌, ℤ, pos, ◌+ℤ◌, ◌≡◌, ◌≢◌, ◌<◌, ◌⊎◌, length}
+
+-- before the second in lexicographic order, for lists of one length
+abbrev pub IsLess : List ℕ → List ℕ → Type 0
+IsLess [] ys = ⊥
+IsLess (x ∷ xs) [] = ⊥
+IsLess (x ∷ xs) (y ∷ ys) = (x < y) ⊎ ((x ≡ y) × IsLess xs ys)
+
+-- shorter, or of one length and less
+abbrev pub IsBefore : List ℕ → List ℕ → Type 0
+IsBefore xs ys = (length xs < length ys) ⊎ ((length xs ≡ length ys) × IsLess xs ys)
+
+abbrev pub IsUpTo : List ℕ → List ℕ → Type 0
+IsUpTo xs ys = IsBefore xs ys ⊎ (xs ≡ ys)
+
+module _ (M : ℕ → ℕ → ℤ) (t : ℕ) where
+  -- a trail may go on through a column only where row t is 0
+  abbrev pub GoesOn : ℕ → List ℕ → Type 0
+  GoesOn x [] = Unit {0}
+  GoesOn x (r ∷ lines) = M t x ≡ pos 0
+
+  -- the lines behind a column: rows before t and columns in turn, each joined to the next by a nonzero; the last is a column
+  abbrev pub IsTrail : ℕ → List ℕ → Type 0
+  IsTrail c [] = Unit {0}
+  IsTrail c (r ∷ []) = ⊥
+  IsTrail c (r ∷ x ∷ lines) = (r < t) × (M r c ≢ pos 0) × (M r x ≢ pos 0) × GoesOn x lines × IsTrail x lines
+
+-- the column in which it ends
+abbrev pub trail_end : ℕ → List ℕ → ℕ
+trail_end c [] = c
+trail_end c (r ∷ []) = c
+trail_end c (r ∷ x ∷ lines) = trail_end x lines
+
+-- the sum of the entries at which it passes
+abbrev pub trail_sum : (ℕ → ℕ → ℤ) → ℕ → List ℕ → ℤ
+trail_sum M c [] = pos 0
+trail_sum M c (r ∷ []) = pos 0
+trail_sum M c (r ∷ x ∷ lines) = (M r c +ℤ M r x) +ℤ trail_sum M x lines

@@ -1,0 +1,162 @@
+-- Breadth-first walks from a column over the rows before one, first come, first served. The columns are reached in the order of their
+-- least trails.
+use Rattle.std.specs.Prelude.{ℕ, List, [], ◌∷◌, ◌++◌, Bool, true, false, not, ℤ, pos, ◌+ℤ◌, ◌≡◌, ◌≢◌, ◌<◌, ◌≤◌, ◌⊎◌, length, slice_index, slice_index_or}
+use Rattle.cmr_base.specs.Matrix.{Matrix, height, entry, IsMatrix}
+use Rattle.cmr_base.specs.CyclePlaces.{IsPath}
+use Rattle.cmr_base.specs.Sums.{IsTwoModFour}
+use Rattle.camion_sign.specs.declared.walk.Step.{Step}
+use Rattle.camion_sign.specs.declared.walk.Walk.{Walk}
+use Rattle.camion_sign.specs.Trails.{IsBefore, IsUpTo, IsTrail, trail_end, trail_sum}
+
+-- true an odd number of times
+abbrev pub flip : Bool → Bool → Bool
+flip true b = not b
+flip false b = b
+
+-- 2 modulo 4, or 0 modulo 4
+abbrev pub TwoIf : Bool → ℤ → Type 0
+TwoIf true z = IsTwoModFour z
+TwoIf false z = (k : ℤ) × (z ≡ (k +ℤ k) +ℤ (k +ℤ k))
+
+-- the state of a walk: the columns in the order in which they were reached, each with the row and the place of the column from
+-- which it was, and whether its trail has the sum 2 modulo 4; the place of each column, or the greatest number; the rows that
+-- were gone through
+pub record Progress : Type 0 where
+  pub count : ℕ
+  pub column : ℕ → ℕ
+  pub row : ℕ → ℕ
+  pub before : ℕ → ℕ
+  pub is_two : ℕ → Bool
+  pub place : ℕ → ℕ
+  pub used : ℕ → Bool
+
+abbrev pub step_at : List Step → ℕ → Step
+step_at steps place = slice_index_or steps place (record { column = 0; row = 0; before = 0; is_two = false })
+
+abbrev pub place_in : List ℕ → ℕ → ℕ
+place_in places column = slice_index_or places column 4294967295
+
+abbrev pub progress : List Step → List ℕ → List Bool → Progress
+progress steps places used = record {
+  count = length steps;
+  column = λ j. (step_at steps j).column;
+  row = λ j. (step_at steps j).row;
+  before = λ j. (step_at steps j).before;
+  is_two = λ j. (step_at steps j).is_two;
+  place = place_in places;
+  used = λ r. slice_index_or used r false;
+}
+
+module _ (M : ℕ → ℕ → ℤ) (t c n : ℕ) (s : Progress) (key : ℕ → List ℕ) where
+  -- the columns that were reached, and their trails
+  pub record IsQueue : Type 0 where
+    pub some : 0 < s.count
+    pub first : s.column 0 ≡ c
+    pub start : key 0 ≡ []
+    pub inside : (j : ℕ) → j < s.count → s.column j < n
+    pub placed : (j : ℕ) → j < s.count → s.place (s.column j) ≡ j
+    pub listed : (x : ℕ) → s.place x < 4294967295 → (s.place x < s.count) × (s.column (s.place x) ≡ x)
+    pub topped : (x : ℕ) → s.place x ≤ 4294967295
+    pub sorted : (i j : ℕ) → i < j → j < s.count → IsBefore (key i) (key j)
+    pub trail : (j : ℕ) → j < s.count → IsTrail M t c (key j)
+    pub ends : (j : ℕ) → j < s.count → trail_end c (key j) ≡ s.column j
+    pub sums : (j : ℕ) → j < s.count → TwoIf (s.is_two j) (trail_sum M c (key j))
+    pub earlier : (j : ℕ) → 0 < j → j < s.count → s.before j < j
+    pub parent : (j : ℕ) → 0 < j → j < s.count → key j ≡ key (s.before j) ++ s.row j ∷ s.column j ∷ []
+
+  -- a trail may go on from this place
+  abbrev pub Goes : ℕ → Type 0
+  Goes j = (j ≡ 0) ⊎ (M t (s.column j) ≡ pos 0)
+
+  -- the column was reached by a trail that is not after this one
+  abbrev pub IsMet : ℕ → List ℕ → Type 0
+  IsMet x lines = (s.place x < 4294967295) × IsUpTo (key (s.place x)) lines
+
+  -- those before place h are done; what comes next comes by this row or a later one, and this column or a later one
+  pub record IsFront (h : ℕ) (Next : ℕ → ℕ → Type 0) : Type 0 where
+    pub queue : IsQueue
+    pub fits : h ≤ s.count
+    pub done : (i r x : ℕ) → i < h → Goes i → r < t → M r (s.column i) ≢ pos 0 → M r x ≢ pos 0 → IsMet x (key i ++ r ∷ x ∷ [])
+    pub gone : (r x : ℕ) → s.used r ≡ true → M r x ≢ pos 0 → (s.place x < 4294967295) × (h < s.count → IsUpTo (key (s.place x)) (key h ++ r ∷ x ∷ []))
+    pub front : (j r x : ℕ) → j < s.count → h < s.count → Next r x → IsBefore (key j) (key h ++ r ∷ x ∷ [])
+
+  -- nothing that a trail can still reach comes before what was reached
+  abbrev pub IsSettled : Type 0
+  IsSettled = (i r x : ℕ) (lines : List ℕ) → i < s.count → Goes i → r < t → M r (s.column i) ≢ pos 0 → M r x ≢ pos 0 → IsUpTo (key i) lines
+      → IsMet x (lines ++ r ∷ x ∷ []) ⊎ ((j : ℕ) → j < s.count → IsBefore (key j) (lines ++ r ∷ x ∷ []))
+
+-- as many places as columns and as many marks as rows
+pub record FitsMatrix (m : Matrix) (walk : Walk) : Type 0 where
+  pub matrix : IsMatrix m
+  pub places : length walk.places.items ≡ m.width
+  pub used : length walk.used.items ≡ height m
+
+-- a walk from column c before row t, at place h, where rows below `low` are not looked at again for this place
+pub record IsWalking (m : Matrix) (t c h low : ℕ) (walk : Walk) : Type 0 where
+  pub fits : FitsMatrix m walk
+  pub key : ℕ → List ℕ
+  pub front : IsFront (entry m) t c m.width (progress walk.steps.items walk.places.items walk.used.items) key h (λ r x. low ≤ r)
+
+-- place h is one of the walk, and a trail may go on from it
+pub record IsOpen (m : Matrix) (t h : ℕ) (walk : Walk) : Type 0 where
+  pub within : h < length walk.steps.items
+  pub goes : (h ≡ 0) ⊎ (entry m t (step_at walk.steps.items h).column ≡ pos 0)
+
+-- columns that were reached stay reached, and steps stay
+pub record GrowsFrom (old new : Walk) : Type 0 where
+  pub longer : length old.steps.items ≤ length new.steps.items
+  pub steps : (j : ℕ) → j < length old.steps.items → step_at new.steps.items j ≡ step_at old.steps.items j
+  pub places : (x : ℕ) → place_in old.places.items x < 4294967295 → place_in new.places.items x < 4294967295
+
+-- in the middle of the columns that row r meets, from the step at place h: the first k are reached
+pub record IsReaching (m : Matrix) (t c h r : ℕ) (columns : List ℕ) (k : ℕ) (from : Step) (old walk : Walk) : Type 0 where
+  pub fits : FitsMatrix m walk
+  pub grows : GrowsFrom old walk
+  pub used : walk.used.items ≡ old.used.items
+  pub within : h < length walk.steps.items
+  pub from_is : step_at walk.steps.items h ≡ from
+  pub key : ℕ → List ℕ
+  pub front : IsFront (entry m) t c m.width (progress walk.steps.items walk.places.items walk.used.items) key h
+      (λ s x. (r < s) ⊎ ((r ≡ s) × ((i : ℕ) → i < k → slice_index columns i < x)))
+  pub met : (i : ℕ) → i < k → IsMet (entry m) t c m.width (progress walk.steps.items walk.places.items walk.used.items) key (slice_index columns i) (key h ++ r ∷ slice_index columns i ∷ [])
+
+-- no row before t meets the column
+abbrev pub IsUntouched : Matrix → ℕ → ℕ → Type 0
+IsUntouched m t x = (r : ℕ) → r < t → entry m r x ≢ pos 0 → ⊥
+
+-- each column between c and `pending` that row t meets is reached, or no walk can reach it
+abbrev pub NoneWaits : Matrix → ℕ → ℕ → ℕ → List ℕ → Type 0
+NoneWaits m t c pending places = (d : ℕ) → c < d → d < pending → entry m t d ≢ pos 0 → (place_in places d ≢ 4294967295) ⊎ IsUntouched m t d
+
+-- in the middle of the rows that the column at place h meets: the first k are gone through
+pub record IsSpreading (m : Matrix) (t c h : ℕ) (rows : List ℕ) (k pending : ℕ) (old walk : Walk) : Type 0 where
+  pub low : ℕ
+  pub walking : IsWalking m t c h low walk
+  pub low_in : low ≤ t
+  pub ahead : (i : ℕ) → k ≤ i → i < length rows → low ≤ slice_index rows i
+  pub gone : (i : ℕ) → i < k → slice_index_or walk.used.items (slice_index rows i) false ≡ true
+  pub open_is : IsOpen m t h walk
+  pub column_is : (step_at walk.steps.items h).column ≡ (step_at old.steps.items h).column
+  pub pending_in : pending ≤ m.width
+  pub waits : NoneWaits m t c pending walk.places.items
+
+-- the walk may end: all that it looks for is settled
+pub record HasSettled (m : Matrix) (t c : ℕ) (walk : Walk) : Type 0 where
+  pub fits : FitsMatrix m walk
+  pub key : ℕ → List ℕ
+  pub queue : IsQueue (entry m) t c m.width (progress walk.steps.items walk.places.items walk.used.items) key
+  pub settled : IsSettled (entry m) t c m.width (progress walk.steps.items walk.places.items walk.used.items) key
+
+-- between two places
+pub record IsGoing (m : Matrix) (t c h pending : ℕ) (walk : Walk) : Type 0 where
+  pub state : IsWalking m t c h 0 walk ⊎ ((pending ≡ m.width) × HasSettled m t c walk)
+  pub pending_in : pending ≤ m.width
+  pub waits : NoneWaits m t c pending walk.places.items
+
+-- what a walk has found out: the least trails to the columns that it reached, and that there are no paths to others
+pub record HasWalked (m : Matrix) (t c : ℕ) (walk : Walk) : Type 0 where
+  pub fits : FitsMatrix m walk
+  pub key : ℕ → List ℕ
+  pub queue : IsQueue (entry m) t c m.width (progress walk.steps.items walk.places.items walk.used.items) key
+  pub least : (d : ℕ) (lines : List ℕ) → place_in walk.places.items d < 4294967295 → IsTrail (entry m) t c lines → trail_end c lines ≡ d → IsUpTo (key (place_in walk.places.items d)) lines
+  pub none : (d : ℕ) (lines : List ℕ) → c < d → entry m t d ≢ pos 0 → place_in walk.places.items d ≡ 4294967295 → IsPath (entry m) t c d lines → ⊥

@@ -1,0 +1,144 @@
+// The first cycle place whose sum is 2 modulo 4.
+ghost use Rattle.std.specs.Prelude.{◌≡◌, ◌≢◌, ◌<◌, ◌≤◌, ◌⊎◌, ◌↔◌, ℕ, List, pos, IsTrue, IfOk, MatchOption};
+ghost use Rattle.cmr_base.specs.Matrix.{height, entry};
+ghost use Rattle.cmr_base.specs.CyclePlaces.{HasNoCycleFault, IsCyclePlace, IsFaultAt};
+ghost use Rattle.camion_sign.specs.Walks.{FitsMatrix, HasWalked, place_in};
+ghost use Rattle.camion_sign.specs.Faults.{HasNoFaultAt, IsColumnFault, IsFirstFault};
+
+use crate::reach::{Start, flipped, walk_from};
+use crate::support::Support;
+use crate::walk::{UNREACHED, Walk};
+use cmr_base::{Matrix, Memory};
+use std::alloc::Global;
+
+/// A place whose cycle has the sum 2 modulo 4: its row and its two columns, and its path.
+#[derive(Drop)]
+pub struct Fault {
+    pub row: u32,
+    pub first: u32,
+    pub last: u32,
+    pub lines: Vec<u32>,
+}
+
+/// The first fault in the order of places.
+pub fn first_fault(alloc: Global, matrix: &Matrix) -> Result<Option<Fault>, Memory>
+    ensures { IfOk result (λ found. MatchOption found (HasNoCycleFault (entry matrix.now)) (λ f. IsFirstFault matrix.now f.row f.first f.last f.lines.items)) }
+{
+    let support = Support::new(alloc, matrix)?;
+    let mut walk = Walk::new(alloc, support.rows(), support.columns())?;
+    fault_of_rows(alloc, &support, &mut walk)
+}
+
+fn fault_of_rows(
+    alloc: Global,
+    support: &Support<'_>,
+    walk: &mut Walk,
+) -> Result<Option<Fault>, Memory>
+    requires { FitsMatrix support.now walk.old }
+    ensures { IfOk result (λ found. MatchOption found (HasNoCycleFault (entry support.now)) (λ f. IsFirstFault support.now f.row f.first f.last f.lines.items)) }
+{
+    for row in 0..support.rows() {
+        if let Some(fault) = fault_of_row(alloc, support, walk, row)? {
+            return Ok(Some(fault));
+        }
+    }
+    Ok(None)
+}
+
+// The first fault of a row.
+fn fault_of_row(
+    alloc: Global,
+    support: &Support<'_>,
+    walk: &mut Walk,
+    row: u32,
+) -> Result<Option<Fault>, Memory>
+    requires row { row < height support.now }
+    requires fits { FitsMatrix support.now walk.old }
+    ensures found { IfOk result (λ found. MatchOption found ((x y : ℕ) → HasNoFaultAt support.now row x y) (λ f. (f.row ≡ row) × IsColumnFault support.now row f.first f.last f.lines.items × ((x y : ℕ) → x < f.first → HasNoFaultAt support.now row x y))) }
+    ensures fits { IfOk result (λ found. FitsMatrix support.now walk.new) }
+{
+    for column in 0..support.columns() {
+        if support.entry(row, column) != 0 {
+            let start = Start { row, column };
+            if let Some(fault) = fault_from(alloc, support, walk, start)? {
+                return Ok(Some(fault));
+            }
+        }
+    }
+    Ok(None)
+}
+
+// The fault of a row and a first column with the least last column.
+fn fault_from(
+    alloc: Global,
+    support: &Support<'_>,
+    walk: &mut Walk,
+    start: Start,
+) -> Result<Option<Fault>, Memory>
+    requires row { start.row < height support.now }
+    requires column { start.column < support.now.width }
+    requires first { entry support.now start.row start.column ≢ pos 0 }
+    requires fits { FitsMatrix support.now walk.old }
+    ensures found { IfOk result (λ found. MatchOption found ((y : ℕ) → HasNoFaultAt support.now start.row start.column y) (λ f. (f.row ≡ start.row) × (f.first ≡ start.column) × IsColumnFault support.now start.row start.column f.last f.lines.items)) }
+    ensures fits { IfOk result (λ found. FitsMatrix support.now walk.new) }
+{
+    walk_from(support, walk, start)?;
+    for last in start.column + 1..support.columns() {
+        if is_fault(support, walk, start, last) {
+            return Ok(Some(Fault {
+                row: start.row,
+                first: start.column,
+                last,
+                lines: path_to(alloc, support, walk, start, last)?,
+            }));
+        }
+    }
+    Ok(None)
+}
+
+// Whether the cycle of a place has the sum 2 modulo 4.
+fn is_fault(support: &Support<'_>, walk: &Walk, start: Start, last: u32) -> bool
+    requires row { start.row < height support.now }
+    requires order { start.column < last }
+    requires width { last < support.now.width }
+    requires first { entry support.now start.row start.column ≢ pos 0 }
+    requires walked { HasWalked support.now start.row start.column walk.now }
+    ensures reached { IsTrue result → place_in walk.now.places.items last < 4294967295 }
+    ensures fault { IsTrue result ↔ ((path : List ℕ) × IsFaultAt (entry support.now) start.row start.column last path) }
+{
+    if support.entry(start.row, last) == 0 || walk.places[last as usize] == UNREACHED {
+        return false;
+    }
+    let step = walk.steps[walk.places[last as usize] as usize];
+    let is_same = support.entry(start.row, start.column) == support.entry(start.row, last);
+    flipped(step.is_two, is_same)
+}
+
+// The path of a place, from its last column back to its first.
+fn path_to(
+    alloc: Global,
+    support: &Support<'_>,
+    walk: &Walk,
+    start: Start,
+    last: u32,
+) -> Result<Vec<u32>, Memory>
+    requires order { start.column < last }
+    requires width { last < support.now.width }
+    requires first { entry support.now start.row start.column ≢ pos 0 }
+    requires last { entry support.now start.row last ≢ pos 0 }
+    requires walked { HasWalked support.now start.row start.column walk.now }
+    requires reached { place_in walk.now.places.items last < 4294967295 }
+    ensures { IfOk result (λ lines. IsCyclePlace (entry support.now) start.row start.column last lines.items) }
+{
+    let step = walk.steps[walk.places[last as usize] as usize];
+    let mut lines = vec![in alloc; step.row; 1]?;
+    let mut place = step.before as usize;
+    while place != 0 {
+        let step = walk.steps[place];
+        lines.push(step.column)?;
+        lines.push(step.row)?;
+        place = step.before as usize;
+    }
+    lines.reverse();
+    Ok(lines)
+}

@@ -1,0 +1,76 @@
+// The state of a breadth-first walk.
+ghost use Rattle.std.specs.Prelude.{◌≡◌, ◌<◌, ◌≤◌, ◌++◌, [], ◌∷◌, IfOk, OnOk, length, replicate, slice_set, false};
+
+use cmr_base::Memory;
+use std::alloc::Global;
+
+/// The place of a column that was not reached.
+pub const UNREACHED: u32 = 4_294_967_295;
+
+/// A column that was reached.
+#[derive(Clone, Copy)]
+pub struct Step {
+    pub column: u32,
+    /// The row by which it was reached.
+    pub row: u32,
+    /// The place, among the steps, of the column from which it was reached.
+    pub before: u32,
+    /// Whether the entries at which the walk came here have the sum 2 modulo 4.
+    pub is_two: bool,
+}
+
+/// The columns that were reached, in order, the place of each column, and the rows that were gone through. One walk
+/// after another uses its room.
+#[derive(Drop)]
+pub struct Walk {
+    pub steps: Vec<Step>,
+    pub places: Vec<u32>,
+    pub used: Vec<bool>,
+}
+
+impl Walk {
+    /// Room for walks in a matrix of so many rows and columns.
+    pub fn new(alloc: Global, rows: u32, columns: u32) -> Result<Walk, Memory>
+        ensures places { IfOk result (λ walk. length walk.places.items ≡ columns) }
+        ensures used { IfOk result (λ walk. length walk.used.items ≡ rows) }
+    {
+        Ok(Walk {
+            steps: Vec::with_capacity(alloc, columns as usize)?,
+            places: vec![in alloc; UNREACHED; columns as usize]?,
+            used: vec![in alloc; false; rows as usize]?,
+        })
+    }
+
+    /// Begins a walk from a column.
+    pub fn begin(&mut self, column: u32) -> Result<(), Memory>
+        requires { column < length self.old.places.items }
+        ensures steps { OnOk result (self.new.steps.items ≡ record { column = column; row = 0; before = 0; is_two = false } ∷ []) }
+        ensures places { OnOk result (self.new.places.items ≡ slice_set (replicate (length self.old.places.items) 4294967295) column 0) }
+        ensures used { OnOk result (self.new.used.items ≡ replicate (length self.old.used.items) false) }
+    {
+        self.steps.clear();
+        self.places.fill(UNREACHED);
+        self.used.fill(false);
+        self.places[column as usize] = 0;
+        self.steps.push(Step {
+            column,
+            row: 0,
+            before: 0,
+            is_two: false,
+        })?;
+        Ok(())
+    }
+
+    /// Adds a column that was reached.
+    pub fn reach(&mut self, step: Step) -> Result<(), Memory>
+        requires column { step.column < length self.old.places.items }
+        requires few { length self.old.steps.items ≤ 1000 }
+        ensures steps { OnOk result (self.new.steps.items ≡ self.old.steps.items ++ step ∷ []) }
+        ensures places { OnOk result (self.new.places.items ≡ slice_set self.old.places.items step.column (length self.old.steps.items)) }
+        ensures used { OnOk result (self.new.used.items ≡ self.old.used.items) }
+    {
+        self.places[step.column as usize] = self.steps.len() as u32;
+        self.steps.push(step)?;
+        Ok(())
+    }
+}
