@@ -1,0 +1,74 @@
+-- The first row that splits the others.
+use Rattle.std.proofs.Common.{ℕ, zero, suc, ◌+◌, Bool, List, [], ◌∷◌, ◌++◌, ◌≡◌, ◌<◌, ◌≤◌, sym, ap, refl, arith, subst, inl, inr, length, get_or, take, drop}
+use Rattle.std.specs.List.Sorted.{IsStrictlyIncreasing}
+use Rattle.std.proofs.lemmas.Bool.{cases_lt}
+use Rattle.cmr_base.specs.Matrix.{Matrix}
+use Rattle.cmr_base.specs.Members.{IsIn}
+use Rattle.cmr_base.specs.Splits.{Splits, IsFirstSplit}
+use Rattle.cmr_base.specs.Trees.{support}
+use Rattle.cmr_base.proofs.ListsWithout.{place_of, IsPlaceOf, place_is}
+use Rattle.bridge_split.specs.PartNumbers.{number_at, AreNumbered, HasRoom, IsSearching}
+use Rattle.bridge_split.proofs.NumberedParts.{linked_number}
+
+-- a list at a place
+cut_at : (xs : List ℕ) (p : ℕ) → p < length xs → xs ≡ take p xs ++ get_or xs p 0 ∷ drop (suc p) xs
+cut_at [] p l = absurd (omega arith)
+cut_at (x ∷ xs) zero l = refl
+cut_at (x ∷ xs) (suc p) l = ap (λ (ys : List ℕ). x ∷ ys) (cut_at xs p (omega arith))
+
+before_place : (xs : List ℕ) (p x : ℕ) → IsIn x (take p xs) → (q : ℕ) × (q < p) × (get_or xs q 0 ≡ x)
+before_place [] zero x h = absurd h
+before_place [] (suc p) x h = absurd h
+before_place (y ∷ xs) zero x h = absurd h
+before_place (y ∷ xs) (suc p) x (inl e) = (0, omega arith, sym e)
+before_place (y ∷ xs) (suc p) x (inr h) = let r = before_place xs p x h in (suc r.0, (let l = r.1 in omega arith), r.2)
+
+module _ (M : ℕ → ℕ → Bool) (S : List ℕ) (rises : IsStrictlyIncreasing S) where
+  -- a row with two parts or more splits
+  pub splits_two : (i : ℕ) (numbers : List ℕ) (count : ℕ) → AreNumbered M S i (number_at numbers) count → IsIn i S → 2 ≤ count → Splits M S i
+  splits_two i numbers count n hi l =
+      let a = n.filled 0 (omega arith) in
+      let b = n.filled 1 (omega arith) in
+      record {
+        here = hi;
+        one = a.0;
+        two = b.0;
+        one_in = a.1;
+        two_in = b.1;
+        one_other = a.2;
+        two_other = b.2;
+        apart = λ link. let e = linked_number M S i rises numbers count n a.0 b.0 a.1 b.1 a.2 b.2 link in let f = a.3 in let g = b.3 in omega arith;
+      }
+
+  pub splits_none : (i : ℕ) (numbers : List ℕ) (count : ℕ) → AreNumbered M S i (number_at numbers) count → count < 2 → ¬ (Splits M S i)
+  splits_none i numbers count n l s =
+      let a = n.numbered s.one s.one_in s.one_other in
+      let b = n.numbered s.two s.two_in s.two_other in
+      s.apart (n.linked s.one s.two s.one_in s.two_in s.one_other s.two_other (omega arith))
+
+  -- the rows before a place do not split
+  pub first_split : (p : ℕ) → p < length S → ((q : ℕ) → q < p → ¬ (Splits M S (get_or S q 0))) → Splits M S (get_or S p 0) → IsFirstSplit M S (get_or S p 0)
+  first_split p l none s = record {
+    before = take p S;
+    after = drop (suc p) S;
+    place = cut_at S p l;
+    splits = s;
+    none = λ r h t. let q = before_place S p r h in none q.0 q.1 (subst (Splits M S) (sym q.2) t);
+  }
+
+  pub none_splits : (p : ℕ) → length S ≤ p → ((q : ℕ) → q < p → ¬ (Splits M S (get_or S q 0))) → (row : ℕ) → ¬ (Splits M S row)
+  none_splits p l none row s = go (place_is row S s.here)
+    where
+      go : IsPlaceOf row S (place_of row S) → ⊥
+      go q = none (place_of row S) (let m = q.in_range in omega arith) (subst (Splits M S) (sym q.there) s)
+
+module _ (m : Matrix) (S : List ℕ) (rises : IsStrictlyIncreasing S) where
+  pub searching_on : (p count : ℕ) (part part' : List ℕ) (seen seen' : List Bool) → IsSearching m S p part seen → p < length S → HasRoom m part' seen' → AreNumbered (support m) S (get_or S p 0) (number_at part') count → count < 2
+      → IsSearching m S (p + 1) part' seen'
+  searching_on p count part part' seen seen' w l room n few = record {
+    room = room;
+    none = λ q k. elim (cases_lt q p) [
+      | inl lt ↦ w.none q lt
+      | inr ge ↦ let e : p ≡ q = omega arith in subst (λ (z : ℕ). ¬ (Splits (support m) S (get_or S z 0))) e (splits_none (support m) S rises (get_or S p 0) part' count n few)
+    ];
+  }

@@ -1,0 +1,12 @@
+pub mod ThreeNonzeros
+pub mod Links
+pub mod PartWalks
+pub mod ColumnSteps
+pub mod NumberSteps
+pub mod NumberedParts
+pub mod FirstSplit
+pub mod CutTables
+pub mod Forests
+pub mod ForestSteps
+pub mod PathRoutes
+pub mod SidesOfParts

@@ -1,0 +1,19 @@
+-- Being linked is an equivalence.
+use Rattle.std.proofs.Common.{ℕ, Bool, List, [], ◌∷◌, sym, refl, subst}
+use Rattle.cmr_base.specs.Members.{IsIn}
+use Rattle.cmr_base.specs.Splits.{AreJoined, LeadsTo, AreLinked}
+
+module _ (M : ℕ → ℕ → Bool) (S : List ℕ) (i : ℕ) where
+  pub joined_back : (j k : ℕ) → AreJoined M i j k → AreJoined M i k j
+  joined_back j k (column, off, a, b) = (column, off, b, a)
+
+  -- one more row at the end
+  leads_on : (j k x : ℕ) (rows : List ℕ) → LeadsTo M S i j rows k → IsIn x S → AreJoined M i k x → AreLinked M S i j x
+  leads_on j k x [] e hx join = (x ∷ [], (hx, subst (λ (z : ℕ). AreJoined M i z x) (sym e) join, refl))
+  leads_on j k x (y ∷ rows) (hy, first, e) hx join = let r = leads_on y k x rows e hx join in (y ∷ r.0, (hy, first, r.1))
+
+  pub linked_on : (j k x : ℕ) → AreLinked M S i j k → IsIn x S → AreJoined M i k x → AreLinked M S i j x
+  linked_on j k x (rows, e) hx join = leads_on j k x rows e hx join
+
+  pub linked_from : (x k j : ℕ) → IsIn k S → AreJoined M i x k → AreLinked M S i k j → AreLinked M S i x j
+  linked_from x k j hk join (rows, e) = (k ∷ rows, (hk, join, e))

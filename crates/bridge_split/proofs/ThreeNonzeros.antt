@@ -1,0 +1,137 @@
+-- Columns with three nonzeros, by their counts.
+use Rattle.std.proofs.Common.{ℕ, zero, suc, ℤ, pos, Bool, true, false, cond, List, [], ◌∷◌, ◌≡◌, ◌≢◌, ◌<◌, ◌≤◌, ◌∙◌, sym, ap, refl, arith, subst, ◌⊎◌, inl, inr, length, get_or, Option, Some, None, MatchOption}
+use Rattle.std.specs.List.{count_by, filter}
+use Rattle.std.specs.List.Sorted.{IsStrictlyIncreasing}
+use Rattle.std.proofs.lemmas.Bool.{cases_lt}
+use Rattle.std.proofs.lemmas.List.Sums.{length-filter}
+use Rattle.cmr_base.specs.Matrix.{Matrix, height, row_of, IsMatrix, is_nonzero}
+use Rattle.cmr_base.specs.LineSets.{AllBelow}
+use Rattle.cmr_base.specs.Members.{IsIn, IsDistinct}
+use Rattle.cmr_base.specs.Splits.{HasNoThree}
+use Rattle.cmr_base.specs.Trees.{support}
+use Rattle.cmr_base.proofs.Lists.{all_by_places}
+use Rattle.cmr_base.proofs.ListsWithout.{increasing_distinct}
+use Rattle.cmr_base.proofs.Members.{all_in}
+use Rattle.cmr_base.proofs.RowLists.{not_both}
+use Rattle.bridge_split.specs.SplitCases.{HasThree, IsFirstWithThree}
+
+module _ (p : ℕ → Bool) where
+  -- at least one, two, three of the list
+  one_counts : (S : List ℕ) (a : ℕ) → IsIn a S → p a ≡ true → 1 ≤ length (filter p S)
+  one_counts [] a h e = absurd h
+  one_counts (x ∷ S) a h e = go (p x) refl h (λ g. one_counts S a g e)
+    where
+      go : (t : Bool) → p x ≡ t → (a ≡ x) ⊎ IsIn a S → (IsIn a S → 1 ≤ length (filter p S)) → 1 ≤ length (cond t (x ∷ filter p S) (filter p S))
+      go true f h k = omega arith
+      go false f (inl q) k = absurd (not_both (p x) (ap p (sym q) ∙ e) f)
+      go false f (inr h) k = let l = k h in omega arith
+
+  two_count : (S : List ℕ) (a b : ℕ) → IsIn a S → IsIn b S → a ≢ b → p a ≡ true → p b ≡ true → 2 ≤ length (filter p S)
+  two_count [] a b ha hb n ea eb = absurd ha
+  two_count (x ∷ S) a b ha hb n ea eb = go (p x) refl ha hb (λ g h. two_count S a b g h n ea eb)
+    where
+      go : (t : Bool) → p x ≡ t → (a ≡ x) ⊎ IsIn a S → (b ≡ x) ⊎ IsIn b S → (IsIn a S → IsIn b S → 2 ≤ length (filter p S)) → 2 ≤ length (cond t (x ∷ filter p S) (filter p S))
+      go t f (inl q) (inl r) k = absurd (n (q ∙ sym r))
+      go true f (inl q) (inr hb) k = let l = one_counts S b hb eb in omega arith
+      go true f (inr ha) hb k = let l = one_counts S a ha ea in omega arith
+      go false f (inl q) hb k = absurd (not_both (p x) (ap p (sym q) ∙ ea) f)
+      go false f (inr ha) (inl r) k = absurd (not_both (p x) (ap p (sym r) ∙ eb) f)
+      go false f (inr ha) (inr hb) k = let l = k ha hb in omega arith
+
+  three_count : (S : List ℕ) (a b c : ℕ) → IsIn a S → IsIn b S → IsIn c S → a ≢ b → a ≢ c → b ≢ c → p a ≡ true → p b ≡ true → p c ≡ true → 3 ≤ length (filter p S)
+  three_count [] a b c ha hb hc ab ac bc ea eb ec = absurd ha
+  three_count (x ∷ S) a b c ha hb hc ab ac bc ea eb ec = go (p x) refl ha hb hc (λ g h i. three_count S a b c g h i ab ac bc ea eb ec)
+    where
+      go : (t : Bool) → p x ≡ t → (a ≡ x) ⊎ IsIn a S → (b ≡ x) ⊎ IsIn b S → (c ≡ x) ⊎ IsIn c S → (IsIn a S → IsIn b S → IsIn c S → 3 ≤ length (filter p S)) → 3 ≤ length (cond t (x ∷ filter p S) (filter p S))
+      go t f (inl q) (inl r) hc k = absurd (ab (q ∙ sym r))
+      go t f (inl q) (inr hb) (inl s) k = absurd (ac (q ∙ sym s))
+      go t f (inr ha) (inl r) (inl s) k = absurd (bc (r ∙ sym s))
+      go true f (inl q) (inr hb) (inr hc) k = let l = two_count S b c hb hc bc eb ec in omega arith
+      go true f (inr ha) (inl r) (inr hc) k = let l = two_count S a c ha hc ac ea ec in omega arith
+      go true f (inr ha) (inr hb) hc k = let l = two_count S a b ha hb ab ea eb in omega arith
+      go false f (inl q) (inr hb) (inr hc) k = absurd (not_both (p x) (ap p (sym q) ∙ ea) f)
+      go false f (inr ha) (inl r) (inr hc) k = absurd (not_both (p x) (ap p (sym r) ∙ eb) f)
+      go false f (inr ha) (inr hb) (inl s) k = absurd (not_both (p x) (ap p (sym s) ∙ ec) f)
+      go false f (inr ha) (inr hb) (inr hc) k = let l = k ha hb hc in omega arith
+
+  -- and the other way round
+  some_one : (S : List ℕ) → 1 ≤ length (filter p S) → (a : ℕ) × IsIn a S × (p a ≡ true)
+  some_one [] l = absurd (omega arith)
+  some_one (x ∷ S) l = go (p x) refl l (some_one S)
+    where
+      go : (t : Bool) → p x ≡ t → 1 ≤ length (cond t (x ∷ filter p S) (filter p S)) → (1 ≤ length (filter p S) → (a : ℕ) × IsIn a S × (p a ≡ true)) → (a : ℕ) × ((a ≡ x) ⊎ IsIn a S) × (p a ≡ true)
+      go true f l k = (x, inl refl, f)
+      go false f l k = let r = k (omega arith) in (r.0, inr r.1, r.2)
+
+  some_two : (S : List ℕ) → IsDistinct S → 2 ≤ length (filter p S) → (a : ℕ) × (b : ℕ) × IsIn a S × IsIn b S × (a ≢ b) × (p a ≡ true) × (p b ≡ true)
+  some_two [] d l = absurd (omega arith)
+  some_two (x ∷ S) d l = go (p x) refl l (some_two S d.1)
+    where
+      go : (t : Bool) → p x ≡ t → 2 ≤ length (cond t (x ∷ filter p S) (filter p S)) → (2 ≤ length (filter p S) → (a : ℕ) × (b : ℕ) × IsIn a S × IsIn b S × (a ≢ b) × (p a ≡ true) × (p b ≡ true)) → (a : ℕ) × (b : ℕ) × ((a ≡ x) ⊎ IsIn a S) × ((b ≡ x) ⊎ IsIn b S) × (a ≢ b) × (p a ≡ true) × (p b ≡ true)
+      go true f l k = let r = some_one S (omega arith) in (x, r.0, inl refl, inr r.1, (λ e. d.0 (subst (λ (v : ℕ). IsIn v S) (sym e) r.1)), f, r.2)
+      go false f l k = let r = k (omega arith) in (r.0, r.1, inr r.2, inr r.3, r.4, r.5, r.6)
+
+module _ (M : ℕ → ℕ → Bool) where
+  three_here : (column : ℕ) (S : List ℕ) → IsDistinct S → 3 ≤ length (filter (λ row. M row column) S) → HasThree M S column
+  three_here column [] d l = absurd (omega arith)
+  three_here column (x ∷ S) d l = go (M x column) refl l (three_here column S d.1)
+    where
+      go : (t : Bool) → M x column ≡ t → 3 ≤ length (cond t (x ∷ filter (λ row. M row column) S) (filter (λ row. M row column) S)) → (3 ≤ length (filter (λ row. M row column) S) → HasThree M S column) → HasThree M (x ∷ S) column
+      go true f l k =
+          let r = some_two (λ row. M row column) S d.1 (omega arith) in
+          record {
+            one = x;
+            two = r.0;
+            three = r.1;
+            one_in = inl refl;
+            two_in = inr r.2;
+            three_in = inr r.3;
+            apart = ((λ e. d.0 (subst (λ (v : ℕ). IsIn v S) (sym e) r.2)), (λ e. d.0 (subst (λ (v : ℕ). IsIn v S) (sym e) r.3)), r.4);
+            nonzero = (f, r.5, r.6);
+          }
+      go false f l k =
+          let r = k (omega arith) in
+          record { one = r.one; two = r.two; three = r.three; one_in = inr r.one_in; two_in = inr r.two_in; three_in = inr r.three_in; apart = r.apart; nonzero = r.nonzero }
+
+  here_three : (column : ℕ) (S : List ℕ) → HasThree M S column → 3 ≤ length (filter (λ row. M row column) S)
+  here_three column S h = three_count (λ row. M row column) S h.one h.two h.three h.one_in h.two_in h.three_in h.apart.0 h.apart.1 h.apart.2 h.nonzero.0 h.nonzero.1 h.nonzero.2
+
+-- a column with three nonzeros is no star's
+pub not_star : (M : ℕ → ℕ → Bool) (S : List ℕ) (column : ℕ) → HasThree M S column → ¬ (HasNoThree M S)
+not_star M S column h none = none column h.one h.two h.three h.one_in h.two_in h.three_in h.nonzero.0 h.nonzero.1 h.nonzero.2 h.apart.0 h.apart.1 h.apart.2
+
+past_columns : (xs : List ℤ) (i : ℕ) → length xs ≤ i → is_nonzero (get_or xs i (pos 0)) ≡ false
+past_columns [] i l = refl
+past_columns (x ∷ xs) zero l = absurd (omega arith)
+past_columns (x ∷ xs) (suc i) l = past_columns xs i (omega arith)
+
+-- rows are 0 beside the matrix
+pub column_in : (m : Matrix) (row column : ℕ) → IsMatrix m → row < height m → support m row column ≡ true → column < m.width
+column_in m row column is l e = elim (cases_lt column m.width) [
+  | inl lt ↦ lt
+  | inr ge ↦ absurd (not_both (support m row column) e (past_columns (row_of m row) column (let s = is.rectangular row l in omega arith)))
+]
+
+-- a row of the list is below the bound
+pub below_in : (x bound : ℕ) (S : List ℕ) → AllBelow bound S → IsIn x S → x < bound
+below_in x bound S below h = all_in (λ y. y < bound) S (all_by_places (λ y. y < bound) S 0 below) x h
+
+-- what the first column with a count of three or more is
+pub first_is : (m : Matrix) (S counts : List ℕ) (found : Option ℕ) → IsMatrix m → IsStrictlyIncreasing S → AllBelow (height m) S → length counts ≡ m.width
+    → ((column : ℕ) → column < m.width → get_or counts column 0 ≡ count_by (λ row. support m row column) S)
+    → MatchOption found ((column : ℕ) → column < length counts → get_or counts column 0 < 3) (λ first. (first < length counts) × (3 ≤ get_or counts first 0) × ((column : ℕ) → column < first → get_or counts column 0 < 3))
+    → MatchOption found (HasNoThree (support m) S) (IsFirstWithThree (support m) S)
+first_is m S counts None is rises below len counted h = λ column r s t hr hs ht er es et rs rt st.
+    let inside = column_in m r column is (below_in r (height m) S below hr) er in
+    let three = three_count (λ row. support m row column) S r s t hr hs ht rs rt st er es et in
+    let e = counted column inside in
+    let f = length-filter (λ row. support m row column) S in
+    let l = h column (omega arith) in omega arith
+first_is m S counts (Some first) is rises below len counted h = record {
+  here = three_here (support m) first S (increasing_distinct S rises) (let e = counted first (omega arith) in let f = length-filter (λ row. support m row first) S in let l = h.1 in omega arith);
+  first = λ other l three.
+      let e = counted other (omega arith) in
+      let k = here_three (support m) other S three in
+      let f = length-filter (λ row. support m row other) S in
+      let g = h.2 other l in omega arith;
+}

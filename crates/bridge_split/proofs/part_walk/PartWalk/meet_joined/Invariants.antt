@@ -1,0 +1,5 @@
+use Rattle.bridge_split.specs.PartNumbers.{IsMeetingJoined}
+use Rattle.bridge_split.proofs.part_walk.PartWalk.meet_joined.Given as goal
+
+abbrev pub invariant-loop-column : goal.invariant-loop-column
+invariant-loop-column l = IsMeetingJoined l.matrix l.rows l.row l.number l.head l.initial.self.part.items l.initial.self.met.items l.initial.self.seen.items l.self.part.items l.self.met.items l.self.seen.items l.column

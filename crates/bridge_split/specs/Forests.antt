@@ -1,0 +1,115 @@
+-- Breadth-first trees over the numbers below a count, in which D joins each number to its parent.
+use Rattle.std.specs.Prelude.{◌≡◌, ◌≢◌, ◌<◌, ◌≤◌, ◌+◌, ◌*◌, ◌%◌, ◌++◌, ℕ, suc, Bool, true, List, [], ◌∷◌, length, slice_index, slice_index_or}
+use Rattle.cmr_base.specs.Members.{IsIn, IsDistinct}
+use Rattle.bridge_split.specs.declared.cuts.CutTable.{CutTable}
+use Rattle.bridge_split.specs.Cutting.{disagree}
+use Rattle.bridge_split.specs.PartNumbers.{Extends}
+
+-- the depth of a number, and where it was not reached
+abbrev pub depth_at : List ℕ → ℕ → ℕ
+depth_at depths x = slice_index_or depths x 4294967295
+
+abbrev pub parent_at : List ℕ → ℕ → ℕ
+parent_at parents x = slice_index_or parents x 0
+
+module _ (D : ℕ → ℕ → Bool) (count : ℕ) where
+  -- from x to y, each joined to another that is the next
+  abbrev pub IsRoute : ℕ → List ℕ → ℕ → Type 0
+  IsRoute x [] y = ⊥
+  IsRoute x (z ∷ []) y = (x ≡ z) × (y ≡ z) × (z < count)
+  IsRoute x (z ∷ w ∷ rest) y = (x ≡ z) × (z < count) × (D z w ≡ true) × (z ≢ w) × IsRoute w (w ∷ rest) y
+
+  -- the numbers that were reached, each with its depth, its parent and the root of its tree
+  pub record AreReached (depth parent : ℕ → ℕ) (reached : List ℕ) : Type 0 where
+    pub root : ℕ → ℕ
+    pub inside : (x : ℕ) → IsIn x reached → x < count
+    pub once : IsDistinct reached
+    pub low : (p : ℕ) → p < length reached → depth (slice_index reached p) ≤ p
+    pub unreached : (x : ℕ) → ¬ (IsIn x reached) → depth x ≡ 4294967295
+    pub top : (x : ℕ) → IsIn x reached → depth x ≡ 0 → root x ≡ x
+    pub up : (x : ℕ) → IsIn x reached → 0 < depth x → IsIn (parent x) reached × (depth x ≡ suc (depth (parent x))) × (D x (parent x) ≡ true) × (root x ≡ root (parent x))
+    pub few : count ≤ 1000
+
+  -- y was reached, and the depths of x and y are of two parities
+  pub record IsSettled (depth : ℕ → ℕ) (reached : List ℕ) (x y : ℕ) : Type 0 where
+    pub there : IsIn y reached
+    pub parity : depth y % 2 ≢ depth x % 2
+
+  abbrev pub AreSettled : (ℕ → ℕ) → List ℕ → ℕ → Type 0
+  AreSettled depth reached head = (p y : ℕ) → p < head → y < count → slice_index reached p ≢ y → D (slice_index reached p) y ≡ true → IsSettled depth reached (slice_index reached p) y
+
+  -- in the middle of a tree: the numbers before head are settled, and those from head on are in this tree
+  pub record IsGrowing (depth parent : ℕ → ℕ) (reached : List ℕ) (head : ℕ) : Type 0 where
+    pub are : AreReached depth parent reached
+    pub settled : AreSettled depth reached head
+    pub origin : ℕ
+    pub current : (p : ℕ) → head ≤ p → p < length reached → are.root (slice_index reached p) ≡ origin
+    pub fits : head ≤ length reached
+
+  -- between two trees
+  pub record IsGrown (depth parent : ℕ → ℕ) (reached : List ℕ) : Type 0 where
+    pub are : AreReached depth parent reached
+    pub settled : AreSettled depth reached (length reached)
+
+  -- in the middle of the numbers that are joined to the one at head
+  pub record IsReaching (depth parent : ℕ → ℕ) (reached : List ℕ) (head upto : ℕ) : Type 0 where
+    pub growing : IsGrowing depth parent reached head
+    pub so_far : (y : ℕ) → y < upto → slice_index reached head ≢ y → D (slice_index reached head) y ≡ true → IsSettled depth reached (slice_index reached head) y
+
+  -- two numbers of one tree
+  pub record AreInOneTree (depth parent : ℕ → ℕ) (reached : List ℕ) (x y : ℕ) : Type 0 where
+    pub are : AreReached depth parent reached
+    pub one_in : IsIn x reached
+    pub two_in : IsIn y reached
+    pub same : are.root x ≡ are.root y
+
+  -- two joined numbers of one tree whose depths are of one parity
+  pub record IsConflict (depth parent : ℕ → ℕ) (reached : List ℕ) (x y : ℕ) : Type 0 where
+    pub tree : AreInOneTree depth parent reached x y
+    pub other : x ≢ y
+    pub joined : D x y ≡ true
+    pub parity : depth y % 2 ≡ depth x % 2
+
+  -- joined numbers have depths of two parities
+  pub record IsTwoColoured (depth : ℕ → ℕ) : Type 0 where
+    pub parity : (x y : ℕ) → x < count → y < count → x ≢ y → D x y ≡ true → depth y % 2 ≢ depth x % 2
+
+  -- a route is appended, with an odd number of numbers exactly where the depths of its ends are of one parity
+  pub record HasRoute (depth : ℕ → ℕ) (before after : List ℕ) (x y : ℕ) : Type 0 where
+    pub rest : List ℕ
+    pub appended : after ≡ before ++ rest
+    pub route : IsRoute x rest y
+    pub parity : (length rest + depth x + depth y) % 2 ≡ 1
+
+-- whether two of the parts of a table disagree
+abbrev pub joins : CutTable → ℕ → ℕ → Bool
+joins table = disagree table.cuts.items table.count
+
+pub record IsSquare (table : CutTable) : Type 0 where
+  pub few : table.count ≤ 1000
+  pub size : length table.cuts.items ≡ table.count * table.count
+
+-- room for the depths and parents of all
+pub record HasTreeRoom (count : ℕ) (depths parents : List ℕ) : Type 0 where
+  pub depths_are : length depths ≡ count
+  pub parents_are : length parents ≡ count
+
+-- the numbers below a place were reached
+pub record IsGrownTo (table : CutTable) (depths parents reached : List ℕ) (place : ℕ) : Type 0 where
+  pub room : HasTreeRoom table.count depths parents
+  pub grown : IsGrown (joins table) table.count (depth_at depths) (parent_at parents) reached
+  pub passed : (x : ℕ) → x < place → IsIn x reached
+
+pub record IsGrowingFrom (table : CutTable) (before : List ℕ) (depths parents reached : List ℕ) (start head : ℕ) : Type 0 where
+  pub room : HasTreeRoom table.count depths parents
+  pub growing : IsGrowing (joins table) table.count (depth_at depths) (parent_at parents) reached head
+  pub extends : Extends before reached
+  pub start_in : IsIn start reached
+
+pub record IsReachingFrom (table : CutTable) (before : List ℕ) (depths parents reached : List ℕ) (head part depth upto : ℕ) : Type 0 where
+  pub room : HasTreeRoom table.count depths parents
+  pub reaching : IsReaching (joins table) table.count (depth_at depths) (parent_at parents) reached head upto
+  pub extends : Extends before reached
+  pub head_in : head < length before
+  pub part_is : slice_index reached head ≡ part
+  pub depth_is : depth_at depths part ≡ depth

@@ -1,0 +1,4 @@
+pub mod SplitCases
+pub mod PartNumbers
+pub mod Cutting
+pub mod Forests

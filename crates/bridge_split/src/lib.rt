@@ -1,0 +1,18 @@
+//! Rows that a row of a 0/1 matrix splits: the step by which graphic matrices are recognised (Tutte; Schrijver,
+//! Theory of Linear and Integer Programming, chapter 20).
+#![tactic(auto)]
+
+mod counts;
+mod cuts;
+mod entries;
+mod forest;
+mod part_walk;
+mod parts;
+mod sides;
+mod splitting;
+#[cfg(test)]
+mod tests;
+
+pub use parts::parts_at;
+pub use sides::{Sides, sides_at};
+pub use splitting::{SplitCase, first_column_with_three, split};
