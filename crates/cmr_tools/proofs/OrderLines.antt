@@ -5,9 +5,10 @@ use Rattle.std.specs.Str.{bytes_eq}
 use Rattle.clap.specs.Words.{Row, Text, first_of}
 use Rattle.cmr_tools.specs.declared.options.MatrixForm.{MatrixForm}
 use Rattle.cmr_tools.specs.Run.{IsInRanges}
-use Rattle.cmr_tools.specs.Words.{Order, order, tu}
+use Rattle.cmr_tools.specs.Words.{Order, order, tu, series_parallel}
 use Rattle.cmr_tools.specs.Words.Parsing.{fault_in, file_in, form_in, lines_in, matches_with_input, number_up_to}
 use Rattle.cmr_tools.specs.Words.Reading.{◌>>=◌}
+use Rattle.cmr_tools.specs.Words.SeriesParallel.{SeriesParallelOrder, series_parallel_order}
 use Rattle.cmr_tools.specs.Words.Tu.{TuOrder, tu_app, tu_order, tu_order_in}
 use Rattle.cmr_tools.proofs.Numbers.{number_up_to-le}
 
@@ -44,10 +45,19 @@ order-lines (tool ∷ words) o e = go (bytes_eq tool (codes "tu")) e
         let same : x ≡ o = cc in
         tu_order-lines words o (is ∙ ap Some same)
 
-    go : (b : Bool) → cond b (option_map tu (tu_order words)) None ≡ Some (tu o) → o.lines ≤ 24
+    of_other : (found : Option SeriesParallelOrder) → option_map series_parallel found ≡ Some (tu o) → o.lines ≤ 24
+    of_other None e = cc
+    of_other (Some x) e = cc
+
+    last : (b : Bool) → cond b (option_map series_parallel (series_parallel_order words)) None ≡ Some (tu o) → o.lines ≤ 24
+    last true e = of_other (series_parallel_order words) e
+    last false e = cc
+
+    go : (b : Bool) → cond b (option_map tu (tu_order words)) (cond (bytes_eq tool (codes "series-parallel")) (option_map series_parallel (series_parallel_order words)) None) ≡ Some (tu o) → o.lines ≤ 24
     go true e = of_order (tu_order words) refl e
-    go false e = cc
+    go false e = last (bytes_eq tool (codes "series-parallel")) e
 
 -- the numbers that words order are in their ranges
 pub in_ranges : (words : List Text) (ordered : Order) → order words ≡ Some ordered → IsInRanges ordered
 in_ranges words (tu o) e = order-lines words o e
+in_ranges words (series_parallel o) e = tt

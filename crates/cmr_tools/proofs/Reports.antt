@@ -1,30 +1,34 @@
 -- There is one report at most.
-use Rattle.std.proofs.Common.{◌≡◌, ◌≤◌, ◌<◌, ◌⊎◌, ◌∙◌, ℕ, Bool, true, false, nat_lt, min, MatchBool, List, Option, Some, None, Result, Ok, Err, ap, ap₂, sym, subst, inl, inr, arith}
+use Rattle.std.proofs.Common.{◌≡◌, ◌≤◌, ◌∙◌, ℕ, false, List, Option, Some, None, Result, Ok, Err, ap, ap₂, sym, subst, inl, inr, arith}
 use Rattle.std.proofs.lemmas.Bool.{cases_lt}
 use Rattle.cmr_base.specs.Matrix.{Matrix, height, entry}
 use Rattle.cmr_base.specs.LineSets.{IsRowSet, IsColumnSet, set_number, set_numbered}
+use Rattle.cmr_base.specs.Reductions.{IsSeriesParallel}
 use Rattle.cmr_base.specs.Signing.{IsTotallyUnimodular, HasNoSigning}
 use Rattle.cmr_base.specs.Violator.{IsViolator, IsLeastByColumns, IsLeastByRows, IsLeastColumnSet, IsLeastRowSet, IsLeastViolator}
 use Rattle.cmr_base.proofs.RisingLists.{RisesIn, row_set_rises, column_set_rises}
 use Rattle.cmr_base.proofs.SetNumbers.{numbered_same}
 use Rattle.ghouila.proofs.CamionLaw.{unsigned}
-use Rattle.text_fields.specs.Reading.{Fault}
-use Rattle.matrix_text.specs.declared.error.TextKind.{TextKind}
-use Rattle.cmr_tools.specs.Words.{Order, tu}
+use Rattle.cmr_tools.specs.Words.{Order, tu, series_parallel}
+use Rattle.cmr_tools.specs.Words.SeriesParallel.{SeriesParallelOrder}
 use Rattle.cmr_tools.specs.Words.Tu.{TuOrder}
 use Rattle.cmr_tools.specs.Report.{Held, Report}
-use Rattle.cmr_tools.specs.Inputs.{Reading, missing, above_limit, whole, reading, matrix_in}
-use Rattle.cmr_tools.specs.Tu.{TuAnswers, TuDecides, TuReads, TuOpens, tu_no, tu_undecided}
+use Rattle.cmr_tools.specs.SeriesParallel.{SeriesParallelDecides, series_parallel_no, series_parallel_source}
+use Rattle.cmr_tools.specs.Tu.{IsNamedViolator, TuDecides, yes, no, undecided, tu_no, tu_source}
 use Rattle.cmr_tools.specs.Run.{Reports}
+use Rattle.cmr_tools.proofs.Givens.{one_report_given}
+use Rattle.cmr_tools.proofs.Greedy.{one_minimal}
+use Rattle.cmr_tools.proofs.OneCycleFault.{one_cycle_fault, not_both}
 
--- what a least violator is, whichever side is shorter
+-- a violator on sets of lines
 pub record IsOnLines (m : Matrix) (rows columns : List ℕ) : Type 0 where
   pub row_set : IsRowSet m rows
   pub column_set : IsColumnSet m columns
   pub violator : IsViolator (entry m) rows columns
 
-pub on_lines : (m : Matrix) (rows columns : List ℕ) → IsLeastViolator m rows columns → IsOnLines m rows columns
-on_lines m rows columns least = elim (cases_lt m.width (height m)) [
+-- the least violator is one, whichever side is shorter
+pub least_on_lines : (m : Matrix) (rows columns : List ℕ) → IsLeastViolator m rows columns → IsOnLines m rows columns
+least_on_lines m rows columns least = elim (cases_lt m.width (height m)) [
   | inl few ↦
       let l = least.few_columns few in
       record { row_set = l.rows_least.row_set; column_set = l.column_set; violator = l.rows_least.violator }
@@ -33,9 +37,15 @@ on_lines m rows columns least = elim (cases_lt m.width (height m)) [
       record { row_set = l.row_set; column_set = l.columns_least.column_set; violator = l.columns_least.violator }
 ]
 
+on_lines : (m : Matrix) (rows columns : List ℕ) → IsNamedViolator m rows columns → IsOnLines m rows columns
+on_lines m rows columns named = elim named.fault_or_least [
+  | inl fault ↦ record { row_set = fault.row_set; column_set = fault.column_set; violator = named.violator }
+  | inr least ↦ least_on_lines m rows columns least.1
+]
+
 -- its rows have no signing
-pub no_signing : (m : Matrix) (rows columns : List ℕ) → IsLeastViolator m rows columns → HasNoSigning m rows
-no_signing m rows columns least = let on = on_lines m rows columns least in unsigned m rows columns on.column_set on.violator
+pub no_signing : (m : Matrix) (rows columns : List ℕ) → IsNamedViolator m rows columns → HasNoSigning m rows
+no_signing m rows columns named = let on = on_lines m rows columns named in unsigned m rows columns on.column_set on.violator
 
 same_set : (high : ℕ) (lines others : List ℕ) → RisesIn 0 high lines → RisesIn 0 high others → set_number lines ≤ set_number others → set_number others ≤ set_number lines → lines ≡ others
 same_set high lines others rises rises' up down =
@@ -69,35 +79,44 @@ one_least m rows columns rows' columns' a b = elim (cases_lt m.width (height m))
   | inr many ↦ one_by_rows m rows columns rows' columns' (a.few_rows many) (b.few_rows many)
 ]
 
-not_both : (m : Matrix) (rows columns : List ℕ) → IsTotallyUnimodular m → IsLeastViolator m rows columns → ⊥
-not_both m rows columns all least =
-    let signed = all rows (on_lines m rows columns least).row_set in
-    no_signing m rows columns least signed.0 signed.1
+one_named : (m : Matrix) (rows columns rows' columns' : List ℕ) → IsNamedViolator m rows columns → IsNamedViolator m rows' columns' → (rows ≡ rows') × (columns ≡ columns')
+one_named m rows columns rows' columns' named named' = elim named.fault_or_least [
+  | inl fault ↦ elim named'.fault_or_least [
+    | inl fault' ↦ one_cycle_fault m rows columns rows' columns' fault fault'
+    | inr least' ↦ absurd (not_both m rows columns fault least'.0)
+  ]
+  | inr least ↦ elim named'.fault_or_least [
+    | inl fault' ↦ absurd (not_both m rows' columns' fault' least.0)
+    | inr least' ↦ one_least m rows columns rows' columns' least.1 least'.1
+  ]
+]
 
-one_answer : (o : TuOrder) (m : Matrix) (r s : Report) → TuAnswers o m r → TuAnswers o m s → r ≡ s
-one_answer o m r s (inl a) (inl b) = a.1 ∙ sym b.1
-one_answer o m r s (inl a) (inr b) = absurd (not_both m b.0 b.1 a.0 b.2)
-one_answer o m r s (inr a) (inl b) = absurd (not_both m a.0 a.1 b.0 a.2)
-one_answer o m r s (inr a) (inr b) =
-    let same = one_least m a.0 a.1 b.0 b.1 a.2 b.2 in
-    a.3 ∙ ap₂ (tu_no o m) same.0 same.1 ∙ sym b.3
+not_yes_and_no : (m : Matrix) (rows columns : List ℕ) → IsTotallyUnimodular m → IsNamedViolator m rows columns → ⊥
+not_yes_and_no m rows columns all named =
+    let signed = all rows (on_lines m rows columns named).row_set in
+    no_signing m rows columns named signed.0 signed.1
 
 one_decision : (o : TuOrder) (m : Matrix) (r s : Report) → TuDecides o m r → TuDecides o m s → r ≡ s
-one_decision o m r s = go (nat_lt o.lines (min (height m) m.width))
-  where
-    go : (above : Bool) → MatchBool above (r ≡ tu_undecided (height m) m.width) (TuAnswers o m r) → MatchBool above (s ≡ tu_undecided (height m) m.width) (TuAnswers o m s) → r ≡ s
-    go true a b = a ∙ sym b
-    go false a b = one_answer o m r s a b
+one_decision o m r s (yes closed all e) (yes closed' all' f) = e ∙ sym f
+one_decision o m r s (yes closed all e) (no closed' rows columns named f) = absurd (not_yes_and_no m rows columns all named)
+one_decision o m r s (yes closed all e) (undecided left_open f) = absurd (closed left_open)
+one_decision o m r s (no closed rows columns named e) (yes closed' all f) = absurd (not_yes_and_no m rows columns all named)
+one_decision o m r s (no closed rows columns named e) (no closed' rows' columns' named' f) =
+    let same = one_named m rows columns rows' columns' named named' in
+    e ∙ ap₂ (tu_no o m) same.0 same.1 ∙ sym f
+one_decision o m r s (no closed rows columns named e) (undecided left_open f) = absurd (closed left_open)
+one_decision o m r s (undecided left_open e) (yes closed all f) = absurd (closed left_open)
+one_decision o m r s (undecided left_open e) (no closed rows columns named f) = absurd (closed left_open)
+one_decision o m r s (undecided left_open e) (undecided left_open' f) = e ∙ sym f
 
-one_reading : (o : TuOrder) (read : Result Matrix (Fault TextKind)) (r s : Report) → TuReads o read r → TuReads o read s → r ≡ s
-one_reading o (Ok m) r s a b = one_decision o m r s a b
-one_reading o (Err fault) r s a b = a ∙ sym b
-
-one_opening : (o : TuOrder) (read : Reading) (r s : Report) → TuOpens o read r → TuOpens o read s → r ≡ s
-one_opening o missing r s a b = absurd a
-one_opening o above_limit r s a b = a ∙ sym b
-one_opening o (whole bytes) r s a b = one_reading o (matrix_in o.form false bytes) r s a b
+one_series_parallel : (o : SeriesParallelOrder) (m : Matrix) (r s : Report) → SeriesParallelDecides o m r → SeriesParallelDecides o m s → r ≡ s
+one_series_parallel o m r s (inl a) (inl b) = a.1 ∙ sym b.1
+one_series_parallel o m r s (inl a) (inr b) = absurd (b.0 a.0)
+one_series_parallel o m r s (inr a) (inl b) = absurd (a.0 b.0)
+one_series_parallel o m r s (inr a) (inr b) =
+    a.3 ∙ ap (series_parallel_no o m) (one_minimal (IsSeriesParallel o.binary) m o.minimal a.1 b.1 a.2 b.2) ∙ sym b.3
 
 pub one_report : (order : Option Order) (held : Held) (r s : Report) → Reports order held r → Reports order held s → r ≡ s
 one_report None held r s a b = a ∙ sym b
-one_report (Some (tu o)) held r s a b = one_opening o (reading held 16777216 o.file) r s a b
+one_report (Some (tu o)) held r s a b = one_report_given (tu_source o) (TuDecides o) held (one_decision o) r s a b
+one_report (Some (series_parallel o)) held r s a b = one_report_given (series_parallel_source o) (SeriesParallelDecides o) held (one_series_parallel o) r s a b

@@ -3,7 +3,11 @@ pub mod Report
 pub mod Outcome
 pub mod Written
 pub mod Inputs
+pub mod Given
+pub mod Printed
+pub mod Minimal
 pub mod Stopped
 pub mod Ending
 pub mod Tu
+pub mod SeriesParallel
 pub mod Run

@@ -1,31 +1,32 @@
 -- What a run reports, and how it ends.
-use Rattle.std.specs.Prelude.{min, ◌<◌, ◌≡◌, ◌≤◌, ◌⊎◌, ℕ, Bool, false, IsTrue, List, Option, Some, None, Result, Ok, Err}
-use Rattle.cmr_base.specs.Matrix.{Matrix, height}
+use Rattle.std.specs.Prelude.{◌≡◌, ◌≤◌, ◌⊎◌, ℕ, Bool, IsTrue, List, Option, Some, None, Result, Ok, Err}
 use Rattle.cmr_io.specs.Causes.{Rose}
 use Rattle.cmr_tools.specs.declared.outcome.Outcome.{Outcome}
 use Rattle.cmr_tools.specs.declared.outcome.Stop.{Stop}
 use Rattle.cmr_tools.specs.declared.outcome.Stop.TheVariants as stops
-use Rattle.cmr_tools.specs.Words.{Order, tu}
+use Rattle.cmr_tools.specs.Words.{Order, tu, series_parallel}
 use Rattle.cmr_tools.specs.Report.{Held, Report}
 use Rattle.cmr_tools.specs.Outcome.{bad_text, bad_words, cannot_read, out_of_memory, outcome_report, too_long}
-use Rattle.cmr_tools.specs.Inputs.{reading, whole, matrix_in}
 use Rattle.cmr_tools.specs.Ending.{Devices, Standing, IsDelivered, IsReadyFor, IsCarriedOut}
-use Rattle.cmr_tools.specs.Words.Tu.{TuOrder}
 use Rattle.cmr_tools.specs.Tu.{TuReports}
+use Rattle.cmr_tools.specs.SeriesParallel.{SeriesParallelReports}
 
 -- The report of a run, from what the words order and what the names hold. Refused words order nothing.
 abbrev pub Reports : Option Order → Held → Report → Type 0
 Reports None held report = report ≡ bad_words
 Reports (Some (tu o)) held report = TuReports o held report
+Reports (Some (series_parallel o)) held report = SeriesParallelReports o held report
 
 -- a file that is read for an order
 abbrev pub IsInput : Option Order → List ℕ → Type 0
 IsInput None name = ⊥
 IsInput (Some (tu o)) name = name ≡ o.file
+IsInput (Some (series_parallel o)) name = name ≡ o.file
 
 -- the numbers of an order are in their ranges
 abbrev pub IsInRanges : Order → Type 0
 IsInRanges (tu o) = o.lines ≤ 24
+IsInRanges (series_parallel o) = Unit {0}
 
 -- How a run ends: its report is carried out, or a file cannot be read, or memory is refused, and then nothing
 -- is written but the line of standard error.
@@ -33,19 +34,6 @@ pub data HasEnded (order : Option Order) (before after : Devices) (status : ℕ)
   reported : (report : Report) → Reports order before.held report → IsCarriedOut report before after status → HasEnded order before after status
   unread : (name : List ℕ) → IsInput order name → Rose before.shelf_faults after.shelf_faults → status ≡ 4 → IsDelivered (cannot_read name) before after → HasEnded order before after status
   no_memory : status ≡ 5 → IsDelivered out_of_memory before after → HasEnded order before after status
-
--- the matrix that `tu` is to test
-pub record IsGiven (order : Option Order) (held : Held) (m : Matrix) : Type 0 where
-  pub options : TuOrder
-  pub bytes : List ℕ
-  pub ordered : order ≡ Some (tu options)
-  pub read : reading held 16777216 options.file ≡ whole bytes
-  pub matrix : matrix_in options.form false bytes ≡ Ok m
-
--- that matrix, whose shorter side has more lines than the budget
-pub record IsAboveBudget (order : Option Order) (held : Held) (m : Matrix) : Type 0 where
-  pub given : IsGiven order held m
-  pub above : given.options.lines < min (height m) m.width
 
 -- What is promised of a run, whatever its order.
 pub record Runs (order : Option Order) (standing : Standing) (before after : Devices) (status : ℕ) : Type 0 where

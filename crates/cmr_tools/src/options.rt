@@ -22,9 +22,28 @@ pub struct TuOptions<'a> {
     pub file: &'a str,
 }
 
+/// What `series-parallel` is asked to do. A file of the name `-` is standard input where it is read.
+#[derive(Clone, Copy, Debug, PartialEq, Eq)]
+pub struct SeriesParallelOptions<'a> {
+    /// The form of the matrix text.
+    pub form: MatrixForm,
+    /// Whether the matrix is 0/1. A line is then not reducible as the negative of another.
+    pub binary: bool,
+    /// The file that gets a minimal submatrix that is not series-parallel, where there is one.
+    pub minimal: Option<&'a str>,
+    /// The file that gets the list of reductions.
+    pub steps: Option<&'a str>,
+    /// The file that gets what the reductions leave.
+    pub rest: Option<&'a str>,
+    /// The file that holds the matrix text.
+    pub file: &'a str,
+}
+
 /// A tool with its options.
 #[derive(Clone, Copy, Debug, PartialEq, Eq)]
 pub enum Command<'a> {
     /// Tests whether a matrix is totally unimodular.
     Tu(TuOptions<'a>),
+    /// Tests whether a matrix is series-parallel.
+    SeriesParallel(SeriesParallelOptions<'a>),
 }

@@ -1,9 +1,12 @@
-// Lines of standard output.
-ghost use Rattle.std.specs.Prelude.{◌≡◌, ◌++◌, OnOk};
-ghost use Rattle.cmr_tools.specs.Tu.{line_numbers, line_set};
+// Texts of lines and of steps.
+ghost use Rattle.std.specs.Prelude.{◌≡◌, ◌+◌, ◌++◌, ◌∷◌, IfOk, OnOk, codes};
+ghost use Rattle.std.specs.Fmt.{decimal};
+ghost use Rattle.cmr_tools.specs.Minimal.{minimal_line};
+ghost use Rattle.cmr_tools.specs.Printed.{line_name, line_numbers, line_set, reason_words, steps_text};
 
-use cmr_base::{Indices, LineSet, Memory};
+use cmr_base::{Indices, Line, LineSet, Memory, Reason, Step, StepList};
 use itoa::Buffer;
+use std::alloc::Global;
 
 /// Appends a set of lines: `rows LIST columns LIST`.
 pub fn push_line_set(text: &mut Vec<u8>, lines: &LineSet) -> Result<(), Memory>
@@ -23,5 +26,77 @@ fn push_line_numbers(text: &mut Vec<u8>, lines: &Indices) -> Result<(), Memory>
         text.push(b' ')?;
         text.extend_from_slice(buffer.format(u64::from(*line) + 1).as_bytes())?;
     }
+    Ok(())
+}
+
+/// Appends the line that tells of a minimal submatrix, where there is one.
+pub fn push_minimal_line(text: &mut Vec<u8>, minimal: &Option<LineSet>) -> Result<(), Memory>
+    ensures { OnOk result (text.new.items ≡ text.old.items ++ minimal_line minimal.now) }
+{
+    if let Some(lines) = minimal {
+        text.extend_from_slice(b"minimal ")?;
+        push_line_set(text, lines)?;
+        text.push(b'\n')?;
+    }
+    Ok(())
+}
+
+/// The list of reductions: a line for each step.
+pub fn write_steps(alloc: Global, steps: &StepList) -> Result<Vec<u8>, Memory>
+    ensures { IfOk result (λ text. text.items ≡ steps_text steps.now) }
+{
+    let mut text = Vec::new(alloc);
+    for step in steps.as_slice() {
+        push_step(&mut text, *step)?;
+    }
+    Ok(text)
+}
+
+fn push_step(text: &mut Vec<u8>, step: Step) -> Result<(), Memory>
+    ensures { OnOk result (text.new.items ≡ text.old.items ++ line_name step.line ++ codes " " ++ reason_words step.reason ++ codes "\n") }
+{
+    push_line_name(text, step.line)?;
+    text.push(b' ')?;
+    push_reason(text, step.reason)?;
+    text.push(b'\n')?;
+    Ok(())
+}
+
+fn push_reason(text: &mut Vec<u8>, reason: Reason) -> Result<(), Memory>
+    ensures { OnOk result (text.new.items ≡ text.old.items ++ reason_words reason) }
+{
+    match reason {
+        Reason::Zero => {
+            text.extend_from_slice(b"zero")?;
+            Ok(())
+        }
+        Reason::Unit(line) => push_named(text, b"unit ", line),
+        Reason::Copy(line) => push_named(text, b"copy ", line),
+        Reason::Negative(line) => push_named(text, b"negative ", line),
+    }
+}
+
+fn push_named(text: &mut Vec<u8>, reason: &[u8], line: Line) -> Result<(), Memory>
+    ensures { OnOk result (text.new.items ≡ text.old.items ++ reason.now ++ line_name line) }
+{
+    text.extend_from_slice(reason)?;
+    push_line_name(text, line)
+}
+
+fn push_line_name(text: &mut Vec<u8>, line: Line) -> Result<(), Memory>
+    ensures { OnOk result (text.new.items ≡ text.old.items ++ line_name line) }
+{
+    match line {
+        Line::Row(row) => push_letter(text, b'r', row),
+        Line::Column(column) => push_letter(text, b'c', column),
+    }
+}
+
+fn push_letter(text: &mut Vec<u8>, letter: u8, number: u32) -> Result<(), Memory>
+    ensures { OnOk result (text.new.items ≡ text.old.items ++ letter ∷ decimal (number + 1)) }
+{
+    let mut buffer = Buffer::new();
+    text.push(letter)?;
+    text.extend_from_slice(buffer.format(u64::from(number) + 1).as_bytes())?;
     Ok(())
 }

@@ -1,15 +1,18 @@
 // The call that the program makes.
-ghost use Rattle.std.specs.Prelude.{◌≡◌, ℕ, List, Some, IsTrue};
-ghost use Rattle.cmr_base.specs.Matrix.{Matrix};
-ghost use Rattle.cmr_base.specs.Signing.{HasNoSigning, IsTotallyUnimodular};
-ghost use Rattle.cmr_base.specs.Violator.{IsLeastViolator};
-ghost use Rattle.cmr_tools.specs.Words.{order, order_of};
+ghost use Rattle.std.specs.Prelude.{◌≡◌, Some, IsTrue};
 ghost use Rattle.cmr_tools.specs.Ending.{devices, standing};
-ghost use Rattle.cmr_tools.specs.Run.{IsAboveBudget, IsGiven, IsInRanges, Runs};
+ghost use Rattle.cmr_tools.specs.Run.{IsInRanges, Runs};
+ghost use Rattle.cmr_tools.specs.SeriesParallel.{SeriesParallelNo, SeriesParallelYes};
+ghost use Rattle.cmr_tools.specs.Tu.{TuNo, TuUndecided, TuYes};
+ghost use Rattle.cmr_tools.specs.Words.{order, order_of};
+ghost use Rattle.cmr_tools.specs.Words as ordered;
+ghost use Rattle.cmr_tools.specs.Words.SeriesParallel.{SeriesParallelOrder};
+ghost use Rattle.cmr_tools.specs.Words.Tu.{TuOrder};
 
 use crate::carry_out::carry_out;
 use crate::options::Command;
 use crate::outcome::Stop;
+use crate::reductions::series_parallel;
 use crate::unimodularity::tu;
 use crate::words::{WordsError, read_words};
 use cmr_base::WordList;
@@ -31,10 +34,11 @@ pub fn run<R: Threads + Sync, S: Shelf, O: Sink, E: Sink>(
         (devices (S.content shelf.old) (O.got out.old) (E.got err.old) (S.faults shelf.old) (O.faults out.old) (E.faults err.old))
         (devices (S.content shelf.new) (O.got out.new) (E.got err.new) (S.faults shelf.new) (O.faults out.new) (E.faults err.new))
         result }
-    ensures yes { IsTrue (S.tells shelf.old) → result ≡ 0 → (m : Matrix) × IsGiven (order words.now) (S.content shelf.old) m × IsTotallyUnimodular m }
-    ensures no { IsTrue (S.tells shelf.old) → result ≡ 1 → (m : Matrix) × IsGiven (order words.now) (S.content shelf.old) m
-        × (rows columns : List ℕ) × IsLeastViolator m rows columns × HasNoSigning m rows }
-    ensures undecided { IsTrue (S.tells shelf.old) → result ≡ 6 → (m : Matrix) × IsAboveBudget (order words.now) (S.content shelf.old) m }
+    ensures tu_yes { IsTrue (S.tells shelf.old) → (o : TuOrder) → order words.now ≡ Some (ordered.tu o) → result ≡ 0 → TuYes o (S.content shelf.old) }
+    ensures tu_no { IsTrue (S.tells shelf.old) → (o : TuOrder) → order words.now ≡ Some (ordered.tu o) → result ≡ 1 → TuNo o (S.content shelf.old) }
+    ensures tu_undecided { IsTrue (S.tells shelf.old) → (o : TuOrder) → order words.now ≡ Some (ordered.tu o) → result ≡ 6 → TuUndecided o (S.content shelf.old) }
+    ensures series_parallel_yes { IsTrue (S.tells shelf.old) → (o : SeriesParallelOrder) → order words.now ≡ Some (ordered.series_parallel o) → result ≡ 0 → SeriesParallelYes o (S.content shelf.old) }
+    ensures series_parallel_no { IsTrue (S.tells shelf.old) → (o : SeriesParallelOrder) → order words.now ≡ Some (ordered.series_parallel o) → result ≡ 1 → SeriesParallelNo o (S.content shelf.old) }
 {
     match read_words(alloc, words) {
         Ok(command) => obey(rt, alloc, &command, shelf, out, err),
@@ -57,12 +61,14 @@ fn obey<R: Threads + Sync, S: Shelf, O: Sink, E: Sink>(
         (devices (S.content shelf.old) (O.got out.old) (E.got err.old) (S.faults shelf.old) (O.faults out.old) (E.faults err.old))
         (devices (S.content shelf.new) (O.got out.new) (E.got err.new) (S.faults shelf.new) (O.faults out.new) (E.faults err.new))
         result }
-    ensures yes { IsTrue (S.tells shelf.old) → result ≡ 0 → (m : Matrix) × IsGiven (Some (order_of command.now)) (S.content shelf.old) m × IsTotallyUnimodular m }
-    ensures no { IsTrue (S.tells shelf.old) → result ≡ 1 → (m : Matrix) × IsGiven (Some (order_of command.now)) (S.content shelf.old) m
-        × (rows columns : List ℕ) × IsLeastViolator m rows columns × HasNoSigning m rows }
-    ensures undecided { IsTrue (S.tells shelf.old) → result ≡ 6 → (m : Matrix) × IsAboveBudget (Some (order_of command.now)) (S.content shelf.old) m }
+    ensures tu_yes { IsTrue (S.tells shelf.old) → (o : TuOrder) → order_of command.now ≡ ordered.tu o → result ≡ 0 → TuYes o (S.content shelf.old) }
+    ensures tu_no { IsTrue (S.tells shelf.old) → (o : TuOrder) → order_of command.now ≡ ordered.tu o → result ≡ 1 → TuNo o (S.content shelf.old) }
+    ensures tu_undecided { IsTrue (S.tells shelf.old) → (o : TuOrder) → order_of command.now ≡ ordered.tu o → result ≡ 6 → TuUndecided o (S.content shelf.old) }
+    ensures series_parallel_yes { IsTrue (S.tells shelf.old) → (o : SeriesParallelOrder) → order_of command.now ≡ ordered.series_parallel o → result ≡ 0 → SeriesParallelYes o (S.content shelf.old) }
+    ensures series_parallel_no { IsTrue (S.tells shelf.old) → (o : SeriesParallelOrder) → order_of command.now ≡ ordered.series_parallel o → result ≡ 1 → SeriesParallelNo o (S.content shelf.old) }
 {
     match command {
         Command::Tu(options) => tu(rt, alloc, options, shelf, out, err),
+        Command::SeriesParallel(options) => series_parallel(rt, alloc, options, shelf, out, err),
     }
 }

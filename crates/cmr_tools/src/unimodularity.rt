@@ -1,29 +1,31 @@
 // Testing total unimodularity.
-ghost use Rattle.std.specs.Prelude.{◌≡◌, ◌≢◌, ◌≤◌, ℕ, List, Some, IfOk, IfErr, IsTrue, false, map, option_map};
+ghost use Rattle.std.specs.Prelude.{◌≡◌, ◌≢◌, ◌≤◌, ℕ, List, Some, IfOk, IsTrue, map, option_map};
 ghost use Rattle.cmr_base.specs.LineSets.{AllBelow};
-ghost use Rattle.cmr_base.specs.Matrix.{Matrix, height};
-ghost use Rattle.cmr_base.specs.Signing.{HasNoSigning, IsTotallyUnimodular};
-ghost use Rattle.cmr_base.specs.Violator.{IsLeastViolator};
+ghost use Rattle.cmr_base.specs.Matrix.{height};
 ghost use Rattle.cmr_io.specs.Causes.{Rose};
 ghost use Rattle.matrix_text.specs.Canonical.{submatrix_text};
 ghost use Rattle.cmr_tools.specs.Ending.{devices, standing};
-ghost use Rattle.cmr_tools.specs.Inputs.{matrix_in};
 ghost use Rattle.cmr_tools.specs.Outcome.{ended_report, file_of, outcome_report};
-ghost use Rattle.cmr_tools.specs.Run.{Ends, IsAboveBudget, IsGiven, Runs};
-ghost use Rattle.cmr_tools.specs.Tu.{IsAnswer, TuDecides, TuReads, TuStops, asked_file, no_output, tu_no, tu_undecided, tu_yes};
+ghost use Rattle.cmr_tools.specs.Report.{IsAnswer, asked_file};
+ghost use Rattle.cmr_tools.specs.Run.{Ends, Runs};
+ghost use Rattle.cmr_tools.specs.Tu.{TuDecides, TuNo, TuUndecided, TuYes, no_output, tu_no, tu_undecided, tu_yes};
 ghost use Rattle.cmr_tools.specs.Words as order;
 ghost use Rattle.cmr_tools.specs.Words.Tu.{tu_order_of};
 
+#[cfg(test)]
+mod tests;
+
+use crate::asked::push_submatrix;
 use crate::carry_out::carry_out;
-use crate::input::{read_input, read_matrix};
+use crate::input::read_given;
 use crate::options::TuOptions;
 use crate::outcome::{Outcome, OutputFile, Stop};
 use crate::printed::push_line_set;
-use cmr_base::{LineSet, MAX_TEXT, Matrix, Memory};
+use camion_sign::cycle_fault;
+use cmr_base::{LineSet, Matrix, Memory};
 use cmr_io::{Shelf, Sink};
 use itoa::Buffer;
 use leaf_enumerate::{Search, least_violator};
-use matrix_text::write_submatrix;
 use std::alloc::Global;
 use std::thread::Threads;
 
@@ -50,10 +52,9 @@ pub fn tu<R: Threads + Sync, S: Shelf, O: Sink, E: Sink>(
         (devices (S.content shelf.old) (O.got out.old) (E.got err.old) (S.faults shelf.old) (O.faults out.old) (E.faults err.old))
         (devices (S.content shelf.new) (O.got out.new) (E.got err.new) (S.faults shelf.new) (O.faults out.new) (E.faults err.new))
         result }
-    ensures yes { IsTrue (S.tells shelf.old) → result ≡ 0 → (m : Matrix) × IsGiven (Some (order.tu (tu_order_of options.now))) (S.content shelf.old) m × IsTotallyUnimodular m }
-    ensures no { IsTrue (S.tells shelf.old) → result ≡ 1 → (m : Matrix) × IsGiven (Some (order.tu (tu_order_of options.now))) (S.content shelf.old) m
-        × (rows columns : List ℕ) × IsLeastViolator m rows columns × HasNoSigning m rows }
-    ensures undecided { IsTrue (S.tells shelf.old) → result ≡ 6 → (m : Matrix) × IsAboveBudget (Some (order.tu (tu_order_of options.now))) (S.content shelf.old) m }
+    ensures yes { IsTrue (S.tells shelf.old) → result ≡ 0 → TuYes (tu_order_of options.now) (S.content shelf.old) }
+    ensures no { IsTrue (S.tells shelf.old) → result ≡ 1 → TuNo (tu_order_of options.now) (S.content shelf.old) }
+    ensures undecided { IsTrue (S.tells shelf.old) → result ≡ 6 → TuUndecided (tu_order_of options.now) (S.content shelf.old) }
 {
     let ended = examine(rt, alloc, options, shelf);
     carry_out(&ended, shelf, out, err)
@@ -75,24 +76,7 @@ fn examine<'a, R: Threads + Sync, S: Shelf>(
     ensures statuses { ((ended_report result).status ≤ 6) × ((ended_report result).status ≢ 2) }
     ensures cause { (ended_report result).status ≡ 4 → Rose (S.faults shelf.old) (S.faults shelf.new) }
 {
-    match read_input(alloc, shelf, options.file, MAX_TEXT) {
-        Ok(bytes) => decide(rt, alloc, options, &bytes),
-        Err(stop) => Err(stop),
-    }
-}
-
-fn decide<'a, R: Threads + Sync>(
-    rt: &R,
-    alloc: Global,
-    options: &TuOptions<'a>,
-    bytes: &[u8],
-) -> Result<Outcome<'a>, Stop<'a>>
-    requires { options.now.lines ≤ 24 }
-    ensures decided { IfOk result (λ outcome. TuReads (tu_order_of options.now) (matrix_in options.now.form false bytes.now) (outcome_report outcome)) }
-    ensures status { IfOk result (λ outcome. IsAnswer outcome.status) }
-    ensures stopped { IfErr result (TuStops (tu_order_of options.now) (matrix_in options.now.form false bytes.now)) }
-{
-    let matrix = match read_matrix(alloc, options.file, options.form, false, bytes) {
+    let matrix = match read_given(alloc, shelf, options.file, options.form, false) {
         Ok(matrix) => matrix,
         Err(stop) => return Err(stop),
     };
@@ -112,6 +96,9 @@ fn test<'a, R: Threads + Sync>(
     ensures decided { IfOk result (λ outcome. TuDecides (tu_order_of options.now) matrix.now (outcome_report outcome)) }
     ensures status { IfOk result (λ outcome. IsAnswer outcome.status) }
 {
+    if let Some(lines) = cycle_fault(alloc, matrix)? {
+        return no(alloc, options, matrix, &lines);
+    }
     let rows = matrix.rows();
     let columns = matrix.columns();
     match least_violator(rt, alloc, matrix, options.lines, ONE_WORKER)? {
@@ -171,10 +158,7 @@ fn fault_files<'a>(
     ensures { IfOk result (λ files. map file_of files.items ≡ asked_file (option_map (λ name. name.now) fault.entry) (submatrix_text (height matrix.now) matrix.now.width lines.now)) }
 {
     let mut files = Vec::new(alloc);
-    if let Some(name) = fault {
-        let bytes = write_submatrix(alloc, lines, matrix.rows(), matrix.columns())?;
-        files.push(OutputFile { name, bytes })?;
-    }
+    push_submatrix(alloc, &mut files, fault, matrix, lines)?;
     Ok(files)
 }
 

@@ -9,6 +9,7 @@ ghost use Rattle.cmr_tools.specs.Words.Reading.{Gives};
 
 mod arguments;
 mod parsing;
+mod series_parallel;
 #[cfg(test)]
 mod tests;
 mod tu;
@@ -55,6 +56,9 @@ pub fn read_words<'a>(alloc: Global, words: &'a WordList) -> Result<Command<'a>,
     };
     match tool.text() {
         "tu" => Ok(Command::Tu(tu::read_tu(alloc, rest)?)),
+        "series-parallel" => Ok(Command::SeriesParallel(series_parallel::read_series_parallel(
+            alloc, rest,
+        )?)),
         _ => Err(WordsError::Refused),
     }
 }

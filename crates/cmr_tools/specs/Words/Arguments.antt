@@ -2,7 +2,7 @@
 use Rattle.std.specs.Prelude.{ℕ, true, List, Some, codes}
 use Rattle.clap.specs.Words.{App, Rule, Text, new_app, new_rule}
 use Rattle.clap.specs.Simple.{on_top}
-use Rattle.clap.specs.declared.builder.action.ArgAction.TheVariants.{Set}
+use Rattle.clap.specs.declared.builder.action.ArgAction.TheVariants.{Set, SetTrue}
 
 -- a command with these arguments; a name of the program, help and version are no words of it
 abbrev pub tool_app : Text → List Rule → App
@@ -17,6 +17,10 @@ tool_app name rules = on_top (λ s. record s {
 abbrev pub value_rule : Text → ℕ → Rule
 value_rule id letter = record (new_rule id) { short = Some letter; action = Some Set }
 
+-- a flag of one letter
+abbrev pub flag_rule : Text → ℕ → Rule
+flag_rule id letter = record (new_rule id) { short = Some letter; action = Some SetTrue }
+
 -- [-i FORMAT]
 abbrev pub form_rule : Rule
 form_rule = value_rule (codes "format") 105
@@ -28,6 +32,22 @@ lines_rule = record (new_rule (codes "lines")) { long = Some (codes "lines"); ac
 -- [-E FILE]
 abbrev pub fault_rule : Rule
 fault_rule = value_rule (codes "fault") 69
+
+-- [-b]
+abbrev pub binary_rule : Rule
+binary_rule = flag_rule (codes "binary") 98
+
+-- [-N FILE]
+abbrev pub minimal_rule : Rule
+minimal_rule = value_rule (codes "minimal") 78
+
+-- [-S FILE]
+abbrev pub steps_rule : Rule
+steps_rule = value_rule (codes "steps") 83
+
+-- [-R FILE]
+abbrev pub rest_rule : Rule
+rest_rule = value_rule (codes "rest") 82
 
 -- [FILE]
 abbrev pub file_rule : Rule

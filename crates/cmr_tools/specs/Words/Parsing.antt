@@ -45,6 +45,10 @@ form_named name = if bytes_eq name (codes "dense") then Some Dense
 abbrev pub form_in : List Row → Option MatrixForm
 form_in rows = option_map_or form_named (first_of (codes "format") rows) (Some Dense)
 
+-- whether a flag is among the words: `clap` gives it the value "true", and else "false"
+abbrev pub has_flag : Text → List Row → Bool
+has_flag id rows = option_map_or (λ value. bytes_eq value (codes "true")) (first_of id rows) false
+
 -- a number from 0 to `most`, as clap's parsers of numbers with a range take it
 abbrev pub number_up_to : ℕ → Text → Option ℕ
 number_up_to most text = if is_signed_in (pos 0) (pos most) text

@@ -13,6 +13,14 @@ pub const LINES: &str = "lines";
 
 pub const FAULT: &str = "fault";
 
+pub const BINARY: &str = "binary";
+
+pub const MINIMAL: &str = "minimal";
+
+pub const STEPS: &str = "steps";
+
+pub const REST: &str = "rest";
+
 pub const FILE: &str = "file";
 
 /// A command with no argument. A name of the program, help and version are no words of it.
@@ -31,6 +39,14 @@ pub fn value_option<'a>(alloc: Global, id: &'a str, letter: char) -> Arg<'a>
     ensures local { result.global ≡ false }
 {
     Arg::new(alloc, id).short(letter).action(ArgAction::Set)
+}
+
+/// A flag of one letter.
+pub fn flag<'a>(alloc: Global, id: &'a str, letter: char) -> Arg<'a>
+    ensures rule { rule_of result ≡ arguments.flag_rule id.now letter }
+    ensures local { result.global ≡ false }
+{
+    Arg::new(alloc, id).short(letter).action(ArgAction::SetTrue)
 }
 
 /// The option `-i FORMAT`.
@@ -55,6 +71,38 @@ pub fn fault_option<'a>(alloc: Global) -> Arg<'a>
     ensures local { result.global ≡ false }
 {
     value_option(alloc, FAULT, 'E')
+}
+
+/// The flag `-b`.
+pub fn binary_flag<'a>(alloc: Global) -> Arg<'a>
+    ensures rule { rule_of result ≡ arguments.binary_rule }
+    ensures local { result.global ≡ false }
+{
+    flag(alloc, BINARY, 'b')
+}
+
+/// The option `-N FILE`.
+pub fn minimal_option<'a>(alloc: Global) -> Arg<'a>
+    ensures rule { rule_of result ≡ arguments.minimal_rule }
+    ensures local { result.global ≡ false }
+{
+    value_option(alloc, MINIMAL, 'N')
+}
+
+/// The option `-S FILE`.
+pub fn steps_option<'a>(alloc: Global) -> Arg<'a>
+    ensures rule { rule_of result ≡ arguments.steps_rule }
+    ensures local { result.global ≡ false }
+{
+    value_option(alloc, STEPS, 'S')
+}
+
+/// The option `-R FILE`.
+pub fn rest_option<'a>(alloc: Global) -> Arg<'a>
+    ensures rule { rule_of result ≡ arguments.rest_rule }
+    ensures local { result.global ≡ false }
+{
+    value_option(alloc, REST, 'R')
 }
 
 /// The operand FILE.

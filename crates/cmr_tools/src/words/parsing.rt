@@ -44,7 +44,7 @@ fn matches_in<'a>(command: Command<'a>, words: &'a [Word]) -> Result<ArgMatches<
 }
 
 /// The value of an option or operand.
-fn value_in<'a>(matches: &ArgMatches<'a>, id: &str) -> Option<&'a str>
+pub fn value_in<'a>(matches: &ArgMatches<'a>, id: &str) -> Option<&'a str>
     ensures { option_map (λ s. s.now) result ≡ first_of id.now (rows_of (found_of matches.now)) }
 {
     matches.get_str(id)
@@ -79,6 +79,13 @@ pub fn form_in(matches: &ArgMatches<'_>) -> Result<MatrixForm, WordsError>
         Some("sparse") => Ok(MatrixForm::Sparse),
         Some(_) => Err(WordsError::Refused),
     }
+}
+
+/// Whether a flag is among the words.
+pub fn has_flag(matches: &ArgMatches<'_>, id: &str) -> bool
+    ensures { result ≡ parsing.has_flag id.now (rows_of (found_of matches.now)) }
+{
+    value_in(matches, id) == Some("true")
 }
 
 // A number from 0 to `most`, as `clap` reads the numbers of a range: a sign may stand first.

@@ -1,4 +1,4 @@
-use crate::options::{Command, MatrixForm, TuOptions};
+use crate::options::{Command, MatrixForm, SeriesParallelOptions, TuOptions};
 use crate::words::{WordsError, read_words};
 use cmr_base::{Word, WordList};
 use std::process::Abort;
@@ -22,14 +22,26 @@ fn words<R: AllocGlobal>(rt: &R, texts: &[&str]) -> Result<WordList, Fail> {
     Ok(words)
 }
 
+fn gives<R: Abort + AllocGlobal>(rt: &R, texts: &[&str], command: Command<'_>) -> Result<(), Fail> {
+    let words = words(rt, texts)?;
+    assert_eq!(rt; read_words(rt.alloc(), &words)?, command);
+    Ok(())
+}
+
 fn reads<R: Abort + AllocGlobal>(
     rt: &R,
     texts: &[&str],
     options: TuOptions<'_>,
 ) -> Result<(), Fail> {
-    let words = words(rt, texts)?;
-    assert_eq!(rt; read_words(rt.alloc(), &words)?, Command::Tu(options));
-    Ok(())
+    gives(rt, texts, Command::Tu(options))
+}
+
+fn reads_series_parallel<R: Abort + AllocGlobal>(
+    rt: &R,
+    texts: &[&str],
+    options: SeriesParallelOptions<'_>,
+) -> Result<(), Fail> {
+    gives(rt, texts, Command::SeriesParallel(options))
 }
 
 fn refuses<R: Abort + AllocGlobal>(rt: &R, texts: &[&str]) -> Result<(), Fail> {
@@ -150,6 +162,51 @@ fn fault_files(rt: HostRuntime) -> Result<(), Fail> {
     refuses(&rt, &["tu", "-E", "-"])?;
     refuses(&rt, &["tu", "-E", "-", "f"])?;
     refuses(&rt, &["tu", "-E", "e", "-E", "e", "f"])?;
+    Ok(())
+}
+
+#[test]
+fn series_parallel(rt: HostRuntime) -> Result<(), Fail> {
+    let plain = SeriesParallelOptions {
+        form: MatrixForm::Dense,
+        binary: false,
+        minimal: None,
+        steps: None,
+        rest: None,
+        file: "f",
+    };
+    let binary = SeriesParallelOptions {
+        binary: true,
+        ..plain
+    };
+    let all = SeriesParallelOptions {
+        form: MatrixForm::Sparse,
+        binary: true,
+        minimal: Some("n"),
+        steps: Some("s"),
+        rest: Some("r"),
+        file: "-",
+    };
+    let tool = "series-parallel";
+    reads_series_parallel(&rt, &[tool, "f"], plain)?;
+    reads_series_parallel(&rt, &[tool], SeriesParallelOptions { file: "-", ..plain })?;
+    reads_series_parallel(&rt, &[tool, "-b", "f"], binary)?;
+    reads_series_parallel(&rt, &[tool, "f", "-b"], binary)?;
+    reads_series_parallel(
+        &rt,
+        &[tool, "-S", "s", "-R=r", "-Nn", "-bi", "sparse", "-"],
+        all,
+    )?;
+    refuses(&rt, &[tool, "-b", "-b", "f"])?;
+    refuses(&rt, &[tool, "-b=true", "f"])?;
+    refuses(&rt, &[tool, "-N", "n", "-N", "n", "f"])?;
+    refuses(&rt, &[tool, "-S", "-", "f"])?;
+    refuses(&rt, &[tool, "-R"])?;
+    refuses(&rt, &[tool, "-E", "e", "f"])?;
+    refuses(&rt, &[tool, "--lines", "3", "f"])?;
+    refuses(&rt, &[tool, "f", "-"])?;
+    refuses(&rt, &["tu", "-b", "f"])?;
+    refuses(&rt, &["series", "f"])?;
     Ok(())
 }
 

@@ -1,5 +1,5 @@
 use Rattle.std.proofs.Common.{◌≡◌, ◌++◌, drop}
-use Rattle.cmr_tools.specs.Tu.{line_numbers}
+use Rattle.cmr_tools.specs.Printed.{line_numbers}
 use Rattle.cmr_tools.proofs.printed.push_line_numbers.Given as goal
 
 -- the numbers so far and those of the rest are all

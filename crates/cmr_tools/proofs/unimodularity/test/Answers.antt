@@ -1,13 +1,46 @@
-use Rattle.std.proofs.Common.{◌≡◌, subst}
+use Rattle.std.proofs.Common.{◌<◌, ◌∙◌, ap, ap₂, subst, inl, inr, arith}
+use Rattle.std.specs.Prelude.{IfSome}
+use Rattle.std.proofs.lemmas.Option.{MatchOption-at_some, MatchOption-at_none}
 use Rattle.std.proofs.lemmas.Result.{IfOk-weaker}
+use Rattle.cmr_base.specs.Matrix.{entry}
+use Rattle.cmr_base.specs.CyclePlaces.{HasNoCycleFault, IsCycleFault}
+use Rattle.cmr_base.specs.Violator.{IsViolator}
+use Rattle.ghouila.proofs.CamionLaw.{camion}
 use Rattle.leaf_enumerate.specs.Searched.{HasSearched}
-use Rattle.cmr_tools.specs.Outcome.{outcome_report}
-use Rattle.cmr_tools.specs.Words.Tu.{tu_order_of}
-use Rattle.cmr_tools.proofs.Decided.{yes_decides}
+use Rattle.cmr_tools.specs.Report.{Report}
+use Rattle.cmr_tools.specs.Tu.{yes, no, undecided, tu_undecided}
+use Rattle.cmr_tools.proofs.OneCycleFault.{not_both}
+use Rattle.cmr_tools.proofs.Reports.{least_on_lines}
 use Rattle.cmr_tools.proofs.unimodularity.test.Goals as goal
+
+pub returns-in-Some-clause-decided : goal.returns-in-Some-clause-decided
+returns-in-Some-clause-decided g c =
+    let m = c.args.matrix.now in
+    let lines = c.in-Some.lines in
+    let fault = MatchOption-at_some (HasNoCycleFault (entry m)) (λ lines. IsCycleFault m lines.rows lines.columns) lines c.in-Some.is c.in_ok-lines.ensures.fault in
+    let violator = subst (λ found. IfSome found (λ lines. IsViolator (entry m) lines.rows lines.columns)) c.in-Some.is c.in_ok-lines.ensures.violator in
+    IfOk-weaker c.no.result _ _ (λ outcome e. no (λ left_open. not_both m lines.rows lines.columns fault left_open.no_fault) lines.rows lines.columns (record { violator = violator; fault_or_least = inl fault }) e) c.no.ensures
+
+pub returns-in-Some-clause-status : goal.returns-in-Some-clause-status
+returns-in-Some-clause-status g c = IfOk-weaker c.no.result _ _ (λ outcome e. let same = ap (λ (r : Report). r.status) e in inl (omega arith)) c.no.ensures
 
 pub returns-in-Clean-clause-decided : goal.returns-in-Clean-clause-decided
 returns-in-Clean-clause-decided g c =
-    let clean = subst (HasSearched c.args.matrix.now c.args.options.now.lines) c.in-Clean.is c.in_ok-least_violator.ensures in
-    IfOk-weaker c.yes.result _ _
-    (λ outcome e. yes_decides (tu_order_of c.args.options.now) c.args.matrix.now (outcome_report outcome) c.rows-rows.ensures.shape clean.0 clean.1 e) c.yes.ensures
+    let m = c.args.matrix.now in
+    let clean = subst (HasSearched m c.args.options.now.lines) c.in-Clean.is c.in_ok-least_violator.ensures in
+    IfOk-weaker c.yes.result _ _ (λ outcome e. yes (λ left_open. let a = left_open.above in let b = clean.0 in omega arith) ((camion m c.rows-rows.ensures.shape.small).1 clean.1) e) c.yes.ensures
+
+pub returns-in-Found-clause-decided : goal.returns-in-Found-clause-decided
+returns-in-Found-clause-decided g c =
+    let m = c.args.matrix.now in
+    let lines = c.in-Found.lines in
+    let found = subst (HasSearched m c.args.options.now.lines) c.in-Found.is c.in_ok-least_violator.ensures in
+    let none = MatchOption-at_none (HasNoCycleFault (entry m)) (λ lines. IsCycleFault m lines.rows lines.columns) c.in_default.is c.in_ok-lines.ensures.fault in
+    IfOk-weaker c.no-in-Found.result _ _ (λ outcome e. no (λ left_open. let a = left_open.above in let b = found.0 in omega arith) lines.rows lines.columns (record { violator = (least_on_lines m lines.rows lines.columns found.1).violator; fault_or_least = inr (none, found.1) }) e) c.no-in-Found.ensures
+
+pub returns-in-TooMany-clause-decided : goal.returns-in-TooMany-clause-decided
+returns-in-TooMany-clause-decided g c =
+    let m = c.args.matrix.now in
+    let many = subst (HasSearched m c.args.options.now.lines) c.in-TooMany.is c.in_ok-least_violator.ensures in
+    let none = MatchOption-at_none (HasNoCycleFault (entry m)) (λ lines. IsCycleFault m lines.rows lines.columns) c.in_default.is c.in_ok-lines.ensures.fault in
+    IfOk-weaker c.undecided.result _ _ (λ outcome e. undecided (record { no_fault = none; above = subst (λ n. c.args.options.now.lines < n) many.1 many.0 }) (e ∙ ap₂ tu_undecided c.rows-rows.ensures.rows c.columns-columns.ensures.columns)) c.undecided.ensures

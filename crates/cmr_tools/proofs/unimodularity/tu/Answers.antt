@@ -42,21 +42,24 @@ returns-clause-runs g c =
 pub returns-clause-yes : goal.returns-clause-yes
 returns-clause-yes g c = λ told zero.
     let S = g.S.Shelf in
+    let o = tu_order_of c.args.options.now in
     let status : (ended_report c.examine-ended.result).status ≡ 0 = elim c.carry_out.ensures.status [ inl same ↦ sym same ∙ zero | inr cut ↦ absurd (omega (arith, cut.0)) ] in
-    let d = decided (Some (tu (tu_order_of c.args.options.now))) (S.content c.args.shelf.now) (S.is_calm c.args.shelf.now) c.examine-ended.result (c.examine-ended.ensures.ends told) (inl (omega arith)) in
-    (d.0, d.1, decided_yes d.1.options d.0 (ended_report c.examine-ended.result) d.2 status)
+    let d = decided o (S.content c.args.shelf.now) (S.is_calm c.args.shelf.now) c.examine-ended.result (c.examine-ended.ensures.ends told) (inl (omega arith)) in
+    (d.0, d.1, decided_yes o d.0 (ended_report c.examine-ended.result) d.2 status)
 
 pub returns-clause-no : goal.returns-clause-no
 returns-clause-no g c = λ told one.
     let S = g.S.Shelf in
+    let o = tu_order_of c.args.options.now in
     let status : (ended_report c.examine-ended.result).status ≡ 1 = elim c.carry_out.ensures.status [ inl same ↦ sym same ∙ one | inr cut ↦ absurd (omega (arith, cut.0)) ] in
-    let d = decided (Some (tu (tu_order_of c.args.options.now))) (S.content c.args.shelf.now) (S.is_calm c.args.shelf.now) c.examine-ended.result (c.examine-ended.ensures.ends told) (inl (omega arith)) in
-    let v = decided_no d.1.options d.0 (ended_report c.examine-ended.result) d.2 status in
+    let d = decided o (S.content c.args.shelf.now) (S.is_calm c.args.shelf.now) c.examine-ended.result (c.examine-ended.ensures.ends told) (inl (omega arith)) in
+    let v = decided_no o d.0 (ended_report c.examine-ended.result) d.2 status in
     (d.0, d.1, v.0, v.1, v.2, v.3)
 
 pub returns-clause-undecided : goal.returns-clause-undecided
 returns-clause-undecided g c = λ told six.
     let S = g.S.Shelf in
+    let o = tu_order_of c.args.options.now in
     let status : (ended_report c.examine-ended.result).status ≡ 6 = elim c.carry_out.ensures.status [ inl same ↦ sym same ∙ six | inr cut ↦ absurd (omega (arith, cut.0)) ] in
-    let d = decided (Some (tu (tu_order_of c.args.options.now))) (S.content c.args.shelf.now) (S.is_calm c.args.shelf.now) c.examine-ended.result (c.examine-ended.ensures.ends told) (inr status) in
-    (d.0, record { given = d.1; above = decided_open d.1.options d.0 (ended_report c.examine-ended.result) d.2 status })
+    let d = decided o (S.content c.args.shelf.now) (S.is_calm c.args.shelf.now) c.examine-ended.result (c.examine-ended.ensures.ends told) (inr status) in
+    (d.0, d.1, decided_open o d.0 (ended_report c.examine-ended.result) d.2 status)

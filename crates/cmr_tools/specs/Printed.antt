@@ -1,0 +1,34 @@
+-- Texts of lines and of steps, as they are printed and written.
+use Rattle.std.specs.Prelude.{◌+◌, ◌++◌, ℕ, List, [], ◌∷◌, codes}
+use Rattle.std.specs.Fmt.{decimal}
+use Rattle.cmr_base.specs.declared.line.Line.{Line}
+use Rattle.cmr_base.specs.declared.line.Line.TheVariants.{Row, Column}
+use Rattle.cmr_base.specs.declared.line.Reason.{Reason}
+use Rattle.cmr_base.specs.declared.line.Reason.TheVariants.{Zero, Unit as One, Copy, Negative}
+use Rattle.cmr_base.specs.declared.line.Step.{Step}
+
+-- numbers of lines, counted from 1, each after a space
+abbrev pub line_numbers : List ℕ → List ℕ
+line_numbers [] = []
+line_numbers (line ∷ lines) = codes " " ++ decimal (line + 1) ++ line_numbers lines
+
+-- a set of lines as it is printed
+abbrev pub line_set : List ℕ → List ℕ → List ℕ
+line_set rows columns = codes "rows" ++ line_numbers rows ++ codes " columns" ++ line_numbers columns
+
+-- a row or a column by its letter and its number, counted from 1
+abbrev pub line_name : Line → List ℕ
+line_name (Row row) = codes "r" ++ decimal (row + 1)
+line_name (Column column) = codes "c" ++ decimal (column + 1)
+
+-- a reason, and the line that it names
+abbrev pub reason_words : Reason → List ℕ
+reason_words Zero = codes "zero"
+reason_words (One line) = codes "unit " ++ line_name line
+reason_words (Copy line) = codes "copy " ++ line_name line
+reason_words (Negative line) = codes "negative " ++ line_name line
+
+-- a line for each step: the line that goes, and why
+abbrev pub steps_text : List Step → List ℕ
+steps_text [] = []
+steps_text (step ∷ steps) = line_name step.line ++ codes " " ++ reason_words step.reason ++ codes "\n" ++ steps_text steps

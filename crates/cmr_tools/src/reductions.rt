@@ -1,0 +1,191 @@
+// Testing whether a matrix is series-parallel.
+ghost use Rattle.std.specs.Prelude.{◌≡◌, ◌≢◌, ◌≤◌, ◌++◌, ℕ, List, Some, IfOk, IfSome, IsTrue, OnOk, map, option_map};
+ghost use Rattle.cmr_base.specs.LineSets.{AllBelow};
+ghost use Rattle.cmr_base.specs.Matrix.{height};
+ghost use Rattle.cmr_base.specs.Reductions.{IsSeriesParallel};
+ghost use Rattle.cmr_io.specs.Causes.{Rose};
+ghost use Rattle.cmr_tools.specs.Ending.{devices, standing};
+ghost use Rattle.cmr_tools.specs.Minimal.{IsMinimalAsked};
+ghost use Rattle.cmr_tools.specs.Outcome.{ended_report, file_of, outcome_report};
+ghost use Rattle.cmr_tools.specs.Report.{IsAnswer};
+ghost use Rattle.cmr_tools.specs.Run.{Ends, Runs};
+ghost use Rattle.cmr_tools.specs.SeriesParallel.{IsReduced, SeriesParallelDecides, SeriesParallelNo, SeriesParallelYes, no_output, property_name, reduction_files, series_parallel_no, series_parallel_yes};
+ghost use Rattle.cmr_tools.specs.Words as order;
+ghost use Rattle.cmr_tools.specs.Words.SeriesParallel.{series_parallel_order_of};
+
+use crate::asked::{push_minimal, push_steps, push_submatrix};
+use crate::carry_out::carry_out;
+use crate::input::read_given;
+use crate::options::SeriesParallelOptions;
+use crate::outcome::{Outcome, OutputFile, Stop};
+use crate::printed::{push_line_set, push_minimal_line};
+use cmr_base::{LineSet, Matrix, Memory};
+use cmr_io::{Shelf, Sink};
+use sp_reduce::{Reduction, minimal_not_sp, reduce};
+use std::alloc::Global;
+use std::thread::Threads;
+
+const YES: u8 = 0;
+
+const NO: u8 = 1;
+
+/// Does what `run` does on the words of `series-parallel`, and answers the status.
+pub fn series_parallel<R: Threads + Sync, S: Shelf, O: Sink, E: Sink>(
+    _rt: &R,
+    alloc: Global,
+    options: &SeriesParallelOptions<'_>,
+    shelf: &mut S,
+    out: &mut O,
+    err: &mut E,
+) -> u8
+    ensures runs { Runs (Some (order.series_parallel (series_parallel_order_of options.now)))
+        (standing (S.tells shelf.old) (O.tells out.old) (E.tells err.old) (S.is_calm shelf.old) (S.room shelf.old) (O.is_calm out.old) (O.room out.old))
+        (devices (S.content shelf.old) (O.got out.old) (E.got err.old) (S.faults shelf.old) (O.faults out.old) (E.faults err.old))
+        (devices (S.content shelf.new) (O.got out.new) (E.got err.new) (S.faults shelf.new) (O.faults out.new) (E.faults err.new))
+        result }
+    ensures yes { IsTrue (S.tells shelf.old) → result ≡ 0 → SeriesParallelYes (series_parallel_order_of options.now) (S.content shelf.old) }
+    ensures no { IsTrue (S.tells shelf.old) → result ≡ 1 → SeriesParallelNo (series_parallel_order_of options.now) (S.content shelf.old) }
+{
+    let ended = examine(alloc, options, shelf);
+    carry_out(&ended, shelf, out, err)
+}
+
+fn examine<'a, S: Shelf>(
+    alloc: Global,
+    options: &SeriesParallelOptions<'a>,
+    shelf: &mut S,
+) -> Result<Outcome<'a>, Stop<'a>>
+    ensures ends { IsTrue (S.tells shelf.old) → Ends (Some (order.series_parallel (series_parallel_order_of options.now))) (S.content shelf.old) (S.is_calm shelf.old) result }
+    ensures content { (other : List ℕ) → S.content shelf.new other ≡ S.content shelf.old other }
+    ensures tells { S.tells shelf.new ≡ S.tells shelf.old }
+    ensures calm { IsTrue (S.is_calm shelf.old) → IsTrue (S.is_calm shelf.new) }
+    ensures room { (other : List ℕ) → S.room shelf.new other ≡ S.room shelf.old other }
+    ensures later { S.faults shelf.old ≤ S.faults shelf.new }
+    ensures statuses { ((ended_report result).status ≤ 6) × ((ended_report result).status ≢ 2) }
+    ensures cause { (ended_report result).status ≡ 4 → Rose (S.faults shelf.old) (S.faults shelf.new) }
+{
+    let matrix = match read_given(alloc, shelf, options.file, options.form, options.binary) {
+        Ok(matrix) => matrix,
+        Err(stop) => return Err(stop),
+    };
+    match test(alloc, options, &matrix) {
+        Ok(outcome) => Ok(outcome),
+        Err(Memory) => Err(Stop::Memory),
+    }
+}
+
+fn test<'a>(
+    alloc: Global,
+    options: &SeriesParallelOptions<'a>,
+    matrix: &Matrix,
+) -> Result<Outcome<'a>, Memory>
+    ensures decided { IfOk result (λ outcome. SeriesParallelDecides (series_parallel_order_of options.now) matrix.now (outcome_report outcome)) }
+    ensures status { IfOk result (λ outcome. IsAnswer outcome.status) }
+{
+    let reduction = reduce(alloc, matrix, options.binary)?;
+    if reduction.rest.rows.len() == 0 && reduction.rest.columns.len() == 0 {
+        yes(alloc, options, matrix, &reduction)
+    } else {
+        no(alloc, options, matrix, &reduction)
+    }
+}
+
+fn yes<'a>(
+    alloc: Global,
+    options: &SeriesParallelOptions<'a>,
+    matrix: &Matrix,
+    reduction: &Reduction,
+) -> Result<Outcome<'a>, Memory>
+    requires { IsReduced options.now.binary matrix.now reduction.now }
+    ensures { IfOk result (λ outcome. outcome_report outcome ≡ series_parallel_yes (series_parallel_order_of options.now) matrix.now) }
+{
+    let mut output = property_name(options.binary).to_vec(alloc)?;
+    output.extend_from_slice(b": yes\n")?;
+    let mut files = Vec::new(alloc);
+    push_reduction(alloc, &mut files, options, matrix, reduction)?;
+    Ok(Outcome {
+        status: YES,
+        output,
+        files,
+    })
+}
+
+fn no<'a>(
+    alloc: Global,
+    options: &SeriesParallelOptions<'a>,
+    matrix: &Matrix,
+    reduction: &Reduction,
+) -> Result<Outcome<'a>, Memory>
+    requires reduced { IsReduced options.now.binary matrix.now reduction.now }
+    requires lacks { ¬ IsSeriesParallel options.now.binary matrix.now }
+    ensures decided { IfOk result (λ outcome. SeriesParallelDecides (series_parallel_order_of options.now) matrix.now (outcome_report outcome)) }
+    ensures status { IfOk result (λ outcome. outcome.status ≡ 1) }
+{
+    let minimal = asked_minimal(alloc, options, matrix)?;
+    let output = no_text(alloc, options.binary, &reduction.rest, &minimal)?;
+    let mut files = Vec::new(alloc);
+    push_minimal(alloc, &mut files, options.minimal, matrix, &minimal)?;
+    push_reduction(alloc, &mut files, options, matrix, reduction)?;
+    Ok(Outcome {
+        status: NO,
+        output,
+        files,
+    })
+}
+
+fn asked_minimal(
+    alloc: Global,
+    options: &SeriesParallelOptions<'_>,
+    matrix: &Matrix,
+) -> Result<Option<LineSet>, Memory>
+    requires { ¬ IsSeriesParallel options.now.binary matrix.now }
+    ensures asked { IfOk result (IsMinimalAsked (IsSeriesParallel options.now.binary) matrix.now (option_map (λ name. name.now) options.now.minimal)) }
+    ensures rows { IfOk result (λ found. IfSome found (λ lines. AllBelow (height matrix.now) lines.rows)) }
+    ensures columns { IfOk result (λ found. IfSome found (λ lines. AllBelow matrix.now.width lines.columns)) }
+{
+    match options.minimal {
+        Some(_) => minimal_not_sp(alloc, matrix, options.binary),
+        None => Ok(None),
+    }
+}
+
+fn no_text(
+    alloc: Global,
+    binary: bool,
+    rest: &LineSet,
+    minimal: &Option<LineSet>,
+) -> Result<Vec<u8>, Memory>
+    ensures { IfOk result (λ text. text.items ≡ no_output binary rest.now minimal.now) }
+{
+    let mut text = property_name(binary).to_vec(alloc)?;
+    text.extend_from_slice(b": no\nrest ")?;
+    push_line_set(&mut text, rest)?;
+    text.push(b'\n')?;
+    push_minimal_line(&mut text, minimal)?;
+    Ok(text)
+}
+
+// Appends the files of the steps and of what they leave.
+fn push_reduction<'a>(
+    alloc: Global,
+    files: &mut Vec<OutputFile<'a>>,
+    options: &SeriesParallelOptions<'a>,
+    matrix: &Matrix,
+    reduction: &Reduction,
+) -> Result<(), Memory>
+    requires { IsReduced options.now.binary matrix.now reduction.now }
+    ensures { OnOk result (map file_of files.new.items ≡ map file_of files.old.items ++ reduction_files (series_parallel_order_of options.now) matrix.now) }
+{
+    push_steps(alloc, files, options.steps, &reduction.steps)?;
+    push_submatrix(alloc, files, options.rest, matrix, &reduction.rest)
+}
+
+fn property_name(binary: bool) -> &'static [u8]
+    ensures { result.now ≡ property_name binary }
+{
+    if binary {
+        b"binary series-parallel"
+    } else {
+        b"series-parallel"
+    }
+}
