@@ -1,13 +1,11 @@
 """Times a command on matrices that are decided by their row sets.
 
-For each shape two dense texts are made in a temporary folder, from a seed: a matrix of a directed graph, which has no
-violator, so that every row set is tried; and a cycle through all rows, whose only violator has all rows, so that it
-stands last. The command is run on each. In the command {lines} stands for the number of rows and {file} for the path:
+For each shape the dense text of a directed graph is made in a temporary folder, from a seed. It has no violator, so every
+row set is tried. The command is run on it. In the command {lines} stands for the number of rows and {file} for the path:
 
     python3 bench/row_sets.py --cmd './cmr tu --lines {lines} {file}'
 
-Printed for each text: the shape, what it holds, the shortest time of the runs, that time for each row set, and the
-exit statuses.
+Printed for each text: the shape, the shortest time of the runs, that time for each row set, and the exit statuses.
 """
 
 import argparse
@@ -25,19 +23,6 @@ def directed_graph(rows, columns, draw):
         tail, head = draw.sample(range(rows), 2)
         entries[tail][column], entries[head][column] = -1, 1
     return entries
-
-
-def one_cycle(rows, columns, draw):
-    entries = [[0] * columns for _ in range(rows)]
-    for row in range(rows):
-        entries[row][row] = 1
-        entries[row][(row + 1) % rows] = 1
-    if rows % 2 == 0:
-        entries[rows - 1][0] = -1
-    return entries
-
-
-MATRICES = {"no violator": directed_graph, "violator last": one_cycle}
 
 
 def dense_text(entries, columns):
@@ -70,14 +55,13 @@ def main():
     with tempfile.TemporaryDirectory() as folder:
         path = pathlib.Path(folder, "matrix")
         for rows, columns in options.shapes:
-            for name, make in MATRICES.items():
-                entries = make(rows, columns, random.Random(options.seed))
-                path.write_text(dense_text(entries, columns), encoding="ascii")
-                words = [word.format(lines=rows, file=path) for word in shlex.split(options.cmd)]
-                runs = [run(words) for _ in range(options.runs)]
-                best = min(seconds for seconds, _ in runs)
-                statuses = sorted({status for _, status in runs})
-                print(f"{rows} by {columns}, {name}: {best:.3f} s, {best / 2**rows * 1e6:.2f} us a row set, status {statuses}")
+            entries = directed_graph(rows, columns, random.Random(options.seed))
+            path.write_text(dense_text(entries, columns), encoding="ascii")
+            words = [word.format(lines=rows, file=path) for word in shlex.split(options.cmd)]
+            runs = [run(words) for _ in range(options.runs)]
+            best = min(seconds for seconds, _ in runs)
+            statuses = sorted({status for _, status in runs})
+            print(f"{rows} by {columns}: {best:.3f} s, {best / 2**rows * 1e6:.2f} us a row set, status {statuses}")
 
 
 if __name__ == "__main__":
