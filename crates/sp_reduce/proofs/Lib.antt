@@ -14,6 +14,3 @@ pub mod ChangeLemmas
 pub mod Pairs
 pub mod StatedOrder
 pub mod Loops
-pub mod Greedy
-pub mod RunLemmas
-pub mod Passes

@@ -11,7 +11,7 @@ use Rattle.cmr_base.proofs.Parts.{entry-submatrix}
 use Rattle.cmr_base.specs.Members.{IsIn}
 use Rattle.cmr_base.proofs.Members.{IsWithin}
 use Rattle.cmr_base.proofs.ListsWithout.{in-get_or, increasing_distinct, same_place, place_of, place_is}
-use Rattle.cmr_base.proofs.RemovedLines.{first_lines_increase, in_first_lines, first_lines_in, row_set_from_within, column_set_from_within}
+use Rattle.cmr_base.proofs.RemovedLines.{first_lines_increase, in_first_lines, first_lines_in}
 use Rattle.cmr_base.proofs.GreedyLemmas.{IsInherited, greedy_set_minimal}
 use Rattle.sp_reduce.specs.Laws.{SubmatricesAreSeriesParallel, RestDecides, GreedySetIsMinimal}
 use Rattle.sp_reduce.proofs.Embeddings.{Embeds, series_parallel-embeds, series_parallel-within}
@@ -111,15 +111,3 @@ rest_decides binary m R C r c = (
   (λ e. submatrix_from_lines binary m R C r c (series_parallel_from_rest binary (entry m) (length R + length C) R C e.0 e.1)),
   (λ sp. rest_from_series_parallel binary (entry m) (length R + length C) R C (omega arith) r c (lines_from_submatrix binary m R C r c sp)),
 )
-
-pub whole_submatrix : (binary : Bool) (m : Matrix) → IsSeriesParallel binary (submatrix m (first_lines (height m)) (first_lines m.width)) → IsSeriesParallel binary m
-whole_submatrix binary m sp = lines_from_submatrix binary m (first_lines (height m)) (first_lines m.width) (first_lines_increase (height m)) (first_lines_increase m.width) sp
-
-pub submatrix_whole : (binary : Bool) (m : Matrix) → IsSeriesParallel binary m → IsSeriesParallel binary (submatrix m (first_lines (height m)) (first_lines m.width))
-submatrix_whole binary m sp = submatrix_from_lines binary m (first_lines (height m)) (first_lines m.width) (first_lines_increase (height m)) (first_lines_increase m.width) sp
-
-pub all_rows : (m : Matrix) → IsRowSet m (first_lines (height m))
-all_rows m = row_set_from_within m (first_lines (height m)) (first_lines_increase (height m)) (λ x h. h)
-
-pub all_columns : (m : Matrix) → IsColumnSet m (first_lines m.width)
-all_columns m = column_set_from_within m (first_lines m.width) (first_lines_increase m.width) (λ x h. h)

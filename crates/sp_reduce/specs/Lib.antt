@@ -2,4 +2,3 @@ pub mod Laws
 pub mod Kinds
 pub mod Sides
 pub mod Changes
-pub mod Runs

@@ -15,17 +15,6 @@ pub enum Kind {
 }
 
 impl Kind {
-    // How many lines of this kind there are.
-    pub fn size(self, matrix: &Matrix) -> u32
-        ensures size { result ≡ size_of matrix.now self }
-        ensures few { result ≤ 1000 }
-    {
-        match self {
-            Kind::Rows => matrix.rows(),
-            Kind::Columns => matrix.columns(),
-        }
-    }
-
     // The line of this kind with a number.
     pub fn line(self, number: u32) -> Line
         ensures { result ≡ line_named self number }

@@ -1,16 +1,13 @@
 // Minimal submatrices that are not series-parallel.
-ghost use Rattle.std.specs.Prelude.{◌≡◌, ◌≤◌, ◌+◌, ◌↔◌, [], filter, IsTrue, MatchOption, IfOk, IfSome};
-ghost use Rattle.std.specs.List.Sorted.{IsStrictlyIncreasing};
+ghost use Rattle.std.specs.Prelude.{◌≡◌, ◌↔◌, [], IsTrue, MatchOption, IfOk, IfSome};
 ghost use Rattle.cmr_base.specs.Matrix.{IsMatrix};
 ghost use Rattle.cmr_base.specs.LineSets.{IsRowSet, IsColumnSet, submatrix};
-ghost use Rattle.cmr_base.specs.GreedySets.{IsGreedyFrom, IsGreedySet, IsMinimalWithout};
+ghost use Rattle.cmr_base.specs.GreedySets.{IsGreedySet, IsMinimalWithout};
 ghost use Rattle.cmr_base.specs.Reductions.{IsSeriesParallel};
-ghost use Rattle.sp_reduce.specs.Kinds.{size_of};
-ghost use Rattle.sp_reduce.specs.Runs.{lines_from, rows_left, columns_left, is_outside};
 
-use crate::kind::Kind;
-use crate::removal::{indices_of, reduce_lines};
-use cmr_base::{Indices, LineSet, Matrix, Memory};
+use crate::removal::reduce_lines;
+use cmr_base::{LineSet, Matrix, Memory};
+use minimal_sets::{Property, minimal_without};
 use std::alloc::Global;
 
 /// The lines of a minimal submatrix that is not series-parallel: all lines are gone through once, rows first, and each is
@@ -26,51 +23,23 @@ pub fn minimal_not_sp(
         (λ lines. (¬ IsSeriesParallel binary matrix.now) × IsGreedySet (IsSeriesParallel binary) matrix.now lines.rows lines.columns)) }
     ensures minimal { IfOk result (λ found. IfSome found (λ lines. IsMinimalWithout (IsSeriesParallel binary) matrix.now lines.rows lines.columns)) }
 {
-    let all = LineSet::all(alloc, matrix.rows(), matrix.columns())?;
-    if is_series_parallel(alloc, matrix, &all, binary)? {
-        return Ok(None);
-    }
-    let some_rows = leave_out(alloc, matrix, all, Kind::Rows, binary)?;
-    let lines = leave_out(alloc, matrix, some_rows, Kind::Columns, binary)?;
-    Ok(Some(lines))
+    minimal_without(alloc, matrix, &SeriesParallel { binary })
 }
 
-// Each line of a kind is left out in its turn where what then stays is still not series-parallel. Many are tried at once:
-// where they can go together, each of them can go in its turn.
-fn leave_out(
-    alloc: Global,
-    matrix: &Matrix,
-    lines: LineSet,
-    kind: Kind,
+// That a matrix is series-parallel.
+#[derive(Drop)]
+struct SeriesParallel {
     binary: bool,
-) -> Result<LineSet, Memory>
-    requires shape { IsMatrix matrix.now }
-    requires rows { IsRowSet matrix.now lines.rows }
-    requires columns { IsColumnSet matrix.now lines.columns }
-    requires lacks { ¬ IsSeriesParallel binary (submatrix matrix.now lines.rows lines.columns) }
-    ensures rows { IfOk result (λ left. IsRowSet matrix.now left.rows) }
-    ensures columns { IfOk result (λ left. IsColumnSet matrix.now left.columns) }
-    ensures lacks { IfOk result (λ left. ¬ IsSeriesParallel binary (submatrix matrix.now left.rows left.columns)) }
-    ensures greedy { IfOk result (λ left. IsGreedyFrom (IsSeriesParallel binary) matrix.now (lines_from kind 0 (size_of matrix.now kind)) lines.rows lines.columns left.rows left.columns) }
-{
-    let end = kind.size(matrix);
-    let mut left = lines;
-    let mut next = 0;
-    let mut tried = 1;
-    'lines: while next < end {
-        let count = tried.min(end - next);
-        let fewer = without_run(alloc, &left, kind, next, count)?;
-        if !is_series_parallel(alloc, matrix, &fewer, binary)? {
-            left = fewer;
-            next += count;
-            tried = 2 * count;
-        } else if count > 1 {
-            tried = count / 2;
-        } else {
-            next += 1;
-        }
+}
+
+impl Property for SeriesParallel {
+    ghost holds = { λ property m. IsSeriesParallel property.binary m };
+
+    ghost domain = { λ _ _. Unit {0} };
+
+    fn holds_on(&self, alloc: Global, matrix: &Matrix, lines: &LineSet) -> Result<bool, Memory> {
+        is_series_parallel(alloc, matrix, lines, self.binary)
     }
-    Ok(left)
 }
 
 fn is_series_parallel(
@@ -92,45 +61,4 @@ fn has_no_lines(lines: &LineSet) -> bool
     ensures { IsTrue result ↔ ((lines.now.rows ≡ []) × (lines.now.columns ≡ [])) }
 {
     lines.rows.len() == 0 && lines.columns.len() == 0
-}
-
-// The set without so many lines of a kind from a number on.
-fn without_run(
-    alloc: Global,
-    lines: &LineSet,
-    kind: Kind,
-    from: u32,
-    count: u32,
-) -> Result<LineSet, Memory>
-    requires { from + count ≤ 1000 }
-    ensures rows { IfOk result (λ fewer. fewer.rows ≡ rows_left lines.now.rows (lines_from kind from count)) }
-    ensures columns { IfOk result (λ fewer. fewer.columns ≡ columns_left lines.now.columns (lines_from kind from count)) }
-{
-    let rows = lines.rows.as_slice();
-    let columns = lines.columns.as_slice();
-    match kind {
-        Kind::Rows => Ok(LineSet {
-            rows: outside(alloc, rows, from, count)?,
-            columns: indices_of(alloc, columns)?,
-        }),
-        Kind::Columns => Ok(LineSet {
-            rows: indices_of(alloc, rows)?,
-            columns: outside(alloc, columns, from, count)?,
-        }),
-    }
-}
-
-// The numbers that are none of so many from one on.
-fn outside(alloc: Global, numbers: &[u32], from: u32, count: u32) -> Result<Indices, Memory>
-    requires rising { IsStrictlyIncreasing numbers.now }
-    requires few { from + count ≤ 1000 }
-    ensures { IfOk result (λ indices. indices ≡ filter (is_outside from count) numbers.now) }
-{
-    let mut indices = Indices::new(alloc);
-    for number in numbers {
-        if *number < from || from + count <= *number {
-            indices.push(*number)?;
-        }
-    }
-    Ok(indices)
 }

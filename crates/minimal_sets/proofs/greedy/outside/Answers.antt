@@ -1,12 +1,12 @@
 use Rattle.std.proofs.Common.{sym, subst, get_or, List, ℕ}
 use Rattle.cmr_base.specs.Indices.{IsAbove}
 use Rattle.cmr_base.proofs.LineSetLemmas.{kept_below}
-use Rattle.sp_reduce.specs.Runs.{is_outside}
-use Rattle.sp_reduce.proofs.minimal.outside.Goals as goal
+use Rattle.minimal_sets.specs.Runs.{is_outside}
+use Rattle.minimal_sets.proofs.greedy.outside.Goals as goal
 
 pub push-requires : goal.push-requires
 push-requires c =
     let numbers = c.args.numbers.now in
     let i = c.loop-number.number-index in
     subst (λ (taken : List ℕ). IsAbove (get_or numbers i 0) taken) (sym c.loop-number.invariant)
-    (kept_below (is_outside c.args.from c.args.count) numbers i c.requires.rising c.loop-number-test.true)
+    (kept_below (is_outside c.args.before c.args.from c.args.count) numbers i c.requires.rising c.loop-number-test.true)

@@ -1,8 +1,6 @@
--- The greedy set: many lines are left out at once.
-use Rattle.std.proofs.Common.{◌≡◌, ◌+◌, ◌++◌, ◌∙◌, inl, inr, ℕ, zero, suc, List, [], ◌∷◌, map, refl, ap, subst, arith}
-use Rattle.std.specs.List.{range_with_len}
+-- Greedy sets: many lines are left out at once.
+use Rattle.std.proofs.Common.{◌++◌, inl, inr, ℕ, List, [], ◌∷◌, refl, subst}
 use Rattle.std.specs.List.Sorted.{IsStrictlyIncreasing}
-use Rattle.std.proofs.lemmas.List.{map-append}
 use Rattle.cmr_base.specs.declared.line.Line.{Line}
 use Rattle.cmr_base.specs.Matrix.{Matrix}
 use Rattle.cmr_base.specs.LineSets.{submatrix}
@@ -11,9 +9,7 @@ use Rattle.cmr_base.specs.GreedySets.{IsGreedyFrom}
 use Rattle.cmr_base.proofs.Members.{IsWithin}
 use Rattle.cmr_base.proofs.RemovedLines.{rows_increase, columns_increase, rows_within, columns_within}
 use Rattle.cmr_base.proofs.GreedyLemmas.{IsInherited}
-use Rattle.sp_reduce.specs.declared.kind.Kind.{Kind}
-use Rattle.sp_reduce.specs.Kinds.{line_named}
-use Rattle.sp_reduce.specs.Runs.{lines_from, rows_left, columns_left}
+use Rattle.minimal_sets.specs.Runs.{rows_left, columns_left}
 
 pub rows_left-increase : (lines : List Line) (rows : List ℕ) → IsStrictlyIncreasing rows → IsStrictlyIncreasing (rows_left rows lines)
 rows_left-increase [] rows rises = rises
@@ -55,17 +51,3 @@ module _ (P : Matrix → Type 0) (m : Matrix) where
   -- a line that cannot go stays
   pub greedy_kept : (line : Line) (R C : List ℕ) → P (submatrix m (rows_without R line) (columns_without C line)) → IsGreedyFrom P m (line ∷ []) R C R C
   greedy_kept line R C p = inl (p, (refl, refl))
-
--- ---- lines of a kind, one after another
-
-range-append : (from count more middle : ℕ) → from + count ≡ middle → range_with_len from (count + more) ≡ range_with_len from count ++ range_with_len middle more
-range-append from zero more middle e =
-    let none : 0 + more ≡ more = omega arith in
-    let start : from ≡ middle = omega (arith, e) in
-    rw none (ap (λ (first : ℕ). range_with_len first more) start)
-range-append from (suc count) more middle e =
-    let one : suc count + more ≡ suc (count + more) = omega arith in
-    rw one (ap (λ (xs : List ℕ). from ∷ xs) (range-append (from + 1) count more middle (omega (arith, e))))
-
-pub lines_from-append : (kind : Kind) (from count : ℕ) → lines_from kind 0 (from + count) ≡ lines_from kind 0 from ++ lines_from kind from count
-lines_from-append kind from count = ap (map (line_named kind)) (range-append 0 from count from (omega arith)) ∙ map-append (line_named kind) (range_with_len 0 from) (range_with_len from count)

@@ -1,0 +1,5 @@
+pub mod GreedyRuns
+pub mod RunLemmas
+pub mod Passes
+pub mod FewLines
+pub mod Searches

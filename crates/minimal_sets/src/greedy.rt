@@ -1,0 +1,117 @@
+// The greedy search for a minimal submatrix that lacks a property.
+ghost use Rattle.std.specs.Prelude.{◌≡◌, ◌≤◌, ◌+◌, filter, MatchOption, IfOk, IfSome};
+ghost use Rattle.std.specs.List.Sorted.{IsStrictlyIncreasing};
+ghost use Rattle.cmr_base.specs.Matrix.{IsMatrix, height};
+ghost use Rattle.cmr_base.specs.LineSets.{AllBelow, IsRowSet, IsColumnSet, submatrix};
+ghost use Rattle.cmr_base.specs.GreedySets.{IsHereditary, IsGreedyFrom, IsGreedySet, IsMinimalWithout};
+ghost use Rattle.minimal_sets.specs.Runs.{lines_between, rows_left, columns_left, is_outside};
+
+use crate::property::Property;
+use cmr_base::{Indices, LineSet, Matrix, Memory};
+use std::alloc::Global;
+
+/// The lines of a minimal submatrix that lacks a property: all lines are gone through once, rows first, and each is left
+/// out where what then stays still lacks it. `None` where the matrix has the property.
+pub fn minimal_without<P: Property>(
+    alloc: Global,
+    matrix: &Matrix,
+    property: &P,
+) -> Result<Option<LineSet>, Memory>
+    requires domain { P.domain property.now matrix.now }
+    requires hereditary { IsHereditary (P.holds property.now) }
+    ensures found { IfOk result (λ found. MatchOption found
+        (P.holds property.now matrix.now)
+        (λ lines. (¬ P.holds property.now matrix.now) × IsGreedySet (P.holds property.now) matrix.now lines.rows lines.columns)) }
+    ensures minimal { IfOk result (λ found. IfSome found (λ lines. IsMinimalWithout (P.holds property.now) matrix.now lines.rows lines.columns)) }
+{
+    let all = LineSet::all(alloc, matrix.rows(), matrix.columns())?;
+    if property.holds_on(alloc, matrix, &all)? {
+        return Ok(None);
+    }
+    let left = leave_out(alloc, matrix, property, all)?;
+    Ok(Some(left))
+}
+
+// Each line is left out in its turn where what then stays still lacks the property. Many are tried at once: where they can
+// go together, each of them can go in its turn.
+fn leave_out<P: Property>(
+    alloc: Global,
+    matrix: &Matrix,
+    property: &P,
+    lines: LineSet,
+) -> Result<LineSet, Memory>
+    requires shape { IsMatrix matrix.now }
+    requires domain { P.domain property.now matrix.now }
+    requires hereditary { IsHereditary (P.holds property.now) }
+    requires rows { IsRowSet matrix.now lines.rows }
+    requires columns { IsColumnSet matrix.now lines.columns }
+    requires lacks { ¬ P.holds property.now (submatrix matrix.now lines.rows lines.columns) }
+    ensures { IfOk result (λ left. IsGreedyFrom (P.holds property.now) matrix.now (lines_between (height matrix.now) 0 (height matrix.now + matrix.now.width)) lines.rows lines.columns left.rows left.columns) }
+{
+    let rows = matrix.rows();
+    let end = rows + matrix.columns();
+    let mut left = lines;
+    let mut next = 0;
+    let mut tried = 1;
+    'lines: while next < end {
+        let count = tried.min(end - next);
+        let fewer = without_run(alloc, &left, rows, next, count)?;
+        if !property.holds_on(alloc, matrix, &fewer)? {
+            left = fewer;
+            next += count;
+            tried = 2 * count;
+        } else if count > 1 {
+            tried = count / 2;
+        } else {
+            next += 1;
+        }
+    }
+    Ok(left)
+}
+
+// The set without so many lines from a number on, where the columns are counted on after the rows.
+fn without_run(
+    alloc: Global,
+    lines: &LineSet,
+    height: u32,
+    from: u32,
+    count: u32,
+) -> Result<LineSet, Memory>
+    requires height { height ≤ 1000 }
+    requires few { from + count ≤ 2000 }
+    requires rows { AllBelow height lines.now.rows }
+    requires columns { AllBelow 1000 lines.now.columns }
+    ensures rows { IfOk result (λ fewer. fewer.rows ≡ rows_left lines.now.rows (lines_between height from count)) }
+    ensures columns { IfOk result (λ fewer. fewer.columns ≡ columns_left lines.now.columns (lines_between height from count)) }
+{
+    let rows = lines.rows.as_slice();
+    let columns = lines.columns.as_slice();
+    Ok(LineSet {
+        rows: outside(alloc, rows, 0, from, count)?,
+        columns: outside(alloc, columns, height, from, count)?,
+    })
+}
+
+// The numbers that, counted on after others, are none of so many from one on.
+fn outside(
+    alloc: Global,
+    numbers: &[u32],
+    before: u32,
+    from: u32,
+    count: u32,
+) -> Result<Indices, Memory>
+    requires rising { IsStrictlyIncreasing numbers.now }
+    requires small { AllBelow 1000 numbers.now }
+    requires before { before ≤ 1000 }
+    requires few { from + count ≤ 2000 }
+    ensures { IfOk result (λ indices. indices ≡ filter (is_outside before from count) numbers.now) }
+{
+    let mut indices = Indices::new(alloc);
+    for number in numbers {
+        let place = before + *number;
+        if place < from || from + count <= place {
+            indices.push(*number)?;
+        }
+    }
+    Ok(indices)
+}
