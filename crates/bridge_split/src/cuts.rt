@@ -36,8 +36,9 @@ impl CutTable {
     {
         prove!(parts.len() <= matrix.rows() as usize);
         let mut cuts = Vec::with_capacity(alloc, parts.len() * parts.len())?;
+        let mut common = Vec::with_capacity(alloc, matrix.columns() as usize)?;
         for part in parts {
-            let common = common_columns(alloc, matrix, row, part)?;
+            set_common(matrix, row, part, &mut common)?;
             push_cuts(matrix, parts, &common, &mut cuts)?;
         }
         Ok(CutTable {
@@ -64,25 +65,25 @@ impl CutTable {
     }
 }
 
-// The columns that `row` has in common with some row of the part.
-fn common_columns(
-    alloc: Global,
+// Lists the columns that `row` has in common with some row of the part.
+fn set_common(
     matrix: &Matrix,
     row: u32,
     part: &Indices,
-) -> Result<Vec<u32>, Memory>
+    common: &mut Vec<u32>,
+) -> Result<(), Memory>
     requires row { row < height matrix.now }
     requires rows { AllBelow (height matrix.now) part.now }
-    ensures below { IfOk result (λ columns. AllBelow matrix.now.width columns.items) }
-    ensures common { IfOk result (λ columns. (column : ℕ) → IsIn column columns.items ↔ IsCommon (support matrix.now) row part.now column) }
+    ensures below { OnOk result (AllBelow matrix.now.width common.new.items) }
+    ensures common { OnOk result ((column : ℕ) → IsIn column common.new.items ↔ IsCommon (support matrix.now) row part.now column) }
 {
-    let mut common = Vec::new(alloc);
+    common.clear();
     for column in 0..matrix.columns() {
         if is_nonzero(matrix, row, column) && meets_part(matrix, part.as_slice(), column) {
             common.push(column)?;
         }
     }
-    Ok(common)
+    Ok(())
 }
 
 fn meets_part(matrix: &Matrix, part: &[u32], column: u32) -> bool

@@ -59,6 +59,9 @@ struct SplitRow {
     parts: PartList,
 }
 
+// A row splits the others where they fall into so many parts or more.
+const SPLIT_PARTS: u32 = 2;
+
 fn first_splitting_row(
     alloc: Global,
     matrix: &Matrix,
@@ -71,7 +74,7 @@ fn first_splitting_row(
     let mut walk = PartWalk::new(alloc, matrix)?;
     for row in rows {
         let count = walk.number_parts(matrix, rows, *row)?;
-        if count >= 2 {
+        if count >= SPLIT_PARTS {
             let parts = parts_of_numbers(alloc, rows, &walk.part, count)?;
             return Ok(Some(SplitRow { row: *row, parts }));
         }

@@ -183,3 +183,23 @@ fn one_row_of_three(rt: HostRuntime) -> Result<(), Fail> {
     }
     Ok(())
 }
+
+// Each part disagrees with the one before it and the one after it alone.
+#[test]
+fn long_odd_cycle(rt: HostRuntime) -> Result<(), Fail> {
+    let mut matrix = zero(rt.alloc(), 1000, 999)?;
+    for column in 0..999u32 {
+        mark(&mut matrix, 0, column);
+        mark(&mut matrix, column + 1, column);
+        mark(&mut matrix, (column + 1) % 999 + 1, column);
+    }
+    let case = split(rt.alloc(), &matrix)?;
+    match &case {
+        SplitCase::OddCycle { row, parts } => {
+            assert_eq!(rt; *row, 0);
+            assert_eq!(rt; parts.len(), 999);
+        }
+        _ => assert!(&rt; false),
+    }
+    Ok(())
+}

@@ -10,8 +10,8 @@ use Rattle.bridge_split.proofs.ColumnSteps.{any_default}
 use Rattle.bridge_split.proofs.CutTables.{table_more}
 use Rattle.bridge_split.proofs.cuts.CutTable.new.Goals as goal
 
-pub common_columns-requires-clause-rows : goal.common_columns-requires-clause-rows
-common_columns-requires-clause-rows c =
+pub set_common-requires-clause-rows : goal.set_common-requires-clause-rows
+set_common-requires-clause-rows c =
     let p = c.loop-part.part-index in
     let item : c.part-item.result ≡ part_at c.args.parts.now p = c.part-item.is ∙ any_default c.args.parts.now p c.part-item.result [] c.loop-part-test.true in
     subst (AllBelow (height c.args.matrix.now)) (sym item) (c.requires.rows p c.loop-part-test.true)
@@ -23,4 +23,4 @@ loop-part-preserved c =
     let item : c.part-item.result ≡ part_at c.args.parts.now p = c.part-item.is ∙ any_default c.args.parts.now p c.part-item.result [] c.loop-part-test.true in
     table_more M c.args.row c.args.parts.now p c.deref.result.now c.loop-part.cuts.items c.push_cuts.new.cuts.items c.loop-part.invariant c.in_ok-push_cuts.ensures
     (subst (λ (columns : List ℕ). (column : ℕ) → IsIn column columns ↔ IsCommon M c.args.row (part_at c.args.parts.now p) column) (sym c.deref.ensures.value)
-    (subst (λ (part : List ℕ). (column : ℕ) → IsIn column c.in_ok-common.common.items ↔ IsCommon M c.args.row part column) item c.in_ok-common.ensures.common))
+    (subst (λ (part : List ℕ). (column : ℕ) → IsIn column c.set_common.new.common.items ↔ IsCommon M c.args.row part column) item c.in_ok-set_common.ensures.common))
