@@ -1,0 +1,56 @@
+-- Booleans that differ, and equations put in place of others.
+use Rattle.std.proofs.Common.{Bool, true, false, not, ◌≡◌, ◌∙◌, sym, ap, refl, ◌⊎◌, inl, inr}
+use Rattle.cmr_base.specs.Cuts.{differ}
+
+pub differ_swap : (a b : Bool) → differ a b ≡ differ b a
+differ_swap true true = refl
+differ_swap true false = refl
+differ_swap false true = refl
+differ_swap false false = refl
+
+pub differ_self : (a : Bool) → differ a a ≡ false
+differ_self true = refl
+differ_self false = refl
+
+pub differ_same : (a b : Bool) → a ≡ b → differ a b ≡ false
+differ_same a b e = ap (differ a) (sym e) ∙ differ_self a
+
+pub differ_other : (a b : Bool) → a ≡ not b → differ a b ≡ true
+differ_other true true e = cc
+differ_other true false e = refl
+differ_other false true e = refl
+differ_other false false e = cc
+
+pub other_of : (a b : Bool) → true ≡ differ a b → a ≡ not b
+other_of true true e = cc
+other_of true false e = refl
+other_of false true e = refl
+other_of false false e = cc
+
+-- turning both round changes nothing
+pub differ_both : (s a b : Bool) → differ (differ s a) (differ s b) ≡ differ a b
+differ_both true true true = refl
+differ_both true true false = refl
+differ_both true false true = refl
+differ_both true false false = refl
+differ_both false a b = refl
+
+pub not_swap : (a b : Bool) → a ≡ not b → b ≡ not a
+not_swap true true e = cc
+not_swap true false e = refl
+not_swap false true e = refl
+not_swap false false e = cc
+
+pub swap : {A B : Type 0} → A ⊎ B → B ⊎ A
+swap (inl a) = inr a
+swap (inr b) = inl b
+
+-- one of two equations, over equals
+pub either : (x x' y y' z z' w w' : Bool) → x ≡ x' → y ≡ y' → z ≡ z' → w ≡ w' → (x' ≡ y') ⊎ (z' ≡ w') → (x ≡ y) ⊎ (z ≡ w)
+either x x' y y' z z' w w' a b c d (inl e) = inl (a ∙ e ∙ sym b)
+either x x' y y' z z' w w' a b c d (inr e) = inr (c ∙ e ∙ sym d)
+
+-- one of two bits that are false, written the other way round
+pub either_sym : (x y : Bool) → (x ≡ false) ⊎ (y ≡ false) → (false ≡ x) ⊎ (false ≡ y)
+either_sym x y (inl a) = inl (sym a)
+either_sym x y (inr a) = inr (sym a)

@@ -1,0 +1,12 @@
+pub mod Branches
+pub mod Growing
+pub mod Joints
+pub mod Numbers
+pub mod Merging
+pub mod Searches
+pub mod Orders
+pub mod Rays
+pub mod SideTables
+pub mod Stars
+pub mod TableLayout
+pub mod Tables

@@ -1,0 +1,18 @@
+-- The rows of a star as they are drawn.
+use Rattle.std.specs.Prelude.{◌≡◌, ◌==◌, ◌&&◌, not, if◌then◌else◌, ℕ, Bool, false, List, [], ◌∷◌}
+use Rattle.graph_realise.specs.SideTables.{side_in, end_in}
+use Rattle.graph_realise.specs.declared.arc_sides.ArcSides.{ArcSides}
+
+-- the first row of the list that is not 0 in the column is this one
+abbrev pub is_first : (ℕ → ℕ → Bool) → List ℕ → ℕ → ℕ → Bool
+is_first M [] row column = false
+is_first M (r ∷ rows) row column = if M r column then r == row else is_first M rows row column
+
+-- the first end of a column is the leaf of its first row, the last end that of its second, or the middle
+abbrev pub star_end : (ℕ → ℕ → Bool) → List ℕ → ℕ → Bool → ℕ → Bool
+star_end M rows row end column = M row column && (if end then is_first M rows row column else not (is_first M rows row column))
+
+-- the sides of one arc of the star
+pub record IsRay (M : ℕ → ℕ → Bool) (rows : List ℕ) (row : ℕ) (sides : ArcSides) : Type 0 where
+  pub arcs : (other : ℕ) → side_in sides row other ≡ false
+  pub ends : (end : Bool) (column : ℕ) → end_in sides end row column ≡ star_end M rows row end column

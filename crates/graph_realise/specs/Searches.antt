@@ -1,0 +1,26 @@
+-- What a search for a tree gives.
+use Rattle.std.specs.Prelude.{◌<◌, ◌≤◌, ℕ, Bool, List, length}
+use Rattle.cmr_base.specs.Cuts.{IsCuts, HasCuts}
+use Rattle.cmr_base.specs.Members.{IsIn}
+use Rattle.cmr_base.specs.Splits.{AreParts, Splits}
+use Rattle.graph_realise.specs.SideTables.{side_in, end_in}
+use Rattle.graph_realise.specs.declared.arc_sides.ArcSides.{ArcSides}
+use Rattle.graph_realise.specs.declared.side_search.Split.{Split}
+use Rattle.graph_realise.specs.declared.side_search.TreeSearch.{TreeSearch}
+use Rattle.graph_realise.specs.declared.side_search.TreeSearch.TheVariants.{Found, NoTree}
+
+-- a tree in the tables, or none at all
+abbrev pub IsSearch : (ℕ → ℕ → Bool) → List ℕ → ArcSides → TreeSearch → Type 0
+IsSearch M S sides Found = IsCuts M (λ r. IsIn r S) (side_in sides) (end_in sides)
+IsSearch M S sides NoTree = ¬ (HasCuts M (λ r. IsIn r S))
+
+-- no row below a number splits the others
+abbrev pub AreWholeBelow : (ℕ → ℕ → Bool) → List ℕ → ℕ → Type 0
+AreWholeBelow M S untested = (row : ℕ) → row < untested → ¬ (Splits M S row)
+
+-- the first row that splits the others, and their parts, which are two or more
+pub record IsSplit (M : ℕ → ℕ → Bool) (S : List ℕ) (split : Split) : Type 0 where
+  pub here : IsIn split.row S
+  pub parts : AreParts M S split.row split.parts
+  pub two : 2 ≤ length split.parts
+  pub first : AreWholeBelow M S split.row

@@ -1,0 +1,56 @@
+-- The sides of arcs as tables.
+use Rattle.std.specs.Prelude.{◌≡◌, ◌≢◌, ◌<◌, ◌≤◌, ℕ, Bool, cond, List, slice_index}
+use Rattle.cmr_base.specs.Matrix.{Matrix, height}
+use Rattle.cmr_base.specs.Members.{IsIn}
+use Rattle.graph_realise.specs.Tables.{cell}
+use Rattle.graph_realise.specs.declared.arc_sides.ArcSides.{ArcSides}
+
+-- the side of an arc where another arc is
+abbrev pub side_in : ArcSides → ℕ → ℕ → Bool
+side_in sides row other = cell sides.arcs row other
+
+-- the side of an arc where the first (true) or last end of a column is
+abbrev pub end_in : ArcSides → Bool → ℕ → ℕ → Bool
+end_in sides end row column = cond end (cell sides.first row column) (cell sides.last row column)
+
+-- the tables have a row for each row of the matrix
+pub record AreTablesOf (m : Matrix) (sides : ArcSides) : Type 0 where
+  pub arcs_height : sides.arcs.height ≡ height m
+  pub arcs_width : sides.arcs.width ≡ height m
+  pub first_height : sides.first.height ≡ height m
+  pub first_width : sides.first.width ≡ m.width
+  pub last_height : sides.last.height ≡ height m
+  pub last_width : sides.last.width ≡ m.width
+
+-- the sides of one arc are the same
+pub record KeepsRow (old new : ArcSides) (row : ℕ) : Type 0 where
+  pub arcs : (other : ℕ) → side_in new row other ≡ side_in old row other
+  pub ends : (end : Bool) (column : ℕ) → end_in new end row column ≡ end_in old end row column
+
+-- and those of all arcs but one
+abbrev pub KeepsOthers : ArcSides → ArcSides → ℕ → Type 0
+KeepsOthers old new row = (r : ℕ) → r ≢ row → KeepsRow old new r
+
+-- and those of all arcs that are not in the list
+abbrev pub KeepsOutside : ArcSides → ArcSides → List ℕ → Type 0
+KeepsOutside old new rows = (r : ℕ) → ¬ (IsIn r rows) → KeepsRow old new r
+
+-- one arc has these ends of the first columns on its sides, so many of them
+pub record AreEndsFilled (ends : Bool → ℕ → Bool) (old new : ArcSides) (row count : ℕ) : Type 0 where
+  pub others : KeepsOthers old new row
+  pub arcs : (other : ℕ) → side_in new row other ≡ side_in old row other
+  pub done : (end : Bool) (column : ℕ) → column < count → end_in new end row column ≡ ends end column
+  pub left : (end : Bool) (column : ℕ) → count ≤ column → end_in new end row column ≡ end_in old end row column
+
+-- the ends of one column are changed
+pub record AreEndsSet (old new : ArcSides) (row column : ℕ) (first last : Bool) : Type 0 where
+  pub sizes : (m : Matrix) → AreTablesOf m old → AreTablesOf m new
+  pub others : KeepsOthers old new row
+  pub arcs : (other : ℕ) → side_in new row other ≡ side_in old row other
+  pub here : (end : Bool) → end_in new end row column ≡ cond end first last
+  pub columns : (end : Bool) (c : ℕ) → c ≢ column → end_in new end row c ≡ end_in old end row c
+
+-- each of the first rows of a list has a property, so many of them, and the others are the same
+pub record AreRedrawn (P : ℕ → ArcSides → Type 0) (rows : List ℕ) (count : ℕ) (old new : ArcSides) : Type 0 where
+  pub done : (k : ℕ) → k < count → P (slice_index rows k) new
+  pub kept : (r : ℕ) → ((k : ℕ) → k < count → slice_index rows k ≢ r) → KeepsRow old new r

@@ -1,0 +1,147 @@
+// A row and the parts of the others.
+ghost use Rattle.std.specs.Prelude.{◌≡◌, ◌<◌, ◌≤◌, ◌⊎◌, ◌↔◌, ℕ, List, Some, None, IfOk, IsTrue, length, slice_index_or};
+ghost use Rattle.cmr_base.specs.LineSets.{AllBelow};
+ghost use Rattle.std.specs.List.Sorted.{IsStrictlyIncreasing};
+ghost use Rattle.cmr_base.specs.Matrix.{height, IsMatrix};
+ghost use Rattle.cmr_base.specs.Members.{IsIn};
+ghost use Rattle.cmr_base.specs.Splits.{AreParts};
+ghost use Rattle.cmr_base.specs.Trees.{support};
+ghost use Rattle.graph_realise.specs.Joints.{AreInRows, AreNumbered, IsJointOf, IsPartWith, number_at};
+ghost use Rattle.graph_realise.specs.Numbers.{AreDisjoint};
+
+use crate::branches::{Branch, branches_at};
+use crate::nonzero::is_nonzero;
+use cmr_base::{Indices, Matrix, Memory, PartList, SideList};
+use std::alloc::Global;
+
+/// A row and the parts of the others: the part of each row, the branches that the parts are, and for each column that the
+/// row does not have the part that has it.
+#[derive(Debug, Drop)]
+pub struct Joint {
+    pub row: u32,
+    pub part_of: Vec<Option<usize>>,
+    pub branches: Vec<Branch>,
+    pub part_with: Vec<Option<usize>>,
+}
+
+impl Joint {
+    /// The parts of the rows without this one, with their ends of its arc, 1 for the first end and 0 for the last.
+    pub fn new(
+        alloc: Global,
+        matrix: &Matrix,
+        rows: &Indices,
+        row: u32,
+        parts: &PartList,
+        ends: &SideList,
+    ) -> Result<Joint, Memory>
+        requires row { row < height matrix.now }
+        requires rows { AllBelow (height matrix.now) rows.now }
+        requires parts { AreInRows (height matrix.now) parts.now }
+        requires disjoint { AreDisjoint parts.now }
+        requires ends { length ends.now ≡ length parts.now }
+        ensures shape { IsMatrix matrix.now }
+        ensures joint { IfOk result (IsJointOf (support matrix.now) (height matrix.now) matrix.now.width rows.now row parts.now ends.now) }
+    {
+        let part_of = parts_of_rows(alloc, matrix, parts)?;
+        let part_with = parts_with_columns(alloc, matrix, rows, &part_of)?;
+        let branches = branches_at(alloc, matrix, row, parts, ends)?;
+        Ok(Joint {
+            row,
+            part_of,
+            branches,
+            part_with,
+        })
+    }
+
+    /// The row with a part.
+    pub fn rows_with(&self, alloc: Global, part: usize) -> Result<Indices, Memory>
+        requires few { length self.now.part_of.items ≤ 1000 }
+        requires row { self.now.row < length self.now.part_of.items }
+        ensures rising { IfOk result IsStrictlyIncreasing }
+        ensures rows { IfOk result (λ rows. (x : ℕ) → IsIn x rows ↔ ((x ≡ self.now.row) ⊎ (number_at self.now.part_of.items x ≡ Some part))) }
+    {
+        let mut rows = Indices::new(alloc);
+        for row in 0..self.part_of.len() as u32 {
+            if self.is_with(row, part) {
+                rows.push(row)?;
+            }
+        }
+        Ok(rows)
+    }
+
+    // Whether it is the row itself or one of the part.
+    fn is_with(&self, row: u32, part: usize) -> bool
+        requires { row < length self.now.part_of.items }
+        ensures { IsTrue result ↔ ((row ≡ self.now.row) ⊎ (number_at self.now.part_of.items row ≡ Some part)) }
+    {
+        row == self.row || self.part_of[row as usize] == Some(part)
+    }
+}
+
+// The number of the part of each row.
+fn parts_of_rows(
+    alloc: Global,
+    matrix: &Matrix,
+    parts: &PartList,
+) -> Result<Vec<Option<usize>>, Memory>
+    requires parts { AreInRows (height matrix.now) parts.now }
+    requires disjoint { AreDisjoint parts.now }
+    ensures shape { IsMatrix matrix.now }
+    ensures size { IfOk result (λ numbers. length numbers.items ≡ height matrix.now) }
+    ensures numbered { IfOk result (λ numbers. AreNumbered parts.now (length parts.now) numbers.items) }
+{
+    let mut numbers = vec![in alloc; None; matrix.rows() as usize]?;
+    for place in 0..parts.len() {
+        number_rows(&mut numbers, parts.get(place), place);
+    }
+    Ok(numbers)
+}
+
+fn number_rows(numbers: &mut Vec<Option<usize>>, part: &Indices, number: usize)
+    requires { AllBelow (length numbers.old.items) part.now }
+    ensures size { length numbers.new.items ≡ length numbers.old.items }
+    ensures inside { (row : ℕ) → IsIn row part.now → number_at numbers.new.items row ≡ Some number }
+    ensures outside { (row : ℕ) → ¬ (IsIn row part.now) → number_at numbers.new.items row ≡ number_at numbers.old.items row }
+{
+    for row in part.as_slice() {
+        numbers[*row as usize] = Some(number);
+    }
+}
+
+// For each column the part of some row that has it.
+fn parts_with_columns(
+    alloc: Global,
+    matrix: &Matrix,
+    rows: &Indices,
+    part_of: &[Option<usize>],
+) -> Result<Vec<Option<usize>>, Memory>
+    requires rows { AllBelow (height matrix.now) rows.now }
+    requires each { length part_of.now ≡ height matrix.now }
+    ensures size { IfOk result (λ numbers. length numbers.items ≡ matrix.now.width) }
+    ensures parts { IfOk result (λ numbers. (column : ℕ) → column < matrix.now.width → IsPartWith (support matrix.now) rows.now part_of.now column (number_at numbers.items column)) }
+{
+    let mut numbers = Vec::new(alloc);
+    for column in 0..matrix.columns() {
+        numbers.push(part_with_column(matrix, rows, part_of, column))?;
+    }
+    Ok(numbers)
+}
+
+fn part_with_column(
+    matrix: &Matrix,
+    rows: &Indices,
+    part_of: &[Option<usize>],
+    column: u32,
+) -> Option<usize>
+    requires rows { AllBelow (height matrix.now) rows.now }
+    requires each { length part_of.now ≡ height matrix.now }
+    requires column { column < matrix.now.width }
+    ensures { IsPartWith (support matrix.now) rows.now part_of.now column result }
+{
+    for row in rows.as_slice() {
+        if is_nonzero(matrix, *row, column) {
+            return part_of[*row as usize];
+        }
+    }
+    None
+}

@@ -1,0 +1,20 @@
+//! Trees for 0/1 matrices whose columns are the paths of a tree.
+#![tactic(auto)]
+
+mod arc_sides;
+mod branches;
+mod growing;
+mod joining;
+mod joint;
+mod minimal;
+mod nonzero;
+mod realising;
+mod side_search;
+mod star;
+mod table;
+
+pub use minimal::minimal_not_graphic;
+pub use realising::realise;
+
+#[cfg(test)]
+mod tests;

@@ -1,0 +1,34 @@
+// A minimal submatrix that is not graphic.
+ghost use Rattle.std.specs.Prelude.{IfOk, MatchOption};
+ghost use Rattle.cmr_base.specs.GreedySets.{IsGreedySet};
+ghost use Rattle.cmr_base.specs.Trees.{IsBinary, IsGraphic};
+
+use crate::realising::realise;
+use cmr_base::{LineSet, Matrix, Memory};
+use minimal_sets::{Property, minimal_without};
+use std::alloc::Global;
+
+/// `None` exactly where the matrix is graphic, and else a set of lines whose submatrix is not graphic, but becomes
+/// graphic as soon as any one of the lines is left out: what stays where the lines are gone through once, rows first,
+/// and each is left out where the others still make a matrix that is not graphic.
+pub fn minimal_not_graphic(alloc: Global, matrix: &Matrix) -> Result<Option<LineSet>, Memory>
+    requires { IsBinary matrix.now }
+    ensures { IfOk result (λ found. MatchOption found (IsGraphic matrix.now) (λ lines. IsGreedySet IsGraphic matrix.now lines.rows lines.columns)) }
+{
+    minimal_without(alloc, matrix, &Graphic)
+}
+
+// That a 0/1 matrix is graphic.
+#[derive(Drop)]
+struct Graphic;
+
+impl Property for Graphic {
+    ghost holds = { λ _ m. IsGraphic m };
+
+    ghost domain = { λ _ m. IsBinary m };
+
+    fn holds_on(&self, alloc: Global, matrix: &Matrix, lines: &LineSet) -> Result<bool, Memory> {
+        let part = matrix.part(alloc, lines)?;
+        Ok(realise(alloc, &part)?.is_some())
+    }
+}

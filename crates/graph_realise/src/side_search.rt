@@ -1,0 +1,112 @@
+// The search for the sides of a tree by splitting.
+ghost use Rattle.std.specs.Prelude.{◌≡◌, ◌<◌, ℕ, OnOk, IfOk, MatchOption};
+ghost use Rattle.cmr_base.specs.LineSets.{AllBelow};
+ghost use Rattle.cmr_base.specs.Matrix.{height};
+ghost use Rattle.cmr_base.specs.Splits.{AreSides, HasNoThree, Splits};
+ghost use Rattle.cmr_base.specs.Trees.{support};
+ghost use Rattle.graph_realise.specs.Searches.{AreWholeBelow, IsSearch, IsSplit};
+ghost use Rattle.graph_realise.specs.SideTables.{AreTablesOf, KeepsOutside};
+
+use crate::arc_sides::ArcSides;
+use crate::joining::join;
+use crate::joint::Joint;
+use crate::star::draw_star;
+use bridge_split::{Sides, first_column_with_three, parts_at, sides_at};
+use cmr_base::{Indices, Matrix, Memory, PartList, SideList};
+use std::alloc::Global;
+
+/// Whether some rows are the arcs of a tree in which the columns are paths.
+#[derive(Debug, Clone, Copy, PartialEq, Eq)]
+pub enum TreeSearch {
+    Found,
+    NoTree,
+}
+
+/// The first row that splits the others, with their parts.
+#[derive(Debug, Drop)]
+struct Split {
+    row: u32,
+    parts: PartList,
+}
+
+/// Finds a tree for these rows and writes its sides into the rows of the tables. No row below `untested` splits the
+/// others: a row that does not split some rows does not split the row that does and one of its parts either, and so each
+/// row is tested once.
+#[cycle(find_sides)]
+pub fn find_sides(
+    alloc: Global,
+    matrix: &Matrix,
+    rows: &Indices,
+    untested: u32,
+    sides: &mut ArcSides,
+) -> Result<TreeSearch, Memory>
+    requires rows { AllBelow (height matrix.now) rows.now }
+    requires tested { AreWholeBelow (support matrix.now) rows.now untested }
+    requires tables { AreTablesOf matrix.now sides.old }
+    ensures tables { AreTablesOf matrix.now sides.new }
+    ensures found { IfOk result (IsSearch (support matrix.now) rows.now sides.new) }
+    ensures others { KeepsOutside sides.old sides.new rows.now }
+{
+    if first_column_with_three(alloc, matrix, rows)?.is_none() {
+        draw_star(matrix, rows, sides);
+        return Ok(TreeSearch::Found);
+    }
+    match find_split(alloc, matrix, rows, untested)? {
+        None => Ok(TreeSearch::NoTree),
+        Some(split) => match sides_at(alloc, matrix, rows, split.row, &split.parts)? {
+            Sides::OddCycle(_) => Ok(TreeSearch::NoTree),
+            Sides::Found(ends) => join_parts(alloc, matrix, rows, &split, &ends, sides),
+        },
+    }
+}
+
+#[cycle(find_sides)]
+fn join_parts(
+    alloc: Global,
+    matrix: &Matrix,
+    rows: &Indices,
+    split: &Split,
+    ends: &SideList,
+    sides: &mut ArcSides,
+) -> Result<TreeSearch, Memory>
+    requires rows { AllBelow (height matrix.now) rows.now }
+    requires tables { AreTablesOf matrix.now sides.old }
+    requires split { IsSplit (support matrix.now) rows.now split.now }
+    requires ends { AreSides (support matrix.now) split.now.row split.now.parts ends.now }
+    ensures tables { AreTablesOf matrix.now sides.new }
+    ensures found { IfOk result (IsSearch (support matrix.now) rows.now sides.new) }
+    ensures others { KeepsOutside sides.old sides.new rows.now }
+{
+    let joint = Joint::new(alloc, matrix, rows, split.row, &split.parts, ends)?;
+    for place in 0..split.parts.len() {
+        let rows_with = joint.rows_with(alloc, place)?;
+        match find_sides(alloc, matrix, &rows_with, split.row + 1, sides)? {
+            TreeSearch::Found => {}
+            TreeSearch::NoTree => return Ok(TreeSearch::NoTree),
+        }
+    }
+    join(matrix, rows, &joint, sides);
+    Ok(TreeSearch::Found)
+}
+
+// The first row without which the others fall into two parts or more.
+fn find_split(
+    alloc: Global,
+    matrix: &Matrix,
+    rows: &Indices,
+    untested: u32,
+) -> Result<Option<Split>, Memory>
+    requires rows { AllBelow (height matrix.now) rows.now }
+    requires tested { AreWholeBelow (support matrix.now) rows.now untested }
+    ensures { IfOk result (λ found. MatchOption found ((row : ℕ) → ¬ (Splits (support matrix.now) rows.now row)) (IsSplit (support matrix.now) rows.now)) }
+{
+    for row in rows.as_slice() {
+        if *row >= untested {
+            let parts = parts_at(alloc, matrix, rows, *row)?;
+            if parts.len() >= 2 {
+                return Ok(Some(Split { row: *row, parts }));
+            }
+        }
+    }
+    Ok(None)
+}
