@@ -1,0 +1,8 @@
+use Rattle.std.proofs.Common.{◌≡◌, ◌<◌, ◌*ℤ◌, ℕ}
+use Rattle.cmr_base.specs.Matrix.{entry}
+use Rattle.network_orient.specs.SignedGroups.{sign_of}
+use Rattle.network_orient.proofs.column_groups.ColumnGroups.is_row_turned.Given as goal
+
+-- the columns so far are turned
+abbrev pub invariant-loop-column : goal.invariant-loop-column
+invariant-loop-column l = (column : ℕ) → column < l.column → entry l.to l.row column ≡ l.sign *ℤ (sign_of l.self.signs.items column *ℤ entry l.from l.row column)

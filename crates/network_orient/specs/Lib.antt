@@ -1,0 +1,2 @@
+pub mod SignedGroups
+pub mod SupportMatrices

@@ -1,0 +1,15 @@
+//! Directed trees for network matrices (Tutte; Schrijver, Theory of Linear and Integer Programming, chapter 19).
+#![tactic(auto)]
+
+mod column_groups;
+mod line_signs;
+mod minimal;
+mod orienting;
+mod supports;
+mod turning;
+
+pub use minimal::minimal_not_network;
+pub use orienting::orient;
+
+#[cfg(test)]
+mod tests;

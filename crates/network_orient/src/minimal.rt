@@ -1,0 +1,33 @@
+// A minimal submatrix that is no network matrix.
+ghost use Rattle.std.specs.Prelude.{IfOk, MatchOption};
+ghost use Rattle.cmr_base.specs.GreedySets.{IsGreedySet};
+ghost use Rattle.cmr_base.specs.Trees.{IsNetworkMatrix};
+
+use crate::orienting::orient;
+use cmr_base::{LineSet, Matrix, Memory};
+use minimal_sets::{Property, minimal_without};
+use std::alloc::Global;
+
+/// `None` exactly where the matrix is a network matrix, and else a set of lines whose submatrix is none, but becomes one
+/// as soon as any one of the lines is left out: what stays where the lines are gone through once, rows first, and each is
+/// left out where the others still make no network matrix.
+pub fn minimal_not_network(alloc: Global, matrix: &Matrix) -> Result<Option<LineSet>, Memory>
+    ensures { IfOk result (λ found. MatchOption found (IsNetworkMatrix matrix.now) (λ lines. IsGreedySet IsNetworkMatrix matrix.now lines.rows lines.columns)) }
+{
+    minimal_without(alloc, matrix, &NetworkMatrices)
+}
+
+// That a matrix is a network matrix.
+#[derive(Drop)]
+struct NetworkMatrices;
+
+impl Property for NetworkMatrices {
+    ghost holds = { λ _ m. IsNetworkMatrix m };
+
+    ghost domain = { λ _ _. Unit {0} };
+
+    fn holds_on(&self, alloc: Global, matrix: &Matrix, lines: &LineSet) -> Result<bool, Memory> {
+        let part = matrix.part(alloc, lines)?;
+        Ok(orient(alloc, &part)?.is_some())
+    }
+}
