@@ -1,5 +1,5 @@
 -- What a yes, a no and undecided of `tu` say of the matrix.
-use Rattle.std.proofs.Common.{◌≡◌, ◌⊎◌, ℕ, Bool, List, Some, Result, ap, inl, inr, refl, arith}
+use Rattle.std.proofs.Common.{◌≡◌, ℕ, Bool, List, Some, Result, arith}
 use Rattle.cmr_base.specs.Matrix.{Matrix}
 use Rattle.cmr_base.specs.Signing.{HasNoSigning, IsTotallyUnimodular}
 use Rattle.cmr_tools.specs.declared.outcome.Outcome.{Outcome}

@@ -1,5 +1,5 @@
 -- How a run ends, from what was decided and how that was carried out. Each tool's call rests on `runs`.
-use Rattle.std.proofs.Common.{◌≡◌, ◌≤◌, ◌⊎◌, ◌∙◌, ℕ, Bool, IsTrue, List, Option, None, Result, Ok, Err, ap, sym, subst, inl, inr, arith, refl}
+use Rattle.std.proofs.Common.{◌≡◌, ◌≤◌, ◌⊎◌, ◌∙◌, ℕ, Bool, IsTrue, List, Option, None, Result, Ok, Err, sym, subst, inl, inr, arith, refl}
 use Rattle.std.specs.Prelude.{IfErr}
 use Rattle.cmr_io.specs.Causes.{Rose}
 use Rattle.cmr_tools.specs.declared.outcome.Outcome.{Outcome}
@@ -10,7 +10,7 @@ use Rattle.cmr_tools.specs.Report.{Held, Report}
 use Rattle.cmr_tools.specs.Outcome.{ended_report, outcome_report, bad_words, too_long, bad_text, stop_report}
 use Rattle.cmr_tools.specs.Ending.{Devices, Standing, devices, IsReadyFor, IsCarriedOut, delivered, unwritten, cut_short, CarriesOut}
 use Rattle.cmr_tools.specs.Run.{Reports, HasEnded, reported, unread, no_memory, Ends, Runs}
-use Rattle.cmr_tools.proofs.Reports.{one_report}
+use Rattle.cmr_tools.proofs.Reports.{one_status}
 
 pub pointwise : {A B : Type 0} (f g : A → B) → ((x : A) → f x ≡ g x) → f ≡ g
 pointwise f g h = λ i. λ x. h x i
@@ -75,15 +75,20 @@ seen_from ended held read output error before mid out err after status same h do
     later (Ok outcome) held output error before mid out err after status h done = carried (outcome_report outcome) held output error before mid out err after status h done
     later (Err stop) held output error before mid out err after status h done = (done.0, record { files = done.1.files; output = done.1.output; error = done.1.error })
 
--- what was decided is the report, or there is none to be had
-the_report : (order : Option Order) (held : Held) (calm : Bool) (ended : Result Outcome Stop) → Ends order held calm ended → (report : Report) → Reports order held report
-    → (ended_report ended ≡ report) ⊎ (((ended_report ended).status ≡ 4) × (IsTrue calm → ⊥)) ⊎ (ended ≡ Err stops.Memory)
-the_report order held calm (Ok outcome) ends report is = inl (one_report order held _ report ends is)
-the_report order held calm (Err stops.BadWords) ends report is = inl (one_report order held _ report ends is)
-the_report order held calm (Err (stops.TooLong name)) ends report is = inl (one_report order held _ report ends is)
-the_report order held calm (Err (stops.BadText name kind place)) ends report is = inl (one_report order held _ report ends is)
-the_report order held calm (Err (stops.CannotRead name)) ends report is = inr (inl (refl, λ is_calm. ends.1 is_calm report is))
-the_report order held calm (Err stops.Memory) ends report is = inr (inr refl)
+-- what was decided is a report with the status of each
+record IsReported (order : Option Order) (held : Held) (ended report : Report) : Type 0 where
+  reports : Reports order held ended
+  status : ended.status ≡ report.status
+
+-- or there is none to be had
+the_status : (order : Option Order) (held : Held) (calm : Bool) (ended : Result Outcome Stop) → Ends order held calm ended → (report : Report) → Reports order held report
+    → IsReported order held (ended_report ended) report ⊎ (((ended_report ended).status ≡ 4) × (IsTrue calm → ⊥)) ⊎ (ended ≡ Err stops.Memory)
+the_status order held calm (Ok outcome) ends report is = inl (record { reports = ends; status = one_status order held _ report ends is })
+the_status order held calm (Err stops.BadWords) ends report is = inl (record { reports = ends; status = one_status order held _ report ends is })
+the_status order held calm (Err (stops.TooLong name)) ends report is = inl (record { reports = ends; status = one_status order held _ report ends is })
+the_status order held calm (Err (stops.BadText name kind place)) ends report is = inl (record { reports = ends; status = one_status order held _ report ends is })
+the_status order held calm (Err (stops.CannotRead name)) ends report is = inr (inl (refl, λ is_calm. ends.1 is_calm report is))
+the_status order held calm (Err stops.Memory) ends report is = inr (inr refl)
 
 -- a stop ends with its own status
 stop_status : (ended : Result Outcome Stop) (status : ℕ) → IfErr ended (λ stop. status ≡ (stop_report stop).status) → (stop : Stop) → ended ≡ Err stop → status ≡ (stop_report stop).status
@@ -97,17 +102,17 @@ runs order standing held read output error before mid out err ended after status
       has_ended order standing.shelf_is_calm ended (devices held output error before out err) after status (decided.ends told)
       (seen_from ended held read output error before mid out err after status (pointwise read held decided.content) decided.later (carried.carried_out told out_told err_told))
       (λ four. rose_until before mid after.shelf_faults carried.later (decided.cause four));
-  complete = λ told report is. elim (the_report order held standing.shelf_is_calm ended (decided.ends told) report is) [
-    | inl same ↦ elim carried.given [ inl s ↦ inl (s ∙ ap (λ (r : Report). r.status) same) | inr cut ↦ inr (inl cut.0) ]
+  complete = λ told report is. elim (the_status order held standing.shelf_is_calm ended (decided.ends told) report is) [
+    | inl one ↦ elim carried.given [ inl s ↦ inl (s ∙ one.status) | inr cut ↦ inr (inl cut.0) ]
     | inr other ↦ elim other [
       | inl gone ↦ elim carried.given [ inl s ↦ inr (inl (s ∙ gone.0)) | inr cut ↦ inr (inl cut.0) ]
       | inr memory ↦ elim carried.given [ inl s ↦ inr (inr (stop_status ended status carried.stopped stops.Memory memory)) | inr cut ↦ inr (inl cut.0) ]
     ]
   ];
-  ready = λ report is room. elim (the_report order held standing.shelf_is_calm ended (decided.ends (decided.told room.shelf)) report is) [
-    | inl same ↦ inl (carried.ready (subst (λ r. IsReadyFor r standing) (sym same) room) ∙ ap (λ (r : Report). r.status) same)
+  ready = λ report is room. elim (the_status order held standing.shelf_is_calm ended (decided.ends (decided.told (room report is).shelf)) report is) [
+    | inl one ↦ inl (carried.ready (room (ended_report ended) one.reports) ∙ one.status)
     | inr other ↦ elim other [
-      | inl gone ↦ absurd (gone.1 room.shelf)
+      | inl gone ↦ absurd (gone.1 (room report is).shelf)
       | inr memory ↦ inr (stop_status ended status carried.stopped stops.Memory memory)
     ]
   ];

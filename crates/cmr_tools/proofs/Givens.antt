@@ -52,15 +52,18 @@ module _ (s : Source) (Decides : Matrix → Report → Type 0) (held : Held) whe
       go above_limit e a = absurd (not_refused r _ a refl answer)
       go (whole bytes) e a = decision_from_text bytes e (matrix_in s.form s.binary bytes) refl r a answer
 
-  -- one report at most, where one at most is decided
-  pub one_report_given : ((m : Matrix) (r t : Report) → Decides m r → Decides m t → r ≡ t) → (r t : Report) → ReportsGiven s Decides held r → ReportsGiven s Decides held t → r ≡ t
-  one_report_given one r t = go (source_reading s held)
+  -- all reports have one status, where all decisions have
+  pub one_status_given : ((m : Matrix) (r t : Report) → Decides m r → Decides m t → r.status ≡ t.status) → (r t : Report) → ReportsGiven s Decides held r → ReportsGiven s Decides held t → r.status ≡ t.status
+  one_status_given one r t = go (source_reading s held)
     where
-      on_text : (read : Result Matrix (Fault TextKind)) → ReportsText s.file Decides read r → ReportsText s.file Decides read t → r ≡ t
-      on_text (Ok m) a b = one m r t a b
-      on_text (Err fault) a b = a ∙ sym b
+      both : (x : Report) → r ≡ x → t ≡ x → r.status ≡ t.status
+      both x a b = status_of r x a ∙ sym (status_of t x b)
 
-      go : (read : Reading) → ReportsReading s Decides read r → ReportsReading s Decides read t → r ≡ t
+      on_text : (read : Result Matrix (Fault TextKind)) → ReportsText s.file Decides read r → ReportsText s.file Decides read t → r.status ≡ t.status
+      on_text (Ok m) a b = one m r t a b
+      on_text (Err fault) a b = both _ a b
+
+      go : (read : Reading) → ReportsReading s Decides read r → ReportsReading s Decides read t → r.status ≡ t.status
       go missing a b = absurd a
-      go above_limit a b = a ∙ sym b
+      go above_limit a b = both _ a b
       go (whole bytes) a b = on_text (matrix_in s.form s.binary bytes) a b

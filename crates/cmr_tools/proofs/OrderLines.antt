@@ -1,14 +1,16 @@
 -- The lines that words name are in their range.
-use Rattle.std.proofs.Common.{◌≡◌, ℕ, ◌≤◌, List, [], ◌∷◌, Option, Some, None, option_map, Bool, true, false, cond, refl, ap, subst, ◌∙◌, arith, codes}
+use Rattle.std.proofs.Common.{◌≡◌, ◌≢◌, ℕ, ◌≤◌, List, [], ◌∷◌, Option, Some, None, option_map, Bool, true, false, cond, refl, ap, subst, ◌∙◌, arith, codes}
 use Rattle.std.specs.Option.{option_map_or}
 use Rattle.std.specs.Str.{bytes_eq}
 use Rattle.clap.specs.Words.{Row, Text, first_of}
 use Rattle.cmr_tools.specs.declared.options.MatrixForm.{MatrixForm}
 use Rattle.cmr_tools.specs.Run.{IsInRanges}
-use Rattle.cmr_tools.specs.Words.{Order, order, tu, series_parallel}
+use Rattle.cmr_tools.specs.declared.options.Property.TheVariants.{Graphic, Network}
+use Rattle.cmr_tools.specs.Words.{Order, order, tu, series_parallel, test}
 use Rattle.cmr_tools.specs.Words.Parsing.{fault_in, file_in, form_in, lines_in, matches_with_input, number_up_to}
 use Rattle.cmr_tools.specs.Words.Reading.{◌>>=◌}
-use Rattle.cmr_tools.specs.Words.SeriesParallel.{SeriesParallelOrder, series_parallel_order}
+use Rattle.cmr_tools.specs.Words.SeriesParallel.{series_parallel_order}
+use Rattle.cmr_tools.specs.Words.TreePaths.{test_order}
 use Rattle.cmr_tools.specs.Words.Tu.{TuOrder, tu_app, tu_order, tu_order_in}
 use Rattle.cmr_tools.proofs.Numbers.{number_up_to-le}
 
@@ -37,7 +39,12 @@ tu_order-lines words o e = go (matches_with_input tu_app words) e
 
 pub order-lines : (words : List Text) (o : TuOrder) → order words ≡ Some (tu o) → o.lines ≤ 24
 order-lines [] o e = cc
-order-lines (tool ∷ words) o e = go (bytes_eq tool (codes "tu")) e
+order-lines (tool ∷ words) o e =
+    either (bytes_eq tool (codes "tu")) (option_map tu (tu_order words)) _ (of_order (tu_order words) refl)
+    (either (bytes_eq tool (codes "series-parallel")) (option_map series_parallel (series_parallel_order words)) _ (of_other series_parallel (series_parallel_order words) (λ x e. cc))
+    (either (bytes_eq tool (codes "graphic")) (option_map (test Graphic) (test_order Graphic words)) _ (of_other (test Graphic) (test_order Graphic words) (λ x e. cc))
+    (either (bytes_eq tool (codes "network")) (option_map (test Network) (test_order Network words)) None (of_other (test Network) (test_order Network words) (λ x e. cc)) (λ e. cc))))
+    e
   where
     of_order : (found : Option TuOrder) → tu_order words ≡ found → option_map tu found ≡ Some (tu o) → o.lines ≤ 24
     of_order None is e = cc
@@ -45,19 +52,16 @@ order-lines (tool ∷ words) o e = go (bytes_eq tool (codes "tu")) e
         let same : x ≡ o = cc in
         tu_order-lines words o (is ∙ ap Some same)
 
-    of_other : (found : Option SeriesParallelOrder) → option_map series_parallel found ≡ Some (tu o) → o.lines ≤ 24
-    of_other None e = cc
-    of_other (Some x) e = cc
+    of_other : {A : Type 0} (f : A → Order) (found : Option A) → ((x : A) → f x ≢ tu o) → option_map f found ≡ Some (tu o) → o.lines ≤ 24
+    of_other f None other e = cc
+    of_other f (Some x) other e = let same : f x ≡ tu o = cc in absurd (other x same)
 
-    last : (b : Bool) → cond b (option_map series_parallel (series_parallel_order words)) None ≡ Some (tu o) → o.lines ≤ 24
-    last true e = of_other (series_parallel_order words) e
-    last false e = cc
-
-    go : (b : Bool) → cond b (option_map tu (tu_order words)) (cond (bytes_eq tool (codes "series-parallel")) (option_map series_parallel (series_parallel_order words)) None) ≡ Some (tu o) → o.lines ≤ 24
-    go true e = of_order (tu_order words) refl e
-    go false e = last (bytes_eq tool (codes "series-parallel")) e
+    either : (b : Bool) (x y : Option Order) → (x ≡ Some (tu o) → o.lines ≤ 24) → (y ≡ Some (tu o) → o.lines ≤ 24) → cond b x y ≡ Some (tu o) → o.lines ≤ 24
+    either true x y of_x of_y e = of_x e
+    either false x y of_x of_y e = of_y e
 
 -- the numbers that words order are in their ranges
 pub in_ranges : (words : List Text) (ordered : Order) → order words ≡ Some ordered → IsInRanges ordered
 in_ranges words (tu o) e = order-lines words o e
 in_ranges words (series_parallel o) e = tt
+in_ranges words (test p o) e = tt

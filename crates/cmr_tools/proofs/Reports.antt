@@ -1,5 +1,5 @@
--- There is one report at most.
-use Rattle.std.proofs.Common.{◌≡◌, ◌≤◌, ◌∙◌, ℕ, false, List, Option, Some, None, Result, Ok, Err, ap, ap₂, sym, subst, inl, inr, arith}
+-- All reports of an order have one status, and those of most tools are one.
+use Rattle.std.proofs.Common.{◌≡◌, ◌≤◌, ◌∙◌, ℕ, List, Option, Some, None, ap, ap₂, sym, subst, inl, inr, arith}
 use Rattle.std.proofs.lemmas.Bool.{cases_lt}
 use Rattle.cmr_base.specs.Matrix.{Matrix, height, entry}
 use Rattle.cmr_base.specs.LineSets.{IsRowSet, IsColumnSet, set_number, set_numbered}
@@ -9,14 +9,18 @@ use Rattle.cmr_base.specs.Violator.{IsViolator, IsLeastByColumns, IsLeastByRows,
 use Rattle.cmr_base.proofs.RisingLists.{RisesIn, row_set_rises, column_set_rises}
 use Rattle.cmr_base.proofs.SetNumbers.{numbered_same}
 use Rattle.ghouila.proofs.CamionLaw.{unsigned}
-use Rattle.cmr_tools.specs.Words.{Order, tu, series_parallel}
+use Rattle.cmr_tools.specs.declared.options.Property.{Property}
+use Rattle.cmr_tools.specs.Words.{Order, tu, series_parallel, test}
 use Rattle.cmr_tools.specs.Words.SeriesParallel.{SeriesParallelOrder}
+use Rattle.cmr_tools.specs.Words.TreePaths.{TestOrder}
 use Rattle.cmr_tools.specs.Words.Tu.{TuOrder}
 use Rattle.cmr_tools.specs.Report.{Held, Report}
 use Rattle.cmr_tools.specs.SeriesParallel.{SeriesParallelDecides, series_parallel_no, series_parallel_source}
+use Rattle.cmr_tools.specs.TreePaths.{TestDecides, test_source}
+use Rattle.cmr_tools.specs.TreePaths as tests
 use Rattle.cmr_tools.specs.Tu.{IsNamedViolator, TuDecides, yes, no, undecided, tu_no, tu_source}
 use Rattle.cmr_tools.specs.Run.{Reports}
-use Rattle.cmr_tools.proofs.Givens.{one_report_given}
+use Rattle.cmr_tools.proofs.Givens.{one_status_given, status_of}
 use Rattle.cmr_tools.proofs.Greedy.{one_minimal}
 use Rattle.cmr_tools.proofs.OneCycleFault.{one_cycle_fault, not_both}
 
@@ -116,7 +120,17 @@ one_series_parallel o m r s (inr a) (inl b) = absurd (a.0 b.0)
 one_series_parallel o m r s (inr a) (inr b) =
     a.3 ∙ ap (series_parallel_no o m) (one_minimal (IsSeriesParallel o.binary) m o.minimal a.1 b.1 a.2 b.2) ∙ sym b.3
 
-pub one_report : (order : Option Order) (held : Held) (r s : Report) → Reports order held r → Reports order held s → r ≡ s
-one_report None held r s a b = a ∙ sym b
-one_report (Some (tu o)) held r s a b = one_report_given (tu_source o) (TuDecides o) held (one_decision o) r s a b
-one_report (Some (series_parallel o)) held r s a b = one_report_given (series_parallel_source o) (SeriesParallelDecides o) held (one_series_parallel o) r s a b
+-- yes and no exclude each other
+one_test : (p : Property) (o : TestOrder) (m : Matrix) (r s : Report) → TestDecides p o m r → TestDecides p o m s → r.status ≡ s.status
+one_test p o m r s (tests.yes has net shows e) (tests.yes has' net' shows' f) = status_of r _ e ∙ sym (status_of s _ f)
+one_test p o m r s (tests.yes has net shows e) (tests.no lacks minimal told f) = absurd (lacks has)
+one_test p o m r s (tests.no lacks minimal told e) (tests.yes has net shows f) = absurd (lacks has)
+one_test p o m r s (tests.no lacks minimal told e) (tests.no lacks' minimal' told' f) = status_of r _ e ∙ sym (status_of s _ f)
+
+-- all reports of an order have one status
+pub one_status : (order : Option Order) (held : Held) (r s : Report) → Reports order held r → Reports order held s → r.status ≡ s.status
+one_status None held r s a b = status_of r s (a ∙ sym b)
+one_status (Some (tu o)) held r s a b = one_status_given (tu_source o) (TuDecides o) held (λ m r s a b. status_of r s (one_decision o m r s a b)) r s a b
+one_status (Some (series_parallel o)) held r s a b =
+    one_status_given (series_parallel_source o) (SeriesParallelDecides o) held (λ m r s a b. status_of r s (one_series_parallel o m r s a b)) r s a b
+one_status (Some (test p o)) held r s a b = one_status_given (test_source p o) (TestDecides p o) held (one_test p o) r s a b

@@ -5,9 +5,11 @@ pub mod Written
 pub mod Inputs
 pub mod Given
 pub mod Printed
+pub mod Graph
 pub mod Minimal
 pub mod Stopped
 pub mod Ending
 pub mod Tu
 pub mod SeriesParallel
+pub mod TreePaths
 pub mod Run

@@ -3,26 +3,35 @@ pub mod Arguments
 pub mod Parsing
 pub mod Reading
 pub mod SeriesParallel
+pub mod TreePaths
 pub mod Tu
 use Rattle.std.specs.Prelude.{ℕ, List, [], ◌∷◌, Option, Some, None, option_map, if◌then◌else◌, codes}
 use Rattle.std.specs.Str.{bytes_eq}
 use Rattle.cmr_tools.specs.declared.options.Command.{Command}
 use Rattle.cmr_tools.specs.declared.options.Command.TheVariants as command
+use Rattle.cmr_tools.specs.declared.options.Property.{Property}
+use Rattle.cmr_tools.specs.declared.options.Property.TheVariants.{Graphic, Network}
 use Rattle.cmr_tools.specs.Words.SeriesParallel.{SeriesParallelOrder, series_parallel_order, series_parallel_order_of}
+use Rattle.cmr_tools.specs.Words.TreePaths.{TestOrder, test_order, test_order_of}
 use Rattle.cmr_tools.specs.Words.Tu.{TuOrder, tu_order, tu_order_of}
 
 -- a tool with its options
 pub data Order : Type 0 where
   tu : TuOrder → Order
   series_parallel : SeriesParallelOrder → Order
+  test : Property → TestOrder → Order
 
 -- the first word names the tool, which takes the others; nothing where the words are refused
 abbrev pub order : List (List ℕ) → Option Order
 order [] = None
 order (tool ∷ words) =
     if bytes_eq tool (codes "tu") then option_map tu (tu_order words)
-    else (if bytes_eq tool (codes "series-parallel") then option_map series_parallel (series_parallel_order words) else None)
+    else if bytes_eq tool (codes "series-parallel") then option_map series_parallel (series_parallel_order words)
+    else if bytes_eq tool (codes "graphic") then option_map (test Graphic) (test_order Graphic words)
+    else if bytes_eq tool (codes "network") then option_map (test Network) (test_order Network words)
+    else None
 
 abbrev pub order_of : Command → Order
 order_of (command.Tu options) = tu (tu_order_of options)
 order_of (command.SeriesParallel options) = series_parallel (series_parallel_order_of options)
+order_of (command.Test property options) = test property (test_order_of options)

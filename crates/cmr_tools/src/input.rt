@@ -1,5 +1,6 @@
 // Reading a file of a tool.
-ghost use Rattle.std.specs.Prelude.{◌≡◌, ◌≢◌, ◌≤◌, ℕ, List, IfOk, IfErr, IsTrue, Ok};
+ghost use Rattle.std.specs.Prelude.{◌≡◌, ◌≢◌, ◌≤◌, ℕ, List, IfOk, IfErr, IsTrue, Ok, true};
+ghost use Rattle.cmr_base.specs.Trees.{IsBinary};
 ghost use Rattle.cmr_io.specs.Causes.{Rose};
 ghost use Rattle.cmr_tools.specs.Inputs.{matrix_in, reading, whole};
 ghost use Rattle.cmr_tools.specs.Given.{IsGiven, StopsGiven, source};
@@ -22,6 +23,7 @@ pub fn read_given<'a, S: Shelf>(
     binary: bool,
 ) -> Result<Matrix, Stop<'a>>
     ensures given { IfOk result (λ m. IsTrue (S.tells shelf.old) → IsGiven (source form binary name.entry.now) (S.content shelf.old) m) }
+    ensures binary { IfOk result (λ m. binary ≡ true → IsBinary m) }
     ensures stopped { IfErr result (λ stop. IsTrue (S.tells shelf.old) → StopsGiven (source form binary name.entry.now) (S.content shelf.old) (S.is_calm shelf.old) stop) }
     ensures status { IfErr result (λ stop. (stop_report stop).status ≢ 2) }
     ensures cause { IfErr result (λ stop. (stop_report stop).status ≡ 4 → Rose (S.faults shelf.old) (S.faults shelf.new)) }

@@ -39,6 +39,30 @@ pub struct SeriesParallelOptions<'a> {
     pub file: &'a str,
 }
 
+/// What `graphic` and `network` test.
+#[derive(Clone, Copy, Debug, PartialEq, Eq)]
+pub enum Property {
+    /// The matrix is 0/1, and its columns are paths of a tree.
+    Graphic,
+    /// The columns are directed paths of a tree.
+    Network,
+}
+
+/// What `graphic` or `network` is asked to do. A file of the name `-` is standard input where it is read.
+#[derive(Clone, Copy, Debug, PartialEq, Eq)]
+pub struct TestOptions<'a> {
+    /// The form of the matrix text.
+    pub form: MatrixForm,
+    /// Whether the transposed matrix is tested.
+    pub transposed: bool,
+    /// The file that gets a minimal submatrix without the property, where there is one.
+    pub minimal: Option<&'a str>,
+    /// The file that gets a graph that shows the property, where there is one.
+    pub graph: Option<&'a str>,
+    /// The file that holds the matrix text.
+    pub file: &'a str,
+}
+
 /// A tool with its options.
 #[derive(Clone, Copy, Debug, PartialEq, Eq)]
 pub enum Command<'a> {
@@ -46,4 +70,6 @@ pub enum Command<'a> {
     Tu(TuOptions<'a>),
     /// Tests whether a matrix is series-parallel.
     SeriesParallel(SeriesParallelOptions<'a>),
+    /// Tests whether the columns of a matrix are paths of a tree.
+    Test(Property, TestOptions<'a>),
 }

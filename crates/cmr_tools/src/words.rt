@@ -12,9 +12,10 @@ mod parsing;
 mod series_parallel;
 #[cfg(test)]
 mod tests;
+mod tree_paths;
 mod tu;
 
-use crate::options::Command;
+use crate::options::{Command, Property};
 use clap::error::ErrorKind;
 use cmr_base::WordList;
 use std::alloc::{AllocError, Global};
@@ -59,6 +60,14 @@ pub fn read_words<'a>(alloc: Global, words: &'a WordList) -> Result<Command<'a>,
         "series-parallel" => Ok(Command::SeriesParallel(series_parallel::read_series_parallel(
             alloc, rest,
         )?)),
+        "graphic" => {
+            let options = tree_paths::read_test(alloc, Property::Graphic, rest)?;
+            Ok(Command::Test(Property::Graphic, options))
+        }
+        "network" => {
+            let options = tree_paths::read_test(alloc, Property::Network, rest)?;
+            Ok(Command::Test(Property::Network, options))
+        }
         _ => Err(WordsError::Refused),
     }
 }

@@ -37,6 +37,10 @@ fault_rule = value_rule (codes "fault") 69
 abbrev pub binary_rule : Rule
 binary_rule = flag_rule (codes "binary") 98
 
+-- [-t]
+abbrev pub transposed_rule : Rule
+transposed_rule = flag_rule (codes "transposed") 116
+
 -- [-N FILE]
 abbrev pub minimal_rule : Rule
 minimal_rule = value_rule (codes "minimal") 78
@@ -48,6 +52,10 @@ steps_rule = value_rule (codes "steps") 83
 -- [-R FILE]
 abbrev pub rest_rule : Rule
 rest_rule = value_rule (codes "rest") 82
+
+-- [-G FILE]
+abbrev pub graph_rule : Rule
+graph_rule = value_rule (codes "graph") 71
 
 -- [FILE]
 abbrev pub file_rule : Rule

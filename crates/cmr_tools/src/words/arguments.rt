@@ -15,11 +15,15 @@ pub const FAULT: &str = "fault";
 
 pub const BINARY: &str = "binary";
 
+pub const TRANSPOSED: &str = "transposed";
+
 pub const MINIMAL: &str = "minimal";
 
 pub const STEPS: &str = "steps";
 
 pub const REST: &str = "rest";
+
+pub const GRAPH: &str = "graph";
 
 pub const FILE: &str = "file";
 
@@ -81,6 +85,14 @@ pub fn binary_flag<'a>(alloc: Global) -> Arg<'a>
     flag(alloc, BINARY, 'b')
 }
 
+/// The flag `-t`.
+pub fn transposed_flag<'a>(alloc: Global) -> Arg<'a>
+    ensures rule { rule_of result ≡ arguments.transposed_rule }
+    ensures local { result.global ≡ false }
+{
+    flag(alloc, TRANSPOSED, 't')
+}
+
 /// The option `-N FILE`.
 pub fn minimal_option<'a>(alloc: Global) -> Arg<'a>
     ensures rule { rule_of result ≡ arguments.minimal_rule }
@@ -103,6 +115,14 @@ pub fn rest_option<'a>(alloc: Global) -> Arg<'a>
     ensures local { result.global ≡ false }
 {
     value_option(alloc, REST, 'R')
+}
+
+/// The option `-G FILE`.
+pub fn graph_option<'a>(alloc: Global) -> Arg<'a>
+    ensures rule { rule_of result ≡ arguments.graph_rule }
+    ensures local { result.global ≡ false }
+{
+    value_option(alloc, GRAPH, 'G')
 }
 
 /// The operand FILE.

@@ -1,4 +1,6 @@
-use crate::options::{Command, MatrixForm, SeriesParallelOptions, TuOptions};
+use crate::options::{
+    Command, MatrixForm, Property, SeriesParallelOptions, TestOptions, TuOptions,
+};
 use crate::words::{WordsError, read_words};
 use cmr_base::{Word, WordList};
 use std::process::Abort;
@@ -207,6 +209,58 @@ fn series_parallel(rt: HostRuntime) -> Result<(), Fail> {
     refuses(&rt, &[tool, "f", "-"])?;
     refuses(&rt, &["tu", "-b", "f"])?;
     refuses(&rt, &["series", "f"])?;
+    Ok(())
+}
+
+#[test]
+fn tree_paths(rt: HostRuntime) -> Result<(), Fail> {
+    let plain = TestOptions {
+        form: MatrixForm::Dense,
+        transposed: false,
+        minimal: None,
+        graph: None,
+        file: "f",
+    };
+    let transposed = TestOptions {
+        transposed: true,
+        ..plain
+    };
+    let all = TestOptions {
+        form: MatrixForm::Sparse,
+        transposed: true,
+        minimal: Some("n"),
+        graph: Some("g"),
+        file: "-",
+    };
+    for (tool, property) in [
+        ("graphic", Property::Graphic),
+        ("network", Property::Network),
+    ] {
+        gives(&rt, &[tool, "f"], Command::Test(property, plain))?;
+        gives(
+            &rt,
+            &[tool],
+            Command::Test(property, TestOptions { file: "-", ..plain }),
+        )?;
+        gives(&rt, &[tool, "f", "-t"], Command::Test(property, transposed))?;
+        gives(
+            &rt,
+            &[tool, "-G=g", "-Nn", "-ti", "sparse", "-"],
+            Command::Test(property, all),
+        )?;
+        refuses(&rt, &[tool, "-t", "-t", "f"])?;
+        refuses(&rt, &[tool, "-t=true", "f"])?;
+        refuses(&rt, &[tool, "-N", "n", "-N", "n", "f"])?;
+        refuses(&rt, &[tool, "-G", "-", "f"])?;
+        refuses(&rt, &[tool, "-G"])?;
+        refuses(&rt, &[tool, "-b", "f"])?;
+        refuses(&rt, &[tool, "-E", "e", "f"])?;
+        refuses(&rt, &[tool, "-w", "1", "f"])?;
+        refuses(&rt, &[tool, "f", "-"])?;
+    }
+    refuses(&rt, &["cographic", "f"])?;
+    refuses(&rt, &["conetwork", "f"])?;
+    refuses(&rt, &["series-parallel", "-t", "f"])?;
     Ok(())
 }
 
