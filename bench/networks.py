@@ -1,0 +1,135 @@
+"""Times a command on network matrices and on matrices that nearly are.
+
+Dense texts are made in a temporary folder, from a seed, and the command is run on each. In the command {file} stands
+for the text's path:
+
+    python3 bench/networks.py --cmd 'crates/cmr/out/cmr network {file}'
+
+The kinds, each with as many columns as rows, which are the arcs of a directed tree:
+
+    recursive  arc r leads from a random node before r to node r, and each column is the path between two random nodes
+    path       the arcs are one path, and each column is an interval of it, three tenths of the rows on average
+
+The arcs and the columns are turned round at random and shuffled. Each matrix is tried as it is; with the sign of one
+nonzero turned, which most often leaves a support with a tree that no directions fit; and with a nonzero written where
+a 0 was, which most often leaves a support without a tree.
+
+Printed for each text: its kind and size, its nonzeros, the shortest time of the runs, and the exit statuses. Without a
+command only the nonzeros are printed.
+"""
+
+import argparse
+import pathlib
+import random
+import shlex
+import subprocess
+import tempfile
+import time
+
+
+def recursive(size, draw):
+    parents = [0] + [draw.randrange(node) for node in range(1, size + 1)]
+    return [path_between(parents, *draw.sample(range(size + 1), 2)) for _ in range(size)]
+
+
+def path_between(parents, tail, head):
+    """The rows of a path with their entries. Each node but 0 has the arc from its parent, whose number is less."""
+    path = {}
+    while tail != head:
+        if tail > head:
+            path[tail - 1] = -1
+            tail = parents[tail]
+        else:
+            path[head - 1] = 1
+            head = parents[head]
+    return path
+
+
+def one_path(size, draw):
+    columns = []
+    for _ in range(size):
+        length = draw.randint(max(1, size // 10), max(1, size // 2))
+        start = draw.randint(0, size - length)
+        columns.append({row: 1 for row in range(start, start + length)})
+    return columns
+
+
+KINDS = {"recursive": recursive, "path": one_path}
+
+
+def mixed(columns, size, draw):
+    """The rows of the matrix, with lines turned round and shuffled."""
+    places = draw.sample(range(size), size)
+    signs = [draw.choice((1, -1)) for _ in range(size)]
+    entries = [[0] * len(columns) for _ in range(size)]
+    for column, path in enumerate(draw.sample(columns, len(columns))):
+        sign = draw.choice((1, -1))
+        for row, entry in path.items():
+            entries[places[row]][column] = sign * signs[row] * entry
+    return entries
+
+
+def with_entry(entries, changes, draw):
+    """The same with the entry at one place changed, drawn among those with a new value."""
+    changed = [list(row) for row in entries]
+    places = [(row, column) for row, line in enumerate(entries) for column, entry in enumerate(line) if entry in changes]
+    if places:
+        row, column = draw.choice(places)
+        changed[row][column] = changes[entries[row][column]]
+    return changed
+
+
+def dense_text(entries):
+    lines = [f"{len(entries)} {len(entries[0])}\n"]
+    lines.extend(" ".join(map(str, row)) + "\n" for row in entries)
+    return "".join(lines)
+
+
+def run(words):
+    start = time.perf_counter()
+    done = subprocess.run(words, stdout=subprocess.DEVNULL, stderr=subprocess.DEVNULL, check=False)
+    return time.perf_counter() - start, done.returncode
+
+
+def measured(words, runs):
+    times = [run(words) for _ in range(runs)]
+    best = min(seconds for seconds, _ in times)
+    statuses = " ".join(str(status) for status in sorted({status for _, status in times}))
+    return f"{best:.3f} s, status {statuses}"
+
+
+def main():
+    parser = argparse.ArgumentParser(description="Times a command on network matrices.")
+    parser.add_argument("--cmd", help="the command, with {file}")
+    parser.add_argument("--kinds", choices=KINDS, nargs="+", default=list(KINDS))
+    parser.add_argument("--sizes", type=int, nargs="+", default=[100, 300, 1000])
+    parser.add_argument("--runs", type=int, default=3)
+    parser.add_argument("--seed", type=int, default=1)
+    options = parser.parse_args()
+    if any(not 2 <= size <= 1000 for size in options.sizes) or options.runs < 1:
+        parser.error("sizes are 2 to 1000, and there is at least one run")
+
+    with tempfile.TemporaryDirectory() as folder:
+        path = pathlib.Path(folder, "matrix")
+        for kind in options.kinds:
+            for size in options.sizes:
+                draw = random.Random(options.seed)
+                entries = mixed(KINDS[kind](size, draw), size, draw)
+                matrices = {
+                    "as it is": entries,
+                    "one sign turned": with_entry(entries, {1: -1, -1: 1}, draw),
+                    "one nonzero more": with_entry(entries, {0: 1}, draw),
+                }
+                for name, matrix in matrices.items():
+                    nonzeros = sum(entry != 0 for row in matrix for entry in row)
+                    head = f"{kind} {size} by {size}, {nonzeros} nonzeros, {name}"
+                    if options.cmd is None:
+                        print(head)
+                        continue
+                    path.write_text(dense_text(matrix), encoding="ascii")
+                    words = [word.format(file=path) for word in shlex.split(options.cmd)]
+                    print(f"{head}: {measured(words, options.runs)}", flush=True)
+
+
+if __name__ == "__main__":
+    main()
