@@ -4,6 +4,9 @@ Dense texts are made in a temporary folder, from a seed, and the command is run 
 for the text's path:
 
     python3 bench/networks.py --cmd 'crates/cmr/out/cmr network {file}'
+    python3 bench/networks.py --support --cmd 'crates/cmr/out/cmr graphic {file}'
+
+With --support each nonzero is written as 1, so that the matrices are graphic or nearly are.
 
 The kinds, each with as many columns as rows, which are the arcs of a directed tree:
 
@@ -104,6 +107,7 @@ def main():
     parser.add_argument("--kinds", choices=KINDS, nargs="+", default=list(KINDS))
     parser.add_argument("--sizes", type=int, nargs="+", default=[100, 300, 1000])
     parser.add_argument("--runs", type=int, default=3)
+    parser.add_argument("--support", action="store_true", help="write each nonzero as 1")
     parser.add_argument("--seed", type=int, default=1)
     options = parser.parse_args()
     if any(not 2 <= size <= 1000 for size in options.sizes) or options.runs < 1:
@@ -115,11 +119,11 @@ def main():
             for size in options.sizes:
                 draw = random.Random(options.seed)
                 entries = mixed(KINDS[kind](size, draw), size, draw)
-                matrices = {
-                    "as it is": entries,
-                    "one sign turned": with_entry(entries, {1: -1, -1: 1}, draw),
-                    "one nonzero more": with_entry(entries, {0: 1}, draw),
-                }
+                if options.support:
+                    entries = [[abs(entry) for entry in row] for row in entries]
+                matrices = {"as it is": entries, "one nonzero more": with_entry(entries, {0: 1}, draw)}
+                if not options.support:
+                    matrices["one sign turned"] = with_entry(entries, {1: -1, -1: 1}, draw)
                 for name, matrix in matrices.items():
                     nonzeros = sum(entry != 0 for row in matrix for entry in row)
                     head = f"{kind} {size} by {size}, {nonzeros} nonzeros, {name}"
