@@ -89,11 +89,11 @@ grown_are_hung beyond (h ∷ L) o = (
   grown_are_hung beyond L o.1,
 )
 
-differ_self : (x : Bool) → differ x x ≡ false
+pub differ_self : (x : Bool) → differ x x ≡ false
 differ_self true = refl
 differ_self false = refl
 
-differ_both : (s a b : Bool) → differ (differ s a) (differ s b) ≡ differ a b
+pub differ_both : (s a b : Bool) → differ (differ s a) (differ s b) ≡ differ a b
 differ_both true true true = refl
 differ_both true true false = refl
 differ_both true false true = refl

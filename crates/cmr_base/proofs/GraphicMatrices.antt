@@ -1,10 +1,9 @@
 -- Graphic supports and network matrices are those that have cuts, and their submatrices are such too.
 use Rattle.std.proofs.Common.{◌≡◌, ◌≢◌, ◌<◌, ◌≤◌, ◌⊎◌, inl, inr, ◌∙◌, ◌↔◌, ℕ, ℤ, pos, Bool, true, false, cond, List, [], map, length, get_or, refl, ap, sym, arith, nat_lt}
 use Rattle.std.proofs.lemmas.Bool.{cases_lt}
-use Rattle.std.proofs.lemmas.Bool.Decides.{nat_tests}
 use Rattle.std.proofs.lemmas.List.{get_or_past, length-map}
 use Rattle.cmr_base.specs.declared.network.Network.{Network}
-use Rattle.cmr_base.specs.Matrix.{Matrix, height, row_of, entry, is_nonzero, IsMatrix}
+use Rattle.cmr_base.specs.Matrix.{Matrix, height, row_of, entry, is_nonzero, IsRectangular}
 use Rattle.cmr_base.specs.LineSets.{IsRowSet, IsColumnSet, submatrix}
 use Rattle.cmr_base.specs.GreedySets.{IsHereditary}
 use Rattle.cmr_base.specs.Cuts.{IsCuts, HasCuts, HasSignedCuts}
@@ -14,6 +13,7 @@ use Rattle.cmr_base.proofs.ListsWithout.{increasing_distinct, same_place}
 use Rattle.cmr_base.proofs.Parts.{entry-submatrix, each-submatrix}
 use Rattle.cmr_base.proofs.ReproducedCuts.{support_has_cuts, has_signed_cuts}
 use Rattle.cmr_base.proofs.CutTrees.{cuts_order, cuts_realise_support, cuts_realise}
+use Rattle.cmr_base.proofs.Booleans.{is_lt, lt_of}
 
 -- ---- what has cuts is realised, and only that
 
@@ -27,24 +27,25 @@ signed_cuts_have_tree M m n K =
     let order = cuts_order (λ r c. is_nonzero (M r c)) m K.side K.lies K.cuts in
     (_, cuts_realise (λ r c. is_nonzero (M r c)) m K.side K.lies K.cuts order.0 order.1 n M K.signed)
 
-nonzero_in_range : (m : Matrix) → IsMatrix m → (r c : ℕ) → support m r c ≡ true → c < m.width
+-- a nonzero stands in a column below the width
+pub nonzero_in_range : (m : Matrix) → IsRectangular m → (r c : ℕ) → support m r c ≡ true → c < m.width
 nonzero_in_range m is r c e = go (cases_lt c m.width)
   where
     past : m.width ≤ c → (r < height m) ⊎ (height m ≤ r) → entry m r c ≡ pos 0
-    past l (inl h) = get_or_past (row_of m r) c (pos 0) (let w = is.rectangular r h in omega (arith, w, l))
+    past l (inl h) = get_or_past (row_of m r) c (pos 0) (let w = is r h in omega (arith, w, l))
     past l (inr h) = ap (λ (row : List ℤ). get_or row c (pos 0)) (get_or_past m.rows r [] h)
 
     go : (c < m.width) ⊎ (m.width ≤ c) → c < m.width
     go (inl l) = l
     go (inr l) = absurd (not_both (support m r c) e (ap is_nonzero (past l (cases_lt r (height m)))))
 
-pub graphic_support_from_cuts : (m : Matrix) → IsMatrix m → HasGraphicSupport m ↔ HasCuts (support m) (λ r. r < height m)
+pub graphic_support_from_cuts : (m : Matrix) → IsRectangular m → HasGraphicSupport m ↔ HasCuts (support m) (λ r. r < height m)
 graphic_support_from_cuts m is = (
   (λ (net, G). support_has_cuts net (support m) (height m) m.width (nonzero_in_range m is) G),
   (λ K. cuts_have_tree (support m) (height m) m.width K),
 )
 
-pub network_matrix_from_cuts : (m : Matrix) → IsMatrix m → IsNetworkMatrix m ↔ HasSignedCuts (entry m) (λ r. r < height m)
+pub network_matrix_from_cuts : (m : Matrix) → IsRectangular m → IsNetworkMatrix m ↔ HasSignedCuts (entry m) (λ r. r < height m)
 network_matrix_from_cuts m is = (
   (λ (net, G). has_signed_cuts net (entry m) (height m) m.width (nonzero_in_range m is) G),
   (λ K. signed_cuts_have_tree (entry m) (height m) m.width K),
@@ -80,12 +81,6 @@ cuts_of_rows M R S side lies row column inside apart K = record {
   three = λ r s t hr hs ht rs rt st. K.three (row r) (row s) (row t) (inside r hr) (inside s hs) (inside t ht) (apart r s hr hs rs) (apart r t hr ht rt) (apart s t hs ht st);
   uses = λ r c h. K.uses (row r) (column c) (inside r h);
 }
-
-is_lt : (a b : ℕ) → a < b → nat_lt a b ≡ true
-is_lt a b l = grind (arith, nat_tests)
-
-lt_of : (a b : ℕ) → nat_lt a b ≡ true → a < b
-lt_of a b e = grind (arith, nat_tests)
 
 -- p rows and q columns of m rows and n columns, no row twice
 module _ (m n p q : ℕ) (row column : ℕ → ℕ) (inside : (r : ℕ) → r < p → row r < m) (apart : (r s : ℕ) → r < p → s < p → r ≢ s → row r ≢ row s)
@@ -171,13 +166,13 @@ module _ (m : Matrix) (rows columns : List ℕ) (row_set : IsRowSet m rows) (col
       (part.0, realised_same part.0 (height (submatrix m rows columns)) (length columns) (λ r c. entry m (get_or rows r 0) (get_or columns c 0)) (entry (submatrix m rows columns)) same part.1)
 
 pub graphic_support_hereditary : IsHereditary HasGraphicSupport
-graphic_support_hereditary m rows columns row_set column_set G = submatrix_has_graphic_support m rows columns row_set column_set G
+graphic_support_hereditary m is rows columns row_set column_set G = submatrix_has_graphic_support m rows columns row_set column_set G
 
 pub graphic_hereditary : IsHereditary IsGraphic
-graphic_hereditary m rows columns row_set column_set (binary, G) = (
+graphic_hereditary m is rows columns row_set column_set (binary, G) = (
   each-submatrix (λ z. (z ≡ pos 0) ⊎ (z ≡ pos 1)) m rows columns (inl refl) binary,
   submatrix_has_graphic_support m rows columns row_set column_set G,
 )
 
 pub network_matrix_hereditary : IsHereditary IsNetworkMatrix
-network_matrix_hereditary m rows columns row_set column_set G = submatrix_is_network_matrix m rows columns row_set column_set G
+network_matrix_hereditary m is rows columns row_set column_set G = submatrix_is_network_matrix m rows columns row_set column_set G

@@ -1,14 +1,13 @@
 -- Numbers of a list and their places, and a list without one of them.
 use Rattle.std.proofs.Common.{◌≡◌, ◌≢◌, ◌<◌, ◌≤◌, ◌+◌, ◌∙◌, ◌⊎◌, inl, inr, ℕ, zero, suc, Bool, true, false, cond, not, eqb, List, [], ◌∷◌, length, get_or, Contains, refl, ap, sym, subst, arith, eqb-true}
 use Rattle.std.specs.List.Sorted.{IsStrictlyIncreasing}
-use Rattle.std.proofs.lemmas.Bool.{eqb-false, true≢false, cases_eq}
+use Rattle.std.proofs.lemmas.Bool.{eqb-false, cases_eq}
 use Rattle.std.proofs.lemmas.List.Kept.{IsStrictlyIncreasing-filter}
 use Rattle.cmr_base.specs.LineSets.{without}
 use Rattle.cmr_base.specs.Members.{IsIn, IsDistinct}
-use Rattle.cmr_base.proofs.Members.{IsWithin}
-
-pub true_is_false : {A : Type 0} → true ≡ false → A
-true_is_false e = absurd (true≢false e)
+use Rattle.cmr_base.proofs.Members.{IsWithin, in_at}
+pub use Rattle.cmr_base.proofs.Members.{in_at as in-get_or}
+pub use Rattle.cmr_base.proofs.Booleans.{true_is_false}
 
 pub in_from_contains : (xs : List ℕ) (x : ℕ) → Contains xs x → IsIn x xs
 in_from_contains [] x (k, lt, e) = absurd (omega arith)
@@ -19,11 +18,6 @@ pub contains_from_in : (xs : List ℕ) (x : ℕ) → IsIn x xs → Contains xs x
 contains_from_in [] x h = absurd h
 contains_from_in (y ∷ ys) x (inl e) = (zero, omega arith, sym e)
 contains_from_in (y ∷ ys) x (inr h) = let w = contains_from_in ys x h in (suc w.0, (let l = w.1 in omega arith), w.2)
-
-pub in-get_or : (xs : List ℕ) (k : ℕ) → k < length xs → IsIn (get_or xs k 0) xs
-in-get_or [] k h = absurd (omega arith)
-in-get_or (x ∷ xs) zero h = inl refl
-in-get_or (x ∷ xs) (suc k) h = inr (in-get_or xs k (omega arith))
 
 pub empty_from_none : (xs : List ℕ) → ((x : ℕ) → IsIn x xs → ⊥) → xs ≡ []
 empty_from_none [] h = refl
@@ -47,8 +41,8 @@ increasing_distinct (x ∷ xs) rises = ((λ h. let l = head_below x x xs rises h
 pub same_place : (xs : List ℕ) (i k : ℕ) → IsDistinct xs → i < length xs → k < length xs → get_or xs i 0 ≡ get_or xs k 0 → i ≡ k
 same_place [] i k d h g e = absurd (omega arith)
 same_place (x ∷ xs) zero zero d h g e = refl
-same_place (x ∷ xs) zero (suc k) d h g e = absurd (d.0 (subst (λ (y : ℕ). IsIn y xs) (sym e) (in-get_or xs k (omega arith))))
-same_place (x ∷ xs) (suc i) zero d h g e = absurd (d.0 (subst (λ (y : ℕ). IsIn y xs) e (in-get_or xs i (omega arith))))
+same_place (x ∷ xs) zero (suc k) d h g e = absurd (d.0 (subst (λ (y : ℕ). IsIn y xs) (sym e) (in_at xs k (omega arith))))
+same_place (x ∷ xs) (suc i) zero d h g e = absurd (d.0 (subst (λ (y : ℕ). IsIn y xs) e (in_at xs i (omega arith))))
 same_place (x ∷ xs) (suc i) (suc k) d h g e = ap suc (same_place xs i k d.1 (omega arith) (omega arith) e)
 
 -- the first place of a number in a list

@@ -2,11 +2,11 @@
 use Rattle.std.proofs.Common.{◌≡◌, ◌≢◌, ◌<◌, ◌≤◌, ◌+◌, ◌⊎◌, inl, inr, ◌∙◌, ◌++◌, ◌↔◌, ℕ, zero, suc, Bool, true, false, cond, nat_eq, ℤ, ◌+ℤ◌, List, [], ◌∷◌, length, get_or, refl, ap, sym, subst, arith}
 use Rattle.std.specs.List.{AllByRecursion}
 use Rattle.std.specs.List.Sorted.{IsStrictlyIncreasing}
-use Rattle.std.proofs.lemmas.Bool.Decides.{nat_tests}
 use Rattle.cmr_base.specs.Members.{IsIn, IsDistinct}
 use Rattle.cmr_base.specs.Sums.{sum_over}
 use Rattle.cmr_base.proofs.Integers.{sums}
 use Rattle.cmr_base.proofs.RisingLists.{RisesIn, rises_in, rising_increases}
+use Rattle.cmr_base.proofs.Booleans.{eq_of, is_ne, ne_of}
 
 -- each number of the first is in the second
 abbrev pub IsWithin : List ℕ → List ℕ → Type 0
@@ -71,21 +71,12 @@ abbrev pub removed : ℕ → List ℕ → List ℕ
 removed i [] = []
 removed i (x ∷ xs) = cond (nat_eq x i) (removed i xs) (x ∷ removed i xs)
 
-eq_is : (a b : ℕ) → nat_eq a b ≡ true → a ≡ b
-eq_is a b e = grind (arith, nat_tests)
-
-eq_not : (a b : ℕ) → nat_eq a b ≡ false → a ≢ b
-eq_not a b e = grind (arith, nat_tests)
-
-not_eq : (a b : ℕ) → a ≢ b → nat_eq a b ≡ false
-not_eq a b e = grind (arith, nat_tests)
-
 in-removed : (i x : ℕ) (xs : List ℕ) → IsIn x xs → x ≢ i → IsIn x (removed i xs)
 in-removed i x [] h d = absurd h
 in-removed i x (y ∷ ys) h d = go (nat_eq y i) refl h (λ g. in-removed i x ys g d)
   where
     go : (b : Bool) → nat_eq y i ≡ b → (x ≡ y) ⊎ IsIn x ys → (IsIn x ys → IsIn x (removed i ys)) → IsIn x (cond b (removed i ys) (y ∷ removed i ys))
-    go true e (inl q) k = absurd (d (q ∙ eq_is y i e))
+    go true e (inl q) k = absurd (d (q ∙ eq_of y i e))
     go true e (inr g) k = k g
     go false e (inl q) k = inl q
     go false e (inr g) k = inr (k g)
@@ -96,12 +87,12 @@ removed_in i x (y ∷ ys) h = go (nat_eq y i) refl h (λ g. removed_in i x ys g)
   where
     go : (b : Bool) → nat_eq y i ≡ b → IsIn x (cond b (removed i ys) (y ∷ removed i ys)) → (IsIn x (removed i ys) → IsIn x ys × (x ≢ i)) → ((x ≡ y) ⊎ IsIn x ys) × (x ≢ i)
     go true e g k = let v = k g in (inr v.0, v.1)
-    go false e (inl q) k = (inl q, λ p. eq_not y i e (sym q ∙ p))
+    go false e (inl q) k = (inl q, λ p. ne_of y i e (sym q ∙ p))
     go false e (inr g) k = let v = k g in (inr v.0, v.1)
 
 removed_none : (x : ℕ) (xs : List ℕ) → ¬ (IsIn x xs) → removed x xs ≡ xs
 removed_none x [] h = refl
-removed_none x (y ∷ ys) h = rw (not_eq y x (λ e. h (inl (sym e)))) (ap (λ (zs : List ℕ). y ∷ zs) (removed_none x ys (λ g. h (inr g))))
+removed_none x (y ∷ ys) h = rw (is_ne y x (λ e. h (inl (sym e)))) (ap (λ (zs : List ℕ). y ∷ zs) (removed_none x ys (λ g. h (inr g))))
 
 removed_distinct : (x : ℕ) (xs : List ℕ) → IsDistinct xs → IsDistinct (removed x xs)
 removed_distinct x [] h = tt
@@ -116,7 +107,7 @@ length-removed x [] h = omega arith
 length-removed x (y ∷ ys) h = go (nat_eq y x) refl (length-removed x ys h.1)
   where
     go : (b : Bool) → nat_eq y x ≡ b → length ys ≤ suc (length (removed x ys)) → length (y ∷ ys) ≤ suc (length (cond b (removed x ys) (y ∷ removed x ys)))
-    go true e k = let q : y ≡ x = eq_is y x e in
+    go true e k = let q : y ≡ x = eq_of y x e in
         let f : length (removed x ys) ≡ length ys = ap length (removed_none x ys (λ i. h.0 (subst (λ (v : ℕ). IsIn v ys) (sym q) i))) in omega arith
     go false e k = omega arith
 
@@ -136,9 +127,9 @@ sum_over-removed x (y ∷ ys) f h g = go (nat_eq y x) refl g (λ i. sum_over-rem
     swap a b c d e = omega (arith, sums)
 
     go : (b : Bool) → nat_eq y x ≡ b → (x ≡ y) ⊎ IsIn x ys → (IsIn x ys → sum_over ys f ≡ f x +ℤ sum_over (removed x ys) f) → f y +ℤ sum_over ys f ≡ f x +ℤ sum_over (cond b (removed x ys) (y ∷ removed x ys)) f
-    go true e g k = let q : y ≡ x = eq_is y x e in
+    go true e g k = let q : y ≡ x = eq_of y x e in
         rw (removed_none x ys (λ i. h.0 (subst (λ (v : ℕ). IsIn v ys) (sym q) i))) (ap (λ (v : ℕ). f v +ℤ sum_over ys f) q)
-    go false e (inl q) k = absurd (eq_not y x e (sym q))
+    go false e (inl q) k = absurd (ne_of y x e (sym q))
     go false e (inr i) k = swap (f y) (f x) (sum_over ys f) (sum_over (removed x ys) f) (k i)
 
 -- distinct lists of the same numbers have the same sums

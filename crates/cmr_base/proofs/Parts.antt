@@ -3,15 +3,16 @@ use Rattle.std.proofs.Common.{◌≡◌, ◌<◌, ◌≤◌, ◌*◌, ◌+◌, �
 use Rattle.std.proofs.lemmas.List.{take_all, get_or-map, get_or_past, take_more, length-map, append-nil}
 use Rattle.std.proofs.lemmas.List.Concat.{flat_map-append}
 use Rattle.std.proofs.lemmas.Bool.{cases_lt}
-use Rattle.std.proofs.lemmas.Int.{ints}
 use Rattle.std.proofs.lemmas.List.FromFn.{length-range_with_len, get_or-map-range_with_len, length-map-range_with_len}
 use Rattle.std.proofs.Math.Nat.{suc-mul, zero-mul}
 use Rattle.std.proofs.Math.Seq.{take-append_seam, drop-append_seam}
 use Rattle.std.specs.List.{flat_map, range_with_len}
 use Rattle.std.specs.List.Sorted.{IsStrictlyIncreasing}
-use Rattle.cmr_base.specs.Matrix.{Matrix, height, entry, column_of, transposed, IsMatrix, IsEntry, rows_of}
+use Rattle.cmr_base.specs.declared.limits.TheConstants.{MAX_COLUMNS, MAX_ROWS}
+use Rattle.cmr_base.specs.Matrix.{Matrix, height, entry, column_of, transposed, IsMatrix, IsEntry, rows_of, IsRectangular, IsTernary}
 use Rattle.cmr_base.specs.LineSets.{AllBelow, submatrix}
 use Rattle.cmr_base.proofs.RisingLists.{rises_in, rising_short}
+use Rattle.cmr_base.proofs.SignEntries.{zero_is_entry}
 
 pub length-cells : {A : Type 0} (f : A → List ℤ) (w : ℕ) (xs : List A) → ((x : A) → length (f x) ≡ w) → length (flat_map f xs) ≡ length xs * w
 length-cells f w [] each = sym (zero-mul w)
@@ -49,9 +50,6 @@ entry-submatrix m rows columns i j hi hj =
     ap (λ row. get_or row j (pos 0)) (get_or-map (λ row. map (entry m row) columns) rows i 0 [] hi)
     ∙ get_or-map (entry m (get_or rows i 0)) columns j 0 (pos 0) hj
 
-zero_is_entry : IsEntry (pos 0)
-zero_is_entry = record { low = omega (arith, ints); high = omega (arith, ints) }
-
 -- what holds of 0 and of each entry of a matrix holds of each entry of a submatrix
 pub each-submatrix : (P : ℤ → Type 0) (m : Matrix) (rows columns : List ℕ) → P (pos 0) → ((row column : ℕ) → P (entry m row column))
     → (row column : ℕ) → P (entry (submatrix m rows columns) row column)
@@ -59,10 +57,16 @@ each-submatrix P m [] columns z each row column = z
 each-submatrix P m (r ∷ rs) columns z each zero column = each-map P (entry m r) columns z (each r) column
 each-submatrix P m (r ∷ rs) columns z each (suc row) column = each-submatrix P m rs columns z each row column
 
-pub is_matrix-submatrix : (m : Matrix) (rows columns : List ℕ) → IsMatrix m → length rows ≤ 1000 → length columns ≤ 1000 → IsMatrix (submatrix m rows columns)
-is_matrix-submatrix m rows columns is few_rows few_columns = record {
+pub is_ternary-submatrix : (m : Matrix) (rows columns : List ℕ) → IsTernary m → IsTernary (submatrix m rows columns)
+is_ternary-submatrix m rows columns is = record {
   rectangular = λ row h. ap length (get_or-map (λ r. map (entry m r) columns) rows row 0 [] (omega (arith, h, length-map rows (λ r. map (entry m r) columns)))) ∙ length-map columns (entry m (get_or rows row 0));
   small = each-submatrix IsEntry m rows columns zero_is_entry is.small;
+}
+
+pub is_matrix-submatrix : (m : Matrix) (rows columns : List ℕ) → IsMatrix m → length rows ≤ MAX_ROWS → length columns ≤ MAX_COLUMNS → IsMatrix (submatrix m rows columns)
+is_matrix-submatrix m rows columns is few_rows few_columns = let part = is_ternary-submatrix m rows columns (record { rectangular = is.rectangular; small = is.small }) in record {
+  rectangular = part.rectangular;
+  small = part.small;
   height_in = omega (arith, few_rows, length-map rows (λ r. map (entry m r) columns));
   width_in = few_columns;
 }
@@ -79,8 +83,8 @@ get_or-column_of [] row column = refl
 get_or-column_of (r ∷ rows) zero column = refl
 get_or-column_of (r ∷ rows) (suc row) column = get_or-column_of rows row column
 
-pub entry-transposed : (m : Matrix) (row column : ℕ) → IsMatrix m → entry (transposed m) column row ≡ entry m row column
-entry-transposed m row column is = elim (cases_lt column m.width) [
+pub entry-turned : (m : Matrix) (row column : ℕ) → IsRectangular m → entry (transposed m) column row ≡ entry m row column
+entry-turned m row column rectangular = elim (cases_lt column m.width) [
   | inl inside ↦ ap (λ r. get_or r row (pos 0)) (row-transposed m column inside) ∙ get_or-column_of m.rows row column
   | inr outside ↦
       ap (λ r. get_or r row (pos 0)) (get_or_past (transposed m).rows column [] (omega (arith, height-transposed m)))
@@ -88,13 +92,22 @@ entry-transposed m row column is = elim (cases_lt column m.width) [
 ]
   where
     beyond : (row < height m) ⊎ (height m ≤ row) → m.width ≤ column → entry m row column ≡ pos 0
-    beyond (inl low) out = get_or_past (get_or m.rows row []) column (pos 0) (omega (arith, is.rectangular row low))
+    beyond (inl low) out = get_or_past (get_or m.rows row []) column (pos 0) (omega (arith, rectangular row low))
     beyond (inr high) out = ap (λ r. get_or r column (pos 0)) (get_or_past m.rows row [] high)
 
-pub is_matrix-transposed : (m : Matrix) → IsMatrix m → IsMatrix (transposed m)
-is_matrix-transposed m is = record {
+pub entry-transposed : (m : Matrix) (row column : ℕ) → IsMatrix m → entry (transposed m) column row ≡ entry m row column
+entry-transposed m row column is = entry-turned m row column is.rectangular
+
+pub is_ternary-transposed : (m : Matrix) → IsTernary m → IsTernary (transposed m)
+is_ternary-transposed m is = record {
   rectangular = λ column h. ap length (row-transposed m column (omega (arith, h, height-transposed m))) ∙ length-map m.rows (λ r. get_or r column (pos 0));
-  small = λ column row. subst IsEntry (sym (entry-transposed m row column is)) (is.small row column);
+  small = λ column row. subst IsEntry (sym (entry-turned m row column is.rectangular)) (is.small row column);
+}
+
+pub is_matrix-transposed : (m : Matrix) → IsMatrix m → IsMatrix (transposed m)
+is_matrix-transposed m is = let turned = is_ternary-transposed m (record { rectangular = is.rectangular; small = is.small }) in record {
+  rectangular = turned.rectangular;
+  small = turned.small;
   height_in = omega (arith, height-transposed m, is.width_in);
   width_in = is.height_in;
 }

@@ -10,6 +10,7 @@ use Rattle.cmr_base.specs.Sums.{sum_over, IsEven}
 use Rattle.cmr_base.proofs.Integers.{sums}
 use Rattle.cmr_base.proofs.Parity.{IsFour}
 use Rattle.cmr_base.proofs.Lists.{IsJoined, one_more_first, joined_later}
+use Rattle.cmr_base.proofs.Booleans.{eq_of}
 
 -- each number from low on and below high, and each above the one before it
 abbrev pub RisesIn : ℕ → ℕ → List ℕ → Type 0
@@ -94,9 +95,6 @@ abbrev pub odd_times : List ℕ → List ℕ
 odd_times [] = []
 odd_times (x ∷ xs) = toggle x (odd_times xs)
 
-same_number : (n x : ℕ) → nat_eq n x ≡ true → n ≡ x
-same_number n x e = grind (arith, nat_tests)
-
 all-toggle : (P : ℕ → Type 0) (n : ℕ) (xs : List ℕ) → P n → AllByRecursion P xs → AllByRecursion P (toggle n xs)
 all-toggle P n [] p h = (p, tt)
 all-toggle P n (x ∷ xs) p h = go (nat_lt n x) (nat_eq n x) (all-toggle P n xs p h.1)
@@ -121,7 +119,7 @@ toggle_adds n (x ∷ xs) f = go (nat_lt n x) (nat_eq n x) refl (toggle_adds n xs
     go : (s t : Bool) → nat_eq n x ≡ t → (sum_over (toggle n xs) f ≡ f n +ℤ sum_over xs f) ⊎ (sum_over xs f ≡ f n +ℤ sum_over (toggle n xs) f)
         → (sum_over (cond s (n ∷ x ∷ xs) (cond t xs (x ∷ toggle n xs))) f ≡ f n +ℤ sum_over (x ∷ xs) f) ⊎ (sum_over (x ∷ xs) f ≡ f n +ℤ sum_over (cond s (n ∷ x ∷ xs) (cond t xs (x ∷ toggle n xs))) f)
     go true t e rest = inl refl
-    go false true e rest = inr (ap (λ (k : ℕ). f k +ℤ sum_over xs f) (sym (same_number n x e)))
+    go false true e rest = inr (ap (λ (k : ℕ). f k +ℤ sum_over xs f) (sym (eq_of n x e)))
     go false false e (inl h) = inl (before (f x) (f n) (sum_over xs f) (sum_over (toggle n xs) f) h)
     go false false e (inr h) = inr (before (f x) (f n) (sum_over (toggle n xs) f) (sum_over xs f) h)
 

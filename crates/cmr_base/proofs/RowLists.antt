@@ -1,51 +1,13 @@
--- Tests of numbers, and searches in lists of rows.
-use Rattle.std.proofs.Common.{ℕ, suc, Bool, true, false, not, cond, List, [], ◌∷◌, ◌≡◌, ◌≢◌, ◌<◌, ◌≤◌, ◌∙◌, sym, ap, refl, arith, subst, ◌⊎◌, inl, inr, nat_eq, length}
-use Rattle.std.proofs.lemmas.Bool.Decides.{nat_tests}
+-- Searches in lists of rows.
+use Rattle.std.proofs.Common.{ℕ, suc, Bool, true, false, not, cond, List, [], ◌∷◌, ◌≡◌, ◌≢◌, ◌<◌, ◌≤◌, ◌∙◌, sym, ap, refl, arith, subst, ◌⊎◌, inl, inr, length}
 use Rattle.std.specs.List.{filter}
 use Rattle.cmr_base.specs.Members.{IsIn}
 use Rattle.cmr_base.specs.Cuts.{differ}
-
-pub eq_of : (a b : ℕ) → nat_eq a b ≡ true → a ≡ b
-eq_of a b e = grind (arith, nat_tests)
-
-pub self_eq : (n : ℕ) → nat_eq n n ≡ true
-self_eq n = grind arith
-
-pub is_eq : (a b : ℕ) → a ≡ b → nat_eq a b ≡ true
-is_eq a b e = ap (λ (z : ℕ). nat_eq z b) e ∙ self_eq b
-
-pub ne_of : (a b : ℕ) → nat_eq a b ≡ false → a ≢ b
-ne_of a b e f = clash (nat_eq a b) (is_eq a b f) e
-  where
-    clash : (t : Bool) → t ≡ true → t ≡ false → ⊥
-    clash t e f = cc
-
-pub is_ne : (a b : ℕ) → a ≢ b → nat_eq a b ≡ false
-is_ne a b h = grind (arith, nat_tests)
-
-pub same_or_not : (a b : ℕ) → (a ≡ b) ⊎ (a ≢ b)
-same_or_not a b = go (nat_eq a b) refl
-  where
-    go : (t : Bool) → nat_eq a b ≡ t → (a ≡ b) ⊎ (a ≢ b)
-    go true e = inl (eq_of a b e)
-    go false e = inr (ne_of a b e)
-
-pub two_cases : (t : Bool) → (t ≡ true) ⊎ (t ≡ false)
-two_cases true = inl refl
-two_cases false = inr refl
-
-pub bool_same : (a b : Bool) → (a ≡ b) ⊎ (a ≡ not b)
-bool_same true true = inl refl
-bool_same true false = inr refl
-bool_same false true = inr refl
-bool_same false false = inl refl
+pub use Rattle.cmr_base.proofs.Booleans.{eq_of, self_eq, is_eq, ne_of, is_ne, same_or_not, two_cases, bool_same, not_both}
 
 pub no_not : (a : Bool) → a ≡ not a → ⊥
 no_not true e = cc
 no_not false e = cc
-
-pub not_both : (a : Bool) → a ≡ true → a ≡ false → ⊥
-not_both a e f = cc
 
 pub differ_false : (a b : Bool) → false ≡ differ a b → a ≡ b
 differ_false true true e = refl

@@ -4,13 +4,13 @@ use Rattle.std.specs.List.Sorted.{IsStrictlyIncreasing}
 use Rattle.std.proofs.lemmas.Bool.{cases_lt}
 use Rattle.std.proofs.lemmas.List.{get_or-map, length-map}
 use Rattle.std.proofs.lemmas.Simd.{map-map}
-use Rattle.cmr_base.specs.Matrix.{Matrix, entry}
+use Rattle.cmr_base.specs.Matrix.{Matrix, entry, IsTernary}
 use Rattle.cmr_base.specs.LineSets.{submatrix}
 use Rattle.cmr_base.specs.GreedySets.{IsHereditary}
 use Rattle.cmr_base.specs.Members.{IsIn}
 use Rattle.cmr_base.proofs.Members.{IsWithin}
 use Rattle.cmr_base.proofs.ListsWithout.{IsPlaceOf, in-get_or, increasing_tail, head_below, place_of, place_is}
-use Rattle.cmr_base.proofs.Parts.{entry-submatrix}
+use Rattle.cmr_base.proofs.Parts.{entry-submatrix, is_ternary-submatrix}
 use Rattle.cmr_base.proofs.GreedyLemmas.{IsInherited}
 
 pub increasing_places : (xs : List ℕ) (i k : ℕ) → IsStrictlyIncreasing xs → i < k → k < length xs → get_or xs i 0 < get_or xs k 0
@@ -19,7 +19,7 @@ increasing_places (x ∷ xs) i zero rises l h = absurd (omega arith)
 increasing_places (x ∷ xs) zero (suc k) rises l h = head_below x (get_or xs k 0) xs rises (in-get_or xs k (omega arith))
 increasing_places (x ∷ xs) (suc i) (suc k) rises l h = increasing_places xs i k (increasing_tail x xs rises) (omega arith) (omega arith)
 
-map_members : {A : Type 0} (f g : ℕ → A) (xs : List ℕ) → ((x : ℕ) → IsIn x xs → f x ≡ g x) → map f xs ≡ map g xs
+pub map_members : {A : Type 0} (f g : ℕ → A) (xs : List ℕ) → ((x : ℕ) → IsIn x xs → f x ≡ g x) → map f xs ≡ map g xs
 map_members f g [] h = refl
 map_members f g (x ∷ xs) h = ap₂ (λ y ys. y ∷ ys) (h x (inl refl)) (map_members f g xs (λ y i. h y (inr i)))
 
@@ -80,10 +80,10 @@ module _ (m : Matrix) (rows columns rows' columns' : List ℕ) (row_within : IsW
       all_rows = map-map (λ p. map (entry (submatrix m rows columns) p) (places_of columns' columns)) (λ x. place_of x rows) rows'
           ∙ map_members (λ x. map (entry (submatrix m rows columns) (place_of x rows)) (places_of columns' columns)) (λ x. map (entry m x) columns') rows' one_row
 
-pub inherited_from_hereditary : (P : Matrix → Type 0) → IsHereditary P → (m : Matrix) → IsInherited P m
-inherited_from_hereditary P hereditary m rows columns rows' columns' r c r' c' row_within column_within p =
+pub inherited_from_hereditary : (P : Matrix → Type 0) → IsHereditary P → (m : Matrix) → IsTernary m → IsInherited P m
+inherited_from_hereditary P hereditary m is rows columns rows' columns' r c r' c' row_within column_within p =
     subst P (submatrix-submatrix m rows columns rows' columns' row_within column_within)
-    (hereditary (submatrix m rows columns) (places_of rows' rows) (places_of columns' columns)
+    (hereditary (submatrix m rows columns) (is_ternary-submatrix m rows columns is) (places_of rows' rows) (places_of columns' columns)
     (record {
       rising = places_increase rows' rows r' r row_within;
       in_range = λ k h. let l = places_in_range rows' rows row_within k h in omega (arith, l, length-map rows (λ row. map (entry m row) columns));

@@ -1,13 +1,13 @@
 -- Sets of lines that lack a property and are minimal.
 use Rattle.std.specs.Prelude.{◌≡◌, ◌⊎◌, ℕ, List, [], ◌∷◌}
 use Rattle.cmr_base.specs.declared.line.Line.{Line}
-use Rattle.cmr_base.specs.Matrix.{Matrix, height}
+use Rattle.cmr_base.specs.Matrix.{Matrix, height, IsTernary}
 use Rattle.cmr_base.specs.LineSets.{IsRowSet, IsColumnSet, first_lines, submatrix}
 use Rattle.cmr_base.specs.Reductions.{HasLine, rows_without, columns_without, lines_of}
 
--- each submatrix of a matrix with the property has it too
+-- each submatrix of a matrix with the property has it too, for matrices with entries -1, 0 and 1
 abbrev pub IsHereditary : (Matrix → Type 0) → Type 0
-IsHereditary P = (m : Matrix) (rows columns : List ℕ) → IsRowSet m rows → IsColumnSet m columns → P m → P (submatrix m rows columns)
+IsHereditary P = (m : Matrix) → IsTernary m → (rows columns : List ℕ) → IsRowSet m rows → IsColumnSet m columns → P m → P (submatrix m rows columns)
 
 -- The lines are gone through once, from some rows and columns on: each is left out where what then stays still lacks the
 -- property. Some rows and columns stay at the end.

@@ -1,5 +1,9 @@
 pub mod Matrix
+pub mod Planes
+pub mod Differences
+pub mod PlaneTests
 pub mod MatrixLayout
+pub mod BothViews
 pub mod Indices
 pub mod LineSets
 pub mod Sums
@@ -19,3 +23,9 @@ pub mod Incidences
 pub mod RootedTrees
 pub mod Comparisons
 pub mod WrittenColumns
+pub mod Separations
+pub mod Seeds
+pub mod Components
+pub mod MatrixSums
+pub mod Determinants
+pub mod R10

@@ -1,6 +1,7 @@
 -- A matrix as a list of rows, all of one width.
 use Rattle.std.specs.Prelude.{◌≡◌, ◌<◌, ◌≤◌, ◌+◌, ◌≤ℤ◌, ℕ, zero, suc, ℤ, pos, negsuc, Bool, true, false, List, [], ◌∷◌, length, take, drop, count_by, map, slice_index_or, slice_set}
 use Rattle.std.specs.List.{range_with_len}
+use Rattle.cmr_base.specs.declared.limits.TheConstants.{MAX_COLUMNS, MAX_ROWS}
 
 -- the rows, and how long each is: a matrix without rows has a width too
 pub record Matrix : Type 0 where
@@ -35,12 +36,25 @@ pub record IsEntry (z : ℤ) : Type 0 where
   pub low : negsuc 0 ≤ℤ z
   pub high : z ≤ℤ pos 1
 
--- what every matrix is
+-- each row is as long as the matrix is wide
+abbrev pub IsRectangular : Matrix → Type 0
+IsRectangular m = (row : ℕ) → row < height m → length (row_of m row) ≡ m.width
+
+-- each entry is -1, 0 or 1
+abbrev pub HasTernaryEntries : Matrix → Type 0
+HasTernaryEntries m = (row column : ℕ) → IsEntry (entry m row column)
+
+-- a matrix with entries -1, 0 and 1, of any size
+pub record IsTernary (m : Matrix) : Type 0 where
+  pub rectangular : IsRectangular m
+  pub small : HasTernaryEntries m
+
+-- one within the limits: what every value of the type `Matrix` is
 pub record IsMatrix (m : Matrix) : Type 0 where
-  pub rectangular : (row : ℕ) → row < height m → length (row_of m row) ≡ m.width
-  pub small : (row column : ℕ) → IsEntry (entry m row column)
-  pub height_in : height m ≤ 1000
-  pub width_in : m.width ≤ 1000
+  pub rectangular : IsRectangular m
+  pub small : HasTernaryEntries m
+  pub height_in : height m ≤ MAX_ROWS
+  pub width_in : m.width ≤ MAX_COLUMNS
 
 abbrev pub is_nonzero : ℤ → Bool
 is_nonzero (pos zero) = false

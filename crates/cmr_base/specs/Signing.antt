@@ -2,7 +2,7 @@
 use Rattle.std.specs.Prelude.{◌≡◌, ◌<◌, ◌≤◌, ◌⊎◌, ◌+◌, ◌*◌, ℕ, ℤ, pos, negsuc, ◌+ℤ◌, ◌*ℤ◌, List, [], ◌∷◌, length}
 use Rattle.std.specs.List.{AllByRecursion}
 use Rattle.cmr_base.specs.Matrix.{Matrix, entry, IsEntry}
-use Rattle.cmr_base.specs.LineSets.{IsRowSet, set_number}
+use Rattle.cmr_base.specs.LineSets.{IsRowSet}
 
 -- +1 or -1
 abbrev pub IsSign : ℤ → Type 0
@@ -41,9 +41,3 @@ pub record IsFirstSigning (m : Matrix) (rows : List ℕ) (signs : List ℤ) : Ty
 -- the rows have no signing
 abbrev pub HasNoSigning : Matrix → List ℕ → Type 0
 HasNoSigning m rows = (signs : List ℤ) → IsSigning m rows signs → ⊥
-
--- the least row set without a signing
-pub record IsLeastUnsigned (m : Matrix) (rows : List ℕ) : Type 0 where
-  pub row_set : IsRowSet m rows
-  pub unsigned : HasNoSigning m rows
-  pub least : (others : List ℕ) → IsRowSet m others → set_number others < set_number rows → (signs : List ℤ) × IsSigning m others signs

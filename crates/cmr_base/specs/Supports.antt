@@ -1,11 +1,7 @@
 -- The places of the nonzeros, and lines multiplied by -1.
-use Rattle.std.specs.Prelude.{◌≡◌, ◌<◌, ◌↔◌, ◌*ℤ◌, ℕ, ℤ, pos, length}
-use Rattle.cmr_base.specs.Matrix.{Matrix, height, row_of, entry}
+use Rattle.std.specs.Prelude.{◌≡◌, ◌↔◌, ◌*ℤ◌, ℕ, ℤ, pos}
+use Rattle.cmr_base.specs.Matrix.{Matrix, height, entry}
 use Rattle.cmr_base.specs.Signing.{IsSign}
-
--- each row is as long as the matrix is wide
-abbrev pub IsRectangular : Matrix → Type 0
-IsRectangular m = (row : ℕ) → row < height m → length (row_of m row) ≡ m.width
 
 -- of the same size, and 0 at the same places
 pub record HaveOneSupport (m n : Matrix) : Type 0 where

@@ -1,4 +1,3 @@
-// The arcs that have an end at a node.
 ghost use Rattle.std.specs.Prelude.{◌≡◌, ◌<◌, ◌≤◌, ◌^◌, ℕ, IfOk, length};
 ghost use Rattle.cmr_base.specs.Incidences.{AreIncidences, end_at, end_of, opposite_of};
 

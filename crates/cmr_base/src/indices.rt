@@ -1,5 +1,4 @@
-// Sets of rows or of columns.
-ghost use Rattle.std.specs.Prelude.{◌≡◌, ◌<◌, ◌++◌, [], ◌∷◌, length, slice_get, slice_index, Some, OnOk, OnErr};
+ghost use Rattle.std.specs.Prelude.{◌≡◌, ◌<◌, ◌++◌, [], ◌∷◌, length, slice_get, slice_index, Some, IfOk, OnOk, OnErr};
 ghost use Rattle.std.specs.List.Sorted.{IsStrictlyIncreasing};
 ghost use Rattle.cmr_base.specs.Indices.{IsAbove};
 
@@ -32,6 +31,16 @@ impl Indices {
         Indices {
             items: Vec::new(alloc),
         }
+    }
+
+    /// The set of these numbers.
+    pub fn of(alloc: Global, numbers: &[u32]) -> Result<Self, Memory>
+        requires { IsStrictlyIncreasing numbers.now }
+        ensures { IfOk result (λ set. set ≡ numbers.now) }
+    {
+        Ok(Indices {
+            items: Vec::from_slice(alloc, numbers)?,
+        })
     }
 
     /// Adds a number that is above all others of the set.

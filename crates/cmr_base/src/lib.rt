@@ -2,9 +2,11 @@
 //! shares. Line numbers are counted from 0.
 #![tactic(auto)]
 
+mod differences;
 mod incidences;
 mod indices;
 mod item_list;
+mod limits;
 mod line;
 mod line_set;
 mod matrix;
@@ -12,25 +14,29 @@ mod matrix_sum;
 mod memory;
 mod network;
 mod network_matrix;
+mod nonzeros;
+mod planes;
+mod products;
 mod reproduce;
 mod rooted_tree;
-#[cfg(test)]
-mod tests;
+mod rows_and_columns;
+mod separation;
+mod set_numbers;
 mod word;
 
 pub use indices::Indices;
-pub use item_list::{ItemList, PartList, SideList, SignList, WordList};
+pub use item_list::{ItemList, PartList, PathList, SideList, SignList, WordList};
+pub use limits::{MAX_COLUMNS, MAX_DEPTH, MAX_EVIDENCE, MAX_LINES, MAX_ROWS, MAX_TEXT};
 pub use line::{Line, LineList, Reason, Step, StepList};
 pub use line_set::LineSet;
-pub use matrix::{MAX_COLUMNS, MAX_ROWS, Matrix};
+pub use matrix::Matrix;
 pub use memory::Memory;
 pub use network::{Network, Pair, PairList};
+pub use planes::{has_bit, with_bit, words_for, xor_words};
+pub use products::product;
 pub use reproduce::{reproduces, reproduces_support};
 pub use rooted_tree::is_tree;
+pub use rows_and_columns::RowsAndColumns;
+pub use separation::{Connector, Form, LineSetList, LineSetPair, Three, Two};
+pub use set_numbers::{set_count, write_set};
 pub use word::Word;
-
-/// The most bytes that a matrix text may have: 16 MiB.
-pub const MAX_TEXT: usize = 16_777_216;
-
-/// The most bytes that the text of some evidence may have: 256 MiB.
-pub const MAX_EVIDENCE: usize = 268_435_456;

@@ -1,4 +1,3 @@
-// Lines of a matrix, and the steps in which they are removed.
 use crate::ItemList;
 
 /// A line of a matrix: a row or a column, by its number.

@@ -1,8 +1,7 @@
-// Sets of lines.
 ghost use Rattle.std.specs.Prelude.{◌≡◌, ◌≤◌, ◌+◌, length, IfOk};
 ghost use Rattle.cmr_base.specs.LineSets.{first_lines, without};
 
-use crate::{Indices, Memory};
+use crate::{Indices, MAX_COLUMNS, MAX_ROWS, Memory};
 use std::alloc::Global;
 
 /// A set of lines: some rows and some columns of a matrix. A submatrix is named by the lines that it has.
@@ -31,7 +30,7 @@ impl LineSet {
     {
         Ok(LineSet {
             rows: without(alloc, &self.rows, row)?,
-            columns: copy_of(alloc, &self.columns)?,
+            columns: Indices::of(alloc, self.columns.as_slice())?,
         })
     }
 
@@ -41,15 +40,15 @@ impl LineSet {
         ensures columns { IfOk result (λ lines. lines.columns ≡ without self.now.columns column) }
     {
         Ok(LineSet {
-            rows: copy_of(alloc, &self.rows)?,
+            rows: Indices::of(alloc, self.rows.as_slice())?,
             columns: without(alloc, &self.columns, column)?,
         })
     }
 
     /// How many lines there are, rows and columns.
     pub fn size(&self) -> u32
-        requires rows { length self.now.rows ≤ 1000 }
-        requires columns { length self.now.columns ≤ 1000 }
+        requires rows { length self.now.rows ≤ MAX_ROWS }
+        requires columns { length self.now.columns ≤ MAX_COLUMNS }
         ensures { result ≡ length self.now.rows + length self.now.columns }
     {
         self.rows.len() as u32 + self.columns.len() as u32
@@ -64,16 +63,6 @@ fn first_lines(alloc: Global, count: u32) -> Result<Indices, Memory>
         lines.push(line)?;
     }
     Ok(lines)
-}
-
-fn copy_of(alloc: Global, lines: &Indices) -> Result<Indices, Memory>
-    ensures { IfOk result (λ copy. copy ≡ lines.now) }
-{
-    let mut copy = Indices::new(alloc);
-    for line in lines.as_slice() {
-        copy.push(*line)?;
-    }
-    Ok(copy)
 }
 
 fn without(alloc: Global, lines: &Indices, gone: u32) -> Result<Indices, Memory>

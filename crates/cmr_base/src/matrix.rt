@@ -1,25 +1,27 @@
-// Matrices.
 ghost use Rattle.std.specs.Prelude.{◌≡◌, ◌<◌, ◌≤◌, ◌*◌, ◌++◌, ℕ, map, length, slice_index_or, IfOk, OnOk, pos, replicate, count_by};
 ghost use Rattle.cmr_base.specs.Matrix.{Matrix, height, row_of, column_of, entry, with_entry, transposed, IsMatrix, IsEntry, rows_of, nonzeros_of, is_nonzero};
 ghost use Rattle.cmr_base.specs.LineSets.{AllBelow, submatrix};
+ghost use Rattle.cmr_base.specs.MatrixLayout.{value_of};
+ghost use Rattle.cmr_base.specs.Planes.{is_minus, word_of, words_for, words_of};
 
-use crate::{LineSet, Memory};
+use crate::planes::{
+    Plane, count_bits, has_bit, passes, place_of, planes_of, row_words, with_bit, words_for,
+};
+use crate::{LineSet, MAX_COLUMNS, MAX_ROWS, Memory};
 use std::alloc::Global;
 use std::marker::Model;
 
-/// The most rows that a matrix has.
-pub const MAX_ROWS: u32 = 1000;
-
-/// The most columns that a matrix has.
-pub const MAX_COLUMNS: u32 = 1000;
-
 /// A matrix with entries -1, 0 and 1. Contracts see it as the list of its rows and its width, so that a
 /// matrix without rows has a width too. It may be shared between threads.
+///
+/// It has two planes of words, so many for each row: where the row is not 0, and where it is -1. Column c is the bit
+/// 2^(c mod 64) of the row's word c / 64.
 #[derive(Debug, Drop)]
 pub struct Matrix {
     rows: u32,
     columns: u32,
-    cells: Vec<i8>,
+    support: Vec<u64>,
+    minus: Vec<u64>,
 }
 
 impl Model for Matrix {
@@ -41,27 +43,35 @@ impl Matrix {
         requires columns { columns ≤ MAX_COLUMNS }
         ensures { IfOk result (λ m. m ≡ record { rows = replicate rows (replicate columns (pos 0)); width = columns }) }
     {
-        let cells = vec![in alloc; 0i8; rows as usize * columns as usize]?;
+        let words = rows as usize * words_for(columns);
         Ok(Matrix {
             rows,
             columns,
-            cells,
+            support: vec![in alloc; 0u64; words]?,
+            minus: vec![in alloc; 0u64; words]?,
         })
     }
 
-    /// The matrix of these cells, which stand row by row. The cells are taken whole and not copied.
-    pub fn from_cells(rows: u32, columns: u32, cells: Vec<i8>) -> Matrix
+    /// The matrix of these cells, which stand row by row.
+    pub fn from_cells(
+        alloc: Global,
+        rows: u32,
+        columns: u32,
+        cells: &[i8],
+    ) -> Result<Matrix, Memory>
         requires rows { rows ≤ MAX_ROWS }
         requires columns { columns ≤ MAX_COLUMNS }
-        requires whole { length cells.items ≡ rows * columns }
-        requires small { (k : ℕ) → IsEntry (slice_index_or cells.items k (pos 0)) }
-        ensures { result ≡ record { rows = rows_of rows columns cells.items; width = columns } }
+        requires whole { length cells.now ≡ rows * columns }
+        requires small { (k : ℕ) → IsEntry (slice_index_or cells.now k (pos 0)) }
+        ensures { IfOk result (λ m. m ≡ record { rows = rows_of rows columns cells.now; width = columns }) }
     {
-        Matrix {
+        let planes = planes_of(alloc, cells, rows, columns)?;
+        Ok(Matrix {
             rows,
             columns,
-            cells,
-        }
+            support: planes.support,
+            minus: planes.minus,
+        })
     }
 
     /// How many rows there are.
@@ -87,17 +97,45 @@ impl Matrix {
         ensures value { result ≡ entry self.now row column }
         ensures small { IsEntry result }
     {
-        self.cells[row as usize * self.columns as usize + column as usize]
+        let place = place_of(self.columns, row, column);
+        let is_nonzero = has_bit(self.support[place], column % 64);
+        let is_minus = has_bit(self.minus[place], column % 64);
+        value_of(is_nonzero, is_minus)
     }
 
-    /// The entries of a row, from the first column to the last.
-    pub fn row(&self, row: u32) -> &[i8]
-        requires { row < height self.now }
-        ensures entries { result.now ≡ row_of self.now row }
-        ensures shape { IsMatrix self.now }
+    /// Where a row is not 0, in the 64 columns of a block: column c is the bit 2^(c mod 64) of block c / 64. Places past
+    /// the last column have no bit.
+    pub fn support_word(&self, row: u32, block: u32) -> u64
+        requires row { row < height self.now }
+        requires block { 64 * block < self.now.width }
+        ensures { result ≡ word_of is_nonzero (row_of self.now row) block }
     {
-        let from = row as usize * self.columns as usize;
-        &self.cells[from..from + self.columns as usize]
+        self.support[place_of(self.columns, row, 64 * block)]
+    }
+
+    /// Where a row is -1, in the same columns. Each of its bits is one of the support too.
+    pub fn minus_word(&self, row: u32, block: u32) -> u64
+        requires row { row < height self.now }
+        requires block { 64 * block < self.now.width }
+        ensures { result ≡ word_of is_minus (row_of self.now row) block }
+    {
+        self.minus[place_of(self.columns, row, 64 * block)]
+    }
+
+    /// The words of a row's support, block by block.
+    pub fn support_words(&self, row: u32) -> &[u64]
+        requires { row < height self.now }
+        ensures { result.now ≡ words_of (words_for self.now.width) is_nonzero (row_of self.now row) }
+    {
+        row_words(&self.support, row, words_for(self.columns))
+    }
+
+    /// The words of the columns in which a row is -1, block by block.
+    pub fn minus_words(&self, row: u32) -> &[u64]
+        requires { row < height self.now }
+        ensures { result.now ≡ words_of (words_for self.now.width) is_minus (row_of self.now row) }
+    {
+        row_words(&self.minus, row, words_for(self.columns))
     }
 
     /// Changes that entry and no other.
@@ -107,14 +145,18 @@ impl Matrix {
         requires small { IsEntry value }
         ensures { self.new ≡ with_entry self.old row column value }
     {
-        self.cells[row as usize * self.columns as usize + column as usize] = value;
+        let place = place_of(self.columns, row, column);
+        let is_nonzero = passes(value, Plane::Support);
+        let is_minus = passes(value, Plane::Minus);
+        self.support[place] = with_bit(self.support[place], column % 64, is_nonzero);
+        self.minus[place] = with_bit(self.minus[place], column % 64, is_minus);
     }
 
     /// How many entries are not 0.
     pub fn nonzeros(&self) -> u32
         ensures { result ≡ nonzeros_of self.now.rows }
     {
-        count_nonzeros(&self.cells) as u32
+        count_bits(&self.support)
     }
 
     /// The submatrix on some lines, with its rows and columns in the matrix's order.
@@ -129,20 +171,32 @@ impl Matrix {
         prove!(columns.len() <= self.columns() as usize);
         let mut cells = Vec::with_capacity(alloc, rows.len() * columns.len())?;
         for row in rows {
-            push_chosen(&mut cells, self.row(*row), columns)?;
+            self.push_chosen(*row, columns, &mut cells)?;
         }
-        Ok(Matrix::from_cells(rows.len() as u32, columns.len() as u32, cells))
+        Matrix::from_cells(alloc, rows.len() as u32, columns.len() as u32, &cells)
     }
 
     /// The matrix with rows and columns exchanged.
     pub fn transposed(&self, alloc: Global) -> Result<Matrix, Memory>
         ensures { IfOk result (λ m. m ≡ transposed self.now) }
     {
-        let mut cells = Vec::with_capacity(alloc, self.cells.len())?;
+        let size = self.rows() as usize * self.columns() as usize;
+        let mut cells = Vec::with_capacity(alloc, size)?;
         for column in 0..self.columns() {
             self.push_column(column, &mut cells)?;
         }
-        Ok(Matrix::from_cells(self.columns(), self.rows(), cells))
+        Matrix::from_cells(alloc, self.columns(), self.rows(), &cells)
+    }
+
+    fn push_chosen(&self, row: u32, columns: &[u32], cells: &mut Vec<i8>) -> Result<(), Memory>
+        requires row { row < height self.now }
+        requires columns { AllBelow self.now.width columns.now }
+        ensures { OnOk result (cells.new.items ≡ cells.old.items ++ map (entry self.now row) columns.now) }
+    {
+        for column in columns {
+            cells.push(self.entry(row, *column))?;
+        }
+        Ok(())
     }
 
     fn push_column(&self, column: u32, cells: &mut Vec<i8>) -> Result<(), Memory>
@@ -156,20 +210,17 @@ impl Matrix {
     }
 }
 
-fn push_chosen(cells: &mut Vec<i8>, row: &[i8], columns: &[u32]) -> Result<(), Memory>
-    requires { AllBelow (length row.now) columns.now }
-    ensures { OnOk result (cells.new.items ≡ cells.old.items ++ map (λ column. slice_index_or row.now column (pos 0)) columns.now) }
+// The entry with these bits.
+fn value_of(is_nonzero: bool, is_minus: bool) -> i8
+    ensures { result ≡ value_of is_nonzero is_minus }
 {
-    for column in columns {
-        cells.push(row[*column as usize])?;
+    if !is_nonzero {
+        0
+    } else if is_minus {
+        -1
+    } else {
+        1
     }
-    Ok(())
-}
-
-fn count_nonzeros(cells: &[i8]) -> usize
-    ensures { result ≡ count_by is_nonzero cells.now }
-{
-    cells.iter().filter(|cell| **cell != 0).count()
 }
 
 fn is_shared<T: Send + Sync>(_value: &T) {}

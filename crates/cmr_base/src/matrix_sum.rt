@@ -1,10 +1,9 @@
-// The sum of a submatrix.
-ghost use Rattle.std.specs.Prelude.{◌≡◌, ◌≤◌, ◌≤ℤ◌, ◌<◌, ℕ, pos, neg_ℤ, length, slice_index, slice_index_or};
+ghost use Rattle.std.specs.Prelude.{◌≡◌, ◌≤◌, ◌≤ℤ◌, ◌<◌, pos, neg_ℤ, length};
 ghost use Rattle.cmr_base.specs.LineSets.{AllBelow, submatrix_sum};
-ghost use Rattle.cmr_base.specs.Matrix.{height, IsEntry};
+ghost use Rattle.cmr_base.specs.Matrix.{entry, height};
 ghost use Rattle.cmr_base.specs.Sums.{sum_over};
 
-use crate::{LineSet, Matrix};
+use crate::{LineSet, MAX_COLUMNS, MAX_ROWS, Matrix};
 
 impl Matrix {
     /// The sum of the entries of the submatrix on these lines.
@@ -15,25 +14,42 @@ impl Matrix {
     {
         let rows = lines.rows.as_slice();
         let columns = lines.columns.as_slice();
+        prove!(rows.len() <= self.rows() as usize);
+        prove!(columns.len() <= self.columns() as usize);
         let mut sum = 0i32;
         for row in rows {
-            sum += row_sum(self.row(*row), columns);
+            sum += self.row_sum(*row, columns);
         }
         sum
     }
-}
 
-fn row_sum(entries: &[i8], columns: &[u32]) -> i32
-    requires small { (k : ℕ) → IsEntry (slice_index_or entries.now k (pos 0)) }
-    requires in_range { AllBelow (length entries.now) columns.now }
-    requires short { length columns.now ≤ 1000 }
-    ensures value { result ≡ sum_over columns.now (λ column. slice_index_or entries.now column (pos 0)) }
-    ensures low { neg_ℤ (pos 1000) ≤ℤ result }
-    ensures high { result ≤ℤ pos 1000 }
-{
-    let mut sum = 0i32;
-    for column in columns {
-        sum += i32::from(entries[*column as usize]);
+    /// The sum of a row over some columns.
+    pub fn row_sum(&self, row: u32, columns: &[u32]) -> i32
+        requires row { row < height self.now }
+        requires columns { AllBelow self.now.width columns.now }
+        requires few { length columns.now ≤ MAX_COLUMNS }
+        ensures sum { result ≡ sum_over columns.now (λ column. entry self.now row column) }
+        ensures low { neg_ℤ (pos MAX_COLUMNS) ≤ℤ result }
+        ensures high { result ≤ℤ pos MAX_COLUMNS }
+    {
+        let mut sum = 0i32;
+        for column in columns {
+            sum += i32::from(self.entry(row, *column));
+        }
+        sum
     }
-    sum
+
+    /// The sum of a column over some rows.
+    pub fn column_sum(&self, rows: &[u32], column: u32) -> i32
+        requires rows { AllBelow (height self.now) rows.now }
+        requires column { column < self.now.width }
+        requires few { length rows.now ≤ MAX_ROWS }
+        ensures { result ≡ sum_over rows.now (λ row. entry self.now row column) }
+    {
+        let mut sum = 0i32;
+        for row in rows {
+            sum += i32::from(self.entry(*row, column));
+        }
+        sum
+    }
 }

@@ -1,4 +1,3 @@
-// Directed trees and walks in them.
 use crate::ItemList;
 
 /// Two nodes: the ends of an arc, or the first and the last node of a walk.

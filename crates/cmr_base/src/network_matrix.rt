@@ -1,4 +1,3 @@
-// The matrix of a directed tree and walks in it.
 ghost use Rattle.std.specs.Prelude.{◌≡◌, ◌<◌, ◌≤◌, ℕ, pos, length, slice_index_or, IfOk};
 ghost use Rattle.cmr_base.specs.Matrix.{IsMatrix, IsEntry, entry, height};
 ghost use Rattle.cmr_base.specs.RootedTrees.{AreEndsInRange, IsSpanning};

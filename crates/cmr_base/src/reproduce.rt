@@ -1,4 +1,3 @@
-// Whether a directed tree and its walks give a matrix.
 ghost use Rattle.std.specs.Prelude.{◌≡◌, ◌<◌, ◌↔◌, ℕ, pos, IsTrue, IfOk, length, slice_index_or};
 ghost use Rattle.cmr_base.specs.Matrix.{entry, height};
 ghost use Rattle.cmr_base.specs.Trees.{IsTree, Reproduces, ReproducesSupport};

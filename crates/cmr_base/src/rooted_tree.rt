@@ -1,4 +1,5 @@
-// Trees with their nodes in an order that begins with node 0, in which each other node has an arc to an earlier one.
+//! Trees with their nodes in an order that begins with node 0, in which each other node has an arc to an earlier one.
+
 ghost use Rattle.std.specs.Prelude.{◌≡◌, ◌<◌, ◌≤◌, ◌↔◌, ◌^◌, ◌++◌, [], ◌∷◌, cond, suc, pos, negsuc, length, replicate, slice_index, slice_index_or, slice_set, IsTrue, IfOk, OnOk, MatchOption};
 ghost use Rattle.cmr_base.specs.Trees.{IsDirectedPathOf, IsTree};
 ghost use Rattle.cmr_base.specs.Incidences.{AreIncidences, end_at, opposite_of};

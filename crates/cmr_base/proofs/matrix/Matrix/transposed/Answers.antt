@@ -1,8 +1,8 @@
-use Rattle.std.proofs.Common.{◌≡◌, ◌∙◌, ◌++◌, ◌+◌, ◌*◌, ◌∷◌, [], sym, ap, ap₂, zero-add, List, ℤ, ℕ, arith}
+use Rattle.std.proofs.Common.{◌≡◌, ◌∙◌, ◌++◌, ◌+◌, ◌*◌, ◌∷◌, [], sym, subst, IfOk, get_or, pos, length, ap, ap₂, zero-add, List, ℤ, ℕ, arith}
 use Rattle.std.proofs.lemmas.List.{append-nil}
 use Rattle.std.proofs.lemmas.List.Concat.{flat_map-append}
 use Rattle.std.specs.List.{flat_map, range_with_len}
-use Rattle.cmr_base.specs.Matrix.{column_of, height}
+use Rattle.cmr_base.specs.Matrix.{Matrix, column_of, height, IsEntry, rows_of}
 use Rattle.cmr_base.proofs.LineSetLemmas.{range_more}
 use Rattle.cmr_base.proofs.Parts.{all_transposed}
 use Rattle.cmr_base.proofs.matrix.Matrix.transposed.Goals as goal
@@ -20,13 +20,18 @@ loop-column-preserved c =
 pub from_cells-requires-clause-whole : goal.from_cells-requires-clause-whole
 from_cells-requires-clause-whole c =
     let all = all_transposed c.args.self.now c.loop-column.cells.items c.loop-column.column c.rows.ensures.shape c.loop-column.invariant (omega arith) in
-    all.whole ∙ sym (ap₂ (λ (a b : ℕ). a * b) c.columns.ensures.columns c.rows.ensures.rows)
+    ap length c.deref.ensures.value ∙ all.whole ∙ sym (ap₂ (λ (a b : ℕ). a * b) c.columns-2.ensures.columns c.rows-2.ensures.rows)
 
 pub from_cells-requires-clause-small : goal.from_cells-requires-clause-small
-from_cells-requires-clause-small c = (all_transposed c.args.self.now c.loop-column.cells.items c.loop-column.column c.rows.ensures.shape c.loop-column.invariant (omega arith)).small
+from_cells-requires-clause-small c =
+    subst (λ (cells : List ℤ). (k : ℕ) → IsEntry (get_or cells k (pos 0))) (sym c.deref.ensures.value)
+    (all_transposed c.args.self.now c.loop-column.cells.items c.loop-column.column c.rows.ensures.shape c.loop-column.invariant (omega arith)).small
 
 pub returns : goal.returns
 returns c =
-    let all = all_transposed c.args.self.now c.loop-column.cells.items c.loop-column.column c.rows.ensures.shape c.loop-column.invariant (omega arith) in
+    let m = c.args.self.now in
+    let all = all_transposed m c.loop-column.cells.items c.loop-column.column c.rows.ensures.shape c.loop-column.invariant (omega arith) in
+    subst (λ (t : Matrix). IfOk c.from_cells.result (λ made. made ≡ t))
+    (ap (λ (cells : List ℤ). record { rows = rows_of c.columns-2.result c.rows-2.result cells; width = c.rows-2.result }) c.deref.ensures.value
+    ∙ rw (c.columns-2.ensures.columns, c.rows-2.ensures.rows) (ap (λ (rs : List (List ℤ)). record { rows = rs; width = height m }) all.cut))
     c.from_cells.ensures
-    ∙ rw (c.columns.ensures.columns, c.rows.ensures.rows) (ap (λ rows. record { rows = rows; width = height c.args.self.now }) all.cut)

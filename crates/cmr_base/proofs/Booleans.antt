@@ -1,0 +1,125 @@
+-- What tests of numbers and of entries say, and Booleans made of them.
+use Rattle.std.proofs.Common.{◌≡◌, ◌≢◌, ◌<◌, ◌≤◌, ◌&&◌, ◌||◌, ◌∙◌, ◌⊎◌, inl, inr, ℕ, zero, suc, ℤ, pos, negsuc, Bool, true, false, not, nat_eq, nat_lt, refl, ap, arith}
+use Rattle.std.proofs.lemmas.Bool.{true≢false}
+use Rattle.std.proofs.lemmas.Bool.Decides.{nat_tests}
+use Rattle.std.proofs.lemmas.Int.{ints}
+use Rattle.cmr_base.specs.Matrix.{is_nonzero}
+
+-- ---- Booleans
+
+pub true_is_false : {A : Type 0} → true ≡ false → A
+true_is_false e = absurd (true≢false e)
+
+pub not_both : (a : Bool) → a ≡ true → a ≡ false → ⊥
+not_both a e f = cc
+
+pub two_cases : (t : Bool) → (t ≡ true) ⊎ (t ≡ false)
+two_cases true = inl refl
+two_cases false = inr refl
+
+pub bool_same : (a b : Bool) → (a ≡ b) ⊎ (a ≡ not b)
+bool_same true true = inl refl
+bool_same true false = inr refl
+bool_same false true = inr refl
+bool_same false false = inl refl
+
+-- two tests that hold of the same are the same
+pub same_test : (a b : Bool) → (a ≡ true → b ≡ true) → (b ≡ true → a ≡ true) → a ≡ b
+same_test true true to back = refl
+same_test true false to back = true_is_false (sym_of (to refl))
+  where
+    sym_of : {x y : Bool} → x ≡ y → y ≡ x
+    sym_of e = cc
+same_test false true to back = true_is_false (sym_of (back refl))
+  where
+    sym_of : {x y : Bool} → x ≡ y → y ≡ x
+    sym_of e = cc
+same_test false false to back = refl
+
+pub false_is : (b : Bool) → (b ≡ true → ⊥) → b ≡ false
+false_is true none = absurd (none refl)
+false_is false none = refl
+
+-- not b is true exactly where b is false, and the other way round
+pub not_is : (b : Bool) → not b ≡ true → b ≡ false
+not_is true e = cc
+not_is false e = refl
+
+pub is_not : (b : Bool) → b ≡ false → not b ≡ true
+is_not true e = cc
+is_not false e = refl
+
+pub not_false : (b : Bool) → not b ≡ false → b ≡ true
+not_false true e = refl
+not_false false e = cc
+
+pub and_is : (a b : Bool) → a && b ≡ true → (a ≡ true) × (b ≡ true)
+and_is true b e = (refl, e)
+and_is false b e = (cc, cc)
+
+pub is_and : (a b : Bool) → a ≡ true → b ≡ true → a && b ≡ true
+is_and a b e f = rw (e, f) refl
+
+pub or_is : (a b : Bool) → (a || b) ≡ true → (a ≡ true) ⊎ (b ≡ true)
+or_is true b e = inl refl
+or_is false b e = inr e
+
+pub or_left : (a b : Bool) → a ≡ true → (a || b) ≡ true
+or_left a b e = rw e refl
+
+pub or_right : (a b : Bool) → b ≡ true → (a || b) ≡ true
+or_right true b e = refl
+or_right false b e = e
+
+-- ---- numbers
+
+pub eq_of : (a b : ℕ) → nat_eq a b ≡ true → a ≡ b
+eq_of a b e = grind (arith, nat_tests)
+
+pub self_eq : (n : ℕ) → nat_eq n n ≡ true
+self_eq n = grind arith
+
+pub is_eq : (a b : ℕ) → a ≡ b → nat_eq a b ≡ true
+is_eq a b e = ap (λ (z : ℕ). nat_eq z b) e ∙ self_eq b
+
+pub ne_of : (a b : ℕ) → nat_eq a b ≡ false → a ≢ b
+ne_of a b e f = not_both (nat_eq a b) (is_eq a b f) e
+
+pub is_ne : (a b : ℕ) → a ≢ b → nat_eq a b ≡ false
+is_ne a b h = grind (arith, nat_tests)
+
+pub same_or_not : (a b : ℕ) → (a ≡ b) ⊎ (a ≢ b)
+same_or_not a b = go (nat_eq a b) refl
+  where
+    go : (t : Bool) → nat_eq a b ≡ t → (a ≡ b) ⊎ (a ≢ b)
+    go true e = inl (eq_of a b e)
+    go false e = inr (ne_of a b e)
+
+pub lt_of : (a b : ℕ) → nat_lt a b ≡ true → a < b
+lt_of a b e = grind (arith, nat_tests)
+
+pub is_lt : (a b : ℕ) → a < b → nat_lt a b ≡ true
+is_lt a b h = grind (arith, nat_tests)
+
+pub is_not_lt : (a b : ℕ) → b ≤ a → nat_lt a b ≡ false
+is_not_lt a b h = grind (arith, nat_tests)
+
+-- ---- entries
+
+pub nonzero_is : (z : ℤ) → is_nonzero z ≡ true → z ≢ pos 0
+nonzero_is (pos zero) e f = cc
+nonzero_is (pos (suc n)) e f = omega (arith, ints, f)
+nonzero_is (negsuc n) e f = omega (arith, ints, f)
+
+pub zero_is : (z : ℤ) → is_nonzero z ≡ false → z ≡ pos 0
+zero_is (pos zero) e = refl
+zero_is (pos (suc n)) e = cc
+zero_is (negsuc n) e = cc
+
+pub is_zero : (z : ℤ) → z ≡ pos 0 → is_nonzero z ≡ false
+is_zero z e = ap is_nonzero e
+
+pub is_nonzero_is : (z : ℤ) → z ≢ pos 0 → is_nonzero z ≡ true
+is_nonzero_is (pos zero) h = absurd (h refl)
+is_nonzero_is (pos (suc n)) h = refl
+is_nonzero_is (negsuc n) h = refl

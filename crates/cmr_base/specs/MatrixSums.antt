@@ -1,0 +1,74 @@
+-- Sums of two matrices along connecting lines (Seymour; Truemper, Matroid Decomposition): `[A ab; dc B]` of a first matrix with the
+-- block A and a second one with the block B. The first ends in the connecting lines, the second begins with them.
+use Rattle.std.specs.Prelude.{◌≡◌, ◌<◌, ◌≤◌, ◌+◌, ◌-◌, ◌*ℤ◌, ℕ, ℤ, pos, Bool, true, false, cond, nat_lt, map}
+use Rattle.cmr_base.specs.declared.separation.Form.{Form}
+use Rattle.cmr_base.specs.Matrix.{Matrix, height, entry}
+use Rattle.cmr_base.specs.LineSets.{first_lines}
+use Rattle.cmr_base.specs.Signing.{IsSign}
+use Rattle.cmr_base.specs.Separations.{zeros, first_is_flat, second_is_flat}
+
+-- m rows and n columns with these entries
+abbrev pub filled : ℕ → ℕ → (ℕ → ℕ → ℤ) → Matrix
+filled m n entries = record { rows = map (λ row. map (entries row) (first_lines n)) (first_lines m); width = n }
+
+-- Four blocks: after m rows those of the lower blocks begin at their row `up`, after n columns those of the right blocks at their
+-- column `left`.
+abbrev pub four_blocks : (m n up left : ℕ) (first right below second : ℕ → ℕ → ℤ) → ℕ → ℕ → ℤ
+four_blocks m n up left first right below second r c =
+    cond (nat_lt r m)
+    (cond (nat_lt c n) (first r c) (right r (left + (c - n))))
+    (cond (nat_lt c n) (below (up + (r - m)) c) (second (up + (r - m)) (left + (c - n))))
+
+abbrev pub one_sum : Matrix → Matrix → Matrix
+one_sum first second =
+    filled (height first + height second) (first.width + second.width) (four_blocks (height first) first.width 0 0 (entry first) zeros zeros (entry second))
+
+-- `[A a]` with the last column a, and `[b; B]` with the first row b
+pub record HaveTwoSum (first second : Matrix) : Type 0 where
+  pub column : 1 ≤ first.width
+  pub row : 1 ≤ height second
+
+abbrev pub two_sum : Matrix → Matrix → Matrix
+two_sum first second =
+    filled (height first + (height second - 1)) ((first.width - 1) + second.width)
+    (four_blocks (height first) (first.width - 1) 1 0 (entry first) (λ r c. entry first r (first.width - 1) *ℤ entry second 0 c) zeros (entry second))
+
+-- connecting lines are flat, one row and two columns, or tall, two rows and one column
+abbrev pub connecting_rows : Bool → ℕ
+connecting_rows flat = cond flat 1 2
+
+abbrev pub connecting_columns : Bool → ℕ
+connecting_columns flat = cond flat 2 1
+
+-- after m rows and n columns the matrix ends in `a a; c 0 e`, or `a; c 0; c e`
+abbrev pub EndsIn : Bool → ℤ → (m n : ℕ) → (ℕ → ℕ → ℤ) → Type 0
+EndsIn true e m n first = (first m n ≡ pos 0) × (first m (n + 1) ≡ e) × ((r : ℕ) → r < m → first r (n + 1) ≡ first r n)
+EndsIn false e m n first = (first m n ≡ pos 0) × (first (m + 1) n ≡ e) × ((c : ℕ) → c < n → first (m + 1) c ≡ first m c)
+
+-- the matrix begins with `e 0 b; d d`, or `e b; 0 b; d`, before u rows and v columns more
+abbrev pub BeginsWith : Bool → ℤ → (u v : ℕ) → (ℕ → ℕ → ℤ) → Type 0
+BeginsWith true e u v second = (second 0 0 ≡ e) × (second 0 1 ≡ pos 0) × ((r : ℕ) → 1 ≤ r → r < 1 + u → second r 1 ≡ second r 0)
+BeginsWith false e u v second = (second 0 0 ≡ e) × (second 1 0 ≡ pos 0) × ((c : ℕ) → 1 ≤ c → c < 1 + v → second 1 c ≡ second 0 c)
+
+-- The first matrix ends in connecting lines of the kind of the second connector, the second begins with those of the kind of the
+-- first, and the corner e, which is 1 or -1, is the same in both.
+pub record HaveThreeSum (form : Form) (first second : Matrix) : Type 0 where
+  pub first_rows : connecting_rows (second_is_flat form) ≤ height first
+  pub first_columns : connecting_columns (second_is_flat form) ≤ first.width
+  pub second_rows : connecting_rows (first_is_flat form) ≤ height second
+  pub second_columns : connecting_columns (first_is_flat form) ≤ second.width
+  pub corner : ℤ
+  pub sign : IsSign corner
+  pub one : EndsIn (second_is_flat form) corner (height first - connecting_rows (second_is_flat form)) (first.width - connecting_columns (second_is_flat form)) (entry first)
+  pub two : BeginsWith (first_is_flat form) corner (height second - connecting_rows (first_is_flat form)) (second.width - connecting_columns (first_is_flat form)) (entry second)
+
+-- of matrices with m rows and n columns before the connecting lines of the first, and connecting lines of the second of this kind
+abbrev pub sum_along : Bool → (m n : ℕ) (first second : ℕ → ℕ → ℤ) → ℕ → ℕ → ℤ
+sum_along flat m n first second =
+    four_blocks m n (connecting_rows flat) (connecting_columns flat) first (λ r c. first r n *ℤ second 0 c) (λ r c. second r 0 *ℤ first m c) second
+
+abbrev pub three_sum : Form → Matrix → Matrix → Matrix
+three_sum form first second =
+    filled ((height first - connecting_rows (second_is_flat form)) + (height second - connecting_rows (first_is_flat form)))
+    ((first.width - connecting_columns (second_is_flat form)) + (second.width - connecting_columns (first_is_flat form)))
+    (sum_along (first_is_flat form) (height first - connecting_rows (second_is_flat form)) (first.width - connecting_columns (second_is_flat form)) (entry first) (entry second))

@@ -1,0 +1,99 @@
+-- Separations from their seeds: a few lines grow to the least set that can be side one.
+use Rattle.std.specs.Prelude.{◌≡◌, ◌≢◌, ◌<◌, ◌≤◌, ◌+◌, ◌⊎◌, ℕ, ℤ, pos, true, false, List, [], ◌∷◌}
+use Rattle.std.specs.List.{AllByRecursion}
+use Rattle.cmr_base.specs.declared.line.Line.{Line}
+use Rattle.cmr_base.specs.declared.line.Line.TheVariants.{Row, Column}
+use Rattle.cmr_base.specs.declared.separation.Connector.{Connector}
+use Rattle.cmr_base.specs.declared.separation.Form.{Form}
+use Rattle.cmr_base.specs.declared.separation.Form.TheVariants.{Delta, YForm, Mixed}
+use Rattle.cmr_base.specs.LineSets.{first_lines}
+use Rattle.cmr_base.specs.Separations.{Lines, opposite, count_in, HasBlocks, zeros, product_at, AreConnectors, connector_lines, first_is_flat, second_is_flat}
+
+-- a line of a matrix with m rows and n columns
+abbrev pub IsLine : ℕ → ℕ → Line → Type 0
+IsLine m n (Row row) = row < m
+IsLine m n (Column column) = column < n
+
+-- No line outside the set breaks a rule with the lines inside: the entries between the set and the other lines are those of the rules.
+abbrev pub IsClosed : ℕ → ℕ → (ℕ → ℕ → ℤ) → (upper lower : ℕ → ℕ → ℤ) → Lines → Type 0
+IsClosed m n M upper lower lines = HasBlocks M (first_lines m) (first_lines n) lines upper lower
+
+abbrev pub HasAll : Lines → List Line → Type 0
+HasAll lines start = AllByRecursion (λ line. lines line ≡ true) start
+
+-- the least closed set that has the lines of the start
+pub record IsGrown (m n : ℕ) (M : ℕ → ℕ → ℤ) (upper lower : ℕ → ℕ → ℤ) (start : List Line) (lines : Lines) : Type 0 where
+  pub closed : IsClosed m n M upper lower lines
+  pub has : HasAll lines start
+  pub least : (other : Lines) → IsClosed m n M upper lower other → HasAll other start → (line : Line) → IsLine m n line → lines line ≡ true → other line ≡ true
+
+-- The seed of the lines `first`, which are to be in side one, `second`, which are to be in side two, and one more line is good,
+-- and the side is what it grows to: it has none of the second lines, and it leaves enough.
+pub record IsGood (m n least : ℕ) (M : ℕ → ℕ → ℤ) (upper lower : ℕ → ℕ → ℤ) (first second : List Line) (seed : Line) (side : Lines) : Type 0 where
+  pub line : IsLine m n seed
+  pub not_first : AllByRecursion (λ line. seed ≢ line) first
+  pub not_second : AllByRecursion (λ line. seed ≢ line) second
+  pub grown : IsGrown m n M upper lower (seed ∷ first) side
+  pub two : AllByRecursion (λ line. side line ≡ false) second
+  pub enough : least ≤ count_in (opposite side) (first_lines m) (first_lines n)
+
+-- the place of a line in line order: the rows, then the columns
+abbrev pub line_number : ℕ → Line → ℕ
+line_number m (Row row) = row
+line_number m (Column column) = m + column
+
+-- of lists of one length: less at the first place where they differ
+abbrev pub IsBefore : List ℕ → List ℕ → Type 0
+IsBefore [] ys = ⊥
+IsBefore (x ∷ xs) [] = ⊥
+IsBefore (x ∷ xs) (y ∷ ys) = (x < y) ⊎ ((x ≡ y) × IsBefore xs ys)
+
+-- ---- two-seeds
+
+-- a place of a nonzero
+pub record IsReference (m n : ℕ) (M : ℕ → ℕ → ℤ) (i j : ℕ) : Type 0 where
+  pub row : i < m
+  pub column : j < n
+  pub nonzero : M i j ≢ pos 0
+
+abbrev pub IsGoodTwo : ℕ → ℕ → (ℕ → ℕ → ℤ) → ℕ → ℕ → Line → Lines → Type 0
+IsGoodTwo m n M i j seed side = IsReference m n M i j × IsGood m n 2 M zeros (product_at M i j) (Column j ∷ []) (Row i ∷ []) seed side
+
+-- by the row, then by the column, then by the line
+abbrev pub two_key : ℕ → ℕ → ℕ → Line → List ℕ
+two_key m i j seed = i ∷ j ∷ line_number m seed ∷ []
+
+-- the side of the first good two-seed
+pub record IsFirstTwo (m n : ℕ) (M : ℕ → ℕ → ℤ) (side : Lines) (i j : ℕ) : Type 0 where
+  pub seed : Line
+  pub good : IsGoodTwo m n M i j seed side
+  pub first : (i' j' : ℕ) (seed' : Line) (side' : Lines) → IsGoodTwo m n M i' j' seed' side' → ¬ (IsBefore (two_key m i' j' seed') (two_key m i j seed))
+
+-- ---- three-seeds
+
+abbrev pub form_number : Form → ℕ
+form_number Delta = 0
+form_number YForm = 1
+form_number Mixed = 2
+
+-- two connectors with the values of their form, whose lines are lines of the matrix
+pub record IsConnectorPair (m n : ℕ) (M : ℕ → ℕ → ℤ) (form : Form) (first second : Connector) : Type 0 where
+  pub values : AreConnectors M form first second
+  pub first_lines : AllByRecursion (IsLine m n) (connector_lines (first_is_flat form) first)
+  pub second_lines : AllByRecursion (IsLine m n) (connector_lines (second_is_flat form) second)
+
+abbrev pub IsGoodThree : ℕ → ℕ → (ℕ → ℕ → ℤ) → Form → Connector → Connector → Line → Lines → Type 0
+IsGoodThree m n M form first second seed side =
+    IsConnectorPair m n M form first second
+    × IsGood m n 4 M (product_at M first.row second.column) (product_at M second.row first.column) (connector_lines (first_is_flat form) first) (connector_lines (second_is_flat form) second) seed side
+
+-- by the form, then by the corners, then by the other lines, then by the line
+abbrev pub three_key : ℕ → Form → Connector → Connector → Line → List ℕ
+three_key m form first second seed = form_number form ∷ first.row ∷ first.column ∷ second.row ∷ second.column ∷ first.other ∷ second.other ∷ line_number m seed ∷ []
+
+-- the side of the first good three-seed
+pub record IsFirstThree (m n : ℕ) (M : ℕ → ℕ → ℤ) (side : Lines) (form : Form) (first second : Connector) : Type 0 where
+  pub seed : Line
+  pub good : IsGoodThree m n M form first second seed side
+  pub earliest : (form' : Form) (first' second' : Connector) (seed' : Line) (side' : Lines) → IsGoodThree m n M form' first' second' seed' side'
+      → ¬ (IsBefore (three_key m form' first' second' seed') (three_key m form first second seed))

@@ -1,0 +1,130 @@
+-- Separations: the lines of a matrix in two sides, so that few lines make the entries between the sides (Schrijver, Theory of
+-- Linear and Integer Programming, chapter 19; Truemper, Matroid Decomposition). A side is told by a test: side one has the
+-- lines for which it is true, side two the others.
+use Rattle.std.specs.Prelude.{◌≡◌, ◌≢◌, ◌≤◌, ◌+◌, ◌*ℤ◌, ◌==◌, ◌||◌, not, filter, ℕ, ℤ, pos, Bool, true, false, List, [], ◌∷◌, length, Contains}
+use Rattle.std.specs.List.{AllByRecursion, list_any}
+use Rattle.cmr_base.specs.declared.line.Line.{Line}
+use Rattle.cmr_base.specs.declared.line.Line.TheVariants.{Row, Column}
+use Rattle.cmr_base.specs.declared.separation.Connector.{Connector}
+use Rattle.cmr_base.specs.declared.separation.Form.{Form}
+use Rattle.cmr_base.specs.declared.separation.Form.TheVariants.{Delta, YForm, Mixed}
+use Rattle.cmr_base.specs.Reductions.{HasLine}
+
+-- a set of lines
+abbrev pub Lines : Type 0
+Lines = Line → Bool
+
+-- the lines of two lists
+abbrev pub listed : List ℕ → List ℕ → Lines
+listed rows columns (Row row) = list_any (λ other. other == row) rows
+listed rows columns (Column column) = list_any (λ other. other == column) columns
+
+abbrev pub opposite : Lines → Lines
+opposite lines line = not (lines line)
+
+abbrev pub is_same_line : Line → Line → Bool
+is_same_line (Row row) (Row other) = other == row
+is_same_line (Row row) (Column other) = false
+is_same_line (Column column) (Row other) = false
+is_same_line (Column column) (Column other) = other == column
+
+-- the set with some lines more
+abbrev pub with_lines : Lines → List Line → Lines
+with_lines lines more line = lines line || list_any (is_same_line line) more
+
+-- those of some rows, or columns, that are in the set
+abbrev pub rows_in : Lines → List ℕ → List ℕ
+rows_in lines rows = filter (λ row. lines (Row row)) rows
+
+abbrev pub columns_in : Lines → List ℕ → List ℕ
+columns_in lines columns = filter (λ column. lines (Column column)) columns
+
+-- how many lines of the set there are among these rows and columns
+abbrev pub count_in : Lines → List ℕ → List ℕ → ℕ
+count_in lines rows columns = length (rows_in lines rows) + length (columns_in lines columns)
+
+-- What the entries between the sides are: `upper` those of the rows of side one in columns of side two, `lower` those of the
+-- rows of side two in columns of side one.
+pub record HasBlocks (M : ℕ → ℕ → ℤ) (rows columns : List ℕ) (side : Lines) (upper lower : ℕ → ℕ → ℤ) : Type 0 where
+  pub right : (r c : ℕ) → Contains rows r → Contains columns c → side (Row r) ≡ true → side (Column c) ≡ false → M r c ≡ upper r c
+  pub below : (r c : ℕ) → Contains rows r → Contains columns c → side (Row r) ≡ false → side (Column c) ≡ true → M r c ≡ lower r c
+
+-- at least so many lines on each side
+pub record AreEnough (rows columns : List ℕ) (side : Lines) (least : ℕ) : Type 0 where
+  pub one : least ≤ count_in side rows columns
+  pub two : least ≤ count_in (opposite side) rows columns
+
+abbrev pub zeros : ℕ → ℕ → ℤ
+zeros r c = pos 0
+
+-- the block of rank one that column j and row i make, where they cross in a nonzero
+abbrev pub product_at : (ℕ → ℕ → ℤ) → ℕ → ℕ → ℕ → ℕ → ℤ
+product_at M i j r c = M r j *ℤ (M i c *ℤ M i j)
+
+-- each line of a list is among these rows and columns, and on the side
+abbrev pub AreOn : List ℕ → List ℕ → Lines → Bool → List Line → Type 0
+AreOn rows columns side one lines = AllByRecursion (λ line. HasLine rows columns line × (side line ≡ one)) lines
+
+-- ---- two-separations
+
+-- Row i of side two and column j of side one cross in a nonzero and make the lower block; the upper block is zero.
+pub record IsTwoSeparation (M : ℕ → ℕ → ℤ) (rows columns : List ℕ) (side : Lines) (i j : ℕ) : Type 0 where
+  pub one : AreOn rows columns side true (Column j ∷ [])
+  pub two : AreOn rows columns side false (Row i ∷ [])
+  pub nonzero : M i j ≢ pos 0
+  pub blocks : HasBlocks M rows columns side zeros (product_at M i j)
+  pub enough : AreEnough rows columns side 2
+
+-- ---- three-separations
+
+-- the kinds of the two connectors of each form: flat, or tall
+abbrev pub first_is_flat : Form → Bool
+first_is_flat Delta = true
+first_is_flat YForm = false
+first_is_flat Mixed = true
+
+abbrev pub second_is_flat : Form → Bool
+second_is_flat Delta = true
+second_is_flat YForm = false
+second_is_flat Mixed = false
+
+-- the lines of a connector: the row and the column of its corner, and one more column where it is flat, one more row where it is tall
+abbrev pub connector_lines : Bool → Connector → List Line
+connector_lines true connector = Row connector.row ∷ Column connector.column ∷ Column connector.other ∷ []
+connector_lines false connector = Row connector.row ∷ Column connector.column ∷ Row connector.other ∷ []
+
+-- the other line of a connector is 0 in the connector's own corner line, and not 0 in that of the other connector at (row, column)
+abbrev pub IsTied : (ℕ → ℕ → ℤ) → Bool → Connector → ℕ → ℕ → Type 0
+IsTied M true connector row column = (M connector.row connector.other ≡ pos 0) × (M row connector.other ≢ pos 0)
+IsTied M false connector row column = (M connector.other connector.column ≡ pos 0) × (M connector.other column ≢ pos 0)
+
+-- The corners of the two connectors and the two places where the lines of one corner cross those of the other are not 0.
+pub record AreConnectors (M : ℕ → ℕ → ℤ) (form : Form) (first second : Connector) : Type 0 where
+  pub first_corner : M first.row first.column ≢ pos 0
+  pub second_corner : M second.row second.column ≢ pos 0
+  pub upper : M first.row second.column ≢ pos 0
+  pub lower : M second.row first.column ≢ pos 0
+  pub first_tied : IsTied M (first_is_flat form) first second.row second.column
+  pub second_tied : IsTied M (second_is_flat form) second first.row first.column
+
+-- The first connector is in side one, the second in side two. The upper block is made by the first connector's row and the second
+-- one's column, the lower block by the second one's row and the first one's column.
+pub record IsThreeSeparation (M : ℕ → ℕ → ℤ) (rows columns : List ℕ) (side : Lines) (form : Form) (first second : Connector) : Type 0 where
+  pub one : AreOn rows columns side true (connector_lines (first_is_flat form) first)
+  pub two : AreOn rows columns side false (connector_lines (second_is_flat form) second)
+  pub connectors : AreConnectors M form first second
+  pub blocks : HasBlocks M rows columns side (product_at M first.row second.column) (product_at M second.row first.column)
+  pub enough : AreEnough rows columns side 4
+
+-- the product of the four entries where the corners' lines cross; where it is -1, these lines are a violator
+abbrev pub corner_product : (ℕ → ℕ → ℤ) → Connector → Connector → ℤ
+corner_product M first second = (M first.row first.column *ℤ M first.row second.column) *ℤ (M second.row first.column *ℤ M second.row second.column)
+
+-- ---- the children of a separation
+
+-- side one with some lines of side two, and side two with some lines of side one
+abbrev pub child_one : Lines → List Line → Lines
+child_one side second = with_lines side second
+
+abbrev pub child_two : Lines → List Line → Lines
+child_two side first = with_lines (opposite side) first

@@ -1,0 +1,101 @@
+ghost use Rattle.std.specs.Prelude.{◌≡◌, ◌≢◌, ◌<◌, true, false, pos, IfOk};
+ghost use Rattle.cmr_base.specs.Matrix.{height, entry, transposed, IsMatrix, IsEntry};
+
+use crate::{Matrix, Memory};
+use std::alloc::Global;
+use std::marker::Model;
+
+/// A matrix beside its transposed matrix, so that its columns can be read by words as its rows are. Contracts see the
+/// matrix. It may be shared between threads.
+#[derive(Drop)]
+pub struct RowsAndColumns<'a> {
+    rows: &'a Matrix,
+    columns: Matrix,
+}
+
+impl<'a> Model for RowsAndColumns<'a> {
+    ghost use Rattle.cmr_base.specs.Matrix.{Matrix};
+
+    ghost Value = { Matrix };
+
+    ghost use Rattle.cmr_base.specs.BothViews.{matrix_of, AreTransposed};
+
+    ghost view = { matrix_of };
+
+    ghost invariant = { AreTransposed };
+}
+
+impl<'a> RowsAndColumns<'a> {
+    /// The rows and the columns of a matrix.
+    pub fn new(alloc: Global, matrix: &'a Matrix) -> Result<RowsAndColumns<'a>, Memory>
+        ensures { IfOk result (λ both. both ≡ matrix.entry.now) }
+    {
+        let columns = matrix.transposed(alloc)?;
+        let _rows = matrix.rows();
+        Ok(RowsAndColumns {
+            rows: matrix,
+            columns,
+        })
+    }
+
+    /// How many rows there are.
+    pub fn rows(&self) -> u32
+        ensures rows { result ≡ height self.now }
+        ensures shape { IsMatrix self.now }
+    {
+        self.rows.rows()
+    }
+
+    /// How many columns there are.
+    pub fn columns(&self) -> u32
+        ensures columns { result ≡ self.now.width }
+        ensures shape { IsMatrix self.now }
+    {
+        self.rows.columns()
+    }
+
+    /// The entry in a row and a column.
+    pub fn entry(&self, row: u32, column: u32) -> i8
+        requires row { row < height self.now }
+        requires column { column < self.now.width }
+        ensures value { result ≡ entry self.now row column }
+        ensures small { IsEntry result }
+    {
+        self.rows.entry(row, column)
+    }
+
+    /// Whether the entry in a row and a column is not 0.
+    pub fn is_nonzero(&self, row: u32, column: u32) -> bool
+        requires row { row < height self.now }
+        requires column { column < self.now.width }
+        ensures yes { result ≡ true → entry self.now row column ≢ pos 0 }
+        ensures no { result ≡ false → entry self.now row column ≡ pos 0 }
+    {
+        self.rows.entry(row, column) != 0
+    }
+
+    /// The matrix by its rows.
+    pub fn by_rows(&self) -> &Matrix
+        ensures matrix { result.now ≡ self.now }
+        ensures shape { IsMatrix self.now }
+    {
+        let _rows = self.rows.rows();
+        self.rows
+    }
+
+    /// The matrix by its columns.
+    pub fn by_columns(&self) -> &Matrix
+        ensures matrix { result.now ≡ transposed self.now }
+        ensures shape { IsMatrix self.now }
+    {
+        let _rows = self.rows.rows();
+        &self.columns
+    }
+}
+
+fn is_shared<T: Send + Sync>(_value: &T) {}
+
+// That it may be read by several threads is proved here.
+fn both_are_shared(both: &RowsAndColumns<'_>) {
+    is_shared(both);
+}

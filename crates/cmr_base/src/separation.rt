@@ -1,0 +1,72 @@
+ghost use Rattle.std.specs.Prelude.{◌≡◌};
+ghost use Rattle.cmr_base.specs.Separations.{first_is_flat, second_is_flat};
+
+use crate::{ItemList, LineSet};
+
+/// A two-separation: the lines of side one, with a row of side two and a column of side one that cross in a
+/// nonzero. The row and the column make all entries between the sides.
+#[derive(Debug, Drop)]
+pub struct Two {
+    pub side: LineSet,
+    pub row: u32,
+    pub column: u32,
+}
+
+/// The lines by which one side of a three-separation is tied to the other: a row and a column that cross in a
+/// nonzero, and one more line. A flat connector has one more column, a tall one has one more row.
+#[derive(Clone, Copy, Debug, PartialEq, Eq)]
+pub struct Connector {
+    pub row: u32,
+    pub column: u32,
+    pub other: u32,
+}
+
+/// The kinds of the two connectors of a three-separation: both flat (delta), both tall (Y), or the first flat
+/// and the second tall (mixed).
+#[derive(Clone, Copy, Debug, PartialEq, Eq)]
+pub enum Form {
+    Delta,
+    YForm,
+    Mixed,
+}
+
+impl Form {
+    /// Whether the first connector is flat. Else it is tall.
+    pub fn first_is_flat(self) -> bool
+        ensures { result ≡ first_is_flat self }
+    {
+        match self {
+            Form::Delta | Form::Mixed => true,
+            Form::YForm => false,
+        }
+    }
+
+    /// Whether the second connector is flat. Else it is tall.
+    pub fn second_is_flat(self) -> bool
+        ensures { result ≡ second_is_flat self }
+    {
+        match self {
+            Form::Delta => true,
+            Form::YForm | Form::Mixed => false,
+        }
+    }
+}
+
+/// A three-separation: the lines of side one, with a connector in each side.
+#[derive(Debug, Drop)]
+pub struct Three {
+    pub form: Form,
+    pub side: LineSet,
+    pub first: Connector,
+    pub second: Connector,
+}
+
+/// Two sets of lines.
+#[derive(Debug, Drop)]
+pub struct LineSetPair {
+    pub one: LineSet,
+    pub two: LineSet,
+}
+
+/// Sets of lines, in an order.
+pub type LineSetList = ItemList<LineSet>;
