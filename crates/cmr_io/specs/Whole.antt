@@ -5,6 +5,10 @@ use Rattle.std.specs.Prelude.{◌≡◌, ◌<◌, ◌≤◌, ◌++◌, ◌⊎◌
 abbrev pub HasGivenAtMost : ℕ → Option (List ℕ) → List ℕ → Type 0
 HasGivenAtMost most content left = (given : List ℕ) × (content ≡ Some (given ++ left)) × (length given ≤ most)
 
+-- what was given stands in front of what is left, and is so many bytes
+abbrev pub HasGiven : ℕ → Option (List ℕ) → List ℕ → Type 0
+HasGiven count content left = (given : List ℕ) × (content ≡ Some (given ++ left)) × (length given ≡ count)
+
 -- some of the bytes were appended, those at the front, and not all
 abbrev pub AppendsFront : List ℕ → List ℕ → List ℕ → Type 0
 AppendsFront old new bytes = (count : ℕ) × (count < length bytes) × (new ≡ old ++ take count bytes)

@@ -1,4 +1,3 @@
-// Counts of faults.
 ghost use Rattle.std.specs.Prelude.{◌≡◌, ◌≤◌};
 ghost use Rattle.cmr_io.specs.Causes.{Rose};
 ghost use Rattle.cmr_io.specs.Calls.{next_number};

@@ -1,4 +1,3 @@
-// A name of a shelf in memory, with what it holds and the room that was prepared for it.
 ghost use Rattle.std.specs.Prelude.{◌≡◌, ◌≤◌, ◌++◌, [], true, None, Some, IfOk, IsTrue, is_some, vec_capacity, length, min, take};
 ghost use Rattle.std.specs.Option.{ForSome};
 

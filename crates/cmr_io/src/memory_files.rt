@@ -1,4 +1,3 @@
-// The files of a shelf in memory. A name stands for the first file that has it.
 ghost use Rattle.std.specs.Prelude.{◌≡◌, ◌≢◌, ◌≤◌, ◌<◌, ◌+◌, ◌-◌, ◌^◌, ◌++◌, [], ℕ, List, true, false, None, Some, IsTrue, IfNone, IfSome, OnOk, OnErr, length, take, drop, min, unwrap_or, vec_len};
 ghost use Rattle.cmr_io.specs.Files.{content_in, room_in, bytes_at, name_at, has_name, is_writable_at, IsFirst};
 ghost use Rattle.cmr_io.specs.Writes.{Writes};

@@ -1,4 +1,5 @@
-// The files of the system and standard input: the edge, of whose bytes nothing is claimed.
+//! The files of the system and standard input: the edge, of whose bytes nothing is claimed.
+
 ghost use Rattle.std.specs.Prelude.{◌≡◌, ◌≤◌, ◌<◌, [], false, true, None, IsTrue, IfOk, is_ok, length};
 ghost use Rattle.cmr_io.specs.Causes.{HasCause};
 ghost use Rattle.cmr_io.specs.Calls.{counted};
@@ -65,6 +66,8 @@ impl<R: Files + Input> Shelf for RealShelf<'_, R> {
     ghost target = { λ _. [] };
 
     ghost got = { λ _. [] };
+
+    ghost read = { λ _. 0 };
 
     ghost faults = { λ shelf. shelf.faults };
 

@@ -1,4 +1,3 @@
-// Reads and writes that are tried again where a signal interrupted them.
 ghost use Rattle.std.specs.Prelude.{◌≡◌, ◌≤◌, ◌<◌, IfOk, OnErr, length, take};
 ghost use Rattle.std.specs.Io.KnownBytes.{Keeps, Appends, Consumes, IsAtEnd};
 ghost use Rattle.cmr_io.specs.Causes.{HasCause};

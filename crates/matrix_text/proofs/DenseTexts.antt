@@ -2,6 +2,7 @@
 use Rattle.std.proofs.Common.{◌≡◌, ◌*◌, ◌∙◌, ℕ, ℤ, Bool, List, [], ◌∷◌, ◌++◌, length, Result, Ok, Err, refl, ap, sym, subst}
 use Rattle.std.specs.Prelude.{IfOk}
 use Rattle.std.proofs.lemmas.List.{append-nil}
+use Rattle.cmr_base.specs.declared.limits.TheConstants.{MAX_COLUMNS, MAX_ROWS}
 use Rattle.cmr_base.specs.Matrix.{Matrix, rows_of}
 use Rattle.text_fields.specs.Words.{Text}
 use Rattle.text_fields.specs.Result.{◌>>=◌}
@@ -32,10 +33,10 @@ two_words first second words later rest e h = rw (e, h) refl
 -- what is read is a dense text
 pub dense_found : (binary : Bool) (text : Text) (m : Matrix) → dense binary text ≡ Ok m → IsDense binary (texts_of text.words) m
 dense_found binary text m h =
-    let b = bind_ok (field Short (limited 1000 TooManyRows) text) (λ (height : ℕ × Text). field Short (limited 1000 TooManyColumns) height.1 >>= λ width. fields Short (entry_in binary) (height.0 * width.0) width.1 >>= λ cells. ended Extra (record { rows = rows_of height.0 width.0 cells.0; width = width.0 }) cells.1) m h in
-    let d = bind_ok (field Short (limited 1000 TooManyColumns) b.0.1) (λ (width : ℕ × Text). fields Short (entry_in binary) (b.0.0 * width.0) width.1 >>= λ cells. ended Extra (record { rows = rows_of b.0.0 width.0 cells.0; width = width.0 }) cells.1) m b.2 in
-    let rows = size_found 1000 TooManyRows text b.0 b.1 in
-    let columns = size_found 1000 TooManyColumns b.0.1 d.0 d.1 in
+    let b = bind_ok (field Short (limited MAX_ROWS TooManyRows) text) (λ (height : ℕ × Text). field Short (limited MAX_COLUMNS TooManyColumns) height.1 >>= λ width. fields Short (entry_in binary) (height.0 * width.0) width.1 >>= λ cells. ended Extra (record { rows = rows_of height.0 width.0 cells.0; width = width.0 }) cells.1) m h in
+    let d = bind_ok (field Short (limited MAX_COLUMNS TooManyColumns) b.0.1) (λ (width : ℕ × Text). fields Short (entry_in binary) (b.0.0 * width.0) width.1 >>= λ cells. ended Extra (record { rows = rows_of b.0.0 width.0 cells.0; width = width.0 }) cells.1) m b.2 in
+    let rows = size_found MAX_ROWS TooManyRows text b.0 b.1 in
+    let columns = size_found MAX_COLUMNS TooManyColumns b.0.1 d.0 d.1 in
     let all = entries_found binary b.0.0 d.0.0 d.0.1 m d.2 in
     record {
       height = b.0.0;
@@ -63,8 +64,8 @@ dense_only binary size (h ∷ w ∷ words) m is =
     let hw : h.1 ≡ is.height_word = cc in
     let ww : w.1 ≡ is.width_word = cc in
     let ew : texts_of words ≡ is.entry_words = cc in
-    let height : limited 1000 TooManyRows h.1 ≡ Ok is.height = limited_again 1000 TooManyRows h.1 is.height (ap count_in hw ∙ is.height_is) is.height_in in
-    let width : limited 1000 TooManyColumns w.1 ≡ Ok is.width = limited_again 1000 TooManyColumns w.1 is.width (ap count_in ww ∙ is.width_is) is.width_in in
+    let height : limited MAX_ROWS TooManyRows h.1 ≡ Ok is.height = limited_again MAX_ROWS TooManyRows h.1 is.height (ap count_in hw ∙ is.height_is) is.height_in in
+    let width : limited MAX_COLUMNS TooManyColumns w.1 ≡ Ok is.width = limited_again MAX_COLUMNS TooManyColumns w.1 is.width (ap count_in ww ∙ is.width_is) is.width_in in
     let spell : Spell (entry_in binary) (texts_of words) is.cells = subst (λ ws. Spell (entry_in binary) ws is.cells) (sym ew) is.entries_are in
     let all : fields Short (entry_in binary) (is.height * is.width) (record { size = size; words = words }) ≡ Ok (is.cells, record { size = size; words = [] }) =
     ap (λ n. fields Short (entry_in binary) n (record { size = size; words = words })) (sym is.count)

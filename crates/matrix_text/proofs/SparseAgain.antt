@@ -8,6 +8,7 @@ use Rattle.std.proofs.lemmas.Bool.Decides.{nat_tests}
 use Rattle.std.proofs.lemmas.List.{length-append}
 use Rattle.std.proofs.lemmas.List.Folds.{list_any-append}
 use Rattle.std.proofs.lemmas.List.Sums.{count_by-le-length, sum_by-cons}
+use Rattle.cmr_base.specs.declared.limits.TheConstants.{MAX_COLUMNS, MAX_ROWS}
 use Rattle.cmr_base.specs.Matrix.{Matrix, height, entry, IsMatrix, is_nonzero, nonzeros_of}
 use Rattle.text_fields.specs.Words.{text_of, words_from}
 use Rattle.text_fields.proofs.LineWords.{IsWord, words_in_lines}
@@ -165,7 +166,7 @@ record IsSpelled (binary : Bool) (z : ℤ) : Type 0 where
   word : IsWord (signed_decimal z)
   value : entry_in binary (signed_decimal z) ≡ Ok z
 
-triples_words : (binary : Bool) (height width : ℕ) (triples : List Triple) → height ≤ 1000 → width ≤ 1000 → AllByRecursion (IsPlaced height width) triples → AllByRecursion (λ t. IsSpelled binary t.value) triples → AllByRecursion (AllByRecursion IsWord) (map triple_line triples)
+triples_words : (binary : Bool) (height width : ℕ) (triples : List Triple) → height ≤ MAX_ROWS → width ≤ MAX_COLUMNS → AllByRecursion (IsPlaced height width) triples → AllByRecursion (λ t. IsSpelled binary t.value) triples → AllByRecursion (AllByRecursion IsWord) (map triple_line triples)
 triples_words binary height width [] few_rows few_columns placed spelled = tt
 triples_words binary height width (t ∷ triples) few_rows few_columns placed spelled =
     let p = placed.0 in
@@ -173,7 +174,7 @@ triples_words binary height width (t ∷ triples) few_rows few_columns placed sp
     let column : t.column < 2 ^ 64 = let h = p.column_in in omega arith in
     ((decimal_word t.row row, (decimal_word t.column column, (spelled.0.word, tt))), triples_words binary height width triples few_rows few_columns placed.1 spelled.1)
 
-triples_spelled : (binary : Bool) (height width : ℕ) (triples : List Triple) → height ≤ 1000 → width ≤ 1000 → AllByRecursion (IsPlaced height width) triples → AllByRecursion (λ t. IsSpelled binary t.value) triples → SpellTriples binary (flat_map (λ line. line) (map triple_line triples)) triples
+triples_spelled : (binary : Bool) (height width : ℕ) (triples : List Triple) → height ≤ MAX_ROWS → width ≤ MAX_COLUMNS → AllByRecursion (IsPlaced height width) triples → AllByRecursion (λ t. IsSpelled binary t.value) triples → SpellTriples binary (flat_map (λ line. line) (map triple_line triples)) triples
 triples_spelled binary height width [] few_rows few_columns placed spelled = tt
 triples_spelled binary height width (t ∷ triples) few_rows few_columns placed spelled =
     let p = placed.0 in
@@ -189,7 +190,7 @@ sparse_again binary m shape may =
     let few_columns = shape.width_in in
     let placed = all_placed (height m) m.width 1 m.rows (omega arith) (omega arith) wide in
     let spelled = all_values (IsSpelled binary) 1 m.rows (all_entries (IsSpelled binary) m.rows (λ r k. record { word = entry_word (entry m r k) (shape.small r k); value = entry_in_again binary (entry m r k) (shape.small r k) (λ b. may b r k) })) in
-    let few : nonzeros_of m.rows ≤ 1000 * 1000 = omega (arith, few_nonzeros m.width m.rows wide, mul-le-mul few_rows few_columns) in
+    let few : nonzeros_of m.rows ≤ MAX_ROWS * MAX_COLUMNS = omega (arith, few_nonzeros m.width m.rows wide, mul-le-mul few_rows few_columns) in
     sparse_only binary (length (sparse_text m)) (words_from 0 (sparse_text m)) m (record {
       height = height m;
       width = m.width;

@@ -5,6 +5,7 @@ use Rattle.std.specs.List.{AllByRecursion}
 use Rattle.std.proofs.lemmas.Bool.Decides.{nat_tests}
 use Rattle.std.proofs.lemmas.List.{append-nil}
 use Rattle.std.proofs.lemmas.List.Folds.{list_any-append}
+use Rattle.cmr_base.specs.declared.limits.TheConstants.{MAX_COLUMNS, MAX_ROWS}
 use Rattle.cmr_base.specs.Matrix.{Matrix}
 use Rattle.text_fields.specs.Words.{Text}
 use Rattle.text_fields.specs.Result.{◌>>=◌, renamed}
@@ -181,15 +182,15 @@ three_words a b c words x y rest e f g = rw (e, f, g) refl
 -- what is read is a sparse text
 sparse_found : (binary : Bool) (text : Text) (m : Matrix) → sparse binary text ≡ Ok m → IsSparse binary (texts_of text.words) m
 sparse_found binary text m h =
-    let a = bind_ok (field Short (limited 1000 TooManyRows) text) (λ (height : ℕ × Text). field Short (limited 1000 TooManyColumns) height.1 >>= λ width. field Short count width.1 >>= λ n. matrix_by_triples binary height.0 width.0 n.0 n.1 >>= λ matrix. ended Extra matrix.0 matrix.1) m h in
-    let b = bind_ok (field Short (limited 1000 TooManyColumns) a.0.1) (λ (width : ℕ × Text). field Short count width.1 >>= λ n. matrix_by_triples binary a.0.0 width.0 n.0 n.1 >>= λ matrix. ended Extra matrix.0 matrix.1) m a.2 in
+    let a = bind_ok (field Short (limited MAX_ROWS TooManyRows) text) (λ (height : ℕ × Text). field Short (limited MAX_COLUMNS TooManyColumns) height.1 >>= λ width. field Short count width.1 >>= λ n. matrix_by_triples binary height.0 width.0 n.0 n.1 >>= λ matrix. ended Extra matrix.0 matrix.1) m h in
+    let b = bind_ok (field Short (limited MAX_COLUMNS TooManyColumns) a.0.1) (λ (width : ℕ × Text). field Short count width.1 >>= λ n. matrix_by_triples binary a.0.0 width.0 n.0 n.1 >>= λ matrix. ended Extra matrix.0 matrix.1) m a.2 in
     let d = bind_ok (field Short count b.0.1) (λ (n : ℕ × Text). matrix_by_triples binary a.0.0 b.0.0 n.0 n.1 >>= λ matrix. ended Extra matrix.0 matrix.1) m b.2 in
     go a.0 b.0 d.0 a.1 b.1 d.1 d.2
   where
-    go : (a b d : ℕ × Text) → field Short (limited 1000 TooManyRows) text ≡ Ok a → field Short (limited 1000 TooManyColumns) a.1 ≡ Ok b → field Short count b.1 ≡ Ok d → (matrix_by_triples binary a.0 b.0 d.0 d.1 >>= λ matrix. ended Extra matrix.0 matrix.1) ≡ Ok m → IsSparse binary (texts_of text.words) m
+    go : (a b d : ℕ × Text) → field Short (limited MAX_ROWS TooManyRows) text ≡ Ok a → field Short (limited MAX_COLUMNS TooManyColumns) a.1 ≡ Ok b → field Short count b.1 ≡ Ok d → (matrix_by_triples binary a.0 b.0 d.0 d.1 >>= λ matrix. ended Extra matrix.0 matrix.1) ≡ Ok m → IsSparse binary (texts_of text.words) m
     go a b d ha hb hd h =
-        let height = size_found 1000 TooManyRows text a ha in
-        let width = size_found 1000 TooManyColumns a.1 b hb in
+        let height = size_found MAX_ROWS TooManyRows text a ha in
+        let width = size_found MAX_COLUMNS TooManyColumns a.1 b hb in
         let n = count_found b.1 d hd in
         let all = list_found binary a.0 b.0 d.0 d.1 m h in
         record {
@@ -223,8 +224,8 @@ sparse_only binary size (h ∷ w ∷ n ∷ words) m is =
     let ww : w.1 ≡ is.width_word = cc in
     let nw : n.1 ≡ is.count_word = cc in
     let tw : texts_of words ≡ is.triple_words = cc in
-    let height : limited 1000 TooManyRows h.1 ≡ Ok is.height = limited_again 1000 TooManyRows h.1 is.height (ap count_in hw ∙ is.height_is) is.height_in in
-    let width : limited 1000 TooManyColumns w.1 ≡ Ok is.width = limited_again 1000 TooManyColumns w.1 is.width (ap count_in ww ∙ is.width_is) is.width_in in
+    let height : limited MAX_ROWS TooManyRows h.1 ≡ Ok is.height = limited_again MAX_ROWS TooManyRows h.1 is.height (ap count_in hw ∙ is.height_is) is.height_in in
+    let width : limited MAX_COLUMNS TooManyColumns w.1 ≡ Ok is.width = limited_again MAX_COLUMNS TooManyColumns w.1 is.width (ap count_in ww ∙ is.width_is) is.width_in in
     let number : count n.1 ≡ Ok (length is.triples) = ap (renamed text_kind) (ap count_in nw ∙ is.count_is) in
     let all : times (another_triple binary is.height is.width) (length is.triples) [] (record { size = size; words = words }) ≡ Ok (is.triples, record { size = size; words = [] }) =
     ap (λ ws. times (another_triple binary is.height is.width) (length is.triples) [] (record { size = size; words = ws })) (sym (append-nil words))

@@ -4,6 +4,7 @@ use Rattle.std.specs.Fmt.{decimal}
 use Rattle.std.specs.List.{AllByRecursion}
 use Rattle.std.specs.List.Sorted.{IsStrictlyIncreasing}
 use Rattle.std.proofs.lemmas.List.{append-nil}
+use Rattle.cmr_base.specs.declared.limits.TheConstants.{MAX_COLUMNS, MAX_ROWS}
 use Rattle.cmr_base.specs.LineSets.{AllBelow}
 use Rattle.cmr_base.specs.declared.line_set.LineSet.{LineSet}
 use Rattle.text_fields.specs.Words.{text_of, words_from}
@@ -16,15 +17,15 @@ use Rattle.matrix_text.specs.Canonical.{number_of_line, submatrix_lines, submatr
 use Rattle.matrix_text.proofs.Lines.{rising_count}
 use Rattle.matrix_text.proofs.SubmatrixTexts.{submatrix_only}
 
-line_words : (bound : ℕ) (lines : List ℕ) → bound ≤ 1000 → AllBelow bound lines → AllByRecursion IsWord (map number_of_line lines)
+line_words : (bound : ℕ) (lines : List ℕ) → bound ≤ MAX_ROWS → AllBelow bound lines → AllByRecursion IsWord (map number_of_line lines)
 line_words bound [] few below = tt
 line_words bound (line ∷ lines) few below = (decimal_word (line + 1) (let h = below 0 (omega arith) in omega (arith, h)), line_words bound lines few (λ k h. below (suc k) (omega arith)))
 
-lines_spelled : (bound : ℕ) (lines : List ℕ) → bound ≤ 1000 → AllBelow bound lines → Spell count_in (map number_of_line lines) (numbers_of lines)
+lines_spelled : (bound : ℕ) (lines : List ℕ) → bound ≤ MAX_ROWS → AllBelow bound lines → Spell count_in (map number_of_line lines) (numbers_of lines)
 lines_spelled bound [] few below = tt
 lines_spelled bound (line ∷ lines) few below = (count_of_decimal (line + 1) (let h = below 0 (omega arith) in omega (arith, h)), lines_spelled bound lines few (λ k h. below (suc k) (omega arith)))
 
-pub submatrix_again : (height width : ℕ) (lines : LineSet) → height ≤ 1000 → width ≤ 1000 → IsStrictlyIncreasing lines.rows → IsStrictlyIncreasing lines.columns → AllBelow height lines.rows → AllBelow width lines.columns
+pub submatrix_again : (height width : ℕ) (lines : LineSet) → height ≤ MAX_ROWS → width ≤ MAX_COLUMNS → IsStrictlyIncreasing lines.rows → IsStrictlyIncreasing lines.columns → AllBelow height lines.rows → AllBelow width lines.columns
     → submatrix height width (text_of (submatrix_text height width lines)) ≡ Ok lines
 submatrix_again height width lines few_rows few_columns rows_rise columns_rise rows_in columns_in =
     let row_count = rising_count height lines.rows rows_rise rows_in in

@@ -1,5 +1,6 @@
 -- Dense texts: the sizes, and then the entries row by row.
 use Rattle.std.specs.Prelude.{◌≡◌, ◌≤◌, ◌*◌, ℕ, ℤ, Bool, List, ◌∷◌, length, Result, Ok}
+use Rattle.cmr_base.specs.declared.limits.TheConstants.{MAX_COLUMNS, MAX_ROWS}
 use Rattle.cmr_base.specs.Matrix.{Matrix, rows_of}
 use Rattle.text_fields.specs.Words.{Text}
 use Rattle.text_fields.specs.Result.{◌>>=◌}
@@ -21,8 +22,8 @@ pub record IsDense (binary : Bool) (words : List (List ℕ)) (m : Matrix) : Type
   pub words_are : words ≡ height_word ∷ width_word ∷ entry_words
   pub height_is : count_in height_word ≡ Ok height
   pub width_is : count_in width_word ≡ Ok width
-  pub height_in : height ≤ 1000
-  pub width_in : width ≤ 1000
+  pub height_in : height ≤ MAX_ROWS
+  pub width_in : width ≤ MAX_COLUMNS
   pub entries_are : Spell (entry_in binary) entry_words cells
   pub count : length cells ≡ height * width
   pub matrix : m ≡ record { rows = rows_of height width cells; width = width }
@@ -30,7 +31,7 @@ pub record IsDense (binary : Bool) (words : List (List ℕ)) (m : Matrix) : Type
 -- reading: the matrix that a dense text stands for, or its first fault
 abbrev pub dense : Bool → Text → Result Matrix (Fault TextKind)
 dense binary text = do
-  height ← field Short (limited 1000 TooManyRows) text
-  width ← field Short (limited 1000 TooManyColumns) height.1
+  height ← field Short (limited MAX_ROWS TooManyRows) text
+  width ← field Short (limited MAX_COLUMNS TooManyColumns) height.1
   cells ← fields Short (entry_in binary) (height.0 * width.0) width.1
   ended Extra (record { rows = rows_of height.0 width.0 cells.0; width = width.0 }) cells.1

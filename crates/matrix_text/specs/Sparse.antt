@@ -1,6 +1,7 @@
 -- Sparse texts: the sizes and a count, and then so many triples.
 use Rattle.std.specs.Prelude.{◌≡◌, ◌<◌, ◌≤◌, false, length, ◌==◌, ◌&&◌, ◌++◌, if◌then◌else◌, ℕ, ℤ, pos, Bool, List, [], ◌∷◌, map, Result, Ok}
 use Rattle.std.specs.List.{AllByRecursion, list_any, range_with_len}
+use Rattle.cmr_base.specs.declared.limits.TheConstants.{MAX_COLUMNS, MAX_ROWS}
 use Rattle.cmr_base.specs.Matrix.{Matrix}
 use Rattle.text_fields.specs.Words.{Text}
 use Rattle.text_fields.specs.Result.{◌>>=◌}
@@ -66,8 +67,8 @@ pub record IsSparse (binary : Bool) (words : List (List ℕ)) (m : Matrix) : Typ
   pub words_are : words ≡ height_word ∷ width_word ∷ count_word ∷ triple_words
   pub height_is : count_in height_word ≡ Ok height
   pub width_is : count_in width_word ≡ Ok width
-  pub height_in : height ≤ 1000
-  pub width_in : width ≤ 1000
+  pub height_in : height ≤ MAX_ROWS
+  pub width_in : width ≤ MAX_COLUMNS
   pub count_is : count_in count_word ≡ Ok (length triples)
   pub triples_are : SpellTriples binary triple_words triples
   pub placed : AllByRecursion (IsPlaced height width) triples
@@ -97,8 +98,8 @@ matrix_by_triples binary height width n text = do
 -- reading: the matrix that a sparse text stands for, or its first fault
 abbrev pub sparse : Bool → Text → Result Matrix (Fault TextKind)
 sparse binary text = do
-  height ← field Short (limited 1000 TooManyRows) text
-  width ← field Short (limited 1000 TooManyColumns) height.1
+  height ← field Short (limited MAX_ROWS TooManyRows) text
+  width ← field Short (limited MAX_COLUMNS TooManyColumns) height.1
   n ← field Short count width.1
   matrix ← matrix_by_triples binary height.0 width.0 n.0 n.1
   ended Extra matrix.0 matrix.1

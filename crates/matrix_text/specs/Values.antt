@@ -1,6 +1,5 @@
 -- What the words of matrix texts stand for.
-use Rattle.std.specs.Prelude.{◌≢◌, ◌==◌, nat_le, nat_lt, if◌then◌else◌, ℕ, zero, suc, ℤ, pos, negsuc, Bool, List, Result, Ok, Err}
-use Rattle.cmr_base.specs.Matrix.{Matrix, entry}
+use Rattle.std.specs.Prelude.{◌==◌, nat_le, nat_lt, if◌then◌else◌, ℕ, zero, suc, ℤ, pos, negsuc, Bool, List, Result, Ok, Err}
 use Rattle.text_fields.specs.Result.{◌>>=◌, renamed}
 use Rattle.text_fields.specs.Numbers.{count_in, signed_in}
 use Rattle.matrix_text.specs.declared.error.TextKind.{TextKind}
@@ -54,7 +53,3 @@ abbrev pub entry_in : Bool → List ℕ → Result ℤ TextKind
 entry_in binary word = do
   z ← renamed text_kind (signed_in word)
   allowed binary z
-
--- no entry is -1
-abbrev pub IsBinary : Matrix → Type 0
-IsBinary m = (row column : ℕ) → entry m row column ≢ negsuc 0

@@ -1,13 +1,13 @@
-// Dense texts.
-ghost use Rattle.std.specs.Prelude.{◌≡◌, ◌<◌, ℕ, pos, true, false, length, map, Ok, IfOk, OnOk, slice_index_or};
+ghost use Rattle.std.specs.Prelude.{◌≡◌, ◌<◌, ℕ, pos, true, false, length, map, Ok, IsTrue, IfOk, OnOk, slice_index_or};
 ghost use Rattle.std.specs.Fmt.{signed_decimal};
 ghost use Rattle.cmr_base.specs.Matrix.{Matrix, height, row_of, IsEntry};
+ghost use Rattle.cmr_base.specs.Trees.{IsBinary};
 ghost use Rattle.text_fields.specs.Words.{text_of};
 ghost use Rattle.text_fields.specs.Spelling.{words_in};
 ghost use Rattle.text_fields.specs.Reading.{fields, Gives, Reads};
 ghost use Rattle.text_fields.specs.Written.{with_line};
 ghost use Rattle.matrix_text.specs.declared.error.TextKind.TheVariants.{Short};
-ghost use Rattle.matrix_text.specs.Values.{entry_in, IsBinary};
+ghost use Rattle.matrix_text.specs.Values.{entry_in};
 ghost use Rattle.matrix_text.specs.Dense.{IsDense, dense};
 ghost use Rattle.matrix_text.specs.Canonical.{dense_text};
 
@@ -23,6 +23,8 @@ pub fn read_dense(alloc: Global, bytes: &[u8], binary: bool) -> Result<Matrix, T
     ensures found { IfOk result (IsDense binary (words_in bytes.now)) }
     // A dense text of a matrix is read as this matrix, unless memory runs out.
     ensures only { (m : Matrix) → IsDense binary (words_in bytes.now) m → Gives (λ m. m) result (Ok m) }
+    // Read as 0/1, it is a matrix of zeros and ones.
+    ensures zeros_and_ones { IsTrue binary → IfOk result IsBinary }
     // Which fault is the first.
     ensures exact { Gives (λ m. m) result (dense binary (text_of bytes.now)) }
 {
@@ -37,7 +39,7 @@ fn dense_matrix(alloc: Global, bytes: &[u8], binary: bool) -> Result<Matrix, Tex
     let columns = field::limited(&mut words, MAX_COLUMNS, TextKind::TooManyColumns)?;
     let cells = entries(alloc, &mut words, rows as usize * columns as usize, binary)?;
     words.end(TextKind::Extra)?;
-    Ok(Matrix::from_cells(rows, columns, cells))
+    Ok(Matrix::from_cells(alloc, rows, columns, &cells)?)
 }
 
 fn entries(
@@ -60,7 +62,7 @@ fn entries(
 /// The canonical dense text of a matrix.
 pub fn write_dense(alloc: Global, matrix: &Matrix) -> Result<Vec<u8>, Memory>
     ensures text { IfOk result (λ v. v.items ≡ dense_text matrix.now) }
-    // It is read again as the same matrix, as a 0/1 matrix too where no entry is -1.
+    // It is read again as the same matrix, as a 0/1 matrix too where it is one.
     ensures again { IfOk result (λ v. dense false (text_of v.items) ≡ Ok matrix.now) }
     ensures binary_again { IsBinary matrix.now → IfOk result (λ v. dense true (text_of v.items) ≡ Ok matrix.now) }
 {

@@ -1,4 +1,3 @@
-// What the next word of a text stands for.
 ghost use Rattle.std.specs.Prelude.{◌≤◌, ◌<◌, ◌-◌, ℕ, IfOk, length, slice_index_or, false};
 ghost use Rattle.cmr_base.specs.Matrix.{IsEntry};
 ghost use Rattle.text_fields.specs.Reading.{field, Reads};
@@ -7,6 +6,7 @@ ghost use Rattle.matrix_text.specs.Values.{count, limited, own_size, line_in, ri
 
 use crate::error::{TextError, TextKind};
 use crate::value;
+use cmr_base::MAX_COLUMNS;
 use text_fields::{Words, at_place};
 
 pub fn count(words: &mut Words<'_>) -> Result<u32, TextError>
@@ -55,7 +55,7 @@ pub fn rising_line(
 }
 
 pub fn free_column(words: &mut Words<'_>, taken: &[bool]) -> Result<u32, TextError>
-    requires { length taken.now ≤ 1000 }
+    requires { length taken.now ≤ MAX_COLUMNS }
     ensures read { Reads (λ n. n) words.new result (field Short (free_column_in (length taken.now) (λ n. slice_index_or taken.now (n - 1) false)) words.old) }
     ensures above { IfOk result (λ n. 0 < n) }
     ensures within { IfOk result (λ n. n ≤ length taken.now) }

@@ -1,11 +1,10 @@
-// Sparse texts.
-ghost use Rattle.std.specs.Prelude.{◌≡◌, ◌≤◌, ◌<◌, ◌*◌, ◌+◌, ◌-◌, ℕ, length, map, fold, Ok, IfOk, OnOk, slice_index_or, true, false};
+ghost use Rattle.std.specs.Prelude.{◌≡◌, ◌≤◌, ◌<◌, ◌*◌, ◌+◌, ◌-◌, ℕ, length, map, fold, Ok, IsTrue, IfOk, OnOk, slice_index_or, true, false};
 ghost use Rattle.cmr_base.specs.Matrix.{Matrix, IsEntry, height, row_of};
+ghost use Rattle.cmr_base.specs.Trees.{IsBinary};
 ghost use Rattle.text_fields.specs.Words.{text_of};
 ghost use Rattle.text_fields.specs.Spelling.{words_in};
 ghost use Rattle.text_fields.specs.Reading.{Gives, Reads};
 ghost use Rattle.text_fields.specs.Written.{with_line};
-ghost use Rattle.matrix_text.specs.Values.{IsBinary};
 ghost use Rattle.matrix_text.specs.Sparse.{Triple, IsSparse, sparse, free_place, matrix_by_triples};
 ghost use Rattle.matrix_text.specs.Canonical.{sparse_text, row_triples, triple_line};
 
@@ -22,6 +21,8 @@ pub fn read_sparse(alloc: Global, bytes: &[u8], binary: bool) -> Result<Matrix, 
     ensures found { IfOk result (IsSparse binary (words_in bytes.now)) }
     // A sparse text of a matrix is read as this matrix, unless memory runs out.
     ensures only { (m : Matrix) → IsSparse binary (words_in bytes.now) m → Gives (λ m. m) result (Ok m) }
+    // Read as 0/1, it is a matrix of zeros and ones.
+    ensures zeros_and_ones { IsTrue binary → IfOk result IsBinary }
     // Which fault is the first.
     ensures exact { Gives (λ m. m) result (sparse binary (text_of bytes.now)) }
 {
@@ -62,7 +63,7 @@ fn matrix_by_triples(
         cells[place] = value;
         taken[place] = true;
     }
-    Ok(Matrix::from_cells(rows, columns, cells))
+    Ok(Matrix::from_cells(alloc, rows, columns, &cells)?)
 }
 
 // The row and the column of a place that is not taken.
@@ -89,7 +90,7 @@ fn free_place(
 /// The canonical sparse text of a matrix.
 pub fn write_sparse(alloc: Global, matrix: &Matrix) -> Result<Vec<u8>, Memory>
     ensures text { IfOk result (λ v. v.items ≡ sparse_text matrix.now) }
-    // It is read again as the same matrix, as a 0/1 matrix too where no entry is -1.
+    // It is read again as the same matrix, as a 0/1 matrix too where it is one.
     ensures again { IfOk result (λ v. sparse false (text_of v.items) ≡ Ok matrix.now) }
     ensures binary_again { IsBinary matrix.now → IfOk result (λ v. sparse true (text_of v.items) ≡ Ok matrix.now) }
 {

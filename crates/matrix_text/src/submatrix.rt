@@ -1,4 +1,3 @@
-// Submatrix texts.
 ghost use Rattle.std.specs.Prelude.{◌≡◌, ◌≤◌, false, map, Ok, IfOk, OnOk};
 ghost use Rattle.cmr_base.specs.declared.line_set.LineSet.{LineSet};
 ghost use Rattle.cmr_base.specs.LineSets.{AllBelow};
@@ -99,7 +98,7 @@ pub fn write_submatrix(
 
 // A line of the numbers of some rows or columns.
 fn write_lines(text: &mut Writer, lines: &Indices) -> Result<(), Memory>
-    requires within { AllBelow 1000 lines.now }
+    requires within { AllBelow MAX_ROWS lines.now }
     requires at_start { text.old.is_begun ≡ false }
     ensures { OnOk result (text.new ≡ with_line text.old (map number_of_line lines.now)) }
 {

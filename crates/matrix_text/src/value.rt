@@ -1,9 +1,9 @@
-// What a word of a matrix text stands for.
 ghost use Rattle.std.specs.Prelude.{◌≡◌, ◌≤◌, ◌<◌, ◌-◌, ℕ, IfOk, length, slice_index_or, true, false};
 ghost use Rattle.cmr_base.specs.Matrix.{IsEntry};
 ghost use Rattle.matrix_text.specs.Values.{count, limited, own_size, line_in, rising_line_in, free_column_in, allowed, entry_in};
 
 use crate::error::TextKind;
+use cmr_base::MAX_COLUMNS;
 use text_fields::{count_in, signed_in};
 
 /// A count.
@@ -71,7 +71,7 @@ pub fn rising_line_in(
 
 /// The number of a column that is not taken.
 pub fn free_column_in(word: &[u8], taken: &[bool]) -> Result<u32, TextKind>
-    requires { length taken.now ≤ 1000 }
+    requires { length taken.now ≤ MAX_COLUMNS }
     ensures value { result ≡ free_column_in (length taken.now) (λ n. slice_index_or taken.now (n - 1) false) word.now }
     ensures above { IfOk result (λ n. 0 < n) }
     ensures within { IfOk result (λ n. n ≤ length taken.now) }

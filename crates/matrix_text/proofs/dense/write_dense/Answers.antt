@@ -8,6 +8,7 @@ use Rattle.text_fields.proofs.Lines.{lines_written}
 use Rattle.text_fields.specs.Words.{text_of}
 use Rattle.matrix_text.specs.Dense.{dense}
 use Rattle.matrix_text.proofs.DenseAgain.{dense_again}
+use Rattle.matrix_text.proofs.BinaryTexts.{no_minus}
 use Rattle.matrix_text.proofs.dense.write_dense.Goals as goal
 
 pub returns-clause-text : goal.returns-clause-text
@@ -26,4 +27,4 @@ pub returns-clause-again : goal.returns-clause-again
 returns-clause-again c = ap (λ text. dense false (text_of text)) (returns-clause-text c) ∙ dense_again false c.args.matrix.now c.rows.ensures.shape (λ h. absurd (cc))
 
 pub returns-clause-binary_again : goal.returns-clause-binary_again
-returns-clause-binary_again c = λ is_binary. ap (λ text. dense true (text_of text)) (returns-clause-text c) ∙ dense_again true c.args.matrix.now c.rows.ensures.shape (λ h. is_binary)
+returns-clause-binary_again c = λ is_binary. ap (λ text. dense true (text_of text)) (returns-clause-text c) ∙ dense_again true c.args.matrix.now c.rows.ensures.shape (λ h. no_minus c.args.matrix.now is_binary)

@@ -66,4 +66,4 @@ returns c =
     let now = c.loop.invariant in
     let done = is_done step c.args.count c.loop.counter now.0 c.loop.words total c.loop-test.false now.1 in
     let same = held_matrix c.args.rows c.args.columns c.loop.taken.items c.loop.cells.items now.0 now.2 in
-    rw (done, c.from_cells.ensures) (ap (λ (m : Matrix). Ok (m, c.loop.words)) (sym same))
+    rw (done, c.in_ok-from_cells.ensures, c.deref-2.ensures.value) (ap (λ (m : Matrix). Ok (m, c.loop.words)) (sym same))

@@ -1,4 +1,5 @@
 use Rattle.text_fields.specs.Words.{text_of}
+use Rattle.matrix_text.proofs.BinaryTexts.{sparse_binary}
 use Rattle.matrix_text.proofs.SparseTexts.{found, only}
 use Rattle.matrix_text.proofs.sparse.read_sparse.Goals as goal
 
@@ -7,3 +8,6 @@ returns-clause-found c = found c.args.binary (text_of c.args.bytes.now) c.sparse
 
 pub returns-clause-only : goal.returns-clause-only
 returns-clause-only c = only c.args.binary (text_of c.args.bytes.now) c.sparse_matrix.result c.sparse_matrix.ensures
+
+pub returns-clause-zeros_and_ones : goal.returns-clause-zeros_and_ones
+returns-clause-zeros_and_ones c = sparse_binary c.args.binary (text_of c.args.bytes.now) c.sparse_matrix.result c.sparse_matrix.ensures

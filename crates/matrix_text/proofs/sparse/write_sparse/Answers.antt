@@ -10,6 +10,7 @@ use Rattle.matrix_text.specs.Canonical.{triple_line, row_triples, triples_from}
 use Rattle.text_fields.specs.Words.{text_of}
 use Rattle.matrix_text.specs.Sparse.{sparse}
 use Rattle.matrix_text.proofs.SparseAgain.{sparse_again}
+use Rattle.matrix_text.proofs.BinaryTexts.{no_minus}
 use Rattle.matrix_text.proofs.sparse.write_sparse.Goals as goal
 
 -- the lines of a row before those of the rows behind it
@@ -51,4 +52,4 @@ pub returns-clause-again : goal.returns-clause-again
 returns-clause-again c = ap (λ text. sparse false (text_of text)) (returns-clause-text c) ∙ sparse_again false c.args.matrix.now c.rows.ensures.shape (λ h. absurd (cc))
 
 pub returns-clause-binary_again : goal.returns-clause-binary_again
-returns-clause-binary_again c = λ is_binary. ap (λ text. sparse true (text_of text)) (returns-clause-text c) ∙ sparse_again true c.args.matrix.now c.rows.ensures.shape (λ h. is_binary)
+returns-clause-binary_again c = λ is_binary. ap (λ text. sparse true (text_of text)) (returns-clause-text c) ∙ sparse_again true c.args.matrix.now c.rows.ensures.shape (λ h. no_minus c.args.matrix.now is_binary)
