@@ -78,14 +78,14 @@ module _ (height width : ℕ) (M : ℕ → ℕ → ℤ) (r c : ℕ) (u : IsSign 
     ])
   ]
 
-  rows_after : (R : List ℕ) → AllByRecursion (λ i. i < height) R → AllByRecursion (λ i. IsTernaryRow width (M i)) R → AllByRecursion (λ i. IsTernaryRow width (pivoted M r c i)) R ⊎ HasViolatorIn height width M
+  pub rows_after : (R : List ℕ) → AllByRecursion (λ i. i < height) R → AllByRecursion (λ i. IsTernaryRow width (M i)) R → AllByRecursion (λ i. IsTernaryRow width (pivoted M r c i)) R ⊎ HasViolatorIn height width M
   rows_after [] inside h = inl tt
   rows_after (i ∷ R) inside h = elim (row_after i inside.0 h.0) [
     | inr v ↦ inr v
     | inl one ↦ elim (rows_after R inside.1 h.1) [ inr v ↦ inr v | inl all ↦ inl (one, all) ]
   ]
 
-  violator_back : HasViolatorIn height width (pivoted M r c) → HasViolatorIn height width M
+  pub violator_back : HasViolatorIn height width (pivoted M r c) → HasViolatorIn height width M
   violator_back v = go (split_at 0 width c (odd_times v.columns) (rises-odd_times width v.columns v.columns_in))
     where
       R : List ℕ

@@ -1,8 +1,8 @@
 -- Camion's equivalence.
-use Rattle.std.proofs.Common.{◌≡◌, ◌<◌, inl, inr, ◌∙◌, ℕ, suc, ℤ, pos, ◌+ℤ◌, ◌*ℤ◌, ◌-ℤ◌, List, [], ◌∷◌, length, map, refl, ap, sym, subst, arith}
+use Rattle.std.proofs.Common.{◌≡◌, ◌<◌, ◌↔◌, inl, inr, ◌∙◌, ℕ, suc, ℤ, pos, ◌+ℤ◌, ◌*ℤ◌, ◌-ℤ◌, List, [], ◌∷◌, length, map, refl, ap, sym, subst, arith}
 use Rattle.std.specs.List.{AllByRecursion}
-use Rattle.cmr_base.specs.Matrix.{Matrix, height, entry, IsEntry}
-use Rattle.cmr_base.specs.Signing.{IsSign, signed_sum, IsSigning}
+use Rattle.cmr_base.specs.Matrix.{Matrix, height, entry, IsEntry, HasTernaryEntries}
+use Rattle.cmr_base.specs.Signing.{IsSign, signed_sum, IsSigning, IsTotallyUnimodular}
 use Rattle.cmr_base.specs.Violator.{HasNoViolator}
 use Rattle.cmr_base.specs.Sums.{sum_over, IsEven}
 use Rattle.cmr_base.proofs.Integers.{sums}
@@ -11,7 +11,7 @@ use Rattle.cmr_base.proofs.SumLaws.{sum_over-map, sum_over_same, sum_over-zero}
 use Rattle.cmr_base.proofs.Lists.{all_of, all_both}
 use Rattle.cmr_base.proofs.RisingLists.{rising_below, row_set_rises, column_set_rises, rising_row_set, rising_column_set, odd_times, rises-odd_times}
 use Rattle.cmr_base.proofs.ViolatorLemmas.{violator-odd_times}
-use Rattle.ghouila.specs.Laws.{CamionEquivalence, ViolatorsHaveNoSigning}
+use Rattle.ghouila.specs.Laws.{ViolatorsHaveNoSigning}
 use Rattle.ghouila.proofs.SignedSums.{signed, even_change-signed, four_change-signed, signed-sum_over, even_entry}
 use Rattle.ghouila.proofs.Camion.{SignsPairs, HasViolatorIn, signed_or_violated}
 
@@ -49,7 +49,7 @@ as_many : (pairs : List (ℕ × ℤ)) → length (map (λ p. p.1) pairs) ≡ len
 as_many [] = refl
 as_many (p ∷ pairs) = ap suc (as_many pairs)
 
-signing_of_pairs : (m : Matrix) (rows : List ℕ) → SignsPairs m.width (entry m) rows → (signs : List ℤ) × IsSigning m rows signs
+pub signing_of_pairs : (m : Matrix) (rows : List ℕ) → SignsPairs m.width (entry m) rows → (signs : List ℤ) × IsSigning m rows signs
 signing_of_pairs m rows s = (
   map (λ p. p.1) s.pairs,
   subst (λ (xs : List ℕ). IsSigning m xs (map (λ p. p.1) s.pairs)) s.rows (record {
@@ -98,13 +98,13 @@ unsigned m rows columns is v signs s =
 
 -- ---- both directions
 
-no_violator : (m : Matrix) → HasNoViolator m → HasViolatorIn (height m) m.width (entry m) → ⊥
+pub no_violator : (m : Matrix) → HasNoViolator m → HasViolatorIn (height m) m.width (entry m) → ⊥
 no_violator m free v = free (odd_times v.rows) (odd_times v.columns)
     (rising_row_set m (odd_times v.rows) (rises-odd_times (height m) v.rows v.rows_in))
     (rising_column_set m (odd_times v.columns) (rises-odd_times m.width v.columns v.columns_in))
     (violator-odd_times (entry m) v.rows v.columns v.violator)
 
-pub camion : CamionEquivalence
+pub camion : (m : Matrix) → HasTernaryEntries m → IsTotallyUnimodular m ↔ HasNoViolator m
 camion m small = (
   λ all rows columns row_set column_set v. let s = all rows row_set in unsigned m rows columns column_set v s.0 s.1,
   λ free rows row_set. elim (signed_or_violated (height m) m.width rows (entry m) (rising_below 0 (height m) rows (row_set_rises m rows row_set)) (all_of _ (λ row column l. small row column) rows)) [

@@ -11,16 +11,7 @@ use Rattle.cmr_base.specs.Supports.{AgreeUpToSigns}
 use Rattle.cmr_base.specs.Matrix.{is_nonzero}
 use Rattle.ghouila.proofs.SignProducts.{sign-mul, sign_square, sign_nonzero}
 use Rattle.ghouila.proofs.Ratios.{ratio}
-
-pub nonzero_is : (z : ℤ) → is_nonzero z ≡ true → z ≢ pos 0
-nonzero_is (pos zero) e f = absurd (grind (arith, nat_tests))
-nonzero_is (pos (suc n)) e f = omega (arith, sums)
-nonzero_is (negsuc n) e f = omega (arith, sums)
-
-pub is_nonzero_where : (z : ℤ) → z ≢ pos 0 → is_nonzero z ≡ true
-is_nonzero_where (pos zero) h = absurd (h refl)
-is_nonzero_where (pos (suc n)) h = refl
-is_nonzero_where (negsuc n) h = refl
+use Rattle.cmr_base.proofs.Booleans.{eq_of, is_eq, is_nonzero_is, nonzero_is, true_is_false}
 
 -- f at the greatest number below n that meets the test, and else 1
 abbrev pub pick : (ℕ → Bool) → (ℕ → ℤ) → ℕ → ℤ
@@ -30,9 +21,6 @@ pick test f (suc n) = cond (test n) (f n) (pick test f n)
 abbrev pub found : (ℕ → Bool) → ℕ → Bool
 found test zero = false
 found test (suc n) = cond (test n) true (found test n)
-
-true_false : {A : Type 0} → true ≡ false → A
-true_false e = absurd (subst (λ b. cond b (Unit {0}) ⊥) e tt)
 
 pub pick_unit : (test : ℕ → Bool) (f : ℕ → ℤ) (n : ℕ) → ((c : ℕ) → test c ≡ true → IsSign (f c)) → IsSign (pick test f n)
 pick_unit test f zero h = inl refl
@@ -50,11 +38,11 @@ pick_is test f (suc n) v h c l e = go (test n) refl (λ lt. pick_is test f n v h
     go true z rest = h n z
     go false z rest = elim (cases_lt c n) [
       | inl lt ↦ rest lt
-      | inr ge ↦ let q : c ≡ n = omega arith in true_false (sym e ∙ ap test q ∙ z)
+      | inr ge ↦ let q : c ≡ n = omega arith in true_is_false (sym e ∙ ap test q ∙ z)
     ]
 
 pub found_is : (test : ℕ → Bool) (n : ℕ) → found test n ≡ true → (c : ℕ) × (c < n) × (test c ≡ true)
-found_is test zero e = true_false (sym e)
+found_is test zero e = true_is_false (sym e)
 found_is test (suc n) e = go (test n) refl e (found_is test n)
   where
     go : (b : Bool) → test n ≡ b → cond b true (found test n) ≡ true → (found test n ≡ true → (c : ℕ) × (c < n) × (test c ≡ true)) → (c : ℕ) × (c < suc n) × (test c ≡ true)
@@ -69,21 +57,15 @@ is_found test (suc n) c l e = go (test n) refl (λ lt. is_found test n c lt e)
     go true z rest = refl
     go false z rest = elim (cases_lt c n) [
       | inl lt ↦ rest lt
-      | inr ge ↦ let q : c ≡ n = omega arith in true_false (sym e ∙ ap test q ∙ z)
+      | inr ge ↦ let q : c ≡ n = omega arith in true_is_false (sym e ∙ ap test q ∙ z)
     ]
 
 and_both : (a b : Bool) → cond a b false ≡ true → (a ≡ true) × (b ≡ true)
 and_both true b e = (refl, e)
-and_both false b e = true_false (sym e)
+and_both false b e = true_is_false (sym e)
 
 both_and : (a b : Bool) → a ≡ true → b ≡ true → cond a b false ≡ true
 both_and a b e f = rw (e, f) refl
-
-same_is : (a b : ℕ) → nat_eq a b ≡ true → a ≡ b
-same_is a b e = grind (arith, nat_tests)
-
-is_same : (a b : ℕ) → a ≡ b → nat_eq a b ≡ true
-is_same a b e = grind (arith, nat_tests)
 
 module _ (n : ℕ) (M N : ℕ → ℕ → ℤ)
     (small_m : (i j : ℕ) → IsEntry (M i j)) (small_n : (i j : ℕ) → IsEntry (N i j))
@@ -177,10 +159,10 @@ module _ (n : ℕ) (M N : ℕ → ℕ → ℤ)
     hit p c = cond (is_nonzero (M t c)) (nat_eq (f.part c) p) false
 
     hit_is : (p c : ℕ) → hit p c ≡ true → (M t c ≢ pos 0) × (f.part c ≡ p)
-    hit_is p c e = let w = and_both (is_nonzero (M t c)) (nat_eq (f.part c) p) e in (nonzero_is (M t c) w.0, same_is (f.part c) p w.1)
+    hit_is p c e = let w = and_both (is_nonzero (M t c)) (nat_eq (f.part c) p) e in (nonzero_is (M t c) w.0, eq_of (f.part c) p w.1)
 
     is_hit : (p c : ℕ) → M t c ≢ pos 0 → f.part c ≡ p → hit p c ≡ true
-    is_hit p c h e = both_and (is_nonzero (M t c)) (nat_eq (f.part c) p) (is_nonzero_where (M t c) h) (is_same (f.part c) p e)
+    is_hit p c h e = both_and (is_nonzero (M t c)) (nat_eq (f.part c) p) (is_nonzero_is (M t c) h) (is_eq (f.part c) p e)
 
     -- what the columns of part p are multiplied by
     factor : ℕ → ℤ
@@ -261,8 +243,8 @@ module _ (n : ℕ) (M N : ℕ → ℕ → ℤ)
           go : (x y : Bool) → met (f.part a) ≡ x → met (f.part b) ≡ y → cond x (f.part c0) (f.part a) ≡ cond y (f.part c0) (f.part b) → Walk (suc t) a b
           go true true p q e = through (met_is (f.part a) p) (met_is (f.part b) q)
           go false false p q e = walk a b e
-          go true false p q e = true_false (sym (is_met c0 first) ∙ ap met e ∙ q)
-          go false true p q e = true_false (sym (is_met c0 first) ∙ ap met (sym e) ∙ p)
+          go true false p q e = true_is_false (sym (is_met c0 first) ∙ ap met e ∙ q)
+          go false true p q e = true_is_false (sym (is_met c0 first) ∙ ap met (sym e) ∙ p)
 
     no_row : ((c : ℕ) → M t c ≡ pos 0) → Fitted (suc t)
     no_row none = record {
@@ -289,7 +271,7 @@ module _ (n : ℕ) (M N : ℕ → ℕ → ℤ)
         zero_or : (c : ℕ) → found (λ c. is_nonzero (M t c)) n ≡ false → M t c ≡ pos 0
         zero_or c e = elim (zero_or_sign (M t c) (small_m t c)) [
           | inl z ↦ z
-          | inr u ↦ let h = sign_nonzero (M t c) u in true_false (sym (is_found (λ c. is_nonzero (M t c)) n c (ends t c h) (is_nonzero_where (M t c) h)) ∙ e)
+          | inr u ↦ let h = sign_nonzero (M t c) u in true_is_false (sym (is_found (λ c. is_nonzero (M t c)) n c (ends t c h) (is_nonzero_is (M t c) h)) ∙ e)
         ]
 
         go : (b : Bool) → found (λ c. is_nonzero (M t c)) n ≡ b → Fitted (suc t)
@@ -313,7 +295,7 @@ module _ (n : ℕ) (M N : ℕ → ℕ → ℤ)
         entries = λ i j. elim (zero_or_sign (M i j) (small_m i j)) [
           | inl z ↦ rw (z, back i j z) (sym (plain_zero (pick (λ c. is_nonzero (M i c)) (ratio M N f.s i) n) (f.s j)))
           | inr u ↦ let h = sign_nonzero (M i j) u in
-              rw (pick_is (λ c. is_nonzero (M i c)) (ratio M N f.s i) n (ratio M N f.s i j) (λ c e. f.rows i (rows_end i j h) c j (nonzero_is (M i c) e) h) j (ends i j h) (is_nonzero_where (M i j) h))
+              rw (pick_is (λ c. is_nonzero (M i c)) (ratio M N f.s i) n (ratio M N f.s i j) (λ c e. f.rows i (rows_end i j h) c j (nonzero_is (M i c) e) h) j (ends i j h) (is_nonzero_is (M i j) h))
               (plain (M i j) (f.s j) (N i j) u (f.units j) (unit_n i j (same i j h)))
         ];
       }

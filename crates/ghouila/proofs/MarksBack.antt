@@ -1,11 +1,16 @@
 -- A marked violator on some rows, with one row more.
-use Rattle.std.proofs.Common.{◌≡◌, ◌≢◌, ◌<◌, ◌∙◌, inl, inr, ℕ, Bool, true, false, ℤ, pos, negsuc, neg_ℤ, ◌+ℤ◌, ◌*ℤ◌, ◌-ℤ◌, List, ◌∷◌, length, get_or, set, refl, ap, sym, subst, arith}
+use Rattle.std.proofs.Common.{◌≡◌, ◌≢◌, ◌<◌, ◌∙◌, inl, inr, ℕ, Bool, true, false, nat_eq, ℤ, pos, negsuc, neg_ℤ, ◌+ℤ◌, ◌*ℤ◌, ◌-ℤ◌, List, ◌∷◌, length, get_or, set, refl, ap, sym, subst, arith}
 use Rattle.std.specs.List.{AllByRecursion, Contains}
-use Rattle.std.proofs.lemmas.Bool.{cases_eq}
+use Rattle.std.specs.Prelude.{◌↔◌, ◌==◌, if◌then◌else◌}
+use mathlib.Core.Path.{ap₂}
+use Rattle.std.proofs.lemmas.Bool.{cases_eq, false≢true}
+use Rattle.std.proofs.lemmas.Bool.Decides.{nat_tests}
 use Rattle.std.proofs.lemmas.List.{get_or-set_same, get_or-set_other, length-set}
 use Rattle.cmr_base.specs.Matrix.{Matrix, height, entry}
 use Rattle.cmr_base.specs.Signing.{IsSign}
-use Rattle.cmr_base.specs.Sums.{sum_over, IsEven}
+use Rattle.cmr_base.specs.Sums.{sum_over, IsEven, IsOdd}
+use Rattle.cmr_base.specs.Members.{IsIn}
+use Rattle.cmr_base.proofs.Parity.{even_not_odd}
 use Rattle.cmr_base.specs.Violator.{IsViolator}
 use Rattle.cmr_base.proofs.Integers.{sums, products}
 use Rattle.cmr_base.proofs.SumLaws.{sum_over_same}
@@ -16,6 +21,8 @@ use Rattle.ghouila.specs.Pivot.{IsOutside, pivoted, PivotsRows}
 use Rattle.ghouila.specs.Found.{HasParity, marked, bit, MarksViolator, MarksAnew}
 use Rattle.ghouila.proofs.PivotSums.{sum_over_column, sum_over_pivot_column}
 use Rattle.ghouila.proofs.PivotBack.{IsViolatorAfter, violator_after, violator_before, sign_and_odd}
+use Rattle.ghouila.specs.SignRuns.{IsTakenBack}
+use Rattle.ghouila.proofs.MarkedMembers.{iff_then, in_set_same, in_set_other}
 use Rattle.ghouila.proofs.Marks.{joined, all_marked, marked_rises, unmarked_apart, set_unmarked, set_same_mark}
 
 -- among more rows
@@ -86,6 +93,22 @@ sum_joined false row fewer more f join = none (f row) (sum_over fewer f) ∙ sym
     none : (x y : ℤ) → pos 0 *ℤ x +ℤ y ≡ y
     none x y = simp products (omega (arith, sums))
 
+one_there : (column : ℕ) (f : ℕ → ℤ) → (if column == column then pos 1 else f column) ≡ pos 1
+one_there column f = rw (same column) refl
+  where
+    same : (c : ℕ) → nat_eq c c ≡ true
+    same c = grind (arith, nat_tests)
+
+other_there : (column : ℕ) (f : ℕ → ℤ) (j : ℕ) → j ≢ column → (if j == column then pos 1 else f j) ≡ f j
+other_there column f j h = rw (apart j column h) refl
+  where
+    apart : (j c : ℕ) → j ≢ c → nat_eq j c ≡ false
+    apart j c h = grind (arith, nat_tests)
+
+parity_odd : (odd : Bool) (z : ℤ) → HasParity odd z → (odd ≡ true) ↔ IsOdd z
+parity_odd true z p = (λ e. p, λ q. refl)
+parity_odd false z p = (λ e. absurd (false≢true e), λ q. absurd (even_not_odd z p q))
+
 -- before a pivot
 module _ (before after : Matrix) (row column : ℕ) (left : List ℕ) (row_in : row < height before) (column_in : column < before.width) (out : IsOutside row left) (u : IsSign (entry before row column))
     (same_height : height after ≡ height before) (same_width : after.width ≡ before.width) (pivots : PivotsRows before after row column left)
@@ -148,4 +171,26 @@ module _ (before after : Matrix) (row column : ℕ) (left : List ℕ) (row_in : 
           (column_parity g_odd (get_or odd j false) (entry before row column) (sum_over (marked rows) (λ r. entry before r column)) (entry before row j) (sum_over (marked rows) (λ r. entry before r j)) u g_parity
           (subst (HasParity (get_or odd j false)) (column_sum j h ∙ sum_over_column (entry before) row column j (marked rows) other) (v.parity j (omega arith)))))
     ];
+  }
+
+  counted : sum_over (marked columns) (λ j. if j == column then pos 1 else entry before row j) ≡ sum_over (marked (set columns column false)) (entry before row) +ℤ bit (get_or columns column false)
+  counted =
+      sym (sum_joined (get_or columns column false) column (marked (set columns column false)) (marked columns) (λ j. if j == column then pos 1 else entry before row j)
+      (subst (λ marks. IsJoined (get_or columns column false) column (marked (set columns column false)) (marked marks)) (set_same_mark columns column) (joined (get_or columns column false) columns column (let w = v.column_each in omega arith))))
+      ∙ ap₂ (λ (a b : ℤ). bit (get_or columns column false) *ℤ a +ℤ b) (one_there column (entry before row))
+      (sum_over_same (marked (set columns column false)) (λ j. if j == column then pos 1 else entry before row j) (entry before row)
+      (all_weaker (λ j. j ≢ column) (λ j. (if j == column then pos 1 else entry before row j) ≡ entry before row j) (other_there column (entry before row)) (marked (set columns column false)) (unmarked_apart 0 columns column column (omega arith))))
+      ∙ turned (bit (get_or columns column false)) (sum_over (marked (set columns column false)) (entry before row))
+    where
+      turned : (x y : ℤ) → x *ℤ pos 1 +ℤ y ≡ y +ℤ x
+      turned x y = simp products (omega (arith, sums))
+
+  pub taken_back : IsTakenBack before row column (marked rows) (marked columns) (marked (set rows row g_odd)) (marked columns')
+  taken_back = record {
+    row_there = iff_then (in_set_same rows row g_odd (let h = v.row_each in omega arith)) (parity_odd g_odd (sum_over (marked rows) (λ r. entry before r column)) g_parity);
+    other_rows = λ i apart. in_set_other rows row i g_odd apart;
+    column_there = subst (λ marks. IsIn column (marked marks) ↔ IsOdd (sum_over (marked columns) (λ j. if j == column then pos 1 else entry before row j))) (sym anew.new_is)
+        (iff_then (in_set_same columns column anew.mark (let w = v.column_each in omega arith))
+        (parity_odd anew.mark (sum_over (marked columns) (λ j. if j == column then pos 1 else entry before row j)) (subst (HasParity anew.mark) (sym counted) anew.parity)));
+    other_columns = λ j apart. subst (λ marks. IsIn j (marked marks) ↔ IsIn j (marked columns)) (sym anew.new_is) (in_set_other columns column j anew.mark apart);
   }

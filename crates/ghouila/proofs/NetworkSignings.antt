@@ -4,19 +4,21 @@ use Rattle.std.specs.List.{AllByRecursion}
 use Rattle.std.proofs.lemmas.Bool.Decides.{nat_tests}
 use Rattle.std.proofs.lemmas.List.{length-map}
 use Rattle.cmr_base.specs.declared.network.Pair.{Pair}
-use Rattle.cmr_base.specs.Matrix.{Matrix, entry, height, transposed, IsEntry}
+use Rattle.cmr_base.specs.Matrix.{Matrix, entry, height, transposed, IsEntry, IsMatrix}
 use Rattle.cmr_base.specs.Members.{IsIn, IsDistinct}
 use Rattle.cmr_base.specs.Signing.{IsSign, signed_sum, IsTotallyUnimodular}
 use Rattle.cmr_base.specs.Sums.{sum_over}
 use Rattle.cmr_base.specs.Cuts.{differ, bit}
-use Rattle.cmr_base.specs.Trees.{WalkStep, tail, head, from, to, IsWalk, IsTree, arcs_of, direction, IsNetworkMatrix}
-use Rattle.cmr_base.proofs.Integers.{sums, products}
+use Rattle.cmr_base.specs.Trees.{WalkStep, tail, head, from, to, IsWalk, IsTree, arcs_of, direction, IsNetworkMatrix, IsConetworkMatrix}
+use Rattle.cmr_base.proofs.Integers.{sums, products, mul-zero}
 use Rattle.cmr_base.proofs.SumLaws.{sum_over-add, sum_over-zero, sum_over_same}
 use Rattle.cmr_base.proofs.Members.{all_in, all_of_members, rising_distinct}
 use Rattle.cmr_base.proofs.RisingLists.{row_set_rises}
-use Rattle.cmr_base.proofs.Parts.{is_matrix-transposed}
+use Rattle.cmr_base.proofs.Parts.{is_ternary-transposed}
 use Rattle.cmr_base.proofs.RowLists.{same_or_not, in_or_not, is_eq, is_ne}
-use Rattle.cmr_base.proofs.TransposedLemmas.{none_from_transposed}
+use Rattle.cmr_base.proofs.TransposedLemmas.{none_from_turned}
+use Rattle.cmr_base.proofs.WholeMatrices.{is_ternary}
+use Rattle.cmr_base.specs.Violator.{HasNoViolator}
 use Rattle.cmr_base.proofs.TreeCuts.{tail_side, tail_side_kept, tail_side-tail, tail_side-head}
 use Rattle.ghouila.specs.NetworkLaws.{NetworkMatricesAreUnimodular, ConetworkMatricesAreUnimodular}
 use Rattle.ghouila.proofs.CamionLaw.{camion}
@@ -43,9 +45,6 @@ one_there (x ∷ rows) f a d o (inr h) = rw (is_ne x a (λ e. o.0 (subst (λ (z 
 
 same_at_members : (rows : List ℕ) (f g : ℕ → ℤ) → ((r : ℕ) → IsIn r rows → f r ≡ g r) → sum_over rows f ≡ sum_over rows g
 same_at_members rows f g h = sum_over_same rows f g (all_of_members (λ r. f r ≡ g r) rows h)
-
-times_zero : (x : ℤ) → x *ℤ pos 0 ≡ pos 0
-times_zero x = simp products
 
 no_difference : (b : Bool) → pos 0 ≡ bit b -ℤ bit b
 no_difference true = refl
@@ -122,7 +121,7 @@ module _ (arcs : List Pair) (m : ℕ) (T : IsTree arcs m) where
   -- the signed sum along a path is the difference of the colours of its ends
   telescope : (rows : List ℕ) → IsDistinct rows → (x : ℕ) (steps : List WalkStep) (y : ℕ) → IsWalk arcs x steps y → IsDistinct (arcs_of steps)
       → sum_over rows (λ r. sign rows r *ℤ direction steps r) ≡ bit (colour rows y) -ℤ bit (colour rows x)
-  telescope rows d x [] y w o = same_at_members rows (λ r. sign rows r *ℤ pos 0) (λ r. pos 0) (λ r h. times_zero (sign rows r)) ∙ sum_over-zero rows ∙ no_difference (colour rows y) ∙ ap (λ (z : ℕ). bit (colour rows y) -ℤ bit (colour rows z)) (sym w)
+  telescope rows d x [] y w o = same_at_members rows (λ r. sign rows r *ℤ pos 0) (λ r. pos 0) (λ r h. mul-zero (sign rows r)) ∙ sum_over-zero rows ∙ no_difference (colour rows y) ∙ ap (λ (z : ℕ). bit (colour rows y) -ℤ bit (colour rows z)) (sym w)
   telescope rows d x (s ∷ steps) y w o =
       same_at_members rows (λ r. sign rows r *ℤ direction (s ∷ steps) r) (λ r. sign rows r *ℤ cond (nat_eq r a) (cond e (pos 1) (negsuc 0)) (pos 0) +ℤ sign rows r *ℤ direction steps r) (λ r h. split r)
       ∙ sum_over-add rows (λ r. sign rows r *ℤ cond (nat_eq r a) (cond e (pos 1) (negsuc 0)) (pos 0)) (λ r. sign rows r *ℤ direction steps r)
@@ -212,12 +211,18 @@ network_signing m net rows is = (
         same_at_members rows (λ r. s r *ℤ entry m r column) (λ r. s r *ℤ direction path.steps r) (λ r h. ap (λ (z : ℤ). s r *ℤ z) (path.exact r (low r h)))
         ∙ telescope net.0.arcs (height m) net.1.network.tree rows once (tail net.0.walks column) path.steps (head net.0.walks column) path.walk path.once
 
-pub network_matrices : NetworkMatricesAreUnimodular
-network_matrices m is net =
+pub networks_are_unimodular : NetworkMatricesAreUnimodular
+networks_are_unimodular m is net =
     let signed = network_signing m net in
     (signed, (camion m is.small).0 signed)
 
-pub conetwork_matrices : ConetworkMatricesAreUnimodular
-conetwork_matrices m is net =
-    let none = none_from_transposed m is (network_matrices (transposed m) (is_matrix-transposed m is) net).1 in
+pub conetworks_are_unimodular : ConetworkMatricesAreUnimodular
+conetworks_are_unimodular m is net =
+    let none = none_from_turned m is.rectangular (networks_are_unimodular (transposed m) (is_ternary-transposed m is) net).1 in
     ((camion m is.small).1 none, none)
+
+pub network_matrices : (m : Matrix) → IsMatrix m → IsNetworkMatrix m → IsTotallyUnimodular m × HasNoViolator m
+network_matrices m is = networks_are_unimodular m (is_ternary m is)
+
+pub conetwork_matrices : (m : Matrix) → IsMatrix m → IsConetworkMatrix m → IsTotallyUnimodular m × HasNoViolator m
+conetwork_matrices m is = conetworks_are_unimodular m (is_ternary m is)

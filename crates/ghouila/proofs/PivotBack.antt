@@ -11,6 +11,7 @@ use Rattle.cmr_base.proofs.Lists.{HasOneMore, IsJoined, all_of, all_weaker, all_
 use Rattle.ghouila.specs.Pivot.{pivoted}
 use Rattle.ghouila.specs.Found.{HasParity, bit}
 use Rattle.ghouila.proofs.PivotSums.{pivoted_at, sum_over_row, sum_over_column, sum_over_pivot_column}
+use Rattle.cmr_base.proofs.SignEntries.{sign_square}
 
 -- a violator on R and C after the pivot at r and c, with the column c counted apart: t where it was there
 pub record IsViolatorAfter (M : ℕ → ℕ → ℤ) (r c : ℕ) (R C : List ℕ) (t : Bool) : Type 0 where
@@ -29,10 +30,6 @@ odd_by_sign a h (inr e) (k, f) = (pos 1 -ℤ k, rw e (simp products (omega (arit
 pub sign_and_odd : (a h : ℤ) → IsSign a → IsOdd h → IsEven (a +ℤ h)
 sign_and_odd a h (inl e) (k, f) = (k, rw e (omega (arith, sums)))
 sign_and_odd a h (inr e) (k, f) = (k -ℤ pos 1, rw e (omega (arith, sums)))
-
-pub square : (a : ℤ) → IsSign a → a *ℤ a ≡ pos 1
-square a (inl e) = rw e refl
-square a (inr e) = rw e refl
 
 line_even : (a p h x : ℤ) → IsEven h → IsEven (x -ℤ a *ℤ (p *ℤ h)) → IsEven x
 line_even a p h x e after = subst IsEven (back a p h x) (even-add (x -ℤ a *ℤ (p *ℤ h)) (a *ℤ (p *ℤ h)) after (even-mul_right a (p *ℤ h) (even-mul_right p h e)))
@@ -65,7 +62,7 @@ total_odd_even a g h x e f two = total_even_odd a h g x f e (subst IsTwoModFour 
     turned a g h x = simp products
 
 total_odd_odd : (a g h x : ℤ) → IsSign a → IsEven (a *ℤ g +ℤ pos 1) → IsEven (a *ℤ h +ℤ pos 1) → IsTwoModFour (x -ℤ a *ℤ (g *ℤ h)) → IsTwoModFour ((a +ℤ h) +ℤ (g +ℤ x))
-total_odd_odd a g h x u e f two = subst IsTwoModFour (back a g h x (square a u)) (two_mod_four-add (x -ℤ a *ℤ (g *ℤ h)) (a *ℤ ((a *ℤ g +ℤ pos 1) *ℤ (a *ℤ h +ℤ pos 1))) two
+total_odd_odd a g h x u e f two = subst IsTwoModFour (back a g h x (sign_square a u)) (two_mod_four-add (x -ℤ a *ℤ (g *ℤ h)) (a *ℤ ((a *ℤ g +ℤ pos 1) *ℤ (a *ℤ h +ℤ pos 1))) two
     (four-mul_right a ((a *ℤ g +ℤ pos 1) *ℤ (a *ℤ h +ℤ pos 1)) (four-mul_evens (a *ℤ g +ℤ pos 1) (a *ℤ h +ℤ pos 1) e f)))
   where
     back : (a g h x : ℤ) → a *ℤ a ≡ pos 1 → (x -ℤ a *ℤ (g *ℤ h)) +ℤ a *ℤ ((a *ℤ g +ℤ pos 1) *ℤ (a *ℤ h +ℤ pos 1)) ≡ (a +ℤ h) +ℤ (g +ℤ x)

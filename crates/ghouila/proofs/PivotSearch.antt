@@ -3,13 +3,13 @@ use Rattle.std.proofs.Common.{◌≡◌, ◌<◌, ◌≤◌, ◌+◌, ◌∙◌,
 use Rattle.std.specs.Prelude.{IfSome, IfNone, is_some}
 use Rattle.std.specs.List.{AllByRecursion}
 use Rattle.std.proofs.lemmas.Bool.{false≢true}
-use Rattle.std.proofs.lemmas.List.{take_more, take_all}
+use Rattle.std.proofs.lemmas.List.{take_more, take_all, get_or-take, length-take}
 use Rattle.cmr_base.specs.Matrix.{Matrix, entry}
 use Rattle.cmr_base.specs.Signing.{IsSign}
 use Rattle.cmr_base.specs.Sums.{sum_over, IsEven, IsOdd}
 use Rattle.cmr_base.proofs.Integers.{sums}
 use Rattle.cmr_base.proofs.SumLaws.{sum_over-append}
-use Rattle.cmr_base.proofs.Lists.{all-append}
+use Rattle.cmr_base.proofs.Lists.{all-append, all_at}
 use Rattle.ghouila.specs.Pivot.{IsPivot, HasNoPivot}
 use Rattle.ghouila.specs.Found.{HasParity}
 
@@ -37,6 +37,7 @@ pub record IsScanned (m : Matrix) (rows : List ℕ) (column k : ℕ) (first : Op
   pub parity : HasParity odd (sum_over (take k rows) (λ row. entry m row column))
   pub found : IfSome first (λ place. (place < length rows) × IsSign (entry m (get_or rows place 0) column))
   pub none : IfNone first (AllByRecursion (λ row. entry m row column ≡ pos 0) (take k rows))
+  pub earlier : IfSome first (λ place. (i : ℕ) → i < place → entry m (get_or rows i 0) column ≡ pos 0)
 
 module _ (m : Matrix) (rows : List ℕ) (column k : ℕ) (inside : k < length rows) where
   pub scanned_zero : (first now : Option ℕ) (odd now_odd : Bool) → now ≡ first → now_odd ≡ odd → entry m (get_or rows k 0) column ≡ pos 0 → IsScanned m rows column k first odd → IsScanned m rows column (k + 1) now now_odd
@@ -44,6 +45,7 @@ module _ (m : Matrix) (rows : List ℕ) (column k : ℕ) (inside : k < length ro
     parity = subst (HasParity odd) (sym (sum_over_more rows k (λ row. entry m row column) inside)) (parity-add_zero odd (sum_over (take k rows) (λ row. entry m row column)) (entry m (get_or rows k 0) column) e s.parity);
     found = s.found;
     none = go first s.none;
+    earlier = s.earlier;
   })
     where
       go : (first : Option ℕ) → IfNone first (AllByRecursion (λ row. entry m row column ≡ pos 0) (take k rows)) → IfNone first (AllByRecursion (λ row. entry m row column ≡ pos 0) (take (k + 1) rows))
@@ -54,14 +56,20 @@ module _ (m : Matrix) (rows : List ℕ) (column k : ℕ) (inside : k < length ro
   parity_after odd u p = subst (HasParity (not odd)) (sym (sum_over_more rows k (λ row. entry m row column) inside)) (parity-add_sign odd (sum_over (take k rows) (λ row. entry m row column)) (entry m (get_or rows k 0) column) u p)
 
   pub scanned_first : (first now : Option ℕ) (odd now_odd : Bool) → is_some first ≡ false → now ≡ Some k → now_odd ≡ not odd → IsSign (entry m (get_or rows k 0) column) → IsScanned m rows column k first odd → IsScanned m rows column (k + 1) now now_odd
-  scanned_first first now odd now_odd none e f u s = rw (e, f) (record { parity = parity_after odd u s.parity; found = (inside, u); none = tt })
+  scanned_first None now odd now_odd none e f u s = rw (e, f) (record {
+    parity = parity_after odd u s.parity;
+    found = (inside, u);
+    none = tt;
+    earlier = λ i h. subst (λ row. entry m row column ≡ pos 0) (get_or-take k rows i 0 h) (all_at (λ row. entry m row column ≡ pos 0) (take k rows) i 0 s.none (omega (arith, length-take k rows)));
+  })
+  scanned_first (Some place) now odd now_odd none e f u s = absurd (false≢true (sym none))
 
   pub scanned_more : (first now : Option ℕ) (odd now_odd : Bool) → is_some first ≡ true → now ≡ first → now_odd ≡ not odd → IsSign (entry m (get_or rows k 0) column) → IsScanned m rows column k first odd → IsScanned m rows column (k + 1) now now_odd
   scanned_more None now odd now_odd some e f u s = absurd (false≢true some)
-  scanned_more (Some place) now odd now_odd some e f u s = rw (e, f) (record { parity = parity_after odd u s.parity; found = s.found; none = tt })
+  scanned_more (Some place) now odd now_odd some e f u s = rw (e, f) (record { parity = parity_after odd u s.parity; found = s.found; none = tt; earlier = s.earlier })
 
 pub scanned_nothing : (m : Matrix) (rows : List ℕ) (column : ℕ) → IsScanned m rows column 0 None false
-scanned_nothing m rows column = record { parity = (pos 0, refl); found = tt; none = tt }
+scanned_nothing m rows column = record { parity = (pos 0, refl); found = tt; none = tt; earlier = tt }
 
 pub scanned_odd : (m : Matrix) (rows : List ℕ) (column k : ℕ) (first : Option ℕ) → length rows ≤ k → IsScanned m rows column k first true → HasNoPivot m rows column
 scanned_odd m rows column k first h s = inr (subst (λ xs. IsOdd (sum_over xs (λ row. entry m row column))) (take_all k rows h) s.parity)

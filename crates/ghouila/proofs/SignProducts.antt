@@ -4,16 +4,7 @@ use Rattle.cmr_base.specs.Signing.{IsSign}
 use Rattle.cmr_base.specs.Sums.{IsTwoModFour}
 use Rattle.cmr_base.proofs.Integers.{sums, products, mul_comm}
 use Rattle.cmr_base.proofs.Parity.{IsFour}
-
-pub sign-mul : (x y : ℤ) → IsSign x → IsSign y → IsSign (x *ℤ y)
-sign-mul x y (inl e) (inl f) = rw (e, f) (inl refl)
-sign-mul x y (inl e) (inr f) = rw (e, f) (inr refl)
-sign-mul x y (inr e) (inl f) = rw (e, f) (inr refl)
-sign-mul x y (inr e) (inr f) = rw (e, f) (inl refl)
-
-pub sign_square : (x : ℤ) → IsSign x → x *ℤ x ≡ pos 1
-sign_square x (inl e) = rw e refl
-sign_square x (inr e) = rw e refl
+pub use Rattle.cmr_base.proofs.SignEntries.{sign-mul, sign_nonzero, sign_square}
 
 -- a sum of two signs is 2 modulo 4 where they are equal, and else 0
 pub pair_kind : (x y : ℤ) → IsSign x → IsSign y → ((x ≡ y) × IsTwoModFour (x +ℤ y)) ⊎ ((x ≡ neg_ℤ y) × (x +ℤ y ≡ pos 0))
@@ -57,7 +48,3 @@ signs_stable x y (inl e) (inl f) h = e ∙ sym f
 signs_stable x y (inr e) (inr f) h = e ∙ sym f
 signs_stable x y (inl e) (inr f) h = absurd (h (λ g. omega (arith, sums)))
 signs_stable x y (inr e) (inl f) h = absurd (h (λ g. omega (arith, sums)))
-
-pub sign_nonzero : (z : ℤ) → IsSign z → z ≡ pos 0 → ⊥
-sign_nonzero z (inl e) f = omega (arith, sums)
-sign_nonzero z (inr e) f = omega (arith, sums)

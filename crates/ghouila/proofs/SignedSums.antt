@@ -10,23 +10,10 @@ use Rattle.cmr_base.proofs.SumLaws.{sum_over-scale, sum_over-exchange, sum_over_
 use Rattle.cmr_base.proofs.Lists.{all_of}
 use Rattle.ghouila.specs.Pivot.{pivoted}
 use Rattle.ghouila.proofs.PivotSums.{pivoted_apart, pivoted_at}
+pub use Rattle.cmr_base.proofs.SignEntries.{zero_is_entry as entry_zero, sign_is_entry, zero_or_sign}
 
 abbrev pub signed : {A : Type 0} → (A → ℤ) → List A → (A → ℤ) → ℤ
 signed sign xs f = sum_over xs (λ x. sign x *ℤ f x)
-
-pub entry_zero : IsEntry (pos 0)
-entry_zero = record { low = omega (arith, sums); high = omega (arith, sums) }
-
-pub sign_is_entry : (z : ℤ) → IsSign z → IsEntry z
-sign_is_entry z (inl e) = record { low = omega (arith, sums); high = omega (arith, sums) }
-sign_is_entry z (inr e) = record { low = omega (arith, sums); high = omega (arith, sums) }
-
-pub zero_or_sign : (z : ℤ) → IsEntry z → (z ≡ pos 0) ⊎ IsSign z
-zero_or_sign (pos zero) h = inl refl
-zero_or_sign (pos (suc zero)) h = inr (inl refl)
-zero_or_sign (pos (suc (suc n))) h = absurd (let high = h.high in omega (arith, sums))
-zero_or_sign (negsuc zero) h = inr (inr refl)
-zero_or_sign (negsuc (suc n)) h = absurd (let low = h.low in omega (arith, sums))
 
 pub odd_entry : (z : ℤ) → IsEntry z → IsOdd z → IsSign z
 odd_entry z h odd = go (zero_or_sign z h) odd

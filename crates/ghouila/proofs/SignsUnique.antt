@@ -2,9 +2,9 @@
 use Rattle.std.proofs.Common.{◌≡◌, ◌≢◌, ◌<◌, ◌≤◌, get_or, inl, inr, ℕ, zero, suc, ℤ, pos, ◌*ℤ◌, List, [], ◌∷◌, map, length, sym, subst, arith, refl}
 use Rattle.std.specs.List.{AllByRecursion}
 use Rattle.std.proofs.lemmas.Bool.{cases_lt}
-use Rattle.cmr_base.specs.Matrix.{Matrix, height, row_of, entry}
+use Rattle.cmr_base.specs.Matrix.{Matrix, height, row_of, entry, HasTernaryEntries, IsRectangular}
 use Rattle.cmr_base.specs.Signing.{IsSign}
-use Rattle.cmr_base.specs.Supports.{IsRectangular, HaveOneSupport, AgreeUpToSigns}
+use Rattle.cmr_base.specs.Supports.{HaveOneSupport, AgreeUpToSigns}
 use Rattle.cmr_base.specs.CyclePlaces.{HasNoCycleFault}
 use Rattle.cmr_base.specs.Sums.{sum_over, IsEven, IsTwoModFour}
 use Rattle.cmr_base.specs.Violator.{IsViolator, HasNoViolator}
@@ -13,8 +13,6 @@ use Rattle.cmr_base.proofs.SumLaws.{sum_over-scale, sum_over_same}
 use Rattle.cmr_base.proofs.Lists.{all_of, all_weaker}
 use Rattle.cmr_base.proofs.RisingLists.{rising_row_set, rising_column_set, odd_times, rises-odd_times}
 use Rattle.cmr_base.proofs.ViolatorLemmas.{violator-odd_times, violator-transposed}
-use Rattle.ghouila.specs.Laws.{IsTernary}
-use Rattle.ghouila.specs.SignLaws.{SignsAreUnique, FaultFreeHasNoViolator}
 use Rattle.ghouila.proofs.SignedSums.{even_change-signed}
 use Rattle.ghouila.proofs.SignProducts.{sign_nonzero}
 use Rattle.ghouila.proofs.Ratios.{four_change-columns}
@@ -76,7 +74,7 @@ column_in m row column rectangular h = elim (cases_lt column m.width) [
 
 -- ---- without violators there is no cycle fault
 
-pub no_violator_no_fault : (m : Matrix) → IsRectangular m → IsTernary m → HasNoViolator m → HasNoCycleFault (entry m)
+pub no_violator_no_fault : (m : Matrix) → IsRectangular m → HasTernaryEntries m → HasNoViolator m → HasNoCycleFault (entry m)
 no_violator_no_fault m rectangular small free t c d path f = go (route (entry m) small t c d path f.place.is_path)
   where
     go : Route (entry m) small t c d path → ⊥
@@ -112,15 +110,15 @@ no_violator_no_fault m rectangular small free t c d path f = go (route (entry m)
 
 -- ---- the laws
 
-fault_free_agree : (m n : Matrix) → IsRectangular m → IsTernary m → IsTernary n → HaveOneSupport m n → HasNoCycleFault (entry m) → HasNoCycleFault (entry n) → AgreeUpToSigns (entry m) (entry n)
+fault_free_agree : (m n : Matrix) → IsRectangular m → HasTernaryEntries m → HasTernaryEntries n → HaveOneSupport m n → HasNoCycleFault (entry m) → HasNoCycleFault (entry n) → AgreeUpToSigns (entry m) (entry n)
 fault_free_agree m n rectangular small_m small_n support clean_m clean_n =
     signs_agree (entry m) (entry n) small_m small_n support.zeros_same clean_m clean_n (height m) m.width (λ i j h. (row_in m i j h, column_in m i j rectangular h))
 
-pub signs_are_unique : SignsAreUnique
+pub signs_are_unique : (m n : Matrix) → IsRectangular m → IsRectangular n → HasTernaryEntries m → HasTernaryEntries n → HaveOneSupport m n → HasNoViolator m → HasNoViolator n → AgreeUpToSigns (entry m) (entry n)
 signs_are_unique m n rectangular_m rectangular_n small_m small_n support free_m free_n =
     fault_free_agree m n rectangular_m small_m small_n support (no_violator_no_fault m rectangular_m small_m free_m) (no_violator_no_fault n rectangular_n small_n free_n)
 
-pub fault_free_has_no_violator : FaultFreeHasNoViolator
+pub fault_free_has_no_violator : (m n : Matrix) → IsRectangular m → IsRectangular n → HasTernaryEntries m → HasTernaryEntries n → HaveOneSupport m n → HasNoCycleFault (entry m) → HasNoViolator n → HasNoViolator m
 fault_free_has_no_violator m n rectangular_m rectangular_n small_m small_n support clean free rows columns row_set column_set v =
     free rows columns
     (record { rising = row_set.rising; in_range = λ k h. let l = row_set.in_range k h in let e = support.height_same in omega arith })

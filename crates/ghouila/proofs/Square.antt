@@ -50,7 +50,7 @@ small_or_square a p q x u sp sq sx = go (zero_or_sign p sp) (zero_or_sign q sq) 
       | inr h ↦ inr (record { corner = u; below = up; beside = uq; across = ux; opposite = h })
     ]
 
-signs_even : (x y : ℤ) → IsSign x → IsSign y → IsEven (x +ℤ (y +ℤ pos 0))
+pub signs_even : (x y : ℤ) → IsSign x → IsSign y → IsEven (x +ℤ (y +ℤ pos 0))
 signs_even x y (inl e) (inl f) = (pos 1, rw (e, f) refl)
 signs_even x y (inl e) (inr f) = (pos 0, rw (e, f) refl)
 signs_even x y (inr e) (inl f) = (pos 0, rw (e, f) refl)

@@ -12,8 +12,8 @@ use Rattle.ghouila.specs.Pivot.{IsSquareViolator, HasSquareViolator}
 use Rattle.ghouila.specs.Found.{HasParity, marked, MarksViolator}
 use Rattle.ghouila.proofs.SignedSums.{zero_or_sign}
 use Rattle.ghouila.proofs.Square.{square_violator}
-use Rattle.ghouila.proofs.PivotBack.{square}
 use Rattle.ghouila.proofs.Marks.{joined, marked-replicate, marked_at, set_unmarked}
+use Rattle.cmr_base.proofs.SignEntries.{sign_square}
 
 -- whether one of two entries is 0 and the other not, as the code tests it
 pub odd_pair : (x y : ℤ) → IsEntry x → IsEntry y → HasParity (not (beq (not (eqb (of_z w8 x) 0)) (not (eqb (of_z w8 y) 0)))) (x +ℤ y)
@@ -37,7 +37,7 @@ square_apart a p q x s h = go s.corner s.beside
     plain a q x one e = e ∙ ap neg_ℤ (sym (mul_assoc a a q) ∙ ap (λ z. z *ℤ q) one ∙ one-mul q)
 
     minus : x ≡ neg_ℤ q
-    minus = plain a q x (square a s.corner) (s.opposite ∙ ap (λ z. neg_ℤ (a *ℤ (z *ℤ q))) h.0)
+    minus = plain a q x (sign_square a s.corner) (s.opposite ∙ ap (λ z. neg_ℤ (a *ℤ (z *ℤ q))) h.0)
 
     no_sign : (q x : ℤ) → x ≡ neg_ℤ q → x ≡ q → IsSign q → ⊥
     no_sign q x e f (inl g) = omega (arith, sums)

@@ -1,12 +1,14 @@
 -- The answer for a set of rows: a signing, or a violator.
-use Rattle.std.specs.Prelude.{ℕ, List}
+use Rattle.std.specs.Prelude.{◌≡◌, ℕ, ℤ, List, map}
 use Rattle.std.specs.List.{All, Contains}
 use Rattle.cmr_base.specs.Matrix.{Matrix, entry}
 use Rattle.cmr_base.specs.LineSets.{IsRowSet, IsColumnSet}
 use Rattle.cmr_base.specs.Signing.{IsSigning}
 use Rattle.cmr_base.specs.Violator.{IsViolator}
+use Rattle.ghouila.specs.declared.by_pivots.Pivot.{Pivot}
 use Rattle.ghouila.specs.declared.by_pivots.Signing.{Signing}
 use Rattle.ghouila.specs.declared.by_pivots.Signing.TheVariants.{Signed, Violated}
+use Rattle.ghouila.specs.SignRuns.{SignsBySteps, ViolatesBySteps}
 
 -- a violator with rows among these
 pub record IsViolatorAmong (m : Matrix) (rows violator_rows violator_columns : List ℕ) : Type 0 where
@@ -19,3 +21,8 @@ pub record IsViolatorAmong (m : Matrix) (rows violator_rows violator_columns : L
 abbrev pub SignsOrViolates : Matrix → List ℕ → Signing → Type 0
 SignsOrViolates m rows (Signed signs) = IsSigning m rows signs
 SignsOrViolates m rows (Violated lines) = IsViolatorAmong m rows lines.rows lines.columns
+
+-- the run on these rows makes these steps and ends with this answer
+abbrev pub IsAnswerOfRun : Matrix → List ℕ → List Pivot → Signing → Type 0
+IsAnswerOfRun m rows steps (Signed signs) = (sign : ℕ → ℤ) × (signs ≡ map sign rows) × SignsBySteps m rows steps sign
+IsAnswerOfRun m rows steps (Violated lines) = ViolatesBySteps m rows steps lines.rows lines.columns

@@ -1,13 +1,9 @@
 -- Laws of signings and violators.
 use Rattle.std.specs.Prelude.{◌↔◌, ℕ, List}
-use Rattle.cmr_base.specs.Matrix.{Matrix, entry, IsEntry}
+use Rattle.cmr_base.specs.Matrix.{Matrix, entry, IsTernary}
 use Rattle.cmr_base.specs.LineSets.{IsColumnSet}
 use Rattle.cmr_base.specs.Signing.{IsTotallyUnimodular, HasNoSigning}
 use Rattle.cmr_base.specs.Violator.{IsViolator, HasNoViolator}
-
--- each entry is -1, 0 or 1
-abbrev pub IsTernary : Matrix → Type 0
-IsTernary m = (row column : ℕ) → IsEntry (entry m row column)
 
 -- each set of rows has a signing exactly where no submatrix is a violator
 abbrev pub CamionEquivalence : Type 0

@@ -1,6 +1,7 @@
 -- Lists of signs by their numbers, and choices of a sign for each row.
 use Rattle.std.specs.Prelude.{◌≡◌, ◌≤◌, ◌%◌, ◌/◌, ◌==◌, if◌then◌else◌, ℕ, zero, suc, ℤ, pos, negsuc, List, [], ◌∷◌, length}
 use Rattle.std.specs.List.{AllByRecursion}
+use Rattle.cmr_base.specs.declared.limits.TheConstants.{MAX_LINES}
 use Rattle.cmr_base.specs.Matrix.{Matrix, height}
 use Rattle.cmr_base.specs.LineSets.{AllBelow}
 use Rattle.cmr_base.specs.Signing.{IsSign}
@@ -17,6 +18,6 @@ signs_numbered (suc count) number = low_sign number ∷ signs_numbered count (nu
 -- a sign for each of some rows
 pub record IsChoice (m : Matrix) (rows : List ℕ) (signs : List ℤ) : Type 0 where
   pub in_range : AllBelow (height m) rows
-  pub few : length rows ≤ 24
+  pub few : length rows ≤ MAX_LINES
   pub one_each : length signs ≡ length rows
   pub each : AllByRecursion IsSign signs

@@ -1,10 +1,35 @@
-use Rattle.std.specs.Prelude.{ℕ, List}
-use Rattle.cmr_base.specs.Matrix.{Matrix}
+use Rattle.std.specs.Prelude.{◌≡◌, ◌++◌, ℕ, pos, List, length, map, slice_index_or}
+use Rattle.cmr_base.specs.Matrix.{Matrix, height}
 use Rattle.ghouila.specs.declared.by_pivots.Outcome.{Outcome}
 use Rattle.ghouila.specs.declared.by_pivots.Outcome.TheVariants.{Signed, Violated}
-use Rattle.ghouila.specs.Found.{SignsRows, MarksViolator}
+use Rattle.ghouila.specs.declared.by_pivots.Pivot.{Pivot}
+use Rattle.ghouila.specs.declared.by_pivots.Signing.{Signing}
+use Rattle.ghouila.specs.declared.by_pivots.Signing.TheVariants as signings
+use Rattle.ghouila.specs.Found.{SignsRows, MarksViolator, marked}
+use Rattle.ghouila.specs.SignRuns.{SignsBySteps, ViolatesBySteps}
 
 -- what is found for these rows is right
 abbrev pub IsOutcome : Matrix → List ℕ → Outcome → Type 0
 IsOutcome m rows (Signed s) = SignsRows m rows s.signs.items s.sums.items
 IsOutcome m rows (Violated v) = MarksViolator m rows v.rows.items v.columns.items v.odd.items
+
+-- the run on these rows makes these steps and ends with what is found
+abbrev pub EndsRun : Matrix → List ℕ → List Pivot → Outcome → Type 0
+EndsRun m rows steps (Signed s) = SignsBySteps m rows steps (λ row. slice_index_or s.signs.items row (pos 0))
+EndsRun m rows steps (Violated v) = ViolatesBySteps m rows steps (marked v.rows.items) (marked v.columns.items)
+
+-- the same, where the steps were added to a list
+abbrev pub AddsRun : Matrix → List ℕ → List Pivot → List Pivot → Outcome → Type 0
+AddsRun m rows before after outcome = (steps : List Pivot) × (after ≡ before ++ steps) × EndsRun m rows steps outcome
+
+-- the signs of these rows, or the lines that are marked
+abbrev pub IsNamed : List ℕ → Outcome → Signing → Type 0
+IsNamed rows (Signed s) (signings.Signed signs) = signs ≡ map (λ row. slice_index_or s.signs.items row (pos 0)) rows
+IsNamed rows (Signed s) (signings.Violated lines) = ⊥
+IsNamed rows (Violated v) (signings.Signed signs) = ⊥
+IsNamed rows (Violated v) (signings.Violated lines) = (lines.rows ≡ marked v.rows.items) × (lines.columns ≡ marked v.columns.items)
+
+-- a sign, or a mark, for each line of the matrix
+abbrev pub HasSizes : Matrix → Outcome → Type 0
+HasSizes m (Signed s) = length s.signs.items ≡ height m
+HasSizes m (Violated v) = (length v.rows.items ≡ height m) × (length v.columns.items ≡ m.width)

@@ -55,3 +55,17 @@ pub record KeepsOthers (before after : Matrix) (rows : List ℕ) : Type 0 where
 -- the pivot is made in each of these rows
 abbrev pub PivotsRows : Matrix → Matrix → ℕ → ℕ → List ℕ → Type 0
 PivotsRows before after row column rows = AllByRecursion (λ i. (j : ℕ) → j < before.width → entry after i j ≡ pivoted (entry before) row column i j) rows
+
+-- the first column with a pivot, and in it the first of these rows with a nonzero
+pub record IsFirstPivot (m : Matrix) (rows : List ℕ) (place column : ℕ) : Type 0 where
+  pub pivot : IsPivot m rows place column
+  pub first_column : (j : ℕ) → j < column → HasNoPivot m rows j
+  pub first_row : (k : ℕ) → k < place → entry m (slice_index rows k) column ≡ pos 0
+
+-- the first entry, by these rows and then by columns, at which the pivot would give a 2 or a -2; in its own column it gives none
+pub record IsFirstTwo (m : Matrix) (rows : List ℕ) (row column place last : ℕ) : Type 0 where
+  pub within : place < length rows
+  pub column_in : last < m.width
+  pub two : ¬ (IsEntry (reduced (entry m) row column (slice_index rows place) last))
+  pub first_row : (k : ℕ) → k < place → IsTernaryRow m.width (reduced (entry m) row column (slice_index rows k))
+  pub first_column : IsTernaryRow last (reduced (entry m) row column (slice_index rows place))

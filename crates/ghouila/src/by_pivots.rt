@@ -1,19 +1,18 @@
-// Signings by pivots.
-ghost use Rattle.std.specs.Prelude.{◌≡◌, ◌<◌, ◌⊎◌, ◌∷◌, [], ℕ, pos, IfOk};
+ghost use Rattle.std.specs.Prelude.{◌≡◌, ◌<◌, ◌⊎◌, ◌∷◌, ℕ, List, pos, length, IfOk, OnOk};
+ghost use Rattle.std.specs.List.Sorted.{IsStrictlyIncreasing};
 ghost use Rattle.cmr_base.specs.Matrix.{Matrix, height, entry};
 ghost use Rattle.cmr_base.specs.LineSets.{AllBelow, IsRowSet};
 ghost use Rattle.cmr_base.specs.Signing.{IsSign};
 ghost use Rattle.cmr_base.specs.Sums.{sum_over, IsEven, IsOdd};
 ghost use Rattle.ghouila.specs.Pivot.{IsOutside, IsTernaryRow, KeepsOthers};
-ghost use Rattle.ghouila.specs.Found.{IsOnRows};
-ghost use Rattle.ghouila.specs.Outcome.{IsOutcome};
-ghost use Rattle.ghouila.specs.Answer.{SignsOrViolates};
-ghost use Rattle.std.specs.List.{range_with_len};
+ghost use Rattle.ghouila.specs.SignRuns.{IsPivotNext, IsPutAside};
+ghost use Rattle.ghouila.specs.Outcome.{IsOutcome, AddsRun, IsNamed, HasSizes};
+ghost use Rattle.ghouila.specs.Answer.{SignsOrViolates, IsAnswerOfRun};
 
 use crate::marked_lines::MarkedLines;
 use crate::pivots::{first_pivot, first_square_violator, make_pivot};
 use crate::row_signs::RowSigns;
-use cmr_base::{Indices, LineSet, Matrix, Memory, SignList};
+use cmr_base::{Indices, ItemList, LineSet, MAX_COLUMNS, MAX_ROWS, Matrix, Memory, SignList};
 use std::alloc::Global;
 
 /// What is found for a set of rows.
@@ -25,68 +24,102 @@ pub enum Signing {
     Violated(LineSet),
 }
 
+/// A step by which one row fewer is left: a pivot at the row and a column, or the row is put aside.
+#[derive(Debug, Clone, Copy)]
+pub struct Pivot {
+    pub row: u32,
+    pub column: Option<u32>,
+}
+
+/// The steps that were made, the first one first.
+pub type PivotList = ItemList<Pivot>;
+
+/// What is found for a set of rows, with the steps that led to it.
+#[derive(Debug, Drop)]
+pub struct SignRun {
+    pub steps: PivotList,
+    pub signing: Signing,
+}
+
 #[derive(Debug, Drop)]
 enum Outcome {
     Signed(RowSigns),
     Violated(MarkedLines),
 }
 
-/// A signing of the rows or a violator. Each pivot takes a row away from a copy of the rows; the sign of that
-/// row, or its part in a violator, follows from what is found for the others. The time is at most the number
-/// of rows squared times the number of columns.
+/// A signing of the rows or a violator.
 pub fn sign_or_violate(alloc: Global, matrix: &Matrix, rows: &Indices) -> Result<Signing, Memory>
     requires { AllBelow (height matrix.now) rows.now }
     ensures { IfOk result (SignsOrViolates matrix.now rows.now) }
 {
-    let rows = rows.as_slice();
-    let mut work = rows_alone(alloc, matrix, rows)?;
-    let left = all_rows(alloc, &work)?;
-    match sign_left(alloc, &mut work, left)? {
-        Outcome::Signed(signs) => Ok(Signing::Signed(signs.to_list(alloc)?)),
-        Outcome::Violated(lines) => Ok(Signing::Violated(lines.to_lines(alloc, rows)?)),
-    }
+    let run = sign_by_steps(alloc, matrix, rows)?;
+    Ok(run.signing)
 }
 
-// The matrix on these rows and all columns.
-fn rows_alone(alloc: Global, matrix: &Matrix, rows: &[u32]) -> Result<Matrix, Memory>
-    requires { IsRowSet matrix.now rows.now }
-    ensures { IfOk result (λ work. IsOnRows matrix.now work rows.now) }
+/// The same with its steps. Each pivot takes a row away from a copy of the matrix; the sign of that row, or its
+/// part in a violator, follows from what is found for the others. The time is at most the number of rows squared
+/// times the number of columns, and a copy of the matrix.
+pub fn sign_by_steps(alloc: Global, matrix: &Matrix, rows: &Indices) -> Result<SignRun, Memory>
+    requires { AllBelow (height matrix.now) rows.now }
+    ensures right { IfOk result (λ run. SignsOrViolates matrix.now rows.now run.signing) }
+    ensures run { IfOk result (λ run. IsAnswerOfRun matrix.now rows.now run.steps run.signing) }
+    ensures rising { OnOk result (IsStrictlyIncreasing rows.now) }
 {
-    let columns = matrix.columns();
-    let mut work = Matrix::zero(alloc, rows.len() as u32, columns)?;
-    for (place, row) in rows.iter().enumerate() {
-        copy_row(matrix, *row, &mut work, place as u32);
-    }
-    Ok(work)
+    let mut work = copy_of(alloc, matrix)?;
+    let left = copy_of_rows(alloc, rows)?;
+    let mut steps = PivotList::new(alloc);
+    let outcome = sign_left(alloc, &mut work, left, &mut steps)?;
+    let signing = named(alloc, matrix, rows, outcome)?;
+    Ok(SignRun { steps, signing })
 }
 
-fn copy_row(matrix: &Matrix, row: u32, work: &mut Matrix, place: u32)
-    requires row { row < height matrix.now }
-    requires place { place < height work.old }
-    requires width { work.old.width ≡ matrix.now.width }
-    ensures others { KeepsOthers work.old work.new (place ∷ []) }
-    ensures copied { (column : ℕ) → column < matrix.now.width → entry work.new place column ≡ entry matrix.now row column }
+fn copy_of(alloc: Global, matrix: &Matrix) -> Result<Matrix, Memory>
+    ensures { IfOk result (λ work. work ≡ matrix.now) }
 {
-    for column in 0..work.columns() {
-        work.set(place, column, matrix.entry(row, column));
-    }
+    let lines = LineSet::all(alloc, matrix.rows(), matrix.columns())?;
+    matrix.part(alloc, &lines)
 }
 
-fn all_rows(alloc: Global, work: &Matrix) -> Result<Vec<u32>, Memory>
-    ensures { IfOk result (λ rows. rows.items ≡ range_with_len 0 (height work.now)) }
+fn copy_of_rows(alloc: Global, rows: &Indices) -> Result<Vec<u32>, Memory>
+    ensures items { IfOk result (λ left. left.items ≡ rows.now) }
+    ensures rising { IsStrictlyIncreasing rows.now }
 {
-    let mut rows = Vec::new(alloc);
-    for row in 0..work.rows() {
-        rows.push(row)?;
+    let mut left = Vec::new(alloc);
+    for row in rows.as_slice() {
+        left.push(*row)?;
     }
-    Ok(rows)
+    Ok(left)
+}
+
+// The signs of the rows, or the marked lines.
+fn named(
+    alloc: Global,
+    matrix: &Matrix,
+    rows: &Indices,
+    outcome: Outcome,
+) -> Result<Signing, Memory>
+    requires rows { AllBelow (height matrix.now) rows.now }
+    requires sizes { HasSizes matrix.now outcome }
+    ensures { IfOk result (IsNamed rows.now outcome) }
+{
+    prove!(matrix.rows() <= MAX_ROWS && matrix.columns() <= MAX_COLUMNS);
+    match outcome {
+        Outcome::Signed(signs) => Ok(Signing::Signed(signs.of_rows(alloc, rows.as_slice())?)),
+        Outcome::Violated(lines) => Ok(Signing::Violated(lines.to_lines(alloc)?)),
+    }
 }
 
 // What is found for the rows left. The other rows of `work` stay as they are.
 #[cycle(sign_rows)]
-fn sign_left(alloc: Global, work: &mut Matrix, mut left: Vec<u32>) -> Result<Outcome, Memory>
+fn sign_left(
+    alloc: Global,
+    work: &mut Matrix,
+    mut left: Vec<u32>,
+    steps: &mut PivotList,
+) -> Result<Outcome, Memory>
     requires { IsRowSet work.old left.items }
     ensures found { IfOk result (IsOutcome work.old left.items) }
+    ensures run { IfOk result (AddsRun work.old left.items steps.old steps.new) }
     ensures others { KeepsOthers work.old work.new left.items }
 {
     if left.is_empty() {
@@ -95,11 +128,11 @@ fn sign_left(alloc: Global, work: &mut Matrix, mut left: Vec<u32>) -> Result<Out
     match first_pivot(work, &left) {
         Some(pivot) => {
             let row = left.remove(pivot.place);
-            sign_by_pivot(alloc, work, left, row, pivot.column)
+            sign_by_pivot(alloc, work, left, row, pivot.column, steps)
         }
         None => {
             let row = left.remove(0);
-            sign_aside(alloc, work, left, row)
+            sign_aside(alloc, work, left, row, steps)
         }
     }
 }
@@ -112,6 +145,7 @@ fn sign_by_pivot(
     left: Vec<u32>,
     row: u32,
     column: u32,
+    steps: &mut PivotList,
 ) -> Result<Outcome, Memory>
     requires rows { IsRowSet work.old left.items }
     requires row { row < height work.old }
@@ -120,14 +154,19 @@ fn sign_by_pivot(
     requires nonzero { IsSign (entry work.old row column) }
     requires odd { IsOdd (sum_over left.items (λ other. entry work.old other column)) }
     ensures found { IfOk result (IsOutcome work.old (row ∷ left.items)) }
+    ensures run { (rows : List ℕ) → IsPivotNext work.old rows row column left.items → IfOk result (AddsRun work.old rows steps.old steps.new) }
     ensures others { KeepsOthers work.old work.new left.items }
 {
     if let Some(corner) = first_square_violator(work, &left, row, column) {
         let lines = MarkedLines::of_square(alloc, work, row, column, corner)?;
         return Ok(Outcome::Violated(lines));
     }
+    steps.push(Pivot {
+        row,
+        column: Some(column),
+    })?;
     make_pivot(work, &left, row, column);
-    match sign_left(alloc, work, left)? {
+    match sign_left(alloc, work, left, steps)? {
         Outcome::Signed(mut signs) => {
             signs.sign_pivot(row, column);
             Ok(Outcome::Signed(signs))
@@ -141,16 +180,24 @@ fn sign_by_pivot(
 
 // The same for one row more, in whose columns the others have no odd sum.
 #[cycle(sign_rows)]
-fn sign_aside(alloc: Global, work: &mut Matrix, left: Vec<u32>, row: u32) -> Result<Outcome, Memory>
+fn sign_aside(
+    alloc: Global,
+    work: &mut Matrix,
+    left: Vec<u32>,
+    row: u32,
+    steps: &mut PivotList,
+) -> Result<Outcome, Memory>
     requires rows { IsRowSet work.old left.items }
     requires row { row < height work.old }
     requires apart { IsOutside row left.items }
     requires small { IsTernaryRow work.old.width (entry work.old row) }
     requires quiet { (column : ℕ) → column < work.old.width → (entry work.old row column ≡ pos 0) ⊎ IsEven (sum_over left.items (λ other. entry work.old other column)) }
     ensures found { IfOk result (IsOutcome work.old (row ∷ left.items)) }
+    ensures run { (rows : List ℕ) → IsPutAside work.old rows row left.items → IfOk result (AddsRun work.old rows steps.old steps.new) }
     ensures others { KeepsOthers work.old work.new left.items }
 {
-    match sign_left(alloc, work, left)? {
+    steps.push(Pivot { row, column: None })?;
+    match sign_left(alloc, work, left, steps)? {
         Outcome::Signed(mut signs) => {
             signs.sign_aside(work, row);
             Ok(Outcome::Signed(signs))

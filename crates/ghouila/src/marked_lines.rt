@@ -1,13 +1,12 @@
-// Violators on the way back through the pivots.
-ghost use Rattle.std.specs.Prelude.{◌≡◌, ◌<◌, ◌≤◌, ◌+ℤ◌, ◌∷◌, [], ℕ, Bool, true, false, length, map, replicate, slice_set, slice_index, slice_index_or, IfOk};
-ghost use Rattle.std.specs.List.Sorted.{IsStrictlyIncreasing};
+ghost use Rattle.std.specs.Prelude.{◌≡◌, ◌<◌, ◌≤◌, ◌↔◌, ◌+ℤ◌, ◌∷◌, [], ℕ, Bool, true, false, length, replicate, slice_set, slice_index_or, IfOk};
 ghost use Rattle.cmr_base.specs.Matrix.{Matrix, height, entry};
+ghost use Rattle.cmr_base.specs.Members.{IsIn};
 ghost use Rattle.cmr_base.specs.Sums.{sum_over};
 ghost use Rattle.ghouila.specs.Pivot.{HasSquareViolator};
 ghost use Rattle.ghouila.specs.Found.{HasParity, marked, bit, MarksViolator, MarksAnew};
 
 use crate::pivots::Corner;
-use cmr_base::{Indices, LineSet, Matrix, Memory};
+use cmr_base::{Indices, LineSet, MAX_COLUMNS, MAX_ROWS, Matrix, Memory};
 use std::alloc::Global;
 
 /// A violator by marks on its rows and columns, and whether its rows add up to an odd number in each column.
@@ -43,7 +42,9 @@ impl MarkedLines {
         requires row { row < height work.now }
         requires column { column < work.now.width }
         requires square { HasSquareViolator work.now row column corner.row corner.column }
-        ensures { IfOk result (λ lines. MarksViolator work.now (row ∷ corner.row ∷ []) lines.rows.items lines.columns.items lines.odd.items) }
+        ensures violator { IfOk result (λ lines. MarksViolator work.now (row ∷ corner.row ∷ []) lines.rows.items lines.columns.items lines.odd.items) }
+        ensures rows { IfOk result (λ lines. (i : ℕ) → IsIn i (marked lines.rows.items) ↔ IsIn i (row ∷ corner.row ∷ [])) }
+        ensures columns { IfOk result (λ lines. (j : ℕ) → IsIn j (marked lines.columns.items) ↔ IsIn j (column ∷ corner.column ∷ [])) }
     {
         let mut lines = MarkedLines::new(alloc, work)?;
         lines.rows[row as usize] = true;
@@ -76,16 +77,15 @@ impl MarkedLines {
         self.columns[column as usize] = is_odd_row(work, row, &self.columns) != was_there;
     }
 
-    /// The lines, with the rows by the numbers that they had in the set.
-    pub fn to_lines(&self, alloc: Global, rows: &[u32]) -> Result<LineSet, Memory>
-        requires rising { IsStrictlyIncreasing rows.now }
-        requires rows { length self.now.rows.items ≡ length rows.now }
-        requires few_columns { length self.now.columns.items ≤ 1000 }
-        ensures rows { IfOk result (λ lines. lines.rows ≡ map (slice_index rows.now) (marked self.now.rows.items)) }
+    /// The marked lines.
+    pub fn to_lines(&self, alloc: Global) -> Result<LineSet, Memory>
+        requires few_rows { length self.now.rows.items ≤ MAX_ROWS }
+        requires few_columns { length self.now.columns.items ≤ MAX_COLUMNS }
+        ensures rows { IfOk result (λ lines. lines.rows ≡ marked self.now.rows.items) }
         ensures columns { IfOk result (λ lines. lines.columns ≡ marked self.now.columns.items) }
     {
         Ok(LineSet {
-            rows: marked_items(alloc, &self.rows, rows)?,
+            rows: marked_places(alloc, &self.rows)?,
             columns: marked_places(alloc, &self.columns)?,
         })
     }
@@ -106,22 +106,8 @@ fn is_odd_row(work: &Matrix, row: u32, marks: &[bool]) -> bool
     odd
 }
 
-fn marked_items(alloc: Global, marks: &[bool], items: &[u32]) -> Result<Indices, Memory>
-    requires rising { IsStrictlyIncreasing items.now }
-    requires one_each { length marks.now ≡ length items.now }
-    ensures { IfOk result (λ chosen. chosen ≡ map (slice_index items.now) (marked marks.now)) }
-{
-    let mut chosen = Indices::new(alloc);
-    for (place, mark) in marks.iter().enumerate() {
-        if *mark {
-            chosen.push(items[place])?;
-        }
-    }
-    Ok(chosen)
-}
-
 fn marked_places(alloc: Global, marks: &[bool]) -> Result<Indices, Memory>
-    requires { length marks.now ≤ 1000 }
+    requires { length marks.now ≤ MAX_ROWS }
     ensures { IfOk result (λ places. places ≡ marked marks.now) }
 {
     let mut places = Indices::new(alloc);

@@ -1,16 +1,15 @@
-// Pivots that take a row away.
-ghost use Rattle.std.specs.Prelude.{◌≡◌, ◌<◌, ◌≤◌, ◌-ℤ◌, ◌*ℤ◌, ◌≤ℤ◌, pos, negsuc, ℕ, [], ◌∷◌, length, IfSome, IfNone, IsTrue, ◌↔◌};
+ghost use Rattle.std.specs.Prelude.{◌≡◌, ◌<◌, ◌≤◌, ◌-ℤ◌, ◌*ℤ◌, ◌≤ℤ◌, pos, negsuc, ℕ, [], ◌∷◌, length, slice_index, IfSome, IfNone, IsTrue, ◌↔◌};
 ghost use Rattle.std.specs.List.{AllByRecursion, Contains};
 ghost use Rattle.cmr_base.specs.Matrix.{Matrix, height, entry, IsEntry, IsMatrix};
 ghost use Rattle.cmr_base.specs.LineSets.{AllBelow, IsRowSet};
 ghost use Rattle.cmr_base.specs.Signing.{IsSign};
-ghost use Rattle.ghouila.specs.Pivot.{IsOutside, reduced, IsTernaryRow, IsPivot, HasNoPivot, IsSquareViolator, HasSquareViolator, KeepsOthers, PivotsRows};
+ghost use Rattle.ghouila.specs.Pivot.{IsOutside, reduced, IsTernaryRow, IsPivot, HasNoPivot, IsFirstPivot, IsFirstTwo, IsSquareViolator, HasSquareViolator, KeepsOthers, PivotsRows};
 
 use cmr_base::Matrix;
 
 /// Where a pivot is made: the place of the row among the rows that are left, and the column.
 #[derive(Debug, Clone, Copy)]
-pub struct Pivot {
+pub struct PivotPlace {
     pub place: usize,
     pub column: u32,
 }
@@ -23,15 +22,15 @@ pub struct Corner {
 }
 
 /// The first column with an even number, at least two, of nonzeros in the rows left, at the first of them.
-pub fn first_pivot(work: &Matrix, left: &[u32]) -> Option<Pivot>
+pub fn first_pivot(work: &Matrix, left: &[u32]) -> Option<PivotPlace>
     requires { AllBelow (height work.now) left.now }
-    ensures some { IfSome result (λ pivot. IsPivot work.now left.now pivot.place pivot.column) }
+    ensures some { IfSome result (λ pivot. IsFirstPivot work.now left.now pivot.place pivot.column) }
     ensures none { IfNone result ((column : ℕ) → column < work.now.width → HasNoPivot work.now left.now column) }
     ensures shape { IsMatrix work.now }
 {
     for column in 0..work.columns() {
         if let Some(place) = pivot_in(work, left, column) {
-            return Some(Pivot { place, column });
+            return Some(PivotPlace { place, column });
         }
     }
     None
@@ -42,6 +41,7 @@ fn pivot_in(work: &Matrix, left: &[u32], column: u32) -> Option<usize>
     requires rows { AllBelow (height work.now) left.now }
     requires column { column < work.now.width }
     ensures some { IfSome result (λ place. IsPivot work.now left.now place column) }
+    ensures first { IfSome result (λ place. (k : ℕ) → k < place → entry work.now (slice_index left.now k) column ≡ pos 0) }
     ensures none { IfNone result (HasNoPivot work.now left.now column) }
 {
     let mut first = None;
@@ -64,6 +64,7 @@ pub fn first_square_violator(work: &Matrix, left: &[u32], row: u32, column: u32)
     requires column { column < work.now.width }
     requires nonzero { IsSign (entry work.now row column) }
     ensures some { IfSome result (λ corner. Contains left.now corner.row × HasSquareViolator work.now row column corner.row corner.column) }
+    ensures first { IfSome result (λ corner. (place : ℕ) × (corner.row ≡ slice_index left.now place) × IsFirstTwo work.now left.now row column place corner.column) }
     ensures none { IfNone result (AllByRecursion (λ other. IsTernaryRow work.now.width (reduced (entry work.now) row column other)) left.now) }
 {
     for other in left {
@@ -83,6 +84,8 @@ fn square_violator_in(work: &Matrix, row: u32, column: u32, other: u32) -> Optio
     requires other { other < height work.now }
     requires nonzero { IsSign (entry work.now row column) }
     ensures some { IfSome result (λ last. HasSquareViolator work.now row column other last) }
+    ensures two { IfSome result (λ last. ¬ (IsEntry (reduced (entry work.now) row column other last))) }
+    ensures first { IfSome result (λ last. IsTernaryRow last (reduced (entry work.now) row column other)) }
     ensures none { IfNone result (IsTernaryRow work.now.width (reduced (entry work.now) row column other)) }
 {
     let factor = product(work.entry(row, column), work.entry(other, column));

@@ -1,4 +1,3 @@
-// The plain search for a signing: each choice of signs in turn.
 ghost use Rattle.std.specs.Prelude.{◌≡◌, ◌<◌, ◌≤◌, ◌+◌, ◌^◌, ◌*ℤ◌, ℕ, ℤ, List, IfOk, IfSome, IfNone, IsTrue, length, slice_index, slice_index_or, pos};
 ghost use Rattle.std.specs.List.{AllByRecursion};
 ghost use Rattle.cmr_base.specs.LineSets.{AllBelow};
@@ -6,7 +5,7 @@ ghost use Rattle.cmr_base.specs.Matrix.{Matrix, height, IsEntry};
 ghost use Rattle.cmr_base.specs.Signing.{IsSign, signed_sum, IsSigning, IsFirstSigning, HasNoSigning};
 ghost use Rattle.ghouila.specs.Numbered.{low_sign, signs_numbered, IsChoice};
 
-use cmr_base::{Indices, Matrix, Memory, SignList};
+use cmr_base::{Indices, MAX_LINES, Matrix, Memory, SignList};
 use std::alloc::Global;
 
 /// The first signing of the rows in the order of the signs' numbers, or `None` where they have none.
@@ -16,7 +15,7 @@ pub fn plain_signing(
     rows: &Indices,
 ) -> Result<Option<SignList>, Memory>
     requires in_range { AllBelow (height matrix.now) rows.now }
-    requires few { length rows.now ≤ 24 }
+    requires few { length rows.now ≤ MAX_LINES }
     ensures first { IfOk result (λ answer. IfSome answer (IsFirstSigning matrix.now rows.now)) }
     ensures none { IfOk result (λ answer. IfNone answer (HasNoSigning matrix.now rows.now)) }
 {
@@ -31,8 +30,8 @@ pub fn plain_signing(
 }
 
 // How many choices of signs there are.
-pub fn choices(count: usize) -> u32
-    requires { count ≤ 24 }
+fn choices(count: usize) -> u32
+    requires { count ≤ MAX_LINES }
     ensures { result ≡ 2 ^ count }
 {
     2u32.pow(count as u32)

@@ -1,6 +1,6 @@
-// Signs of some rows of a matrix.
-ghost use Rattle.std.specs.Prelude.{◌≡◌, ◌<◌, ◌+ℤ◌, ℕ, pos, length, replicate, slice_set, slice_index_or, IfOk};
+ghost use Rattle.std.specs.Prelude.{◌≡◌, ◌<◌, ◌+ℤ◌, ℕ, pos, length, map, replicate, slice_set, slice_index_or, IfOk};
 ghost use Rattle.cmr_base.specs.Matrix.{Matrix, height, entry, IsEntry};
+ghost use Rattle.cmr_base.specs.LineSets.{AllBelow};
 ghost use Rattle.ghouila.specs.Pivot.{IsTernaryRow};
 
 use cmr_base::{Matrix, Memory, SignList};
@@ -52,13 +52,14 @@ impl RowSigns {
         }
     }
 
-    /// The signs, in the order of the rows.
-    pub fn to_list(&self, alloc: Global) -> Result<SignList, Memory>
-        ensures { IfOk result (λ list. list ≡ self.now.signs.items) }
+    /// The signs of these rows, in their order.
+    pub fn of_rows(&self, alloc: Global, rows: &[u32]) -> Result<SignList, Memory>
+        requires { AllBelow (length self.now.signs.items) rows.now }
+        ensures { IfOk result (λ list. list ≡ map (λ row. slice_index_or self.now.signs.items row (pos 0)) rows.now) }
     {
         let mut list = SignList::new(alloc);
-        for sign in &self.signs {
-            list.push(*sign)?;
+        for row in rows {
+            list.push(self.signs[*row as usize])?;
         }
         Ok(list)
     }

@@ -1,20 +1,25 @@
-use Rattle.std.proofs.Common.{◌≡◌, ◌<◌, ◌+◌, ◌*◌, ◌∙◌, ◌⊎◌, ℕ, List, [], ◌∷◌, ℤ, ◌+ℤ◌, pos, length, get_or, ap, sym, subst, arith, vec_len, Bool, false}
+use Rattle.std.proofs.Common.{◌≡◌, ◌<◌, ◌+◌, ◌*◌, ◌∙◌, ◌⊎◌, ℕ, Some, None, set, ap₂, List, [], ◌∷◌, ℤ, ◌+ℤ◌, pos, length, get_or, ap, sym, subst, arith, vec_len, Bool, false}
 use Rattle.std.specs.List.{AllByRecursion, remove, Contains}
-use Rattle.std.specs.Prelude.{◌==◌}
+use Rattle.std.specs.Prelude.{◌==◌, ◌↔◌}
 use Rattle.std.proofs.lemmas.Bool.Decides.{nat_tests}
-use Rattle.std.proofs.lemmas.List.{get_or_read}
+use Rattle.std.proofs.lemmas.List.{get_or_read, append-nil}
 use Rattle.cmr_base.specs.Matrix.{height, entry}
 use Rattle.cmr_base.specs.LineSets.{IsRowSet}
 use Rattle.cmr_base.specs.Signing.{IsSign}
 use Rattle.cmr_base.specs.Sums.{sum_over, IsEven, IsOdd}
 use Rattle.cmr_base.proofs.Lists.{HasOneMore, all_contained, contains_first, contains_later}
-use Rattle.ghouila.specs.Pivot.{IsOutside, reduced, IsTernaryRow, IsPivot, HasNoPivot, KeepsOthers, PivotsRows}
-use Rattle.ghouila.specs.Found.{SignsRows, MarksViolator, MarksAnew}
-use Rattle.ghouila.specs.Outcome.{IsOutcome}
+use Rattle.ghouila.specs.Pivot.{IsOutside, reduced, IsTernaryRow, IsPivot, HasNoPivot, IsFirstTwo, KeepsOthers, PivotsRows}
+use Rattle.ghouila.specs.Found.{marked, SignsRows, MarksViolator, MarksAnew}
+use Rattle.ghouila.specs.Outcome.{IsOutcome, AddsRun}
+use Rattle.ghouila.specs.SignRuns.{IsTakenBack}
+use Rattle.ghouila.specs.declared.by_pivots.Pivot.{Pivot}
+use Rattle.ghouila.specs.declared.by_pivots.Outcome.TheVariants.{Signed, Violated}
+use Rattle.cmr_base.specs.Members.{IsIn}
+use Rattle.ghouila.proofs.RunSteps.{steps_later, signs_set_aside, signs_set_pivot, violated_aside, first_and_others}
 use mathlib.Core.Path.{fun_ext}
 use Rattle.ghouila.proofs.LeftRows.{one_more-remove, row_set-remove, outside-remove, pivot_odd, aside_quiet}
 use Rattle.ghouila.proofs.SignsBack.{signs_before_pivot, signs_with_aside}
-use Rattle.ghouila.proofs.MarksBack.{marks_among_more, marks_before_pivot}
+use Rattle.ghouila.proofs.MarksBack.{marks_among_more, marks_before_pivot, taken_back}
 use Rattle.ghouila.proofs.OutcomeLemmas.{found_reordered, violated_with_row}
 use Rattle.ghouila.proofs.by_pivots.+sign_rows.Goals as goal
 
@@ -30,7 +35,7 @@ sign_left-sign_by_pivot-requires t c =
     let left = c.args.left.items in
     let place = c.in-Some.pivot.place in
     let column = c.in-Some.pivot.column in
-    let pivot : IsPivot m left place column = subst (λ xs. IsPivot m xs place column) c.deref.ensures.value c.in-Some.ensures.some in
+    let pivot : IsPivot m left place column = subst (λ xs. IsPivot m xs place column) c.deref.ensures.value c.in-Some.ensures.some.pivot in
     let row : c.remove-row.result ≡ get_or left place 0 = get_or_read left place c.remove-row.result pivot.within c.remove-row.ensures.value 0 in
     let more : HasOneMore (get_or left place 0) (remove left place) left = one_more-remove left place pivot.within in
     let odd : IsOdd (sum_over (remove left place) (λ r. entry m r column)) = pivot_odd m left (remove left place) (get_or left place 0) column more pivot.nonzero pivot.even in
@@ -88,7 +93,7 @@ sign_left-returns-in-Some-clause-found t c =
     let m = c.args.work.now in
     let left = c.args.left.items in
     let place = c.in-Some.pivot.place in
-    let pivot : IsPivot m left place c.in-Some.pivot.column = subst (λ xs. IsPivot m xs place c.in-Some.pivot.column) c.deref.ensures.value c.in-Some.ensures.some in
+    let pivot : IsPivot m left place c.in-Some.pivot.column = subst (λ xs. IsPivot m xs place c.in-Some.pivot.column) c.deref.ensures.value c.in-Some.ensures.some.pivot in
     let row : c.remove-row.result ≡ get_or left place 0 = get_or_read left place c.remove-row.result pivot.within c.remove-row.ensures.value 0 in
     let more : HasOneMore c.remove-row.result c.remove-row.new.self.items left =
     subst (λ r. HasOneMore r c.remove-row.new.self.items left) (sym row) (subst (λ xs. HasOneMore (get_or left place 0) xs left) (sym c.remove-row.ensures.items) (one_more-remove left place pivot.within)) in
@@ -115,7 +120,7 @@ sign_by_pivot-returns-in-Some-clause-found t c =
     let there : Contains left corner.row = subst (λ xs. Contains xs corner.row) c.deref.ensures.value c.in-Some.ensures.some.0 in
     marks_among_more m (c.args.row ∷ corner.row ∷ []) (c.args.row ∷ left) c.in_ok-lines.lines.rows.items c.in_ok-lines.lines.columns.items c.in_ok-lines.lines.odd.items
     (λ r in_pair. all_contained (Contains (c.args.row ∷ left)) (c.args.row ∷ corner.row ∷ []) r (contains_first c.args.row left, (contains_later corner.row c.args.row left there, tt)) in_pair)
-    c.in_ok-lines.ensures
+    c.in_ok-lines.ensures.violator
 
 pub sign_by_pivot-make_pivot-requires-clause-small : goal.sign_by_pivot-make_pivot-requires-clause-small
 sign_by_pivot-make_pivot-requires-clause-small t c =
@@ -149,3 +154,113 @@ sign_by_pivot-returns-in-Violated-clause-found t c =
     rw (c.undo_pivot.ensures.rows, c.undo_pivot.ensures.odd)
     (marks_before_pivot m after c.args.row c.args.column left c.requires.row c.requires.column c.requires.apart c.requires.nonzero keeps.same_height keeps.same_width pivots v.rows.items v.columns.items v.odd.items c.undo_pivot.new.self.columns.items found
     (anew_by_same (entry last c.args.row) (entry m c.args.row) c.args.column v.columns.items c.undo_pivot.new.self.columns.items same_row c.undo_pivot.ensures.columns))
+
+-- ---- the run
+
+pub sign_aside-returns-in-Signed-clause-run : goal.sign_aside-returns-in-Signed-clause-run
+sign_aside-returns-in-Signed-clause-run t c =
+    let m = c.args.work.now in
+    let left = c.args.left.items in
+    let s = c.in-Signed.signs in
+    let step : Pivot = record { row = c.args.row; column = None } in
+    let found : SignsRows m left s.signs.items s.sums.items = subst (IsOutcome m left) c.in-Signed.is c.in_ok-violated.ensures.found in
+    let run : AddsRun m left c.push.new.self c.sign_left.new.steps (Signed s) = subst (AddsRun m left c.push.new.self c.sign_left.new.steps) c.in-Signed.is c.in_ok-violated.ensures.run in
+    λ rows aside. (
+      step ∷ run.0,
+      run.1 ∙ steps_later c.args.steps.now c.push.new.self step run.0 c.in_ok-push.ensures.ok,
+      signs_set_aside m rows left c.args.row run.0 s.signs.items c.sign_aside.new.self.signs.items aside c.requires.apart (let e = found.one_each in let h = c.requires.row in omega arith) c.sign_aside.ensures.signs run.2,
+    )
+
+pub sign_aside-returns-in_default-clause-run : goal.sign_aside-returns-in_default-clause-run
+sign_aside-returns-in_default-clause-run t c = λ rows aside.
+    violated_aside c.args.work.now rows c.args.left.items c.args.row c.args.steps.now c.push.new.self c.sign_left.new.steps c.in_ok-violated.violated c.in_default.not-Signed aside c.in_ok-push.ensures.ok c.in_ok-violated.ensures.run
+
+pub sign_by_pivot-returns-in-Some-clause-run : goal.sign_by_pivot-returns-in-Some-clause-run
+sign_by_pivot-returns-in-Some-clause-run t c =
+    let m = c.args.work.now in
+    let left = c.args.left.items in
+    let corner = c.in-Some.corner in
+    let first : (place : ℕ) × (corner.row ≡ get_or left place 0) × IsFirstTwo m left c.args.row c.args.column place corner.column =
+    subst (λ xs. (place : ℕ) × (corner.row ≡ get_or xs place 0) × IsFirstTwo m xs c.args.row c.args.column place corner.column) c.deref.ensures.value c.in-Some.ensures.first in
+    λ rows next. (
+      [],
+      sym (append-nil c.args.steps.now),
+      record {
+        row = c.args.row;
+        column = c.args.column;
+        left = left;
+        next = next;
+        place = first.0;
+        last = corner.column;
+        two = first.2;
+        rows_are = λ i. subst (λ r. IsIn i (marked c.in_ok-lines.lines.rows.items) ↔ IsIn i (c.args.row ∷ r ∷ [])) first.1 (c.in_ok-lines.ensures.rows i);
+        columns_are = c.in_ok-lines.ensures.columns;
+      },
+    )
+
+pub sign_by_pivot-returns-in-Signed-clause-run : goal.sign_by_pivot-returns-in-Signed-clause-run
+sign_by_pivot-returns-in-Signed-clause-run t c =
+    let m = c.args.work.now in
+    let after = c.make_pivot.new.work in
+    let left = c.args.left.items in
+    let s = c.in-Signed.signs in
+    let step : Pivot = record { row = c.args.row; column = Some c.args.column } in
+    let found : SignsRows after left s.signs.items s.sums.items = subst (IsOutcome after left) c.in-Signed.is c.in_ok-signs.ensures.found in
+    let run : AddsRun after left c.push.new.self c.sign_left.new.steps (Signed s) = subst (AddsRun after left c.push.new.self c.sign_left.new.steps) c.in-Signed.is c.in_ok-signs.ensures.run in
+    let pivots : PivotsRows m after c.args.row c.args.column left = subst (PivotsRows m after c.args.row c.args.column) c.deref-2.ensures.value c.make_pivot.ensures.pivoted in
+    let keeps : KeepsOthers m after left = subst (KeepsOthers m after) c.deref-2.ensures.value c.make_pivot.ensures.others in
+    let small : AllByRecursion (λ other. IsTernaryRow m.width (reduced (entry m) c.args.row c.args.column other)) left = subst (AllByRecursion (λ other. IsTernaryRow m.width (reduced (entry m) c.args.row c.args.column other))) c.deref.ensures.value c.in_default.ensures.none in
+    λ rows next. (
+      step ∷ run.0,
+      run.1 ∙ steps_later c.args.steps.now c.push.new.self step run.0 c.in_ok-push.ensures.ok,
+      signs_set_pivot m after rows left c.args.row c.args.column run.0 s.signs.items s.sums.items c.sign_pivot.new.self.signs.items next (record { small = small; same_width = keeps.same_width; made = pivots })
+          c.requires.apart (let e = found.one_each in let k = keeps.same_height in let h = c.requires.row in omega arith) c.requires.column found c.sign_pivot.ensures.signs run.2,
+    )
+
+pub sign_by_pivot-returns-in-Violated-clause-run : goal.sign_by_pivot-returns-in-Violated-clause-run
+sign_by_pivot-returns-in-Violated-clause-run t c =
+    let m = c.args.work.now in
+    let after = c.make_pivot.new.work in
+    let last = c.sign_left.new.work in
+    let left = c.args.left.items in
+    let v = c.in-Violated.lines in
+    let step : Pivot = record { row = c.args.row; column = Some c.args.column } in
+    let found : MarksViolator after left v.rows.items v.columns.items v.odd.items = subst (IsOutcome after left) c.in-Violated.is c.in_ok-signs.ensures.found in
+    let run : AddsRun after left c.push.new.self c.sign_left.new.steps (Violated v) = subst (AddsRun after left c.push.new.self c.sign_left.new.steps) c.in-Violated.is c.in_ok-signs.ensures.run in
+    let pivots : PivotsRows m after c.args.row c.args.column left = subst (PivotsRows m after c.args.row c.args.column) c.deref-2.ensures.value c.make_pivot.ensures.pivoted in
+    let keeps : KeepsOthers m after left = subst (KeepsOthers m after) c.deref-2.ensures.value c.make_pivot.ensures.others in
+    let small : AllByRecursion (λ other. IsTernaryRow m.width (reduced (entry m) c.args.row c.args.column other)) left = subst (AllByRecursion (λ other. IsTernaryRow m.width (reduced (entry m) c.args.row c.args.column other))) c.deref.ensures.value c.in_default.ensures.none in
+    let same_row : (j : ℕ) → entry last c.args.row j ≡ entry m c.args.row j = λ j. c.sign_left.ensures.others.others c.args.row j c.requires.apart ∙ keeps.others c.args.row j c.requires.apart in
+    let back : IsTakenBack m c.args.row c.args.column (marked v.rows.items) (marked v.columns.items) (marked (set v.rows.items c.args.row (get_or v.odd.items c.args.column false))) (marked c.undo_pivot.new.self.columns.items) =
+    taken_back m after c.args.row c.args.column left c.requires.row c.requires.column c.requires.apart c.requires.nonzero keeps.same_height keeps.same_width pivots v.rows.items v.columns.items v.odd.items c.undo_pivot.new.self.columns.items found
+    (anew_by_same (entry last c.args.row) (entry m c.args.row) c.args.column v.columns.items c.undo_pivot.new.self.columns.items same_row c.undo_pivot.ensures.columns) in
+    λ rows next. (
+      step ∷ run.0,
+      run.1 ∙ steps_later c.args.steps.now c.push.new.self step run.0 c.in_ok-push.ensures.ok,
+      (
+        left,
+        (
+          next,
+          (
+            after,
+            record { small = small; same_width = keeps.same_width; made = pivots },
+            (
+              marked v.rows.items,
+              marked v.columns.items,
+              run.2,
+              subst (λ marks. IsTakenBack m c.args.row c.args.column (marked v.rows.items) (marked v.columns.items) (marked marks) (marked c.undo_pivot.new.self.columns.items)) (sym c.undo_pivot.ensures.rows) back,
+            ),
+          ),
+        ),
+      ),
+    )
+
+pub sign_left-returns-in-None-clause-run : goal.sign_left-returns-in-None-clause-run
+sign_left-returns-in-None-clause-run t c =
+    let m = c.args.work.now in
+    let left = c.args.left.items in
+    let call = c.remove-row-in-None in
+    let within : 0 < length left = omega (arith, nonempty (vec_len c.args.left) c.is_empty.result c.is_empty.ensures c.if-is_empty.false, c.args.left.ok.0) in
+    let none : (column : ℕ) → column < m.width → HasNoPivot m left column = subst (λ xs. (column : ℕ) → column < m.width → HasNoPivot m xs column) c.deref.ensures.value c.in-None.ensures.none in
+    let row : call.result ≡ get_or left 0 0 = get_or_read left 0 call.result within call.ensures.value 0 in
+    c.sign_aside.ensures.run left (record { no_pivot = none; rows_are = first_and_others left within ∙ ap₂ (λ (r : ℕ) (xs : List ℕ). r ∷ xs) (sym row) (sym call.ensures.items) })

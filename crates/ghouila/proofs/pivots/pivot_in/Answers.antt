@@ -26,3 +26,6 @@ loop-place-preserved c =
 
 pub returns-else-odd-clause-some : goal.returns-else-odd-clause-some
 returns-else-odd-clause-some c = (scanned_even c.args.work.now c.args.left.now c.args.column c.loop-place.place c.loop-place.first c.requires.column c.loop-place-test.false (subst (IsScanned c.args.work.now c.args.left.now c.args.column c.loop-place.place c.loop-place.first) c.if-odd.false c.loop-place.invariant)).0
+
+pub returns-else-odd-clause-first : goal.returns-else-odd-clause-first
+returns-else-odd-clause-first c = c.loop-place.invariant.earlier

@@ -31,3 +31,12 @@ loop-last-preserved c =
     let value : z ≡ c.entry-in-loop-last.result -ℤ c.entry.result *ℤ (c.entry-2.result *ℤ c.entry-in-loop-last-2.result) = reduced_bytes c.entry.result c.entry-2.result c.entry-in-loop-last-2.result c.entry-in-loop-last.result c.product-factor.result z a.small p.small q.small x.small f.small f.value c.reduced-left.ensures in
     let is : z ≡ reduced (entry c.args.work.now) c.args.row c.args.column c.args.other c.loop-last.last = cc in
     below_more _ _ c.loop-last.invariant (subst IsEntry (to_z-of_z w8 z fits ∙ is) (c.is_entry.ensures.0 c.if-not-is_entry.false))
+
+pub returns-then-not-is_entry-clause-two : goal.returns-then-not-is_entry-clause-two
+returns-then-not-is_entry-clause-two c =
+    let z = c.reduced-left.result in
+    let fits : SFits w8 z = search rules in
+    let a = c.entry.ensures in let p = c.entry-2.ensures in let x = c.entry-in-loop-last.ensures in let q = c.entry-in-loop-last-2.ensures in let f = c.product-factor.ensures in
+    let value : z ≡ c.entry-in-loop-last.result -ℤ c.entry.result *ℤ (c.entry-2.result *ℤ c.entry-in-loop-last-2.result) = reduced_bytes c.entry.result c.entry-2.result c.entry-in-loop-last-2.result c.entry-in-loop-last.result c.product-factor.result z a.small p.small q.small x.small f.small f.value c.reduced-left.ensures in
+    let is : z ≡ reduced (entry c.args.work.now) c.args.row c.args.column c.args.other c.loop-last.last = cc in
+    λ small. false≢true (sym c.if-not-is_entry.true ∙ c.is_entry.ensures.1 (subst IsEntry (sym (to_z-of_z w8 z fits ∙ is)) small))

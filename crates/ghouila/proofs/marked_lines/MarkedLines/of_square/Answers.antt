@@ -1,9 +1,13 @@
-use Rattle.std.proofs.Common.{◌≡◌, ◌∙◌, ◌+ℤ◌, inl, inr, false, true, not, eqb, get_or, set, ap, sym, subst, arith, w8, of_z}
+use Rattle.std.proofs.Common.{◌≡◌, ◌∙◌, [], ◌∷◌, ◌+ℤ◌, inl, inr, false, true, not, eqb, get_or, set, ap, sym, subst, arith, w8, of_z}
 use mathlib.Core.Bool.{beq}
 use Rattle.std.proofs.lemmas.Bool.{cases_eq}
 use Rattle.std.proofs.lemmas.List.{length-set, get_or-set_same, get_or-set_other}
 use Rattle.cmr_base.specs.Matrix.{entry}
-use Rattle.ghouila.specs.Found.{HasParity}
+use Rattle.std.specs.Prelude.{◌↔◌}
+use Rattle.cmr_base.specs.Matrix.{height}
+use Rattle.cmr_base.specs.Members.{IsIn}
+use Rattle.ghouila.specs.Found.{HasParity, marked}
+use Rattle.ghouila.proofs.MarkedMembers.{in_two_marks}
 use Rattle.ghouila.proofs.SquareMarks.{odd_pair, square_marks}
 use Rattle.ghouila.proofs.marked_lines.MarkedLines.of_square.Goals as goal
 
@@ -28,8 +32,8 @@ loop-place-preserved c =
       ];
     }
 
-pub returns : goal.returns
-returns c =
+pub returns-clause-violator : goal.returns-clause-violator
+returns-clause-violator c =
     let m = c.args.work.now in
     let lines = c.loop-place.lines in
     square_marks m c.args.row c.args.column c.args.corner.row c.args.corner.column lines.rows.items lines.columns.items lines.odd.items c.requires.row c.requires.column c.requires.square
@@ -37,3 +41,15 @@ returns c =
     (c.loop-place.invariant.columns ∙ ap (λ xs. set (set xs c.args.column true) c.args.corner.column true) c.in_ok-lines.ensures.columns)
     c.loop-place.invariant.odd_each
     (λ j h. c.loop-place.invariant.parity j (omega arith))
+
+pub returns-clause-rows : goal.returns-clause-rows
+returns-clause-rows c =
+    let m = c.args.work.now in
+    let e = c.loop-place.invariant.rows ∙ ap (λ xs. set (set xs c.args.row true) c.args.corner.row true) c.in_ok-lines.ensures.rows in
+    λ i. subst (λ marks. IsIn i (marked marks) ↔ IsIn i (c.args.row ∷ c.args.corner.row ∷ [])) (sym e) (in_two_marks (height m) c.args.row c.args.corner.row c.requires.row c.requires.square.row_in i)
+
+pub returns-clause-columns : goal.returns-clause-columns
+returns-clause-columns c =
+    let m = c.args.work.now in
+    let e = c.loop-place.invariant.columns ∙ ap (λ xs. set (set xs c.args.column true) c.args.corner.column true) c.in_ok-lines.ensures.columns in
+    λ j. subst (λ marks. IsIn j (marked marks) ↔ IsIn j (c.args.column ∷ c.args.corner.column ∷ [])) (sym e) (in_two_marks m.width c.args.column c.args.corner.column c.requires.column c.requires.square.column_in j)

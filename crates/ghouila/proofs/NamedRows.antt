@@ -1,0 +1,49 @@
+-- What is found for rows of a matrix, by the rows' numbers.
+use Rattle.std.proofs.Common.{◌≡◌, ◌∙◌, ℕ, Bool, true, false, ℤ, pos, ◌+ℤ◌, ◌*ℤ◌, List, [], ◌∷◌, length, get_or, map, refl, ap, sym, subst, arith}
+use Rattle.std.specs.List.{AllByRecursion, Contains}
+use Rattle.std.proofs.lemmas.List.{length-map}
+use Rattle.std.proofs.lemmas.List.Elements.{All-from_recursion}
+use Rattle.cmr_base.specs.Matrix.{Matrix, height, entry, IsEntry}
+use Rattle.cmr_base.specs.Signing.{IsSign, signed_sum, IsSigning}
+use Rattle.cmr_base.specs.Sums.{sum_over}
+use Rattle.cmr_base.proofs.Lists.{all-map}
+use Rattle.cmr_base.proofs.RisingLists.{rising_row_set, rising_column_set}
+use Rattle.ghouila.specs.declared.by_pivots.Outcome.{Outcome}
+use Rattle.ghouila.specs.declared.by_pivots.Outcome.TheVariants.{Signed, Violated}
+use Rattle.ghouila.specs.declared.by_pivots.Pivot.{Pivot}
+use Rattle.ghouila.specs.declared.by_pivots.Signing.{Signing}
+use Rattle.ghouila.specs.declared.by_pivots.Signing.TheVariants as signings
+use Rattle.ghouila.specs.Found.{marked, SignsRows, MarksViolator}
+use Rattle.ghouila.specs.Outcome.{IsOutcome, EndsRun, IsNamed, HasSizes}
+use Rattle.ghouila.specs.Answer.{IsViolatorAmong, SignsOrViolates, IsAnswerOfRun}
+use Rattle.ghouila.specs.SignRuns.{ViolatesBySteps}
+use Rattle.ghouila.proofs.Marks.{all_marked, marked_rises}
+
+pub sizes_of : (m : Matrix) (rows : List ℕ) (outcome : Outcome) → IsOutcome m rows outcome → HasSizes m outcome
+sizes_of m rows (Signed s) is = is.one_each
+sizes_of m rows (Violated v) is = (is.row_each, is.column_each)
+
+signed_sum-map : (m : Matrix) (rows : List ℕ) (sign : ℕ → ℤ) (column : ℕ) → sum_over rows (λ row. sign row *ℤ entry m row column) ≡ signed_sum m rows (map sign rows) column
+signed_sum-map m [] sign column = refl
+signed_sum-map m (row ∷ rows) sign column = ap (λ z. sign row *ℤ entry m row column +ℤ z) (signed_sum-map m rows sign column)
+
+pub named_right : (m : Matrix) (rows : List ℕ) (outcome : Outcome) (signing : Signing) → IsOutcome m rows outcome → IsNamed rows outcome signing → SignsOrViolates m rows signing
+named_right m rows (Signed s) (signings.Signed signs) is e = subst (IsSigning m rows) (sym e) (record {
+  one_each = length-map rows (λ row. get_or s.signs.items row (pos 0));
+  each = all-map IsSign (λ row. get_or s.signs.items row (pos 0)) rows is.each;
+  sums = λ column h. subst IsEntry (is.sums_are column h ∙ signed_sum-map m rows (λ row. get_or s.signs.items row (pos 0)) column) (is.entries column h);
+})
+named_right m rows (Signed s) (signings.Violated lines) is e = absurd e
+named_right m rows (Violated v) (signings.Signed signs) is e = absurd e
+named_right m rows (Violated v) (signings.Violated lines) is e = rw (e.0, e.1) (record {
+  row_set = rising_row_set m (marked v.rows.items) (marked_rises 0 (height m) v.rows.items (let h = is.row_each in omega arith));
+  column_set = rising_column_set m (marked v.columns.items) (marked_rises 0 m.width v.columns.items (let h = is.column_each in omega arith));
+  among = All-from_recursion (Contains rows) (marked v.rows.items) (all_marked (Contains rows) 0 v.rows.items (λ k n same mark. is.among n (subst (λ i. get_or v.rows.items i false ≡ true) (let i : k ≡ n = omega arith in i) mark)));
+  violator = is.violator;
+})
+
+pub named_run : (m : Matrix) (rows : List ℕ) (steps : List Pivot) (outcome : Outcome) (signing : Signing) → EndsRun m rows steps outcome → IsNamed rows outcome signing → IsAnswerOfRun m rows steps signing
+named_run m rows steps (Signed s) (signings.Signed signs) run e = (λ row. get_or s.signs.items row (pos 0), e, run)
+named_run m rows steps (Signed s) (signings.Violated lines) run e = absurd e
+named_run m rows steps (Violated v) (signings.Signed signs) run e = absurd e
+named_run m rows steps (Violated v) (signings.Violated lines) run e = rw (e.0, e.1) run

@@ -1,0 +1,65 @@
+-- The run that signs a set of rows: pivots, and rows put aside, in a fixed order. Its state is a matrix and the rows of the set that are left.
+use Rattle.std.specs.Prelude.{◌≡◌, ◌≢◌, ◌<◌, ◌↔◌, ◌==◌, if◌then◌else◌, ℕ, ℤ, pos, neg_ℤ, ◌*ℤ◌, List, [], ◌∷◌, slice_index, MatchOption}
+use Rattle.std.specs.List.{AllByRecursion, remove}
+use Rattle.cmr_base.specs.Matrix.{Matrix, entry}
+use Rattle.cmr_base.specs.Members.{IsIn}
+use Rattle.cmr_base.specs.Sums.{sum_over, IsOdd}
+use Rattle.ghouila.specs.declared.by_pivots.Pivot.{Pivot}
+use Rattle.ghouila.specs.Pivot.{reduced, IsTernaryRow, HasNoPivot, IsFirstPivot, IsFirstTwo, PivotsRows}
+
+-- a pivot at this row and column comes next, and leaves these rows
+pub record IsPivotNext (m : Matrix) (rows : List ℕ) (row column : ℕ) (left : List ℕ) : Type 0 where
+  pub place : ℕ
+  pub first : IsFirstPivot m rows place column
+  pub row_is : row ≡ slice_index rows place
+  pub left_is : left ≡ remove rows place
+
+-- no column has a pivot, and the first row that is left is put aside
+pub record IsPutAside (m : Matrix) (rows : List ℕ) (row : ℕ) (left : List ℕ) : Type 0 where
+  pub no_pivot : (column : ℕ) → column < m.width → HasNoPivot m rows column
+  pub rows_are : rows ≡ row ∷ left
+
+-- the pivot gives no 2 and no -2, and it is made in the rows left
+pub record IsPivotMade (m after : Matrix) (row column : ℕ) (left : List ℕ) : Type 0 where
+  pub small : AllByRecursion (λ i. IsTernaryRow m.width (reduced (entry m) row column i)) left
+  pub same_width : after.width ≡ m.width
+  pub made : PivotsRows m after row column left
+
+-- the sign of a pivot's row: -a times the signed sum of its column over the rows left, in the matrix before the pivot
+abbrev pub pivot_sign : Matrix → ℕ → ℕ → List ℕ → (ℕ → ℤ) → ℤ
+pivot_sign m row column left sign = neg_ℤ (entry m row column *ℤ sum_over left (λ i. sign i *ℤ entry m i column))
+
+-- the run makes these steps until no row is left, and going back through them gives these signs: +1 to a row that was put aside
+abbrev pub SignsBySteps : Matrix → List ℕ → List Pivot → (ℕ → ℤ) → Type 0
+SignsBySteps m rows [] sign = rows ≡ []
+SignsBySteps m rows (step ∷ steps) sign = (left : List ℕ) × MatchOption step.column
+    (IsPutAside m rows step.row left × (sign step.row ≡ pos 1) × SignsBySteps m left steps sign)
+    (λ column. IsPivotNext m rows step.row column left × (sign step.row ≡ pivot_sign m step.row column left sign) × ((after : Matrix) × IsPivotMade m after step.row column left × SignsBySteps after left steps sign))
+
+-- the next pivot would give a 2 or a -2: its row and column, with those of the first such entry
+pub record IsFirstSquare (m : Matrix) (rows violator_rows violator_columns : List ℕ) : Type 0 where
+  pub row : ℕ
+  pub column : ℕ
+  pub left : List ℕ
+  pub next : IsPivotNext m rows row column left
+  pub place : ℕ
+  pub last : ℕ
+  pub two : IsFirstTwo m left row column place last
+  pub rows_are : (i : ℕ) → IsIn i violator_rows ↔ IsIn i (row ∷ slice_index left place ∷ [])
+  pub columns_are : (j : ℕ) → IsIn j violator_columns ↔ IsIn j (column ∷ last ∷ [])
+
+-- from a violator after a pivot to one before it. The pivot's row is in it where the rows after have an odd sum in the pivot's column;
+-- the pivot's column is in it where the columns after have an odd sum in the pivot's row, itself counted as 1.
+pub record IsTakenBack (m : Matrix) (row column : ℕ) (after_rows after_columns rows columns : List ℕ) : Type 0 where
+  pub row_there : IsIn row rows ↔ IsOdd (sum_over after_rows (λ i. entry m i column))
+  pub other_rows : (i : ℕ) → i ≢ row → IsIn i rows ↔ IsIn i after_rows
+  pub column_there : IsIn column columns ↔ IsOdd (sum_over after_columns (λ j. if j == column then pos 1 else entry m row j))
+  pub other_columns : (j : ℕ) → j ≢ column → IsIn j columns ↔ IsIn j after_columns
+
+-- the run makes these steps until a pivot would give a 2 or a -2, and the violator found there, taken back through them, has these lines
+abbrev pub ViolatesBySteps : Matrix → List ℕ → List Pivot → List ℕ → List ℕ → Type 0
+ViolatesBySteps m rows [] violator_rows violator_columns = IsFirstSquare m rows violator_rows violator_columns
+ViolatesBySteps m rows (step ∷ steps) violator_rows violator_columns = (left : List ℕ) × MatchOption step.column
+    (IsPutAside m rows step.row left × ViolatesBySteps m left steps violator_rows violator_columns)
+    (λ column. IsPivotNext m rows step.row column left × ((after : Matrix) × IsPivotMade m after step.row column left
+    × ((after_rows : List ℕ) × (after_columns : List ℕ) × ViolatesBySteps after left steps after_rows after_columns × IsTakenBack m step.row column after_rows after_columns violator_rows violator_columns)))
