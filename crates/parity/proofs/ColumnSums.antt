@@ -9,13 +9,9 @@ use Rattle.cmr_base.specs.Matrix.{Matrix, height, entry, IsMatrix}
 use Rattle.cmr_base.specs.Sums.{sum_over}
 use Rattle.cmr_base.proofs.Integers.{sums}
 use Rattle.cmr_base.proofs.SumLaws.{sum_over-append}
+use Rattle.cmr_base.proofs.SumSteps.{sum_over-take_more}
 use Rattle.parity.specs.Planes.{AreSums, HasResidue, minus_of, support_of}
 use Rattle.parity.proofs.Systems.{entry_bits, minus_of-lt, support_of-lt}
-
-pub sum_over-take_more : (xs : List ℕ) (f : ℕ → ℤ) (k : ℕ) → k < length xs → sum_over (take (k + 1) xs) f ≡ sum_over (take k xs) f +ℤ f (get_or xs k 0)
-sum_over-take_more xs f k h =
-    let plain : f (get_or xs k 0) +ℤ pos 0 ≡ f (get_or xs k 0) = omega (arith, sums) in
-    ap (λ (ys : List ℕ). sum_over ys f) (take_more xs k 0 h) ∙ sum_over-append (take k xs) (get_or xs k 0 ∷ []) f ∙ ap (λ (z : ℤ). sum_over (take k xs) f +ℤ z) plain
 
 pub no_sums : (m : Matrix) → AreSums m [] 0 0
 no_sums m = record { each = λ column. record { fours = pos 0; is = ap₂ (λ (a b : ℕ). (pos a +ℤ (pos b +ℤ pos b)) +ℤ pos 0) (sym (bit_at-zero column)) (sym (bit_at-zero column)) } }

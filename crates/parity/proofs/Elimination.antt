@@ -8,7 +8,8 @@ use Rattle.std.proofs.lemmas.Nat.Bits.{bit_at_and, bit_at_xor, same_from_bits, b
 use Rattle.std.proofs.lemmas.Bool.{cases_lt, cases_eq}
 use lib.Bits.{xor_self}
 use Rattle.cmr_base.proofs.Lists.{all-append, all_back, all_front, all_weaker}
-use Rattle.parity.specs.Equations.{Equation, IsBasis, IsLowest, cleared_by, common, corrected_by, reduced, solved}
+use Rattle.parity.specs.declared.narrow.Equation.{Equation}
+use Rattle.parity.specs.Equations.{IsBasis, IsLowest, cleared_by, common, corrected_by, reduced, solved}
 use Rattle.parity.proofs.Bits.{DiffersAt, and-xor, common-lt, common-pow, common-xor, common-xor_right, differs, lowest_differs}
 
 -- ---- one equation

@@ -7,3 +7,4 @@ pub mod BasisLemmas
 pub mod PlaneLemmas
 pub mod ColumnSums
 pub mod RemainderTests
+pub mod ColumnSetSearch

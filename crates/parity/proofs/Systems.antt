@@ -1,13 +1,12 @@
 -- A column set makes a violator with some rows exactly where its number solves their equations.
-use Rattle.std.proofs.Common.{◌≡◌, ◌<◌, ◌≤◌, ◌+◌, ◌/◌, ◌%◌, ◌^◌, ◌∙◌, ◌⊎◌, ℕ, zero, suc, Bool, ℤ, pos, negsuc, neg_ℤ, ◌+ℤ◌, cond, List, [], ◌∷◌, ◌++◌, map, take, length, get_or, refl, ap, ap₂, sym, subst, inl, inr, arith, min, true, false}
+use Rattle.std.proofs.Common.{◌≡◌, ◌<◌, ◌≤◌, ◌+◌, ◌%◌, ◌^◌, ◌∙◌, ◌⊎◌, ℕ, zero, suc, ℤ, pos, negsuc, neg_ℤ, ◌+ℤ◌, cond, List, [], ◌∷◌, ◌++◌, map, take, length, get_or, refl, ap, ap₂, sym, subst, inl, inr, arith, min}
 use Rattle.std.specs.Prelude.{bit_and, count_ones}
 use Rattle.std.specs.List.{AllByRecursion}
 use Rattle.std.specs.Int.{bit_at}
-use Rattle.std.proofs.lemmas.Nat.Bits.{bit_at_and, bit_at_xor, bit_at_lowest, bit_at-suc, bit_at-lt, bit_at-zero, bit_at_above, same_from_bits}
+use Rattle.std.proofs.lemmas.Nat.Bits.{bit_at_and, bit_at_xor, bit_at-lt, bit_at-zero, bit_at_above, same_from_bits}
 use Rattle.std.proofs.lemmas.Int.{ints}
 use Rattle.std.proofs.lemmas.List.{map_more}
 use Rattle.std.proofs.lemmas.Nat.{xor_lt, and_le_l}
-use Rattle.std.proofs.Math.Nat.{pow-suc}
 use Rattle.std.proofs.lemmas.Bool.{cases_lt}
 use Rattle.cmr_base.specs.Matrix.{Matrix, height, row_of, entry, IsMatrix, IsEntry, is_nonzero}
 use Rattle.cmr_base.specs.LineSets.{set_number, set_numbered}
@@ -18,28 +17,15 @@ use Rattle.cmr_base.proofs.Lists.{all_weaker}
 use Rattle.cmr_base.proofs.RisingLists.{column_set_rises}
 use Rattle.cmr_base.proofs.SetNumbers.{set_number-lt, numbered_same, number_of_numbered, column_set-numbered}
 use Rattle.cmr_base.proofs.SumLaws.{sum_over-exchange}
+use Rattle.cmr_base.proofs.PlaneWords.{bit_at-bits_of, bits_of-lt}
 use Rattle.parity.specs.Equations.{common}
-use Rattle.parity.specs.Planes.{AreSums, HasResidue, bits_of, equations_of, is_minus, minus_of, outside, support_of}
+use Rattle.cmr_base.specs.Planes.{is_minus}
+use Rattle.parity.specs.Planes.{AreSums, HasResidue, equations_of, minus_of, outside, support_of}
 use Rattle.parity.proofs.Bits.{common-lt, common-xor, ones-zero}
 use Rattle.parity.proofs.Elimination.{IsLeastSolution, apart_at, bit_cases}
 use Rattle.parity.proofs.Residues.{HasDouble, HasParity, all_numbered, at_numbered, count_from_even, count_from_two, double-numbered, even_from_count, parity-numbered, two_from_count}
 
 -- ---- entries and their bits
-bit_lt : (b : Bool) → cond b 1 0 < 2
-bit_lt true = omega arith
-bit_lt false = omega arith
-
-bit_at-bits_of : (test : ℤ → Bool) (zs : List ℤ) (place : ℕ) → test (pos 0) ≡ false → bit_at (bits_of test zs) place ≡ cond (test (get_or zs place (pos 0))) 1 0
-bit_at-bits_of test [] place none = bit_at-zero place ∙ ap (λ (b : Bool). cond b 1 0) (sym none)
-bit_at-bits_of test (z ∷ zs) zero none = bit_at_lowest (bits_of test (z ∷ zs)) ∙ omega (arith, bit_lt (test z))
-bit_at-bits_of test (z ∷ zs) (suc place) none =
-    let half : bits_of test (z ∷ zs) / 2 ≡ bits_of test zs = omega (arith, bit_lt (test z)) in
-    bit_at-suc (bits_of test (z ∷ zs)) place ∙ ap (λ n. bit_at n place) half ∙ bit_at-bits_of test zs place none
-
-pub bits_of-lt : (test : ℤ → Bool) (zs : List ℤ) → bits_of test zs < 2 ^ length zs
-bits_of-lt test [] = omega arith
-bits_of-lt test (z ∷ zs) = omega (arith, bit_lt (test z), bits_of-lt test zs, pow-suc 2 (length zs))
-
 pub support_of-lt : (m : Matrix) (row : ℕ) → IsMatrix m → row < height m → support_of m row < 2 ^ m.width
 support_of-lt m row is h = subst (λ n. support_of m row < 2 ^ n) (is.rectangular row h) (bits_of-lt is_nonzero (row_of m row))
 

@@ -1,6 +1,7 @@
 use Rattle.std.specs.Prelude.{◌≡◌, ◌<◌, ◌*◌, ◌/◌, ℕ, List, [], ◌∷◌, length, take, drop, slice_index}
 use Rattle.parity.specs.declared.basis.Basis.TheInside.{Inside}
-use Rattle.parity.specs.Equations.{Equation, System, number_of}
+use Rattle.parity.specs.declared.narrow.Equation.{Equation}
+use Rattle.parity.specs.Equations.{System, number_of}
 
 -- pivots beside the words that hold their equations, one after another
 abbrev pub paired : ℕ → List ℕ → List ℕ → List Equation

@@ -3,6 +3,7 @@
 use Rattle.std.specs.Prelude.{◌≡◌, ◌<◌, ◌+◌, ◌*◌, ◌%◌, ◌^◌, ◌==◌, if◌then◌else◌, ℕ, List, [], ◌∷◌, bit_and, bit_xor, count_ones}
 use Rattle.std.specs.List.{AllByRecursion}
 use Rattle.std.specs.Int.{bit_at}
+use Rattle.parity.specs.declared.narrow.Equation.{Equation}
 
 -- the number that the words make, the lowest first
 abbrev pub number_of : List ℕ → ℕ
@@ -17,11 +18,6 @@ common a b = count_ones (bit_and a b) % 2
 pub record IsLowest (number column : ℕ) : Type 0 where
   pub there : bit_at number column ≡ 1
   pub none_below : (other : ℕ) → other < column → bit_at number other ≡ 0
-
--- an equation with its pivot
-pub record Equation : Type 0 where
-  pub pivot : ℕ
-  pub columns : ℕ
 
 -- equations of so many words
 pub record System : Type 0 where

@@ -2,6 +2,5 @@ pub mod Equations
 pub mod Planes
 pub mod SumsView
 pub mod BasisView
-pub mod PlanesView
-pub mod PlaneTests
 pub mod SearchView
+pub mod ColumnSets

@@ -1,26 +1,9 @@
--- A matrix in planes of bits, and sums modulo 4 in two planes.
+-- Rows as sets of columns, and sums modulo 4 in two planes of bits.
 use Rattle.std.specs.Prelude.{◌≡◌, ◌+◌, ◌*◌, ◌/◌, if◌then◌else◌, ℕ, zero, suc, ℤ, pos, negsuc, ◌+ℤ◌, Bool, true, false, List, [], ◌∷◌, map, take, drop, bit_and, bit_xor}
 use Rattle.std.specs.Int.{bit_at}
 use Rattle.cmr_base.specs.Matrix.{Matrix, row_of, entry, is_nonzero}
+use Rattle.cmr_base.specs.Planes.{bits_of, is_minus}
 use Rattle.cmr_base.specs.Sums.{sum_over}
-
-abbrev pub is_minus : ℤ → Bool
-is_minus (pos n) = false
-is_minus (negsuc n) = true
-
--- the number with a bit at each entry that passes, the first entry the lowest
-abbrev pub bits_of : (ℤ → Bool) → List ℤ → ℕ
-bits_of test [] = 0
-bits_of test (z ∷ zs) = bits_of test zs * 2 + (if test z then 1 else 0)
-
--- how many words have the bits of so many columns
-abbrev pub words_for : ℕ → ℕ
-words_for columns = (columns + 63) / 64
-
--- the same bits in words
-abbrev pub words_of : ℕ → (ℤ → Bool) → List ℤ → List ℕ
-words_of zero test zs = []
-words_of (suc n) test zs = bits_of test (take 64 zs) ∷ words_of n test (drop 64 zs)
 
 -- the columns in which a row is not 0
 abbrev pub support_of : Matrix → ℕ → ℕ

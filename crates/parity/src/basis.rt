@@ -1,9 +1,8 @@
-// Equations over two values in echelon form.
 ghost use Rattle.std.specs.Prelude.{◌≡◌, ◌<◌, ◌≤◌, ◌+◌, ◌*◌, ◌/◌, ◌++◌, [], ◌∷◌, IfOk, OnOk, OnErr, Some, length, slice_get};
 ghost use Rattle.parity.specs.Equations.{number_of, cleared_by, corrected_by, reduced, solved};
 
 use crate::words::{add, have_odd_common, is_set, toggle, words_at};
-use cmr_base::Memory;
+use cmr_base::{MAX_COLUMNS, MAX_ROWS, Memory};
 use std::alloc::Global;
 use std::marker::Model;
 
@@ -30,8 +29,8 @@ impl Model for Basis {
 impl Basis {
     /// No equations yet, with room for so many of so many words.
     pub fn new(alloc: Global, words: usize, most: usize) -> Result<Basis, Memory>
-        requires words { words ≤ 1000 }
-        requires most { most ≤ 1000 }
+        requires words { words ≤ MAX_COLUMNS }
+        requires most { most ≤ MAX_ROWS }
         ensures { IfOk result (λ basis. basis ≡ record { words = words; equations = [] }) }
     {
         Ok(Basis {

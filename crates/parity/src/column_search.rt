@@ -1,16 +1,17 @@
-// The least column set that makes a violator with given rows.
-ghost use Rattle.std.specs.Prelude.{◌≡◌, ◌<◌, ◌≤◌, ◌*◌, ◌^◌, IfOk, IfSome, IfNone, OnOk, length};
-ghost use Rattle.cmr_base.specs.Matrix.{height};
+ghost use Rattle.std.specs.Prelude.{◌≡◌, ◌<◌, ◌≤◌, ◌*◌, ◌^◌, true, false, IfOk, IfSome, IfNone, OnOk, length};
+ghost use Rattle.cmr_base.specs.Matrix.{height, IsMatrix};
 ghost use Rattle.cmr_base.specs.LineSets.{AllBelow, set_numbered};
 ghost use Rattle.cmr_base.specs.Violator.{HasNoColumnSet, IsLeastColumnSet};
+ghost use Rattle.parity.specs.ColumnSets.{HasLeastColumnSet};
 ghost use Rattle.parity.specs.Equations.{IsBasis, IsLowest, number_of, reduced, solved};
-ghost use Rattle.parity.specs.Planes.{AreSums, equations_of, outside, words_for};
+ghost use Rattle.cmr_base.specs.Planes.{words_for};
+ghost use Rattle.parity.specs.Planes.{AreSums, equations_of, outside};
 
 use crate::basis::Basis;
-use crate::planes::Planes;
+use crate::narrow::{Equation, has_column_set};
 use crate::sums::Sums;
 use crate::words::{clear, empty_set, is_set, lowest, toggle};
-use cmr_base::{Indices, Matrix, Memory};
+use cmr_base::{Indices, Matrix, Memory, words_for};
 use std::alloc::Global;
 use std::marker::Model;
 
@@ -32,10 +33,11 @@ pub fn first_column_set(
 /// finds nothing takes none. Contracts see the matrix.
 #[derive(Drop)]
 pub struct ColumnSearch<'a> {
-    planes: Planes<'a>,
+    matrix: &'a Matrix,
     sums: Sums,
     basis: Basis,
     equation: Vec<u64>,
+    narrow: Vec<Equation>,
 }
 
 impl<'a> Model for ColumnSearch<'a> {
@@ -55,14 +57,35 @@ impl<'a> ColumnSearch<'a> {
     pub fn new(alloc: Global, matrix: &'a Matrix) -> Result<ColumnSearch<'a>, Memory>
         ensures { IfOk result (λ search. search ≡ matrix.entry.now) }
     {
-        let planes = Planes::new(alloc, matrix)?;
-        let words = planes.words();
+        let words = words_for(matrix.columns());
         Ok(ColumnSearch {
+            matrix,
             sums: Sums::new(alloc, words)?,
             basis: Basis::new(alloc, words, matrix.rows() as usize)?,
             equation: empty_set(alloc, words)?,
-            planes,
+            narrow: Vec::with_capacity(alloc, matrix.rows() as usize)?,
         })
+    }
+
+    /// Whether some column set makes a violator with exactly these rows. A matrix of at most 64 columns is searched by
+    /// single words.
+    pub fn has(&mut self, rows: &[u32]) -> Result<bool, Memory>
+        requires { AllBelow (height self.old) rows.now }
+        ensures same { self.new ≡ self.old }
+        ensures yes { IfOk result (λ has. has ≡ true → HasLeastColumnSet self.old rows.now) }
+        ensures no { IfOk result (λ has. has ≡ false → HasNoColumnSet self.old rows.now) }
+    {
+        let columns = self.matrix.columns();
+        if 0 < columns && columns <= 64 {
+            return has_column_set(self.matrix, rows, &mut self.narrow);
+        }
+        has_wide(
+            self.matrix,
+            &mut self.sums,
+            &mut self.basis,
+            &mut self.equation,
+            rows,
+        )
     }
 
     /// The column set of least number that makes a violator with exactly these rows, or `None` where no column
@@ -73,9 +96,9 @@ impl<'a> ColumnSearch<'a> {
         ensures least { IfOk result (λ answer. IfSome answer (IsLeastColumnSet self.old rows.now)) }
         ensures none { IfOk result (λ answer. IfNone answer (HasNoColumnSet self.old rows.now)) }
     {
-        sum_columns(&self.planes, &mut self.sums, rows);
+        sum_columns(self.matrix, &mut self.sums, rows);
         eliminate(
-            &self.planes,
+            self.matrix,
             &self.sums,
             &mut self.basis,
             &mut self.equation,
@@ -84,45 +107,73 @@ impl<'a> ColumnSearch<'a> {
         match free_column(&self.sums, &self.basis, &mut self.equation) {
             None => Ok(None),
             Some(free) => {
-                let count = self.planes.matrix().columns();
+                let count = self.matrix.columns();
                 Ok(Some(solution(alloc, &self.basis, &mut self.equation, free, count)?))
             }
         }
     }
 }
 
+// Whether some column set makes a violator with exactly these rows.
+fn has_wide(
+    matrix: &Matrix,
+    sums: &mut Sums,
+    basis: &mut Basis,
+    equation: &mut [u64],
+    rows: &[u32],
+) -> Result<bool, Memory>
+    requires rows { AllBelow (height matrix.now) rows.now }
+    requires sums { sums.old.words ≡ words_for matrix.now.width }
+    requires basis { basis.old.words ≡ words_for matrix.now.width }
+    requires equation { length equation.old ≡ words_for matrix.now.width }
+    requires shape { IsMatrix matrix.now }
+    ensures yes { IfOk result (λ has. has ≡ true → HasLeastColumnSet matrix.now rows.now) }
+    ensures no { IfOk result (λ has. has ≡ false → HasNoColumnSet matrix.now rows.now) }
+    ensures sums { sums.new.words ≡ sums.old.words }
+    ensures basis { basis.new.words ≡ basis.old.words }
+{
+    sum_columns(matrix, sums, rows);
+    eliminate(matrix, sums, basis, equation, rows)?;
+    match free_column(sums, basis, equation) {
+        Some(_free) => Ok(true),
+        None => Ok(false),
+    }
+}
+
 // The sums of the rows in each column, modulo 4.
-fn sum_columns(planes: &Planes<'_>, sums: &mut Sums, rows: &[u32])
-    requires rows { AllBelow (height planes.now) rows.now }
-    requires words { sums.old.words ≡ words_for planes.now.width }
-    ensures sums { AreSums planes.now rows.now sums.new.ones sums.new.twos }
+fn sum_columns(matrix: &Matrix, sums: &mut Sums, rows: &[u32])
+    requires rows { AllBelow (height matrix.now) rows.now }
+    requires words { sums.old.words ≡ words_for matrix.now.width }
+    requires shape { IsMatrix matrix.now }
+    ensures sums { AreSums matrix.now rows.now sums.new.ones sums.new.twos }
     ensures words { sums.new.words ≡ sums.old.words }
-    ensures small { sums.new.twos < 2 ^ planes.now.width }
+    ensures small { sums.new.twos < 2 ^ matrix.now.width }
 {
     sums.clear();
     for row in rows {
-        sums.add_row(planes.support(*row), planes.minus(*row));
+        sums.add_row(matrix.support_words(*row), matrix.minus_words(*row));
     }
 }
 
 // One equation for each row: the chosen columns have an even number of its nonzeros.
 fn eliminate(
-    planes: &Planes<'_>,
+    matrix: &Matrix,
     sums: &Sums,
     basis: &mut Basis,
     equation: &mut [u64],
     rows: &[u32],
 ) -> Result<(), Memory>
-    requires rows { AllBelow (height planes.now) rows.now }
-    requires sums { sums.now.words ≡ words_for planes.now.width }
-    requires basis { basis.old.words ≡ words_for planes.now.width }
-    requires equation { length equation.old ≡ words_for planes.now.width }
-    ensures basis { OnOk result (IsBasis planes.now.width sums.now.ones (equations_of planes.now sums.now.ones rows.now) basis.new.equations) }
+    requires rows { AllBelow (height matrix.now) rows.now }
+    requires sums { sums.now.words ≡ words_for matrix.now.width }
+    requires basis { basis.old.words ≡ words_for matrix.now.width }
+    requires equation { length equation.old ≡ words_for matrix.now.width }
+    requires shape { IsMatrix matrix.now }
+    ensures basis { OnOk result (IsBasis matrix.now.width sums.now.ones (equations_of matrix.now sums.now.ones rows.now) basis.new.equations) }
     ensures words { basis.new.words ≡ basis.old.words }
 {
     basis.clear();
     for row in rows {
-        sums.mask_row(planes.support(*row), equation);
+        sums.mask_row(matrix.support_words(*row), equation);
         basis.reduce(equation);
         if let Some(pivot) = lowest(equation) {
             basis.push(pivot, equation)?;

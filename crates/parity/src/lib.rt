@@ -3,10 +3,8 @@
 
 mod basis;
 mod column_search;
-mod planes;
+mod narrow;
 mod sums;
-#[cfg(test)]
-mod tests;
 mod violator;
 mod words;
 

@@ -1,4 +1,3 @@
-// Column sums modulo 4, for all columns at once.
 ghost use Rattle.std.specs.Prelude.{◌≡◌, IfOk, length, bit_and, bit_xor};
 ghost use Rattle.parity.specs.Equations.{number_of};
 ghost use Rattle.parity.specs.Planes.{SumPlanes, outside, with_row};

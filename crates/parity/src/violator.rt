@@ -1,12 +1,11 @@
-// Whether lines make a violator.
-ghost use Rattle.std.specs.Prelude.{◌≡◌, ◌<◌, ◌≤◌, ◌≤ℤ◌, ◌↔◌, ℕ, IsTrue, length, neg_ℤ, pos, slice_index_or};
+ghost use Rattle.std.specs.Prelude.{◌≤◌, ◌↔◌, IsTrue, length};
 ghost use Rattle.std.specs.List.{AllByRecursion};
-ghost use Rattle.cmr_base.specs.Matrix.{height, entry, IsEntry};
+ghost use Rattle.cmr_base.specs.Matrix.{height, entry};
 ghost use Rattle.cmr_base.specs.LineSets.{AllBelow};
 ghost use Rattle.cmr_base.specs.Sums.{sum_over, IsEven, IsTwoModFour};
 ghost use Rattle.cmr_base.specs.Violator.{IsViolator};
 
-use cmr_base::{LineSet, Matrix};
+use cmr_base::{LineSet, MAX_COLUMNS, MAX_ROWS, Matrix};
 
 /// Whether the submatrix on these lines is a violator: even row sums, even column sums, and a sum of 2 modulo 4.
 pub fn is_violator(matrix: &Matrix, lines: &LineSet) -> bool
@@ -20,17 +19,17 @@ pub fn is_violator(matrix: &Matrix, lines: &LineSet) -> bool
     prove!(columns.len() <= matrix.columns() as usize);
     have_even_rows(matrix, rows, columns)
         && have_even_columns(matrix, rows, columns)
-        && is_two_mod_four(whole_sum(matrix, rows, columns))
+        && is_two_mod_four(matrix.sum(lines))
 }
 
 fn have_even_rows(matrix: &Matrix, rows: &[u32], columns: &[u32]) -> bool
     requires rows { AllBelow (height matrix.now) rows.now }
     requires columns { AllBelow matrix.now.width columns.now }
-    requires few { length columns.now ≤ 1000 }
+    requires few { length columns.now ≤ MAX_COLUMNS }
     ensures { IsTrue result ↔ AllByRecursion (λ row. IsEven (sum_over columns.now (λ column. entry matrix.now row column))) rows.now }
 {
     for row in rows {
-        if !is_even(row_sum(matrix, *row, columns)) {
+        if !is_even(matrix.row_sum(*row, columns)) {
             return false;
         }
     }
@@ -40,58 +39,15 @@ fn have_even_rows(matrix: &Matrix, rows: &[u32], columns: &[u32]) -> bool
 fn have_even_columns(matrix: &Matrix, rows: &[u32], columns: &[u32]) -> bool
     requires rows { AllBelow (height matrix.now) rows.now }
     requires columns { AllBelow matrix.now.width columns.now }
-    requires few { length rows.now ≤ 1000 }
+    requires few { length rows.now ≤ MAX_ROWS }
     ensures { IsTrue result ↔ AllByRecursion (λ column. IsEven (sum_over rows.now (λ row. entry matrix.now row column))) columns.now }
 {
     for column in columns {
-        if !is_even(column_sum(matrix, rows, *column)) {
+        if !is_even(matrix.column_sum(rows, *column)) {
             return false;
         }
     }
     true
-}
-
-fn whole_sum(matrix: &Matrix, rows: &[u32], columns: &[u32]) -> i32
-    requires rows { AllBelow (height matrix.now) rows.now }
-    requires columns { AllBelow matrix.now.width columns.now }
-    requires few_rows { length rows.now ≤ 1000 }
-    requires few_columns { length columns.now ≤ 1000 }
-    ensures { result ≡ sum_over rows.now (λ row. sum_over columns.now (λ column. entry matrix.now row column)) }
-{
-    let mut sum = 0i32;
-    for row in rows {
-        sum += row_sum(matrix, *row, columns);
-    }
-    sum
-}
-
-fn row_sum(matrix: &Matrix, row: u32, columns: &[u32]) -> i32
-    requires row { row < height matrix.now }
-    requires columns { AllBelow matrix.now.width columns.now }
-    requires few { length columns.now ≤ 1000 }
-    ensures sum { result ≡ sum_over columns.now (λ column. entry matrix.now row column) }
-    ensures low { neg_ℤ (pos 1000) ≤ℤ result }
-    ensures high { result ≤ℤ pos 1000 }
-{
-    let entries = matrix.row(row);
-    let mut sum = 0i32;
-    for column in columns {
-        sum += i32::from(entries[*column as usize]);
-    }
-    sum
-}
-
-fn column_sum(matrix: &Matrix, rows: &[u32], column: u32) -> i32
-    requires rows { AllBelow (height matrix.now) rows.now }
-    requires column { column < matrix.now.width }
-    requires few { length rows.now ≤ 1000 }
-    ensures { result ≡ sum_over rows.now (λ row. entry matrix.now row column) }
-{
-    let mut sum = 0i32;
-    for row in rows {
-        sum += i32::from(matrix.entry(*row, column));
-    }
-    sum
 }
 
 fn is_even(sum: i32) -> bool

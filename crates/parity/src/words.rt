@@ -1,18 +1,11 @@
-// Sets of columns as bits of words: column c is the bit 2^(c mod 64) of word c / 64.
+//! Sets of columns as bits of words: column c is the bit 2^(c mod 64) of word c / 64.
+
 ghost use Rattle.std.specs.Prelude.{◌≡◌, ◌<◌, ◌≤◌, ◌+◌, ◌*◌, ◌/◌, ◌^◌, ◌↔◌, take, drop, IsTrue, IfOk, IfSome, IfNone, length, bit_xor};
 ghost use Rattle.std.specs.Int.{bit_at};
 ghost use Rattle.parity.specs.Equations.{number_of, common, IsLowest};
-ghost use Rattle.parity.specs.Planes.{words_for};
 
-use cmr_base::Memory;
+use cmr_base::{Memory, xor_words};
 use std::alloc::Global;
-
-/// How many words hold the bits of so many columns.
-pub fn words_for(columns: u32) -> usize
-    ensures { result ≡ words_for columns }
-{
-    (columns as usize + 63) / 64
-}
 
 /// The words at a place, where each place has so many.
 pub fn words_at(flat: &[u64], place: usize, words: usize) -> &[u64]
@@ -59,9 +52,7 @@ pub fn add(words: &mut [u64], other: &[u64])
     requires { length words.old ≡ length other.now }
     ensures { number_of words.new ≡ bit_xor (number_of words.old) (number_of other.now) }
 {
-    for place in 0..words.len() {
-        words[place] ^= other[place];
-    }
+    xor_words(words, other);
 }
 
 /// The least column of the set, or `None` where it is empty.

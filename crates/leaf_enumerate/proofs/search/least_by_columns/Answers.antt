@@ -1,20 +1,16 @@
-use Rattle.std.proofs.Common.{ap, subst, arith}
-use Rattle.cmr_base.specs.Matrix.{Matrix, height}
+use Rattle.std.proofs.Common.{subst}
+use Rattle.cmr_base.specs.Matrix.{Matrix}
 use Rattle.cmr_base.specs.Violator.{HasNoViolator, IsLeastByRows}
-use Rattle.cmr_base.proofs.Parts.{height-transposed}
 use Rattle.cmr_base.proofs.TransposedLemmas.{least_from_transposed, none_from_transposed}
 use Rattle.leaf_enumerate.proofs.search.least_by_columns.Goals as goal
 
-pub least_by_rows-requires : goal.least_by_rows-requires
-least_by_rows-requires c = omega (arith, ap height c.in_ok-turned.ensures, height-transposed c.args.matrix.now, c.requires.few)
-
 pub returns-in-Some-clause-least : goal.returns-in-Some-clause-least
-returns-in-Some-clause-least c =
+returns-in-Some-clause-least g c =
     let found = rw c.in-Some.is at c.in_ok-lines.ensures.least in
     least_from_transposed c.args.matrix.now c.in-Some.lines.columns c.in-Some.lines.rows c.requires.shape
-    (subst (λ (m : Matrix). IsLeastByRows m c.in-Some.lines.rows c.in-Some.lines.columns) c.in_ok-turned.ensures found)
+    (subst (λ (m : Matrix). IsLeastByRows m c.in-Some.lines.rows c.in-Some.lines.columns) c.in_ok-turned.ensures.value found)
 
 pub returns-clause-none : goal.returns-clause-none
-returns-clause-none c =
+returns-clause-none g c =
     let none = rw c.in-None.is at c.in_ok-lines.ensures.none in
-    none_from_transposed c.args.matrix.now c.requires.shape (subst (λ (m : Matrix). HasNoViolator m) c.in_ok-turned.ensures none)
+    none_from_transposed c.args.matrix.now c.requires.shape (subst (λ (m : Matrix). HasNoViolator m) c.in_ok-turned.ensures.value none)

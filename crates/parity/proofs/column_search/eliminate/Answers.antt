@@ -1,20 +1,22 @@
 use Rattle.std.proofs.Common.{◌≡◌, ◌+◌, ◌∙◌, ◌++◌, ◌∷◌, [], ap, sym, subst, take, get_or, arith, List, ℕ}
 use Rattle.parity.specs.Equations.{IsBasis, IsLowest, System, number_of, reduced}
 use Rattle.parity.specs.Planes.{equations_of, outside, support_of}
+use Rattle.cmr_base.specs.Matrix.{is_nonzero}
+use Rattle.parity.proofs.PlaneLemmas.{length-row, number_of-row}
 use Rattle.parity.proofs.Elimination.{basis_push, basis_skip}
 use Rattle.parity.proofs.Systems.{equations_more, outside_apart, outside_lt, support_of-lt}
 use Rattle.parity.proofs.column_search.eliminate.Goals as goal
 use Rattle.parity.proofs.column_search.eliminate.Goals.{in-Some+in_ok-push, in_default}
 
 pub lowest-requires : goal.lowest-requires
-lowest-requires c = omega (arith, c.support.ensures.shape.width_in)
+lowest-requires c = omega (arith, c.requires.shape.width_in)
 
 pub push-requires-clause-pivot : goal.push-requires-clause-pivot
 push-requires-clause-pivot c = omega (arith, c.in-Some.ensures.inside)
 
 pub loop-row-preserved : goal.loop-row-preserved
 loop-row-preserved c =
-    let m = c.args.planes.now in
+    let m = c.args.matrix.now in
     let gone = c.args.sums.now.ones in
     let rows = c.args.rows.now in
     let i = c.loop-row.row-index in
@@ -22,8 +24,8 @@ loop-row-preserved c =
     let before = equations_of m gone (take i rows) in
     let row = outside gone (support_of m (get_or rows i 0)) in
     let more = sym (equations_more m gone rows i c.loop-row-test.true) in
-    let left : number_of c.reduce.new.columns ≡ reduced es row = c.reduce.ensures ∙ ap (reduced es) (c.mask_row.ensures ∙ ap (outside gone) c.support.ensures.columns) in
-    let small = outside_lt gone (support_of m (get_or rows i 0)) m.width (support_of-lt m (get_or rows i 0) c.support.ensures.shape (c.requires.rows i c.loop-row-test.true)) in
+    let left : number_of c.reduce.new.columns ≡ reduced es row = c.reduce.ensures ∙ ap (reduced es) (c.mask_row.ensures ∙ ap (outside gone) (number_of-row m is_nonzero (get_or rows i 0) c.support_words.result.now c.requires.shape (c.requires.rows i c.loop-row-test.true) c.support_words.ensures)) in
+    let small = outside_lt gone (support_of m (get_or rows i 0)) m.width (support_of-lt m (get_or rows i 0) c.requires.shape (c.requires.rows i c.loop-row-test.true)) in
     elim c.match-lowest.branch [
       | in-Some+in_ok-push w ↦
           let pivot = w.in-Some.pivot in
@@ -42,3 +44,7 @@ loop-row-preserved c =
         words = ap (λ (s : System). s.words) w.basis-is ∙ c.loop-row.invariant.words;
       }
     ]
+
+pub mask_row-requires-clause-support : goal.mask_row-requires-clause-support
+mask_row-requires-clause-support c =
+    length-row c.args.matrix.now is_nonzero (get_or c.args.rows.now c.loop-row.row-index 0) c.support_words.result.now c.support_words.ensures ∙ sym c.requires.sums

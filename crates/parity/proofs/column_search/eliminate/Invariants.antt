@@ -5,6 +5,6 @@ use Rattle.parity.proofs.column_search.eliminate.Given as goal
 
 abbrev pub invariant-loop-row : goal.invariant-loop-row
 invariant-loop-row l = record {
-  so_far : IsBasis l.planes.width l.sums.ones (equations_of l.planes l.sums.ones (take l.row-index l.rows)) l.basis.equations;
+  so_far : IsBasis l.matrix.width l.sums.ones (equations_of l.matrix l.sums.ones (take l.row-index l.rows)) l.basis.equations;
   words : l.basis.words ≡ l.fn.basis.words;
 }

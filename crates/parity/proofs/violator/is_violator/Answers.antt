@@ -1,6 +1,7 @@
-use Rattle.std.proofs.Common.{◌∙◌, ap, sym, subst, length, arith, rules, SFits, w32, List, ℕ}
+use Rattle.std.proofs.Common.{◌∙◌, ap, ap₂, sym, subst, length, arith, rules, SFits, w32, List, ℕ}
 use Rattle.std.proofs.lemmas.Bool.{false≢true}
 use Rattle.std.proofs.lemmas.Int.{to_z-of_z}
+use Rattle.cmr_base.specs.LineSets.{submatrix_sum}
 use Rattle.cmr_base.specs.Sums.{IsTwoModFour}
 use Rattle.cmr_base.specs.Matrix.{entry, height}
 use Rattle.cmr_base.specs.Violator.{IsViolator}
@@ -21,8 +22,8 @@ returns-then-have_even_columns c =
     let m = c.args.matrix.now in
     let rows = c.as_slice-rows.ensures.items in
     let columns = c.as_slice-columns.ensures.items in
-    let fits : SFits w32 c.whole_sum.result = search rules in
-    let sum = to_z-of_z w32 c.whole_sum.result fits ∙ c.whole_sum.ensures in
+    let fits : SFits w32 c.sum.result = search rules in
+    let sum = to_z-of_z w32 c.sum.result fits ∙ c.sum.ensures ∙ sym (ap₂ (submatrix_sum m) rows columns) in
     elim c.if-have_even_rows.branch [
       | then-have_even_rows w ↦
           let even_rows = c.have_even_rows.ensures.0 w.if-have_even_rows.true in

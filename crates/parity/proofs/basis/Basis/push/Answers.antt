@@ -1,5 +1,6 @@
 use Rattle.std.proofs.Common.{◌≡◌, ◌∙◌, ◌++◌, ◌∷◌, [], ap, ap₂, sym, List, ℕ, rules}
-use Rattle.parity.specs.Equations.{Equation, System, number_of}
+use Rattle.parity.specs.declared.narrow.Equation.{Equation}
+use Rattle.parity.specs.Equations.{System, number_of}
 use Rattle.parity.specs.BasisView.{paired}
 use Rattle.parity.proofs.BasisLemmas.{paired-push}
 use Rattle.parity.proofs.basis.Basis.push.Goals as goal

@@ -1,5 +1,6 @@
 use Rattle.std.proofs.Common.{◌∙◌, ◌+◌, ap, sym, drop, List}
-use Rattle.parity.specs.Equations.{Equation, number_of, reduced}
+use Rattle.parity.specs.declared.narrow.Equation.{Equation}
+use Rattle.parity.specs.Equations.{number_of, reduced}
 use Rattle.parity.proofs.BasisLemmas.{drop-equation}
 use Rattle.parity.proofs.basis.Basis.reduce.Goals as goal
 

@@ -1,5 +1,6 @@
 use Rattle.std.proofs.Common.{◌≡◌, ◌∙◌, ◌+◌, ◌-◌, ap, sym, drop, arith, List}
-use Rattle.parity.specs.Equations.{Equation, corrected_by, number_of, solved}
+use Rattle.parity.specs.declared.narrow.Equation.{Equation}
+use Rattle.parity.specs.Equations.{corrected_by, number_of, solved}
 use Rattle.parity.proofs.BasisLemmas.{drop-equation}
 use Rattle.parity.proofs.basis.Basis.solve.Goals as goal
 

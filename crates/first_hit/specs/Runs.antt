@@ -1,0 +1,31 @@
+-- The runs of numbers that the workers of a round go through.
+use Rattle.std.specs.Prelude.{ℕ, ◌<◌, ◌≤◌, ◌+◌, ◌*◌, min, Option, Some, None}
+use Rattle.first_hit.specs.declared.round.Round.{Round}
+
+-- where a worker's run of a row begins: a row has one run for each worker, in their order
+abbrev pub run_start : Round → ℕ → ℕ → ℕ
+run_start round row worker = round.from + (row * round.workers + worker) * round.run
+
+-- the range of a round is not longer than its rows of runs
+pub record IsRound (round : Round) : Type 0 where
+  pub ordered : round.from ≤ round.to
+  pub workers : (1 ≤ round.workers) × (round.workers ≤ 64)
+  pub run : (1 ≤ round.run) × (round.run ≤ 4294967296)
+  pub rows : round.rows ≤ 256
+  pub covered : round.to ≤ round.from + round.rows * round.workers * round.run
+
+-- nothing below a bound holds in the runs of some workers, in the rows from the first on
+abbrev pub NoneInRows : (ℕ → Type 0) → Round → ℕ → ℕ → ℕ → ℕ → Type 0
+NoneInRows holds round rows low high bound = (row worker k : ℕ) → row < rows → low ≤ worker → worker < high
+    → run_start round row worker ≤ k → k < run_start round row worker + round.run → k < bound → ¬ (holds k)
+
+-- the least number in the runs of some workers that holds, or none where none does
+abbrev pub IsFirstInRuns : (ℕ → Type 0) → Round → ℕ → ℕ → Option ℕ → Type 0
+IsFirstInRuns holds round low high None = NoneInRows holds round round.rows low high round.to
+IsFirstInRuns holds round low high (Some k) = (round.from ≤ k) × (k < round.to) × holds k × NoneInRows holds round round.rows low high k
+
+-- the lesser of two answers
+abbrev pub lesser : Option ℕ → Option ℕ → Option ℕ
+lesser None two = two
+lesser (Some one) None = Some one
+lesser (Some one) (Some two) = Some (min one two)

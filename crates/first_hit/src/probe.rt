@@ -1,0 +1,37 @@
+// Questions about numbers.
+ghost use Rattle.std.specs.Prelude.{◌≤◌, ◌↔◌, ℕ, IsTrue, IfOk};
+ghost use Rattle.first_hit.specs.First.{IsFirst, NoneBetween};
+
+use cmr_base::Memory;
+use std::alloc::Global;
+
+/// A question about each number, which several workers ask.
+pub trait Probe: Sync {
+    /// That a number holds.
+    ghost holds: { Self → ℕ → Type 0 };
+
+    /// Whether a number holds.
+    fn hit(&self, alloc: Global, index: u64) -> Result<bool, Memory>
+        ensures { IfOk result (λ yes. IsTrue yes ↔ holds self.now index) };
+
+    /// The least number of a range that holds. A probe that asks many numbers in a row at less cost has a body of its
+    /// own.
+    fn first(&self, alloc: Global, from: u64, to: u64) -> Result<Option<u64>, Memory>
+        requires { from ≤ to }
+        ensures { IfOk result (IsFirst (holds self.now) from to) }
+    {
+        for index in from..to {
+            if self.hit(alloc, index)? {
+                return Ok(Some(index));
+            }
+        }
+        Ok(None)
+    }
+
+    /// How many numbers in a row one worker asks at a time.
+    fn run(&self) -> u64
+        ensures { (1 ≤ result) × (result ≤ 4294967296) }
+    {
+        64
+    }
+}

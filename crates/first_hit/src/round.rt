@@ -1,0 +1,69 @@
+// A round of the search: a range of numbers that the workers share out.
+ghost use Rattle.std.specs.Prelude.{◌≡◌, ◌<◌, ◌≤◌, ◌+◌, IfOk};
+ghost use Rattle.first_hit.specs.First.{IsFirst};
+ghost use Rattle.first_hit.specs.Runs.{IsFirstInRuns, IsRound};
+
+use crate::probe::Probe;
+use cmr_base::Memory;
+use std::alloc::Global;
+
+/// The numbers from one to another, in rows of runs: a row has one run for each worker, in their order.
+#[derive(Clone, Copy)]
+pub struct Round {
+    pub from: u64,
+    pub to: u64,
+    pub workers: u64,
+    pub run: u64,
+    pub rows: u64,
+}
+
+impl Round {
+    /// The round from a number on with at most so many rows. Where few numbers are left, the runs are shorter, so that
+    /// each worker has one.
+    pub fn new(from: u64, total: u64, workers: u64, run: u64, rows: u64) -> Round
+        requires left { from < total }
+        requires workers { (1 ≤ workers) × (workers ≤ 64) }
+        requires run { (1 ≤ run) × (run ≤ 4294967296) }
+        requires rows { (1 ≤ rows) × (rows ≤ 256) }
+        ensures round { IsRound result }
+        ensures from { result.from ≡ from }
+        ensures workers { result.workers ≡ workers }
+        ensures goes_on { from < result.to }
+        ensures to { result.to ≤ total }
+    {
+        let left = total - from;
+        let run = run.min((left - 1) / workers + 1);
+        let size = left.min(rows * workers * run);
+        Round {
+            from,
+            to: from + size,
+            workers,
+            run,
+            rows,
+        }
+    }
+
+    /// The least number in the runs of one worker that holds.
+    pub fn first_of_worker<P: Probe>(
+        &self,
+        alloc: Global,
+        worker: u64,
+        probe: &P,
+    ) -> Result<Option<u64>, Memory>
+        requires round { IsRound self.now }
+        requires worker { worker < self.now.workers }
+        ensures { IfOk result (IsFirstInRuns (P.holds probe.now) self.now worker (worker + 1)) }
+    {
+        for row in 0..self.rows {
+            let start = (row * self.workers + worker) * self.run;
+            let size = self.to - self.from;
+            if start < size {
+                let end = size.min(start + self.run);
+                if let Some(index) = probe.first(alloc, self.from + start, self.from + end)? {
+                    return Ok(Some(index));
+                }
+            }
+        }
+        Ok(None)
+    }
+}

@@ -1,0 +1,107 @@
+// Rounds of workers.
+ghost use Rattle.std.specs.Prelude.{◌≡◌, ◌<◌, ◌≤◌, ◌+◌, IfOk};
+ghost use Rattle.std.specs.Thread.{IsSync};
+ghost use Rattle.first_hit.specs.First.{IsFirst};
+ghost use Rattle.first_hit.specs.Runs.{IsFirstInRuns, IsRound, lesser};
+
+use crate::probe::Probe;
+use crate::round::Round;
+use cmr_base::Memory;
+use std::alloc::Global;
+use std::thread::{Threads, join};
+
+/// The most rows of a round, so that a find in its front is not long waited for.
+const MOST_ROWS: u64 = 256;
+
+/// The least number below `total` that holds, and `None` exactly where none holds. The number of workers changes
+/// nothing of it. They go through rounds of numbers that grow, so that a find comes early where it stands early, and
+/// each has runs from all over a round, so that they need about the same time.
+pub fn first_hit<R: Threads + Sync, P: Probe>(
+    rt: &R,
+    alloc: Global,
+    workers: u32,
+    total: u64,
+    probe: &P,
+) -> Result<Option<u64>, Memory>
+    requires { (1 ≤ workers) × (workers ≤ 64) }
+    ensures { IfOk result (IsFirst (P.holds probe.now) 0 total) }
+{
+    if workers == 1 {
+        return probe.first(alloc, 0, total);
+    }
+    let run = probe.run();
+    let mut from = 0u64;
+    let mut rows = 1u64;
+    while from < total {
+        let round = Round::new(from, total, u64::from(workers), run, rows);
+        match first_of_workers(rt, alloc, round, 0, round.workers, probe)? {
+            Some(index) => return Ok(Some(index)),
+            None => from = round.to,
+        }
+        rows = more_rows(rows);
+    }
+    Ok(None)
+}
+
+fn more_rows(rows: u64) -> u64
+    requires { (1 ≤ rows) × (rows ≤ 256) }
+    ensures { (1 ≤ result) × (result ≤ 256) }
+{
+    if 2 * rows <= MOST_ROWS {
+        2 * rows
+    } else {
+        rows
+    }
+}
+
+// The least number in the runs of some workers that holds.
+fn first_of_workers<R: Threads + Sync, P: Probe>(
+    rt: &R,
+    alloc: Global,
+    round: Round,
+    low: u64,
+    high: u64,
+    probe: &P,
+) -> Result<Option<u64>, Memory>
+    requires round { IsRound round }
+    requires some { low < high }
+    requires workers { high ≤ round.workers }
+    ensures { IfOk result (IsFirstInRuns (P.holds probe.now) round low high) }
+{
+    if high - low == 1 {
+        return round.first_of_worker(alloc, low, probe);
+    }
+    let middle = low + (high - low) / 2;
+    let (front, back) = join(
+        rt,
+        || -> Result<Option<u64>, Memory>
+            requires shared { IsSync R.row }
+            requires round { IsRound round }
+            requires some { low < middle }
+            requires workers { middle ≤ round.workers }
+            ensures { IfOk result (IsFirstInRuns (P.holds probe.entry.now) round low middle) }
+        { first_of_workers(rt, alloc, round, low, middle, probe) },
+        || -> Result<Option<u64>, Memory>
+            requires shared { IsSync R.row }
+            requires round { IsRound round }
+            requires some { middle < high }
+            requires workers { high ≤ round.workers }
+            ensures { IfOk result (IsFirstInRuns (P.holds probe.entry.now) round middle high) }
+        { first_of_workers(rt, alloc, round, middle, high, probe) },
+    );
+    let front = front?;
+    let back = back?;
+    Ok(lesser(front, back))
+}
+
+fn lesser(one: Option<u64>, two: Option<u64>) -> Option<u64>
+    ensures { result ≡ lesser one two }
+{
+    let Some(first) = one else {
+        return two;
+    };
+    match two {
+        Some(second) => Some(first.min(second)),
+        None => Some(first),
+    }
+}
