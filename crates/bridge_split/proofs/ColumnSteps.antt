@@ -2,7 +2,7 @@
 use Rattle.std.proofs.Common.{ℕ, zero, suc, ◌+◌, Bool, true, false, List, [], ◌∷◌, ◌++◌, ◌≡◌, ◌≢◌, ◌<◌, ◌≤◌, ◌∙◌, sym, ap, refl, arith, subst, ◌⊎◌, inl, inr, length, get_or, set, get_or-set_same, get_or-set_other, length-set, add-one}
 use Rattle.std.specs.List.Sorted.{IsStrictlyIncreasing}
 use Rattle.std.proofs.lemmas.Bool.{cases_lt, cases_eq}
-use Rattle.std.proofs.lemmas.List.{get_or_append_left}
+use Rattle.std.proofs.lemmas.List.{get_or_append_left, get_or_default}
 use Rattle.cmr_base.specs.LineSets.{AllBelow}
 use Rattle.cmr_base.specs.Matrix.{Matrix, height}
 use Rattle.cmr_base.specs.Members.{IsIn}
@@ -11,13 +11,9 @@ use Rattle.cmr_base.proofs.ListsWithout.{place_of, IsPlaceOf, place_is}
 use Rattle.cmr_base.proofs.Members.{in-append, in_at}
 use Rattle.cmr_base.proofs.RowLists.{not_both}
 use Rattle.bridge_split.specs.PartNumbers.{number_at, is_seen, HasRoom, Extends, IsWalking, IsMeeting, IsMeetingColumn, HasMetColumn, IsMeetingJoined}
-use Rattle.bridge_split.proofs.ThreeNonzeros.{column_in, below_in}
+use Rattle.bridge_split.proofs.ThreeNonzeros.{below_in}
 use Rattle.bridge_split.proofs.PartWalks.{push_length, is_met, meets_joined, column_seen, done_by_all, done_by_columns}
-
-pub any_default : {A : Type 0} (xs : List A) (i : ℕ) (d e : A) → i < length xs → get_or xs i d ≡ get_or xs i e
-any_default [] i d e l = absurd (omega arith)
-any_default (x ∷ xs) zero d e l = refl
-any_default (x ∷ xs) (suc i) d e l = any_default xs i d e (omega arith)
+use Rattle.cmr_base.proofs.NextNonzeros.{column_in}
 
 pub extends_none : (met : List ℕ) → Extends met met
 extends_none met = record { longer = omega arith; same = λ p l. refl }
@@ -117,7 +113,7 @@ module _ (m : Matrix) (S : List ℕ) (rises : IsStrictlyIncreasing S) (column nu
   passed_row part2 met2 seen2 f l below f_is h a b d =
       let low : get_or S upto 0 < height m = below upto l in
       rw (a, b, d) (passes_row l low (elim h [
-        | inl n ↦ inl (λ e. n (f_is ∙ any_default part' (get_or S upto 0) f 4294967295 (let k = w.room.numbers in omega arith) ∙ e))
+        | inl n ↦ inl (λ e. n (f_is ∙ get_or_default part' (get_or S upto 0) f 4294967295 (let k = w.room.numbers in omega arith) ∙ e))
         | inr z ↦ inr z
       ]))
 
@@ -125,7 +121,7 @@ module _ (m : Matrix) (S : List ℕ) (rises : IsStrictlyIncreasing S) (column nu
       → part2 ≡ set part' (get_or S upto 0) number → met2 ≡ met' ++ get_or S upto 0 ∷ [] → seen2 ≡ seen' → IsMeetingColumn m S column number part met seen part2 met2 seen2 (upto + 1)
   met_row part2 met2 seen2 f l below f_is f_top meets a b d =
       let low : get_or S upto 0 < height m = below upto l in
-      rw (a, b, d) (meets_row l low (any_default part' (get_or S upto 0) 4294967295 f (let k = w.room.numbers in omega arith) ∙ sym f_is ∙ f_top) meets)
+      rw (a, b, d) (meets_row l low (get_or_default part' (get_or S upto 0) 4294967295 f (let k = w.room.numbers in omega arith) ∙ sym f_is ∙ f_top) meets)
 
 module _ (m : Matrix) (S : List ℕ) (rises : IsStrictlyIncreasing S) (i number head : ℕ) (part met : List ℕ) (seen : List Bool) where
   pub joined_starts : HasRoom m part seen → IsMeetingJoined m S i number head part met seen part met seen 0
@@ -159,6 +155,22 @@ module _ (m : Matrix) (S : List ℕ) (rises : IsStrictlyIncreasing S) (i number 
             ];
           };
     })
+
+    -- columns in which the row is 0
+    pub skips_columns : (column : ℕ) → ((c : ℕ) → upto ≤ c → c < column → support m (get_or met head 0) c ≡ false) → IsMeetingJoined m S i number head part met seen part' met' seen' column
+    skips_columns column none = record {
+      room = w.room;
+      extends = w.extends;
+      walk = λ place walking.
+          let v = w.walk place walking in
+          record {
+            walk = v.walk;
+            so_far = λ c l e off. elim (cases_lt c upto) [
+              | inl lt ↦ v.so_far c lt e off
+              | inr ge ↦ absurd (not_both (support m (get_or met head 0) c) e (none c ge l))
+            ];
+          };
+    }
 
     pub meets_column : (part2 met2 : List ℕ) (seen2 : List Bool) → head < length met → support m (get_or met head 0) upto ≡ true → support m i upto ≡ false
         → HasRoom m part2 seen2 → HasMetColumn (support m) S upto number part' met' seen' part2 met2 seen2 → IsMeetingJoined m S i number head part met seen part2 met2 seen2 (upto + 1)

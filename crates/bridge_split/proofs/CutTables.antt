@@ -14,15 +14,9 @@ use Rattle.cmr_base.specs.Trees.{support}
 use Rattle.cmr_base.proofs.ListsWithout.{place_of, IsPlaceOf, place_is}
 use Rattle.cmr_base.proofs.Members.{in-append, in_at}
 use Rattle.cmr_base.proofs.RowLists.{not_both}
-use Rattle.bridge_split.proofs.ThreeNonzeros.{column_in}
 use Rattle.bridge_split.specs.Cutting.{Denies, IsUncutIn, AreUncutIn, IsMetBy, part_at, IsCutTable, HasLine, disagree}
-
--- what holds at each place holds of each number
-pub each_in : (P : ℕ → Type 0) (xs : List ℕ) (upto : ℕ) → length xs ≤ upto → ((k : ℕ) → k < upto → P (get_or xs k 0)) → (x : ℕ) → IsIn x xs → P x
-each_in P xs upto l all x h = go (place_is x xs h)
-  where
-    go : IsPlaceOf x xs (place_of x xs) → P x
-    go p = subst P p.there (all (place_of x xs) (let m = p.in_range in omega arith))
+use Rattle.cmr_base.proofs.NextNonzeros.{column_in}
+use Rattle.cmr_base.proofs.Places.{all_placed}
 
 -- what a test of two tests says
 pub not_same : (s t : Bool) → not (beq s t) ≡ true → s ≡ t → ⊥
@@ -42,15 +36,15 @@ module _ (M : ℕ → ℕ → Bool) where
   cut_here columns j k first l e n (inr all) = n (all (get_or columns k 0) (in_at columns k l) ∙ sym (all (get_or columns 0 0) (in_at columns 0 (omega arith))) ∙ sym e)
 
   pub uncut_by_first : (columns : List ℕ) (j upto : ℕ) (first : Bool) → length columns ≤ upto → ((k : ℕ) → k < upto → M j (get_or columns k 0) ≡ first) → IsUncutIn M columns j
-  uncut_by_first columns j upto true l all = inl (each_in (λ column. M j column ≡ true) columns upto l all)
-  uncut_by_first columns j upto false l all = inr (each_in (λ column. M j column ≡ false) columns upto l all)
+  uncut_by_first columns j upto true l all = inl (all_placed (λ column. M j column ≡ true) columns upto l all)
+  uncut_by_first columns j upto false l all = inr (all_placed (λ column. M j column ≡ false) columns upto l all)
 
   -- a column of the part is met or is not
   pub met_here : (part : List ℕ) (column k : ℕ) → k < length part → M (get_or part k 0) column ≡ true → IsMetBy M part column
   met_here part column k l e = (get_or part k 0, in_at part k l, e)
 
   pub met_nowhere : (part : List ℕ) (column upto : ℕ) → length part ≤ upto → ((k : ℕ) → k < upto → M (get_or part k 0) column ≡ false) → ¬ (IsMetBy M part column)
-  met_nowhere part column upto l all (k, h, e) = not_both (M k column) e (each_in (λ x. M x column ≡ false) part upto l all k h)
+  met_nowhere part column upto l all (k, h, e) = not_both (M k column) e (all_placed (λ x. M x column ≡ false) part upto l all k h)
 
   -- one more column is in the list exactly where it is common
   pub common_more : (i : ℕ) (part : List ℕ) (common common' : List ℕ) (x : ℕ) → ((z : ℕ) → IsIn z common ↔ ((z < x) × IsCommon M i part z)) → common' ≡ common ++ x ∷ [] → IsCommon M i part x

@@ -1,13 +1,13 @@
 -- Breadth-first trees over the parts of a table, as lists.
 use Rattle.std.proofs.Common.{ℕ, suc, ◌+◌, ◌%◌, true, false, List, [], ◌∷◌, ◌++◌, ◌≡◌, ◌≢◌, ◌<◌, ◌≤◌, ◌∙◌, sym, ap, refl, arith, subst, ◌⊎◌, inl, inr, length, get_or, set, get_or-set_same, get_or-set_other, length-set, add-one}
 use Rattle.std.proofs.lemmas.Bool.{cases_lt}
-use Rattle.std.proofs.lemmas.List.{get_or_append_left}
+use Rattle.std.proofs.lemmas.List.{get_or_append_left, get_or_default}
 use Rattle.cmr_base.specs.Members.{IsIn}
 use Rattle.cmr_base.proofs.Members.{in-append, in_at}
 use Rattle.bridge_split.specs.declared.cuts.CutTable.{CutTable}
 use Rattle.bridge_split.specs.Forests.{depth_at, parent_at, joins, IsSquare, HasTreeRoom, IsSettled, IsGrowing, IsGrown, IsConflict, IsTwoColoured, IsReachingFrom, IsGrowingFrom, IsGrownTo}
 use Rattle.bridge_split.specs.PartNumbers.{Extends}
-use Rattle.bridge_split.proofs.ColumnSteps.{any_default, extends_none, extends_more, extends_one}
+use Rattle.bridge_split.proofs.ColumnSteps.{extends_none, extends_more, extends_one}
 use Rattle.bridge_split.proofs.CutTables.{disagree_back}
 use Rattle.bridge_split.proofs.Forests.{was_reached, few_reached, root_reached, joined_reached, passes, head_settled, conflict_here, none_reached, tree_grown, all_grown}
 use Rattle.bridge_split.proofs.NumberSteps.{in_longer}
@@ -16,13 +16,13 @@ module _ (table : CutTable) where
   -- the part at head, as the code reads it
   pub part_low : (depths parents reached : List ℕ) (head part : ℕ) → IsGrowing (joins table) table.count (depth_at depths) (parent_at parents) reached head → head < length reached → part ≡ get_or reached head part → part < table.count
   part_low depths parents reached head part w l e =
-      subst (λ (v : ℕ). v < table.count) (sym (e ∙ any_default reached head part 0 l)) (w.are.inside (get_or reached head 0) (in_at reached head l))
+      subst (λ (v : ℕ). v < table.count) (sym (e ∙ get_or_default reached head part 0 l)) (w.are.inside (get_or reached head 0) (in_at reached head l))
 
   pub depth_low : (depths parents reached : List ℕ) (head part depth : ℕ) → IsGrowing (joins table) table.count (depth_at depths) (parent_at parents) reached head → HasTreeRoom table.count depths parents → head < length reached
       → part ≡ get_or reached head part → depth ≡ get_or depths part depth → depth ≤ head
   depth_low depths parents reached head part depth w room l e f =
       let m = part_low depths parents reached head part w l e in
-      let g : depth ≡ depth_at depths (get_or reached head 0) = f ∙ any_default depths part depth 4294967295 (let r = room.depths_are in omega arith) ∙ ap (depth_at depths) (e ∙ any_default reached head part 0 l) in
+      let g : depth ≡ depth_at depths (get_or reached head 0) = f ∙ get_or_default depths part depth 4294967295 (let r = room.depths_are in omega arith) ∙ ap (depth_at depths) (e ∙ get_or_default reached head part 0 l) in
       let h = w.are.low head l in omega arith
 
   pub reaching_starts : (depths parents reached : List ℕ) (head part depth : ℕ) → IsGrowing (joins table) table.count (depth_at depths) (parent_at parents) reached head → HasTreeRoom table.count depths parents → head < length reached
@@ -32,8 +32,8 @@ module _ (table : CutTable) where
     reaching = record { growing = w; so_far = λ y m. absurd (omega arith) };
     extends = extends_none reached;
     head_in = l;
-    part_is = sym (e ∙ any_default reached head part 0 l);
-    depth_is = sym (f ∙ any_default depths part depth 4294967295 (let r = room.depths_are in let m = part_low depths parents reached head part w l e in omega arith));
+    part_is = sym (e ∙ get_or_default reached head part 0 l);
+    depth_is = sym (f ∙ get_or_default depths part depth 4294967295 (let r = room.depths_are in let m = part_low depths parents reached head part w l e in omega arith));
   }
 
   module _ (before depths parents reached : List ℕ) (head part depth upto : ℕ) (w : IsReachingFrom table before depths parents reached head part depth upto) where
@@ -56,7 +56,7 @@ module _ (table : CutTable) where
     })
       where
         none : depth_at depths upto ≡ 4294967295
-        none = any_default depths upto 4294967295 far (let e = w.room.depths_are in omega arith) ∙ sym f ∙ far_top
+        none = get_or_default depths upto 4294967295 far (let e = w.room.depths_are in omega arith) ∙ sym f ∙ far_top
 
         other : part ≢ upto
         other e =
@@ -87,7 +87,7 @@ module _ (table : CutTable) where
       where
         settled : (far : ℕ) × (far ≡ get_or depths upto far) × (far ≢ 4294967295) × (far % 2 ≢ depth % 2) × (upto < table.count) → IsSettled (joins table) table.count (depth_at depths) reached (get_or reached head 0) upto
         settled (far, f, some, parity, inside) =
-            let e : far ≡ depth_at depths upto = f ∙ any_default depths upto far 4294967295 (let r = w.room.depths_are in omega arith) in
+            let e : far ≡ depth_at depths upto = f ∙ get_or_default depths upto far 4294967295 (let r = w.room.depths_are in omega arith) in
             record {
               there = was_reached (joins table) table.count (depth_at depths) (parent_at parents) reached upto w.reaching.growing.are (λ n. some (e ∙ n));
               parity = λ n. parity (ap (λ (v : ℕ). v % 2) e ∙ n ∙ ap (λ (v : ℕ). v % 2) (ap (depth_at depths) w.part_is ∙ w.depth_is));
@@ -99,7 +99,7 @@ module _ (table : CutTable) where
     pub reaching_conflict : (far : ℕ) → upto < table.count → upto ≢ part → joins table part upto ≡ true → far ≡ get_or depths upto far → far ≢ 4294967295 → far % 2 ≡ depth % 2
         → IsConflict (joins table) table.count (depth_at depths) (parent_at parents) reached (get_or reached head 0) upto
     reaching_conflict far inside other join f some parity =
-        let e : far ≡ depth_at depths upto = f ∙ any_default depths upto far 4294967295 (let r = w.room.depths_are in omega arith) in
+        let e : far ≡ depth_at depths upto = f ∙ get_or_default depths upto far 4294967295 (let r = w.room.depths_are in omega arith) in
         let here = ap (λ (v : ℕ). joins table v upto) w.part_is ∙ join in
         conflict_here (joins table) table.count (depth_at depths) (parent_at parents) reached head upto w.reaching head_now here
         (disagree_back table.cuts.items table.count (get_or reached head 0) upto here) (λ n. other (sym n ∙ w.part_is)) (λ n. some (e ∙ n))
@@ -154,7 +154,7 @@ module _ (table : CutTable) where
         | inl lt ↦ w.passed x lt
         | inr ge ↦ let e : place ≡ x = omega arith in
             subst (λ (v : ℕ). IsIn v reached) e (was_reached (joins table) table.count (depth_at depths) (parent_at parents) reached place w.grown.are
-            (λ n. some (f ∙ any_default depths place far 4294967295 (let r = w.room.depths_are in omega arith) ∙ n)))
+            (λ n. some (f ∙ get_or_default depths place far 4294967295 (let r = w.room.depths_are in omega arith) ∙ n)))
       ];
     })
 

@@ -10,12 +10,7 @@ use Rattle.cmr_base.proofs.Members.{in-append, in_at}
 use Rattle.cmr_base.proofs.Parts.{length-rising}
 use Rattle.bridge_split.specs.PartNumbers.{number_at, is_seen, HasRoom, Extends, AreNumbered, IsWalking, IsBetween, IsWalkingFrom, IsNumbering}
 use Rattle.bridge_split.proofs.PartWalks.{starts, skips, none_met, part_done, all_numbered}
-
-pub few : (xs T : List ℕ) → IsDistinct xs → ((x : ℕ) → IsIn x xs → IsIn x T) → length xs ≤ length T
-few [] T once within = omega arith
-few (x ∷ xs) T once within =
-    let k = few xs (without T x) once.1 (λ z g. in_without x z T (within z (inr g)) (λ e. once.0 (subst (λ (v : ℕ). IsIn v xs) e g))) in
-    let l = without_shorter x T (within x (inl refl)) in omega arith
+use Rattle.cmr_base.proofs.Places.{fewer_distinct}
 
 pub in_longer : (met met' : List ℕ) (x : ℕ) → Extends met met' → IsIn x met → IsIn x met'
 in_longer met met' x extends h = go (place_is x met h)
@@ -42,7 +37,7 @@ module _ (m : Matrix) (S : List ℕ) (i : ℕ) (rises : IsStrictlyIncreasing S) 
 
     -- not more rows are met than there are
     pub few_met : length met ≤ length S
-    few_met = few met S w.walk.are.once in_rows
+    few_met = fewer_distinct met S w.walk.are.once in_rows
 
     pub walking_on : (part' met' : List ℕ) (seen' : List Bool) → HasRoom m part' seen' → Extends met met'
         → ((place : ℕ) → IsWalking (support m) S i (number_at part) met (is_seen seen) number place head → IsWalking (support m) S i (number_at part') met' (is_seen seen') number place (head + 1))

@@ -14,6 +14,7 @@ use Rattle.cmr_base.proofs.ListsWithout.{increasing_distinct}
 use Rattle.cmr_base.proofs.Members.{all_in}
 use Rattle.cmr_base.proofs.RowLists.{not_both}
 use Rattle.bridge_split.specs.SplitCases.{HasThree, IsFirstWithThree}
+use Rattle.cmr_base.proofs.NextNonzeros.{column_in}
 
 module _ (p : ℕ → Bool) where
   -- at least one, two, three of the list
@@ -104,13 +105,6 @@ past_columns : (xs : List ℤ) (i : ℕ) → length xs ≤ i → is_nonzero (get
 past_columns [] i l = refl
 past_columns (x ∷ xs) zero l = absurd (omega arith)
 past_columns (x ∷ xs) (suc i) l = past_columns xs i (omega arith)
-
--- rows are 0 beside the matrix
-pub column_in : (m : Matrix) (row column : ℕ) → IsMatrix m → row < height m → support m row column ≡ true → column < m.width
-column_in m row column is l e = elim (cases_lt column m.width) [
-  | inl lt ↦ lt
-  | inr ge ↦ absurd (not_both (support m row column) e (past_columns (row_of m row) column (let s = is.rectangular row l in omega arith)))
-]
 
 -- a row of the list is below the bound
 pub below_in : (x bound : ℕ) (S : List ℕ) → AllBelow bound S → IsIn x S → x < bound

@@ -4,7 +4,6 @@ ghost use Rattle.cmr_base.specs.LineSets.{AllBelow};
 ghost use Rattle.cmr_base.specs.Matrix.{height, IsMatrix};
 ghost use Rattle.cmr_base.specs.Trees.{support};
 
-use crate::entries::is_nonzero;
 use cmr_base::{Matrix, Memory};
 use std::alloc::Global;
 
@@ -29,10 +28,10 @@ fn count_row(matrix: &Matrix, row: u32, counts: &mut [u32])
     requires room { (column : ℕ) → column < matrix.now.width → slice_index counts.old column < 1000 }
     ensures { (column : ℕ) → column < matrix.now.width → slice_index counts.new column ≡ slice_index counts.old column + cond (support matrix.now row column) 1 0 }
 {
-    for column in 0..matrix.columns() {
-        if is_nonzero(matrix, row, column) {
-            counts[column as usize] += 1;
-        }
+    let mut from = 0;
+    while let Some(column) = matrix.next_nonzero(row, from) {
+        counts[column as usize] += 1;
+        from = column + 1;
     }
 }
 

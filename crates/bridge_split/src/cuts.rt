@@ -8,7 +8,6 @@ ghost use Rattle.cmr_base.specs.Trees.{support};
 ghost use Rattle.bridge_split.specs.Cutting.{AreUncutIn, Denies, HasLine, IsCutTable, IsMetBy, IsUncutIn, part_at};
 ghost use Rattle.bridge_split.specs.Forests.{IsSquare, joins};
 
-use crate::entries::is_nonzero;
 use cmr_base::{Indices, Matrix, Memory};
 use std::alloc::Global;
 
@@ -79,7 +78,7 @@ fn set_common(
 {
     common.clear();
     for column in 0..matrix.columns() {
-        if is_nonzero(matrix, row, column) && meets_part(matrix, part.as_slice(), column) {
+        if matrix.is_nonzero(row, column) && meets_part(matrix, part.as_slice(), column) {
             common.push(column)?;
         }
     }
@@ -92,7 +91,7 @@ fn meets_part(matrix: &Matrix, part: &[u32], column: u32) -> bool
     ensures { IsTrue result ↔ IsMetBy (support matrix.now) part.now column }
 {
     for row in part {
-        if is_nonzero(matrix, *row, column) {
+        if matrix.is_nonzero(*row, column) {
             return true;
         }
     }
@@ -137,9 +136,9 @@ fn row_cuts(matrix: &Matrix, row: u32, columns: &[u32]) -> bool
     if columns.is_empty() {
         return false;
     }
-    let first = is_nonzero(matrix, row, columns[0]);
+    let first = matrix.is_nonzero(row, columns[0]);
     for column in columns {
-        if is_nonzero(matrix, row, *column) != first {
+        if matrix.is_nonzero(row, *column) != first {
             return true;
         }
     }

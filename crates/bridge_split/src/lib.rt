@@ -4,14 +4,11 @@
 
 mod counts;
 mod cuts;
-mod entries;
 mod forest;
 mod part_walk;
 mod parts;
 mod sides;
 mod splitting;
-#[cfg(test)]
-mod tests;
 
 pub use parts::parts_at;
 pub use sides::{Sides, sides_at};

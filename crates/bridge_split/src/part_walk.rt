@@ -7,7 +7,6 @@ ghost use Rattle.cmr_base.specs.Members.{IsIn};
 ghost use Rattle.cmr_base.specs.Trees.{support};
 ghost use Rattle.bridge_split.specs.PartNumbers.{number_at, is_seen, HasRoom, Extends, AreNumbered, IsWalking, IsBetween, HasMetColumn};
 
-use crate::entries::is_nonzero;
 use cmr_base::{Matrix, Memory};
 use std::alloc::Global;
 
@@ -118,16 +117,15 @@ impl PartWalk {
         ensures walk { OnOk result ((place : ℕ) → IsWalking (support matrix.now) rows.now row (number_at self.old.part.items) self.old.met.items (is_seen self.old.seen.items) number place head → IsWalking (support matrix.now) rows.now row (number_at self.new.part.items) self.new.met.items (is_seen self.new.seen.items) number place (head + 1)) }
     {
         let from = self.met[head];
-        for column in 0..matrix.columns() {
+        let mut next = 0;
+        while let Some(column) = matrix.next_nonzero(from, next) {
             if self.met.len() + 1 == rows.len() {
                 return Ok(());
             }
-            if !self.seen[column as usize]
-                && is_nonzero(matrix, from, column)
-                && !is_nonzero(matrix, row, column)
-            {
+            if !self.seen[column as usize] && !matrix.is_nonzero(row, column) {
                 self.meet_column(matrix, rows, column, number)?;
             }
+            next = column + 1;
         }
         Ok(())
     }
@@ -148,7 +146,7 @@ impl PartWalk {
         ensures column { OnOk result (HasMetColumn (support matrix.now) rows.now column number self.old.part.items self.old.met.items self.old.seen.items self.new.part.items self.new.met.items self.new.seen.items) }
     {
         for other in rows {
-            if self.part[*other as usize] == UNMET && is_nonzero(matrix, *other, column) {
+            if self.part[*other as usize] == UNMET && matrix.is_nonzero(*other, column) {
                 self.meet(*other, number)?;
             }
         }

@@ -64,17 +64,7 @@ fn parts_at_places(alloc: Global, parts: &[Indices], places: &[u32]) -> Result<P
 {
     let mut chosen = PartList::new(alloc);
     for place in places {
-        chosen.push(copy_of(alloc, &parts[*place as usize])?)?;
+        chosen.push(Indices::of(alloc, parts[*place as usize].as_slice())?)?;
     }
     Ok(chosen)
-}
-
-fn copy_of(alloc: Global, rows: &Indices) -> Result<Indices, Memory>
-    ensures { IfOk result (λ copy. copy ≡ rows.now) }
-{
-    let mut copy = Indices::new(alloc);
-    for row in rows.as_slice() {
-        copy.push(*row)?;
-    }
-    Ok(copy)
 }

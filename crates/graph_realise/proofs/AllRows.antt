@@ -19,4 +19,4 @@ pub cuts_of_all : (M : ℕ → ℕ → Bool) (m : ℕ) (sides : ArcSides) → Is
 cuts_of_all M m sides K = is_fewer M (λ r. IsIn r (first_lines m)) (λ r. r < m) (side_in sides) (end_in sides) (λ r l. in_first_lines m r l) K
 
 pub none_of_all : (m : Matrix) → IsMatrix m → ¬ (HasCuts (support m) (λ r. IsIn r (first_lines (height m)))) → ¬ (HasGraphicSupport m)
-none_of_all m is none G = none (has_fewer (support m) (λ r. r < height m) (λ r. IsIn r (first_lines (height m))) (λ r h. first_lines_in (height m) r h) ((graphic_support_from_cuts m is).0 G))
+none_of_all m is none G = none (has_fewer (support m) (λ r. r < height m) (λ r. IsIn r (first_lines (height m))) (λ r h. first_lines_in (height m) r h) ((graphic_support_from_cuts m is.rectangular).0 G))

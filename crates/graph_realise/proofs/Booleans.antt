@@ -1,16 +1,13 @@
 -- Booleans that differ, and equations put in place of others.
 use Rattle.std.proofs.Common.{Bool, true, false, not, ◌≡◌, ◌∙◌, sym, ap, refl, ◌⊎◌, inl, inr}
 use Rattle.cmr_base.specs.Cuts.{differ}
+use Rattle.cmr_base.proofs.CutTrees.{differ_self}
 
 pub differ_swap : (a b : Bool) → differ a b ≡ differ b a
 differ_swap true true = refl
 differ_swap true false = refl
 differ_swap false true = refl
 differ_swap false false = refl
-
-pub differ_self : (a : Bool) → differ a a ≡ false
-differ_self true = refl
-differ_self false = refl
 
 pub differ_same : (a b : Bool) → a ≡ b → differ a b ≡ false
 differ_same a b e = ap (differ a) (sym e) ∙ differ_self a
@@ -26,14 +23,6 @@ other_of true true e = cc
 other_of true false e = refl
 other_of false true e = refl
 other_of false false e = cc
-
--- turning both round changes nothing
-pub differ_both : (s a b : Bool) → differ (differ s a) (differ s b) ≡ differ a b
-differ_both true true true = refl
-differ_both true true false = refl
-differ_both true false true = refl
-differ_both true false false = refl
-differ_both false a b = refl
 
 pub not_swap : (a b : Bool) → a ≡ not b → b ≡ not a
 not_swap true true e = cc

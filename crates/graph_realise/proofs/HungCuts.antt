@@ -3,7 +3,8 @@ use Rattle.std.proofs.Common.{ℕ, Bool, true, false, not, cond, ◌≡◌, ◌�
 use Rattle.cmr_base.specs.Cuts.{differ, IsCuts}
 use Rattle.cmr_base.proofs.RowLists.{no_not, differ_true}
 use Rattle.graph_realise.proofs.CutTables.{is_same}
-use Rattle.graph_realise.proofs.Booleans.{differ_swap, differ_self, differ_both, not_swap, either}
+use Rattle.graph_realise.proofs.Booleans.{differ_swap, not_swap, either}
+use Rattle.cmr_base.proofs.CutTrees.{differ_self, differ_both}
 
 pub record IsHung (M : ℕ → ℕ → Bool) (i : ℕ) (R : ℕ → Type 0) (side : ℕ → ℕ → Bool) (lies : Bool → ℕ → ℕ → Bool) : Type 0 where
   pub cuts : IsCuts M R side lies

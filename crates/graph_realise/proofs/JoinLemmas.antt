@@ -1,23 +1,19 @@
 -- The arcs of the parts' trees in the tree of all rows.
-use mathlib.Core.Bool.{beq}
-use Rattle.std.proofs.Common.{◌≡◌, ◌≢◌, ◌<◌, ◌∙◌, ◌==◌, if◌then◌else◌, not, ℕ, Bool, true, false, List, length, get_or, sym, ap, refl, arith, Option, Some, None}
+use Rattle.std.proofs.Common.{◌≡◌, ◌≢◌, ◌<◌, ◌≤◌, ◌+◌, ◌∙◌, ◌==◌, ◌&&◌, ◌||◌, ◌⊎◌, inl, inr, ap₂, cond, nat_lt, if◌then◌else◌, not, ℕ, Bool, true, false, List, length, get_or, sym, ap, refl, arith, Option, Some, None}
+use Rattle.std.proofs.lemmas.Bool.{cases_lt}
+use Rattle.std.proofs.lemmas.Bool.Decides.{nat_tests}
 use Rattle.std.proofs.lemmas.List.{get_or_read}
 use Rattle.cmr_base.specs.Cuts.{differ}
-use Rattle.cmr_base.specs.Matrix.{Matrix}
-use Rattle.cmr_base.proofs.RowLists.{is_eq, is_ne}
+use Rattle.cmr_base.specs.Matrix.{Matrix, height}
+use Rattle.cmr_base.proofs.RowLists.{is_eq, is_ne, same_or_not, two_cases}
 use Rattle.graph_realise.specs.Branches.{branch_at}
-use Rattle.graph_realise.specs.Joints.{IsArcJoined, by_part, end_of, hanging_of, joined_ends, number_at, part_or_first}
+use Rattle.graph_realise.specs.Joints.{AreHung, AreOff, FitsJoint, IsArcJoined, IsLineFor, by_part, end_of, hanging_of, hung, is_part, is_used, joined_side, number_at, part_or_first}
 use Rattle.graph_realise.specs.Merging.{column_half, end_off, merged_lies, spot, turned_lies, turned_side}
-use Rattle.graph_realise.specs.SideTables.{side_in, end_in, KeepsRow, AreTablesOf, AreEndsFilled}
-use Rattle.graph_realise.specs.Tables.{cell, IsRowFilled}
+use Rattle.graph_realise.specs.SideTables.{side_in, end_in, KeepsRow, AreTablesOf, AreEndsFilled, IsArcChanged}
+use Rattle.graph_realise.specs.Tables.{Grid, cell, IsRowFilled}
+use Rattle.graph_realise.proofs.SideLemmas.{keeps_row_same, keeps_row_trans}
 use Rattle.graph_realise.specs.declared.arc_sides.ArcSides.{ArcSides}
 use Rattle.graph_realise.specs.declared.joint.Joint.{Joint}
-
-pub unequal : (a b : Bool) → not (beq a b) ≡ differ b a
-unequal true true = refl
-unequal true false = refl
-unequal false true = refl
-unequal false false = refl
 
 -- the part that is read is in range
 pub part_in_range : (numbers : List (Option ℕ)) (size place : ℕ) (found : Option ℕ) → place < length numbers → found ≡ get_or numbers place found
@@ -48,7 +44,7 @@ pub row_joined : (M : ℕ → ℕ → Bool) (joint : Joint) (old now new : ArcSi
     → IsRowFilled (λ other. end_of joint (number_at joint.part_of.items other)) old.arcs now.arcs joint.row old.arcs.width → AreEndsFilled (row_ends M joint) now new joint.row n
     → IsArcJoined M joint old new joint.row
 row_joined M joint old now new n w arcs ends = record {
-  arcs = λ s l. ends.arcs s ∙ arcs.done s l
+  arcs = λ s l. ends.arcs s ∙ arcs.done s l l
       ∙ sym (ap (λ (t : Bool). if t then end_of joint (number_at joint.part_of.items s) else by_part M joint joint.row (turned_side joint.row (side_in old) joint.row s) (number_at joint.part_of.items s)) (is_eq joint.row joint.row refl));
   ends = λ end column l. ends.done end column (omega arith)
       ∙ ap (λ (z : Bool). if M joint.row column then end else z) (sym (half_is M joint (number_at joint.part_with.items column)))
@@ -67,43 +63,253 @@ row_unused M joint end column value part e p v =
 
 -- ---- an arc of another row
 
-pub arc_joined : (M : ℕ → ℕ → Bool) (joint : Joint) (r : ℕ) (turned : Bool) (old now new : ArcSides) (n : ℕ) → n ≡ old.first.width → r ≢ joint.row → turned ≡ side_in old r joint.row
-    → IsRowFilled (λ other. by_part M joint r (differ turned (cell old.arcs r other)) (number_at joint.part_of.items other)) old.arcs now.arcs r old.arcs.width
-    → now.first ≡ old.first → now.last ≡ old.last → AreEndsFilled (joined_ends M joint r turned now) now new r n → IsArcJoined M joint old new r
-arc_joined M joint r turned old now new n w apart t arcs f g ends = record {
-  arcs = λ s l. ends.arcs s ∙ arcs.done s l
-      ∙ ap (λ (b : Bool). by_part M joint r (differ b (side_in old r s)) (number_at joint.part_of.items s)) t
-      ∙ sym (ap (λ (b : Bool). if b then end_of joint (number_at joint.part_of.items s) else by_part M joint r (turned_side joint.row (side_in old) r s) (number_at joint.part_of.items s)) (is_ne r joint.row apart));
-  ends = λ end column l. ends.done end column (omega arith)
-      ∙ lies_at M joint (λ e s c. differ turned (end_in now e s c)) (turned_lies joint.row (side_in old) (end_in old)) end r column
-      (ap (differ turned) (ends_same end column) ∙ ap (λ (b : Bool). differ b (end_in old end r column)) t);
+and_false : (a : Bool) → (a && false) ≡ false
+and_false true = refl
+and_false false = refl
+
+or_false : (a : Bool) → (a || false) ≡ a
+or_false true = refl
+or_false false = refl
+
+-- the tables of the marks have the sizes of those of the sides
+pub line_for : (m : Matrix) (joint : Joint) (sides : ArcSides) (arc part : ℕ) → FitsJoint (height m) m.width joint → AreTablesOf m sides → arc < height m → part < length joint.branches.items → IsLineFor joint sides arc part
+line_for m joint sides arc part fits tables l k = record {
+  arcs = omega (arith, l, tables.arcs_height);
+  first = omega (arith, l, tables.first_height);
+  last = omega (arith, l, tables.last_height);
+  rows = omega (arith, k, fits.row_marks.tall);
+  columns = omega (arith, k, fits.column_marks.tall);
+  few = omega (arith, k, fits.few);
+  rows_wide = omega (arith, fits.row_marks.wide, fits.rows, tables.arcs_width);
+  columns_wide = omega (arith, fits.column_marks.wide, fits.columns, tables.first_width);
+  ends_wide = omega (arith, tables.last_width, tables.first_width);
+}
+
+-- three rows that are filled change one arc
+pub changed_by : (old : ArcSides) (arcs first last : Grid) (row : ℕ) (to_arcs : ℕ → Bool) (to_ends : Bool → ℕ → Bool) → IsRowFilled to_arcs old.arcs arcs row old.arcs.width → IsRowFilled (to_ends true) old.first first row old.first.width
+    → IsRowFilled (to_ends false) old.last last row old.last.width → old.last.width ≡ old.first.width → IsArcChanged to_arcs to_ends old (record { arcs = arcs; first = first; last = last }) row
+changed_by old arcs first last row to_arcs to_ends a f l wide = record {
+  sizes = λ m t. record {
+    arcs_height = a.rows.height ∙ t.arcs_height;
+    arcs_width = a.rows.width ∙ t.arcs_width;
+    first_height = f.rows.height ∙ t.first_height;
+    first_width = f.rows.width ∙ t.first_width;
+    last_height = l.rows.height ∙ t.last_height;
+    last_width = l.rows.width ∙ t.last_width;
+  };
+  others = λ r n. record { arcs = λ other. a.rows.others r other n; ends = λ end column. others end r column n };
+  to_arcs = λ other h. a.done other h h;
+  to_ends = λ end column h. ends end column h;
 }
   where
-    ends_same : (end : Bool) (column : ℕ) → end_in now end r column ≡ end_in old end r column
-    ends_same true column = ap (λ t. cell t r column) f
-    ends_same false column = ap (λ t. cell t r column) g
+    others : (end : Bool) (r column : ℕ) → r ≢ row → end_in (record { arcs = arcs; first = first; last = last }) end r column ≡ end_in old end r column
+    others true r column n = f.rows.others r column n
+    others false r column n = l.rows.others r column n
 
--- a column that the row has
-pub arc_used : (M : ℕ → ℕ → Bool) (joint : Joint) (r own : ℕ) (turned : Bool) (old : ArcSides) (end : Bool) (column : ℕ) (used : Bool) → r ≢ joint.row → number_at joint.part_of.items r ≡ Some own
-    → M joint.row column ≡ true → used ≡ M r column → (if differ end (branch_at joint.branches.items own).end then false else used) ≡ joined_ends M joint r turned old end column
-arc_used M joint r own turned old end column used apart part e u =
-    ap (λ (z : Bool). if differ end (branch_at joint.branches.items own).end then false else z) u
-    ∙ sym (ap (λ (o : Option ℕ). if differ end (branch_at joint.branches.items (part_or_first o)).end then false else M r column) part)
-    ∙ sym (rw (is_ne r joint.row apart, e) refl)
+    ends : (end : Bool) (column : ℕ) → column < old.first.width → end_in (record { arcs = arcs; first = first; last = last }) end row column ≡ to_ends end column
+    ends true column h = f.done column h h
+    ends false column h = l.done column (omega (arith, h, wide)) (omega (arith, h, wide))
 
--- a column that the row does not have
-pub arc_unused : (M : ℕ → ℕ → Bool) (joint : Joint) (r : ℕ) (turned : Bool) (old now : ArcSides) (end : Bool) (column : ℕ) (part : Option ℕ) → r ≢ joint.row → M joint.row column ≡ false
-    → part ≡ number_at joint.part_with.items column → end_in now end r column ≡ end_in old end r column
-    → by_part M joint r (differ turned (end_in now end r column)) part ≡ joined_ends M joint r turned old end column
-arc_unused M joint r turned old now end column part apart e p k =
-    ap (by_part M joint r (differ turned (end_in now end r column))) p
-    ∙ ap (λ (z : Bool). by_part M joint r (differ turned z) (number_at joint.part_with.items column)) k
-    ∙ off (number_at joint.part_with.items column)
-    ∙ sym (rw (is_ne r joint.row apart, e) refl)
-  where
-    off : (o : Option ℕ) → by_part M joint r (differ turned (end_in old end r column)) o ≡ end_off M joint.row (hanging_of joint) (λ e s c. differ turned (end_in old e s c)) end r column o
-    off None = refl
-    off (Some q) = refl
+pub filled_same : (values : ℕ → Bool) (table : Grid) (row : ℕ) → ((column : ℕ) → column < table.width → cell table row column ≡ values column) → IsRowFilled values table table row table.width
+filled_same values table row same = record {
+  rows = record { height = refl; width = refl; others = λ r column n. refl };
+  done = λ column l w. same column w;
+  left = λ column l. refl;
+}
+
+-- the ends at the other side of the row's arc stay
+pub unused_end : (M : ℕ → ℕ → Bool) (joint : Joint) (r own : ℕ) (old : ArcSides) (end : Bool) (column : ℕ) → differ end (branch_at joint.branches.items own).end ≡ true → end_in old end r column ≡ is_used M joint r own old end column
+unused_end M joint r own old end column e = sym (ap (λ (d : Bool). end_in old end r column || (not d && (M r column && M joint.row column))) e ∙ or_false (end_in old end r column))
+
+-- and those at this side get the common columns
+pub used_end : (M : ℕ → ℕ → Bool) (joint : Joint) (r own : ℕ) (old : ArcSides) (end : Bool) (column : ℕ) → differ end (branch_at joint.branches.items own).end ≡ false
+    → (end_in old end r column || M r column && M joint.row column) ≡ is_used M joint r own old end column
+used_end M joint r own old end column e = sym (ap (λ (d : Bool). end_in old end r column || (not d && (M r column && M joint.row column))) e)
+
+pub filled_as : (values values' : ℕ → Bool) (old new : Grid) (row : ℕ) → ((column : ℕ) → values column ≡ values' column) → IsRowFilled values old new row old.width → IsRowFilled values' old new row old.width
+filled_as values values' old new row same f = record { rows = f.rows; done = λ column l w. f.done column l w ∙ same column; left = f.left }
+
+module _ (M : ℕ → ℕ → Bool) (joint : Joint) (r own : ℕ) where
+  -- no part is hung at first
+  hung_none : (o : Option ℕ) → hung M joint r own 0 o ≡ false
+  hung_none None = refl
+  hung_none (Some q) = let e : nat_lt q 0 ≡ false = grind (arith, nat_tests) in rw e refl
+
+  pub none_hung : (sides : ArcSides) → AreHung M joint r own 0 sides sides
+  none_hung sides = record {
+    sizes = λ m t. t;
+    others = λ s n. keeps_row_same sides s;
+    to_arcs = λ other l. sym (ap (λ z. side_in sides r other || z) (hung_none (number_at joint.part_of.items other)) ∙ or_false (side_in sides r other));
+    to_ends = λ end column l. sym (ap (λ z. end_in sides end r column || z) (hung_none (number_at joint.part_with.items column)) ∙ or_false (end_in sides end r column));
+  }
+
+  -- one part more
+  one_more : (below last x b : Bool) → (cond below true last && x) ≡ ((below && x) || (last && x))
+  one_more true true true b = refl
+  one_more true true false b = refl
+  one_more true false true b = refl
+  one_more true false false b = refl
+  one_more false true x b = refl
+  one_more false false x b = refl
+
+  hung_more : (count : ℕ) (o : Option ℕ) → hung M joint r own (count + 1) o ≡ (hung M joint r own count o || ((not (count == own) && spot M joint.row (hanging_of joint) r count) && is_part count o))
+  hung_more count None = sym (and_false (not (count == own) && spot M joint.row (hanging_of joint) r count))
+  hung_more count (Some q) = go (cases_lt q count) (same_or_not q count)
+    where
+      X : ℕ → Bool
+      X q = not (q == own) && spot M joint.row (hanging_of joint) r q
+
+      go : (q < count) ⊎ (count ≤ q) → (q ≡ count) ⊎ (q ≢ count) → (nat_lt q (count + 1) && (not (q == own) && spot M joint.row (hanging_of joint) r q))
+          ≡ ((nat_lt q count && (not (q == own) && spot M joint.row (hanging_of joint) r q)) || ((not (count == own) && spot M joint.row (hanging_of joint) r count) && (q == count)))
+      go (inl l) (inl e) = absurd (omega arith)
+      go (inl l) (inr n) =
+          let a : nat_lt q (count + 1) ≡ true = grind (arith, nat_tests) in
+          let b : nat_lt q count ≡ true = grind (arith, nat_tests) in
+          rw (a, b, is_ne q count n, and_false (not (count == own) && spot M joint.row (hanging_of joint) r count)) (sym (or_false (not (q == own) && spot M joint.row (hanging_of joint) r q)))
+      go (inr l) (inl e) =
+          let a : nat_lt q (count + 1) ≡ true = grind (arith, nat_tests) in
+          let b : nat_lt q count ≡ false = grind (arith, nat_tests) in
+          rw (a, b, is_eq q count e) (ap (λ (k : ℕ). not (k == own) && spot M joint.row (hanging_of joint) r k) e ∙ sym (and_true (not (count == own) && spot M joint.row (hanging_of joint) r count)))
+        where
+          and_true : (a : Bool) → (a && true) ≡ a
+          and_true true = refl
+          and_true false = refl
+      go (inr l) (inr n) =
+          let a : nat_lt q (count + 1) ≡ false = grind (arith, nat_tests) in
+          let b : nat_lt q count ≡ false = grind (arith, nat_tests) in
+          rw (a, b, is_ne q count n, and_false (not (count == own) && spot M joint.row (hanging_of joint) r count)) refl
+
+  or_both : (a b d e x : Bool) → e ≡ (b || (x && d)) → x ≡ true → ((a || b) || d) ≡ (a || e)
+  or_both true b d e x f g = refl
+  or_both false b d e x f g = sym (f ∙ ap (λ (z : Bool). b || (z && d)) g)
+
+  or_none : (a b d e x : Bool) → e ≡ (b || (x && d)) → x ≡ false → (a || b) ≡ (a || e)
+  or_none true b d e x f g = refl
+  or_none false b d e x f g = sym (f ∙ ap (λ (z : Bool). b || (z && d)) g ∙ or_false b)
+
+  pub part_hung : (m : Matrix) (count : ℕ) (old now new : ArcSides) → FitsJoint (height m) m.width joint → AreTablesOf m old → AreTablesOf m now → count < length joint.branches.items
+      → (not (count == own) && spot M joint.row (hanging_of joint) r count) ≡ true → AreHung M joint r own count old now
+      → IsArcChanged (λ other. side_in now r other || cell joint.row_marks count other) (λ end column. end_in now end r column || cell joint.column_marks count column) now new r
+      → AreHung M joint r own (count + 1) old new
+  part_hung m count old now new fits tables tables' l hangs so step = record {
+    sizes = λ m t. step.sizes m (so.sizes m t);
+    others = λ s n. keeps_row_trans old now new s (so.others s n) (step.others s n);
+    to_arcs = λ other h.
+        let inside : other < now.arcs.width = omega (arith, h, tables.arcs_width, tables'.arcs_width) in
+        let marked : other < length joint.part_of.items = omega (arith, h, tables.arcs_width, fits.rows) in
+        step.to_arcs other inside ∙ ap₂ (λ a b. a || b) (so.to_arcs other h) (fits.row_marks.exact count other l marked)
+        ∙ or_both (side_in old r other) (hung M joint r own count (number_at joint.part_of.items other)) (is_part count (number_at joint.part_of.items other)) (hung M joint r own (count + 1) (number_at joint.part_of.items other))
+        (not (count == own) && spot M joint.row (hanging_of joint) r count) (hung_more count (number_at joint.part_of.items other)) hangs;
+    to_ends = λ end column h.
+        let inside : column < now.first.width = omega (arith, h, tables.first_width, tables'.first_width) in
+        let marked : column < length joint.part_with.items = omega (arith, h, tables.first_width, fits.columns) in
+        step.to_ends end column inside ∙ ap₂ (λ a b. a || b) (so.to_ends end column h) (fits.column_marks.exact count column l marked)
+        ∙ or_both (end_in old end r column) (hung M joint r own count (number_at joint.part_with.items column)) (is_part count (number_at joint.part_with.items column)) (hung M joint r own (count + 1) (number_at joint.part_with.items column))
+        (not (count == own) && spot M joint.row (hanging_of joint) r count) (hung_more count (number_at joint.part_with.items column)) hangs;
+  }
+
+  pub part_off : (count : ℕ) (old now : ArcSides) → (not (count == own) && spot M joint.row (hanging_of joint) r count) ≡ false → AreHung M joint r own count old now → AreHung M joint r own (count + 1) old now
+  part_off count old now off so = record {
+    sizes = so.sizes;
+    others = so.others;
+    to_arcs = λ other h. so.to_arcs other h
+        ∙ or_none (side_in old r other) (hung M joint r own count (number_at joint.part_of.items other)) (is_part count (number_at joint.part_of.items other)) (hung M joint r own (count + 1) (number_at joint.part_of.items other))
+        (not (count == own) && spot M joint.row (hanging_of joint) r count) (hung_more count (number_at joint.part_of.items other)) off;
+    to_ends = λ end column h. so.to_ends end column h
+        ∙ or_none (end_in old end r column) (hung M joint r own count (number_at joint.part_with.items column)) (is_part count (number_at joint.part_with.items column)) (hung M joint r own (count + 1) (number_at joint.part_with.items column))
+        (not (count == own) && spot M joint.row (hanging_of joint) r count) (hung_more count (number_at joint.part_with.items column)) off;
+  }
+
+  -- what is kept and what is hung are all
+  kept_or_hung : (same inside within spot : Bool) → inside ≡ true → ((same && within) || (inside && (not same && spot))) ≡ (if same then within else spot)
+  kept_or_hung true true true spot e = refl
+  kept_or_hung true true false spot e = refl
+  kept_or_hung false true within spot e = refl
+  kept_or_hung same false within spot e = cc
+
+  all_sides : (count : ℕ) (within : Bool) (o : Option ℕ) → number_at joint.part_of.items r ≡ Some own → ((a : ℕ) → o ≡ Some a → a < count) → ((is_part own o && within) || hung M joint r own count o) ≡ by_part M joint r within o
+  all_sides count within None part range = refl
+  all_sides count within (Some q) part range =
+      let l = range q refl in
+      let e : nat_lt q count ≡ true = grind (arith, nat_tests) in
+      kept_or_hung (q == own) (nat_lt q count) within (spot M joint.row (hanging_of joint) r q) e
+      ∙ ap (λ (b : Bool). if b then within else spot M joint.row (hanging_of joint) r q) (turned q)
+    where
+      turned : (q : ℕ) → (q == own) ≡ (part_or_first (number_at joint.part_of.items r) == q)
+      turned q = go (same_or_not q own)
+        where
+          here : part_or_first (number_at joint.part_of.items r) ≡ own
+          here = ap part_or_first part
+
+          go : (q ≡ own) ⊎ (q ≢ own) → (q == own) ≡ (part_or_first (number_at joint.part_of.items r) == q)
+          go (inl e) = is_eq q own e ∙ sym (is_eq (part_or_first (number_at joint.part_of.items r)) q (here ∙ sym e))
+          go (inr n) = is_ne q own n ∙ sym (is_ne (part_or_first (number_at joint.part_of.items r)) q (λ e. n (sym e ∙ here)))
+
+  -- a column that the row has, and one that it does not have
+  used_by : (d x : Bool) → (false || (not d && (x && true))) ≡ (if d then false else x)
+  used_by true x = refl
+  used_by false true = refl
+  used_by false false = refl
+
+  unused_by : (y d x : Bool) → (y || (not d && (x && false))) ≡ y
+  unused_by true d x = refl
+  unused_by false true x = refl
+  unused_by false false true = refl
+  unused_by false false false = refl
+
+  pub arc_joined : (m : Matrix) (turned : Bool) (old kept with_hung new : ArcSides) → r ≢ joint.row → number_at joint.part_of.items r ≡ Some own → turned ≡ side_in old r joint.row → FitsJoint (height m) m.width joint → AreOff M joint
+      → AreTablesOf m old → own < length joint.branches.items
+      → IsArcChanged (λ other. cell joint.row_marks own other && differ turned (side_in old r other)) (λ end column. cell joint.column_marks own column && differ turned (end_in old end r column)) old kept r
+      → AreHung M joint r own (length joint.branches.items) kept with_hung → IsArcChanged (λ other. side_in with_hung r other) (is_used M joint r own with_hung) with_hung new r → IsArcJoined M joint old new r
+  arc_joined m turned old kept with_hung new apart part t fits off tables l k h u = record { arcs = arcs; ends = ends }
+    where
+      one : AreTablesOf m kept
+      one = k.sizes m tables
+
+      two : AreTablesOf m with_hung
+      two = h.sizes m one
+
+      arcs : (s : ℕ) → s < old.arcs.width → side_in new r s ≡ joined_side M joint old r s
+      arcs s w =
+          let o = number_at joint.part_of.items s in
+          u.to_arcs s (omega (arith, w, tables.arcs_width, two.arcs_width)) ∙ h.to_arcs s (omega (arith, w, tables.arcs_width, one.arcs_width))
+          ∙ ap (λ (z : Bool). z || hung M joint r own (length joint.branches.items) o)
+          (k.to_arcs s w ∙ ap (λ (z : Bool). z && differ turned (side_in old r s)) (fits.row_marks.exact own s l (omega (arith, w, tables.arcs_width, fits.rows))))
+          ∙ all_sides (length joint.branches.items) (differ turned (side_in old r s)) o part (λ a e. fits.row_parts s a e)
+          ∙ ap (λ (b : Bool). by_part M joint r (differ b (side_in old r s)) o) t
+          ∙ sym (ap (λ (b : Bool). if b then end_of joint o else by_part M joint r (turned_side joint.row (side_in old) r s) o) (is_ne r joint.row apart))
+
+      within : (end : Bool) (column : ℕ) → column < old.first.width → end_in with_hung end r column ≡ by_part M joint r (differ turned (end_in old end r column)) (number_at joint.part_with.items column)
+      within end column w =
+          let o = number_at joint.part_with.items column in
+          h.to_ends end column (omega (arith, w, tables.first_width, one.first_width))
+          ∙ ap (λ (z : Bool). z || hung M joint r own (length joint.branches.items) o)
+          (k.to_ends end column w ∙ ap (λ (z : Bool). z && differ turned (end_in old end r column)) (fits.column_marks.exact own column l (omega (arith, w, tables.first_width, fits.columns))))
+          ∙ all_sides (length joint.branches.items) (differ turned (end_in old end r column)) o part (λ a e. fits.column_parts column a e)
+
+      by_off : (value : Bool) (end : Bool) (column : ℕ) (o : Option ℕ) → by_part M joint r (differ (side_in old r joint.row) (end_in old end r column)) o ≡ end_off M joint.row (hanging_of joint) (turned_lies joint.row (side_in old) (end_in old)) end r column o
+      by_off value end column None = refl
+      by_off value end column (Some q) = refl
+
+      ends : (end : Bool) (column : ℕ) → column < old.first.width → end_in new end r column ≡ merged_lies M joint.row (hanging_of joint) (turned_lies joint.row (side_in old) (end_in old)) end r column
+      ends end column w = u.to_ends end column (omega (arith, w, tables.first_width, two.first_width)) ∙ ap (λ (z : Bool). z || (not (differ end (branch_at joint.branches.items own).end) && (M r column && M joint.row column))) (within end column w)
+          ∙ by_row (two_cases (M joint.row column))
+        where
+          by_row : (M joint.row column ≡ true) ⊎ (M joint.row column ≡ false)
+              → (by_part M joint r (differ turned (end_in old end r column)) (number_at joint.part_with.items column) || (not (differ end (branch_at joint.branches.items own).end) && (M r column && M joint.row column)))
+              ≡ merged_lies M joint.row (hanging_of joint) (turned_lies joint.row (side_in old) (end_in old)) end r column
+          by_row (inl e) =
+              ap (λ (o : Option ℕ). by_part M joint r (differ turned (end_in old end r column)) o || (not (differ end (branch_at joint.branches.items own).end) && (M r column && M joint.row column))) (off column e)
+              ∙ ap (λ (z : Bool). false || (not (differ end (branch_at joint.branches.items own).end) && (M r column && z))) e
+              ∙ used_by (differ end (branch_at joint.branches.items own).end) (M r column)
+              ∙ sym (ap (λ (o : Option ℕ). if differ end (branch_at joint.branches.items (part_or_first o)).end then false else M r column) part)
+              ∙ sym (rw (is_ne r joint.row apart, e) refl)
+          by_row (inr e) =
+              ap (λ (z : Bool). by_part M joint r (differ turned (end_in old end r column)) (number_at joint.part_with.items column) || (not (differ end (branch_at joint.branches.items own).end) && (M r column && z))) e
+              ∙ unused_by (by_part M joint r (differ turned (end_in old end r column)) (number_at joint.part_with.items column)) (differ end (branch_at joint.branches.items own).end) (M r column)
+              ∙ ap (λ (b : Bool). by_part M joint r (differ b (end_in old end r column)) (number_at joint.part_with.items column)) t
+              ∙ by_off true end column (number_at joint.part_with.items column)
+              ∙ sym (rw (is_ne r joint.row apart, e) refl)
 
 -- ---- one arc after another
 

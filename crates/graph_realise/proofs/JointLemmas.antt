@@ -1,14 +1,15 @@
 -- The parts of rows and of columns.
-use Rattle.std.proofs.Common.{◌≡◌, ◌≢◌, ◌<◌, ◌≤◌, ◌+◌, ◌++◌, ◌∙◌, ◌↔◌, ℕ, Bool, false, List, [], ◌∷◌, length, get_or, set, sym, ap, subst, arith, ◌⊎◌, inl, inr, Option, Some, None}
+use Rattle.std.proofs.Common.{true, ◌≡◌, ◌≢◌, ◌<◌, ◌≤◌, ◌+◌, ◌++◌, ◌∙◌, ◌↔◌, ℕ, Bool, false, List, [], ◌∷◌, length, get_or, set, sym, ap, subst, arith, ◌⊎◌, inl, inr, Option, Some, None}
 use Rattle.std.specs.Prelude.{slice_index_or}
 use Rattle.std.proofs.lemmas.Bool.{cases_lt}
 use Rattle.std.proofs.lemmas.List.{get_or_append_left, get_or-append-add, get_or_past, get_or-set_same, get_or-set_other}
 use Rattle.cmr_base.specs.Members.{IsIn}
 use Rattle.cmr_base.proofs.Members.{in-append}
-use Rattle.cmr_base.proofs.RowLists.{in_or_not, same_or_not}
-use Rattle.graph_realise.specs.Joints.{AreNumbered, IsPartWith, number_at}
+use Rattle.cmr_base.proofs.RowLists.{in_or_not, is_eq, is_ne, same_or_not}
+use Rattle.graph_realise.specs.Joints.{AreMarks, AreNumbered, IsPartWith, IsTouched, is_part, number_at}
+use Rattle.graph_realise.specs.Tables.{Grid, cell, IsCellSet}
 use Rattle.graph_realise.specs.Numbers.{AreDisjoint}
-use Rattle.graph_realise.proofs.Places.{all_placed}
+use Rattle.cmr_base.proofs.Places.{all_placed}
 
 -- an item appended to a list
 pub appended_before : {A : Type 0} → (xs : List A) (x d : A) (k : ℕ) → k < length xs → get_or (xs ++ x ∷ []) k d ≡ get_or xs k d
@@ -19,16 +20,15 @@ appended_last {A} xs x d k e =
     let w : k ≡ length xs + 0 = omega arith in
     ap (λ (z : ℕ). get_or (xs ++ x ∷ []) z d) w ∙ get_or-append-add xs (x ∷ []) 0 d
 
-pub parts_with_more : (M : ℕ → ℕ → Bool) (rows : List ℕ) (part_of : List (Option ℕ)) (column : ℕ) (numbers : List (Option ℕ)) (found : Option ℕ) → length numbers ≡ column
-    → ((c : ℕ) → c < column → IsPartWith M rows part_of c (number_at numbers c)) → IsPartWith M rows part_of column found
-    → (c : ℕ) → c < column + 1 → IsPartWith M rows part_of c (number_at (numbers ++ found ∷ []) c)
-parts_with_more M rows part_of column numbers found e so here c l = pick (cases_lt c column)
+pub parts_with_more : (P : ℕ → Option ℕ → Type 0) (column : ℕ) (numbers : List (Option ℕ)) (found : Option ℕ) → length numbers ≡ column
+    → ((c : ℕ) → c < column → P c (number_at numbers c)) → P column found → (c : ℕ) → c < column + 1 → P c (number_at (numbers ++ found ∷ []) c)
+parts_with_more P column numbers found e so here c l = pick (cases_lt c column)
   where
-    pick : (c < column) ⊎ (column ≤ c) → IsPartWith M rows part_of c (number_at (numbers ++ found ∷ []) c)
-    pick (inl m) = subst (IsPartWith M rows part_of c) (sym (appended_before numbers found None c (omega arith))) (so c m)
+    pick : (c < column) ⊎ (column ≤ c) → P c (number_at (numbers ++ found ∷ []) c)
+    pick (inl m) = subst (P c) (sym (appended_before numbers found None c (omega arith))) (so c m)
     pick (inr m) =
         let q : c ≡ column = omega arith in
-        subst (IsPartWith M rows part_of c) (sym (appended_last numbers found None c (omega arith))) (subst (λ (z : ℕ). IsPartWith M rows part_of z found) (sym q) here)
+        subst (P c) (sym (appended_last numbers found None c (omega arith))) (subst (λ (z : ℕ). P z found) (sym q) here)
 
 -- no row of the list
 pub none_with : (M : ℕ → ℕ → Bool) (rows : List ℕ) (part_of : List (Option ℕ)) (column count : ℕ) (found : Option ℕ) → found ≡ None → length rows ≤ count → ((k : ℕ) → k < count → M (get_or rows k 0) column ≡ false)
@@ -119,3 +119,73 @@ numbered_row i size numbers part count x l s e (inr h) = go (cases_lt x count)
     go : (x < count) ⊎ (count ≤ x) → x < count
     go (inl m) = m
     go (inr m) = absurd (clash part (sym (get_or_past numbers x None (omega arith)) ∙ h))
+
+-- ---- marks of lines by their numbers
+
+-- the lines below one are marked
+pub record IsMarkedTo (numbers : List (Option ℕ)) (count upto : ℕ) (marks : Grid) : Type 0 where
+  pub tall : marks.height ≡ count
+  pub wide : marks.width ≡ length numbers
+  pub done : (part line : ℕ) → part < count → line < upto → cell marks part line ≡ is_part part (number_at numbers line)
+  pub left : (part line : ℕ) → upto ≤ line → cell marks part line ≡ false
+
+pub none_marked : (numbers : List (Option ℕ)) (count : ℕ) (marks : Grid) → marks.height ≡ count → marks.width ≡ length numbers → ((part line : ℕ) → cell marks part line ≡ false) → IsMarkedTo numbers count 0 marks
+none_marked numbers count marks tall wide none = record { tall = tall; wide = wide; done = λ part line l m. absurd (omega arith); left = λ part line l. none part line }
+
+pub marked_more : (numbers : List (Option ℕ)) (count line number : ℕ) (old new : Grid) → number_at numbers line ≡ Some number → IsMarkedTo numbers count line old → IsCellSet old new number line true → IsMarkedTo numbers count (line + 1) new
+marked_more numbers count line number old new e so s = record {
+  tall = s.rows.height ∙ so.tall;
+  wide = s.rows.width ∙ so.wide;
+  done = λ part at l m. at_line part at l (same_or_not part number) (cases_lt at line) m;
+  left = λ part at l. stays part at (same_or_not part number) (λ q. absurd (omega arith)) ∙ so.left part at (omega arith);
+}
+  where
+    stays : (part at : ℕ) → (part ≡ number) ⊎ (part ≢ number) → at ≢ line → cell new part at ≡ cell old part at
+    stays part at (inl f) n = ap (λ (p : ℕ). cell new p at) f ∙ s.others at n ∙ sym (ap (λ (p : ℕ). cell old p at) f)
+    stays part at (inr n) m = s.rows.others part at n
+
+    at_line : (part at : ℕ) → part < count → (part ≡ number) ⊎ (part ≢ number) → (at < line) ⊎ (line ≤ at) → at < line + 1 → cell new part at ≡ is_part part (number_at numbers at)
+    at_line part at l q (inl m) k = stays part at q (λ f. absurd (omega arith)) ∙ so.done part at l m
+    at_line part at l (inl f) (inr m) k =
+        let g : at ≡ line = omega arith in
+        ap (cell new part) g ∙ ap (λ (p : ℕ). cell new p line) f ∙ s.here
+        ∙ sym (ap (λ (x : ℕ). is_part part (number_at numbers x)) g ∙ ap (is_part part) e ∙ is_eq number part (sym f))
+    at_line part at l (inr n) (inr m) k =
+        let g : at ≡ line = omega arith in
+        s.rows.others part at n ∙ so.left part at m
+        ∙ sym (ap (λ (x : ℕ). is_part part (number_at numbers x)) g ∙ ap (is_part part) e ∙ is_ne number part (λ h. n (sym h)))
+
+pub marked_none : (numbers : List (Option ℕ)) (count line : ℕ) (marks : Grid) → number_at numbers line ≡ None → IsMarkedTo numbers count line marks → IsMarkedTo numbers count (line + 1) marks
+marked_none numbers count line marks e so = record {
+  tall = so.tall;
+  wide = so.wide;
+  done = λ part at l m. go part at l (cases_lt at line) m;
+  left = λ part at l. so.left part at (omega arith);
+}
+  where
+    go : (part at : ℕ) → part < count → (at < line) ⊎ (line ≤ at) → at < line + 1 → cell marks part at ≡ is_part part (number_at numbers at)
+    go part at l (inl m) k = so.done part at l m
+    go part at l (inr m) k = let g : at ≡ line = omega arith in so.left part at m ∙ sym (ap (λ (x : ℕ). is_part part (number_at numbers x)) g ∙ ap (is_part part) e)
+
+pub all_marked : (numbers : List (Option ℕ)) (count upto : ℕ) (marks : Grid) → length numbers ≤ upto → IsMarkedTo numbers count upto marks → AreMarks numbers count marks
+all_marked numbers count upto marks l so = record { tall = so.tall; wide = so.wide; exact = λ part line m k. so.done part line m (omega arith) }
+
+-- the part of a column is one of the parts
+pub touched_number : (M : ℕ → ℕ → Bool) (i : ℕ) (rows : List ℕ) (parts : List (List ℕ)) (numbers part_with : List (Option ℕ)) (n : ℕ) → length part_with ≡ n → AreNumbered parts (length parts) numbers
+    → ((column : ℕ) → column < n → IsTouched M i rows numbers column (number_at part_with column)) → (column part : ℕ) → number_at part_with column ≡ Some part → part < length parts
+touched_number M i rows parts numbers part_with n long numbered all column part e = go (cases_lt column n)
+  where
+    clash : (a : ℕ) → ◌≡◌ {A = Option ℕ} None (Some a) → ⊥
+    clash a e = cc
+
+    by_row : IsPartWith M rows numbers column (number_at part_with column) → part < length parts
+    by_row (inl h) = absurd (clash part (sym h.1 ∙ e))
+    by_row (inr h) = (numbered.only part h.0 (sym h.3 ∙ e)).0
+
+    here : IsTouched M i rows numbers column (number_at part_with column) → part < length parts
+    here (inl off) = absurd (clash part (sym off.1 ∙ e))
+    here (inr on) = by_row on.1
+
+    go : (column < n) ⊎ (n ≤ column) → part < length parts
+    go (inl l) = here (all column l)
+    go (inr l) = absurd (clash part (sym (get_or_past part_with column None (omega (arith, l, long))) ∙ e))

@@ -12,7 +12,6 @@ pub mod PartLists
 pub mod TableLemmas
 pub mod MergedCuts
 pub mod Weights
-pub mod Places
 pub mod SideLemmas
 pub mod Stars
 pub mod HangingParts
@@ -25,3 +24,4 @@ pub mod JoinLemmas
 pub mod SearchLemmas
 pub mod OrderLemmas
 pub mod AllRows
+mod WordBits

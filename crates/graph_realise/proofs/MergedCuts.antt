@@ -4,8 +4,9 @@ use Rattle.graph_realise.specs.Merging as formula
 use Rattle.graph_realise.specs.Merging.{Hanging}
 use Rattle.cmr_base.specs.Cuts.{differ, IsCuts}
 use Rattle.cmr_base.proofs.RowLists.{not_both, bool_same, two_cases, same_or_not, is_eq, is_ne}
-use Rattle.graph_realise.proofs.Booleans.{differ_self, differ_same, differ_other, not_swap, swap, either, either_sym}
+use Rattle.graph_realise.proofs.Booleans.{differ_same, differ_other, not_swap, swap, either, either_sym}
 use Rattle.graph_realise.proofs.HungCuts.{IsHung}
+use Rattle.cmr_base.proofs.CutTrees.{differ_self}
 
 -- row r is in part p
 abbrev pub InPart : (ℕ → Type 0) → ℕ → (ℕ → ℕ) → ℕ → ℕ → Type 0

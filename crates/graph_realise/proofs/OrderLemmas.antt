@@ -15,8 +15,8 @@ use Rattle.cmr_base.proofs.GrownNodes as grown_nodes
 use Rattle.cmr_base.proofs.Members.{in_at}
 use Rattle.cmr_base.proofs.RowLists.{not_both, two_cases, is_eq}
 use Rattle.graph_realise.specs.Orders.{IsOrder, IsOrdered}
-use Rattle.graph_realise.proofs.Booleans.{differ_self}
-use Rattle.graph_realise.proofs.Places.{place_of}
+use Rattle.cmr_base.proofs.Places.{found_at}
+use Rattle.cmr_base.proofs.CutTrees.{differ_self}
 
 module _ (M : ℕ → ℕ → Bool) (m : ℕ) (side : ℕ → ℕ → Bool) (lies : Bool → ℕ → ℕ → Bool) (K : IsCuts M (λ r. r < m) side lies) where
   three : (r s t : ℕ) → r < m → s < m → t < m → r ≢ s → r ≢ t → s ≢ t → (beyond side lies r t ≡ beyond side lies r s) ⊎ (beyond side lies s t ≡ beyond side lies s r)
@@ -67,7 +67,7 @@ module _ (M : ℕ → ℕ → Bool) (m : ℕ) (side : ℕ → ℕ → Bool) (lie
       → ((k : ℕ) → k + 1 ≡ p → beyond side lies x (get_or ys k 0) ≡ true) → ((k : ℕ) → p ≤ k → k < length ys → beyond side lies x (get_or ys k 0) ≡ false)
       → IsOrdered (beyond side lies) (take p ys ++ x ∷ drop p ys)
   inserted_ordered ys zero x lx below new o le last behind =
-      ((λ y h. let q = place_of ys y h in ((λ e. new (subst (λ (z : ℕ). IsIn z ys) (sym e) h)), subst (λ (z : ℕ). beyond side lies x z ≡ false) q.2 (behind q.0 (omega arith) q.1))), o)
+      ((λ y h. let q = found_at ys y h in ((λ e. new (subst (λ (z : ℕ). IsIn z ys) (sym e) h)), subst (λ (z : ℕ). beyond side lies x z ≡ false) q.2 (behind q.0 (omega arith) q.1))), o)
   inserted_ordered [] (suc p) x lx below new o le last behind = absurd (omega arith)
   inserted_ordered (h ∷ L) (suc p) x lx below new o le last behind = (
     least,

@@ -1,37 +1,14 @@
 -- Parts as lists: a number for each row names them, and linked rows are in one of them.
-use Rattle.std.proofs.Common.{ℕ, Bool, List, [], ◌∷◌, ◌≡◌, ◌≢◌, ◌<◌, sym, ap₂, refl, arith, subst, ◌⊎◌, inl, inr, nat_eq, ◌≤◌, ◌==◌, slice_index_or, length}
+use Rattle.std.proofs.Common.{ℕ, Bool, List, [], ◌≡◌, ◌≢◌, ◌<◌, sym, refl, arith, subst, ◌⊎◌, inl, inr, nat_eq, ◌≤◌, ◌==◌, slice_index_or, length}
 use Rattle.std.proofs.lemmas.Bool.Decides.{nat_tests}
 use Rattle.std.specs.List.Sorted.{IsStrictlyIncreasing}
 use Rattle.cmr_base.specs.Members.{IsIn}
 use Rattle.cmr_base.specs.Splits.{AreLinked, IsUncut, IsUncutBy, Agree, IsNaming, AreParts, AreSides, IsPart, part_rows}
-use Rattle.cmr_base.proofs.ListsWithout.{increasing_tail, head_below, in-get_or}
+use Rattle.cmr_base.proofs.Places.{rising_same}
+use Rattle.cmr_base.proofs.ListsWithout.{in-get_or}
 use Rattle.cmr_base.proofs.RowLists.{same_or_not}
 use Rattle.graph_realise.specs.Merging.{IsNumbering}
 use Rattle.graph_realise.proofs.PartRows.{in_part, part_in}
-
--- rising lists with the same numbers are the same
-pub rising_same : (xs ys : List ℕ) → IsStrictlyIncreasing xs → IsStrictlyIncreasing ys → ((x : ℕ) → IsIn x xs → IsIn x ys) → ((x : ℕ) → IsIn x ys → IsIn x xs) → xs ≡ ys
-rising_same [] [] rx ry f g = refl
-rising_same [] (y ∷ ys) rx ry f g = absurd (g y (inl refl))
-rising_same (x ∷ xs) [] rx ry f g = absurd (f x (inl refl))
-rising_same (x ∷ xs) (y ∷ ys) rx ry f g = ap₂ (λ (z : ℕ) (zs : List ℕ). z ∷ zs) heads
-    (rising_same xs ys (increasing_tail x xs rx) (increasing_tail y ys ry) (λ z h. left z h (f z (inr h))) (λ z h. right z h (g z (inr h))))
-  where
-    heads : x ≡ y
-    heads = go (f x (inl refl)) (g y (inl refl))
-      where
-        go : (x ≡ y) ⊎ IsIn x ys → (y ≡ x) ⊎ IsIn y xs → x ≡ y
-        go (inl e) k = e
-        go (inr h) (inl e) = sym e
-        go (inr h) (inr k) = let a = head_below y x ys ry h in let b = head_below x y xs rx k in absurd (omega arith)
-
-    left : (z : ℕ) → IsIn z xs → (z ≡ y) ⊎ IsIn z ys → IsIn z ys
-    left z h (inl e) = let a = head_below x z xs rx h in let b = heads in absurd (omega arith)
-    left z h (inr k) = k
-
-    right : (z : ℕ) → IsIn z ys → (z ≡ x) ⊎ IsIn z xs → IsIn z xs
-    right z h (inl e) = let a = head_below y z ys ry h in let b = heads in absurd (omega arith)
-    right z h (inr k) = k
 
 -- a part by its rows alone
 pub record IsWholePart (M : ℕ → ℕ → Bool) (S : List ℕ) (i : ℕ) (P : List ℕ) : Type 0 where

@@ -6,14 +6,14 @@ use Rattle.std.proofs.Math.Path.{fun_ext}
 use Rattle.std.proofs.lemmas.Bool.{cases_lt}
 use Rattle.std.proofs.lemmas.List.{get_or_past}
 use Rattle.cmr_base.specs.Cuts.{IsCuts, HasCuts}
-use Rattle.cmr_base.specs.LineSets.{AllBelow, without}
-use Rattle.cmr_base.specs.Members.{IsIn, IsDistinct}
+use Rattle.cmr_base.specs.LineSets.{AllBelow}
+use Rattle.cmr_base.specs.Members.{IsIn}
 use Rattle.cmr_base.specs.Splits.{AreParts, AreSides, HasNoThree, IsCommon, Splits}
-use Rattle.cmr_base.proofs.ListsWithout.{increasing_distinct, in_without, without_shorter}
+use Rattle.cmr_base.proofs.ListsWithout.{increasing_distinct}
 use Rattle.cmr_base.proofs.Members.{in_at}
 use Rattle.cmr_base.proofs.RowLists.{is_eq, is_ne, not_both, same_or_not}
 use Rattle.graph_realise.specs.Branches.{branch_at}
-use Rattle.graph_realise.specs.Joints.{AreInRows, FitsJoint, IsArcJoined, IsJointOf, IsPartWith, by_part, end_of, hanging_of, number_at, part_or_first}
+use Rattle.graph_realise.specs.Joints.{AreInRows, AreMarks, AreOff, FitsJoint, IsArcJoined, IsJointOf, IsPartWith, by_part, end_of, hanging_of, number_at, part_or_first}
 use Rattle.graph_realise.specs.Merging.{DescribesParts, Hanging, KeepsCuts, hanging_by, heavier, merged_lies, merged_side, spot, turned_lies, turned_side}
 use Rattle.graph_realise.specs.Numbers.{AreDisjoint}
 use Rattle.graph_realise.specs.Searches.{AreWholeBelow}
@@ -24,30 +24,20 @@ use Rattle.bridge_split.specs.SplitCases.{IsFirstWithThree}
 use Rattle.graph_realise.proofs.NoCuts.{three_refused}
 use Rattle.graph_realise.proofs.CutTables.{has_fewer, is_fewer, is_same}
 use Rattle.graph_realise.proofs.MergedTables.{keeps_after, keeps_own, merged_kept}
-use Rattle.graph_realise.proofs.Places.{all_placed}
 use Rattle.graph_realise.proofs.SideLemmas.{keeps_row_trans}
 use Rattle.graph_realise.proofs.TableLemmas.{cell_past}
 use Rattle.graph_realise.proofs.WholeRows.{stays_whole}
+use Rattle.cmr_base.proofs.Places.{fewer_distinct}
 
 -- ---- lists of rows
 
-shorter : (xs ys : List ℕ) → IsDistinct xs → ((x : ℕ) → IsIn x xs → IsIn x ys) → length xs ≤ length ys
-shorter [] ys d sub = omega arith
-shorter (x ∷ xs) ys d sub =
-    let rest = shorter xs (without ys x) d.1 (λ y h. in_without x y ys (sub y (inr h)) (λ e. d.0 (subst (λ (z : ℕ). IsIn z xs) e h))) in
-    let less = without_shorter x ys (sub x (inl refl)) in
-    omega arith
-
 -- some row is left out
 pub fewer_rows : (xs ys : List ℕ) (x : ℕ) → IsStrictlyIncreasing xs → ((y : ℕ) → IsIn y xs → IsIn y ys) → IsIn x ys → ¬ (IsIn x xs) → length xs < length ys
-fewer_rows xs ys x rising sub here gone = let l = shorter (x ∷ xs) ys (gone, increasing_distinct xs rising) into in omega arith
+fewer_rows xs ys x rising sub here gone = let l = fewer_distinct (x ∷ xs) ys (gone, increasing_distinct xs rising) into in omega arith
   where
     into : (y : ℕ) → (y ≡ x) ⊎ IsIn y xs → IsIn y ys
     into y (inl e) = subst (λ (z : ℕ). IsIn z ys) (sym e) here
     into y (inr h) = sub y h
-
-pub rows_below : (m : ℕ) (xs : List ℕ) → AllBelow m xs → (x : ℕ) → IsIn x xs → x < m
-rows_below m xs low = all_placed (λ x. x < m) xs (length xs) (omega arith) low
 
 -- ---- the parts at a row
 
@@ -94,6 +84,9 @@ module _ (M : ℕ → ℕ → Bool) (m n : ℕ) (short : (r c : ℕ) → M r c �
     row_parts = λ row a e. let l = (J.numbered.only a row e).0 in let k = J.branches.many in omega arith;
     column_parts = λ column a e. by_column column a e (cases_lt column n);
     commons = λ a column e. common_in a column e (cases_lt a (length parts));
+    row_marks = subst (λ (count : ℕ). AreMarks joint.part_of.items count joint.row_marks) (sym J.branches.many) J.row_marks;
+    column_marks = subst (λ (count : ℕ). AreMarks joint.part_with.items count joint.column_marks) (sym J.branches.many) J.column_marks;
+    few = omega (arith, J.few, J.branches.many);
   }
     where
       clash : (a : ℕ) → ◌≡◌ {A = Option ℕ} None (Some a) → ⊥
@@ -104,12 +97,19 @@ module _ (M : ℕ → ℕ → Bool) (m n : ℕ) (short : (r c : ℕ) → M r c �
       touched_in column a e (inr h) = let l = (J.numbered.only a h.0 (sym h.3 ∙ e)).0 in let k = J.branches.many in omega arith
 
       by_column : (column a : ℕ) → number_at joint.part_with.items column ≡ Some a → (column < n) ⊎ (n ≤ column) → a < length joint.branches.items
-      by_column column a e (inl l) = touched_in column a e (J.with_columns column l)
+      by_column column a e (inl l) = elim (J.with_columns column l) [ inl off ↦ absurd (clash a (sym off.1 ∙ e)) | inr on ↦ touched_in column a e on.1 ]
       by_column column a e (inr l) = absurd (clash a (sym (get_or_past joint.part_with.items column None (let k = J.columns in omega arith)) ∙ e))
 
       common_in : (a column : ℕ) → (branch_at joint.branches.items a).common ≡ Some column → (a < length parts) ⊎ (length parts ≤ a) → column < n
       common_in a column e (inl l) = short i column (subst (λ (o : Option ℕ). MatchOption o ((c : ℕ) → ¬ (IsCommon M i (slice_index_or parts a []) c)) (IsCommon M i (slice_index_or parts a []))) e (J.branches.each a l).common).0
       common_in a column e (inr l) = absurd (clash column (sym (ap (λ b. b.common) (get_or_past joint.branches.items a (record { end = false; weight = 0; common = None }) (let k = J.branches.many in omega arith))) ∙ e))
+
+  -- no part is named for the row's own columns
+  pub named_off : ((c : ℕ) → M i c ≡ true → c < n) → AreOff M joint
+  named_off short_row c on = elim (J.with_columns c (short_row c (sym (ap (λ (r : ℕ). M r c) J.row) ∙ on))) [
+    | inl used ↦ used.1
+    | inr with_part ↦ absurd (not_both (M i c) (sym (ap (λ (r : ℕ). M r c) J.row) ∙ on) with_part.0)
+  ]
 
   pub all_numbered : (r : ℕ) → IsIn r S → r ≢ joint.row → number_at joint.part_of.items r ≢ None
   all_numbered r hr nr e = clash q.0 (sym e ∙ q.3)
@@ -125,7 +125,7 @@ module _ (M : ℕ → ℕ → Bool) (m n : ℕ) (short : (r c : ℕ) → M r c �
     numbers = λ r hr nr. let q = numbered r hr nr in subst (λ (z : ℕ). (z < length parts) × IsIn r (slice_index_or parts z [])) (sym (ap part_or_first q.3)) (q.1, q.2);
     weights = λ a l. (J.branches.each a l).weight;
     shared = λ a. share a (cases_lt a (length parts));
-    columns = λ r c hr nr off on. column r c hr nr off on (J.with_columns c (short r c on));
+    columns = λ r c hr nr off on. elim (J.with_columns c (short r c on)) [ inl used ↦ absurd (not_both (M i c) used.0 off) | inr with_part ↦ column r c hr nr off on with_part.1 ];
   }
     where
       share : (a : ℕ) → (a < length parts) ⊎ (length parts ≤ a) → MatchOption (branch_at joint.branches.items a).common ((c : ℕ) → ¬ (IsCommon M i (slice_index_or parts a []) c)) (IsCommon M i (slice_index_or parts a []))

@@ -5,7 +5,7 @@ use Rattle.std.proofs.lemmas.Bool.{cases_lt}
 use Rattle.cmr_base.specs.Members.{IsIn}
 use Rattle.cmr_base.proofs.Members.{in_at}
 use Rattle.cmr_base.proofs.RowLists.{same_or_not}
-use Rattle.graph_realise.proofs.Places.{place_of}
+use Rattle.cmr_base.proofs.Places.{found_at}
 use Rattle.graph_realise.specs.Tables.{Grid, cell, IsRowFilled, KeepsOtherRows}
 use Rattle.graph_realise.specs.SideTables.{end_in, KeepsRow, KeepsOthers, KeepsOutside, AreEndsFilled, AreEndsSet, AreRedrawn}
 use Rattle.graph_realise.specs.declared.arc_sides.ArcSides.{ArcSides}
@@ -77,7 +77,7 @@ redrawn_more P same rows count old now new so others here = record {
         at_end k l m = omega arith
 
 pub redrawn_all : (P : ℕ → ArcSides → Type 0) (rows : List ℕ) (count : ℕ) (old new : ArcSides) → length rows ≤ count → AreRedrawn P rows count old new → (r : ℕ) → IsIn r rows → P r new
-redrawn_all P rows count old new le so r h = let q = place_of rows r h in let l = q.1 in subst (λ (x : ℕ). P x new) q.2 (so.done q.0 (omega arith))
+redrawn_all P rows count old new le so r h = let q = found_at rows r h in let l = q.1 in subst (λ (x : ℕ). P x new) q.2 (so.done q.0 (omega arith))
 
 pub redrawn_others : (P : ℕ → ArcSides → Type 0) (rows : List ℕ) (count : ℕ) (old new : ArcSides) → count ≤ length rows → AreRedrawn P rows count old new → KeepsOutside old new rows
 redrawn_others P rows count old new le so r h = so.kept r (λ k l e. h (subst (λ (x : ℕ). IsIn x rows) e (in_at rows k (omega arith))))
@@ -88,7 +88,7 @@ arcs_changed old arcs row k r n = record { arcs = λ other. k.others r other n; 
 
 -- all cells of a filled row
 pub filled_all : (values : ℕ → Bool) (old new : Grid) (row : ℕ) → IsRowFilled values old new row old.width → (column : ℕ) → column < old.width → cell new row column ≡ values column
-filled_all values old new row f column l = f.done column l
+filled_all values old new row f column l = f.done column l l
 
 rises : (rows : List ℕ) (count : ℕ) → IsStrictlyIncreasing rows → count < length rows → (k : ℕ) → k < count → get_or rows k 0 < get_or rows count 0
 rises rows zero rising l k m = absurd (omega arith)

@@ -1,9 +1,7 @@
 -- What is graphic by splitting has cuts, and what has cuts is graphic by splitting.
-use Rattle.std.proofs.Common.{ℕ, zero, suc, Bool, true, false, List, [], ◌∷◌, ◌≡◌, ◌≢◌, ◌<◌, ◌≤◌, ◌↔◌, ◌∙◌, sym, ap, refl, arith, subst, ◌⊎◌, inl, inr, Option, Some, None, pos, length}
-use Rattle.std.proofs.lemmas.Bool.{cases_lt}
-use Rattle.std.proofs.lemmas.List.{get_or_past}
+use Rattle.std.proofs.Common.{ℕ, zero, suc, Bool, true, false, List, [], ◌∷◌, ◌≡◌, ◌≢◌, ◌<◌, ◌↔◌, ◌∙◌, sym, ap, refl, arith, subst, ◌⊎◌, inl, inr, Option, Some, None}
 use Rattle.std.proofs.lemmas.List.FromFn.{length-range_with_len}
-use Rattle.cmr_base.specs.Matrix.{Matrix, IsMatrix, height, row_of, is_nonzero}
+use Rattle.cmr_base.specs.Matrix.{Matrix, IsRectangular, height}
 use Rattle.cmr_base.specs.LineSets.{first_lines}
 use Rattle.cmr_base.specs.Members.{IsIn}
 use Rattle.cmr_base.specs.Trees.{support}
@@ -20,6 +18,7 @@ use Rattle.graph_realise.proofs.StarCuts.{star_cuts}
 use Rattle.graph_realise.proofs.Weights.{a_column, weighed}
 use Rattle.graph_realise.proofs.HangingParts.{names_hang}
 use Rattle.graph_realise.proofs.MergedTables.{IsWith, merged_by_names}
+use Rattle.cmr_base.proofs.GraphicMatrices.{nonzero_in_range}
 
 module _ (M : ℕ → ℕ → Bool) (n : ℕ) (short : (r c : ℕ) → M r c ≡ true → c < n) (S : List ℕ) (i : ℕ) (here : IsIn i S) (part : ℕ → ℕ) (named : IsNaming M S i part)
     (side : ℕ → Bool) (whole : (j k : ℕ) → IsIn j S → IsIn k S → j ≢ i → k ≢ i → part j ≡ part k → side j ≡ side k)
@@ -162,23 +161,11 @@ splits_cut M n short (suc m) S (inl h) = star_cuts M S h
 splits_cut M n short (suc m) S (inr a) =
     split_cuts M n short S a.row a.first.splits.here a.part a.naming a.side a.whole a.agree (λ j hj nj. splits_cut M n short m (with_row a.part a.row (a.part j) S) (a.rest j hj nj))
 
--- a nonzero stands in a column below the width
-pub support_short : (m : Matrix) → IsMatrix m → (row column : ℕ) → support m row column ≡ true → column < m.width
-support_short m is row column e = go (cases_lt column m.width) (cases_lt row (height m))
-  where
-    none : length (row_of m row) ≤ column → column < m.width
-    none past = absurd (not_both (support m row column) e (ap is_nonzero (get_or_past (row_of m row) column (pos 0) past)))
-
-    go : (column < m.width) ⊎ (m.width ≤ column) → (row < height m) ⊎ (height m ≤ row) → column < m.width
-    go (inl l) q = l
-    go (inr past) (inl l) = let w = is.rectangular row l in none (omega arith)
-    go (inr past) (inr out) = none (let w = ap length (get_or_past m.rows row [] out) in omega arith)
-
 -- a matrix is graphic by splitting exactly where it has cuts
-pub splitting_is_cuts : (m : Matrix) → IsMatrix m → IsGraphicBySplitting m ↔ HasCuts (support m) (λ row. row < height m)
+pub splitting_is_cuts : (m : Matrix) → IsRectangular m → IsGraphicBySplitting m ↔ HasCuts (support m) (λ row. row < height m)
 splitting_is_cuts m is = (
   λ h. has_fewer (support m) (λ row. IsIn row (first_lines (height m))) (λ row. row < height m) (λ row l. in_first_lines (height m) row l)
-      (splits_cut (support m) m.width (support_short m is) (height m) (first_lines (height m)) h),
-  λ K. cuts_split (support m) m.width (support_short m is) (height m) (first_lines (height m)) (let e = length-range_with_len 0 (height m) in omega arith)
+      (splits_cut (support m) m.width (nonzero_in_range m is) (height m) (first_lines (height m)) h),
+  λ K. cuts_split (support m) m.width (nonzero_in_range m is) (height m) (first_lines (height m)) (let e = length-range_with_len 0 (height m) in omega arith)
       (has_fewer (support m) (λ row. row < height m) (λ row. IsIn row (first_lines (height m))) (λ row h. first_lines_in (height m) row h) K),
 )

@@ -70,7 +70,7 @@ ray_is M m rows row old now new n short w wf wl cleared filled = record {
 }
   where
     pick : (other : ℕ) → (other < old.arcs.width) ⊎ (old.arcs.width ≤ other) → side_in now row other ≡ false
-    pick other (inl l) = cleared.done other l
+    pick other (inl l) = cleared.done other l l
     pick other (inr l) = cell_past now.arcs row other (let e = cleared.rows.width in omega arith)
 
     past : (end : Bool) (column : ℕ) → n ≤ column → end_in new end row column ≡ false

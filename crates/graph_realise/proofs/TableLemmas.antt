@@ -1,12 +1,17 @@
--- Cells of tables laid out row by row.
-use Rattle.std.proofs.Common.{◌≡◌, ◌≢◌, ◌<◌, ◌≤◌, ◌+◌, ◌*◌, ◌∙◌, ℕ, Bool, true, false, cond, length, get_or, set, sym, ap, subst, refl, arith, nat_lt, ◌⊎◌, inl, inr}
+-- Cells of tables, whose rows are words of bits.
+use Rattle.std.proofs.Common.{◌≡◌, ◌≢◌, ◌<◌, ◌≤◌, ◌+◌, ◌*◌, ◌/◌, ◌%◌, ◌∙◌, ℕ, Bool, true, false, cond, eqb, length, get_or, set, sym, ap, subst, refl, arith, nat_lt, ◌⊎◌, inl, inr}
+use Rattle.std.specs.Int.{bit_at}
 use Rattle.std.proofs.lemmas.Bool.{cases_lt}
 use Rattle.std.proofs.lemmas.Bool.Decides.{nat_tests}
 use Rattle.std.proofs.lemmas.Nat.{mul-add-lt}
+use Rattle.std.proofs.lemmas.Nat.Bits.{bit_at-zero}
 use Rattle.std.proofs.lemmas.List.{get_or-set_same, get_or-set_other}
 use Rattle.std.proofs.Math.Nat.{mul-le-mul_right, suc-mul}
+use Rattle.cmr_base.specs.MatrixLayout.{is_in}
+use Rattle.cmr_base.specs.Planes.{has_bit, words_for}
+use Rattle.cmr_base.proofs.RowLists.{same_or_not}
 use Rattle.graph_realise.specs.declared.table.Table.TheInside.{Inside}
-use Rattle.graph_realise.specs.Tables.{Grid, cell, IsCellSet, IsRowFilled, KeepsOtherRows}
+use Rattle.graph_realise.specs.Tables.{Grid, cell, IsCellSet, IsRowFilled, IsWordSet, KeepsOtherRows}
 use Rattle.graph_realise.specs.TableLayout.{grid_of, IsLaidOut}
 
 is_lt : (a b : ℕ) → a < b → nat_lt a b ≡ true
@@ -15,13 +20,28 @@ is_lt a b l = grind (arith, nat_tests)
 is_past : (a b : ℕ) → b ≤ a → nat_lt a b ≡ false
 is_past a b l = grind (arith, nat_tests)
 
-pub cell_inside : (table : Grid) (row column : ℕ) → column < table.width → cell table row column ≡ get_or table.cells (row * table.width + column) false
-cell_inside table row column l = ap (λ (b : Bool). cond b (get_or table.cells (row * table.width + column) false) false) (is_lt column table.width l)
+pub cell_inside : (table : Grid) (row column : ℕ) → column < table.width → cell table row column ≡ is_in (words_for table.width) table.words row column
+cell_inside table row column l = ap (λ (b : Bool). cond b (is_in (words_for table.width) table.words row column) false) (is_lt column table.width l)
 
 pub cell_past : (table : Grid) (row column : ℕ) → table.width ≤ column → cell table row column ≡ false
-cell_past table row column l = ap (λ (b : Bool). cond b (get_or table.cells (row * table.width + column) false) false) (is_past column table.width l)
+cell_past table row column l = ap (λ (b : Bool). cond b (is_in (words_for table.width) table.words row column) false) (is_past column table.width l)
 
--- each pair of a row and a column has its own place
+-- a column by its block and its place there
+pub block_of : (block k : ℕ) → k < 64 → (64 * block + k) / 64 ≡ block
+block_of block k l = omega arith
+
+pub place_of : (block k : ℕ) → k < 64 → (64 * block + k) % 64 ≡ k
+place_of block k l = omega arith
+
+-- a table without values
+pub none_in : (table : Grid) → ((k : ℕ) → get_or table.words k 0 ≡ 0) → (row column : ℕ) → cell table row column ≡ false
+none_in table zeros row column = go (cases_lt column table.width)
+  where
+    go : (column < table.width) ⊎ (table.width ≤ column) → cell table row column ≡ false
+    go (inl l) = cell_inside table row column l ∙ ap (λ word. has_bit word (column % 64)) (zeros (row * words_for table.width + column / 64)) ∙ ap (λ bit. eqb bit 1) (bit_at-zero (column % 64))
+    go (inr l) = cell_past table row column l
+
+-- each pair of a row and a block has its own place
 earlier_row : (w r s c d : ℕ) → r < s → c < w → r * w + c < s * w + d
 earlier_row w r s c d l k =
     let up : r + 1 ≤ s = omega arith in
@@ -37,35 +57,85 @@ other_place w r s c d hc hd n e = go (cases_lt r s)
         below : (a b : ℕ) → a ≤ b → a ≢ b → a < b
         below a b l m = grind (arith, nat_tests)
 
-other_column : (w r c d : ℕ) → c ≢ d → r * w + c ≢ r * w + d
-other_column w r c d n e = n (omega arith)
+other_block : (w r c d : ℕ) → c ≢ d → r * w + c ≢ r * w + d
+other_block w r c d n e = n (omega arith)
 
-pub place_inside : (a : Inside) (table : Grid) (row column : ℕ) → grid_of a ≡ table → IsLaidOut a → row < table.height → column < table.width → row * a.width + column < length a.cells.items
-place_inside a table row column e laid hr hc =
+pub place_inside : (a : Inside) (table : Grid) (row block : ℕ) → grid_of a ≡ table → IsLaidOut a → row < table.height → 64 * block < table.width → row * words_for a.width + block < length a.words.items
+place_inside a table row block e laid hr hb =
     let rows : table.height ≡ a.height = ap (λ (t : Grid). t.height) (sym e) in
     let columns : table.width ≡ a.width = ap (λ (t : Grid). t.width) (sym e) in
-    omega (arith, laid.whole, mul-add-lt row a.width column a.height (omega arith) (omega arith))
+    let inside : block < words_for a.width = omega arith in
+    omega (arith, laid.whole, mul-add-lt row (words_for a.width) block a.height (omega arith) inside)
 
--- one cell changed in the layout is one cell changed
-pub set_in : (table new : Grid) (row column : ℕ) (value : Bool) → length table.cells ≡ table.height * table.width → row < table.height → column < table.width
-    → new ≡ record { height = table.height; width = table.width; cells = set table.cells (row * table.width + column) value }
-    → IsCellSet table new row column value
-set_in table new row column value whole hr hc e = rw e (record {
+-- the bits of a word are cells
+pub word_is : (a : Inside) (table : Grid) (row block word : ℕ) → grid_of a ≡ table → word ≡ get_or a.words.items (row * words_for a.width + block) 0
+    → (k : ℕ) → k < 64 → 64 * block + k < table.width → has_bit word k ≡ cell table row (64 * block + k)
+word_is a table row block word e is k small inside =
+    subst (λ (t : Grid). 64 * block + k < t.width → has_bit word k ≡ cell t row (64 * block + k)) e
+    (λ l.
+    ap (λ n. has_bit n k) is
+    ∙ sym (cell_inside (grid_of a) row (64 * block + k) l
+    ∙ ap (λ b. has_bit (get_or a.words.items (row * words_for a.width + b) 0) ((64 * block + k) % 64)) (block_of block k small)
+    ∙ ap (λ p. has_bit (get_or a.words.items (row * words_for a.width + block) 0) p) (place_of block k small)))
+    inside
+
+-- one word changed in the layout
+pub word_set : (table new : Grid) (row block word : ℕ) → length table.words ≡ table.height * words_for table.width → row < table.height → 64 * block < table.width
+    → new ≡ record { height = table.height; width = table.width; words = set table.words (row * words_for table.width + block) word }
+    → IsWordSet table new row block word
+word_set table new row block word whole hr hb e = rw e (record {
   rows = record {
     height = refl;
     width = refl;
-    others = λ r c n. pick c (cases_lt c table.width) (λ l. get_or-set_other table.cells (row * table.width + column) (r * table.width + c) value false (other_place table.width r row c column l hc n));
+    others = λ r c n. pick c (cases_lt c table.width)
+        (λ l. ap (λ (n : ℕ). has_bit n (c % 64)) (get_or-set_other table.words (row * words_for table.width + block) (r * words_for table.width + c / 64) word 0 (other_place (words_for table.width) r row (c / 64) block (omega arith) inside n)));
   };
-  here = cell_inside (record { height = table.height; width = table.width; cells = set table.cells (row * table.width + column) value }) row column hc
-      ∙ get_or-set_same table.cells (row * table.width + column) value false
-      (omega (arith, whole, mul-add-lt row table.width column table.height hr hc));
-  others = λ c n. pick c (cases_lt c table.width) (λ l. get_or-set_other table.cells (row * table.width + column) (row * table.width + c) value false (other_column table.width row c column n));
+  here = λ k small l.
+      cell_inside (record { height = table.height; width = table.width; words = set table.words (row * words_for table.width + block) word }) row (64 * block + k) l
+      ∙ ap (λ b. has_bit (get_or (set table.words (row * words_for table.width + block) word) (row * words_for table.width + b) 0) ((64 * block + k) % 64)) (block_of block k small)
+      ∙ ap (λ n. has_bit n ((64 * block + k) % 64)) (get_or-set_same table.words (row * words_for table.width + block) word 0
+      (omega (arith, whole, mul-add-lt row (words_for table.width) block table.height hr inside)))
+      ∙ ap (has_bit word) (place_of block k small);
+  others = λ c n. pick c (cases_lt c table.width)
+      (λ l. ap (λ (m : ℕ). has_bit m (c % 64)) (get_or-set_other table.words (row * words_for table.width + block) (row * words_for table.width + c / 64) word 0 (other_block (words_for table.width) row (c / 64) block n)));
 })
   where
+    inside : block < words_for table.width
+    inside = omega arith
+
     pick : {x y : Bool} → (c : ℕ) → (c < table.width) ⊎ (table.width ≤ c) → (c < table.width → x ≡ y)
         → cond (nat_lt c table.width) x false ≡ cond (nat_lt c table.width) y false
     pick c (inl l) h = ap (λ z. cond (nat_lt c table.width) z false) (h l)
     pick c (inr l) h = rw (is_past c table.width l) refl
+
+pub set_laid_out : (a : Inside) (table new : Grid) (row block word : ℕ) → grid_of a ≡ table → IsLaidOut a → row < table.height → 64 * block < table.width
+    → new ≡ record { height = a.height; width = a.width; words = set a.words.items (row * words_for a.width + block) word }
+    → IsWordSet table new row block word
+set_laid_out a table new row block word e laid hr hb is =
+    subst (λ (t : Grid). IsWordSet t new row block word) e
+    (word_set (grid_of a) new row block word laid.whole (omega (arith, hr, ap (λ (t : Grid). t.height) e)) (omega (arith, hb, ap (λ (t : Grid). t.width) e)) is)
+
+-- a word with one bit changed changes one cell
+pub cell_set : (old new : Grid) (row column before word : ℕ) (value : Bool) → column < old.width
+    → ((k : ℕ) → k < 64 → 64 * (column / 64) + k < old.width → has_bit before k ≡ cell old row (64 * (column / 64) + k))
+    → has_bit word (column % 64) ≡ value → ((k : ℕ) → k < 64 → k ≢ column % 64 → bit_at word k ≡ bit_at before k) → IsWordSet old new row (column / 64) word → IsCellSet old new row column value
+cell_set old new row column before word value inside bits here kept s = record {
+  rows = s.rows;
+  here = subst (λ c. cell new row c ≡ value) same (s.here (column % 64) (omega arith) (omega arith) ∙ here);
+  others = λ c n. go c n (same_or_not (c / 64) (column / 64)) (cases_lt c old.width);
+}
+  where
+    same : 64 * (column / 64) + column % 64 ≡ column
+    same = omega arith
+
+    go : (c : ℕ) → c ≢ column → (c / 64 ≡ column / 64) ⊎ (c / 64 ≢ column / 64) → (c < old.width) ⊎ (old.width ≤ c) → cell new row c ≡ cell old row c
+    go c n (inr m) l = s.others c m
+    go c n (inl e) (inr l) = cell_past new row c (let w = s.rows.width in omega arith) ∙ sym (cell_past old row c l)
+    go c n (inl e) (inl l) =
+        let at : 64 * (column / 64) + c % 64 ≡ c = omega arith in
+        let other : c % 64 ≢ column % 64 = λ f. n (let k : c ≡ column = omega arith in k) in
+        subst (λ x. cell new row x ≡ cell old row x) at
+        (s.here (c % 64) (omega arith) (omega arith) ∙ ap (λ bit. eqb bit 1) (kept (c % 64) (omega arith) other) ∙ bits (c % 64) (omega arith) (omega arith))
 
 pub keeps_rows_trans : (a b c : Grid) (row : ℕ) → KeepsOtherRows a b row → KeepsOtherRows b c row → KeepsOtherRows a c row
 keeps_rows_trans a b c row h k = record {
@@ -77,7 +147,7 @@ keeps_rows_trans a b c row h k = record {
 pub filled_none : (values : ℕ → Bool) (table : Grid) (row : ℕ) → IsRowFilled values table table row 0
 filled_none values table row = record {
   rows = record { height = refl; width = refl; others = λ r column n. refl };
-  done = λ column l. absurd (omega arith);
+  done = λ column l w. absurd (omega arith);
   left = λ column l. refl;
 }
 
@@ -85,7 +155,7 @@ pub filled_more : (values : ℕ → Bool) (old now new : Grid) (row column : ℕ
     → IsRowFilled values old new row (column + 1)
 filled_more values old now new row column value so s e = record {
   rows = keeps_rows_trans old now new row so.rows s.rows;
-  done = λ c l. pick c (cases_lt c column) l;
+  done = λ c l w. pick c (cases_lt c column) l w;
   left = λ c l. s.others c (above c l) ∙ so.left c (omega arith);
 }
   where
@@ -95,13 +165,30 @@ filled_more values old now new row column value so s e = record {
     before : (c : ℕ) → c < column → c ≢ column
     before c l e = omega arith
 
-    pick : (c : ℕ) → (c < column) ⊎ (column ≤ c) → c < column + 1 → cell new row c ≡ values c
-    pick c (inl l) k = s.others c (before c l) ∙ so.done c l
-    pick c (inr l) k = let q : c ≡ column = omega arith in ap (cell new row) q ∙ s.here ∙ e ∙ ap values (sym q)
+    pick : (c : ℕ) → (c < column) ⊎ (column ≤ c) → c < column + 1 → c < old.width → cell new row c ≡ values c
+    pick c (inl l) k w = s.others c (before c l) ∙ so.done c l w
+    pick c (inr l) k w = let q : c ≡ column = omega arith in ap (cell new row) q ∙ s.here ∙ e ∙ ap values (sym q)
 
-pub set_laid_out : (a : Inside) (table new : Grid) (row column : ℕ) (value : Bool) → grid_of a ≡ table → IsLaidOut a → row < table.height → column < table.width
-    → new ≡ record { height = a.height; width = a.width; cells = set a.cells.items (row * a.width + column) value }
-    → IsCellSet table new row column value
-set_laid_out a table new row column value e laid hr hc is =
-    subst (λ (t : Grid). IsCellSet t new row column value) e
-    (set_in (grid_of a) new row column value laid.whole (omega (arith, hr, ap (λ (t : Grid). t.height) e)) (omega (arith, hc, ap (λ (t : Grid). t.width) e)) is)
+-- 64 columns more
+pub filled_word : (values : ℕ → Bool) (old now new : Grid) (row block word : ℕ) → IsRowFilled values old now row (64 * block) → IsWordSet now new row block word
+    → ((k : ℕ) → k < 64 → 64 * block + k < old.width → has_bit word k ≡ values (64 * block + k)) → IsRowFilled values old new row (64 * (block + 1))
+filled_word values old now new row block word so s bits = record {
+  rows = keeps_rows_trans old now new row so.rows s.rows;
+  done = λ c l w. pick c w (cases_lt c (64 * block)) l;
+  left = λ c l. s.others c (λ e. absurd (omega arith)) ∙ so.left c (omega arith);
+}
+  where
+    pick : (c : ℕ) → c < old.width → (c < 64 * block) ⊎ (64 * block ≤ c) → c < 64 * (block + 1) → cell new row c ≡ values c
+    pick c w (inl l) k = s.others c (λ e. absurd (omega arith)) ∙ so.done c l w
+    pick c w (inr l) k =
+        let at : 64 * block + c % 64 ≡ c = omega arith in
+        let wide = so.rows.width in
+        subst (λ x. cell new row x ≡ values x) at (s.here (c % 64) (omega arith) (omega arith) ∙ bits (c % 64) (omega arith) (omega arith))
+
+-- and all of them
+pub filled_row : (values : ℕ → Bool) (old new : Grid) (row count : ℕ) → words_for old.width ≤ count → IsRowFilled values old new row (64 * count) → IsRowFilled values old new row old.width
+filled_row values old new row count many so = record {
+  rows = so.rows;
+  done = λ c l w. so.done c (omega arith) w;
+  left = λ c l. cell_past new row c (let w = so.rows.width in omega arith) ∙ sym (cell_past old row c l);
+}

@@ -1,11 +1,12 @@
 -- A row and the parts of the others: what is known of them, and the tree that they make.
-use Rattle.std.specs.Prelude.{◌≡◌, ◌<◌, ◌⊎◌, ◌==◌, if◌then◌else◌, ℕ, Bool, true, false, List, [], length, slice_index_or, Option, Some, None}
+use Rattle.std.specs.Prelude.{◌≡◌, ◌<◌, ◌≤◌, ◌⊎◌, ◌==◌, ◌&&◌, ◌||◌, not, nat_lt, if◌then◌else◌, ℕ, Bool, true, false, List, [], length, slice_index_or, Option, Some, None}
 use Rattle.cmr_base.specs.Cuts.{differ}
 use Rattle.cmr_base.specs.LineSets.{AllBelow}
 use Rattle.cmr_base.specs.Members.{IsIn}
 use Rattle.graph_realise.specs.Branches.{AreBranches, branch_at}
 use Rattle.graph_realise.specs.Merging.{Hanging, heavier, spot, merged_lies, turned_side, turned_lies}
-use Rattle.graph_realise.specs.SideTables.{side_in, end_in}
+use Rattle.graph_realise.specs.SideTables.{side_in, end_in, IsArcChanged}
+use Rattle.graph_realise.specs.Tables.{Grid, cell}
 use Rattle.graph_realise.specs.declared.arc_sides.ArcSides.{ArcSides}
 use Rattle.graph_realise.specs.declared.joint.Joint.{Joint}
 
@@ -41,6 +42,21 @@ abbrev pub IsPartWith : (ℕ → ℕ → Bool) → List ℕ → List (Option ℕ
 IsPartWith M rows numbers column found =
     (((r : ℕ) → IsIn r rows → M r column ≡ false) × (found ≡ None)) ⊎ ((r : ℕ) × IsIn r rows × (M r column ≡ true) × (found ≡ number_at numbers r))
 
+-- the same for a column in which row i is 0, and none for the others
+abbrev pub IsTouched : (ℕ → ℕ → Bool) → ℕ → List ℕ → List (Option ℕ) → ℕ → Option ℕ → Type 0
+IsTouched M i rows numbers column found = ((M i column ≡ true) × (found ≡ None)) ⊎ ((M i column ≡ false) × IsPartWith M rows numbers column found)
+
+-- the number is that of this part
+abbrev pub is_part : ℕ → Option ℕ → Bool
+is_part part None = false
+is_part part (Some number) = number == part
+
+-- a table with a line for each part, which marks the lines with its number
+pub record AreMarks (numbers : List (Option ℕ)) (count : ℕ) (marks : Grid) : Type 0 where
+  pub tall : marks.height ≡ count
+  pub wide : marks.width ≡ length numbers
+  pub exact : (part line : ℕ) → part < count → line < length numbers → cell marks part line ≡ is_part part (number_at numbers line)
+
 -- all of it, for a matrix of these sizes
 pub record IsJointOf (M : ℕ → ℕ → Bool) (m n : ℕ) (S : List ℕ) (i : ℕ) (parts : List (List ℕ)) (ends : List ℕ) (joint : Joint) : Type 0 where
   pub row : joint.row ≡ i
@@ -48,7 +64,10 @@ pub record IsJointOf (M : ℕ → ℕ → Bool) (m n : ℕ) (S : List ℕ) (i : 
   pub columns : length joint.part_with.items ≡ n
   pub numbered : AreNumbered parts (length parts) joint.part_of.items
   pub branches : AreBranches M n i parts ends (length parts) joint.branches.items
-  pub with_columns : (column : ℕ) → column < n → IsPartWith M S joint.part_of.items column (number_at joint.part_with.items column)
+  pub with_columns : (column : ℕ) → column < n → IsTouched M i S joint.part_of.items column (number_at joint.part_with.items column)
+  pub row_marks : AreMarks joint.part_of.items (length parts) joint.row_marks
+  pub column_marks : AreMarks joint.part_with.items (length parts) joint.column_marks
+  pub few : length parts ≤ 1000
 
 -- numbers and columns that are in range
 pub record FitsJoint (m n : ℕ) (joint : Joint) : Type 0 where
@@ -58,6 +77,25 @@ pub record FitsJoint (m n : ℕ) (joint : Joint) : Type 0 where
   pub row_parts : (row a : ℕ) → number_at joint.part_of.items row ≡ Some a → a < length joint.branches.items
   pub column_parts : (column a : ℕ) → number_at joint.part_with.items column ≡ Some a → a < length joint.branches.items
   pub commons : (a column : ℕ) → (branch_at joint.branches.items a).common ≡ Some column → column < n
+  pub row_marks : AreMarks joint.part_of.items (length joint.branches.items) joint.row_marks
+  pub column_marks : AreMarks joint.part_with.items (length joint.branches.items) joint.column_marks
+  pub few : length joint.branches.items ≤ 1000
+
+-- the tables have a row for the arc, and the marks a line for the part
+pub record IsLineFor (joint : Joint) (sides : ArcSides) (arc part : ℕ) : Type 0 where
+  pub arcs : arc < sides.arcs.height
+  pub first : arc < sides.first.height
+  pub last : arc < sides.last.height
+  pub rows : part < joint.row_marks.height
+  pub columns : part < joint.column_marks.height
+  pub few : part < 1000
+  pub rows_wide : joint.row_marks.width ≡ sides.arcs.width
+  pub columns_wide : joint.column_marks.width ≡ sides.first.width
+  pub ends_wide : sides.last.width ≡ sides.first.width
+
+-- no part is named for a column that the row has
+abbrev pub AreOff : (ℕ → ℕ → Bool) → Joint → Type 0
+AreOff M joint = (column : ℕ) → M joint.row column ≡ true → number_at joint.part_with.items column ≡ None
 
 -- the end of the row's arc where a part is
 abbrev pub end_of : Joint → Option ℕ → Bool
@@ -75,9 +113,19 @@ module _ (M : ℕ → ℕ → Bool) (joint : Joint) where
       if r == joint.row then end_of joint (number_at joint.part_of.items s)
       else by_part r (turned_side joint.row (side_in old) r s) (number_at joint.part_of.items s)
 
-  -- the ends of columns on the sides of arc r, which is turned or not
-  abbrev pub joined_ends : ℕ → Bool → ArcSides → Bool → ℕ → Bool
-  joined_ends r turned old end column = merged_lies M joint.row (hanging_of joint) (λ e s c. differ turned (end_in old e s c)) end r column
+  -- whether one of the first parts but arc r's own hangs on the side true of it
+  abbrev pub hung : ℕ → ℕ → ℕ → Option ℕ → Bool
+  hung r own count None = false
+  hung r own count (Some part) = nat_lt part count && (not (part == own) && spot M joint.row (hanging_of joint) r part)
+
+  -- the first parts but arc r's own are on the side of it where they hang
+  abbrev pub AreHung : ℕ → ℕ → ℕ → ArcSides → ArcSides → Type 0
+  AreHung r own count old new =
+      IsArcChanged (λ other. side_in old r other || hung r own count (number_at joint.part_of.items other)) (λ end column. end_in old end r column || hung r own count (number_at joint.part_with.items column)) old new r
+
+  -- the ends on the sides of arc r, with those of the columns that it has in common with the row
+  abbrev pub is_used : ℕ → ℕ → ArcSides → Bool → ℕ → Bool
+  is_used r own old end column = end_in old end r column || (not (differ end (branch_at joint.branches.items own).end) && (M r column && M joint.row column))
 
   -- the sides of arc r in the tree of all rows
   pub record IsArcJoined (old new : ArcSides) (r : ℕ) : Type 0 where

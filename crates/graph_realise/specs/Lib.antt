@@ -1,3 +1,4 @@
+pub mod Laws
 pub mod Branches
 pub mod Growing
 pub mod Joints

@@ -42,6 +42,13 @@ pub record AreEndsFilled (ends : Bool → ℕ → Bool) (old new : ArcSides) (ro
   pub done : (end : Bool) (column : ℕ) → column < count → end_in new end row column ≡ ends end column
   pub left : (end : Bool) (column : ℕ) → count ≤ column → end_in new end row column ≡ end_in old end row column
 
+-- one arc has these sides of the arcs and of the ends of columns
+pub record IsArcChanged (arcs : ℕ → Bool) (ends : Bool → ℕ → Bool) (old new : ArcSides) (row : ℕ) : Type 0 where
+  pub sizes : (m : Matrix) → AreTablesOf m old → AreTablesOf m new
+  pub others : KeepsOthers old new row
+  pub to_arcs : (other : ℕ) → other < old.arcs.width → side_in new row other ≡ arcs other
+  pub to_ends : (end : Bool) (column : ℕ) → column < old.first.width → end_in new end row column ≡ ends end column
+
 -- the ends of one column are changed
 pub record AreEndsSet (old new : ArcSides) (row column : ℕ) (first last : Bool) : Type 0 where
   pub sizes : (m : Matrix) → AreTablesOf m old → AreTablesOf m new

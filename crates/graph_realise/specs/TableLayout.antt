@@ -1,11 +1,12 @@
 use Rattle.std.specs.Prelude.{◌≡◌, ◌≤◌, ◌*◌, length}
+use Rattle.cmr_base.specs.Planes.{words_for}
 use Rattle.graph_realise.specs.declared.table.Table.TheInside.{Inside}
 use Rattle.graph_realise.specs.Tables.{Grid}
 
 abbrev pub grid_of : Inside → Grid
-grid_of a = record { height = a.height; width = a.width; cells = a.cells.items }
+grid_of a = record { height = a.height; width = a.width; words = a.words.items }
 
 pub record IsLaidOut (a : Inside) : Type 0 where
   pub height_in : a.height ≤ 1000
   pub width_in : a.width ≤ 1000
-  pub whole : length a.cells.items ≡ a.height * a.width
+  pub whole : length a.words.items ≡ a.height * words_for a.width

@@ -5,10 +5,9 @@ ghost use Rattle.cmr_base.specs.Matrix.{height, IsMatrix};
 ghost use Rattle.cmr_base.specs.Members.{IsIn};
 ghost use Rattle.cmr_base.specs.Splits.{IsCommon, IsUncut, IsUncutBy};
 ghost use Rattle.cmr_base.specs.Trees.{support};
-ghost use Rattle.graph_realise.specs.Branches.{AreBranches, AreCommonMarks, AreMarkedAlike, IsBranch};
+ghost use Rattle.graph_realise.specs.Branches.{AreAlike, AreBranches, AreCommonColumns, AreCommonMarks, AreMarked, IsBranch};
 ghost use Rattle.graph_realise.specs.Joints.{AreInRows};
 
-use crate::nonzero::is_nonzero;
 use cmr_base::{Indices, Matrix, Memory, PartList, SideList};
 use std::alloc::Global;
 
@@ -56,7 +55,8 @@ fn branch_at(
 {
     let common = common_columns(alloc, matrix, row, part)?;
     let count = count_marks(&common);
-    let is_uncut = has_uncut(matrix, row, part, &common);
+    let columns = marked_columns(alloc, &common)?;
+    let is_uncut = has_uncut(matrix, row, part, &columns);
     Ok(Branch {
         end,
         weight: 2 * count + u32::from(is_uncut),
@@ -89,11 +89,11 @@ fn is_common(matrix: &Matrix, row: u32, part: &Indices, column: u32) -> bool
     requires column { column < matrix.now.width }
     ensures { IsTrue result ↔ IsCommon (support matrix.now) row part.now column }
 {
-    if !is_nonzero(matrix, row, column) {
+    if !matrix.is_nonzero(row, column) {
         return false;
     }
     for other in part.as_slice() {
-        if is_nonzero(matrix, *other, column) {
+        if matrix.is_nonzero(*other, column) {
             return true;
         }
     }
@@ -126,38 +126,49 @@ fn first_mark(marks: &[bool]) -> Option<u32>
     None
 }
 
+fn marked_columns(alloc: Global, marks: &[bool]) -> Result<Vec<u32>, Memory>
+    requires { length marks.now ≤ 1000 }
+    ensures { IfOk result (λ columns. AreMarked marks.now (length marks.now) columns.items) }
+{
+    let mut columns = Vec::new(alloc);
+    for column in 0..marks.len() {
+        if marks[column] {
+            columns.push(column as u32)?;
+        }
+    }
+    Ok(columns)
+}
+
 // Whether each row of the part has all common columns or none of them.
-fn has_uncut(matrix: &Matrix, row: u32, part: &Indices, common: &[bool]) -> bool
-    requires shape { IsMatrix matrix.now }
+fn has_uncut(matrix: &Matrix, row: u32, part: &Indices, columns: &[u32]) -> bool
     requires rows { AllBelow (height matrix.now) part.now }
-    requires common { AreCommonMarks (support matrix.now) matrix.now.width row part.now common.now }
+    requires common { AreCommonColumns (support matrix.now) matrix.now.width row part.now columns.now }
     ensures { IsTrue result ↔ IsUncutBy (support matrix.now) row part.now part.now }
 {
     for other in part.as_slice() {
-        if !is_uncut(matrix, row, part, common, *other) {
+        if !is_uncut(matrix, row, part, columns, *other) {
             return false;
         }
     }
     true
 }
 
-fn is_uncut(matrix: &Matrix, row: u32, part: &Indices, common: &[bool], other: u32) -> bool
-    requires shape { IsMatrix matrix.now }
+fn is_uncut(matrix: &Matrix, row: u32, part: &Indices, columns: &[u32], other: u32) -> bool
     requires other { other < height matrix.now }
-    requires common { AreCommonMarks (support matrix.now) matrix.now.width row part.now common.now }
+    requires common { AreCommonColumns (support matrix.now) matrix.now.width row part.now columns.now }
     ensures { IsTrue result ↔ IsUncut (support matrix.now) row part.now other }
 {
-    are_alike(matrix, other, common, true) || are_alike(matrix, other, common, false)
+    are_alike(matrix, other, columns, true) || are_alike(matrix, other, columns, false)
 }
 
-// Whether a row has all marked columns, or none of them, as the value says.
-fn are_alike(matrix: &Matrix, row: u32, marks: &[bool], value: bool) -> bool
+// Whether a row has all of these columns, or none of them, as the value says.
+fn are_alike(matrix: &Matrix, row: u32, columns: &[u32], value: bool) -> bool
     requires row { row < height matrix.now }
-    requires marks { length marks.now ≡ matrix.now.width }
-    ensures { IsTrue result ↔ AreMarkedAlike (support matrix.now) row marks.now value }
+    requires columns { AllBelow matrix.now.width columns.now }
+    ensures { IsTrue result ↔ AreAlike (support matrix.now) row columns.now value }
 {
-    for column in 0..matrix.columns() {
-        if marks[column as usize] && is_nonzero(matrix, row, column) != value {
+    for place in 0..columns.len() {
+        if matrix.is_nonzero(row, columns[place]) != value {
             return false;
         }
     }

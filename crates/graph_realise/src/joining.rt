@@ -1,20 +1,18 @@
 // The tree that the parts at a row make.
-ghost use Rattle.std.specs.Prelude.{◌≡◌, ◌≢◌, ◌<◌, ◌==◌, ◌&&◌, ◌||◌, if◌then◌else◌, ltb, ℕ, Bool, true, false, Some, None, length, slice_index_or};
+ghost use Rattle.std.specs.Prelude.{◌≡◌, ◌≢◌, ◌<◌, ◌==◌, ◌&&◌, ◌||◌, not, ltb, ℕ, Some, None, length};
 ghost use Rattle.cmr_base.specs.Cuts.{differ};
 ghost use Rattle.cmr_base.specs.LineSets.{AllBelow};
 ghost use Rattle.cmr_base.specs.Matrix.{height};
 ghost use Rattle.cmr_base.specs.Members.{IsIn};
 ghost use Rattle.cmr_base.specs.Trees.{support};
-ghost use Rattle.graph_realise.specs.Branches.{branch_at};
-ghost use Rattle.graph_realise.specs.Joints.{FitsJoint, IsArcJoined, by_part, end_of, hanging_of, joined_ends, number_at};
+ghost use Rattle.graph_realise.specs.Joints.{AreHung, AreOff, FitsJoint, IsArcJoined, IsLineFor, end_of, hanging_of, is_used, number_at};
 ghost use Rattle.graph_realise.specs.Merging.{spot};
-ghost use Rattle.graph_realise.specs.SideTables.{AreEndsFilled, AreEndsSet, AreTablesOf, KeepsOthers, KeepsOutside, side_in, end_in};
+ghost use Rattle.graph_realise.specs.SideTables.{AreTablesOf, IsArcChanged, KeepsOthers, KeepsOutside, side_in, end_in};
 ghost use Rattle.graph_realise.specs.Tables.{cell, IsRowFilled};
 
 use crate::arc_sides::ArcSides;
 use crate::branches::Branch;
 use crate::joint::Joint;
-use crate::nonzero::is_nonzero;
 use crate::table::Table;
 use cmr_base::{Indices, Matrix};
 
@@ -24,6 +22,7 @@ pub fn join(matrix: &Matrix, rows: &Indices, joint: &Joint, sides: &mut ArcSides
     requires rows { AllBelow (height matrix.now) rows.now }
     requires joint { FitsJoint (height matrix.now) matrix.now.width joint.now }
     requires numbered { (r : ℕ) → IsIn r rows.now → r ≢ joint.now.row → number_at joint.now.part_of.items r ≢ None }
+    requires off { AreOff (support matrix.now) joint.now }
     requires tables { AreTablesOf matrix.now sides.old }
     ensures tables { AreTablesOf matrix.now sides.new }
     ensures joined { (r : ℕ) → IsIn r rows.now → IsArcJoined (support matrix.now) joint.now sides.old sides.new r }
@@ -48,7 +47,7 @@ fn join_row(matrix: &Matrix, joint: &Joint, sides: &mut ArcSides)
 {
     join_row_to_arcs(joint, &mut sides.arcs);
     for column in 0..matrix.columns() {
-        if is_nonzero(matrix, joint.row, column) {
+        if matrix.is_nonzero(joint.row, column) {
             sides.set_ends(joint.row, column, true, false);
         } else {
             let end = end_of(joint, joint.part_with[column as usize]);
@@ -83,12 +82,13 @@ fn end_of(joint: &Joint, part: Option<usize>) -> bool
     }
 }
 
-// The arc of another row.
+// The arc of another row. Its sides are kept within its part, and each other part lies on the side where it hangs.
 fn join_arc(matrix: &Matrix, joint: &Joint, arc: u32, sides: &mut ArcSides)
     requires arc { arc < height matrix.now }
     requires other { arc ≢ joint.now.row }
     requires part { number_at joint.now.part_of.items arc ≢ None }
     requires joint { FitsJoint (height matrix.now) matrix.now.width joint.now }
+    requires off { AreOff (support matrix.now) joint.now }
     requires tables { AreTablesOf matrix.now sides.old }
     ensures tables { AreTablesOf matrix.now sides.new }
     ensures joined { IsArcJoined (support matrix.now) joint.now sides.old sides.new arc }
@@ -96,135 +96,72 @@ fn join_arc(matrix: &Matrix, joint: &Joint, arc: u32, sides: &mut ArcSides)
 {
     if let Some(own) = joint.part_of[arc as usize] {
         let is_turned = sides.arcs.get(arc, joint.row);
-        join_to_arcs(matrix, joint, arc, own, is_turned, &mut sides.arcs);
-        join_to_ends(matrix, joint, arc, own, is_turned, sides);
+        keep_part(joint, arc, own, is_turned, sides);
+        add_hung(matrix, joint, arc, own, sides);
+        add_used(matrix, joint, arc, own, sides);
     }
 }
 
-fn join_to_arcs(
-    matrix: &Matrix,
-    joint: &Joint,
-    arc: u32,
-    own: usize,
-    is_turned: bool,
-    arcs: &mut Table,
-)
-    requires arc { arc < height matrix.now }
-    requires part { number_at joint.now.part_of.items arc ≡ Some own }
-    requires joint { FitsJoint (height matrix.now) matrix.now.width joint.now }
-    requires tall { arcs.old.height ≡ height matrix.now }
-    requires wide { arcs.old.width ≡ height matrix.now }
-    ensures { IsRowFilled (λ other. by_part (support matrix.now) joint.now arc (differ is_turned (cell arcs.old arc other)) (number_at joint.now.part_of.items other)) arcs.old arcs.new arc arcs.old.width }
+// Keeps the sides of an arc for its own part, turned round or not, and clears all others.
+fn keep_part(joint: &Joint, arc: u32, own: usize, is_turned: bool, sides: &mut ArcSides)
+    requires { IsLineFor joint.now sides.old arc own }
+    ensures { IsArcChanged (λ other. cell joint.now.row_marks own other && differ is_turned (side_in sides.old arc other)) (λ end column. cell joint.now.column_marks own column && differ is_turned (end_in sides.old end arc column)) sides.old sides.new arc }
 {
-    for other in 0..arcs.width() {
-        let within = arcs.get(arc, other) != is_turned;
-        let part = joint.part_of[other as usize];
-        arcs.set(arc, other, side_of(matrix, joint, arc, own, part, within));
-    }
+    let line = own as u32;
+    sides.arcs.keep(arc, &joint.row_marks, line, is_turned);
+    sides.first.keep(arc, &joint.column_marks, line, is_turned);
+    sides.last.keep(arc, &joint.column_marks, line, is_turned);
 }
 
-fn join_to_ends(
-    matrix: &Matrix,
-    joint: &Joint,
-    arc: u32,
-    own: usize,
-    is_turned: bool,
-    sides: &mut ArcSides,
-)
+// Puts the other parts that hang on the side `true` of an arc there.
+fn add_hung(matrix: &Matrix, joint: &Joint, arc: u32, own: usize, sides: &mut ArcSides)
     requires arc { arc < height matrix.now }
-    requires other { arc ≢ joint.now.row }
-    requires part { number_at joint.now.part_of.items arc ≡ Some own }
+    requires own { number_at joint.now.part_of.items arc ≡ Some own }
     requires joint { FitsJoint (height matrix.now) matrix.now.width joint.now }
     requires tables { AreTablesOf matrix.now sides.old }
-    ensures tables { AreTablesOf matrix.now sides.new }
-    ensures filled { AreEndsFilled (joined_ends (support matrix.now) joint.now arc is_turned sides.old) sides.old sides.new arc matrix.now.width }
+    ensures { AreHung (support matrix.now) joint.now arc own (length joint.now.branches.items) sides.old sides.new }
 {
-    for column in 0..matrix.columns() {
-        if is_nonzero(matrix, joint.row, column) {
-            let is_used = is_nonzero(matrix, arc, column);
-            join_to_used(joint, arc, own, column, is_used, sides);
-        } else {
-            let part = joint.part_with[column as usize];
-            join_to_unused(matrix, joint, arc, own, is_turned, column, part, sides);
+    for part in 0..joint.branches.len() {
+        if hangs(matrix, joint, arc, own, part) {
+            add_part(joint, arc, part, sides);
         }
     }
 }
 
-// A column that the row has: it leaves the part where the row's arc is.
-fn join_to_used(
-    joint: &Joint,
-    arc: u32,
-    own: usize,
-    column: u32,
-    is_used: bool,
-    sides: &mut ArcSides,
-)
+// Whether another part hangs on the side `true` of an arc of part `own`.
+fn hangs(matrix: &Matrix, joint: &Joint, arc: u32, own: usize, part: usize) -> bool
+    requires arc { arc < height matrix.now }
+    requires own { number_at joint.now.part_of.items arc ≡ Some own }
+    requires part { part < length joint.now.branches.items }
+    requires joint { FitsJoint (height matrix.now) matrix.now.width joint.now }
+    ensures { result ≡ (not (part == own) && spot (support matrix.now) joint.now.row (hanging_of joint.now) arc part) }
+{
+    part != own && side_of_other(matrix, joint, arc, own, part)
+}
+
+// Puts a part on the side `true` of an arc.
+fn add_part(joint: &Joint, arc: u32, part: usize, sides: &mut ArcSides)
+    requires { IsLineFor joint.now sides.old arc part }
+    ensures { IsArcChanged (λ other. side_in sides.old arc other || cell joint.now.row_marks part other) (λ end column. end_in sides.old end arc column || cell joint.now.column_marks part column) sides.old sides.new arc }
+{
+    let line = part as u32;
+    sides.arcs.add(arc, &joint.row_marks, line);
+    sides.first.add(arc, &joint.column_marks, line);
+    sides.last.add(arc, &joint.column_marks, line);
+}
+
+// A column that the row and the arc have leaves the part where the row's arc is.
+fn add_used(matrix: &Matrix, joint: &Joint, arc: u32, own: usize, sides: &mut ArcSides)
+    requires arc { arc < height matrix.now }
     requires own { own < length joint.now.branches.items }
-    requires first_row { arc < sides.old.first.height }
-    requires first_column { column < sides.old.first.width }
-    requires last_row { arc < sides.old.last.height }
-    requires last_column { column < sides.old.last.width }
-    ensures { AreEndsSet sides.old sides.new arc column (if differ true (branch_at joint.now.branches.items own).end then false else is_used) (if differ false (branch_at joint.now.branches.items own).end then false else is_used) }
+    requires row { joint.now.row < height matrix.now }
+    requires tables { AreTablesOf matrix.now sides.old }
+    ensures { IsArcChanged (λ other. side_in sides.old arc other) (is_used (support matrix.now) joint.now arc own sides.old) sides.old sides.new arc }
 {
     if joint.branches[own].end {
-        sides.set_ends(arc, column, is_used, false);
+        sides.first.add_common(arc, matrix, arc, joint.row);
     } else {
-        sides.set_ends(arc, column, false, is_used);
-    }
-}
-
-// A column that the row does not have.
-fn join_to_unused(
-    matrix: &Matrix,
-    joint: &Joint,
-    arc: u32,
-    own: usize,
-    is_turned: bool,
-    column: u32,
-    part: Option<usize>,
-    sides: &mut ArcSides,
-)
-    requires arc { arc < height matrix.now }
-    requires own { number_at joint.now.part_of.items arc ≡ Some own }
-    requires part { (a : ℕ) → part ≡ Some a → a < length joint.now.branches.items }
-    requires joint { FitsJoint (height matrix.now) matrix.now.width joint.now }
-    requires column { column < matrix.now.width }
-    requires tables { AreTablesOf matrix.now sides.old }
-    ensures { AreEndsSet sides.old sides.new arc column
-        (by_part (support matrix.now) joint.now arc (differ is_turned (end_in sides.old true arc column)) part)
-        (by_part (support matrix.now) joint.now arc (differ is_turned (end_in sides.old false arc column)) part) }
-{
-    let within_first = sides.first.get(arc, column) != is_turned;
-    let within_last = sides.last.get(arc, column) != is_turned;
-    let first = side_of(matrix, joint, arc, own, part, within_first);
-    let last = side_of(matrix, joint, arc, own, part, within_last);
-    sides.set_ends(arc, column, first, last);
-}
-
-// The side of an arc of part `own` where a part is, which is `within` for the own part.
-fn side_of(
-    matrix: &Matrix,
-    joint: &Joint,
-    arc: u32,
-    own: usize,
-    part: Option<usize>,
-    within: bool,
-) -> bool
-    requires arc { arc < height matrix.now }
-    requires own { number_at joint.now.part_of.items arc ≡ Some own }
-    requires part { (a : ℕ) → part ≡ Some a → a < length joint.now.branches.items }
-    requires joint { FitsJoint (height matrix.now) matrix.now.width joint.now }
-    ensures { result ≡ by_part (support matrix.now) joint.now arc within part }
-{
-    match part {
-        None => false,
-        Some(other) => {
-            if other == own {
-                within
-            } else {
-                side_of_other(matrix, joint, arc, own, other)
-            }
-        }
+        sides.last.add_common(arc, matrix, arc, joint.row);
     }
 }
 
@@ -245,7 +182,7 @@ fn side_of_other(matrix: &Matrix, joint: &Joint, arc: u32, own: usize, other: us
         return false;
     }
     match other_branch.common {
-        Some(column) => is_nonzero(matrix, arc, column),
+        Some(column) => matrix.is_nonzero(arc, column),
         None => false,
     }
 }

@@ -6,22 +6,24 @@ ghost use Rattle.cmr_base.specs.Matrix.{height, IsMatrix};
 ghost use Rattle.cmr_base.specs.Members.{IsIn};
 ghost use Rattle.cmr_base.specs.Splits.{AreParts};
 ghost use Rattle.cmr_base.specs.Trees.{support};
-ghost use Rattle.graph_realise.specs.Joints.{AreInRows, AreNumbered, IsJointOf, IsPartWith, number_at};
+ghost use Rattle.graph_realise.specs.Joints.{AreInRows, AreMarks, AreNumbered, IsJointOf, IsPartWith, IsTouched, number_at};
 ghost use Rattle.graph_realise.specs.Numbers.{AreDisjoint};
 
 use crate::branches::{Branch, branches_at};
-use crate::nonzero::is_nonzero;
+use crate::table::Table;
 use cmr_base::{Indices, Matrix, Memory, PartList, SideList};
 use std::alloc::Global;
 
 /// A row and the parts of the others: the part of each row, the branches that the parts are, and for each column that the
-/// row does not have the part that has it.
+/// row does not have the part that has it. The tables have a line for each part, which marks its rows and these columns.
 #[derive(Debug, Drop)]
 pub struct Joint {
     pub row: u32,
     pub part_of: Vec<Option<usize>>,
     pub branches: Vec<Branch>,
     pub part_with: Vec<Option<usize>>,
+    pub row_marks: Table,
+    pub column_marks: Table,
 }
 
 impl Joint {
@@ -37,19 +39,24 @@ impl Joint {
         requires row { row < height matrix.now }
         requires rows { AllBelow (height matrix.now) rows.now }
         requires parts { AreInRows (height matrix.now) parts.now }
+        requires few { length parts.now ≤ height matrix.now }
         requires disjoint { AreDisjoint parts.now }
         requires ends { length ends.now ≡ length parts.now }
         ensures shape { IsMatrix matrix.now }
         ensures joint { IfOk result (IsJointOf (support matrix.now) (height matrix.now) matrix.now.width rows.now row parts.now ends.now) }
     {
         let part_of = parts_of_rows(alloc, matrix, parts)?;
-        let part_with = parts_with_columns(alloc, matrix, rows, &part_of)?;
+        let part_with = parts_with_columns(alloc, matrix, rows, row, &part_of)?;
         let branches = branches_at(alloc, matrix, row, parts, ends)?;
+        let row_marks = marks_of(alloc, &part_of, parts.len())?;
+        let column_marks = marks_of(alloc, &part_with, parts.len())?;
         Ok(Joint {
             row,
             part_of,
             branches,
             part_with,
+            row_marks,
+            column_marks,
         })
     }
 
@@ -108,23 +115,45 @@ fn number_rows(numbers: &mut Vec<Option<usize>>, part: &Indices, number: usize)
     }
 }
 
-// For each column the part of some row that has it.
+// For each column that the row does not have the part of some row that has it.
 fn parts_with_columns(
     alloc: Global,
     matrix: &Matrix,
     rows: &Indices,
+    row: u32,
     part_of: &[Option<usize>],
 ) -> Result<Vec<Option<usize>>, Memory>
     requires rows { AllBelow (height matrix.now) rows.now }
+    requires row { row < height matrix.now }
     requires each { length part_of.now ≡ height matrix.now }
     ensures size { IfOk result (λ numbers. length numbers.items ≡ matrix.now.width) }
-    ensures parts { IfOk result (λ numbers. (column : ℕ) → column < matrix.now.width → IsPartWith (support matrix.now) rows.now part_of.now column (number_at numbers.items column)) }
+    ensures parts { IfOk result (λ numbers. (column : ℕ) → column < matrix.now.width → IsTouched (support matrix.now) row rows.now part_of.now column (number_at numbers.items column)) }
 {
     let mut numbers = Vec::new(alloc);
     for column in 0..matrix.columns() {
-        numbers.push(part_with_column(matrix, rows, part_of, column))?;
+        numbers.push(touched_part(matrix, rows, row, part_of, column))?;
     }
     Ok(numbers)
+}
+
+fn touched_part(
+    matrix: &Matrix,
+    rows: &Indices,
+    row: u32,
+    part_of: &[Option<usize>],
+    column: u32,
+) -> Option<usize>
+    requires rows { AllBelow (height matrix.now) rows.now }
+    requires row { row < height matrix.now }
+    requires each { length part_of.now ≡ height matrix.now }
+    requires column { column < matrix.now.width }
+    ensures { IsTouched (support matrix.now) row rows.now part_of.now column result }
+{
+    if matrix.is_nonzero(row, column) {
+        None
+    } else {
+        part_with_column(matrix, rows, part_of, column)
+    }
 }
 
 fn part_with_column(
@@ -139,9 +168,25 @@ fn part_with_column(
     ensures { IsPartWith (support matrix.now) rows.now part_of.now column result }
 {
     for row in rows.as_slice() {
-        if is_nonzero(matrix, *row, column) {
+        if matrix.is_nonzero(*row, column) {
             return part_of[*row as usize];
         }
     }
     None
+}
+
+// For each part the lines that have its number.
+fn marks_of(alloc: Global, numbers: &[Option<usize>], count: usize) -> Result<Table, Memory>
+    requires few { count ≤ 1000 }
+    requires lines { length numbers.now ≤ 1000 }
+    requires numbers { (line part : ℕ) → number_at numbers.now line ≡ Some part → part < count }
+    ensures { IfOk result (AreMarks numbers.now count) }
+{
+    let mut marks = Table::new(alloc, count as u32, numbers.len() as u32)?;
+    for line in 0..numbers.len() {
+        if let Some(part) = numbers[line] {
+            marks.set(part as u32, line as u32, true);
+        }
+    }
+    Ok(marks)
 }

@@ -6,8 +6,8 @@ mod branches;
 mod growing;
 mod joining;
 mod joint;
+pub mod laws;
 mod minimal;
-mod nonzero;
 mod realising;
 mod side_search;
 mod star;
@@ -15,6 +15,3 @@ mod table;
 
 pub use minimal::minimal_not_graphic;
 pub use realising::realise;
-
-#[cfg(test)]
-mod tests;

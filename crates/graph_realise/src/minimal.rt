@@ -1,6 +1,6 @@
 // A minimal submatrix that is not graphic.
-ghost use Rattle.std.specs.Prelude.{IfOk, MatchOption};
-ghost use Rattle.cmr_base.specs.GreedySets.{IsGreedySet};
+ghost use Rattle.std.specs.Prelude.{IfOk, IfSome, MatchOption};
+ghost use Rattle.cmr_base.specs.GreedySets.{IsGreedySet, IsMinimalWithout};
 ghost use Rattle.cmr_base.specs.Trees.{IsBinary, IsGraphic};
 
 use crate::realising::realise;
@@ -13,7 +13,10 @@ use std::alloc::Global;
 /// and each is left out where the others still make a matrix that is not graphic.
 pub fn minimal_not_graphic(alloc: Global, matrix: &Matrix) -> Result<Option<LineSet>, Memory>
     requires { IsBinary matrix.now }
-    ensures { IfOk result (λ found. MatchOption found (IsGraphic matrix.now) (λ lines. IsGreedySet IsGraphic matrix.now lines.rows lines.columns)) }
+    ensures found { IfOk result (λ found. MatchOption found
+        (IsGraphic matrix.now)
+        (λ lines. (¬ IsGraphic matrix.now) × IsGreedySet IsGraphic matrix.now lines.rows lines.columns)) }
+    ensures minimal { IfOk result (λ found. IfSome found (λ lines. IsMinimalWithout IsGraphic matrix.now lines.rows lines.columns)) }
 {
     minimal_without(alloc, matrix, &Graphic)
 }

@@ -11,7 +11,6 @@ ghost use Rattle.graph_realise.specs.Rays.{is_first, IsRay};
 ghost use Rattle.graph_realise.specs.Tables.{IsRowFilled};
 
 use crate::arc_sides::ArcSides;
-use crate::nonzero::is_nonzero;
 use crate::table::Table;
 use cmr_base::{Indices, Matrix};
 
@@ -41,7 +40,7 @@ fn draw_ray(matrix: &Matrix, rows: &Indices, row: u32, sides: &mut ArcSides)
 {
     clear_row(&mut sides.arcs, row);
     for column in 0..matrix.columns() {
-        if is_nonzero(matrix, row, column) {
+        if matrix.is_nonzero(row, column) {
             let is_first = is_first_nonzero(matrix, rows, row, column);
             sides.set_ends(row, column, is_first, !is_first);
         } else {
@@ -66,7 +65,7 @@ fn is_first_nonzero(matrix: &Matrix, rows: &Indices, row: u32, column: u32) -> b
     ensures { result ≡ is_first (support matrix.now) rows.now row column }
 {
     for other in rows.as_slice() {
-        if is_nonzero(matrix, *other, column) {
+        if matrix.is_nonzero(*other, column) {
             return *other == row;
         }
     }

@@ -1,17 +1,21 @@
 // Tables of truth values.
-ghost use Rattle.std.specs.Prelude.{◌≡◌, ◌<◌, ◌≤◌, IfOk};
-ghost use Rattle.graph_realise.specs.Tables.{cell, IsCellSet};
+ghost use Rattle.std.specs.Prelude.{◌≡◌, ◌<◌, ◌≤◌, ◌+◌, ◌*◌, ◌&&◌, ◌||◌, ℕ, false, IfOk};
+ghost use Rattle.cmr_base.specs.Cuts.{differ};
+ghost use Rattle.cmr_base.specs.Matrix.{height};
+ghost use Rattle.cmr_base.specs.Planes.{has_bit, words_for};
+ghost use Rattle.cmr_base.specs.Trees.{support};
+ghost use Rattle.graph_realise.specs.Tables.{cell, IsCellSet, IsRowFilled, IsWordSet};
 
-use cmr_base::Memory;
+use cmr_base::{Matrix, Memory, has_bit, with_bit, words_for};
 use std::alloc::Global;
 use std::marker::Model;
 
-/// A table of truth values, laid out row by row.
+/// A table of truth values. Each row is a row of words: the value in column c is the bit 2^(c mod 64) of word c / 64.
 #[derive(Debug, Drop)]
 pub struct Table {
     height: u32,
     width: u32,
-    cells: Vec<bool>,
+    words: Vec<u64>,
 }
 
 impl Model for Table {
@@ -33,11 +37,12 @@ impl Table {
         requires width { width ≤ 1000 }
         ensures height { IfOk result (λ table. table.height ≡ height) }
         ensures width { IfOk result (λ table. table.width ≡ width) }
+        ensures none { IfOk result (λ table. (row column : ℕ) → cell table row column ≡ false) }
     {
         Ok(Table {
             height,
             width,
-            cells: vec![in alloc; false; height as usize * width as usize]?,
+            words: vec![in alloc; 0u64; height as usize * words_for(width)]?,
         })
     }
 
@@ -54,7 +59,7 @@ impl Table {
         requires column { column < self.now.width }
         ensures { result ≡ cell self.now row column }
     {
-        self.cells[row as usize * self.width as usize + column as usize]
+        has_bit(self.word(row, column / 64), column % 64)
     }
 
     /// Changes that value and no other.
@@ -63,6 +68,79 @@ impl Table {
         requires column { column < self.old.width }
         ensures { IsCellSet self.old self.new row column value }
     {
-        self.cells[row as usize * self.width as usize + column as usize] = value;
+        let block = column / 64;
+        let word = with_bit(self.word(row, block), column % 64, value);
+        self.set_word(row, block, word);
     }
+
+    /// Keeps the values in the columns that are marked in a line of another table, each turned into its opposite where
+    /// `is_turned` says so, and clears all others of the row.
+    pub fn keep(&mut self, row: u32, marks: &Table, line: u32, is_turned: bool)
+        requires row { row < self.old.height }
+        requires line { line < marks.now.height }
+        requires width { marks.now.width ≡ self.old.width }
+        ensures { IsRowFilled (λ column. cell marks.now line column && differ is_turned (cell self.old row column)) self.old self.new row self.old.width }
+    {
+        for block in 0..self.blocks() {
+            let word = turned(self.word(row, block), is_turned);
+            self.set_word(row, block, marks.word(line, block) & word);
+        }
+    }
+
+    /// Sets the values of the row in the columns that are marked in a line of another table.
+    pub fn add(&mut self, row: u32, marks: &Table, line: u32)
+        requires row { row < self.old.height }
+        requires line { line < marks.now.height }
+        requires width { marks.now.width ≡ self.old.width }
+        ensures { IsRowFilled (λ column. cell self.old row column || cell marks.now line column) self.old self.new row self.old.width }
+    {
+        for block in 0..self.blocks() {
+            let word = self.word(row, block) | marks.word(line, block);
+            self.set_word(row, block, word);
+        }
+    }
+
+    /// Sets the values of the row in the columns in which two rows of a matrix are not 0.
+    pub fn add_common(&mut self, row: u32, matrix: &Matrix, one: u32, other: u32)
+        requires row { row < self.old.height }
+        requires one { one < height matrix.now }
+        requires other { other < height matrix.now }
+        requires width { matrix.now.width ≡ self.old.width }
+        ensures { IsRowFilled (λ column. cell self.old row column || support matrix.now one column && support matrix.now other column) self.old self.new row self.old.width }
+    {
+        for block in 0..self.blocks() {
+            let common = matrix.support_word(one, block) & matrix.support_word(other, block);
+            self.set_word(row, block, self.word(row, block) | common);
+        }
+    }
+
+    // How many words a row has.
+    fn blocks(&self) -> u32
+        ensures { result ≡ words_for self.now.width }
+    {
+        (self.width + 63) / 64
+    }
+
+    fn word(&self, row: u32, block: u32) -> u64
+        requires row { row < self.now.height }
+        requires block { 64 * block < self.now.width }
+        ensures { (k : ℕ) → k < 64 → 64 * block + k < self.now.width → has_bit result k ≡ cell self.now row (64 * block + k) }
+    {
+        self.words[row as usize * words_for(self.width) + block as usize]
+    }
+
+    fn set_word(&mut self, row: u32, block: u32, word: u64)
+        requires row { row < self.old.height }
+        requires block { 64 * block < self.old.width }
+        ensures { IsWordSet self.old self.new row block word }
+    {
+        self.words[row as usize * words_for(self.width) + block as usize] = word;
+    }
+}
+
+// The word, or that with the opposite of each bit.
+fn turned(word: u64, is_turned: bool) -> u64
+    ensures { (k : ℕ) → k < 64 → has_bit result k ≡ differ is_turned (has_bit word k) }
+{
+    if is_turned { !word } else { word }
 }

@@ -15,9 +15,7 @@ use Rattle.cmr_base.proofs.RemovedLines.{first_lines_increase, in_first_lines, r
 use Rattle.minimal_sets.specs.Runs.{line_numbered, lines_between, rows_left, columns_left}
 use Rattle.minimal_sets.proofs.RunLemmas.{lines_between-append, all_lines}
 use Rattle.minimal_sets.proofs.GreedyRuns.{rows_left-increase, columns_left-increase, rows_left-within, columns_left-within, greedy-append, greedy_left, greedy_kept}
-
-pub members_below : (bound : ℕ) (lines : List ℕ) → AllBelow bound lines → (x : ℕ) → IsIn x lines → x < bound
-members_below bound lines below x h = let w = place_is x lines h in subst (λ (y : ℕ). y < bound) w.there (below (place_of x lines) w.in_range)
+use Rattle.cmr_base.proofs.Places.{members_below}
 
 pub row_set_left : (m : Matrix) (rows : List ℕ) (lines : List Line) → IsRowSet m rows → IsRowSet m (rows_left rows lines)
 row_set_left m rows lines is =
@@ -99,15 +97,3 @@ count_is tried end next count e some more = go (nat_lt (end - next) tried) refl 
     go false t e =
         let k = kept (eqb (end - next) tried) e in
         record { some = omega (arith, k, some); few = omega (arith, k); in_range = grind (arith, nat_tests, k) }
-
--- ---- the submatrix on all lines
-
-pub whole_submatrix : (m : Matrix) → IsMatrix m → submatrix m (first_lines (height m)) (first_lines m.width) ≡ m
-whole_submatrix m is = ap (λ rows. record { rows = rows; width = length (first_lines m.width) }) (sym rows_again) ∙ ap (λ width. record { rows = m.rows; width = width }) (length-range_with_len 0 m.width)
-  where
-    rows_again : m.rows ≡ map (λ row. map (entry m row) (first_lines m.width)) (first_lines (height m))
-    rows_again = fill_by_all (λ row. map (entry m row) (first_lines m.width)) m.rows (height m) [] refl
-        (λ row l. fill_by_all (entry m row) (row_of m row) m.width (pos 0) (is.rectangular row l) (λ column k. refl))
-
-pub all_lines_make : (m : Matrix) (R C : List ℕ) → IsMatrix m → R ≡ first_lines (height m) → C ≡ first_lines m.width → submatrix m R C ≡ m
-all_lines_make m R C is r c = ap₂ (submatrix m) r c ∙ whole_submatrix m is

@@ -3,8 +3,6 @@
 
 mod greedy;
 mod property;
-#[cfg(test)]
-mod tests;
 
 pub use greedy::minimal_without;
 pub use property::Property;

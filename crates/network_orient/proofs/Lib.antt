@@ -4,3 +4,4 @@ pub mod ForcedSigns
 pub mod TurnedRows
 pub mod SupportMarks
 pub mod TurnedPairs
+pub mod SignedSupports

@@ -3,31 +3,27 @@ use Rattle.std.proofs.Common.{◌≡◌, ◌<◌, ◌≤◌, ◌↔◌, ◌⊎�
 use Rattle.std.proofs.lemmas.Bool.{cases_lt}
 use Rattle.std.proofs.lemmas.List.{get_or_past}
 use Rattle.cmr_base.specs.declared.network.Network.{Network}
-use Rattle.cmr_base.specs.Matrix.{Matrix, height, entry, IsMatrix, is_nonzero}
+use Rattle.cmr_base.specs.Matrix.{Matrix, height, entry, IsRectangular, IsTernary, is_nonzero}
 use Rattle.cmr_base.specs.Supports.{HaveOneSupport, AgreeUpToSigns}
 use Rattle.cmr_base.specs.TurnedNetworks.{turned_network, IsMultiplied}
 use Rattle.cmr_base.specs.Trees.{tail, head, Realises, Reproduces, ReproducesSupport, IsNetworkMatrix}
+use Rattle.cmr_base.proofs.ThinLines.{zero_is}
 use Rattle.cmr_base.proofs.TreeTests.{path_by_walk}
 use Rattle.cmr_base.proofs.ReproducedCuts.{nonzero_direction}
 use Rattle.cmr_base.proofs.TurnedWalks.{turned_realises}
-use Rattle.ghouila.proofs.NetworkSignings.{network_matrices}
+use Rattle.ghouila.proofs.NetworkSignings.{networks_are_unimodular}
 use Rattle.ghouila.proofs.SignsUnique.{signs_are_unique}
 
-pub beyond_sizes : (m : Matrix) → IsMatrix m → (row column : ℕ) → (height m ≤ row) ⊎ (m.width ≤ column) → entry m row column ≡ pos 0
+pub beyond_sizes : (m : Matrix) → IsRectangular m → (row column : ℕ) → (height m ≤ row) ⊎ (m.width ≤ column) → entry m row column ≡ pos 0
 beyond_sizes m is row column (inl high) = ap (λ r. get_or r column (pos 0)) (get_or_past m.rows row [] high)
 beyond_sizes m is row column (inr far) = inside (cases_lt row (height m))
   where
     inside : (row < height m) ⊎ (height m ≤ row) → entry m row column ≡ pos 0
-    inside (inl low) = get_or_past (get_or m.rows row []) column (pos 0) (omega (arith, is.rectangular row low))
+    inside (inl low) = get_or_past (get_or m.rows row []) column (pos 0) (omega (arith, is row low))
     inside (inr high) = ap (λ r. get_or r column (pos 0)) (get_or_past m.rows row [] high)
 
-not_nonzero : (z : ℤ) → is_nonzero z ≡ false → z ≡ pos 0
-not_nonzero (pos zero) e = refl
-not_nonzero (pos (suc n)) e = cc
-not_nonzero (negsuc n) e = cc
-
 same_zeros : (x y : ℤ) → is_nonzero x ≡ is_nonzero y → (x ≡ pos 0) ↔ (y ≡ pos 0)
-same_zeros x y e = ((λ z. not_nonzero y (sym e ∙ ap is_nonzero z)), (λ z. not_nonzero x (e ∙ ap is_nonzero z)))
+same_zeros x y e = ((λ z. zero_is y (sym e ∙ ap is_nonzero z)), (λ z. zero_is x (e ∙ ap is_nonzero z)))
 
 same_test : (a b : Bool) → (a ≡ true → b ≡ true) → (b ≡ true → a ≡ true) → a ≡ b
 same_test true b f g = sym (f refl)
@@ -35,7 +31,7 @@ same_test false true f g = g refl
 same_test false false f g = refl
 
 -- what one network reproduces, with directions and without
-pub one_support : (net : Network) (m n : Matrix) → IsMatrix m → IsMatrix n → height m ≡ height n → m.width ≡ n.width → Reproduces net m → ReproducesSupport net n → HaveOneSupport m n
+pub one_support : (net : Network) (m n : Matrix) → IsRectangular m → IsRectangular n → height m ≡ height n → m.width ≡ n.width → Reproduces net m → ReproducesSupport net n → HaveOneSupport m n
 one_support net m n is_m is_n height_same width_same directed undirected = record {
   height_same = height_same;
   width_same = width_same;
@@ -58,10 +54,10 @@ one_support net m n is_m is_n height_same width_same directed undirected = recor
     zeros row column low (inr far) = ((λ e. beyond_sizes n is_n row column (inr (omega (arith, far, width_same)))), (λ e. beyond_sizes m is_m row column (inr far)))
 
 -- so a matrix of that support that does not agree with it is no network matrix
-pub agrees_where_network : (net : Network) (m n : Matrix) → IsMatrix m → IsMatrix n → height m ≡ height n → m.width ≡ n.width → Reproduces net m → ReproducesSupport net n → IsNetworkMatrix n → AgreeUpToSigns (entry m) (entry n)
+pub agrees_where_network : (net : Network) (m n : Matrix) → IsTernary m → IsTernary n → height m ≡ height n → m.width ≡ n.width → Reproduces net m → ReproducesSupport net n → IsNetworkMatrix n → AgreeUpToSigns (entry m) (entry n)
 agrees_where_network net m n is_m is_n height_same width_same directed undirected network =
-    signs_are_unique m n is_m.rectangular is_n.rectangular is_m.small is_n.small (one_support net m n is_m is_n height_same width_same directed undirected)
-    (network_matrices m is_m (net, directed)).1 (network_matrices n is_n network).1
+    signs_are_unique m n is_m.rectangular is_n.rectangular is_m.small is_n.small (one_support net m n is_m.rectangular is_n.rectangular height_same width_same directed undirected)
+    (networks_are_unimodular m is_m (net, directed)).1 (networks_are_unimodular n is_n network).1
 
 -- and the network turned by the signs reproduces the matrix
 pub turned_reproduces : (net : Network) (m n : Matrix) (rows columns : List ℤ) → height m ≡ height n → m.width ≡ n.width → Reproduces net m → IsMultiplied (entry m) (entry n) (height m) m.width rows columns

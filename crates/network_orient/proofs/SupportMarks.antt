@@ -104,8 +104,8 @@ module _ (m : Matrix) where
   }
     where
       beyond : (row column : ℕ) → (height m ≤ row) ⊎ (m.width ≤ column) → entry new row column ≡ mark (entry m row column)
-      beyond row column (inl h) = beyond_sizes new all.is_matrix row column (inl (omega (arith, h, all.height_same))) ∙ sym (ap mark (beyond_sizes m is_m row column (inl h)))
-      beyond row column (inr h) = beyond_sizes new all.is_matrix row column (inr (omega (arith, h, all.width_same))) ∙ sym (ap mark (beyond_sizes m is_m row column (inr h)))
+      beyond row column (inl h) = beyond_sizes new all.is_matrix.rectangular row column (inl (omega (arith, h, all.height_same))) ∙ sym (ap mark (beyond_sizes m is_m.rectangular row column (inl h)))
+      beyond row column (inr h) = beyond_sizes new all.is_matrix.rectangular row column (inr (omega (arith, h, all.width_same))) ∙ sym (ap mark (beyond_sizes m is_m.rectangular row column (inr h)))
 
       go : (row column : ℕ) → (row < height m) ⊎ (height m ≤ row) → (column < m.width) ⊎ (m.width ≤ column) → entry new row column ≡ mark (entry m row column)
       go row column (inl low) (inl near) = all.marks row column low near

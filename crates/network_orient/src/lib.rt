@@ -2,6 +2,7 @@
 #![tactic(auto)]
 
 mod column_groups;
+pub mod laws;
 mod line_signs;
 mod minimal;
 mod orienting;
@@ -10,6 +11,3 @@ mod turning;
 
 pub use minimal::minimal_not_network;
 pub use orienting::orient;
-
-#[cfg(test)]
-mod tests;

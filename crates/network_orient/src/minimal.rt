@@ -1,6 +1,6 @@
 // A minimal submatrix that is no network matrix.
-ghost use Rattle.std.specs.Prelude.{IfOk, MatchOption};
-ghost use Rattle.cmr_base.specs.GreedySets.{IsGreedySet};
+ghost use Rattle.std.specs.Prelude.{IfOk, IfSome, MatchOption};
+ghost use Rattle.cmr_base.specs.GreedySets.{IsGreedySet, IsMinimalWithout};
 ghost use Rattle.cmr_base.specs.Trees.{IsNetworkMatrix};
 
 use crate::orienting::orient;
@@ -12,7 +12,10 @@ use std::alloc::Global;
 /// as soon as any one of the lines is left out: what stays where the lines are gone through once, rows first, and each is
 /// left out where the others still make no network matrix.
 pub fn minimal_not_network(alloc: Global, matrix: &Matrix) -> Result<Option<LineSet>, Memory>
-    ensures { IfOk result (λ found. MatchOption found (IsNetworkMatrix matrix.now) (λ lines. IsGreedySet IsNetworkMatrix matrix.now lines.rows lines.columns)) }
+    ensures found { IfOk result (λ found. MatchOption found
+        (IsNetworkMatrix matrix.now)
+        (λ lines. (¬ IsNetworkMatrix matrix.now) × IsGreedySet IsNetworkMatrix matrix.now lines.rows lines.columns)) }
+    ensures minimal { IfOk result (λ found. IfSome found (λ lines. IsMinimalWithout IsNetworkMatrix matrix.now lines.rows lines.columns)) }
 {
     minimal_without(alloc, matrix, &NetworkMatrices)
 }

@@ -1,4 +1,3 @@
-pub mod Thin
 pub mod Embeddings
 pub mod Orders
 pub mod Submatrices

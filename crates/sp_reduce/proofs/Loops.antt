@@ -14,16 +14,13 @@ use Rattle.sp_reduce.specs.declared.side.Side.{Side}
 use Rattle.sp_reduce.specs.Kinds.{table, is_twin}
 use Rattle.sp_reduce.specs.Sides.{weight, IsAcross}
 use Rattle.sp_reduce.specs.Changes.{crosses, HasForgotten, IsSameAt, IsUnsettled}
+use Rattle.cmr_base.proofs.Parts.{length-rising}
 
 -- ---- how many lines there are
 
-pub rising_few : (bound : ℕ) (lines : List ℕ) → IsStrictlyIncreasing lines → AllBelow bound lines → length lines ≤ bound
-rising_few bound lines rises below = distinct_few bound lines (increasing_distinct lines rises)
-    (λ x h. let w = place_is x lines h in subst (λ (y : ℕ). y < bound) w.there (below (place_of x lines) w.in_range))
-
 pub across_few : (m : Matrix) (kind : Kind) (across : List ℕ) → IsMatrix m → IsAcross m kind across → length across ≤ 1000
-across_few m Rows across shape is = let few = rising_few m.width across is.rising is.in_range in let small = shape.width_in in omega (arith, few, small)
-across_few m Columns across shape is = let few = rising_few (height m) across is.rising is.in_range in let small = shape.height_in in omega (arith, few, small)
+across_few m Rows across shape is = let few = length-rising across m.width is.rising is.in_range in let small = shape.width_in in omega (arith, few, small)
+across_few m Columns across shape is = let few = length-rising across (height m) is.rising is.in_range in let small = shape.height_in in omega (arith, few, small)
 
 pub weights_fit : (sum place more : ℕ) → sum ≤ place * 1000 ^ 5 → place < 1000 → more ≤ 1000 ^ 5 → Fits w64 (sum + more)
 weights_fit sum place more h few small = omega (arith, h, few, small)

@@ -10,8 +10,8 @@ use Rattle.cmr_base.specs.Reductions.{nonzeros_at, first_reason}
 use Rattle.cmr_base.specs.Members.{IsIn}
 use Rattle.cmr_base.proofs.Members.{IsWithin}
 use Rattle.cmr_base.proofs.ListsWithout.{true_is_false, increasing_distinct}
-use Rattle.sp_reduce.proofs.Thin.{false_is, nonzero_is, zero_is, thin_from_count, count_from_thin, counted_none}
-use Rattle.sp_reduce.proofs.Embeddings.{HasTwin, IsReducible, reducible_from_reason, reason_from_reducible}
+use Rattle.cmr_base.proofs.ThinLines.{false_is, nonzero_is, zero_is, thin_from_count, count_from_thin, counted_none}
+use Rattle.cmr_base.proofs.ReducibleLines.{HasTwin, IsReducible, reducible_from_reason, reason_from_reducible}
 use Rattle.sp_reduce.proofs.Searches.{some_not_none}
 use Rattle.sp_reduce.proofs.SideLemmas.{none_is}
 

@@ -39,7 +39,7 @@ search_is binary M R C (l ∷ ls) step e = go (line_reason binary M R C l) refl 
     go (Some why) q e k = let same : l ≡ step.line = ap step_line e in
         record { among = inl (sym same); some = subst (λ (x : Line). IsSome (line_reason binary M R C x)) same (ap is_some q) }
 
-search_none : (binary : Bool) (M : ℕ → ℕ → ℤ) (R C : List ℕ) (ls : List Line) → first_step binary M R C ls ≡ None → (l : Line) → IsAmong l ls → IsSome (line_reason binary M R C l) → ⊥
+pub search_none : (binary : Bool) (M : ℕ → ℕ → ℤ) (R C : List ℕ) (ls : List Line) → first_step binary M R C ls ≡ None → (l : Line) → IsAmong l ls → IsSome (line_reason binary M R C l) → ⊥
 search_none binary M R C [] e l h some = h
 search_none binary M R C (x ∷ ls) e l h some = go (line_reason binary M R C x) refl e h (λ f g. search_none binary M R C ls f l g some)
   where

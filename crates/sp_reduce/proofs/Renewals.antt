@@ -12,8 +12,8 @@ use Rattle.cmr_base.proofs.Integers.{sums, products, one-mul, minus_one-mul, mul
 use Rattle.cmr_base.specs.Members.{IsIn}
 use Rattle.cmr_base.proofs.ListsWithout.{true_is_false, in_without, without_increases, increasing_distinct}
 use Rattle.sp_reduce.specs.Kinds.{is_twin}
-use Rattle.sp_reduce.proofs.Thin.{nonzero_is, zero_is, is_and, is_equal, count_from_thin}
-use Rattle.sp_reduce.proofs.Embeddings.{IsFactor, HasTwin, IsReducible}
+use Rattle.cmr_base.proofs.ThinLines.{nonzero_is, zero_is, is_and, is_equal, count_from_thin}
+use Rattle.cmr_base.proofs.ReducibleLines.{IsFactor, HasTwin, IsReducible}
 use Rattle.sp_reduce.proofs.Meanings.{IsMeant}
 
 or_left : (a b : Bool) → a ≡ true → (a || b) ≡ true

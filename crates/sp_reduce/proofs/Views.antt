@@ -8,8 +8,8 @@ use Rattle.cmr_base.specs.declared.line.Reason.TheVariants.{Unit as One, Copy, N
 use Rattle.cmr_base.specs.Matrix.{is_nonzero}
 use Rattle.cmr_base.specs.Reductions.{nonzeros_at, equal_at, first_equal, first_reason}
 use Rattle.sp_reduce.specs.Kinds.{is_twin}
-use Rattle.sp_reduce.proofs.Thin.{nonzero_found}
-use Rattle.sp_reduce.proofs.Embeddings.{some_map}
+use Rattle.cmr_base.proofs.ThinLines.{nonzero_found}
+use Rattle.cmr_base.proofs.ReducibleLines.{some_map}
 
 is_some_find : (test : ℕ → Bool) (xs : List ℕ) → is_some (find test xs) ≡ list_any test xs
 is_some_find test [] = refl

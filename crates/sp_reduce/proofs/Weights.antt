@@ -8,7 +8,7 @@ use Rattle.cmr_base.specs.Members.{IsIn}
 use Rattle.sp_reduce.specs.Sides.{weight, weight_at, is_copy, is_negative, IsCounted}
 use Rattle.sp_reduce.specs.Kinds.{table}
 use Rattle.sp_reduce.specs.declared.side.Side.{Side}
-use Rattle.sp_reduce.proofs.Thin.{and_is, is_and, false_is, equal_is}
+use Rattle.cmr_base.proofs.ThinLines.{and_is, is_and, false_is, equal_is}
 
 pub weight_small : (base : ℕ) → base ≤ 1000 → base ^ 5 ≤ 1000 ^ 5
 weight_small base h = pow-le-pow_left h 5

@@ -1,12 +1,14 @@
 -- Laws of series-parallel matrices.
 use Rattle.std.specs.Prelude.{◌≡◌, ◌↔◌, Bool, ℕ, List, []}
 use Rattle.cmr_base.specs.Matrix.{Matrix}
+use Rattle.cmr_base.specs.LineSets.{IsRowSet, IsColumnSet, submatrix}
 use Rattle.cmr_base.specs.Reductions.{IsSeriesParallel, removal}
-use Rattle.cmr_base.specs.GreedySets.{IsHereditary, IsGreedySet, IsMinimalWithout}
+use Rattle.cmr_base.specs.GreedySets.{IsGreedySet, IsMinimalWithout}
 
 -- each submatrix of a series-parallel matrix is series-parallel
 abbrev pub SubmatricesAreSeriesParallel : Type 0
-SubmatricesAreSeriesParallel = (binary : Bool) → IsHereditary (IsSeriesParallel binary)
+SubmatricesAreSeriesParallel = (binary : Bool) (m : Matrix) (rows columns : List ℕ) → IsRowSet m rows → IsColumnSet m columns → IsSeriesParallel binary m
+    → IsSeriesParallel binary (submatrix m rows columns)
 
 -- series-parallel exactly where the stated order leaves no row and no column
 abbrev pub RestDecides : Type 0

@@ -8,8 +8,6 @@ mod minimal;
 mod reducible;
 mod removal;
 mod side;
-#[cfg(test)]
-mod tests;
 
 pub use cmr_base::{Reason, Step, StepList};
 pub use minimal::minimal_not_sp;

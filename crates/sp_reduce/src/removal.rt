@@ -55,8 +55,8 @@ pub fn reduce_lines(
         steps.push(step)?;
     }
     let rest = LineSet {
-        rows: indices_of(alloc, &rows.stays)?,
-        columns: indices_of(alloc, &columns.stays)?,
+        rows: Indices::of(alloc, &rows.stays)?,
+        columns: Indices::of(alloc, &columns.stays)?,
     };
     Ok(Reduction { steps, rest })
 }
@@ -100,15 +100,4 @@ fn remove_first(matrix: &Matrix, own: &mut Side, across: &mut Side, binary: bool
         line: own.kind.line(line),
         reason: found.reason,
     })
-}
-
-pub fn indices_of(alloc: Global, numbers: &[u32]) -> Result<Indices, Memory>
-    requires { IsStrictlyIncreasing numbers.now }
-    ensures { IfOk result (λ indices. indices ≡ numbers.now) }
-{
-    let mut indices = Indices::new(alloc);
-    for number in numbers {
-        indices.push(*number)?;
-    }
-    Ok(indices)
 }

@@ -3,9 +3,9 @@ use Rattle.cmr_base.specs.Trees.{support}
 use Rattle.cmr_base.proofs.RowLists.{not_both}
 use Rattle.bridge_split.specs.Cutting.{IsMetBy}
 use Rattle.bridge_split.proofs.CutTables.{columns_below, common_more, common_same}
-use Rattle.bridge_split.proofs.ThreeNonzeros.{column_in}
 use Rattle.bridge_split.proofs.cuts.set_common.Goals as goal
 use Rattle.bridge_split.proofs.cuts.set_common.Goals.{then-is_nonzero+then-meets_part+in_ok-push, else-is_nonzero, else-is_nonzero-via-then-is_nonzero+else-meets_part, else-is_nonzero-via-else-is_nonzero}
+use Rattle.cmr_base.proofs.NextNonzeros.{column_in}
 
 pub loop-column-preserved : goal.loop-column-preserved
 loop-column-preserved c =

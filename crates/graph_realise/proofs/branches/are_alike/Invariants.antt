@@ -1,7 +1,7 @@
-use Rattle.std.proofs.Common.{◌≡◌, ◌<◌, ℕ, true, false}
-use Rattle.std.specs.Prelude.{slice_index_or}
+use Rattle.std.proofs.Common.{◌≡◌, ◌<◌, ℕ}
+use Rattle.std.specs.Prelude.{slice_index}
 use Rattle.cmr_base.specs.Trees.{support}
 use Rattle.graph_realise.proofs.branches.are_alike.Given as goal
 
-abbrev pub invariant-loop-column : goal.invariant-loop-column
-invariant-loop-column l = (k : ℕ) → k < l.column → slice_index_or l.marks k false ≡ true → support l.matrix l.row k ≡ l.value
+abbrev pub invariant-loop-place : goal.invariant-loop-place
+invariant-loop-place l = (k : ℕ) → k < l.place → support l.matrix l.row (slice_index l.columns k) ≡ l.value

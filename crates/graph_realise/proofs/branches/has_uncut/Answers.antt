@@ -3,7 +3,7 @@ use Rattle.cmr_base.specs.Members.{IsIn}
 use Rattle.cmr_base.specs.Splits.{IsUncut}
 use Rattle.cmr_base.specs.Trees.{support}
 use Rattle.cmr_base.proofs.Members.{in_at}
-use Rattle.graph_realise.proofs.Places.{more_placed, place_of}
+use Rattle.cmr_base.proofs.Places.{more_placed, found_at}
 use Rattle.graph_realise.proofs.branches.has_uncut.Goals as goal
 
 clash : (t : Bool) → t ≡ true → t ≡ false → ⊥
@@ -32,6 +32,6 @@ returns c =
     let part = c.args.part.now in
     let l = c.loop-other-test.false in
     let long = ap (λ (xs : List ℕ). length xs) c.as_slice-other-items.ensures.items in (
-      λ e j h. let q = place_of part j h in let k = q.1 in subst (IsUncut (support m) c.args.row part) q.2 (c.loop-other.invariant q.0 (omega arith)),
+      λ e j h. let q = found_at part j h in let k = q.1 in subst (IsUncut (support m) c.args.row part) q.2 (c.loop-other.invariant q.0 (omega arith)),
       λ u. refl,
     )

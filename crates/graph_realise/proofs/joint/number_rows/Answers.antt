@@ -1,7 +1,7 @@
 use Rattle.std.proofs.Common.{◌≡◌, ℕ, List, Some, sym, subst, arith}
 use Rattle.cmr_base.specs.Members.{IsIn}
 use Rattle.graph_realise.specs.Joints.{number_at}
-use Rattle.graph_realise.proofs.Places.{all_placed, not_placed}
+use Rattle.cmr_base.proofs.Places.{all_placed, not_placed}
 use Rattle.graph_realise.proofs.joint.number_rows.Goals as goal
 
 pub returns-clause-inside : goal.returns-clause-inside

@@ -1,5 +1,6 @@
 use Rattle.std.proofs.Common.{◌∙◌, ◌+◌, [], ◌∷◌, ℕ, ap, arith, length-append}
 use Rattle.cmr_base.specs.Trees.{support}
+use Rattle.graph_realise.specs.Joints.{IsTouched}
 use Rattle.graph_realise.proofs.JointLemmas.{parts_with_more}
 use Rattle.graph_realise.proofs.joint.parts_with_columns.Goals as goal
 
@@ -8,8 +9,8 @@ loop-column-preserved c =
     let so = c.loop-column.invariant in
     let numbers = c.loop-column.numbers.items in
     rw c.in_ok-push.ensures.items (record {
-      size = length-append numbers (c.part_with_column.result ∷ []) ∙ ap (λ (z : ℕ). z + 1) so.size;
-      parts = parts_with_more (support c.args.matrix.now) c.args.rows.now c.args.part_of.now c.loop-column.column numbers c.part_with_column.result so.size so.parts c.part_with_column.ensures;
+      size = length-append numbers (c.touched_part.result ∷ []) ∙ ap (λ (z : ℕ). z + 1) so.size;
+      parts = parts_with_more (IsTouched (support c.args.matrix.now) c.args.row c.args.rows.now c.args.part_of.now) c.loop-column.column numbers c.touched_part.result so.size so.parts c.touched_part.ensures;
     })
 
 pub returns-clause-parts : goal.returns-clause-parts

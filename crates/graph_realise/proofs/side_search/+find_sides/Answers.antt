@@ -6,10 +6,12 @@ use Rattle.cmr_base.proofs.RowLists.{not_both}
 use Rattle.bridge_split.specs.SplitCases.{AreSidesOf}
 use Rattle.graph_realise.specs.Searches.{IsSearch, IsSplit}
 use Rattle.graph_realise.proofs.NoCuts.{no_odd}
-use Rattle.graph_realise.proofs.SearchLemmas.{all_numbered, fits, joined_cuts, kept_more, none_more, others_more, whole_more, parts_disjoint, parts_in_rows, rows_below, some_three, with_below, with_fewer}
+use Rattle.bridge_split.proofs.SidesOfParts.{parts_few}
+use Rattle.graph_realise.proofs.SearchLemmas.{all_numbered, fits, joined_cuts, kept_more, named_off, none_more, others_more, whole_more, parts_disjoint, parts_in_rows, some_three, with_below, with_fewer}
 use Rattle.graph_realise.proofs.SideLemmas.{keeps_row_trans}
-use Rattle.graph_realise.proofs.SplitsCut.{support_short}
 use Rattle.graph_realise.proofs.side_search.+find_sides.Goals as goal
+use Rattle.cmr_base.proofs.Places.{members_below}
+use Rattle.cmr_base.proofs.GraphicMatrices.{nonzero_in_range}
 
 both_false : (t : Bool) → t ≡ false → not t ≡ false → ⊥
 both_false true a b = not_both true refl a
@@ -38,26 +40,36 @@ find_sides-join_parts-requires t c =
     (falls, (c.requires.rows, (c.requires.tables, (split, subst (AreSidesOf M S c.in-Some.split.row c.in-Some.split.parts) c.in-Found.is c.in_ok-sides_at-in-Some.ensures))))
 
 pub join_parts-new-requires-clause-row : goal.join_parts-new-requires-clause-row
-join_parts-new-requires-clause-row t c = rows_below (height c.args.matrix.now) c.args.rows.now c.requires.rows c.args.split.now.row c.requires.split.here
+join_parts-new-requires-clause-row t c = members_below (height c.args.matrix.now) c.args.rows.now c.requires.rows c.args.split.now.row c.requires.split.here
 
 pub join_parts-new-requires-clause-parts : goal.join_parts-new-requires-clause-parts
 join_parts-new-requires-clause-parts t c =
-    parts_in_rows (support c.args.matrix.now) c.args.rows.now c.args.split.now.row (height c.args.matrix.now) c.args.split.now.parts c.requires.split.parts (rows_below (height c.args.matrix.now) c.args.rows.now c.requires.rows)
+    parts_in_rows (support c.args.matrix.now) c.args.rows.now c.args.split.now.row (height c.args.matrix.now) c.args.split.now.parts c.requires.split.parts (members_below (height c.args.matrix.now) c.args.rows.now c.requires.rows)
 
 pub join_parts-new-requires-clause-disjoint : goal.join_parts-new-requires-clause-disjoint
 join_parts-new-requires-clause-disjoint t c = parts_disjoint (support c.args.matrix.now) c.args.rows.now c.args.split.now.row c.args.split.now.parts c.requires.split.parts
 
+pub join_parts-new-requires-clause-few : goal.join_parts-new-requires-clause-few
+join_parts-new-requires-clause-few t c = parts_few (support c.args.matrix.now) c.args.rows.now c.args.split.now.row c.args.split.now.parts c.requires.split.parts (height c.args.matrix.now) c.requires.rows
+
+pub join_parts-join-requires-clause-off : goal.join_parts-join-requires-clause-off
+join_parts-join-requires-clause-off t c =
+    let m = c.args.matrix.now in
+    let short = nonzero_in_range m c.in_ok-joint.ensures.shape.rectangular in
+    named_off (support m) (height m) m.width short c.args.rows.now (members_below (height m) c.args.rows.now c.requires.rows) c.args.split.now.row c.requires.split.here c.args.split.now.parts
+    c.requires.split.parts c.args.ends.now c.requires.ends c.in_ok-joint.joint c.in_ok-joint.ensures.joint (λ column on. short c.args.split.now.row column on)
+
 pub join_parts-rows_with-requires-clause-row : goal.join_parts-rows_with-requires-clause-row
 join_parts-rows_with-requires-clause-row t c =
     let J = c.in_ok-joint.ensures.joint in
-    let l = rows_below (height c.args.matrix.now) c.args.rows.now c.requires.rows c.args.split.now.row c.requires.split.here in
+    let l = members_below (height c.args.matrix.now) c.args.rows.now c.requires.rows c.args.split.now.row c.requires.split.here in
     let e = J.row in
     let f = J.rows in
     omega arith
 
 pub join_parts-overflow_add-split : goal.join_parts-overflow_add-split
 join_parts-overflow_add-split t c =
-    let l = rows_below (height c.args.matrix.now) c.args.rows.now c.requires.rows c.args.split.now.row c.requires.split.here in
+    let l = members_below (height c.args.matrix.now) c.args.rows.now c.requires.rows c.args.split.now.row c.requires.split.here in
     let few = c.new.ensures.shape.height_in in
     omega arith
 
@@ -69,8 +81,8 @@ join_parts-find_sides-requires t c =
     let parts = c.args.split.now.parts in
     let within : c.loop-place.place < length parts = let e = c.len-place-end.ensures in let l = c.loop-place-test.true in omega arith in
     let T = c.in_ok-rows_with.rows_with in
-    let low = rows_below (height m) S c.requires.rows in
-    let short = support_short m c.in_ok-joint.ensures.shape in
+    let low = members_below (height m) S c.requires.rows in
+    let short = nonzero_in_range m c.in_ok-joint.ensures.shape.rectangular in
     let fewer = with_fewer (support m) (height m) m.width short S low i c.requires.split.here parts c.requires.split.parts c.args.ends.now c.requires.ends c.in_ok-joint.joint c.in_ok-joint.ensures.joint
     c.loop-place.place within T c.in_ok-rows_with.ensures.rows c.requires.split.two c.in_ok-rows_with.ensures.rising in
     let falls : 2 * length T + 1 < t = omega (arith, c.decreases) in (
@@ -92,7 +104,7 @@ join_parts-returns-in_err-find_sides-clause-others t c =
     let S = c.args.rows.now in
     let parts = c.args.split.now.parts in
     let within : c.loop-place.place < length parts = let e = c.len-place-end.ensures in let l = c.loop-place-test.true in omega arith in
-    others_more (support m) (height m) m.width (support_short m c.in_ok-joint.ensures.shape) S (rows_below (height m) S c.requires.rows) c.args.split.now.row c.requires.split.here parts c.requires.split.parts c.args.ends.now c.requires.ends
+    others_more (support m) (height m) m.width (nonzero_in_range m c.in_ok-joint.ensures.shape.rectangular) S (members_below (height m) S c.requires.rows) c.args.split.now.row c.requires.split.here parts c.requires.split.parts c.args.ends.now c.requires.ends
     c.in_ok-joint.joint c.in_ok-joint.ensures.joint c.loop-place.place within c.in_ok-rows_with.rows_with c.in_ok-rows_with.ensures.rows c.args.sides.now c.loop-place.sides c.find_sides.new.sides c.loop-place.invariant.others c.find_sides.ensures.others
 
 pub join_parts-returns-in-NoTree-clause-found : goal.join_parts-returns-in-NoTree-clause-found
@@ -102,7 +114,7 @@ join_parts-returns-in-NoTree-clause-found t c =
     let parts = c.args.split.now.parts in
     let within : c.loop-place.place < length parts = let e = c.len-place-end.ensures in let l = c.loop-place-test.true in omega arith in
     let T = c.in_ok-rows_with.rows_with in
-    none_more (support m) (height m) m.width (support_short m c.in_ok-joint.ensures.shape) S (rows_below (height m) S c.requires.rows) c.args.split.now.row c.requires.split.here parts c.requires.split.parts c.args.ends.now c.requires.ends
+    none_more (support m) (height m) m.width (nonzero_in_range m c.in_ok-joint.ensures.shape.rectangular) S (members_below (height m) S c.requires.rows) c.args.split.now.row c.requires.split.here parts c.requires.split.parts c.args.ends.now c.requires.ends
     c.in_ok-joint.joint c.in_ok-joint.ensures.joint c.loop-place.place within T c.in_ok-rows_with.ensures.rows
     (subst (IsSearch (support m) T c.find_sides.new.sides) c.in-NoTree.is c.in_ok-find_sides.ensures.found)
 
@@ -112,7 +124,7 @@ join_parts-returns-in-NoTree-clause-others t c =
     let S = c.args.rows.now in
     let parts = c.args.split.now.parts in
     let within : c.loop-place.place < length parts = let e = c.len-place-end.ensures in let l = c.loop-place-test.true in omega arith in
-    others_more (support m) (height m) m.width (support_short m c.in_ok-joint.ensures.shape) S (rows_below (height m) S c.requires.rows) c.args.split.now.row c.requires.split.here parts c.requires.split.parts c.args.ends.now c.requires.ends
+    others_more (support m) (height m) m.width (nonzero_in_range m c.in_ok-joint.ensures.shape.rectangular) S (members_below (height m) S c.requires.rows) c.args.split.now.row c.requires.split.here parts c.requires.split.parts c.args.ends.now c.requires.ends
     c.in_ok-joint.joint c.in_ok-joint.ensures.joint c.loop-place.place within c.in_ok-rows_with.rows_with c.in_ok-rows_with.ensures.rows c.args.sides.now c.loop-place.sides c.find_sides.new.sides c.loop-place.invariant.others c.find_sides.ensures.others
 
 pub join_parts-loop-place-preserved : goal.join_parts-loop-place-preserved
@@ -122,8 +134,8 @@ join_parts-loop-place-preserved t c =
     let parts = c.args.split.now.parts in
     let within : c.loop-place.place < length parts = let e = c.len-place-end.ensures in let l = c.loop-place-test.true in omega arith in
     let T = c.in_ok-rows_with.rows_with in
-    let low = rows_below (height m) S c.requires.rows in
-    let short = support_short m c.in_ok-joint.ensures.shape in record {
+    let low = members_below (height m) S c.requires.rows in
+    let short = nonzero_in_range m c.in_ok-joint.ensures.shape.rectangular in record {
       tables = c.find_sides.ensures.tables;
       kept = kept_more (support m) (height m) m.width short S low c.args.split.now.row c.requires.split.here parts c.requires.split.parts c.args.ends.now c.requires.ends c.in_ok-joint.joint c.in_ok-joint.ensures.joint
           c.loop-place.place within T c.in_ok-rows_with.ensures.rows c.loop-place.sides c.find_sides.new.sides c.loop-place.invariant.kept c.find_sides.ensures.others
@@ -135,13 +147,13 @@ join_parts-loop-place-preserved t c =
 pub join_parts-join-requires-clause-joint : goal.join_parts-join-requires-clause-joint
 join_parts-join-requires-clause-joint t c =
     let m = c.args.matrix.now in
-    fits (support m) (height m) m.width (support_short m c.in_ok-joint.ensures.shape) c.args.rows.now (rows_below (height m) c.args.rows.now c.requires.rows) c.args.split.now.row c.requires.split.here c.args.split.now.parts
+    fits (support m) (height m) m.width (nonzero_in_range m c.in_ok-joint.ensures.shape.rectangular) c.args.rows.now (members_below (height m) c.args.rows.now c.requires.rows) c.args.split.now.row c.requires.split.here c.args.split.now.parts
     c.requires.split.parts c.args.ends.now c.requires.ends c.in_ok-joint.joint c.in_ok-joint.ensures.joint
 
 pub join_parts-join-requires-clause-numbered : goal.join_parts-join-requires-clause-numbered
 join_parts-join-requires-clause-numbered t c =
     let m = c.args.matrix.now in
-    all_numbered (support m) (height m) m.width (support_short m c.in_ok-joint.ensures.shape) c.args.rows.now (rows_below (height m) c.args.rows.now c.requires.rows) c.args.split.now.row c.requires.split.here c.args.split.now.parts
+    all_numbered (support m) (height m) m.width (nonzero_in_range m c.in_ok-joint.ensures.shape.rectangular) c.args.rows.now (members_below (height m) c.args.rows.now c.requires.rows) c.args.split.now.row c.requires.split.here c.args.split.now.parts
     c.requires.split.parts c.args.ends.now c.requires.ends c.in_ok-joint.joint c.in_ok-joint.ensures.joint
 
 pub join_parts-returns-clause-found : goal.join_parts-returns-clause-found
@@ -149,7 +161,7 @@ join_parts-returns-clause-found t c =
     let m = c.args.matrix.now in
     let before = c.loop-place.invariant.tables in
     let after = c.join.ensures.tables in
-    joined_cuts (support m) (height m) m.width (support_short m c.in_ok-joint.ensures.shape) c.args.rows.now (rows_below (height m) c.args.rows.now c.requires.rows) c.args.split.now.row c.requires.split.here c.args.split.now.parts
+    joined_cuts (support m) (height m) m.width (nonzero_in_range m c.in_ok-joint.ensures.shape.rectangular) c.args.rows.now (members_below (height m) c.args.rows.now c.requires.rows) c.args.split.now.row c.requires.split.here c.args.split.now.parts
     c.requires.split.parts c.args.ends.now c.requires.ends c.in_ok-joint.joint c.in_ok-joint.ensures.joint c.loop-place.sides c.join.new.sides after.first_width after.last_width before.first_width before.arcs_width
     (λ a l. c.loop-place.invariant.kept a (let e = c.len-place-end.ensures in let k = c.loop-place-test.false in omega arith)) c.join.ensures.joined
 

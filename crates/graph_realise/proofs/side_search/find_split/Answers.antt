@@ -4,7 +4,7 @@ use Rattle.cmr_base.specs.Members.{IsIn}
 use Rattle.cmr_base.specs.Splits.{Splits}
 use Rattle.cmr_base.specs.Trees.{support}
 use Rattle.cmr_base.proofs.Members.{in_at}
-use Rattle.graph_realise.proofs.Places.{all_placed, more_placed, placed_before}
+use Rattle.cmr_base.proofs.Places.{all_placed, more_placed, placed_before}
 use Rattle.graph_realise.proofs.SearchLemmas.{one_part_whole}
 use Rattle.graph_realise.proofs.side_search.find_split.Goals as goal
 use Rattle.graph_realise.proofs.side_search.find_split.Goals.{then-row-untested+in_ok-parts+else-len-ge2, else-row-untested}

@@ -3,6 +3,7 @@ use Rattle.std.proofs.lemmas.Bool.{true≢false}
 use Rattle.cmr_base.specs.declared.line.Line.{Line}
 use Rattle.cmr_base.specs.Matrix.{height}
 use Rattle.cmr_base.specs.LineSets.{submatrix}
+use Rattle.cmr_base.proofs.WholeMatrices.{is_ternary}
 use Rattle.cmr_base.proofs.Submatrices.{inherited_from_hereditary}
 use Rattle.minimal_sets.specs.Runs.{lines_between, rows_left, columns_left}
 use Rattle.minimal_sets.proofs.Passes.{count_is, row_set_left, column_set_left, pass_left, pass_kept}
@@ -23,7 +24,7 @@ pub lines-preserved-then-not-branch : goal.lines-preserved-then-not-branch
 lines-preserved-then-not-branch g c =
     let m = c.args.matrix.now in
     let P = g.P.Property.holds c.args.property.now in
-    let inherited = inherited_from_hereditary P c.requires.hereditary m in
+    let inherited = inherited_from_hereditary P c.requires.hereditary m (is_ternary m c.requires.shape) in
     let tall = c.rows-rows.ensures.rows in
     let wide = c.columns.ensures.columns in
     let count = count_is c.lines.tried (c.rows-rows.result + c.columns.result) c.lines.next c.min-count.result c.min-count.ensures c.lines.invariant.some c.lines-test.true in

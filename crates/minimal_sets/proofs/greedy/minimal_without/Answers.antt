@@ -4,7 +4,8 @@ use Rattle.cmr_base.specs.Matrix.{height}
 use Rattle.cmr_base.specs.LineSets.{first_lines, IsRowSet, IsColumnSet, submatrix}
 use Rattle.cmr_base.proofs.GreedyLemmas.{greedy_set_minimal}
 use Rattle.cmr_base.proofs.Submatrices.{inherited_from_hereditary}
-use Rattle.minimal_sets.proofs.Passes.{all_rows, all_columns, all_lines_make, greedy_from_all, whole_submatrix}
+use Rattle.cmr_base.proofs.WholeMatrices.{is_ternary, whole_submatrix, all_lines_make}
+use Rattle.minimal_sets.proofs.Passes.{all_rows, all_columns, greedy_from_all}
 use Rattle.minimal_sets.proofs.greedy.minimal_without.Goals as goal
 
 pub holds_on-requires-clause-rows : goal.holds_on-requires-clause-rows
@@ -56,5 +57,5 @@ returns-clause-minimal g c =
     let whole = all_lines_make m all.rows all.columns c.rows.ensures.shape r k in
     let lacks : ¬ P (submatrix m (first_lines (height m)) (first_lines m.width)) =
     λ p. true≢false (sym (c.in_ok-holds_on.ensures.1 (subst P (sym (whole ∙ sym (whole_submatrix m c.rows.ensures.shape))) p)) ∙ c.if-branch.false) in
-    greedy_set_minimal P m (inherited_from_hereditary P c.requires.hereditary m) left.rows left.columns lacks
+    greedy_set_minimal P m (inherited_from_hereditary P c.requires.hereditary m (is_ternary m c.rows.ensures.shape)) left.rows left.columns lacks
     (greedy_from_all P m all.rows all.columns left.rows left.columns r k c.in_ok-left.ensures)

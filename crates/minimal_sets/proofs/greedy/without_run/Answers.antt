@@ -1,8 +1,8 @@
 use Rattle.std.proofs.Common.{◌∙◌, ap, filter}
 use Rattle.minimal_sets.specs.Runs.{is_outside}
-use Rattle.minimal_sets.proofs.Passes.{members_below}
 use Rattle.minimal_sets.proofs.RunLemmas.{rows_outside, columns_outside}
 use Rattle.minimal_sets.proofs.greedy.without_run.Goals as goal
+use Rattle.cmr_base.proofs.Places.{members_below}
 
 pub returns-clause-rows : goal.returns-clause-rows
 returns-clause-rows c =

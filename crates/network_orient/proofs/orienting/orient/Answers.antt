@@ -5,6 +5,7 @@ use Rattle.cmr_base.specs.Supports.{AgreeUpToSigns}
 use Rattle.cmr_base.specs.Trees.{IsGraphic, Reproduces, ReproducesSupport}
 use Rattle.cmr_base.specs.TurnedNetworks.{IsMultiplied}
 use Rattle.network_orient.specs.declared.line_signs.LineSigns.{LineSigns}
+use Rattle.cmr_base.proofs.WholeMatrices.{is_ternary}
 use Rattle.network_orient.proofs.Orientations.{one_support, agrees_where_network, turned_reproduces}
 use Rattle.network_orient.proofs.SupportMarks.{support_by_marks, network_has_graphic_marks}
 use Rattle.network_orient.proofs.orienting.orient.Goals as goal
@@ -21,7 +22,7 @@ signs_between-requires c =
     let support = c.in_ok-support.support in
     let reproduced = c.in_ok-reproduced in
     let some = subst (λ (found : Option Network). MatchOption found (¬ (IsGraphic support)) (λ net. ReproducesSupport net support)) c.in-Some.is c.in_ok-net.ensures in
-    one_support c.in-Some.net reproduced.reproduced m reproduced.ensures.shape c.rows.ensures.shape (reproduced.ensures.rows ∙ c.rows.ensures.rows) (reproduced.ensures.columns ∙ c.columns.ensures.columns)
+    one_support c.in-Some.net reproduced.reproduced m reproduced.ensures.shape.rectangular c.rows.ensures.shape.rectangular (reproduced.ensures.rows ∙ c.rows.ensures.rows) (reproduced.ensures.columns ∙ c.columns.ensures.columns)
     reproduced.ensures.reproduced (support_by_marks m support c.in_ok-support.ensures c.in-Some.net some)
 
 pub returns-in_default-2 : goal.returns-in_default-2
@@ -32,7 +33,7 @@ returns-in_default-2 c =
     let some = subst (λ (found : Option Network). MatchOption found (¬ (IsGraphic support)) (λ net. ReproducesSupport net support)) c.in-Some.is c.in_ok-net.ensures in
     let none = subst (λ (found : Option LineSigns). MatchOption found (¬ (AgreeUpToSigns (entry reproduced.reproduced) (entry m)))
     (λ signs. IsMultiplied (entry reproduced.reproduced) (entry m) (height reproduced.reproduced) reproduced.reproduced.width signs.rows.items signs.columns.items)) c.in_default-2.is c.in_ok-signs.ensures.signs in
-    λ network. none (agrees_where_network c.in-Some.net reproduced.reproduced m reproduced.ensures.shape c.rows.ensures.shape (reproduced.ensures.rows ∙ c.rows.ensures.rows) (reproduced.ensures.columns ∙ c.columns.ensures.columns)
+    λ network. none (agrees_where_network c.in-Some.net reproduced.reproduced m (is_ternary reproduced.reproduced reproduced.ensures.shape) (is_ternary m c.rows.ensures.shape) (reproduced.ensures.rows ∙ c.rows.ensures.rows) (reproduced.ensures.columns ∙ c.columns.ensures.columns)
     reproduced.ensures.reproduced (support_by_marks m support c.in_ok-support.ensures c.in-Some.net some) network)
 
 pub returns : goal.returns

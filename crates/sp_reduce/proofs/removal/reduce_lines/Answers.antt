@@ -59,12 +59,12 @@ pub returns-clause-rows : goal.returns-clause-rows
 returns-clause-rows c =
     let M = entry c.args.matrix.now in
     let end = removal_on c.args.binary M (length c.args.lines.now.rows + length c.args.lines.now.columns) c.args.lines.now.rows c.args.lines.now.columns in
-    c.in_ok-indices_of.ensures ∙ c.deref.ensures.value ∙ c.in_default.ensures.step.1
+    c.in_ok-of.ensures ∙ c.deref.ensures.value ∙ c.in_default.ensures.step.1
     ∙ (at_end c.args.binary M end c.steps.steps c.steps.rows.stays.items c.steps.columns.stays.items c.in_default.ensures.step.0 c.steps.invariant.way).1
 
 pub returns-clause-columns : goal.returns-clause-columns
 returns-clause-columns c =
     let M = entry c.args.matrix.now in
     let end = removal_on c.args.binary M (length c.args.lines.now.rows + length c.args.lines.now.columns) c.args.lines.now.rows c.args.lines.now.columns in
-    c.in_ok-indices_of-2.ensures ∙ c.deref-2.ensures.value ∙ c.in_default.ensures.step.2
+    c.in_ok-of-2.ensures ∙ c.deref-2.ensures.value ∙ c.in_default.ensures.step.2
     ∙ (at_end c.args.binary M end c.steps.steps c.steps.rows.stays.items c.steps.columns.stays.items c.in_default.ensures.step.0 c.steps.invariant.way).2

@@ -6,21 +6,21 @@ use Rattle.cmr_base.specs.Members.{IsIn}
 use Rattle.cmr_base.specs.Splits.{IsCommon}
 use Rattle.cmr_base.specs.Trees.{support}
 use Rattle.bridge_split.specs.Cutting.{part_at}
-use Rattle.bridge_split.proofs.ColumnSteps.{any_default}
 use Rattle.bridge_split.proofs.CutTables.{table_more}
 use Rattle.bridge_split.proofs.cuts.CutTable.new.Goals as goal
+use Rattle.std.proofs.lemmas.List.{get_or_default}
 
 pub set_common-requires-clause-rows : goal.set_common-requires-clause-rows
 set_common-requires-clause-rows c =
     let p = c.loop-part.part-index in
-    let item : c.part-item.result ≡ part_at c.args.parts.now p = c.part-item.is ∙ any_default c.args.parts.now p c.part-item.result [] c.loop-part-test.true in
+    let item : c.part-item.result ≡ part_at c.args.parts.now p = c.part-item.is ∙ get_or_default c.args.parts.now p c.part-item.result [] c.loop-part-test.true in
     subst (AllBelow (height c.args.matrix.now)) (sym item) (c.requires.rows p c.loop-part-test.true)
 
 pub loop-part-preserved : goal.loop-part-preserved
 loop-part-preserved c =
     let M = support c.args.matrix.now in
     let p = c.loop-part.part-index in
-    let item : c.part-item.result ≡ part_at c.args.parts.now p = c.part-item.is ∙ any_default c.args.parts.now p c.part-item.result [] c.loop-part-test.true in
+    let item : c.part-item.result ≡ part_at c.args.parts.now p = c.part-item.is ∙ get_or_default c.args.parts.now p c.part-item.result [] c.loop-part-test.true in
     table_more M c.args.row c.args.parts.now p c.deref.result.now c.loop-part.cuts.items c.push_cuts.new.cuts.items c.loop-part.invariant c.in_ok-push_cuts.ensures
     (subst (λ (columns : List ℕ). (column : ℕ) → IsIn column columns ↔ IsCommon M c.args.row (part_at c.args.parts.now p) column) (sym c.deref.ensures.value)
     (subst (λ (part : List ℕ). (column : ℕ) → IsIn column c.set_common.new.common.items ↔ IsCommon M c.args.row part column) item c.in_ok-set_common.ensures.common))

@@ -1,10 +1,10 @@
 use Rattle.std.proofs.Common.{◌≡◌, ◌≢◌, ◌<◌, ◌≤◌, ◌∙◌, ℕ, suc, List, get_or, sym, arith, length, true}
 use Rattle.bridge_split.specs.declared.cuts.CutTable.{CutTable}
 use Rattle.bridge_split.specs.Forests.{AreInOneTree, HasTreeRoom, joins, depth_at, parent_at}
-use Rattle.bridge_split.proofs.ColumnSteps.{any_default}
 use Rattle.bridge_split.proofs.CutTables.{disagree_back}
 use Rattle.bridge_split.proofs.PathRoutes.{route_one, route_front, route_back, turned, climbs}
 use Rattle.bridge_split.proofs.forest.Forest.+push_path.Goals as goal
+use Rattle.std.proofs.lemmas.List.{get_or_default}
 
 module _ (table : CutTable) (depths parents reached : List ℕ) (room : HasTreeRoom table.count depths parents) where
   low : (x y : ℕ) → AreInOneTree (joins table) table.count (depth_at depths) (parent_at parents) reached x y → x < length depths
@@ -14,10 +14,10 @@ module _ (table : CutTable) (depths parents reached : List ℕ) (room : HasTreeR
   up_here : (x y v a b : ℕ) → AreInOneTree (joins table) table.count (depth_at depths) (parent_at parents) reached x y → x ≢ y → a ≡ get_or depths x a → b ≡ get_or depths y b → b ≤ a → v ≡ get_or parents x v
       → AreInOneTree (joins table) table.count (depth_at depths) (parent_at parents) reached v y × (x < table.count) × (joins table x v ≡ true) × (depth_at depths x ≡ suc (depth_at depths v))
   up_here x y v a b t n ea eb l ev =
-      let f : a ≡ depth_at depths x = ea ∙ any_default depths x a 4294967295 (low x y t) in
-      let g : b ≡ depth_at depths y = eb ∙ any_default depths y b 4294967295 (low y x (turned (joins table) table.count (depth_at depths) (parent_at parents) reached x y t)) in
+      let f : a ≡ depth_at depths x = ea ∙ get_or_default depths x a 4294967295 (low x y t) in
+      let g : b ≡ depth_at depths y = eb ∙ get_or_default depths y b 4294967295 (low y x (turned (joins table) table.count (depth_at depths) (parent_at parents) reached x y t)) in
       climbs (joins table) table.count (depth_at depths) (parent_at parents) reached x y v t n (omega arith)
-      (ev ∙ any_default parents x v 0 (let k = t.are.inside x t.one_in in let r = room.parents_are in omega arith))
+      (ev ∙ get_or_default parents x v 0 (let k = t.are.inside x t.one_in in let r = room.parents_are in omega arith))
 
 pub index-requires : goal.index-requires
 index-requires t c = let l = c.requires.tree.are.inside c.args.one c.requires.tree.one_in in let r = c.requires.room.depths_are in omega arith

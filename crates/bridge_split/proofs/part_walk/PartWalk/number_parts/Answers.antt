@@ -1,10 +1,10 @@
 use Rattle.std.proofs.Common.{◌+◌, ◌∙◌, ℕ, ap, sym, subst, arith, inl, inr, get_or}
 use Rattle.bridge_split.specs.declared.part_walk.PartWalk.{PartWalk}
 use Rattle.bridge_split.specs.PartNumbers.{IsNumbering}
-use Rattle.bridge_split.proofs.ColumnSteps.{any_default}
 use Rattle.bridge_split.proofs.NumberSteps.{numbering_skips, numbering_ends}
 use Rattle.bridge_split.proofs.part_walk.PartWalk.number_parts.Goals as goal
 use Rattle.bridge_split.proofs.part_walk.PartWalk.number_parts.Goals.{then-rows-place+then-index+in_ok-walk_from, else-rows-place, else-rows-place-via-then-rows-place+else-index, else-rows-place-via-else-rows-place}
+use Rattle.std.proofs.lemmas.List.{get_or_default}
 
 pub loop-place-preserved : goal.loop-place-preserved
 loop-place-preserved c =
@@ -22,7 +22,7 @@ loop-place-preserved c =
           r.part.items r.met.items r.seen.items c.if-rows-place.count
           (elim w.else-rows-place.branch [
             | else-rows-place-via-then-rows-place+else-index w' ↦
-                inr (λ e. w'.if-index.false (w'.index.ensures ∙ any_default s.part.items (get_or S c.loop-place.place 0) w'.index.result.now 4294967295
+                inr (λ e. w'.if-index.false (w'.index.ensures ∙ get_or_default s.part.items (get_or S c.loop-place.place 0) w'.index.result.now 4294967295
                 (let low = c.requires.rows c.loop-place.place c.loop-place-test.true in let k = c.loop-place.invariant.room.numbers in omega arith) ∙ e))
             | else-rows-place-via-else-rows-place w' ↦ inl w'.if-rows-place.false
           ])
