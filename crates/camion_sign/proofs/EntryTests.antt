@@ -7,7 +7,7 @@ use Rattle.cmr_base.specs.Signing.{IsSign}
 use Rattle.cmr_base.proofs.Integers.{sums}
 use Rattle.ghouila.proofs.SignedSums.{zero_or_sign}
 use Rattle.camion_sign.specs.Walks.{TwoIf}
-use Rattle.camion_sign.proofs.Comparisons.{eq_is, eq_not}
+use Rattle.cmr_base.proofs.RowLists.{eq_of, ne_of}
 
 sign_of : (m : Matrix) (i j : ℕ) → IsMatrix m → entry m i j ≢ pos 0 → IsSign (entry m i j)
 sign_of m i j is h = elim (zero_or_sign (entry m i j) (is.small i j)) [ inl z ↦ absurd (h z) | inr u ↦ u ]
@@ -37,8 +37,8 @@ same_entry v w s r e = let a = s.low in let b = s.high in let c = r.low in let d
 pub test_two : (m : Matrix) (i j k l : ℕ) (v w : ℤ) → IsMatrix m → v ≡ entry m i j → w ≡ entry m k l → IsEntry v → IsEntry w → entry m i j ≢ pos 0 → entry m k l ≢ pos 0
     → TwoIf (nat_eq (of_z w8 v) (of_z w8 w)) (entry m i j +ℤ entry m k l)
 test_two m i j k l v w is e f s r a b = entries_two m i j k l (nat_eq (of_z w8 v) (of_z w8 w)) is a b
-    (λ t. sym e ∙ same_entry v w s r (eq_is (of_z w8 v) (of_z w8 w) t) ∙ f)
-    (λ t q. eq_not (of_z w8 v) (of_z w8 w) t (ap (of_z w8) (e ∙ q ∙ sym f)))
+    (λ t. sym e ∙ same_entry v w s r (eq_of (of_z w8 v) (of_z w8 w) t) ∙ f)
+    (λ t q. ne_of (of_z w8 v) (of_z w8 w) t (ap (of_z w8) (e ∙ q ∙ sym f)))
 
 -- what a test of an entry against 0 says
 pub byte_zero : (v : ℤ) → IsEntry v → of_z w8 v ≡ 0 → v ≡ pos 0

@@ -144,11 +144,6 @@ first_of_rows m t found f is before h = go (subst (λ (o : Option Fault). MatchO
 
 -- ---- what was read of a walk
 
-pub is_met : (m : Matrix) (t c d : ℕ) (walk : Walk) (place : ℕ) → HasWalked m t c walk → d < m.width → place ≡ get_or walk.places.items d place → place ≢ 4294967295 → place_in walk.places.items d < 4294967295
-is_met m t c d walk place w l e other =
-    let a = any_default walk.places.items d place 4294967295 (let f = w.fits.places in omega arith) in
-    let b = w.queue.topped d in omega arith
-
 pub met_step : (m : Matrix) (t c d : ℕ) (walk : Walk) (place : ℕ) (step : Step) → HasWalked m t c walk → d < m.width → place ≡ get_or walk.places.items d place → place_in walk.places.items d < 4294967295 → step ≡ get_or walk.steps.items place step
     → step_at walk.steps.items (place_in walk.places.items d) ≡ step
 met_step m t c d walk place step w l e met f =

@@ -3,12 +3,12 @@ use Rattle.std.proofs.Common.{ℕ, suc, ℤ, pos, List, [], ◌∷◌, ◌≡◌
 use Rattle.std.proofs.lemmas.Bool.{cases_lt}
 use Rattle.cmr_base.specs.Sums.{IsTwoModFour}
 use Rattle.cmr_base.specs.Signing.{IsSign}
-use Rattle.cmr_base.specs.Matrix.{IsEntry}
+use Rattle.cmr_base.specs.Matrix.{Matrix, IsEntry, HasTernaryEntries}
 use Rattle.cmr_base.proofs.Integers.{sums, products}
 use Rattle.ghouila.proofs.SignedSums.{zero_or_sign}
 use Rattle.cmr_base.specs.CyclePlaces.{IsPath, IsNotAfter, IsCyclePlace, HasNoCycleFault}
 use Rattle.cmr_base.specs.Matrix.{entry}
-use Rattle.camion_sign.specs.Laws.{FullSquaresHaveProductOne}
+use Rattle.camion_sign.specs.Laws.{IsFullSquare}
 use Rattle.ghouila.proofs.SignProducts.{sign-mul, sign_square, pair_kind, signs_stable}
 use Rattle.ghouila.proofs.LeastLists.{least_number}
 
@@ -76,5 +76,5 @@ module _ (M : ℕ → ℕ → ℤ) (small : (i j : ℕ) → IsEntry (M i j)) (cl
         ]
       ]
 
-pub full_squares : FullSquaresHaveProductOne
+pub full_squares : (m : Matrix) → HasTernaryEntries m → HasNoCycleFault (entry m) → (i k c d : ℕ) → IsFullSquare m i k c d → (entry m i c *ℤ entry m i d) *ℤ (entry m k c *ℤ entry m k d) ≡ pos 1
 full_squares m small clean i k c d s = full_two (entry m) small clean i k c d (s.upper_left, s.upper_right) (s.lower_left, s.lower_right)

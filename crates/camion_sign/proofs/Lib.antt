@@ -9,3 +9,16 @@ pub mod EntryTests
 pub mod FirstFaults
 pub mod LineLists
 pub mod FaultViolator
+pub mod GivenSigns
+pub mod ChainViolators
+pub mod ForcedCycles
+pub mod FreeSteps
+pub mod SigningStates
+pub mod OddSums
+pub mod PlaceLinks
+pub mod PartnerSteps
+pub mod ChainLabels
+pub mod ChainChecks
+pub mod ChainSteps
+pub mod ChainAgain
+pub mod StepCounts

@@ -1,57 +1,31 @@
 -- The lines of a cycle as rising lists.
-use Rattle.std.proofs.Common.{ℕ, ◌+◌, List, [], ◌∷◌, ◌++◌, ◌≡◌, ◌≢◌, ◌<◌, ◌≤◌, Option, Some, MatchOption, length, get_or, drop, ◌⊎◌, inl, inr, ◌↔◌, sym, arith, subst}
-use Rattle.std.proofs.lemmas.Bool.{cases_eq}
+use Rattle.std.proofs.Common.{ℕ, suc, ◌+◌, ◌-◌, ◌∙◌, nat_lt, Bool, true, false, cond, None, ap, List, [], ◌∷◌, ◌++◌, ◌≡◌, ◌<◌, ◌≤◌, Option, Some, MatchOption, length, get_or, drop, ◌⊎◌, inl, inr, sym, arith, subst}
+use Rattle.std.proofs.lemmas.Bool.{cases_eq, cases_lt}
+use Rattle.std.proofs.lemmas.Bool.Decides.{nat_tests}
 use Rattle.cmr_base.proofs.Members.{in-append, in_at, increasing-append}
 use Rattle.cmr_base.specs.Matrix.{Matrix, height, entry, IsMatrix}
 use Rattle.cmr_base.specs.Members.{IsIn}
 use Rattle.camion_sign.specs.declared.fault.Fault.{Fault}
-use Rattle.cmr_base.specs.CyclePlaces.{HasNoCycleFault, IsPath, IsCycleFault, path_rows, path_columns, cycle_rows, cycle_columns}
-use Rattle.camion_sign.specs.Faults.{IsBuilt, IsFirstFault}
-use Rattle.camion_sign.proofs.Steps.{within}
+use Rattle.cmr_base.specs.CyclePlaces.{IsCyclePlace, HasNoCycleFault, IsPath, IsCycleFault, path_rows, path_columns, cycle_rows, cycle_columns}
+use Rattle.camion_sign.specs.SignOrder.{IsCycleLines}
+use Rattle.camion_sign.specs.Faults.{IsBuilt, IsFirstFault, IsGathering, IsLeastFrom, left_to_gather, within}
+use Rattle.camion_sign.proofs.Steps as steps
 use Rattle.ghouila.proofs.SignsUnique.{row_in}
 
-pub in_rows_first : (xs : List ℕ) (x : ℕ) → 0 < length xs → get_or xs 0 0 ≡ x → IsIn x (path_rows xs)
-in_rows_first [] x l e = absurd (omega arith)
-in_rows_first (r ∷ []) x l e = inl (sym e)
-in_rows_first (r ∷ j ∷ rest) x l e = inl (sym e)
+pub one_row : (path : List ℕ) (from : ℕ) (found : Option ℕ) → 0 < length path → length path < 2 → IsLeastFrom (get_or path 0 0 ∷ []) from found → IsLeastFrom (path_rows path) from found
+one_row [] from found some few h = absurd (omega arith)
+one_row (r ∷ []) from found some few h = h
+one_row (r ∷ j ∷ rest) from found some few h = absurd (omega arith)
 
-pub in_rows_none : (xs : List ℕ) (x : ℕ) → length xs ≡ 0 → IsIn x (path_rows xs) → ⊥
-in_rows_none [] x l h = h
-in_rows_none (r ∷ xs) x l h = omega arith
+pub more_rows : (path : List ℕ) (from : ℕ) (found : Option ℕ) → 2 ≤ length path → IsLeastFrom (get_or path 0 0 ∷ path_rows (drop 2 path)) from found → IsLeastFrom (path_rows path) from found
+more_rows [] from found some h = absurd (omega arith)
+more_rows (r ∷ []) from found some h = absurd (omega arith)
+more_rows (r ∷ j ∷ rest) from found some h = h
 
-pub in_rows_one : (xs : List ℕ) (x : ℕ) → length xs < 2 → get_or xs 0 0 ≢ x → IsIn x (path_rows xs) → ⊥
-in_rows_one [] x l d h = h
-in_rows_one (r ∷ []) x l d (inl e) = d (sym e)
-in_rows_one (r ∷ []) x l d (inr h) = h
-in_rows_one (r ∷ j ∷ rest) x l d h = omega arith
-
-pub in_rows_more : (xs : List ℕ) (x : ℕ) → 2 ≤ length xs → get_or xs 0 0 ≢ x → IsIn x (path_rows (drop 2 xs)) ↔ IsIn x (path_rows xs)
-in_rows_more [] x l d = absurd (omega arith)
-in_rows_more (r ∷ []) x l d = absurd (omega arith)
-in_rows_more (r ∷ j ∷ rest) x l d = ((λ h. inr h), back)
-  where
-    back : (x ≡ r) ⊎ IsIn x (path_rows rest) → IsIn x (path_rows rest)
-    back (inl e) = absurd (d (sym e))
-    back (inr h) = h
-
-pub in_columns_first : (xs : List ℕ) (x : ℕ) → 2 ≤ length xs → get_or xs 1 0 ≡ x → IsIn x (path_columns xs)
-in_columns_first [] x l e = absurd (omega arith)
-in_columns_first (r ∷ []) x l e = absurd (omega arith)
-in_columns_first (r ∷ j ∷ rest) x l e = inl (sym e)
-
-pub in_columns_none : (xs : List ℕ) (x : ℕ) → length xs < 2 → IsIn x (path_columns xs) → ⊥
-in_columns_none [] x l h = h
-in_columns_none (r ∷ []) x l h = h
-in_columns_none (r ∷ j ∷ rest) x l h = omega arith
-
-pub in_columns_more : (xs : List ℕ) (x : ℕ) → 2 ≤ length xs → get_or xs 1 0 ≢ x → IsIn x (path_columns (drop 2 xs)) ↔ IsIn x (path_columns xs)
-in_columns_more [] x l d = absurd (omega arith)
-in_columns_more (r ∷ []) x l d = absurd (omega arith)
-in_columns_more (r ∷ j ∷ rest) x l d = ((λ h. inr h), back)
-  where
-    back : (x ≡ j) ⊎ IsIn x (path_columns rest) → IsIn x (path_columns rest)
-    back (inl e) = absurd (d (sym e))
-    back (inr h) = h
+pub more_columns : (path : List ℕ) (from : ℕ) (found : Option ℕ) → 2 ≤ length path → IsLeastFrom (get_or path 1 0 ∷ path_columns (drop 2 path)) from found → IsLeastFrom (path_columns path) from found
+more_columns [] from found some h = absurd (omega arith)
+more_columns (r ∷ []) from found some h = absurd (omega arith)
+more_columns (r ∷ j ∷ rest) from found some h = h
 
 pub nothing_built : (P : ℕ → Type 0) (list : List ℕ) → list ≡ [] → IsBuilt P 0 list
 nothing_built P list e = rw e (record { rising = λ k l. absurd (omega arith); members = λ y. ((λ h. absurd h), (λ w. let l = w.0 in absurd (omega arith))) })
@@ -78,17 +52,79 @@ passed_by P x list list2 b p e = rw e (record {
   );
 })
 
-path_rows_low : (m : Matrix) (t c d : ℕ) (lines : List ℕ) → IsPath (entry m) t c d lines → (x : ℕ) → IsIn x (path_rows lines) → x < t
+-- ---- lines gathered by taking the least again and again
+
+pub start_gathering : (lines : List ℕ) (bound : ℕ) (next : Option ℕ) (found : List ℕ) → found ≡ [] → IsLeastFrom lines 0 next → IsGathering lines bound next found
+start_gathering lines bound next found e least = record { from = 0; inside = omega arith; built = nothing_built (λ line. IsIn line lines) found e; least = least }
+
+-- up to the least line there is no other
+built_up : (lines found : List ℕ) (from to : ℕ) → from ≤ to → ((x : ℕ) → IsIn x lines → x < to → x < from) → IsBuilt (λ line. IsIn line lines) from found → IsBuilt (λ line. IsIn line lines) to found
+built_up lines found from to l none b = record {
+  rising = b.rising;
+  members = λ y. (
+    (λ h. let w = (b.members y).0 h in (let k = w.0 in omega arith, w.1)),
+    (λ w. (b.members y).1 (none y w.1 w.0, w.1)),
+  );
+}
+
+within_is : (next : Option ℕ) (bound line : ℕ) → within next bound ≡ Some line → (next ≡ Some line) × (line < bound)
+within_is None bound line e = absurd (cc)
+within_is (Some x) bound line e = go (cases_lt x bound)
+  where
+    go : (x < bound) ⊎ (bound ≤ x) → (Some x ≡ Some line) × (line < bound)
+    go (inl l) = let t : nat_lt x bound ≡ true = grind (arith, nat_tests) in let f : Some x ≡ Some line = sym (ap (λ b. cond b (Some x) None) t) ∙ e in (f, let g : x ≡ line = cc in omega arith)
+    go (inr l) = let t : nat_lt x bound ≡ false = grind (arith, nat_tests) in let f : None ≡ Some line = sym (ap (λ b. cond b (Some x) None) t) ∙ e in absurd (cc)
+
+module _ (lines : List ℕ) (bound : ℕ) (next : Option ℕ) (found : List ℕ) (g : IsGathering lines bound next found) where
+  least_at : (line : ℕ) → within next bound ≡ Some line → IsIn line lines × (g.from ≤ line) × ((x : ℕ) → IsIn x lines → g.from ≤ x → line ≤ x)
+  least_at line e = subst (λ o. IsLeastFrom lines g.from o) (within_is next bound line e).0 g.least
+
+  built_to_line : (line : ℕ) → within next bound ≡ Some line → IsBuilt (λ x. IsIn x lines) line found
+  built_to_line line e = built_up lines found g.from line (least_at line e).1 (λ x h l. elim (cases_lt x g.from) [ inl k ↦ k | inr k ↦ absurd (let q = (least_at line e).2 x h k in omega arith) ]) g.built
+
+  pub line_above : (line : ℕ) → within next bound ≡ Some line → (k : ℕ) → k < length found → get_or found k 0 < line
+  line_above line e = above (λ x. IsIn x lines) line found (built_to_line line e)
+
+  pub line_gathered : (line : ℕ) (after : Option ℕ) (more : List ℕ) → within next bound ≡ Some line → more ≡ found ++ line ∷ [] → IsLeastFrom lines (line + 1) after → IsGathering lines bound after more
+  line_gathered line after more e f least = record {
+    from = line + 1;
+    inside = let l = (within_is next bound line e).1 in omega arith;
+    built = pushed (λ x. IsIn x lines) line found more (built_to_line line e) (least_at line e).0 f;
+    least = least;
+  }
+
+  pub all_gathered : within next bound ≡ None → IsBuilt (λ x. IsIn x lines) bound found
+  all_gathered e = built_up lines found g.from bound g.inside (none next g.least e) g.built
+    where
+      none : (o : Option ℕ) → IsLeastFrom lines g.from o → within o bound ≡ None → (x : ℕ) → IsIn x lines → x < bound → x < g.from
+      none None least e x h l = least x h
+      none (Some line) least e x h l = elim (cases_lt x g.from) [
+        | inl k ↦ k
+        | inr k ↦ absurd (let q = least.2 x h k in let under : line < bound = omega arith in some (nat_lt line bound) (grind (arith, nat_tests)) e)
+      ]
+        where
+          some : (b : Bool) → b ≡ true → cond b (Some line) None ≡ None → ⊥
+          some true t e = absurd (cc)
+          some false t e = absurd (cc)
+
+pub fewer_left : (lines : List ℕ) (bound : ℕ) (next after : Option ℕ) (line : ℕ) → within next bound ≡ Some line → IsLeastFrom lines (line + 1) after → left_to_gather bound after < left_to_gather bound next
+fewer_left lines bound next after line e least = subst (λ o. left_to_gather bound after < left_to_gather bound o) (sym (within_is next bound line e).0) (go after least)
+  where
+    go : (o : Option ℕ) → IsLeastFrom lines (line + 1) o → left_to_gather bound o < suc (bound - line)
+    go None least = omega arith
+    go (Some x) least = let l = least.1 in let k = (within_is next bound line e).1 in omega arith
+
+pub path_rows_low : (m : Matrix) (t c d : ℕ) (lines : List ℕ) → IsPath (entry m) t c d lines → (x : ℕ) → IsIn x (path_rows lines) → x < t
 path_rows_low m t c d [] h x g = absurd g
 path_rows_low m t c d (r ∷ []) h x (inl e) = let l = h.0 in omega arith
 path_rows_low m t c d (r ∷ []) h x (inr g) = absurd g
 path_rows_low m t c d (r ∷ j ∷ rest) h x (inl e) = let l = h.0 in omega arith
 path_rows_low m t c d (r ∷ j ∷ rest) h x (inr g) = path_rows_low m t j d rest h.4 x g
 
-path_columns_low : (m : Matrix) (t c d : ℕ) (lines : List ℕ) → IsMatrix m → t < height m → IsPath (entry m) t c d lines → (x : ℕ) → IsIn x (path_columns lines) → x < m.width
+pub path_columns_low : (m : Matrix) (t c d : ℕ) (lines : List ℕ) → IsMatrix m → t < height m → IsPath (entry m) t c d lines → (x : ℕ) → IsIn x (path_columns lines) → x < m.width
 path_columns_low m t c d [] is l h x g = absurd g
 path_columns_low m t c d (r ∷ []) is l h x g = absurd g
-path_columns_low m t c d (r ∷ j ∷ rest) is l h x (inl e) = let low = h.0 in let w = within m r j is (omega arith) h.2 in omega arith
+path_columns_low m t c d (r ∷ j ∷ rest) is l h x (inl e) = let low = h.0 in let w = steps.within m r j is (omega arith) h.2 in omega arith
 path_columns_low m t c d (r ∷ j ∷ rest) is l h x (inr g) = path_columns_low m t j d rest is l h.4 x g
 
 pub cycle_fault_is : (m : Matrix) (t c d : ℕ) (lines R C : List ℕ) {high wide : ℕ} → IsMatrix m → IsFirstFault m t c d lines → high ≡ height m → wide ≡ m.width
@@ -114,8 +150,8 @@ cycle_fault_is m t c d lines R C {high = high} {wide = wide} is f h w rows colum
     row_low i (inr g) = let l = high_t in let k = path_rows_low m t c d lines f.fault.place.is_path i g in omega arith
 
     column_low : (j : ℕ) → (j ≡ c) ⊎ ((j ≡ d) ⊎ IsIn j (path_columns lines)) → j < wide
-    column_low j (inl e) = let l = within m t c is high_t f.fault.place.first in omega arith
-    column_low j (inr (inl e)) = let l = within m t d is high_t f.fault.place.last in omega arith
+    column_low j (inl e) = let l = steps.within m t c is high_t f.fault.place.first in omega arith
+    column_low j (inr (inl e)) = let l = steps.within m t d is high_t f.fault.place.last in omega arith
     column_low j (inr (inr g)) = let l = path_columns_low m t c d lines is high_t f.fault.place.is_path j g in omega arith
 
 pub built_to : (P : ℕ → Type 0) (x size : ℕ) (list : List ℕ) → IsBuilt P x list → size ≤ x → x ≤ size → IsBuilt P size list
@@ -130,3 +166,33 @@ fault_lines m o f rows_of columns_of R C {high = high} {wide = wide} is e found 
     (subst (λ (x : Option Fault). MatchOption x (HasNoCycleFault (entry m)) (λ f. IsFirstFault m f.row f.first f.last f.lines.items)) e found) h w
     (subst (λ (l : List ℕ). IsBuilt (λ x. IsIn x (cycle_rows f.row l)) high R) a rows)
     (subst (λ (l : List ℕ). IsBuilt (λ x. IsIn x (cycle_columns f.first f.last l)) wide C) b columns)
+
+-- the lines of the cycle of a place
+pub cycle_lines_are : (m : Matrix) (t c d : ℕ) (lines rows_of columns_of R C : List ℕ) {high wide : ℕ} → IsMatrix m → IsCyclePlace (entry m) t c d lines → rows_of ≡ lines → columns_of ≡ lines → high ≡ height m → wide ≡ m.width
+    → IsBuilt (λ x. IsIn x (cycle_rows t rows_of)) high R → IsBuilt (λ x. IsIn x (cycle_columns c d columns_of)) wide C → IsCycleLines m t c d (record { rows = R; columns = C })
+cycle_lines_are m t c d lines rows_of columns_of R C {high = high} {wide = wide} is place a b h w built_rows built_columns = record {
+  path = lines;
+  place = inl place;
+  row_set = record { rising = rows.rising; in_range = λ k l. let b = above (λ x. IsIn x (cycle_rows t lines)) high R rows k l in omega arith };
+  column_set = record { rising = columns.rising; in_range = λ k l. let b = above (λ x. IsIn x (cycle_columns c d lines)) wide C columns k l in omega arith };
+  rows_are = λ i. ((λ g. ((rows.members i).0 g).1), (λ g. (rows.members i).1 (row_low i g, g)));
+  columns_are = λ j. ((λ g. ((columns.members j).0 g).1), (λ g. (columns.members j).1 (column_low j g, g)));
+}
+  where
+    rows : IsBuilt (λ x. IsIn x (cycle_rows t lines)) high R
+    rows = subst (λ (l : List ℕ). IsBuilt (λ x. IsIn x (cycle_rows t l)) high R) a built_rows
+
+    columns : IsBuilt (λ x. IsIn x (cycle_columns c d lines)) wide C
+    columns = subst (λ (l : List ℕ). IsBuilt (λ x. IsIn x (cycle_columns c d l)) wide C) b built_columns
+
+    high_t : t < height m
+    high_t = row_in m t c place.first
+
+    row_low : (i : ℕ) → (i ≡ t) ⊎ IsIn i (path_rows lines) → i < high
+    row_low i (inl e) = let l = high_t in omega arith
+    row_low i (inr g) = let l = high_t in let k = path_rows_low m t c d lines place.is_path i g in omega arith
+
+    column_low : (j : ℕ) → (j ≡ c) ⊎ ((j ≡ d) ⊎ IsIn j (path_columns lines)) → j < wide
+    column_low j (inl e) = let l = steps.within m t c is high_t place.first in omega arith
+    column_low j (inr (inl e)) = let l = steps.within m t d is high_t place.last in omega arith
+    column_low j (inr (inr g)) = let l = path_columns_low m t c d lines is high_t place.is_path j g in omega arith

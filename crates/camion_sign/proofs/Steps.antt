@@ -103,8 +103,8 @@ module _ (m : Matrix) (t c h r : ℕ) (columns : List ℕ) (k : ℕ) (from : Ste
   one_step s x (inr p) = inr (p.0, λ i l. p.1 i (omega arith))
 
   -- the column was reached before
-  pub pass_column : (walk2 : Walk) (place : ℕ) → walk2 ≡ walk → get_or columns k 0 < m.width → place ≡ get_or walk.places.items (get_or columns k 0) place → place ≢ 4294967295 → IsReaching m t c h r columns (k + 1) from old walk2
-  pass_column walk2 place e low place_is other = subst (IsReaching m t c h r columns (k + 1) from old) (sym e) (record {
+  pub pass_column : (walk2 : Walk) → walk2 ≡ walk → place_in walk.places.items (get_or columns k 0) < 4294967295 → IsReaching m t c h r columns (k + 1) from old walk2
+  pass_column walk2 e there = subst (IsReaching m t c h r columns (k + 1) from old) (sym e) (record {
     fits = w.fits;
     grows = w.grows;
     used = w.used;
@@ -117,17 +117,17 @@ module _ (m : Matrix) (t c h r : ℕ) (columns : List ℕ) (k : ℕ) (from : Ste
       | inr ge ↦ let q : k ≡ i = omega arith in
           subst (λ (j : ℕ). IsMet (entry m) t c m.width (progress walk.steps.items walk.places.items walk.used.items) w.key (get_or columns j 0) (w.key h ++ r ∷ get_or columns j 0 ∷ [])) q
           (met_before (entry m) t c m.width (progress walk.steps.items walk.places.items walk.used.items) w.key h r (get_or columns k 0) (λ s x. (r < s) ⊎ ((r ≡ s) × ((i : ℕ) → i < k → get_or columns i 0 < x))) w.front w.within
-          (let a = any_default walk.places.items (get_or columns k 0) 4294967295 place (let f = w.fits.places in omega arith) in let b = w.front.queue.topped (get_or columns k 0) in omega arith) (inr (refl, here)))
+          there (inr (refl, here)))
     ];
   })
 
   -- the column is reached now
-  pub reach_column : (walk2 : Walk) (place : ℕ) (same : Bool) → get_or columns k 0 < m.width → place ≡ get_or walk.places.items (get_or columns k 0) place → place ≡ 4294967295
+  pub reach_column : (walk2 : Walk) (same : Bool) → get_or columns k 0 < m.width → place_in walk.places.items (get_or columns k 0) ≡ 4294967295
       → Goes (entry m) t c m.width (progress walk.steps.items walk.places.items walk.used.items) w.key h → r < t → entry m r from.column ≢ pos 0 → TwoIf same (entry m r from.column +ℤ entry m r (get_or columns k 0))
       → walk2.steps.items ≡ walk.steps.items ++ record { column = get_or columns k 0; row = r; before = h; is_two = flip from.is_two same } ∷ []
       → walk2.places.items ≡ set walk.places.items (get_or columns k 0) (length walk.steps.items) → walk2.used.items ≡ walk.used.items
       → IsReaching m t c h r columns (k + 1) from old walk2
-  reach_column walk2 place same low place_is unmet goes early leads two steps2 places2 used2 = record {
+  reach_column walk2 same low unmet goes early leads two steps2 places2 used2 = record {
     fits = record { matrix = w.fits.matrix; places = ap length places2 ∙ length-set walk.places.items x (length walk.steps.items) ∙ w.fits.places; used = ap length used2 ∙ w.fits.used };
     grows = record {
       longer = let a = w.grows.longer in let b = more in omega arith;
@@ -179,7 +179,7 @@ module _ (m : Matrix) (t c h r : ℕ) (columns : List ℕ) (k : ℕ) (from : Ste
           w.from_is (one_more walk.steps.items walk.places.items walk.used.items x r h (flip (s.is_two h) same) (let e = w.fits.places in omega arith))
 
       unmet' : place_in walk.places.items x ≡ 4294967295
-      unmet' = any_default walk.places.items x 4294967295 place (let e = w.fits.places in omega arith) ∙ sym place_is ∙ unmet
+      unmet' = unmet
 
       leads' : M r (s.column h) ≢ pos 0
       leads' = subst (λ (step : Step). M r step.column ≢ pos 0) (sym w.from_is) leads
@@ -377,9 +377,6 @@ one_more_settled m t c from x places before here d a b n = elim (cases_lt d x) [
   | inl lt ↦ before d a lt n
   | inr ge ↦ let q : x ≡ d = omega arith in subst (λ (y : ℕ). entry m t y ≢ pos 0 → (place_in places y ≢ 4294967295) ⊎ IsUntouched m t y) q here n
 ]
-
-pub is_reached : (places : List ℕ) (x place : ℕ) → x < length places → place ≡ get_or places x place → place ≢ 4294967295 → place_in places x ≢ 4294967295
-is_reached places x place l e other q = other (e ∙ any_default places x place 4294967295 l ∙ q)
 
 -- ---- the whole walk
 

@@ -1,5 +1,5 @@
 -- The first fault, and its lines as rising lists.
-use Rattle.std.specs.Prelude.{ℕ, List, ◌↔◌, ◌<◌}
+use Rattle.std.specs.Prelude.{ℕ, suc, ◌-◌, List, ◌↔◌, ◌<◌, ◌≤◌, nat_lt, if◌then◌else◌, Option, Some, None, MatchOption}
 use Rattle.std.specs.List.Sorted.{IsStrictlyIncreasing}
 use Rattle.cmr_base.specs.Matrix.{Matrix, entry}
 use Rattle.cmr_base.specs.Members.{IsIn}
@@ -23,3 +23,24 @@ pub record IsFirstFault (m : Matrix) (t c d : ℕ) (lines : List ℕ) : Type 0 w
 pub record IsBuilt (P : ℕ → Type 0) (x : ℕ) (list : List ℕ) : Type 0 where
   pub rising : IsStrictlyIncreasing list
   pub members : (y : ℕ) → IsIn y list ↔ ((y < x) × P y)
+
+-- the least of these lines that is at least a number, where there is one
+abbrev pub IsLeastFrom : List ℕ → ℕ → Option ℕ → Type 0
+IsLeastFrom lines from found = MatchOption found ((x : ℕ) → IsIn x lines → x < from) (λ line. IsIn line lines × (from ≤ line) × ((x : ℕ) → IsIn x lines → from ≤ x → line ≤ x))
+
+-- a line, where it is below a bound
+abbrev pub within : Option ℕ → ℕ → Option ℕ
+within None bound = None
+within (Some line) bound = if nat_lt line bound then Some line else None
+
+-- the lines that are found are those before a number, and the next one is the least that is not
+pub record IsGathering (lines : List ℕ) (bound : ℕ) (next : Option ℕ) (found : List ℕ) : Type 0 where
+  pub from : ℕ
+  pub inside : from ≤ bound
+  pub built : IsBuilt (λ line. IsIn line lines) from found
+  pub least : IsLeastFrom lines from next
+
+-- how much is left to gather
+abbrev pub left_to_gather : ℕ → Option ℕ → ℕ
+left_to_gather bound None = 0
+left_to_gather bound (Some line) = suc (bound - line)

@@ -1,8 +1,12 @@
--- Laws of matrices without cycle fault.
+-- Laws of matrices without cycle fault, and of chains.
 use Rattle.std.specs.Prelude.{◌≡◌, ◌≢◌, ◌*ℤ◌, ℕ, pos}
-use Rattle.cmr_base.specs.Matrix.{Matrix, entry}
+use Rattle.cmr_base.specs.Matrix.{Matrix, entry, IsMatrix, IsTernary}
+use Rattle.cmr_base.specs.Supports.{HaveOneSupport}
+use Rattle.cmr_base.specs.Violator.{HasNoViolator}
 use Rattle.cmr_base.specs.CyclePlaces.{HasNoCycleFault}
-use Rattle.ghouila.specs.Laws.{IsTernary}
+use Rattle.cmr_base.specs.Trees.{IsBinary}
+use Rattle.camion_sign.specs.declared.step.SizedChain.{SizedChain}
+use Rattle.camion_sign.specs.Chains.{IsSoundChain, IsRegular}
 
 -- two rows and two columns in which all four entries are nonzeros
 pub record IsFullSquare (m : Matrix) (i k c d : ℕ) : Type 0 where
@@ -14,3 +18,11 @@ pub record IsFullSquare (m : Matrix) (i k c d : ℕ) : Type 0 where
 -- without cycle fault the product of these four is 1
 abbrev pub FullSquaresHaveProductOne : Type 0
 FullSquaresHaveProductOne = (m : Matrix) → IsTernary m → HasNoCycleFault (entry m) → (i k c d : ℕ) → IsFullSquare m i k c d → (entry m i c *ℤ entry m i d) *ℤ (entry m k c *ℤ entry m k d) ≡ pos 1
+
+-- where a chain is sound, each signing of the support has a violator
+abbrev pub ChainsMeanViolators : Type 0
+ChainsMeanViolators = (a m signs : Matrix) (chain : SizedChain) → IsBinary a → IsMatrix a → IsSoundChain a chain signs → IsMatrix m → HaveOneSupport a m → ¬ (HasNoViolator m)
+
+-- so none is totally unimodular
+abbrev pub ChainsRefuteRegularity : Type 0
+ChainsRefuteRegularity = (a signs : Matrix) (chain : SizedChain) → IsBinary a → IsMatrix a → IsSoundChain a chain signs → ¬ (IsRegular a)

@@ -4,4 +4,11 @@ pub mod SupportView
 pub mod Trails
 pub mod Walks
 pub mod Faults
+pub mod SignSteps
+pub mod Chains
+pub mod SignOrder
+pub mod Signings
+pub mod ChainStates
+pub mod ChainKinds
+pub mod ChainTexts
 pub mod Laws

@@ -1,10 +1,10 @@
-// The cycle fault as a set of lines.
-ghost use Rattle.std.specs.Prelude.{◌≡◌, ◌<◌, ◌↔◌, ℕ, IfOk, MatchOption, IfSome, IsTrue};
+// The lines of cycles, and the cycle fault.
+ghost use Rattle.std.specs.Prelude.{◌≡◌, ◌∷◌, ℕ, List, IfOk, MatchOption, IfSome};
 ghost use Rattle.cmr_base.specs.Matrix.{height, entry};
 ghost use Rattle.cmr_base.specs.Members.{IsIn};
 ghost use Rattle.cmr_base.specs.CyclePlaces.{HasNoCycleFault, IsCycleFault, path_rows, path_columns, cycle_rows, cycle_columns};
 ghost use Rattle.cmr_base.specs.Violator.{IsViolator};
-ghost use Rattle.camion_sign.specs.Faults.{IsBuilt};
+ghost use Rattle.camion_sign.specs.Faults.{IsBuilt, IsLeastFrom, within};
 
 use crate::fault::first_fault;
 use cmr_base::{Indices, LineSet, Matrix, Memory};
@@ -12,7 +12,8 @@ use std::alloc::Global;
 
 /// The cycle of the first cycle place whose sum is 2 modulo 4, in the order of the places by their row, first
 /// column and last column. `None` exactly where there is no such place. The cycle is a violator in the sense
-/// of Camion: each of its lines has two nonzeros in it.
+/// of Camion: each of its lines has two nonzeros in it. The time is at most one walk through the rows before for each
+/// nonzero.
 pub fn cycle_fault(alloc: Global, matrix: &Matrix) -> Result<Option<LineSet>, Memory>
     ensures fault { IfOk result (λ found. MatchOption found (HasNoCycleFault (entry matrix.now)) (λ lines. IsCycleFault matrix.now lines.rows lines.columns)) }
     ensures violator { IfOk result (λ found. IfSome found (λ lines. IsViolator (entry matrix.now) lines.rows lines.columns)) }
@@ -33,59 +34,96 @@ pub fn cycle_fault(alloc: Global, matrix: &Matrix) -> Result<Option<LineSet>, Me
     }
 }
 
-fn rows_of_cycle(alloc: Global, t: u32, lines: &[u32], height: u32) -> Result<Indices, Memory>
-    ensures { IfOk result (λ rows. IsBuilt (λ x. IsIn x (cycle_rows t lines.now)) height rows) }
+/// The rows of the cycle of a place in this row with this path, as far as they are below a bound.
+pub fn rows_of_cycle(alloc: Global, row: u32, path: &[u32], height: u32) -> Result<Indices, Memory>
+    ensures { IfOk result (λ rows. IsBuilt (λ line. IsIn line (cycle_rows row path.now)) height rows) }
 {
     let mut rows = Indices::new(alloc);
-    for x in 0..height {
-        if x == t || stands_in_rows(lines, x) {
-            rows.push(x)?;
-        }
+    let mut next = least_row(row, path, 0);
+    'lines: while let Some(line) = below(next, height) {
+        rows.push(line)?;
+        next = least_row(row, path, line + 1);
     }
     Ok(rows)
 }
 
-fn columns_of_cycle(
+/// The columns of the cycle of a place with these columns and this path, as far as they are below a bound.
+pub fn columns_of_cycle(
     alloc: Global,
-    c: u32,
-    d: u32,
-    lines: &[u32],
+    first: u32,
+    last: u32,
+    path: &[u32],
     width: u32,
 ) -> Result<Indices, Memory>
-    ensures { IfOk result (λ columns. IsBuilt (λ x. IsIn x (cycle_columns c d lines.now)) width columns) }
+    ensures { IfOk result (λ columns. IsBuilt (λ line. IsIn line (cycle_columns first last path.now)) width columns) }
 {
     let mut columns = Indices::new(alloc);
-    for x in 0..width {
-        if x == c || x == d || stands_in_columns(lines, x) {
-            columns.push(x)?;
-        }
+    let mut next = least_column(first, last, path, 0);
+    'lines: while let Some(line) = below(next, width) {
+        columns.push(line)?;
+        next = least_column(first, last, path, line + 1);
     }
     Ok(columns)
 }
 
-fn stands_in_rows(lines: &[u32], x: u32) -> bool
-    ensures { IsTrue result ↔ IsIn x (path_rows lines.now) }
+// The line, where it is below a bound.
+fn below(line: Option<u32>, bound: u32) -> Option<u32>
+    ensures { result ≡ within line bound }
 {
-    if lines.len() == 0 {
-        return false;
+    match line {
+        Some(line) => { if line < bound { Some(line) } else { None } }
+        None => None,
     }
-    if lines[0] == x {
-        return true;
-    }
-    if lines.len() < 2 {
-        return false;
-    }
-    stands_in_rows(&lines[2..], x)
 }
 
-fn stands_in_columns(lines: &[u32], x: u32) -> bool
-    ensures { IsTrue result ↔ IsIn x (path_columns lines.now) }
+// The least row of a cycle that is at least a number.
+fn least_row(row: u32, path: &[u32], from: u32) -> Option<u32>
+    ensures { IsLeastFrom (cycle_rows row path.now) from result }
 {
-    if lines.len() < 2 {
-        return false;
+    lesser(row, least_path_row(path, from), from)
+}
+
+// The least column of a cycle that is at least a number.
+fn least_column(first: u32, last: u32, path: &[u32], from: u32) -> Option<u32>
+    ensures { IsLeastFrom (cycle_columns first last path.now) from result }
+{
+    lesser(
+        first,
+        lesser(last, least_path_column(path, from), from),
+        from,
+    )
+}
+
+fn least_path_row(path: &[u32], from: u32) -> Option<u32>
+    ensures { IsLeastFrom (path_rows path.now) from result }
+{
+    if path.len() == 0 {
+        return None;
     }
-    if lines[1] == x {
-        return true;
+    if path.len() < 2 {
+        return lesser(path[0], None, from);
     }
-    stands_in_columns(&lines[2..], x)
+    lesser(path[0], least_path_row(&path[2..], from), from)
+}
+
+fn least_path_column(path: &[u32], from: u32) -> Option<u32>
+    ensures { IsLeastFrom (path_columns path.now) from result }
+{
+    if path.len() < 2 {
+        return None;
+    }
+    lesser(path[1], least_path_column(&path[2..], from), from)
+}
+
+// The least line that is at least a number, of one line and the least of others.
+fn lesser(line: u32, others: Option<u32>, from: u32) -> Option<u32>
+    ensures { (lines : List ℕ) → IsLeastFrom lines from others → IsLeastFrom (line ∷ lines) from result }
+{
+    if line < from {
+        return others;
+    }
+    match others {
+        Some(other) => Some(line.min(other)),
+        None => Some(line),
+    }
 }

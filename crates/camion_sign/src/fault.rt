@@ -7,7 +7,7 @@ ghost use Rattle.camion_sign.specs.Faults.{HasNoFaultAt, IsColumnFault, IsFirstF
 
 use crate::reach::{Start, flipped, walk_from};
 use crate::support::Support;
-use crate::walk::{UNREACHED, Walk};
+use crate::walk::Walk;
 use cmr_base::{Matrix, Memory};
 use std::alloc::Global;
 
@@ -106,7 +106,7 @@ fn is_fault(support: &Support<'_>, walk: &Walk, start: Start, last: u32) -> bool
     ensures reached { IsTrue result → place_in walk.now.places.items last < 4294967295 }
     ensures fault { IsTrue result ↔ ((path : List ℕ) × IsFaultAt (entry support.now) start.row start.column last path) }
 {
-    if support.entry(start.row, last) == 0 || walk.places[last as usize] == UNREACHED {
+    if support.entry(start.row, last) == 0 || !walk.has_reached(last) {
         return false;
     }
     let step = walk.steps[walk.places[last as usize] as usize];
@@ -115,7 +115,7 @@ fn is_fault(support: &Support<'_>, walk: &Walk, start: Start, last: u32) -> bool
 }
 
 // The path of a place, from its last column back to its first.
-fn path_to(
+pub fn path_to(
     alloc: Global,
     support: &Support<'_>,
     walk: &Walk,

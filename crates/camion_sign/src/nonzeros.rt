@@ -1,6 +1,6 @@
 // The places of nonzeros, row by row.
-ghost use Rattle.std.specs.Prelude.{◌≡◌, ◌<◌, ◌≤◌, ◌++◌, [], map, length, slice_index_or, IfOk, OnOk};
-ghost use Rattle.cmr_base.specs.Matrix.{IsMatrix};
+ghost use Rattle.std.specs.Prelude.{◌≡◌, ◌<◌, ◌++◌, [], map, length, slice_index_or, IfOk, OnOk};
+ghost use Rattle.cmr_base.specs.Matrix.{height, row_of, IsMatrix};
 ghost use Rattle.camion_sign.specs.Nonzeros.{nonzeros_from};
 
 use cmr_base::{Matrix, Memory};
@@ -36,7 +36,7 @@ impl Nonzeros {
         let mut places = Vec::with_capacity(alloc, matrix.nonzeros() as usize)?;
         starts.push(0)?;
         for row in 0..matrix.rows() {
-            push_nonzeros(&mut places, matrix.row(row))?;
+            push_nonzeros(&mut places, matrix, row)?;
             starts.push(places.len())?;
         }
         Ok(Nonzeros { starts, places })
@@ -55,13 +55,13 @@ impl Nonzeros {
     }
 }
 
-fn push_nonzeros(places: &mut Vec<u32>, row: &[i8]) -> Result<(), Memory>
-    requires { length row.now ≤ 1000 }
-    ensures { OnOk result (places.new.items ≡ places.old.items ++ nonzeros_from 0 row.now) }
+fn push_nonzeros(places: &mut Vec<u32>, matrix: &Matrix, row: u32) -> Result<(), Memory>
+    requires { row < height matrix.now }
+    ensures { OnOk result (places.new.items ≡ places.old.items ++ nonzeros_from 0 (row_of matrix.now row)) }
 {
-    for column in 0..row.len() {
-        if row[column] != 0 {
-            places.push(column as u32)?;
+    for column in 0..matrix.columns() {
+        if matrix.entry(row, column) != 0 {
+            places.push(column)?;
         }
     }
     Ok(())

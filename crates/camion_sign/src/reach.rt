@@ -4,7 +4,7 @@ ghost use Rattle.cmr_base.specs.Matrix.{height, entry};
 ghost use Rattle.camion_sign.specs.Walks.{FitsMatrix, IsWalking, IsOpen, GrowsFrom, HasSettled, HasWalked, IsUntouched, NoneWaits, step_at, place_in, flip};
 
 use crate::support::Support;
-use crate::walk::{Step, UNREACHED, Walk};
+use crate::walk::{Step, Walk};
 use cmr_base::Memory;
 use std::alloc::Global;
 
@@ -89,7 +89,7 @@ fn reach_row(
     let from = walk.steps[head];
     let sign = support.entry(row, from.column);
     for column in support.row(row) {
-        if walk.places[*column as usize] == UNREACHED {
+        if !walk.has_reached(*column) {
             let is_same = sign == support.entry(row, *column);
             walk.reach(Step {
                 column: *column,
@@ -114,7 +114,7 @@ fn first_waiting(support: &Support<'_>, walk: &Walk, start: Start, from: u32) ->
 {
     for column in from..support.columns() {
         if support.entry(start.row, column) != 0
-            && walk.places[column as usize] == UNREACHED
+            && !walk.has_reached(column)
             && is_touched(support, start.row, column)
         {
             return column;

@@ -1,11 +1,12 @@
 // The state of a breadth-first walk.
-ghost use Rattle.std.specs.Prelude.{◌≡◌, ◌<◌, ◌≤◌, ◌++◌, [], ◌∷◌, IfOk, OnOk, length, replicate, slice_set, false};
+ghost use Rattle.std.specs.Prelude.{◌≡◌, ◌<◌, ◌≤◌, ◌++◌, [], ◌∷◌, IfOk, OnOk, IsTrue, length, replicate, slice_set, false};
+ghost use Rattle.camion_sign.specs.Walks.{place_in};
 
 use cmr_base::Memory;
 use std::alloc::Global;
 
-/// The place of a column that was not reached.
-pub const UNREACHED: u32 = 4_294_967_295;
+// The place of a column that was not reached.
+const UNREACHED: u32 = 4_294_967_295;
 
 /// A column that was reached.
 #[derive(Clone, Copy)]
@@ -59,6 +60,15 @@ impl Walk {
             is_two: false,
         })?;
         Ok(())
+    }
+
+    /// Whether a column was reached.
+    pub fn has_reached(&self, column: u32) -> bool
+        requires { column < length self.now.places.items }
+        ensures yes { IsTrue result → place_in self.now.places.items column < 4294967295 }
+        ensures no { result ≡ false → place_in self.now.places.items column ≡ 4294967295 }
+    {
+        self.places[column as usize] < UNREACHED
     }
 
     /// Adds a column that was reached.

@@ -1,7 +1,9 @@
-use Rattle.cmr_base.specs.Members.{IsIn}
 use Rattle.cmr_base.specs.CyclePlaces.{cycle_rows}
-use Rattle.camion_sign.specs.Faults.{IsBuilt}
+use Rattle.camion_sign.specs.Faults.{IsGathering, left_to_gather}
 use Rattle.camion_sign.proofs.cycle_lines.rows_of_cycle.Given as goal
 
-abbrev pub invariant-loop-x : goal.invariant-loop-x
-invariant-loop-x l = IsBuilt (λ x. IsIn x (cycle_rows l.t l.lines)) l.x l.rows
+abbrev pub invariant-lines : goal.invariant-lines
+invariant-lines l = IsGathering (cycle_rows l.row l.path) l.height l.next l.rows
+
+abbrev pub decreases-lines : goal.decreases-lines
+decreases-lines l = left_to_gather l.height l.next

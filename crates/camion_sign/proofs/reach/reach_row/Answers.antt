@@ -6,13 +6,13 @@ use Rattle.cmr_base.specs.Matrix.{entry}
 use Rattle.camion_sign.proofs.Walks.{few}
 use Rattle.camion_sign.proofs.Steps.{within, start_row, pass_column, reach_column, end_row, grows_used, same_goes, step_is}
 use Rattle.camion_sign.proofs.reach.reach_row.Goals as goal
-use Rattle.camion_sign.proofs.reach.reach_row.Goals.{then-index+in_ok-reach, else-index}
+use Rattle.camion_sign.proofs.reach.reach_row.Goals.{then-not-has_reached+in_ok-reach, else-not-has_reached}
 
 pub loop-column-init : goal.loop-column-init
 loop-column-init c = start_row c.args.support.now c.args.start.row c.args.start.column c.args.head c.args.row c.row-column-items.result.now c.index-from.result.now c.args.walk.now c.requires.walking c.requires.open c.index-from.ensures
 
-pub index-requires : goal.index-requires
-index-requires c =
+pub has_reached-requires : goal.has_reached-requires
+has_reached-requires c =
     let w = c.loop-column.invariant in
     let low = within c.args.support.now c.args.row (get_or c.row-column-items.result.now c.loop-column.column-index 0) w.fits.matrix (let e = c.requires.early in let h = c.requires.row in omega arith) (c.row-column-items.ensures.nonzero c.loop-column.column-index c.loop-column-test.true) in
     omega (arith, w.fits.places, low, c.loop-column.walk.places.ok.0)
@@ -44,17 +44,17 @@ loop-column-preserved c =
     let nonzero = c.row-column-items.ensures.nonzero k c.loop-column-test.true in
     let low = within m c.args.row x i.fits.matrix (let e = c.requires.early in let h = c.requires.row in omega arith) nonzero in
     let leads = subst (λ (v : Step). entry m c.args.row v.column ≢ pos 0) (step_is c.args.walk.now.steps.items c.args.head from c.requires.open.within c.index-from.ensures) c.requires.leads in
-    elim c.if-index.branch [
-      | then-index+in_ok-reach w ↦
+    elim c.if-not-has_reached.branch [
+      | then-not-has_reached+in_ok-reach w ↦
           reach_column m c.args.start.row c.args.start.column c.args.head c.args.row columns k from c.args.walk.now c.loop-column.walk i c.row-column-items.ensures c.loop-column-test.true
-          c.if-index.walk c.index.result.now (nat_eq (of_z w8 c.entry-sign.result) (of_z w8 w.entry.result)) low c.index.ensures w.if-index.true
+          c.if-not-has_reached.walk (nat_eq (of_z w8 c.entry-sign.result) (of_z w8 w.entry.result)) low (c.has_reached.ensures.no w.if-not-has_reached.true)
           (same_goes m c.args.start.row c.args.start.column c.args.head c.args.row columns k from c.args.walk.now c.loop-column.walk i c.requires.open)
           c.requires.early leads
           (test_two m c.args.row from.column c.args.row x c.entry-sign.result w.entry.result i.fits.matrix c.entry-sign.ensures.value w.entry.ensures.value c.entry-sign.ensures.small w.entry.ensures.small leads nonzero)
           (ap (λ v. v.steps.items) w.walk-is ∙ w.in_ok-reach.ensures.steps ∙ ap (λ (b : Bool). c.loop-column.walk.steps.items ++ record { column = x; row = c.args.row; before = c.args.head; is_two = b } ∷ []) w.flipped.ensures) (ap (λ v. v.places.items) w.walk-is ∙ w.in_ok-reach.ensures.places) (ap (λ v. v.used.items) w.walk-is ∙ w.in_ok-reach.ensures.used)
-      | else-index w ↦
+      | else-not-has_reached w ↦
           pass_column m c.args.start.row c.args.start.column c.args.head c.args.row columns k from c.args.walk.now c.loop-column.walk i c.row-column-items.ensures c.loop-column-test.true
-          c.if-index.walk c.index.result.now w.walk-is low c.index.ensures w.if-index.false
+          c.if-not-has_reached.walk w.walk-is (c.has_reached.ensures.yes w.if-not-has_reached.false)
     ]
 
 pub index_mut-requires : goal.index_mut-requires

@@ -1,5 +1,4 @@
-use Rattle.std.proofs.Common.{◌∙◌, ◌++◌, ap, List, ℤ, arith}
-use Rattle.camion_sign.specs.Nonzeros.{nonzeros_from}
+use Rattle.std.proofs.Common.{arith}
 use Rattle.camion_sign.proofs.LineCuts.{one_row}
 use Rattle.camion_sign.proofs.nonzeros.Nonzeros.of_rows.Goals as goal
 
@@ -7,4 +6,4 @@ pub loop-row-preserved : goal.loop-row-preserved
 loop-row-preserved c =
     one_row c.args.matrix.now c.loop-row.places.items c.loop-row.starts.items c.push_nonzeros.new.places.items c.push-in-loop-row.new.self.items c.loop-row.row c.len.result c.loop-row.invariant
     (let e = c.rows-row-end.ensures.rows in let l = c.loop-row-test.true in omega arith)
-    (c.in_ok-push_nonzeros.ensures ∙ ap (λ (line : List ℤ). c.loop-row.places.items ++ nonzeros_from 0 line) c.row.ensures.entries) c.in_ok-push-2.ensures.items (let e = c.len.ensures in omega arith)
+    c.in_ok-push_nonzeros.ensures c.in_ok-push-2.ensures.items (let e = c.len.ensures in omega arith)

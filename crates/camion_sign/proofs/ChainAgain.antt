@@ -1,0 +1,289 @@
+-- A chain text that was written is read again as the same chain.
+use Rattle.std.proofs.Common.{◌≡◌, ◌<◌, ◌≤◌, ◌+◌, ◌-◌, ◌*◌, ◌^◌, ◌∙◌, ℕ, suc, zero-le, true, false, eqb, ltb, leb, List, [], ◌∷◌, ◌++◌, length, map, Result, Ok, refl, ap, sym, subst, append_assoc, arith}
+use Rattle.std.specs.Prelude.{codes}
+use Rattle.std.specs.Fmt.{decimal}
+use Rattle.std.specs.List.{AllByRecursion, flat_map}
+use Rattle.std.proofs.lemmas.Bool.{le-leb}
+use Rattle.std.proofs.lemmas.Bool.Decides.{nat_tests}
+use Rattle.std.proofs.lemmas.List.{append-nil}
+use Rattle.std.proofs.lemmas.List.Concat.{flat_map-append}
+use Rattle.std.proofs.lemmas.List.Sums.{fold_push}
+use Rattle.cmr_base.specs.LineSets.{AllBelow}
+use Rattle.cmr_base.proofs.RisingLists.{RisesIn, rises_in}
+use Rattle.cmr_base.specs.declared.line_set.LineSet.{LineSet}
+use Rattle.std.proofs.Math.Nat.{mul-le-mul_left, mul-le-mul_right}
+use Rattle.cmr_base.proofs.Lists.{all-append}
+use Rattle.cmr_base.proofs.Parts.{length-rising}
+use Rattle.text_fields.specs.Words.{Text, text_of, words_from}
+use Rattle.text_fields.specs.Result.{◌>>=◌}
+use Rattle.text_fields.specs.Reading.{Fault, field, times, ended}
+use Rattle.text_fields.specs.Spelling.{texts_of}
+use Rattle.text_fields.proofs.LineWords.{IsWord, words_in_lines}
+use Rattle.text_fields.proofs.Decimals.{decimal_word, count_of_decimal}
+use Rattle.camion_sign.specs.declared.chain_error.ChainKind.{ChainKind}
+use Rattle.camion_sign.specs.declared.chain_error.ChainKind.TheVariants.{Short, Extra, UnknownStep, WrongVersion}
+use Rattle.camion_sign.specs.declared.chain_text.StepName.{StepName}
+use Rattle.camion_sign.specs.declared.chain_text.StepName.TheVariants as names
+use Rattle.camion_sign.specs.declared.step.SignStep.{SignStep}
+use Rattle.camion_sign.specs.declared.step.SignStep.TheVariants.{Free, Forced}
+use Rattle.camion_sign.specs.declared.step.SizedChain.{SizedChain}
+use Rattle.camion_sign.specs.ChainTexts.{limited, line_in, rising_line_in, word_in, step_name_in, last_number, another_line, rising_lines, line_set, step_of, next_step, another_step, chain, number_of_line, line_set_words, step_words, chain_lines, chain_text, AreLinesIn, IsStepIn, AreRising, IsRisingStep}
+
+-- ---- words that are taken as a value, whatever stands behind them
+
+abbrev Reader : Type 0 → Type 0
+Reader A = Text → Result (A × Text) (Fault ChainKind)
+
+abbrev Takes : {A : Type 0} → Reader A → List (List ℕ) → A → Type 0
+Takes parse words x = (size : ℕ) (ws : List (ℕ × List ℕ)) (more : List (List ℕ)) → texts_of ws ≡ words ++ more
+    → (rest : List (ℕ × List ℕ)) × (texts_of rest ≡ more) × (parse (record { size = size; words = ws }) ≡ Ok (x, record { size = size; words = rest }))
+
+-- the words are all that is left
+abbrev Ends : {A : Type 0} → (Text → Result A (Fault ChainKind)) → List (List ℕ) → A → Type 0
+Ends parse words x = (size : ℕ) (ws : List (ℕ × List ℕ)) → texts_of ws ≡ words → parse (record { size = size; words = ws }) ≡ Ok x
+
+take_then : {A B : Type 0} (p : Reader A) (q : A → Reader B) (front back : List (List ℕ)) (a : A) (b : B) → Takes p front a → Takes (q a) back b → Takes (λ t. p t >>= λ r. q r.0 r.1) (front ++ back) b
+take_then {A} p q front back a b P Q size ws more e =
+    let first = P size ws (back ++ more) (e ∙ append_assoc front back more) in
+    let second = Q size first.0 more first.1 in
+    (second.0, second.1, ap (λ r. r >>= λ (s : A × Text). q s.0 s.1) first.2 ∙ second.2)
+
+end_then : {A B : Type 0} (p : Reader A) (q : A → Text → Result B (Fault ChainKind)) (front back : List (List ℕ)) (a : A) (b : B) → Takes p front a → Ends (q a) back b → Ends (λ t. p t >>= λ r. q r.0 r.1) (front ++ back) b
+end_then {A} p q front back a b P Q size ws e =
+    let first = P size ws back e in
+    ap (λ r. r >>= λ (s : A × Text). q s.0 s.1) first.2 ∙ Q size first.0 first.1
+
+take_made : {A B : Type 0} (p : Reader A) (f : A → B) (words : List (List ℕ)) (a : A) (b : B) → Takes p words a → f a ≡ b → Takes (λ t. p t >>= λ r. Ok (f r.0, r.1)) words b
+take_made {A} p f words a b P e size ws more h =
+    let first = P size ws more h in
+    (first.0, first.1, ap (λ r. r >>= λ (s : A × Text). Ok (f s.0, s.1)) first.2 ∙ ap (λ x. Ok (x, record { size = size; words = first.0 })) e)
+
+take_done : {A : Type 0} (x y : A) → x ≡ y → Takes (λ t. Ok (x, t)) [] y
+take_done x y e size ws more h = (ws, h, ap (λ v. Ok (v, record { size = size; words = ws })) e)
+
+take_field : {A : Type 0} (parse : List ℕ → Result A ChainKind) (word : List ℕ) (x : A) → parse word ≡ Ok x → Takes (field Short parse) (word ∷ []) x
+take_field parse word x h size [] more e = absurd (cc)
+take_field parse word x h size (w ∷ ws) more e =
+    let head : w.1 ≡ word = cc in
+    let tail : texts_of ws ≡ more = cc in
+    (ws, tail, rw (ap parse head ∙ h) refl)
+
+end_here : {A : Type 0} (x : A) → Ends (ended Extra x) [] x
+end_here x size [] e = refl
+end_here x size (w ∷ ws) e = absurd (cc)
+
+-- ---- numbers
+
+limited_again : (most n : ℕ) → n < 2 ^ 31 → n ≤ most → limited most (decimal n) ≡ Ok n
+limited_again most n small within =
+    let t : leb n most ≡ true = le-leb n most within in
+    rw (count_of_decimal n small, t) refl
+
+line_again : (most line : ℕ) → most ≤ 1000 → line < most → line_in most (number_of_line line) ≡ Ok (line + 1)
+line_again most line few h =
+    let t : eqb (line + 1) 0 ≡ false = grind (arith, nat_tests) in
+    rw (limited_again most (line + 1) (omega (arith, few, h)) (omega (arith, h)), t) refl
+
+rising_again : (most before line : ℕ) → most ≤ 1000 → line < most → before ≤ line → rising_line_in most before (number_of_line line) ≡ Ok (line + 1)
+rising_again most before line few h above =
+    let t : ltb before (line + 1) ≡ true = grind (arith, nat_tests) in
+    rw (line_again most line few h, t) refl
+
+-- ---- line sets
+
+take_line : (most : ℕ) (before : List ℕ) (line : ℕ) → most ≤ 1000 → line < most → last_number before ≤ line → Takes (another_line most before) (number_of_line line ∷ []) (before ++ line ∷ [])
+take_line most before line few h above =
+    let e : line + 1 - 1 ≡ line = omega arith in
+    take_made (field Short (rising_line_in most (last_number before))) (λ number. before ++ (number - 1) ∷ []) (number_of_line line ∷ []) (line + 1) (before ++ line ∷ [])
+    (take_field (rising_line_in most (last_number before)) (number_of_line line) (line + 1) (rising_again most (last_number before) line few h above)) (ap (λ (n : ℕ). before ++ n ∷ []) e)
+
+take_lines : (most : ℕ) (before lines : List ℕ) → most ≤ 1000 → RisesIn (last_number before) most lines → Takes (times (another_line most) (length lines) before) (map number_of_line lines) (before ++ lines)
+take_lines most before [] few rises = take_done before (before ++ []) (sym (append-nil before))
+take_lines most before (line ∷ lines) few rises =
+    let last : last_number (before ++ line ∷ []) ≡ line + 1 = fold_push (λ (before line : ℕ). line + 1) 0 before line in
+    subst (Takes (times (another_line most) (length (line ∷ lines)) before) (map number_of_line (line ∷ lines))) (append_assoc before (line ∷ []) lines)
+    (take_then (another_line most before) (λ state. times (another_line most) (length lines) state) (number_of_line line ∷ []) (map number_of_line lines) (before ++ line ∷ []) ((before ++ line ∷ []) ++ lines)
+    (take_line most before line few rises.1 rises.0)
+    (take_lines most (before ++ line ∷ []) lines few (subst (λ (low : ℕ). RisesIn low most lines) (sym last) rises.2)))
+
+take_line_set : (height width : ℕ) (lines : LineSet) → height ≤ 1000 → width ≤ 1000 → AreLinesIn height width lines → AreRising lines → Takes (line_set height width) (line_set_words lines) lines
+take_line_set height width lines few_rows few_columns inside rising =
+    let row_count = length-rising lines.rows height rising.0 inside.0 in
+    let column_count = length-rising lines.columns width rising.1 inside.1 in
+    take_then (field Short (limited height))
+    (λ p t. field Short (limited width) t >>= λ q. rising_lines height p q.1 >>= λ rows. rising_lines width q.0 rows.1 >>= λ columns. Ok (record { rows = rows.0; columns = columns.0 }, columns.1))
+    (decimal (length lines.rows) ∷ []) (decimal (length lines.columns) ∷ (map number_of_line lines.rows ++ map number_of_line lines.columns)) (length lines.rows) lines
+    (take_field (limited height) (decimal (length lines.rows)) (length lines.rows) (limited_again height (length lines.rows) (omega (arith, few_rows, row_count)) row_count))
+    (take_then (field Short (limited width))
+    (λ q t. rising_lines height (length lines.rows) t >>= λ rows. rising_lines width q rows.1 >>= λ columns. Ok (record { rows = rows.0; columns = columns.0 }, columns.1))
+    (decimal (length lines.columns) ∷ []) (map number_of_line lines.rows ++ map number_of_line lines.columns) (length lines.columns) lines
+    (take_field (limited width) (decimal (length lines.columns)) (length lines.columns) (limited_again width (length lines.columns) (omega (arith, few_columns, column_count)) column_count))
+    (take_then (rising_lines height (length lines.rows))
+    (λ rows t. rising_lines width (length lines.columns) t >>= λ columns. Ok (record { rows = rows; columns = columns.0 }, columns.1))
+    (map number_of_line lines.rows) (map number_of_line lines.columns) lines.rows lines
+    (take_lines height [] lines.rows few_rows (rises_in 0 height lines.rows rising.0 inside.0 (λ h. zero-le)))
+    (take_made (rising_lines width (length lines.columns)) (λ columns. record { rows = lines.rows; columns = columns }) (map number_of_line lines.columns) lines.columns lines
+    (take_lines width [] lines.columns few_columns (rises_in 0 width lines.columns rising.1 inside.1 (λ h. zero-le))) refl)))
+
+-- ---- steps
+
+-- the row and the column of a step
+take_place : (height width row column : ℕ) (name : StepName) (word : List ℕ) (behind : List (List ℕ)) (step : SignStep) → height ≤ 1000 → width ≤ 1000 → row < height → column < width
+    → step_name_in word ≡ Ok name → Takes (step_of height width name row column) behind step → Takes (next_step height width) (word ∷ number_of_line row ∷ number_of_line column ∷ behind) step
+take_place height width row column name word behind step few_rows few_columns in_rows in_columns named later =
+    let r : row + 1 - 1 ≡ row = omega arith in
+    let c : column + 1 - 1 ≡ column = omega arith in
+    take_then (field Short step_name_in)
+    (λ n t. field Short (line_in height) t >>= λ i. field Short (line_in width) i.1 >>= λ j. step_of height width n (i.0 - 1) (j.0 - 1) j.1)
+    (word ∷ []) (number_of_line row ∷ number_of_line column ∷ behind) name step
+    (take_field step_name_in word name named)
+    (take_then (field Short (line_in height))
+    (λ i t. field Short (line_in width) t >>= λ j. step_of height width name (i - 1) (j.0 - 1) j.1)
+    (number_of_line row ∷ []) (number_of_line column ∷ behind) (row + 1) step
+    (take_field (line_in height) (number_of_line row) (row + 1) (line_again height row few_rows in_rows))
+    (take_then (field Short (line_in width))
+    (λ j t. step_of height width name (row + 1 - 1) (j - 1) t)
+    (number_of_line column ∷ []) behind (column + 1) step
+    (take_field (line_in width) (number_of_line column) (column + 1) (line_again width column few_columns in_columns))
+    (subst (λ (i : ℕ). Takes (step_of height width name i (column + 1 - 1)) behind step) (sym r) (subst (λ (j : ℕ). Takes (step_of height width name row j) behind step) (sym c) later))))
+
+take_step : (height width : ℕ) (step : SignStep) → height ≤ 1000 → width ≤ 1000 → IsStepIn height width step → IsRisingStep step → Takes (next_step height width) (step_words step) step
+take_step height width (Free row column) few_rows few_columns inside rising =
+    take_place height width row column names.Free (codes "free") [] (Free row column) few_rows few_columns inside.0 inside.1 refl (take_done (Free row column) (Free row column) refl)
+take_step height width (Forced row column cycle) few_rows few_columns inside rising =
+    take_place height width row column names.Forced (codes "forced") (line_set_words cycle) (Forced row column cycle) few_rows few_columns inside.0 inside.1 refl
+    (take_made (line_set height width) (λ lines. Forced row column lines) (line_set_words cycle) cycle (Forced row column cycle) (take_line_set height width cycle few_rows few_columns inside.2 rising) refl)
+
+-- the words of lines
+abbrev all_words : List (List (List ℕ)) → List (List ℕ)
+all_words lines = flat_map (λ line. line) lines
+
+take_steps : (height width : ℕ) (before steps : List SignStep) → height ≤ 1000 → width ≤ 1000 → AllByRecursion (IsStepIn height width) steps → AllByRecursion IsRisingStep steps
+    → Takes (times (another_step height width) (length steps) before) (all_words (map step_words steps)) (before ++ steps)
+take_steps height width before [] few_rows few_columns inside rising = take_done before (before ++ []) (sym (append-nil before))
+take_steps height width before (step ∷ steps) few_rows few_columns inside rising =
+    subst (Takes (times (another_step height width) (length (step ∷ steps)) before) (all_words (map step_words (step ∷ steps)))) (append_assoc before (step ∷ []) steps)
+    (take_then (another_step height width before) (λ state. times (another_step height width) (length steps) state) (step_words step) (all_words (map step_words steps)) (before ++ step ∷ []) ((before ++ step ∷ []) ++ steps)
+    (take_made (next_step height width) (λ s. before ++ s ∷ []) (step_words step) step (before ++ step ∷ []) (take_step height width step few_rows few_columns inside.0 rising.0) refl)
+    (take_steps height width (before ++ step ∷ []) steps few_rows few_columns inside.1 rising.1))
+
+-- ---- the whole text
+
+pub record IsWritable (sized : SizedChain) : Type 0 where
+  pub few_rows : sized.rows ≤ 1000
+  pub few_columns : sized.columns ≤ 1000
+  pub few_steps : length sized.chain.steps ≤ sized.rows * sized.columns
+  pub steps_in : AllByRecursion (IsStepIn sized.rows sized.columns) sized.chain.steps
+  pub steps_rise : AllByRecursion IsRisingStep sized.chain.steps
+  pub violator_in : AreLinesIn sized.rows sized.columns sized.chain.violator
+  pub violator_rises : AreRising sized.chain.violator
+
+abbrev chain_words : SizedChain → List (List ℕ)
+chain_words sized = codes "cmr-chain" ∷ codes "1" ∷ decimal sized.rows ∷ decimal sized.columns ∷ decimal (length sized.chain.steps) ∷ (all_words (map step_words sized.chain.steps) ++ (codes "violator" ∷ (line_set_words sized.chain.violator ++ [])))
+
+few_places : (m n : ℕ) → m ≤ 1000 → n ≤ 1000 → m * n ≤ 1000000
+few_places m n h k = omega (arith, mul-le-mul_left m k, mul-le-mul_right 1000 h)
+
+read_again : (sized : SizedChain) → IsWritable sized → Ends chain (chain_words sized) sized
+read_again sized w =
+    let m = sized.rows in
+    let n = sized.columns in
+    let steps = sized.chain.steps in
+    let count = length steps in
+    let few_rows = w.few_rows in
+    let few_columns = w.few_columns in
+    let few = w.few_steps in
+    let places = few_places m n few_rows few_columns in
+    end_then (field Short (word_in (codes "cmr-chain") WrongVersion))
+    (λ _ t. field Short (word_in (codes "1") WrongVersion) t >>= λ version. field Short (limited 1000) version.1 >>= λ height. field Short (limited 1000) height.1 >>= λ width. field Short (limited (height.0 * width.0)) width.1 >>= λ c.
+    times (another_step height.0 width.0) c.0 [] c.1 >>= λ made. field Short (word_in (codes "violator") UnknownStep) made.1 >>= λ name. line_set height.0 width.0 name.1 >>= λ violator.
+    ended Extra (record { chain = record { steps = made.0; violator = violator.0 }; rows = height.0; columns = width.0 }) violator.1)
+    (codes "cmr-chain" ∷ []) _ tt sized (take_field _ (codes "cmr-chain") tt refl)
+    (end_then (field Short (word_in (codes "1") WrongVersion))
+    (λ _ t. field Short (limited 1000) t >>= λ height. field Short (limited 1000) height.1 >>= λ width. field Short (limited (height.0 * width.0)) width.1 >>= λ c.
+    times (another_step height.0 width.0) c.0 [] c.1 >>= λ made. field Short (word_in (codes "violator") UnknownStep) made.1 >>= λ name. line_set height.0 width.0 name.1 >>= λ violator.
+    ended Extra (record { chain = record { steps = made.0; violator = violator.0 }; rows = height.0; columns = width.0 }) violator.1)
+    (codes "1" ∷ []) _ tt sized (take_field _ (codes "1") tt refl)
+    (end_then (field Short (limited 1000))
+    (λ height t. field Short (limited 1000) t >>= λ width. field Short (limited (height * width.0)) width.1 >>= λ c.
+    times (another_step height width.0) c.0 [] c.1 >>= λ made. field Short (word_in (codes "violator") UnknownStep) made.1 >>= λ name. line_set height width.0 name.1 >>= λ violator.
+    ended Extra (record { chain = record { steps = made.0; violator = violator.0 }; rows = height; columns = width.0 }) violator.1)
+    (decimal m ∷ []) _ m sized (take_field (limited 1000) (decimal m) m (limited_again 1000 m (omega (arith, few_rows)) few_rows))
+    (end_then (field Short (limited 1000))
+    (λ width t. field Short (limited (m * width)) t >>= λ c.
+    times (another_step m width) c.0 [] c.1 >>= λ made. field Short (word_in (codes "violator") UnknownStep) made.1 >>= λ name. line_set m width name.1 >>= λ violator.
+    ended Extra (record { chain = record { steps = made.0; violator = violator.0 }; rows = m; columns = width }) violator.1)
+    (decimal n ∷ []) _ n sized (take_field (limited 1000) (decimal n) n (limited_again 1000 n (omega (arith, few_columns)) few_columns))
+    (end_then (field Short (limited (m * n)))
+    (λ c t. times (another_step m n) c [] t >>= λ made. field Short (word_in (codes "violator") UnknownStep) made.1 >>= λ name. line_set m n name.1 >>= λ violator.
+    ended Extra (record { chain = record { steps = made.0; violator = violator.0 }; rows = m; columns = n }) violator.1)
+    (decimal count ∷ []) _ count sized (take_field (limited (m * n)) (decimal count) count (limited_again (m * n) count (omega (arith, few, places)) few))
+    (end_then (times (another_step m n) count [])
+    (λ made t. field Short (word_in (codes "violator") UnknownStep) t >>= λ name. line_set m n name.1 >>= λ violator.
+    ended Extra (record { chain = record { steps = made; violator = violator.0 }; rows = m; columns = n }) violator.1)
+    (all_words (map step_words steps)) _ steps sized (take_steps m n [] steps few_rows few_columns w.steps_in w.steps_rise)
+    (end_then (field Short (word_in (codes "violator") UnknownStep))
+    (λ _ t. line_set m n t >>= λ violator. ended Extra (record { chain = record { steps = steps; violator = violator.0 }; rows = m; columns = n }) violator.1)
+    (codes "violator" ∷ []) _ tt sized (take_field _ (codes "violator") tt refl)
+    (end_then (line_set m n) (λ violator t. ended Extra (record { chain = record { steps = steps; violator = violator }; rows = m; columns = n }) t)
+    (line_set_words sized.chain.violator) [] sized.chain.violator sized (take_line_set m n sized.chain.violator few_rows few_columns w.violator_in w.violator_rises) (end_here sized))))))))
+
+-- ---- its words are words
+
+lines_solid : (bound : ℕ) (lines : List ℕ) → bound ≤ 1000 → AllBelow bound lines → AllByRecursion IsWord (map number_of_line lines)
+lines_solid bound [] few below = tt
+lines_solid bound (line ∷ lines) few below = (decimal_word (line + 1) (let h = below 0 (omega arith) in omega (arith, h)), lines_solid bound lines few (λ k h. below (suc k) (omega arith)))
+
+line_set_solid : (height width : ℕ) (lines : LineSet) → height ≤ 1000 → width ≤ 1000 → AreLinesIn height width lines → AreRising lines → AllByRecursion IsWord (line_set_words lines)
+line_set_solid height width lines few_rows few_columns inside rising =
+    let row_count = length-rising lines.rows height rising.0 inside.0 in
+    let column_count = length-rising lines.columns width rising.1 inside.1 in (
+      decimal_word (length lines.rows) (omega (arith, row_count, few_rows)),
+      (
+        decimal_word (length lines.columns) (omega (arith, column_count, few_columns)),
+        all-append IsWord (map number_of_line lines.rows) (map number_of_line lines.columns) (lines_solid height lines.rows few_rows inside.0) (lines_solid width lines.columns few_columns inside.1),
+      ),
+    )
+
+form_solid : IsWord (codes "cmr-chain")
+form_solid = record { first = 99; others = codes "mr-chain"; word_is = refl; solid = (refl, (refl, (refl, (refl, (refl, (refl, (refl, (refl, (refl, tt))))))))) }
+
+version_solid : IsWord (codes "1")
+version_solid = record { first = 49; others = []; word_is = refl; solid = (refl, tt) }
+
+free_solid : IsWord (codes "free")
+free_solid = record { first = 102; others = codes "ree"; word_is = refl; solid = (refl, (refl, (refl, (refl, tt)))) }
+
+forced_solid : IsWord (codes "forced")
+forced_solid = record { first = 102; others = codes "orced"; word_is = refl; solid = (refl, (refl, (refl, (refl, (refl, (refl, tt)))))) }
+
+violator_solid : IsWord (codes "violator")
+violator_solid = record { first = 118; others = codes "iolator"; word_is = refl; solid = (refl, (refl, (refl, (refl, (refl, (refl, (refl, (refl, tt)))))))) }
+
+step_solid : (height width : ℕ) (step : SignStep) → height ≤ 1000 → width ≤ 1000 → IsStepIn height width step → IsRisingStep step → AllByRecursion IsWord (step_words step)
+step_solid height width (Free row column) few_rows few_columns inside rising =
+    (free_solid, (decimal_word (row + 1) (let h = inside.0 in omega (arith, h, few_rows)), (decimal_word (column + 1) (let h = inside.1 in omega (arith, h, few_columns)), tt)))
+step_solid height width (Forced row column cycle) few_rows few_columns inside rising =
+    (forced_solid, (decimal_word (row + 1) (let h = inside.0 in omega (arith, h, few_rows)), (decimal_word (column + 1) (let h = inside.1 in omega (arith, h, few_columns)), line_set_solid height width cycle few_rows few_columns inside.2 rising)))
+
+steps_solid : (height width : ℕ) (steps : List SignStep) → height ≤ 1000 → width ≤ 1000 → AllByRecursion (IsStepIn height width) steps → AllByRecursion IsRisingStep steps → AllByRecursion (AllByRecursion IsWord) (map step_words steps)
+steps_solid height width [] few_rows few_columns inside rising = tt
+steps_solid height width (step ∷ steps) few_rows few_columns inside rising = (step_solid height width step few_rows few_columns inside.0 rising.0, steps_solid height width steps few_rows few_columns inside.1 rising.1)
+
+pub chain_again : (sized : SizedChain) → IsWritable sized → chain (text_of (chain_text sized)) ≡ Ok sized
+chain_again sized w =
+    let few_rows = w.few_rows in
+    let few_columns = w.few_columns in
+    let few = w.few_steps in
+    let places = few_places sized.rows sized.columns few_rows few_columns in
+    let violator = codes "violator" ∷ line_set_words sized.chain.violator in
+    read_again sized w (length (chain_text sized)) (words_from 0 (chain_text sized))
+    (words_in_lines (chain_lines sized) (
+      (form_solid, (version_solid, tt)),
+      (
+        (decimal_word sized.rows (omega (arith, few_rows)), (decimal_word sized.columns (omega (arith, few_columns)), (decimal_word (length sized.chain.steps) (omega (arith, few, places)), tt))),
+        all-append (AllByRecursion IsWord) (map step_words sized.chain.steps) (violator ∷ []) (steps_solid sized.rows sized.columns sized.chain.steps few_rows few_columns w.steps_in w.steps_rise)
+            ((violator_solid, line_set_solid sized.rows sized.columns sized.chain.violator few_rows few_columns w.violator_in w.violator_rises), tt),
+      ),
+    )
+    ∙ ap (λ ws. codes "cmr-chain" ∷ codes "1" ∷ decimal sized.rows ∷ decimal sized.columns ∷ decimal (length sized.chain.steps) ∷ ws) (flat_map-append (λ line. line) (map step_words sized.chain.steps) (violator ∷ [])))

@@ -1,0 +1,95 @@
+-- The state of a signing, after one more step and after a row.
+use Rattle.std.proofs.Common.{◌≡◌, ◌≢◌, ◌∙◌, ◌<◌, ◌≤◌, ◌+◌, ◌++◌, ℕ, zero, suc, ℤ, pos, negsuc, true, false, cond, List, [], ◌∷◌, inl, inr, refl, sym, subst, arith}
+use Rattle.std.proofs.lemmas.Bool.{cases_lt}
+use Rattle.cmr_base.specs.Matrix.{Matrix, height, entry, with_entry, is_nonzero, IsMatrix}
+use Rattle.cmr_base.specs.Signing.{IsSign}
+use Rattle.cmr_base.specs.Supports.{HaveOneSupport}
+use Rattle.ghouila.proofs.SignedSums.{zero_or_sign}
+use Rattle.ghouila.proofs.SignProducts.{sign_nonzero}
+use Rattle.ghouila.proofs.SignsUnique.{row_in, column_in}
+use Rattle.camion_sign.specs.declared.step.SignStep.{SignStep}
+use Rattle.camion_sign.specs.declared.signing.Signing.{Signing}
+use Rattle.camion_sign.specs.SignSteps.{AreSigns, IsUnsignedOne, unsigned, LeadTo, signed_by}
+use Rattle.camion_sign.specs.SignOrder.{IsRowsTurn, IsNextSign, IsSignedBy}
+use Rattle.camion_sign.specs.Signings.{IsAtRow, unsigned_before}
+use Rattle.camion_sign.proofs.GivenSigns.{HasOneMore, one_more, signs_more, keeps}
+use Rattle.camion_sign.proofs.ChainViolators.{unsigned_signs, entry-unsigned}
+
+pub lead_more : (Rule : Matrix → SignStep → ℤ → Type 0) (s end : Matrix) (steps : List SignStep) (step : SignStep) (v : ℤ) → LeadTo Rule s steps end → Rule end step v → LeadTo Rule s (steps ++ step ∷ []) (signed_by end step v)
+lead_more Rule s end [] step v e rule = subst (λ x. LeadTo Rule x (step ∷ []) (signed_by end step v)) (sym e) (v, rule, refl)
+lead_more Rule s end (x ∷ steps) step v (w, first, rest) rule = (w, first, lead_more Rule (signed_by s x w) end steps step v rest rule)
+
+nonzero_of : (z : ℤ) → z ≢ pos 0 → is_nonzero z ≡ true
+nonzero_of (pos zero) h = absurd (h refl)
+nonzero_of (pos (suc n)) h = refl
+nonzero_of (negsuc n) h = refl
+
+zero_of : (z : ℤ) → z ≡ pos 0 → is_nonzero z ≡ false
+zero_of z e = rw e refl
+
+-- one more sign leaves fewer ones without
+pub fewer_unsigned : (a s t : Matrix) (row column : ℕ) (v : ℤ) → IsSign v → HasOneMore s t row column v → IsUnsignedOne a s row column → (n : ℕ) → column < n → unsigned_before a t row n < unsigned_before a s row n
+fewer_unsigned a s t row column v u more here zero l = absurd (omega arith)
+fewer_unsigned a s t row column v u more here (suc n) l = elim (cases_lt column n) [
+  | inl lt ↦ let k = fewer_unsigned a s t row column v u more here n lt in
+      rw (more.other row n (inr (omega arith))) (omega (arith, k))
+  | inr ge ↦ let e : column ≡ n = omega arith in
+      subst (λ j. (cond (is_nonzero (entry a row j)) (cond (is_nonzero (entry t row j)) 0 1) 0) + unsigned_before a t row n < (cond (is_nonzero (entry a row j)) (cond (is_nonzero (entry s row j)) 0 1) 0) + unsigned_before a s row n) e
+      (rw (nonzero_of (entry a row column) here.one, zero_of (entry s row column) here.no_sign, nonzero_of (entry t row column) (λ z. sign_nonzero v u (sym more.here ∙ z)), same n (omega arith)) (omega arith))
+]
+  where
+    same : (n : ℕ) → n ≤ column → unsigned_before a t row n ≡ unsigned_before a s row n
+    same zero l = refl
+    same (suc n) l = rw (more.other row n (inr (omega arith)), same n (omega arith)) refl
+
+module _ (a s : Matrix) (is : IsMatrix a) (row column : ℕ) (v : ℤ) (u : IsSign v) (signs : AreSigns a s) (turn : IsRowsTurn a s row) (here : IsUnsignedOne a s row column) where
+  more : HasOneMore s (with_entry s row column v) row column v
+  more = one_more a s is signs row column v here.one
+
+  turn_more : IsRowsTurn a (with_entry s row column v) row
+  turn_more = record {
+    earlier = λ i j l h. keeps s (with_entry s row column v) row column v u more i j (turn.earlier i j l h);
+    later = λ i j l. more.other i j (inl (omega arith)) ∙ turn.later i j l;
+  }
+
+  pub state_more : (steps more_steps : List SignStep) (step : SignStep) → LeadTo (IsNextSign a) (unsigned a) steps s → IsNextSign a s step v → signed_by s step v ≡ with_entry s row column v → more_steps ≡ steps ++ step ∷ []
+      → (after : Matrix) → after ≡ with_entry s row column v → IsAtRow a row (record { signs = after; steps = more_steps })
+  state_more steps more_steps step lead next e f after g = record {
+    signs = subst (AreSigns a) (sym g) (signs_more a s is signs row column v here.one u);
+    turn = subst (λ x. IsRowsTurn a x row) (sym g) turn_more;
+    steps = subst (λ x. LeadTo (IsNextSign a) (unsigned a) x after) (sym f) (subst (LeadTo (IsNextSign a) (unsigned a) (steps ++ step ∷ [])) (e ∙ sym g) (lead_more (IsNextSign a) (unsigned a) s steps step v lead next));
+  }
+
+  pub fewer_more : (after : Matrix) → after ≡ with_entry s row column v → unsigned_before a after row a.width < unsigned_before a s row a.width
+  fewer_more after g = subst (λ x. unsigned_before a x row a.width < unsigned_before a s row a.width) (sym g) (fewer_unsigned a s (with_entry s row column v) row column v u more here a.width (column_in a row column is.rectangular here.one))
+
+-- after the last one of a row
+pub next_row : (a : Matrix) (row : ℕ) (signing : Signing) → IsMatrix a → IsAtRow a row signing → ((d : ℕ) → ¬ (IsUnsignedOne a signing.signs row d)) → IsAtRow a (row + 1) signing
+next_row a row signing is state done = record {
+  signs = state.signs;
+  turn = record {
+    earlier = λ i j l one z. elim (cases_lt i row) [
+      | inl lt ↦ state.turn.earlier i j lt one z
+      | inr ge ↦ let e : i ≡ row = omega arith in done j (record { one = subst (λ x. entry a x j ≢ pos 0) e one; no_sign = subst (λ x. entry signing.signs x j ≡ pos 0) e z })
+    ];
+    later = λ i j l. state.turn.later i j (omega arith);
+  };
+  steps = state.steps;
+}
+
+pub start_state : (a : Matrix) (signing : Signing) → IsMatrix a → signing.signs ≡ unsigned a → signing.steps ≡ [] → IsAtRow a 0 signing
+start_state a signing is e f = record {
+  signs = subst (AreSigns a) (sym e) (unsigned_signs a is);
+  turn = record { earlier = λ i j l. absurd (omega arith); later = λ i j l. subst (λ x. entry x i j ≡ pos 0) (sym e) (entry-unsigned a i j) };
+  steps = subst (λ x. LeadTo (IsNextSign a) (unsigned a) x signing.signs) (sym f) (sym e);
+}
+
+pub all_are_signed : (a : Matrix) (signing : Signing) → IsMatrix a → IsAtRow a (height a) signing → IsSignedBy a signing.steps signing.signs
+all_are_signed a signing is state = record { steps_are = state.steps; all_signed = λ i j one. state.turn.earlier i j (row_in a i j one) one }
+
+pub signs_support : (a : Matrix) (signing : Signing) → IsMatrix a → IsAtRow a (height a) signing → HaveOneSupport a signing.signs
+signs_support a signing is state = record {
+  height_same = sym state.signs.same_height;
+  width_same = sym state.signs.same_width;
+  zeros_same = λ i j. (state.signs.inside i j, λ z. elim (zero_or_sign (entry a i j) (is.small i j)) [ inl e ↦ e | inr u ↦ absurd (state.turn.earlier i j (row_in a i j (sign_nonzero (entry a i j) u)) (sign_nonzero (entry a i j) u) z) ]);
+}

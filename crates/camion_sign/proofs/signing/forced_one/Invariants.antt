@@ -1,0 +1,11 @@
+use Rattle.std.proofs.Common.{◌<◌, ℕ}
+use Rattle.camion_sign.specs.SignSteps.{IsUnsignedOne}
+use Rattle.camion_sign.specs.SignOrder.{IsForcedBy}
+use Rattle.camion_sign.specs.Signings.{KnowsPlaces}
+use Rattle.camion_sign.proofs.signing.forced_one.Given as goal
+
+abbrev pub invariant-loop-column : goal.invariant-loop-column
+invariant-loop-column l = record {
+  none : (d : ℕ) → d < l.column → IsUnsignedOne l.support l.signs l.row d → (c : ℕ) → ¬ (IsForcedBy l.support l.signs l.row d c);
+  knows : KnowsPlaces l.support l.row l.places;
+}

@@ -1,0 +1,31 @@
+use Rattle.std.proofs.Common.{◌∙◌, sym, subst}
+use Rattle.camion_sign.specs.Signings.{KnowsPlaces}
+use Rattle.camion_sign.proofs.EntryTests.{byte_zero, zero_byte}
+use Rattle.camion_sign.proofs.PartnerSteps.{partner_is, no_partner, one_passed}
+use Rattle.camion_sign.proofs.signing.partner_of.Goals as goal
+use Rattle.camion_sign.proofs.signing.partner_of.Goals.{then-entry-ne0+in_ok-is_place+else-is_place, else-entry-ne0}
+
+pub returns-then-is_place-clause-partner : goal.returns-then-is_place-clause-partner
+returns-then-is_place-clause-partner c =
+    partner_is c.args.support.now c.args.signs.now c.args.row c.args.column c.row-partner-items.result.now c.requires.signs c.row-partner-items.ensures c.loop-partner.partner-index c.loop-partner-test.true
+    ((λ z. c.if-entry-ne0.true (zero_byte c.entry.result (c.entry.ensures.value ∙ z))), c.in_ok-is_place.ensures.yes c.if-is_place.true) c.loop-partner.invariant.none
+
+pub loop-partner-preserved : goal.loop-partner-preserved
+loop-partner-preserved c =
+    let a = c.args.support.now in
+    let s = c.args.signs.now in
+    let columns = c.row-partner-items.result.now in
+    let k = c.loop-partner.partner-index in
+    elim c.if-entry-ne0.branch [
+      | then-entry-ne0+in_ok-is_place+else-is_place w ↦ record {
+        none = one_passed a s c.args.row c.args.column columns c.requires.signs c.row-partner-items.ensures k (λ forced. w.in_ok-is_place.ensures.no w.if-is_place.false forced.1.0 forced.1.1) c.loop-partner.invariant.none;
+        knows = subst (KnowsPlaces a c.args.row) (sym w.places-is) w.in_ok-is_place.ensures.places;
+      }
+      | else-entry-ne0 w ↦ record {
+        none = one_passed a s c.args.row c.args.column columns c.requires.signs c.row-partner-items.ensures k (λ forced. forced.0 (sym c.entry.ensures.value ∙ byte_zero c.entry.result c.entry.ensures.small w.if-entry-ne0.false)) c.loop-partner.invariant.none;
+        knows = subst (KnowsPlaces a c.args.row) (sym w.places-is) c.loop-partner.invariant.knows;
+      }
+    ]
+
+pub returns-clause-partner : goal.returns-clause-partner
+returns-clause-partner c = no_partner c.args.support.now c.args.signs.now c.args.row c.args.column c.row-partner-items.result.now c.requires.signs c.row-partner-items.ensures c.loop-partner.partner-index c.loop-partner-test.false c.loop-partner.invariant.none

@@ -1,0 +1,14 @@
+use Rattle.std.proofs.Common.{ℕ, MatchOption}
+use Rattle.camion_sign.specs.SignSteps.{IsUnsignedOne}
+use Rattle.camion_sign.specs.Signings.{IsAtRow, IsFirstUnsigned, KnowsPlaces, unsigned_before}
+use Rattle.camion_sign.proofs.signing.sign_row.Given as goal
+
+abbrev pub invariant-ones : goal.invariant-ones
+invariant-ones l = record {
+  state : IsAtRow l.support l.row l.signing;
+  knows : KnowsPlaces l.support l.row l.places;
+  first : MatchOption l.next ((d : ℕ) → ¬ (IsUnsignedOne l.support l.signing.signs l.row d)) (IsFirstUnsigned l.support l.signing.signs l.row);
+}
+
+abbrev pub decreases-ones : goal.decreases-ones
+decreases-ones l = unsigned_before l.support l.signing.signs l.row l.support.width

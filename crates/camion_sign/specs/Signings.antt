@@ -1,0 +1,67 @@
+-- The state of a signing.
+use Rattle.std.specs.Prelude.{◌≡◌, ◌≢◌, ◌<◌, ◌+◌, if◌then◌else◌, ℕ, zero, suc, true, false, ℤ, pos, List, Some, length, slice_index_or}
+use Rattle.cmr_base.specs.Matrix.{Matrix, height, entry, is_nonzero, IsMatrix}
+use Rattle.cmr_base.specs.CyclePlaces.{IsCyclePlace}
+use Rattle.camion_sign.specs.Walks.{FitsMatrix, HasWalked}
+use Rattle.camion_sign.specs.declared.row_places.RowPlaces.{RowPlaces}
+use Rattle.camion_sign.specs.declared.signing.Signing.{Signing}
+use Rattle.camion_sign.specs.SignSteps.{AreSigns, IsUnsignedOne, unsigned, LeadTo}
+use Rattle.camion_sign.specs.SignOrder.{IsForcedBy, IsRowsTurn, IsNextSign}
+
+-- whether two columns make a cycle place with row t
+pub record TellsPlace (m : Matrix) (t c d : ℕ) (z : ℤ) : Type 0 where
+  pub place : z ≢ pos 0 → (path : List ℕ) × IsCyclePlace (entry m) t c d path
+  pub none : z ≡ pos 0 → (path : List ℕ) → ¬ (IsCyclePlace (entry m) t c d path)
+
+-- one row and one column for each column of the matrix
+pub record AreSquare (m links : Matrix) : Type 0 where
+  pub matrix : IsMatrix links
+  pub links_height : height links ≡ m.width
+  pub links_width : links.width ≡ m.width
+
+-- for a first column, and all last columns before a bound
+abbrev pub TellsFrom : Matrix → ℕ → ℕ → ℕ → Matrix → Type 0
+TellsFrom m t c bound links = (d : ℕ) → c < d → d < bound → entry m t d ≢ pos 0 → TellsPlace m t c d (entry links c d)
+
+-- room for the places of each row
+pub record HasRoom (m : Matrix) (places : RowPlaces) : Type 0 where
+  pub fits : FitsMatrix m places.walk
+  pub square : AreSquare m places.links
+  pub one_each : length places.known.items ≡ m.width
+
+-- what is known of the places of row t, and the last walk
+pub record KnowsPlaces (m : Matrix) (t : ℕ) (places : RowPlaces) : Type 0 where
+  pub room : HasRoom m places
+  pub tells : (c : ℕ) → slice_index_or places.known.items c false ≡ true → TellsFrom m t c m.width places.links
+  pub walked : (c : ℕ) → places.walked ≡ Some c → HasWalked m t c places.walk
+
+-- the signing is at this row
+pub record IsAtRow (a : Matrix) (row : ℕ) (signing : Signing) : Type 0 where
+  pub signs : AreSigns a signing.signs
+  pub turn : IsRowsTurn a signing.signs row
+  pub steps : LeadTo (IsNextSign a) (unsigned a) signing.steps signing.signs
+
+-- the first one of the row without sign
+pub record IsFirstUnsigned (a s : Matrix) (row column : ℕ) : Type 0 where
+  pub here : IsUnsignedOne a s row column
+  pub least : (d : ℕ) → d < column → ¬ (IsUnsignedOne a s row d)
+
+-- the least signed column of the row that makes a place with a column
+pub record IsPartner (a s : Matrix) (row column partner : ℕ) : Type 0 where
+  pub forces : IsForcedBy a s row column partner
+  pub least : (c : ℕ) → c < partner → ¬ (IsForcedBy a s row column c)
+
+-- the least column of the row that is forced
+pub record IsForcedColumn (a s : Matrix) (row column : ℕ) : Type 0 where
+  pub here : IsUnsignedOne a s row column
+  pub least : (d : ℕ) → d < column → IsUnsignedOne a s row d → (c : ℕ) → ¬ (IsForcedBy a s row d c)
+
+-- no one of the row is forced
+abbrev pub NoneForced : Matrix → Matrix → ℕ → Type 0
+NoneForced a s row = (d : ℕ) → IsUnsignedOne a s row d → (c : ℕ) → ¬ (IsForcedBy a s row d c)
+
+-- how many ones of the row before a column have no sign
+abbrev pub unsigned_before : Matrix → Matrix → ℕ → ℕ → ℕ
+unsigned_before a s row zero = 0
+unsigned_before a s row (suc column) =
+    (if is_nonzero (entry a row column) then (if is_nonzero (entry s row column) then 0 else 1) else 0) + unsigned_before a s row column

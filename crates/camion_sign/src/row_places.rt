@@ -1,0 +1,221 @@
+// The cycle places of a row, found out as they are asked for.
+ghost use Rattle.std.specs.Prelude.{◌≡◌, ◌≢◌, ◌<◌, ◌↔◌, ℕ, List, Some, pos, true, false, IsTrue, IfOk, OnOk, length, slice_index_or};
+ghost use Rattle.cmr_base.specs.Matrix.{height, entry, IsEntry};
+ghost use Rattle.cmr_base.specs.CyclePlaces.{IsCyclePlace};
+ghost use Rattle.camion_sign.specs.SignOrder.{IsCycleLines, IsPlaceOf};
+ghost use Rattle.camion_sign.specs.Signings.{AreSquare, HasRoom, KnowsPlaces, TellsFrom};
+ghost use Rattle.camion_sign.specs.Walks.{HasWalked, place_in};
+
+use crate::cycle_lines::{columns_of_cycle, rows_of_cycle};
+use crate::fault::path_to;
+use crate::reach::{Start, walk_from};
+use crate::support::Support;
+use crate::walk::Walk;
+use cmr_base::{LineSet, Matrix, Memory};
+use std::alloc::Global;
+
+/// What walks have found out of the cycle places of a row: which columns make a place with a first column, where that is
+/// known, and the last walk, which serves as long as no place with another first column is asked for.
+#[derive(Drop)]
+pub struct RowPlaces {
+    pub walk: Walk,
+    /// The column at which the last walk began.
+    pub walked: Option<u32>,
+    /// Not 0 where a first column, as a row here, makes a place with a last one.
+    pub links: Matrix,
+    /// For each first column whether that is known.
+    pub known: Vec<bool>,
+}
+
+impl RowPlaces {
+    /// Room for the places of each row.
+    pub fn new(alloc: Global, support: &Support<'_>) -> Result<RowPlaces, Memory>
+        ensures { IfOk result (HasRoom support.now) }
+    {
+        let columns = support.columns();
+        Ok(RowPlaces {
+            walk: Walk::new(alloc, support.rows(), columns)?,
+            walked: None,
+            links: Matrix::zero(alloc, columns, columns)?,
+            known: vec![in alloc; false; columns as usize]?,
+        })
+    }
+
+    /// Begins a row, of which nothing is known.
+    pub fn begin(&mut self, support: &Support<'_>)
+        requires { HasRoom support.now self.old }
+        ensures { (row : ℕ) → KnowsPlaces support.now row self.new }
+    {
+        self.walked = None;
+        self.known.fill(false);
+    }
+
+    /// Whether two columns make a cycle place with the row.
+    pub fn make_place(
+        &mut self,
+        support: &Support<'_>,
+        row: u32,
+        column: u32,
+        partner: u32,
+    ) -> Result<bool, Memory>
+        requires row { row < height support.now }
+        requires places { KnowsPlaces support.now row self.old }
+        requires column { column < support.now.width }
+        requires partner { partner < support.now.width }
+        requires other { partner ≢ column }
+        requires first { entry support.now row column ≢ pos 0 }
+        requires last { entry support.now row partner ≢ pos 0 }
+        ensures yes { IfOk result (λ makes. IsTrue makes → (path : List ℕ) × IsPlaceOf support.now row partner column path) }
+        ensures no { IfOk result (λ makes. makes ≡ false → (path : List ℕ) → ¬ (IsPlaceOf support.now row partner column path)) }
+        ensures places { IfOk result (λ makes. KnowsPlaces support.now row self.new) }
+    {
+        if partner < column {
+            let start = Start {
+                row,
+                column: partner,
+            };
+            self.reaches(support, start, column)
+        } else {
+            self.reaches(support, Start { row, column }, partner)
+        }
+    }
+
+    // Whether a first column makes a place with a last one.
+    fn reaches(&mut self, support: &Support<'_>, start: Start, last: u32) -> Result<bool, Memory>
+        requires row { start.row < height support.now }
+        requires places { KnowsPlaces support.now start.row self.old }
+        requires order { start.column < last }
+        requires width { last < support.now.width }
+        requires first { entry support.now start.row start.column ≢ pos 0 }
+        requires last { entry support.now start.row last ≢ pos 0 }
+        ensures yes { IfOk result (λ makes. IsTrue makes → (path : List ℕ) × IsCyclePlace (entry support.now) start.row start.column last path) }
+        ensures no { IfOk result (λ makes. makes ≡ false → (path : List ℕ) → ¬ (IsCyclePlace (entry support.now) start.row start.column last path)) }
+        ensures places { IfOk result (λ makes. KnowsPlaces support.now start.row self.new) }
+    {
+        self.learn(support, start)?;
+        Ok(self.links.entry(start.column, last) != 0)
+    }
+
+    // Finds out which columns make a place with a first one, where that is not known.
+    fn learn(&mut self, support: &Support<'_>, start: Start) -> Result<(), Memory>
+        requires row { start.row < height support.now }
+        requires places { KnowsPlaces support.now start.row self.old }
+        requires column { start.column < support.now.width }
+        requires first { entry support.now start.row start.column ≢ pos 0 }
+        ensures places { OnOk result (KnowsPlaces support.now start.row self.new) }
+        ensures known { OnOk result (TellsFrom support.now start.row start.column support.now.width self.new.links) }
+    {
+        if self.known[start.column as usize] {
+            return Ok(());
+        }
+        self.walk_at(support, start)
+    }
+
+    fn walk_at(&mut self, support: &Support<'_>, start: Start) -> Result<(), Memory>
+        requires row { start.row < height support.now }
+        requires places { KnowsPlaces support.now start.row self.old }
+        requires column { start.column < support.now.width }
+        requires first { entry support.now start.row start.column ≢ pos 0 }
+        ensures places { OnOk result (KnowsPlaces support.now start.row self.new) }
+        ensures known { OnOk result (TellsFrom support.now start.row start.column support.now.width self.new.links) }
+        ensures walked { OnOk result (HasWalked support.now start.row start.column self.new.walk) }
+    {
+        walk_from(support, &mut self.walk, start)?;
+        note_places(support, &self.walk, start, &mut self.links);
+        self.known[start.column as usize] = true;
+        self.walked = Some(start.column);
+        Ok(())
+    }
+
+    // Walks from a column, where the last walk did not begin there.
+    fn stand_at(&mut self, support: &Support<'_>, start: Start) -> Result<(), Memory>
+        requires row { start.row < height support.now }
+        requires places { KnowsPlaces support.now start.row self.old }
+        requires column { start.column < support.now.width }
+        requires first { entry support.now start.row start.column ≢ pos 0 }
+        ensures places { OnOk result (KnowsPlaces support.now start.row self.new) }
+        ensures walked { OnOk result (HasWalked support.now start.row start.column self.new.walk) }
+    {
+        if let Some(column) = self.walked {
+            if column == start.column {
+                return Ok(());
+            }
+        }
+        self.walk_at(support, start)
+    }
+
+    /// The lines of the cycle of a place with these columns.
+    pub fn cycle(
+        &mut self,
+        alloc: Global,
+        support: &Support<'_>,
+        row: u32,
+        column: u32,
+        partner: u32,
+    ) -> Result<LineSet, Memory>
+        requires row { row < height support.now }
+        requires places { KnowsPlaces support.now row self.old }
+        requires place { (path : List ℕ) × IsPlaceOf support.now row partner column path }
+        ensures cycle { IfOk result (λ cycle. IsCycleLines support.now row partner column cycle) }
+        ensures places { IfOk result (λ cycle. KnowsPlaces support.now row self.new) }
+    {
+        if partner < column {
+            let start = Start {
+                row,
+                column: partner,
+            };
+            self.cycle_from(alloc, support, start, column)
+        } else {
+            self.cycle_from(alloc, support, Start { row, column }, partner)
+        }
+    }
+
+    fn cycle_from(
+        &mut self,
+        alloc: Global,
+        support: &Support<'_>,
+        start: Start,
+        last: u32,
+    ) -> Result<LineSet, Memory>
+        requires row { start.row < height support.now }
+        requires places { KnowsPlaces support.now start.row self.old }
+        requires place { (path : List ℕ) × IsCyclePlace (entry support.now) start.row start.column last path }
+        ensures cycle { IfOk result (λ cycle. IsCycleLines support.now start.row start.column last cycle) }
+        ensures places { IfOk result (λ cycle. KnowsPlaces support.now start.row self.new) }
+    {
+        self.stand_at(support, start)?;
+        let lines = path_to(alloc, support, &self.walk, start, last)?;
+        Ok(LineSet {
+            rows: rows_of_cycle(alloc, start.row, &lines, support.rows())?,
+            columns: columns_of_cycle(alloc, start.column, last, &lines, support.columns())?,
+        })
+    }
+}
+
+// Notes which last columns the walk from the first one has reached.
+fn note_places(support: &Support<'_>, walk: &Walk, start: Start, links: &mut Matrix)
+    requires row { start.row < height support.now }
+    requires column { start.column < support.now.width }
+    requires first { entry support.now start.row start.column ≢ pos 0 }
+    requires walked { HasWalked support.now start.row start.column walk.now }
+    requires square { AreSquare support.now links.old }
+    ensures tells { TellsFrom support.now start.row start.column support.now.width links.new }
+    ensures others { (c d : ℕ) → c ≢ start.column → entry links.new c d ≡ entry links.old c d }
+    ensures square { AreSquare support.now links.new }
+{
+    for last in start.column + 1..support.columns() {
+        if support.entry(start.row, last) != 0 {
+            links.set(start.column, last, place_mark(walk, last));
+        }
+    }
+}
+
+// 1 where the walk has reached the column, and else 0.
+fn place_mark(walk: &Walk, last: u32) -> i8
+    requires { last < length walk.now.places.items }
+    ensures small { IsEntry result }
+    ensures reached { result ≢ pos 0 → place_in walk.now.places.items last ≢ 4294967295 }
+    ensures unreached { result ≡ pos 0 → place_in walk.now.places.items last ≡ 4294967295 }
+{
+    if walk.has_reached(last) { 1 } else { 0 }
+}

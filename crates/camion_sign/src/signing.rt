@@ -1,0 +1,246 @@
+// Camion's signing of a 0/1 matrix, row after row.
+ghost use Rattle.std.specs.Prelude.{◌≡◌, ◌≢◌, ◌<◌, ◌≤◌, ◌+◌, ◌*◌, ◌+ℤ◌, ◌⊎◌, ◌↔◌, ℕ, List, pos, true, false, length, IsTrue, IfOk, OnOk, MatchOption};
+ghost use Rattle.cmr_base.specs.Matrix.{height, entry, IsMatrix, IsEntry};
+ghost use Rattle.cmr_base.specs.Signing.{IsSign};
+ghost use Rattle.cmr_base.specs.Sums.{IsOdd};
+ghost use Rattle.cmr_base.specs.Supports.{HaveOneSupport};
+ghost use Rattle.cmr_base.specs.Trees.{IsBinary};
+ghost use Rattle.camion_sign.specs.SignSteps.{AreSigns, IsUnsignedOne, IsZeroModFour, unsigned, LeadTo};
+ghost use Rattle.camion_sign.specs.SignOrder.{IsForcedBy, IsSignedBy};
+ghost use Rattle.camion_sign.specs.Chains.{KeepsRule};
+ghost use Rattle.std.specs.List.{AllByRecursion};
+ghost use Rattle.camion_sign.specs.ChainTexts.{IsStepIn};
+ghost use Rattle.camion_sign.specs.Signings.{HasRoom, KnowsPlaces, IsAtRow, IsFirstUnsigned, IsPartner, IsForcedColumn, NoneForced, unsigned_before};
+
+use crate::row_places::RowPlaces;
+use crate::step::{SignStep, SignStepList};
+use crate::support::Support;
+use cmr_base::{Matrix, Memory};
+use std::alloc::Global;
+
+/// The signs given so far, 0 where none is given, and the steps that gave them.
+#[derive(Drop)]
+pub struct Signing {
+    pub signs: Matrix,
+    pub steps: SignStepList,
+}
+
+// A one that is forced: its column, and the signed column with which it makes a cycle place.
+#[derive(Clone, Copy)]
+pub struct ForcedOne {
+    pub column: u32,
+    pub partner: u32,
+}
+
+/// The signing of a 0/1 matrix (Camion), and its steps: row after row, where a one makes a cycle place with ones of its row
+/// that are signed, it gets the sign with which the place's cycle has a sum divisible by 4, and else 1. Of the places of a
+/// row the one with the least column without sign comes first, and of these the one with the least signed column. The
+/// signed matrix may still have a cycle fault. The time is one walk through the rows before for each first column of a
+/// place that is asked for, mostly few in a row, and at most one more for each one.
+pub fn sign(alloc: Global, matrix: &Matrix) -> Result<(Matrix, SignStepList), Memory>
+    ensures signed { IfOk result (λ signed. IsSignedBy matrix.now signed.1 signed.0) }
+    // Of a 0/1 matrix, the steps are those of a chain.
+    ensures chain { IsBinary matrix.now → IfOk result (λ signed. LeadTo (KeepsRule matrix.now) (unsigned matrix.now) signed.1 signed.0) }
+    ensures support { IfOk result (λ signed. HaveOneSupport matrix.now signed.0) }
+    ensures few { IfOk result (λ signed. length signed.1 ≤ height matrix.now * matrix.now.width) }
+    ensures steps { IfOk result (λ signed. AllByRecursion (IsStepIn (height matrix.now) matrix.now.width) signed.1) }
+{
+    let signing = all_rows_signed(alloc, matrix)?;
+    Ok((signing.signs, signing.steps))
+}
+
+fn all_rows_signed(alloc: Global, matrix: &Matrix) -> Result<Signing, Memory>
+    ensures state { IfOk result (IsAtRow matrix.now (height matrix.now)) }
+    ensures shape { IfOk result (λ signing. IsMatrix matrix.now) }
+{
+    let support = Support::new(alloc, matrix)?;
+    let mut places = RowPlaces::new(alloc, &support)?;
+    let mut signing = Signing {
+        signs: Matrix::zero(alloc, support.rows(), support.columns())?,
+        steps: SignStepList::new(alloc),
+    };
+    for row in 0..support.rows() {
+        places.begin(&support);
+        sign_row(alloc, &support, &mut places, row, &mut signing)?;
+    }
+    Ok(signing)
+}
+
+// Signs the ones of a row.
+fn sign_row(
+    alloc: Global,
+    support: &Support<'_>,
+    places: &mut RowPlaces,
+    row: u32,
+    signing: &mut Signing,
+) -> Result<(), Memory>
+    requires row { row < height support.now }
+    requires places { KnowsPlaces support.now row places.old }
+    requires state { IsAtRow support.now row signing.old }
+    ensures state { OnOk result (IsAtRow support.now (row + 1) signing.new) }
+    ensures room { OnOk result (HasRoom support.now places.new) }
+{
+    let mut next = first_unsigned(support, row, 0, &signing.signs);
+    'ones: while let Some(column) = next {
+        sign_next(alloc, support, places, row, column, signing)?;
+        next = first_unsigned(support, row, column, &signing.signs);
+    }
+    Ok(())
+}
+
+// Signs the next one of a row, whose first one without sign is in this column.
+fn sign_next(
+    alloc: Global,
+    support: &Support<'_>,
+    places: &mut RowPlaces,
+    row: u32,
+    first: u32,
+    signing: &mut Signing,
+) -> Result<(), Memory>
+    requires row { row < height support.now }
+    requires places { KnowsPlaces support.now row places.old }
+    requires state { IsAtRow support.now row signing.old }
+    requires first { IsFirstUnsigned support.now signing.old.signs row first }
+    ensures state { OnOk result (IsAtRow support.now row signing.new) }
+    ensures places { OnOk result (KnowsPlaces support.now row places.new) }
+    ensures fewer { OnOk result (unsigned_before support.now signing.new.signs row support.now.width < unsigned_before support.now signing.old.signs row support.now.width) }
+    ensures keeps { OnOk result ((d : ℕ) → IsUnsignedOne support.now signing.new.signs row d → IsUnsignedOne support.now signing.old.signs row d) }
+{
+    match forced_one(support, places, row, first, &signing.signs)? {
+        Some(forced) => sign_forced(alloc, support, places, row, forced, signing),
+        None => sign_free(row, first, support, signing),
+    }
+}
+
+// The least column of a row, from its first one without sign on, that makes a cycle place with a signed one, and the
+// least of these.
+fn forced_one(
+    support: &Support<'_>,
+    places: &mut RowPlaces,
+    row: u32,
+    first: u32,
+    signs: &Matrix,
+) -> Result<Option<ForcedOne>, Memory>
+    requires row { row < height support.now }
+    requires places { KnowsPlaces support.now row places.old }
+    requires signs { AreSigns support.now signs.now }
+    requires first { IsFirstUnsigned support.now signs.now row first }
+    ensures forced { IfOk result (λ found. MatchOption found (NoneForced support.now signs.now row)
+        (λ forced. IsForcedColumn support.now signs.now row forced.column × IsPartner support.now signs.now row forced.column forced.partner)) }
+    ensures places { IfOk result (λ found. KnowsPlaces support.now row places.new) }
+{
+    for column in first..support.columns() {
+        if is_unsigned_one(support, row, column, signs) {
+            if let Some(partner) = partner_of(support, places, row, column, signs)? {
+                return Ok(Some(ForcedOne { column, partner }));
+            }
+        }
+    }
+    Ok(None)
+}
+
+fn is_unsigned_one(support: &Support<'_>, row: u32, column: u32, signs: &Matrix) -> bool
+    requires row { row < height support.now }
+    requires column { column < support.now.width }
+    requires signs { AreSigns support.now signs.now }
+    ensures { IsTrue result ↔ IsUnsignedOne support.now signs.now row column }
+{
+    support.entry(row, column) != 0 && signs.entry(row, column) == 0
+}
+
+// The least signed column of a row that makes a cycle place with a column.
+fn partner_of(
+    support: &Support<'_>,
+    places: &mut RowPlaces,
+    row: u32,
+    column: u32,
+    signs: &Matrix,
+) -> Result<Option<u32>, Memory>
+    requires row { row < height support.now }
+    requires column { column < support.now.width }
+    requires places { KnowsPlaces support.now row places.old }
+    requires signs { AreSigns support.now signs.now }
+    requires here { IsUnsignedOne support.now signs.now row column }
+    ensures partner { IfOk result (λ found. MatchOption found ((c : ℕ) → ¬ (IsForcedBy support.now signs.now row column c)) (IsPartner support.now signs.now row column)) }
+    ensures places { IfOk result (λ found. KnowsPlaces support.now row places.new) }
+{
+    for partner in support.row(row) {
+        if signs.entry(row, *partner) != 0 {
+            let is_place = places.make_place(support, row, column, *partner)?;
+            if is_place {
+                return Ok(Some(*partner));
+            }
+        }
+    }
+    Ok(None)
+}
+
+// The first column from one on in which a row has a one without sign.
+fn first_unsigned(support: &Support<'_>, row: u32, from: u32, signs: &Matrix) -> Option<u32>
+    requires row { row < height support.now }
+    requires signs { AreSigns support.now signs.now }
+    requires before { (d : ℕ) → d < from → ¬ (IsUnsignedOne support.now signs.now row d) }
+    ensures { MatchOption result ((d : ℕ) → ¬ (IsUnsignedOne support.now signs.now row d)) (IsFirstUnsigned support.now signs.now row) }
+{
+    for column in from..support.columns() {
+        if is_unsigned_one(support, row, column, signs) {
+            return Some(column);
+        }
+    }
+    None
+}
+
+fn sign_free(
+    row: u32,
+    column: u32,
+    support: &Support<'_>,
+    signing: &mut Signing,
+) -> Result<(), Memory>
+    requires matrix { IsMatrix support.now }
+    requires row { row < height support.now }
+    requires state { IsAtRow support.now row signing.old }
+    requires first { IsFirstUnsigned support.now signing.old.signs row column }
+    requires none { NoneForced support.now signing.old.signs row }
+    ensures state { OnOk result (IsAtRow support.now row signing.new) }
+    ensures fewer { OnOk result (unsigned_before support.now signing.new.signs row support.now.width < unsigned_before support.now signing.old.signs row support.now.width) }
+    ensures keeps { OnOk result ((d : ℕ) → IsUnsignedOne support.now signing.new.signs row d → IsUnsignedOne support.now signing.old.signs row d) }
+{
+    signing.signs.set(row, column, 1);
+    signing.steps.push(SignStep::Free { row, column })?;
+    Ok(())
+}
+
+fn sign_forced(
+    alloc: Global,
+    support: &Support<'_>,
+    places: &mut RowPlaces,
+    row: u32,
+    forced: ForcedOne,
+    signing: &mut Signing,
+) -> Result<(), Memory>
+    requires row { row < height support.now }
+    requires places { KnowsPlaces support.now row places.old }
+    requires state { IsAtRow support.now row signing.old }
+    requires here { IsForcedColumn support.now signing.old.signs row forced.column }
+    requires partner { IsPartner support.now signing.old.signs row forced.column forced.partner }
+    ensures state { OnOk result (IsAtRow support.now row signing.new) }
+    ensures places { OnOk result (KnowsPlaces support.now row places.new) }
+    ensures fewer { OnOk result (unsigned_before support.now signing.new.signs row support.now.width < unsigned_before support.now signing.old.signs row support.now.width) }
+    ensures keeps { OnOk result ((d : ℕ) → IsUnsignedOne support.now signing.new.signs row d → IsUnsignedOne support.now signing.old.signs row d) }
+{
+    let column = forced.column;
+    let cycle = places.cycle(alloc, support, row, column, forced.partner)?;
+    let sign = closing_sign(signing.signs.sum(&cycle));
+    signing.signs.set(row, column, sign);
+    signing.steps.push(SignStep::Forced { row, column, cycle })?;
+    Ok(())
+}
+
+// The sign with which an odd sum becomes a multiple of four.
+fn closing_sign(sum: i32) -> i8
+    requires { IsOdd sum }
+    ensures sign { IsSign result }
+    ensures four { IsZeroModFour (sum +ℤ result) }
+{
+    if sum.rem_euclid(4) == 1 { -1 } else { 1 }
+}

@@ -1,0 +1,8 @@
+//! The R10 matrices: the totally unimodular matrices that come neither from networks nor from sums (Seymour; Schrijver,
+//! Theory of Linear and Integer Programming, chapter 19).
+#![tactic(auto)]
+
+pub mod laws;
+mod test;
+
+pub use test::is_r10;
