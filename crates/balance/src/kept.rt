@@ -1,0 +1,117 @@
+// The columns that may make a fault with a set of rows.
+ghost use Rattle.std.specs.Prelude.{◌≡◌, ◌<◌, ◌≤◌, ◌↔◌, ◌+ℤ◌, ℕ, IfOk, IsTrue, length};
+ghost use Rattle.std.specs.List.{AllByRecursion};
+ghost use Rattle.cmr_base.specs.LineSets.{AllBelow, IsRowSet};
+ghost use Rattle.cmr_base.specs.Matrix.{entry, height, is_nonzero, IsMatrix};
+ghost use Rattle.cmr_base.specs.Members.{IsIn};
+ghost use Rattle.cmr_base.specs.Sums.{sum_over, IsTwoModFour};
+ghost use Rattle.balance.specs.Kept.{AreAlike, AreKept, AreKeptBelow, IsCandidate, IsLeastAlike};
+
+use cmr_base::{Indices, Matrix, Memory};
+use std::alloc::Global;
+
+/// Of the columns with exactly two nonzeros in these rows, and of those that are alike, the least ones.
+pub fn kept_columns(alloc: Global, matrix: &Matrix, rows: &[u32]) -> Result<Indices, Memory>
+    requires { IsRowSet matrix.now rows.now }
+    ensures kept { IfOk result (AreKept matrix.now rows.now) }
+    ensures shape { IfOk result (λ kept. IsMatrix matrix.now) }
+{
+    let mut kept = Indices::new(alloc);
+    for column in 0..matrix.columns() {
+        if is_kept(matrix, rows, kept.as_slice(), column) {
+            kept.push(column)?;
+        }
+    }
+    Ok(kept)
+}
+
+// Whether a column is kept, where these are the columns before it that are.
+fn is_kept(matrix: &Matrix, rows: &[u32], before: &[u32], column: u32) -> bool
+    requires matrix { IsMatrix matrix.now }
+    requires rows { IsRowSet matrix.now rows.now }
+    requires column { column < matrix.now.width }
+    requires before { AreKeptBelow matrix.now rows.now column before.now }
+    ensures { IsTrue result ↔ IsLeastAlike matrix.now rows.now column }
+{
+    is_candidate(matrix, rows, column) && !has_alike(matrix, rows, before, column)
+}
+
+/// Whether the column has exactly two nonzeros in these rows.
+pub fn is_candidate(matrix: &Matrix, rows: &[u32], column: u32) -> bool
+    requires rows { AllBelow (height matrix.now) rows.now }
+    requires column { column < matrix.now.width }
+    ensures { IsTrue result ↔ IsCandidate matrix.now rows.now column }
+{
+    let mut count = 0usize;
+    for row in rows {
+        if is_nonzero(matrix, *row, column) {
+            count += 1;
+        }
+    }
+    count == 2
+}
+
+/// Whether the entry in a row and a column is not 0.
+pub fn is_nonzero(matrix: &Matrix, row: u32, column: u32) -> bool
+    requires row { row < height matrix.now }
+    requires column { column < matrix.now.width }
+    ensures { result ≡ is_nonzero (entry matrix.now row column) }
+{
+    matrix.entry(row, column) != 0
+}
+
+// Whether one of some columns is alike a column.
+fn has_alike(matrix: &Matrix, rows: &[u32], columns: &[u32], column: u32) -> bool
+    requires matrix { IsMatrix matrix.now }
+    requires rows { AllBelow (height matrix.now) rows.now }
+    requires few { length rows.now ≤ 1000 }
+    requires columns { AllBelow matrix.now.width columns.now }
+    requires column { column < matrix.now.width }
+    ensures { IsTrue result ↔ ((other : ℕ) × IsIn other columns.now × AreAlike matrix.now rows.now other column) }
+{
+    for other in columns {
+        if are_alike(matrix, rows, *other, column) {
+            return true;
+        }
+    }
+    false
+}
+
+// Whether two columns join the same rows of these, and are no fault together.
+fn are_alike(matrix: &Matrix, rows: &[u32], first: u32, second: u32) -> bool
+    requires matrix { IsMatrix matrix.now }
+    requires rows { AllBelow (height matrix.now) rows.now }
+    requires few { length rows.now ≤ 1000 }
+    requires first { first < matrix.now.width }
+    requires second { second < matrix.now.width }
+    ensures { IsTrue result ↔ AreAlike matrix.now rows.now first second }
+{
+    if !join_same_rows(matrix, rows, first, second) {
+        return false;
+    }
+    let sum = matrix.column_sum(rows, first) + matrix.column_sum(rows, second);
+    !is_two_mod_four(sum)
+}
+
+fn join_same_rows(matrix: &Matrix, rows: &[u32], first: u32, second: u32) -> bool
+    requires rows { AllBelow (height matrix.now) rows.now }
+    requires first { first < matrix.now.width }
+    requires second { second < matrix.now.width }
+    ensures { IsTrue result ↔ AllByRecursion (λ row. is_nonzero (entry matrix.now row first) ≡ is_nonzero (entry matrix.now row second)) rows.now }
+{
+    for row in rows {
+        let is_first = is_nonzero(matrix, *row, first);
+        let is_second = is_nonzero(matrix, *row, second);
+        if is_first != is_second {
+            return false;
+        }
+    }
+    true
+}
+
+/// Whether a sum is 2 modulo 4.
+pub fn is_two_mod_four(sum: i32) -> bool
+    ensures { IsTrue result ↔ IsTwoModFour sum }
+{
+    sum.rem_euclid(4) == 2
+}

@@ -1,0 +1,73 @@
+-- The rows that the steps of a run name.
+use Rattle.std.proofs.Common.{◌≡◌, ◌+◌, ◌++◌, ◌∙◌, ◌⊎◌, inl, inr, ◌↔◌, ℕ, suc, ℤ, Option, Some, None, List, [], ◌∷◌, length, get_or, map, refl, ap, sym, subst, arith, length-append}
+use Rattle.std.specs.List.{remove}
+use Rattle.cmr_base.specs.Matrix.{Matrix}
+use Rattle.cmr_base.specs.Members.{IsIn, IsDistinct}
+use Rattle.cmr_base.proofs.Lists.{HasOneMore, one_more_first}
+use Rattle.ghouila.specs.declared.by_pivots.Pivot.{Pivot}
+use Rattle.ghouila.specs.SignRuns.{IsPivotNext, IsPutAside, SignsBySteps}
+use Rattle.ghouila.proofs.LeftRows.{one_more-remove}
+use Rattle.sign_tool.specs.SetSignings.{NamesEachOnce}
+
+-- ---- a list with one item more
+
+in_more : (front back : List ℕ) (x y : ℕ) → IsIn y (front ++ back) → IsIn y (front ++ x ∷ back)
+in_more [] back x y h = inr h
+in_more (z ∷ front) back x y (inl e) = inl e
+in_more (z ∷ front) back x y (inr h) = inr (in_more front back x y h)
+
+in_middle : (front back : List ℕ) (x : ℕ) → IsIn x (front ++ x ∷ back)
+in_middle [] back x = inl refl
+in_middle (z ∷ front) back x = inr (in_middle front back x)
+
+in_fewer : (front back : List ℕ) (x y : ℕ) → IsIn y (front ++ x ∷ back) → (y ≡ x) ⊎ IsIn y (front ++ back)
+in_fewer [] back x y (inl e) = inl e
+in_fewer [] back x y (inr h) = inr h
+in_fewer (z ∷ front) back x y (inl e) = inr (inl e)
+in_fewer (z ∷ front) back x y (inr h) = elim (in_fewer front back x y h) [ inl e ↦ inl e | inr g ↦ inr (inr g) ]
+
+distinct_fewer : (front back : List ℕ) (x : ℕ) → IsDistinct (front ++ x ∷ back) → (¬ (IsIn x (front ++ back))) × IsDistinct (front ++ back)
+distinct_fewer [] back x h = h
+distinct_fewer (z ∷ front) back x h =
+    let rest = distinct_fewer front back x h.1 in (
+      λ there. elim there [ inl e ↦ h.0 (subst (λ y. IsIn y (front ++ x ∷ back)) e (in_middle front back x)) | inr g ↦ rest.0 g ],
+      (λ g. h.0 (in_more front back x z g), rest.1),
+    )
+
+names_first : (rows left : List ℕ) (step : Pivot) (steps : List Pivot) → HasOneMore step.row left rows → IsDistinct rows → (IsDistinct left → NamesEachOnce steps left) → NamesEachOnce (step ∷ steps) rows
+names_first rows left step steps more distinct rest =
+    let parts = distinct_fewer more.front more.back step.row (subst IsDistinct more.more_is distinct) in
+    let apart : ¬ (IsIn step.row left) = subst (λ xs. ¬ (IsIn step.row xs)) (sym more.fewer_is) parts.0 in
+    let names = rest (subst IsDistinct (sym more.fewer_is) parts.1) in
+    record {
+      distinct = (λ there. apart ((names.members step.row).0 there), names.distinct);
+      members = λ row. (to row names, from row names);
+      as_many = ap suc names.as_many ∙ sym (one_longer rows left step.row more);
+    }
+  where
+    one_longer : (rows left : List ℕ) (row : ℕ) → HasOneMore row left rows → length rows ≡ suc (length left)
+    one_longer rows left row more = ap length more.more_is ∙ (let a = length-append more.front (row ∷ more.back) in let b = length-append more.front more.back in let c = ap length more.fewer_is in omega arith)
+
+    to : (row : ℕ) → NamesEachOnce steps left → (row ≡ step.row) ⊎ IsIn row (map (λ s. s.row) steps) → IsIn row rows
+    to row names (inl e) = subst (IsIn row) (sym more.more_is) (subst (λ y. IsIn y (more.front ++ step.row ∷ more.back)) (sym e) (in_middle more.front more.back step.row))
+    to row names (inr h) = subst (IsIn row) (sym more.more_is) (in_more more.front more.back step.row row (subst (IsIn row) more.fewer_is ((names.members row).0 h)))
+
+    from : (row : ℕ) → NamesEachOnce steps left → IsIn row rows → (row ≡ step.row) ⊎ IsIn row (map (λ s. s.row) steps)
+    from row names h = elim (in_fewer more.front more.back step.row row (subst (IsIn row) more.more_is h)) [
+      | inl e ↦ inl e
+      | inr g ↦ inr ((names.members row).1 (subst (IsIn row) (sym more.fewer_is) g))
+    ]
+
+names_step : (steps : List Pivot) (sign : ℕ → ℤ) → ((m : Matrix) (rows : List ℕ) → SignsBySteps m rows steps sign → IsDistinct rows → NamesEachOnce steps rows)
+    → (row : ℕ) (column : Option ℕ) (m : Matrix) (rows : List ℕ) → SignsBySteps m rows (record { row = row; column = column } ∷ steps) sign → IsDistinct rows → NamesEachOnce (record { row = row; column = column } ∷ steps) rows
+names_step steps sign others row None m rows (left, (aside, one, rest)) distinct =
+    names_first rows left (record { row = row; column = None }) steps (subst (HasOneMore row left) (sym aside.rows_are) (one_more_first row left)) distinct (others m left rest)
+names_step steps sign others row (Some column) m rows (left, (next, value, (after, made, rest))) distinct =
+    names_first rows left (record { row = row; column = Some column }) steps (more next) distinct (others after left rest)
+  where
+    more : IsPivotNext m rows row column left → HasOneMore row left rows
+    more next = subst (λ r. HasOneMore r left rows) (sym next.row_is) (subst (λ xs. HasOneMore (get_or rows next.place 0) xs rows) (sym next.left_is) (one_more-remove rows next.place next.first.pivot.within))
+
+pub names_each_once : (steps : List Pivot) (sign : ℕ → ℤ) (m : Matrix) (rows : List ℕ) → SignsBySteps m rows steps sign → IsDistinct rows → NamesEachOnce steps rows
+names_each_once [] sign m rows none distinct = subst (NamesEachOnce []) (sym none) (record { distinct = tt; members = λ row. (λ h. h, λ h. h); as_many = refl })
+names_each_once (step ∷ steps) sign m rows run distinct = names_step steps sign (names_each_once steps sign) step.row step.column m rows run distinct

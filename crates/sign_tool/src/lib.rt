@@ -1,0 +1,7 @@
+//! A signing of a given set of rows, with the steps that led to it.
+#![tactic(auto)]
+
+mod signing;
+
+pub use ghouila::{Pivot, PivotList};
+pub use signing::{SetSigning, sign_set};

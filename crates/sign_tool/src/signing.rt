@@ -1,0 +1,36 @@
+// A signing of a set of rows.
+ghost use Rattle.std.specs.Prelude.{IfOk};
+ghost use Rattle.cmr_base.specs.Matrix.{height};
+ghost use Rattle.cmr_base.specs.LineSets.{AllBelow};
+ghost use Rattle.cmr_base.specs.Violator.{HasNoViolator};
+ghost use Rattle.sign_tool.specs.SetSignings.{SignsSetOrViolates, IsEndOfRun, HasStepForEachRow, IsSigned};
+
+use cmr_base::{Indices, LineSet, Matrix, Memory, SignList};
+use ghouila::{PivotList, SignRun, Signing, sign_by_steps};
+use std::alloc::Global;
+
+/// What is found for a set of rows.
+#[derive(Debug, Drop)]
+pub enum SetSigning {
+    /// A signing of the rows, one sign for each in their order, and the steps that led to it.
+    Signed { signs: SignList, steps: PivotList },
+    /// A violator of the matrix with rows among these. The rows may still have a signing.
+    Violated(LineSet),
+}
+
+/// A signing of the rows, or a violator. The run makes pivots while some column has an even number, at least two, of
+/// nonzeros in the rows that are left, and else puts rows aside; the signs follow on the way back. It ends with a
+/// violator where a pivot would give a 2 or a -2.
+pub fn sign_set(alloc: Global, matrix: &Matrix, rows: &Indices) -> Result<SetSigning, Memory>
+    requires { AllBelow (height matrix.now) rows.now }
+    ensures right { IfOk result (SignsSetOrViolates matrix.now rows.now) }
+    ensures run { IfOk result (IsEndOfRun matrix.now rows.now) }
+    ensures steps { IfOk result (HasStepForEachRow rows.now) }
+    ensures free { HasNoViolator matrix.now → IfOk result IsSigned }
+{
+    let SignRun { steps, signing } = sign_by_steps(alloc, matrix, rows)?;
+    match signing {
+        Signing::Signed(signs) => Ok(SetSigning::Signed { signs, steps }),
+        Signing::Violated(lines) => Ok(SetSigning::Violated(lines)),
+    }
+}
