@@ -1,0 +1,65 @@
+-- Drawn numbers, one after another.
+use Rattle.std.proofs.Common.{◌≡◌, ◌<◌, ◌≤◌, ◌+◌, ◌-◌, ◌*◌, ◌/◌, ◌%◌, ◌^◌, ◌∙◌, ◌++◌, ℕ, zero, suc, List, [], ◌∷◌, length, get_or, refl, ap, sym, subst, arith}
+use Rattle.std.proofs.lemmas.List.{append_assoc, append-nil}
+use Rattle.std.proofs.lemmas.Nat.{mod_below}
+use Rattle.std.proofs.Math.Nat.{suc-mul, zero-mul}
+use Rattle.generate.specs.Draws.{next_state, draws}
+
+-- the numbers so far and those that are drawn from here are all
+pub record AreDrawn (n bound step state : ℕ) (k bound' state' : ℕ) (drawn : List ℕ) : Type 0 where
+  pub numbers_are : drawn ++ (draws (n - k) bound' step state').0 ≡ (draws n bound step state).0
+  pub state_is : (draws (n - k) bound' step state').1 ≡ (draws n bound step state).1
+  pub low_state : state' < 2 ^ 31
+  pub low : 1 ≤ bound'
+  pub high : bound' ≤ 1001 + k
+
+pub none_drawn : (n bound step state : ℕ) → state < 2 ^ 31 → 1 ≤ bound → bound ≤ 1001 → AreDrawn n bound step state 0 bound state []
+none_drawn n bound step state h low high =
+    let e : n - 0 ≡ n = omega arith in
+    record { numbers_are = ap (λ (count : ℕ). (draws count bound step state).0) e; state_is = ap (λ (count : ℕ). (draws count bound step state).1) e; low_state = h; low = low; high = omega arith }
+
+pub one_drawn : (n bound step state k bound' state' : ℕ) (numbers : List ℕ) → step ≤ 1 → k < n → AreDrawn n bound step state k bound' state' numbers → next_state state' < 2 ^ 31
+    → AreDrawn n bound step state (k + 1) (bound' + step) (next_state state') (numbers ++ (next_state state' / 1024) % bound' ∷ [])
+one_drawn n bound step state k bound' state' numbers few h before low =
+    let e : n - k ≡ suc (n - (k + 1)) = omega (arith, h) in
+    let left = n - (k + 1) in
+    record {
+      numbers_are = append_assoc numbers ((next_state state' / 1024) % bound' ∷ []) (draws left (bound' + step) step (next_state state')).0
+          ∙ ap (λ (count : ℕ). numbers ++ (draws count bound' step state').0) (sym e) ∙ before.numbers_are;
+      state_is = ap (λ (count : ℕ). (draws count bound' step state').1) (sym e) ∙ before.state_is;
+      low_state = low;
+      low = let l = before.low in omega (arith, l);
+      high = let t = before.high in omega (arith, t, few);
+    }
+
+pub drawn_on : (n bound step state k bound' state' new : ℕ) (numbers numbers' : List ℕ) → step ≤ 1 → k < n → AreDrawn n bound step state k bound' state' numbers → new < 2 ^ 31 → new ≡ next_state state'
+    → numbers' ≡ numbers ++ (new / 1024) % bound' ∷ [] → AreDrawn n bound step state (k + 1) (bound' + step) new numbers'
+drawn_on n bound step state k bound' state' new numbers numbers' few h before low e f =
+    subst (λ (xs : List ℕ). AreDrawn n bound step state (k + 1) (bound' + step) new xs) (sym f)
+    (subst (λ (now : ℕ). AreDrawn n bound step state (k + 1) (bound' + step) now (numbers ++ (now / 1024) % bound' ∷ [])) (sym e)
+    (one_drawn n bound step state k bound' state' numbers few h before (subst (λ (now : ℕ). now < 2 ^ 31) e low)))
+
+pub record AreAll (n bound step state state' : ℕ) (drawn : List ℕ) : Type 0 where
+  pub numbers_are : drawn ≡ (draws n bound step state).0
+  pub state_is : state' ≡ (draws n bound step state).1
+
+pub all_drawn : (n bound step state k bound' state' : ℕ) (numbers : List ℕ) → n ≤ k → AreDrawn n bound step state k bound' state' numbers → AreAll n bound step state state' numbers
+all_drawn n bound step state k bound' state' numbers h before =
+    let e : n - k ≡ 0 = omega (arith, h) in
+    record {
+      numbers_are = sym (append-nil numbers) ∙ ap (λ (count : ℕ). numbers ++ (draws count bound' step state').0) (sym e) ∙ before.numbers_are;
+      state_is = ap (λ (count : ℕ). (draws count bound' step state').1) (sym e) ∙ before.state_is;
+    }
+
+-- ---- how many, and how great
+
+pub length-draws : (n bound step state : ℕ) → length (draws n bound step state).0 ≡ n
+length-draws zero bound step state = refl
+length-draws (suc n) bound step state = ap suc (length-draws n (bound + step) step (next_state state))
+
+pub draws_below : (n bound step state k : ℕ) → 1 ≤ bound → k < n → get_or (draws n bound step state).0 k 0 < bound + k * step
+draws_below zero bound step state k low h = absurd (omega (arith, h))
+draws_below (suc n) bound step state zero low h = let e = mod_below (next_state state / 1024) bound low in omega (arith, e, zero-mul step)
+draws_below (suc n) bound step state (suc k) low h =
+    let e = draws_below n (bound + step) step (next_state state) k (omega (arith, low)) (omega (arith, h)) in
+    omega (arith, e, suc-mul k step)

@@ -1,0 +1,46 @@
+// Numbers that are drawn one after another from a state.
+ghost use Rattle.std.specs.Prelude.{◌≡◌, ◌≤◌, ◌<◌, ◌^◌, IfOk};
+ghost use Rattle.generate.specs.Draws.{next_state, draws};
+
+use cmr_base::Memory;
+use std::alloc::Global;
+
+/// Drawn numbers, and the state after them.
+#[derive(Drop)]
+pub struct Drawn {
+    pub numbers: Vec<u32>,
+    pub state: u32,
+}
+
+fn next_state(state: u32) -> u32
+    requires { state < 2 ^ 31 }
+    ensures next { result ≡ next_state state }
+    ensures low { result < 2 ^ 31 }
+{
+    ((1_103_515_245 * u64::from(state) + 12_345) % 2_147_483_648) as u32
+}
+
+/// So many numbers, the first below a bound, each next one below a bound that is greater by a step.
+pub fn draw(alloc: Global, count: u32, bound: u32, step: u32, state: u32) -> Result<Drawn, Memory>
+    requires bound { 1 ≤ bound }
+    requires low_bound { bound ≤ 1001 }
+    requires step { step ≤ 1 }
+    requires count { count ≤ 2000 }
+    requires state { state < 2 ^ 31 }
+    ensures numbers { IfOk result (λ drawn. drawn.numbers.items ≡ (draws count bound step state).0) }
+    ensures state { IfOk result (λ drawn. drawn.state ≡ (draws count bound step state).1) }
+    ensures low { IfOk result (λ drawn. drawn.state < 2 ^ 31) }
+{
+    let mut numbers = Vec::with_capacity(alloc, count as usize)?;
+    let mut now = state;
+    let mut below = bound;
+    for _place in 0..count {
+        now = next_state(now);
+        numbers.push(now / 1024 % below)?;
+        below += step;
+    }
+    Ok(Drawn {
+        numbers,
+        state: now,
+    })
+}

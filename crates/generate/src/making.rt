@@ -1,0 +1,30 @@
+// Generated matrices.
+ghost use Rattle.std.specs.Prelude.{◌≡◌, ◌≤◌, ◌<◌, ◌^◌, IfOk};
+ghost use Rattle.generate.specs.Generated.{IsGenerated};
+ghost use Rattle.generate.specs.declared.making.MakeKind.TheVariants.{TwoSum};
+
+use crate::networks::generated_network;
+use crate::sums::generated_sum;
+use cmr_base::{Matrix, Memory};
+use std::alloc::Global;
+
+/// What is generated.
+#[derive(Clone, Copy, Debug, PartialEq, Eq)]
+pub enum MakeKind {
+    Network,
+    TwoSum,
+}
+
+/// The matrix of a kind, a size and a number.
+pub fn make(alloc: Global, what: MakeKind, size: u32, number: u32) -> Result<Matrix, Memory>
+    requires positive { 1 ≤ size }
+    requires size { size ≤ 1000 }
+    requires sum_size { what ≡ TwoSum → size ≤ 249 }
+    requires number { number < 2 ^ 31 }
+    ensures { IfOk result (IsGenerated what size number) }
+{
+    match what {
+        MakeKind::Network => generated_network(alloc, size, number)?.matrix(alloc, size, size),
+        MakeKind::TwoSum => generated_sum(alloc, size, number),
+    }
+}

@@ -1,0 +1,4 @@
+pub mod WalkSteps
+pub mod GrownLines
+mod Multiples
+mod Exchanges

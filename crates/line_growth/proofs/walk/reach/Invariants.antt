@@ -1,0 +1,11 @@
+use Rattle.std.proofs.Common.{◌+◌, ◌-◌}
+use Rattle.cmr_base.specs.Matrix.{height}
+use Rattle.line_growth.specs.Rules.{pulls_along}
+use Rattle.line_growth.specs.Reaching.{AreReaching}
+use Rattle.line_growth.proofs.walk.reach.Given as goal
+
+abbrev pub invariant-loop-head : goal.invariant-loop-head
+invariant-loop-head l = AreReaching (height l.matrix + l.matrix.width) (pulls_along l.matrix l.rule l.direction) l.starts l.walk.marks.items l.walk.met.items l.head
+
+abbrev pub decreases-loop-head : goal.decreases-loop-head
+decreases-loop-head l = (height l.matrix + l.matrix.width) - l.head

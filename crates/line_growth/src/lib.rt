@@ -1,0 +1,8 @@
+//! The least set of lines that has some lines and in which no line outside breaks a rule.
+#![tactic(auto)]
+
+mod rule;
+mod walk;
+
+pub use rule::{Block, Direction, Place, Rule};
+pub use walk::reach;

@@ -1,0 +1,16 @@
+use Rattle.std.proofs.Common.{◌||◌, ap, sym, subst, length, get_or, List, ℕ, arith}
+use Rattle.std.specs.List.{list_any}
+use Rattle.cmr_base.specs.declared.line.Line.TheVariants.{Row}
+use Rattle.cmr_base.specs.Indices.{IsAbove}
+use Rattle.cmr_base.specs.Separations.{is_same_line}
+use Rattle.cmr_base.proofs.LineSetLemmas.{kept_below}
+use Rattle.sum_ops.specs.Children.{on_list}
+use Rattle.sum_ops.proofs.children.child_rows.Goals as goal
+
+pub push-requires : goal.push-requires
+push-requires c =
+    let lines = c.args.rows.now in
+    let i = c.loop-row.row-index in
+    let same = c.as_slice-row-items.ensures.items in
+    rw same (subst (λ (child : List ℕ). IsAbove (get_or lines i 0) child) (sym c.loop-row.invariant)
+    (kept_below (λ line. on_list c.args.inside c.args.side.now line || list_any (is_same_line (Row line)) c.args.more.now) lines i c.as_slice-row-items.ensures.rising (omega (arith, ap length same))))

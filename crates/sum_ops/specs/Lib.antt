@@ -1,0 +1,4 @@
+pub mod Plans
+pub mod Corners
+pub mod Causes
+pub mod Children

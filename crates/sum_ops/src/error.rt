@@ -1,0 +1,23 @@
+ghost use Rattle.std.specs.Prelude.{◌≡◌};
+ghost use Rattle.sum_ops.specs.declared.error.SumError.TheVariants.{Memory};
+
+use thiserror::Error;
+
+/// Why two matrices have no sum.
+#[derive(Clone, Copy, Debug, PartialEq, Eq, Error)]
+pub enum SumError {
+    /// A matrix is too small, its connecting lines have not the form of the sum, or the corners differ.
+    #[error("no connecting lines of this sum")]
+    BadConnector,
+    /// Memory was refused.
+    #[error("out of memory")]
+    Memory,
+}
+
+impl From<cmr_base::Memory> for SumError {
+    ghost from_gives = { λ _ e. e ≡ Memory };
+
+    fn from(_: cmr_base::Memory) -> Self {
+        SumError::Memory
+    }
+}

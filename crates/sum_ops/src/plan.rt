@@ -1,0 +1,94 @@
+// Matrices of four blocks.
+ghost use Rattle.std.specs.Prelude.{◌≡◌, ◌<◌, ◌≤◌, ◌+◌, ◌-◌, ◌++◌, map, IfOk, OnOk};
+ghost use Rattle.cmr_base.specs.LineSets.{first_lines};
+ghost use Rattle.cmr_base.specs.Matrix.{height, IsEntry, IsMatrix};
+ghost use Rattle.cmr_base.specs.MatrixSums.{filled};
+ghost use Rattle.sum_ops.specs.Plans.{Fits, entries_of, rows_of, columns_of};
+
+use cmr_base::{Matrix, Memory, product};
+use std::alloc::Global;
+
+/// The blocks of a sum: the first so many rows and columns of the first matrix, and the second matrix from a row and a
+/// column on. The upper block, where there is one and it is not zero, is the product of the next column of the first
+/// matrix with row 0 of the second, and the lower block that of column 0 of the second with the next row of the first.
+#[derive(Clone, Copy, Debug)]
+pub struct Plan {
+    pub rows: u32,
+    pub columns: u32,
+    pub up: u32,
+    pub left: u32,
+    pub upper: bool,
+    pub lower: bool,
+}
+
+impl Plan {
+    /// The matrix of the four blocks.
+    pub fn sum(self, alloc: Global, first: &Matrix, second: &Matrix) -> Result<Matrix, Memory>
+        requires fits { Fits self first.now second.now }
+        requires rows { rows_of self second.now ≤ 1000 }
+        requires columns { columns_of self second.now ≤ 1000 }
+        ensures { IfOk result (λ sum. sum ≡ filled (rows_of self second.now) (columns_of self second.now) (entries_of self first.now second.now)) }
+    {
+        let rows = self.rows + (second.rows() - self.up);
+        let columns = self.columns + (second.columns() - self.left);
+        let mut cells = Vec::with_capacity(alloc, rows as usize * columns as usize)?;
+        for row in 0..rows {
+            self.push_row(first, second, row, columns, &mut cells)?;
+        }
+        Matrix::from_cells(alloc, rows, columns, &cells)
+    }
+
+    fn push_row(
+        self,
+        first: &Matrix,
+        second: &Matrix,
+        row: u32,
+        columns: u32,
+        cells: &mut Vec<i8>,
+    ) -> Result<(), Memory>
+        requires fits { Fits self first.now second.now }
+        requires second { IsMatrix second.now }
+        requires row { row < rows_of self second.now }
+        requires columns { columns ≡ columns_of self second.now }
+        ensures { OnOk result (cells.new.items ≡ cells.old.items ++ map (entries_of self first.now second.now row) (first_lines columns)) }
+    {
+        for column in 0..columns {
+            cells.push(self.entry(first, second, row, column))?;
+        }
+        Ok(())
+    }
+
+    fn entry(self, first: &Matrix, second: &Matrix, row: u32, column: u32) -> i8
+        requires fits { Fits self first.now second.now }
+        requires second { IsMatrix second.now }
+        requires row { row < rows_of self second.now }
+        requires column { column < columns_of self second.now }
+        ensures value { result ≡ entries_of self first.now second.now row column }
+        ensures small { IsEntry result }
+    {
+        if row < self.rows {
+            if column < self.columns {
+                first.entry(row, column)
+            } else if self.upper {
+                product(
+                    first.entry(row, self.columns),
+                    second.entry(0, self.left + (column - self.columns)),
+                )
+            } else {
+                0
+            }
+        } else if column >= self.columns {
+            second.entry(
+                self.up + (row - self.rows),
+                self.left + (column - self.columns),
+            )
+        } else if self.lower {
+            product(
+                second.entry(self.up + (row - self.rows), 0),
+                first.entry(self.rows, column),
+            )
+        } else {
+            0
+        }
+    }
+}

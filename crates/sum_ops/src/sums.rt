@@ -1,0 +1,134 @@
+// Sums of two matrices (Truemper, Matroid Decomposition).
+ghost use Rattle.std.specs.Prelude.{◌≡◌, ◌≤◌, ◌+◌, ◌↔◌, IsTrue, IfOk, IfErr};
+ghost use Rattle.cmr_base.specs.Matrix.{height};
+ghost use Rattle.cmr_base.specs.MatrixSums.{HaveTwoSum, HaveThreeSum, connecting_rows, connecting_columns};
+ghost use Rattle.cmr_base.specs.MatrixSums.{one_sum as the_one_sum, two_sum as the_two_sum, three_sum as the_three_sum};
+ghost use Rattle.cmr_base.specs.Separations.{first_is_flat, second_is_flat};
+ghost use Rattle.cmr_base.specs.declared.separation.Form.TheVariants.{Delta, YForm, Mixed};
+ghost use Rattle.sum_ops.specs.Causes.{IsCause};
+ghost use Rattle.sum_ops.specs.Corners.{HaveOneCorner};
+
+use crate::SumError;
+use crate::corners::{first_corner, last_corner};
+use crate::plan::Plan;
+use cmr_base::{Form, Matrix, Memory};
+use std::alloc::Global;
+
+/// The one-sum: the two matrices as diagonal blocks.
+pub fn one_sum(alloc: Global, first: &Matrix, second: &Matrix) -> Result<Matrix, Memory>
+    requires rows { height first.now + height second.now ≤ 1000 }
+    requires columns { first.now.width + second.now.width ≤ 1000 }
+    ensures { IfOk result (λ sum. sum ≡ the_one_sum first.now second.now) }
+{
+    let plan = Plan {
+        rows: first.rows(),
+        columns: first.columns(),
+        up: 0,
+        left: 0,
+        upper: false,
+        lower: false,
+    };
+    plan.sum(alloc, first, second)
+}
+
+/// The two-sum `[A ab; 0 B]` of `[A a]` and `[b; B]`. There is none where the first matrix has no column or the second
+/// no row.
+pub fn two_sum(alloc: Global, first: &Matrix, second: &Matrix) -> Result<Matrix, SumError>
+    requires rows { height first.now + height second.now ≤ 1001 }
+    requires columns { first.now.width + second.now.width ≤ 1001 }
+    ensures sum { IfOk result (λ sum. sum ≡ the_two_sum first.now second.now) }
+    ensures defined { IfOk result (λ _. HaveTwoSum first.now second.now) }
+    ensures cause { IfErr result (IsCause (HaveTwoSum first.now second.now)) }
+{
+    if first.columns() == 0 || second.rows() == 0 {
+        return Err(SumError::BadConnector);
+    }
+    let plan = Plan {
+        rows: first.rows(),
+        columns: first.columns() - 1,
+        up: 1,
+        left: 0,
+        upper: true,
+        lower: false,
+    };
+    Ok(plan.sum(alloc, first, second)?)
+}
+
+/// The delta sum `[A ab; dc B]` of `[A a a; c 0 e]` and `[e 0 b; d d B]`, where e is 1 or -1. `BadConnector` comes where
+/// the matrices have not this form, or have different e.
+pub fn delta_sum(alloc: Global, first: &Matrix, second: &Matrix) -> Result<Matrix, SumError>
+    requires rows { height first.now + height second.now ≤ 1002 }
+    requires columns { first.now.width + second.now.width ≤ 1004 }
+    ensures sum { IfOk result (λ sum. sum ≡ the_three_sum Delta first.now second.now) }
+    ensures defined { IfOk result (λ _. HaveThreeSum Delta first.now second.now) }
+    ensures cause { IfErr result (IsCause (HaveThreeSum Delta first.now second.now)) }
+{
+    three_sum(alloc, Form::Delta, first, second)
+}
+
+/// The Y sum `[A ab; dc B]` of `[A a; c 0; c e]` and `[e b; 0 b; d B]`, in the same way.
+pub fn y_sum(alloc: Global, first: &Matrix, second: &Matrix) -> Result<Matrix, SumError>
+    requires rows { height first.now + height second.now ≤ 1004 }
+    requires columns { first.now.width + second.now.width ≤ 1002 }
+    ensures sum { IfOk result (λ sum. sum ≡ the_three_sum YForm first.now second.now) }
+    ensures defined { IfOk result (λ _. HaveThreeSum YForm first.now second.now) }
+    ensures cause { IfErr result (IsCause (HaveThreeSum YForm first.now second.now)) }
+{
+    three_sum(alloc, Form::YForm, first, second)
+}
+
+/// The mixed sum `[A ab; dc B]` of `[A a; c 0; c e]` and `[e 0 b; d d B]`, in the same way.
+pub fn mixed_sum(alloc: Global, first: &Matrix, second: &Matrix) -> Result<Matrix, SumError>
+    requires rows { height first.now + height second.now ≤ 1003 }
+    requires columns { first.now.width + second.now.width ≤ 1003 }
+    ensures sum { IfOk result (λ sum. sum ≡ the_three_sum Mixed first.now second.now) }
+    ensures defined { IfOk result (λ _. HaveThreeSum Mixed first.now second.now) }
+    ensures cause { IfErr result (IsCause (HaveThreeSum Mixed first.now second.now)) }
+{
+    three_sum(alloc, Form::Mixed, first, second)
+}
+
+fn connecting_rows(flat: bool) -> u32
+    ensures { result ≡ connecting_rows flat }
+{
+    if flat { 1 } else { 2 }
+}
+
+fn connecting_columns(flat: bool) -> u32
+    ensures { result ≡ connecting_columns flat }
+{
+    if flat { 2 } else { 1 }
+}
+
+fn three_sum(alloc: Global, form: Form, first: &Matrix, second: &Matrix) -> Result<Matrix, SumError>
+    requires rows { height first.now + height second.now ≤ 1000 + (connecting_rows (second_is_flat form) + connecting_rows (first_is_flat form)) }
+    requires columns { first.now.width + second.now.width ≤ 1000 + (connecting_columns (second_is_flat form) + connecting_columns (first_is_flat form)) }
+    ensures sum { IfOk result (λ sum. sum ≡ the_three_sum form first.now second.now) }
+    ensures defined { IfOk result (λ _. HaveThreeSum form first.now second.now) }
+    ensures cause { IfErr result (IsCause (HaveThreeSum form first.now second.now)) }
+{
+    let last = form.second_is_flat();
+    let begin = form.first_is_flat();
+    if !have_one_corner(first, second, last, begin) {
+        return Err(SumError::BadConnector);
+    }
+    let plan = Plan {
+        rows: first.rows() - connecting_rows(last),
+        columns: first.columns() - connecting_columns(last),
+        up: connecting_rows(begin),
+        left: connecting_columns(begin),
+        upper: true,
+        lower: true,
+    };
+    Ok(plan.sum(alloc, first, second)?)
+}
+
+// Whether the first matrix ends in connecting lines of a kind, and the second begins with such lines, with one corner.
+fn have_one_corner(first: &Matrix, second: &Matrix, last: bool, begin: bool) -> bool
+    ensures { IsTrue result ↔ HaveOneCorner last begin first.now second.now }
+{
+    match (last_corner(first, last), first_corner(second, begin)) {
+        (Some(one), Some(other)) => one == other,
+        _ => false,
+    }
+}

@@ -1,0 +1,523 @@
+-- The search for the first good seed, level by level.
+use Rattle.std.proofs.Common.{ℕ, zero, suc, ◌+◌, Bool, true, false, cond, List, [], ◌∷◌, ◌++◌, ◌≡◌, ◌≢◌, ◌<◌, ◌≤◌, ◌∙◌, ◌↔◌, sym, ap, refl, arith, subst, ◌⊎◌, inl, inr, length, get_or, nat_eq, ℤ, pos, IsTrue, Option, Some, None, Result, Ok, Err, IfOk, IfSome, IfNone}
+use Rattle.std.proofs.lemmas.Bool.{cases_lt}
+use Rattle.cmr_base.specs.declared.line.Line.{Line}
+use Rattle.cmr_base.specs.declared.line.Line.TheVariants.{Row, Column}
+use Rattle.cmr_base.specs.Matrix.{Matrix, height, entry}
+use Rattle.cmr_base.specs.Members.{IsIn, IsDistinct}
+use Rattle.cmr_base.proofs.Members.{in-append}
+use Rattle.cmr_base.proofs.RowLists.{two_cases, is_eq, is_ne, same_or_not}
+use Rattle.three_sep.specs.declared.half.Half.{Half}
+use Rattle.three_sep.specs.declared.side.Side.{Side}
+use Rattle.three_sep.specs.declared.groups.Groups.{Groups}
+use Rattle.three_sep.specs.declared.corners.Corners.{Corners}
+use Rattle.cmr_base.specs.declared.separation.Form.{Form}
+use Rattle.cmr_base.specs.declared.separation.Form.TheVariants.{Delta, YForm, Mixed}
+use Rattle.cmr_base.specs.declared.separation.Three.{Three}
+use Rattle.cmr_base.specs.Separations.{Lines, first_is_flat, second_is_flat}
+use Rattle.cmr_base.specs.Seeds.{IsLine, form_number, line_number, IsBefore}
+use Rattle.three_sep.specs.NumberedSeeds.{Seed, Among, HasAll, HasNone, count, inside, connector, IsFirstOther, IsSecondOther, AreCorners, IsGoodSeed, seed_key, HasLines, seed_of}
+use Rattle.three_sep.specs.Halves.{is_in, IsHalf, AreSame}
+use Rattle.three_sep.specs.Sides.{set_of, HasRoom, AreInside, IsGrowing, IsLeast, start_lines}
+use Rattle.three_sep.specs.Cuts.{IsCutAt, HasNoCutAt, IsCut, HoldTogether}
+use Rattle.three_sep.specs.Searches.{BeginsWith, HasNoGood, IsFirstOf, HasNoneBelow, corner_front, other_line, LeavesSecond, IsNoSecondRow, IsNoSecondColumn}
+use Rattle.three_sep.proofs.HalfLemmas.{true_or_false}
+use Rattle.three_sep.proofs.SideLemmas.{not_false, outside_less}
+
+-- ---- four lines
+
+abbrev pub minus : (ℕ → Bool) → ℕ → ℕ → Bool
+minus test x y = cond (nat_eq y x) false (test y)
+
+pub unfold_other : (test : ℕ → Bool) (x y : ℕ) → y ≢ x → minus test x y ≡ test y
+unfold_other test x y n = rw (is_ne y x n) refl
+
+pub unfold_same : (test : ℕ → Bool) (x y : ℕ) → y ≡ x → minus test x y ≡ false
+unfold_same test x y e = rw (is_eq y x e) refl
+
+pub count_below : (one two : ℕ → Bool) (size : ℕ) → ((y : ℕ) → y < size → one y ≡ two y) → count one size ≡ count two size
+count_below one two zero h = refl
+count_below one two (suc k) h = rw (h k (omega arith), count_below one two k (λ y l. h y (omega arith))) refl
+
+pub count_minus : (test : ℕ → Bool) (x size : ℕ) → x < size → test x ≡ true → count test size ≡ suc (count (minus test x) size)
+count_minus test x zero l e = absurd (omega arith)
+count_minus test x (suc k) l e = elim (same_or_not k x) [
+  | inl same ↦
+      rw (unfold_same test x k same, ap test same ∙ e)
+      (ap suc (count_below test (minus test x) k (λ y low. sym (unfold_other test x y (λ h. omega arith)))))
+  | inr n ↦ rw (unfold_other test x k n) (elim (two_cases (test k)) [
+    | inl t ↦ rw t (ap suc (count_minus test x k (omega (arith, n)) e))
+    | inr f ↦ rw f (count_minus test x k (omega (arith, n)) e)
+  ])
+]
+
+pub count_least : (test : ℕ → Bool) (size : ℕ) (xs : List ℕ) → IsDistinct xs → ((x : ℕ) → IsIn x xs → (x < size) × (test x ≡ true)) → length xs ≤ count test size
+count_least test size [] d h = omega arith
+count_least test size (x ∷ xs) d h =
+    let here = h x (inl refl) in
+    let rest = count_least (minus test x) size xs d.1 (λ y g. ((h y (inr g)).0, unfold_other test x y (λ e. d.0 (subst (λ (z : ℕ). IsIn z xs) e g)) ∙ (h y (inr g)).1)) in
+    let e = count_minus test x size here.0 here.1 in
+    omega arith
+
+four_lines : (m n : ℕ) (S : Lines) (rows columns : List ℕ) → IsDistinct rows → IsDistinct columns → ((r : ℕ) → IsIn r rows → (r < m) × (S (Row r) ≡ true)) → ((c : ℕ) → IsIn c columns → (c < n) × (S (Column c) ≡ true))
+    → length rows + length columns ≡ 4 → 4 ≤ inside m n S
+four_lines m n S rows columns dr dc hr hc e = let a = count_least (λ r. S (Row r)) m rows dr hr in let b = count_least (λ c. S (Column c)) n columns dc hc in omega arith
+
+in_one : (P : ℕ → Type 0) (a : ℕ) → P a → (x : ℕ) → IsIn x (a ∷ []) → P x
+in_one P a pa x (inl e) = subst P (sym e) pa
+in_one P a pa x (inr h) = absurd h
+
+in_two : (P : ℕ → Type 0) (a b : ℕ) → P a → P b → (x : ℕ) → IsIn x (a ∷ b ∷ []) → P x
+in_two P a b pa pb x (inl e) = subst P (sym e) pa
+in_two P a b pa pb x (inr h) = in_one P b pb x h
+
+in_three : (P : ℕ → Type 0) (a b c : ℕ) → P a → P b → P c → (x : ℕ) → IsIn x (a ∷ b ∷ c ∷ []) → P x
+in_three P a b c pa pb pc x (inl e) = subst P (sym e) pa
+in_three P a b c pa pb pc x (inr h) = in_two P b c pb pc x h
+
+two_apart : (a b : ℕ) → a ≢ b → IsDistinct (a ∷ b ∷ [])
+two_apart a b n = ((λ h. elim h [ inl e ↦ n e | inr g ↦ g ]), ((λ h. h), tt))
+
+three_apart : (a b c : ℕ) → a ≢ b → a ≢ c → b ≢ c → IsDistinct (a ∷ b ∷ c ∷ [])
+three_apart a b c n1 n2 n3 = ((λ h. elim h [ inl e ↦ n1 e | inr g ↦ elim g [ inl e ↦ n2 e | inr k ↦ k ] ]), two_apart b c n3)
+
+one_apart : (a : ℕ) → IsDistinct (a ∷ [])
+one_apart a = ((λ h. h), tt)
+
+-- a connector and a line beside it
+enough_lines : (m n : ℕ) (M : ℕ → ℕ → ℤ) (flat : Bool) (i p k j q : ℕ) (x : Line) (S : Lines) → M i p ≢ pos 0 → IsFirstOther flat M i p k j q → IsLine m n x → ((y : Line) → Among (connector flat i p q) y → IsLine m n y)
+    → ¬ (Among (connector flat i p q) x) → HasAll S (x ∷ connector flat i p q) → 4 ≤ inside m n S
+enough_lines m n M true i p k j q (Row r) S np other l lines beside has =
+    let P : ℕ → Type 0 = λ z. (z < m) × (S (Row z) ≡ true) in
+    let Q : ℕ → Type 0 = λ z. (z < n) × (S (Column z) ≡ true) in
+    four_lines m n S (r ∷ i ∷ []) (p ∷ q ∷ []) (two_apart r i (λ e. beside (inl (ap Row e)))) (two_apart p q (λ e. np (ap (λ (z : ℕ). M i z) e ∙ other.0)))
+    (in_two P r i (l, has (Row r) (inl refl)) (lines (Row i) (inl refl), has (Row i) (inr (inl refl))))
+    (in_two Q p q (lines (Column p) (inr (inl refl)), has (Column p) (inr (inr (inl refl)))) (lines (Column q) (inr (inr (inl refl))), has (Column q) (inr (inr (inr (inl refl)))))) refl
+enough_lines m n M true i p k j q (Column c) S np other l lines beside has =
+    let P : ℕ → Type 0 = λ z. (z < m) × (S (Row z) ≡ true) in
+    let Q : ℕ → Type 0 = λ z. (z < n) × (S (Column z) ≡ true) in
+    four_lines m n S (i ∷ []) (c ∷ p ∷ q ∷ []) (one_apart i) (three_apart c p q (λ e. beside (inr (inl (ap Column e)))) (λ e. beside (inr (inr (inl (ap Column e))))) (λ e. np (ap (λ (z : ℕ). M i z) e ∙ other.0)))
+    (in_one P i (lines (Row i) (inl refl), has (Row i) (inr (inl refl))))
+    (in_three Q c p q (l, has (Column c) (inl refl)) (lines (Column p) (inr (inl refl)), has (Column p) (inr (inr (inl refl)))) (lines (Column q) (inr (inr (inl refl))), has (Column q) (inr (inr (inr (inl refl)))))) refl
+enough_lines m n M false i p k j q (Row r) S np other l lines beside has =
+    let P : ℕ → Type 0 = λ z. (z < m) × (S (Row z) ≡ true) in
+    let Q : ℕ → Type 0 = λ z. (z < n) × (S (Column z) ≡ true) in
+    four_lines m n S (r ∷ i ∷ q ∷ []) (p ∷ []) (three_apart r i q (λ e. beside (inl (ap Row e))) (λ e. beside (inr (inr (inl (ap Row e))))) (λ e. np (ap (λ (z : ℕ). M z p) e ∙ other.0))) (one_apart p)
+    (in_three P r i q (l, has (Row r) (inl refl)) (lines (Row i) (inl refl), has (Row i) (inr (inl refl))) (lines (Row q) (inr (inr (inl refl))), has (Row q) (inr (inr (inr (inl refl))))))
+    (in_one Q p (lines (Column p) (inr (inl refl)), has (Column p) (inr (inr (inl refl))))) refl
+enough_lines m n M false i p k j q (Column c) S np other l lines beside has =
+    let P : ℕ → Type 0 = λ z. (z < m) × (S (Row z) ≡ true) in
+    let Q : ℕ → Type 0 = λ z. (z < n) × (S (Column z) ≡ true) in
+    four_lines m n S (i ∷ q ∷ []) (c ∷ p ∷ []) (two_apart i q (λ e. np (ap (λ (z : ℕ). M z p) e ∙ other.0))) (two_apart c p (λ e. beside (inr (inl (ap Column e)))))
+    (in_two P i q (lines (Row i) (inl refl), has (Row i) (inr (inl refl))) (lines (Row q) (inr (inr (inl refl))), has (Row q) (inr (inr (inr (inl refl))))))
+    (in_two Q c p (l, has (Column c) (inl refl)) (lines (Column p) (inr (inl refl)), has (Column p) (inr (inr (inl refl))))) refl
+
+corner_row : (flat : Bool) (r c o : ℕ) → Among (connector flat r c o) (Row r)
+corner_row true r c o = inl refl
+corner_row false r c o = inl refl
+
+corner_column : (flat : Bool) (r c o : ℕ) → Among (connector flat r c o) (Column c)
+corner_column true r c o = inr (inl refl)
+corner_column false r c o = inr (inl refl)
+
+corner_other : (flat : Bool) (r c o : ℕ) → Among (connector flat r c o) (other_line flat o)
+corner_other true r c o = inr (inr (inl refl))
+corner_other false r c o = inr (inr (inl refl))
+
+abbrev pub corners_of : Seed → Corners
+corners_of s = record { i = s.i; p = s.p; k = s.k; j = s.j }
+
+-- the side of a good seed is a cut
+pub good_is_cut_at : (m : Matrix) (s : Seed) (S : Lines) → IsGoodSeed (height m) m.width (entry m) s S → IsCutAt m (corners_of s) S
+good_is_cut_at m s S g = record {
+  closed = g.side.closed;
+  row_one = g.side.has (Row s.i) (inr (corner_row (first_is_flat s.form) s.i s.p s.q));
+  column_one = g.side.has (Column s.p) (inr (corner_column (first_is_flat s.form) s.i s.p s.q));
+  row_two = g.two (Row s.k) (corner_row (second_is_flat s.form) s.k s.j s.o);
+  column_two = g.two (Column s.j) (corner_column (second_is_flat s.form) s.k s.j s.o);
+  enough_one = enough_lines (height m) m.width (entry m) (first_is_flat s.form) s.i s.p s.k s.j s.q s.x S g.connectors.corners.first g.connectors.first_other g.line g.connectors.first_lines g.beside_first g.side.has;
+  enough_two = g.enough;
+}
+
+pub good_inside : (m : Matrix) (s : Seed) (S : Lines) → IsGoodSeed (height m) m.width (entry m) s S → AreInside m (corners_of s)
+good_inside m s S g = record {
+  row_one = g.connectors.first_lines (Row s.i) (corner_row (first_is_flat s.form) s.i s.p s.q);
+  column_one = g.connectors.first_lines (Column s.p) (corner_column (first_is_flat s.form) s.i s.p s.q);
+  row_two = g.connectors.second_lines (Row s.k) (corner_row (second_is_flat s.form) s.k s.j s.o);
+  column_two = g.connectors.second_lines (Column s.j) (corner_column (second_is_flat s.form) s.k s.j s.o);
+}
+
+pub good_is_cut : (m : Matrix) (s : Seed) (S : Lines) → IsGoodSeed (height m) m.width (entry m) s S → IsCut m S
+good_is_cut m s S g = record { corners = corners_of s; are_inside = good_inside m s S g; right = g.connectors.corners.right; below = g.connectors.corners.below; cut = good_is_cut_at m s S g }
+
+-- ---- fronts
+
+pub next_number : (front ys : List ℕ) → BeginsWith front ys → length front < length ys → (b : ℕ) × BeginsWith (front ++ b ∷ []) ys
+next_number [] [] h l = absurd (omega arith)
+next_number [] (y ∷ ys) h l = (y, (refl, tt))
+next_number (x ∷ xs) [] h l = absurd h
+next_number (x ∷ xs) (y ∷ ys) h l = let (b, g) = next_number xs ys h.1 (omega arith) in (b, (h.0, g))
+
+pub begins_shorter : (front ys : List ℕ) (b : ℕ) → BeginsWith (front ++ b ∷ []) ys → BeginsWith front ys
+begins_shorter [] ys b h = tt
+begins_shorter (x ∷ xs) [] b h = absurd h
+begins_shorter (x ∷ xs) (y ∷ ys) b h = (h.0, begins_shorter xs ys b h.1)
+
+not_before : (front ys zs : List ℕ) (a b : ℕ) → BeginsWith (front ++ b ∷ []) ys → BeginsWith (front ++ a ∷ []) zs → a < b → ¬ (IsBefore ys zs)
+not_before [] [] zs a b hb ha l h = absurd hb
+not_before [] (y ∷ ys) [] a b hb ha l h = absurd ha
+not_before [] (y ∷ ys) (z ∷ zs) a b hb ha l (inl low) = let e = hb.0 in let f = ha.0 in omega arith
+not_before [] (y ∷ ys) (z ∷ zs) a b hb ha l (inr same) = let e = hb.0 in let f = ha.0 in let g = same.0 in omega arith
+not_before (x ∷ xs) [] zs a b hb ha l h = absurd hb
+not_before (x ∷ xs) (y ∷ ys) [] a b hb ha l h = absurd ha
+not_before (x ∷ xs) (y ∷ ys) (z ∷ zs) a b hb ha l (inl low) = let e = hb.0 in let f = ha.0 in omega arith
+not_before (x ∷ xs) (y ∷ ys) (z ∷ zs) a b hb ha l (inr same) = not_before xs ys zs a b hb.1 ha.1 l same.1
+
+pub level_ends : (m : Matrix) (front : List ℕ) (bound : ℕ) → length front < 8 → HasNoneBelow m front bound
+    → ((s : Seed) (S : Lines) (b : ℕ) → IsGoodSeed (height m) m.width (entry m) s S → BeginsWith (front ++ b ∷ []) (seed_key (height m) s) → b < bound) → HasNoGood m front
+level_ends m front bound short none within s S begins good =
+    let (b, h) = next_number front (seed_key (height m) s) begins (omega arith) in
+    none b (within s S b good h) s S h good
+
+pub none_below_more : (m : Matrix) (front : List ℕ) (a : ℕ) → HasNoneBelow m front a → HasNoGood m (front ++ a ∷ []) → HasNoneBelow m front (a + 1)
+none_below_more m front a before here b l = elim (same_or_not b a) [
+  | inl e ↦ subst (λ (z : ℕ). HasNoGood m (front ++ z ∷ [])) (sym e) here
+  | inr n ↦ before b (omega (arith, n))
+]
+
+pub level_found : (m : Matrix) (front : List ℕ) (a : ℕ) (three : Three) → length front < 8 → HasNoneBelow m front a → IsFirstOf m (front ++ a ∷ []) three → IsFirstOf m front three
+level_found m front a three short before found = record {
+  x = found.x;
+  side = found.side;
+  begins = begins_shorter front (seed_key (height m) (seed_of three found.x)) a found.begins;
+  good = found.good;
+  first = λ other T begins good.
+      let (b, h) = next_number front (seed_key (height m) other) begins (omega arith) in
+      elim (cases_lt b a) [
+        | inl l ↦ absurd (before b l other T h good)
+        | inr ge ↦ elim (same_or_not b a) [
+          | inl e ↦ found.first other T (subst (λ (z : ℕ). BeginsWith (front ++ z ∷ []) (seed_key (height m) other)) e h) good
+          | inr n ↦ not_before front (seed_key (height m) other) (seed_key (height m) (seed_of three found.x)) a b h found.begins (omega (arith, n))
+        ]
+      ];
+  lines = found.lines;
+}
+
+-- ---- seeds by their fronts
+
+abbrev pub seed_at : Form → Corners → ℕ → ℕ → Line → Seed
+seed_at form c q o x = record { form = form; i = c.i; p = c.p; k = c.k; j = c.j; q = q; o = o; x = x }
+
+pub form_is : (a b : Form) → form_number a ≡ form_number b → a ≡ b
+form_is Delta Delta e = refl
+form_is Delta YForm e = absurd (omega arith)
+form_is Delta Mixed e = absurd (omega arith)
+form_is YForm Delta e = absurd (omega arith)
+form_is YForm YForm e = refl
+form_is YForm Mixed e = absurd (omega arith)
+form_is Mixed Delta e = absurd (omega arith)
+form_is Mixed YForm e = absurd (omega arith)
+form_is Mixed Mixed e = refl
+
+seed_is : (s : Seed) (kind : Form) (i p k j q o : ℕ) (x : Line) → kind ≡ s.form → i ≡ s.i → p ≡ s.p → k ≡ s.k → j ≡ s.j → q ≡ s.q → o ≡ s.o → x ≡ s.x
+    → s ≡ record { form = kind; i = i; p = p; k = k; j = j; q = q; o = o; x = x }
+seed_is s kind i p k j q o x e1 e2 e3 e4 e5 e6 e7 e8 = rw (e1, e2, e3, e4, e5, e6, e7, e8) refl
+
+pub seed_from_corners : (m : Matrix) (form : Form) (c : Corners) (s : Seed) → BeginsWith (corner_front form c) (seed_key (height m) s) → s ≡ seed_at form c s.q s.o s.x
+seed_from_corners m form c s h = seed_is s form c.i c.p c.k c.j s.q s.o s.x (form_is form s.form h.0) h.1.0 h.1.1.0 h.1.1.1.0 h.1.1.1.1.0 refl refl refl
+
+pub seed_from_first : (m : Matrix) (form : Form) (c : Corners) (q : ℕ) (s : Seed) → BeginsWith (corner_front form c ++ q ∷ []) (seed_key (height m) s) → s ≡ seed_at form c q s.o s.x
+seed_from_first m form c q s h = seed_is s form c.i c.p c.k c.j q s.o s.x (form_is form s.form h.0) h.1.0 h.1.1.0 h.1.1.1.0 h.1.1.1.1.0 h.1.1.1.1.1.0 refl refl
+
+pub seed_from_second : (m : Matrix) (form : Form) (c : Corners) (q o : ℕ) (s : Seed) → BeginsWith (corner_front form c ++ q ∷ o ∷ []) (seed_key (height m) s) → s ≡ seed_at form c q o s.x
+seed_from_second m form c q o s h = seed_is s form c.i c.p c.k c.j q o s.x (form_is form s.form h.0) h.1.0 h.1.1.0 h.1.1.1.0 h.1.1.1.1.0 h.1.1.1.1.1.0 h.1.1.1.1.1.1.0 refl
+
+pub line_is : (m n : ℕ) (x y : Line) → IsLine m n x → IsLine m n y → line_number m x ≡ line_number m y → x ≡ y
+line_is m n (Row r) (Row s) lx ly e = ap Row e
+line_is m n (Row r) (Column c) lx ly e = absurd (omega arith)
+line_is m n (Column c) (Row r) lx ly e = absurd (omega arith)
+line_is m n (Column c) (Column d) lx ly e = ap Column (omega arith)
+
+pub seed_from_all : (m : Matrix) (form : Form) (c : Corners) (q o place : ℕ) (x : Line) (s : Seed) → IsLine (height m) m.width x → IsLine (height m) m.width s.x → line_number (height m) x ≡ place
+    → BeginsWith (corner_front form c ++ q ∷ o ∷ place ∷ []) (seed_key (height m) s) → s ≡ seed_at form c q o x
+seed_from_all m form c q o place x s lx ls e h =
+    seed_is s form c.i c.p c.k c.j q o x (form_is form s.form h.0) h.1.0 h.1.1.0 h.1.1.1.0 h.1.1.1.1.0 h.1.1.1.1.1.0 h.1.1.1.1.1.1.0 (line_is (height m) m.width x s.x lx ls (e ∙ h.1.1.1.1.1.1.1.0))
+
+-- ---- what is passed over
+
+module _ (m : Matrix) (form : Form) where
+  pub no_good_corner : (i p : ℕ) → entry m i p ≡ pos 0 → HasNoGood m (form_number form ∷ i ∷ p ∷ [])
+  no_good_corner i p e s S h g = g.connectors.corners.first (rw (sym h.1.0, sym h.1.1.0) e)
+
+  pub no_good_second_row : (groups : Groups) (i p k : ℕ) → HoldTogether (IsCut m) m groups → IsNoSecondRow m groups i p k → HasNoGood m (form_number form ∷ i ∷ p ∷ k ∷ [])
+  no_good_second_row groups i p k hold no_row s S h g =
+      let cut = good_is_cut_at m s S g in
+      let within = good_inside m s S g in
+      let T = hold S (good_is_cut m s S g) in
+      elim no_row [
+        | inl e ↦ g.connectors.corners.below (rw (sym h.1.1.0, sym h.1.1.1.0) e)
+        | inr (inl e) ↦ true_or_false (S (Row s.i)) cut.row_one (T (Row s.i) (Row s.k) within.row_one within.row_two (rw (sym h.1.0, sym h.1.1.1.0) e) ∙ cut.row_two)
+        | inr (inr e) ↦ true_or_false (S (Column s.p)) cut.column_one (T (Column s.p) (Row s.k) within.column_one within.row_two (rw (sym h.1.1.0, sym h.1.1.1.0) e) ∙ cut.row_two)
+      ]
+
+  pub no_good_second_column : (groups : Groups) (i p k j : ℕ) → HoldTogether (IsCut m) m groups → IsNoSecondColumn m groups i p k j → HasNoGood m (form_number form ∷ i ∷ p ∷ k ∷ j ∷ [])
+  no_good_second_column groups i p k j hold no_column s S h g =
+      let cut = good_is_cut_at m s S g in
+      let within = good_inside m s S g in
+      let T = hold S (good_is_cut m s S g) in
+      elim no_column [
+        | inl e ↦ g.connectors.corners.second (rw (sym h.1.1.1.0, sym h.1.1.1.1.0) e)
+        | inr (inl e) ↦ g.connectors.corners.right (rw (sym h.1.0, sym h.1.1.1.1.0) e)
+        | inr (inr (inl e)) ↦ true_or_false (S (Row s.i)) cut.row_one (T (Row s.i) (Column s.j) within.row_one within.column_two (rw (sym h.1.0, sym h.1.1.1.1.0) e) ∙ cut.column_two)
+        | inr (inr (inr e)) ↦ true_or_false (S (Column s.p)) cut.column_one (T (Column s.p) (Column s.j) within.column_one within.column_two (rw (sym h.1.1.0, sym h.1.1.1.1.0) e) ∙ cut.column_two)
+      ]
+
+  module _ (c : Corners) where
+    pub no_good_corners : HasNoCutAt m c → HasNoGood m (corner_front form c)
+    no_good_corners none s S h g =
+        none S (good_is_cut_at m (seed_at form c s.q s.o s.x) S (subst (λ (z : Seed). IsGoodSeed (height m) m.width (entry m) z S) (seed_from_corners m form c s h) g))
+
+    pub no_good_first : (q : ℕ) → ¬ (IsFirstOther (first_is_flat form) (entry m) c.i c.p c.k c.j q) → HasNoGood m (corner_front form c ++ q ∷ [])
+    no_good_first q none s S h g = none (subst (λ (z : Seed). IsGoodSeed (height m) m.width (entry m) z S) (seed_from_first m form c q s h) g).connectors.first_other
+
+    pub no_good_second : (q o : ℕ) → ¬ (IsSecondOther (second_is_flat form) (entry m) c.i c.p c.k c.j o) → HasNoGood m (corner_front form c ++ q ∷ o ∷ [])
+    no_good_second q o none s S h g = none (subst (λ (z : Seed). IsGoodSeed (height m) m.width (entry m) z S) (seed_from_second m form c q o s h) g).connectors.second_other
+
+    -- the first connector's closed side has the second's other line
+    pub no_good_held : (q o : ℕ) (L : Lines) → IsLeast m c (connector (first_is_flat form) c.i c.p q) L → L (other_line (second_is_flat form) o) ≡ true → HasNoGood m (corner_front form c ++ q ∷ o ∷ [])
+    no_good_held q o L least held s S h g0 =
+        let g = subst (λ (z : Seed). IsGoodSeed (height m) m.width (entry m) z S) (seed_from_second m form c q o s h) g0 in
+        true_or_false (S (other_line (second_is_flat form) o)) (least.least S g.side.closed (λ x a. g.side.has x (inr a)) (other_line (second_is_flat form) o) held)
+        (g.two (other_line (second_is_flat form) o) (corner_other (second_is_flat form) c.k c.j o))
+
+    module _ (q o place : ℕ) (x : Line) (lx : IsLine (height m) m.width x) (number : line_number (height m) x ≡ place) where
+      pub no_good_beside : Among (connector (first_is_flat form) c.i c.p q) x ⊎ Among (connector (second_is_flat form) c.k c.j o) x → HasNoGood m (corner_front form c ++ q ∷ o ∷ place ∷ [])
+      no_good_beside among s S h g0 =
+          let g = subst (λ (z : Seed). IsGoodSeed (height m) m.width (entry m) z S) (seed_from_all m form c q o place x s lx g0.line number h) g0 in
+          elim among [ inl a ↦ g.beside_first a | inr a ↦ g.beside_second a ]
+
+      pub no_good_line : (L : Lines) → IsLeast m c (x ∷ connector (first_is_flat form) c.i c.p q) L → ¬ (LeavesSecond m c (other_line (second_is_flat form) o) L) → HasNoGood m (corner_front form c ++ q ∷ o ∷ place ∷ [])
+      no_good_line L least unfit s S h g0 =
+          let g = subst (λ (z : Seed). IsGoodSeed (height m) m.width (entry m) z S) (seed_from_all m form c q o place x s lx g0.line number h) g0 in
+          let within : (y : Line) → L y ≡ true → S y ≡ true = least.least S g.side.closed g.side.has in
+          let out : (y : Line) → S y ≡ false → L y ≡ false = λ y e. not_false (L y) (λ t. true_or_false (S y) (within y t) e) in
+          unfit (record {
+            row = out (Row c.k) (g.two (Row c.k) (corner_row (second_is_flat form) c.k c.j o));
+            column = out (Column c.j) (g.two (Column c.j) (corner_column (second_is_flat form) c.k c.j o));
+            other = out (other_line (second_is_flat form) o) (g.two (other_line (second_is_flat form) o) (corner_other (second_is_flat form) c.k c.j o));
+            enough = let a = outside_less (height m) m.width L S within in let b = g.enough in omega arith;
+          })
+
+-- ---- what is found
+
+lines_of_connector : (m n : ℕ) (flat : Bool) (r c o : ℕ) → r < m → c < n → IsLine m n (other_line flat o) → (x : Line) → Among (connector flat r c o) x → IsLine m n x
+lines_of_connector m n true r c o lr lc lo x (inl e) = subst (IsLine m n) (sym e) lr
+lines_of_connector m n true r c o lr lc lo x (inr (inl e)) = subst (IsLine m n) (sym e) lc
+lines_of_connector m n true r c o lr lc lo x (inr (inr (inl e))) = subst (IsLine m n) (sym e) lo
+lines_of_connector m n true r c o lr lc lo x (inr (inr (inr h))) = absurd h
+lines_of_connector m n false r c o lr lc lo x (inl e) = subst (IsLine m n) (sym e) lr
+lines_of_connector m n false r c o lr lc lo x (inr (inl e)) = subst (IsLine m n) (sym e) lc
+lines_of_connector m n false r c o lr lc lo x (inr (inr (inl e))) = subst (IsLine m n) (sym e) lo
+lines_of_connector m n false r c o lr lc lo x (inr (inr (inr h))) = absurd h
+
+none_of_connector : (flat : Bool) (r c o : ℕ) (S : Lines) → S (Row r) ≡ false → S (Column c) ≡ false → S (other_line flat o) ≡ false → HasNone S (connector flat r c o)
+none_of_connector true r c o S er ec eo x (inl e) = ap S e ∙ er
+none_of_connector true r c o S er ec eo x (inr (inl e)) = ap S e ∙ ec
+none_of_connector true r c o S er ec eo x (inr (inr (inl e))) = ap S e ∙ eo
+none_of_connector true r c o S er ec eo x (inr (inr (inr h))) = absurd h
+none_of_connector false r c o S er ec eo x (inl e) = ap S e ∙ er
+none_of_connector false r c o S er ec eo x (inr (inl e)) = ap S e ∙ ec
+none_of_connector false r c o S er ec eo x (inr (inr (inl e))) = ap S e ∙ eo
+none_of_connector false r c o S er ec eo x (inr (inr (inr h))) = absurd h
+
+not_before_itself : (ys : List ℕ) → ¬ (IsBefore ys ys)
+not_before_itself [] h = h
+not_before_itself (y ∷ ys) (inl l) = omega arith
+not_before_itself (y ∷ ys) (inr h) = not_before_itself ys h.1
+
+begins_itself : (ys : List ℕ) → BeginsWith ys ys
+begins_itself [] = tt
+begins_itself (y ∷ ys) = (refl, begins_itself ys)
+
+module _ (m : Matrix) (form : Form) (c : Corners) (q o place : ℕ) (x : Line) (S : Lines) (three : Three) where
+  pub seed_good : AreInside m c → AreCorners (entry m) c.i c.p c.k c.j → IsFirstOther (first_is_flat form) (entry m) c.i c.p c.k c.j q → IsSecondOther (second_is_flat form) (entry m) c.i c.p c.k c.j o
+      → IsLine (height m) m.width (other_line (first_is_flat form) q) → IsLine (height m) m.width (other_line (second_is_flat form) o) → IsLine (height m) m.width x
+      → ¬ (Among (connector (first_is_flat form) c.i c.p q) x) → ¬ (Among (connector (second_is_flat form) c.k c.j o) x) → IsLeast m c (x ∷ connector (first_is_flat form) c.i c.p q) S
+      → LeavesSecond m c (other_line (second_is_flat form) o) S → IsGoodSeed (height m) m.width (entry m) (seed_at form c q o x) S
+  seed_good within corners f1 f2 l1 l2 lx b1 b2 least leaves = record {
+    connectors = record {
+      corners = corners;
+      first_other = f1;
+      second_other = f2;
+      first_lines = lines_of_connector (height m) m.width (first_is_flat form) c.i c.p q within.row_one within.column_one l1;
+      second_lines = lines_of_connector (height m) m.width (second_is_flat form) c.k c.j o within.row_two within.column_two l2;
+    };
+    line = lx;
+    beside_first = b1;
+    beside_second = b2;
+    side = record { closed = least.closed; has = least.has; least = λ T closed has y l e. least.least T closed has y e };
+    two = none_of_connector (second_is_flat form) c.k c.j o S leaves.row leaves.column leaves.other;
+    enough = leaves.enough;
+  }
+
+  pub three_is : three.form ≡ form → three.first ≡ record { row = c.i; column = c.p; other = q } → three.second ≡ record { row = c.k; column = c.j; other = o } → seed_of three x ≡ seed_at form c q o x
+  three_is e1 e2 e3 = rw (e1, e2, e3) refl
+
+  pub found_here : seed_of three x ≡ seed_at form c q o x → IsGoodSeed (height m) m.width (entry m) (seed_at form c q o x) S → IsLine (height m) m.width x → line_number (height m) x ≡ place
+      → HasLines (height m) m.width S three.side.rows three.side.columns → IsFirstOf m (corner_front form c ++ q ∷ o ∷ place ∷ []) three
+  found_here e good lx number lines = record {
+    x = x;
+    side = S;
+    begins = subst (λ (z : Seed). BeginsWith (corner_front form c ++ q ∷ o ∷ place ∷ []) (seed_key (height m) z)) (sym e) (refl, (refl, (refl, (refl, (refl, (refl, (refl, (sym number, tt))))))));
+    good = subst (λ (z : Seed). IsGoodSeed (height m) m.width (entry m) z S) (sym e) good;
+    first = λ other T begins g before.
+        not_before_itself (seed_key (height m) other)
+        (subst (λ (z : Seed). IsBefore (seed_key (height m) other) (seed_key (height m) z)) (e ∙ sym (seed_from_all m form c q o place x other lx g.line number begins)) before);
+    lines = lines;
+  }
+
+-- ---- copies
+
+pub half_same : (size : ℕ) (one two : Half) → AreSame one two → IsHalf size two → IsHalf size one
+half_same size one two same w =
+    let is : (x : ℕ) → is_in one x ≡ is_in two x = λ x. ap (λ (v : List Bool). get_or v x false) same.inside in
+    record {
+      size = ap (λ (v : List Bool). length v) same.inside ∙ w.size;
+      few = w.few;
+      outside_in = λ x h. w.outside_in x (subst (λ (v : List ℕ). IsIn x v) same.outside h);
+      fresh_in = λ x h. w.fresh_in x (subst (λ (v : List ℕ). IsIn x v) same.fresh h);
+      fresh_inside = λ x h. is x ∙ w.fresh_inside x (subst (λ (v : List ℕ). IsIn x v) same.fresh h);
+      covered = λ x l e. subst (λ (v : List ℕ). IsIn x v) (sym same.outside) (w.covered x l (sym (is x) ∙ e));
+    }
+
+pub room_same : (m : Matrix) (one two : Side) → AreSame one.rows two.rows → AreSame one.columns two.columns → HasRoom m two → HasRoom m one
+room_same m one two rows columns w = record { rows = half_same (height m) one.rows two.rows rows w.rows; columns = half_same m.width one.columns two.columns columns w.columns }
+
+pub growing_same : (m : Matrix) (c : Corners) (start : List Line) (one two : Side) → AreSame one.rows two.rows → AreSame one.columns two.columns → IsGrowing m c start two → IsGrowing m c start one
+growing_same m c start one two rows columns g = record {
+  has = λ x h. is x ∙ g.has x h;
+  least = λ T closed has x e. g.least T closed has x (sym (is x) ∙ e);
+  right = λ r k lr lk er ek. elim (g.right r k lr lk (sym (is (Row r)) ∙ er) (sym (is (Column k)) ∙ ek)) [ inl h ↦ inl (subst (λ (v : List ℕ). IsIn r v) (sym rows.fresh) h) | inr e ↦ inr e ];
+  below = λ r k lr lk er ek. elim (g.below r k lr lk (sym (is (Row r)) ∙ er) (sym (is (Column k)) ∙ ek)) [ inl h ↦ inl (subst (λ (v : List ℕ). IsIn k v) (sym columns.fresh) h) | inr e ↦ inr e ];
+}
+  where
+    is : (x : Line) → set_of one x ≡ set_of two x
+    is (Row r) = ap (λ (v : List Bool). get_or v r false) rows.inside
+    is (Column k) = ap (λ (v : List Bool). get_or v k false) columns.inside
+
+-- ---- all forms
+
+pub none_of_forms : (m : Matrix) → HasNoGood m (0 ∷ []) → HasNoGood m (1 ∷ []) → HasNoGood m (2 ∷ []) → HasNoGood m []
+none_of_forms m a b c s S h g = go s.form refl
+  where
+    go : (f : Form) → s.form ≡ f → ⊥
+    go Delta e = a s S (ap form_number (sym e), tt) g
+    go YForm e = b s S (ap form_number (sym e), tt) g
+    go Mixed e = c s S (ap form_number (sym e), tt) g
+
+pub below_one : (m : Matrix) → HasNoGood m (0 ∷ []) → HasNoneBelow m [] 1
+below_one m a b l = subst (λ (z : ℕ). HasNoGood m (z ∷ [])) (omega arith) a
+
+pub below_two : (m : Matrix) → HasNoGood m (0 ∷ []) → HasNoGood m (1 ∷ []) → HasNoneBelow m [] 2
+below_two m a c b l = elim (same_or_not b 0) [
+  | inl e ↦ subst (λ (z : ℕ). HasNoGood m (z ∷ [])) (sym e) a
+  | inr n ↦ subst (λ (z : ℕ). HasNoGood m (z ∷ [])) (omega (arith, n)) c
+]
+
+pub below_none : (m : Matrix) → HasNoneBelow m [] 0
+below_none m b l = absurd (omega arith)
+
+-- ---- answers of calls
+
+pub found_some : (m : Matrix) (front : List ℕ) (a : ℕ) (o : Option Three) (three : Three) → length front < 8 → HasNoneBelow m front a → o ≡ Some three → IfSome o (IsFirstOf m (front ++ a ∷ [])) → IsFirstOf m front three
+found_some m front a o three short before e h = level_found m front a three short before (subst (λ (z : Option Three). IfSome z (IsFirstOf m (front ++ a ∷ []))) e h)
+
+pub none_more : (m : Matrix) (front : List ℕ) (a : ℕ) (o : Option Three) → HasNoneBelow m front a → o ≡ None → IfNone o (HasNoGood m (front ++ a ∷ [])) → HasNoneBelow m front (a + 1)
+none_more m front a o before e h = none_below_more m front a before (subst (λ (z : Option Three). IfNone z (HasNoGood m (front ++ a ∷ []))) e h)
+
+pub none_of : (Q : Type 0) (o : Option Three) → o ≡ None → IfNone o Q → Q
+none_of Q o e h = subst (λ (z : Option Three). IfNone z Q) e h
+
+pub map_first : {E : Type 0} (P Q : Three → Type 0) (r : Result (Option Three) E) → ((x : Three) → P x → Q x) → IfOk r (λ a. IfSome a P) → IfOk r (λ a. IfSome a Q)
+map_first P Q (Ok None) f h = h
+map_first P Q (Ok (Some x)) f h = f x h
+map_first P Q (Err e) f h = h
+
+pub map_none : {E : Type 0} (P Q : Type 0) (r : Result (Option Three) E) → (P → Q) → IfOk r (λ a. IfNone a P) → IfOk r (λ a. IfNone a Q)
+map_none P Q (Ok None) f h = f h
+map_none P Q (Ok (Some x)) f h = h
+map_none P Q (Err e) f h = h
+
+pub first_of_three_forms : {E : Type 0} (m : Matrix) (r : Result (Option Three) E) → HasNoneBelow m [] 2 → IfOk r (λ a. IfSome a (IsFirstOf m (2 ∷ []))) → IfOk r (λ a. IfSome a (IsFirstOf m []))
+first_of_three_forms m r before h = map_first (IsFirstOf m (2 ∷ [])) (IsFirstOf m []) r (λ x f. level_found m [] 2 x (omega arith) before f) h
+
+-- ---- other lines
+
+line_below : (m n : ℕ) (flat : Bool) (b count : ℕ) → IsLine m n (other_line flat b) → (flat ≡ true → count ≡ n) → (flat ≡ false → count ≡ m) → b < count
+line_below m n true b count l columns rows = let e = columns refl in omega arith
+line_below m n false b count l columns rows = let e = rows refl in omega arith
+
+pub below_line : (m n : ℕ) (flat : Bool) (b count : ℕ) → b < count → (flat ≡ true → count ≡ n) → (flat ≡ false → count ≡ m) → IsLine m n (other_line flat b)
+below_line m n true b count l columns rows = let e = columns refl in omega arith
+below_line m n false b count l columns rows = let e = rows refl in omega arith
+
+pub first_below : (m : Matrix) (form : Form) (c : Corners) (flat : Bool) (count : ℕ) → flat ≡ first_is_flat form → (flat ≡ true → count ≡ m.width) → (flat ≡ false → count ≡ height m)
+    → (s : Seed) (S : Lines) (b : ℕ) → IsGoodSeed (height m) m.width (entry m) s S → BeginsWith (corner_front form c ++ b ∷ []) (seed_key (height m) s) → b < count
+first_below m form c flat count e columns rows s S b g0 h =
+    let g = subst (λ (z : Seed). IsGoodSeed (height m) m.width (entry m) z S) (seed_from_first m form c b s h) g0 in
+    let l = g.connectors.first_lines (other_line (first_is_flat form) b) (corner_other (first_is_flat form) c.i c.p b) in
+    line_below (height m) m.width flat b count (subst (λ (z : Bool). IsLine (height m) m.width (other_line z b)) (sym e) l) columns rows
+
+pub second_below : (m : Matrix) (form : Form) (c : Corners) (q : ℕ) (flat : Bool) (count : ℕ) → flat ≡ second_is_flat form → (flat ≡ true → count ≡ m.width) → (flat ≡ false → count ≡ height m)
+    → (s : Seed) (S : Lines) (b : ℕ) → IsGoodSeed (height m) m.width (entry m) s S → BeginsWith (corner_front form c ++ q ∷ b ∷ []) (seed_key (height m) s) → b < count
+second_below m form c q flat count e columns rows s S b g0 h =
+    let g = subst (λ (z : Seed). IsGoodSeed (height m) m.width (entry m) z S) (seed_from_second m form c q b s h) g0 in
+    let l = g.connectors.second_lines (other_line (second_is_flat form) b) (corner_other (second_is_flat form) c.k c.j b) in
+    line_below (height m) m.width flat b count (subst (λ (z : Bool). IsLine (height m) m.width (other_line z b)) (sym e) l) columns rows
+
+pub place_below : (m : Matrix) (kind : Form) (c : Corners) (q o rows columns : ℕ) → rows ≡ height m → columns ≡ m.width
+    → (s : Seed) (S : Lines) (b : ℕ) → IsGoodSeed (height m) m.width (entry m) s S → BeginsWith (corner_front kind c ++ q ∷ o ∷ b ∷ []) (seed_key (height m) s) → b < rows + columns
+place_below m kind c q o rows columns er ec s S b g h = go s.x g.line h.1.1.1.1.1.1.1.0
+  where
+    go : (x : Line) → IsLine (height m) m.width x → b ≡ line_number (height m) x → b < rows + columns
+    go (Row r) l e = omega arith
+    go (Column k) l e = omega arith
+
+pub start_is : (c : Corners) (form : Form) (flat : Bool) (q : ℕ) (line : Line) → flat ≡ first_is_flat form → line ≡ other_line flat q → start_lines c line ≡ connector (first_is_flat form) c.i c.p q
+start_is c form flat q line ef el = ap (λ (z : Line). start_lines c z) (el ∙ ap (λ (z : Bool). other_line z q) ef) ∙ go (first_is_flat form)
+  where
+    go : (b : Bool) → start_lines c (other_line b q) ≡ connector b c.i c.p q
+    go true = refl
+    go false = refl
+
+pub not_good : (b : Bool) → IsTrue b → b ≡ false → ⊥
+not_good b h e = true_or_false b h e
+
+-- ---- lists of lines
+
+abbrev pub AreFirst : (ℕ → Bool) → List ℕ → ℕ → Type 0
+AreFirst test lines bound = (x : ℕ) → IsIn x lines ↔ ((x < bound) × (test x ≡ true))
+
+pub indices_more : (test : ℕ → Bool) (before after : List ℕ) (line : ℕ) → AreFirst test before line → test line ≡ true → after ≡ before ++ line ∷ [] → AreFirst test after (line + 1)
+indices_more test before after line w t e x = (to, from)
+  where
+    to : IsIn x after → (x < line + 1) × (test x ≡ true)
+    to h = elim ((in-append before line x).0 (subst (λ (z : List ℕ). IsIn x z) e h)) [
+      | inl g ↦ let k = (w x).0 g in (let l = k.0 in omega arith, k.1)
+      | inr f ↦ (omega arith, ap test f ∙ t)
+    ]
+
+    from : (x < line + 1) × (test x ≡ true) → IsIn x after
+    from h = subst (λ (z : List ℕ). IsIn x z) (sym e) ((in-append before line x).1 (elim (same_or_not x line) [ inl f ↦ inr f | inr n ↦ inl ((w x).1 (let l = h.0 in omega (arith, n), h.1)) ]))
+
+pub indices_less : (test : ℕ → Bool) (before after : List ℕ) (line : ℕ) → AreFirst test before line → test line ≡ false → after ≡ before → AreFirst test after (line + 1)
+indices_less test before after line w t e x = (to, from)
+  where
+    to : IsIn x after → (x < line + 1) × (test x ≡ true)
+    to h = let k = (w x).0 (subst (λ (z : List ℕ). IsIn x z) e h) in (let l = k.0 in omega arith, k.1)
+
+    from : (x < line + 1) × (test x ≡ true) → IsIn x after
+    from h = subst (λ (z : List ℕ). IsIn x z) (sym e) ((w x).1 (elim (same_or_not x line) [ inl f ↦ absurd (true_or_false (test x) h.1 (ap test f ∙ t)) | inr n ↦ let l = h.0 in omega (arith, n) ], h.1))
+
+pub indices_all : (test : ℕ → Bool) (lines : List ℕ) (line bound : ℕ) → AreFirst test lines line → line ≡ bound → AreFirst test lines bound
+indices_all test lines line bound w e = subst (λ (z : ℕ). AreFirst test lines z) e w

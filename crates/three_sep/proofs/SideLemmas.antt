@@ -1,0 +1,352 @@
+-- A side that grows, step by step.
+use Rattle.std.proofs.Common.{ℕ, zero, suc, ◌+◌, Bool, true, false, not, List, [], ◌∷◌, ◌≡◌, ◌<◌, ◌≤◌, ◌∙◌, sym, ap, refl, arith, subst, ◌⊎◌, inl, inr, length, get_or, ℤ, pos, ◌*ℤ◌, w8, of_z, to_z}
+use mathlib.Core.Path.{ap₂}
+use Rattle.cmr_base.specs.declared.line.Line.{Line}
+use Rattle.cmr_base.specs.declared.line.Line.TheVariants.{Row, Column}
+use Rattle.cmr_base.proofs.Parts.{entry-transposed, height-transposed}
+use Rattle.cmr_base.specs.Matrix.{transposed, IsMatrix, Matrix, height, row_of, entry, IsEntry}
+use Rattle.cmr_base.specs.Members.{IsIn}
+use Rattle.cmr_base.specs.LineSets.{without}
+use Rattle.cmr_base.proofs.Integers.{mul_assoc, mul_comm}
+use Rattle.cmr_base.proofs.ListsWithout.{in_without, without_shorter}
+use Rattle.cmr_base.proofs.RowLists.{two_cases}
+use Rattle.three_sep.specs.declared.half.Half.{Half}
+use Rattle.three_sep.specs.declared.side.Side.{Side}
+use Rattle.three_sep.specs.declared.corners.Corners.{Corners}
+use Rattle.cmr_base.specs.Separations.{Lines, product_at}
+use Rattle.cmr_base.specs.Seeds.{IsLine}
+use Rattle.three_sep.specs.NumberedSeeds.{Among, HasAll, count, outside}
+use Rattle.three_sep.specs.Halves.{is_in, HasPulled, HasAdded, HasTaken, Agrees, HasStartedWith, IsNamed}
+use Rattle.three_sep.specs.Sides.{set_of, HasRoom, IsClosedAt, IsGrowing, IsLeast, LeavesFew, HasNamedStart, name_in}
+use Rattle.three_sep.proofs.HalfLemmas.{true_or_false, kept_entry}
+
+-- ---- counts
+
+-- what fails is false, and the other way round
+pub not_false : (b : Bool) → (b ≡ true → ⊥) → b ≡ false
+not_false true h = absurd (h refl)
+not_false false h = refl
+
+pub not_not_true : (b : Bool) → (b ≡ false → ⊥) → b ≡ true
+not_not_true true h = refl
+not_not_true false h = absurd (h refl)
+
+pub count_covered : (test : ℕ → Bool) (size : ℕ) (xs : List ℕ) → ((x : ℕ) → x < size → test x ≡ true → IsIn x xs) → count test size ≤ length xs
+count_covered test zero xs h = omega arith
+count_covered test (suc k) xs h = elim (two_cases (test k)) [
+  | inl e ↦ rw e (
+      let rest = count_covered test k (without xs k) (λ x l t. in_without k x xs (h x (omega arith) t) (λ same. omega arith)) in
+      let less = without_shorter k xs (h k (omega arith) e) in
+      omega arith)
+  | inr e ↦ rw e (count_covered test k xs (λ x l t. h x (omega arith) t))
+]
+
+pub count_grows : (one two : ℕ → Bool) (size : ℕ) → ((x : ℕ) → x < size → one x ≡ true → two x ≡ true) → count one size ≤ count two size
+count_grows one two zero h = omega arith
+count_grows one two (suc k) h =
+    let rest = count_grows one two k (λ x l t. h x (omega arith) t) in
+    elim (two_cases (one k)) [
+      | inl e ↦ rw (e, h k (omega arith) e) (omega arith)
+      | inr e ↦ rw e (elim (two_cases (two k)) [ inl f ↦ rw f (omega arith) | inr f ↦ rw f rest ])
+    ]
+
+-- what is not in the greater set is not in the smaller one
+pub not_grows : (a b : Bool) → (a ≡ true → b ≡ true) → not b ≡ true → not a ≡ true
+not_grows true true h e = e
+not_grows true false h e = absurd (true_or_false false (h refl) refl)
+not_grows false b h e = refl
+
+pub outside_less : (m n : ℕ) (S T : Lines) → ((x : Line) → S x ≡ true → T x ≡ true) → outside m n T ≤ outside m n S
+outside_less m n S T h =
+    let a = count_grows (λ r. not (T (Row r))) (λ r. not (S (Row r))) m (λ x l e. not_grows (S (Row x)) (T (Row x)) (h (Row x)) e) in
+    let b = count_grows (λ c. not (T (Column c))) (λ c. not (S (Column c))) n (λ x l e. not_grows (S (Column x)) (T (Column x)) (h (Column x)) e) in
+    omega arith
+
+not_true_false : (b : Bool) → not b ≡ true → b ≡ false
+not_true_false true e = absurd (true_or_false false e refl)
+not_true_false false e = refl
+
+pub outside_listed : (m : Matrix) (side : Side) → HasRoom m side → outside (height m) m.width (set_of side) ≤ length side.rows.outside.items + length side.columns.outside.items
+outside_listed m side w =
+    let a = count_covered (λ r. not (is_in side.rows r)) (height m) side.rows.outside.items (λ x l e. w.rows.covered x l (not_true_false (is_in side.rows x) e)) in
+    let b = count_covered (λ c. not (is_in side.columns c)) m.width side.columns.outside.items (λ x l e. w.columns.covered x l (not_true_false (is_in side.columns x) e)) in
+    omega arith
+
+-- ---- pulls
+
+-- a multiple of the corner's line follows the rule of products
+pub right_rule : (m : Matrix) (i j r k : ℕ) (factor : ℤ) → factor ≡ entry m r j *ℤ entry m i j → entry m r k ≡ factor *ℤ entry m i k → entry m r k ≡ product_at (entry m) i j r k
+right_rule m i j r k factor e h = h ∙ ap (λ (z : ℤ). z *ℤ entry m i k) e ∙ mul_assoc (entry m r j) (entry m i j) (entry m i k) ∙ ap (λ (z : ℤ). entry m r j *ℤ z) (mul_comm (entry m i j) (entry m i k))
+
+pub rule_right : (m : Matrix) (i j r k : ℕ) (factor : ℤ) → factor ≡ entry m r j *ℤ entry m i j → entry m r k ≡ product_at (entry m) i j r k → entry m r k ≡ factor *ℤ entry m i k
+rule_right m i j r k factor e h = h ∙ sym (ap (λ (z : ℤ). z *ℤ entry m i k) e ∙ mul_assoc (entry m r j) (entry m i j) (entry m i k) ∙ ap (λ (z : ℤ). entry m r j *ℤ z) (mul_comm (entry m i j) (entry m i k)))
+
+-- for columns: the factor is the product of entries in row k, the model is column p
+pub below_rule : (m : Matrix) (k p r c : ℕ) (factor : ℤ) → factor ≡ entry m k c *ℤ entry m k p → entry m r c ≡ factor *ℤ entry m r p → entry m r c ≡ product_at (entry m) k p r c
+below_rule m k p r c factor e h = h ∙ ap (λ (z : ℤ). z *ℤ entry m r p) e ∙ mul_comm (entry m k c *ℤ entry m k p) (entry m r p)
+
+pub rule_below : (m : Matrix) (k p r c : ℕ) (factor : ℤ) → factor ≡ entry m k c *ℤ entry m k p → entry m r c ≡ product_at (entry m) k p r c → entry m r c ≡ factor *ℤ entry m r p
+rule_below m k p r c factor e h = h ∙ sym (ap (λ (z : ℤ). z *ℤ entry m r p) e ∙ mul_comm (entry m k c *ℤ entry m k p) (entry m r p))
+
+-- the pulls of a row
+module _ (m : Matrix) (c : Corners) (before after : Side) (taken : Half) (row : ℕ) (factor : ℤ) (room : HasRoom m before)
+    (t : HasTaken (height m) row before.rows taken) (rows : after.rows ≡ taken) (w : HasPulled m.width (Agrees (row_of m row) factor (row_of m c.i)) before.columns after.columns)
+    (fe : factor ≡ entry m row c.j *ℤ entry m c.i c.j) (start : List Line) (g : IsGrowing m c start before) where
+  row_same : (r : ℕ) → is_in after.rows r ≡ is_in before.rows r
+  row_same r = ap (λ v. is_in v r) rows ∙ ap (λ v. get_or v.items r false) t.inside_same
+
+  column_out : (k : ℕ) → is_in after.columns k ≡ false → is_in before.columns k ≡ false
+  column_out k e = not_false (is_in before.columns k) (λ h. true_or_false (is_in after.columns k) (w.kept k h) e)
+
+  row_has : (x : Line) → Among start x → set_of after x ≡ true
+  row_has (Row r) h = row_same r ∙ g.has (Row r) h
+  row_has (Column k) h = w.kept k (g.has (Column k) h)
+
+  row_least : (T : Lines) → IsClosedAt m c T → HasAll T start → (x : Line) → set_of after x ≡ true → T x ≡ true
+  row_least T closed has (Row r) e = g.least T closed has (Row r) (sym (row_same r) ∙ e)
+  row_least T closed has (Column k) e = elim (w.only k e) [
+    | inl h ↦ g.least T closed has (Column k) h
+    | inr h ↦ not_not_true (T (Column k)) (λ out. h.1 (rule_right m c.i c.j row k factor fe (closed.right row k t.line_in h.0 (g.least T closed has (Row row) t.line_inside) out)))
+  ]
+
+  row_right : (r k : ℕ) → r < height m → k < m.width → set_of after (Row r) ≡ true → set_of after (Column k) ≡ false → IsIn r after.rows.fresh.items ⊎ (entry m r k ≡ product_at (entry m) c.i c.j r k)
+  row_right r k lr lk er ek = elim (g.right r k lr lk (sym (row_same r) ∙ er) (column_out k ek)) [
+    | inl h ↦ elim (t.others r h) [
+      | inl e ↦ inr (subst (λ (z : ℕ). entry m z k ≡ product_at (entry m) c.i c.j z k) (sym e) (right_rule m c.i c.j row k factor fe (w.agree k lk ek)))
+      | inr h' ↦ inl (subst (λ v. IsIn r v.fresh.items) (sym rows) h')
+    ]
+    | inr e ↦ inr e
+  ]
+
+  row_below : (r k : ℕ) → r < height m → k < m.width → set_of after (Row r) ≡ false → set_of after (Column k) ≡ true → IsIn k after.columns.fresh.items ⊎ (entry m r k ≡ product_at (entry m) c.k c.p r k)
+  row_below r k lr lk er ek = elim (w.news k ek) [
+    | inl h ↦ elim (g.below r k lr lk (sym (row_same r) ∙ er) h) [ inl h' ↦ inl (w.waits k h') | inr e ↦ inr e ]
+    | inr h ↦ inl h
+  ]
+
+  pub row_followed : IsGrowing m c start after
+  row_followed = record { has = row_has; least = row_least; right = row_right; below = row_below }
+
+-- the pulls of a column
+module _ (m : Matrix) (c : Corners) (before after : Side) (taken : Half) (column : ℕ) (entries model : List ℤ) (factor : ℤ) (room : HasRoom m before)
+    (t : HasTaken m.width column before.columns taken) (columns : after.columns ≡ taken) (w : HasPulled (height m) (Agrees entries factor model) before.rows after.rows)
+    (entries_are : (r : ℕ) → get_or entries r (pos 0) ≡ entry m r column) (model_is : (r : ℕ) → get_or model r (pos 0) ≡ entry m r c.p)
+    (fe : factor ≡ entry m c.k column *ℤ entry m c.k c.p) (start : List Line) (g : IsGrowing m c start before) where
+  column_same : (k : ℕ) → is_in after.columns k ≡ is_in before.columns k
+  column_same k = ap (λ v. is_in v k) columns ∙ ap (λ v. get_or v.items k false) t.inside_same
+
+  row_out : (r : ℕ) → is_in after.rows r ≡ false → is_in before.rows r ≡ false
+  row_out r e = not_false (is_in before.rows r) (λ h. true_or_false (is_in after.rows r) (w.kept r h) e)
+
+  column_has : (x : Line) → Among start x → set_of after x ≡ true
+  column_has (Row r) h = w.kept r (g.has (Row r) h)
+  column_has (Column k) h = column_same k ∙ g.has (Column k) h
+
+  agrees_of : (r : ℕ) → entry m r column ≡ factor *ℤ entry m r c.p → Agrees entries factor model r
+  agrees_of r e = entries_are r ∙ e ∙ ap (λ (z : ℤ). factor *ℤ z) (sym (model_is r))
+
+  of_agrees : (r : ℕ) → Agrees entries factor model r → entry m r column ≡ factor *ℤ entry m r c.p
+  of_agrees r e = sym (entries_are r) ∙ e ∙ ap (λ (z : ℤ). factor *ℤ z) (model_is r)
+
+  column_least : (T : Lines) → IsClosedAt m c T → HasAll T start → (x : Line) → set_of after x ≡ true → T x ≡ true
+  column_least T closed has (Column k) e = g.least T closed has (Column k) (sym (column_same k) ∙ e)
+  column_least T closed has (Row r) e = elim (w.only r e) [
+    | inl h ↦ g.least T closed has (Row r) h
+    | inr h ↦ not_not_true (T (Row r)) (λ out. h.1 (agrees_of r (rule_below m c.k c.p r column factor fe (closed.below r column h.0 t.line_in out (g.least T closed has (Column column) t.line_inside)))))
+  ]
+
+  column_right : (r k : ℕ) → r < height m → k < m.width → set_of after (Row r) ≡ true → set_of after (Column k) ≡ false → IsIn r after.rows.fresh.items ⊎ (entry m r k ≡ product_at (entry m) c.i c.j r k)
+  column_right r k lr lk er ek = elim (w.news r er) [
+    | inl h ↦ elim (g.right r k lr lk h (sym (column_same k) ∙ ek)) [ inl h' ↦ inl (w.waits r h') | inr e ↦ inr e ]
+    | inr h ↦ inl h
+  ]
+
+  column_below : (r k : ℕ) → r < height m → k < m.width → set_of after (Row r) ≡ false → set_of after (Column k) ≡ true → IsIn k after.columns.fresh.items ⊎ (entry m r k ≡ product_at (entry m) c.k c.p r k)
+  column_below r k lr lk er ek = elim (g.below r k lr lk (row_out r er) (sym (column_same k) ∙ ek)) [
+    | inl h ↦ elim (t.others k h) [
+      | inl e ↦ inr (subst (λ (z : ℕ). entry m r z ≡ product_at (entry m) c.k c.p r z) (sym e) (below_rule m c.k c.p r column factor fe (of_agrees r (w.agree r lr er))))
+      | inr h' ↦ inl (subst (λ v. IsIn k v.fresh.items) (sym columns) h')
+    ]
+    | inr e ↦ inr e
+  ]
+
+  pub column_followed : IsGrowing m c start after
+  column_followed = record { has = column_has; least = column_least; right = column_right; below = column_below }
+
+-- ---- one more line
+
+module _ (m : Matrix) (c : Corners) (before after : Side) (start : List Line) (g : IsGrowing m c start before) where
+  pub row_added : (row : ℕ) → HasAdded (height m) row before.rows after.rows → after.columns ≡ before.columns → IsGrowing m c (Row row ∷ start) after
+  row_added row w columns = record { has = has; least = least; right = right; below = below }
+    where
+      same : (k : ℕ) → is_in after.columns k ≡ is_in before.columns k
+      same k = ap (λ v. is_in v k) columns
+
+      out : (r : ℕ) → is_in after.rows r ≡ false → is_in before.rows r ≡ false
+      out r e = not_false (is_in before.rows r) (λ h. true_or_false (is_in after.rows r) (w.kept r h) e)
+
+      has : (x : Line) → Among (Row row ∷ start) x → set_of after x ≡ true
+      has x (inl e) = subst (λ (z : Line). set_of after z ≡ true) (sym e) w.line_in
+      has (Row r) (inr h) = w.kept r (g.has (Row r) h)
+      has (Column k) (inr h) = same k ∙ g.has (Column k) h
+
+      least : (T : Lines) → IsClosedAt m c T → HasAll T (Row row ∷ start) → (x : Line) → set_of after x ≡ true → T x ≡ true
+      least T closed all (Column k) e = g.least T closed (λ x h. all x (inr h)) (Column k) (sym (same k) ∙ e)
+      least T closed all (Row r) e = elim (w.only r e) [
+        | inl h ↦ g.least T closed (λ x h. all x (inr h)) (Row r) h
+        | inr h ↦ all (Row r) (inl (ap Row h))
+      ]
+
+      right : (r k : ℕ) → r < height m → k < m.width → set_of after (Row r) ≡ true → set_of after (Column k) ≡ false → IsIn r after.rows.fresh.items ⊎ (entry m r k ≡ product_at (entry m) c.i c.j r k)
+      right r k lr lk er ek = elim (w.news r er) [
+        | inl h ↦ elim (g.right r k lr lk h (sym (same k) ∙ ek)) [ inl h' ↦ inl (w.waits r h') | inr e ↦ inr e ]
+        | inr h ↦ inl h
+      ]
+
+      below : (r k : ℕ) → r < height m → k < m.width → set_of after (Row r) ≡ false → set_of after (Column k) ≡ true → IsIn k after.columns.fresh.items ⊎ (entry m r k ≡ product_at (entry m) c.k c.p r k)
+      below r k lr lk er ek = elim (g.below r k lr lk (out r er) (sym (same k) ∙ ek)) [ inl h' ↦ inl (subst (λ v. IsIn k v.fresh.items) (sym columns) h') | inr e ↦ inr e ]
+
+  pub column_added : (column : ℕ) → HasAdded m.width column before.columns after.columns → after.rows ≡ before.rows → IsGrowing m c (Column column ∷ start) after
+  column_added column w rows = record { has = has; least = least; right = right; below = below }
+    where
+      same : (r : ℕ) → is_in after.rows r ≡ is_in before.rows r
+      same r = ap (λ v. is_in v r) rows
+
+      out : (k : ℕ) → is_in after.columns k ≡ false → is_in before.columns k ≡ false
+      out k e = not_false (is_in before.columns k) (λ h. true_or_false (is_in after.columns k) (w.kept k h) e)
+
+      has : (x : Line) → Among (Column column ∷ start) x → set_of after x ≡ true
+      has x (inl e) = subst (λ (z : Line). set_of after z ≡ true) (sym e) w.line_in
+      has (Row r) (inr h) = same r ∙ g.has (Row r) h
+      has (Column k) (inr h) = w.kept k (g.has (Column k) h)
+
+      least : (T : Lines) → IsClosedAt m c T → HasAll T (Column column ∷ start) → (x : Line) → set_of after x ≡ true → T x ≡ true
+      least T closed all (Row r) e = g.least T closed (λ x h. all x (inr h)) (Row r) (sym (same r) ∙ e)
+      least T closed all (Column k) e = elim (w.only k e) [
+        | inl h ↦ g.least T closed (λ x h. all x (inr h)) (Column k) h
+        | inr h ↦ all (Column k) (inl (ap Column h))
+      ]
+
+      right : (r k : ℕ) → r < height m → k < m.width → set_of after (Row r) ≡ true → set_of after (Column k) ≡ false → IsIn r after.rows.fresh.items ⊎ (entry m r k ≡ product_at (entry m) c.i c.j r k)
+      right r k lr lk er ek = elim (g.right r k lr lk (sym (same r) ∙ er) (out k ek)) [ inl h' ↦ inl (subst (λ v. IsIn r v.fresh.items) (sym rows) h') | inr e ↦ inr e ]
+
+      below : (r k : ℕ) → r < height m → k < m.width → set_of after (Row r) ≡ false → set_of after (Column k) ≡ true → IsIn k after.columns.fresh.items ⊎ (entry m r k ≡ product_at (entry m) c.k c.p r k)
+      below r k lr lk er ek = elim (w.news k ek) [
+        | inl h ↦ elim (g.below r k lr lk (sym (same r) ∙ er) h) [ inl h' ↦ inl (w.waits k h') | inr e ↦ inr e ]
+        | inr h ↦ inl h
+      ]
+
+-- ---- the end
+
+none_in : (xs : List ℕ) (x : ℕ) → length xs ≡ 0 → ¬ (IsIn x xs)
+none_in [] x e h = h
+none_in (y ∷ ys) x e h = absurd (omega arith)
+
+pub least_when_none_waits : (m : Matrix) (c : Corners) (start : List Line) (side : Side) → IsGrowing m c start side → length side.rows.fresh.items ≡ 0 → length side.columns.fresh.items ≡ 0 → IsLeast m c start (set_of side)
+least_when_none_waits m c start side g nr nc = record {
+  closed = record {
+    right = λ r k lr lk er ek. elim (g.right r k lr lk er ek) [ inl h ↦ absurd (none_in side.rows.fresh.items r nr h) | inr e ↦ e ];
+    below = λ r k lr lk er ek. elim (g.below r k lr lk er ek) [ inl h ↦ absurd (none_in side.columns.fresh.items k nc h) | inr e ↦ e ];
+  };
+  has = g.has;
+  least = g.least;
+}
+
+pub few_left : (m : Matrix) (c : Corners) (start : List Line) (side : Side) → HasRoom m side → IsGrowing m c start side → length side.rows.outside.items + length side.columns.outside.items < 4 → LeavesFew m c start
+few_left m c start side room g few T closed has =
+    let a = outside_less (height m) m.width (set_of side) T (g.least T closed has) in
+    let b = outside_listed m side room in
+    omega arith
+
+-- ---- the steps in the words of the code
+
+-- a factor as it comes from two entries as bytes
+pub factor_is : (f a b x y : ℤ) → IsEntry f → IsEntry a → IsEntry b → f ≡ to_z w8 (of_z w8 a) *ℤ to_z w8 (of_z w8 b) → a ≡ x → b ≡ y → to_z w8 (of_z w8 f) ≡ x *ℤ y
+factor_is f a b x y hf ha hb e ea eb = kept_entry f hf ∙ e ∙ ap₂ (λ (u v : ℤ). u *ℤ v) (kept_entry a ha ∙ ea) (kept_entry b hb ∙ eb)
+
+pub row_step : (m : Matrix) (c : Corners) (before after : Side) (row : ℕ) (cr cc : ℕ) (entries model : List ℤ) (factor : ℤ) → HasRoom m before → cr ≡ height m → cc ≡ m.width
+    → HasTaken cr row before.rows after.rows → HasPulled cc (Agrees entries factor model) before.columns after.columns → entries ≡ row_of m row → model ≡ row_of m c.i
+    → factor ≡ entry m row c.j *ℤ entry m c.i c.j → (start : List Line) → IsGrowing m c start before → IsGrowing m c start after
+row_step m c before after row cr cc entries model factor room er ec t w ee em fe start g =
+    row_followed m c before after after.rows row factor room (subst (λ (z : ℕ). HasTaken z row before.rows after.rows) er t) refl
+    (subst (λ (z : List ℤ). HasPulled m.width (Agrees z factor (row_of m c.i)) before.columns after.columns) ee
+    (subst (λ (z : List ℤ). HasPulled m.width (Agrees entries factor z) before.columns after.columns) em
+    (subst (λ (z : ℕ). HasPulled z (Agrees entries factor model) before.columns after.columns) ec w))) fe start g
+
+pub column_step : (m : Matrix) (c : Corners) (before after : Side) (column : ℕ) (cr cc : ℕ) (entries model : List ℤ) (factor : ℤ) → HasRoom m before → cr ≡ height m → cc ≡ m.width
+    → HasTaken cc column before.columns after.columns → HasPulled cr (Agrees entries factor model) before.rows after.rows → ((r : ℕ) → get_or entries r (pos 0) ≡ entry m r column)
+    → ((r : ℕ) → get_or model r (pos 0) ≡ entry m r c.p) → factor ≡ entry m c.k column *ℤ entry m c.k c.p → (start : List Line) → IsGrowing m c start before → IsGrowing m c start after
+column_step m c before after column cr cc entries model factor room er ec t w ee em fe start g =
+    column_followed m c before after after.columns column entries model factor room (subst (λ (z : ℕ). HasTaken z column before.columns after.columns) ec t) refl
+    (subst (λ (z : ℕ). HasPulled z (Agrees entries factor model) before.rows after.rows) er w) ee em fe start g
+
+pub row_added_as : (m : Matrix) (c : Corners) (before after : Side) (start : List Line) (line : Line) (row cr : ℕ) → line ≡ Row row → cr ≡ height m → IsGrowing m c start before
+    → HasAdded cr row before.rows after.rows → after.columns ≡ before.columns → IsGrowing m c (line ∷ start) after
+row_added_as m c before after start line row cr is er g w same =
+    subst (λ (z : Line). IsGrowing m c (z ∷ start) after) (sym is) (row_added m c before after start g row (subst (λ (z : ℕ). HasAdded z row before.rows after.rows) er w) same)
+
+pub column_added_as : (m : Matrix) (c : Corners) (before after : Side) (start : List Line) (line : Line) (column cc : ℕ) → line ≡ Column column → cc ≡ m.width → IsGrowing m c start before
+    → HasAdded cc column before.columns after.columns → after.rows ≡ before.rows → IsGrowing m c (line ∷ start) after
+column_added_as m c before after start line column cc is ec g w same =
+    subst (λ (z : Line). IsGrowing m c (z ∷ start) after) (sym is) (column_added m c before after start g column (subst (λ (z : ℕ). HasAdded z column before.columns after.columns) ec w) same)
+
+-- ---- a start with names
+
+abbrev rows_in : List ℕ → List Line → List Line
+rows_in [] rest = rest
+rows_in (r ∷ rs) rest = Row r ∷ rows_in rs rest
+
+abbrev columns_in : List ℕ → List Line
+columns_in [] = []
+columns_in (c ∷ cs) = Column c ∷ columns_in cs
+
+among_row : (rs : List ℕ) (rest : List Line) (r : ℕ) → IsIn r rs → Among (rows_in rs rest) (Row r)
+among_row [] rest r h = absurd h
+among_row (s ∷ rs) rest r (inl e) = inl (ap Row e)
+among_row (s ∷ rs) rest r (inr h) = inr (among_row rs rest r h)
+
+among_rest : (rs : List ℕ) (rest : List Line) (x : Line) → Among rest x → Among (rows_in rs rest) x
+among_rest [] rest x h = h
+among_rest (s ∷ rs) rest x h = inr (among_rest rs rest x h)
+
+among_column : (cs : List ℕ) (c : ℕ) → IsIn c cs → Among (columns_in cs) (Column c)
+among_column [] c h = absurd h
+among_column (d ∷ cs) c (inl e) = inl (ap Column e)
+among_column (d ∷ cs) c (inr h) = inr (among_column cs c h)
+
+each_column : (P : Line → Type 0) (cs : List ℕ) → ((c : ℕ) → IsIn c cs → P (Column c)) → (x : Line) → Among (columns_in cs) x → P x
+each_column P [] h x a = absurd a
+each_column P (d ∷ cs) h x (inl e) = subst P (sym e) (h d (inl refl))
+each_column P (d ∷ cs) h x (inr a) = each_column P cs (λ c g. h c (inr g)) x a
+
+each_line : (P : Line → Type 0) (rs cs : List ℕ) → ((r : ℕ) → IsIn r rs → P (Row r)) → ((c : ℕ) → IsIn c cs → P (Column c)) → (x : Line) → Among (rows_in rs (columns_in cs)) x → P x
+each_line P [] cs hr hc x a = each_column P cs hc x a
+each_line P (s ∷ rs) cs hr hc x (inl e) = subst P (sym e) (hr s (inl refl))
+each_line P (s ∷ rs) cs hr hc x (inr a) = each_line P rs cs (λ r g. hr r (inr g)) hc x a
+
+pub named_start : (m : Matrix) (names : List ℕ) (one two cr cc offset : ℕ) (side : Side) → cr ≡ height m → cc ≡ m.width → offset ≡ height m → HasStartedWith cr (IsNamed names 0 one two) side.rows
+    → HasStartedWith cc (IsNamed names offset one two) side.columns → HasNamedStart m names one two side
+named_start m names one two cr cc offset side er ec eo rows columns corners = (
+  rows_in side.rows.fresh.items (columns_in side.columns.fresh.items),
+  record {
+    has = each_line (λ x. set_of side x ≡ true) side.rows.fresh.items side.columns.fresh.items rows.whole.fresh_inside columns.whole.fresh_inside;
+    least = λ T closed has x e. has x (listed x e);
+    right = λ r k lr lk e f. inl (rows.fresh r e);
+    below = λ r k lr lk e f. inl (columns.fresh k f);
+  },
+  each_line (λ x. IsLine (height m) m.width x × ((name_in m names x ≡ one) ⊎ (name_in m names x ≡ two))) side.rows.fresh.items side.columns.fresh.items
+      (λ r h. (subst (λ (z : ℕ). r < z) er (rows.whole.fresh_in r h), subst (λ (z : ℕ). (get_or names z 0 ≡ one) ⊎ (get_or names z 0 ≡ two)) (omega arith) (rows.only r (rows.whole.fresh_inside r h))))
+      (λ k h. (subst (λ (z : ℕ). k < z) ec (columns.whole.fresh_in k h), subst (λ (z : ℕ). (get_or names (z + k) 0 ≡ one) ⊎ (get_or names (z + k) 0 ≡ two)) eo (columns.only k (columns.whole.fresh_inside k h)))),
+)
+  where
+    listed : (x : Line) → set_of side x ≡ true → Among (rows_in side.rows.fresh.items (columns_in side.columns.fresh.items)) x
+    listed (Row r) e = among_row side.rows.fresh.items (columns_in side.columns.fresh.items) r (rows.fresh r e)
+    listed (Column k) e = among_rest side.rows.fresh.items (columns_in side.columns.fresh.items) (Column k) (among_column side.columns.fresh.items k (columns.fresh k e))
+
+-- ---- the transposed matrix
+
+pub height_turned : (m n : Matrix) (column : ℕ) → IsMatrix m → n ≡ transposed m → column < m.width → column < height n
+height_turned m n column is e l = subst (λ (k : Matrix). column < height k) (sym e) (let h = height-transposed m in omega arith)
+
+pub turned_entry : (m n : Matrix) (row column : ℕ) → IsMatrix m → n ≡ transposed m → entry n column row ≡ entry m row column
+turned_entry m n row column is e = ap (λ (k : Matrix). entry k column row) e ∙ entry-transposed m row column is

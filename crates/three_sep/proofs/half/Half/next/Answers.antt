@@ -1,0 +1,15 @@
+use Rattle.std.proofs.Common.{◌≡◌, ◌++◌, ℕ, Option, Some, None, refl, arith, length}
+use Rattle.std.specs.Option.{MatchOption, option_to_list}
+use Rattle.three_sep.specs.declared.half.Half.{Half}
+use Rattle.three_sep.specs.Halves.{HasTaken, IsHalf}
+use Rattle.three_sep.proofs.HalfLemmas.{takes}
+use Rattle.three_sep.proofs.half.Half.next.Goals as goal
+
+cases : (A : Type 0) (B : ℕ → Type 0) (count : ℕ) (before after : Half) (r : Option ℕ) → MatchOption r A B → (A → length before.fresh.items ≡ 0) → IsHalf count before
+    → before.fresh.items ≡ after.fresh.items ++ option_to_list r → after.inside ≡ before.inside → after.outside ≡ before.outside
+    → MatchOption r (length before.fresh.items ≡ 0) (λ line. HasTaken count line before after)
+cases A B count before after None m f w e i o = f m
+cases A B count before after (Some x) m f w e i o = takes count x before after w e i o
+
+pub returns : goal.returns
+returns c = cases _ _ (length c.args.self.now.inside.items) c.args.self.now _ c.pop.result c.pop.ensures.cases (λ e. let k = e.0 in omega arith) c.requires c.pop.ensures.items refl refl

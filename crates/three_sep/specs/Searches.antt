@@ -1,0 +1,64 @@
+-- The search for the first good seed, by the numbers with which seeds begin.
+use Rattle.std.specs.Prelude.{◌≡◌, ◌<◌, ◌≤◌, ◌++◌, ◌⊎◌, ℕ, pos, Bool, true, false, List, [], ◌∷◌}
+use Rattle.cmr_base.specs.declared.line.Line.{Line}
+use Rattle.cmr_base.specs.declared.line.Line.TheVariants.{Row, Column}
+use Rattle.cmr_base.specs.Matrix.{Matrix, height, entry}
+use Rattle.cmr_base.specs.declared.separation.Form.{Form}
+use Rattle.cmr_base.specs.declared.separation.Three.{Three}
+use Rattle.three_sep.specs.declared.corners.Corners.{Corners}
+use Rattle.three_sep.specs.declared.groups.Groups.{Groups}
+use Rattle.three_sep.specs.Cuts.{name_of}
+use Rattle.cmr_base.specs.Separations.{Lines, first_is_flat, second_is_flat}
+use Rattle.cmr_base.specs.Seeds.{IsLine, IsBefore, form_number}
+use Rattle.three_sep.specs.NumberedSeeds.{Seed, IsGoodSeed, HasLines, Among, connector, seed_key, seed_of, outside}
+
+-- the list begins with these numbers
+abbrev pub BeginsWith : List ℕ → List ℕ → Type 0
+BeginsWith [] ys = Unit {0}
+BeginsWith (x ∷ xs) [] = ⊥
+BeginsWith (x ∷ xs) (y ∷ ys) = (x ≡ y) × BeginsWith xs ys
+
+-- no seed that begins so is good
+abbrev pub HasNoGood : Matrix → List ℕ → Type 0
+HasNoGood m front = (s : Seed) (S : Lines) → BeginsWith front (seed_key (height m) s) → ¬ (IsGoodSeed (height m) m.width (entry m) s S)
+
+-- the separation of the first good one of the seeds that begin so
+pub record IsFirstOf (m : Matrix) (front : List ℕ) (three : Three) : Type 0 where
+  pub x : Line
+  pub side : Lines
+  pub begins : BeginsWith front (seed_key (height m) (seed_of three x))
+  pub good : IsGoodSeed (height m) m.width (entry m) (seed_of three x) side
+  pub first : (other : Seed) (T : Lines) → BeginsWith front (seed_key (height m) other) → IsGoodSeed (height m) m.width (entry m) other T → ¬ (IsBefore (seed_key (height m) other) (seed_key (height m) (seed_of three x)))
+  pub lines : HasLines (height m) m.width side three.side.rows three.side.columns
+
+-- no seed that begins so and goes on with a lesser number is good
+abbrev pub HasNoneBelow : Matrix → List ℕ → ℕ → Type 0
+HasNoneBelow m front bound = (b : ℕ) → b < bound → HasNoGood m (front ++ b ∷ [])
+
+abbrev pub corner_front : Form → Corners → List ℕ
+corner_front form c = form_number form ∷ c.i ∷ c.p ∷ c.k ∷ c.j ∷ []
+
+-- a connector's other line
+abbrev pub other_line : Bool → ℕ → Line
+other_line true other = Column other
+other_line false other = Row other
+
+-- none of the second connector is in the set, and four lines or more are outside
+pub record LeavesSecond (m : Matrix) (c : Corners) (second : Line) (S : Lines) : Type 0 where
+  pub row : S (Row c.k) ≡ false
+  pub column : S (Column c.j) ≡ false
+  pub other : S second ≡ false
+  pub enough : 4 ≤ outside (height m) m.width S
+
+-- a line that is in neither connector
+pub record IsBeside (m : Matrix) (form : Form) (c : Corners) (q o : ℕ) (x : Line) : Type 0 where
+  pub line : IsLine (height m) m.width x
+  pub first : ¬ (Among (connector (first_is_flat form) c.i c.p q) x)
+  pub second : ¬ (Among (connector (second_is_flat form) c.k c.j o) x)
+
+-- row k is not in the lower block beside the corner (i, p), or a group holds it with one of its lines
+abbrev pub IsNoSecondRow : Matrix → Groups → ℕ → ℕ → ℕ → Type 0
+IsNoSecondRow m groups i p k = (entry m k p ≡ pos 0) ⊎ (name_of m groups (Row i) ≡ name_of m groups (Row k)) ⊎ (name_of m groups (Column p) ≡ name_of m groups (Row k))
+
+abbrev pub IsNoSecondColumn : Matrix → Groups → ℕ → ℕ → ℕ → ℕ → Type 0
+IsNoSecondColumn m groups i p k j = (entry m k j ≡ pos 0) ⊎ (entry m i j ≡ pos 0) ⊎ (name_of m groups (Row i) ≡ name_of m groups (Column j)) ⊎ (name_of m groups (Column p) ≡ name_of m groups (Column j))

@@ -1,0 +1,85 @@
+-- Side one while it grows.
+use Rattle.std.specs.Prelude.{◌≡◌, ◌<◌, ◌≤◌, ◌+◌, ◌⊎◌, ℕ, Bool, true, false, List, [], ◌∷◌, length, slice_index_or}
+use Rattle.cmr_base.specs.declared.line.Line.{Line}
+use Rattle.cmr_base.specs.declared.line.Line.TheVariants.{Row, Column}
+use Rattle.cmr_base.specs.Matrix.{Matrix, height, entry}
+use Rattle.cmr_base.specs.Members.{IsIn}
+use Rattle.three_sep.specs.declared.corners.Corners.{Corners}
+use Rattle.three_sep.specs.declared.side.Side.{Side}
+use Rattle.cmr_base.specs.Separations.{Lines, product_at}
+use Rattle.cmr_base.specs.Seeds.{IsLine}
+use Rattle.three_sep.specs.NumberedSeeds.{IsClosed, Among, HasAll, outside}
+use Rattle.three_sep.specs.Halves.{is_in, IsHalf, room}
+
+-- the lines of a side
+abbrev pub set_of : Side → Lines
+set_of side (Row r) = is_in side.rows r
+set_of side (Column c) = is_in side.columns c
+
+-- the corners are in the matrix
+pub record AreInside (m : Matrix) (c : Corners) : Type 0 where
+  pub row_one : c.i < height m
+  pub column_one : c.p < m.width
+  pub row_two : c.k < height m
+  pub column_two : c.j < m.width
+
+pub record HasRoom (m : Matrix) (side : Side) : Type 0 where
+  pub rows : IsHalf (height m) side.rows
+  pub columns : IsHalf m.width side.columns
+
+-- what is still to be done at most
+abbrev pub work : Side → ℕ
+work side = room side.rows + room side.columns
+
+-- closed for two connectors with these corners
+abbrev pub IsClosedAt : Matrix → Corners → Lines → Type 0
+IsClosedAt m c S = IsClosed (height m) m.width (entry m) (product_at (entry m) c.i c.j) (product_at (entry m) c.k c.p) S
+
+-- It has the start and is in every closed set that has it, and where a line breaks a rule with a line of it, that one waits.
+pub record IsGrowing (m : Matrix) (c : Corners) (start : List Line) (side : Side) : Type 0 where
+  pub has : HasAll (set_of side) start
+  pub least : (T : Lines) → IsClosedAt m c T → HasAll T start → (x : Line) → set_of side x ≡ true → T x ≡ true
+  pub right : (r k : ℕ) → r < height m → k < m.width → set_of side (Row r) ≡ true → set_of side (Column k) ≡ false
+      → IsIn r side.rows.fresh.items ⊎ (entry m r k ≡ product_at (entry m) c.i c.j r k)
+  pub below : (r k : ℕ) → r < height m → k < m.width → set_of side (Row r) ≡ false → set_of side (Column k) ≡ true
+      → IsIn k side.columns.fresh.items ⊎ (entry m r k ≡ product_at (entry m) c.k c.p r k)
+
+-- what holds of a start before holds after
+abbrev pub KeepsGrowing : Matrix → Corners → Side → Side → Type 0
+KeepsGrowing m c before after = (start : List Line) → IsGrowing m c start before → IsGrowing m c start after
+
+-- the least closed set that has the start
+pub record IsLeast (m : Matrix) (c : Corners) (start : List Line) (S : Lines) : Type 0 where
+  pub closed : IsClosedAt m c S
+  pub has : HasAll S start
+  pub least : (T : Lines) → IsClosedAt m c T → HasAll T start → (x : Line) → S x ≡ true → T x ≡ true
+
+-- each closed set that has the start leaves fewer than four lines
+abbrev pub LeavesFew : Matrix → Corners → List Line → Type 0
+LeavesFew m c start = (T : Lines) → IsClosedAt m c T → HasAll T start → outside (height m) m.width T < 4
+
+-- the first corner and a line
+abbrev pub start_lines : Corners → Line → List Line
+start_lines c x = Row c.i ∷ Column c.p ∷ x ∷ []
+
+-- room for the lines of the matrix
+pub record HasSize (m : Matrix) (side : Side) : Type 0 where
+  pub few_rows : height m ≤ 1000
+  pub few_columns : m.width ≤ 1000
+  pub rows : length side.rows.inside.items ≡ height m
+  pub columns : length side.columns.inside.items ≡ m.width
+
+-- whether the set is the least closed one, or each closed one leaves few lines
+abbrev pub TellsClosed : Matrix → Corners → List Line → Bool → Lines → Type 0
+TellsClosed m c start true S = IsLeast m c start S
+TellsClosed m c start false S = LeavesFew m c start
+
+-- the place of a line in a list of names, the rows first
+abbrev pub name_in : Matrix → List ℕ → Line → ℕ
+name_in m names (Row r) = slice_index_or names r 0
+name_in m names (Column c) = slice_index_or names (height m + c) 0
+
+-- for all corners it grows from a start of lines of two names
+abbrev pub HasNamedStart : Matrix → List ℕ → ℕ → ℕ → Side → Type 0
+HasNamedStart m names one two side = (corners : Corners) → (start : List Line) × IsGrowing m corners start side
+    × ((x : Line) → Among start x → IsLine (height m) m.width x × ((name_in m names x ≡ one) ⊎ (name_in m names x ≡ two)))

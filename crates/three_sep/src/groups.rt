@@ -1,0 +1,324 @@
+// Groups of lines that no cut parts.
+ghost use Rattle.std.specs.Prelude.{◌≡◌, ◌≢◌, ◌<◌, ◌≤◌, ◌+◌, ◌⊎◌, ◌↔◌, ℕ, pos, length, slice_index_or, Bool, true, false, IsTrue, nat_eq, ◌==◌, count_by, IfOk, OnOk};
+ghost use Rattle.cmr_base.specs.declared.line.Line.{Line};
+ghost use Rattle.cmr_base.specs.declared.line.Line.TheVariants.{Row, Column};
+ghost use Rattle.cmr_base.specs.Matrix.{height, entry, IsMatrix};
+ghost use Rattle.cmr_base.specs.Separations.{Lines};
+ghost use Rattle.cmr_base.specs.Seeds.{IsLine};
+ghost use Rattle.three_sep.specs.Sides.{AreInside, HasSize};
+ghost use Rattle.three_sep.specs.Cuts.{AreTogether, HasNames, HasNoCutAt, HoldTogether, IsCut, IsCutAt, IsCutBetween, Respects, IsJoined, IsNotBelow, name_of};
+
+use crate::corners::Corners;
+use crate::side::Side;
+use cmr_base::{Line, Memory, RowsAndColumns};
+use std::alloc::Global;
+
+/// Whether a cut may have the first corner in side one and the second in side two. Some rows are tried: where a row
+/// can be on neither side, there is none.
+pub fn may_cut(
+    views: &RowsAndColumns<'_>,
+    side: &mut Side,
+    corners: &Corners,
+) -> Result<bool, Memory>
+    requires size { HasSize views.now side.old }
+    requires corners { AreInside views.now corners.now }
+    ensures size { OnOk result (HasSize views.now side.new) }
+    ensures none { IfOk result (λ may. may ≡ false → HasNoCutAt views.now corners.now) }
+{
+    let mut tries = 3u32;
+    for row in 0..views.rows() {
+        if tries > 0 && row != corners.i && row != corners.k {
+            if is_refused(views, side, corners, Line::Row(row))? {
+                return Ok(false);
+            }
+            tries -= 1;
+        }
+    }
+    Ok(true)
+}
+
+// Whether the line can be on neither side of a cut at the corners.
+fn is_refused(
+    views: &RowsAndColumns<'_>,
+    side: &mut Side,
+    corners: &Corners,
+    line: Line,
+) -> Result<bool, Memory>
+    requires size { HasSize views.now side.old }
+    requires corners { AreInside views.now corners.now }
+    requires line { IsLine (height views.now) views.now.width line }
+    ensures size { OnOk result (HasSize views.now side.new) }
+    ensures none { IfOk result (λ refused. refused ≡ true → HasNoCutAt views.now corners.now) }
+{
+    side.start(views, corners, line)?;
+    if side.close(views, corners)? {
+        return Ok(false);
+    }
+    let exchanged = corners.exchanged();
+    side.start(views, &exchanged, line)?;
+    if side.close(views, &exchanged)? {
+        return Ok(false);
+    }
+    Ok(true)
+}
+
+/// A name for the group of each line, the rows first.
+#[derive(Drop)]
+pub struct Groups {
+    names: Vec<u32>,
+}
+
+impl Groups {
+    /// Each line is a group.
+    pub fn new(alloc: Global, views: &RowsAndColumns<'_>) -> Result<Groups, Memory>
+        ensures names { IfOk result (HasNames views.now) }
+        ensures apart { IfOk result (λ groups. (k : ℕ) → k < height views.now + views.now.width → slice_index_or groups.names.items k 0 ≡ k) }
+    {
+        let count = views.rows() + views.columns();
+        let mut names = Vec::with_capacity(alloc, count as usize)?;
+        for name in 0..count {
+            names.push(name)?;
+        }
+        Ok(Groups { names })
+    }
+
+    /// Becomes equal to others.
+    pub fn copy(&mut self, other: &Groups) -> Result<(), Memory>
+        ensures { OnOk result (self.new.names.items ≡ other.now.names.items) }
+    {
+        self.names.clear();
+        self.names.extend_from_slice(&other.names)?;
+        Ok(())
+    }
+
+    /// Whether two lines are in one group.
+    pub fn are_one(&self, one: u32, two: u32) -> bool
+        requires one { one < length self.now.names.items }
+        requires two { two < length self.now.names.items }
+        ensures { IsTrue result ↔ (slice_index_or self.now.names.items one 0 ≡ slice_index_or self.now.names.items two 0) }
+    {
+        self.names[one as usize] == self.names[two as usize]
+    }
+
+    /// How many lines are in the group of a line.
+    pub fn size_of(&self, line: u32) -> usize
+        requires { line < length self.now.names.items }
+        ensures { result ≡ count_by (λ name. name == slice_index_or self.now.names.items line 0) self.now.names.items }
+    {
+        let own = self.names[line as usize];
+        self.names.iter().filter(|name| **name == own).count()
+    }
+
+    /// Makes one group of those of two lines.
+    pub fn join(&mut self, one: u32, two: u32)
+        requires one { one < length self.old.names.items }
+        requires two { two < length self.old.names.items }
+        ensures { IsJoined self.old.names.items self.new.names.items one two }
+    {
+        let from = self.names[one as usize];
+        let to = self.names[two as usize];
+        for line in 0..self.names.len() {
+            if self.names[line] == from {
+                self.names[line] = to;
+            }
+        }
+    }
+}
+
+/// Finds groups of lines that no cut parts.
+pub fn groups_of(
+    alloc: Global,
+    views: &RowsAndColumns<'_>,
+    side: &mut Side,
+) -> Result<Groups, Memory>
+    requires size { HasSize views.now side.old }
+    ensures size { OnOk result (HasSize views.now side.new) }
+    ensures names { IfOk result (HasNames views.now) }
+    ensures together { IfOk result (HoldTogether (IsCut views.now) views.now) }
+{
+    let mut groups = Groups::new(alloc, views)?;
+    let mut linked = Groups::new(alloc, views)?;
+    let mut within = Groups::new(alloc, views)?;
+    for i in 0..views.rows() {
+        for j in 0..views.columns() {
+            if views.is_nonzero(i, j) && !linked.are_one(i, views.rows() + j) {
+                linked.join(i, views.rows() + j);
+                within.copy(&groups)?;
+                if are_together(views, side, &mut within, i, j)? {
+                    groups.join(i, views.rows() + j);
+                }
+            }
+        }
+    }
+    Ok(groups)
+}
+
+// Whether no cut parts row i from column j. First lines are joined that no cut parts which has row i in side one and
+// column j in side two: a nonzero (k, p) with a 0 in (k, j) or in (i, p) is not in the upper block of such a cut. Then
+// no nonzero must be left for the lower block.
+fn are_together(
+    views: &RowsAndColumns<'_>,
+    side: &mut Side,
+    within: &mut Groups,
+    i: u32,
+    j: u32,
+) -> Result<bool, Memory>
+    requires size { HasSize views.now side.old }
+    requires names { HasNames views.now within.old }
+    requires together { HoldTogether (IsCut views.now) views.now within.old }
+    requires row { i < height views.now }
+    requires column { j < views.now.width }
+    requires nonzero { entry views.now i j ≢ pos 0 }
+    ensures size { OnOk result (HasSize views.now side.new) }
+    ensures names { OnOk result (HasNames views.now within.new) }
+    ensures together { IfOk result (λ together. together ≡ true → AreTogether views.now i j) }
+{
+    for k in 0..views.rows() {
+        if k != i && !join_row(views, side, within, i, j, k)? {
+            return Ok(false);
+        }
+    }
+    if within.are_one(i, views.rows() + j) {
+        return Ok(true);
+    }
+    for k in 0..views.rows() {
+        if k != i && !is_row_refused(views, side, within, i, j, k)? {
+            return Ok(false);
+        }
+    }
+    Ok(true)
+}
+
+// Joins row k to the columns where it is not 0, as far as this is right between row i and column j. Says no where a
+// cut may be there.
+fn join_row(
+    views: &RowsAndColumns<'_>,
+    side: &mut Side,
+    within: &mut Groups,
+    i: u32,
+    j: u32,
+    k: u32,
+) -> Result<bool, Memory>
+    requires size { HasSize views.now side.old }
+    requires names { HasNames views.now within.old }
+    requires together { HoldTogether (IsCutBetween views.now i j) views.now within.old }
+    requires row { i < height views.now }
+    requires column { j < views.now.width }
+    requires other { k < height views.now }
+    requires nonzero { entry views.now i j ≢ pos 0 }
+    ensures size { OnOk result (HasSize views.now side.new) }
+    ensures names { OnOk result (HasNames views.now within.new) }
+    ensures together { OnOk result (HoldTogether (IsCutBetween views.now i j) views.now within.new) }
+{
+    for p in 0..views.columns() {
+        if is_lower(views, i, p, k, j) && !within.are_one(k, views.rows() + p) {
+            if may_cut_groups(views, side, within, &Corners { i, p, k, j })? {
+                return Ok(false);
+            }
+            within.join(k, views.rows() + p);
+        }
+    }
+    Ok(true)
+}
+
+// Whether a cut that keeps groups together may have the first corner in side one and the second in side two. The larger
+// of the groups of row k and of column p is tried first: it is on one side with its corner.
+fn may_cut_groups(
+    views: &RowsAndColumns<'_>,
+    side: &mut Side,
+    groups: &Groups,
+    corners: &Corners,
+) -> Result<bool, Memory>
+    requires size { HasSize views.now side.old }
+    requires names { HasNames views.now groups.now }
+    requires corners { AreInside views.now corners.now }
+    ensures size { OnOk result (HasSize views.now side.new) }
+    ensures none { IfOk result (λ may. may ≡ false → (T : Lines) → Respects views.now groups.now T → ¬ (IsCutAt views.now corners.now T)) }
+{
+    if groups.size_of(corners.k) > groups.size_of(views.rows() + corners.p) {
+        if are_groups_refused(views, side, groups, &corners.exchanged())? {
+            return Ok(false);
+        }
+    } else if are_groups_refused(views, side, groups, corners)? {
+        return Ok(false);
+    }
+    may_cut(views, side, corners)
+}
+
+// Whether the groups of row i and column p cannot be side one of a cut, or a part of it.
+fn are_groups_refused(
+    views: &RowsAndColumns<'_>,
+    side: &mut Side,
+    groups: &Groups,
+    corners: &Corners,
+) -> Result<bool, Memory>
+    requires size { HasSize views.now side.old }
+    requires names { HasNames views.now groups.now }
+    requires corners { AreInside views.now corners.now }
+    ensures size { OnOk result (HasSize views.now side.new) }
+    ensures none { IfOk result (λ refused. refused ≡ true → (T : Lines) → Respects views.now groups.now T → ¬ (IsCutAt views.now corners.now T)) }
+{
+    let one = groups.names[corners.i as usize];
+    let two = groups.names[(views.rows() + corners.p) as usize];
+    side.start_named(views, &groups.names, one, two)?;
+    if side.close(views, corners)? {
+        return Ok(false);
+    }
+    Ok(true)
+}
+
+// Whether (k, p) is a nonzero that can be in the lower block of a cut between row i and column j, and not in the
+// upper one.
+fn is_lower(views: &RowsAndColumns<'_>, i: u32, p: u32, k: u32, j: u32) -> bool
+    requires row { i < height views.now }
+    requires column { j < views.now.width }
+    requires other_row { k < height views.now }
+    requires other_column { p < views.now.width }
+    ensures { IsTrue result → (entry views.now k p ≢ pos 0) × ((entry views.now k j ≡ pos 0) ⊎ (entry views.now i p ≡ pos 0)) }
+{
+    if p == j || !views.is_nonzero(k, p) {
+        return false;
+    }
+    !views.is_nonzero(k, j) || !views.is_nonzero(i, p)
+}
+
+// Whether no nonzero of row k is in the lower block of a cut between row i and column j.
+fn is_row_refused(
+    views: &RowsAndColumns<'_>,
+    side: &mut Side,
+    within: &Groups,
+    i: u32,
+    j: u32,
+    k: u32,
+) -> Result<bool, Memory>
+    requires size { HasSize views.now side.old }
+    requires names { HasNames views.now within.now }
+    requires together { HoldTogether (IsCutBetween views.now i j) views.now within.now }
+    requires row { i < height views.now }
+    requires column { j < views.now.width }
+    requires other { k < height views.now }
+    requires nonzero { entry views.now i j ≢ pos 0 }
+    ensures size { OnOk result (HasSize views.now side.new) }
+    ensures refused { IfOk result (λ refused. refused ≡ true → (p : ℕ) → p < views.now.width → entry views.now k p ≢ pos 0 → IsNotBelow views.now i j k p) }
+{
+    for p in 0..views.columns() {
+        if is_open(views, within, k, p, j) && may_cut(views, side, &Corners { i, p, k, j })? {
+            return Ok(false);
+        }
+    }
+    Ok(true)
+}
+
+// Whether (k, p) is a nonzero off column j whose lines are in two groups.
+fn is_open(views: &RowsAndColumns<'_>, within: &Groups, k: u32, p: u32, j: u32) -> bool
+    requires names { HasNames views.now within.now }
+    requires row { k < height views.now }
+    requires column { p < views.now.width }
+    ensures yes { result ≡ true → entry views.now k p ≢ pos 0 }
+    ensures no { result ≡ false → (p ≡ j) ⊎ (entry views.now k p ≡ pos 0) ⊎ (name_of views.now within.now (Row k) ≡ name_of views.now within.now (Column p)) }
+{
+    if p == j || !views.is_nonzero(k, p) {
+        return false;
+    }
+    !within.are_one(k, views.rows() + p)
+}

@@ -1,0 +1,5 @@
+pub mod SeedSteps
+pub mod MarkedLines
+pub mod Crossing
+pub mod FirstTwo
+pub mod PartSteps

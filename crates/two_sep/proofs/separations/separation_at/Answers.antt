@@ -1,0 +1,52 @@
+use Rattle.std.proofs.Common.{◌≡◌, ◌<◌, ◌+◌, ◌∙◌, filter, ap, ap₂, sym, subst, arith, List, ℕ, Bool, get_or, inl, inr, Option, MatchOption, Vec, Global, length, cond, nat_eq, of_z, w8}
+use Rattle.std.proofs.lemmas.List.{get_or_default}
+use Rattle.cmr_base.specs.Matrix.{height}
+use Rattle.cmr_base.specs.LineSets.{first_lines}
+use Rattle.line_growth.specs.Reaching.{is_marked}
+use Rattle.two_sep.specs.FirstSeeds.{ArePassed, HasNoGoodSeed, IsFirstGoodSide}
+use Rattle.two_sep.proofs.Crossing.{passed_on, passed_joined}
+use Rattle.two_sep.proofs.FirstTwo.{first_two}
+use Rattle.two_sep.proofs.MarkedLines.{zero_entry}
+use Rattle.two_sep.proofs.separations.separation_at.Goals as goal
+use Rattle.two_sep.proofs.separations.separation_at.Goals.{then-label-other+then-entry-ne0+in_ok-side+in_default, else-label-other, else-label-other-via-then-label-other+else-entry-ne0, else-label-other-via-else-label-other}
+
+pub returns-in-Some : goal.returns-in-Some
+returns-in-Some c =
+    let m = c.args.matrix.now in
+    let marks = c.in-Some.side.items in
+    let found : IsFirstGoodSide m c.args.row c.loop-column.column marks =
+    subst (λ (o : Option (Vec Bool Global)). MatchOption o (HasNoGoodSeed m c.args.row c.loop-column.column) (λ side. IsFirstGoodSide m c.args.row c.loop-column.column side.items)) c.in-Some.is c.in_ok-side.ensures in
+    let same = c.deref.ensures.value in
+    let rows = c.rows-rows.ensures.rows in
+    first_two m c.args.row c.loop-column.column c.loop-column.labels.items c.loop-column.invariant marks found c.in_ok-marked_set.field-0.rows c.in_ok-marked_set.field-0.columns
+    (c.in_ok-marked_set.ensures.rows ∙ ap₂ (λ (ms : List Bool) (k : ℕ). filter (λ r. is_marked ms r) (first_lines k)) same rows)
+    (c.in_ok-marked_set.ensures.columns ∙ ap₂ (λ (ms : List Bool) (k : ℕ). filter (λ x. is_marked ms (k + x)) (first_lines c.columns.result)) same rows ∙ ap (λ (k : ℕ). filter (λ x. is_marked marks (height m + x)) (first_lines k)) c.columns.ensures.columns)
+
+pub loop-column-preserved : goal.loop-column-preserved
+loop-column-preserved c =
+    let m = c.args.matrix.now in
+    let i = c.args.row in
+    let j = c.loop-column.column in
+    let labels = c.loop-column.labels.items in
+    let p = c.loop-column.invariant in
+    let rows = c.rows-rows.ensures.rows in
+    let column_in : j < m.width = let a = c.loop-column-test.true in let b = c.columns-column-end.ensures.columns in omega arith in
+    let size = p.count in
+    let label : get_or labels i 0 ≡ c.index-label.result.now = get_or_default labels i 0 c.index-label.result.now (let a = c.requires.row in omega arith) ∙ sym c.index-label.ensures in
+    let other : get_or labels (height m + j) 0 ≡ c.index-other.result.now =
+    ap (λ (k : ℕ). get_or labels (k + j) 0) (sym rows) ∙ get_or_default labels (c.rows-rows.result + j) 0 c.index-other.result.now (omega arith) ∙ sym c.index-other.ensures in
+    elim c.if-label-other.branch [
+      | then-label-other+then-entry-ne0+in_ok-side+in_default w ↦
+          let none = subst (λ (o : Option (Vec Bool Global)). MatchOption o (HasNoGoodSeed m i j) (λ side. IsFirstGoodSide m i j side.items)) w.in_default.is w.in_ok-side.ensures in
+          let same = ap (λ v. v.items) w.labels-is in
+          passed_joined m i j labels p c.requires.row column_in (λ e. w.if-entry-ne0.true (ap (of_z w8) (w.entry.ensures.value ∙ e))) none c.if-label-other.labels.items
+          (ap (λ (xs : List ℕ). length xs) same ∙ w.join_labels.ensures.count)
+          (λ k l. ap (λ (xs : List ℕ). get_or xs k 0) same ∙ w.join_labels.ensures.joined k l ∙ ap₂ (λ (a b : ℕ). cond (nat_eq (get_or labels k 0) a) b (get_or labels k 0)) (sym label) (sym other))
+      | else-label-other w ↦
+          subst (λ (xs : List ℕ). ArePassed m i (j + 1) xs) (sym (ap (λ v. v.items) w.labels-is))
+          (passed_on m i j labels p c.requires.row column_in
+          (elim w.else-label-other.branch [
+            | else-label-other-via-then-label-other+else-entry-ne0 w' ↦ inl (sym w'.entry.ensures.value ∙ zero_entry w'.entry.result w'.entry.ensures.small w'.if-entry-ne0.false)
+            | else-label-other-via-else-label-other w' ↦ inr (label ∙ w'.if-label-other.false ∙ sym other)
+          ]))
+    ]

@@ -1,0 +1,47 @@
+-- Two-separations by their first good seeds.
+use Rattle.std.specs.Prelude.{◌≡◌, ◌≢◌, ◌<◌, ◌+◌, ◌⊎◌, ℕ, pos, Bool, List, length, slice_index_or}
+use Rattle.cmr_base.specs.declared.line.Line.{Line}
+use Rattle.cmr_base.specs.declared.separation.Two.{Two}
+use Rattle.cmr_base.specs.Matrix.{Matrix, height, entry, IsMatrix}
+use Rattle.cmr_base.specs.LineSets.{IsRowSet, IsColumnSet, first_lines}
+use Rattle.cmr_base.specs.Separations.{Lines, listed, IsTwoSeparation}
+use Rattle.cmr_base.specs.Seeds.{IsGoodTwo, IsFirstTwo, line_number}
+use Rattle.line_growth.specs.Reaching.{marked_lines, numbered}
+
+-- a two-separation of all lines of the matrix
+abbrev pub Separates : Matrix → Lines → ℕ → ℕ → Type 0
+Separates m side i j = IsTwoSeparation (entry m) (first_lines (height m)) (first_lines m.width) side i j
+
+abbrev pub HasNoTwoSeparation : Matrix → Type 0
+HasNoTwoSeparation m = (i j : ℕ) (side : Lines) → ¬ (Separates m side i j)
+
+-- the separation of the first good two-seed
+pub record IsFirstTwoSeparation (m : Matrix) (two : Two) : Type 0 where
+  pub row_set : IsRowSet m two.side.rows
+  pub column_set : IsColumnSet m two.side.columns
+  pub first : IsFirstTwo (height m) m.width (entry m) (listed two.side.rows two.side.columns) two.row two.column
+  pub separates : Separates m (listed two.side.rows two.side.columns) two.row two.column
+
+-- ---- at one nonzero
+
+abbrev pub HasNoGoodSeed : Matrix → ℕ → ℕ → Type 0
+HasNoGoodSeed m i j = (seed : Line) (side : Lines) → ¬ (IsGoodTwo (height m) m.width (entry m) i j seed side)
+
+-- the marks are the side of the first good seed at (i, j)
+pub record IsFirstGoodSide (m : Matrix) (i j : ℕ) (marks : List Bool) : Type 0 where
+  pub count : length marks ≡ height m + m.width
+  pub seed : Line
+  pub good : IsGoodTwo (height m) m.width (entry m) i j seed (marked_lines (height m) marks)
+  pub first : (other : Line) (side : Lines) → IsGoodTwo (height m) m.width (entry m) i j other side → ¬ (line_number (height m) other < line_number (height m) seed)
+
+-- ---- lines that no two-separation parts
+
+abbrev pub AreTogether : Matrix → ℕ → ℕ → Type 0
+AreTogether m x y = (i j : ℕ) (side : Lines) → Separates m side i j → numbered (height m) side x ≡ numbered (height m) side y
+
+-- lines of one label are together, and so are the lines of each nonzero before (row, column)
+pub record ArePassed (m : Matrix) (row column : ℕ) (labels : List ℕ) : Type 0 where
+  pub matrix : IsMatrix m
+  pub count : length labels ≡ height m + m.width
+  pub labelled : (x y : ℕ) → x < height m + m.width → y < height m + m.width → slice_index_or labels x 0 ≡ slice_index_or labels y 0 → AreTogether m x y
+  pub before : (i j : ℕ) → i < height m → j < m.width → (i < row) ⊎ ((i ≡ row) × (j < column)) → entry m i j ≢ pos 0 → AreTogether m i (height m + j)

@@ -1,0 +1,2 @@
+pub mod FirstSeeds
+pub mod FoundParts

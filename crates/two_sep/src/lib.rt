@@ -1,0 +1,12 @@
+//! The connected parts of a matrix, and its two-separations.
+#![tactic(auto)]
+
+mod labels;
+mod marked;
+mod parts;
+mod seeds;
+mod separations;
+
+pub use cmr_base::{LineSetList, Two};
+pub use parts::components;
+pub use separations::two_separation;

@@ -1,0 +1,62 @@
+// The first two-separation.
+ghost use Rattle.std.specs.Prelude.{◌≡◌, ◌≤◌, ◌<◌, ◌+◌, IfOk, MatchOption};
+ghost use Rattle.cmr_base.specs.Matrix.{height};
+ghost use Rattle.two_sep.specs.FirstSeeds.{HasNoTwoSeparation, IsFirstTwoSeparation, ArePassed};
+
+use crate::labels::{join_labels, own_labels};
+use crate::marked::marked_set;
+use crate::seeds::first_good_side;
+use cmr_base::{Matrix, Memory, RowsAndColumns, Two};
+use std::alloc::Global;
+
+/// The two-separation of the first good seed, in the order of the rows, columns and lines of seeds; `None` where the matrix
+/// has no two-separation. A nonzero without a good seed has its row and its column on one side of every two-separation, so
+/// of the nonzeros only those whose lines are not linked by earlier ones need a look.
+pub fn two_separation(alloc: Global, matrix: &Matrix) -> Result<Option<Two>, Memory>
+    ensures { IfOk result (λ found. MatchOption found (HasNoTwoSeparation matrix.now) (λ two. IsFirstTwoSeparation matrix.now two)) }
+{
+    first_separation(alloc, &RowsAndColumns::new(alloc, matrix)?)
+}
+
+// The same, of a matrix by its rows and its columns.
+fn first_separation(alloc: Global, matrix: &RowsAndColumns<'_>) -> Result<Option<Two>, Memory>
+    ensures { IfOk result (λ found. MatchOption found (HasNoTwoSeparation matrix.now) (λ two. IsFirstTwoSeparation matrix.now two)) }
+{
+    let mut labels = own_labels(alloc, matrix.rows() + matrix.columns())?;
+    for row in 0..matrix.rows() {
+        let found = separation_at(alloc, matrix, row, &mut labels)?;
+        if found.is_some() {
+            return Ok(found);
+        }
+    }
+    Ok(None)
+}
+
+// The first two-separation at a nonzero of a row, and the labels after all of them.
+fn separation_at(
+    alloc: Global,
+    matrix: &RowsAndColumns<'_>,
+    row: u32,
+    labels: &mut Vec<u32>,
+) -> Result<Option<Two>, Memory>
+    requires row { row < height matrix.now }
+    requires passed { ArePassed matrix.now row 0 labels.old.items }
+    ensures { IfOk result (λ found. MatchOption found (ArePassed matrix.now (row + 1) 0 labels.new.items) (λ two. IsFirstTwoSeparation matrix.now two)) }
+{
+    let rows = matrix.rows();
+    for column in 0..matrix.columns() {
+        let label = labels[row as usize];
+        let other = labels[(rows + column) as usize];
+        if label != other && matrix.entry(row, column) != 0 {
+            if let Some(side) = first_good_side(alloc, matrix, row, column)? {
+                return Ok(Some(Two {
+                    side: marked_set(alloc, &side, rows, matrix.columns())?,
+                    row,
+                    column,
+                }));
+            }
+            join_labels(labels, label, other);
+        }
+    }
+    Ok(None)
+}
