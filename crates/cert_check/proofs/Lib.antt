@@ -1,0 +1,14 @@
+pub mod FreeSets
+pub mod Sieves
+pub mod Leaves
+pub mod Sums
+pub mod NumberedParts
+pub mod OneSums
+pub mod Reductions
+pub mod SoundTrees
+pub mod Answering
+pub mod OwnRules
+pub mod SumRules
+pub mod Children
+pub mod ApartRules
+pub mod CleanSets

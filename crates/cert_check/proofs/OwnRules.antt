@@ -1,0 +1,178 @@
+-- The first rule that a node breaks by what it says, by the tests of its kind.
+use Rattle.std.proofs.Common.{◌≡◌, ◌<◌, ◌≤◌, ◌∙◌, min, length, map, ap, ◌↔◌, IsTrue, ℕ, Bool, true, false, Contains, Option, None, refl, sym, subst, arith}
+use Rattle.std.proofs.lemmas.Bool.{true≢false}
+use Rattle.std.proofs.lemmas.List.{length-map}
+use Rattle.std.specs.declared.alloc.Global.{Global}
+use Rattle.std.specs.declared.boxed.Box.{Box}
+use Rattle.cmr_base.specs.declared.line_set.LineSet.{LineSet}
+use Rattle.cmr_base.specs.declared.separation.Two.{Two}
+use Rattle.cmr_base.specs.declared.separation.Three.{Three}
+use Rattle.cmr_base.specs.Separations.{first_is_flat, second_is_flat}
+use Rattle.tree_type.specs.Sides.{HasConnector}
+use Rattle.cmr_base.specs.declared.network.Network as net
+use Rattle.cmr_base.specs.Matrix.{Matrix, height, entry, transposed}
+use Rattle.cmr_base.specs.Violator.{IsViolator, HasNoViolator}
+use Rattle.cmr_base.specs.CyclePlaces.{HasNoCycleFault}
+use Rattle.cmr_base.specs.R10.{IsR10}
+use Rattle.cmr_base.specs.Trees.{Reproduces}
+use Rattle.tree_type.specs.declared.refusal.Rule.{Rule}
+use Rattle.tree_type.specs.declared.refusal.Rule.TheVariants as rule
+use Rattle.tree_type.specs.Trees.{Finding, Empty, Cycle, Network, Conetwork, R10, Enumerated, TwoSum, ThreeSum, Violator, Undecided, Trees, Branch, NoTrees, two_trees, tree_of}
+use Rattle.tree_type.specs.declared.tree.Node.{Node}
+use Rattle.tree_type.specs.declared.tree.Kind.{Kind}
+use Rattle.tree_type.specs.Invariant.{AreLines, size_of}
+use Rattle.tree_type.specs.Places.{lines_of_each}
+use Rattle.tree_type.specs.Soundness.{part, Demands, rule_number}
+use Rattle.tree_type.specs.declared.tree.Kind.TheVariants as kind
+use Rattle.tree_type.proofs.NodeTrees.{said, tree_is, said_cycle, said_two_sum, said_three_sum, said_violator}
+use Rattle.tree_type.proofs.PlacedLines.{lines_within}
+use Rattle.cert_check.specs.Answers.{Stands, IsFirstOf, Says, IsOwnRule, unless}
+use Rattle.cert_check.proofs.Answering.{kind_is, children_stand}
+
+-- what a node says decides
+pub own_of : (m : Matrix) (node : Node) (k : Kind) (f : Finding) (trees : Trees) (answer : Option Rule) → node.kind ≡ k → said k ≡ (f, trees) → IsFirstOf m node.lines f (lines_of_each trees) answer → IsOwnRule m (tree_of node) answer
+own_of m node k f trees answer e h first = subst (λ tree. IsOwnRule m tree answer) (sym (kind_is node k f trees e h)) first
+
+branch_stands : (m : Matrix) (node : Node) (k : Kind) (f : Finding) (trees : Trees) → node.kind ≡ k → said k ≡ (f, trees) → Stands m (tree_of node) → Stands m (Branch node.lines f trees)
+branch_stands m node k f trees e h stands = subst (Stands m) (kind_is node k f trees e h) stands
+
+pub own_lines : (m : Matrix) (node : Node) → Stands m (tree_of node) → AreLines m node.lines
+own_lines m node stands = (children_stand m node.lines (said node.kind).0 (said node.kind).1 (subst (Stands m) (tree_is node) stands)).1
+
+pub cycle_lines : (m : Matrix) (node : Node) (fault : LineSet) → node.kind ≡ kind.Cycle fault → Stands m (tree_of node) → AreLines m fault
+cycle_lines m node fault e stands = go (branch_stands m node (kind.Cycle fault) (Cycle fault) NoTrees e (said_cycle fault) stands)
+  where
+    go : Stands m (Branch node.lines (Cycle fault) NoTrees) → AreLines m fault
+    go (parent, levels, are, within) = lines_within m fault node.lines within.2 (lines_within m node.lines parent within.1 are)
+
+pub violator_lines : (m : Matrix) (node : Node) (fault : LineSet) → node.kind ≡ kind.Violator fault → Stands m (tree_of node) → AreLines m fault
+violator_lines m node fault e stands = go (branch_stands m node (kind.Violator fault) (Violator fault) NoTrees e (said_violator fault) stands)
+  where
+    go : Stands m (Branch node.lines (Violator fault) NoTrees) → AreLines m fault
+    go (parent, levels, are, within) = lines_within m fault node.lines within.2 (lines_within m node.lines parent within.1 are)
+
+pub two_lines : (m : Matrix) (node : Node) (two : Two) (one_child two_child : Box Node Global) → node.kind ≡ kind.TwoSum two one_child two_child → Stands m (tree_of node) → Contains node.lines.rows two.row × Contains node.lines.columns two.column
+two_lines m node two one_child two_child e stands = go (branch_stands m node (kind.TwoSum two one_child two_child) (TwoSum two) (two_trees (tree_of one_child.value) (tree_of two_child.value)) e (said_two_sum two one_child two_child) stands)
+  where
+    go : Stands m (Branch node.lines (TwoSum two) (two_trees (tree_of one_child.value) (tree_of two_child.value))) → Contains node.lines.rows two.row × Contains node.lines.columns two.column
+    go (parent, levels, are, within) = (within.2.1, within.2.2)
+
+pub three_lines : (m : Matrix) (node : Node) (t : Three) (one_child two_child : Box Node Global) → node.kind ≡ kind.ThreeSum t one_child two_child → Stands m (tree_of node)
+    → HasConnector (first_is_flat t.form) node.lines.rows node.lines.columns t.first × HasConnector (second_is_flat t.form) node.lines.rows node.lines.columns t.second
+three_lines m node t one_child two_child e stands = go (branch_stands m node (kind.ThreeSum t one_child two_child) (ThreeSum t) (two_trees (tree_of one_child.value) (tree_of two_child.value)) e (said_three_sum t one_child two_child) stands)
+  where
+    go : Stands m (Branch node.lines (ThreeSum t) (two_trees (tree_of one_child.value) (tree_of two_child.value))) → HasConnector (first_is_flat t.form) node.lines.rows node.lines.columns t.first × HasConnector (second_is_flat t.form) node.lines.rows node.lines.columns t.second
+    go (parent, levels, are, within) = (within.2.1, within.2.2)
+
+false_not : {D : Type 0} → IsTrue false ↔ D → ¬ D
+false_not h d = true≢false (sym (h.1 d))
+
+-- ---- one rule
+
+pub empty_says : (m : Matrix) (lines : LineSet) (yes : Bool) → IsTrue yes ↔ (size_of lines ≡ 0) → Says m lines Empty (unless yes rule.NotEmpty)
+empty_says m lines true h children = kept
+  where
+    kept : (broken : Rule) → Demands broken m lines Empty children
+    kept rule.NotEmpty = h.0 refl
+    kept _ = tt
+empty_says m lines false h children = (false_not h, before)
+  where
+    before : (earlier : Rule) → rule_number earlier < rule_number rule.NotEmpty → Demands earlier m lines Empty children
+    before rule.NotEmpty l = absurd (omega (arith, l))
+    before _ l = tt
+
+pub cycle_says : (m : Matrix) (lines fault : LineSet) (yes : Bool) → IsTrue yes ↔ IsViolator (entry m) fault.rows fault.columns → Says m lines (Cycle fault) (unless yes rule.NotViolator)
+cycle_says m lines fault true h children = kept
+  where
+    kept : (broken : Rule) → Demands broken m lines (Cycle fault) children
+    kept rule.NotViolator = h.0 refl
+    kept _ = tt
+cycle_says m lines fault false h children = (false_not h, before)
+  where
+    before : (earlier : Rule) → rule_number earlier < rule_number rule.NotViolator → Demands earlier m lines (Cycle fault) children
+    before rule.NotViolator l = absurd (omega (arith, l))
+    before _ l = tt
+
+pub violator_says : (m : Matrix) (lines fault : LineSet) (yes : Bool) → IsTrue yes ↔ IsViolator (entry m) fault.rows fault.columns → Says m lines (Violator fault) (unless yes rule.NotViolator)
+violator_says m lines fault true h children = kept
+  where
+    kept : (broken : Rule) → Demands broken m lines (Violator fault) children
+    kept rule.NotViolator = h.0 refl
+    kept _ = tt
+violator_says m lines fault false h children = (false_not h, before)
+  where
+    before : (earlier : Rule) → rule_number earlier < rule_number rule.NotViolator → Demands earlier m lines (Violator fault) children
+    before rule.NotViolator l = absurd (omega (arith, l))
+    before _ l = tt
+
+pub network_says : (m : Matrix) (lines : LineSet) (n : net.Network) (yes : Bool) → IsTrue yes ↔ Reproduces n (part m lines) → Says m lines (Network n) (unless yes rule.NotNetwork)
+network_says m lines n true h children = kept
+  where
+    kept : (broken : Rule) → Demands broken m lines (Network n) children
+    kept rule.NotNetwork = h.0 refl
+    kept _ = tt
+network_says m lines n false h children = (false_not h, before)
+  where
+    before : (earlier : Rule) → rule_number earlier < rule_number rule.NotNetwork → Demands earlier m lines (Network n) children
+    before rule.NotNetwork l = absurd (omega (arith, l))
+    before _ l = tt
+
+pub conetwork_says : (m : Matrix) (lines : LineSet) (n : net.Network) (yes : Bool) → IsTrue yes ↔ Reproduces n (transposed (part m lines)) → Says m lines (Conetwork n) (unless yes rule.NotNetwork)
+conetwork_says m lines n true h children = kept
+  where
+    kept : (broken : Rule) → Demands broken m lines (Conetwork n) children
+    kept rule.NotNetwork = h.0 refl
+    kept _ = tt
+conetwork_says m lines n false h children = (false_not h, before)
+  where
+    before : (earlier : Rule) → rule_number earlier < rule_number rule.NotNetwork → Demands earlier m lines (Conetwork n) children
+    before rule.NotNetwork l = absurd (omega (arith, l))
+    before _ l = tt
+
+pub undecided_says : (m : Matrix) (lines : LineSet) → Says m lines Undecided None
+undecided_says m lines children = kept
+  where
+    kept : (broken : Rule) → Demands broken m lines Undecided children
+    kept rule.Size = tt
+    kept _ = tt
+
+pub few_lines : (a b rows columns least : ℕ) → a ≡ rows → b ≡ columns → least ≡ min a b → least ≤ 24 → min rows columns ≤ 24
+few_lines a b rows columns least e f g h = subst (λ n. min rows n ≤ 24) f (subst (λ n. min n b ≤ 24) e (subst (λ n. n ≤ 24) g h))
+
+-- the sides of a part are as long as its lists of lines
+pub part_sizes : (m : Matrix) (lines : LineSet) (whole : Matrix) → whole ≡ part m lines → min (height whole) whole.width ≡ min (length lines.rows) (length lines.columns)
+part_sizes m lines whole e = ap (λ p. min (height p) p.width) e ∙ ap (λ n. min n (length lines.columns)) (length-map lines.rows (λ row. map (entry m row) lines.columns))
+
+pub enumerated_says : (m : Matrix) (lines : LineSet) (whole : Matrix) (b : Bool) → whole ≡ part m lines → min (length lines.rows) (length lines.columns) ≤ 24 → IsTrue b ↔ HasNoViolator whole → Says m lines Enumerated (unless b rule.NotClean)
+enumerated_says m lines whole b e few h = go b (subst (λ p. IsTrue b ↔ HasNoViolator p) e h)
+  where
+    go : (b : Bool) → IsTrue b ↔ HasNoViolator (part m lines) → Says m lines Enumerated (unless b rule.NotClean)
+    go true h children = kept
+      where
+        kept : (broken : Rule) → Demands broken m lines Enumerated children
+        kept rule.TooMany = few
+        kept rule.NotClean = h.0 refl
+        kept _ = tt
+    go false h children = (false_not h, before)
+      where
+        before : (earlier : Rule) → rule_number earlier < rule_number rule.NotClean → Demands earlier m lines Enumerated children
+        before rule.TooMany l = few
+        before rule.NotClean l = absurd (omega (arith, l))
+        before _ l = tt
+
+pub r10_says : (m : Matrix) (lines : LineSet) (whole : Matrix) (b : Bool) → whole ≡ part m lines → IsR10 whole → IsTrue b ↔ HasNoCycleFault (entry whole) → Says m lines R10 (unless b rule.CycleFault)
+r10_says m lines whole b e is h = go b (subst IsR10 e is) (subst (λ p. IsTrue b ↔ HasNoCycleFault (entry p)) e h)
+  where
+    go : (b : Bool) → IsR10 (part m lines) → IsTrue b ↔ HasNoCycleFault (entry (part m lines)) → Says m lines R10 (unless b rule.CycleFault)
+    go true is h children = kept
+      where
+        kept : (broken : Rule) → Demands broken m lines R10 children
+        kept rule.NotR10 = is
+        kept rule.CycleFault = h.0 refl
+        kept _ = tt
+    go false is h children = (false_not h, before)
+      where
+        before : (earlier : Rule) → rule_number earlier < rule_number rule.CycleFault → Demands earlier m lines R10 children
+        before rule.NotR10 l = is
+        before rule.CycleFault l = absurd (omega (arith, l))
+        before _ l = tt

@@ -1,0 +1,71 @@
+-- What the checker answers, and what it finds on the way.
+use Rattle.std.specs.Prelude.{◌<◌, ℕ, Bool, true, false, List, Option, Some, None}
+use Rattle.std.specs.List.{AllByRecursion}
+use Rattle.cmr_base.specs.declared.line_set.LineSet.{LineSet}
+use Rattle.cmr_base.specs.Matrix.{Matrix}
+use Rattle.tree_type.specs.declared.refusal.Refusal.{Refusal}
+use Rattle.tree_type.specs.declared.refusal.Rule.{Rule}
+use Rattle.tree_type.specs.Trees.{Finding, Tree, Trees, Branch, SizedTree, lines_of}
+use Rattle.tree_type.specs.Invariant.{AreLines, IsTreeWithin}
+use Rattle.tree_type.specs.Places.{Due, These, Unnamed, Place, due_child, places_below, lines_of_each}
+use Rattle.tree_type.specs.Soundness.{Demands, KeepsAll, rule_number, BreaksFirst, IsSound, IsFirstBroken, IsBroken}
+
+-- no refusal exactly where the tree is sound, and else the first node that breaks a rule, with that rule
+abbrev pub Answers : Matrix → SizedTree → Option Refusal → Type 0
+Answers m tree None = IsSound m tree
+Answers m tree (Some refusal) = IsBroken m tree refusal
+
+-- the same of some nodes
+abbrev pub AnswersOn : Matrix → List Place → Option Refusal → Type 0
+AnswersOn m nodes None = AllByRecursion (KeepsAll m) nodes
+AnswersOn m nodes (Some refusal) = IsFirstBroken m nodes refusal.path refusal.rule
+
+-- the first rule that is broken by what a node with these lines, and children with those, says, or none
+abbrev pub IsFirstOf : Matrix → LineSet → Finding → List LineSet → Option Rule → Type 0
+IsFirstOf m lines finding children None = (rule : Rule) → Demands rule m lines finding children
+IsFirstOf m lines finding children (Some broken) = (¬ (Demands broken m lines finding children)) × ((earlier : Rule) → rule_number earlier < rule_number broken → Demands earlier m lines finding children)
+
+-- the same where the children do not matter
+abbrev pub Says : Matrix → LineSet → Finding → Option Rule → Type 0
+Says m lines finding answer = (children : List LineSet) → IsFirstOf m lines finding children answer
+
+-- the first rule on what the node says that the node breaks, or none
+abbrev pub IsOwnRule : Matrix → Tree → Option Rule → Type 0
+IsOwnRule m (Branch lines finding trees) answer = IsFirstOf m lines finding (lines_of_each trees) answer
+
+-- no rule where it is kept, and else this one
+abbrev pub unless : Bool → Rule → Option Rule
+unless true rule = None
+unless false rule = Some rule
+
+-- a node whose lines are lines of the matrix, with what stands below it
+abbrev pub Stands : Matrix → Tree → Type 0
+Stands m tree = (parent : LineSet) × (levels : ℕ) × AreLines m parent × IsTreeWithin parent levels tree
+
+abbrev pub finding_of : Tree → Finding
+finding_of (Branch lines finding trees) = finding
+
+abbrev pub trees_below : Tree → Trees
+trees_below (Branch lines finding trees) = trees
+
+-- the nodes below a node
+abbrev pub nodes_below : List ℕ → Tree → List Place
+nodes_below path tree = places_below path (lines_of tree) (finding_of tree) 0 (trees_below tree)
+
+-- what a child is to have, where lines are named for it
+abbrev pub due_from : Option LineSet → Due
+due_from None = Unnamed
+due_from (Some lines) = These lines
+
+-- what the child of a node with this number is to have
+abbrev pub due_child_of : Tree → ℕ → Due
+due_child_of tree number = due_child (lines_of tree) (finding_of tree) number
+
+-- the node itself at its place
+abbrev pub place_of : List ℕ → Due → Tree → Place
+place_of path due tree = record { path = path; due = due; lines = lines_of tree; finding = finding_of tree; children = lines_of_each (trees_below tree) }
+
+-- the first rule that a node breaks at its place, or none, whatever its path is
+abbrev pub IsRuleAt : Matrix → Due → Tree → Option Rule → Type 0
+IsRuleAt m due tree None = (path : List ℕ) → KeepsAll m (place_of path due tree)
+IsRuleAt m due tree (Some broken) = (path : List ℕ) → BreaksFirst m (place_of path due tree) broken

@@ -1,0 +1,45 @@
+// Whether a matrix with a short side has no violator.
+ghost use Rattle.std.specs.Prelude.{◌≡◌, ◌≤◌, ◌↔◌, min, IfOk, IsTrue};
+ghost use Rattle.cmr_base.specs.Matrix.{height, IsMatrix};
+ghost use Rattle.cmr_base.specs.Violator.{HasNoViolator};
+
+use cmr_base::{Matrix, Memory, set_count, write_set};
+use parity::ColumnSearch;
+use std::alloc::Global;
+
+/// Whether no submatrix is a violator. All sets of the shorter side are tried.
+pub fn is_clean(alloc: Global, matrix: &Matrix) -> Result<bool, Memory>
+    requires { min (height matrix.now) matrix.now.width ≤ 24 }
+    ensures { IfOk result (λ yes. IsTrue yes ↔ HasNoViolator matrix.now) }
+{
+    if matrix.rows() <= matrix.columns() {
+        is_clean_by_rows(alloc, matrix)
+    } else {
+        is_clean_by_columns(alloc, matrix)
+    }
+}
+
+fn is_clean_by_columns(alloc: Global, matrix: &Matrix) -> Result<bool, Memory>
+    requires few { matrix.now.width ≤ 24 }
+    requires shape { IsMatrix matrix.now }
+    ensures { IfOk result (λ yes. IsTrue yes ↔ HasNoViolator matrix.now) }
+{
+    let turned = matrix.transposed(alloc)?;
+    is_clean_by_rows(alloc, &turned)
+}
+
+fn is_clean_by_rows(alloc: Global, matrix: &Matrix) -> Result<bool, Memory>
+    requires { height matrix.now ≤ 24 }
+    ensures { IfOk result (λ yes. IsTrue yes ↔ HasNoViolator matrix.now) }
+{
+    let count = matrix.rows();
+    let mut search = ColumnSearch::new(alloc, matrix)?;
+    let mut set = Vec::with_capacity(alloc, count as usize)?;
+    for number in 0..set_count(count) {
+        write_set(&mut set, count, number)?;
+        if let Some(_columns) = search.first(alloc, &set)? {
+            return Ok(false);
+        }
+    }
+    Ok(true)
+}

@@ -1,0 +1,17 @@
+//! Checks of evidence.
+#![tactic(auto)]
+
+mod apart_rule;
+mod blocks;
+mod check_tree;
+mod clean;
+mod due_lines;
+pub mod laws;
+mod leaf_rules;
+mod members;
+mod own_rule;
+mod reduced_rule;
+mod sum_rules;
+
+pub use check_tree::accept;
+pub use tree_type::{Refusal, Rule};

@@ -1,0 +1,12 @@
+// Lines of a set.
+ghost use Rattle.std.specs.Prelude.{◌≡◌, ◌↔◌, IsTrue, Contains};
+
+use cmr_base::Indices;
+use tree_type::has_line;
+
+/// Whether a line is one of a set.
+pub fn is_in(set: &Indices, line: u32) -> bool
+    ensures { IsTrue result ↔ Contains set.now line }
+{
+    has_line(set, line)
+}

@@ -1,0 +1,107 @@
+-- The tree of some lines, from what its root says and from the trees of its children.
+use Rattle.std.proofs.Common.{◌≡◌, ◌<◌, ◌≤◌, ◌+◌, ◌-◌, ◌∙◌, ◌++◌, ℕ, zero, suc, List, [], ◌∷◌, length, map, refl, ap, ap₂, sym, subst, arith}
+use Rattle.std.specs.List.{AllByRecursion}
+use Rattle.cmr_base.specs.declared.line_set.LineSet.{LineSet}
+use Rattle.cmr_base.specs.Matrix.{Matrix, height, IsMatrix}
+use Rattle.cmr_base.specs.LineSets.{AllBelow, IsRowSet, IsColumnSet, first_lines}
+use Rattle.cmr_base.proofs.Lists.{all-append}
+use Rattle.cmr_base.proofs.Parts.{length-rising}
+use Rattle.cmr_base.proofs.RemovedLines.{first_lines_increase}
+use Rattle.tree_type.specs.Trees.{Finding, Tree, Trees, Branch, NoTrees, MoreTrees, trees_from, count_trees, lines_of}
+use Rattle.tree_type.specs.Invariant.{AreLines, AreLinesOf, size_of, Fits, HasChildren, IsTreeWithin, AreTreesWithin, IsTreeFor}
+use Rattle.tree_type.specs.Places.{Due, AllLines, places_from, places_below, due_child, lines_of_each}
+use Rattle.tree_type.specs.Soundness.{HasItsLines, IsSoundTree}
+use Rattle.tree_type.proofs.PlacedLines.{lines_within}
+use Rattle.decomp_tree.specs.Shapes.{IsShapedAt, IsShape, HasParts, set_in}
+use Rattle.decomp_tree.specs.Seen.{AreDue, AreFewer, IsSaid, IsDrawn, AreDrawn}
+use Rattle.decomp_tree.proofs.ShapeSound.{shapes_are_sound}
+
+module _ (limit : ℕ) (m : Matrix) where
+  lines_drawn : (children : List LineSet) (trees : List Tree) → AreDrawn limit m children trees → lines_of_each (trees_from trees) ≡ children
+  lines_drawn [] [] d = refl
+  lines_drawn [] (tree ∷ trees) d = absurd d
+  lines_drawn (child ∷ children) [] d = absurd d
+  lines_drawn (child ∷ children) (tree ∷ trees) d = ap₂ (λ a b. a ∷ b) d.0.lines_are (lines_drawn children trees d.1)
+
+  count_drawn : (children : List LineSet) (trees : List Tree) → AreDrawn limit m children trees → count_trees (trees_from trees) ≡ length children
+  count_drawn [] [] d = refl
+  count_drawn [] (tree ∷ trees) d = absurd d
+  count_drawn (child ∷ children) [] d = absurd d
+  count_drawn (child ∷ children) (tree ∷ trees) d = ap suc (count_drawn children trees d.1)
+
+  shaped_below : (path : List ℕ) (lines : LineSet) (finding : Finding) (k : ℕ) (children : List LineSet) (trees : List Tree) → AreDrawn limit m children trees → AreDue lines finding k children
+      → AllByRecursion (IsShapedAt limit m) (places_below path lines finding k (trees_from trees))
+  shaped_below path lines finding k [] [] d due = tt
+  shaped_below path lines finding k [] (tree ∷ trees) d due = absurd d
+  shaped_below path lines finding k (child ∷ children) [] d due = absurd d
+  shaped_below path lines finding k (child ∷ children) (tree ∷ trees) d due =
+      all-append (IsShapedAt limit m) (places_from (path ++ k ∷ []) (due_child lines finding k) tree) (places_below path lines finding (suc k) (trees_from trees))
+      (d.0.shaped (path ++ k ∷ []) (due_child lines finding k) due.0)
+      (shaped_below path lines finding (suc k) children trees d.1 due.1)
+
+  within_below : (lines : LineSet) (levels : ℕ) (children : List LineSet) (trees : List Tree) → AreDrawn limit m children trees → AllByRecursion (AreFewer lines) children → size_of lines ≤ levels
+      → AreTreesWithin lines levels (trees_from trees)
+  within_below lines levels [] [] d fewer l = tt
+  within_below lines levels [] (tree ∷ trees) d fewer l = absurd d
+  within_below lines levels (child ∷ children) [] d fewer l = absurd d
+  within_below lines levels (child ∷ children) (tree ∷ trees) d fewer l =
+      (d.0.within lines levels fewer.0.among (let k = fewer.0.fewer in omega (arith, k, l)), within_below lines levels children trees d.1 fewer.1 l)
+
+  pub drawn : (lines : LineSet) (finding : Finding) (children : List LineSet) (trees : List Tree) → IsSaid limit m lines finding children → AreDrawn limit m children trees → IsDrawn limit m lines (Branch lines finding (trees_from trees))
+  drawn lines finding children trees said d = record {
+    lines_are = refl;
+    shaped = λ path due has. (
+      record {
+        lines = has;
+        case = said.case;
+        first = said.first;
+        found = said.found;
+        parts = said.parts;
+        says = said.says;
+        finding = said.finding_is;
+        children = subst (λ c. HasParts finding c (map (set_in lines) said.parts)) (sym (lines_drawn children trees d)) said.parts_are;
+      },
+      shaped_below path lines finding 0 children trees d said.due,
+    );
+    within = λ parent levels among l. (
+      omega (arith, l),
+      among,
+      said.fits (trees_from trees) (count_drawn children trees d),
+      subst (HasChildren finding) (sym (count_drawn children trees d)) said.count,
+      within_below lines (levels - 1) children trees d said.fewer (omega (arith, l)),
+    );
+  }
+
+  -- one more tree
+  pub drawn_more : (children : List LineSet) (trees : List Tree) (child : LineSet) (tree : Tree) → AreDrawn limit m children trees → IsDrawn limit m child tree → AreDrawn limit m (children ++ child ∷ []) (trees ++ tree ∷ [])
+  drawn_more [] [] child tree d one = (one, tt)
+  drawn_more [] (t ∷ trees) child tree d one = absurd d
+  drawn_more (c ∷ children) [] child tree d one = absurd d
+  drawn_more (c ∷ children) (t ∷ trees) child tree d one = (d.0, drawn_more children trees child tree d.1 one)
+
+  module _ (is : IsMatrix m) (lines : LineSet) (rows : lines.rows ≡ first_lines (height m)) (columns : lines.columns ≡ first_lines m.width) (row_set : IsRowSet m lines.rows) (column_set : IsColumnSet m lines.columns) where
+    all_few : size_of lines < 2001
+    all_few =
+        let a = length-rising lines.rows (height m) row_set.rising row_set.in_range in
+        let b = length-rising lines.columns m.width column_set.rising column_set.in_range in
+        let c = is.height_in in
+        let d = is.width_in in
+        omega (arith, a, b, c, d)
+
+    themselves : AreLinesOf lines lines
+    themselves = record { rows_rise = row_set.rising; columns_rise = column_set.rising; rows = λ row h. h; columns = λ column h. h }
+
+    pub whole_tree : (tree : Tree) → IsDrawn limit m lines tree → IsTreeFor (height m) m.width tree
+    whole_tree tree d = record {
+      rows_in = is.height_in;
+      columns_in = is.width_in;
+      root_rows = subst (λ l. AllBelow (height m) l.rows) (sym d.lines_are) row_set.in_range;
+      root_columns = subst (λ l. AllBelow m.width l.columns) (sym d.lines_are) column_set.in_range;
+      nodes = subst (λ l. IsTreeWithin l 2001 tree) (sym d.lines_are) (d.within lines 2001 themselves all_few);
+    }
+
+    pub whole_shape : (tree : Tree) → IsDrawn limit m lines tree → IsShape limit m tree
+    whole_shape tree d = d.shaped [] (AllLines (height m) m.width) (rows, columns)
+
+    pub whole_sound : (tree : Tree) → limit ≤ 24 → IsDrawn limit m lines tree → IsSoundTree m (height m) m.width tree
+    whole_sound tree few d = shapes_are_sound limit few m is tree (whole_tree tree d) (whole_shape tree d)

@@ -1,0 +1,14 @@
+pub mod Numbered
+pub mod Separated
+pub mod Removed
+pub mod Apart
+pub mod ShapeRules
+pub mod ShapeSound
+pub mod Kept
+pub mod Left
+pub mod Drawn
+pub mod Said
+pub mod SaidSums
+pub mod Children
+pub mod Roots
+pub mod NoFaults

@@ -1,0 +1,236 @@
+-- Separations of a node's submatrix are separations of its lines.
+use Rattle.std.proofs.Common.{◌≡◌, ◌≢◌, ◌<◌, ◌∙◌, ◌⊎◌, inl, inr, ℕ, ℤ, pos, ◌*ℤ◌, Bool, true, false, not, List, [], ◌∷◌, length, filter, nat_eq, Contains, refl, ap, ap₂, sym, subst, arith}
+use Rattle.std.specs.List.{list_any}
+use Rattle.std.specs.List.Sorted.{IsStrictlyIncreasing}
+use Rattle.std.proofs.lemmas.List.Kept.{IsStrictlyIncreasing-filter}
+use Rattle.cmr_base.specs.declared.line.Line.TheVariants.{Row, Column}
+use Rattle.cmr_base.specs.declared.line_set.LineSet.{LineSet}
+use Rattle.cmr_base.specs.declared.separation.Connector.{Connector}
+use Rattle.cmr_base.specs.declared.separation.Three.{Three}
+use Rattle.cmr_base.specs.Matrix.{Matrix, entry, IsMatrix}
+use Rattle.cmr_base.specs.LineSets.{IsRowSet, IsColumnSet, first_lines}
+use Rattle.cmr_base.specs.Members.{IsIn}
+use Rattle.cmr_base.specs.CyclePlaces.{HasNoCycleFault}
+use Rattle.cmr_base.specs.Separations.{Lines, listed, AreOn, AreEnough, IsTied, product_at, first_is_flat, second_is_flat, connector_lines, IsTwoSeparation, IsThreeSeparation}
+use Rattle.cmr_base.proofs.LineCounts.{inside_is, outside_is}
+use Rattle.cmr_base.proofs.ListedLines.{in_from_listed, listed_from_in, contains_first_lines, first_lines_contain}
+use Rattle.cmr_base.proofs.ListsWithout.{increasing_tail, head_below, place_of, place_is}
+use Rattle.cmr_base.proofs.RemovedLines.{first_lines_increase, in_first_lines}
+use Rattle.cmr_base.proofs.RowLists.{filter_in, in_filter}
+use Rattle.camion_sign.proofs.FullSquares.{full_squares}
+use Rattle.tree_type.specs.Invariant.{AreLines}
+use Rattle.tree_type.specs.Sides.{is_among, inside, outside, sides, HaveLines, IsReference, AreTwoBlocks, HasConnector, IsOtherLine, AreConnectors, HasCornerSign, AreThreeBlocks}
+use Rattle.tree_type.specs.Soundness.{part}
+use Rattle.decomp_tree.specs.Shapes.{numbered, set_in, connector_in, three_in}
+use Rattle.decomp_tree.proofs.Numbered.{entry_in, height_in, among_named, from_inside, from_outside, to_inside, to_outside, counted_all}
+
+-- rising lists with the same members are one
+same_members : (xs ys : List ℕ) → IsStrictlyIncreasing xs → IsStrictlyIncreasing ys → ((x : ℕ) → IsIn x xs → IsIn x ys) → ((x : ℕ) → IsIn x ys → IsIn x xs) → xs ≡ ys
+same_members [] [] a b f g = refl
+same_members [] (y ∷ ys) a b f g = absurd (g y (inl refl))
+same_members (x ∷ xs) [] a b f g = absurd (f x (inl refl))
+same_members (x ∷ xs) (y ∷ ys) a b f g =
+    let e = heads (f x (inl refl)) (g y (inl refl)) in
+    ap₂ (λ z zs. z ∷ zs) e (same_members xs ys (increasing_tail x xs a) (increasing_tail y ys b) (λ z h. tail_of y ys z (f z (inr h)) (let l = head_below x z xs a h in λ q. omega (arith, l, q, e))) (λ z h. tail_of x xs z (g z (inr h)) (let l = head_below y z ys b h in λ q. omega (arith, l, q, e))))
+  where
+    heads : (x ≡ y) ⊎ IsIn x ys → (y ≡ x) ⊎ IsIn y xs → x ≡ y
+    heads (inl e) k = e
+    heads (inr h) (inl e) = sym e
+    heads (inr h) (inr k) = let l = head_below y x ys b h in let r = head_below x y xs a k in absurd (omega (arith, l, r))
+
+    tail_of : (y : ℕ) (ys : List ℕ) (z : ℕ) → (z ≡ y) ⊎ IsIn z ys → z ≢ y → IsIn z ys
+    tail_of y ys z (inl e) d = absurd (d e)
+    tail_of y ys z (inr h) d = h
+
+-- a rising list below a bound has the lines that it lists
+listed_lines : (xs : List ℕ) (bound : ℕ) → IsStrictlyIncreasing xs → ((k : ℕ) → k < length xs → numbered xs k < bound) → xs ≡ filter (λ x. list_any (λ y. nat_eq y x) xs) (first_lines bound)
+listed_lines xs bound rises low = same_members xs (filter (λ x. list_any (λ y. nat_eq y x) xs) (first_lines bound)) rises
+    (IsStrictlyIncreasing-filter (λ x. list_any (λ y. nat_eq y x) xs) (first_lines bound) (first_lines_increase bound))
+    (λ x h. let w = place_is x xs h in
+    filter_in (λ z. list_any (λ y. nat_eq y z) xs) x (first_lines bound) (in_first_lines bound x (subst (λ z. z < bound) w.there (low (place_of x xs) w.in_range))) (listed_from_in x xs h))
+    (λ x h. in_from_listed x xs (in_filter (λ z. list_any (λ y. nat_eq y z) xs) x (first_lines bound) h).1)
+
+-- sides of the submatrix, as sides of the lines
+module _ (m : Matrix) (lines : LineSet) (are : AreLines m lines) (S : Lines) where
+  abbrev pub side : LineSet
+  side = set_in lines (record { rows = filter (λ r. S (Row r)) (first_lines (length lines.rows)); columns = filter (λ c. S (Column c)) (first_lines (length lines.columns)) })
+
+  -- the entries of two sides
+  pub right_entries : (to_be : ℕ → ℕ → ℤ) (rule : ℕ → ℕ → ℤ)
+      → ((r c : ℕ) → r < length lines.rows → c < length lines.columns → S (Row r) ≡ true → S (Column c) ≡ false → entry (part m lines) r c ≡ rule r c)
+      → ((r c : ℕ) → r < length lines.rows → c < length lines.columns → rule r c ≡ to_be (numbered lines.rows r) (numbered lines.columns c))
+      → (r c : ℕ) → Contains (inside side.rows lines.rows) r → Contains (outside side.columns lines.columns) c → entry m r c ≡ to_be r c
+  right_entries to_be rule closed same r c h k =
+      let a = from_inside lines.rows are.rows.rising (λ r. S (Row r)) r h in
+      let b = from_outside lines.columns are.columns.rising (λ c. S (Column c)) c k in
+      ap₂ (entry m) a.2 b.2 ∙ sym (entry_in m lines a.0 b.0 a.1 b.1) ∙ closed a.0 b.0 a.1 b.1 a.3 b.3 ∙ same a.0 b.0 a.1 b.1 ∙ ap₂ to_be (sym a.2) (sym b.2)
+
+  pub below_entries : (to_be : ℕ → ℕ → ℤ) (rule : ℕ → ℕ → ℤ)
+      → ((r c : ℕ) → r < length lines.rows → c < length lines.columns → S (Row r) ≡ false → S (Column c) ≡ true → entry (part m lines) r c ≡ rule r c)
+      → ((r c : ℕ) → r < length lines.rows → c < length lines.columns → rule r c ≡ to_be (numbered lines.rows r) (numbered lines.columns c))
+      → (r c : ℕ) → Contains (outside side.rows lines.rows) r → Contains (inside side.columns lines.columns) c → entry m r c ≡ to_be r c
+  below_entries to_be rule closed same r c h k =
+      let a = from_outside lines.rows are.rows.rising (λ r. S (Row r)) r h in
+      let b = from_inside lines.columns are.columns.rising (λ c. S (Column c)) c k in
+      ap₂ (entry m) a.2 b.2 ∙ sym (entry_in m lines a.0 b.0 a.1 b.1) ∙ closed a.0 b.0 a.1 b.1 a.3 b.3 ∙ same a.0 b.0 a.1 b.1 ∙ ap₂ to_be (sym a.2) (sym b.2)
+
+  -- the numbers of lines
+  pub enough : (low : ℕ) → AreEnough (first_lines (length lines.rows)) (first_lines (length lines.columns)) S low → HaveLines low (sides lines side)
+  enough low both =
+      let a = counted_all (is_among side.rows) (λ r. S (Row r)) lines.rows (among_named lines.rows are.rows.rising (λ r. S (Row r))) in
+      let b = counted_all (is_among side.columns) (λ c. S (Column c)) lines.columns (among_named lines.columns are.columns.rising (λ c. S (Column c))) in
+      let c = counted_all (λ x. not (is_among side.rows x)) (λ r. not (S (Row r))) lines.rows (λ k l. ap not (among_named lines.rows are.rows.rising (λ r. S (Row r)) k l)) in
+      let d = counted_all (λ x. not (is_among side.columns x)) (λ c. not (S (Column c))) lines.columns (λ k l. ap not (among_named lines.columns are.columns.rising (λ c. S (Column c)) k l)) in
+      let one = both.one in
+      let two = both.two in
+      let one_is = inside_is (length lines.rows) (length lines.columns) S in
+      let two_is = outside_is (length lines.rows) (length lines.columns) S in
+      record { one = omega (arith, a, b, one, one_is); two = omega (arith, c, d, two, two_is) }
+
+  -- what is made from a column and a row is made from them by their other numbers
+  pub made : (i j r c : ℕ) → i < length lines.rows → j < length lines.columns → r < length lines.rows → c < length lines.columns
+      → product_at (entry (part m lines)) i j r c ≡ product_at (entry m) (numbered lines.rows i) (numbered lines.columns j) (numbered lines.rows r) (numbered lines.columns c)
+  made i j r c hi hj hr hc = rw (entry_in m lines r j hr hj, entry_in m lines i c hi hc, entry_in m lines i j hi hj) refl
+
+-- the side of a separation that was found, by its numbers in the whole matrix
+pub named_side : (m : Matrix) (lines : LineSet) (are : AreLines m lines) (one : LineSet) → IsRowSet (part m lines) one.rows → IsColumnSet (part m lines) one.columns → set_in lines one ≡ side m lines are (listed one.rows one.columns)
+named_side m lines are one rows columns = ap (set_in lines) (ap₂ (λ (a b : List ℕ). both a b)
+    (listed_lines one.rows (length lines.rows) rows.rising (subst (λ n. (k : ℕ) → k < length one.rows → numbered one.rows k < n) (height_in m lines) rows.in_range))
+    (listed_lines one.columns (length lines.columns) columns.rising columns.in_range))
+  where
+    both : List ℕ → List ℕ → LineSet
+    both a b = record { rows = a; columns = b }
+
+-- ---- two-separations
+
+module _ (m : Matrix) (lines : LineSet) (are : AreLines m lines) (i j : ℕ) (S : Lines) (separated : IsTwoSeparation (entry (part m lines)) (first_lines (length lines.rows)) (first_lines (length lines.columns)) S i j) where
+  row_in : i < length lines.rows
+  row_in = first_lines_contain (length lines.rows) i separated.two.0.0
+
+  column_in : j < length lines.columns
+  column_in = first_lines_contain (length lines.columns) j separated.one.0.0
+
+  pub two_short : HaveLines 2 (sides lines (side m lines are S))
+  two_short = enough m lines are S 2 separated.enough
+
+  pub two_reference : IsReference (entry m) (sides lines (side m lines are S)) (numbered lines.rows i) (numbered lines.columns j)
+  two_reference = record {
+    row = to_outside lines.rows are.rows.rising (λ r. S (Row r)) i row_in separated.two.0.1;
+    column = to_inside lines.columns are.columns.rising (λ c. S (Column c)) j column_in separated.one.0.1;
+    nonzero = λ z. separated.nonzero (entry_in m lines i j row_in column_in ∙ z);
+  }
+
+  pub two_blocks : AreTwoBlocks (entry m) (sides lines (side m lines are S)) (numbered lines.rows i) (numbered lines.columns j)
+  two_blocks = record {
+    right = right_entries m lines are S (λ r c. pos 0) (λ r c. pos 0)
+        (λ r c h k. separated.blocks.right r c (contains_first_lines (length lines.rows) r h) (contains_first_lines (length lines.columns) c k)) (λ r c h k. refl);
+    below = below_entries m lines are S (product_at (entry m) (numbered lines.rows i) (numbered lines.columns j)) (product_at (entry (part m lines)) i j)
+        (λ r c h k. separated.blocks.below r c (contains_first_lines (length lines.rows) r h) (contains_first_lines (length lines.columns) c k))
+        (λ r c h k. made m lines are S i j r c row_in column_in h k);
+  }
+
+-- ---- three-separations
+
+module _ (m : Matrix) (lines : LineSet) (are : AreLines m lines) (S : Lines) where
+  abbrev rows : List ℕ
+  rows = first_lines (length lines.rows)
+
+  abbrev columns : List ℕ
+  columns = first_lines (length lines.columns)
+
+  connector_one : (flat : Bool) (c : Connector) → AreOn rows columns S true (connector_lines flat c) → HasConnector flat (inside (side m lines are S).rows lines.rows) (inside (side m lines are S).columns lines.columns) (connector_in flat lines c)
+  connector_one true c h = (
+    to_inside lines.rows are.rows.rising (λ r. S (Row r)) c.row (first_lines_contain (length lines.rows) c.row h.0.0) h.0.1,
+    to_inside lines.columns are.columns.rising (λ x. S (Column x)) c.column (first_lines_contain (length lines.columns) c.column h.1.0.0) h.1.0.1,
+    to_inside lines.columns are.columns.rising (λ x. S (Column x)) c.other (first_lines_contain (length lines.columns) c.other h.1.1.0.0) h.1.1.0.1,
+  )
+  connector_one false c h = (
+    to_inside lines.rows are.rows.rising (λ r. S (Row r)) c.row (first_lines_contain (length lines.rows) c.row h.0.0) h.0.1,
+    to_inside lines.columns are.columns.rising (λ x. S (Column x)) c.column (first_lines_contain (length lines.columns) c.column h.1.0.0) h.1.0.1,
+    to_inside lines.rows are.rows.rising (λ r. S (Row r)) c.other (first_lines_contain (length lines.rows) c.other h.1.1.0.0) h.1.1.0.1,
+  )
+
+  connector_two : (flat : Bool) (c : Connector) → AreOn rows columns S false (connector_lines flat c) → HasConnector flat (outside (side m lines are S).rows lines.rows) (outside (side m lines are S).columns lines.columns) (connector_in flat lines c)
+  connector_two true c h = (
+    to_outside lines.rows are.rows.rising (λ r. S (Row r)) c.row (first_lines_contain (length lines.rows) c.row h.0.0) h.0.1,
+    to_outside lines.columns are.columns.rising (λ x. S (Column x)) c.column (first_lines_contain (length lines.columns) c.column h.1.0.0) h.1.0.1,
+    to_outside lines.columns are.columns.rising (λ x. S (Column x)) c.other (first_lines_contain (length lines.columns) c.other h.1.1.0.0) h.1.1.0.1,
+  )
+  connector_two false c h = (
+    to_outside lines.rows are.rows.rising (λ r. S (Row r)) c.row (first_lines_contain (length lines.rows) c.row h.0.0) h.0.1,
+    to_outside lines.columns are.columns.rising (λ x. S (Column x)) c.column (first_lines_contain (length lines.columns) c.column h.1.0.0) h.1.0.1,
+    to_outside lines.rows are.rows.rising (λ r. S (Row r)) c.other (first_lines_contain (length lines.rows) c.other h.1.1.0.0) h.1.1.0.1,
+  )
+
+  corner_row : (b flat : Bool) (c : Connector) → AreOn rows columns S b (connector_lines flat c) → c.row < length lines.rows
+  corner_row b true c h = first_lines_contain (length lines.rows) c.row h.0.0
+  corner_row b false c h = first_lines_contain (length lines.rows) c.row h.0.0
+
+  corner_column : (b flat : Bool) (c : Connector) → AreOn rows columns S b (connector_lines flat c) → c.column < length lines.columns
+  corner_column b true c h = first_lines_contain (length lines.columns) c.column h.1.0.0
+  corner_column b false c h = first_lines_contain (length lines.columns) c.column h.1.0.0
+
+  nonzero_in : (r c : ℕ) → r < length lines.rows → c < length lines.columns → entry (part m lines) r c ≢ pos 0 → entry m (numbered lines.rows r) (numbered lines.columns c) ≢ pos 0
+  nonzero_in r c h k d z = d (entry_in m lines r c h k ∙ z)
+
+  zero_in : (r c : ℕ) → r < length lines.rows → c < length lines.columns → entry (part m lines) r c ≡ pos 0 → entry m (numbered lines.rows r) (numbered lines.columns c) ≡ pos 0
+  zero_in r c h k z = sym (entry_in m lines r c h k) ∙ z
+
+  other_in : (b flat : Bool) (c : Connector) (row column : ℕ) → row < length lines.rows → column < length lines.columns → AreOn rows columns S b (connector_lines flat c) → IsTied (entry (part m lines)) flat c row column
+      → IsOtherLine flat (entry m) (numbered lines.rows c.row) (numbered lines.columns c.column) (connector_in flat lines c).other (numbered lines.rows row) (numbered lines.columns column)
+  other_in b true c row column l k h tied =
+      let other = first_lines_contain (length lines.columns) c.other h.1.1.0.0 in
+      (zero_in c.row c.other (corner_row b true c h) other tied.0, nonzero_in row c.other l other tied.1)
+  other_in b false c row column l k h tied =
+      let other = first_lines_contain (length lines.rows) c.other h.1.1.0.0 in
+      (zero_in c.other c.column other (corner_column b false c h) tied.0, nonzero_in c.other column other k tied.1)
+
+module _ (m : Matrix) (lines : LineSet) (are : AreLines m lines) (t : Three) (S : Lines) (side_is : set_in lines t.side ≡ side m lines are S)
+    (separated : IsThreeSeparation (entry (part m lines)) (first_lines (length lines.rows)) (first_lines (length lines.columns)) S t.form t.first t.second) where
+  row_a : t.first.row < length lines.rows
+  row_a = corner_row m lines are S true (first_is_flat t.form) t.first separated.one
+
+  row_b : t.second.row < length lines.rows
+  row_b = corner_row m lines are S false (second_is_flat t.form) t.second separated.two
+
+  column_a : t.first.column < length lines.columns
+  column_a = corner_column m lines are S true (first_is_flat t.form) t.first separated.one
+
+  column_b : t.second.column < length lines.columns
+  column_b = corner_column m lines are S false (second_is_flat t.form) t.second separated.two
+
+  pub three_short : HaveLines 4 (sides lines (three_in lines t).side)
+  three_short = subst (λ s. HaveLines 4 (sides lines s)) (sym side_is) (enough m lines are S 4 separated.enough)
+
+  pub three_corner : HasNoCycleFault (entry (part m lines)) → IsMatrix (part m lines) → HasCornerSign (entry m) (three_in lines t)
+  three_corner no_fault is =
+      ap₂ (λ x y. x *ℤ y) (ap₂ (λ x y. x *ℤ y) (sym (entry_in m lines t.first.row t.first.column row_a column_a)) (sym (entry_in m lines t.first.row t.second.column row_a column_b)))
+      (ap₂ (λ x y. x *ℤ y) (sym (entry_in m lines t.second.row t.first.column row_b column_a)) (sym (entry_in m lines t.second.row t.second.column row_b column_b)))
+      ∙ full_squares (part m lines) is.small no_fault t.first.row t.second.row t.first.column t.second.column (record {
+        upper_left = separated.connectors.first_corner;
+        upper_right = separated.connectors.upper;
+        lower_left = separated.connectors.lower;
+        lower_right = separated.connectors.second_corner;
+      })
+
+  pub three_connectors : AreConnectors (entry m) (sides lines (three_in lines t).side) (three_in lines t)
+  three_connectors = record {
+    first = subst (λ s. HasConnector (first_is_flat t.form) (inside s.rows lines.rows) (inside s.columns lines.columns) (connector_in (first_is_flat t.form) lines t.first)) (sym side_is) (connector_one m lines are S (first_is_flat t.form) t.first separated.one);
+    second = subst (λ s. HasConnector (second_is_flat t.form) (outside s.rows lines.rows) (outside s.columns lines.columns) (connector_in (second_is_flat t.form) lines t.second)) (sym side_is) (connector_two m lines are S (second_is_flat t.form) t.second separated.two);
+    first_corner = nonzero_in m lines are S t.first.row t.first.column row_a column_a separated.connectors.first_corner;
+    second_corner = nonzero_in m lines are S t.second.row t.second.column row_b column_b separated.connectors.second_corner;
+    right_corner = nonzero_in m lines are S t.first.row t.second.column row_a column_b separated.connectors.upper;
+    below_corner = nonzero_in m lines are S t.second.row t.first.column row_b column_a separated.connectors.lower;
+    first_other = other_in m lines are S true (first_is_flat t.form) t.first t.second.row t.second.column row_b column_b separated.one separated.connectors.first_tied;
+    second_other = other_in m lines are S false (second_is_flat t.form) t.second t.first.row t.first.column row_a column_a separated.two separated.connectors.second_tied;
+  }
+
+  pub three_blocks : AreThreeBlocks (entry m) (sides lines (three_in lines t).side) (three_in lines t)
+  three_blocks = subst (λ s. AreThreeBlocks (entry m) (sides lines s) (three_in lines t)) (sym side_is) (record {
+    right = right_entries m lines are S (product_at (entry m) (numbered lines.rows t.first.row) (numbered lines.columns t.second.column)) (product_at (entry (part m lines)) t.first.row t.second.column)
+        (λ r c h k. separated.blocks.right r c (contains_first_lines (length lines.rows) r h) (contains_first_lines (length lines.columns) c k))
+        (λ r c h k. made m lines are S t.first.row t.second.column r c row_a column_b h k);
+    below = below_entries m lines are S (product_at (entry m) (numbered lines.rows t.second.row) (numbered lines.columns t.first.column)) (product_at (entry (part m lines)) t.second.row t.first.column)
+        (λ r c h k. separated.blocks.below r c (contains_first_lines (length lines.rows) r h) (contains_first_lines (length lines.columns) c k))
+        (λ r c h k. made m lines are S t.second.row t.first.column r c row_b column_a h k);
+  })

@@ -1,0 +1,88 @@
+-- A decomposition keeps all rules.
+use Rattle.std.proofs.Common.{◌≤◌, ◌-◌, ℕ, zero, suc, List, [], ◌∷◌, ◌++◌, map, refl, sym, subst}
+use Rattle.std.specs.List.{AllByRecursion}
+use Rattle.cmr_base.specs.declared.line_set.LineSet.{LineSet}
+use Rattle.cmr_base.specs.Matrix.{Matrix, height, IsMatrix}
+use Rattle.cmr_base.proofs.Lists.{all-append, all_front, all_back}
+use Rattle.tree_type.specs.declared.refusal.Rule.{Rule}
+use Rattle.tree_type.specs.declared.refusal.Rule.TheVariants as rule
+use Rattle.tree_type.specs.Trees.{Finding, Empty, Cycle, Reduced, OneSum, Network, Conetwork, R10, TwoSum, ThreeSum, Enumerated, Violator, Undecided, Tree, Trees, Branch, NoTrees, MoreTrees, lines_of}
+use Rattle.tree_type.specs.Invariant.{AreLines, IsTreeWithin, AreTreesWithin, IsTreeFor}
+use Rattle.tree_type.specs.Places.{Due, AllLines, Place, places_from, places_below, due_child, lines_of_each}
+use Rattle.tree_type.specs.Soundness.{HasItsSizes, Demands, KeepsAll}
+use Rattle.tree_type.proofs.PlacedLines.{lines_within}
+use Rattle.decomp_tree.specs.Laws.{ShapesAreSound}
+use Rattle.decomp_tree.specs.Shapes.{IsShapedAt, HasParts, set_in}
+use Rattle.decomp_tree.proofs.ShapeRules.{keeps}
+
+module _ (limit : ℕ) (few : limit ≤ 24) (m : Matrix) (is : IsMatrix m) where
+  here : (place : Place) → AreLines m place.lines → HasItsSizes m place.due → IsShapedAt limit m place → KeepsAll m place
+  here place are sizes shaped = all
+    where
+      demands : (broken : Rule) → Demands broken m place.lines place.finding place.children
+      demands broken = subst (λ f. Demands broken m place.lines f place.children) (sym shaped.finding)
+          (keeps limit few m is place.lines are shaped.case shaped.found shaped.parts place.children shaped.first shaped.says
+          (subst (λ f. HasParts f place.children (map (set_in place.lines) shaped.parts)) shaped.finding shaped.children) broken)
+
+      all : KeepsAll m place
+      all rule.Size = sizes
+      all rule.Lines = shaped.lines
+      all rule.NotEmpty = demands rule.NotEmpty
+      all rule.NotViolator = demands rule.NotViolator
+      all rule.NotReducible = demands rule.NotReducible
+      all rule.NotApart = demands rule.NotApart
+      all rule.NotNetwork = demands rule.NotNetwork
+      all rule.NotR10 = demands rule.NotR10
+      all rule.CycleFault = demands rule.CycleFault
+      all rule.TooShort = demands rule.TooShort
+      all rule.BadConnector = demands rule.BadConnector
+      all rule.CornerSign = demands rule.CornerSign
+      all rule.BadBlock = demands rule.BadBlock
+      all rule.TooMany = demands rule.TooMany
+      all rule.NotClean = demands rule.NotClean
+
+  -- a child is no root
+  sizes_child : (lines : LineSet) (finding : Finding) (k : ℕ) → HasItsSizes m (due_child lines finding k)
+  sizes_child lines (Reduced steps) k = tt
+  sizes_child lines (TwoSum two) zero = tt
+  sizes_child lines (TwoSum two) (suc k) = tt
+  sizes_child lines (ThreeSum three) zero = tt
+  sizes_child lines (ThreeSum three) (suc k) = tt
+  sizes_child lines Empty k = tt
+  sizes_child lines (Cycle fault) k = tt
+  sizes_child lines OneSum k = tt
+  sizes_child lines (Network net) k = tt
+  sizes_child lines (Conetwork net) k = tt
+  sizes_child lines R10 k = tt
+  sizes_child lines Enumerated k = tt
+  sizes_child lines (Violator fault) k = tt
+  sizes_child lines Undecided k = tt
+
+  mutual
+    sound_tree : (path : List ℕ) (due : Due) (parent : LineSet) (levels : ℕ) (tree : Tree) → AreLines m parent → HasItsSizes m due → IsTreeWithin parent levels tree
+        → AllByRecursion (IsShapedAt limit m) (places_from path due tree) → AllByRecursion (KeepsAll m) (places_from path due tree)
+    sound_tree path due parent levels (Branch lines finding trees) are sizes fits shaped =
+        let are_here = lines_within m lines parent fits.1 are in (
+          here (record { path = path; due = due; lines = lines; finding = finding; children = lines_of_each trees }) are_here sizes shaped.0,
+          sound_trees path lines finding (levels - 1) 0 trees are_here fits.4 shaped.1,
+        )
+
+    sound_trees : (path : List ℕ) (lines : LineSet) (finding : Finding) (levels k : ℕ) (trees : Trees) → AreLines m lines → AreTreesWithin lines levels trees
+        → AllByRecursion (IsShapedAt limit m) (places_below path lines finding k trees) → AllByRecursion (KeepsAll m) (places_below path lines finding k trees)
+    sound_trees path lines finding levels k NoTrees are fits shaped = tt
+    sound_trees path lines finding levels k (MoreTrees tree trees) are fits shaped =
+        all-append (KeepsAll m) (places_from (path ++ k ∷ []) (due_child lines finding k) tree) (places_below path lines finding (suc k) trees)
+        (sound_tree (path ++ k ∷ []) (due_child lines finding k) lines levels tree are (sizes_child lines finding k) fits.0
+        (all_front (IsShapedAt limit m) (places_from (path ++ k ∷ []) (due_child lines finding k) tree) (places_below path lines finding (suc k) trees) shaped))
+        (sound_trees path lines finding levels (suc k) trees are fits.1
+        (all_back (IsShapedAt limit m) (places_from (path ++ k ∷ []) (due_child lines finding k) tree) (places_below path lines finding (suc k) trees) shaped))
+
+root_lines : (m : Matrix) (tree : Tree) → IsTreeFor (height m) m.width tree → AreLines m (lines_of tree)
+root_lines m (Branch lines finding trees) within = record {
+  rows = record { rising = within.nodes.1.rows_rise; in_range = within.root_rows };
+  columns = record { rising = within.nodes.1.columns_rise; in_range = within.root_columns };
+}
+
+pub shapes_are_sound : ShapesAreSound
+shapes_are_sound limit few m is tree within shaped =
+    sound_tree limit few m is [] (AllLines (height m) m.width) (lines_of tree) 2001 tree (root_lines m tree within) (refl, refl) within.nodes shaped

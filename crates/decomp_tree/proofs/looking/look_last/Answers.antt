@@ -1,0 +1,32 @@
+use Rattle.std.proofs.Common.{◌≡◌, ◌≤◌, ◌<◌, ◌∙◌, [], ℕ, ap, sym, subst}
+use Rattle.cmr_base.specs.Matrix.{Matrix}
+use Rattle.cmr_base.specs.Violator.{HasNoViolator, IsLeastViolator}
+use Rattle.leaf_enumerate.specs.Searched.{HasSearched, shorter_side}
+use Rattle.tree_type.specs.declared.finding.Finding.{Finding}
+use Rattle.tree_type.specs.declared.finding.Finding.TheVariants as held
+use Rattle.decomp_tree.specs.Seen.{IsSeen}
+use Rattle.decomp_tree.proofs.Said.{seen_violator, seen_enumerated, seen_undecided}
+use Rattle.decomp_tree.proofs.looking.look_last.Goals as goal
+use Rattle.decomp_tree.proofs.looking.look_last.Goals.{in-Found+in_ok-named_set-in-Found, in-Clean, in-TooMany}
+
+pub returns : goal.returns
+returns g c =
+    let m = c.args.matrix.now in
+    let lines = c.args.lines.now in
+    let limit = c.args.limit in
+    subst (IsSeen limit m lines) (sym c.leaf.ensures) (elim c.match-branch-2.branch [
+      | in-Found+in_ok-named_set-in-Found w ↦
+          let found = w.in-Found.found in
+          let has = subst (λ (k : Matrix). (shorter_side k ≤ limit) × IsLeastViolator k found.rows found.columns) c.requires.inner (subst (HasSearched c.args.inner.now limit) w.in-Found.is c.in_ok-found.ensures) in
+          subst (λ (f : Finding). IsSeen limit m lines (record { finding = f; children = [] })) (sym (w.finding-is ∙ ap held.Violator w.in_ok-named_set-in-Found.ensures))
+          (seen_violator limit m c.requires.shape lines (record { rows = c.requires.rows; columns = c.requires.columns }) found c.requires.limit c.requires.none has.0 has.1)
+      | in-Clean w ↦
+          let has = subst (λ (k : Matrix). (shorter_side k ≤ limit) × HasNoViolator k) c.requires.inner (subst (HasSearched c.args.inner.now limit) w.in-Clean.is c.in_ok-found.ensures) in
+          subst (λ (f : Finding). IsSeen limit m lines (record { finding = f; children = [] })) (sym w.finding-is)
+          (seen_enumerated limit m c.requires.shape lines (record { rows = c.requires.rows; columns = c.requires.columns }) c.requires.none has.0 has.1)
+      | in-TooMany w ↦
+          let shorter = w.in-TooMany.shorter in
+          let has = subst (λ (k : Matrix). (limit < shorter) × (shorter ≡ shorter_side k)) c.requires.inner (subst (HasSearched c.args.inner.now limit) w.in-TooMany.is c.in_ok-found.ensures) in
+          subst (λ (f : Finding). IsSeen limit m lines (record { finding = f; children = [] })) (sym w.finding-is)
+          (seen_undecided limit m c.requires.shape lines (record { rows = c.requires.rows; columns = c.requires.columns }) c.requires.none (subst (λ (n : ℕ). limit < n) has.1 has.0))
+    ])

@@ -1,0 +1,4 @@
+pub mod Shapes
+pub mod Laws
+pub mod Seen
+pub mod Fronts

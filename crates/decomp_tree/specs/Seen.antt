@@ -1,0 +1,85 @@
+-- What is seen at a node, and the tree that is drawn of some lines.
+use Rattle.std.specs.Prelude.{◌≡◌, ◌<◌, ◌++◌, Bool, true, false, ℕ, suc, List, [], ◌∷◌, length, map, Contains}
+use Rattle.std.specs.List.{AllByRecursion}
+use Rattle.cmr_base.specs.declared.line.Line.{Line}
+use Rattle.cmr_base.specs.declared.line.Line.TheVariants.{Row, Column}
+use Rattle.cmr_base.specs.declared.line_set.LineSet.{LineSet}
+use Rattle.cmr_base.specs.declared.separation.Connector.{Connector}
+use Rattle.cmr_base.specs.Matrix.{Matrix, entry}
+use Rattle.cmr_base.specs.LineSets.{AllBelow}
+use Rattle.cmr_base.specs.Violator.{IsViolator}
+use Rattle.tree_type.specs.Findings.{finding_shown}
+use Rattle.tree_type.specs.Trees.{Finding, Tree, Trees, count_trees, lines_of}
+use Rattle.tree_type.specs.Invariant.{AreLinesOf, size_of, Fits, HasChildren, IsTreeWithin}
+use Rattle.tree_type.specs.Places.{Due, due_child, places_from}
+use Rattle.tree_type.specs.Soundness.{part, HasItsLines}
+use Rattle.decomp_tree.specs.declared.seen.Seen.{Seen}
+use Rattle.decomp_tree.specs.Shapes.{Case, case_number, Applies, IsFirstCase, Says, finding_in, set_in, HasParts, IsShapedAt}
+
+-- Places of some lines: the lines of the submatrix on them.
+
+abbrev pub IsPlace : LineSet → Line → Type 0
+IsPlace lines (Row k) = k < length lines.rows
+IsPlace lines (Column k) = k < length lines.columns
+
+pub record IsPlacedSet (lines set : LineSet) : Type 0 where
+  pub rows : AllBelow (length lines.rows) set.rows
+  pub columns : AllBelow (length lines.columns) set.columns
+
+abbrev pub IsPlacedConnector : Bool → LineSet → Connector → Type 0
+IsPlacedConnector true lines c = (c.row < length lines.rows) × (c.column < length lines.columns) × (c.other < length lines.columns)
+IsPlacedConnector false lines c = (c.row < length lines.rows) × (c.column < length lines.columns) × (c.other < length lines.rows)
+
+-- no violator stands among these lines
+abbrev pub HasNoneAmong : Matrix → LineSet → Type 0
+HasNoneAmong m lines = (R C : List ℕ) → AllByRecursion (Contains lines.rows) R → AllByRecursion (Contains lines.columns) C → ¬ (IsViolator (entry m) R C)
+
+-- no case before this number applies
+abbrev pub HasNoneBefore : ℕ → Matrix → ℕ → Type 0
+HasNoneBefore limit m number = (earlier : Case) → case_number earlier < number → ¬ (Applies limit m earlier)
+
+-- the children have the lines that they are to have
+abbrev pub AreDue : LineSet → Finding → ℕ → List LineSet → Type 0
+AreDue lines finding k [] = Unit {0}
+AreDue lines finding k (child ∷ children) = HasItsLines (due_child lines finding k) child × AreDue lines finding (suc k) children
+
+-- lines of a node, fewer than all
+pub record AreFewer (lines child : LineSet) : Type 0 where
+  pub among : AreLinesOf child lines
+  pub fewer : size_of child < size_of lines
+
+-- what a node on these lines is to say, and the lines of its children
+pub record IsSaid (limit : ℕ) (m : Matrix) (lines : LineSet) (finding : Finding) (children : List LineSet) : Type 0 where
+  pub case : Case
+  pub first : IsFirstCase limit (part m lines) case
+  pub found : Finding
+  pub parts : List LineSet
+  pub says : Says case (part m lines) found parts
+  pub finding_is : finding ≡ finding_in lines found
+  pub parts_are : HasParts finding children (map (set_in lines) parts)
+  pub due : AreDue lines finding 0 children
+  pub count : HasChildren finding (length children)
+  pub fewer : AllByRecursion (AreFewer lines) children
+  pub fits : (trees : Trees) → count_trees trees ≡ length children → Fits lines finding trees
+
+-- what is seen of these lines
+abbrev pub IsSeen : ℕ → Matrix → LineSet → Seen → Type 0
+IsSeen limit m lines seen = IsSaid limit m lines (finding_shown seen.finding) seen.children
+
+-- the tree is the shape of the submatrix on these lines, with at most as many levels as lines and one more
+pub record IsDrawn (limit : ℕ) (m : Matrix) (lines : LineSet) (tree : Tree) : Type 0 where
+  pub lines_are : lines_of tree ≡ lines
+  pub shaped : (path : List ℕ) (due : Due) → HasItsLines due lines → AllByRecursion (IsShapedAt limit m) (places_from path due tree)
+  pub within : (parent : LineSet) (levels : ℕ) → AreLinesOf lines parent → size_of lines < levels → IsTreeWithin parent levels tree
+
+-- the trees of some sets of lines
+abbrev pub AreDrawn : ℕ → Matrix → List LineSet → List Tree → Type 0
+AreDrawn limit m [] [] = Unit {0}
+AreDrawn limit m (lines ∷ children) (tree ∷ trees) = IsDrawn limit m lines tree × AreDrawn limit m children trees
+AreDrawn limit m children trees = ⊥
+
+-- a tree of these lines stands behind some others
+pub record IsDrawnBehind (limit : ℕ) (m : Matrix) (lines : LineSet) (before after : List Tree) : Type 0 where
+  pub tree : Tree
+  pub order : after ≡ before ++ tree ∷ []
+  pub drawn : IsDrawn limit m lines tree

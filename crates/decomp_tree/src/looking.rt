@@ -1,0 +1,262 @@
+// The first case that applies to some lines.
+ghost use Rattle.std.specs.Prelude.{◌≡◌, ◌≤◌, ◌<◌, false, length, IfOk, IsTrue};
+ghost use Rattle.cmr_base.specs.Matrix.{IsMatrix};
+ghost use Rattle.cmr_base.specs.LineSets.{IsRowSet, IsColumnSet};
+ghost use Rattle.cmr_base.specs.Reductions.{removal};
+ghost use Rattle.tree_type.specs.Soundness.{part};
+ghost use Rattle.two_sep.specs.FirstSeeds.{IsFirstTwoSeparation};
+ghost use Rattle.three_sep.specs.ThreeSeparations.{IsFirstThreeSeparation};
+ghost use Rattle.decomp_tree.specs.Seen.{HasNoneAmong, HasNoneBefore, IsSeen};
+
+use crate::faults::fault_of;
+use crate::naming::{named_parts, named_set, named_steps, named_three, named_two};
+use crate::seen::{Seen, above_one, above_two, leaf};
+use cmr_base::{LineSet, Matrix, Memory, Three, Two};
+use leaf_enumerate::{Search, least_violator};
+use network_orient::orient;
+use r10_leaf::is_r10;
+use sp_reduce::{Reduction, reduce};
+use std::alloc::Global;
+use std::thread::Threads;
+use three_sep::three_separation;
+use tree_type::{Finding, three_one, three_two, two_one, two_two};
+use two_sep::{components, two_separation};
+
+/// What a node on these lines is to say.
+#[inline(never)]
+pub fn look<R: Threads + Sync>(
+    rt: &R,
+    alloc: Global,
+    matrix: &Matrix,
+    lines: &LineSet,
+    limit: u32,
+    workers: u32,
+    is_free: bool,
+) -> Result<Seen, Memory>
+    requires limit { limit ≤ 24 }
+    requires workers { (1 ≤ workers) × (workers ≤ 64) }
+    requires shape { IsMatrix matrix.now }
+    requires rows { IsRowSet matrix.now lines.now.rows }
+    requires columns { IsColumnSet matrix.now lines.now.columns }
+    requires free { IsTrue is_free → HasNoneAmong matrix.now lines.now }
+    ensures { IfOk result (IsSeen limit matrix.now lines.now) }
+{
+    let part = matrix.part(alloc, lines)?;
+    if part.rows() == 0 && part.columns() == 0 {
+        return Ok(leaf(alloc, Finding::Empty));
+    }
+    if let Some(found) = fault_of(alloc, matrix, lines, &part, is_free)? {
+        let fault = named_set(alloc, lines, &found)?;
+        return Ok(leaf(alloc, Finding::Cycle(fault)));
+    }
+    look_faultless(rt, alloc, matrix, lines, &part, limit, workers)
+}
+
+// The cases of a matrix without cycle fault.
+fn look_faultless<R: Threads + Sync>(
+    rt: &R,
+    alloc: Global,
+    matrix: &Matrix,
+    lines: &LineSet,
+    inner: &Matrix,
+    limit: u32,
+    workers: u32,
+) -> Result<Seen, Memory>
+    requires limit { limit ≤ 24 }
+    requires workers { (1 ≤ workers) × (workers ≤ 64) }
+    requires shape { IsMatrix matrix.now }
+    requires rows { IsRowSet matrix.now lines.now.rows }
+    requires columns { IsColumnSet matrix.now lines.now.columns }
+    requires inner { inner.now ≡ part matrix.now lines.now }
+    requires none { HasNoneBefore limit (part matrix.now lines.now) 3 }
+    ensures { IfOk result (IsSeen limit matrix.now lines.now) }
+{
+    let reduction = reduce(alloc, inner, false)?;
+    if reduction.steps.len() > 0 {
+        return seen_reduced(alloc, matrix, lines, &reduction, limit);
+    }
+    look_irreducible(rt, alloc, matrix, lines, inner, limit, workers)
+}
+
+// The removed lines, and those that are left.
+fn seen_reduced(
+    alloc: Global,
+    _matrix: &Matrix,
+    lines: &LineSet,
+    reduction: &Reduction,
+    _limit: u32,
+) -> Result<Seen, Memory>
+    requires shape { IsMatrix _matrix.now }
+    requires rows { IsRowSet _matrix.now lines.now.rows }
+    requires columns { IsColumnSet _matrix.now lines.now.columns }
+    requires none { HasNoneBefore _limit (part _matrix.now lines.now) 3 }
+    requires some { 0 < length reduction.now.steps }
+    requires steps { reduction.now.steps ≡ (removal false (part _matrix.now lines.now)).steps }
+    requires rest_rows { reduction.now.rest.rows ≡ (removal false (part _matrix.now lines.now)).rows }
+    requires rest_columns { reduction.now.rest.columns ≡ (removal false (part _matrix.now lines.now)).columns }
+    ensures { IfOk result (IsSeen _limit _matrix.now lines.now) }
+{
+    let steps = named_steps(alloc, lines, reduction.steps.as_slice())?;
+    let rest = named_set(alloc, lines, &reduction.rest)?;
+    above_one(alloc, Finding::Reduced(steps), rest)
+}
+
+// The cases of a matrix without reducible line.
+fn look_irreducible<R: Threads + Sync>(
+    rt: &R,
+    alloc: Global,
+    matrix: &Matrix,
+    lines: &LineSet,
+    inner: &Matrix,
+    limit: u32,
+    workers: u32,
+) -> Result<Seen, Memory>
+    requires limit { limit ≤ 24 }
+    requires workers { (1 ≤ workers) × (workers ≤ 64) }
+    requires shape { IsMatrix matrix.now }
+    requires rows { IsRowSet matrix.now lines.now.rows }
+    requires columns { IsColumnSet matrix.now lines.now.columns }
+    requires inner { inner.now ≡ part matrix.now lines.now }
+    requires none { HasNoneBefore limit (part matrix.now lines.now) 4 }
+    ensures { IfOk result (IsSeen limit matrix.now lines.now) }
+{
+    let parts = components(alloc, inner)?;
+    if parts.len() >= 2 {
+        return Ok(Seen {
+            finding: Finding::OneSum,
+            children: named_parts(alloc, lines, parts.as_slice())?,
+        });
+    }
+    look_connected(rt, alloc, matrix, lines, inner, limit, workers)
+}
+
+// The cases of a connected matrix without reducible line.
+fn look_connected<R: Threads + Sync>(
+    rt: &R,
+    alloc: Global,
+    matrix: &Matrix,
+    lines: &LineSet,
+    inner: &Matrix,
+    limit: u32,
+    workers: u32,
+) -> Result<Seen, Memory>
+    requires limit { limit ≤ 24 }
+    requires workers { (1 ≤ workers) × (workers ≤ 64) }
+    requires shape { IsMatrix matrix.now }
+    requires rows { IsRowSet matrix.now lines.now.rows }
+    requires columns { IsColumnSet matrix.now lines.now.columns }
+    requires inner { inner.now ≡ part matrix.now lines.now }
+    requires none { HasNoneBefore limit (part matrix.now lines.now) 5 }
+    ensures { IfOk result (IsSeen limit matrix.now lines.now) }
+{
+    if let Some(net) = orient(alloc, inner)? {
+        return Ok(leaf(alloc, Finding::Network(net)));
+    }
+    let transposed = inner.transposed(alloc)?;
+    if let Some(net) = orient(alloc, &transposed)? {
+        return Ok(leaf(alloc, Finding::Conetwork(net)));
+    }
+    if is_r10(inner) {
+        return Ok(leaf(alloc, Finding::R10));
+    }
+    look_separated(rt, alloc, matrix, lines, inner, limit, workers)
+}
+
+// The cases of a matrix that is no network matrix, no transposed one and no R10.
+fn look_separated<R: Threads + Sync>(
+    rt: &R,
+    alloc: Global,
+    matrix: &Matrix,
+    lines: &LineSet,
+    inner: &Matrix,
+    limit: u32,
+    workers: u32,
+) -> Result<Seen, Memory>
+    requires limit { limit ≤ 24 }
+    requires workers { (1 ≤ workers) × (workers ≤ 64) }
+    requires shape { IsMatrix matrix.now }
+    requires rows { IsRowSet matrix.now lines.now.rows }
+    requires columns { IsColumnSet matrix.now lines.now.columns }
+    requires inner { inner.now ≡ part matrix.now lines.now }
+    requires none { HasNoneBefore limit (part matrix.now lines.now) 8 }
+    ensures { IfOk result (IsSeen limit matrix.now lines.now) }
+{
+    if let Some(two) = two_separation(alloc, inner)? {
+        return seen_two(alloc, matrix, lines, &two, limit);
+    }
+    if let Some(three) = three_separation(rt, alloc, inner, workers)? {
+        return seen_three(alloc, matrix, lines, &three, limit);
+    }
+    look_last(rt, alloc, matrix, lines, inner, limit, workers)
+}
+
+// A two-separation, and the lines of the children.
+fn seen_two(
+    alloc: Global,
+    _matrix: &Matrix,
+    lines: &LineSet,
+    found: &Two,
+    _limit: u32,
+) -> Result<Seen, Memory>
+    requires limit { _limit ≤ 24 }
+    requires shape { IsMatrix _matrix.now }
+    requires rows { IsRowSet _matrix.now lines.now.rows }
+    requires columns { IsColumnSet _matrix.now lines.now.columns }
+    requires none { HasNoneBefore _limit (part _matrix.now lines.now) 8 }
+    requires found { IsFirstTwoSeparation (part _matrix.now lines.now) found.now }
+    ensures { IfOk result (IsSeen _limit _matrix.now lines.now) }
+{
+    let two = named_two(alloc, lines, found)?;
+    let one = two_one(alloc, lines, &two)?;
+    let other = two_two(alloc, lines, &two)?;
+    above_two(alloc, Finding::TwoSum(two), one, other)
+}
+
+// A three-separation, and the lines of the children.
+fn seen_three(
+    alloc: Global,
+    _matrix: &Matrix,
+    lines: &LineSet,
+    found: &Three,
+    _limit: u32,
+) -> Result<Seen, Memory>
+    requires limit { _limit ≤ 24 }
+    requires shape { IsMatrix _matrix.now }
+    requires rows { IsRowSet _matrix.now lines.now.rows }
+    requires columns { IsColumnSet _matrix.now lines.now.columns }
+    requires none { HasNoneBefore _limit (part _matrix.now lines.now) 9 }
+    requires found { IsFirstThreeSeparation (part _matrix.now lines.now) found.now }
+    ensures { IfOk result (IsSeen _limit _matrix.now lines.now) }
+{
+    let three = named_three(alloc, lines, found)?;
+    let one = three_one(alloc, lines, &three)?;
+    let other = three_two(alloc, lines, &three)?;
+    above_two(alloc, Finding::ThreeSum(three), one, other)
+}
+
+// The cases of a matrix without separation.
+fn look_last<R: Threads + Sync>(
+    rt: &R,
+    alloc: Global,
+    matrix: &Matrix,
+    lines: &LineSet,
+    inner: &Matrix,
+    limit: u32,
+    workers: u32,
+) -> Result<Seen, Memory>
+    requires limit { limit ≤ 24 }
+    requires workers { (1 ≤ workers) × (workers ≤ 64) }
+    requires shape { IsMatrix matrix.now }
+    requires rows { IsRowSet matrix.now lines.now.rows }
+    requires columns { IsColumnSet matrix.now lines.now.columns }
+    requires inner { inner.now ≡ part matrix.now lines.now }
+    requires none { HasNoneBefore limit (part matrix.now lines.now) 10 }
+    ensures { IfOk result (IsSeen limit matrix.now lines.now) }
+{
+    let finding = match least_violator(rt, alloc, inner, limit, workers)? {
+        Search::Found(found) => Finding::Violator(named_set(alloc, lines, &found)?),
+        Search::Clean => Finding::Enumerated,
+        Search::TooMany { .. } => Finding::Undecided,
+    };
+    Ok(leaf(alloc, finding))
+}

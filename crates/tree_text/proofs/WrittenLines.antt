@@ -1,0 +1,77 @@
+-- Lines of a tree's text, word by word.
+use Rattle.std.proofs.Common.{◌≡◌, ◌<◌, ◌∙◌, ◌++◌, ◌∷◌, [], ℕ, List, false, length, get_or, map, drop, ◌+◌, append_assoc, refl, ap, sym, arith}
+use Rattle.std.specs.Prelude.{fold, codes}
+use Rattle.std.specs.Fmt.{decimal}
+use Rattle.std.specs.List.{flat_map}
+use Rattle.std.proofs.lemmas.List.Sums.{fold-append}
+use Rattle.std.proofs.lemmas.List.{append-nil, drop_more}
+use Rattle.cmr_base.specs.declared.network.Network as net
+use Rattle.cmr_base.specs.declared.network.Pair.{Pair}
+use Rattle.text_fields.specs.Written.{Draft, with_word, with_end, with_line, text_line, text_of_lines}
+use Rattle.text_fields.proofs.Lines.{line_written, lines_written}
+use Rattle.tree_type.specs.declared.tree.Node.{Node}
+use Rattle.tree_type.specs.declared.tree.NodeList.{NodeList}
+use Rattle.tree_type.specs.declared.tree.Kind.TheVariants as kind
+use Rattle.tree_type.specs.Trees.{Finding, Tree, Trees, Branch, tree_of, trees_from, nodes_in}
+use Rattle.tree_type.proofs.Forests.{count_is}
+use Rattle.tree_type.proofs.NodeTrees.{said, tree_is, said_one_sum}
+use Rattle.tree_text.specs.Canonical.{pair_words, network_words, line_for, own_line, node_lines, forest_lines, tree_text}
+
+-- a line whose words were written
+pub ended_as : (text start : Draft) (words : List (List ℕ)) → text ≡ fold with_word start words → start.is_begun ≡ false → with_end text ≡ with_line start words
+ended_as text start words written none = ap with_end written ∙ line_written start words none
+
+line_for_some : (words : List (List ℕ)) → 0 < length words → line_for words ≡ words ∷ []
+line_for_some [] some = absurd (omega (arith, some))
+line_for_some (word ∷ words) some = refl
+
+some_words : (pairs : List Pair) (more : List (List ℕ)) → 0 < length pairs → 0 < length (flat_map pair_words pairs ++ more)
+some_words [] more some = absurd (omega (arith, some))
+some_words (pair ∷ pairs) more some = omega arith
+
+behind : (words more : List (List ℕ)) → 0 < length more → 0 < length (words ++ more)
+behind [] more some = some
+behind (word ∷ words) more some = omega arith
+
+later_words : (words : List (List ℕ)) (pairs : List Pair) → 0 < length pairs → 0 < length (words ++ flat_map pair_words pairs)
+later_words words [] some = absurd (omega (arith, some))
+later_words words (pair ∷ pairs) some = behind words (flat_map pair_words (pair ∷ pairs)) (omega arith)
+
+-- the line of a network that has a line
+pub network_ended : (text middle start : Draft) (n : net.Network) → text ≡ fold with_word middle (flat_map pair_words n.walks) → middle ≡ fold with_word start (flat_map pair_words n.arcs) → start.is_begun ≡ false
+    → 0 < length (network_words n) → with_end text ≡ fold with_line start (line_for (network_words n))
+network_ended text middle start n walks arcs none some =
+    let all : text ≡ fold with_word start (network_words n) = walks ∙ ap (λ t. fold with_word t (flat_map pair_words n.walks)) arcs ∙ sym (fold-append with_word start (flat_map pair_words n.arcs) (flat_map pair_words n.walks)) in
+    ended_as text start (network_words n) all none ∙ ap (fold with_line start) (sym (line_for_some (network_words n) some))
+
+pub arcs_some : (n : net.Network) → 0 < length n.arcs → 0 < length (network_words n)
+arcs_some n some = some_words n.arcs (flat_map pair_words n.walks) some
+
+pub walks_some : (n : net.Network) → 0 < length n.walks → 0 < length (network_words n)
+walks_some n some = later_words (flat_map pair_words n.arcs) n.walks some
+
+-- the own line of a one-sum
+pub one_sum_line : (node : Node) (children : NodeList) → node.kind ≡ kind.OneSum children → (decimal (length (nodes_in children)) ∷ []) ∷ [] ≡ own_line (tree_of node)
+one_sum_line node children is =
+    sym (ap own_line (tree_is node ∙ ap (λ (s : Finding × Trees). Branch node.lines s.0 s.1) (ap said is ∙ said_one_sum children)) ∙ ap (λ n. (decimal n ∷ []) ∷ []) (count_is children))
+
+-- the lines of a node with two children
+pub both_written : (start : Draft) (front one two : List (List (List ℕ))) → fold with_line (fold with_line (fold with_line start front) one) two ≡ fold with_line start (front ++ (one ++ (two ++ [])))
+both_written start front one two =
+    sym (fold-append with_line start front (one ++ (two ++ [])) ∙ fold-append with_line (fold with_line start front) one (two ++ []) ∙ ap (fold with_line (fold with_line (fold with_line start front) one)) (append-nil two))
+
+-- the lines of one more child
+pub child_written : (start : Draft) (nodes : List Node) (i : ℕ) (after : Draft) (total : Draft) (node : Node) → i < length nodes → node ≡ get_or nodes i node
+    → after ≡ fold with_line start (node_lines (tree_of node)) → fold with_line start (forest_lines (trees_from (map tree_of (drop i nodes)))) ≡ total → fold with_line after (forest_lines (trees_from (map tree_of (drop (i + 1) nodes)))) ≡ total
+child_written start nodes i after total node within is written whole =
+    let rest = forest_lines (trees_from (map tree_of (drop (i + 1) nodes))) in
+    ap (λ (d : Draft). fold with_line d rest) written ∙ sym (fold-append with_line start (node_lines (tree_of node)) rest)
+    ∙ ap (λ ns. fold with_line start (forest_lines (trees_from (map tree_of ns)))) (sym (drop_more nodes i node within ∙ ap (λ n. n ∷ drop (i + 1) nodes) (sym is))) ∙ whole
+
+-- the version, the sizes and the nodes
+pub whole_written : (rows columns : ℕ) (tree : Tree) (text : Draft)
+    → text ≡ fold with_line (with_line (with_end (with_word (with_word (record { bytes = []; is_begun = false }) (codes "cmr-tree")) (codes "1"))) (decimal rows ∷ decimal columns ∷ [])) (node_lines tree) → text.bytes ≡ tree_text rows columns tree
+whole_written rows columns tree text written =
+    let version = with_end (with_word (with_word (record { bytes = []; is_begun = false }) (codes "cmr-tree")) (codes "1")) in
+    let sizes = text_line (decimal rows ∷ decimal columns ∷ []) in
+    ap (λ (d : Draft). d.bytes) written ∙ lines_written (with_line version (decimal rows ∷ decimal columns ∷ [])) (node_lines tree) ∙ append_assoc (text_line (codes "cmr-tree" ∷ codes "1" ∷ [])) sizes (text_of_lines (node_lines tree))

@@ -1,0 +1,9 @@
+use Rattle.std.proofs.Common.{◌≡◌, map, drop}
+use Rattle.std.specs.Prelude.{fold}
+use Rattle.text_fields.specs.Written.{with_word}
+use Rattle.tree_text.specs.Canonical.{number_of_line}
+use Rattle.tree_text.proofs.write.write_lines.Given as goal
+
+-- what is left makes the whole
+abbrev pub invariant-loop-line : goal.invariant-loop-line
+invariant-loop-line l = fold with_word l.text (map number_of_line (drop l.line-index l.lines)) ≡ fold with_word l.fn.text (map number_of_line l.lines)

@@ -1,0 +1,77 @@
+-- The canonical text of a tree: its lines, each a list of words.
+use Rattle.std.specs.Prelude.{◌+◌, ◌++◌, ℕ, List, [], ◌∷◌, length, map, codes}
+use Rattle.std.specs.List.{flat_map}
+use Rattle.std.specs.Fmt.{decimal}
+use Rattle.cmr_base.specs.declared.line.Line.{Line}
+use Rattle.cmr_base.specs.declared.line.Line.TheVariants.{Row, Column}
+use Rattle.cmr_base.specs.declared.line_set.LineSet.{LineSet}
+use Rattle.cmr_base.specs.declared.network.Network as net
+use Rattle.cmr_base.specs.declared.network.Pair.{Pair}
+use Rattle.cmr_base.specs.declared.separation.Connector.{Connector}
+use Rattle.text_fields.specs.Written.{text_of_lines}
+use Rattle.tree_type.specs.Trees.{Finding, Cycle, Reduced, OneSum, Network, Conetwork, TwoSum, ThreeSum, Violator, Tree, Trees, Branch, NoTrees, MoreTrees, count_trees}
+use Rattle.tree_text.specs.KindWords.{word_of, kind_of}
+
+-- a line's number, counted from 1
+abbrev pub number_of_line : ℕ → List ℕ
+number_of_line line = decimal (line + 1)
+
+-- r or c, and the line's number
+abbrev pub line_name : Line → List ℕ
+line_name (Row row) = 114 ∷ number_of_line row
+line_name (Column column) = 99 ∷ number_of_line column
+
+-- how many rows and columns there are, the rows, the columns
+abbrev pub set_words : LineSet → List (List ℕ)
+set_words lines =
+    decimal (length lines.rows) ∷ decimal (length lines.columns) ∷ (map number_of_line lines.rows ++ map number_of_line lines.columns)
+
+abbrev pub pair_words : Pair → List (List ℕ)
+pair_words pair = decimal pair.tail ∷ decimal pair.head ∷ []
+
+abbrev pub network_words : net.Network → List (List ℕ)
+network_words n = flat_map pair_words n.arcs ++ flat_map pair_words n.walks
+
+abbrev pub connector_words : Connector → List (List ℕ)
+connector_words c = number_of_line c.row ∷ number_of_line c.column ∷ number_of_line c.other ∷ []
+
+-- what a node says of its lines, or how many children it has
+abbrev pub own_words : Finding → Trees → List (List ℕ)
+own_words (Cycle fault) trees = set_words fault
+own_words (Reduced steps) trees = decimal (length steps) ∷ map line_name steps
+own_words OneSum trees = decimal (count_trees trees) ∷ []
+own_words (Network n) trees = network_words n
+own_words (Conetwork n) trees = network_words n
+own_words (TwoSum two) trees = number_of_line two.row ∷ number_of_line two.column ∷ set_words two.side
+own_words (ThreeSum three) trees = connector_words three.first ++ connector_words three.second ++ set_words three.side
+own_words (Violator fault) trees = set_words fault
+own_words finding trees = []
+
+-- a line for some words, where there are any
+abbrev pub line_for : List (List ℕ) → List (List (List ℕ))
+line_for [] = []
+line_for (word ∷ words) = (word ∷ words) ∷ []
+
+abbrev pub own_line : Tree → List (List (List ℕ))
+own_line (Branch lines finding trees) = line_for (own_words finding trees)
+
+-- a line with the kind and the lines of a node, and one with its own part
+abbrev pub front_lines : Tree → List (List (List ℕ))
+front_lines (Branch lines finding trees) = (word_of (kind_of finding) ∷ set_words lines) ∷ own_line (Branch lines finding trees)
+
+abbrev mutual
+  -- a node's own lines, and those of its children
+  pub node_lines : Tree → List (List (List ℕ))
+  node_lines (Branch lines finding trees) = front_lines (Branch lines finding trees) ++ forest_lines trees
+
+  pub forest_lines : Trees → List (List (List ℕ))
+  forest_lines NoTrees = []
+  forest_lines (MoreTrees tree trees) = node_lines tree ++ forest_lines trees
+
+-- the version, the sizes of the matrix, and the nodes in preorder
+abbrev pub tree_lines : ℕ → ℕ → Tree → List (List (List ℕ))
+tree_lines rows columns root =
+    (codes "cmr-tree" ∷ codes "1" ∷ []) ∷ (decimal rows ∷ decimal columns ∷ []) ∷ node_lines root
+
+abbrev pub tree_text : ℕ → ℕ → Tree → List ℕ
+tree_text rows columns root = text_of_lines (tree_lines rows columns root)

@@ -1,0 +1,19 @@
+-- What was read of a node's own part.
+use Rattle.std.specs.Prelude.{ℕ}
+use Rattle.cmr_base.specs.declared.line_set.LineSet.{LineSet}
+use Rattle.tree_type.specs.Trees.{Finding}
+use Rattle.tree_type.specs.Findings.{finding_shown}
+use Rattle.tree_text.specs.declared.own_part.OwnPart.{OwnPart}
+use Rattle.tree_text.specs.declared.own_part.Front.{Front}
+
+abbrev pub own_shown : OwnPart → Finding × ℕ
+own_shown own = (finding_shown own.finding, own.children)
+
+-- what stands in front of a node's children: its lines, what it says of them, and how many children it has
+pub record NodeFront : Type 0 where
+  pub lines : LineSet
+  pub finding : Finding
+  pub children : ℕ
+
+abbrev pub front_shown : Front → NodeFront
+front_shown front = record { lines = front.lines; finding = finding_shown front.finding; children = front.children }

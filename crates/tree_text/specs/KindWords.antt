@@ -1,0 +1,56 @@
+-- The kinds of nodes and their words.
+use Rattle.std.specs.Prelude.{if◌then◌else◌, ℕ, List, [], ◌∷◌, Result, Ok, Err, codes, bytes_eq}
+use Rattle.cmr_base.specs.declared.separation.Form.TheVariants.{Delta, YForm, Mixed}
+use Rattle.tree_type.specs.Trees as said
+use Rattle.tree_text.specs.declared.error.TreeKind.{TreeKind}
+use Rattle.tree_text.specs.declared.error.TreeKind.TheVariants.{UnknownKind}
+use Rattle.tree_text.specs.declared.kind_word.KindWord.{KindWord}
+use Rattle.tree_text.specs.declared.kind_word.KindWord.TheVariants.{Empty, Cycle, Reduced, OneSum, Network, Conetwork, R10, TwoSum, ThreeSum, Enumerated, Violator, Undecided}
+
+abbrev pub word_of : KindWord → List ℕ
+word_of Empty = codes "empty"
+word_of Cycle = codes "cycle"
+word_of Reduced = codes "reduced"
+word_of OneSum = codes "onesum"
+word_of Network = codes "network"
+word_of Conetwork = codes "conetwork"
+word_of R10 = codes "r10"
+word_of TwoSum = codes "twosum"
+word_of (ThreeSum Delta) = codes "delta"
+word_of (ThreeSum YForm) = codes "y"
+word_of (ThreeSum Mixed) = codes "mixed"
+word_of Enumerated = codes "enumerated"
+word_of Violator = codes "violator"
+word_of Undecided = codes "undecided"
+
+-- the kinds that a text of version 1 has words for
+abbrev pub kind_words : List KindWord
+kind_words =
+    Empty ∷ Cycle ∷ Reduced ∷ OneSum ∷ Network ∷ Conetwork ∷ R10 ∷ TwoSum ∷ ThreeSum Delta ∷ ThreeSum YForm ∷ ThreeSum Mixed ∷ Enumerated
+    ∷ Violator ∷ Undecided ∷ []
+
+-- the first of some kinds whose word it is
+abbrev pub kind_among : List KindWord → List ℕ → Result KindWord TreeKind
+kind_among [] word = Err UnknownKind
+kind_among (kind ∷ kinds) word = if bytes_eq word (word_of kind) then Ok kind else kind_among kinds word
+
+abbrev pub kind_in : List ℕ → Result KindWord TreeKind
+kind_in word = kind_among kind_words word
+
+-- the kind of a node that says this
+abbrev pub kind_of : said.Finding → KindWord
+kind_of said.Empty = Empty
+kind_of (said.Cycle fault) = Cycle
+kind_of (said.Reduced steps) = Reduced
+kind_of said.OneSum = OneSum
+kind_of (said.Network net) = Network
+kind_of (said.Conetwork net) = Conetwork
+kind_of said.R10 = R10
+kind_of (said.TwoSum two) = TwoSum
+kind_of (said.ThreeSum three) = ThreeSum three.form
+kind_of said.Enumerated = Enumerated
+kind_of (said.Violator fault) = Violator
+kind_of said.Undecided = Undecided
+
+abbrev pub finding_of : said.Tree → said.Finding
+finding_of (said.Branch lines finding trees) = finding

@@ -1,0 +1,157 @@
+-- Reading a tree text: the tree that it stands for, or its first fault.
+use Rattle.std.specs.Prelude.{◌++◌, if◌then◌else◌, ℕ, zero, suc, Bool, List, [], ◌∷◌, length, Option, Some, None, option_map, Result, Ok, Err, codes}
+use Rattle.cmr_base.specs.declared.line_set.LineSet.{LineSet}
+use Rattle.cmr_base.specs.declared.network.Network as net
+use Rattle.cmr_base.specs.declared.network.Pair.{Pair}
+use Rattle.cmr_base.specs.declared.separation.Connector.{Connector}
+use Rattle.cmr_base.specs.declared.separation.Two.{Two}
+use Rattle.cmr_base.specs.declared.separation.Three.{Three}
+use Rattle.cmr_base.specs.declared.separation.Form.{Form}
+use Rattle.cmr_base.specs.Separations.{first_is_flat, second_is_flat}
+use Rattle.text_fields.specs.Words.{Text}
+use Rattle.text_fields.specs.Result.{◌>>=◌}
+use Rattle.text_fields.specs.Reading.{Fault, field, times, fields, ended}
+use Rattle.tree_type.specs.Trees.{Finding, Empty, Cycle, Reduced, OneSum, Network, Conetwork, R10, TwoSum, ThreeSum, Enumerated, Violator, Undecided, Tree, Branch, SizedTree, trees_from, tree_of}
+use Rattle.tree_type.specs.Invariant.{size_of}
+use Rattle.tree_text.specs.declared.error.TreeKind.{TreeKind}
+use Rattle.tree_text.specs.declared.error.TreeKind.TheVariants.{Short, Extra, TooDeep}
+use Rattle.tree_text.specs.declared.kind_word.KindWord.{KindWord}
+use Rattle.tree_text.specs.declared.kind_word.KindWord.TheVariants as kind
+use Rattle.tree_text.specs.declared.value.Sizes.{Sizes}
+use Rattle.tree_text.specs.Findings.{NodeFront}
+use Rattle.tree_text.specs.KindWords.{kind_in}
+use Rattle.tree_text.specs.Values.{exactly, limited, line_of, last_number, next_line, step_in}
+
+-- reading a value off the front of a text
+abbrev pub Reader : Type 0 → Type 0
+Reader A = Text → Result (A × Text) (Fault TreeKind)
+
+-- one more line behind those that were read
+abbrev pub another_line : ℕ → Option (List ℕ) → List ℕ → Reader (List ℕ)
+another_line most whole lines text = do
+  line ← field Short (next_line most whole (last_number lines)) text
+  Ok (lines ++ line.0 ∷ [], line.1)
+
+abbrev pub rising_lines : ℕ → Option (List ℕ) → ℕ → Reader (List ℕ)
+rising_lines most whole n text = times (another_line most whole) n [] text
+
+-- two counts, and so many rows and so many columns, which are among the lines of a whole
+abbrev pub line_set : Sizes → Option LineSet → Reader LineSet
+line_set sizes whole text = do
+  row_count ← field Short (limited sizes.rows) text
+  column_count ← field Short (limited sizes.columns) row_count.1
+  rows ← rising_lines sizes.rows (option_map (λ lines. lines.rows) whole) row_count.0 column_count.1
+  columns ← rising_lines sizes.columns (option_map (λ lines. lines.columns) whole) column_count.0 rows.1
+  Ok (record { rows = rows.0; columns = columns.0 }, columns.1)
+
+-- two nodes of a tree whose last node has this number
+abbrev pub another_pair : ℕ → List Pair → Reader (List Pair)
+another_pair last pairs text = do
+  tail ← field Short (limited last) text
+  head ← field Short (limited last) tail.1
+  Ok (pairs ++ (record { tail = tail.0; head = head.0 }) ∷ [], head.1)
+
+abbrev pub network : ℕ → ℕ → Reader net.Network
+network arc_count walk_count text = do
+  arcs ← times (another_pair arc_count) arc_count [] text
+  walks ← times (another_pair arc_count) walk_count [] arcs.1
+  Ok (record { arcs = arcs.0; walks = walks.0 }, walks.1)
+
+-- a row, a column and one more line: a column where the connector is flat, a row where it is tall
+abbrev pub connector : Sizes → LineSet → Bool → Reader Connector
+connector sizes lines flat text = do
+  row ← field Short (line_of sizes.rows lines.rows) text
+  column ← field Short (line_of sizes.columns lines.columns) row.1
+  other ← field Short (if flat then line_of sizes.columns lines.columns else line_of sizes.rows lines.rows) column.1
+  Ok (record { row = row.0; column = column.0; other = other.0 }, other.1)
+
+abbrev pub two : Sizes → LineSet → Reader Two
+two sizes lines text = do
+  row ← field Short (line_of sizes.rows lines.rows) text
+  column ← field Short (line_of sizes.columns lines.columns) row.1
+  side ← line_set sizes (Some lines) column.1
+  Ok (record { side = side.0; row = row.0; column = column.0 }, side.1)
+
+abbrev pub three : Sizes → LineSet → Form → Reader Three
+three sizes lines form text = do
+  first ← connector sizes lines (first_is_flat form) text
+  second ← connector sizes lines (second_is_flat form) first.1
+  side ← line_set sizes (Some lines) second.1
+  Ok (record { form = form; side = side.0; first = first.0; second = second.0 }, side.1)
+
+-- what a node says of its lines, and how many children it has
+abbrev pub own_part : Sizes → LineSet → KindWord → Reader (Finding × ℕ)
+own_part sizes lines kind.Empty text = Ok ((Empty, 0), text)
+own_part sizes lines kind.Cycle text = do
+  fault ← line_set sizes (Some lines) text
+  Ok ((Cycle fault.0, 0), fault.1)
+own_part sizes lines kind.Reduced text = do
+  count ← field Short (limited (size_of lines)) text
+  steps ← fields Short (step_in sizes lines) count.0 count.1
+  Ok ((Reduced steps.0, 1), steps.1)
+own_part sizes lines kind.OneSum text = do
+  count ← field Short (limited (size_of lines)) text
+  Ok ((OneSum, count.0), count.1)
+own_part sizes lines kind.Network text = do
+  found ← network (length lines.rows) (length lines.columns) text
+  Ok ((Network found.0, 0), found.1)
+own_part sizes lines kind.Conetwork text = do
+  found ← network (length lines.columns) (length lines.rows) text
+  Ok ((Conetwork found.0, 0), found.1)
+own_part sizes lines kind.R10 text = Ok ((R10, 0), text)
+own_part sizes lines kind.TwoSum text = do
+  found ← two sizes lines text
+  Ok ((TwoSum found.0, 2), found.1)
+own_part sizes lines (kind.ThreeSum form) text = do
+  found ← three sizes lines form text
+  Ok ((ThreeSum found.0, 2), found.1)
+own_part sizes lines kind.Enumerated text = Ok ((Enumerated, 0), text)
+own_part sizes lines kind.Violator text = do
+  fault ← line_set sizes (Some lines) text
+  Ok ((Violator fault.0, 0), fault.1)
+own_part sizes lines kind.Undecided text = Ok ((Undecided, 0), text)
+
+-- the front of a node: its kind word, its lines and its own part
+abbrev pub front : Sizes → Option LineSet → Reader NodeFront
+front sizes parent text = do
+  kind ← field Short kind_in text
+  lines ← line_set sizes parent kind.1
+  own ← own_part sizes lines.0 kind.0 lines.1
+  Ok (record { lines = lines.0; finding = (own.0).0; children = (own.0).1 }, own.1)
+
+-- one more tree behind those that were read
+abbrev pub another_tree : Reader Tree → List Tree → Reader (List Tree)
+another_tree read trees text = do
+  tree ← read text
+  Ok (trees ++ tree.0 ∷ [], tree.1)
+
+-- no further level is allowed
+abbrev pub too_deep : List ℕ → Result Tree TreeKind
+too_deep word = Err TooDeep
+
+-- a node and the nodes below it, on at most so many levels
+abbrev pub node : Sizes → ℕ → Option LineSet → Reader Tree
+node sizes zero parent text = field Short too_deep text
+node sizes (suc levels) parent text = do
+  front ← front sizes parent text
+  children ← times (another_tree (node sizes levels (Some (front.0).lines))) (front.0).children [] front.1
+  Ok (Branch (front.0).lines (front.0).finding (trees_from children.0), children.1)
+
+-- a tree with the sizes of its matrix
+pub record PlainTree : Type 0 where
+  pub rows : ℕ
+  pub columns : ℕ
+  pub root : Tree
+
+abbrev pub plain : SizedTree → PlainTree
+plain tree = record { rows = tree.rows; columns = tree.columns; root = tree_of tree.root }
+
+-- the version, the sizes of the matrix, and the root
+abbrev pub tree : Text → Result PlainTree (Fault TreeKind)
+tree text = do
+  name ← field Short (exactly (codes "cmr-tree")) text
+  version ← field Short (exactly (codes "1")) name.1
+  rows ← field Short (limited 1000) version.1
+  columns ← field Short (limited 1000) rows.1
+  root ← node (record { rows = rows.0; columns = columns.0 }) 2001 None columns.1
+  ended Extra (record { rows = rows.0; columns = columns.0; root = root.0 }) root.1

@@ -1,0 +1,14 @@
+//! The text of decomposition trees: read to the first fault, and written in its canonical form.
+#![tactic(auto)]
+
+mod error;
+mod field;
+mod kind_word;
+mod own_part;
+mod read;
+mod value;
+mod write;
+
+pub use error::{TreeError, TreeKind};
+pub use read::read_tree;
+pub use write::write_tree;

@@ -1,0 +1,251 @@
+// What a node says of its lines.
+ghost use Rattle.std.specs.Prelude.{◌≡◌, ◌≤◌, [], IfOk, option_copied, length};
+ghost use Rattle.cmr_base.specs.Separations.{first_is_flat, second_is_flat};
+ghost use Rattle.text_fields.specs.Reading.{times, fields, Reads};
+ghost use Rattle.tree_type.specs.Invariant.{HasChildren};
+ghost use Rattle.tree_text.specs.declared.error.TreeKind.TheVariants.{Short};
+ghost use Rattle.tree_text.specs.Values.{step_in};
+ghost use Rattle.tree_type.specs.Findings.{finding_shown};
+ghost use Rattle.tree_text.specs.Findings.{own_shown, front_shown};
+ghost use Rattle.tree_text.specs.Reading.{rising_lines, line_set, another_pair, network, connector, two, three, own_part, front};
+
+use crate::kind_word::KindWord;
+use crate::value::Sizes;
+use crate::{TreeError, field};
+use cmr_base::{
+    Connector, Form, Indices, Line, LineList, LineSet, Network, Pair, PairList, Three, Two,
+};
+use std::alloc::Global;
+use text_fields::Words;
+use tree_type::Finding;
+
+/// What a node says, and how many children it has.
+#[derive(Debug, Drop)]
+pub struct OwnPart {
+    pub finding: Finding,
+    pub children: u32,
+}
+
+/// What stands in front of a node's children.
+#[derive(Debug, Drop)]
+pub struct Front {
+    pub lines: LineSet,
+    pub finding: Finding,
+    pub children: u32,
+}
+
+/// Two counts, and so many rows and so many columns of the matrix, which are among the lines of a whole.
+pub fn read_line_set(
+    alloc: Global,
+    words: &mut Words<'_>,
+    sizes: Sizes,
+    whole: Option<&LineSet>,
+) -> Result<LineSet, TreeError>
+    ensures read { Reads (λ lines. lines) words.new result (line_set sizes (option_copied whole.entry) words.old) }
+    ensures rows { IfOk result (λ lines. length lines.rows ≤ sizes.rows) }
+    ensures columns { IfOk result (λ lines. length lines.columns ≤ sizes.columns) }
+{
+    let row_count = field::limited(words, sizes.rows)?;
+    let column_count = field::limited(words, sizes.columns)?;
+    let (whole_rows, whole_columns) = match whole {
+        Some(lines) => (Some(&lines.rows), Some(&lines.columns)),
+        None => (None, None),
+    };
+    let rows = read_rising(alloc, words, sizes.rows, whole_rows, row_count)?;
+    let columns = read_rising(alloc, words, sizes.columns, whole_columns, column_count)?;
+    Ok(LineSet { rows, columns })
+}
+
+fn read_rising(
+    alloc: Global,
+    words: &mut Words<'_>,
+    most: u32,
+    whole: Option<&Indices>,
+    count: u32,
+) -> Result<Indices, TreeError>
+    ensures read { Reads (λ lines. lines) words.new result (rising_lines most (option_copied whole.entry) count words.old) }
+    ensures len { IfOk result (λ lines. length lines ≡ count) }
+{
+    let mut lines = Indices::new(alloc);
+    let mut before = 0;
+    for _ in 0..count {
+        let line = field::next_line(words, most, whole, before)?;
+        lines.push(line)?;
+        before = line + 1;
+    }
+    Ok(lines)
+}
+
+fn read_steps(
+    alloc: Global,
+    words: &mut Words<'_>,
+    sizes: Sizes,
+    lines: &LineSet,
+    count: u32,
+) -> Result<LineList, TreeError>
+    ensures { Reads (λ steps. steps) words.new result (fields Short (step_in sizes lines.now) count words.old) }
+{
+    let mut steps = LineList::new(alloc);
+    for _ in 0..count {
+        steps.push(field::step(words, sizes, lines)?)?;
+    }
+    Ok(steps)
+}
+
+fn read_pairs(
+    alloc: Global,
+    words: &mut Words<'_>,
+    last: u32,
+    count: usize,
+) -> Result<PairList, TreeError>
+    ensures { Reads (λ pairs. pairs) words.new result (times (another_pair last) count [] words.old) }
+{
+    let mut pairs = PairList::new(alloc);
+    for _ in 0..count {
+        let tail = field::limited(words, last)?;
+        let head = field::limited(words, last)?;
+        pairs.push(Pair { tail, head })?;
+    }
+    Ok(pairs)
+}
+
+fn read_network(
+    alloc: Global,
+    words: &mut Words<'_>,
+    arcs: &Indices,
+    walks: &Indices,
+) -> Result<Network, TreeError>
+    requires { length arcs.now ≤ 1000 }
+    ensures { Reads (λ net. net) words.new result (network (length arcs.now) (length walks.now) words.old) }
+{
+    let last = arcs.len() as u32;
+    let arcs = read_pairs(alloc, words, last, arcs.len())?;
+    let walks = read_pairs(alloc, words, last, walks.len())?;
+    Ok(Network { arcs, walks })
+}
+
+fn read_connector(
+    words: &mut Words<'_>,
+    sizes: Sizes,
+    lines: &LineSet,
+    flat: bool,
+) -> Result<Connector, TreeError>
+    ensures { Reads (λ x. x) words.new result (connector sizes lines.now flat words.old) }
+{
+    let row = field::line_of(words, sizes.rows, &lines.rows)?;
+    let column = field::line_of(words, sizes.columns, &lines.columns)?;
+    let other = if flat {
+        field::line_of(words, sizes.columns, &lines.columns)?
+    } else {
+        field::line_of(words, sizes.rows, &lines.rows)?
+    };
+    Ok(Connector { row, column, other })
+}
+
+fn read_two(
+    alloc: Global,
+    words: &mut Words<'_>,
+    sizes: Sizes,
+    lines: &LineSet,
+) -> Result<Two, TreeError>
+    ensures { Reads (λ x. x) words.new result (two sizes lines.now words.old) }
+{
+    let row = field::line_of(words, sizes.rows, &lines.rows)?;
+    let column = field::line_of(words, sizes.columns, &lines.columns)?;
+    let side = read_line_set(alloc, words, sizes, Some(lines))?;
+    Ok(Two { side, row, column })
+}
+
+fn read_three(
+    alloc: Global,
+    words: &mut Words<'_>,
+    sizes: Sizes,
+    lines: &LineSet,
+    form: Form,
+) -> Result<Three, TreeError>
+    ensures { Reads (λ x. x) words.new result (three sizes lines.now form words.old) }
+{
+    let first = read_connector(words, sizes, lines, form.first_is_flat())?;
+    let second = read_connector(words, sizes, lines, form.second_is_flat())?;
+    let side = read_line_set(alloc, words, sizes, Some(lines))?;
+    Ok(Three {
+        form,
+        side,
+        first,
+        second,
+    })
+}
+
+/// What a node of this kind says of its lines, and how many children it has.
+pub fn read_own_part(
+    alloc: Global,
+    words: &mut Words<'_>,
+    sizes: Sizes,
+    lines: &LineSet,
+    kind: KindWord,
+) -> Result<OwnPart, TreeError>
+    requires rows { length lines.now.rows ≤ 1000 }
+    requires columns { length lines.now.columns ≤ 1000 }
+    ensures read { Reads own_shown words.new result (own_part sizes lines.now kind words.old) }
+    ensures children { IfOk result (λ own. HasChildren (finding_shown own.finding) own.children) }
+{
+    let (finding, children) = match kind {
+        KindWord::Empty => (Finding::Empty, 0),
+        KindWord::Cycle => (
+            Finding::Cycle(read_line_set(alloc, words, sizes, Some(lines))?),
+            0,
+        ),
+        KindWord::Reduced => {
+            let count = field::limited(words, lines.size())?;
+            (
+                Finding::Reduced(read_steps(alloc, words, sizes, lines, count)?),
+                1,
+            )
+        }
+        KindWord::OneSum => (Finding::OneSum, field::limited(words, lines.size())?),
+        KindWord::Network => (
+            Finding::Network(read_network(alloc, words, &lines.rows, &lines.columns)?),
+            0,
+        ),
+        KindWord::Conetwork => (
+            Finding::Conetwork(read_network(alloc, words, &lines.columns, &lines.rows)?),
+            0,
+        ),
+        KindWord::R10 => (Finding::R10, 0),
+        KindWord::TwoSum => (Finding::TwoSum(read_two(alloc, words, sizes, lines)?), 2),
+        KindWord::ThreeSum(form) => (
+            Finding::ThreeSum(read_three(alloc, words, sizes, lines, form)?),
+            2,
+        ),
+        KindWord::Enumerated => (Finding::Enumerated, 0),
+        KindWord::Violator => (
+            Finding::Violator(read_line_set(alloc, words, sizes, Some(lines))?),
+            0,
+        ),
+        KindWord::Undecided => (Finding::Undecided, 0),
+    };
+    Ok(OwnPart { finding, children })
+}
+
+/// A node's kind, its lines and its own part.
+pub fn read_front(
+    alloc: Global,
+    words: &mut Words<'_>,
+    sizes: Sizes,
+    parent: Option<&LineSet>,
+) -> Result<Box<Front>, TreeError>
+    requires rows { sizes.rows ≤ 1000 }
+    requires columns { sizes.columns ≤ 1000 }
+    ensures read { Reads (λ front. front_shown front.value) words.new result (front sizes (option_copied parent.entry) words.old) }
+    ensures children { IfOk result (λ front. HasChildren (finding_shown front.value.finding) front.value.children) }
+{
+    let kind = field::kind(words)?;
+    let lines = read_line_set(alloc, words, sizes, parent)?;
+    let own = read_own_part(alloc, words, sizes, &lines, kind)?;
+    let front = Front {
+        lines,
+        finding: own.finding,
+        children: own.children,
+    };
+    Ok(Box::new(alloc, front)?)
+}

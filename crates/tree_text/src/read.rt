@@ -1,0 +1,115 @@
+// Reading of trees.
+ghost use Rattle.std.specs.Prelude.{◌≡◌, ◌≤◌, ◌<◌, ◌++◌, ◌∷◌, [], Some, None, map, length, IfOk, OnOk, option_copied};
+ghost use Rattle.text_fields.specs.Words.{text_of};
+ghost use Rattle.text_fields.specs.Reading.{field, times, Fails, Gives, Reads};
+ghost use Rattle.tree_type.specs.Trees.{Branch, tree_of, trees_from};
+ghost use Rattle.tree_type.specs.Invariant.{HasChildren};
+ghost use Rattle.tree_text.specs.declared.error.TreeKind.TheVariants.{Short};
+ghost use Rattle.tree_type.specs.Findings.{finding_shown};
+ghost use Rattle.tree_text.specs.Reading.{another_tree, too_deep, node, plain, tree};
+
+use crate::own_part::{Front, read_front};
+use crate::value::Sizes;
+use crate::{TreeError, TreeKind, field};
+use cmr_base::{LineSet, MAX_COLUMNS, MAX_DEPTH, MAX_ROWS, Memory};
+use std::alloc::Global;
+use text_fields::Words;
+use tree_type::{DecTree, Node, join_node};
+
+/// The tree that a text stands for, or the text's first fault.
+pub fn read_tree(alloc: Global, bytes: &[u8]) -> Result<DecTree, TreeError>
+    ensures { Gives plain result (tree (text_of bytes.now)) }
+{
+    let mut words = Words::new(bytes);
+    field::exactly(&mut words, b"cmr-tree")?;
+    field::exactly(&mut words, b"1")?;
+    let rows = field::limited(&mut words, MAX_ROWS)?;
+    let columns = field::limited(&mut words, MAX_COLUMNS)?;
+    let sizes = Sizes { rows, columns };
+    let root = read_root(alloc, &mut words, sizes, MAX_DEPTH + 1)?;
+    words.end(TreeKind::Extra)?;
+    Ok(DecTree::make(rows, columns, root))
+}
+
+// Reads the node at the root and the nodes below it, on at most so many levels.
+fn read_root(
+    alloc: Global,
+    words: &mut Words<'_>,
+    sizes: Sizes,
+    levels: u32,
+) -> Result<Node, TreeError>
+    requires rows { sizes.rows ≤ 1000 }
+    requires columns { sizes.columns ≤ 1000 }
+    ensures { Reads tree_of words.new result (node sizes levels None words.old) }
+{
+    let mut roots = Vec::new(alloc);
+    read_node(alloc, words, sizes, None, levels, &mut roots)?;
+    let Some(root) = roots.pop() else {
+        unreachable!()
+    };
+    Ok(root)
+}
+
+// Reads a node and the nodes below it, on at most so many levels, and puts it behind the nodes that were read. The
+// recursion goes by the ordinary stack: what is large stands on the heap.
+fn read_node(
+    alloc: Global,
+    words: &mut Words<'_>,
+    sizes: Sizes,
+    parent: Option<&LineSet>,
+    levels: u32,
+    nodes: &mut Vec<Node>,
+) -> Result<(), TreeError>
+    requires rows { sizes.rows ≤ 1000 }
+    requires columns { sizes.columns ≤ 1000 }
+    ensures { Reads (λ x. map tree_of nodes.new.items) words.new result (another_tree (node sizes levels (option_copied parent.entry)) (map tree_of nodes.old.items) words.old) }
+{
+    if levels == 0 {
+        return Err(too_deep(words));
+    }
+    let front = read_front(alloc, words, sizes, parent)?;
+    let mut children = Vec::new(alloc);
+    for _ in 0..front.children {
+        read_node(
+            alloc,
+            words,
+            sizes,
+            Some(&front.lines),
+            levels - 1,
+            &mut children,
+        )?;
+    }
+    push_node(alloc, front, children, nodes)?;
+    Ok(())
+}
+
+// Joins a node from its front and its children, and puts it behind others.
+fn push_node(
+    alloc: Global,
+    front: Box<Front>,
+    children: Vec<Node>,
+    nodes: &mut Vec<Node>,
+) -> Result<(), Memory>
+    requires { HasChildren (finding_shown front.value.finding) (length children.items) }
+    ensures { OnOk result (map tree_of nodes.new.items ≡ map tree_of nodes.old.items ++ Branch front.value.lines (finding_shown front.value.finding) (trees_from (map tree_of children.items)) ∷ []) }
+{
+    let front = Box::into_inner(front);
+    nodes.push(join_node(alloc, front.lines, front.finding, children)?)?;
+    Ok(())
+}
+
+// The fault where a node begins and no further level is allowed.
+fn too_deep(words: &mut Words<'_>) -> TreeError
+    ensures { Fails result (field Short too_deep words.old) }
+{
+    match words.next() {
+        Some((place, _)) => TreeError::Fault {
+            kind: TreeKind::TooDeep,
+            place,
+        },
+        None => TreeError::Fault {
+            kind: TreeKind::Short,
+            place: words.size(),
+        },
+    }
+}

@@ -1,0 +1,99 @@
+// What a word of a tree text stands for.
+ghost use Rattle.std.specs.Prelude.{◌≡◌, ◌≤◌, ◌<◌, IfOk, option_copied};
+ghost use Rattle.tree_text.specs.Values.{exactly, limited, line_in, among, line_of, next_line, step_in};
+
+use crate::TreeKind;
+use cmr_base::{Indices, Line, LineSet};
+use text_fields::count_in;
+use tree_type::has_line;
+
+/// The sizes of the matrix that a tree is for.
+#[derive(Clone, Copy, Debug, PartialEq, Eq)]
+pub struct Sizes {
+    pub rows: u32,
+    pub columns: u32,
+}
+
+/// This very word.
+pub fn exactly(word: &[u8], due: &[u8]) -> Result<(), TreeKind>
+    ensures { result ≡ exactly due.now word.now }
+{
+    if word == due {
+        Ok(())
+    } else {
+        Err(TreeKind::WrongVersion)
+    }
+}
+
+/// A count of at most `most`.
+pub fn limited(word: &[u8], most: u32) -> Result<u32, TreeKind>
+    ensures value { result ≡ limited most word.now }
+    ensures within { IfOk result (λ n. n ≤ most) }
+{
+    let count = count_in(word)?;
+    if count <= most {
+        Ok(count)
+    } else {
+        Err(TreeKind::OutOfRange)
+    }
+}
+
+/// One of so many lines.
+pub fn line_in(word: &[u8], most: u32) -> Result<u32, TreeKind>
+    ensures value { result ≡ line_in most word.now }
+    ensures within { IfOk result (λ line. line < most) }
+{
+    match limited(word, most)? {
+        0 => Err(TreeKind::OutOfRange),
+        number => Ok(number - 1),
+    }
+}
+
+/// The line, where it is one of these.
+pub fn among(line: u32, lines: Option<&Indices>) -> Result<u32, TreeKind>
+    ensures value { result ≡ among (option_copied lines.entry) line }
+    ensures same { IfOk result (λ found. found ≡ line) }
+{
+    match lines {
+        Some(lines) if !has_line(lines, line) => Err(TreeKind::NotPart),
+        _ => Ok(line),
+    }
+}
+
+/// A line of the node.
+pub fn line_of(word: &[u8], most: u32, lines: &Indices) -> Result<u32, TreeKind>
+    ensures value { result ≡ line_of most lines.now word.now }
+    ensures within { IfOk result (λ line. line < most) }
+{
+    among(line_in(word, most)?, Some(lines))
+}
+
+/// The next line of a rising list. The last line before it has the number `before`, counted from 1.
+pub fn next_line(
+    word: &[u8],
+    most: u32,
+    whole: Option<&Indices>,
+    before: u32,
+) -> Result<u32, TreeKind>
+    ensures value { result ≡ next_line most (option_copied whole.entry) before word.now }
+    ensures above { IfOk result (λ line. before ≤ line) }
+    ensures within { IfOk result (λ line. line < most) }
+{
+    let line = line_in(word, most)?;
+    if before <= line {
+        among(line, whole)
+    } else {
+        Err(TreeKind::NotRising)
+    }
+}
+
+/// A row or a column of the node, by its letter and its number.
+pub fn step_in(word: &[u8], sizes: Sizes, lines: &LineSet) -> Result<Line, TreeKind>
+    ensures { result ≡ step_in sizes lines.now word.now }
+{
+    match word {
+        [b'r', number @ ..] => Ok(Line::Row(line_of(number, sizes.rows, &lines.rows)?)),
+        [b'c', number @ ..] => Ok(Line::Column(line_of(number, sizes.columns, &lines.columns)?)),
+        _ => Err(TreeKind::NotNumber),
+    }
+}

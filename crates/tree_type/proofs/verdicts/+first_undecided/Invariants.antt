@@ -1,0 +1,11 @@
+use Rattle.std.proofs.Common.{◌≡◌, drop, map}
+use Rattle.tree_type.specs.Trees.{tree_of, trees_from}
+use Rattle.tree_type.specs.Verdicts.{first_in, first_among, open_at}
+use Rattle.tree_type.proofs.verdicts.+first_undecided.Given as goal
+
+abbrev pub decreases-first_undecided : goal.decreases-first_undecided
+decreases-first_undecided l = goal.size-first_undecided l
+
+-- the first among the children that are left is the first of the node
+abbrev pub invariant-loop-child : goal.invariant-loop-child
+invariant-loop-child l = first_among open_at (trees_from (map tree_of (drop l.child-index l.child-items))) ≡ first_in open_at (tree_of l.node)

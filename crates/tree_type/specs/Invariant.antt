@@ -1,0 +1,78 @@
+-- What every decomposition tree is.
+use Rattle.std.specs.Prelude.{◌≡◌, ◌≤◌, ◌<◌, ◌+◌, ◌-◌, ℕ, length, Contains}
+use Rattle.std.specs.List.{AllByRecursion}
+use Rattle.std.specs.List.Sorted.{IsStrictlyIncreasing}
+use Rattle.cmr_base.specs.declared.line_set.LineSet.{LineSet}
+use Rattle.cmr_base.specs.declared.network.Network as net
+use Rattle.cmr_base.specs.Matrix.{Matrix}
+use Rattle.cmr_base.specs.LineSets.{AllBelow, IsRowSet, IsColumnSet}
+use Rattle.cmr_base.specs.Reductions.{HasLine}
+use Rattle.cmr_base.specs.Separations.{first_is_flat, second_is_flat}
+use Rattle.tree_type.specs.Sides.{HasConnector}
+use Rattle.tree_type.specs.Trees.{Finding, Cycle, Reduced, OneSum, Network, Conetwork, TwoSum, ThreeSum, Violator, Tree, Trees, Branch, NoTrees, MoreTrees, SizedTree, count_trees, lines_of, tree_of}
+
+-- lines of the matrix
+pub record AreLines (m : Matrix) (lines : LineSet) : Type 0 where
+  pub rows : IsRowSet m lines.rows
+  pub columns : IsColumnSet m lines.columns
+
+-- rising lists of rows and of columns that are among those of the second
+pub record AreLinesOf (part whole : LineSet) : Type 0 where
+  pub rows_rise : IsStrictlyIncreasing part.rows
+  pub columns_rise : IsStrictlyIncreasing part.columns
+  pub rows : (row : ℕ) → Contains part.rows row → Contains whole.rows row
+  pub columns : (column : ℕ) → Contains part.columns column → Contains whole.columns column
+
+-- so many arcs and walks, and nodes of a tree with so many arcs
+pub record HasSizes (arcs walks : ℕ) (n : net.Network) : Type 0 where
+  pub arc_count : length n.arcs ≡ arcs
+  pub walk_count : length n.walks ≡ walks
+  pub arc_nodes : AllByRecursion (λ pair. (pair.tail ≤ arcs) × (pair.head ≤ arcs)) n.arcs
+  pub walk_nodes : AllByRecursion (λ pair. (pair.tail ≤ arcs) × (pair.head ≤ arcs)) n.walks
+
+abbrev pub size_of : LineSet → ℕ
+size_of lines = length lines.rows + length lines.columns
+
+-- the lines that a node names in what it says are lines of the node, and its lists are as long as its lines allow
+abbrev pub Fits : LineSet → Finding → Trees → Type 0
+Fits lines (Cycle fault) trees = AreLinesOf fault lines
+Fits lines (Violator fault) trees = AreLinesOf fault lines
+Fits lines (Reduced steps) trees = AllByRecursion (HasLine lines.rows lines.columns) steps × (length steps ≤ size_of lines)
+Fits lines OneSum trees = count_trees trees ≤ size_of lines
+Fits lines (Network n) trees = HasSizes (length lines.rows) (length lines.columns) n
+Fits lines (Conetwork n) trees = HasSizes (length lines.columns) (length lines.rows) n
+Fits lines (TwoSum two) trees = AreLinesOf two.side lines × Contains lines.rows two.row × Contains lines.columns two.column
+Fits lines (ThreeSum three) trees = AreLinesOf three.side lines
+    × HasConnector (first_is_flat three.form) lines.rows lines.columns three.first
+    × HasConnector (second_is_flat three.form) lines.rows lines.columns three.second
+Fits lines finding trees = Unit {0}
+
+-- how many children a node has
+abbrev pub HasChildren : Finding → ℕ → Type 0
+HasChildren (Reduced steps) count = count ≡ 1
+HasChildren OneSum count = Unit {0}
+HasChildren (TwoSum two) count = count ≡ 2
+HasChildren (ThreeSum three) count = count ≡ 2
+HasChildren finding count = count ≡ 0
+
+abbrev mutual
+  -- the node has lines of its parent, what it says fits them, and so do its children and theirs, down to at most so many levels
+  pub IsTreeWithin : LineSet → ℕ → Tree → Type 0
+  IsTreeWithin parent levels (Branch lines finding trees) =
+      (0 < levels) × AreLinesOf lines parent × Fits lines finding trees × HasChildren finding (count_trees trees) × AreTreesWithin lines (levels - 1) trees
+
+  pub AreTreesWithin : LineSet → ℕ → Trees → Type 0
+  AreTreesWithin parent levels NoTrees = Unit {0}
+  AreTreesWithin parent levels (MoreTrees tree trees) = IsTreeWithin parent levels tree × AreTreesWithin parent levels trees
+
+-- a tree for a matrix of at most 1,000 rows and columns, whose nodes stand no deeper than 2,000
+pub record IsTreeFor (rows columns : ℕ) (tree : Tree) : Type 0 where
+  pub rows_in : rows ≤ 1000
+  pub columns_in : columns ≤ 1000
+  pub root_rows : AllBelow rows (lines_of tree).rows
+  pub root_columns : AllBelow columns (lines_of tree).columns
+  pub nodes : IsTreeWithin (lines_of tree) 2001 tree
+
+-- what every decomposition tree is
+abbrev pub IsDecTree : SizedTree → Type 0
+IsDecTree tree = IsTreeFor tree.rows tree.columns (tree_of tree.root)

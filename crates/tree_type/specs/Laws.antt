@@ -1,0 +1,14 @@
+-- Laws of the rules of decomposition trees.
+use Rattle.std.specs.Prelude.{◌≡◌}
+use Rattle.cmr_base.specs.Matrix.{Matrix}
+use Rattle.tree_type.specs.Trees.{SizedTree}
+use Rattle.tree_type.specs.Soundness.{IsSound, IsBroken}
+use Rattle.tree_type.specs.declared.refusal.Refusal.{Refusal}
+
+-- a sound tree has no node that breaks a rule
+abbrev pub SoundIsUnbroken : Type 0
+SoundIsUnbroken = (m : Matrix) (tree : SizedTree) (refusal : Refusal) → IsSound m tree → ¬ (IsBroken m tree refusal)
+
+-- there is one first node that breaks a rule, and one first rule
+abbrev pub OneRefusal : Type 0
+OneRefusal = (m : Matrix) (tree : SizedTree) (one other : Refusal) → IsBroken m tree one → IsBroken m tree other → (one.path ≡ other.path) × (one.rule ≡ other.rule)

@@ -1,0 +1,9 @@
+pub mod Trees
+pub mod Verdicts
+pub mod Sides
+pub mod Invariant
+pub mod Places
+pub mod Soundness
+pub mod Laws
+pub mod SideLaws
+pub mod Findings

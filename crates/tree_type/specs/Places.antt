@@ -1,0 +1,55 @@
+-- The nodes of a tree in preorder, each with its path and with the lines that it is to have.
+use Rattle.std.specs.Prelude.{ℕ, zero, suc, List, [], ◌∷◌, ◌++◌}
+use Rattle.cmr_base.specs.declared.line.Line.{Line}
+use Rattle.cmr_base.specs.declared.line_set.LineSet.{LineSet}
+use Rattle.cmr_base.specs.Reductions.{rows_without, columns_without}
+use Rattle.tree_type.specs.Sides.{two_one, two_two, three_one, three_two}
+use Rattle.tree_type.specs.Trees.{Finding, Reduced, TwoSum, ThreeSum, Tree, Trees, Branch, NoTrees, MoreTrees, lines_of}
+
+-- the lines that a node is to have: the root all lines of a matrix of these sizes, a child those that its parent gives it, and a
+-- child of a one-sum none that are named here
+pub data Due : Type 0 where
+  AllLines : ℕ → ℕ → Due
+  These : LineSet → Due
+  Unnamed : Due
+
+pub record Place : Type 0 where
+  pub path : List ℕ
+  pub due : Due
+  pub lines : LineSet
+  pub finding : Finding
+  pub children : List LineSet
+
+-- what some removals leave
+abbrev pub lines_left : LineSet → List Line → LineSet
+lines_left lines [] = lines
+lines_left lines (line ∷ steps) = lines_left (record { rows = rows_without lines.rows line; columns = columns_without lines.columns line }) steps
+
+-- the lines that a child is to have, by its number
+abbrev pub due_child : LineSet → Finding → ℕ → Due
+due_child lines (Reduced steps) k = These (lines_left lines steps)
+due_child lines (TwoSum two) zero = These (two_one lines two)
+due_child lines (TwoSum two) (suc k) = These (two_two lines two)
+due_child lines (ThreeSum three) zero = These (three_one lines three)
+due_child lines (ThreeSum three) (suc k) = These (three_two lines three)
+due_child lines finding k = Unnamed
+
+abbrev pub lines_of_each : Trees → List LineSet
+lines_of_each NoTrees = []
+lines_of_each (MoreTrees tree trees) = lines_of tree ∷ lines_of_each trees
+
+abbrev mutual
+  -- a node, and behind it the nodes below it
+  pub places_from : List ℕ → Due → Tree → List Place
+  places_from path due (Branch lines finding trees) =
+      record { path = path; due = due; lines = lines; finding = finding; children = lines_of_each trees } ∷ places_below path lines finding 0 trees
+
+  -- the nodes in the trees of a node's children, from child k on
+  pub places_below : List ℕ → LineSet → Finding → ℕ → Trees → List Place
+  places_below path lines finding k NoTrees = []
+  places_below path lines finding k (MoreTrees tree trees) =
+      places_from (path ++ k ∷ []) (due_child lines finding k) tree ++ places_below path lines finding (suc k) trees
+
+-- all nodes in preorder of a tree for a matrix of these sizes
+abbrev pub places : ℕ → ℕ → Tree → List Place
+places rows columns tree = places_from [] (AllLines rows columns) tree

@@ -1,0 +1,185 @@
+// The lines on the sides of a separation, and those that the children of a sum are to have.
+ghost use Rattle.std.specs.Prelude.{◌≡◌, IfOk};
+ghost use Rattle.tree_type.specs.Sides.{is_among, inside, outside, inside_with, outside_with, two_one, two_two, three_one, three_two, connector_rows, connector_columns};
+
+use cmr_base::{Connector, Indices, LineSet, Memory, Three, Two};
+use std::alloc::Global;
+
+/// Whether a set has a line, by halving.
+pub fn has_line(set: &Indices, line: u32) -> bool
+    ensures { result ≡ is_among set.now line }
+{
+    set.as_slice().binary_search(&line).is_ok()
+}
+
+/// The lines of side one, those that are in the set.
+pub fn side_one(alloc: Global, lines: &LineSet, set: &LineSet) -> Result<LineSet, Memory>
+    ensures rows { IfOk result (λ one. one.rows ≡ inside set.now.rows lines.now.rows) }
+    ensures columns { IfOk result (λ one. one.columns ≡ inside set.now.columns lines.now.columns) }
+{
+    Ok(LineSet {
+        rows: inside_with(alloc, &set.rows, &[], &lines.rows)?,
+        columns: inside_with(alloc, &set.columns, &[], &lines.columns)?,
+    })
+}
+
+/// The lines of side two, those that are not in the set.
+pub fn side_two(alloc: Global, lines: &LineSet, set: &LineSet) -> Result<LineSet, Memory>
+    ensures rows { IfOk result (λ two. two.rows ≡ outside set.now.rows lines.now.rows) }
+    ensures columns { IfOk result (λ two. two.columns ≡ outside set.now.columns lines.now.columns) }
+{
+    Ok(LineSet {
+        rows: outside_with(alloc, &set.rows, &[], &lines.rows)?,
+        columns: outside_with(alloc, &set.columns, &[], &lines.columns)?,
+    })
+}
+
+/// The same lines.
+pub fn copy_of(alloc: Global, lines: &LineSet) -> Result<LineSet, Memory>
+    ensures { IfOk result (λ copy. copy ≡ lines.now) }
+{
+    Ok(LineSet {
+        rows: Indices::of(alloc, lines.rows.as_slice())?,
+        columns: Indices::of(alloc, lines.columns.as_slice())?,
+    })
+}
+
+/// The lines of the first child of a two-sum: side one with the row of the reference.
+pub fn two_one(alloc: Global, lines: &LineSet, two: &Two) -> Result<LineSet, Memory>
+    ensures { IfOk result (λ one. one ≡ two_one lines.now two.now) }
+{
+    let side = &two.side;
+    Ok(LineSet {
+        rows: inside_with(alloc, &side.rows, &[two.row], &lines.rows)?,
+        columns: inside_with(alloc, &side.columns, &[], &lines.columns)?,
+    })
+}
+
+/// The lines of the second child of a two-sum: side two with the column of the reference.
+pub fn two_two(alloc: Global, lines: &LineSet, two: &Two) -> Result<LineSet, Memory>
+    ensures { IfOk result (λ other. other ≡ two_two lines.now two.now) }
+{
+    let side = &two.side;
+    Ok(LineSet {
+        rows: outside_with(alloc, &side.rows, &[], &lines.rows)?,
+        columns: outside_with(alloc, &side.columns, &[two.column], &lines.columns)?,
+    })
+}
+
+/// The lines of the first child of a three-sum: side one with the second connector.
+pub fn three_one(alloc: Global, lines: &LineSet, three: &Three) -> Result<LineSet, Memory>
+    ensures { IfOk result (λ one. one ≡ three_one lines.now three.now) }
+{
+    one_with(
+        alloc,
+        lines,
+        &three.side,
+        three.form.second_is_flat(),
+        three.second,
+    )
+}
+
+/// The lines of the second child of a three-sum: side two with the first connector.
+pub fn three_two(alloc: Global, lines: &LineSet, three: &Three) -> Result<LineSet, Memory>
+    ensures { IfOk result (λ other. other ≡ three_two lines.now three.now) }
+{
+    other_with(
+        alloc,
+        lines,
+        &three.side,
+        three.form.first_is_flat(),
+        three.first,
+    )
+}
+
+// Side one with a connector of side two.
+fn one_with(
+    alloc: Global,
+    lines: &LineSet,
+    side: &LineSet,
+    is_flat: bool,
+    connector: Connector,
+) -> Result<LineSet, Memory>
+    ensures rows { IfOk result (λ one. one.rows ≡ inside_with side.now.rows (connector_rows is_flat connector) lines.now.rows) }
+    ensures columns { IfOk result (λ one. one.columns ≡ inside_with side.now.columns (connector_columns is_flat connector) lines.now.columns) }
+{
+    let Connector { row, column, other } = connector;
+    if is_flat {
+        Ok(LineSet {
+            rows: inside_with(alloc, &side.rows, &[row], &lines.rows)?,
+            columns: inside_with(alloc, &side.columns, &[column, other], &lines.columns)?,
+        })
+    } else {
+        Ok(LineSet {
+            rows: inside_with(alloc, &side.rows, &[row, other], &lines.rows)?,
+            columns: inside_with(alloc, &side.columns, &[column], &lines.columns)?,
+        })
+    }
+}
+
+// Side two with a connector of side one.
+fn other_with(
+    alloc: Global,
+    lines: &LineSet,
+    side: &LineSet,
+    is_flat: bool,
+    connector: Connector,
+) -> Result<LineSet, Memory>
+    ensures rows { IfOk result (λ other. other.rows ≡ outside_with side.now.rows (connector_rows is_flat connector) lines.now.rows) }
+    ensures columns { IfOk result (λ other. other.columns ≡ outside_with side.now.columns (connector_columns is_flat connector) lines.now.columns) }
+{
+    let Connector { row, column, other } = connector;
+    if is_flat {
+        Ok(LineSet {
+            rows: outside_with(alloc, &side.rows, &[row], &lines.rows)?,
+            columns: outside_with(alloc, &side.columns, &[column, other], &lines.columns)?,
+        })
+    } else {
+        Ok(LineSet {
+            rows: outside_with(alloc, &side.rows, &[row, other], &lines.rows)?,
+            columns: outside_with(alloc, &side.columns, &[column], &lines.columns)?,
+        })
+    }
+}
+
+// The lines that are in a set or among a few more.
+fn inside_with(
+    alloc: Global,
+    set: &Indices,
+    more: &[u32],
+    lines: &Indices,
+) -> Result<Indices, Memory>
+    ensures { IfOk result (λ inside. inside ≡ inside_with set.now more.now lines.now) }
+{
+    let mut inside = Indices::new(alloc);
+    for line in lines.as_slice() {
+        if has_line(set, *line) || is_among(more, *line) {
+            inside.push(*line)?;
+        }
+    }
+    Ok(inside)
+}
+
+// The lines that are not in a set, and those among a few more.
+fn outside_with(
+    alloc: Global,
+    set: &Indices,
+    more: &[u32],
+    lines: &Indices,
+) -> Result<Indices, Memory>
+    ensures { IfOk result (λ outside. outside ≡ outside_with set.now more.now lines.now) }
+{
+    let mut outside = Indices::new(alloc);
+    for line in lines.as_slice() {
+        if !has_line(set, *line) || is_among(more, *line) {
+            outside.push(*line)?;
+        }
+    }
+    Ok(outside)
+}
+
+fn is_among(lines: &[u32], line: u32) -> bool
+    ensures { result ≡ is_among lines.now line }
+{
+    lines.iter().any(|other| line == *other)
+}

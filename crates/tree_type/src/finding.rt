@@ -1,0 +1,85 @@
+// What a node says, without its lines and its children.
+ghost use Rattle.std.specs.Prelude.{◌≡◌, ◌<◌, ◌++◌, ◌∷◌, [], length, map, IfOk};
+ghost use Rattle.tree_type.specs.Trees.{Branch, tree_of, trees_from};
+ghost use Rattle.tree_type.specs.Invariant.{HasChildren};
+ghost use Rattle.tree_type.specs.Findings.{finding_shown};
+
+use crate::{Kind, Node, NodeList};
+use cmr_base::{LineList, LineSet, Memory, Network, Three, Two};
+use std::alloc::Global;
+
+/// What a node says of the submatrix on its lines.
+#[derive(Debug, Drop)]
+pub enum Finding {
+    Empty,
+    Cycle(LineSet),
+    Reduced(LineList),
+    OneSum,
+    Network(Network),
+    Conetwork(Network),
+    R10,
+    TwoSum(Two),
+    ThreeSum(Three),
+    Enumerated,
+    Violator(LineSet),
+    Undecided,
+}
+
+/// The node that says this of these lines, over these children, which are as many as it is to have.
+pub fn join_node(
+    alloc: Global,
+    lines: LineSet,
+    finding: Finding,
+    mut children: Vec<Node>,
+) -> Result<Node, Memory>
+    requires { HasChildren (finding_shown finding) (length children.items) }
+    ensures { IfOk result (λ node. tree_of node ≡ Branch lines (finding_shown finding) (trees_from (map tree_of children.items))) }
+{
+    let kind = match finding {
+        Finding::Empty => Kind::Empty,
+        Finding::Cycle(fault) => Kind::Cycle { fault },
+        Finding::Reduced(steps) => Kind::Reduced {
+            steps,
+            child: last_child(alloc, &mut children)?,
+        },
+        Finding::OneSum => Kind::OneSum {
+            children: NodeList::from_vec(children),
+        },
+        Finding::Network(net) => Kind::Network { net },
+        Finding::Conetwork(net) => Kind::Conetwork { net },
+        Finding::R10 => Kind::R10,
+        Finding::TwoSum(two) => {
+            let two_child = last_child(alloc, &mut children)?;
+            let one_child = last_child(alloc, &mut children)?;
+            Kind::TwoSum {
+                two,
+                one_child,
+                two_child,
+            }
+        }
+        Finding::ThreeSum(three) => {
+            let two_child = last_child(alloc, &mut children)?;
+            let one_child = last_child(alloc, &mut children)?;
+            Kind::ThreeSum {
+                three,
+                one_child,
+                two_child,
+            }
+        }
+        Finding::Enumerated => Kind::Enumerated,
+        Finding::Violator(fault) => Kind::Violator { fault },
+        Finding::Undecided => Kind::Undecided,
+    };
+    Ok(Node { lines, kind })
+}
+
+// Takes the last node.
+fn last_child(alloc: Global, children: &mut Vec<Node>) -> Result<Box<Node>, Memory>
+    requires { 0 < length children.old.items }
+    ensures { IfOk result (λ child. children.old.items ≡ children.new.items ++ child.value ∷ []) }
+{
+    let Some(child) = children.pop() else {
+        unreachable!()
+    };
+    Ok(Box::new(alloc, child)?)
+}

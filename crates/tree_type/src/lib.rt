@@ -1,0 +1,22 @@
+//! Decomposition trees: what is known of a matrix, told by what is known of its submatrices.
+#![tactic(auto)]
+
+mod child_lines;
+mod dec_tree;
+mod finding;
+pub mod laws;
+mod refusal;
+mod tree;
+mod verdicts;
+
+pub use child_lines::{
+    copy_of, has_line, side_one, side_two, three_one, three_two, two_one, two_two,
+};
+pub use cmr_base::{
+    Connector, Form, Line, LineList, LineSet, MAX_DEPTH, Network, PathList, Three, Two,
+};
+pub use dec_tree::DecTree;
+pub use finding::{Finding, join_node};
+pub use refusal::{Refusal, Rule};
+pub use tree::{Kind, Node, NodeList};
+pub use verdicts::{VerdictOf, verdict};

@@ -1,0 +1,104 @@
+// What a tree says of the matrix.
+ghost use Rattle.std.specs.Prelude.{◌≡◌, option_copied};
+ghost use Rattle.tree_type.specs.Trees.{tree_of};
+ghost use Rattle.tree_type.specs.Verdicts.{first_in, fault_at, open_at, verdict_of, verdict_shown};
+
+use crate::{DecTree, Kind, Node};
+use cmr_base::LineSet;
+
+/// What a tree says of the matrix: it is totally unimodular; it is not, by this violator; or that is undecided, since
+/// nothing is known of the submatrix on these lines.
+#[derive(Drop)]
+pub enum VerdictOf<'a> {
+    Yes,
+    No(&'a LineSet),
+    Undecided(&'a LineSet),
+}
+
+/// What a tree says: no with the fault of the first node, in preorder, that names one; else undecided with the lines
+/// of the first undecided node; else yes.
+pub fn verdict(tree: &DecTree) -> VerdictOf<'_>
+    ensures { verdict_shown result ≡ verdict_of (tree_of tree.now.root) }
+{
+    let root = tree.root();
+    match first_fault(root) {
+        Some(fault) => VerdictOf::No(fault),
+        None => match first_undecided(root) {
+            Some(lines) => VerdictOf::Undecided(lines),
+            None => VerdictOf::Yes,
+        },
+    }
+}
+
+pub(crate) fn first_fault(node: &Node) -> Option<&LineSet>
+    ensures { option_copied result ≡ first_in fault_at (tree_of node.now) }
+{
+    match &node.kind {
+        Kind::Cycle { fault } | Kind::Violator { fault } => Some(fault),
+        Kind::Reduced { child, .. } => first_fault(child),
+        Kind::OneSum { children } => {
+            for child in children.as_slice() {
+                if let Some(fault) = first_fault(child) {
+                    return Some(fault);
+                }
+            }
+            None
+        }
+        Kind::TwoSum {
+            one_child,
+            two_child,
+            ..
+        }
+        | Kind::ThreeSum {
+            one_child,
+            two_child,
+            ..
+        } => match first_fault(one_child) {
+            Some(fault) => Some(fault),
+            None => first_fault(two_child),
+        },
+        Kind::Empty
+        | Kind::Network { .. }
+        | Kind::Conetwork { .. }
+        | Kind::R10
+        | Kind::Enumerated
+        | Kind::Undecided => None,
+    }
+}
+
+pub(crate) fn first_undecided(node: &Node) -> Option<&LineSet>
+    ensures { option_copied result ≡ first_in open_at (tree_of node.now) }
+{
+    match &node.kind {
+        Kind::Undecided => Some(&node.lines),
+        Kind::Reduced { child, .. } => first_undecided(child),
+        Kind::OneSum { children } => {
+            for child in children.as_slice() {
+                if let Some(lines) = first_undecided(child) {
+                    return Some(lines);
+                }
+            }
+            None
+        }
+        Kind::TwoSum {
+            one_child,
+            two_child,
+            ..
+        }
+        | Kind::ThreeSum {
+            one_child,
+            two_child,
+            ..
+        } => match first_undecided(one_child) {
+            Some(lines) => Some(lines),
+            None => first_undecided(two_child),
+        },
+        Kind::Empty
+        | Kind::Cycle { .. }
+        | Kind::Network { .. }
+        | Kind::Conetwork { .. }
+        | Kind::R10
+        | Kind::Enumerated
+        | Kind::Violator { .. } => None,
+    }
+}
