@@ -40,18 +40,20 @@ take-map [] (suc k) = refl
 take-map (f ∷ files) (suc k) = ap (λ fs. file_of f ∷ fs) (take-map files k)
 
 -- the file at this place was not written whole
-pub left_at : (held mid new : Held) (files : List OutputFile) (k : ℕ) (file : OutputFile) → k < length files → file ≡ get_or files k file
+pub there : (files : List OutputFile) (k : ℕ) (file : OutputFile) → k < length files → file ≡ get_or files k file → slice_get (map file_of files) k ≡ Some (file_of file)
+there files k file h is = slice_get-map file_of files k ∙ ap (option_map file_of) (slice_get-get_or files k file h ∙ ap Some (sym is))
+
+pub left_at : (held mid new : Held) (files : List OutputFile) (k : ℕ) (file : OutputFile)
     → ((name : List ℕ) → mid name ≡ with_files held (map file_of (take k files)) name)
     → ((other : List ℕ) → other ≢ (file_of file).name → new other ≡ mid other)
     → StaysOrHoldsFront (mid (file_of file).name) (new (file_of file).name) (file_of file).bytes
-    → IsLeftAt k (map file_of files) held new
-left_at held mid new files k file h is before others front =
-    let same = take-map files k in (
-      file_of file,
-      slice_get-map file_of files k ∙ ap (option_map file_of) (slice_get-get_or files k file h ∙ ap Some (sym is)),
-      (λ name other. others name other ∙ before name ∙ ap (λ fs. with_files held fs name) (sym same)),
-      subst (λ o. StaysOrHoldsFront o (new (file_of file).name) (file_of file).bytes) (before (file_of file).name ∙ ap (λ fs. with_files held fs (file_of file).name) (sym same)) front,
-    )
+    → IsLeftAt (map file_of files) k (file_of file) held new
+left_at held mid new files k file before others front =
+    let same = take-map files k in
+    record {
+      others = λ name other. others name other ∙ before name ∙ ap (λ fs. with_files held fs name) (sym same);
+      here = subst (λ o. StaysOrHoldsFront o (new (file_of file).name) (file_of file).bytes) (before (file_of file).name ∙ ap (λ fs. with_files held fs (file_of file).name) (sym same)) front;
+    }
 
 room_of : (room : List ℕ → Option ℕ) (files : List OutputFile) (k : ℕ) (d : OutputFile) → k < length files → HasRooms room (map file_of files) → HasRooms room (file_of (get_or files k d) ∷ [])
 room_of room [] k d h rooms = absurd (omega arith)
@@ -68,6 +70,5 @@ room_at before room files k file h is same rooms =
 -- the file that stands at a place
 pub file_at : (files : List OutputFile) (k : ℕ) (found : OutputFile) (file : File) → k < length files → found ≡ get_or files k found → slice_get (map file_of files) k ≡ Some file → file_of found ≡ file
 file_at files k found file h is e =
-    let there : slice_get (map file_of files) k ≡ Some (file_of found) = slice_get-map file_of files k ∙ ap (option_map file_of) (slice_get-get_or files k found h ∙ ap Some (sym is)) in
-    let same : Some (file_of found) ≡ Some file = sym there ∙ e in
+    let same : Some (file_of found) ≡ Some file = sym (there files k found h is) ∙ e in
     cc

@@ -4,13 +4,13 @@ use Rattle.std.specs.Option.{option_map_or}
 use Rattle.std.specs.Str.{bytes_eq}
 use Rattle.clap.specs.Words.{Row, Text, first_of}
 use Rattle.cmr_tools.specs.declared.options.MatrixForm.{MatrixForm}
-use Rattle.cmr_tools.specs.Run.{IsInRanges}
+use Rattle.cmr_tools.specs.Tools.{tool_of}
 use Rattle.cmr_tools.specs.declared.options.Property.TheVariants.{Graphic, Network}
 use Rattle.cmr_tools.specs.Words.{Order, order, tu, series_parallel, test}
 use Rattle.cmr_tools.specs.Words.Parsing.{fault_in, file_in, form_in, lines_in, matches_with_input, number_up_to}
 use Rattle.cmr_tools.specs.Words.Reading.{◌>>=◌}
 use Rattle.cmr_tools.specs.Words.SeriesParallel.{series_parallel_order}
-use Rattle.cmr_tools.specs.Words.TreePaths.{test_order}
+use Rattle.cmr_tools.specs.Words.GraphicNetwork.{test_order}
 use Rattle.cmr_tools.specs.Words.Tu.{TuOrder, tu_app, tu_order, tu_order_in}
 use Rattle.cmr_tools.proofs.Numbers.{number_up_to-le}
 
@@ -61,7 +61,7 @@ order-lines (tool ∷ words) o e =
     either false x y of_x of_y e = of_y e
 
 -- the numbers that words order are in their ranges
-pub in_ranges : (words : List Text) (ordered : Order) → order words ≡ Some ordered → IsInRanges ordered
+pub in_ranges : (words : List Text) (ordered : Order) → order words ≡ Some ordered → (tool_of ordered).InRanges
 in_ranges words (tu o) e = order-lines words o e
 in_ranges words (series_parallel o) e = tt
 in_ranges words (test p o) e = tt

@@ -6,7 +6,9 @@ use Rattle.cmr_io.specs.Whole.{AppendsFront, StaysOrHoldsFront}
 use Rattle.cmr_tools.specs.Report.{Held, File, Report, with_files}
 use Rattle.cmr_tools.specs.declared.outcome.Outcome.{Outcome}
 use Rattle.cmr_tools.specs.declared.outcome.Stop.{Stop}
+use Rattle.cmr_tools.specs.declared.status.Failure.TheVariants.{Device}
 use Rattle.cmr_tools.specs.Outcome.{cannot_write_line, outcome_report, stop_report}
+use Rattle.cmr_tools.specs.Status.{failure_status}
 use Rattle.cmr_tools.specs.Written.{IsWritten}
 
 -- what the names hold, what standard output and standard error have got, and how often a call on each has failed
@@ -49,6 +51,18 @@ standing shelf_tells output_tells error_tells shelf_is_calm shelf_room output_is
   output_room = output_room;
 }
 
+-- which devices tell their bytes
+pub record Telling : Type 0 where
+  pub shelf : Bool
+  pub output : Bool
+  pub error : Bool
+
+abbrev pub telling : Bool → Bool → Bool → Telling
+telling shelf output error = record { shelf = shelf; output = output; error = error }
+
+abbrev pub telling_of : Standing → Telling
+telling_of standing = telling standing.shelf_tells standing.output_tells standing.error_tells
+
 -- each file fits into the room of its name
 abbrev pub HasRooms : (List ℕ → Option ℕ) → List File → Type 0
 HasRooms room files = AllByRecursion (λ file. IsSomeAnd (room file.name) (λ most. length file.bytes ≤ most)) files
@@ -61,39 +75,40 @@ pub record IsReadyFor (report : Report) (devices : Standing) : Type 0 where
   pub room : length report.output ≤ devices.output_room
 
 -- All files of the report and all of its standard output were written, and its line to standard error.
-pub record IsDelivered (report : Report) (before after : Devices) : Type 0 where
-  pub files : (name : List ℕ) → after.held name ≡ with_files before.held report.files name
-  pub output : after.output ≡ before.output ++ report.output
-  pub error : IsWritten before.error after.error before.error_faults after.error_faults report.error
+pub record IsDelivered (report : Report) (tells : Telling) (before after : Devices) : Type 0 where
+  pub files : IsTrue tells.shelf → (name : List ℕ) → after.held name ≡ with_files before.held report.files name
+  pub output : IsTrue tells.output → after.output ≡ before.output ++ report.output
+  pub error : IsTrue tells.error → IsWritten before.error after.error before.error_faults after.error_faults report.error
 
 -- The file at a place could not be written: those before it are whole, and it is as before or holds a front of its bytes.
-abbrev pub IsLeftAt : ℕ → List File → Held → Held → Type 0
-IsLeftAt k files before after = (file : File) × (slice_get files k ≡ Some file)
-    × ((name : List ℕ) → name ≢ file.name → after name ≡ with_files before (take k files) name)
-    × StaysOrHoldsFront (with_files before (take k files) file.name) (after file.name) file.bytes
+pub record IsLeftAt (files : List File) (place : ℕ) (file : File) (before after : Held) : Type 0 where
+  pub others : (name : List ℕ) → name ≢ file.name → after name ≡ with_files before (take place files) name
+  pub here : StaysOrHoldsFront (with_files before (take place files) file.name) (after file.name) file.bytes
 
 -- A file could not be written, and nothing was put to standard output.
-pub record IsUnwritten (report : Report) (before after : Devices) : Type 0 where
+pub record IsUnwritten (report : Report) (tells : Telling) (before after : Devices) : Type 0 where
   pub place : ℕ
-  pub left : IsLeftAt place report.files before.held after.held
-  pub output : after.output ≡ before.output
-  pub error : IsWritten before.error after.error before.error_faults after.error_faults (cannot_write_line left.0.name)
+  pub file : File
+  pub there : slice_get report.files place ≡ Some file
+  pub left : IsTrue tells.shelf → IsLeftAt report.files place file before.held after.held
+  pub output : IsTrue tells.output → after.output ≡ before.output
+  pub error : IsTrue tells.error → IsWritten before.error after.error before.error_faults after.error_faults (cannot_write_line file.name)
   pub cause : Rose before.shelf_faults after.shelf_faults
 
 -- Standard output failed: all files are whole, and a front of it was put.
-pub record IsCutShort (report : Report) (before after : Devices) : Type 0 where
-  pub files : (name : List ℕ) → after.held name ≡ with_files before.held report.files name
-  pub output : AppendsFront before.output after.output report.output
-  pub error : IsWritten before.error after.error before.error_faults after.error_faults (cannot_write_line (codes "-"))
+pub record IsCutShort (report : Report) (tells : Telling) (before after : Devices) : Type 0 where
+  pub files : IsTrue tells.shelf → (name : List ℕ) → after.held name ≡ with_files before.held report.files name
+  pub output : IsTrue tells.output → AppendsFront before.output after.output report.output
+  pub error : IsTrue tells.error → IsWritten before.error after.error before.error_faults after.error_faults (cannot_write_line (codes "-"))
   pub cause : Rose before.output_faults after.output_faults
 
--- How a report is carried out: whole, or with status 4 from a device.
-pub data IsCarriedOut (report : Report) (before after : Devices) (status : ℕ) : Type 0 where
-  delivered : status ≡ report.status → IsDelivered report before after → IsCarriedOut report before after status
-  unwritten : status ≡ 4 → IsUnwritten report before after → IsCarriedOut report before after status
-  cut_short : status ≡ 4 → IsCutShort report before after → IsCarriedOut report before after status
+-- How a report is carried out: whole, or a device stops it.
+pub data IsCarriedOut (report : Report) (tells : Telling) (before after : Devices) (status : ℕ) : Type 0 where
+  delivered : status ≡ report.status → IsDelivered report tells before after → IsCarriedOut report tells before after status
+  unwritten : status ≡ failure_status Device → IsUnwritten report tells before after → IsCarriedOut report tells before after status
+  cut_short : status ≡ failure_status Device → IsCutShort report tells before after → IsCarriedOut report tells before after status
 
 -- what was decided is carried out: the report of an outcome, or the status and the line of a stop
-abbrev pub CarriesOut : Result Outcome Stop → Devices → Devices → ℕ → Type 0
-CarriesOut (Ok outcome) before after status = IsCarriedOut (outcome_report outcome) before after status
-CarriesOut (Err stop) before after status = (status ≡ (stop_report stop).status) × IsDelivered (stop_report stop) before after
+abbrev pub CarriesOut : Result Outcome Stop → Telling → Devices → Devices → ℕ → Type 0
+CarriesOut (Ok outcome) tells before after status = IsCarriedOut (outcome_report outcome) tells before after status
+CarriesOut (Err stop) tells before after status = (status ≡ (stop_report stop).status) × IsDelivered (stop_report stop) tells before after

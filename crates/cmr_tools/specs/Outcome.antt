@@ -3,33 +3,40 @@ use Rattle.std.specs.Prelude.{◌++◌, ℕ, List, [], map, codes, Result, Ok, E
 use Rattle.std.specs.Fmt.{decimal}
 use Rattle.matrix_text.specs.declared.error.TextKind.{TextKind}
 use Rattle.matrix_text.specs.declared.error.TextKind.TheVariants as kinds
+use Rattle.cmr_tools.specs.declared.outcome.FaultKind.{FaultKind}
+use Rattle.cmr_tools.specs.declared.outcome.FaultKind.TheVariants.{Matrix}
 use Rattle.cmr_tools.specs.declared.outcome.OutputFile.{OutputFile}
 use Rattle.cmr_tools.specs.declared.outcome.Outcome.{Outcome}
 use Rattle.cmr_tools.specs.declared.outcome.Stop.{Stop}
 use Rattle.cmr_tools.specs.declared.outcome.Stop.TheVariants as stops
+use Rattle.cmr_tools.specs.declared.status.Failure.TheVariants as failures
 use Rattle.cmr_tools.specs.Report.{File, Report, refusal}
+use Rattle.cmr_tools.specs.Status.{answer_status}
 
-abbrev pub kind_name : TextKind → List ℕ
-kind_name kinds.NotNumber = codes "NotNumber"
-kind_name kinds.TooBig = codes "TooBig"
-kind_name kinds.TooManyRows = codes "TooManyRows"
-kind_name kinds.TooManyColumns = codes "TooManyColumns"
-kind_name kinds.BadEntry = codes "BadEntry"
-kind_name kinds.NotBinary = codes "NotBinary"
-kind_name kinds.Short = codes "Short"
-kind_name kinds.Extra = codes "Extra"
-kind_name kinds.RowOutOfRange = codes "RowOutOfRange"
-kind_name kinds.ColumnOutOfRange = codes "ColumnOutOfRange"
-kind_name kinds.TwiceNamed = codes "TwiceNamed"
-kind_name kinds.NotRising = codes "NotRising"
-kind_name kinds.OtherSize = codes "OtherSize"
+abbrev pub text_kind_name : TextKind → List ℕ
+text_kind_name kinds.NotNumber = codes "NotNumber"
+text_kind_name kinds.TooBig = codes "TooBig"
+text_kind_name kinds.TooManyRows = codes "TooManyRows"
+text_kind_name kinds.TooManyColumns = codes "TooManyColumns"
+text_kind_name kinds.BadEntry = codes "BadEntry"
+text_kind_name kinds.NotBinary = codes "NotBinary"
+text_kind_name kinds.Short = codes "Short"
+text_kind_name kinds.Extra = codes "Extra"
+text_kind_name kinds.RowOutOfRange = codes "RowOutOfRange"
+text_kind_name kinds.ColumnOutOfRange = codes "ColumnOutOfRange"
+text_kind_name kinds.TwiceNamed = codes "TwiceNamed"
+text_kind_name kinds.NotRising = codes "NotRising"
+text_kind_name kinds.OtherSize = codes "OtherSize"
+
+abbrev pub kind_name : FaultKind → List ℕ
+kind_name (Matrix kind) = text_kind_name kind
 
 abbrev pub file_of : OutputFile → File
 file_of file = record { name = file.name.now; bytes = file.bytes.items }
 
 abbrev pub outcome_report : Outcome → Report
 outcome_report outcome = record {
-  status = outcome.status;
+  status = answer_status outcome.answer;
   output = outcome.output.items;
   error = [];
   files = map file_of outcome.files.items;
@@ -43,19 +50,19 @@ abbrev pub cannot_write_line : List ℕ → List ℕ
 cannot_write_line name = codes "cmr: cannot write " ++ name ++ codes "\n"
 
 abbrev pub bad_words : Report
-bad_words = refusal 2 (codes "cmr: bad command line\n")
+bad_words = refusal failures.Words (codes "cmr: bad command line\n")
 
 abbrev pub too_long : List ℕ → Report
-too_long name = refusal 3 (codes "cmr: " ++ name ++ codes ": TooLong\n")
+too_long name = refusal failures.Text (codes "cmr: " ++ name ++ codes ": TooLong\n")
 
-abbrev pub bad_text : List ℕ → TextKind → ℕ → Report
-bad_text name kind place = refusal 3 (fault_line name (kind_name kind) (decimal place))
+abbrev pub bad_text : List ℕ → FaultKind → ℕ → Report
+bad_text name kind place = refusal failures.Text (fault_line name (kind_name kind) (decimal place))
 
 abbrev pub cannot_read : List ℕ → Report
-cannot_read name = refusal 4 (codes "cmr: cannot read " ++ name ++ codes "\n")
+cannot_read name = refusal failures.Device (codes "cmr: cannot read " ++ name ++ codes "\n")
 
 abbrev pub out_of_memory : Report
-out_of_memory = refusal 5 (codes "cmr: out of memory\n")
+out_of_memory = refusal failures.Memory (codes "cmr: out of memory\n")
 
 abbrev pub stop_report : Stop → Report
 stop_report stops.BadWords = bad_words

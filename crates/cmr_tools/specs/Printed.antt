@@ -1,6 +1,6 @@
 -- Texts of lines and of steps, as they are printed and written.
-use Rattle.std.specs.Prelude.{◌+◌, ◌++◌, ℕ, List, [], ◌∷◌, codes}
-use Rattle.std.specs.Fmt.{decimal}
+use Rattle.std.specs.Prelude.{◌+◌, ◌++◌, ℕ, ℤ, List, [], ◌∷◌, codes}
+use Rattle.std.specs.Fmt.{decimal, signed_decimal}
 use Rattle.cmr_base.specs.declared.line.Line.{Line}
 use Rattle.cmr_base.specs.declared.line.Line.TheVariants.{Row, Column}
 use Rattle.cmr_base.specs.declared.line.Reason.{Reason}
@@ -15,6 +15,13 @@ line_numbers (line ∷ lines) = codes " " ++ decimal (line + 1) ++ line_numbers 
 -- a set of lines as it is printed
 abbrev pub line_set : List ℕ → List ℕ → List ℕ
 line_set rows columns = codes "rows" ++ line_numbers rows ++ codes " columns" ++ line_numbers columns
+
+-- the line on a violator, and the one on what is left open
+abbrev pub violator_line : List ℕ → List ℕ → ℤ → List ℕ
+violator_line rows columns sum = codes "violator " ++ line_set rows columns ++ codes " sum " ++ signed_decimal sum ++ codes "\n"
+
+abbrev pub open_line : List ℕ → List ℕ → List ℕ
+open_line rows columns = codes "open " ++ line_set rows columns ++ codes "\n"
 
 -- a row or a column by its letter and its number, counted from 1
 abbrev pub line_name : Line → List ℕ

@@ -1,6 +1,8 @@
 -- What a run is to give, and what the names of a shelf hold.
-use Rattle.std.specs.Prelude.{◌≡◌, ◌≤◌, ◌⊎◌, ℕ, List, [], ◌∷◌, Option, Some, None, if◌then◌else◌}
+use Rattle.std.specs.Prelude.{ℕ, List, [], ◌∷◌, Option, Some, None, if◌then◌else◌}
 use Rattle.std.specs.Str.{bytes_eq}
+use Rattle.cmr_tools.specs.declared.status.Failure.{Failure}
+use Rattle.cmr_tools.specs.Status.{failure_status}
 
 -- what each name holds, where it is there
 abbrev pub Held : Type 0
@@ -18,18 +20,14 @@ pub record Report : Type 0 where
   pub error : List ℕ
   pub files : List File
 
--- a status and a line of standard error, and nothing else
-abbrev pub refusal : ℕ → List ℕ → Report
-refusal status line = record { status = status; output = []; error = line; files = [] }
+-- the status of a failure and a line of standard error, and nothing else
+abbrev pub refusal : Failure → List ℕ → Report
+refusal failure line = record { status = failure_status failure; output = []; error = line; files = [] }
 
 -- a file of this name, where one is asked for
 abbrev pub asked_file : Option (List ℕ) → List ℕ → List File
 asked_file None bytes = []
 asked_file (Some name) bytes = record { name = name; bytes = bytes } ∷ []
-
--- the statuses of a yes, a no and undecided
-abbrev pub IsAnswer : ℕ → Type 0
-IsAnswer status = (status ≤ 1) ⊎ (status ≡ 6)
 
 -- what the names hold after a file was written
 abbrev pub with_file : Held → File → Held

@@ -1,16 +1,19 @@
--- What `series-parallel` reports.
-use Rattle.std.specs.Prelude.{◌≡◌, ◌⊎◌, ◌++◌, if◌then◌else◌, ℕ, Bool, List, [], Option, Some, codes}
+-- What `series-parallel` reports, and what its answers mean.
+use Rattle.std.specs.Prelude.{◌≡◌, ◌++◌, if◌then◌else◌, ℕ, Bool, List, [], Option, codes}
 use Rattle.cmr_base.specs.Matrix.{Matrix, height}
-use Rattle.cmr_base.specs.GreedySets.{IsGreedySet, IsMinimalWithout}
 use Rattle.cmr_base.specs.Reductions.{IsSeriesParallel, removal}
 use Rattle.cmr_base.specs.declared.line_set.LineSet.{LineSet}
 use Rattle.sp_reduce.specs.declared.removal.Reduction.{Reduction}
 use Rattle.matrix_text.specs.Canonical.{submatrix_text}
-use Rattle.cmr_tools.specs.Words.SeriesParallel.{SeriesParallelOrder}
-use Rattle.cmr_tools.specs.Given.{Source, IsGiven, ReportsGiven, source}
+use Rattle.cmr_tools.specs.declared.status.Answer.{Answer}
+use Rattle.cmr_tools.specs.declared.status.Answer.TheVariants.{Yes, No, Undecided, Refused}
+use Rattle.cmr_tools.specs.MatrixText.{Source, matrix_tool, source}
 use Rattle.cmr_tools.specs.Minimal.{IsMinimalAsked, minimal_file, minimal_line}
 use Rattle.cmr_tools.specs.Printed.{line_set, steps_text}
-use Rattle.cmr_tools.specs.Report.{Held, File, Report, asked_file}
+use Rattle.cmr_tools.specs.Report.{File, Report, asked_file}
+use Rattle.cmr_tools.specs.Status.{answer_status}
+use Rattle.cmr_tools.specs.Tool.{Tool}
+use Rattle.cmr_tools.specs.Words.SeriesParallel.{SeriesParallelOrder}
 
 -- what is tested
 abbrev pub property_name : Bool → List ℕ
@@ -33,36 +36,42 @@ reduction_files o m =
     ++ asked_file o.rest (submatrix_text (height m) m.width (rest_of o.binary m))
 
 abbrev pub series_parallel_yes : SeriesParallelOrder → Matrix → Report
-series_parallel_yes o m = record { status = 0; output = property_name o.binary ++ codes ": yes\n"; error = []; files = reduction_files o m }
+series_parallel_yes o m = record {
+  status = answer_status Yes;
+  output = property_name o.binary ++ codes ": yes\n";
+  error = [];
+  files = reduction_files o m;
+}
 
 abbrev pub no_output : Bool → LineSet → Option LineSet → List ℕ
 no_output binary rest minimal = property_name binary ++ codes ": no\nrest " ++ line_set rest.rows rest.columns ++ codes "\n" ++ minimal_line minimal
 
 abbrev pub series_parallel_no : SeriesParallelOrder → Matrix → Option LineSet → Report
 series_parallel_no o m minimal = record {
-  status = 1;
+  status = answer_status No;
   output = no_output o.binary (rest_of o.binary m) minimal;
   error = [];
   files = minimal_file o.minimal m minimal ++ reduction_files o m;
 }
 
--- on a matrix: a yes where it is series-parallel, and else a no, with the greedy set where its file is asked for
-abbrev pub SeriesParallelDecides : SeriesParallelOrder → Matrix → Report → Type 0
-SeriesParallelDecides o m report = (IsSeriesParallel o.binary m × (report ≡ series_parallel_yes o m))
-    ⊎ ((¬ IsSeriesParallel o.binary m) × (minimal : Option LineSet) × IsMinimalAsked (IsSeriesParallel o.binary) m o.minimal minimal × (report ≡ series_parallel_no o m minimal))
+-- it is not series-parallel, and where the file of a minimal submatrix is asked for, this is one
+pub record IsNotSeriesParallel (o : SeriesParallelOrder) (m : Matrix) (minimal : Option LineSet) : Type 0 where
+  pub lacks : ¬ IsSeriesParallel o.binary m
+  pub asked : IsMinimalAsked (IsSeriesParallel o.binary) m o.minimal minimal
+
+-- on a matrix: a yes where it is series-parallel, and else a no, with the minimal submatrix where its file is asked for
+pub data SeriesParallelDecides (o : SeriesParallelOrder) (m : Matrix) (report : Report) : Type 0 where
+  yes : IsSeriesParallel o.binary m → report ≡ series_parallel_yes o m → SeriesParallelDecides o m report
+  no : (minimal : Option LineSet) → IsNotSeriesParallel o m minimal → report ≡ series_parallel_no o m minimal → SeriesParallelDecides o m report
+
+abbrev pub SeriesParallelMeans : SeriesParallelOrder → Matrix → Answer → Type 0
+SeriesParallelMeans o m Yes = IsSeriesParallel o.binary m
+SeriesParallelMeans o m No = (minimal : Option LineSet) × IsNotSeriesParallel o m minimal
+SeriesParallelMeans o m Undecided = ⊥
+SeriesParallelMeans o m Refused = ⊥
 
 abbrev pub series_parallel_source : SeriesParallelOrder → Source
 series_parallel_source o = source o.form o.binary o.file
 
--- on what the names hold
-abbrev pub SeriesParallelReports : SeriesParallelOrder → Held → Report → Type 0
-SeriesParallelReports o held report = ReportsGiven (series_parallel_source o) (SeriesParallelDecides o) held report
-
--- a yes: the matrix that is given is series-parallel
-abbrev pub SeriesParallelYes : SeriesParallelOrder → Held → Type 0
-SeriesParallelYes o held = (m : Matrix) × IsGiven (series_parallel_source o) held m × IsSeriesParallel o.binary m
-
--- a no: it is not, and where the file of a minimal submatrix is asked for, the greedy set is one
-abbrev pub SeriesParallelNo : SeriesParallelOrder → Held → Type 0
-SeriesParallelNo o held = (m : Matrix) × IsGiven (series_parallel_source o) held m × (¬ IsSeriesParallel o.binary m)
-    × ((name : List ℕ) → o.minimal ≡ Some name → (rows columns : List ℕ) × IsGreedySet (IsSeriesParallel o.binary) m rows columns × IsMinimalWithout (IsSeriesParallel o.binary) m rows columns)
+abbrev pub series_parallel_tool : SeriesParallelOrder → Tool
+series_parallel_tool o = matrix_tool (series_parallel_source o) (Unit {0}) (SeriesParallelDecides o) (SeriesParallelMeans o)

@@ -1,71 +1,52 @@
--- What `tu` reports.
-use Rattle.std.specs.Prelude.{◌≡◌, ◌<◌, ◌⊎◌, ◌++◌, ℕ, ℤ, min, false, List, [], codes}
-use Rattle.std.specs.Fmt.{signed_decimal}
-use Rattle.cmr_base.specs.Matrix.{Matrix, height, entry}
-use Rattle.cmr_base.specs.CyclePlaces.{HasNoCycleFault, IsCycleFault}
-use Rattle.cmr_base.specs.LineSets.{first_lines, submatrix_sum}
+-- What `tu` reports, and what its answers mean.
+use Rattle.std.specs.Prelude.{◌≡◌, ◌≤◌, ℕ, false, List, codes, length}
+use Rattle.cmr_base.specs.Matrix.{Matrix, entry, IsEntry}
+use Rattle.cmr_base.specs.Determinants.{HasUnimodularMinors, determinant}
+use Rattle.cmr_base.specs.LineSets.{IsRowSet, IsColumnSet}
 use Rattle.cmr_base.specs.Signing.{HasNoSigning, IsTotallyUnimodular}
-use Rattle.cmr_base.specs.Violator.{IsLeastViolator, IsViolator}
-use Rattle.matrix_text.specs.Canonical.{submatrix_text}
+use Rattle.ghouila.specs.IntegralLaws.{HasIntegralVertices}
+use Rattle.cmr_tools.specs.declared.status.Answer.{Answer}
+use Rattle.cmr_tools.specs.declared.status.Answer.TheVariants.{Yes, No, Undecided, Refused}
+use Rattle.cmr_tools.specs.MatrixText.{Source, matrix_tool, source}
+use Rattle.cmr_tools.specs.Tool.{Tool}
+use Rattle.cmr_tools.specs.Verdict.{VerdictOrder, Decides, IsLeftOpen, IsNamedViolator}
 use Rattle.cmr_tools.specs.Words.Tu.{TuOrder}
-use Rattle.cmr_tools.specs.Report.{Held, Report, asked_file}
-use Rattle.cmr_tools.specs.Given.{Source, IsGiven, ReportsGiven, source}
-use Rattle.cmr_tools.specs.Printed.{line_set}
 
-abbrev pub tu_yes : Report
-tu_yes = record { status = 0; output = codes "totally unimodular: yes\n"; error = []; files = [] }
-
-abbrev pub no_output : List ℕ → List ℕ → ℤ → List ℕ
-no_output rows columns sum = codes "totally unimodular: no\nviolator " ++ line_set rows columns ++ codes " sum " ++ signed_decimal sum ++ codes "\n"
-
-abbrev pub tu_no : TuOrder → Matrix → List ℕ → List ℕ → Report
-tu_no o m rows columns = record {
-  status = 1;
-  output = no_output rows columns (submatrix_sum m rows columns);
-  error = [];
-  files = asked_file o.fault (submatrix_text (height m) m.width (record { rows = rows; columns = columns }));
-}
-
--- of so many rows and columns
-abbrev pub tu_undecided : ℕ → ℕ → Report
-tu_undecided rows columns = record {
-  status = 6;
-  output = codes "totally unimodular: undecided\nopen " ++ line_set (first_lines rows) (first_lines columns) ++ codes "\n";
-  error = [];
-  files = [];
-}
-
--- the violator that a no names: the cycle fault, and where there is none the least violator
-pub record IsNamedViolator (m : Matrix) (rows columns : List ℕ) : Type 0 where
-  pub violator : IsViolator (entry m) rows columns
-  pub fault_or_least : IsCycleFault m rows columns ⊎ (HasNoCycleFault (entry m) × IsLeastViolator m rows columns)
-
--- what a budget of lines leaves open: a matrix without cycle fault whose shorter side has more lines
-pub record IsLeftOpen (budget : ℕ) (m : Matrix) : Type 0 where
-  pub no_fault : HasNoCycleFault (entry m)
-  pub above : budget < min (height m) m.width
-
--- on a matrix
-pub data TuDecides (o : TuOrder) (m : Matrix) (report : Report) : Type 0 where
-  yes : ¬ (IsLeftOpen o.lines m) → IsTotallyUnimodular m → report ≡ tu_yes → TuDecides o m report
-  no : ¬ (IsLeftOpen o.lines m) → (rows columns : List ℕ) → IsNamedViolator m rows columns → report ≡ tu_no o m rows columns → TuDecides o m report
-  undecided : IsLeftOpen o.lines m → report ≡ tu_undecided (height m) m.width → TuDecides o m report
+abbrev pub tu_verdict : TuOrder → VerdictOrder
+tu_verdict o = record { label = codes "totally unimodular"; lines = o.lines; fault = o.fault }
 
 abbrev pub tu_source : TuOrder → Source
 tu_source o = source o.form false o.file
 
--- on what the names hold
-abbrev pub TuReports : TuOrder → Held → Report → Type 0
-TuReports o held report = ReportsGiven (tu_source o) (TuDecides o) held report
+-- Each set of rows has a signing, each square submatrix the determinant -1, 0 or 1, and for every integral b the vertices of
+-- A x ≤ b, x ≥ 0 are integral.
+pub record IsUnimodular (m : Matrix) : Type 0 where
+  pub signings : IsTotallyUnimodular m
+  pub minors : HasUnimodularMinors m
+  pub vertices : HasIntegralVertices m
 
--- a yes: the matrix that is given is totally unimodular
-abbrev pub TuYes : TuOrder → Held → Type 0
-TuYes o held = (m : Matrix) × IsGiven (tu_source o) held m × IsTotallyUnimodular m
+-- a square submatrix whose determinant is none of -1, 0 and 1
+pub record HasOtherDeterminant (m : Matrix) : Type 0 where
+  pub rows : List ℕ
+  pub columns : List ℕ
+  pub row_set : IsRowSet m rows
+  pub column_set : IsColumnSet m columns
+  pub square : length rows ≡ length columns
+  pub determinant : ¬ (IsEntry (determinant (entry m) rows columns))
 
--- a no: the cycle fault, or where there is none the least violator, has rows without a signing
-abbrev pub TuNo : TuOrder → Held → Type 0
-TuNo o held = (m : Matrix) × IsGiven (tu_source o) held m × (rows columns : List ℕ) × IsNamedViolator m rows columns × HasNoSigning m rows
+-- The cycle fault, or where there is none the least violator, has rows without a signing.
+pub record IsNotUnimodular (m : Matrix) : Type 0 where
+  pub rows : List ℕ
+  pub columns : List ℕ
+  pub named : IsNamedViolator m rows columns
+  pub unsigned : HasNoSigning m rows
+  pub minor : HasOtherDeterminant m
 
--- undecided: it has no cycle fault, and its shorter side has more lines than the budget
-abbrev pub TuUndecided : TuOrder → Held → Type 0
-TuUndecided o held = (m : Matrix) × IsGiven (tu_source o) held m × IsLeftOpen o.lines m
+abbrev pub TuMeans : TuOrder → Matrix → Answer → Type 0
+TuMeans o m Yes = IsUnimodular m
+TuMeans o m No = IsNotUnimodular m
+TuMeans o m Undecided = IsLeftOpen o.lines m
+TuMeans o m Refused = ⊥
+
+abbrev pub tu_tool : TuOrder → Tool
+tu_tool o = matrix_tool (tu_source o) (o.lines ≤ 24) (Decides (tu_verdict o)) (TuMeans o)

@@ -3,7 +3,7 @@ pub mod Arguments
 pub mod Parsing
 pub mod Reading
 pub mod SeriesParallel
-pub mod TreePaths
+pub mod GraphicNetwork
 pub mod Tu
 use Rattle.std.specs.Prelude.{ℕ, List, [], ◌∷◌, Option, Some, None, option_map, if◌then◌else◌, codes}
 use Rattle.std.specs.Str.{bytes_eq}
@@ -12,7 +12,7 @@ use Rattle.cmr_tools.specs.declared.options.Command.TheVariants as command
 use Rattle.cmr_tools.specs.declared.options.Property.{Property}
 use Rattle.cmr_tools.specs.declared.options.Property.TheVariants.{Graphic, Network}
 use Rattle.cmr_tools.specs.Words.SeriesParallel.{SeriesParallelOrder, series_parallel_order, series_parallel_order_of}
-use Rattle.cmr_tools.specs.Words.TreePaths.{TestOrder, test_order, test_order_of}
+use Rattle.cmr_tools.specs.Words.GraphicNetwork.{TestOrder, test_order, test_order_of}
 use Rattle.cmr_tools.specs.Words.Tu.{TuOrder, tu_order, tu_order_of}
 
 -- a tool with its options

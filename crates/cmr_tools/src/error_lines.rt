@@ -2,10 +2,10 @@
 ghost use Rattle.std.specs.Prelude.{◌≡◌, ◌++◌, IsTrue, map};
 ghost use Rattle.std.specs.List.{concat};
 ghost use Rattle.std.specs.Fmt.{decimal};
-ghost use Rattle.cmr_tools.specs.Outcome.{cannot_write_line, fault_line, kind_name, stop_report};
+ghost use Rattle.cmr_tools.specs.Outcome.{cannot_write_line, fault_line, kind_name, stop_report, text_kind_name};
 ghost use Rattle.cmr_tools.specs.Written.{IsWritten};
 
-use crate::outcome::Stop;
+use crate::outcome::{FaultKind, Stop};
 use cmr_io::{Sink, WriteFault, write_whole};
 use itoa::Buffer;
 use matrix_text::TextKind;
@@ -63,8 +63,16 @@ fn write_parts<E: Sink>(err: &mut E, parts: &[&str])
     }
 }
 
-fn kind_name(kind: TextKind) -> &'static str
+fn kind_name(kind: FaultKind) -> &'static str
     ensures { result.now ≡ kind_name kind }
+{
+    match kind {
+        FaultKind::Matrix(kind) => text_kind_name(kind),
+    }
+}
+
+fn text_kind_name(kind: TextKind) -> &'static str
+    ensures { result.now ≡ text_kind_name kind }
 {
     match kind {
         TextKind::NotNumber => "NotNumber",

@@ -3,9 +3,6 @@ ghost use Rattle.std.specs.Prelude.{◌≡◌, ◌+◌, ◌++◌, ◌<◌, ◌^�
 ghost use Rattle.std.specs.Fmt.{decimal};
 ghost use Rattle.cmr_tools.specs.Graph.{edge_text, edges_text, graph_text};
 
-#[cfg(test)]
-mod tests;
-
 use cmr_base::{Memory, Network, Pair};
 use itoa::Buffer;
 use std::alloc::Global;

@@ -1,87 +1,100 @@
-// Reading a file of a tool.
-ghost use Rattle.std.specs.Prelude.{◌≡◌, ◌≢◌, ◌≤◌, ℕ, List, IfOk, IfErr, IsTrue, Ok, true};
-ghost use Rattle.cmr_base.specs.Trees.{IsBinary};
+// Reading the files of a tool.
+ghost use Rattle.std.specs.Prelude.{◌≡◌, ◌≢◌, ◌≤◌, ℕ, List, IfOk, IfErr, IsTrue, Ok, length, map};
 ghost use Rattle.cmr_io.specs.Causes.{Rose};
-ghost use Rattle.cmr_tools.specs.Inputs.{matrix_in, reading, whole};
-ghost use Rattle.cmr_tools.specs.Given.{IsGiven, StopsGiven, source};
+ghost use Rattle.cmr_tools.specs.Inputs.{bytes_of, given, input_file, most_bytes, reading, texts, whole};
 ghost use Rattle.cmr_tools.specs.Outcome.{stop_report};
-ghost use Rattle.cmr_tools.specs.Stopped.{StopsMatrix, StopsReading, IsCaused};
+ghost use Rattle.cmr_tools.specs.Status.{failure_status};
+ghost use Rattle.cmr_tools.specs.Stopped.{StopsInputs, StopsReading};
+ghost use Rattle.cmr_tools.specs.declared.status.Failure.TheVariants.{Device};
 
-use crate::options::MatrixForm;
 use crate::outcome::Stop;
-use cmr_base::{MAX_TEXT, Matrix};
+use cmr_base::{MAX_EVIDENCE, MAX_TEXT};
 use cmr_io::{ReadError, Shelf, read_whole};
-use matrix_text::{TextError, read_dense, read_sparse};
 use std::alloc::Global;
 
-/// The matrix whose text a file holds, or why the run ends. With `binary` an entry -1 is a fault.
-pub fn read_given<'a, S: Shelf>(
-    alloc: Global,
-    shelf: &mut S,
-    name: &'a str,
-    form: MatrixForm,
-    binary: bool,
-) -> Result<Matrix, Stop<'a>>
-    ensures given { IfOk result (λ m. IsTrue (S.tells shelf.old) → IsGiven (source form binary name.entry.now) (S.content shelf.old) m) }
-    ensures binary { IfOk result (λ m. binary ≡ true → IsBinary m) }
-    ensures stopped { IfErr result (λ stop. IsTrue (S.tells shelf.old) → StopsGiven (source form binary name.entry.now) (S.content shelf.old) (S.is_calm shelf.old) stop) }
-    ensures status { IfErr result (λ stop. (stop_report stop).status ≢ 2) }
-    ensures cause { IfErr result (λ stop. (stop_report stop).status ≡ 4 → Rose (S.faults shelf.old) (S.faults shelf.new)) }
-    ensures content { (other : List ℕ) → S.content shelf.new other ≡ S.content shelf.old other }
-    ensures room { (other : List ℕ) → S.room shelf.new other ≡ S.room shelf.old other }
-    ensures tells { S.tells shelf.new ≡ S.tells shelf.old }
-    ensures calm { IsTrue (S.is_calm shelf.old) → IsTrue (S.is_calm shelf.new) }
-    ensures later { S.faults shelf.old ≤ S.faults shelf.new }
-{
-    match read_input(alloc, shelf, name, MAX_TEXT) {
-        Ok(bytes) => read_matrix(alloc, name, form, binary, &bytes),
-        Err(stop) => Err(stop),
+/// What a file is read for.
+#[derive(Clone, Copy, Debug, PartialEq, Eq)]
+pub enum InputKind {
+    /// The text of a matrix.
+    MatrixText,
+    /// A tree, a violator or a chain.
+    Evidence,
+}
+
+impl InputKind {
+    /// The most bytes that the file may hold.
+    pub fn most(self) -> usize
+        ensures { result ≡ most_bytes self }
+    {
+        match self {
+            InputKind::MatrixText => MAX_TEXT,
+            InputKind::Evidence => MAX_EVIDENCE,
+        }
     }
 }
 
-/// All that a file of a tool holds, or why the run ends: it cannot be read, or it has more than `most` bytes.
-pub fn read_input<'a, S: Shelf>(
+/// A file that a tool reads.
+#[derive(Clone, Copy, Debug)]
+pub struct Input<'a> {
+    pub name: &'a str,
+    pub kind: InputKind,
+}
+
+/// All that a file holds.
+#[derive(Debug, Drop)]
+pub struct Text {
+    pub bytes: Vec<u8>,
+}
+
+/// What the files hold, in their order, or why the run ends. The first that cannot be read or that holds too much
+/// ends it, and those behind it are not read.
+pub fn read_inputs<'a, S: Shelf>(
     alloc: Global,
     shelf: &mut S,
-    name: &'a str,
-    most: usize,
-) -> Result<Vec<u8>, Stop<'a>>
-    requires { most ≤ 268435456 }
-    ensures whole { IfOk result (λ bytes. IsTrue (S.tells shelf.old) → reading (S.content shelf.old) most name.entry.now ≡ whole bytes.items) }
-    ensures stopped { IfErr result (λ stop. IsTrue (S.tells shelf.old) → StopsReading (S.content shelf.old) most name.entry.now (S.is_calm shelf.old) stop) }
-    ensures cause { IfErr result (IsCaused name.entry.now (S.faults shelf.old) (S.faults shelf.new)) }
+    inputs: &[Input<'a>],
+) -> Result<Vec<Text>, Stop<'a>>
+    ensures given { IfOk result (λ read. IsTrue (S.tells shelf.old) → given (S.content shelf.old) (map input_file inputs.now) ≡ texts (map bytes_of read.items)) }
+    ensures count { IfOk result (λ read. length read.items ≡ length inputs.now) }
+    ensures stopped { IfErr result (StopsInputs (map input_file inputs.now) (S.content shelf.old) (S.tells shelf.old) (S.is_calm shelf.old)) }
+    ensures cause { IfErr result (λ stop. (stop_report stop).status ≡ failure_status Device → Rose (S.faults shelf.old) (S.faults shelf.new)) }
     ensures content { (other : List ℕ) → S.content shelf.new other ≡ S.content shelf.old other }
     ensures room { (other : List ℕ) → S.room shelf.new other ≡ S.room shelf.old other }
     ensures tells { S.tells shelf.new ≡ S.tells shelf.old }
     ensures calm { IsTrue (S.is_calm shelf.old) → IsTrue (S.is_calm shelf.new) }
     ensures later { S.faults shelf.old ≤ S.faults shelf.new }
 {
-    match read_whole(alloc, shelf, name, most) {
-        Ok(bytes) => Ok(bytes),
+    let mut read = Vec::new(alloc);
+    for input in inputs {
+        match read_input(alloc, shelf, *input) {
+            Ok(text) => match read.push(text) {
+                Ok(()) => {}
+                Err(_) => return Err(Stop::Memory),
+            },
+            Err(stop) => return Err(stop),
+        }
+    }
+    Ok(read)
+}
+
+fn read_input<'a, S: Shelf>(
+    alloc: Global,
+    shelf: &mut S,
+    input: Input<'a>,
+) -> Result<Text, Stop<'a>>
+    ensures whole { IfOk result (λ text. IsTrue (S.tells shelf.old) → reading (S.content shelf.old) (input_file input.entry) ≡ whole (bytes_of text)) }
+    ensures stopped { IfErr result (StopsReading (input_file input.entry) (S.content shelf.old) (S.tells shelf.old) (S.is_calm shelf.old)) }
+    ensures cause { IfErr result (λ stop. (stop_report stop).status ≡ failure_status Device → Rose (S.faults shelf.old) (S.faults shelf.new)) }
+    ensures content { (other : List ℕ) → S.content shelf.new other ≡ S.content shelf.old other }
+    ensures room { (other : List ℕ) → S.room shelf.new other ≡ S.room shelf.old other }
+    ensures tells { S.tells shelf.new ≡ S.tells shelf.old }
+    ensures calm { IsTrue (S.is_calm shelf.old) → IsTrue (S.is_calm shelf.new) }
+    ensures later { S.faults shelf.old ≤ S.faults shelf.new }
+{
+    let name = input.name;
+    match read_whole(alloc, shelf, name, input.kind.most()) {
+        Ok(bytes) => Ok(Text { bytes }),
         Err(ReadError::ReadFault) => Err(Stop::CannotRead { name }),
         Err(ReadError::TooLong) => Err(Stop::TooLong { name }),
         Err(ReadError::Memory) => Err(Stop::Memory),
-    }
-}
-
-/// The matrix that the text of a file stands for, or why the run ends: the text's first fault.
-pub fn read_matrix<'a>(
-    alloc: Global,
-    name: &'a str,
-    form: MatrixForm,
-    binary: bool,
-    bytes: &[u8],
-) -> Result<Matrix, Stop<'a>>
-    ensures read { IfOk result (λ m. matrix_in form binary bytes.now ≡ Ok m) }
-    ensures stopped { IfErr result (StopsMatrix (matrix_in form binary bytes.now) name.entry.now) }
-{
-    let read = match form {
-        MatrixForm::Dense => read_dense(alloc, bytes, binary),
-        MatrixForm::Sparse => read_sparse(alloc, bytes, binary),
-    };
-    match read {
-        Ok(matrix) => Ok(matrix),
-        Err(TextError::Fault { kind, place }) => Err(Stop::BadText { name, kind, place }),
-        Err(TextError::Memory) => Err(Stop::Memory),
     }
 }

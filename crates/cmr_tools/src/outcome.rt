@@ -1,6 +1,7 @@
 // What a tool decided, or why it decided nothing.
 ghost use Rattle.std.specs.Prelude.{◌≡◌};
 
+use crate::status::{Answer, Failure};
 use matrix_text::TextKind;
 
 /// A file that is to be written.
@@ -10,13 +11,20 @@ pub struct OutputFile<'a> {
     pub bytes: Vec<u8>,
 }
 
-/// What a tool decided: its status, the bytes of standard output, and the files in the order in which they
+/// What a tool decided: its answer, the bytes of standard output, and the files in the order in which they
 /// are written.
 #[derive(Debug, Drop)]
 pub struct Outcome<'a> {
-    pub status: u8,
+    pub answer: Answer,
     pub output: Vec<u8>,
     pub files: Vec<OutputFile<'a>>,
+}
+
+/// What is wrong with a text.
+#[derive(Clone, Copy, Debug, PartialEq, Eq)]
+pub enum FaultKind {
+    /// With a matrix text.
+    Matrix(TextKind),
 }
 
 /// Why a run has no outcome.
@@ -31,7 +39,7 @@ pub enum Stop<'a> {
     },
     BadText {
         name: &'a str,
-        kind: TextKind,
+        kind: FaultKind,
         place: usize,
     },
     Memory,
@@ -39,16 +47,17 @@ pub enum Stop<'a> {
 
 impl Stop<'_> {
     ghost use Rattle.cmr_tools.specs.Outcome.{stop_report};
+    ghost use Rattle.cmr_tools.specs.Status.{failure_status};
 
-    /// The status with which the program ends.
-    pub fn status(&self) -> u8
-        ensures { result ≡ (stop_report self.now).status }
+    /// The failure that it is.
+    pub fn failure(&self) -> Failure
+        ensures { (stop_report self.now).status ≡ failure_status result }
     {
         match self {
-            Stop::BadWords => 2,
-            Stop::TooLong { .. } | Stop::BadText { .. } => 3,
-            Stop::CannotRead { .. } => 4,
-            Stop::Memory => 5,
+            Stop::BadWords => Failure::Words,
+            Stop::TooLong { .. } | Stop::BadText { .. } => Failure::Text,
+            Stop::CannotRead { .. } => Failure::Device,
+            Stop::Memory => Failure::Memory,
         }
     }
 }

@@ -1,8 +1,8 @@
 // Texts of lines and of steps.
 ghost use Rattle.std.specs.Prelude.{◌≡◌, ◌+◌, ◌++◌, ◌∷◌, IfOk, OnOk, codes};
-ghost use Rattle.std.specs.Fmt.{decimal};
+ghost use Rattle.std.specs.Fmt.{decimal, signed_decimal};
 ghost use Rattle.cmr_tools.specs.Minimal.{minimal_line};
-ghost use Rattle.cmr_tools.specs.Printed.{line_name, line_numbers, line_set, reason_words, steps_text};
+ghost use Rattle.cmr_tools.specs.Printed.{line_name, line_numbers, line_set, open_line, reason_words, steps_text, violator_line};
 
 use cmr_base::{Indices, Line, LineSet, Memory, Reason, Step, StepList};
 use itoa::Buffer;
@@ -26,6 +26,35 @@ fn push_line_numbers(text: &mut Vec<u8>, lines: &Indices) -> Result<(), Memory>
         text.push(b' ')?;
         text.extend_from_slice(buffer.format(u64::from(*line) + 1).as_bytes())?;
     }
+    Ok(())
+}
+
+/// Appends the line that tells of a violator and its sum.
+pub fn push_violator_line(text: &mut Vec<u8>, lines: &LineSet, sum: i32) -> Result<(), Memory>
+    ensures { OnOk result (text.new.items ≡ text.old.items ++ violator_line lines.now.rows lines.now.columns sum) }
+{
+    text.extend_from_slice(b"violator ")?;
+    push_line_set(text, lines)?;
+    push_sum(text, sum)
+}
+
+fn push_sum(text: &mut Vec<u8>, sum: i32) -> Result<(), Memory>
+    ensures { OnOk result (text.new.items ≡ text.old.items ++ codes " sum " ++ signed_decimal sum ++ codes "\n") }
+{
+    let mut buffer = Buffer::new();
+    text.extend_from_slice(b" sum ")?;
+    text.extend_from_slice(buffer.format(sum).as_bytes())?;
+    text.push(b'\n')?;
+    Ok(())
+}
+
+/// Appends the line that tells what is left open.
+pub fn push_open_line(text: &mut Vec<u8>, lines: &LineSet) -> Result<(), Memory>
+    ensures { OnOk result (text.new.items ≡ text.old.items ++ open_line lines.now.rows lines.now.columns) }
+{
+    text.extend_from_slice(b"open ")?;
+    push_line_set(text, lines)?;
+    text.push(b'\n')?;
     Ok(())
 }
 

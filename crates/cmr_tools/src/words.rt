@@ -8,11 +8,9 @@ ghost use Rattle.cmr_tools.specs.Words.{order, order_of};
 ghost use Rattle.cmr_tools.specs.Words.Reading.{Gives};
 
 mod arguments;
+mod graphic_network;
 mod parsing;
 mod series_parallel;
-#[cfg(test)]
-mod tests;
-mod tree_paths;
 mod tu;
 
 use crate::options::{Command, Property};
@@ -61,11 +59,11 @@ pub fn read_words<'a>(alloc: Global, words: &'a WordList) -> Result<Command<'a>,
             alloc, rest,
         )?)),
         "graphic" => {
-            let options = tree_paths::read_test(alloc, Property::Graphic, rest)?;
+            let options = graphic_network::read_test(alloc, Property::Graphic, rest)?;
             Ok(Command::Test(Property::Graphic, options))
         }
         "network" => {
-            let options = tree_paths::read_test(alloc, Property::Network, rest)?;
+            let options = graphic_network::read_test(alloc, Property::Network, rest)?;
             Ok(Command::Test(Property::Network, options))
         }
         _ => Err(WordsError::Refused),

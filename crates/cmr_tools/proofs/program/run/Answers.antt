@@ -17,18 +17,16 @@ returns-in-Err-Refused-clause-runs g c =
     let err = c.args.err.now in
     let done = c.carry_out in
     let e : order c.args.words.now ≡ None = subst (λ f. Gives order_of (Err f) (order c.args.words.now)) c.in-Err-Refused.field-0-is c.in-Err-Refused.ensures in
-    rw e (runs None
+    runs (order c.args.words.now)
     (standing (S.tells shelf) (O.tells out) (E.tells err) (S.is_calm shelf) (S.room shelf) (O.is_calm out) (O.room out))
     (S.content shelf) (S.content shelf) (O.got out) (E.got err) (S.faults shelf) (S.faults shelf) (O.faults out) (E.faults err) (Err stops.BadWords)
     (devices (S.content done.new.shelf) (O.got done.new.out) (E.got done.new.err) (S.faults done.new.shelf) (O.faults done.new.out) (E.faults done.new.err)) done.result
     (record {
       told = g.met.S.Shelf.calm_tells shelf;
-      ends = λ told. refl;
+      ends = e;
       content = λ name. refl;
       later = omega arith;
-      within = omega arith;
       refused = λ none. inl refl;
-      refused_only = λ two. refl;
       cause = λ four. absurd (omega arith);
     })
     (record {
@@ -37,7 +35,7 @@ returns-in-Err-Refused-clause-runs g c =
       ready = done.ensures.ready;
       stopped = done.ensures.stopped;
       later = done.ensures.later;
-    }))
+    })
 
 pub obey-requires-after_bounds : goal.obey-requires-after_bounds
 obey-requires-after_bounds g c κs within = in_ranges c.args.words.now (order_of c.in-Ok.command) c.in-Ok.ensures
