@@ -1,0 +1,16 @@
+//! Worked examples of the public calls of the other crates, in tables: what goes in, and what has to come out. The
+//! expected values are worked out by hand or come from the literature.
+#![tactic(auto)]
+
+#[cfg(test)]
+mod given;
+#[cfg(test)]
+mod matrices;
+#[cfg(test)]
+mod r10;
+#[cfg(test)]
+mod texts;
+#[cfg(test)]
+mod violators;
+#[cfg(test)]
+mod workers;
