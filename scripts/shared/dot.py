@@ -1,0 +1,24 @@
+"""Graphs in DOT, the language of Graphviz."""
+
+from __future__ import annotations
+
+from collections.abc import Iterable, Mapping
+
+Attributes = Mapping[str, str]
+
+
+def quoted(text: str) -> str:
+    """A text as a DOT string, with its line feeds as breaks of the label."""
+    plain = text.replace("\\", "\\\\").replace('"', '\\"').replace("\n", "\\n")
+    return f'"{plain}"'
+
+
+def statement(subject: str, attributes: Attributes) -> str:
+    """A node, an edge, or the defaults of one of them, with its attributes."""
+    listed = ", ".join(f"{name}={quoted(value)}" for name, value in attributes.items())
+    return f"  {subject} [{listed}];\n" if listed else f"  {subject};\n"
+
+
+def document(kind: str, name: str, statements: Iterable[str]) -> str:
+    """A whole graph of the kind `graph` or `digraph`."""
+    return f"{kind} {name} {{\n{''.join(statements)}}}\n"

@@ -1,0 +1,102 @@
+"""The constraint matrix of a model, its scaling, and its sparse text."""
+
+from __future__ import annotations
+
+import re
+from collections.abc import Callable, Mapping
+from dataclasses import dataclass
+from math import gcd
+
+from .command import BadInput
+from .models import Coefficient, Model
+from .names import Names
+
+LIMIT = 1000
+
+
+@dataclass(frozen=True)
+class Matrix:
+    """Whole numbers at places counted from 1, row by row, and the names of all lines."""
+
+    names: Names
+    entries: Mapping[tuple[int, int], int]
+
+
+@dataclass(frozen=True)
+class Scaling:
+    """A line that was divided by the common factor of its entries."""
+
+    kind: str
+    name: str
+    factor: int
+
+
+def only_rows(model: Model, pattern: re.Pattern[str]) -> Model:
+    """The rows whose names the pattern fits somewhere, and the columns that have a coefficient in them."""
+    rows = [row for row, name in enumerate(model.rows) if pattern.search(name)]
+    row_places = {row: place for place, row in enumerate(rows)}
+    kept = [coefficient for coefficient in model.coefficients if coefficient.row in row_places]
+    columns = sorted({coefficient.column for coefficient in kept})
+    column_places = {column: place for place, column in enumerate(columns)}
+    return Model(
+        tuple(model.rows[row] for row in rows),
+        tuple(model.columns[column] for column in columns),
+        tuple(Coefficient(row_places[at.row], column_places[at.column], at.value) for at in kept),
+    )
+
+
+def constraint_matrix(model: Model) -> Matrix:
+    """The matrix of a model's constraints, which must have rows, not too many lines, and whole coefficients."""
+    if not model.rows:
+        raise BadInput("there are no rows")
+    for count, kind in ((len(model.rows), "rows"), (len(model.columns), "columns")):
+        if count > LIMIT:
+            raise BadInput(f"there are {count} {kind}, and a matrix may have at most {LIMIT}")
+    for at in model.coefficients:
+        if not at.value.is_integer():
+            place = _place(model.rows[at.row], model.columns[at.column])
+            raise BadInput(f"{place}: the coefficient {at.value:.12g} is no whole number")
+    entries = {(at.row + 1, at.column + 1): int(at.value) for at in model.coefficients if at.value}
+    return Matrix(Names(model.rows, model.columns), entries)
+
+
+def scaled(matrix: Matrix) -> tuple[Matrix, list[Scaling]]:
+    """Divides each row by the common factor of its entries, and then each column, and tells the lines that it changes."""
+    names = matrix.names
+    by_rows, row_factors = _divided(matrix.entries, lambda place: place[0])
+    by_columns, column_factors = _divided(by_rows, lambda place: place[1])
+    rows = [Scaling("row", names.rows[line - 1], factor) for line, factor in row_factors.items()]
+    columns = [Scaling("column", names.columns[line - 1], factor) for line, factor in column_factors.items()]
+    return Matrix(names, by_columns), rows + columns
+
+
+def refuse_large_entries(matrix: Matrix, entry_name: str) -> None:
+    """Refuses a matrix with an entry other than -1, 0 and 1, and tells the first one and the number of the others."""
+    large = [(place, entry) for place, entry in matrix.entries.items() if abs(entry) > 1]
+    if large:
+        (row, column), entry = large[0]
+        place = _place(matrix.names.rows[row - 1], matrix.names.columns[column - 1])
+        others = f", nor are {len(large) - 1} others" if len(large) > 1 else ""
+        raise BadInput(f"{place}: the {entry_name} {entry} is none of -1, 0 and 1{others}")
+
+
+def sparse_text(matrix: Matrix) -> str:
+    """The canonical sparse text."""
+    rows, columns = len(matrix.names.rows), len(matrix.names.columns)
+    lines = [f"{row} {column} {entry}\n" for (row, column), entry in sorted(matrix.entries.items())]
+    return "".join([f"{rows} {columns} {len(lines)}\n", *lines])
+
+
+Entries = Mapping[tuple[int, int], int]
+
+
+def _divided(entries: Entries, line_of: Callable[[tuple[int, int]], int]) -> tuple[Entries, dict[int, int]]:
+    factors: dict[int, int] = {}
+    for place, entry in entries.items():
+        factors[line_of(place)] = gcd(factors.get(line_of(place), 0), entry)
+    divided = {place: entry // factors[line_of(place)] for place, entry in entries.items()}
+    return divided, {line: factor for line, factor in sorted(factors.items()) if factor > 1}
+
+
+def _place(row: str, column: str) -> str:
+    return f"row {row}, column {column}"

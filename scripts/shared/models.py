@@ -1,0 +1,157 @@
+"""Linear models, read by GLPK through Debian's `python3-swiglpk`.
+
+GLPK reads fixed and free MPS and keeps the names, without their blanks. Models in GNU MathProg and in the LP format of CPLEX are turned into free
+MPS by `glpsol` of Debian's `glpk-utils`.
+"""
+
+from __future__ import annotations
+
+import os
+import re
+import subprocess
+import tempfile
+from collections.abc import Iterator
+from contextlib import contextmanager
+from dataclasses import dataclass
+from pathlib import Path
+from typing import Any
+
+from .command import BadInput
+
+TRANSLATIONS = {"lp": "--lp", "mathprog": "--math"}
+FORMATS = {".lp": "lp", ".mod": "mathprog"}
+
+
+@dataclass(frozen=True)
+class Coefficient:
+    """What stands at a row and a column, both counted from 0."""
+
+    row: int
+    column: int
+    value: float
+
+
+@dataclass(frozen=True)
+class Model:
+    """The constraints of a linear model: free rows, such as the objective, are none of them."""
+
+    rows: tuple[str, ...]
+    columns: tuple[str, ...]
+    coefficients: tuple[Coefficient, ...]
+
+
+def format_of(name: str) -> str:
+    """The format that the suffix of a file tells, MPS where it tells none."""
+    return FORMATS.get(Path(name).suffix.lower(), "mps")
+
+
+def read_model(name: str, form: str, data: str | None = None) -> Model:
+    """The model of a file in the format `mps`, `lp` or `mathprog`, which may have its data in a second file."""
+    for file in (name, *([data] if data else [])):
+        _must_be_readable(file)
+    if form == "mps":
+        return _read_mps(name, name)
+    with tempfile.TemporaryDirectory() as folder:
+        translated = os.path.join(folder, "model.mps")
+        _translate(name, TRANSLATIONS[form], data, translated)
+        return _read_mps(translated, name)
+
+
+def _translate(name: str, option: str, data: str | None, translated: str) -> None:
+    command = ["glpsol", option, os.path.abspath(name), "--check", "--wfreemps", translated]
+    if data:
+        command += ["--data", os.path.abspath(data)]
+    try:
+        run = subprocess.run(command, capture_output=True, text=True, errors="replace", check=False)
+    except FileNotFoundError as fault:
+        raise BadInput(f"{name}: reading it needs glpsol of Debian's glpk-utils") from fault
+    if run.returncode != 0 or not os.path.exists(translated):
+        raise BadInput(f"{name}: no model, {_Complaint.of(run.stdout).words}")
+
+
+def _read_mps(path: str, name: str) -> Model:
+    """Reads fixed MPS, and else free MPS. The file may stand for another one, whose name is told."""
+    glpk = _glpk()
+    complaints = []
+    for kind in (glpk.GLP_MPS_DECK, glpk.GLP_MPS_FILE):
+        problem = glpk.glp_create_prob()
+        try:
+            with _printed() as printed:
+                refused = glpk.glp_read_mps(problem, kind, None, path) != 0
+            if not refused:
+                return _constraints(glpk, problem)
+            complaints.append(_Complaint.of(printed[0]))
+        finally:
+            glpk.glp_delete_prob(problem)
+    raise BadInput(f"{name}: no model, {max(complaints, key=lambda complaint: complaint.line).words}")
+
+
+def _constraints(glpk: Any, problem: Any) -> Model:
+    kept = [
+        row for row in _numbers(glpk.glp_get_num_rows(problem)) if glpk.glp_get_row_type(problem, row) != glpk.GLP_FR
+    ]
+    columns = _numbers(glpk.glp_get_num_cols(problem))
+    places = glpk.intArray(len(columns) + 1)
+    values = glpk.doubleArray(len(columns) + 1)
+    coefficients = []
+    for row, number in enumerate(kept):
+        filled = glpk.glp_get_mat_row(problem, number, places, values)
+        for column, value in sorted((places[place], values[place]) for place in _numbers(filled)):
+            coefficients.append(Coefficient(row, column - 1, value))
+    return Model(
+        tuple(glpk.glp_get_row_name(problem, row) for row in kept),
+        tuple(glpk.glp_get_col_name(problem, column) for column in columns),
+        tuple(coefficients),
+    )
+
+
+def _numbers(count: int) -> range:
+    return range(1, count + 1)
+
+
+def _glpk() -> Any:
+    try:
+        import swiglpk  # type: ignore[import] # pylint: disable=import-outside-toplevel
+    except ImportError as fault:
+        raise BadInput("reading a model needs Debian's python3-swiglpk") from fault
+    return swiglpk
+
+
+def _must_be_readable(name: str) -> None:
+    try:
+        with open(name, "rb"):
+            pass
+    except OSError as fault:
+        raise BadInput(f"cannot read {name}: {fault.strerror}") from fault
+
+
+@contextmanager
+def _printed() -> Iterator[list[str]]:
+    """Takes what a library prints to standard output; at the end the list holds it."""
+    texts: list[str] = []
+    standard = os.dup(1)
+    with tempfile.TemporaryFile() as taken:
+        os.dup2(taken.fileno(), 1)
+        try:
+            yield texts
+        finally:
+            os.dup2(standard, 1)
+            os.close(standard)
+            taken.seek(0)
+            texts.append(taken.read().decode("utf-8", "replace"))
+
+
+@dataclass(frozen=True)
+class _Complaint:
+    """The place and the fault that GLPK prints as `FILE:LINE: FAULT`."""
+
+    line: int
+    words: str
+
+    @classmethod
+    def of(cls, printed: str) -> _Complaint:
+        found = re.findall(r"^.*:(\d+): (?!warning)(.*)$", printed, re.MULTILINE)
+        if not found:
+            return cls(0, "GLPK cannot read it")
+        line, fault = found[-1]
+        return cls(int(line), f"line {line}: {fault}")

@@ -1,0 +1,74 @@
+"""How the tests run the scripts, and what they pass over where a tool is missing."""
+
+import shutil
+import subprocess
+import sys
+import tempfile
+import unittest
+from pathlib import Path
+
+TOP = Path(__file__).resolve().parents[2]
+PYTHON = "/usr/bin/python3"
+
+
+def _has_swiglpk():
+    return (
+        shutil.which(PYTHON) and subprocess.run([PYTHON, "-c", "import swiglpk"], capture_output=True).returncode == 0
+    )
+
+
+def _is_built():
+    """Whether the program is there and no source is newer, so that ./cmr runs it as it is."""
+    program = TOP / "crates" / "cmr" / "out" / "cmr"
+    if not program.exists():
+        return False
+    built = program.stat().st_mtime
+    sources = (it for it in (TOP / "crates").rglob("*.rt") if "out" not in it.parts)
+    return all(it.stat().st_mtime <= built for it in sources)
+
+
+def _needs(tool, found):
+    if not found:
+        print(f"{tool} is not there: what needs it is passed over", file=sys.stderr)
+    return unittest.skipUnless(found, f"{tool} is not there")
+
+
+needs_python = _needs(PYTHON, shutil.which(PYTHON))
+needs_swiglpk = _needs("python3-swiglpk", _has_swiglpk())
+needs_glpsol = _needs("glpsol", shutil.which("glpsol"))
+needs_dot = _needs("dot", shutil.which("dot"))
+needs_program = _needs("the program cmr, built of these sources,", _is_built())
+
+
+class ScriptTest(unittest.TestCase):
+    """Runs the scripts in a folder of the test's own."""
+
+    def setUp(self):
+        folder = tempfile.TemporaryDirectory()
+        self.addCleanup(folder.cleanup)
+        self.folder = Path(folder.name)
+
+    def run_script(self, script, *words, text="", **settings):
+        command = [TOP / "scripts" / script, *words]
+        return subprocess.run(command, input=text, capture_output=True, text=True, cwd=self.folder, **settings)
+
+    def output(self, script, *words, text=""):
+        """What the script prints where it takes its input."""
+        run = self.run_script(script, *words, text=text)
+        self.assertEqual((run.returncode, run.stderr), (0, ""))
+        return run.stdout
+
+    def refusal(self, script, *words, text="", **settings):
+        """The one line on standard error where the script refuses its input; then it prints nothing else."""
+        run = self.run_script(script, *words, text=text, **settings)
+        self.assertEqual((run.returncode, run.stdout, run.stderr.count("\n")), (1, "", 1), run.stderr)
+        name = f"{script}: "
+        self.assertTrue(run.stderr.startswith(name), run.stderr)
+        return run.stderr[len(name) :].rstrip("\n")
+
+    def write(self, name, text):
+        (self.folder / name).write_text(text, encoding="utf-8")
+        return name
+
+    def read(self, name):
+        return (self.folder / name).read_text(encoding="utf-8")
