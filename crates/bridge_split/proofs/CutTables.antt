@@ -1,76 +1,68 @@
 -- What the tests of cuts say, and the table of them.
-use Rattle.std.proofs.Common.{ℕ, suc, ◌+◌, ◌*◌, Bool, true, false, not, List, [], ◌∷◌, ◌++◌, ◌≡◌, ◌<◌, ◌≤◌, ◌∙◌, sym, refl, arith, subst, ◌⊎◌, inl, inr, length, get_or, ◌&&◌}
+use Rattle.std.proofs.Common.{ℕ, suc, ◌+◌, ◌*◌, Bool, true, false, List, [], ◌∷◌, ◌++◌, ◌≡◌, ◌<◌, ◌≤◌, ◌∙◌, sym, refl, arith, subst, ◌⊎◌, inl, inr, length, get_or, ap, ap₂, ◌&&◌, ◌||◌}
 use Rattle.std.specs.Prelude.{◌↔◌}
-use mathlib.Core.Bool.{beq}
 use Rattle.std.proofs.lemmas.Bool.{cases_lt}
 use Rattle.std.proofs.lemmas.List.{get_or_append_left}
 use Rattle.std.proofs.lemmas.Nat.{mul-add-lt}
 use Rattle.std.proofs.Math.Seq.{get_or-append_seam}
-use Rattle.cmr_base.specs.LineSets.{AllBelow}
-use Rattle.cmr_base.specs.Matrix.{Matrix, height, IsMatrix}
-use Rattle.cmr_base.specs.Members.{IsIn}
 use Rattle.cmr_base.specs.Splits.{IsCommon, IsUncut, IsUncutBy, Agree}
-use Rattle.cmr_base.specs.Trees.{support}
-use Rattle.cmr_base.proofs.ListsWithout.{place_of, IsPlaceOf, place_is}
-use Rattle.cmr_base.proofs.Members.{in-append, in_at}
+use Rattle.cmr_base.proofs.Members.{in_at}
 use Rattle.cmr_base.proofs.RowLists.{not_both}
-use Rattle.bridge_split.specs.Cutting.{Denies, IsUncutIn, AreUncutIn, IsMetBy, part_at, IsCutTable, HasLine, disagree}
-use Rattle.cmr_base.proofs.NextNonzeros.{column_in}
-use Rattle.cmr_base.proofs.Places.{all_placed}
-
--- what a test of two tests says
-pub not_same : (s t : Bool) → not (beq s t) ≡ true → s ≡ t → ⊥
-not_same true true h e = cc
-not_same true false h e = cc
-not_same false true h e = cc
-not_same false false h e = cc
-
--- a list of columns in which a row is not 0
-pub columns_below : (m : Matrix) (i : ℕ) (part columns : List ℕ) → IsMatrix m → i < height m → ((column : ℕ) → IsIn column columns → IsCommon (support m) i part column) → AllBelow m.width columns
-columns_below m i part columns is l common k h = column_in m i (get_or columns k 0) is l (common (get_or columns k 0) (in_at columns k h)).0
+use Rattle.bridge_split.specs.ColumnSets.{has_column, Denies, IsApart, IsWithin}
+use Rattle.bridge_split.specs.Cutting.{IsUncutIn, AreUncutIn, IsCollecting, part_at, IsCutTable, HasLine, disagree}
+use Rattle.cmr_base.proofs.Places.{found_at}
 
 module _ (M : ℕ → ℕ → Bool) where
-  -- a row that is not the same in two of the columns
-  pub cut_here : (columns : List ℕ) (j k : ℕ) (first : Bool) → k < length columns → first ≡ M j (get_or columns 0 0) → (M j (get_or columns k 0) ≡ first → ⊥) → ¬ (IsUncutIn M columns j)
-  cut_here columns j k first l e n (inl all) = n (all (get_or columns k 0) (in_at columns k l) ∙ sym (all (get_or columns 0 0) (in_at columns 0 (omega arith))) ∙ sym e)
-  cut_here columns j k first l e n (inr all) = n (all (get_or columns k 0) (in_at columns k l) ∙ sym (all (get_or columns 0 0) (in_at columns 0 (omega arith))) ∙ sym e)
+  -- common columns that are collected
+  pub collected_none : (i : ℕ) (P set : List ℕ) → ((column : ℕ) → has_column set column ≡ false) → IsCollecting M i P set 0
+  collected_none i P set none = record {
+    into = λ column e. absurd (not_both (has_column set column) e (none column));
+    from = λ p column l. absurd (omega arith);
+  }
 
-  pub uncut_by_first : (columns : List ℕ) (j upto : ℕ) (first : Bool) → length columns ≤ upto → ((k : ℕ) → k < upto → M j (get_or columns k 0) ≡ first) → IsUncutIn M columns j
-  uncut_by_first columns j upto true l all = inl (all_placed (λ column. M j column ≡ true) columns upto l all)
-  uncut_by_first columns j upto false l all = inr (all_placed (λ column. M j column ≡ false) columns upto l all)
-
-  -- a column of the part is met or is not
-  pub met_here : (part : List ℕ) (column k : ℕ) → k < length part → M (get_or part k 0) column ≡ true → IsMetBy M part column
-  met_here part column k l e = (get_or part k 0, in_at part k l, e)
-
-  pub met_nowhere : (part : List ℕ) (column upto : ℕ) → length part ≤ upto → ((k : ℕ) → k < upto → M (get_or part k 0) column ≡ false) → ¬ (IsMetBy M part column)
-  met_nowhere part column upto l all (k, h, e) = not_both (M k column) e (all_placed (λ x. M x column ≡ false) part upto l all k h)
-
-  -- one more column is in the list exactly where it is common
-  pub common_more : (i : ℕ) (part : List ℕ) (common common' : List ℕ) (x : ℕ) → ((z : ℕ) → IsIn z common ↔ ((z < x) × IsCommon M i part z)) → common' ≡ common ++ x ∷ [] → IsCommon M i part x
-      → (z : ℕ) → IsIn z common' ↔ ((z < x + 1) × IsCommon M i part z)
-  common_more i part common common' x before e here z = rw e ((λ h. to ((in-append common x z).0 h)), (λ h. (in-append common x z).1 (from h)))
+  pub collected_more : (i : ℕ) (P set set' : List ℕ) (place : ℕ) → IsCollecting M i P set place → place < length P → ((column : ℕ) → has_column set' column ≡ (has_column set column || (M i column && M (get_or P place 0) column)))
+      → IsCollecting M i P set' (place + 1)
+  collected_more i P set set' place w l more = record {
+    into = λ column e. pick column (has_column set column) (M i column) (M (get_or P place 0) column) refl refl refl (sym (more column) ∙ e);
+    from = λ p column h mi mp. more column ∙ elim (cases_lt p place) [
+      | inl k ↦ ap (λ t. t || (M i column && M (get_or P place 0) column)) (w.from p column k mi mp)
+      | inr k ↦
+          let q : p ≡ place = omega arith in
+          ap₂ (λ s t. has_column set column || (s && t)) mi (ap (λ (z : ℕ). M (get_or P z 0) column) (sym q) ∙ mp) ∙ right (has_column set column)
+    ];
+  }
     where
-      to : IsIn z common ⊎ (z ≡ x) → (z < x + 1) × IsCommon M i part z
-      to (inl h) = let v = (before z).0 h in ((let l = v.0 in omega arith), v.1)
-      to (inr q) = (omega arith, subst (IsCommon M i part) (sym q) here)
+      right : (t : Bool) → (t || (true && true)) ≡ true
+      right true = refl
+      right false = refl
 
-      from : (z < x + 1) × IsCommon M i part z → IsIn z common ⊎ (z ≡ x)
-      from h = elim (cases_lt z x) [ inl lt ↦ inl ((before z).1 (lt, h.1)) | inr ge ↦ inr (let l = h.0 in omega arith) ]
+      pick : (column : ℕ) (s t u : Bool) → has_column set column ≡ s → M i column ≡ t → M (get_or P place 0) column ≡ u → (s || (t && u)) ≡ true → IsCommon M i P column
+      pick column true t u e f g h = w.into column e
+      pick column false true true e f g h = (f, (get_or P place 0, in_at P place l, g))
+      pick column false true false e f g h = cc
+      pick column false false u e f g h = cc
 
-  pub common_same : (i : ℕ) (part : List ℕ) (common common' : List ℕ) (x : ℕ) → ((z : ℕ) → IsIn z common ↔ ((z < x) × IsCommon M i part z)) → common' ≡ common → ¬ (IsCommon M i part x)
-      → (z : ℕ) → IsIn z common' ↔ ((z < x + 1) × IsCommon M i part z)
-  common_same i part common common' x before e none z = rw e ((λ h. let v = (before z).0 h in ((let l = v.0 in omega arith), v.1)), from)
+  pub collected_all : (i : ℕ) (P set : List ℕ) (place : ℕ) → IsCollecting M i P set place → length P ≤ place → (column : ℕ) → (has_column set column ≡ true) ↔ IsCommon M i P column
+  collected_all i P set place w l column = (w.into column, λ (mi, (k, hk, mk)). at mi k mk (found_at P k hk))
     where
-      from : (z < x + 1) × IsCommon M i part z → IsIn z common
-      from h = elim (cases_lt z x) [ inl lt ↦ (before z).1 (lt, h.1) | inr ge ↦ absurd (none (subst (IsCommon M i part) (let q : z ≡ x = let l = h.0 in omega arith in q) h.1)) ]
+      at : M i column ≡ true → (k : ℕ) → M k column ≡ true → (p : ℕ) × (p < length P) × (get_or P p 0 ≡ k) → has_column set column ≡ true
+      at mi k mk (p, h, e) = w.from p column (omega arith) mi (ap (λ (z : ℕ). M z column) e ∙ mk)
+
+  -- the columns of a row as a set
+  pub uncut_sets : (columns words : List ℕ) (j : ℕ) → ((column : ℕ) → has_column words column ≡ M j column) → IsWithin columns words ⊎ IsApart columns words → IsUncutIn M (has_column columns) j
+  uncut_sets columns words j row (inl w) = inl (λ column e. sym (row column) ∙ w column e)
+  uncut_sets columns words j row (inr w) = inr (λ column e. sym (row column) ∙ w column e)
+
+  pub sets_uncut : (columns words : List ℕ) (j : ℕ) → ((column : ℕ) → has_column words column ≡ M j column) → IsUncutIn M (has_column columns) j → IsWithin columns words ⊎ IsApart columns words
+  sets_uncut columns words j row (inl w) = inl (λ column e. row column ∙ w column e)
+  sets_uncut columns words j row (inr w) = inr (λ column e. row column ∙ w column e)
 
   -- ---- the table
 
-  pub line_starts : (columns : List ℕ) (parts : List (List ℕ)) (before : List Bool) → HasLine M columns parts 0 before before
+  pub line_starts : (columns : ℕ → Bool) (parts : List (List ℕ)) (before : List Bool) → HasLine M columns parts 0 before before
   line_starts columns parts before = record { size = omega arith; same = λ k l. refl; right = λ b l. absurd (omega arith) }
 
-  pub line_more : (columns : List ℕ) (parts : List (List ℕ)) (upto : ℕ) (before cuts cuts' : List Bool) (b : Bool) → HasLine M columns parts upto before cuts → cuts' ≡ cuts ++ b ∷ []
+  pub line_more : (columns : ℕ → Bool) (parts : List (List ℕ)) (upto : ℕ) (before cuts cuts' : List Bool) (b : Bool) → HasLine M columns parts upto before cuts → cuts' ≡ cuts ++ b ∷ []
       → Denies b (AreUncutIn M columns (part_at parts upto)) → HasLine M columns parts (upto + 1) before cuts'
   line_more columns parts upto before cuts cuts' b w e here = rw e (record {
     size = let s = w.size in let l = push_size cuts b in omega arith;
@@ -89,18 +81,18 @@ module _ (M : ℕ → ℕ → Bool) where
       push_size [] x = refl
       push_size (y ∷ ys) x = let k = push_size ys x in omega arith
 
-  denied : (t : Bool) (P Q : Type 0) → (P → Q) → (Q → P) → Denies t P → Denies t Q
+  pub denied : (t : Bool) (P Q : Type 0) → (P → Q) → (Q → P) → Denies t P → Denies t Q
   denied true P Q f g n = λ q. n (g q)
   denied false P Q f g p = f p
 
-  uncut_by : (i : ℕ) (Q P columns : List ℕ) → ((column : ℕ) → IsIn column columns ↔ IsCommon M i Q column) → AreUncutIn M columns P → IsUncutBy M i Q P
+  uncut_by : (i : ℕ) (Q P : List ℕ) (columns : ℕ → Bool) → ((column : ℕ) → (columns column ≡ true) ↔ IsCommon M i Q column) → AreUncutIn M columns P → IsUncutBy M i Q P
   uncut_by i Q P columns same all j h = go (all j h)
     where
       go : IsUncutIn M columns j → IsUncut M i Q j
       go (inl f) = inl (λ column c. f column ((same column).1 c))
       go (inr f) = inr (λ column c. f column ((same column).1 c))
 
-  by_uncut : (i : ℕ) (Q P columns : List ℕ) → ((column : ℕ) → IsIn column columns ↔ IsCommon M i Q column) → IsUncutBy M i Q P → AreUncutIn M columns P
+  by_uncut : (i : ℕ) (Q P : List ℕ) (columns : ℕ → Bool) → ((column : ℕ) → (columns column ≡ true) ↔ IsCommon M i Q column) → IsUncutBy M i Q P → AreUncutIn M columns P
   by_uncut i Q P columns same all j h = go (all j h)
     where
       go : IsUncut M i Q j → IsUncutIn M columns j
@@ -111,8 +103,8 @@ module _ (M : ℕ → ℕ → Bool) where
     pub table_starts : (cuts : List Bool) → cuts ≡ [] → IsCutTable M i parts 0 cuts
     table_starts cuts e = rw e (record { size = omega arith; right = λ a b l. absurd (omega arith) })
 
-    pub table_more : (upto : ℕ) (columns : List ℕ) (cuts cuts' : List Bool) → IsCutTable M i parts upto cuts → HasLine M columns parts (length parts) cuts cuts'
-        → ((column : ℕ) → IsIn column columns ↔ IsCommon M i (part_at parts upto) column) → IsCutTable M i parts (upto + 1) cuts'
+    pub table_more : (upto : ℕ) (columns : ℕ → Bool) (cuts cuts' : List Bool) → IsCutTable M i parts upto cuts → HasLine M columns parts (length parts) cuts cuts'
+        → ((column : ℕ) → (columns column ≡ true) ↔ IsCommon M i (part_at parts upto) column) → IsCutTable M i parts (upto + 1) cuts'
     table_more upto columns cuts cuts' w h common = record {
       size = let s = w.size in let t = h.size in omega arith;
       right = λ a b l m. elim (cases_lt a upto) [

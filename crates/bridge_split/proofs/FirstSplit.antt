@@ -1,5 +1,5 @@
 -- The first row that splits the others.
-use Rattle.std.proofs.Common.{ℕ, zero, suc, ◌+◌, Bool, List, [], ◌∷◌, ◌++◌, ◌≡◌, ◌<◌, ◌≤◌, sym, ap, refl, arith, subst, inl, inr, length, get_or, take, drop}
+use Rattle.std.proofs.Common.{ℕ, zero, suc, ◌+◌, Bool, List, [], ◌∷◌, ◌++◌, ◌≡◌, ◌<◌, ◌≤◌, sym, ap, refl, arith, subst, inl, inr, length, get_or, take, drop, Option, Some, ◌∙◌}
 use Rattle.std.specs.List.Sorted.{IsStrictlyIncreasing}
 use Rattle.std.proofs.lemmas.Bool.{cases_lt}
 use Rattle.cmr_base.specs.Matrix.{Matrix}
@@ -9,6 +9,7 @@ use Rattle.cmr_base.specs.Trees.{support}
 use Rattle.cmr_base.proofs.ListsWithout.{place_of, IsPlaceOf, place_is}
 use Rattle.bridge_split.specs.PartNumbers.{number_at, AreNumbered, HasRoom, IsSearching}
 use Rattle.bridge_split.proofs.NumberedParts.{linked_number}
+use Rattle.bridge_split.proofs.PartWalks.{same_number}
 
 -- a list at a place
 cut_at : (xs : List ℕ) (p : ℕ) → p < length xs → xs ≡ take p xs ++ get_or xs p 0 ∷ drop (suc p) xs
@@ -25,7 +26,7 @@ before_place (y ∷ xs) (suc p) x (inr h) = let r = before_place xs p x h in (su
 
 module _ (M : ℕ → ℕ → Bool) (S : List ℕ) (rises : IsStrictlyIncreasing S) where
   -- a row with two parts or more splits
-  pub splits_two : (i : ℕ) (numbers : List ℕ) (count : ℕ) → AreNumbered M S i (number_at numbers) count → IsIn i S → 2 ≤ count → Splits M S i
+  pub splits_two : (i : ℕ) (numbers : List (Option ℕ)) (count : ℕ) → AreNumbered M S i (number_at numbers) count → IsIn i S → 2 ≤ count → Splits M S i
   splits_two i numbers count n hi l =
       let a = n.filled 0 (omega arith) in
       let b = n.filled 1 (omega arith) in
@@ -37,14 +38,14 @@ module _ (M : ℕ → ℕ → Bool) (S : List ℕ) (rises : IsStrictlyIncreasing
         two_in = b.1;
         one_other = a.2;
         two_other = b.2;
-        apart = λ link. let e = linked_number M S i rises numbers count n a.0 b.0 a.1 b.1 a.2 b.2 link in let f = a.3 in let g = b.3 in omega arith;
+        apart = λ link. let e = same_number (number_at numbers b.0) 0 1 (sym (linked_number M S i rises numbers count n a.0 b.0 a.1 b.1 a.2 b.2 link) ∙ a.3) b.3 in omega arith;
       }
 
-  pub splits_none : (i : ℕ) (numbers : List ℕ) (count : ℕ) → AreNumbered M S i (number_at numbers) count → count < 2 → ¬ (Splits M S i)
+  pub splits_none : (i : ℕ) (numbers : List (Option ℕ)) (count : ℕ) → AreNumbered M S i (number_at numbers) count → count < 2 → ¬ (Splits M S i)
   splits_none i numbers count n l s =
       let a = n.numbered s.one s.one_in s.one_other in
       let b = n.numbered s.two s.two_in s.two_other in
-      s.apart (n.linked s.one s.two s.one_in s.two_in s.one_other s.two_other (omega arith))
+      s.apart (n.linked s.one s.two a.0 a.2 (b.2 ∙ ap Some (let la = a.1 in let lb = b.1 in let e : b.0 ≡ a.0 = omega arith in e)))
 
   -- the rows before a place do not split
   pub first_split : (p : ℕ) → p < length S → ((q : ℕ) → q < p → ¬ (Splits M S (get_or S q 0))) → Splits M S (get_or S p 0) → IsFirstSplit M S (get_or S p 0)
@@ -63,12 +64,22 @@ module _ (M : ℕ → ℕ → Bool) (S : List ℕ) (rises : IsStrictlyIncreasing
       go q = none (place_of row S) (let m = q.in_range in omega arith) (subst (Splits M S) (sym q.there) s)
 
 module _ (m : Matrix) (S : List ℕ) (rises : IsStrictlyIncreasing S) where
-  pub searching_on : (p count : ℕ) (part part' : List ℕ) (seen seen' : List Bool) → IsSearching m S p part seen → p < length S → HasRoom m part' seen' → AreNumbered (support m) S (get_or S p 0) (number_at part') count → count < 2
+  pub searching_on : (p count : ℕ) (part part' : List (Option ℕ)) (seen seen' : List ℕ) → IsSearching m S p part seen → p < length S → HasRoom m part' seen' → AreNumbered (support m) S (get_or S p 0) (number_at part') count → count < 2
       → IsSearching m S (p + 1) part' seen'
   searching_on p count part part' seen seen' w l room n few = record {
     room = room;
     none = λ q k. elim (cases_lt q p) [
       | inl lt ↦ w.none q lt
       | inr ge ↦ let e : p ≡ q = omega arith in subst (λ (z : ℕ). ¬ (Splits (support m) S (get_or S z 0))) e (splits_none (support m) S rises (get_or S p 0) part' count n few)
+    ];
+  }
+
+  -- a row that is known not to split
+  pub searching_past : (p : ℕ) (part : List (Option ℕ)) (seen : List ℕ) → IsSearching m S p part seen → ¬ (Splits (support m) S (get_or S p 0)) → IsSearching m S (p + 1) part seen
+  searching_past p part seen w whole = record {
+    room = w.room;
+    none = λ q k. elim (cases_lt q p) [
+      | inl lt ↦ w.none q lt
+      | inr ge ↦ let e : p ≡ q = omega arith in subst (λ (z : ℕ). ¬ (Splits (support m) S (get_or S z 0))) e whole
     ];
   }

@@ -6,11 +6,10 @@ use Rattle.cmr_base.specs.Members.{IsIn}
 use Rattle.cmr_base.proofs.Members.{in-append, in_at}
 use Rattle.bridge_split.specs.declared.cuts.CutTable.{CutTable}
 use Rattle.bridge_split.specs.Forests.{depth_at, parent_at, joins, IsSquare, HasTreeRoom, IsSettled, IsGrowing, IsGrown, IsConflict, IsTwoColoured, IsReachingFrom, IsGrowingFrom, IsGrownTo}
-use Rattle.bridge_split.specs.PartNumbers.{Extends}
-use Rattle.bridge_split.proofs.ColumnSteps.{extends_none, extends_more, extends_one}
+use Rattle.bridge_split.specs.Forests.{Extends}
+use Rattle.bridge_split.proofs.GrowingLists.{extends_none, extends_more, extends_one, in_longer}
 use Rattle.bridge_split.proofs.CutTables.{disagree_back}
 use Rattle.bridge_split.proofs.Forests.{was_reached, few_reached, root_reached, joined_reached, passes, head_settled, conflict_here, none_reached, tree_grown, all_grown}
-use Rattle.bridge_split.proofs.NumberSteps.{in_longer}
 
 module _ (table : CutTable) where
   -- the part at head, as the code reads it

@@ -8,7 +8,7 @@ use Rattle.cmr_base.proofs.ListsWithout.{place_of, IsPlaceOf, place_is}
 use Rattle.cmr_base.proofs.Members.{distinct_few, in-append, in_at}
 use Rattle.cmr_base.proofs.RowLists.{in_or_not, not_both, is_eq, is_ne}
 use Rattle.bridge_split.specs.Forests.{AreReached, IsSettled, AreSettled, IsGrowing, IsGrown, IsReaching, IsConflict, IsTwoColoured}
-use Rattle.bridge_split.proofs.PartWalks.{push_length, once-append}
+use Rattle.bridge_split.proofs.GrowingLists.{push_length, once-append}
 
 distinct_of : (xs : List ℕ) → IsDistinct xs → IsDistinct xs
 distinct_of [] h = tt

@@ -1,7 +1,10 @@
+pub mod WordBits
+pub mod ColumnWords
+pub mod ColumnCounts
 pub mod ThreeNonzeros
 pub mod Links
 pub mod PartWalks
-pub mod ColumnSteps
+pub mod GrowingLists
 pub mod NumberSteps
 pub mod NumberedParts
 pub mod FirstSplit

@@ -1,68 +1,71 @@
--- From part to part.
-use Rattle.std.proofs.Common.{ℕ, ◌+◌, Bool, false, List, [], ◌∷◌, ◌++◌, ◌≡◌, ◌≢◌, ◌<◌, ◌≤◌, ◌∙◌, refl, arith, subst, ◌⊎◌, inl, inr, length, get_or, set, get_or-set_same, get_or-set_other, length-set, add-one}
+-- The walk over joined rows as it is kept in lists.
+use Rattle.std.proofs.Common.{ℕ, ◌+◌, Bool, true, not, List, ◌≡◌, ◌≢◌, ◌<◌, ◌∙◌, ◌&&◌, ◌||◌, ap, arith, ◌⊎◌, inl, inr, length, get_or, set, Option, Some, None}
+use Rattle.std.proofs.lemmas.List.{get_or-set_same, get_or-set_other}
 use Rattle.std.specs.List.Sorted.{IsStrictlyIncreasing}
-use Rattle.cmr_base.specs.LineSets.{AllBelow, without}
 use Rattle.cmr_base.specs.Matrix.{Matrix, height}
-use Rattle.cmr_base.specs.Members.{IsIn, IsDistinct}
+use Rattle.cmr_base.specs.Members.{IsIn}
 use Rattle.cmr_base.specs.Trees.{support}
-use Rattle.cmr_base.proofs.ListsWithout.{place_of, IsPlaceOf, place_is, in_without, without_shorter}
-use Rattle.cmr_base.proofs.Members.{in-append, in_at}
-use Rattle.cmr_base.proofs.Parts.{length-rising}
-use Rattle.bridge_split.specs.PartNumbers.{number_at, is_seen, HasRoom, Extends, AreNumbered, IsWalking, IsBetween, IsWalkingFrom, IsNumbering}
-use Rattle.bridge_split.proofs.PartWalks.{starts, skips, none_met, part_done, all_numbered}
-use Rattle.cmr_base.proofs.Places.{fewer_distinct}
+use Rattle.cmr_base.proofs.Places.{more_placed}
+use Rattle.bridge_split.specs.ColumnSets.{has_column}
+use Rattle.bridge_split.specs.PartNumbers.{number_at, HasRoom, Keeps, IsLeft, IsTouched, IsWalking, IsBetween, ArePassed, IsMeeting, IsWalkingFrom}
+use Rattle.bridge_split.proofs.PartWalks.{kept, meets, one_less_left, starts}
 
-pub in_longer : (met met' : List ℕ) (x : ℕ) → Extends met met' → IsIn x met → IsIn x met'
-in_longer met met' x extends h = go (place_is x met h)
-  where
-    go : IsPlaceOf x met (place_of x met) → IsIn x met'
-    go p = subst (λ (v : ℕ). IsIn v met') (extends.same (place_of x met) p.in_range ∙ p.there) (in_at met' (place_of x met) (let a = extends.longer in let b = p.in_range in omega arith))
+module _ (m : Matrix) (S : List ℕ) (i number x : ℕ) (part part' : List (Option ℕ)) (reached reached' : List ℕ) (hx : IsIn x S) (low : x < height m) (left : IsLeft i (number_at part) x)
+    (room : HasRoom m part reached) (set_is : part' ≡ set part x (Some number)) where
+  now : number_at part' x ≡ Some number
+  now = ap (λ (v : List (Option ℕ)). number_at v x) set_is ∙ get_or-set_same part x (Some number) None (let e = room.numbers in omega arith)
 
-module _ (m : Matrix) (S : List ℕ) (i : ℕ) (rises : IsStrictlyIncreasing S) (below : AllBelow (height m) S) where
-  pub walking_starts : (count place : ℕ) (part met part' met' : List ℕ) (seen seen' : List Bool) → HasRoom m part seen → IsBetween (support m) S i (number_at part) met (is_seen seen) count place
-      → place < length S → get_or S place 0 ≢ i → number_at part (get_or S place 0) ≡ 4294967295 → part' ≡ set part (get_or S place 0) count → met' ≡ met ++ get_or S place 0 ∷ [] → seen' ≡ seen
-      → IsWalkingFrom m S i count place (length met) part' met' seen'
-  walking_starts count place part met part' met' seen seen' room b l off unmet p q r = rw (p, q, r) (record {
-    room = record { matrix = room.matrix; numbers = length-set part (get_or S place 0) count ∙ room.numbers; columns = room.columns };
-    walk = starts (support m) S i rises (number_at part) met (is_seen seen) count place b (number_at (set part (get_or S place 0) count))
-        (let f = b.before.fewer in let g = length-rising S (height m) rises below in let h = room.matrix.height_in in omega arith) l off unmet
-        (get_or-set_same part (get_or S place 0) count 4294967295 (let k = room.numbers in let h = below place l in omega arith))
-        (λ z n. get_or-set_other part (get_or S place 0) z count 4294967295 n);
-    start = (in-append met (get_or S place 0) (get_or S place 0)).1 (inr refl);
-  })
+  same : (z : ℕ) → z ≢ x → number_at part' z ≡ number_at part z
+  same z n = ap (λ (v : List (Option ℕ)). number_at v z) set_is ∙ get_or-set_other part x z (Some number) None n
 
-  module _ (number place head : ℕ) (part met : List ℕ) (seen : List Bool) (w : IsWalkingFrom m S i number place head part met seen) where
-    pub in_rows : (x : ℕ) → IsIn x met → IsIn x S
-    in_rows x h = (w.walk.are.others x h).0
+  pub meets_one : (before : List (Option ℕ)) (met place : ℕ) → IsMeeting m S i number before part reached met place → HasRoom m part' reached' → (column : ℕ) → has_column reached column ≡ true → support m x column ≡ true
+      → ((c : ℕ) → has_column reached' c ≡ (has_column reached c || (support m x c && not (support m i c)))) → IsMeeting m S i number before part' reached' (met + 1) (place + 1)
+  meets_one before met place w room' column here meet more = record {
+    room = room';
+    walk = meets (support m) S i (number_at part) number x (number_at part') hx left.0 left.1 now same (has_column reached) (has_column reached') w.walk column here meet more;
+    keeps = λ k a e. kept (support m) S i (number_at part) number x (number_at part') hx left.0 left.1 now same k a (w.keeps k a e);
+    fewer = let l = one_less_left (number_at part) (number_at part') (kept (support m) S i (number_at part) number x (number_at part') hx left.0 left.1 now same) S x number hx left.1 now in
+        let f = w.fewer in omega arith;
+    none = λ e. absurd (omega arith);
+    few = let f = w.few in omega arith;
+  }
 
-    -- not more rows are met than there are
-    pub few_met : length met ≤ length S
-    few_met = fewer_distinct met S w.walk.are.once in_rows
+  pub starts_from : (place : ℕ) → IsStrictlyIncreasing S → IsBetween (support m) S i (number_at part) number → place < length S → x ≡ get_or S place 0 → ArePassed (support m) S i (number_at part) place → number < 1000
+      → HasRoom m part' reached' → ((c : ℕ) → has_column reached' c ≡ (support m x c && not (support m i c))) → IsWalkingFrom m S i number x part part' reached' 1
+  starts_from place rises b inside at before few room' more = record {
+    room = room';
+    walk = starts (support m) S i (number_at part) number x (number_at part') hx left.0 left.1 now same (has_column reached') rises b place inside at before few more;
+    keeps = kept (support m) S i (number_at part) number x (number_at part') hx left.0 left.1 now same;
+    first_in = now;
+    none = λ e. absurd (omega arith);
+  }
 
-    pub walking_on : (part' met' : List ℕ) (seen' : List Bool) → HasRoom m part' seen' → Extends met met'
-        → ((place : ℕ) → IsWalking (support m) S i (number_at part) met (is_seen seen) number place head → IsWalking (support m) S i (number_at part') met' (is_seen seen') number place (head + 1))
-        → IsWalkingFrom m S i number place (head + 1) part' met' seen'
-    walking_on part' met' seen' room extends walk = record {
-      room = room;
-      walk = walk place w.walk;
-      start = in_longer met met' (get_or S place 0) extends w.start;
-    }
+-- a row that is not touched
+pub passes_one : (m : Matrix) (S : List ℕ) (i number : ℕ) (before part : List (Option ℕ)) (reached : List ℕ) (met place : ℕ) → IsMeeting m S i number before part reached met place
+    → ¬ (IsTouched (support m) i (number_at part) (has_column reached) (get_or S place 0)) → IsMeeting m S i number before part reached met (place + 1)
+passes_one m S i number before part reached met place w free = record {
+  room = w.room;
+  walk = w.walk;
+  keeps = w.keeps;
+  fewer = w.fewer;
+  none = λ e. more_placed (λ x. ¬ (IsTouched (support m) i (number_at part) (has_column reached) x)) S place (w.none e) free;
+  few = let f = w.few in omega arith;
+}
 
-    pub walking_ends : length met ≤ head → IsBetween (support m) S i (number_at part) met (is_seen seen) (number + 1) (place + 1)
-    walking_ends l =
-        let b = part_done (support m) S i rises (number_at part) met (is_seen seen) number place head w.walk l w.start in
-        rw (add-one number, add-one place) b
+pub meeting_starts : (m : Matrix) (S : List ℕ) (i number : ℕ) (part : List (Option ℕ)) (reached : List ℕ) → HasRoom m part reached → IsWalking (support m) S i (number_at part) number (has_column reached)
+    → IsMeeting m S i number part part reached 0 0
+meeting_starts m S i number part reached room w = record {
+  room = room;
+  walk = w;
+  keeps = λ k a e. e;
+  fewer = omega arith;
+  none = λ e p l. absurd (omega arith);
+  few = omega arith;
+}
 
-  pub numbering_starts : (part met : List ℕ) (seen : List Bool) → HasRoom m part seen → ((x : ℕ) → number_at part x ≡ 4294967295) → met ≡ [] → ((x : ℕ) → is_seen seen x ≡ false) → IsNumbering m S i 0 0 part met seen
-  numbering_starts part met seen room free e unseen = rw e (record { room = room; between = none_met (support m) S i rises (number_at part) (is_seen seen) free unseen })
-
-  module _ (count place : ℕ) (part met : List ℕ) (seen : List Bool) (w : IsNumbering m S i count place part met seen) where
-    pub numbering_skips : (part' met' : List ℕ) (seen' : List Bool) (count' : ℕ) → (get_or S place 0 ≡ i) ⊎ (number_at part (get_or S place 0) ≢ 4294967295) → part' ≡ part → met' ≡ met → seen' ≡ seen → count' ≡ count
-        → IsNumbering m S i count' (place + 1) part' met' seen'
-    numbering_skips part' met' seen' count' h p q r s = rw (p, q, r, s) (record {
-      room = w.room;
-      between = rw (add-one place) (skips (support m) S i rises (number_at part) met (is_seen seen) count place w.between h);
-    })
-
-    pub numbering_ends : IsIn i S → length S ≤ place → AreNumbered (support m) S i (number_at part) count
-    numbering_ends hi l = all_numbered (support m) S i rises (number_at part) met (is_seen seen) count place w.between hi l
+-- the rows up to a place more were met
+pub passed_more : (M : ℕ → ℕ → Bool) (S : List ℕ) (i place : ℕ) (part part' : ℕ → Option ℕ) → ArePassed M S i part place → Keeps part part' → (get_or S place 0 ≡ i) ⊎ ((a : ℕ) × (part' (get_or S place 0) ≡ Some a))
+    → ArePassed M S i part' (place + 1)
+passed_more M S i place part part' before keeps here = record {
+  passed = more_placed (λ x. (x ≡ i) ⊎ ((a : ℕ) × (part' x ≡ Some a))) S place (λ p l. elim (before.passed p l) [ inl e ↦ inl e | inr f ↦ inr (f.0, keeps (get_or S p 0) f.0 f.1) ]) here;
+}

@@ -2,7 +2,7 @@
 use Rattle.std.proofs.Common.{ℕ, suc, ◌+◌, ◌%◌, Bool, true, List, [], ◌∷◌, ◌++◌, ◌≡◌, ◌≢◌, ◌<◌, ◌≤◌, ◌∙◌, sym, ap, refl, arith, subst, inl, inr, length, append_assoc}
 use Rattle.std.proofs.lemmas.Bool.{cases_eq}
 use Rattle.bridge_split.specs.Forests.{IsRoute, AreInOneTree, HasRoute}
-use Rattle.bridge_split.proofs.PartWalks.{push_length}
+use Rattle.bridge_split.proofs.GrowingLists.{push_length}
 
 module _ (D : ℕ → ℕ → Bool) (count : ℕ) where
   route_begin : (x k y : ℕ) (rest : List ℕ) → IsRoute D count k rest y → x < count → D x k ≡ true → x ≢ k → IsRoute D count x (x ∷ rest) y

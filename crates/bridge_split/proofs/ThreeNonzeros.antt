@@ -1,10 +1,11 @@
 -- Columns with three nonzeros, by their counts.
-use Rattle.std.proofs.Common.{ℕ, zero, suc, ℤ, pos, Bool, true, false, cond, List, [], ◌∷◌, ◌≡◌, ◌≢◌, ◌<◌, ◌≤◌, ◌∙◌, sym, ap, refl, arith, subst, ◌⊎◌, inl, inr, length, get_or, Option, Some, None, MatchOption}
+use Rattle.std.proofs.Common.{ℕ, suc, ◌+◌, ◌&&◌, ◌||◌, nat_lt, take, ap₂, Bool, true, false, cond, List, [], ◌∷◌, ◌≡◌, ◌≢◌, ◌<◌, ◌≤◌, ◌∙◌, sym, ap, refl, arith, subst, ◌⊎◌, inl, inr, length, get_or, Option, Some, None, MatchOption}
 use Rattle.std.specs.List.{count_by, filter}
 use Rattle.std.specs.List.Sorted.{IsStrictlyIncreasing}
 use Rattle.std.proofs.lemmas.Bool.{cases_lt}
-use Rattle.std.proofs.lemmas.List.Sums.{length-filter}
-use Rattle.cmr_base.specs.Matrix.{Matrix, height, row_of, IsMatrix, is_nonzero}
+use Rattle.std.proofs.lemmas.List.Sums.{length-filter, count_by_more_no, count_by_more_yes}
+use Rattle.std.proofs.lemmas.Bool.Decides.{nat_tests}
+use Rattle.cmr_base.specs.Matrix.{Matrix}
 use Rattle.cmr_base.specs.LineSets.{AllBelow}
 use Rattle.cmr_base.specs.Members.{IsIn, IsDistinct}
 use Rattle.cmr_base.specs.Splits.{HasNoThree}
@@ -13,8 +14,9 @@ use Rattle.cmr_base.proofs.Lists.{all_by_places}
 use Rattle.cmr_base.proofs.ListsWithout.{increasing_distinct}
 use Rattle.cmr_base.proofs.Members.{all_in}
 use Rattle.cmr_base.proofs.RowLists.{not_both}
+use Rattle.bridge_split.specs.ColumnSets.{has_column}
+use Rattle.bridge_split.specs.Counting.{AreMore}
 use Rattle.bridge_split.specs.SplitCases.{HasThree, IsFirstWithThree}
-use Rattle.cmr_base.proofs.NextNonzeros.{column_in}
 
 module _ (p : ℕ → Bool) where
   -- at least one, two, three of the list
@@ -101,31 +103,71 @@ module _ (M : ℕ → ℕ → Bool) where
 pub not_star : (M : ℕ → ℕ → Bool) (S : List ℕ) (column : ℕ) → HasThree M S column → ¬ (HasNoThree M S)
 not_star M S column h none = none column h.one h.two h.three h.one_in h.two_in h.three_in h.nonzero.0 h.nonzero.1 h.nonzero.2 h.apart.0 h.apart.1 h.apart.2
 
-past_columns : (xs : List ℤ) (i : ℕ) → length xs ≤ i → is_nonzero (get_or xs i (pos 0)) ≡ false
-past_columns [] i l = refl
-past_columns (x ∷ xs) zero l = absurd (omega arith)
-past_columns (x ∷ xs) (suc i) l = past_columns xs i (omega arith)
-
 -- a row of the list is below the bound
 pub below_in : (x bound : ℕ) (S : List ℕ) → AllBelow bound S → IsIn x S → x < bound
 below_in x bound S below h = all_in (λ y. y < bound) S (all_by_places (λ y. y < bound) S 0 below) x h
 
--- what the first column with a count of three or more is
-pub first_is : (m : Matrix) (S counts : List ℕ) (found : Option ℕ) → IsMatrix m → IsStrictlyIncreasing S → AllBelow (height m) S → length counts ≡ m.width
-    → ((column : ℕ) → column < m.width → get_or counts column 0 ≡ count_by (λ row. support m row column) S)
-    → MatchOption found ((column : ℕ) → column < length counts → get_or counts column 0 < 3) (λ first. (first < length counts) × (3 ≤ get_or counts first 0) × ((column : ℕ) → column < first → get_or counts column 0 < 3))
+-- ---- counts up to three
+
+lt_true : (a b : ℕ) → a < b → nat_lt a b ≡ true
+lt_true a b l = grind (arith, nat_tests)
+
+lt_false : (a b : ℕ) → b ≤ a → nat_lt a b ≡ false
+lt_false a b l = grind (arith, nat_tests)
+
+pub is_lt : (a b : ℕ) → nat_lt a b ≡ true → a < b
+is_lt a b e = elim (cases_lt a b) [ inl l ↦ l | inr l ↦ absurd (not_both (nat_lt a b) e (lt_false a b l)) ]
+
+-- one more, where that is counted
+pub more_than : (k n : ℕ) (b : Bool) → nat_lt (suc k) (n + cond b 1 0) ≡ (nat_lt (suc k) n || (nat_lt k n && b))
+more_than k n true = elim (cases_lt k n) [
+  | inl l ↦ lt_true (suc k) (n + 1) (omega arith) ∙ sym (ap (λ t. nat_lt (suc k) n || (t && true)) (lt_true k n l) ∙ or_true (nat_lt (suc k) n))
+  | inr l ↦ lt_false (suc k) (n + 1) (omega arith) ∙ sym (ap₂ (λ s t. s || (t && true)) (lt_false (suc k) n (omega arith)) (lt_false k n l))
+]
+  where
+    or_true : (t : Bool) → (t || true) ≡ true
+    or_true true = refl
+    or_true false = refl
+more_than k n false = ap (nat_lt (suc k)) (let e : n + 0 ≡ n = omega arith in e) ∙ sym (none (nat_lt (suc k) n) (nat_lt k n))
+  where
+    none : (s t : Bool) → (s || (t && false)) ≡ s
+    none true t = refl
+    none false true = refl
+    none false false = refl
+
+pub more_than_none : (n : ℕ) (b : Bool) → nat_lt 0 (n + cond b 1 0) ≡ (nat_lt 0 n || (b && b))
+more_than_none n true = lt_true 0 (n + 1) (omega arith) ∙ sym (one (nat_lt 0 n))
+  where
+    one : (t : Bool) → (t || true) ≡ true
+    one true = refl
+    one false = refl
+more_than_none n false = ap (nat_lt 0) (let e : n + 0 ≡ n = omega arith in e) ∙ sym (none (nat_lt 0 n))
+  where
+    none : (t : Bool) → (t || false) ≡ t
+    none true = refl
+    none false = refl
+
+-- a list one longer
+pub count_more : (p : ℕ → Bool) (S : List ℕ) (k : ℕ) → k < length S → count_by p (take (k + 1) S) ≡ count_by p (take k S) + cond (p (get_or S k 0)) 1 0
+count_more p S k l = go (p (get_or S k 0)) refl
+  where
+    go : (t : Bool) → p (get_or S k 0) ≡ t → count_by p (take (k + 1) S) ≡ count_by p (take k S) + cond t 1 0
+    go true e = count_by_more_yes p S k 0 l e
+    go false e = count_by_more_no p S k 0 l e ∙ (let z : count_by p (take k S) ≡ count_by p (take k S) + 0 = omega arith in z)
+
+-- what the first column with three nonzeros is
+pub first_is : (m : Matrix) (S set : List ℕ) (found : Option ℕ) → IsStrictlyIncreasing S → AreMore m S 2 set
+    → MatchOption found ((column : ℕ) → has_column set column ≡ false) (λ first. (has_column set first ≡ true) × ((column : ℕ) → column < first → has_column set column ≡ false))
     → MatchOption found (HasNoThree (support m) S) (IsFirstWithThree (support m) S)
-first_is m S counts None is rises below len counted h = λ column r s t hr hs ht er es et rs rt st.
-    let inside = column_in m r column is (below_in r (height m) S below hr) er in
+first_is m S set None rises counted h = λ column r s t hr hs ht er es et rs rt st.
     let three = three_count (λ row. support m row column) S r s t hr hs ht rs rt st er es et in
-    let e = counted column inside in
     let f = length-filter (λ row. support m row column) S in
-    let l = h column (omega arith) in omega arith
-first_is m S counts (Some first) is rises below len counted h = record {
-  here = three_here (support m) first S (increasing_distinct S rises) (let e = counted first (omega arith) in let f = length-filter (λ row. support m row first) S in let l = h.1 in omega arith);
+    not_both (has_column set column) (counted column ∙ lt_true 2 (count_by (λ row. support m row column) S) (omega arith)) (h column)
+first_is m S set (Some first) rises counted h = record {
+  here = three_here (support m) first S (increasing_distinct S rises)
+      (let l = is_lt 2 (count_by (λ row. support m row first) S) (sym (counted first) ∙ h.0) in let f = length-filter (λ row. support m row first) S in omega arith);
   first = λ other l three.
-      let e = counted other (omega arith) in
       let k = here_three (support m) other S three in
       let f = length-filter (λ row. support m row other) S in
-      let g = h.2 other l in omega arith;
+      not_both (has_column set other) (counted other ∙ lt_true 2 (count_by (λ row. support m row other) S) (omega arith)) (h.1 other l);
 }

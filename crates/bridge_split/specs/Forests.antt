@@ -3,7 +3,11 @@ use Rattle.std.specs.Prelude.{◌≡◌, ◌≢◌, ◌<◌, ◌≤◌, ◌+◌,
 use Rattle.cmr_base.specs.Members.{IsIn, IsDistinct}
 use Rattle.bridge_split.specs.declared.cuts.CutTable.{CutTable}
 use Rattle.bridge_split.specs.Cutting.{disagree}
-use Rattle.bridge_split.specs.PartNumbers.{Extends}
+
+-- what a list has stays in its place
+pub record Extends (before after : List ℕ) : Type 0 where
+  pub longer : length before ≤ length after
+  pub same : (p : ℕ) → p < length before → slice_index after p ≡ slice_index before p
 
 -- the depth of a number, and where it was not reached
 abbrev pub depth_at : List ℕ → ℕ → ℕ

@@ -1,3 +1,5 @@
+pub mod ColumnSets
+pub mod Counting
 pub mod SplitCases
 pub mod PartNumbers
 pub mod Cutting

@@ -1,129 +1,123 @@
 -- Numbers for the parts of the rows but one, and the states of the walk that gives them.
-use Rattle.std.specs.Prelude.{◌≡◌, ◌≢◌, ◌<◌, ◌≤◌, ◌==◌, ◌⊎◌, ℕ, suc, Bool, true, false, List, filter, map, length, slice_index, slice_index_or}
+use Rattle.std.specs.Prelude.{◌≡◌, ◌≢◌, ◌<◌, ◌≤◌, ◌+◌, ◌==◌, ◌⊎◌, ℕ, suc, Bool, true, false, List, Option, Some, None, filter, map, length, slice_index, slice_index_or}
 use Rattle.cmr_base.specs.LineSets.{first_lines}
 use Rattle.cmr_base.specs.Matrix.{Matrix, height, IsMatrix}
-use Rattle.cmr_base.specs.Members.{IsIn, IsDistinct}
+use Rattle.cmr_base.specs.Members.{IsIn}
+use Rattle.cmr_base.specs.Planes.{words_for}
 use Rattle.cmr_base.specs.Splits.{AreJoined, AreLinked, Splits}
 use Rattle.cmr_base.specs.Trees.{support}
+use Rattle.bridge_split.specs.ColumnSets.{has_column}
 
--- the number of a row's part, and where it has none
-abbrev pub number_at : List ℕ → ℕ → ℕ
-number_at numbers row = slice_index_or numbers row 4294967295
+-- the number of a row's part, if it has one
+abbrev pub number_at : List (Option ℕ) → ℕ → Option ℕ
+number_at numbers row = slice_index_or numbers row None
+
+abbrev pub is_number : ℕ → Option ℕ → Bool
+is_number number None = false
+is_number number (Some n) = n == number
+
+abbrev pub is_none : Option ℕ → Bool
+is_none None = true
+is_none (Some n) = false
 
 -- the rows of S with a number, and these lists for the first numbers
-abbrev pub numbered_rows : List ℕ → List ℕ → ℕ → List ℕ
-numbered_rows numbers S number = filter (λ row. number_at numbers row == number) S
+abbrev pub numbered_rows : List (Option ℕ) → List ℕ → ℕ → List ℕ
+numbered_rows numbers S number = filter (λ row. is_number number (number_at numbers row)) S
 
-abbrev pub numbered_parts : List ℕ → List ℕ → ℕ → List (List ℕ)
+abbrev pub numbered_parts : List (Option ℕ) → List ℕ → ℕ → List (List ℕ)
 numbered_parts numbers S count = map (numbered_rows numbers S) (first_lines count)
 
-abbrev pub is_seen : List Bool → ℕ → Bool
-is_seen seen column = slice_index_or seen column false
-
--- room for the numbers of all rows and for all columns
-pub record HasRoom (m : Matrix) (part : List ℕ) (seen : List Bool) : Type 0 where
+-- room for the numbers of all rows and for a set of columns
+pub record HasRoom (m : Matrix) (part : List (Option ℕ)) (reached : List ℕ) : Type 0 where
   pub matrix : IsMatrix m
   pub numbers : length part ≡ height m
-  pub columns : length seen ≡ m.width
+  pub columns : length reached ≡ words_for m.width
 
--- what was met stays in its place
-pub record Extends (met met' : List ℕ) : Type 0 where
-  pub longer : length met ≤ length met'
-  pub same : (p : ℕ) → p < length met → slice_index met' p ≡ slice_index met p
+-- the numbers that there were are kept
+abbrev pub Keeps : (ℕ → Option ℕ) → (ℕ → Option ℕ) → Type 0
+Keeps part part' = (k a : ℕ) → part k ≡ Some a → part' k ≡ Some a
+
+-- how many rows of S have no number
+abbrev pub left_in : List ℕ → (ℕ → Option ℕ) → ℕ
+left_in S part = length (filter (λ k. is_none (part k)) S)
+
+-- there is no number, or one above
+abbrev pub IsPast : ℕ → Option ℕ → Type 0
+IsPast a found = (found ≡ None) ⊎ ((b : ℕ) × (found ≡ Some b) × (a < b))
+
+-- another row than i that has no number yet
+abbrev pub IsLeft : ℕ → (ℕ → Option ℕ) → ℕ → Type 0
+IsLeft i part x = (x ≢ i) × (part x ≡ None)
+
+-- and is not 0 in a column that was reached
+abbrev pub IsTouched : (ℕ → ℕ → Bool) → ℕ → (ℕ → Option ℕ) → (ℕ → Bool) → ℕ → Type 0
+IsTouched M i part reached x = IsLeft i part x × ((column : ℕ) × (reached column ≡ true) × (M x column ≡ true))
 
 module _ (M : ℕ → ℕ → Bool) (S : List ℕ) (i : ℕ) where
   -- The parts of the rows but i are numbered by their first rows.
-  pub record AreNumbered (part : ℕ → ℕ) (count : ℕ) : Type 0 where
-    pub numbered : (k : ℕ) → IsIn k S → k ≢ i → part k < count
-    pub own : count ≤ part i
-    pub linked : (j k : ℕ) → IsIn j S → IsIn k S → j ≢ i → k ≢ i → part j ≡ part k → AreLinked M S i j k
+  pub record AreNumbered (part : ℕ → Option ℕ) (count : ℕ) : Type 0 where
+    pub numbered : (k : ℕ) → IsIn k S → k ≢ i → (a : ℕ) × (a < count) × (part k ≡ Some a)
+    pub own : part i ≡ None
+    pub linked : (j k a : ℕ) → part j ≡ Some a → part k ≡ Some a → AreLinked M S i j k
     pub joined : (j k : ℕ) → IsIn j S → IsIn k S → j ≢ i → k ≢ i → AreJoined M i j k → part j ≡ part k
-    pub filled : (a : ℕ) → a < count → (k : ℕ) × IsIn k S × (k ≢ i) × (part k ≡ a)
-    pub ordered : (k a : ℕ) → IsIn k S → k ≢ i → a < part k → (j : ℕ) × IsIn j S × (j ≢ i) × (part j ≡ a) × (j < k)
+    pub filled : (a : ℕ) → a < count → (k : ℕ) × IsIn k S × (k ≢ i) × (part k ≡ Some a)
+    pub ordered : (k a b : ℕ) → part k ≡ Some b → a < b → (j : ℕ) × IsIn j S × (j ≢ i) × (part j ≡ Some a) × (j < k)
     pub few : count ≤ 1000
 
-  module _ (part : ℕ → ℕ) (met : List ℕ) where
-    -- the rows that were met have numbers below top, and all rows of a column that was seen have one number
-    pub record AreMet (seen : ℕ → Bool) (top : ℕ) : Type 0 where
-      pub others : (k : ℕ) → IsIn k met → IsIn k S × (k ≢ i)
-      pub once : IsDistinct met
-      pub numbered : (k : ℕ) → IsIn k met → part k < top
-      pub unmet : (k : ℕ) → ¬ (IsIn k met) → part k ≡ 4294967295
-      pub linked : (j k : ℕ) → IsIn j met → IsIn k met → part j ≡ part k → AreLinked M S i j k
-      pub columns : (column j k : ℕ) → seen column ≡ true → IsIn j S → IsIn k S → M j column ≡ true → M k column ≡ true → IsIn j met × (part j ≡ part k)
-      pub ordered : (k a : ℕ) → IsIn k met → a < part k → (j : ℕ) × IsIn j met × (part j ≡ a) × (j < k)
-      pub few : top ≤ 1000
+  module _ (part : ℕ → Option ℕ) where
+    -- rows of S have the numbers below count, those of one number are linked, and an earlier number has an earlier row
+    pub record AreMet (count : ℕ) : Type 0 where
+      pub others : (k a : ℕ) → part k ≡ Some a → IsIn k S × (k ≢ i) × (a < count)
+      pub linked : (j k a : ℕ) → part j ≡ Some a → part k ≡ Some a → AreLinked M S i j k
+      pub filled : (a : ℕ) → a < count → (k : ℕ) × (part k ≡ Some a)
+      pub ordered : (k a : ℕ) → IsIn k S → k ≢ i → a < count → IsPast a (part k) → (j : ℕ) × (part j ≡ Some a) × (j < k)
+      pub few : count ≤ 1000
 
-    -- the rows before a place of S were met, and each number below count has one of them
-    pub record ArePassed (count place : ℕ) : Type 0 where
-      pub passed : (p : ℕ) → p < place → (slice_index S p ≡ i) ⊎ IsIn (slice_index S p) met
-      pub filled : (a : ℕ) → a < count → (p : ℕ) × (p < place) × IsIn (slice_index S p) met × (part (slice_index S p) ≡ a)
-      pub fewer : count ≤ place
+    -- the rows that are joined to one with a number below count have its number
+    abbrev pub AreClosed : ℕ → Type 0
+    AreClosed count = (j k a : ℕ) → part j ≡ Some a → a < count → IsIn k S → AreJoined M i j k → part k ≡ Some a
 
-    -- the rows that are joined to one of the first rows that were met have its number
-    abbrev pub AreDone : ℕ → Type 0
-    AreDone head = (p x : ℕ) → p < head → IsIn x S → AreJoined M i (slice_index met p) x → part x ≡ part (slice_index met p)
-
-    -- in the middle of a part: the rows met before head are done, and those from head on are of this part
-    pub record IsWalking (seen : ℕ → Bool) (number place head : ℕ) : Type 0 where
-      pub are : AreMet seen (suc number)
-      pub before : ArePassed number place
-      pub fits : head ≤ length met
-      pub done : AreDone head
-      pub current : (p : ℕ) → head ≤ p → p < length met → part (slice_index met p) ≡ number
-      pub started : IsIn (slice_index S place) met → part (slice_index S place) ≡ number
+    -- in the middle of a part: the columns that are reached are those of its rows but those of row i
+    pub record IsWalking (number : ℕ) (reached : ℕ → Bool) : Type 0 where
+      pub are : AreMet (suc number)
+      pub closed : AreClosed number
+      pub into : (column : ℕ) → reached column ≡ true → (k : ℕ) × (part k ≡ Some number) × (M k column ≡ true) × (M i column ≡ false)
+      pub from : (k column : ℕ) → part k ≡ Some number → M k column ≡ true → M i column ≡ false → reached column ≡ true
 
     -- between two parts
-    pub record IsBetween (seen : ℕ → Bool) (count place : ℕ) : Type 0 where
-      pub are : AreMet seen count
-      pub before : ArePassed count place
-      pub done : AreDone (length met)
+    pub record IsBetween (count : ℕ) : Type 0 where
+      pub are : AreMet count
+      pub closed : AreClosed count
 
--- in the middle of a column of the row at head: the rows before a place of S that it meets were met
-pub record IsMeeting (M : ℕ → ℕ → Bool) (S : List ℕ) (column number : ℕ) (met met' part' : List ℕ) (seen : List Bool) (i place head upto : ℕ) : Type 0 where
-  pub walk : IsWalking M S i (number_at part') met' (is_seen seen) number place head
-  pub so_far : (p : ℕ) → p < upto → M (slice_index S p) column ≡ true → IsIn (slice_index S p) met'
+    -- the rows before a place of S were met
+    pub record ArePassed (place : ℕ) : Type 0 where
+      pub passed : (p : ℕ) → p < place → (slice_index S p ≡ i) ⊎ ((a : ℕ) × (part (slice_index S p) ≡ Some a))
 
--- what holds of a walk before the rows of a column of its row at head are met holds after it
-abbrev pub KeepsWalking : (ℕ → ℕ → Bool) → List ℕ → ℕ → ℕ → List ℕ → List ℕ → List Bool → (ℕ → ℕ → ℕ → Type 0) → Type 0
-KeepsWalking M S column number part met seen Q = (i place head : ℕ) → head < length met → M (slice_index met head) column ≡ true → M i column ≡ false
-    → IsWalking M S i (number_at part) met (is_seen seen) number place head → Q i place head
+-- in the middle of the rows, so many of which were met: where none was, the rows before a place are not touched
+pub record IsMeeting (m : Matrix) (S : List ℕ) (i number : ℕ) (before part : List (Option ℕ)) (reached : List ℕ) (met place : ℕ) : Type 0 where
+  pub room : HasRoom m part reached
+  pub walk : IsWalking (support m) S i (number_at part) number (has_column reached)
+  pub keeps : Keeps (number_at before) (number_at part)
+  pub fewer : left_in S (number_at part) + met ≤ left_in S (number_at before)
+  pub none : met ≡ 0 → (p : ℕ) → p < place → ¬ (IsTouched (support m) i (number_at part) (has_column reached) (slice_index S p))
+  pub few : met ≤ place
 
-pub record IsMeetingColumn (m : Matrix) (S : List ℕ) (column number : ℕ) (part met : List ℕ) (seen : List Bool) (part' met' : List ℕ) (seen' : List Bool) (upto : ℕ) : Type 0 where
-  pub room : HasRoom m part' seen'
-  pub extends : Extends met met'
-  pub seen_is : seen' ≡ seen
-  pub walk : KeepsWalking (support m) S column number part met seen (λ i place head. IsMeeting (support m) S column number met met' part' seen' i place head upto)
-
--- the rows of a column are met
-pub record HasMetColumn (M : ℕ → ℕ → Bool) (S : List ℕ) (column number : ℕ) (part met : List ℕ) (seen : List Bool) (part' met' : List ℕ) (seen' : List Bool) : Type 0 where
-  pub extends : Extends met met'
-  pub here : is_seen seen' column ≡ true
-  pub kept : (c : ℕ) → is_seen seen c ≡ true → is_seen seen' c ≡ true
-  pub walk : KeepsWalking M S column number part met seen (λ i place head. IsWalking M S i (number_at part') met' (is_seen seen') number place head)
-
--- in the middle of the columns of the row at head: those before upto in which row i is 0 were seen
-pub record IsReaching (M : ℕ → ℕ → Bool) (S : List ℕ) (i number place head upto : ℕ) (met part' met' : List ℕ) (seen' : List Bool) : Type 0 where
-  pub walk : IsWalking M S i (number_at part') met' (is_seen seen') number place head
-  pub so_far : (column : ℕ) → column < upto → M (slice_index met head) column ≡ true → M i column ≡ false → is_seen seen' column ≡ true
-
-pub record IsMeetingJoined (m : Matrix) (S : List ℕ) (i number head : ℕ) (part met : List ℕ) (seen : List Bool) (part' met' : List ℕ) (seen' : List Bool) (upto : ℕ) : Type 0 where
-  pub room : HasRoom m part' seen'
-  pub extends : Extends met met'
-  pub walk : (place : ℕ) → IsWalking (support m) S i (number_at part) met (is_seen seen) number place head → IsReaching (support m) S i number place head upto met part' met' seen'
-
--- in the middle of a part, which begins with the row at a place of S
-pub record IsWalkingFrom (m : Matrix) (S : List ℕ) (i number place head : ℕ) (part met : List ℕ) (seen : List Bool) : Type 0 where
-  pub room : HasRoom m part seen
-  pub walk : IsWalking (support m) S i (number_at part) met (is_seen seen) number place head
-  pub start : IsIn (slice_index S place) met
+-- in the middle of a part whose first row was met; where none was met at last, no row is touched
+pub record IsWalkingFrom (m : Matrix) (S : List ℕ) (i number first : ℕ) (before part : List (Option ℕ)) (reached : List ℕ) (met : ℕ) : Type 0 where
+  pub room : HasRoom m part reached
+  pub walk : IsWalking (support m) S i (number_at part) number (has_column reached)
+  pub keeps : Keeps (number_at before) (number_at part)
+  pub first_in : number_at part first ≡ Some number
+  pub none : met ≡ 0 → (x : ℕ) → IsIn x S → ¬ (IsTouched (support m) i (number_at part) (has_column reached) x)
 
 -- between two parts
-pub record IsNumbering (m : Matrix) (S : List ℕ) (i count place : ℕ) (part met : List ℕ) (seen : List Bool) : Type 0 where
-  pub room : HasRoom m part seen
-  pub between : IsBetween (support m) S i (number_at part) met (is_seen seen) count place
+pub record IsNumbering (m : Matrix) (S : List ℕ) (i count place : ℕ) (part : List (Option ℕ)) (reached : List ℕ) : Type 0 where
+  pub room : HasRoom m part reached
+  pub between : IsBetween (support m) S i (number_at part) count
+  pub before : ArePassed (support m) S i (number_at part) place
+  pub fewer : count ≤ place
 
 -- the rows before a place of S do not split
-pub record IsSearching (m : Matrix) (S : List ℕ) (place : ℕ) (part : List ℕ) (seen : List Bool) : Type 0 where
-  pub room : HasRoom m part seen
+pub record IsSearching (m : Matrix) (S : List ℕ) (place : ℕ) (part : List (Option ℕ)) (reached : List ℕ) : Type 0 where
+  pub room : HasRoom m part reached
   pub none : (p : ℕ) → p < place → ¬ (Splits (support m) S (slice_index S p))

@@ -1,49 +1,74 @@
-// How many nonzeros the columns have in some rows.
-ghost use Rattle.std.specs.Prelude.{◌≡◌, ◌≤◌, ◌<◌, ◌+◌, ◌^◌, ℕ, cond, count_by, length, slice_index, IfOk, MatchOption};
+// The columns with three nonzeros or more in some rows.
+ghost use Rattle.std.specs.Prelude.{◌≡◌, ◌<◌, ◌≤◌, ◌&&◌, ◌||◌, true, false, ℕ, length, IfOk, MatchOption};
 ghost use Rattle.cmr_base.specs.LineSets.{AllBelow};
 ghost use Rattle.cmr_base.specs.Matrix.{height, IsMatrix};
-ghost use Rattle.cmr_base.specs.Trees.{support};
+ghost use Rattle.cmr_base.specs.Planes.{words_for};
+ghost use Rattle.bridge_split.specs.ColumnSets.{has_column};
+ghost use Rattle.bridge_split.specs.Counting.{AreCounts, HasWords};
 
-use cmr_base::{Matrix, Memory};
+use crate::columns::{add_common, next_column};
+use cmr_base::{Matrix, Memory, words_for};
 use std::alloc::Global;
 
-/// For each column, how many nonzeros it has in these rows.
-pub fn nonzero_counts(alloc: Global, matrix: &Matrix, rows: &[u32]) -> Result<Vec<u32>, Memory>
-    requires rows { AllBelow (height matrix.now) rows.now }
-    requires few { length rows.now ≤ height matrix.now }
-    ensures shape { IsMatrix matrix.now }
-    ensures len { IfOk result (λ counts. length counts.items ≡ matrix.now.width) }
-    ensures counts { IfOk result (λ counts. (column : ℕ) → column < matrix.now.width → slice_index counts.items column ≡ count_by (λ row. support matrix.now row column) rows.now) }
-{
-    let mut counts = vec![in alloc; 0u32; matrix.columns() as usize]?;
-    for row in rows {
-        count_row(matrix, *row, &mut counts);
-    }
-    Ok(counts)
+/// The columns with one nonzero or more in some rows, with two or more, and with three or more.
+#[derive(Drop)]
+pub struct Counts {
+    once: Vec<u64>,
+    twice: Vec<u64>,
+    thrice: Vec<u64>,
 }
 
-fn count_row(matrix: &Matrix, row: u32, counts: &mut [u32])
-    requires row { row < height matrix.now }
-    requires len { length counts.old ≡ matrix.now.width }
-    requires room { (column : ℕ) → column < matrix.now.width → slice_index counts.old column < 1000 }
-    ensures { (column : ℕ) → column < matrix.now.width → slice_index counts.new column ≡ slice_index counts.old column + cond (support matrix.now row column) 1 0 }
-{
-    let mut from = 0;
-    while let Some(column) = matrix.next_nonzero(row, from) {
-        counts[column as usize] += 1;
-        from = column + 1;
+impl Counts {
+    // The counts over no rows.
+    fn new(alloc: Global, columns: u32) -> Result<Counts, Memory>
+        requires { columns ≤ 1000 }
+        ensures words { IfOk result (HasWords columns) }
+        ensures once { IfOk result (λ counts. (column : ℕ) → has_column counts.once.items column ≡ false) }
+        ensures twice { IfOk result (λ counts. (column : ℕ) → has_column counts.twice.items column ≡ false) }
+        ensures thrice { IfOk result (λ counts. (column : ℕ) → has_column counts.thrice.items column ≡ false) }
+    {
+        let words = words_for(columns);
+        Ok(Counts {
+            once: vec![in alloc; 0u64; words]?,
+            twice: vec![in alloc; 0u64; words]?,
+            thrice: vec![in alloc; 0u64; words]?,
+        })
     }
-}
 
-/// The first column whose count is three or more.
-pub fn first_from_three(counts: &[u32]) -> Option<u32>
-    requires { length counts.now ≤ 1000 }
-    ensures { MatchOption result ((column : ℕ) → column < length counts.now → slice_index counts.now column < 3) (λ first. (first < length counts.now) × (3 ≤ slice_index counts.now first) × ((column : ℕ) → column < first → slice_index counts.now column < 3)) }
-{
-    for column in 0..counts.len() {
-        if counts[column] >= 3 {
-            return Some(column as u32);
+    /// The counts over these rows.
+    pub fn of(alloc: Global, matrix: &Matrix, rows: &[u32]) -> Result<Counts, Memory>
+        requires { AllBelow (height matrix.now) rows.now }
+        ensures { IfOk result (AreCounts matrix.now rows.now) }
+    {
+        let mut counts = Counts::new(alloc, matrix.columns())?;
+        for row in rows {
+            counts.add(matrix.support_words(*row));
         }
+        Ok(counts)
     }
-    None
+
+    // Counts one row more.
+    fn add(&mut self, row: &[u64])
+        requires once { length self.old.once.items ≡ length row.now }
+        requires twice { length self.old.twice.items ≡ length row.now }
+        requires thrice { length self.old.thrice.items ≡ length row.now }
+        ensures once_long { length self.new.once.items ≡ length self.old.once.items }
+        ensures twice_long { length self.new.twice.items ≡ length self.old.twice.items }
+        ensures thrice_long { length self.new.thrice.items ≡ length self.old.thrice.items }
+        ensures once { (column : ℕ) → has_column self.new.once.items column ≡ (has_column self.old.once.items column || (has_column row.now column && has_column row.now column)) }
+        ensures twice { (column : ℕ) → has_column self.new.twice.items column ≡ (has_column self.old.twice.items column || (has_column self.old.once.items column && has_column row.now column)) }
+        ensures thrice { (column : ℕ) → has_column self.new.thrice.items column ≡ (has_column self.old.thrice.items column || (has_column self.old.twice.items column && has_column row.now column)) }
+    {
+        add_common(&mut self.thrice, self.twice.as_slice(), row);
+        add_common(&mut self.twice, self.once.as_slice(), row);
+        add_common(&mut self.once, row, row);
+    }
+
+    /// The first column with three nonzeros or more.
+    pub fn first_from_three(&self) -> Option<u32>
+        requires { length self.now.thrice.items ≤ 16 }
+        ensures { MatchOption result ((column : ℕ) → has_column self.now.thrice.items column ≡ false) (λ first. (has_column self.now.thrice.items first ≡ true) × ((column : ℕ) → column < first → has_column self.now.thrice.items column ≡ false)) }
+    {
+        next_column(self.thrice.as_slice(), 0)
+    }
 }

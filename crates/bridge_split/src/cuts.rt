@@ -1,14 +1,16 @@
 // Which parts cut the common columns of which.
-ghost use Rattle.std.specs.Prelude.{◌≡◌, ◌<◌, ◌≤◌, ◌*◌, ◌↔◌, ℕ, length, IfOk, IsTrue, OnOk};
+ghost use Rattle.std.specs.Prelude.{◌≡◌, ◌<◌, ◌≤◌, ◌*◌, ◌↔◌, true, ℕ, length, IfOk, OnOk};
 ghost use Rattle.cmr_base.specs.LineSets.{AllBelow};
-ghost use Rattle.cmr_base.specs.Matrix.{height};
-ghost use Rattle.cmr_base.specs.Members.{IsIn};
+ghost use Rattle.cmr_base.specs.Matrix.{height, IsMatrix};
+ghost use Rattle.cmr_base.specs.Planes.{words_for};
 ghost use Rattle.cmr_base.specs.Splits.{IsCommon};
 ghost use Rattle.cmr_base.specs.Trees.{support};
-ghost use Rattle.bridge_split.specs.Cutting.{AreUncutIn, Denies, HasLine, IsCutTable, IsMetBy, IsUncutIn, part_at};
+ghost use Rattle.bridge_split.specs.ColumnSets.{has_column, Denies};
+ghost use Rattle.bridge_split.specs.Cutting.{AreUncutIn, HasLine, IsCutTable, IsUncutIn, part_at};
 ghost use Rattle.bridge_split.specs.Forests.{IsSquare, joins};
 
-use cmr_base::{Indices, Matrix, Memory};
+use crate::columns::{add_common, is_cut};
+use cmr_base::{Indices, Matrix, Memory, words_for};
 use std::alloc::Global;
 
 /// For each two parts, whether some row of the second cuts the columns that `row` has in common with the first.
@@ -35,10 +37,10 @@ impl CutTable {
     {
         prove!(parts.len() <= matrix.rows() as usize);
         let mut cuts = Vec::with_capacity(alloc, parts.len() * parts.len())?;
-        let mut common = Vec::with_capacity(alloc, matrix.columns() as usize)?;
+        let mut common = vec![in alloc; 0u64; words_for(matrix.columns())]?;
         for part in parts {
-            set_common(matrix, row, part, &mut common)?;
-            push_cuts(matrix, parts, &common, &mut cuts)?;
+            set_common(matrix, row, part, &mut common);
+            push_cuts(matrix, parts, common.as_slice(), &mut cuts)?;
         }
         Ok(CutTable {
             count: parts.len(),
@@ -64,49 +66,35 @@ impl CutTable {
     }
 }
 
-// Lists the columns that `row` has in common with some row of the part.
-fn set_common(
-    matrix: &Matrix,
-    row: u32,
-    part: &Indices,
-    common: &mut Vec<u32>,
-) -> Result<(), Memory>
+/// Sets the columns that `row` has in common with some row of the part.
+pub fn set_common(matrix: &Matrix, row: u32, part: &Indices, common: &mut Vec<u64>)
+    requires shape { IsMatrix matrix.now }
     requires row { row < height matrix.now }
     requires rows { AllBelow (height matrix.now) part.now }
-    ensures below { OnOk result (AllBelow matrix.now.width common.new.items) }
-    ensures common { OnOk result ((column : ℕ) → IsIn column common.new.items ↔ IsCommon (support matrix.now) row part.now column) }
+    requires size { length common.old.items ≡ words_for matrix.now.width }
+    ensures size { length common.new.items ≡ words_for matrix.now.width }
+    ensures common { (column : ℕ) → (has_column common.new.items column ≡ true) ↔ IsCommon (support matrix.now) row part.now column }
 {
-    common.clear();
-    for column in 0..matrix.columns() {
-        if matrix.is_nonzero(row, column) && meets_part(matrix, part.as_slice(), column) {
-            common.push(column)?;
-        }
+    common.fill(0);
+    for other in part.as_slice() {
+        add_common(
+            common,
+            matrix.support_words(row),
+            matrix.support_words(*other),
+        );
     }
-    Ok(())
-}
-
-fn meets_part(matrix: &Matrix, part: &[u32], column: u32) -> bool
-    requires rows { AllBelow (height matrix.now) part.now }
-    requires column { column < matrix.now.width }
-    ensures { IsTrue result ↔ IsMetBy (support matrix.now) part.now column }
-{
-    for row in part {
-        if matrix.is_nonzero(*row, column) {
-            return true;
-        }
-    }
-    false
 }
 
 fn push_cuts(
     matrix: &Matrix,
     parts: &[Indices],
-    columns: &[u32],
+    columns: &[u64],
     cuts: &mut Vec<bool>,
 ) -> Result<(), Memory>
+    requires shape { IsMatrix matrix.now }
     requires rows { (a : ℕ) → a < length parts.now → AllBelow (height matrix.now) (part_at parts.now a) }
-    requires columns { AllBelow matrix.now.width columns.now }
-    ensures { OnOk result (HasLine (support matrix.now) columns.now parts.now (length parts.now) cuts.old.items cuts.new.items) }
+    requires size { length columns.now ≡ words_for matrix.now.width }
+    ensures { OnOk result (HasLine (support matrix.now) (has_column columns.now) parts.now (length parts.now) cuts.old.items cuts.new.items) }
 {
     for part in parts {
         cuts.push(part_cuts(matrix, part.as_slice(), columns))?;
@@ -114,10 +102,12 @@ fn push_cuts(
     Ok(())
 }
 
-fn part_cuts(matrix: &Matrix, part: &[u32], columns: &[u32]) -> bool
+/// Whether some row of the part is 0 in some of the columns and not in others.
+pub fn part_cuts(matrix: &Matrix, part: &[u32], columns: &[u64]) -> bool
+    requires shape { IsMatrix matrix.now }
     requires rows { AllBelow (height matrix.now) part.now }
-    requires columns { AllBelow matrix.now.width columns.now }
-    ensures { Denies result (AreUncutIn (support matrix.now) columns.now part.now) }
+    requires size { length columns.now ≡ words_for matrix.now.width }
+    ensures { Denies result (AreUncutIn (support matrix.now) (has_column columns.now) part.now) }
 {
     for row in part {
         if row_cuts(matrix, *row, columns) {
@@ -128,19 +118,11 @@ fn part_cuts(matrix: &Matrix, part: &[u32], columns: &[u32]) -> bool
 }
 
 // Whether the row is 0 in some of the columns and not in others.
-fn row_cuts(matrix: &Matrix, row: u32, columns: &[u32]) -> bool
+fn row_cuts(matrix: &Matrix, row: u32, columns: &[u64]) -> bool
+    requires shape { IsMatrix matrix.now }
     requires row { row < height matrix.now }
-    requires columns { AllBelow matrix.now.width columns.now }
-    ensures { Denies result (IsUncutIn (support matrix.now) columns.now row) }
+    requires size { length columns.now ≡ words_for matrix.now.width }
+    ensures { Denies result (IsUncutIn (support matrix.now) (has_column columns.now) row) }
 {
-    if columns.is_empty() {
-        return false;
-    }
-    let first = matrix.is_nonzero(row, columns[0]);
-    for column in columns {
-        if matrix.is_nonzero(row, *column) != first {
-            return true;
-        }
-    }
-    false
+    is_cut(columns, matrix.support_words(row))
 }

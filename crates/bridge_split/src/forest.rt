@@ -1,8 +1,7 @@
 // Breadth-first trees in which each part disagrees with its parent.
 ghost use Rattle.std.specs.Prelude.{◌≡◌, ◌<◌, ◌≤◌, ◌+◌, ◌++◌, ◌∷◌, [], ℕ, length, slice_index, slice_set, IfOk, OnOk, MatchOption};
 ghost use Rattle.cmr_base.specs.Members.{IsIn};
-ghost use Rattle.bridge_split.specs.Forests.{AreInOneTree, HasRoute, HasTreeRoom, IsConflict, IsGrowing, IsGrown, IsSquare, IsTwoColoured, depth_at, joins, parent_at};
-ghost use Rattle.bridge_split.specs.PartNumbers.{Extends};
+ghost use Rattle.bridge_split.specs.Forests.{AreInOneTree, Extends, HasRoute, HasTreeRoom, IsConflict, IsGrowing, IsGrown, IsSquare, IsTwoColoured, depth_at, joins, parent_at};
 
 use crate::cuts::CutTable;
 use cmr_base::Memory;

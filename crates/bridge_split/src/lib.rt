@@ -2,6 +2,7 @@
 //! Theory of Linear and Integer Programming, chapter 20).
 #![tactic(auto)]
 
+pub mod columns;
 mod counts;
 mod cuts;
 mod forest;
@@ -10,6 +11,7 @@ mod parts;
 mod sides;
 mod splitting;
 
+pub use cuts::{part_cuts, set_common};
 pub use parts::parts_at;
 pub use sides::{Sides, sides_at};
-pub use splitting::{SplitCase, first_column_with_three, split};
+pub use splitting::{SplitCase, SplitRow, first_column_with_three, first_splitting_row, split};

@@ -1,167 +1,151 @@
 // The walk over rows that are joined, from one row after another.
-ghost use Rattle.std.specs.Prelude.{◌≡◌, ◌≢◌, ◌<◌, ◌+◌, ◌++◌, ◌∷◌, [], ℕ, true, false, length, slice_index, slice_set, IfOk, OnOk};
+ghost use Rattle.std.specs.Prelude.{◌≡◌, ◌≢◌, ◌<◌, ◌≤◌, ◌+◌, ◌↔◌, ◌&&◌, ◌||◌, not, false, ℕ, Some, None, length, slice_index, slice_set, IfOk, IsTrue};
 ghost use Rattle.std.specs.List.Sorted.{IsStrictlyIncreasing};
 ghost use Rattle.cmr_base.specs.LineSets.{AllBelow};
 ghost use Rattle.cmr_base.specs.Matrix.{height};
 ghost use Rattle.cmr_base.specs.Members.{IsIn};
 ghost use Rattle.cmr_base.specs.Trees.{support};
-ghost use Rattle.bridge_split.specs.PartNumbers.{number_at, is_seen, HasRoom, Extends, AreNumbered, IsWalking, IsBetween, HasMetColumn};
+ghost use Rattle.bridge_split.specs.ColumnSets.{has_column};
+ghost use Rattle.bridge_split.specs.PartNumbers.{AreNumbered, ArePassed, HasRoom, IsBetween, IsLeft, IsTouched, IsWalking, Keeps, left_in, number_at};
 
-use cmr_base::{Matrix, Memory};
+use crate::columns::{add_outside, meets};
+use cmr_base::{Matrix, Memory, words_for};
 use std::alloc::Global;
-
-/// The number of a row that was not met.
-pub const UNMET: u32 = 4_294_967_295;
 
 /// The parts into which rows fall without one of them. The room is taken once for all rows of a matrix.
 #[derive(Drop)]
 pub struct PartWalk {
-    /// The number of each row's part.
-    pub part: Vec<u32>,
-    // The rows that have a number, in the order in which they were met.
-    met: Vec<u32>,
-    // The columns all of whose rows were met.
-    seen: Vec<bool>,
+    /// The number of each row's part, where it was met.
+    pub part: Vec<Option<u32>>,
+    // The columns of the rows that were met of one part, but those of the row that is left out.
+    reached: Vec<u64>,
 }
 
 impl PartWalk {
     /// Room for the walks over the rows of a matrix.
     pub fn new(alloc: Global, matrix: &Matrix) -> Result<PartWalk, Memory>
-        ensures { IfOk result (λ walk. HasRoom matrix.now walk.part.items walk.seen.items) }
+        ensures { IfOk result (λ walk. HasRoom matrix.now walk.part.items walk.reached.items) }
     {
         Ok(PartWalk {
-            part: vec![in alloc; UNMET; matrix.rows() as usize]?,
-            met: Vec::with_capacity(alloc, matrix.rows() as usize)?,
-            seen: vec![in alloc; false; matrix.columns() as usize]?,
+            part: vec![in alloc; None; matrix.rows() as usize]?,
+            reached: vec![in alloc; 0u64; words_for(matrix.columns())]?,
         })
     }
 
     /// Numbers the parts of the rows but `row`, by their first rows, and says how many there are.
-    pub fn number_parts(&mut self, matrix: &Matrix, rows: &[u32], row: u32) -> Result<u32, Memory>
+    pub fn number_parts(&mut self, matrix: &Matrix, rows: &[u32], row: u32) -> u32
         requires rows { AllBelow (height matrix.now) rows.now }
         requires rising { IsStrictlyIncreasing rows.now }
         requires row { IsIn row rows.now }
-        requires room { HasRoom matrix.now self.old.part.items self.old.seen.items }
-        ensures room { OnOk result (HasRoom matrix.now self.new.part.items self.new.seen.items) }
-        ensures parts { IfOk result (AreNumbered (support matrix.now) rows.now row (number_at self.new.part.items)) }
+        requires room { HasRoom matrix.now self.old.part.items self.old.reached.items }
+        ensures room { HasRoom matrix.now self.new.part.items self.new.reached.items }
+        ensures parts { AreNumbered (support matrix.now) rows.now row (number_at self.new.part.items) result }
     {
         self.clear();
         let mut count = 0;
         for place in 0..rows.len() {
-            if rows[place] != row && self.part[rows[place] as usize] == UNMET {
-                self.walk_from(matrix, rows, row, place, count)?;
+            if self.is_left(rows[place], row) {
+                self.walk_from(matrix, rows, row, place, count);
                 count += 1;
             }
         }
-        Ok(count)
+        count
     }
 
     fn clear(&mut self)
-        ensures part { (x : ℕ) → number_at self.new.part.items x ≡ 4294967295 }
-        ensures met { self.new.met.items ≡ [] }
-        ensures seen { (x : ℕ) → is_seen self.new.seen.items x ≡ false }
+        ensures part { (x : ℕ) → number_at self.new.part.items x ≡ None }
         ensures numbers { length self.new.part.items ≡ length self.old.part.items }
-        ensures columns { length self.new.seen.items ≡ length self.old.seen.items }
+        ensures reached { self.new.reached.items ≡ self.old.reached.items }
     {
-        self.part.fill(UNMET);
-        self.met.clear();
-        self.seen.fill(false);
+        self.part.fill(None);
+    }
+
+    // Whether a row is another one and was not met.
+    fn is_left(&self, other: u32, row: u32) -> bool
+        requires { other < length self.now.part.items }
+        ensures { IsTrue result ↔ IsLeft row (number_at self.now.part.items) other }
+    {
+        other != row && self.part[other as usize].is_none()
     }
 
     // Meets all rows that are linked to the one at `place`.
-    fn walk_from(
-        &mut self,
-        matrix: &Matrix,
-        rows: &[u32],
-        row: u32,
-        place: usize,
-        number: u32,
-    ) -> Result<(), Memory>
+    fn walk_from(&mut self, matrix: &Matrix, rows: &[u32], row: u32, place: usize, number: u32)
         requires rows { AllBelow (height matrix.now) rows.now }
         requires rising { IsStrictlyIncreasing rows.now }
-        requires row { IsIn row rows.now }
-        requires room { HasRoom matrix.now self.old.part.items self.old.seen.items }
+        requires row { row < height matrix.now }
+        requires room { HasRoom matrix.now self.old.part.items self.old.reached.items }
         requires place { place < length rows.now }
-        requires other { slice_index rows.now place ≢ row }
-        requires start { number_at self.old.part.items (slice_index rows.now place) ≡ 4294967295 }
-        requires between { IsBetween (support matrix.now) rows.now row (number_at self.old.part.items) self.old.met.items (is_seen self.old.seen.items) number place }
-        ensures room { OnOk result (HasRoom matrix.now self.new.part.items self.new.seen.items) }
-        ensures between { OnOk result (IsBetween (support matrix.now) rows.now row (number_at self.new.part.items) self.new.met.items (is_seen self.new.seen.items) (number + 1) (place + 1)) }
+        requires few { number < 1000 }
+        requires left { IsLeft row (number_at self.old.part.items) (slice_index rows.now place) }
+        requires passed { ArePassed (support matrix.now) rows.now row (number_at self.old.part.items) place }
+        requires between { IsBetween (support matrix.now) rows.now row (number_at self.old.part.items) number }
+        ensures room { HasRoom matrix.now self.new.part.items self.new.reached.items }
+        ensures keeps { Keeps (number_at self.old.part.items) (number_at self.new.part.items) }
+        ensures first { number_at self.new.part.items (slice_index rows.now place) ≡ Some number }
+        ensures between { IsBetween (support matrix.now) rows.now row (number_at self.new.part.items) (number + 1) }
     {
-        let mut head = self.met.len();
-        self.meet(rows[place], number)?;
-        while head < self.met.len() {
-            self.meet_joined(matrix, rows, row, head, number)?;
-            head += 1;
+        self.forget();
+        self.meet(matrix, row, rows[place], number);
+        let mut met = 1;
+        while met > 0 {
+            met = self.meet_touched(matrix, rows, row, number);
         }
-        Ok(())
     }
 
-    // Meets all rows that are joined to the one at `head`, and stops where no row is left.
-    fn meet_joined(
-        &mut self,
-        matrix: &Matrix,
-        rows: &[u32],
-        row: u32,
-        head: usize,
-        number: u32,
-    ) -> Result<(), Memory>
-        requires rows { AllBelow (height matrix.now) rows.now }
-        requires rising { IsStrictlyIncreasing rows.now }
-        requires row { IsIn row rows.now }
-        requires room { HasRoom matrix.now self.old.part.items self.old.seen.items }
-        requires head { head < length self.old.met.items }
-        requires others { (x : ℕ) → IsIn x self.old.met.items → IsIn x rows.now }
-        ensures room { OnOk result (HasRoom matrix.now self.new.part.items self.new.seen.items) }
-        ensures extends { OnOk result (Extends self.old.met.items self.new.met.items) }
-        ensures walk { OnOk result ((place : ℕ) → IsWalking (support matrix.now) rows.now row (number_at self.old.part.items) self.old.met.items (is_seen self.old.seen.items) number place head → IsWalking (support matrix.now) rows.now row (number_at self.new.part.items) self.new.met.items (is_seen self.new.seen.items) number place (head + 1)) }
+    fn forget(&mut self)
+        ensures none { (column : ℕ) → has_column self.new.reached.items column ≡ false }
+        ensures columns { length self.new.reached.items ≡ length self.old.reached.items }
+        ensures part { self.new.part.items ≡ self.old.part.items }
     {
-        let from = self.met[head];
-        let mut next = 0;
-        while let Some(column) = matrix.next_nonzero(from, next) {
-            if self.met.len() + 1 == rows.len() {
-                return Ok(());
-            }
-            if !self.seen[column as usize] && !matrix.is_nonzero(row, column) {
-                self.meet_column(matrix, rows, column, number)?;
-            }
-            next = column + 1;
-        }
-        Ok(())
+        self.reached.fill(0);
     }
 
-    // Meets all rows that are not 0 in a column.
-    fn meet_column(
-        &mut self,
-        matrix: &Matrix,
-        rows: &[u32],
-        column: u32,
-        number: u32,
-    ) -> Result<(), Memory>
+    // Goes once over the rows and meets those that are not 0 in a column that was reached by then. It says how many they are.
+    fn meet_touched(&mut self, matrix: &Matrix, rows: &[u32], row: u32, number: u32) -> u32
         requires rows { AllBelow (height matrix.now) rows.now }
-        requires rising { IsStrictlyIncreasing rows.now }
-        requires column { column < matrix.now.width }
-        requires room { HasRoom matrix.now self.old.part.items self.old.seen.items }
-        ensures room { OnOk result (HasRoom matrix.now self.new.part.items self.new.seen.items) }
-        ensures column { OnOk result (HasMetColumn (support matrix.now) rows.now column number self.old.part.items self.old.met.items self.old.seen.items self.new.part.items self.new.met.items self.new.seen.items) }
+        requires few { length rows.now ≤ 1000 }
+        requires row { row < height matrix.now }
+        requires room { HasRoom matrix.now self.old.part.items self.old.reached.items }
+        requires walk { IsWalking (support matrix.now) rows.now row (number_at self.old.part.items) number (has_column self.old.reached.items) }
+        ensures room { HasRoom matrix.now self.new.part.items self.new.reached.items }
+        ensures walk { IsWalking (support matrix.now) rows.now row (number_at self.new.part.items) number (has_column self.new.reached.items) }
+        ensures keeps { Keeps (number_at self.old.part.items) (number_at self.new.part.items) }
+        ensures fewer { left_in rows.now (number_at self.new.part.items) + result ≤ left_in rows.now (number_at self.old.part.items) }
+        ensures none { result ≡ 0 → (x : ℕ) → IsIn x rows.now → ¬ (IsTouched (support matrix.now) row (number_at self.new.part.items) (has_column self.new.reached.items) x) }
     {
+        let mut met = 0;
         for other in rows {
-            if self.part[*other as usize] == UNMET && matrix.is_nonzero(*other, column) {
-                self.meet(*other, number)?;
+            if self.is_touched(matrix, *other, row) {
+                self.meet(matrix, row, *other, number);
+                met += 1;
             }
         }
-        self.seen[column as usize] = true;
-        Ok(())
+        met
     }
 
-    fn meet(&mut self, row: u32, number: u32) -> Result<(), Memory>
-        requires { row < length self.old.part.items }
-        ensures part { OnOk result (self.new.part.items ≡ slice_set self.old.part.items row number) }
-        ensures met { OnOk result (self.new.met.items ≡ self.old.met.items ++ row ∷ []) }
-        ensures seen { self.new.seen.items ≡ self.old.seen.items }
+    // Whether a row that is left is not 0 in a column that was reached.
+    fn is_touched(&self, matrix: &Matrix, other: u32, row: u32) -> bool
+        requires other { other < height matrix.now }
+        requires room { HasRoom matrix.now self.now.part.items self.now.reached.items }
+        ensures { IsTrue result ↔ IsTouched (support matrix.now) row (number_at self.now.part.items) (has_column self.now.reached.items) other }
     {
-        self.part[row as usize] = number;
-        self.met.push(row)?;
-        Ok(())
+        self.is_left(other, row) && meets(self.reached.as_slice(), matrix.support_words(other))
+    }
+
+    // Meets a row: its columns in which `row` is 0 are reached.
+    fn meet(&mut self, matrix: &Matrix, row: u32, other: u32, number: u32)
+        requires row { row < height matrix.now }
+        requires other { other < height matrix.now }
+        requires room { HasRoom matrix.now self.old.part.items self.old.reached.items }
+        ensures room { HasRoom matrix.now self.new.part.items self.new.reached.items }
+        ensures part { self.new.part.items ≡ slice_set self.old.part.items other (Some number) }
+        ensures reached { (column : ℕ) → has_column self.new.reached.items column ≡ (has_column self.old.reached.items column || (support matrix.now other column && not (support matrix.now row column))) }
+    {
+        self.part[other as usize] = Some(number);
+        add_outside(
+            &mut self.reached,
+            matrix.support_words(other),
+            matrix.support_words(row),
+        );
     }
 }

@@ -6,7 +6,7 @@ ghost use Rattle.cmr_base.specs.Matrix.{height};
 ghost use Rattle.cmr_base.specs.Members.{IsIn};
 ghost use Rattle.cmr_base.specs.Splits.{AreParts};
 ghost use Rattle.cmr_base.specs.Trees.{support};
-ghost use Rattle.bridge_split.specs.PartNumbers.{numbered_parts, numbered_rows};
+ghost use Rattle.bridge_split.specs.PartNumbers.{is_number, numbered_parts, numbered_rows};
 
 use crate::part_walk::PartWalk;
 use cmr_base::{Indices, Matrix, Memory, PartList};
@@ -25,7 +25,7 @@ pub fn parts_at(
     ensures { IfOk result (λ parts. AreParts (support matrix.now) rows.now row parts) }
 {
     let mut walk = PartWalk::new(alloc, matrix)?;
-    let count = walk.number_parts(matrix, rows.as_slice(), row)?;
+    let count = walk.number_parts(matrix, rows.as_slice(), row);
     parts_of_numbers(alloc, rows.as_slice(), &walk.part, count)
 }
 
@@ -33,7 +33,7 @@ pub fn parts_at(
 pub fn parts_of_numbers(
     alloc: Global,
     rows: &[u32],
-    part: &[u32],
+    part: &[Option<u32>],
     count: u32,
 ) -> Result<PartList, Memory>
     requires rows { AllBelow (length part.now) rows.now }
@@ -47,16 +47,27 @@ pub fn parts_of_numbers(
     Ok(parts)
 }
 
-fn rows_of_part(alloc: Global, rows: &[u32], part: &[u32], number: u32) -> Result<Indices, Memory>
+fn rows_of_part(
+    alloc: Global,
+    rows: &[u32],
+    part: &[Option<u32>],
+    number: u32,
+) -> Result<Indices, Memory>
     requires rows { AllBelow (length part.now) rows.now }
     requires rising { IsStrictlyIncreasing rows.now }
     ensures { IfOk result (λ of_part. of_part ≡ numbered_rows part.now rows.now number) }
 {
     let mut of_part = Indices::new(alloc);
     for row in rows {
-        if part[*row as usize] == number {
+        if has_number(part[*row as usize], number) {
             of_part.push(*row)?;
         }
     }
     Ok(of_part)
+}
+
+fn has_number(part: Option<u32>, number: u32) -> bool
+    ensures { result ≡ is_number number part }
+{
+    part == Some(number)
 }

@@ -1,5 +1,5 @@
 // The first row that splits the others.
-ghost use Rattle.std.specs.Prelude.{ℕ, IfOk, MatchOption};
+ghost use Rattle.std.specs.Prelude.{◌<◌, ℕ, IfOk, MatchOption};
 ghost use Rattle.std.specs.List.Sorted.{IsStrictlyIncreasing};
 ghost use Rattle.cmr_base.specs.LineSets.{AllBelow, first_lines};
 ghost use Rattle.cmr_base.specs.Matrix.{height};
@@ -7,7 +7,7 @@ ghost use Rattle.cmr_base.specs.Splits.{AreParts, HasNoThree, IsFirstSplit, Spli
 ghost use Rattle.cmr_base.specs.Trees.{IsBinary, support};
 ghost use Rattle.bridge_split.specs.SplitCases.{IsFirstWithThree, IsSplitCase};
 
-use crate::counts::{first_from_three, nonzero_counts};
+use crate::counts::Counts;
 use crate::part_walk::PartWalk;
 use crate::parts::parts_of_numbers;
 use crate::sides::{Sides, sides_at};
@@ -45,38 +45,43 @@ pub fn split(alloc: Global, matrix: &Matrix) -> Result<SplitCase, Memory>
     let rows = &lines.rows;
     match first_column_with_three(alloc, matrix, rows)? {
         None => Ok(SplitCase::Star),
-        Some(column) => match first_splitting_row(alloc, matrix, rows.as_slice())? {
+        Some(column) => match first_splitting_row(alloc, matrix, rows.as_slice(), 0)? {
             None => Ok(SplitCase::AllConnected(column)),
             Some(split) => with_sides(alloc, matrix, rows, split),
         },
     }
 }
 
-// A row that splits the others, with their parts.
-#[derive(Drop)]
-struct SplitRow {
-    row: u32,
-    parts: PartList,
+/// A row that splits the others, with their parts.
+#[derive(Debug, Drop)]
+pub struct SplitRow {
+    pub row: u32,
+    pub parts: PartList,
 }
 
 // A row splits the others where they fall into so many parts or more.
 const SPLIT_PARTS: u32 = 2;
 
-fn first_splitting_row(
+/// The first of these rows that splits the others, with their parts, where none below `untested` does.
+pub fn first_splitting_row(
     alloc: Global,
     matrix: &Matrix,
     rows: &[u32],
+    untested: u32,
 ) -> Result<Option<SplitRow>, Memory>
     requires rows { AllBelow (height matrix.now) rows.now }
     requires rising { IsStrictlyIncreasing rows.now }
+    requires tested { (row : ℕ) → row < untested → ¬ (Splits (support matrix.now) rows.now row) }
     ensures { IfOk result (λ found. MatchOption found ((row : ℕ) → ¬ (Splits (support matrix.now) rows.now row)) (λ split. IsFirstSplit (support matrix.now) rows.now split.row × AreParts (support matrix.now) rows.now split.row split.parts)) }
 {
     let mut walk = PartWalk::new(alloc, matrix)?;
     for row in rows {
-        let count = walk.number_parts(matrix, rows, *row)?;
-        if count >= SPLIT_PARTS {
-            let parts = parts_of_numbers(alloc, rows, &walk.part, count)?;
-            return Ok(Some(SplitRow { row: *row, parts }));
+        if *row >= untested {
+            let count = walk.number_parts(matrix, rows, *row);
+            if count >= SPLIT_PARTS {
+                let parts = parts_of_numbers(alloc, rows, &walk.part, count)?;
+                return Ok(Some(SplitRow { row: *row, parts }));
+            }
         }
     }
     Ok(None)
@@ -116,6 +121,6 @@ pub fn first_column_with_three(
     requires { AllBelow (height matrix.now) rows.now }
     ensures { IfOk result (λ found. MatchOption found (HasNoThree (support matrix.now) rows.now) (IsFirstWithThree (support matrix.now) rows.now)) }
 {
-    let counts = nonzero_counts(alloc, matrix, rows.as_slice())?;
-    Ok(first_from_three(&counts))
+    let counts = Counts::of(alloc, matrix, rows.as_slice())?;
+    Ok(counts.first_from_three())
 }

@@ -1,12 +1,13 @@
 -- The parts of rows and of columns.
-use Rattle.std.proofs.Common.{true, ◌≡◌, ◌≢◌, ◌<◌, ◌≤◌, ◌+◌, ◌++◌, ◌∙◌, ◌↔◌, ℕ, Bool, false, List, [], ◌∷◌, length, get_or, set, sym, ap, subst, arith, ◌⊎◌, inl, inr, Option, Some, None}
+use Rattle.std.proofs.Common.{true, ◌≡◌, ◌≢◌, ◌<◌, ◌≤◌, ◌+◌, ◌++◌, ◌∙◌, ◌↔◌, ℕ, ◌&&◌, ◌||◌, not, refl, Bool, false, List, [], ◌∷◌, length, get_or, set, sym, ap, subst, arith, ◌⊎◌, inl, inr, Option, Some, None}
 use Rattle.std.specs.Prelude.{slice_index_or}
 use Rattle.std.proofs.lemmas.Bool.{cases_lt}
 use Rattle.std.proofs.lemmas.List.{get_or_append_left, get_or-append-add, get_or_past, get_or-set_same, get_or-set_other}
 use Rattle.cmr_base.specs.Members.{IsIn}
 use Rattle.cmr_base.proofs.Members.{in-append}
-use Rattle.cmr_base.proofs.RowLists.{in_or_not, is_eq, is_ne, same_or_not}
-use Rattle.graph_realise.specs.Joints.{AreMarks, AreNumbered, IsPartWith, IsTouched, is_part, number_at}
+use Rattle.cmr_base.proofs.RowLists.{not_both, in_or_not, is_eq, is_ne, same_or_not}
+use Rattle.graph_realise.specs.Joints.{AreMarks, AreNumbered, IsPartWith, IsPassing, IsTouched, is_part, number_at}
+use Rattle.bridge_split.specs.ColumnSets.{has_column}
 use Rattle.graph_realise.specs.Tables.{Grid, cell, IsCellSet}
 use Rattle.graph_realise.specs.Numbers.{AreDisjoint}
 use Rattle.cmr_base.proofs.Places.{all_placed}
@@ -20,20 +21,77 @@ appended_last {A} xs x d k e =
     let w : k ≡ length xs + 0 = omega arith in
     ap (λ (z : ℕ). get_or (xs ++ x ∷ []) z d) w ∙ get_or-append-add xs (x ∷ []) 0 d
 
-pub parts_with_more : (P : ℕ → Option ℕ → Type 0) (column : ℕ) (numbers : List (Option ℕ)) (found : Option ℕ) → length numbers ≡ column
-    → ((c : ℕ) → c < column → P c (number_at numbers c)) → P column found → (c : ℕ) → c < column + 1 → P c (number_at (numbers ++ found ∷ []) c)
-parts_with_more P column numbers found e so here c l = pick (cases_lt c column)
-  where
-    pick : (c < column) ⊎ (column ≤ c) → P c (number_at (numbers ++ found ∷ []) c)
-    pick (inl m) = subst (P c) (sym (appended_before numbers found None c (omega arith))) (so c m)
-    pick (inr m) =
-        let q : c ≡ column = omega arith in
-        subst (P c) (sym (appended_last numbers found None c (omega arith))) (subst (λ (z : ℕ). P z found) (sym q) here)
+pub fresh_first : (s t : Bool) → (s && not t) ≡ true → s ≡ true
+fresh_first true t e = refl
+fresh_first false t e = cc
 
--- no row of the list
-pub none_with : (M : ℕ → ℕ → Bool) (rows : List ℕ) (part_of : List (Option ℕ)) (column count : ℕ) (found : Option ℕ) → found ≡ None → length rows ≤ count → ((k : ℕ) → k < count → M (get_or rows k 0) column ≡ false)
-    → IsPartWith M rows part_of column found
-none_with M rows part_of column count found e le none = inl (all_placed (λ r. M r column ≡ false) rows count le none, e)
+-- ---- the columns of one row after another
+
+module _ (M : ℕ → ℕ → Bool) (n i : ℕ) (rows : List ℕ) (part_of : List (Option ℕ)) where
+  pub passing_starts : (passed : List ℕ) (numbers : List (Option ℕ)) → length numbers ≡ n → ((c : ℕ) → number_at numbers c ≡ None) → ((c : ℕ) → has_column passed c ≡ M i c) → IsPassing M n i rows part_of passed numbers 0
+  passing_starts passed numbers long none own = record {
+    size = long;
+    none = λ c e. none c;
+    some = λ c e. inl (sym (own c) ∙ e, none c);
+    own = λ c e. own c ∙ e;
+    from = λ p c l. absurd (omega arith);
+  }
+
+  pub passing_more : (passed passed' fresh : List ℕ) (numbers numbers' : List (Option ℕ)) (place x : ℕ) → IsPassing M n i rows part_of passed numbers place → IsIn x rows → x ≡ get_or rows place 0
+      → ((c : ℕ) → has_column fresh c ≡ (M x c && not (has_column passed c))) → ((c : ℕ) → has_column passed' c ≡ (has_column passed c || M x c)) → length numbers' ≡ length numbers
+      → ((c : ℕ) → has_column fresh c ≡ true → number_at numbers' c ≡ number_at part_of x) → ((c : ℕ) → has_column fresh c ≡ false → number_at numbers' c ≡ number_at numbers c) → IsPassing M n i rows part_of passed' numbers' (place + 1)
+  passing_more passed passed' fresh numbers numbers' place x w hx at news more long inside outside = record {
+    size = long ∙ w.size;
+    none = λ c e. none c (has_column passed c) (M x c) refl refl (sym (more c) ∙ e);
+    some = λ c e. some c (has_column passed c) (M x c) refl refl (sym (more c) ∙ e);
+    own = λ c e. more c ∙ ap (λ t. t || M x c) (w.own c e);
+    from = λ p c l e. more c ∙ elim (cases_lt p place) [
+      | inl k ↦ ap (λ t. t || M x c) (w.from p c k e)
+      | inr k ↦ let q : p ≡ place = omega arith in ap (λ t. has_column passed c || t) (ap (λ (z : ℕ). M z c) (at ∙ ap (λ (z : ℕ). get_or rows z 0) (sym q)) ∙ e) ∙ right (has_column passed c)
+    ];
+  }
+    where
+      right : (t : Bool) → (t || true) ≡ true
+      right true = refl
+      right false = refl
+
+      fresh_by : (c : ℕ) (s t : Bool) → M x c ≡ s → has_column passed c ≡ t → has_column fresh c ≡ (s && not t)
+      fresh_by c s t e f = news c ∙ ap (λ u. u && not (has_column passed c)) e ∙ ap (λ u. s && not u) f
+
+      none : (c : ℕ) (s t : Bool) → has_column passed c ≡ s → M x c ≡ t → (has_column passed c || M x c) ≡ false → number_at numbers' c ≡ None
+      none c false false e f g = outside c (fresh_by c false false f e) ∙ w.none c e
+      none c false true e f g = absurd (not_both (has_column passed c || M x c) (ap (λ t. t || M x c) e ∙ f) g)
+      none c true t e f g = absurd (not_both (has_column passed c || M x c) (ap (λ t. t || M x c) e) g)
+
+      off : (c : ℕ) → has_column passed c ≡ false → (t : Bool) → M i c ≡ t → M i c ≡ false
+      off c e true f = absurd (not_both (has_column passed c) (w.own c f) e)
+      off c e false f = f
+
+      some : (c : ℕ) (s t : Bool) → has_column passed c ≡ s → M x c ≡ t → (has_column passed c || M x c) ≡ true → IsTouched M i rows part_of c (number_at numbers' c)
+      some c true t e f g = subst (IsTouched M i rows part_of c) (sym (outside c (fresh_by c t true f e ∙ left t))) (w.some c e)
+        where
+          left : (t : Bool) → (t && not true) ≡ false
+          left true = refl
+          left false = refl
+      some c false true e f g = inr (off c e (M i c) refl, inr (x, hx, f, inside c (fresh_by c true false f e)))
+      some c false false e f g = absurd (not_both (has_column passed c || M x c) g (ap (λ t. t || M x c) e ∙ f))
+
+  pub passing_ends : (passed : List ℕ) (numbers : List (Option ℕ)) (place : ℕ) → IsPassing M n i rows part_of passed numbers place → length rows ≤ place → (c : ℕ) → IsTouched M i rows part_of c (number_at numbers c)
+  passing_ends passed numbers place w l c = go (has_column passed c) refl
+    where
+      out : (b : Bool) → b ≡ true → has_column passed c ≡ false → (b ≡ true → has_column passed c ≡ true) → ⊥
+      out b e f g = not_both (has_column passed c) (g e) f
+
+      never : (b t : Bool) → b ≡ t → (b ≡ true → has_column passed c ≡ true) → has_column passed c ≡ false → b ≡ false
+      never b true e g f = absurd (out b e f g)
+      never b false e g f = e
+
+      go : (t : Bool) → has_column passed c ≡ t → IsTouched M i rows part_of c (number_at numbers c)
+      go true e = w.some c e
+      go false e = inr (
+        never (M i c) (M i c) refl (w.own c) e,
+        inl (all_placed (λ r. M r c ≡ false) rows place l (λ p k. never (M (get_or rows p 0) c) (M (get_or rows p 0) c) refl (w.from p c k) e), w.none c e),
+      )
 
 some_same : (a b : ℕ) → ◌≡◌ {A = Option ℕ} (Some a) (Some b) → a ≡ b
 some_same a b e = cc

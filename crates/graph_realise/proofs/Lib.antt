@@ -24,4 +24,3 @@ pub mod JoinLemmas
 pub mod SearchLemmas
 pub mod OrderLemmas
 pub mod AllRows
-mod WordBits

@@ -1,5 +1,5 @@
 -- The steps of the search for a tree.
-use Rattle.std.proofs.Common.{◌≡◌, ◌≢◌, ◌<◌, ◌≤◌, ◌+◌, ◌∙◌, ◌↔◌, ◌==◌, if◌then◌else◌, ℕ, Bool, true, false, List, [], ◌∷◌, length, get_or, sym, ap, refl, subst, arith, ◌⊎◌, inl, inr, Option, Some, None, MatchOption}
+use Rattle.std.proofs.Common.{◌≡◌, ◌≢◌, ◌<◌, ◌≤◌, ◌+◌, ◌∙◌, ◌↔◌, ◌==◌, if◌then◌else◌, ℕ, Bool, true, false, List, [], ◌∷◌, ◌++◌, length, get_or, sym, ap, refl, subst, arith, ◌⊎◌, inl, inr, Option, Some, None, MatchOption}
 use Rattle.std.specs.Prelude.{slice_index_or}
 use Rattle.std.specs.List.Sorted.{IsStrictlyIncreasing}
 use Rattle.std.proofs.Math.Path.{fun_ext}
@@ -8,19 +8,20 @@ use Rattle.std.proofs.lemmas.List.{get_or_past}
 use Rattle.cmr_base.specs.Cuts.{IsCuts, HasCuts}
 use Rattle.cmr_base.specs.LineSets.{AllBelow}
 use Rattle.cmr_base.specs.Members.{IsIn}
-use Rattle.cmr_base.specs.Splits.{AreParts, AreSides, HasNoThree, IsCommon, Splits}
-use Rattle.cmr_base.proofs.ListsWithout.{increasing_distinct}
+use Rattle.cmr_base.specs.Splits.{AreParts, AreSides, HasNoThree, IsCommon, IsFirstSplit, Splits}
+use Rattle.cmr_base.proofs.ListsWithout.{head_below, increasing_distinct, increasing_tail}
 use Rattle.cmr_base.proofs.Members.{in_at}
 use Rattle.cmr_base.proofs.RowLists.{is_eq, is_ne, not_both, same_or_not}
 use Rattle.graph_realise.specs.Branches.{branch_at}
 use Rattle.graph_realise.specs.Joints.{AreInRows, AreMarks, AreOff, FitsJoint, IsArcJoined, IsJointOf, IsPartWith, by_part, end_of, hanging_of, number_at, part_or_first}
 use Rattle.graph_realise.specs.Merging.{DescribesParts, Hanging, KeepsCuts, hanging_by, heavier, merged_lies, merged_side, spot, turned_lies, turned_side}
 use Rattle.graph_realise.specs.Numbers.{AreDisjoint}
-use Rattle.graph_realise.specs.Searches.{AreWholeBelow}
+use Rattle.graph_realise.specs.Searches.{AreWholeBelow, IsSplit}
 use Rattle.graph_realise.specs.SideTables.{side_in, end_in, KeepsOutside}
 use Rattle.graph_realise.specs.declared.arc_sides.ArcSides.{ArcSides}
 use Rattle.graph_realise.specs.declared.joint.Joint.{Joint}
 use Rattle.bridge_split.specs.SplitCases.{IsFirstWithThree}
+use Rattle.bridge_split.specs.declared.splitting.SplitRow.{SplitRow}
 use Rattle.graph_realise.proofs.NoCuts.{three_refused}
 use Rattle.graph_realise.proofs.CutTables.{has_fewer, is_fewer, is_same}
 use Rattle.graph_realise.proofs.MergedTables.{keeps_after, keeps_own, merged_kept}
@@ -49,6 +50,21 @@ one_part_whole M S i parts all few s =
     let lb = b.1 in
     let e : b.0 ≡ a.0 = omega arith in
     s.apart (all.linked a.0 s.one s.two a.1 a.2 (subst (λ (z : ℕ). IsIn s.two (slice_index_or parts z [])) e b.2))
+
+-- a row before another one of a rising list
+in_before : (before after : List ℕ) (i row : ℕ) → IsStrictlyIncreasing (before ++ i ∷ after) → IsIn row (before ++ i ∷ after) → row < i → IsIn row before
+in_before [] after i row rises (inl e) low = absurd (omega arith)
+in_before [] after i row rises (inr h) low = let l = head_below i row after rises h in absurd (omega arith)
+in_before (b ∷ before) after i row rises (inl e) low = inl e
+in_before (b ∷ before) after i row rises (inr h) low = inr (in_before before after i row (increasing_tail b (before ++ i ∷ after) rises) h low)
+
+pub split_is : (M : ℕ → ℕ → Bool) (S : List ℕ) (split : SplitRow) → IsStrictlyIncreasing S → IsFirstSplit M S split.row → AreParts M S split.row split.parts → IsSplit M S split
+split_is M S split rises first parts = record {
+  here = first.splits.here;
+  parts = parts;
+  two = elim (cases_lt (length split.parts) 2) [ inl l ↦ absurd (one_part_whole M S split.row split.parts parts l first.splits) | inr l ↦ l ];
+  first = λ row low s. first.none row (in_before first.before first.after split.row row (subst IsStrictlyIncreasing first.place rises) (subst (IsIn row) first.place s.here) low) s;
+}
 
 pub parts_disjoint : (M : ℕ → ℕ → Bool) (S : List ℕ) (i : ℕ) (parts : List (List ℕ)) → AreParts M S i parts → AreDisjoint parts
 parts_disjoint M S i parts all a b row la lb ha hb = go (same_or_not a b)

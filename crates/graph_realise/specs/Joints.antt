@@ -1,8 +1,9 @@
 -- A row and the parts of the others: what is known of them, and the tree that they make.
-use Rattle.std.specs.Prelude.{◌≡◌, ◌<◌, ◌≤◌, ◌⊎◌, ◌==◌, ◌&&◌, ◌||◌, not, nat_lt, if◌then◌else◌, ℕ, Bool, true, false, List, [], length, slice_index_or, Option, Some, None}
+use Rattle.std.specs.Prelude.{◌≡◌, ◌<◌, ◌≤◌, ◌⊎◌, ◌==◌, ◌&&◌, ◌||◌, not, nat_lt, if◌then◌else◌, ℕ, Bool, true, false, List, [], length, slice_index, slice_index_or, Option, Some, None}
 use Rattle.cmr_base.specs.Cuts.{differ}
 use Rattle.cmr_base.specs.LineSets.{AllBelow}
 use Rattle.cmr_base.specs.Members.{IsIn}
+use Rattle.bridge_split.specs.ColumnSets.{has_column}
 use Rattle.graph_realise.specs.Branches.{AreBranches, branch_at}
 use Rattle.graph_realise.specs.Merging.{Hanging, heavier, spot, merged_lies, turned_side, turned_lies}
 use Rattle.graph_realise.specs.SideTables.{side_in, end_in, IsArcChanged}
@@ -45,6 +46,14 @@ IsPartWith M rows numbers column found =
 -- the same for a column in which row i is 0, and none for the others
 abbrev pub IsTouched : (ℕ → ℕ → Bool) → ℕ → List ℕ → List (Option ℕ) → ℕ → Option ℕ → Type 0
 IsTouched M i rows numbers column found = ((M i column ≡ true) × (found ≡ None)) ⊎ ((M i column ≡ false) × IsPartWith M rows numbers column found)
+
+-- in the middle of the rows: the columns of row i and of those before a place were passed, and each of them has its part
+pub record IsPassing (M : ℕ → ℕ → Bool) (n i : ℕ) (rows : List ℕ) (part_of : List (Option ℕ)) (passed : List ℕ) (numbers : List (Option ℕ)) (place : ℕ) : Type 0 where
+  pub size : length numbers ≡ n
+  pub none : (column : ℕ) → has_column passed column ≡ false → number_at numbers column ≡ None
+  pub some : (column : ℕ) → has_column passed column ≡ true → IsTouched M i rows part_of column (number_at numbers column)
+  pub own : (column : ℕ) → M i column ≡ true → has_column passed column ≡ true
+  pub from : (p column : ℕ) → p < place → M (slice_index rows p) column ≡ true → has_column passed column ≡ true
 
 -- the number is that of this part
 abbrev pub is_part : ℕ → Option ℕ → Bool

@@ -1,5 +1,5 @@
 -- The rows of a star as they are drawn.
-use Rattle.std.specs.Prelude.{◌≡◌, ◌==◌, ◌&&◌, not, if◌then◌else◌, ℕ, Bool, false, List, [], ◌∷◌}
+use Rattle.std.specs.Prelude.{◌≡◌, ◌<◌, ◌==◌, ◌&&◌, not, if◌then◌else◌, ℕ, Bool, true, false, List, [], ◌∷◌, slice_index}
 use Rattle.graph_realise.specs.SideTables.{side_in, end_in}
 use Rattle.graph_realise.specs.declared.arc_sides.ArcSides.{ArcSides}
 
@@ -16,3 +16,13 @@ star_end M rows row end column = M row column && (if end then is_first M rows ro
 pub record IsRay (M : ℕ → ℕ → Bool) (rows : List ℕ) (row : ℕ) (sides : ArcSides) : Type 0 where
   pub arcs : (other : ℕ) → side_in sides row other ≡ false
   pub ends : (end : Bool) (column : ℕ) → end_in sides end row column ≡ star_end M rows row end column
+
+-- the same where the columns of earlier rows were seen
+pub record IsRayAfter (M : ℕ → ℕ → Bool) (seen : ℕ → Bool) (row : ℕ) (sides : ArcSides) : Type 0 where
+  pub arcs : (other : ℕ) → side_in sides row other ≡ false
+  pub ends : (end : Bool) (column : ℕ) → end_in sides end row column ≡ (M row column && (if end then not (seen column) else seen column))
+
+-- the columns of the rows before a place were seen
+pub record AreSeen (M : ℕ → ℕ → Bool) (rows : List ℕ) (place : ℕ) (seen : ℕ → Bool) : Type 0 where
+  pub into : (column : ℕ) → seen column ≡ true → (q : ℕ) × (q < place) × (M (slice_index rows q) column ≡ true)
+  pub from : (q column : ℕ) → q < place → M (slice_index rows q) column ≡ true → seen column ≡ true

@@ -3,9 +3,9 @@ use Rattle.std.specs.Prelude.{◌<◌, ◌≤◌, ℕ, Bool, List, length}
 use Rattle.cmr_base.specs.Cuts.{IsCuts, HasCuts}
 use Rattle.cmr_base.specs.Members.{IsIn}
 use Rattle.cmr_base.specs.Splits.{AreParts, Splits}
+use Rattle.bridge_split.specs.declared.splitting.SplitRow.{SplitRow}
 use Rattle.graph_realise.specs.SideTables.{side_in, end_in}
 use Rattle.graph_realise.specs.declared.arc_sides.ArcSides.{ArcSides}
-use Rattle.graph_realise.specs.declared.side_search.Split.{Split}
 use Rattle.graph_realise.specs.declared.side_search.TreeSearch.{TreeSearch}
 use Rattle.graph_realise.specs.declared.side_search.TreeSearch.TheVariants.{Found, NoTree}
 
@@ -19,7 +19,7 @@ abbrev pub AreWholeBelow : (ℕ → ℕ → Bool) → List ℕ → ℕ → Type 
 AreWholeBelow M S untested = (row : ℕ) → row < untested → ¬ (Splits M S row)
 
 -- the first row that splits the others, and their parts, which are two or more
-pub record IsSplit (M : ℕ → ℕ → Bool) (S : List ℕ) (split : Split) : Type 0 where
+pub record IsSplit (M : ℕ → ℕ → Bool) (S : List ℕ) (split : SplitRow) : Type 0 where
   pub here : IsIn split.row S
   pub parts : AreParts M S split.row split.parts
   pub two : 2 ≤ length split.parts

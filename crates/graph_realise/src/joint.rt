@@ -1,16 +1,18 @@
 // A row and the parts of the others.
-ghost use Rattle.std.specs.Prelude.{◌≡◌, ◌<◌, ◌≤◌, ◌⊎◌, ◌↔◌, ℕ, List, Some, None, IfOk, IsTrue, length, slice_index_or};
+ghost use Rattle.std.specs.Prelude.{◌≡◌, ◌<◌, ◌≤◌, ◌⊎◌, ◌↔◌, ◌&&◌, ◌||◌, not, true, false, ℕ, List, Some, None, IfOk, IsTrue, length, slice_index_or};
 ghost use Rattle.cmr_base.specs.LineSets.{AllBelow};
 ghost use Rattle.std.specs.List.Sorted.{IsStrictlyIncreasing};
 ghost use Rattle.cmr_base.specs.Matrix.{height, IsMatrix};
 ghost use Rattle.cmr_base.specs.Members.{IsIn};
-ghost use Rattle.cmr_base.specs.Splits.{AreParts};
+ghost use Rattle.cmr_base.specs.Planes.{words_for};
 ghost use Rattle.cmr_base.specs.Trees.{support};
-ghost use Rattle.graph_realise.specs.Joints.{AreInRows, AreMarks, AreNumbered, IsJointOf, IsPartWith, IsTouched, number_at};
+ghost use Rattle.bridge_split.specs.ColumnSets.{has_column};
+ghost use Rattle.graph_realise.specs.Joints.{AreInRows, AreMarks, AreNumbered, IsJointOf, IsTouched, number_at};
 ghost use Rattle.graph_realise.specs.Numbers.{AreDisjoint};
 
 use crate::branches::{Branch, branches_at};
 use crate::table::Table;
+use bridge_split::columns::{add_common, add_outside, clear_set, empty_set, next_column};
 use cmr_base::{Indices, Matrix, Memory, PartList, SideList};
 use std::alloc::Global;
 
@@ -129,50 +131,63 @@ fn parts_with_columns(
     ensures size { IfOk result (λ numbers. length numbers.items ≡ matrix.now.width) }
     ensures parts { IfOk result (λ numbers. (column : ℕ) → column < matrix.now.width → IsTouched (support matrix.now) row rows.now part_of.now column (number_at numbers.items column)) }
 {
-    let mut numbers = Vec::new(alloc);
-    for column in 0..matrix.columns() {
-        numbers.push(touched_part(matrix, rows, row, part_of, column))?;
+    let mut numbers = no_numbers(alloc, matrix.columns())?;
+    let mut passed = empty_set(alloc, matrix.columns())?;
+    let mut fresh = empty_set(alloc, matrix.columns())?;
+    add_row(matrix, row, &mut passed);
+    for other in rows.as_slice() {
+        set_fresh(matrix, *other, passed.as_slice(), &mut fresh);
+        number_columns(fresh.as_slice(), part_of[*other as usize], &mut numbers);
+        add_row(matrix, *other, &mut passed);
     }
     Ok(numbers)
 }
 
-fn touched_part(
-    matrix: &Matrix,
-    rows: &Indices,
-    row: u32,
-    part_of: &[Option<usize>],
-    column: u32,
-) -> Option<usize>
-    requires rows { AllBelow (height matrix.now) rows.now }
-    requires row { row < height matrix.now }
-    requires each { length part_of.now ≡ height matrix.now }
-    requires column { column < matrix.now.width }
-    ensures { IsTouched (support matrix.now) row rows.now part_of.now column result }
+// No number for each of so many columns.
+fn no_numbers(alloc: Global, columns: u32) -> Result<Vec<Option<usize>>, Memory>
+    ensures size { IfOk result (λ numbers. length numbers.items ≡ columns) }
+    ensures none { IfOk result (λ numbers. (column : ℕ) → number_at numbers.items column ≡ None) }
 {
-    if matrix.is_nonzero(row, column) {
-        None
-    } else {
-        part_with_column(matrix, rows, part_of, column)
-    }
+    Ok(vec![in alloc; None; columns as usize]?)
 }
 
-fn part_with_column(
-    matrix: &Matrix,
-    rows: &Indices,
-    part_of: &[Option<usize>],
-    column: u32,
-) -> Option<usize>
-    requires rows { AllBelow (height matrix.now) rows.now }
-    requires each { length part_of.now ≡ height matrix.now }
-    requires column { column < matrix.now.width }
-    ensures { IsPartWith (support matrix.now) rows.now part_of.now column result }
+/// Adds the columns of a row to a set.
+pub fn add_row(matrix: &Matrix, row: u32, set: &mut Vec<u64>)
+    requires shape { IsMatrix matrix.now }
+    requires row { row < height matrix.now }
+    requires size { length set.old.items ≡ words_for matrix.now.width }
+    ensures size { length set.new.items ≡ words_for matrix.now.width }
+    ensures columns { (column : ℕ) → has_column set.new.items column ≡ (has_column set.old.items column || support matrix.now row column) }
 {
-    for row in rows.as_slice() {
-        if matrix.is_nonzero(*row, column) {
-            return part_of[*row as usize];
-        }
+    add_common(set, matrix.support_words(row), matrix.support_words(row));
+}
+
+// Sets the columns of a row that are not among those that were passed.
+fn set_fresh(matrix: &Matrix, row: u32, passed: &[u64], fresh: &mut Vec<u64>)
+    requires shape { IsMatrix matrix.now }
+    requires row { row < height matrix.now }
+    requires passed { length passed.now ≡ words_for matrix.now.width }
+    requires size { length fresh.old.items ≡ words_for matrix.now.width }
+    ensures size { length fresh.new.items ≡ words_for matrix.now.width }
+    ensures columns { (column : ℕ) → has_column fresh.new.items column ≡ (support matrix.now row column && not (has_column passed.now column)) }
+{
+    clear_set(fresh);
+    add_outside(fresh, matrix.support_words(row), passed);
+}
+
+// Gives the columns of a set a number.
+fn number_columns(columns: &[u64], number: Option<usize>, numbers: &mut Vec<Option<usize>>)
+    requires few { length columns.now ≤ 16 }
+    requires inside { (column : ℕ) → has_column columns.now column ≡ true → column < length numbers.old.items }
+    ensures size { length numbers.new.items ≡ length numbers.old.items }
+    ensures inside { (column : ℕ) → has_column columns.now column ≡ true → number_at numbers.new.items column ≡ number }
+    ensures outside { (column : ℕ) → has_column columns.now column ≡ false → number_at numbers.new.items column ≡ number_at numbers.old.items column }
+{
+    let mut from = 0;
+    while let Some(column) = next_column(columns, from) {
+        numbers[column as usize] = number;
+        from = column + 1;
     }
-    None
 }
 
 // For each part the lines that have its number.

@@ -11,8 +11,8 @@ use crate::arc_sides::ArcSides;
 use crate::joining::join;
 use crate::joint::Joint;
 use crate::star::draw_star;
-use bridge_split::{Sides, first_column_with_three, parts_at, sides_at};
-use cmr_base::{Indices, Matrix, Memory, PartList, SideList};
+use bridge_split::{Sides, SplitRow, first_column_with_three, first_splitting_row, sides_at};
+use cmr_base::{Indices, Matrix, Memory, SideList};
 use std::alloc::Global;
 
 /// Whether some rows are the arcs of a tree in which the columns are paths.
@@ -20,13 +20,6 @@ use std::alloc::Global;
 pub enum TreeSearch {
     Found,
     NoTree,
-}
-
-/// The first row that splits the others, with their parts.
-#[derive(Debug, Drop)]
-struct Split {
-    row: u32,
-    parts: PartList,
 }
 
 /// Finds a tree for these rows and writes its sides into the rows of the tables. No row below `untested` splits the
@@ -48,7 +41,7 @@ pub fn find_sides(
     ensures others { KeepsOutside sides.old sides.new rows.now }
 {
     if first_column_with_three(alloc, matrix, rows)?.is_none() {
-        draw_star(matrix, rows, sides);
+        draw_star(alloc, matrix, rows, sides)?;
         return Ok(TreeSearch::Found);
     }
     match find_split(alloc, matrix, rows, untested)? {
@@ -65,7 +58,7 @@ fn join_parts(
     alloc: Global,
     matrix: &Matrix,
     rows: &Indices,
-    split: &Split,
+    split: &SplitRow,
     ends: &SideList,
     sides: &mut ArcSides,
 ) -> Result<TreeSearch, Memory>
@@ -89,24 +82,16 @@ fn join_parts(
     Ok(TreeSearch::Found)
 }
 
-// The first row without which the others fall into two parts or more.
+// The first row without which the others fall into two parts or more. Each row is tested by one walk over the same room.
 fn find_split(
     alloc: Global,
     matrix: &Matrix,
     rows: &Indices,
     untested: u32,
-) -> Result<Option<Split>, Memory>
+) -> Result<Option<SplitRow>, Memory>
     requires rows { AllBelow (height matrix.now) rows.now }
     requires tested { AreWholeBelow (support matrix.now) rows.now untested }
     ensures { IfOk result (λ found. MatchOption found ((row : ℕ) → ¬ (Splits (support matrix.now) rows.now row)) (IsSplit (support matrix.now) rows.now)) }
 {
-    for row in rows.as_slice() {
-        if *row >= untested {
-            let parts = parts_at(alloc, matrix, rows, *row)?;
-            if parts.len() >= 2 {
-                return Ok(Some(Split { row: *row, parts }));
-            }
-        }
-    }
-    Ok(None)
+    first_splitting_row(alloc, matrix, rows.as_slice(), untested)
 }

@@ -1,73 +1,57 @@
 // Stars: trees in which no arc separates others.
-ghost use Rattle.std.specs.Prelude.{◌≡◌, ◌<◌, ℕ, false};
+ghost use Rattle.std.specs.Prelude.{◌≡◌, ◌<◌, length, OnOk};
 ghost use Rattle.cmr_base.specs.Cuts.{IsCuts};
 ghost use Rattle.cmr_base.specs.LineSets.{AllBelow};
-ghost use Rattle.cmr_base.specs.Matrix.{height};
+ghost use Rattle.cmr_base.specs.Matrix.{height, IsMatrix};
 ghost use Rattle.cmr_base.specs.Members.{IsIn};
+ghost use Rattle.cmr_base.specs.Planes.{words_for};
 ghost use Rattle.cmr_base.specs.Splits.{HasNoThree};
 ghost use Rattle.cmr_base.specs.Trees.{support};
+ghost use Rattle.bridge_split.specs.ColumnSets.{has_column};
 ghost use Rattle.graph_realise.specs.SideTables.{AreTablesOf, KeepsOthers, KeepsOutside, side_in, end_in};
-ghost use Rattle.graph_realise.specs.Rays.{is_first, IsRay};
-ghost use Rattle.graph_realise.specs.Tables.{IsRowFilled};
+ghost use Rattle.graph_realise.specs.Rays.{IsRayAfter};
 
 use crate::arc_sides::ArcSides;
-use crate::table::Table;
-use cmr_base::{Indices, Matrix};
+use crate::joint::add_row;
+use bridge_split::columns::empty_set;
+use cmr_base::{Indices, Matrix, Memory};
+use std::alloc::Global;
 
 /// Draws the rows as a star, where no column has three nonzeros in them: the first end of a column is the leaf of its
 /// first row, and the last end that of its second row, or the middle.
-pub fn draw_star(matrix: &Matrix, rows: &Indices, sides: &mut ArcSides)
+pub fn draw_star(
+    alloc: Global,
+    matrix: &Matrix,
+    rows: &Indices,
+    sides: &mut ArcSides,
+) -> Result<(), Memory>
     requires rows { AllBelow (height matrix.now) rows.now }
     requires few { HasNoThree (support matrix.now) rows.now }
     requires tables { AreTablesOf matrix.now sides.old }
     ensures tables { AreTablesOf matrix.now sides.new }
-    ensures cuts { IsCuts (support matrix.now) (λ r. IsIn r rows.now) (side_in sides.new) (end_in sides.new) }
+    ensures cuts { OnOk result (IsCuts (support matrix.now) (λ r. IsIn r rows.now) (side_in sides.new) (end_in sides.new)) }
     ensures others { KeepsOutside sides.old sides.new rows.now }
 {
+    let mut seen = empty_set(alloc, matrix.columns())?;
     for row in rows.as_slice() {
-        draw_ray(matrix, rows, *row, sides);
+        draw_ray(matrix, *row, seen.as_slice(), sides);
+        add_row(matrix, *row, &mut seen);
     }
+    Ok(())
 }
 
-// One arc of the star.
-fn draw_ray(matrix: &Matrix, rows: &Indices, row: u32, sides: &mut ArcSides)
-    requires rows { AllBelow (height matrix.now) rows.now }
+// One arc of the star. The columns of earlier rows were seen.
+fn draw_ray(matrix: &Matrix, row: u32, seen: &[u64], sides: &mut ArcSides)
+    requires shape { IsMatrix matrix.now }
     requires row { row < height matrix.now }
+    requires seen { length seen.now ≡ words_for matrix.now.width }
     requires tables { AreTablesOf matrix.now sides.old }
     ensures tables { AreTablesOf matrix.now sides.new }
-    ensures drawn { IsRay (support matrix.now) rows.now row sides.new }
+    ensures drawn { IsRayAfter (support matrix.now) (has_column seen.now) row sides.new }
     ensures others { KeepsOthers sides.old sides.new row }
 {
-    clear_row(&mut sides.arcs, row);
-    for column in 0..matrix.columns() {
-        if matrix.is_nonzero(row, column) {
-            let is_first = is_first_nonzero(matrix, rows, row, column);
-            sides.set_ends(row, column, is_first, !is_first);
-        } else {
-            sides.set_ends(row, column, false, false);
-        }
-    }
-}
-
-fn clear_row(table: &mut Table, row: u32)
-    requires { row < table.old.height }
-    ensures { IsRowFilled (λ column. false) table.old table.new row table.old.width }
-{
-    for column in 0..table.width() {
-        table.set(row, column, false);
-    }
-}
-
-// Whether the row is the first one with a nonzero in the column.
-fn is_first_nonzero(matrix: &Matrix, rows: &Indices, row: u32, column: u32) -> bool
-    requires rows { AllBelow (height matrix.now) rows.now }
-    requires column { column < matrix.now.width }
-    ensures { result ≡ is_first (support matrix.now) rows.now row column }
-{
-    for other in rows.as_slice() {
-        if matrix.is_nonzero(*other, column) {
-            return *other == row;
-        }
-    }
-    false
+    let columns = matrix.support_words(row);
+    sides.arcs.clear(row);
+    sides.first.fill_outside(row, columns, seen);
+    sides.last.fill_common(row, columns, seen);
 }

@@ -1,9 +1,10 @@
 // Tables of truth values.
-ghost use Rattle.std.specs.Prelude.{◌≡◌, ◌<◌, ◌≤◌, ◌+◌, ◌*◌, ◌&&◌, ◌||◌, ℕ, false, IfOk};
+ghost use Rattle.std.specs.Prelude.{◌≡◌, ◌<◌, ◌≤◌, ◌+◌, ◌*◌, ◌&&◌, ◌||◌, not, ℕ, false, length, IfOk};
 ghost use Rattle.cmr_base.specs.Cuts.{differ};
 ghost use Rattle.cmr_base.specs.Matrix.{height};
 ghost use Rattle.cmr_base.specs.Planes.{has_bit, words_for};
 ghost use Rattle.cmr_base.specs.Trees.{support};
+ghost use Rattle.bridge_split.specs.ColumnSets.{has_column};
 ghost use Rattle.graph_realise.specs.Tables.{cell, IsCellSet, IsRowFilled, IsWordSet};
 
 use cmr_base::{Matrix, Memory, has_bit, with_bit, words_for};
@@ -111,6 +112,42 @@ impl Table {
         for block in 0..self.blocks() {
             let common = matrix.support_word(one, block) & matrix.support_word(other, block);
             self.set_word(row, block, self.word(row, block) | common);
+        }
+    }
+
+    /// Clears all values of a row.
+    pub fn clear(&mut self, row: u32)
+        requires { row < self.old.height }
+        ensures { IsRowFilled (λ column. false) self.old self.new row self.old.width }
+    {
+        for block in 0..self.blocks() {
+            self.set_word(row, block, 0);
+        }
+    }
+
+    /// Sets the values of a row in the columns that are in both of two sets, and clears all others.
+    pub fn fill_common(&mut self, row: u32, one: &[u64], two: &[u64])
+        requires row { row < self.old.height }
+        requires one { length one.now ≡ words_for self.old.width }
+        requires two { length two.now ≡ words_for self.old.width }
+        ensures { IsRowFilled (λ column. has_column one.now column && has_column two.now column) self.old self.new row self.old.width }
+    {
+        for block in 0..self.blocks() {
+            let word = one[block as usize] & two[block as usize];
+            self.set_word(row, block, word);
+        }
+    }
+
+    /// Sets the values of a row in the columns that are in one set and not in another, and clears all others.
+    pub fn fill_outside(&mut self, row: u32, one: &[u64], other: &[u64])
+        requires row { row < self.old.height }
+        requires one { length one.now ≡ words_for self.old.width }
+        requires other { length other.now ≡ words_for self.old.width }
+        ensures { IsRowFilled (λ column. has_column one.now column && not (has_column other.now column)) self.old self.new row self.old.width }
+    {
+        for block in 0..self.blocks() {
+            let word = one[block as usize] & !other[block as usize];
+            self.set_word(row, block, word);
         }
     }
 

@@ -2,7 +2,8 @@ use Rattle.std.proofs.Common.{◌≡◌, ◌∙◌, List, ℕ, [], sym, subst}
 use Rattle.cmr_base.specs.LineSets.{AllBelow}
 use Rattle.cmr_base.specs.Matrix.{height}
 use Rattle.cmr_base.specs.Trees.{support}
-use Rattle.bridge_split.specs.Cutting.{part_at, AreUncutIn, Denies}
+use Rattle.bridge_split.specs.ColumnSets.{has_column, Denies}
+use Rattle.bridge_split.specs.Cutting.{part_at, AreUncutIn}
 use Rattle.bridge_split.proofs.CutTables.{line_more}
 use Rattle.bridge_split.proofs.cuts.push_cuts.Goals as goal
 use Rattle.std.proofs.lemmas.List.{get_or_default}
@@ -18,5 +19,5 @@ loop-part-preserved c =
     let M = support c.args.matrix.now in
     let p = c.loop-part.part-index in
     let item : c.part-item.result ≡ part_at c.args.parts.now p = c.part-item.is ∙ get_or_default c.args.parts.now p c.part-item.result [] c.loop-part-test.true in
-    line_more M c.args.columns.now c.args.parts.now p c.args.cuts.now.items c.loop-part.cuts.items c.push.new.self.items c.part_cuts.result c.loop-part.invariant c.in_ok-push.ensures.items
-    (subst (λ (rows : List ℕ). Denies c.part_cuts.result (AreUncutIn M c.args.columns.now rows)) (c.as_slice.ensures.items ∙ item) c.part_cuts.ensures)
+    line_more M (has_column c.args.columns.now) c.args.parts.now p c.args.cuts.now.items c.loop-part.cuts.items c.push.new.self.items c.part_cuts.result c.loop-part.invariant c.in_ok-push.ensures.items
+    (subst (λ (rows : List ℕ). Denies c.part_cuts.result (AreUncutIn M (has_column c.args.columns.now) rows)) (c.as_slice.ensures.items ∙ item) c.part_cuts.ensures)

@@ -1,12 +1,18 @@
-use Rattle.std.proofs.Common.{◌∙◌}
+use Rattle.std.proofs.Common.{◌∙◌, sym, ◌⊎◌}
 use Rattle.cmr_base.specs.Trees.{support}
-use Rattle.bridge_split.proofs.CutTables.{not_same, cut_here, uncut_by_first}
+use Rattle.bridge_split.specs.ColumnSets.{has_column, IsApart, IsWithin}
+use Rattle.bridge_split.specs.Cutting.{IsUncutIn}
+use Rattle.bridge_split.proofs.ColumnWords.{words_long, words_columns}
+use Rattle.bridge_split.proofs.CutTables.{denied, uncut_sets, sets_uncut}
 use Rattle.bridge_split.proofs.cuts.row_cuts.Goals as goal
 
-pub returns-then-is_nonzero-first : goal.returns-then-is_nonzero-first
-returns-then-is_nonzero-first c =
-    cut_here (support c.args.matrix.now) c.args.columns.now c.args.row c.loop-column.column-index c.is_nonzero-first.result c.loop-column-test.true c.is_nonzero-first.ensures
-    (λ e. not_same c.is_nonzero.result c.is_nonzero-first.result c.if-is_nonzero-first.true (c.is_nonzero.ensures ∙ e))
+pub is_cut-requires : goal.is_cut-requires
+is_cut-requires c = c.requires.size ∙ sym (words_long c.args.matrix.now c.args.row c.support_words.result.now c.support_words.ensures)
 
 pub returns : goal.returns
-returns c = uncut_by_first (support c.args.matrix.now) c.args.columns.now c.args.row c.loop-column.column-index c.is_nonzero-first.result c.loop-column-test.false c.loop-column.invariant
+returns c =
+    let M = support c.args.matrix.now in
+    let columns = c.args.columns.now in
+    let words = c.support_words.result.now in
+    let row = words_columns c.args.matrix.now c.args.row words c.support_words.ensures c.requires.shape c.requires.row in
+    denied M c.is_cut.result (IsWithin columns words ⊎ IsApart columns words) (IsUncutIn M (has_column columns) c.args.row) (uncut_sets M columns words c.args.row row) (sets_uncut M columns words c.args.row row) c.is_cut.ensures

@@ -1,41 +1,39 @@
-use Rattle.std.proofs.Common.{◌∙◌, List, ℕ, sym, ap, subst, arith}
+use Rattle.std.proofs.Common.{◌≡◌, ◌<◌, ◌&&◌, ◌||◌, ◌∙◌, ℕ, List, sym, ap, ap₂, subst, arith, length, get_or}
+use Rattle.cmr_base.specs.Matrix.{height}
 use Rattle.cmr_base.specs.Trees.{support}
-use Rattle.cmr_base.proofs.RowLists.{not_both}
-use Rattle.bridge_split.specs.Cutting.{IsMetBy}
-use Rattle.bridge_split.proofs.CutTables.{columns_below, common_more, common_same}
+use Rattle.bridge_split.specs.ColumnSets.{has_column}
+use Rattle.bridge_split.proofs.ColumnWords.{words_long, words_columns}
+use Rattle.bridge_split.proofs.CutTables.{collected_more, collected_all}
 use Rattle.bridge_split.proofs.cuts.set_common.Goals as goal
-use Rattle.bridge_split.proofs.cuts.set_common.Goals.{then-is_nonzero+then-meets_part+in_ok-push, else-is_nonzero, else-is_nonzero-via-then-is_nonzero+else-meets_part, else-is_nonzero-via-else-is_nonzero}
-use Rattle.cmr_base.proofs.NextNonzeros.{column_in}
 
-pub loop-column-preserved : goal.loop-column-preserved
-loop-column-preserved c =
-    let M = support c.args.matrix.now in
-    let i = c.args.row in
-    let part = c.args.part.now in
-    let x = c.loop-column.column in
-    elim c.if-is_nonzero.branch [
-      | then-is_nonzero+then-meets_part+in_ok-push w ↦
-          common_more M i part c.loop-column.common.items c.if-is_nonzero.common.items x c.loop-column.invariant
-          (ap (λ v. v.items) w.common-is ∙ w.in_ok-push.ensures.items)
-          (sym c.is_nonzero.ensures ∙ w.if-is_nonzero.true, subst (λ (rows : List ℕ). IsMetBy M rows x) w.as_slice.ensures.items (w.meets_part.ensures.0 w.if-meets_part.true))
-      | else-is_nonzero w ↦
-          common_same M i part c.loop-column.common.items c.if-is_nonzero.common.items x c.loop-column.invariant (ap (λ v. v.items) w.common-is)
-          (elim w.else-is_nonzero.branch [
-            | else-is_nonzero-via-then-is_nonzero+else-meets_part w' ↦
-                λ here. not_both w'.meets_part.result (w'.meets_part.ensures.1 (subst (λ (rows : List ℕ). IsMetBy M rows x) (sym w'.as_slice.ensures.items) here.1)) w'.if-meets_part.false
-            | else-is_nonzero-via-else-is_nonzero w' ↦ λ here. not_both (M i x) here.0 (sym c.is_nonzero.ensures ∙ w'.if-is_nonzero.false)
-          ])
-    ]
+pub add_common-requires-clause-one : goal.add_common-requires-clause-one
+add_common-requires-clause-one c = words_long c.args.matrix.now c.args.row c.support_words.result.now c.support_words.ensures ∙ sym c.loop-other.invariant.size
 
-pub returns-clause-below : goal.returns-clause-below
-returns-clause-below c =
-    columns_below c.args.matrix.now c.args.row c.args.part.now c.loop-column.common.items c.columns-column-end.ensures.shape c.requires.row (λ column h. ((c.loop-column.invariant column).0 h).1)
+pub add_common-requires-clause-two : goal.add_common-requires-clause-two
+add_common-requires-clause-two c =
+    words_long c.args.matrix.now (get_or c.as_slice-other-items.result.now c.loop-other.other-index 0) c.support_words-in-loop-other.result.now c.support_words-in-loop-other.ensures ∙ sym c.loop-other.invariant.size
+
+pub loop-other-preserved : goal.loop-other-preserved
+loop-other-preserved c =
+    let m = c.args.matrix.now in
+    let P = c.args.part.now in
+    let p = c.loop-other.other-index in
+    let items = c.as_slice-other-items.ensures.items in
+    let x = get_or c.as_slice-other-items.result.now p 0 in
+    let inside : p < length P = subst (λ (xs : List ℕ). p < length xs) items c.loop-other-test.true in
+    let at : x ≡ get_or P p 0 = ap (λ (xs : List ℕ). get_or xs p 0) items in
+    let low : x < height m = subst (λ (z : ℕ). z < height m) (sym at) (c.requires.rows p inside) in
+    let set = c.loop-other.common.items in record {
+      size = c.add_common.ensures.size ∙ c.loop-other.invariant.size;
+      collected = collected_more (support m) c.args.row P set c.add_common.new.set.items p c.loop-other.invariant.collected inside
+          (λ column. c.add_common.ensures.columns column
+          ∙ ap (λ t. has_column set column || t) (ap₂ (λ s t. s && t)
+          (words_columns m c.args.row c.support_words.result.now c.support_words.ensures c.requires.shape c.requires.row column)
+          (words_columns m x c.support_words-in-loop-other.result.now c.support_words-in-loop-other.ensures c.requires.shape low column
+          ∙ ap (λ (z : ℕ). support m z column) at)));
+    }
 
 pub returns-clause-common : goal.returns-clause-common
-returns-clause-common c = λ column. (
-  (λ h. ((c.loop-column.invariant column).0 h).1),
-  (λ here. (c.loop-column.invariant column).1 (
-    (let l = column_in c.args.matrix.now c.args.row column c.columns-column-end.ensures.shape c.requires.row here.0 in let e = c.columns-column-end.ensures.columns in let t = c.loop-column-test.false in omega arith),
-    here,
-  )),
-)
+returns-clause-common c =
+    collected_all (support c.args.matrix.now) c.args.row c.args.part.now c.loop-other.common.items c.loop-other.other-index c.loop-other.invariant.collected
+    (let l = c.loop-other-test.false in let e = ap length c.as_slice-other-items.ensures.items in omega arith)

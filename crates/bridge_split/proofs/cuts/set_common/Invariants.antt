@@ -1,9 +1,11 @@
-use Rattle.std.proofs.Common.{◌<◌, ℕ}
-use Rattle.std.specs.Prelude.{◌↔◌}
-use Rattle.cmr_base.specs.Members.{IsIn}
-use Rattle.cmr_base.specs.Splits.{IsCommon}
+use Rattle.std.proofs.Common.{◌≡◌, length}
+use Rattle.cmr_base.specs.Planes.{words_for}
 use Rattle.cmr_base.specs.Trees.{support}
+use Rattle.bridge_split.specs.Cutting.{IsCollecting}
 use Rattle.bridge_split.proofs.cuts.set_common.Given as goal
 
-abbrev pub invariant-loop-column : goal.invariant-loop-column
-invariant-loop-column l = (x : ℕ) → IsIn x l.common.items ↔ ((x < l.column) × IsCommon (support l.matrix) l.row l.part x)
+abbrev pub invariant-loop-other : goal.invariant-loop-other
+invariant-loop-other l = record {
+  size : length l.common.items ≡ words_for l.matrix.width;
+  collected : IsCollecting (support l.matrix) l.row l.part l.common.items l.other-index;
+}

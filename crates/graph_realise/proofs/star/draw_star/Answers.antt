@@ -1,17 +1,41 @@
-use Rattle.std.proofs.Common.{sym, subst, arith, List, ℕ}
+use Rattle.std.proofs.Common.{◌≡◌, ◌<◌, ◌∙◌, ◌||◌, sym, ap, refl, subst, arith, List, ℕ, length, get_or}
 use Rattle.cmr_base.specs.Members.{IsIn}
+use Rattle.cmr_base.specs.Planes.{words_for}
 use Rattle.cmr_base.specs.Trees.{support}
-use Rattle.graph_realise.specs.Rays.{IsRay}
+use Rattle.graph_realise.specs.Rays.{IsRay, IsRayAfter}
+use Rattle.bridge_split.specs.ColumnSets.{has_column}
 use Rattle.graph_realise.proofs.SideLemmas.{redrawn_more, redrawn_all, redrawn_others}
-use Rattle.graph_realise.proofs.Stars.{ray_same, rays_cuts}
+use Rattle.graph_realise.proofs.Stars.{ray_after, ray_same, rays_cuts, seen_more, seen_none}
 use Rattle.graph_realise.proofs.star.draw_star.Goals as goal
 
-pub loop-row-preserved : goal.loop-row-preserved
-loop-row-preserved c = record {
-  tables = c.draw_ray.ensures.tables;
-  drawn = redrawn_more (IsRay (support c.args.matrix.now) c.args.rows.now) (ray_same (support c.args.matrix.now) c.args.rows.now) c.as_slice-row-items.result.now c.loop-row.row-index
-      c.args.sides.now c.loop-row.sides c.draw_ray.new.sides c.loop-row.invariant.drawn c.draw_ray.ensures.others c.draw_ray.ensures.drawn;
+pub loop-row-init : goal.loop-row-init
+loop-row-init c = record {
+  tables = c.requires.tables;
+  long = c.in_ok-seen.ensures.size ∙ ap (λ n. words_for n) c.columns.ensures.columns;
+  seen = seen_none (support c.args.matrix.now) c.args.rows.now (has_column c.in_ok-seen.seen.items) c.in_ok-seen.ensures.none;
+  drawn = record { done = λ k l. absurd (omega arith); kept = λ r n. record { arcs = λ other. refl; ends = λ end column. refl } };
 }
+
+pub loop-row-preserved : goal.loop-row-preserved
+loop-row-preserved c =
+    let M = support c.args.matrix.now in
+    let S = c.args.rows.now in
+    let p = c.loop-row.row-index in
+    let so = c.loop-row.invariant in
+    let items = c.as_slice-row-items.ensures.items in
+    let at : get_or c.as_slice-row-items.result.now p 0 ≡ get_or S p 0 = ap (λ (xs : List ℕ). get_or xs p 0) items in
+    let inside : p < length S = subst (λ (xs : List ℕ). p < length xs) items c.loop-row-test.true in
+    let ray = subst (λ (z : ℕ). IsRayAfter M (has_column c.loop-row.seen.items) z c.draw_ray.new.sides) at
+    (subst (λ (xs : List ℕ). IsRayAfter M (has_column xs) (get_or c.as_slice-row-items.result.now p 0) c.draw_ray.new.sides) c.as_slice.ensures.value c.draw_ray.ensures.drawn) in
+    record {
+      tables = c.draw_ray.ensures.tables;
+      long = c.add_row.ensures.size;
+      seen = seen_more M S p (has_column c.loop-row.seen.items) (has_column c.add_row.new.set.items) so.seen
+          (λ column. c.add_row.ensures.columns column ∙ ap (λ (z : ℕ). has_column c.loop-row.seen.items column || M z column) at);
+      drawn = redrawn_more (IsRay M S) (ray_same M S) c.as_slice-row-items.result.now p c.args.sides.now c.loop-row.sides c.draw_ray.new.sides so.drawn c.draw_ray.ensures.others
+          (subst (λ (z : ℕ). IsRay M S z c.draw_ray.new.sides) (sym at) (ray_after M S p (has_column c.loop-row.seen.items) c.draw_ray.new.sides
+          c.as_slice-row-items.ensures.rising inside so.seen ray));
+    }
 
 pub returns-clause-cuts : goal.returns-clause-cuts
 returns-clause-cuts c =

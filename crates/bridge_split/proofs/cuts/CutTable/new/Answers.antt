@@ -1,14 +1,14 @@
-use Rattle.std.proofs.Common.{◌≡◌, ◌∙◌, List, ℕ, [], sym, subst}
+use Rattle.std.proofs.Common.{◌≡◌, ◌∙◌, true, List, ℕ, [], sym, subst}
 use Rattle.std.specs.Prelude.{◌↔◌}
+use Rattle.std.proofs.lemmas.List.{get_or_default}
 use Rattle.cmr_base.specs.LineSets.{AllBelow}
 use Rattle.cmr_base.specs.Matrix.{height}
-use Rattle.cmr_base.specs.Members.{IsIn}
 use Rattle.cmr_base.specs.Splits.{IsCommon}
 use Rattle.cmr_base.specs.Trees.{support}
+use Rattle.bridge_split.specs.ColumnSets.{has_column}
 use Rattle.bridge_split.specs.Cutting.{part_at}
 use Rattle.bridge_split.proofs.CutTables.{table_more}
 use Rattle.bridge_split.proofs.cuts.CutTable.new.Goals as goal
-use Rattle.std.proofs.lemmas.List.{get_or_default}
 
 pub set_common-requires-clause-rows : goal.set_common-requires-clause-rows
 set_common-requires-clause-rows c =
@@ -21,6 +21,9 @@ loop-part-preserved c =
     let M = support c.args.matrix.now in
     let p = c.loop-part.part-index in
     let item : c.part-item.result ≡ part_at c.args.parts.now p = c.part-item.is ∙ get_or_default c.args.parts.now p c.part-item.result [] c.loop-part-test.true in
-    table_more M c.args.row c.args.parts.now p c.deref.result.now c.loop-part.cuts.items c.push_cuts.new.cuts.items c.loop-part.invariant c.in_ok-push_cuts.ensures
-    (subst (λ (columns : List ℕ). (column : ℕ) → IsIn column columns ↔ IsCommon M c.args.row (part_at c.args.parts.now p) column) (sym c.deref.ensures.value)
-    (subst (λ (part : List ℕ). (column : ℕ) → IsIn column c.set_common.new.common.items ↔ IsCommon M c.args.row part column) item c.in_ok-set_common.ensures.common))
+    let set = c.as_slice.result.now in record {
+      size = c.set_common.ensures.size;
+      table = table_more M c.args.row c.args.parts.now p (has_column set) c.loop-part.cuts.items c.push_cuts.new.cuts.items c.loop-part.invariant.table c.in_ok-push_cuts.ensures
+          (subst (λ (columns : List ℕ). (column : ℕ) → (has_column columns column ≡ true) ↔ IsCommon M c.args.row (part_at c.args.parts.now p) column) (sym c.as_slice.ensures.value)
+          (subst (λ (part : List ℕ). (column : ℕ) → (has_column c.set_common.new.common.items column ≡ true) ↔ IsCommon M c.args.row part column) item c.set_common.ensures.common));
+    }

@@ -2,7 +2,7 @@ use Rattle.std.proofs.Common.{◌≡◌, ℕ, sym, subst, arith, length}
 use Rattle.std.proofs.lemmas.Option.{MatchOption-at_none}
 use Rattle.bridge_split.specs.Forests.{IsGrowingFrom}
 use Rattle.bridge_split.proofs.ForestSteps.{growing_starts, growing_on, growing_few}
-use Rattle.bridge_split.proofs.NumberSteps.{in_longer}
+use Rattle.bridge_split.proofs.GrowingLists.{in_longer}
 use Rattle.bridge_split.proofs.forest.Forest.grow_from.Goals as goal
 
 pub loop-head-init : goal.loop-head-init

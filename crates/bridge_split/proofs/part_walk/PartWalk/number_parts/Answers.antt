@@ -1,34 +1,58 @@
-use Rattle.std.proofs.Common.{◌+◌, ◌∙◌, ℕ, ap, sym, subst, arith, inl, inr, get_or}
+use Rattle.std.proofs.Common.{◌≡◌, ◌+◌, ℕ, sym, subst, arith, inl, inr, get_or}
+use Rattle.std.proofs.lemmas.Bool.{cases_eq}
+use Rattle.cmr_base.specs.Matrix.{height}
+use Rattle.cmr_base.specs.Trees.{support}
+use Rattle.cmr_base.proofs.Parts.{length-rising}
+use Rattle.bridge_split.specs.PartNumbers.{number_at, IsNumbering}
 use Rattle.bridge_split.specs.declared.part_walk.PartWalk.{PartWalk}
-use Rattle.bridge_split.specs.PartNumbers.{IsNumbering}
-use Rattle.bridge_split.proofs.NumberSteps.{numbering_skips, numbering_ends}
+use Rattle.bridge_split.proofs.PartWalks.{all_numbered, some_or_none}
+use Rattle.bridge_split.proofs.NumberSteps.{passed_more}
+use Rattle.bridge_split.proofs.ThreeNonzeros.{below_in}
 use Rattle.bridge_split.proofs.part_walk.PartWalk.number_parts.Goals as goal
-use Rattle.bridge_split.proofs.part_walk.PartWalk.number_parts.Goals.{then-rows-place+then-index+in_ok-walk_from, else-rows-place, else-rows-place-via-then-rows-place+else-index, else-rows-place-via-else-rows-place}
-use Rattle.std.proofs.lemmas.List.{get_or_default}
+use Rattle.bridge_split.proofs.part_walk.PartWalk.number_parts.Goals.{then-is_left, else-is_left}
+
+pub walk_from-requires-clause-row : goal.walk_from-requires-clause-row
+walk_from-requires-clause-row c = below_in c.args.row (height c.args.matrix.now) c.args.rows.now c.requires.rows c.requires.row
+
+pub walk_from-requires-clause-few : goal.walk_from-requires-clause-few
+walk_from-requires-clause-few c =
+    let g = length-rising c.args.rows.now (height c.args.matrix.now) c.requires.rising c.requires.rows in
+    let h = c.requires.room.matrix.height_in in
+    let f = c.loop-place.invariant.fewer in
+    let l = c.loop-place-test.true in omega (arith, g, h, f, l)
 
 pub loop-place-preserved : goal.loop-place-preserved
 loop-place-preserved c =
     let m = c.args.matrix.now in
     let S = c.args.rows.now in
+    let i = c.args.row in
+    let p = c.loop-place.place in
+    let so = c.loop-place.invariant in
     let s = c.loop-place.self in
-    let r = c.if-rows-place.self in
-    elim c.if-rows-place.branch [
-      | then-rows-place+then-index+in_ok-walk_from w ↦
-          let n = w.walk_from.new.self in
-          subst (λ (v : PartWalk). IsNumbering m S c.args.row c.if-rows-place.count (c.loop-place.place + 1) v.part.items v.met.items v.seen.items) (sym w.self-is)
-          (subst (λ (k : ℕ). IsNumbering m S c.args.row k (c.loop-place.place + 1) n.part.items n.met.items n.seen.items) (sym w.count-is)
-          (record { room = w.in_ok-walk_from.ensures.room; between = w.in_ok-walk_from.ensures.between }))
-      | else-rows-place w ↦ numbering_skips m S c.args.row c.requires.rising c.requires.rows c.loop-place.count c.loop-place.place s.part.items s.met.items s.seen.items c.loop-place.invariant
-          r.part.items r.met.items r.seen.items c.if-rows-place.count
-          (elim w.else-rows-place.branch [
-            | else-rows-place-via-then-rows-place+else-index w' ↦
-                inr (λ e. w'.if-index.false (w'.index.ensures ∙ get_or_default s.part.items (get_or S c.loop-place.place 0) w'.index.result.now 4294967295
-                (let low = c.requires.rows c.loop-place.place c.loop-place-test.true in let k = c.loop-place.invariant.room.numbers in omega arith) ∙ e))
-            | else-rows-place-via-else-rows-place w' ↦ inl w'.if-rows-place.false
-          ])
-          (ap (λ v. v.part.items) w.self-is) (ap (λ v. v.met.items) w.self-is) (ap (λ v. v.seen.items) w.self-is) w.count-is
+    let at : (v : PartWalk) (count : ℕ) → c.if-is_left.self ≡ v → c.if-is_left.count ≡ count → IsNumbering m S i count (p + 1) v.part.items v.reached.items
+    → IsNumbering m S i c.if-is_left.count (p + 1) c.if-is_left.self.part.items c.if-is_left.self.reached.items =
+    λ v count e f h. subst (λ (u : PartWalk). IsNumbering m S i c.if-is_left.count (p + 1) u.part.items u.reached.items) (sym e)
+    (subst (λ (k : ℕ). IsNumbering m S i k (p + 1) v.part.items v.reached.items) (sym f) h) in
+    elim c.if-is_left.branch [
+      | then-is_left w ↦
+          at w.walk_from.new.self (c.loop-place.count + 1) w.self-is w.count-is (record {
+            room = w.walk_from.ensures.room;
+            between = w.walk_from.ensures.between;
+            before = passed_more (support m) S i p (number_at s.part.items) (number_at w.walk_from.new.self.part.items) so.before w.walk_from.ensures.keeps (inr (c.loop-place.count, w.walk_from.ensures.first));
+            fewer = let f = so.fewer in omega arith;
+          })
+      | else-is_left w ↦
+          at s c.loop-place.count w.self-is w.count-is (record {
+            room = so.room;
+            between = so.between;
+            before = passed_more (support m) S i p (number_at s.part.items) (number_at s.part.items) so.before (λ k a e. e) (elim (cases_eq (get_or S p 0) i) [
+              | inl e ↦ inl e
+              | inr n ↦ elim (some_or_none (number_at s.part.items (get_or S p 0))) [ inl e ↦ absurd (let f = w.if-is_left.ensures.1 (n, e) in cc) | inr f ↦ inr f ]
+            ]);
+            fewer = let f = so.fewer in omega arith;
+          })
     ]
 
 pub returns-clause-parts : goal.returns-clause-parts
-returns-clause-parts c = numbering_ends c.args.matrix.now c.args.rows.now c.args.row c.requires.rising c.requires.rows c.loop-place.count c.loop-place.place c.loop-place.self.part.items c.loop-place.self.met.items c.loop-place.self.seen.items
-    c.loop-place.invariant c.requires.row c.loop-place-test.false
+returns-clause-parts c =
+    all_numbered (support c.args.matrix.now) c.args.rows.now c.args.row (number_at c.loop-place.self.part.items) c.loop-place.count c.loop-place.place c.loop-place.invariant.between c.loop-place.invariant.before c.loop-place-test.false

@@ -1,33 +1,46 @@
-use Rattle.std.proofs.Common.{◌≡◌, ℕ, sym, subst, arith, length}
-use Rattle.bridge_split.specs.PartNumbers.{IsWalkingFrom}
-use Rattle.bridge_split.proofs.NumberSteps.{walking_starts, in_rows, few_met, walking_on, walking_ends}
+use Rattle.std.proofs.Common.{◌&&◌, ◌||◌, ◌∙◌, not, ℕ, List, Option, Some, sym, ap, refl, subst, arith, get_or, set, add-one}
+use Rattle.cmr_base.specs.Matrix.{height}
+use Rattle.cmr_base.specs.Trees.{support}
+use Rattle.cmr_base.proofs.Members.{in_at}
+use Rattle.cmr_base.proofs.Parts.{length-rising}
+use Rattle.bridge_split.specs.ColumnSets.{has_column}
+use Rattle.bridge_split.specs.PartNumbers.{number_at, IsBetween}
+use Rattle.bridge_split.proofs.PartWalks.{part_done}
+use Rattle.bridge_split.proofs.NumberSteps.{starts_from}
 use Rattle.bridge_split.proofs.part_walk.PartWalk.walk_from.Goals as goal
 
-pub loop-head-init : goal.loop-head-init
-loop-head-init c =
-    let r = c.meet.new.self in
-    let e : c.len-head.result ≡ length c.args.self.now.met.items = let f = c.len-head.ensures in omega arith in
-    subst (λ (h : ℕ). IsWalkingFrom c.args.matrix.now c.args.rows.now c.args.row c.args.number c.args.place h r.part.items r.met.items r.seen.items) (sym e)
-    (walking_starts c.args.matrix.now c.args.rows.now c.args.row c.requires.rising c.requires.rows c.args.number c.args.place c.args.self.now.part.items c.args.self.now.met.items
-    r.part.items r.met.items c.args.self.now.seen.items r.seen.items c.requires.room c.requires.between c.requires.place c.requires.other c.requires.start
-    c.in_ok-meet.ensures.part c.in_ok-meet.ensures.met c.meet.ensures.seen)
+pub loop-met-init : goal.loop-met-init
+loop-met-init c =
+    let m = c.args.matrix.now in
+    let S = c.args.rows.now in
+    let i = c.args.row in
+    let place = c.args.place in
+    let x = get_or S place 0 in
+    let s = c.args.self.now in
+    starts_from m S i c.args.number x s.part.items c.meet.new.self.part.items s.reached.items c.meet.new.self.reached.items (in_at S place c.requires.place) (c.requires.rows place c.requires.place) c.requires.left c.requires.room
+    (c.meet.ensures.part ∙ ap (λ (v : List (Option ℕ)). set v x (Some c.args.number)) c.forget.ensures.part)
+    place c.requires.rising c.requires.between c.requires.place refl c.requires.passed c.requires.few c.meet.ensures.room
+    (λ column. c.meet.ensures.reached column ∙ ap (λ t. t || (support m x column && not (support m i column))) (c.forget.ensures.none column))
 
-pub meet_joined-requires-clause-others : goal.meet_joined-requires-clause-others
-meet_joined-requires-clause-others c =
-    in_rows c.args.matrix.now c.args.rows.now c.args.row c.requires.rising c.requires.rows c.args.number c.args.place c.loop-head.head c.loop-head.self.part.items c.loop-head.self.met.items c.loop-head.self.seen.items c.loop-head.invariant
+pub meet_touched-met-requires-clause-few : goal.meet_touched-met-requires-clause-few
+meet_touched-met-requires-clause-few c =
+    let g = length-rising c.args.rows.now (height c.args.matrix.now) c.requires.rising c.requires.rows in
+    let h = c.requires.room.matrix.height_in in omega (arith, g, h)
 
-pub loop-head-smaller : goal.loop-head-smaller
-loop-head-smaller c =
-    let few = few_met c.args.matrix.now c.args.rows.now c.args.row c.requires.rising c.requires.rows c.args.number c.args.place c.loop-head.head c.loop-head.self.part.items c.loop-head.self.met.items c.loop-head.self.seen.items c.loop-head.invariant in
-    let e = c.len.ensures in let l = c.loop-head-test.true in omega arith
-
-pub loop-head-preserved : goal.loop-head-preserved
-loop-head-preserved c =
-    let r = c.meet_joined.new.self in
-    walking_on c.args.matrix.now c.args.rows.now c.args.row c.requires.rising c.requires.rows c.args.number c.args.place c.loop-head.head c.loop-head.self.part.items c.loop-head.self.met.items c.loop-head.self.seen.items c.loop-head.invariant
-    r.part.items r.met.items r.seen.items c.in_ok-meet_joined.ensures.room c.in_ok-meet_joined.ensures.extends c.in_ok-meet_joined.ensures.walk
+pub loop-met-preserved : goal.loop-met-preserved
+loop-met-preserved c =
+    let now = c.meet_touched-met.ensures in
+    let so = c.loop-met.invariant in record {
+      room = now.room;
+      walk = now.walk;
+      keeps = λ k a e. now.keeps k a (so.keeps k a e);
+      first_in = now.keeps (get_or c.args.rows.now c.args.place 0) c.args.number so.first_in;
+      none = now.none;
+    }
 
 pub returns-clause-between : goal.returns-clause-between
 returns-clause-between c =
-    walking_ends c.args.matrix.now c.args.rows.now c.args.row c.requires.rising c.requires.rows c.args.number c.args.place c.loop-head.head c.loop-head.self.part.items c.loop-head.self.met.items c.loop-head.self.seen.items c.loop-head.invariant
-    (let e = c.len.ensures in let l = c.loop-head-test.false in omega arith)
+    let s = c.loop-met.self in
+    let so = c.loop-met.invariant in
+    subst (IsBetween (support c.args.matrix.now) c.args.rows.now c.args.row (number_at s.part.items)) (sym (add-one c.args.number))
+    (part_done (support c.args.matrix.now) c.args.rows.now c.args.row (number_at s.part.items) c.args.number (has_column s.reached.items) so.walk (so.none (let l = c.loop-met-test.false in omega arith)))

@@ -1,9 +1,9 @@
-use Rattle.std.proofs.Common.{◌-◌, length}
-use Rattle.bridge_split.specs.PartNumbers.{IsWalkingFrom}
+use Rattle.std.proofs.Common.{◌+◌, get_or}
+use Rattle.bridge_split.specs.PartNumbers.{IsWalkingFrom, left_in, number_at}
 use Rattle.bridge_split.proofs.part_walk.PartWalk.walk_from.Given as goal
 
-abbrev pub invariant-loop-head : goal.invariant-loop-head
-invariant-loop-head l = IsWalkingFrom l.matrix l.rows l.row l.number l.place l.head l.self.part.items l.self.met.items l.self.seen.items
+abbrev pub invariant-loop-met : goal.invariant-loop-met
+invariant-loop-met l = IsWalkingFrom l.matrix l.rows l.row l.number (get_or l.rows l.place 0) l.fn.self.part.items l.self.part.items l.self.reached.items l.met
 
-abbrev pub decreases-loop-head : goal.decreases-loop-head
-decreases-loop-head l = length l.rows - l.head
+abbrev pub decreases-loop-met : goal.decreases-loop-met
+decreases-loop-met l = left_in l.rows (number_at l.self.part.items) + l.met

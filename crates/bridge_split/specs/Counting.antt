@@ -1,0 +1,24 @@
+-- How many nonzeros the columns have in some rows, up to three.
+use Rattle.std.specs.Prelude.{◌≡◌, nat_lt, ℕ, List, length, count_by}
+use Rattle.cmr_base.specs.Matrix.{Matrix, IsMatrix}
+use Rattle.cmr_base.specs.Planes.{words_for}
+use Rattle.cmr_base.specs.Trees.{support}
+use Rattle.bridge_split.specs.ColumnSets.{has_column}
+use Rattle.bridge_split.specs.declared.counts.Counts.{Counts}
+
+-- sets for so many columns
+pub record HasWords (columns : ℕ) (counts : Counts) : Type 0 where
+  pub once_long : length counts.once.items ≡ words_for columns
+  pub twice_long : length counts.twice.items ≡ words_for columns
+  pub thrice_long : length counts.thrice.items ≡ words_for columns
+
+-- the columns with more than so many nonzeros in the rows of S
+abbrev pub AreMore : Matrix → List ℕ → ℕ → List ℕ → Type 0
+AreMore m S many set = (column : ℕ) → has_column set column ≡ nat_lt many (count_by (λ row. support m row column) S)
+
+pub record AreCounts (m : Matrix) (S : List ℕ) (counts : Counts) : Type 0 where
+  pub matrix : IsMatrix m
+  pub words : HasWords m.width counts
+  pub once : AreMore m S 0 counts.once.items
+  pub twice : AreMore m S 1 counts.twice.items
+  pub thrice : AreMore m S 2 counts.thrice.items

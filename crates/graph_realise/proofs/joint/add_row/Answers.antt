@@ -1,0 +1,24 @@
+use Rattle.std.proofs.Common.{◌∙◌, ◌||◌, ◌&&◌, Bool, true, false, ◌≡◌, sym, ap, ap₂, refl}
+use Rattle.cmr_base.specs.Trees.{support}
+use Rattle.bridge_split.specs.ColumnSets.{has_column}
+use Rattle.bridge_split.proofs.ColumnWords.{words_long, words_columns}
+use Rattle.graph_realise.proofs.joint.add_row.Goals as goal
+
+both : (t : Bool) → (t && t) ≡ t
+both true = refl
+both false = refl
+
+pub add_common-requires-clause-one : goal.add_common-requires-clause-one
+add_common-requires-clause-one c = words_long c.args.matrix.now c.args.row c.support_words.result.now c.support_words.ensures ∙ sym c.requires.size
+
+pub add_common-requires-clause-two : goal.add_common-requires-clause-two
+add_common-requires-clause-two c = words_long c.args.matrix.now c.args.row c.support_words-2.result.now c.support_words-2.ensures ∙ sym c.requires.size
+
+pub returns-clause-columns : goal.returns-clause-columns
+returns-clause-columns c = λ column.
+    let m = c.args.matrix.now in
+    c.add_common.ensures.columns column
+    ∙ ap (λ t. has_column c.args.set.now.items column || t)
+    (ap₂ (λ s t. s && t) (words_columns m c.args.row c.support_words.result.now c.support_words.ensures c.requires.shape c.requires.row column)
+    (words_columns m c.args.row c.support_words-2.result.now c.support_words-2.ensures c.requires.shape c.requires.row column)
+    ∙ both (support m c.args.row column))

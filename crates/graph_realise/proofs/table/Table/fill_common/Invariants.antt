@@ -1,0 +1,7 @@
+use Rattle.std.proofs.Common.{◌*◌, ◌&&◌}
+use Rattle.bridge_split.specs.ColumnSets.{has_column}
+use Rattle.graph_realise.specs.Tables.{IsRowFilled}
+use Rattle.graph_realise.proofs.table.Table.fill_common.Given as goal
+
+abbrev pub invariant-loop-block : goal.invariant-loop-block
+invariant-loop-block l = IsRowFilled (λ column. has_column l.one column && has_column l.two column) l.initial.self l.self l.row (64 * l.block)

@@ -1,0 +1,23 @@
+use Rattle.std.proofs.Common.{◌&&◌, ◌∙◌, ℕ, Bool, not, get_or, sym, ap, ap₂, arith, w64}
+use Rattle.std.specs.Int.{bit_not}
+use Rattle.std.specs.Int.Bits.{bit_and}
+use Rattle.bridge_split.specs.ColumnSets.{has_column}
+use Rattle.bridge_split.proofs.ColumnWords.{column_at}
+use Rattle.bridge_split.proofs.WordBits.{has_bit-and, has_bit-not}
+use Rattle.graph_realise.proofs.TableLemmas.{filled_word, filled_row}
+use Rattle.graph_realise.proofs.table.Table.fill_outside.Goals as goal
+
+pub loop-block-preserved : goal.loop-block-preserved
+loop-block-preserved c =
+    let block = c.loop-block.block in
+    let one = c.args.one.now in
+    let other = c.args.other.now in
+    let values : ℕ → Bool = λ column. has_column one column && not (has_column other column) in
+    filled_word values c.args.self.now c.loop-block.self c.set_word.new.self c.args.row block (bit_and (get_or one block 0) (bit_not w64 (get_or other block 0))) c.loop-block.invariant c.set_word.ensures
+    (λ k small inside. has_bit-and (get_or one block 0) (bit_not w64 (get_or other block 0)) k
+    ∙ ap₂ (λ a b. a && b) (sym (column_at one block k small)) (has_bit-not (get_or other block 0) k (c.type_inv.other block).fits small ∙ ap not (sym (column_at other block k small))))
+
+pub returns : goal.returns
+returns c =
+    let end = c.loop-block-test.false in
+    filled_row (λ column. has_column c.args.one.now column && not (has_column c.args.other.now column)) c.args.self.now c.loop-block.self c.args.row c.loop-block.block (omega (arith, end, c.blocks-block-end.ensures)) c.loop-block.invariant
