@@ -12,3 +12,10 @@ pub mod SaidSums
 pub mod Children
 pub mod Roots
 pub mod NoFaults
+pub mod SameSets
+pub mod FirstSeeds
+pub mod Components
+pub mod OneCycleFault
+pub mod OneLeast
+pub mod OneTree
+pub mod OneVerdict

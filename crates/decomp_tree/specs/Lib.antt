@@ -2,3 +2,4 @@ pub mod Shapes
 pub mod Laws
 pub mod Seen
 pub mod Fronts
+pub mod PlainTrees

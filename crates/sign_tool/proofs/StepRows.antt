@@ -1,11 +1,10 @@
 -- The rows that the steps of a run name.
-use Rattle.std.proofs.Common.{◌≡◌, ◌+◌, ◌++◌, ◌∙◌, ◌⊎◌, inl, inr, ◌↔◌, ℕ, suc, ℤ, Option, Some, None, List, [], ◌∷◌, length, get_or, map, refl, ap, sym, subst, arith, length-append}
-use Rattle.std.specs.List.{remove}
+use Rattle.std.proofs.Common.{◌≡◌, ◌++◌, ◌∙◌, ◌⊎◌, inl, inr, ℕ, suc, ℤ, Option, Some, None, List, [], ◌∷◌, length, get_or, map, refl, ap, sym, subst, arith, length-append}
 use Rattle.cmr_base.specs.Matrix.{Matrix}
 use Rattle.cmr_base.specs.Members.{IsIn, IsDistinct}
 use Rattle.cmr_base.proofs.Lists.{HasOneMore, one_more_first}
 use Rattle.ghouila.specs.declared.by_pivots.Pivot.{Pivot}
-use Rattle.ghouila.specs.SignRuns.{IsPivotNext, IsPutAside, SignsBySteps}
+use Rattle.ghouila.specs.SignRuns.{IsPivotNext, SignsBySteps}
 use Rattle.ghouila.proofs.LeftRows.{one_more-remove}
 use Rattle.sign_tool.specs.SetSignings.{NamesEachOnce}
 

@@ -10,5 +10,6 @@ mod value;
 mod write;
 
 pub use error::{TreeError, TreeKind};
+pub use kind_word::{KindWord, kind_of, word_of};
 pub use read::read_tree;
 pub use write::write_tree;

@@ -1,0 +1,28 @@
+-- Trees without what their networks say.
+use Rattle.std.specs.Prelude.{◌≡◌, ℕ, []}
+use Rattle.cmr_base.specs.declared.network.Network as net
+use Rattle.cmr_base.specs.Matrix.{Matrix, height}
+use Rattle.tree_type.specs.Invariant.{IsTreeFor}
+use Rattle.decomp_tree.specs.Shapes.{IsShape}
+use Rattle.tree_type.specs.Trees.{Finding, Network, Conetwork, Tree, Trees, Branch, NoTrees, MoreTrees}
+
+abbrev pub no_network : net.Network
+no_network = record { arcs = []; walks = [] }
+
+-- what a node says, but for the nodes of a network
+abbrev pub plain : Finding → Finding
+plain (Network n) = Network no_network
+plain (Conetwork n) = Conetwork no_network
+plain finding = finding
+
+abbrev mutual
+  pub plain_tree : Tree → Tree
+  plain_tree (Branch lines finding trees) = Branch lines (plain finding) (plain_trees trees)
+
+  pub plain_trees : Trees → Trees
+  plain_trees NoTrees = NoTrees
+  plain_trees (MoreTrees tree trees) = MoreTrees (plain_tree tree) (plain_trees trees)
+
+-- two decompositions of a matrix differ at most in what their networks say
+abbrev pub OneShape : Type 0
+OneShape = (limit : ℕ) (m : Matrix) (tree other : Tree) → IsTreeFor (height m) m.width tree → IsTreeFor (height m) m.width other → IsShape limit m tree → IsShape limit m other → plain_tree tree ≡ plain_tree other
