@@ -10,16 +10,17 @@ use Rattle.cmr_base.specs.GreedySets.{IsGreedySet, IsMinimalWithout}
 use Rattle.cmr_base.proofs.Parts.{height-transposed}
 use Rattle.cmr_tools.specs.declared.options.Property.{Property}
 use Rattle.cmr_tools.specs.declared.options.Property.TheVariants.{Graphic, Network}
-use Rattle.cmr_tools.specs.declared.status.Answer.{Answer}
-use Rattle.cmr_tools.specs.declared.status.Answer.TheVariants.{Yes, No, Undecided, Refused}
+use Rattle.cmr_front.specs.declared.status.Answer.{Answer}
+use Rattle.cmr_front.specs.declared.status.Answer.TheVariants.{Yes, No, Undecided, Refused}
 use Rattle.cmr_tools.specs.GraphicNetwork.{Has, IsTestable, Shows, TestDecides, TestMeans, yes, no, test_source, test_tool, tested_lines, tested_matrix}
-use Rattle.cmr_tools.specs.Minimal.{IsMinimalAsked, IsMinimalSet}
-use Rattle.cmr_tools.specs.Report.{Report}
-use Rattle.cmr_tools.specs.Status.{answer_status}
+use Rattle.cmr_front.specs.Minimal.{IsMinimalAsked, IsMinimalSet}
+use Rattle.cmr_front.specs.Report.{Report}
+use Rattle.cmr_front.specs.Status.{answer_status}
 use Rattle.cmr_tools.specs.Words.GraphicNetwork.{TestOrder}
 use Rattle.cmr_tools.proofs.TransposedBinary.{transposed_binary}
-use Rattle.cmr_tools.proofs.Laws.{IsLawful, status_of}
-use Rattle.cmr_tools.proofs.MatrixText.{lawful}
+use Rattle.cmr_front.proofs.MatrixText.{lawful}
+use Rattle.cmr_front.specs.Tool.{IsLawful}
+use Rattle.cmr_front.proofs.Statuses.{status_of}
 
 -- ---- a matrix that is testable
 

@@ -1,102 +1,20 @@
--- There is one verdict on a matrix, and what it says.
-use Rattle.std.proofs.Common.{◌≡◌, ◌≤◌, ◌∙◌, ℕ, List, ap, ap₂, sym, subst, inl, inr, arith}
-use Rattle.std.proofs.lemmas.Bool.{cases_lt}
-use Rattle.cmr_base.specs.Matrix.{Matrix, height, entry}
-use Rattle.cmr_base.specs.LineSets.{IsRowSet, IsColumnSet, set_number, set_numbered}
-use Rattle.cmr_base.specs.Signing.{IsTotallyUnimodular, HasNoSigning}
-use Rattle.cmr_base.specs.Violator.{IsViolator, IsLeastByColumns, IsLeastByRows, IsLeastColumnSet, IsLeastRowSet, IsLeastViolator}
-use Rattle.cmr_base.proofs.RisingLists.{RisesIn, row_set_rises, column_set_rises}
-use Rattle.cmr_base.proofs.SetNumbers.{numbered_same}
-use Rattle.ghouila.proofs.CamionLaw.{unsigned}
-use Rattle.cmr_tools.specs.Report.{Report}
-use Rattle.cmr_tools.specs.Verdict.{VerdictOrder, IsNamedViolator, Decides, yes, no, undecided, no_report}
-use Rattle.cmr_tools.proofs.OneCycleFault.{one_cycle_fault, not_both}
+-- All decompositions of a matrix tell the same.
+use Rattle.std.proofs.Common.{◌≡◌, ◌∙◌, ℕ, ap, sym, subst}
+use Rattle.cmr_base.specs.Matrix.{Matrix, height}
+use Rattle.tree_type.specs.Invariant.{IsTreeFor}
+use Rattle.tree_type.specs.Trees.{SizedTree, tree_of}
+use Rattle.decomp_tree.proofs.OneVerdict as decompositions
+use Rattle.cmr_front.specs.Report.{Report}
+use Rattle.cmr_front.specs.Status.{answer_status}
+use Rattle.cmr_tools.specs.Verdict.{Decides, IsDecomposition, VerdictOrder, answer_of, verdict_in}
+use Rattle.cmr_front.proofs.Statuses.{status_of}
 
--- a violator on sets of lines
-pub record IsOnLines (m : Matrix) (rows columns : List ℕ) : Type 0 where
-  pub row_set : IsRowSet m rows
-  pub column_set : IsColumnSet m columns
-  pub violator : IsViolator (entry m) rows columns
+pub tree_for : (budget : ℕ) (m : Matrix) (tree : SizedTree) → IsDecomposition budget m tree → IsTreeFor (height m) m.width (tree_of tree.root)
+tree_for budget m tree is =
+    subst (λ rows. IsTreeFor rows m.width (tree_of tree.root)) is.rows (subst (λ columns. IsTreeFor tree.rows columns (tree_of tree.root)) is.columns is.is_tree)
 
--- the least violator is one, whichever side is shorter
-pub least_on_lines : (m : Matrix) (rows columns : List ℕ) → IsLeastViolator m rows columns → IsOnLines m rows columns
-least_on_lines m rows columns least = elim (cases_lt m.width (height m)) [
-  | inl few ↦
-      let l = least.few_columns few in
-      record { row_set = l.rows_least.row_set; column_set = l.column_set; violator = l.rows_least.violator }
-  | inr many ↦
-      let l = least.few_rows many in
-      record { row_set = l.row_set; column_set = l.columns_least.column_set; violator = l.columns_least.violator }
-]
-
-pub on_lines : (m : Matrix) (rows columns : List ℕ) → IsNamedViolator m rows columns → IsOnLines m rows columns
-on_lines m rows columns named = elim named.fault_or_least [
-  | inl fault ↦ record { row_set = fault.row_set; column_set = fault.column_set; violator = named.violator }
-  | inr least ↦ least_on_lines m rows columns least.1
-]
-
--- its rows have no signing
-pub no_signing : (m : Matrix) (rows columns : List ℕ) → IsNamedViolator m rows columns → HasNoSigning m rows
-no_signing m rows columns named = let on = on_lines m rows columns named in unsigned m rows columns on.column_set on.violator
-
-same_set : (high : ℕ) (lines others : List ℕ) → RisesIn 0 high lines → RisesIn 0 high others → set_number lines ≤ set_number others → set_number others ≤ set_number lines → lines ≡ others
-same_set high lines others rises rises' up down =
-    let same : set_number lines ≡ set_number others = omega arith in
-    sym (numbered_same high lines rises) ∙ ap (set_numbered high 0) same ∙ numbered_same high others rises'
-
-one_by_rows : (m : Matrix) (rows columns rows' columns' : List ℕ) → IsLeastByRows m rows columns → IsLeastByRows m rows' columns' → (rows ≡ rows') × (columns ≡ columns')
-one_by_rows m rows columns rows' columns' x y =
-    let same : rows ≡ rows' = same_set (height m) rows rows' (row_set_rises m rows x.row_set) (row_set_rises m rows' y.row_set)
-    (x.rows_least rows' columns' y.row_set y.columns_least.column_set y.columns_least.violator) (y.rows_least rows columns x.row_set x.columns_least.column_set x.columns_least.violator) in
-    let here : IsLeastColumnSet m rows' columns = subst (λ rs. IsLeastColumnSet m rs columns) same x.columns_least in (
-      same,
-      same_set m.width columns columns' (column_set_rises m columns here.column_set) (column_set_rises m columns' y.columns_least.column_set)
-          (here.least columns' y.columns_least.column_set y.columns_least.violator) (y.columns_least.least columns here.column_set here.violator),
-    )
-
-one_by_columns : (m : Matrix) (rows columns rows' columns' : List ℕ) → IsLeastByColumns m rows columns → IsLeastByColumns m rows' columns' → (rows ≡ rows') × (columns ≡ columns')
-one_by_columns m rows columns rows' columns' x y =
-    let same : columns ≡ columns' = same_set m.width columns columns' (column_set_rises m columns x.column_set) (column_set_rises m columns' y.column_set)
-    (x.columns_least rows' columns' y.rows_least.row_set y.column_set y.rows_least.violator) (y.columns_least rows columns x.rows_least.row_set x.column_set x.rows_least.violator) in
-    let here : IsLeastRowSet m rows columns' = subst (λ cs. IsLeastRowSet m rows cs) same x.rows_least in (
-      same_set (height m) rows rows' (row_set_rises m rows here.row_set) (row_set_rises m rows' y.rows_least.row_set)
-          (here.least rows' y.rows_least.row_set y.rows_least.violator) (y.rows_least.least rows here.row_set here.violator),
-      same,
-    )
-
--- there is one least violator
-one_least : (m : Matrix) (rows columns rows' columns' : List ℕ) → IsLeastViolator m rows columns → IsLeastViolator m rows' columns' → (rows ≡ rows') × (columns ≡ columns')
-one_least m rows columns rows' columns' a b = elim (cases_lt m.width (height m)) [
-  | inl few ↦ one_by_columns m rows columns rows' columns' (a.few_columns few) (b.few_columns few)
-  | inr many ↦ one_by_rows m rows columns rows' columns' (a.few_rows many) (b.few_rows many)
-]
-
-one_named : (m : Matrix) (rows columns rows' columns' : List ℕ) → IsNamedViolator m rows columns → IsNamedViolator m rows' columns' → (rows ≡ rows') × (columns ≡ columns')
-one_named m rows columns rows' columns' named named' = elim named.fault_or_least [
-  | inl fault ↦ elim named'.fault_or_least [
-    | inl fault' ↦ one_cycle_fault m rows columns rows' columns' fault fault'
-    | inr least' ↦ absurd (not_both m rows columns fault least'.0)
-  ]
-  | inr least ↦ elim named'.fault_or_least [
-    | inl fault' ↦ absurd (not_both m rows' columns' fault' least.0)
-    | inr least' ↦ one_least m rows columns rows' columns' least.1 least'.1
-  ]
-]
-
-not_yes_and_no : (m : Matrix) (rows columns : List ℕ) → IsTotallyUnimodular m → IsNamedViolator m rows columns → ⊥
-not_yes_and_no m rows columns all named =
-    let signed = all rows (on_lines m rows columns named).row_set in
-    no_signing m rows columns named signed.0 signed.1
-
-pub one_verdict : (o : VerdictOrder) (m : Matrix) (r s : Report) → Decides o m r → Decides o m s → r ≡ s
-one_verdict o m r s (yes closed all e) (yes closed' all' f) = e ∙ sym f
-one_verdict o m r s (yes closed all e) (no closed' rows columns named lacks f) = absurd (not_yes_and_no m rows columns all named)
-one_verdict o m r s (yes closed all e) (undecided left_open f) = absurd (closed left_open)
-one_verdict o m r s (no closed rows columns named lacks e) (yes closed' all f) = absurd (not_yes_and_no m rows columns all named)
-one_verdict o m r s (no closed rows columns named lacks e) (no closed' rows' columns' named' lacks' f) =
-    let same = one_named m rows columns rows' columns' named named' in
-    e ∙ ap₂ (no_report o m) same.0 same.1 ∙ sym f
-one_verdict o m r s (no closed rows columns named lacks e) (undecided left_open f) = absurd (closed left_open)
-one_verdict o m r s (undecided left_open e) (yes closed all f) = absurd (closed left_open)
-one_verdict o m r s (undecided left_open e) (no closed rows columns named lacks f) = absurd (closed left_open)
-one_verdict o m r s (undecided left_open e) (undecided left_open' f) = e ∙ sym f
+pub one_verdict : (o : VerdictOrder) (m : Matrix) (r s : Report) → Decides o m r → Decides o m s → r.status ≡ s.status
+one_verdict o m r s a b =
+    let same : verdict_in a.tree ≡ verdict_in b.tree =
+    decompositions.one_verdict o.lines m (tree_of a.tree.root) (tree_of b.tree.root) (tree_for o.lines m a.tree a.decomposition) (tree_for o.lines m b.tree b.decomposition) a.decomposition.shape b.decomposition.shape in
+    status_of r _ a.report_is ∙ ap (λ v. answer_status (answer_of v)) same ∙ sym (status_of s _ b.report_is)

@@ -8,7 +8,7 @@ use Rattle.ghouila.proofs.Expansions.{determinant_is, minor}
 use Rattle.ghouila.proofs.Minors.{no_violator_by_minors}
 use Rattle.ghouila.proofs.Sublists.{IsSublist, sublist_rises}
 use Rattle.cmr_tools.specs.Tu.{HasOtherDeterminant}
-use Rattle.cmr_tools.proofs.OneVerdict.{IsOnLines}
+use Rattle.decomp_tree.proofs.OneLeast.{IsOnLines}
 
 -- each list with some items left out has a property, or one has another
 every_or_one : (R : List ℕ) (Holds Fails : List ℕ → Type 0) → ((P : List ℕ) → Holds P ⊎ Fails P) → ((P : List ℕ) → IsSublist P R → Holds P) ⊎ ((P : List ℕ) × IsSublist P R × Fails P)

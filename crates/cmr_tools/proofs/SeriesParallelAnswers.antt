@@ -9,14 +9,15 @@ use Rattle.cmr_base.proofs.Members.{IsWithin, in_at}
 use Rattle.cmr_base.proofs.RemovedLines.{rows_within, columns_within, first_lines_in}
 use Rattle.sp_reduce.proofs.Orders.{after_step}
 use Rattle.sp_reduce.proofs.Submatrices.{any_order}
-use Rattle.cmr_tools.specs.declared.status.Answer.{Answer}
-use Rattle.cmr_tools.specs.declared.status.Answer.TheVariants.{Yes, No, Undecided, Refused}
-use Rattle.cmr_tools.specs.Report.{Report}
-use Rattle.cmr_tools.specs.Status.{answer_status}
+use Rattle.cmr_front.specs.declared.status.Answer.{Answer}
+use Rattle.cmr_front.specs.declared.status.Answer.TheVariants.{Yes, No, Undecided, Refused}
+use Rattle.cmr_front.specs.Report.{Report}
+use Rattle.cmr_front.specs.Status.{answer_status}
 use Rattle.cmr_tools.specs.SeriesParallel.{SeriesParallelDecides, SeriesParallelMeans, yes, no, series_parallel_source, series_parallel_tool}
 use Rattle.cmr_tools.specs.Words.SeriesParallel.{SeriesParallelOrder}
-use Rattle.cmr_tools.proofs.Laws.{IsLawful, status_of}
-use Rattle.cmr_tools.proofs.MatrixText.{lawful}
+use Rattle.cmr_front.proofs.MatrixText.{lawful}
+use Rattle.cmr_front.specs.Tool.{IsLawful}
+use Rattle.cmr_front.proofs.Statuses.{status_of}
 
 record IsLeft (R C : List ℕ) (rows columns : List ℕ) : Type 0 where
   rows_in : IsWithin rows R

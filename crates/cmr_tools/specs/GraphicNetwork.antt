@@ -6,15 +6,15 @@ use Rattle.cmr_base.specs.declared.line_set.LineSet.{LineSet}
 use Rattle.cmr_base.specs.declared.network.Network.{Network as Net}
 use Rattle.cmr_tools.specs.declared.options.Property.{Property}
 use Rattle.cmr_tools.specs.declared.options.Property.TheVariants.{Graphic, Network}
-use Rattle.cmr_tools.specs.declared.status.Answer.{Answer}
-use Rattle.cmr_tools.specs.declared.status.Answer.TheVariants.{Yes, No, Undecided, Refused}
+use Rattle.cmr_front.specs.declared.status.Answer.{Answer}
+use Rattle.cmr_front.specs.declared.status.Answer.TheVariants.{Yes, No, Undecided, Refused}
 use Rattle.cmr_tools.specs.Words.GraphicNetwork.{TestOrder}
-use Rattle.cmr_tools.specs.MatrixText.{Source, matrix_tool, source}
+use Rattle.cmr_front.specs.MatrixText.{Source, matrix_tool, source}
 use Rattle.cmr_tools.specs.Graph.{graph_text}
-use Rattle.cmr_tools.specs.Minimal.{IsMinimalAsked, minimal_file, minimal_line}
-use Rattle.cmr_tools.specs.Report.{Report, asked_file}
-use Rattle.cmr_tools.specs.Status.{answer_status}
-use Rattle.cmr_tools.specs.Tool.{Tool}
+use Rattle.cmr_front.specs.Minimal.{IsMinimalAsked, minimal_file, minimal_line}
+use Rattle.cmr_front.specs.Report.{Report, asked_file}
+use Rattle.cmr_front.specs.Status.{answer_status}
+use Rattle.cmr_front.specs.Tool.{Tool}
 
 -- a matrix has the property
 abbrev pub Has : Property → Matrix → Type 0

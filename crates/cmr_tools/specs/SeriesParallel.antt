@@ -5,14 +5,14 @@ use Rattle.cmr_base.specs.Reductions.{IsSeriesParallel, removal}
 use Rattle.cmr_base.specs.declared.line_set.LineSet.{LineSet}
 use Rattle.sp_reduce.specs.declared.removal.Reduction.{Reduction}
 use Rattle.matrix_text.specs.Canonical.{submatrix_text}
-use Rattle.cmr_tools.specs.declared.status.Answer.{Answer}
-use Rattle.cmr_tools.specs.declared.status.Answer.TheVariants.{Yes, No, Undecided, Refused}
-use Rattle.cmr_tools.specs.MatrixText.{Source, matrix_tool, source}
-use Rattle.cmr_tools.specs.Minimal.{IsMinimalAsked, minimal_file, minimal_line}
-use Rattle.cmr_tools.specs.Printed.{line_set, steps_text}
-use Rattle.cmr_tools.specs.Report.{File, Report, asked_file}
-use Rattle.cmr_tools.specs.Status.{answer_status}
-use Rattle.cmr_tools.specs.Tool.{Tool}
+use Rattle.cmr_front.specs.declared.status.Answer.{Answer}
+use Rattle.cmr_front.specs.declared.status.Answer.TheVariants.{Yes, No, Undecided, Refused}
+use Rattle.cmr_front.specs.MatrixText.{Source, matrix_tool, source}
+use Rattle.cmr_front.specs.Minimal.{IsMinimalAsked, minimal_file, minimal_line}
+use Rattle.cmr_front.specs.Printed.{line_set, steps_text}
+use Rattle.cmr_front.specs.Report.{File, Report, asked_file}
+use Rattle.cmr_front.specs.Status.{answer_status}
+use Rattle.cmr_front.specs.Tool.{Tool}
 use Rattle.cmr_tools.specs.Words.SeriesParallel.{SeriesParallelOrder}
 
 -- what is tested

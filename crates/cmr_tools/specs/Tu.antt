@@ -3,17 +3,21 @@ use Rattle.std.specs.Prelude.{◌≡◌, ◌≤◌, ℕ, false, List, codes, len
 use Rattle.cmr_base.specs.Matrix.{Matrix, entry, IsEntry}
 use Rattle.cmr_base.specs.Determinants.{HasUnimodularMinors, determinant}
 use Rattle.cmr_base.specs.LineSets.{IsRowSet, IsColumnSet}
-use Rattle.cmr_base.specs.Signing.{HasNoSigning, IsTotallyUnimodular}
+use Rattle.cmr_base.specs.Signing.{IsTotallyUnimodular}
 use Rattle.ghouila.specs.IntegralLaws.{HasIntegralVertices}
-use Rattle.cmr_tools.specs.declared.status.Answer.{Answer}
-use Rattle.cmr_tools.specs.declared.status.Answer.TheVariants.{Yes, No, Undecided, Refused}
-use Rattle.cmr_tools.specs.MatrixText.{Source, matrix_tool, source}
-use Rattle.cmr_tools.specs.Tool.{Tool}
-use Rattle.cmr_tools.specs.Verdict.{VerdictOrder, Decides, IsLeftOpen, IsNamedViolator}
+use Rattle.cmr_front.specs.declared.status.Answer.{Answer}
+use Rattle.cmr_front.specs.declared.status.Answer.TheVariants.{Yes, No, Undecided, Refused}
+use Rattle.cmr_front.specs.MatrixText.{Source, matrix_tool, source}
+use Rattle.cmr_front.specs.Tool.{Tool}
+use Rattle.cmr_tools.specs.Verdict.{VerdictOrder, Decides, IsDecomposition, IsOpenPart, verdict_in}
+use Rattle.cert_check.specs.Laws.{IsRefuted}
+use Rattle.tree_type.specs.Trees.{SizedTree}
+use Rattle.tree_type.specs.Verdicts as verdicts
+use Rattle.cmr_base.specs.declared.line_set.LineSet.{LineSet}
 use Rattle.cmr_tools.specs.Words.Tu.{TuOrder}
 
 abbrev pub tu_verdict : TuOrder → VerdictOrder
-tu_verdict o = record { label = codes "totally unimodular"; lines = o.lines; fault = o.fault }
+tu_verdict o = record { label = codes "totally unimodular"; lines = o.lines; tree = o.tree; fault = o.fault }
 
 abbrev pub tu_source : TuOrder → Source
 tu_source o = source o.form false o.file
@@ -34,19 +38,21 @@ pub record HasOtherDeterminant (m : Matrix) : Type 0 where
   pub square : length rows ≡ length columns
   pub determinant : ¬ (IsEntry (determinant (entry m) rows columns))
 
--- The cycle fault, or where there is none the least violator, has rows without a signing.
-pub record IsNotUnimodular (m : Matrix) : Type 0 where
-  pub rows : List ℕ
-  pub columns : List ℕ
-  pub named : IsNamedViolator m rows columns
-  pub unsigned : HasNoSigning m rows
+-- these lines are a violator, whose rows have no signing
+pub record IsNotUnimodular (m : Matrix) (fault : LineSet) : Type 0 where
+  pub refuted : IsRefuted m fault
   pub minor : HasOtherDeterminant m
 
+-- A yes comes with a tree that the checker accepts; a no with a violator that it names; undecided with a submatrix that is
+-- neither recognised nor separated, whose shorter side exceeds the budget.
+abbrev pub UnimodularMeans : ℕ → Matrix → Answer → Type 0
+UnimodularMeans budget m Yes = (tree : SizedTree) × IsDecomposition budget m tree × (verdict_in tree ≡ verdicts.Yes) × IsUnimodular m
+UnimodularMeans budget m No = (tree : SizedTree) × IsDecomposition budget m tree × (fault : LineSet) × (verdict_in tree ≡ verdicts.No fault) × IsNotUnimodular m fault
+UnimodularMeans budget m Undecided = (tree : SizedTree) × IsDecomposition budget m tree × (lines : LineSet) × (verdict_in tree ≡ verdicts.Open lines) × IsOpenPart budget m lines
+UnimodularMeans budget m Refused = ⊥
+
 abbrev pub TuMeans : TuOrder → Matrix → Answer → Type 0
-TuMeans o m Yes = IsUnimodular m
-TuMeans o m No = IsNotUnimodular m
-TuMeans o m Undecided = IsLeftOpen o.lines m
-TuMeans o m Refused = ⊥
+TuMeans o = UnimodularMeans o.lines
 
 abbrev pub tu_tool : TuOrder → Tool
-tu_tool o = matrix_tool (tu_source o) (o.lines ≤ 24) (Decides (tu_verdict o)) (TuMeans o)
+tu_tool o = matrix_tool (tu_source o) ((o.lines ≤ 24) × (1 ≤ o.workers) × (o.workers ≤ 64)) (Decides (tu_verdict o)) (TuMeans o)

@@ -1,37 +1,61 @@
 -- What the words of the command line order.
-pub mod Arguments
-pub mod Parsing
-pub mod Reading
+pub mod Check
 pub mod SeriesParallel
 pub mod GraphicNetwork
 pub mod Tu
+pub mod Regular
+pub mod Generate
 use Rattle.std.specs.Prelude.{ℕ, List, [], ◌∷◌, Option, Some, None, option_map, if◌then◌else◌, codes}
 use Rattle.std.specs.Str.{bytes_eq}
 use Rattle.cmr_tools.specs.declared.options.Command.{Command}
 use Rattle.cmr_tools.specs.declared.options.Command.TheVariants as command
 use Rattle.cmr_tools.specs.declared.options.Property.{Property}
 use Rattle.cmr_tools.specs.declared.options.Property.TheVariants.{Graphic, Network}
+use Rattle.cmr_tools.specs.Words.Check.{CheckOrder, check_order, check_order_of}
 use Rattle.cmr_tools.specs.Words.SeriesParallel.{SeriesParallelOrder, series_parallel_order, series_parallel_order_of}
 use Rattle.cmr_tools.specs.Words.GraphicNetwork.{TestOrder, test_order, test_order_of}
+use Rattle.cmr_reach.specs.Words.Balanced.{BalancedOrder, balanced_order, balanced_order_of}
+use Rattle.cmr_reach.specs.Words.Camion.{CamionOrder, camion_order, camion_order_of}
+use Rattle.cmr_reach.specs.Words.Sign.{SignOrder, sign_order, sign_order_of}
 use Rattle.cmr_tools.specs.Words.Tu.{TuOrder, tu_order, tu_order_of}
+use Rattle.cmr_tools.specs.Words.Regular.{RegularOrder, regular_order, regular_order_of}
+use Rattle.cmr_tools.specs.Words.Generate.{GenerateOrder, generate_order, generate_order_of}
 
 -- a tool with its options
 pub data Order : Type 0 where
   tu : TuOrder → Order
+  regular : RegularOrder → Order
   series_parallel : SeriesParallelOrder → Order
   test : Property → TestOrder → Order
+  generate : GenerateOrder → Order
+  check : CheckOrder → Order
+  camion : CamionOrder → Order
+  sign : SignOrder → Order
+  balanced : BalancedOrder → Order
 
 -- the first word names the tool, which takes the others; nothing where the words are refused
 abbrev pub order : List (List ℕ) → Option Order
 order [] = None
 order (tool ∷ words) =
     if bytes_eq tool (codes "tu") then option_map tu (tu_order words)
+    else if bytes_eq tool (codes "regular") then option_map regular (regular_order words)
     else if bytes_eq tool (codes "series-parallel") then option_map series_parallel (series_parallel_order words)
     else if bytes_eq tool (codes "graphic") then option_map (test Graphic) (test_order Graphic words)
     else if bytes_eq tool (codes "network") then option_map (test Network) (test_order Network words)
+    else if bytes_eq tool (codes "generate") then option_map generate (generate_order words)
+    else if bytes_eq tool (codes "check") then option_map check (check_order words)
+    else if bytes_eq tool (codes "camion") then option_map camion (camion_order words)
+    else if bytes_eq tool (codes "sign") then option_map sign (sign_order words)
+    else if bytes_eq tool (codes "balanced") then option_map balanced (balanced_order words)
     else None
 
 abbrev pub order_of : Command → Order
 order_of (command.Tu options) = tu (tu_order_of options)
+order_of (command.Regular options) = regular (regular_order_of options)
 order_of (command.SeriesParallel options) = series_parallel (series_parallel_order_of options)
 order_of (command.Test property options) = test property (test_order_of options)
+order_of (command.Generate options) = generate (generate_order_of options)
+order_of (command.Check options) = check (check_order_of options)
+order_of (command.Camion options) = camion (camion_order_of options)
+order_of (command.Sign options) = sign (sign_order_of options)
+order_of (command.Balanced options) = balanced (balanced_order_of options)

@@ -1,23 +1,42 @@
 //! What the words of the command line ask for.
-
-/// How the text of a matrix is laid out.
-#[derive(Clone, Copy, Debug, PartialEq, Eq)]
-pub enum MatrixForm {
-    /// The two sizes and all entries, row by row.
-    Dense,
-    /// The two sizes, the number of nonzeros, and a row, a column and a value for each nonzero.
-    Sparse,
-}
+use cmr_front::matrix_file::MatrixForm;
+use cmr_reach::{BalancedOptions, CamionOptions, SignOptions};
+use generate::MakeKind;
 
 /// What `tu` is asked to do. A file of the name `-` is standard input.
 #[derive(Clone, Copy, Debug, PartialEq, Eq)]
 pub struct TuOptions<'a> {
     /// The form of the matrix text.
     pub form: MatrixForm,
-    /// The most lines on the shorter side of a part that is searched whole, 0 to 24.
+    /// The most lines on the shorter side of a part that is searched whole where nothing else decides it, 0 to 24.
     pub lines: u32,
+    /// How many workers share the searches, 1 to 64. The answer is the same for each number.
+    pub workers: u32,
+    /// The file that gets the decomposition tree.
+    pub tree: Option<&'a str>,
     /// The file that gets the violator where there is one.
     pub fault: Option<&'a str>,
+    /// The file that holds the matrix text.
+    pub file: &'a str,
+}
+
+/// What `regular` is asked to do. A file of the name `-` is standard input where it is read.
+#[derive(Clone, Copy, Debug, PartialEq, Eq)]
+pub struct RegularOptions<'a> {
+    /// The form of the matrix text.
+    pub form: MatrixForm,
+    /// The most lines on the shorter side of a part that is searched whole where nothing else decides it, 0 to 24.
+    pub lines: u32,
+    /// How many workers share the searches, 1 to 64. The answer is the same for each number.
+    pub workers: u32,
+    /// The file that gets the decomposition tree of the signed matrix.
+    pub tree: Option<&'a str>,
+    /// The file that gets the violator of the signed matrix where there is one.
+    pub fault: Option<&'a str>,
+    /// The file that gets the signed matrix.
+    pub signed: Option<&'a str>,
+    /// The file that gets the chain of signs with the violator, where there is one.
+    pub chain: Option<&'a str>,
     /// The file that holds the matrix text.
     pub file: &'a str,
 }
@@ -63,13 +82,53 @@ pub struct TestOptions<'a> {
     pub file: &'a str,
 }
 
+/// What `generate` is asked to do.
+#[derive(Clone, Copy, Debug, PartialEq, Eq)]
+pub struct GenerateOptions<'a> {
+    /// What is made.
+    pub what: MakeKind,
+    /// How many arcs the tree of a network has, 1 to 1000, or how many R10 matrices are summed, 1 to 249.
+    pub size: u32,
+    /// The number from which all others are drawn, below 2^31.
+    pub number: u32,
+    /// The most lines on the shorter side of a part that is searched whole where nothing else decides it, 0 to 24.
+    pub lines: u32,
+    /// How many workers share the searches, 1 to 64. The answer is the same for each number.
+    pub workers: u32,
+    /// The file that gets the matrix.
+    pub output: Option<&'a str>,
+}
+
+/// What `check` is asked to do. A file of the name `-` is standard input.
+#[derive(Clone, Copy, Debug, PartialEq, Eq)]
+pub struct CheckOptions<'a> {
+    /// The form of the matrix text.
+    pub form: MatrixForm,
+    /// The file that holds the matrix text.
+    pub matrix: &'a str,
+    /// The file that holds the evidence.
+    pub evidence: &'a str,
+}
+
 /// A tool with its options.
 #[derive(Clone, Copy, Debug, PartialEq, Eq)]
 pub enum Command<'a> {
     /// Tests whether a matrix is totally unimodular.
     Tu(TuOptions<'a>),
+    /// Tests whether a 0/1 matrix has a totally unimodular signing.
+    Regular(RegularOptions<'a>),
     /// Tests whether a matrix is series-parallel.
     SeriesParallel(SeriesParallelOptions<'a>),
     /// Tests whether the columns of a matrix are paths of a tree.
     Test(Property, TestOptions<'a>),
+    /// Makes a matrix from a number, and tests whether it is totally unimodular.
+    Generate(GenerateOptions<'a>),
+    /// Checks evidence on a matrix.
+    Check(CheckOptions<'a>),
+    /// Tests whether a matrix has no cycle fault.
+    Camion(CamionOptions<'a>),
+    /// Signs a given set of rows.
+    Sign(SignOptions<'a>),
+    /// Tests whether a matrix is balanced.
+    Balanced(BalancedOptions<'a>),
 }

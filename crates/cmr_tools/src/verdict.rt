@@ -1,127 +1,159 @@
-// The verdict on total unimodularity.
-ghost use Rattle.std.specs.Prelude.{◌≡◌, ◌≤◌, ◌++◌, IfOk, map, option_map, codes};
-ghost use Rattle.cmr_base.specs.LineSets.{AllBelow};
-ghost use Rattle.cmr_base.specs.Matrix.{height};
-ghost use Rattle.matrix_text.specs.Canonical.{submatrix_text};
-ghost use Rattle.cmr_tools.specs.Outcome.{file_of, outcome_report};
-ghost use Rattle.cmr_tools.specs.Printed.{violator_line};
-ghost use Rattle.cmr_tools.specs.Report.{asked_file};
-ghost use Rattle.cmr_tools.specs.Verdict.{Decides, no_report, undecided_report, verdict_order_of, yes_report};
+// The verdict on total unimodularity, from a decomposition.
+ghost use Rattle.std.specs.Prelude.{◌≡◌, ◌≤◌, ◌++◌, IfOk, OnOk, map, option_map};
+ghost use Rattle.cert_check.specs.Laws.{Tells};
+ghost use Rattle.cmr_front.specs.Outcome.{file_of, outcome_report};
+ghost use Rattle.cmr_tools.specs.Verdict.{Decides, answer_of, answer_word, fault_file, named_line, tree_file, verdict_in, verdict_order_of, verdict_output, verdict_report};
+ghost use Rattle.tree_type.specs.Trees.{tree_of};
+ghost use Rattle.tree_type.specs.Verdicts.{verdict_shown};
 
-use crate::asked::push_submatrix;
-use crate::outcome::{Outcome, OutputFile};
-use crate::printed::{push_open_line, push_violator_line};
-use crate::status::Answer;
-use camion_sign::cycle_fault;
-use cmr_base::{LineSet, Matrix, Memory};
-use leaf_enumerate::{Search, least_violator};
+use crate::outline::push_outline;
+use cmr_base::{Matrix, Memory};
+use cmr_front::asked::push_submatrix;
+use cmr_front::outcome::{Outcome, OutputFile};
+use cmr_front::printed::{push_open_line, push_violator_line};
+use cmr_front::status::Answer;
+use decomp_tree::decompose;
 use std::alloc::Global;
 use std::thread::Threads;
+use tree_text::write_tree;
+use tree_type::{DecTree, VerdictOf, verdict};
 
-const ONE_WORKER: u32 = 1;
-
-/// Under which label a verdict is given, within which budget, and where the violator of a no goes.
+/// Under which label a verdict is given, within which budget, and which files it has.
 #[derive(Clone, Copy, Debug)]
 pub struct VerdictOptions<'a> {
     /// What is said of the matrix.
     pub label: &'static [u8],
     /// The most lines on the shorter side of what is searched whole, 0 to 24.
     pub lines: u32,
+    /// How many workers share the searches, 1 to 64.
+    pub workers: u32,
+    /// The file that gets the tree.
+    pub tree: Option<&'a str>,
     /// The file that gets the violator where there is one.
     pub fault: Option<&'a str>,
 }
 
-/// Decides whether a matrix is totally unimodular. A no names the cycle fault, and where there is none the least
-/// violator within the budget.
+/// Decides whether a matrix is totally unimodular, by its decomposition. A no names the fault of the first node in preorder
+/// that has one, and where there is none, undecided names the lines of the first undecided node.
 pub fn give_verdict<'a, R: Threads + Sync>(
     rt: &R,
     alloc: Global,
     options: &VerdictOptions<'a>,
     matrix: &Matrix,
 ) -> Result<Outcome<'a>, Memory>
-    requires { options.now.lines ≤ 24 }
+    requires lines { options.now.lines ≤ 24 }
+    requires workers { (1 ≤ options.now.workers) × (options.now.workers ≤ 64) }
     ensures { IfOk result (λ outcome. Decides (verdict_order_of options.now) matrix.now (outcome_report outcome)) }
 {
-    if let Some(lines) = cycle_fault(alloc, matrix)? {
-        return no(alloc, options, matrix, &lines);
-    }
+    let tree = decompose(rt, alloc, matrix, options.lines, options.workers)?;
+    let root = tree.root();
     let rows = matrix.rows();
-    let columns = matrix.columns();
-    match least_violator(rt, alloc, matrix, options.lines, ONE_WORKER)? {
-        Search::Clean => yes(alloc, options),
-        Search::Found(lines) => no(alloc, options, matrix, &lines),
-        Search::TooMany { .. } => undecided(alloc, options, rows, columns),
-    }
+    prove!(root.lines.rows.len() == rows as usize);
+    report_tree(alloc, options, matrix, &tree)
 }
 
-fn yes<'a>(alloc: Global, options: &VerdictOptions<'a>) -> Result<Outcome<'a>, Memory>
-    ensures { IfOk result (λ outcome. outcome_report outcome ≡ yes_report (verdict_order_of options.now)) }
-{
-    let mut output = options.label.to_vec(alloc)?;
-    output.extend_from_slice(b": yes\n")?;
-    Ok(Outcome {
-        answer: Answer::Yes,
-        output,
-        files: Vec::new(alloc),
-    })
-}
-
-fn no<'a>(
+/// The report of a tree whose verdict is right.
+pub fn report_tree<'a>(
     alloc: Global,
     options: &VerdictOptions<'a>,
     matrix: &Matrix,
-    lines: &LineSet,
+    tree: &DecTree,
 ) -> Result<Outcome<'a>, Memory>
-    requires rows { AllBelow (height matrix.now) lines.now.rows }
-    requires columns { AllBelow matrix.now.width lines.now.columns }
-    ensures { IfOk result (λ outcome. outcome_report outcome ≡ no_report (verdict_order_of options.now) matrix.now lines.now.rows lines.now.columns) }
+    requires { Tells matrix.now (verdict_in tree.now) }
+    ensures { IfOk result (λ outcome. outcome_report outcome ≡ verdict_report (verdict_order_of options.now) matrix.now tree.now) }
 {
+    let found = verdict(tree);
+    let output = verdict_text(alloc, options.label, matrix, &found, tree)?;
+    let mut files = Vec::new(alloc);
+    push_tree(alloc, &mut files, options.tree, tree)?;
+    push_fault(alloc, &mut files, options.fault, matrix, &found)?;
     Ok(Outcome {
-        answer: Answer::No,
-        output: no_text(alloc, options.label, lines, matrix.sum(lines))?,
-        files: fault_files(alloc, options.fault, matrix, lines)?,
+        answer: answer_of(&found),
+        output,
+        files,
     })
 }
 
-fn no_text(alloc: Global, label: &[u8], lines: &LineSet, sum: i32) -> Result<Vec<u8>, Memory>
-    ensures { IfOk result (λ text. text.items ≡ label.now ++ codes ": no\n" ++ violator_line lines.now.rows lines.now.columns sum) }
+fn answer_of(verdict: &VerdictOf<'_>) -> Answer
+    ensures { result ≡ answer_of (verdict_shown verdict.now) }
+{
+    match verdict {
+        VerdictOf::Yes => Answer::Yes,
+        VerdictOf::No(_) => Answer::No,
+        VerdictOf::Undecided(_) => Answer::Undecided,
+    }
+}
+
+fn answer_word(verdict: &VerdictOf<'_>) -> &'static [u8]
+    ensures { result.now ≡ answer_word (verdict_shown verdict.now) }
+{
+    match verdict {
+        VerdictOf::Yes => b": yes\n",
+        VerdictOf::No(_) => b": no\n",
+        VerdictOf::Undecided(_) => b": undecided\n",
+    }
+}
+
+fn verdict_text(
+    alloc: Global,
+    label: &[u8],
+    matrix: &Matrix,
+    verdict: &VerdictOf<'_>,
+    tree: &DecTree,
+) -> Result<Vec<u8>, Memory>
+    requires tells { Tells matrix.now (verdict_shown verdict.now) }
+    requires shown { verdict_shown verdict.now ≡ verdict_in tree.now }
+    ensures { IfOk result (λ text. text.items ≡ verdict_output label.now matrix.now tree.now) }
 {
     let mut text = label.to_vec(alloc)?;
-    text.extend_from_slice(b": no\n")?;
-    push_violator_line(&mut text, lines, sum)?;
+    text.extend_from_slice(answer_word(verdict))?;
+    push_named_line(&mut text, matrix, verdict)?;
+    push_outline(&mut text, tree)?;
     Ok(text)
 }
 
-fn fault_files<'a>(
-    alloc: Global,
-    fault: Option<&'a str>,
+fn push_named_line(
+    text: &mut Vec<u8>,
     matrix: &Matrix,
-    lines: &LineSet,
-) -> Result<Vec<OutputFile<'a>>, Memory>
-    requires rows { AllBelow (height matrix.now) lines.now.rows }
-    requires columns { AllBelow matrix.now.width lines.now.columns }
-    ensures { IfOk result (λ files. map file_of files.items ≡ asked_file (option_map (λ name. name.now) fault.entry) (submatrix_text (height matrix.now) matrix.now.width lines.now)) }
+    verdict: &VerdictOf<'_>,
+) -> Result<(), Memory>
+    requires { Tells matrix.now (verdict_shown verdict.now) }
+    ensures { OnOk result (text.new.items ≡ text.old.items ++ named_line matrix.now (verdict_shown verdict.now)) }
 {
-    let mut files = Vec::new(alloc);
-    push_submatrix(alloc, &mut files, fault, matrix, lines)?;
-    Ok(files)
+    match verdict {
+        VerdictOf::Yes => Ok(()),
+        VerdictOf::No(fault) => push_violator_line(text, fault, matrix.sum(fault)),
+        VerdictOf::Undecided(lines) => push_open_line(text, lines),
+    }
 }
 
-fn undecided<'a>(
+fn push_tree<'a>(
     alloc: Global,
-    options: &VerdictOptions<'a>,
-    rows: u32,
-    columns: u32,
-) -> Result<Outcome<'a>, Memory>
-    ensures { IfOk result (λ outcome. outcome_report outcome ≡ undecided_report (verdict_order_of options.now) rows columns) }
+    files: &mut Vec<OutputFile<'a>>,
+    name: Option<&'a str>,
+    tree: &DecTree,
+) -> Result<(), Memory>
+    ensures { OnOk result (map file_of files.new.items ≡ map file_of files.old.items ++ tree_file (option_map (λ name. name.now) name.entry) tree.now) }
 {
-    let lines = LineSet::all(alloc, rows, columns)?;
-    let mut output = options.label.to_vec(alloc)?;
-    output.extend_from_slice(b": undecided\n")?;
-    push_open_line(&mut output, &lines)?;
-    Ok(Outcome {
-        answer: Answer::Undecided,
-        output,
-        files: Vec::new(alloc),
-    })
+    if let Some(name) = name {
+        let bytes = write_tree(alloc, tree)?;
+        files.push(OutputFile { name, bytes })?;
+    }
+    Ok(())
+}
+
+fn push_fault<'a>(
+    alloc: Global,
+    files: &mut Vec<OutputFile<'a>>,
+    name: Option<&'a str>,
+    matrix: &Matrix,
+    verdict: &VerdictOf<'_>,
+) -> Result<(), Memory>
+    requires { Tells matrix.now (verdict_shown verdict.now) }
+    ensures { OnOk result (map file_of files.new.items ≡ map file_of files.old.items ++ fault_file (option_map (λ name. name.now) name.entry) matrix.now (verdict_shown verdict.now)) }
+{
+    match verdict {
+        VerdictOf::No(fault) => push_submatrix(alloc, files, name, matrix, fault),
+        VerdictOf::Yes | VerdictOf::Undecided(_) => Ok(()),
+    }
 }

@@ -1,50 +1,22 @@
 //! The words of the command line. The first one names the tool, and `clap` reads the others, but for
 //! a last word `-`, which says that the tool reads standard input.
-ghost use Rattle.std.specs.Prelude.{◌≡◌, ◌≢◌};
-ghost use Rattle.clap.specs.Words.{kind_of};
-ghost use Rattle.clap.specs.declared.error.kind.ErrorKind.TheVariants.{OutOfMemory};
-ghost use Rattle.cmr_tools.specs.declared.words.WordsError.TheVariants.{Memory, Refused};
 ghost use Rattle.cmr_tools.specs.Words.{order, order_of};
-ghost use Rattle.cmr_tools.specs.Words.Reading.{Gives};
+ghost use Rattle.cmr_front.specs.Words.Reading.{Gives};
 
-mod arguments;
+mod check;
+mod generated;
 mod graphic_network;
-mod parsing;
+mod regular;
 mod series_parallel;
 mod tu;
 
 use crate::options::{Command, Property};
-use clap::error::ErrorKind;
 use cmr_base::WordList;
-use std::alloc::{AllocError, Global};
-
-/// Why there is no command.
-#[derive(Clone, Copy, Debug, PartialEq, Eq)]
-pub enum WordsError {
-    /// The first word names no tool, or the tool does not take the others.
-    Refused,
-    /// Memory was refused.
-    Memory,
-}
-
-impl From<AllocError> for WordsError {
-    ghost from_gives = { λ _ e. e ≡ Memory };
-
-    fn from(_: AllocError) -> Self {
-        WordsError::Memory
-    }
-}
-
-impl From<clap::Error> for WordsError {
-    ghost from_gives = { λ error e. e ≡ Refused → kind_of error ≢ OutOfMemory };
-
-    fn from(error: clap::Error) -> Self {
-        match error.kind() {
-            ErrorKind::OutOfMemory => WordsError::Memory,
-            _ => WordsError::Refused,
-        }
-    }
-}
+use cmr_front::words::WordsError;
+use cmr_reach::words::balanced::read_balanced;
+use cmr_reach::words::camion::read_camion;
+use cmr_reach::words::sign::read_sign;
+use std::alloc::Global;
 
 /// The command that the words give.
 pub fn read_words<'a>(alloc: Global, words: &'a WordList) -> Result<Command<'a>, WordsError>
@@ -55,6 +27,7 @@ pub fn read_words<'a>(alloc: Global, words: &'a WordList) -> Result<Command<'a>,
     };
     match tool.text() {
         "tu" => Ok(Command::Tu(tu::read_tu(alloc, rest)?)),
+        "regular" => Ok(Command::Regular(regular::read_regular(alloc, rest)?)),
         "series-parallel" => Ok(Command::SeriesParallel(series_parallel::read_series_parallel(
             alloc, rest,
         )?)),
@@ -66,6 +39,11 @@ pub fn read_words<'a>(alloc: Global, words: &'a WordList) -> Result<Command<'a>,
             let options = graphic_network::read_test(alloc, Property::Network, rest)?;
             Ok(Command::Test(Property::Network, options))
         }
+        "generate" => Ok(Command::Generate(generated::read_generate(alloc, rest)?)),
+        "check" => Ok(Command::Check(check::read_check(alloc, rest)?)),
+        "camion" => Ok(Command::Camion(read_camion(alloc, rest)?)),
+        "sign" => Ok(Command::Sign(read_sign(alloc, rest)?)),
+        "balanced" => Ok(Command::Balanced(read_balanced(alloc, rest)?)),
         _ => Err(WordsError::Refused),
     }
 }

@@ -1,13 +1,13 @@
 -- What the words behind `graphic` and `network` order.
 use Rattle.std.specs.Prelude.{ℕ, Bool, List, [], ◌∷◌, Option, Some, codes, option_map}
 use Rattle.clap.specs.Words.{App, Row, Text, first_of}
-use Rattle.cmr_tools.specs.declared.options.MatrixForm.{MatrixForm}
+use Rattle.cmr_front.specs.declared.matrix_file.MatrixForm.{MatrixForm}
 use Rattle.cmr_tools.specs.declared.options.Property.{Property}
 use Rattle.cmr_tools.specs.declared.options.Property.TheVariants.{Graphic, Network}
 use Rattle.cmr_tools.specs.declared.options.TestOptions.{TestOptions}
-use Rattle.cmr_tools.specs.Words.Arguments.{file_rule, form_rule, graph_rule, minimal_rule, tool_app, transposed_rule}
-use Rattle.cmr_tools.specs.Words.Parsing.{file_in, form_in, has_flag, matches_with_input}
-use Rattle.cmr_tools.specs.Words.Reading.{◌>>=◌}
+use Rattle.cmr_front.specs.Words.Arguments.{file_rule, form_rule, graph_rule, minimal_rule, tool_app, transposed_rule}
+use Rattle.cmr_front.specs.Words.Parsing.{file_in, form_in, has_flag, matches_with_input}
+use Rattle.cmr_front.specs.Words.Reading.{◌>>=◌}
 
 -- the options of `graphic` and of `network`
 pub record TestOrder : Type 0 where

@@ -1,11 +1,11 @@
 -- What the words behind `series-parallel` order.
 use Rattle.std.specs.Prelude.{ℕ, Bool, List, [], ◌∷◌, Option, Some, codes, option_map}
 use Rattle.clap.specs.Words.{App, Row, Text, first_of}
-use Rattle.cmr_tools.specs.declared.options.MatrixForm.{MatrixForm}
+use Rattle.cmr_front.specs.declared.matrix_file.MatrixForm.{MatrixForm}
 use Rattle.cmr_tools.specs.declared.options.SeriesParallelOptions.{SeriesParallelOptions}
-use Rattle.cmr_tools.specs.Words.Arguments.{binary_rule, file_rule, form_rule, minimal_rule, rest_rule, steps_rule, tool_app}
-use Rattle.cmr_tools.specs.Words.Parsing.{file_in, form_in, has_flag, matches_with_input}
-use Rattle.cmr_tools.specs.Words.Reading.{◌>>=◌}
+use Rattle.cmr_front.specs.Words.Arguments.{binary_rule, file_rule, form_rule, minimal_rule, rest_rule, steps_rule, tool_app}
+use Rattle.cmr_front.specs.Words.Parsing.{file_in, form_in, has_flag, matches_with_input}
+use Rattle.cmr_front.specs.Words.Reading.{◌>>=◌}
 
 -- the options of `series-parallel`
 pub record SeriesParallelOrder : Type 0 where

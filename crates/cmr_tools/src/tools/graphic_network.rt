@@ -1,30 +1,29 @@
 // Testing whether the columns of a matrix are paths of a tree, with or without directions.
-ghost use Rattle.std.specs.Prelude.{◌≡◌, ◌++◌, Some, IfOk, IfSome, IsSomeAnd, IsTrue, MatchOption, OnOk, map, option_map};
+ghost use Rattle.std.specs.Prelude.{◌≡◌, ◌++◌, IfOk, IfSome, IsSomeAnd, IsTrue, MatchOption, OnOk, map, option_map};
 ghost use Rattle.cmr_base.specs.LineSets.{AllBelow};
 ghost use Rattle.cmr_base.specs.Matrix.{height};
-ghost use Rattle.cmr_tools.specs.Ending.{devices, standing};
+ghost use Rattle.cmr_front.specs.Ending.{devices, standing};
 ghost use Rattle.cmr_tools.specs.Graph.{graph_text};
-ghost use Rattle.cmr_tools.specs.GraphicNetwork.{Has, IsTestable, Shows, TestDecides, is_binary, property_name, test_no, test_yes, tested_lines, tested_matrix};
-ghost use Rattle.cmr_tools.specs.Minimal.{IsMinimalAsked, IsMinimalSet};
-ghost use Rattle.cmr_tools.specs.Outcome.{file_of, outcome_report};
-ghost use Rattle.cmr_tools.specs.Report.{asked_file};
-ghost use Rattle.cmr_tools.specs.Run.{Means, Runs};
-ghost use Rattle.cmr_tools.specs.Status.{answer_status};
-ghost use Rattle.cmr_tools.specs.Words as orders;
+ghost use Rattle.cmr_tools.specs.GraphicNetwork.{Has, IsTestable, Shows, TestDecides, is_binary, property_name, test_no, test_yes, tested_lines, tested_matrix, test_tool};
+ghost use Rattle.cmr_front.specs.Minimal.{IsMinimalAsked, IsMinimalSet};
+ghost use Rattle.cmr_front.specs.Outcome.{file_of, outcome_report};
+ghost use Rattle.cmr_front.specs.Report.{asked_file};
+ghost use Rattle.cmr_front.specs.Run.{Means, Runs, work};
+ghost use Rattle.cmr_front.specs.Status.{answer_status};
 ghost use Rattle.cmr_tools.specs.Words.GraphicNetwork.{test_order_of};
 ghost use Rattle.cmr_tools.specs.declared.options.Property.TheVariants as properties;
-ghost use Rattle.cmr_tools.specs.declared.status.Answer.{Answer};
+ghost use Rattle.cmr_front.specs.declared.status.Answer.{Answer};
 
-use crate::asked::push_minimal;
 use crate::graph_text::write_graph;
-use crate::input::{Input, Text};
-use crate::matrix_file::{matrix_input, read_matrix};
 use crate::options::{Property, TestOptions};
-use crate::outcome::{Outcome, OutputFile, Stop};
-use crate::printed::push_minimal_line;
-use crate::status::Answer;
-use crate::tools::{Tool, run_tool};
 use cmr_base::{LineSet, Matrix, Memory, Network};
+use cmr_front::asked::push_minimal;
+use cmr_front::input::{Input, Text};
+use cmr_front::matrix_file::{matrix_input, read_matrix};
+use cmr_front::outcome::{Outcome, OutputFile, Stop};
+use cmr_front::printed::push_minimal_line;
+use cmr_front::status::Answer;
+use cmr_front::tool::{Tool, run_tool};
 use cmr_io::{Shelf, Sink};
 use graph_realise::{minimal_not_graphic, realise};
 use network_orient::{minimal_not_network, orient};
@@ -40,18 +39,14 @@ pub fn graphic<R: Threads + Sync, S: Shelf, O: Sink, E: Sink>(
     out: &mut O,
     err: &mut E,
 ) -> u8
-    ensures runs { Runs (Some (orders.test properties.Graphic (test_order_of options.now)))
+    ensures runs { Runs (work (test_tool properties.Graphic (test_order_of options.now)))
         (standing (S.tells shelf.old) (O.tells out.old) (E.tells err.old) (S.is_calm shelf.old) (S.room shelf.old) (O.is_calm out.old) (O.room out.old))
         (devices (S.content shelf.old) (O.got out.old) (E.got err.old) (S.faults shelf.old) (O.faults out.old) (E.faults err.old))
         (devices (S.content shelf.new) (O.got out.new) (E.got err.new) (S.faults shelf.new) (O.faults out.new) (E.faults err.new))
         result }
-    ensures means { IsTrue (S.tells shelf.old) → (answer : Answer) → result ≡ answer_status answer → Means (orders.test properties.Graphic (test_order_of options.now)) (S.content shelf.old) answer }
+    ensures means { IsTrue (S.tells shelf.old) → (answer : Answer) → result ≡ answer_status answer → Means (test_tool properties.Graphic (test_order_of options.now)) (S.content shelf.old) answer }
 {
-    let test = PathTest {
-        property: Property::Graphic,
-        options: *options,
-    };
-    run_tool(rt, alloc, &test, shelf, out, err)
+    test_property(rt, alloc, Property::Graphic, options, shelf, out, err)
 }
 
 /// Does what `run` does on the words of `network`, and answers the status.
@@ -63,15 +58,35 @@ pub fn network<R: Threads + Sync, S: Shelf, O: Sink, E: Sink>(
     out: &mut O,
     err: &mut E,
 ) -> u8
-    ensures runs { Runs (Some (orders.test properties.Network (test_order_of options.now)))
+    ensures runs { Runs (work (test_tool properties.Network (test_order_of options.now)))
         (standing (S.tells shelf.old) (O.tells out.old) (E.tells err.old) (S.is_calm shelf.old) (S.room shelf.old) (O.is_calm out.old) (O.room out.old))
         (devices (S.content shelf.old) (O.got out.old) (E.got err.old) (S.faults shelf.old) (O.faults out.old) (E.faults err.old))
         (devices (S.content shelf.new) (O.got out.new) (E.got err.new) (S.faults shelf.new) (O.faults out.new) (E.faults err.new))
         result }
-    ensures means { IsTrue (S.tells shelf.old) → (answer : Answer) → result ≡ answer_status answer → Means (orders.test properties.Network (test_order_of options.now)) (S.content shelf.old) answer }
+    ensures means { IsTrue (S.tells shelf.old) → (answer : Answer) → result ≡ answer_status answer → Means (test_tool properties.Network (test_order_of options.now)) (S.content shelf.old) answer }
+{
+    test_property(rt, alloc, Property::Network, options, shelf, out, err)
+}
+
+/// Does what `run` does on the words of the tool that tests a property, and answers the status.
+pub fn test_property<R: Threads + Sync, S: Shelf, O: Sink, E: Sink>(
+    rt: &R,
+    alloc: Global,
+    property: Property,
+    options: &TestOptions<'_>,
+    shelf: &mut S,
+    out: &mut O,
+    err: &mut E,
+) -> u8
+    ensures runs { Runs (work (test_tool property (test_order_of options.now)))
+        (standing (S.tells shelf.old) (O.tells out.old) (E.tells err.old) (S.is_calm shelf.old) (S.room shelf.old) (O.is_calm out.old) (O.room out.old))
+        (devices (S.content shelf.old) (O.got out.old) (E.got err.old) (S.faults shelf.old) (O.faults out.old) (E.faults err.old))
+        (devices (S.content shelf.new) (O.got out.new) (E.got err.new) (S.faults shelf.new) (O.faults out.new) (E.faults err.new))
+        result }
+    ensures means { IsTrue (S.tells shelf.old) → (answer : Answer) → result ≡ answer_status answer → Means (test_tool property (test_order_of options.now)) (S.content shelf.old) answer }
 {
     let test = PathTest {
-        property: Property::Network,
+        property,
         options: *options,
     };
     run_tool(rt, alloc, &test, shelf, out, err)
@@ -85,7 +100,7 @@ struct PathTest<'a> {
 }
 
 impl<'a> Tool<'a> for PathTest<'a> {
-    ghost order = { λ test. orders.test test.property (test_order_of test.options) };
+    ghost tool = { λ test. test_tool test.property (test_order_of test.options) };
 
     fn inputs(&self, alloc: Global) -> Result<Vec<Input<'a>>, Memory> {
         matrix_input(alloc, self.options.file)

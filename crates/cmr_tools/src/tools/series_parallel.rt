@@ -1,27 +1,26 @@
 // Testing whether a matrix is series-parallel.
-ghost use Rattle.std.specs.Prelude.{◌≡◌, ◌++◌, Some, IfOk, IfSome, IsTrue, OnOk, map, option_map};
+ghost use Rattle.std.specs.Prelude.{◌≡◌, ◌++◌, IfOk, IfSome, IsTrue, OnOk, map, option_map};
 ghost use Rattle.cmr_base.specs.LineSets.{AllBelow};
 ghost use Rattle.cmr_base.specs.Matrix.{height};
 ghost use Rattle.cmr_base.specs.Reductions.{IsSeriesParallel};
-ghost use Rattle.cmr_tools.specs.Ending.{devices, standing};
-ghost use Rattle.cmr_tools.specs.Minimal.{IsMinimalAsked};
-ghost use Rattle.cmr_tools.specs.Outcome.{file_of, outcome_report};
-ghost use Rattle.cmr_tools.specs.Run.{Means, Runs};
-ghost use Rattle.cmr_tools.specs.SeriesParallel.{IsReduced, SeriesParallelDecides, no_output, property_name, reduction_files, series_parallel_no, series_parallel_yes};
-ghost use Rattle.cmr_tools.specs.Status.{answer_status};
-ghost use Rattle.cmr_tools.specs.Words as orders;
+ghost use Rattle.cmr_front.specs.Ending.{devices, standing};
+ghost use Rattle.cmr_front.specs.Minimal.{IsMinimalAsked};
+ghost use Rattle.cmr_front.specs.Outcome.{file_of, outcome_report};
+ghost use Rattle.cmr_front.specs.Run.{Means, Runs, work};
+ghost use Rattle.cmr_tools.specs.SeriesParallel.{IsReduced, SeriesParallelDecides, no_output, property_name, reduction_files, series_parallel_no, series_parallel_yes, series_parallel_tool};
+ghost use Rattle.cmr_front.specs.Status.{answer_status};
 ghost use Rattle.cmr_tools.specs.Words.SeriesParallel.{series_parallel_order_of};
-ghost use Rattle.cmr_tools.specs.declared.status.Answer.{Answer};
+ghost use Rattle.cmr_front.specs.declared.status.Answer.{Answer};
 
-use crate::asked::{push_minimal, push_steps, push_submatrix};
-use crate::input::{Input, Text};
-use crate::matrix_file::{matrix_input, read_matrix};
 use crate::options::SeriesParallelOptions;
-use crate::outcome::{Outcome, OutputFile, Stop};
-use crate::printed::{push_line_set, push_minimal_line};
-use crate::status::Answer;
-use crate::tools::{Tool, run_tool};
 use cmr_base::{LineSet, Matrix, Memory};
+use cmr_front::asked::{push_minimal, push_steps, push_submatrix};
+use cmr_front::input::{Input, Text};
+use cmr_front::matrix_file::{matrix_input, read_matrix};
+use cmr_front::outcome::{Outcome, OutputFile, Stop};
+use cmr_front::printed::{push_line_set, push_minimal_line};
+use cmr_front::status::Answer;
+use cmr_front::tool::{Tool, run_tool};
 use cmr_io::{Shelf, Sink};
 use sp_reduce::{Reduction, minimal_not_sp, reduce};
 use std::alloc::Global;
@@ -36,18 +35,18 @@ pub fn series_parallel<R: Threads + Sync, S: Shelf, O: Sink, E: Sink>(
     out: &mut O,
     err: &mut E,
 ) -> u8
-    ensures runs { Runs (Some (orders.series_parallel (series_parallel_order_of options.now)))
+    ensures runs { Runs (work (series_parallel_tool (series_parallel_order_of options.now)))
         (standing (S.tells shelf.old) (O.tells out.old) (E.tells err.old) (S.is_calm shelf.old) (S.room shelf.old) (O.is_calm out.old) (O.room out.old))
         (devices (S.content shelf.old) (O.got out.old) (E.got err.old) (S.faults shelf.old) (O.faults out.old) (E.faults err.old))
         (devices (S.content shelf.new) (O.got out.new) (E.got err.new) (S.faults shelf.new) (O.faults out.new) (E.faults err.new))
         result }
-    ensures means { IsTrue (S.tells shelf.old) → (answer : Answer) → result ≡ answer_status answer → Means (orders.series_parallel (series_parallel_order_of options.now)) (S.content shelf.old) answer }
+    ensures means { IsTrue (S.tells shelf.old) → (answer : Answer) → result ≡ answer_status answer → Means (series_parallel_tool (series_parallel_order_of options.now)) (S.content shelf.old) answer }
 {
     run_tool(rt, alloc, options, shelf, out, err)
 }
 
 impl<'a> Tool<'a> for SeriesParallelOptions<'a> {
-    ghost order = { λ options. orders.series_parallel (series_parallel_order_of options) };
+    ghost tool = { λ options. series_parallel_tool (series_parallel_order_of options) };
 
     fn inputs(&self, alloc: Global) -> Result<Vec<Input<'a>>, Memory> {
         matrix_input(alloc, self.file)

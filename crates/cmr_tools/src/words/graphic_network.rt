@@ -1,15 +1,15 @@
 //! The words of `graphic` and `network`: `[-i FORMAT] [-t] [-N FILE] [-G FILE] [FILE]`.
 ghost use Rattle.std.specs.Prelude.{◌≡◌, IfOk};
 ghost use Rattle.clap.specs.Words.{app_of, found_of, rows_of};
-ghost use Rattle.cmr_tools.specs.Words.Reading.{Gives};
+ghost use Rattle.cmr_front.specs.Words.Reading.{Gives};
 ghost use Rattle.cmr_tools.specs.Words.GraphicNetwork.{test_app, test_order, test_order_in, test_order_of, tool_name};
 
 use crate::options::{Property, TestOptions};
-use crate::words::arguments::{GRAPH, MINIMAL, TRANSPOSED};
-use crate::words::parsing::{file_in, form_in, has_flag, matches_with_input, value_in};
-use crate::words::{WordsError, arguments};
 use clap::{ArgMatches, Command};
 use cmr_base::Word;
+use cmr_front::words::arguments::{GRAPH, MINIMAL, TRANSPOSED};
+use cmr_front::words::parsing::{file_in, form_in, has_flag, matches_with_input, value_in};
+use cmr_front::words::{WordsError, arguments};
 use std::alloc::{AllocError, Global};
 
 fn tool_name<'a>(property: Property) -> &'a str

@@ -1,15 +1,15 @@
 //! The words of `series-parallel`: `[-i FORMAT] [-b] [-N FILE] [-S FILE] [-R FILE] [FILE]`.
 ghost use Rattle.std.specs.Prelude.{◌≡◌, IfOk};
 ghost use Rattle.clap.specs.Words.{app_of, found_of, rows_of};
-ghost use Rattle.cmr_tools.specs.Words.Reading.{Gives};
+ghost use Rattle.cmr_front.specs.Words.Reading.{Gives};
 ghost use Rattle.cmr_tools.specs.Words.SeriesParallel.{series_parallel_app, series_parallel_order, series_parallel_order_in, series_parallel_order_of};
 
 use crate::options::SeriesParallelOptions;
-use crate::words::arguments::{BINARY, MINIMAL, REST, STEPS};
-use crate::words::parsing::{file_in, form_in, has_flag, matches_with_input, value_in};
-use crate::words::{WordsError, arguments};
 use clap::{ArgMatches, Command};
 use cmr_base::Word;
+use cmr_front::words::arguments::{BINARY, MINIMAL, REST, STEPS};
+use cmr_front::words::parsing::{file_in, form_in, has_flag, matches_with_input, value_in};
+use cmr_front::words::{WordsError, arguments};
 use std::alloc::{AllocError, Global};
 
 fn series_parallel_command<'a>(alloc: Global) -> Result<Command<'a>, AllocError>

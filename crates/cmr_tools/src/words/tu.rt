@@ -1,14 +1,17 @@
-//! The words of `tu`: `[-i FORMAT] [--lines L] [-E FILE] [FILE]`.
+//! The words of `tu`: `[-i FORMAT] [--lines L] [-w N] [-D FILE] [-E FILE] [FILE]`.
 ghost use Rattle.std.specs.Prelude.{◌≡◌, IfOk};
 ghost use Rattle.clap.specs.Words.{app_of, found_of, rows_of};
-ghost use Rattle.cmr_tools.specs.Words.Reading.{Gives};
+ghost use Rattle.cmr_front.specs.Words.Reading.{Gives};
 ghost use Rattle.cmr_tools.specs.Words.Tu.{tu_app, tu_order, tu_order_in, tu_order_of};
 
 use crate::options::TuOptions;
-use crate::words::parsing::{fault_in, file_in, form_in, lines_in, matches_with_input};
-use crate::words::{WordsError, arguments};
 use clap::{ArgMatches, Command};
 use cmr_base::Word;
+use cmr_front::words::arguments::TREE;
+use cmr_front::words::parsing::{
+    fault_in, file_in, form_in, lines_in, matches_with_input, value_in, workers_in,
+};
+use cmr_front::words::{WordsError, arguments};
 use std::alloc::{AllocError, Global};
 
 fn tu_command<'a>(alloc: Global) -> Result<Command<'a>, AllocError>
@@ -17,7 +20,9 @@ fn tu_command<'a>(alloc: Global) -> Result<Command<'a>, AllocError>
     let bare = arguments::bare_command(alloc, "tu");
     let with_form = arguments::add(bare, arguments::form_option(alloc))?;
     let with_lines = arguments::add(with_form, arguments::lines_option(alloc))?;
-    let with_fault = arguments::add(with_lines, arguments::fault_option(alloc))?;
+    let with_workers = arguments::add(with_lines, arguments::workers_option(alloc))?;
+    let with_tree = arguments::add(with_workers, arguments::tree_option(alloc))?;
+    let with_fault = arguments::add(with_tree, arguments::fault_option(alloc))?;
     arguments::add(with_fault, arguments::file_operand(alloc))
 }
 
@@ -27,6 +32,8 @@ fn options_in<'a>(matches: &ArgMatches<'a>) -> Result<TuOptions<'a>, WordsError>
     Ok(TuOptions {
         form: form_in(matches)?,
         lines: lines_in(matches)?,
+        workers: workers_in(matches)?,
+        tree: value_in(matches, TREE),
         fault: fault_in(matches),
         file: file_in(matches),
     })

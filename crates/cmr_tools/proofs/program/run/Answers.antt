@@ -1,9 +1,11 @@
-use Rattle.std.proofs.Common.{◌≡◌, None, Err, refl, subst, inl, arith}
-use Rattle.cmr_tools.specs.declared.outcome.Stop.TheVariants as stops
+use Rattle.std.proofs.Common.{◌≡◌, None, Err, refl, subst, sym, inl, arith}
+use Rattle.cmr_front.specs.declared.outcome.Stop.TheVariants as stops
 use Rattle.cmr_tools.specs.Words.{order, order_of}
-use Rattle.cmr_tools.specs.Words.Reading.{Gives}
-use Rattle.cmr_tools.specs.Ending.{devices, standing}
-use Rattle.cmr_tools.proofs.Endings.{runs}
+use Rattle.cmr_front.specs.Words.Reading.{Gives}
+use Rattle.cmr_front.specs.Ending.{devices, standing}
+use Rattle.cmr_front.specs.Run.{IsNothing}
+use Rattle.cmr_front.proofs.Endings.{IsLawfulOrder, runs}
+use Rattle.cmr_tools.specs.Tools.{ordered}
 use Rattle.cmr_tools.proofs.OrderLines.{in_ranges}
 use Rattle.cmr_tools.proofs.program.run.Goals as goal
 
@@ -17,13 +19,14 @@ returns-in-Err-Refused-clause-runs g c =
     let err = c.args.err.now in
     let done = c.carry_out in
     let e : order c.args.words.now ≡ None = subst (λ f. Gives order_of (Err f) (order c.args.words.now)) c.in-Err-Refused.field-0-is c.in-Err-Refused.ensures in
-    runs (order c.args.words.now)
+    runs (ordered (order c.args.words.now))
     (standing (S.tells shelf) (O.tells out) (E.tells err) (S.is_calm shelf) (S.room shelf) (O.is_calm out) (O.room out))
     (S.content shelf) (S.content shelf) (O.got out) (E.got err) (S.faults shelf) (S.faults shelf) (O.faults out) (E.faults err) (Err stops.BadWords)
     (devices (S.content done.new.shelf) (O.got done.new.out) (E.got done.new.err) (S.faults done.new.shelf) (O.faults done.new.out) (E.faults done.new.err)) done.result
     (record {
+      lawful = subst (λ o. IsLawfulOrder (ordered o)) (sym e) tt;
       told = g.met.S.Shelf.calm_tells shelf;
-      ends = e;
+      ends = subst (λ o. IsNothing (ordered o)) (sym e) tt;
       content = λ name. refl;
       later = omega arith;
       refused = λ none. inl refl;

@@ -2,7 +2,7 @@ use Rattle.std.proofs.Common.{option_map, subst}
 use Rattle.std.specs.Prelude.{MatchOption}
 use Rattle.std.proofs.lemmas.Option.{MatchOption-at_none}
 use Rattle.std.proofs.lemmas.Result.{IfOk-weaker}
-use Rattle.cmr_tools.specs.Minimal.{IsMinimalAsked}
+use Rattle.cmr_front.specs.Minimal.{IsMinimalAsked}
 use Rattle.cmr_tools.specs.GraphicNetwork.{Has, Shows, yes, no, tested_lines}
 use Rattle.cmr_tools.proofs.GraphicNetworkAnswers.{asked_below, has_shown}
 use Rattle.cmr_tools.proofs.tools.graphic_network.decide.Goals as goal

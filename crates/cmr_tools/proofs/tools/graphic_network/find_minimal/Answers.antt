@@ -2,7 +2,7 @@ use Rattle.std.proofs.Common.{subst, sym}
 use Rattle.std.specs.Prelude.{IfOk, IsSomeAnd}
 use Rattle.cmr_tools.specs.declared.options.Property.TheVariants.{Graphic, Network}
 use Rattle.cmr_tools.specs.GraphicNetwork.{Has}
-use Rattle.cmr_tools.specs.Minimal.{IsMinimalSet}
+use Rattle.cmr_front.specs.Minimal.{IsMinimalSet}
 use Rattle.cmr_tools.proofs.GraphicNetworkAnswers.{minimal_found}
 use Rattle.cmr_tools.proofs.tools.graphic_network.find_minimal.Goals as goal
 

@@ -1,6 +1,6 @@
 use Rattle.clap.specs.Words.{app_of, found_of, rows_of}
 use Rattle.cmr_tools.specs.Words.GraphicNetwork.{test_app, test_order_in, test_order_of}
-use Rattle.cmr_tools.proofs.Matches.{Gives-matches_with_input}
+use Rattle.cmr_front.proofs.Matches.{Gives-matches_with_input}
 use Rattle.cmr_tools.proofs.words.graphic_network.read_test.Goals as goal
 
 pub returns : goal.returns

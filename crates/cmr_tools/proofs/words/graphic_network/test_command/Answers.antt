@@ -1,7 +1,7 @@
 use Rattle.std.proofs.Common.{◌∙◌, ap, ap₂, []}
 use Rattle.std.proofs.lemmas.Result.{IfOk-weaker}
 use Rattle.clap.specs.Words.{with_rule}
-use Rattle.cmr_tools.specs.Words.Arguments.{tool_app}
+use Rattle.cmr_front.specs.Words.Arguments.{tool_app}
 use Rattle.cmr_tools.proofs.words.graphic_network.test_command.Goals as goal
 
 pub returns : goal.returns

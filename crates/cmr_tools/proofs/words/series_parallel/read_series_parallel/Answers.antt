@@ -1,6 +1,6 @@
 use Rattle.clap.specs.Words.{app_of, found_of, rows_of}
 use Rattle.cmr_tools.specs.Words.SeriesParallel.{series_parallel_app, series_parallel_order_in, series_parallel_order_of}
-use Rattle.cmr_tools.proofs.Matches.{Gives-matches_with_input}
+use Rattle.cmr_front.proofs.Matches.{Gives-matches_with_input}
 use Rattle.cmr_tools.proofs.words.series_parallel.read_series_parallel.Goals as goal
 
 pub returns : goal.returns

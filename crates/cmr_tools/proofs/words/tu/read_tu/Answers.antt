@@ -1,6 +1,6 @@
 use Rattle.clap.specs.Words.{app_of, found_of, rows_of}
 use Rattle.cmr_tools.specs.Words.Tu.{tu_app, tu_order_in, tu_order_of}
-use Rattle.cmr_tools.proofs.Matches.{Gives-matches_with_input}
+use Rattle.cmr_front.proofs.Matches.{Gives-matches_with_input}
 use Rattle.cmr_tools.proofs.words.tu.read_tu.Goals as goal
 
 pub returns : goal.returns

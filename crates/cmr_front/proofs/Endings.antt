@@ -1,0 +1,227 @@
+-- How a run ends, from what was decided and how that was carried out.
+use Rattle.std.proofs.Common.{◌≡◌, ◌≤◌, ◌⊎◌, ◌∙◌, ℕ, Bool, IsTrue, List, Result, Ok, Err, sym, subst, inl, inr, arith, refl}
+use Rattle.std.specs.Prelude.{IfErr}
+use Rattle.cmr_io.specs.Causes.{Rose}
+use Rattle.cmr_front.specs.declared.outcome.Outcome.{Outcome}
+use Rattle.cmr_front.specs.declared.outcome.Stop.{Stop}
+use Rattle.cmr_front.specs.declared.outcome.Stop.TheVariants as stops
+use Rattle.cmr_front.specs.declared.status.Answer.{Answer}
+use Rattle.cmr_front.specs.declared.status.Failure.TheVariants as failures
+use Rattle.cmr_front.specs.Ending.{Devices, Standing, Telling, devices, telling_of, IsReadyFor, IsCarriedOut, delivered, unwritten, cut_short, CarriesOut}
+use Rattle.cmr_front.specs.Inputs.{Given, given, not_there, too_much, texts}
+use Rattle.cmr_front.specs.Outcome.{ended_report, outcome_report, bad_words, too_long, bad_text, stop_report}
+use Rattle.cmr_front.specs.Report.{Held, Report}
+use Rattle.cmr_front.specs.Run.{Ordered, nothing, work, IsNothing, Reports, ReportsGiven, Means, HasEnded, reported, unread, no_memory, Ends, Runs}
+use Rattle.cmr_front.specs.Status.{IsStatus, answer_status, failure_status}
+use Rattle.cmr_front.specs.Tool.{IsDecision, IsLawful, Tool}
+use Rattle.cmr_front.specs.Stopped.{StopsInputs}
+use Rattle.cmr_front.proofs.Statuses.{answered_or_failed, status_of}
+
+pub pointwise : {A B : Type 0} (f g : A → B) → ((x : A) → f x ≡ g x) → f ≡ g
+pointwise f g h = λ i. λ x. h x i
+
+rose_from : (before mid now : ℕ) → before ≤ mid → Rose mid now → Rose before now
+rose_from before mid now h (inl up) = inl (omega arith)
+rose_from before mid now h (inr last) = inr last
+
+rose_until : (before mid now : ℕ) → mid ≤ now → Rose before mid → Rose before now
+rose_until before mid now h (inl up) = inl (omega arith)
+rose_until before mid now h (inr last) = inr (omega arith)
+
+-- what is ordered is a lawful tool, or nothing
+abbrev pub IsLawfulOrder : Ordered → Type 0
+IsLawfulOrder nothing = Unit {0}
+IsLawfulOrder (work tool) = IsLawful tool
+
+-- What was decided, from what the names held before to after the files were read.
+pub record IsDecided (ordered : Ordered) (standing : Standing) (held read : Held) (before mid : ℕ) (ended : Result Outcome Stop) : Type 0 where
+  pub lawful : IsLawfulOrder ordered
+  pub told : IsTrue standing.shelf_is_calm → IsTrue standing.shelf_tells
+  pub ends : Ends ordered held standing.shelf_tells standing.shelf_is_calm ended
+  pub content : (name : List ℕ) → read name ≡ held name
+  pub later : before ≤ mid
+  pub refused : IsNothing ordered → (ended ≡ Err stops.BadWords) ⊎ (ended ≡ Err stops.Memory)
+  pub cause : (ended_report ended).status ≡ failure_status failures.Device → Rose before mid
+
+-- How that was carried out.
+pub record WasCarriedOut (standing : Standing) (ended : Result Outcome Stop) (mid after : Devices) (status : ℕ) : Type 0 where
+  pub carried_out : CarriesOut ended (telling_of standing) mid after status
+  pub given : (status ≡ (ended_report ended).status) ⊎ ((status ≡ failure_status failures.Device) × (Rose mid.shelf_faults after.shelf_faults ⊎ Rose mid.output_faults after.output_faults))
+  pub ready : IsReadyFor (ended_report ended) standing → status ≡ (ended_report ended).status
+  pub stopped : IfErr ended (λ stop. status ≡ (stop_report stop).status)
+  pub later : mid.shelf_faults ≤ after.shelf_faults
+
+has_ended : (ordered : Ordered) (standing : Standing) (ended : Result Outcome Stop) (before after : Devices) (status : ℕ)
+    → Ends ordered before.held standing.shelf_tells standing.shelf_is_calm ended → CarriesOut ended (telling_of standing) before after status
+    → ((ended_report ended).status ≡ failure_status failures.Device → Rose before.shelf_faults after.shelf_faults)
+    → HasEnded ordered standing before after status
+has_ended ordered standing (Ok outcome) before after status ends done cause = reported (outcome_report outcome) ends done
+has_ended nothing standing (Err stops.BadWords) before after status ends done cause = reported bad_words (λ told. refl) (delivered done.0 done.1)
+has_ended (work tool) standing (Err stops.BadWords) before after status ends done cause = absurd ends
+has_ended ordered standing (Err (stops.TooLong name)) before after status ends done cause = reported (too_long name.now) ends (delivered done.0 done.1)
+has_ended ordered standing (Err (stops.BadText name kind place)) before after status ends done cause = reported (bad_text name.now kind place) ends (delivered done.0 done.1)
+has_ended ordered standing (Err (stops.CannotRead name)) before after status ends done cause = unread name.now ends.0 (cause refl) done.0 done.1
+has_ended ordered standing (Err stops.Memory) before after status ends done cause = no_memory done.0 done.1
+
+-- seen from before a read, which changes nothing that the names hold
+seen_from : (ended : Result Outcome Stop) (tells : Telling) (held read : Held) (output error : List ℕ) (before mid out err : ℕ) (after : Devices) (status : ℕ) → read ≡ held → before ≤ mid
+    → CarriesOut ended tells (devices read output error mid out err) after status → CarriesOut ended tells (devices held output error before out err) after status
+seen_from ended tells held read output error before mid out err after status same h done =
+    later ended held output error before mid out err after status h (subst (λ f. CarriesOut ended tells (devices f output error mid out err) after status) same done)
+  where
+    carried : (report : Report) (held : Held) (output error : List ℕ) (before mid out err : ℕ) (after : Devices) (status : ℕ) → before ≤ mid
+        → IsCarriedOut report tells (devices held output error mid out err) after status → IsCarriedOut report tells (devices held output error before out err) after status
+    carried report held output error before mid out err after status h (delivered e d) = delivered e (record { files = d.files; output = d.output; error = d.error })
+    carried report held output error before mid out err after status h (unwritten e u) = unwritten e (record {
+      place = u.place;
+      file = u.file;
+      there = u.there;
+      left = u.left;
+      output = u.output;
+      error = u.error;
+      cause = rose_from before mid after.shelf_faults h u.cause;
+    })
+    carried report held output error before mid out err after status h (cut_short e c) = cut_short e (record { files = c.files; output = c.output; error = c.error; cause = c.cause })
+
+    later : (ended : Result Outcome Stop) (held : Held) (output error : List ℕ) (before mid out err : ℕ) (after : Devices) (status : ℕ) → before ≤ mid
+        → CarriesOut ended tells (devices held output error mid out err) after status → CarriesOut ended tells (devices held output error before out err) after status
+    later (Ok outcome) held output error before mid out err after status h done = carried (outcome_report outcome) held output error before mid out err after status h done
+    later (Err stop) held output error before mid out err after status h done = (done.0, record { files = done.1.files; output = done.1.output; error = done.1.error })
+
+-- all reports of an ordered have one status
+one_of_given : (tool : Tool) → IsLawful tool → (read : Given) (r s : Report) → ReportsGiven tool read r → ReportsGiven tool read s → r.status ≡ s.status
+one_of_given tool law (not_there name) r s a b = absurd a
+one_of_given tool law (too_much name) r s a b = status_of r _ a ∙ sym (status_of s _ b)
+one_of_given tool law (texts bytes) r s a b = law.one_status bytes r s a b
+
+one_status : (ordered : Ordered) → IsLawfulOrder ordered → (held : Held) (r s : Report) → Reports ordered held r → Reports ordered held s → r.status ≡ s.status
+one_status nothing law held r s a b = status_of r _ a ∙ sym (status_of s _ b)
+one_status (work tool) law held r s a b = one_of_given tool law (given held tool.inputs) r s a b
+
+-- what was decided is a report with the status of each
+record IsReported (ordered : Ordered) (held : Held) (ended report : Report) : Type 0 where
+  reports : Reports ordered held ended
+  status : ended.status ≡ report.status
+
+is_reported : (ordered : Ordered) → IsLawfulOrder ordered → (held : Held) (ended report : Report) → Reports ordered held ended → Reports ordered held report → IsReported ordered held ended report
+is_reported ordered law held ended report a b = record { reports = a; status = one_status ordered law held ended report a b }
+
+-- or there is none to be had
+the_status : (ordered : Ordered) → IsLawfulOrder ordered → (held : Held) (tells calm : Bool) (ended : Result Outcome Stop) → Ends ordered held tells calm ended → IsTrue tells → (report : Report) → Reports ordered held report
+    → IsReported ordered held (ended_report ended) report ⊎ (((ended_report ended).status ≡ failure_status failures.Device) × (IsTrue calm → ⊥)) ⊎ (ended ≡ Err stops.Memory)
+the_status ordered law held tells calm (Ok outcome) ends told report is = inl (is_reported ordered law held _ report (ends told) is)
+the_status nothing law held tells calm (Err stops.BadWords) ends told report is = inl (is_reported nothing law held _ report refl is)
+the_status (work tool) law held tells calm (Err stops.BadWords) ends told report is = absurd ends
+the_status ordered law held tells calm (Err (stops.TooLong name)) ends told report is = inl (is_reported ordered law held _ report (ends told) is)
+the_status ordered law held tells calm (Err (stops.BadText name kind place)) ends told report is = inl (is_reported ordered law held _ report (ends told) is)
+the_status ordered law held tells calm (Err (stops.CannotRead name)) ends told report is = inr (inl (refl, λ is_calm. ends.1 told is_calm report is))
+the_status ordered law held tells calm (Err stops.Memory) ends told report is = inr (inr refl)
+
+-- a stop ends with its own status
+stop_status : (ended : Result Outcome Stop) (status : ℕ) → IfErr ended (λ stop. status ≡ (stop_report stop).status) → (stop : Stop) → ended ≡ Err stop → status ≡ (stop_report stop).status
+stop_status ended status h stop e = subst (λ r. IfErr r (λ s. status ≡ (stop_report s).status)) e h
+
+-- only refused words end with their status
+refused_words : (ordered : Ordered) (held : Held) (tells calm : Bool) (ended : Result Outcome Stop) → Ends ordered held tells calm ended → (ended_report ended).status ≡ failure_status failures.Words → IsNothing ordered
+refused_words ordered held tells calm (Ok outcome) ends e = absurd (answered_or_failed (answer_status outcome.answer) outcome.answer failures.Words refl e)
+refused_words ordered held tells calm (Err stops.BadWords) ends e = ends
+refused_words ordered held tells calm (Err (stops.TooLong name)) ends e = absurd (omega arith)
+refused_words ordered held tells calm (Err (stops.BadText name kind place)) ends e = absurd (omega arith)
+refused_words ordered held tells calm (Err (stops.CannotRead name)) ends e = absurd (omega arith)
+refused_words ordered held tells calm (Err stops.Memory) ends e = absurd (omega arith)
+
+-- each end has a status of an answer or of a failure
+is_status : (ended : Result Outcome Stop) → IsStatus (ended_report ended).status
+is_status (Ok outcome) = inl (outcome.answer, refl)
+is_status (Err stops.BadWords) = inr (failures.Words, refl)
+is_status (Err (stops.TooLong name)) = inr (failures.Text, refl)
+is_status (Err (stops.BadText name kind place)) = inr (failures.Text, refl)
+is_status (Err (stops.CannotRead name)) = inr (failures.Device, refl)
+is_status (Err stops.Memory) = inr (failures.Memory, refl)
+
+pub runs : (ordered : Ordered) (standing : Standing) (held read : Held) (output error : List ℕ) (before mid out err : ℕ) (ended : Result Outcome Stop) (after : Devices) (status : ℕ)
+    → IsDecided ordered standing held read before mid ended → WasCarriedOut standing ended (devices read output error mid out err) after status
+    → Runs ordered standing (devices held output error before out err) after status
+runs ordered standing held read output error before mid out err ended after status decided carried = record {
+  ended =
+      has_ended ordered standing ended (devices held output error before out err) after status decided.ends
+      (seen_from ended (telling_of standing) held read output error before mid out err after status (pointwise read held decided.content) decided.later carried.carried_out)
+      (λ device. rose_until before mid after.shelf_faults carried.later (decided.cause device));
+  complete = λ told report is. elim (the_status ordered decided.lawful held standing.shelf_tells standing.shelf_is_calm ended decided.ends told report is) [
+    | inl one ↦ elim carried.given [ inl s ↦ inl (s ∙ one.status) | inr cut ↦ inr (inl cut.0) ]
+    | inr other ↦ elim other [
+      | inl gone ↦ elim carried.given [ inl s ↦ inr (inl (s ∙ gone.0)) | inr cut ↦ inr (inl cut.0) ]
+      | inr memory ↦ elim carried.given [ inl s ↦ inr (inr (stop_status ended status carried.stopped stops.Memory memory)) | inr cut ↦ inr (inl cut.0) ]
+    ]
+  ];
+  ready = λ report is room. elim (the_status ordered decided.lawful held standing.shelf_tells standing.shelf_is_calm ended decided.ends (decided.told (room report is).shelf) report is) [
+    | inl one ↦ inl (carried.ready (room (ended_report ended) one.reports) ∙ one.status)
+    | inr other ↦ elim other [
+      | inl gone ↦ absurd (gone.1 (room report is).shelf)
+      | inr memory ↦ inr (stop_status ended status carried.stopped stops.Memory memory)
+    ]
+  ];
+  refused = λ none. elim (decided.refused none) [
+    | inl words ↦ inl (stop_status ended status carried.stopped stops.BadWords words)
+    | inr memory ↦ inr (stop_status ended status carried.stopped stops.Memory memory)
+  ];
+  refused_only = λ words. elim carried.given [
+    | inl s ↦ refused_words ordered held standing.shelf_tells standing.shelf_is_calm ended decided.ends (sym s ∙ words)
+    | inr cut ↦ absurd (omega (arith, cut.0))
+  ];
+  device = λ device. elim carried.given [
+    | inl s ↦ inl (rose_until before mid after.shelf_faults carried.later (decided.cause (sym s ∙ device)))
+    | inr cut ↦ elim cut.1 [ inl shelf ↦ inl (rose_from before mid after.shelf_faults decided.later shelf) | inr output' ↦ inr output' ]
+  ];
+  statuses = elim carried.given [ inl s ↦ subst IsStatus (sym s) (is_status ended) | inr cut ↦ inr (failures.Device, cut.0) ];
+}
+
+-- ---- what an answer means
+
+means_given : (tool : Tool) → IsLawful tool → (held : Held) (read : Given) → given held tool.inputs ≡ read → (r : Report) (answer : Answer) → ReportsGiven tool read r → r.status ≡ answer_status answer
+    → Means tool held answer
+means_given tool law held (not_there name) e r answer a is = absurd a
+means_given tool law held (too_much name) e r answer a is = absurd (answered_or_failed r.status answer failures.Text is (status_of r _ a))
+means_given tool law held (texts bytes) e r answer a is = (bytes, e, law.means bytes r answer a is)
+
+means_ended : (tool : Tool) → IsLawful tool → (held : Held) (tells calm : Bool) (ended : Result Outcome Stop) → Ends (work tool) held tells calm ended → IsTrue tells → (answer : Answer)
+    → (ended_report ended).status ≡ answer_status answer → Means tool held answer
+means_ended tool law held tells calm (Ok outcome) ends told answer is = means_given tool law held (given held tool.inputs) refl (outcome_report outcome) answer (ends told) is
+means_ended tool law held tells calm (Err stops.BadWords) ends told answer is = absurd (answered_or_failed _ answer failures.Words is refl)
+means_ended tool law held tells calm (Err (stops.TooLong name)) ends told answer is = absurd (answered_or_failed _ answer failures.Text is refl)
+means_ended tool law held tells calm (Err (stops.BadText name kind place)) ends told answer is = absurd (answered_or_failed _ answer failures.Text is refl)
+means_ended tool law held tells calm (Err (stops.CannotRead name)) ends told answer is = absurd (answered_or_failed _ answer failures.Device is refl)
+means_ended tool law held tells calm (Err stops.Memory) ends told answer is = absurd (answered_or_failed _ answer failures.Memory is refl)
+
+pub means : (tool : Tool) → IsLawful tool → (standing : Standing) (held : Held) (ended : Result Outcome Stop) (mid after : Devices) (status : ℕ) → Ends (work tool) held standing.shelf_tells standing.shelf_is_calm ended
+    → (status ≡ (ended_report ended).status) ⊎ ((status ≡ failure_status failures.Device) × (Rose mid.shelf_faults after.shelf_faults ⊎ Rose mid.output_faults after.output_faults))
+    → IsTrue standing.shelf_tells → (answer : Answer) → status ≡ answer_status answer → Means tool held answer
+means tool law standing held ended mid after status ends (inl same) told answer is = means_ended tool law held standing.shelf_tells standing.shelf_is_calm ended ends told answer (sym same ∙ is)
+means tool law standing held ended mid after status ends (inr cut) told answer is = absurd (answered_or_failed status answer failures.Device is cut.0)
+
+-- ---- what is decided on what was read
+
+pub decided_ends : (tool : Tool) (held : Held) (tells calm : Bool) (bytes : List (List ℕ)) (ended : Result Outcome Stop) → (IsTrue tells → given held tool.inputs ≡ texts bytes)
+    → IsDecision (tool.Reports bytes) ended → Ends (work tool) held tells calm ended
+decided_ends tool held tells calm bytes (Ok outcome) read d = λ told. subst (λ g. ReportsGiven tool g (outcome_report outcome)) (sym (read told)) d
+decided_ends tool held tells calm bytes (Err stops.BadWords) read d = absurd d
+decided_ends tool held tells calm bytes (Err (stops.TooLong name)) read d = absurd d
+decided_ends tool held tells calm bytes (Err (stops.BadText name kind place)) read d = λ told. subst (λ g. ReportsGiven tool g (bad_text name.now kind place)) (sym (read told)) d
+decided_ends tool held tells calm bytes (Err (stops.CannotRead name)) read d = absurd d
+decided_ends tool held tells calm bytes (Err stops.Memory) read d = tt
+
+pub stopped_ends : (tool : Tool) (held : Held) (tells calm : Bool) (stop : Stop) → StopsInputs tool.inputs held tells calm stop → Ends (work tool) held tells calm (Err stop)
+stopped_ends tool held tells calm stops.BadWords h = absurd h
+stopped_ends tool held tells calm (stops.TooLong name) h = λ told. subst (λ g. ReportsGiven tool g (too_long name.now)) (sym (h told)) refl
+stopped_ends tool held tells calm (stops.BadText name kind place) h = absurd h
+stopped_ends tool held tells calm (stops.CannotRead name) h = (h.0, λ told is_calm report r. subst (λ g. ReportsGiven tool g report) (h.1 told is_calm) r)
+stopped_ends tool held tells calm stops.Memory h = tt
+
+-- an end with the status of a device comes from a stop
+pub answered_no_device : (Reports : Report → Type 0) (ended : Result Outcome Stop) → IsDecision Reports ended → (ended_report ended).status ≡ failure_status failures.Device → ⊥
+answered_no_device Reports (Ok outcome) d e = answered_or_failed (answer_status outcome.answer) outcome.answer failures.Device refl e
+answered_no_device Reports (Err stops.BadWords) d e = d
+answered_no_device Reports (Err (stops.TooLong name)) d e = d
+answered_no_device Reports (Err (stops.BadText name kind place)) d e = omega arith
+answered_no_device Reports (Err (stops.CannotRead name)) d e = d
+answered_no_device Reports (Err stops.Memory) d e = omega arith

@@ -1,0 +1,108 @@
+-- What reading some files one after another comes to.
+use Rattle.std.proofs.Common.{◌≡◌, ◌<◌, ◌+◌, ◌++◌, ◌∙◌, ℕ, zero, suc, Bool, IsTrue, List, [], ◌∷◌, length, map, take, get_or, ap, sym, subst, refl, arith, add-one}
+use Rattle.std.specs.Prelude.{Contains}
+use Rattle.std.proofs.lemmas.List.{map-append}
+use Rattle.cmr_front.specs.declared.input.Input.{Input}
+use Rattle.cmr_front.specs.declared.input.InputKind.TheVariants.{MatrixText}
+use Rattle.cmr_front.specs.declared.input.Text.{Text}
+use Rattle.cmr_front.specs.declared.outcome.Stop.{Stop}
+use Rattle.cmr_front.specs.declared.outcome.Stop.TheVariants as stops
+use Rattle.cmr_front.specs.Report.{Held}
+use Rattle.cmr_front.specs.Inputs.{InputFile, Given, Reading, and_then, bytes_of, given, input_file, most_bytes, missing, above_limit, whole, not_there, too_much, texts, reading, reading_of, with_text}
+use Rattle.cmr_front.specs.Stopped.{StopsInputs, StopsReading}
+
+-- what a place beyond the last one holds
+abbrev pub no_input : Input
+no_input = record { name = record { ref_ptr = (0, 0); now = [] }; kind = MatrixText }
+
+abbrev pub file_at : List Input → ℕ → InputFile
+file_at inputs k = input_file (get_or inputs k no_input)
+
+module _ (held : Held) where
+  abbrev pub given_of : List Input → Given
+  given_of inputs = given held (map input_file inputs)
+
+  -- behind a file that is there
+  one_text_more : (name : List ℕ) (read : Reading) (others all : Given) (before : List (List ℕ)) (bytes : List ℕ) → and_then name read others ≡ texts before
+      → ((rest : List (List ℕ)) → others ≡ texts rest → all ≡ texts (rest ++ bytes ∷ [])) → and_then name read all ≡ texts (before ++ bytes ∷ [])
+  one_text_more name missing others all before bytes e later = cc
+  one_text_more name above_limit others all before bytes e later = cc
+  one_text_more name (whole first) (not_there other) all before bytes e later = cc
+  one_text_more name (whole first) (too_much other) all before bytes e later = cc
+  one_text_more name (whole first) (texts rest) all before bytes e later =
+      let same : before ≡ first ∷ rest = cc in
+      ap (with_text first) (later rest refl) ∙ ap (λ (ts : List (List ℕ)). texts (ts ++ bytes ∷ [])) (sym same)
+
+  still_unread : (name : List ℕ) (read : Reading) (others all : Given) (before : List (List ℕ)) (other : List ℕ) → and_then name read others ≡ texts before
+      → ((rest : List (List ℕ)) → others ≡ texts rest → all ≡ not_there other) → and_then name read all ≡ not_there other
+  still_unread name missing others all before other e later = cc
+  still_unread name above_limit others all before other e later = cc
+  still_unread name (whole first) (not_there _) all before other e later = cc
+  still_unread name (whole first) (too_much _) all before other e later = cc
+  still_unread name (whole first) (texts rest) all before other e later = ap (with_text first) (later rest refl)
+
+  still_above : (name : List ℕ) (read : Reading) (others all : Given) (before : List (List ℕ)) (other : List ℕ) → and_then name read others ≡ texts before
+      → ((rest : List (List ℕ)) → others ≡ texts rest → all ≡ too_much other) → and_then name read all ≡ too_much other
+  still_above name missing others all before other e later = cc
+  still_above name above_limit others all before other e later = cc
+  still_above name (whole first) (not_there _) all before other e later = cc
+  still_above name (whole first) (too_much _) all before other e later = cc
+  still_above name (whole first) (texts rest) all before other e later = ap (with_text first) (later rest refl)
+
+  -- a text more
+  one_more : (inputs : List Input) (k : ℕ) (before : List (List ℕ)) (bytes : List ℕ) → k < length inputs
+      → given_of (take k inputs) ≡ texts before → reading held (file_at inputs k) ≡ whole bytes → given_of (take (suc k) inputs) ≡ texts (before ++ bytes ∷ [])
+  one_more [] k before bytes h e f = absurd (omega arith)
+  one_more (input ∷ inputs) zero before bytes h e f =
+      let none : before ≡ [] = cc in
+      rw (f, none) refl
+  one_more (input ∷ inputs) (suc k) before bytes h e f =
+      one_text_more input.name.now (reading held (input_file input)) (given_of (take k inputs)) (given_of (take (suc k) inputs)) before bytes e (λ rest is. one_more inputs k rest bytes (omega arith) is f)
+
+  -- a file that is not there, behind some that are
+  stops_unread : (inputs : List Input) (k : ℕ) (before : List (List ℕ)) → k < length inputs
+      → given_of (take k inputs) ≡ texts before → reading held (file_at inputs k) ≡ missing → given_of inputs ≡ not_there (file_at inputs k).name
+  stops_unread [] k before h e f = absurd (omega arith)
+  stops_unread (input ∷ inputs) zero before h e f = rw f refl
+  stops_unread (input ∷ inputs) (suc k) before h e f =
+      still_unread input.name.now (reading held (input_file input)) (given_of (take k inputs)) (given_of inputs) before (file_at inputs k).name e (λ rest is. stops_unread inputs k rest (omega arith) is f)
+
+  -- a file that holds too much
+  stops_above : (inputs : List Input) (k : ℕ) (before : List (List ℕ)) → k < length inputs
+      → given_of (take k inputs) ≡ texts before → reading held (file_at inputs k) ≡ above_limit → given_of inputs ≡ too_much (file_at inputs k).name
+  stops_above [] k before h e f = absurd (omega arith)
+  stops_above (input ∷ inputs) zero before h e f = rw f refl
+  stops_above (input ∷ inputs) (suc k) before h e f =
+      still_above input.name.now (reading held (input_file input)) (given_of (take k inputs)) (given_of inputs) before (file_at inputs k).name e (λ rest is. stops_above inputs k rest (omega arith) is f)
+
+named : (inputs : List Input) (k : ℕ) → k < length inputs → Contains (map (λ (file : InputFile). file.name) (map input_file inputs)) (file_at inputs k).name
+named [] k h = absurd (omega arith)
+named (input ∷ inputs) zero h = (0, omega arith, refl)
+named (input ∷ inputs) (suc k) h =
+    let later = named inputs k (omega arith) in
+    (suc later.0, omega (arith, later.1), later.2)
+
+-- what a reading of a file is while the names hold the same
+same_reading : (held mid : Held) → ((name : List ℕ) → mid name ≡ held name) → (file : InputFile) → reading held file ≡ reading mid file
+same_reading held mid same file = ap (reading_of (most_bytes file.kind)) (sym (same file.name))
+
+pub texts_more : (held mid : Held) (inputs : List Input) (k : ℕ) (old new : List Text) (text : Text) → k < length inputs → ((name : List ℕ) → mid name ≡ held name)
+    → given held (map input_file (take k inputs)) ≡ texts (map bytes_of old) → reading mid (file_at inputs k) ≡ whole (bytes_of text) → new ≡ old ++ text ∷ []
+    → given held (map input_file (take (k + 1) inputs)) ≡ texts (map bytes_of new)
+texts_more held mid inputs k old new text h same before here more =
+    rw (more, map-append bytes_of old (text ∷ []), add-one)
+    (one_more held inputs k (map bytes_of old) (bytes_of text) h before (same_reading held mid same (file_at inputs k) ∙ here))
+
+pub stopped_at : (held mid : Held) (tells tells' calm calm' : Bool) (inputs : List Input) (k : ℕ) (before : List (List ℕ)) (stop : Stop) → k < length inputs
+    → ((name : List ℕ) → mid name ≡ held name) → (IsTrue tells → IsTrue tells') → (IsTrue calm → IsTrue calm') → (IsTrue tells → given held (map input_file (take k inputs)) ≡ texts before)
+    → StopsReading (file_at inputs k) mid tells' calm' stop → StopsInputs (map input_file inputs) held tells calm stop
+stopped_at held mid tells tells' calm calm' inputs k before stops.BadWords h same told is_calm read stopped = stopped
+stopped_at held mid tells tells' calm calm' inputs k before (stops.CannotRead name) h same told is_calm read stopped = (
+  subst (Contains (map (λ (file : InputFile). file.name) (map input_file inputs))) (sym stopped.0) (named inputs k h),
+  (λ t c.
+      stops_unread held inputs k before h (read t) (same_reading held mid same (file_at inputs k) ∙ stopped.1 (told t) (is_calm c)) ∙ ap not_there (sym stopped.0)),
+)
+stopped_at held mid tells tells' calm calm' inputs k before (stops.TooLong name) h same told is_calm read stopped = λ t.
+    stops_above held inputs k before h (read t) (same_reading held mid same (file_at inputs k) ∙ stopped.1 (told t)) ∙ ap too_much (sym stopped.0)
+stopped_at held mid tells tells' calm calm' inputs k before (stops.BadText name kind place) h same told is_calm read stopped = stopped
+stopped_at held mid tells tells' calm calm' inputs k before stops.Memory h same told is_calm read stopped = tt

@@ -1,0 +1,9 @@
+pub mod Statuses
+pub mod Inputs
+pub mod Texts
+pub mod MatrixText
+pub mod Matches
+pub mod Parts
+pub mod Endings
+pub mod Files
+pub mod Numbers

@@ -1,0 +1,53 @@
+-- Tools that read one matrix text.
+use Rattle.std.proofs.Common.{◌≡◌, ℕ, List, [], ◌∷◌, Ok, Err, length, map, get_or, ap, sym, subst, refl, arith}
+use Rattle.cmr_base.specs.Matrix.{Matrix}
+use Rattle.cmr_front.specs.declared.input.Text.{Text}
+use Rattle.cmr_front.specs.declared.outcome.FaultKind.TheVariants as faults
+use Rattle.cmr_front.specs.declared.outcome.Outcome.{Outcome}
+use Rattle.cmr_front.specs.declared.outcome.Stop.{Stop}
+use Rattle.cmr_front.specs.declared.status.Answer.{Answer}
+use Rattle.cmr_front.specs.Inputs.{bytes_of}
+use Rattle.cmr_front.specs.MatrixText.{Source, ReportsMatrix, SaysOfMatrix, matrix_in, matrix_tool}
+use Rattle.cmr_front.specs.Outcome.{outcome_report}
+use Rattle.cmr_front.specs.Report.{Report}
+use Rattle.cmr_front.specs.Status.{answer_status}
+use Rattle.cmr_front.specs.Stopped.{StopsText}
+use Rattle.cmr_front.specs.Tool.{IsDecision, IsLawful}
+use Rattle.cmr_front.proofs.Texts.{answered, fault_reported, one_of_text, read_reported}
+
+-- the text of a list of one
+one_text : (ts : List Text) (t : Text) → length ts ≡ 1 → t ≡ get_or ts 0 t → map bytes_of ts ≡ bytes_of t ∷ []
+one_text [] t one is = absurd (omega arith)
+one_text (first ∷ []) t one is = ap (λ (x : Text). bytes_of x ∷ []) (sym is)
+one_text (first ∷ second ∷ ts) t one is = absurd (omega arith)
+
+module _ (s : Source) (Decides : Matrix → Report → Type 0) where
+  -- what is decided on the matrix
+  pub decided : (ts : List Text) (t : Text) (m : Matrix) (outcome : Outcome) → length ts ≡ 1 → t ≡ get_or ts 0 t → matrix_in s.form s.binary (bytes_of t) ≡ Ok m
+      → Decides m (outcome_report outcome) → IsDecision (ReportsMatrix s Decides (map bytes_of ts)) (Ok outcome)
+  decided ts t m outcome one is read d =
+      subst (λ bytes. ReportsMatrix s Decides bytes (outcome_report outcome)) (sym (one_text ts t one is)) (read_reported faults.Matrix s.file Decides (matrix_in s.form s.binary (bytes_of t)) m (outcome_report outcome) read d)
+
+  -- a text at fault
+  pub faulty : (ts : List Text) (t : Text) (stop : Stop) → length ts ≡ 1 → t ≡ get_or ts 0 t → StopsText faults.Matrix s.file (matrix_in s.form s.binary (bytes_of t)) stop
+      → IsDecision (ReportsMatrix s Decides (map bytes_of ts)) (Err stop)
+  faulty ts t stop one is h =
+      subst (λ bytes. IsDecision (ReportsMatrix s Decides bytes) (Err stop)) (sym (one_text ts t one is)) (fault_reported faults.Matrix s.file Decides (matrix_in s.form s.binary (bytes_of t)) stop h)
+
+  one_status : ((m : Matrix) (r t : Report) → Decides m r → Decides m t → r.status ≡ t.status) → (bytes : List (List ℕ)) (r t : Report)
+      → ReportsMatrix s Decides bytes r → ReportsMatrix s Decides bytes t → r.status ≡ t.status
+  one_status one [] r t a b = absurd a
+  one_status one (bytes ∷ []) r t a b = one_of_text faults.Matrix s.file Decides one (matrix_in s.form s.binary bytes) r t a b
+  one_status one (bytes ∷ other ∷ others) r t a b = absurd a
+
+  module _ (Says : Matrix → Answer → Type 0) (says : (m : Matrix) (r : Report) (answer : Answer) → Decides m r → r.status ≡ answer_status answer → Says m answer) where
+    means : (bytes : List (List ℕ)) (r : Report) (answer : Answer) → ReportsMatrix s Decides bytes r → r.status ≡ answer_status answer → SaysOfMatrix s Says bytes answer
+    means [] r answer a is = absurd a
+    means (bytes ∷ []) r answer a is =
+        let found = answered faults.Matrix s.file Decides (matrix_in s.form s.binary bytes) r answer a is in
+        (bytes, refl, found.0, found.1, says found.0 r answer found.2 is)
+    means (bytes ∷ other ∷ others) r answer a is = absurd a
+
+    -- the tool is lawful where its decisions are
+    pub lawful : (InRanges : Type 0) → ((m : Matrix) (r t : Report) → Decides m r → Decides m t → r.status ≡ t.status) → IsLawful (matrix_tool s InRanges Decides Says)
+    lawful InRanges one = record { one_status = one_status one; means = means }

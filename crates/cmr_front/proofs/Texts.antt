@@ -1,0 +1,74 @@
+-- What is reported on a text, and on two of them.
+use Rattle.std.proofs.Common.{◌≡◌, ◌∙◌, ℕ, List, [], ◌∷◌, Result, Ok, Err, length, map, get_or, ap₂, sym, subst, refl, arith}
+use Rattle.text_fields.specs.Reading.{Fault}
+use Rattle.cmr_front.specs.declared.input.Text.{Text}
+use Rattle.cmr_front.specs.declared.outcome.FaultKind.{FaultKind}
+use Rattle.cmr_front.specs.declared.outcome.Outcome.{Outcome}
+use Rattle.cmr_front.specs.declared.outcome.Stop.{Stop}
+use Rattle.cmr_front.specs.declared.outcome.Stop.TheVariants as stops
+use Rattle.cmr_front.specs.declared.status.Answer.{Answer}
+use Rattle.cmr_front.specs.declared.status.Failure.TheVariants as failures
+use Rattle.cmr_front.specs.Inputs.{InputFile, bytes_of}
+use Rattle.cmr_front.specs.Outcome.{bad_text}
+use Rattle.cmr_front.specs.Report.{Report}
+use Rattle.cmr_front.specs.Status.{answer_status}
+use Rattle.cmr_front.specs.Stopped.{StopsText}
+use Rattle.cmr_front.specs.Texts.{ReportsPair, ReportsText, SaysOfPair, pair_tool}
+use Rattle.cmr_front.specs.Tool.{IsDecision, IsLawful}
+use Rattle.cmr_front.proofs.Statuses.{answered_or_failed, status_of}
+
+module _ {A K : Type 0} (kind_of : K → FaultKind) (file : List ℕ) (Decides : A → Report → Type 0) where
+  -- what is decided on what a text stands for
+  pub read_reported : (read : Result A (Fault K)) (x : A) (report : Report) → read ≡ Ok x → Decides x report → ReportsText kind_of file Decides read report
+  read_reported read x report e d = subst (λ r. ReportsText kind_of file Decides r report) (sym e) d
+
+  -- a text at fault
+  pub fault_reported : (read : Result A (Fault K)) (stop : Stop) → StopsText kind_of file read stop → IsDecision (ReportsText kind_of file Decides read) (Err stop)
+  fault_reported read stops.BadWords h = absurd h
+  fault_reported read (stops.CannotRead name) h = absurd h
+  fault_reported read (stops.TooLong name) h = absurd h
+  fault_reported read (stops.BadText name fault place) (same, kind, is, at) =
+      subst (λ r. ReportsText kind_of file Decides r (bad_text name.now fault place)) (sym at) (ap₂ (λ n f. bad_text n f place) same is)
+  fault_reported read stops.Memory h = tt
+
+  pub one_of_text : ((x : A) (r t : Report) → Decides x r → Decides x t → r.status ≡ t.status) → (read : Result A (Fault K)) (r t : Report)
+      → ReportsText kind_of file Decides read r → ReportsText kind_of file Decides read t → r.status ≡ t.status
+  one_of_text one (Ok x) r t a b = one x r t a b
+  one_of_text one (Err fault) r t a b = status_of r _ a ∙ sym (status_of t _ b)
+
+  -- an answer is one on what the text stands for
+  pub answered : (read : Result A (Fault K)) (r : Report) (answer : Answer) → ReportsText kind_of file Decides read r → r.status ≡ answer_status answer → (x : A) × (read ≡ Ok x) × Decides x r
+  answered (Ok x) r answer d is = (x, refl, d)
+  answered (Err fault) r answer e is = absurd (answered_or_failed r.status answer failures.Text is (status_of r _ e))
+
+-- ---- two texts
+
+-- the texts of a list of two
+two_texts : (ts : List Text) (t u : Text) → length ts ≡ 2 → t ≡ get_or ts 0 t → u ≡ get_or ts 1 u → map bytes_of ts ≡ bytes_of t ∷ bytes_of u ∷ []
+two_texts [] t u two is are = absurd (omega arith)
+two_texts (first ∷ []) t u two is are = absurd (omega arith)
+two_texts (first ∷ second ∷ []) t u two is are = ap₂ (λ (x y : Text). bytes_of x ∷ bytes_of y ∷ []) (sym is) (sym are)
+two_texts (first ∷ second ∷ third ∷ ts) t u two is are = absurd (omega arith)
+
+module _ (On : List ℕ → List ℕ → Report → Type 0) where
+  pub decided_on_two : (ts : List Text) (t u : Text) (r : Result Outcome Stop) → length ts ≡ 2 → t ≡ get_or ts 0 t → u ≡ get_or ts 1 u
+      → IsDecision (On (bytes_of t) (bytes_of u)) r → IsDecision (ReportsPair On (map bytes_of ts)) r
+  decided_on_two ts t u r two is are d = subst (λ bytes. IsDecision (ReportsPair On bytes) r) (sym (two_texts ts t u two is are)) d
+
+  module _ (Says : List ℕ → List ℕ → Answer → Type 0) (one : (first second : List ℕ) (r t : Report) → On first second r → On first second t → r.status ≡ t.status)
+      (says : (first second : List ℕ) (r : Report) (answer : Answer) → On first second r → r.status ≡ answer_status answer → Says first second answer) where
+    one_status : (texts : List (List ℕ)) (r t : Report) → ReportsPair On texts r → ReportsPair On texts t → r.status ≡ t.status
+    one_status [] r t a b = absurd a
+    one_status (first ∷ []) r t a b = absurd a
+    one_status (first ∷ second ∷ []) r t a b = one first second r t a b
+    one_status (first ∷ second ∷ third ∷ texts) r t a b = absurd a
+
+    means : (texts : List (List ℕ)) (r : Report) (answer : Answer) → ReportsPair On texts r → r.status ≡ answer_status answer → SaysOfPair Says texts answer
+    means [] r answer a is = absurd a
+    means (first ∷ []) r answer a is = absurd a
+    means (first ∷ second ∷ []) r answer a is = (first, second, refl, says first second r answer a is)
+    means (first ∷ second ∷ third ∷ texts) r answer a is = absurd a
+
+    -- the tool is lawful where what it says of two texts is
+    pub pair_lawful : (files : List InputFile) → IsLawful (pair_tool files On Says)
+    pair_lawful files = record { one_status = one_status; means = means }

@@ -1,0 +1,31 @@
+use Rattle.std.proofs.Common.{◌∙◌, ◌∷◌, [], map, arith, ap, length, length-append}
+use Rattle.cmr_front.specs.Inputs.{bytes_of}
+use Rattle.cmr_front.proofs.Inputs.{stopped_at, texts_more}
+use Rattle.cmr_front.proofs.input.read_inputs.Goals as goal
+
+pub returns-in-Err-clause-stopped : goal.returns-in-Err-clause-stopped
+returns-in-Err-clause-stopped g c =
+    let S = g.S.Shelf in
+    let shelf = c.args.shelf.now in
+    let mid = c.loop-input.shelf in
+    let before = c.loop-input.invariant in
+    stopped_at (S.content shelf) (S.content mid) (S.tells shelf) (S.tells mid) (S.is_calm shelf) (S.is_calm mid) c.args.inputs.now c.loop-input.input-index (map bytes_of c.loop-input.read.items) c.in-Err.stop
+    c.loop-input-test.true before.content (λ told. before.tells ∙ told) before.calm before.given c.in-Err.ensures.stopped
+
+pub loop-input-preserved : goal.loop-input-preserved
+loop-input-preserved g c =
+    let S = g.S.Shelf in
+    let shelf = c.args.shelf.now in
+    let mid = c.loop-input.shelf in
+    let before = c.loop-input.invariant in
+    let read = c.in-Ok.ensures in
+    record {
+      given = λ told. texts_more (S.content shelf) (S.content mid) c.args.inputs.now c.loop-input.input-index c.loop-input.read.items c.push.new.self.items c.in-Ok.text
+          c.loop-input-test.true before.content (before.given told) (read.whole (before.tells ∙ told)) c.in-Ok-push.ensures.items;
+      count = omega (arith, before.count, ap length c.in-Ok-push.ensures.items, length-append c.loop-input.read.items (c.in-Ok.text ∷ []));
+      content = λ other. read.content other ∙ before.content other;
+      room = λ other. read.room other ∙ before.room other;
+      tells = read.tells ∙ before.tells;
+      calm = λ calm. read.calm (before.calm calm);
+      later = omega (arith, read.later, before.later);
+    }

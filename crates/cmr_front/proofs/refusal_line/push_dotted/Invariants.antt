@@ -1,0 +1,7 @@
+use Rattle.std.proofs.Common.{◌≡◌, ◌++◌, drop}
+use Rattle.cmr_front.specs.Refusals.{dotted}
+use Rattle.cmr_front.proofs.refusal_line.push_dotted.Given as goal
+
+-- the numbers so far and those of the rest are all
+abbrev pub invariant-loop-child : goal.invariant-loop-child
+invariant-loop-child l = l.text.items ++ dotted (drop l.child-index l.path) ≡ l.initial.text.items ++ dotted l.path

@@ -1,0 +1,56 @@
+use Rattle.std.proofs.Common.{subst, sym}
+use Rattle.cmr_front.specs.Ending.{devices, standing, telling, CarriesOut, HasRooms}
+use Rattle.cmr_front.specs.Outcome.{ended_report}
+use Rattle.cmr_front.specs.Run.{work}
+use Rattle.cmr_front.proofs.Endings.{means, pointwise, runs}
+use Rattle.cmr_front.proofs.tool.run_tool.Goals as goal
+
+pub returns-clause-runs : goal.returns-clause-runs
+returns-clause-runs g c =
+    let S = g.S.Shelf in
+    let O = g.O.Sink in
+    let E = g.E.Sink in
+    let shelf = c.args.shelf.now in
+    let out = c.args.out.now in
+    let err = c.args.err.now in
+    let read = c.examine-ended in
+    let done = c.carry_out in
+    runs (work (g.T.Tool.tool c.args.tool.now))
+    (standing (S.tells shelf) (O.tells out) (E.tells err) (S.is_calm shelf) (S.room shelf) (O.is_calm out) (O.room out))
+    (S.content shelf) (S.content read.new.shelf) (O.got out) (E.got err) (S.faults shelf) (S.faults read.new.shelf) (O.faults out) (E.faults err) read.result
+    (devices (S.content done.new.shelf) (O.got done.new.out) (E.got done.new.err) (S.faults done.new.shelf) (O.faults done.new.out) (E.faults done.new.err)) done.result
+    (record {
+      lawful = c.requires.lawful;
+      told = g.met.S.Shelf.calm_tells shelf;
+      ends = read.ensures.ends;
+      content = read.ensures.content;
+      later = read.ensures.later;
+      refused = λ none. absurd none;
+      cause = read.ensures.cause;
+    })
+    (record {
+      carried_out = subst (λ told. CarriesOut read.result (telling told (O.tells out) (E.tells err))
+          (devices (S.content read.new.shelf) (O.got out) (E.got err) (S.faults read.new.shelf) (O.faults out) (E.faults err))
+          (devices (S.content done.new.shelf) (O.got done.new.out) (E.got done.new.err) (S.faults done.new.shelf) (O.faults done.new.out) (E.faults done.new.err)) done.result)
+          read.ensures.tells done.ensures.carried_out;
+      given = done.ensures.status;
+      ready = λ room. done.ensures.ready (record { shelf = read.ensures.calm room.shelf; output = room.output; rooms = subst (λ rooms. HasRooms rooms (ended_report read.result).files) (sym (pointwise (S.room read.new.shelf) (S.room shelf) read.ensures.room)) room.rooms; room = room.room });
+      stopped = done.ensures.stopped;
+      later = done.ensures.later;
+    })
+
+pub returns-clause-means : goal.returns-clause-means
+returns-clause-means g c =
+    let S = g.S.Shelf in
+    let O = g.O.Sink in
+    let E = g.E.Sink in
+    let shelf = c.args.shelf.now in
+    let out = c.args.out.now in
+    let err = c.args.err.now in
+    let read = c.examine-ended in
+    let done = c.carry_out in
+    means (g.T.Tool.tool c.args.tool.now) (c.requires.lawful) (standing (S.tells shelf) (O.tells out) (E.tells err) (S.is_calm shelf) (S.room shelf) (O.is_calm out) (O.room out))
+    (S.content shelf) read.result
+    (devices (S.content read.new.shelf) (O.got out) (E.got err) (S.faults read.new.shelf) (O.faults out) (E.faults err))
+    (devices (S.content done.new.shelf) (O.got done.new.out) (E.got done.new.err) (S.faults done.new.shelf) (O.faults done.new.out) (E.faults done.new.err)) done.result
+    read.ensures.ends done.ensures.status

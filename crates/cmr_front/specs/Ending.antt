@@ -1,0 +1,114 @@
+-- What stands on the devices when a run ends.
+use Rattle.std.specs.Prelude.{◌≡◌, ◌≢◌, ◌≤◌, ◌++◌, ℕ, Bool, IsTrue, List, length, take, Option, Some, IsSomeAnd, slice_get, codes, Result, Ok, Err}
+use Rattle.std.specs.List.{AllByRecursion}
+use Rattle.cmr_io.specs.Causes.{Rose}
+use Rattle.cmr_io.specs.Whole.{AppendsFront, StaysOrHoldsFront}
+use Rattle.cmr_front.specs.Report.{Held, File, Report, with_files}
+use Rattle.cmr_front.specs.declared.outcome.Outcome.{Outcome}
+use Rattle.cmr_front.specs.declared.outcome.Stop.{Stop}
+use Rattle.cmr_front.specs.declared.status.Failure.TheVariants.{Device}
+use Rattle.cmr_front.specs.Outcome.{cannot_write_line, outcome_report, stop_report}
+use Rattle.cmr_front.specs.Status.{failure_status}
+use Rattle.cmr_front.specs.Written.{IsWritten}
+
+-- what the names hold, what standard output and standard error have got, and how often a call on each has failed
+pub record Devices : Type 0 where
+  pub held : Held
+  pub output : List ℕ
+  pub error : List ℕ
+  pub shelf_faults : ℕ
+  pub output_faults : ℕ
+  pub error_faults : ℕ
+
+abbrev pub devices : Held → List ℕ → List ℕ → ℕ → ℕ → ℕ → Devices
+devices held output error shelf_faults output_faults error_faults = record {
+  held = held;
+  output = output;
+  error = error;
+  shelf_faults = shelf_faults;
+  output_faults = output_faults;
+  error_faults = error_faults;
+}
+
+-- Which devices tell their bytes, which are calm, and what rooms they have.
+pub record Standing : Type 0 where
+  pub shelf_tells : Bool
+  pub output_tells : Bool
+  pub error_tells : Bool
+  pub shelf_is_calm : Bool
+  pub shelf_room : List ℕ → Option ℕ
+  pub output_is_calm : Bool
+  pub output_room : ℕ
+
+abbrev pub standing : Bool → Bool → Bool → Bool → (List ℕ → Option ℕ) → Bool → ℕ → Standing
+standing shelf_tells output_tells error_tells shelf_is_calm shelf_room output_is_calm output_room = record {
+  shelf_tells = shelf_tells;
+  output_tells = output_tells;
+  error_tells = error_tells;
+  shelf_is_calm = shelf_is_calm;
+  shelf_room = shelf_room;
+  output_is_calm = output_is_calm;
+  output_room = output_room;
+}
+
+-- which devices tell their bytes
+pub record Telling : Type 0 where
+  pub shelf : Bool
+  pub output : Bool
+  pub error : Bool
+
+abbrev pub telling : Bool → Bool → Bool → Telling
+telling shelf output error = record { shelf = shelf; output = output; error = error }
+
+abbrev pub telling_of : Standing → Telling
+telling_of standing = telling standing.shelf_tells standing.output_tells standing.error_tells
+
+-- each file fits into the room of its name
+abbrev pub HasRooms : (List ℕ → Option ℕ) → List File → Type 0
+HasRooms room files = AllByRecursion (λ file. IsSomeAnd (room file.name) (λ most. length file.bytes ≤ most)) files
+
+-- the devices are calm and have room for the files and for standard output
+pub record IsReadyFor (report : Report) (devices : Standing) : Type 0 where
+  pub shelf : IsTrue devices.shelf_is_calm
+  pub output : IsTrue devices.output_is_calm
+  pub rooms : HasRooms devices.shelf_room report.files
+  pub room : length report.output ≤ devices.output_room
+
+-- All files of the report and all of its standard output were written, and its line to standard error.
+pub record IsDelivered (report : Report) (tells : Telling) (before after : Devices) : Type 0 where
+  pub files : IsTrue tells.shelf → (name : List ℕ) → after.held name ≡ with_files before.held report.files name
+  pub output : IsTrue tells.output → after.output ≡ before.output ++ report.output
+  pub error : IsTrue tells.error → IsWritten before.error after.error before.error_faults after.error_faults report.error
+
+-- The file at a place could not be written: those before it are whole, and it is as before or holds a front of its bytes.
+pub record IsLeftAt (files : List File) (place : ℕ) (file : File) (before after : Held) : Type 0 where
+  pub others : (name : List ℕ) → name ≢ file.name → after name ≡ with_files before (take place files) name
+  pub here : StaysOrHoldsFront (with_files before (take place files) file.name) (after file.name) file.bytes
+
+-- A file could not be written, and nothing was put to standard output.
+pub record IsUnwritten (report : Report) (tells : Telling) (before after : Devices) : Type 0 where
+  pub place : ℕ
+  pub file : File
+  pub there : slice_get report.files place ≡ Some file
+  pub left : IsTrue tells.shelf → IsLeftAt report.files place file before.held after.held
+  pub output : IsTrue tells.output → after.output ≡ before.output
+  pub error : IsTrue tells.error → IsWritten before.error after.error before.error_faults after.error_faults (cannot_write_line file.name)
+  pub cause : Rose before.shelf_faults after.shelf_faults
+
+-- Standard output failed: all files are whole, and a front of it was put.
+pub record IsCutShort (report : Report) (tells : Telling) (before after : Devices) : Type 0 where
+  pub files : IsTrue tells.shelf → (name : List ℕ) → after.held name ≡ with_files before.held report.files name
+  pub output : IsTrue tells.output → AppendsFront before.output after.output report.output
+  pub error : IsTrue tells.error → IsWritten before.error after.error before.error_faults after.error_faults (cannot_write_line (codes "-"))
+  pub cause : Rose before.output_faults after.output_faults
+
+-- How a report is carried out: whole, or a device stops it.
+pub data IsCarriedOut (report : Report) (tells : Telling) (before after : Devices) (status : ℕ) : Type 0 where
+  delivered : status ≡ report.status → IsDelivered report tells before after → IsCarriedOut report tells before after status
+  unwritten : status ≡ failure_status Device → IsUnwritten report tells before after → IsCarriedOut report tells before after status
+  cut_short : status ≡ failure_status Device → IsCutShort report tells before after → IsCarriedOut report tells before after status
+
+-- what was decided is carried out: the report of an outcome, or the status and the line of a stop
+abbrev pub CarriesOut : Result Outcome Stop → Telling → Devices → Devices → ℕ → Type 0
+CarriesOut (Ok outcome) tells before after status = IsCarriedOut (outcome_report outcome) tells before after status
+CarriesOut (Err stop) tells before after status = (status ≡ (stop_report stop).status) × IsDelivered (stop_report stop) tells before after

@@ -1,0 +1,16 @@
+pub mod Words
+pub mod Status
+pub mod Report
+pub mod Outcome
+pub mod Written
+pub mod Inputs
+pub mod Tool
+pub mod Texts
+pub mod MatrixText
+pub mod Evidence
+pub mod Printed
+pub mod Refusals
+pub mod Minimal
+pub mod Stopped
+pub mod Ending
+pub mod Run

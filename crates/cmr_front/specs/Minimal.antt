@@ -1,0 +1,28 @@
+-- The minimal submatrix without a property, of which a tool tells where its file is asked for.
+use Rattle.std.specs.Prelude.{◌≡◌, ◌++◌, ℕ, List, [], Option, Some, None, IsSomeAnd, codes}
+use Rattle.cmr_base.specs.Matrix.{Matrix, height}
+use Rattle.cmr_base.specs.GreedySets.{IsGreedySet, IsMinimalWithout}
+use Rattle.cmr_base.specs.declared.line_set.LineSet.{LineSet}
+use Rattle.matrix_text.specs.Canonical.{submatrix_text}
+use Rattle.cmr_front.specs.Printed.{line_set}
+use Rattle.cmr_front.specs.Report.{File, asked_file}
+
+-- the greedy set, which lacks the property and is minimal so
+pub record IsMinimalSet (P : Matrix → Type 0) (m : Matrix) (lines : LineSet) : Type 0 where
+  pub greedy : IsGreedySet P m lines.rows lines.columns
+  pub minimal : IsMinimalWithout P m lines.rows lines.columns
+
+-- this set where its file is asked for, and else none
+abbrev pub IsMinimalAsked : (Matrix → Type 0) → Matrix → Option (List ℕ) → Option LineSet → Type 0
+IsMinimalAsked P m None found = found ≡ None
+IsMinimalAsked P m (Some name) found = IsSomeAnd found (IsMinimalSet P m)
+
+-- how it is printed
+abbrev pub minimal_line : Option LineSet → List ℕ
+minimal_line None = []
+minimal_line (Some lines) = codes "minimal " ++ line_set lines.rows lines.columns ++ codes "\n"
+
+-- its file
+abbrev pub minimal_file : Option (List ℕ) → Matrix → Option LineSet → List File
+minimal_file name m None = []
+minimal_file name m (Some lines) = asked_file name (submatrix_text (height m) m.width lines)

@@ -1,0 +1,39 @@
+-- What a run is to give, and what the names of a shelf hold.
+use Rattle.std.specs.Prelude.{ℕ, List, [], ◌∷◌, Option, Some, None, if◌then◌else◌}
+use Rattle.std.specs.Str.{bytes_eq}
+use Rattle.cmr_front.specs.declared.status.Failure.{Failure}
+use Rattle.cmr_front.specs.Status.{failure_status}
+
+-- what each name holds, where it is there
+abbrev pub Held : Type 0
+Held = List ℕ → Option (List ℕ)
+
+-- a file that a run writes
+pub record File : Type 0 where
+  pub name : List ℕ
+  pub bytes : List ℕ
+
+-- The status, all of standard output and of standard error, and the files in the order in which they are written.
+pub record Report : Type 0 where
+  pub status : ℕ
+  pub output : List ℕ
+  pub error : List ℕ
+  pub files : List File
+
+-- the status of a failure and a line of standard error, and nothing else
+abbrev pub refusal : Failure → List ℕ → Report
+refusal failure line = record { status = failure_status failure; output = []; error = line; files = [] }
+
+-- a file of this name, where one is asked for
+abbrev pub asked_file : Option (List ℕ) → List ℕ → List File
+asked_file None bytes = []
+asked_file (Some name) bytes = record { name = name; bytes = bytes } ∷ []
+
+-- what the names hold after a file was written
+abbrev pub with_file : Held → File → Held
+with_file held file name = if bytes_eq name file.name then Some file.bytes else held name
+
+-- what the names hold after some files were written in order
+abbrev pub with_files : Held → List File → Held
+with_files held [] = held
+with_files held (file ∷ files) = with_files (with_file held file) files

@@ -1,0 +1,82 @@
+-- What a run reports, how it ends, and what its answer means.
+use Rattle.std.specs.Prelude.{◌≡◌, ◌⊎◌, ℕ, Bool, IsTrue, List, Result, Ok, Err, map, Contains}
+use Rattle.cmr_io.specs.Causes.{Rose}
+use Rattle.cmr_front.specs.declared.outcome.Outcome.{Outcome}
+use Rattle.cmr_front.specs.declared.outcome.Stop.{Stop}
+use Rattle.cmr_front.specs.declared.outcome.Stop.TheVariants as stops
+use Rattle.cmr_front.specs.declared.status.Answer.{Answer}
+use Rattle.cmr_front.specs.declared.status.Failure.TheVariants as failures
+use Rattle.cmr_front.specs.Inputs.{Given, given, not_there, too_much, texts}
+use Rattle.cmr_front.specs.Report.{Held, Report}
+use Rattle.cmr_front.specs.Outcome.{bad_text, bad_words, cannot_read, out_of_memory, outcome_report, too_long}
+use Rattle.cmr_front.specs.Ending.{Devices, Standing, IsDelivered, IsReadyFor, IsCarriedOut, telling_of}
+use Rattle.cmr_front.specs.Status.{IsStatus, failure_status}
+use Rattle.cmr_front.specs.Tool.{Tool}
+
+-- what the words order: nothing where they are refused, or a tool with its options
+pub data Ordered : Type 1 where
+  nothing : Ordered
+  work : Tool → Ordered
+
+abbrev pub IsNothing : Ordered → Type 0
+IsNothing nothing = Unit {0}
+IsNothing (work tool) = ⊥
+
+-- what a tool reports on what its files hold: there is no report where one of them is not there
+abbrev pub ReportsGiven : Tool → Given → Report → Type 0
+ReportsGiven tool (not_there name) report = ⊥
+ReportsGiven tool (too_much name) report = report ≡ too_long name
+ReportsGiven tool (texts bytes) report = tool.Reports bytes report
+
+abbrev pub ReportsHeld : Tool → Held → Report → Type 0
+ReportsHeld tool held report = ReportsGiven tool (given held tool.inputs) report
+
+-- A report of a run, from what is ordered and what the names hold. There are several where a network is written, since any
+-- that shows the property may be.
+abbrev pub Reports : Ordered → Held → Report → Type 0
+Reports nothing held report = report ≡ bad_words
+Reports (work tool) held report = ReportsHeld tool held report
+
+-- What an answer means: the files of the tool hold texts, of which the answer says so.
+abbrev pub Means : Tool → Held → Answer → Type 0
+Means tool held answer = (bytes : List (List ℕ)) × (given held tool.inputs ≡ texts bytes) × tool.Means bytes answer
+
+-- a file that is read
+abbrev pub IsInput : Ordered → List ℕ → Type 0
+IsInput nothing name = ⊥
+IsInput (work tool) name = Contains (map (λ file. file.name) tool.inputs) name
+
+-- How a run ends: a report is carried out, or a file cannot be read, or memory is refused, and then nothing
+-- is written but the line of standard error. The report is one of what is ordered where the shelf tells its bytes.
+pub data HasEnded (ordered : Ordered) (standing : Standing) (before after : Devices) (status : ℕ) : Type 0 where
+  reported : (report : Report) → (IsTrue standing.shelf_tells → Reports ordered before.held report) → IsCarriedOut report (telling_of standing) before after status → HasEnded ordered standing before after status
+  unread : (name : List ℕ) → IsInput ordered name → Rose before.shelf_faults after.shelf_faults → status ≡ failure_status failures.Device → IsDelivered (cannot_read name) (telling_of standing) before after
+      → HasEnded ordered standing before after status
+  no_memory : status ≡ failure_status failures.Memory → IsDelivered out_of_memory (telling_of standing) before after → HasEnded ordered standing before after status
+
+-- What is promised of a run, whatever is ordered.
+pub record Runs (ordered : Ordered) (standing : Standing) (before after : Devices) (status : ℕ) : Type 0 where
+  -- what stands on each device that tells its bytes
+  pub ended : HasEnded ordered standing before after status
+  -- the status is that of every report, but for a device or for want of memory
+  pub complete : IsTrue standing.shelf_tells → (report : Report) → Reports ordered before.held report
+      → (status ≡ report.status) ⊎ (status ≡ failure_status failures.Device) ⊎ (status ≡ failure_status failures.Memory)
+  -- where the devices are ready for every report, no device gives a status
+  pub ready : (report : Report) → Reports ordered before.held report → ((other : Report) → Reports ordered before.held other → IsReadyFor other standing)
+      → (status ≡ report.status) ⊎ (status ≡ failure_status failures.Memory)
+  -- words are the cause exactly where they are refused, unless memory is
+  pub refused : IsNothing ordered → (status ≡ failure_status failures.Words) ⊎ (status ≡ failure_status failures.Memory)
+  pub refused_only : status ≡ failure_status failures.Words → IsNothing ordered
+  -- a device is the cause only where a call of the shelf or of standard output failed
+  pub device : status ≡ failure_status failures.Device → Rose before.shelf_faults after.shelf_faults ⊎ Rose before.output_faults after.output_faults
+  pub statuses : IsStatus status
+
+-- What an outcome or a stop says for what is ordered, before anything is written: it is a report, but for a file that
+-- cannot be read, of which a calm shelf says that there is no report, and for want of memory.
+abbrev pub Ends : Ordered → Held → Bool → Bool → Result Outcome Stop → Type 0
+Ends ordered held tells calm (Ok outcome) = IsTrue tells → Reports ordered held (outcome_report outcome)
+Ends ordered held tells calm (Err stops.BadWords) = IsNothing ordered
+Ends ordered held tells calm (Err (stops.CannotRead name)) = IsInput ordered name.now × (IsTrue tells → IsTrue calm → (report : Report) → ¬ (Reports ordered held report))
+Ends ordered held tells calm (Err (stops.TooLong name)) = IsTrue tells → Reports ordered held (too_long name.now)
+Ends ordered held tells calm (Err (stops.BadText name kind place)) = IsTrue tells → Reports ordered held (bad_text name.now kind place)
+Ends ordered held tells calm (Err stops.Memory) = Unit {0}

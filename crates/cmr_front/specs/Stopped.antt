@@ -1,0 +1,32 @@
+-- Why a run has no outcome.
+use Rattle.std.specs.Prelude.{◌≡◌, ℕ, List, Bool, IsTrue, Result, Err, map, Contains}
+use Rattle.text_fields.specs.Reading.{Fault}
+use Rattle.cmr_front.specs.declared.outcome.FaultKind.{FaultKind}
+use Rattle.cmr_front.specs.declared.outcome.Stop.{Stop}
+use Rattle.cmr_front.specs.declared.outcome.Stop.TheVariants as stops
+use Rattle.cmr_front.specs.Report.{Held}
+use Rattle.cmr_front.specs.Inputs.{InputFile, given, not_there, too_much, reading, missing, above_limit}
+
+-- what a stop says of a file that was to be read, where the shelf tells its bytes and is calm
+abbrev pub StopsReading : InputFile → Held → Bool → Bool → Stop → Type 0
+StopsReading file held tells calm stops.BadWords = ⊥
+StopsReading file held tells calm (stops.CannotRead name) = (name.now ≡ file.name) × (IsTrue tells → IsTrue calm → reading held file ≡ missing)
+StopsReading file held tells calm (stops.TooLong name) = (name.now ≡ file.name) × (IsTrue tells → reading held file ≡ above_limit)
+StopsReading file held tells calm (stops.BadText name kind place) = ⊥
+StopsReading file held tells calm stops.Memory = Unit {0}
+
+-- and of some files
+abbrev pub StopsInputs : List InputFile → Held → Bool → Bool → Stop → Type 0
+StopsInputs files held tells calm stops.BadWords = ⊥
+StopsInputs files held tells calm (stops.CannotRead name) = Contains (map (λ file. file.name) files) name.now × (IsTrue tells → IsTrue calm → given held files ≡ not_there name.now)
+StopsInputs files held tells calm (stops.TooLong name) = IsTrue tells → given held files ≡ too_much name.now
+StopsInputs files held tells calm (stops.BadText name kind place) = ⊥
+StopsInputs files held tells calm stops.Memory = Unit {0}
+
+-- what a stop says of a text that was read, whose faults are of this kind
+abbrev pub StopsText : {A K : Type 0} → (K → FaultKind) → List ℕ → Result A (Fault K) → Stop → Type 0
+StopsText kind_of name read stops.BadWords = ⊥
+StopsText kind_of name read (stops.CannotRead file) = ⊥
+StopsText kind_of name read (stops.TooLong file) = ⊥
+StopsText {K = K} kind_of name read (stops.BadText file fault place) = (file.now ≡ name) × (kind : K) × (fault ≡ kind_of kind) × (read ≡ Err (kind, place))
+StopsText kind_of name read stops.Memory = Unit {0}

@@ -1,0 +1,34 @@
+-- What a tool is, with its options.
+use Rattle.std.specs.Prelude.{◌≡◌, ℕ, List, Result, Ok, Err}
+use Rattle.cmr_front.specs.declared.outcome.Outcome.{Outcome}
+use Rattle.cmr_front.specs.declared.outcome.Stop.{Stop}
+use Rattle.cmr_front.specs.declared.outcome.Stop.TheVariants as stops
+use Rattle.cmr_front.specs.declared.status.Answer.{Answer}
+use Rattle.cmr_front.specs.Inputs.{InputFile}
+use Rattle.cmr_front.specs.Outcome.{bad_text, outcome_report}
+use Rattle.cmr_front.specs.Report.{Report}
+use Rattle.cmr_front.specs.Status.{answer_status}
+
+pub record Tool : Type 1 where
+  -- the files that it reads, in order
+  pub inputs : List InputFile
+  -- the numbers of its options are in their ranges
+  pub InRanges : Type 0
+  -- what it reports on the texts of these files
+  pub Reports : List (List ℕ) → Report → Type 0
+  -- what an answer says of these texts
+  pub Means : List (List ℕ) → Answer → Type 0
+
+-- What is asked of each tool: all that it can report has one status, and a report with an answer means what the answer says.
+pub record IsLawful (tool : Tool) : Type 0 where
+  pub one_status : (bytes : List (List ℕ)) (r s : Report) → tool.Reports bytes r → tool.Reports bytes s → r.status ≡ s.status
+  pub means : (bytes : List (List ℕ)) (r : Report) (answer : Answer) → tool.Reports bytes r → r.status ≡ answer_status answer → tool.Means bytes answer
+
+-- What is decided on texts that were read: a report, or want of memory.
+abbrev pub IsDecision : (Report → Type 0) → Result Outcome Stop → Type 0
+IsDecision Reports (Ok outcome) = Reports (outcome_report outcome)
+IsDecision Reports (Err stops.BadWords) = ⊥
+IsDecision Reports (Err (stops.CannotRead name)) = ⊥
+IsDecision Reports (Err (stops.TooLong name)) = ⊥
+IsDecision Reports (Err (stops.BadText name kind place)) = Reports (bad_text name.now kind place)
+IsDecision Reports (Err stops.Memory) = Unit {0}

@@ -1,0 +1,105 @@
+// Carrying out what a tool decided.
+ghost use Rattle.std.specs.Prelude.{◌≡◌, ◌≢◌, ◌≤◌, ◌<◌, ◌⊎◌, ℕ, List, [], ◌∷◌, IfErr, IsOk, IsTrue, OnErr, OnOk, length, map, slice_get};
+ghost use Rattle.cmr_io.specs.Causes.{HasCause, Rose};
+ghost use Rattle.cmr_io.specs.Whole.{StaysOrHoldsFront};
+ghost use Rattle.cmr_front.specs.Report.{File, with_file, with_files};
+ghost use Rattle.cmr_front.specs.Status.{answer_status, failure_status};
+ghost use Rattle.cmr_front.specs.declared.status.Failure.TheVariants.{Device};
+ghost use Rattle.cmr_front.specs.Ending.{devices, standing, telling, CarriesOut, HasRooms, IsCarriedOut, IsLeftAt, IsReadyFor};
+ghost use Rattle.cmr_front.specs.Outcome.{ended_report, file_of, outcome_report, stop_report};
+
+use crate::error_lines::{write_cannot_write, write_stop};
+use crate::outcome::{Outcome, OutputFile, Stop};
+use crate::status::Failure;
+use cmr_io::{Shelf, Sink, WriteFault, write_file, write_whole};
+
+/// Writes what was decided, or the line that says why nothing was, and answers the status.
+pub fn carry_out<S: Shelf, O: Sink, E: Sink>(
+    ended: &Result<Outcome<'_>, Stop<'_>>,
+    shelf: &mut S,
+    out: &mut O,
+    err: &mut E,
+) -> u8
+    ensures carried_out { CarriesOut ended.now (telling (S.tells shelf.old) (O.tells out.old) (E.tells err.old))
+        (devices (S.content shelf.old) (O.got out.old) (E.got err.old) (S.faults shelf.old) (O.faults out.old) (E.faults err.old))
+        (devices (S.content shelf.new) (O.got out.new) (E.got err.new) (S.faults shelf.new) (O.faults out.new) (E.faults err.new))
+        result }
+    ensures status { (result ≡ (ended_report ended.now).status) ⊎ ((result ≡ failure_status Device) × (Rose (S.faults shelf.old) (S.faults shelf.new) ⊎ Rose (O.faults out.old) (O.faults out.new))) }
+    ensures ready { IsReadyFor (ended_report ended.now) (standing (S.tells shelf.old) (O.tells out.old) (E.tells err.old) (S.is_calm shelf.old) (S.room shelf.old) (O.is_calm out.old) (O.room out.old))
+        → result ≡ (ended_report ended.now).status }
+    ensures stopped { IfErr ended.now (λ stop. result ≡ (stop_report stop).status) }
+    ensures later { S.faults shelf.old ≤ S.faults shelf.new }
+{
+    match ended {
+        Ok(outcome) => deliver(outcome, shelf, out, err),
+        Err(stop) => {
+            write_stop(err, stop);
+            stop.failure().status()
+        }
+    }
+}
+
+fn deliver<S: Shelf, O: Sink, E: Sink>(
+    outcome: &Outcome<'_>,
+    shelf: &mut S,
+    out: &mut O,
+    err: &mut E,
+) -> u8
+    ensures carried_out { IsCarriedOut (outcome_report outcome.now) (telling (S.tells shelf.old) (O.tells out.old) (E.tells err.old))
+        (devices (S.content shelf.old) (O.got out.old) (E.got err.old) (S.faults shelf.old) (O.faults out.old) (E.faults err.old))
+        (devices (S.content shelf.new) (O.got out.new) (E.got err.new) (S.faults shelf.new) (O.faults out.new) (E.faults err.new))
+        result }
+    ensures status { (result ≡ answer_status outcome.now.answer) ⊎ ((result ≡ failure_status Device) × (Rose (S.faults shelf.old) (S.faults shelf.new) ⊎ Rose (O.faults out.old) (O.faults out.new))) }
+    ensures ready { IsReadyFor (outcome_report outcome.now) (standing (S.tells shelf.old) (O.tells out.old) (E.tells err.old) (S.is_calm shelf.old) (S.room shelf.old) (O.is_calm out.old) (O.room out.old))
+        → result ≡ answer_status outcome.now.answer }
+    ensures later { S.faults shelf.old ≤ S.faults shelf.new }
+{
+    if let Err(Unwritten { place }) = write_files(shelf, &outcome.files) {
+        write_cannot_write(err, outcome.files[place].name);
+        return Failure::Device.status();
+    }
+    match write_whole(out, &outcome.output) {
+        Ok(()) => outcome.answer.status(),
+        Err(WriteFault) => {
+            write_cannot_write(err, "-");
+            Failure::Device.status()
+        }
+    }
+}
+
+/// The place of the file that could not be written.
+#[derive(Clone, Copy, Debug)]
+struct Unwritten {
+    place: usize,
+}
+
+fn write_files<S: Shelf>(shelf: &mut S, files: &[OutputFile<'_>]) -> Result<(), Unwritten>
+    ensures whole { OnOk result (IsTrue (S.tells shelf.old) → (name : List ℕ) → S.content shelf.new name ≡ with_files (S.content shelf.old) (map file_of files.now) name) }
+    ensures left { IfErr result (λ e. (file : File) × (slice_get (map file_of files.now) e.place ≡ Some file)
+        × (IsTrue (S.tells shelf.old) → IsLeftAt (map file_of files.now) e.place file (S.content shelf.old) (S.content shelf.new))) }
+    ensures within { IfErr result (λ e. e.place < length files.now) }
+    ensures ready { IsTrue (S.is_calm shelf.old) → HasRooms (S.room shelf.old) (map file_of files.now) → IsOk result }
+    ensures cause { HasCause (S.faults shelf.old) (S.faults shelf.new) result }
+{
+    for place in 0..files.len() {
+        if let Err(WriteFault) = write_output_file(shelf, &files[place]) {
+            return Err(Unwritten { place });
+        }
+    }
+    Ok(())
+}
+
+fn write_output_file<S: Shelf>(shelf: &mut S, file: &OutputFile<'_>) -> Result<(), WriteFault>
+    ensures whole { OnOk result (IsTrue (S.tells shelf.old) → (name : List ℕ) → S.content shelf.new name ≡ with_file (S.content shelf.old) (file_of file.now) name) }
+    ensures front { OnErr result (IsTrue (S.tells shelf.old)
+        → StaysOrHoldsFront (S.content shelf.old file.now.name.now) (S.content shelf.new file.now.name.now) file.now.bytes.items) }
+    ensures others { IsTrue (S.tells shelf.old)
+        → (other : List ℕ) → other ≢ file.now.name.now → S.content shelf.new other ≡ S.content shelf.old other }
+    ensures ready { IsTrue (S.is_calm shelf.old) → HasRooms (S.room shelf.old) (file_of file.now ∷ []) → IsOk result }
+    ensures room { (other : List ℕ) → S.room shelf.new other ≡ S.room shelf.old other }
+    ensures tells { S.tells shelf.new ≡ S.tells shelf.old }
+    ensures calm { IsTrue (S.is_calm shelf.old) → IsTrue (S.is_calm shelf.new) }
+    ensures cause { HasCause (S.faults shelf.old) (S.faults shelf.new) result }
+{
+    write_file(shelf, file.name, &file.bytes)
+}

@@ -1,0 +1,101 @@
+// The files of a tool that reads a matrix text and evidence.
+ghost use Rattle.std.specs.Prelude.{◌≡◌, IfOk, IfErr, Ok, map};
+ghost use Rattle.text_fields.specs.Words.{text_of};
+ghost use Rattle.matrix_text.specs.Submatrix.{submatrix};
+ghost use Rattle.camion_sign.specs.ChainTexts.{chain};
+ghost use Rattle.tree_text.specs.Reading.{plain, tree};
+ghost use Rattle.cmr_base.specs.LineSets.{AllBelow};
+ghost use Rattle.std.specs.List.Sorted.{IsStrictlyIncreasing};
+ghost use Rattle.cmr_front.specs.Inputs.{input_file};
+ghost use Rattle.cmr_front.specs.Evidence.{evidence_files};
+ghost use Rattle.cmr_front.specs.Stopped.{StopsText};
+ghost use Rattle.cmr_front.specs.declared.outcome.FaultKind.TheVariants as faults;
+
+use crate::input::{Input, InputKind};
+use crate::outcome::{FaultKind, Stop};
+use camion_sign::{ChainError, SizedChain, read_chain};
+use cmr_base::{LineSet, Memory};
+use matrix_text::{TextError, read_submatrix};
+use std::alloc::Global;
+use tree_text::{TreeError, read_tree};
+use tree_type::DecTree;
+
+/// The two files that such a tool reads.
+pub fn evidence_inputs<'a>(
+    alloc: Global,
+    matrix: &'a str,
+    evidence: &'a str,
+) -> Result<Vec<Input<'a>>, Memory>
+    ensures { IfOk result (λ inputs. map input_file inputs.items ≡ evidence_files matrix.entry.now evidence.entry.now) }
+{
+    let mut inputs = Vec::new(alloc);
+    inputs.push(Input {
+        name: matrix,
+        kind: InputKind::MatrixText,
+    })?;
+    inputs.push(Input {
+        name: evidence,
+        kind: InputKind::Evidence,
+    })?;
+    Ok(inputs)
+}
+
+/// The tree that the text of a file stands for, or why the run ends: the text's first fault.
+pub fn read_tree_file<'a>(alloc: Global, name: &'a str, bytes: &[u8]) -> Result<DecTree, Stop<'a>>
+    ensures read { IfOk result (λ found. tree (text_of bytes.now) ≡ Ok (plain found)) }
+    ensures stopped { IfErr result (StopsText faults.Tree name.entry.now (tree (text_of bytes.now))) }
+{
+    match read_tree(alloc, bytes) {
+        Ok(tree) => Ok(tree),
+        Err(TreeError::Fault { kind, place }) => Err(Stop::BadText {
+            name,
+            kind: FaultKind::Tree(kind),
+            place,
+        }),
+        Err(TreeError::Memory) => Err(Stop::Memory),
+    }
+}
+
+/// The chain that the text of a file stands for, or why the run ends: the text's first fault.
+pub fn read_chain_file<'a>(
+    alloc: Global,
+    name: &'a str,
+    bytes: &[u8],
+) -> Result<SizedChain, Stop<'a>>
+    ensures read { IfOk result (λ found. chain (text_of bytes.now) ≡ Ok found) }
+    ensures stopped { IfErr result (StopsText faults.Chain name.entry.now (chain (text_of bytes.now))) }
+{
+    match read_chain(alloc, bytes) {
+        Ok(chain) => Ok(chain),
+        Err(ChainError::Fault { kind, place }) => Err(Stop::BadText {
+            name,
+            kind: FaultKind::Chain(kind),
+            place,
+        }),
+        Err(ChainError::Memory) => Err(Stop::Memory),
+    }
+}
+
+/// The lines of a matrix of these sizes that the text of a file names, or why the run ends: the text's first fault.
+pub fn read_submatrix_file<'a>(
+    alloc: Global,
+    name: &'a str,
+    bytes: &[u8],
+    rows: u32,
+    columns: u32,
+) -> Result<LineSet, Stop<'a>>
+    ensures read { IfOk result (λ lines. submatrix rows columns (text_of bytes.now) ≡ Ok lines) }
+    ensures rows_rise { IfOk result (λ lines. IsStrictlyIncreasing lines.rows × AllBelow rows lines.rows) }
+    ensures columns_rise { IfOk result (λ lines. IsStrictlyIncreasing lines.columns × AllBelow columns lines.columns) }
+    ensures stopped { IfErr result (StopsText faults.Matrix name.entry.now (submatrix rows columns (text_of bytes.now))) }
+{
+    match read_submatrix(alloc, bytes, rows, columns) {
+        Ok(lines) => Ok(lines),
+        Err(TextError::Fault { kind, place }) => Err(Stop::BadText {
+            name,
+            kind: FaultKind::Matrix(kind),
+            place,
+        }),
+        Err(TextError::Memory) => Err(Stop::Memory),
+    }
+}

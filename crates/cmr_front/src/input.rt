@@ -1,0 +1,100 @@
+// Reading the files of a tool.
+ghost use Rattle.std.specs.Prelude.{◌≡◌, ◌≢◌, ◌≤◌, ℕ, List, IfOk, IfErr, IsTrue, Ok, length, map};
+ghost use Rattle.cmr_io.specs.Causes.{Rose};
+ghost use Rattle.cmr_front.specs.Inputs.{bytes_of, given, input_file, most_bytes, reading, texts, whole};
+ghost use Rattle.cmr_front.specs.Outcome.{stop_report};
+ghost use Rattle.cmr_front.specs.Status.{failure_status};
+ghost use Rattle.cmr_front.specs.Stopped.{StopsInputs, StopsReading};
+ghost use Rattle.cmr_front.specs.declared.status.Failure.TheVariants.{Device};
+
+use crate::outcome::Stop;
+use cmr_base::{MAX_EVIDENCE, MAX_TEXT};
+use cmr_io::{ReadError, Shelf, read_whole};
+use std::alloc::Global;
+
+/// What a file is read for.
+#[derive(Clone, Copy, Debug, PartialEq, Eq)]
+pub enum InputKind {
+    /// The text of a matrix.
+    MatrixText,
+    /// A tree, a violator or a chain.
+    Evidence,
+}
+
+impl InputKind {
+    /// The most bytes that the file may hold.
+    pub fn most(self) -> usize
+        ensures { result ≡ most_bytes self }
+    {
+        match self {
+            InputKind::MatrixText => MAX_TEXT,
+            InputKind::Evidence => MAX_EVIDENCE,
+        }
+    }
+}
+
+/// A file that a tool reads.
+#[derive(Clone, Copy, Debug)]
+pub struct Input<'a> {
+    pub name: &'a str,
+    pub kind: InputKind,
+}
+
+/// All that a file holds.
+#[derive(Debug, Drop)]
+pub struct Text {
+    pub bytes: Vec<u8>,
+}
+
+/// What the files hold, in their order, or why the run ends. The first that cannot be read or that holds too much
+/// ends it, and those behind it are not read.
+pub fn read_inputs<'a, S: Shelf>(
+    alloc: Global,
+    shelf: &mut S,
+    inputs: &[Input<'a>],
+) -> Result<Vec<Text>, Stop<'a>>
+    ensures given { IfOk result (λ read. IsTrue (S.tells shelf.old) → given (S.content shelf.old) (map input_file inputs.now) ≡ texts (map bytes_of read.items)) }
+    ensures count { IfOk result (λ read. length read.items ≡ length inputs.now) }
+    ensures stopped { IfErr result (StopsInputs (map input_file inputs.now) (S.content shelf.old) (S.tells shelf.old) (S.is_calm shelf.old)) }
+    ensures cause { IfErr result (λ stop. (stop_report stop).status ≡ failure_status Device → Rose (S.faults shelf.old) (S.faults shelf.new)) }
+    ensures content { (other : List ℕ) → S.content shelf.new other ≡ S.content shelf.old other }
+    ensures room { (other : List ℕ) → S.room shelf.new other ≡ S.room shelf.old other }
+    ensures tells { S.tells shelf.new ≡ S.tells shelf.old }
+    ensures calm { IsTrue (S.is_calm shelf.old) → IsTrue (S.is_calm shelf.new) }
+    ensures later { S.faults shelf.old ≤ S.faults shelf.new }
+{
+    let mut read = Vec::new(alloc);
+    for input in inputs {
+        match read_input(alloc, shelf, *input) {
+            Ok(text) => match read.push(text) {
+                Ok(()) => {}
+                Err(_) => return Err(Stop::Memory),
+            },
+            Err(stop) => return Err(stop),
+        }
+    }
+    Ok(read)
+}
+
+fn read_input<'a, S: Shelf>(
+    alloc: Global,
+    shelf: &mut S,
+    input: Input<'a>,
+) -> Result<Text, Stop<'a>>
+    ensures whole { IfOk result (λ text. IsTrue (S.tells shelf.old) → reading (S.content shelf.old) (input_file input.entry) ≡ whole (bytes_of text)) }
+    ensures stopped { IfErr result (StopsReading (input_file input.entry) (S.content shelf.old) (S.tells shelf.old) (S.is_calm shelf.old)) }
+    ensures cause { IfErr result (λ stop. (stop_report stop).status ≡ failure_status Device → Rose (S.faults shelf.old) (S.faults shelf.new)) }
+    ensures content { (other : List ℕ) → S.content shelf.new other ≡ S.content shelf.old other }
+    ensures room { (other : List ℕ) → S.room shelf.new other ≡ S.room shelf.old other }
+    ensures tells { S.tells shelf.new ≡ S.tells shelf.old }
+    ensures calm { IsTrue (S.is_calm shelf.old) → IsTrue (S.is_calm shelf.new) }
+    ensures later { S.faults shelf.old ≤ S.faults shelf.new }
+{
+    let name = input.name;
+    match read_whole(alloc, shelf, name, input.kind.most()) {
+        Ok(bytes) => Ok(Text { bytes }),
+        Err(ReadError::ReadFault) => Err(Stop::CannotRead { name }),
+        Err(ReadError::TooLong) => Err(Stop::TooLong { name }),
+        Err(ReadError::Memory) => Err(Stop::Memory),
+    }
+}

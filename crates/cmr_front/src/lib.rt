@@ -1,0 +1,16 @@
+//! What the tools of the program share: the shape of a tool and how it is run, the words of the command line, the files
+//! that are read and written, the lines that are printed, and the statuses.
+#![tactic(auto)]
+
+pub mod asked;
+pub mod carry_out;
+mod error_lines;
+pub mod evidence_file;
+pub mod input;
+pub mod matrix_file;
+pub mod outcome;
+pub mod printed;
+pub mod refusal_line;
+pub mod status;
+pub mod tool;
+pub mod words;

@@ -1,0 +1,90 @@
+// The shape that all tools have.
+ghost use Rattle.std.specs.Prelude.{◌≡◌, ◌≤◌, ℕ, List, IfOk, IsTrue, length, map};
+ghost use Rattle.std.specs.Thread.{IsSync};
+ghost use Rattle.cmr_io.specs.Causes.{Rose};
+ghost use Rattle.cmr_front.specs.Ending.{devices, standing};
+ghost use Rattle.cmr_front.specs.Inputs.{bytes_of, input_file};
+ghost use Rattle.cmr_front.specs.Outcome.{ended_report};
+ghost use Rattle.cmr_front.specs.Run.{Ends, Means, Runs, work};
+ghost use Rattle.cmr_front.specs.Status.{answer_status, failure_status};
+ghost use Rattle.cmr_front.specs.Tool as tools;
+ghost use Rattle.cmr_front.specs.Tool.{IsDecision, IsLawful};
+ghost use Rattle.cmr_front.specs.declared.status.Answer.{Answer};
+ghost use Rattle.cmr_front.specs.declared.status.Failure.TheVariants.{Device};
+
+use crate::carry_out::carry_out;
+use crate::input::{Input, Text, read_inputs};
+use crate::outcome::{Outcome, Stop};
+use cmr_base::Memory;
+use cmr_io::{Shelf, Sink};
+use std::alloc::Global;
+use std::thread::Threads;
+
+/// A tool with its options.
+pub trait Tool<'a> {
+    /// What it reads, reports and means.
+    ghost tool: { Self → tools.Tool };
+
+    /// The files that it reads, in order.
+    fn inputs(&self, alloc: Global) -> Result<Vec<Input<'a>>, Memory>
+        ensures { IfOk result (λ inputs. map input_file inputs.items ≡ (tool self.now).inputs) };
+
+    /// Decides on what these files hold.
+    fn decide<R: Threads + Sync>(
+        &self,
+        rt: &R,
+        alloc: Global,
+        texts: &[Text],
+    ) -> Result<Outcome<'a>, Stop<'a>>
+        requires sync { IsSync R.row }
+        requires ranges { (tool self.now).InRanges }
+        requires count { length texts.now ≡ length (tool self.now).inputs }
+        ensures { IsDecision ((tool self.now).Reports (map bytes_of texts.now)) result };
+}
+
+/// Carries a tool from its order to its end: reads its files, decides, writes, and answers the status.
+pub fn run_tool<'a, R: Threads + Sync, S: Shelf, O: Sink, E: Sink, T: Tool<'a>>(
+    rt: &R,
+    alloc: Global,
+    tool: &T,
+    shelf: &mut S,
+    out: &mut O,
+    err: &mut E,
+) -> u8
+    requires ranges { (T.tool tool.now).InRanges }
+    requires lawful { IsLawful (T.tool tool.now) }
+    ensures runs { Runs (work (T.tool tool.now))
+        (standing (S.tells shelf.old) (O.tells out.old) (E.tells err.old) (S.is_calm shelf.old) (S.room shelf.old) (O.is_calm out.old) (O.room out.old))
+        (devices (S.content shelf.old) (O.got out.old) (E.got err.old) (S.faults shelf.old) (O.faults out.old) (E.faults err.old))
+        (devices (S.content shelf.new) (O.got out.new) (E.got err.new) (S.faults shelf.new) (O.faults out.new) (E.faults err.new))
+        result }
+    ensures means { IsTrue (S.tells shelf.old) → (answer : Answer) → result ≡ answer_status answer → Means (T.tool tool.now) (S.content shelf.old) answer }
+{
+    let ended = examine(rt, alloc, tool, shelf);
+    carry_out(&ended, shelf, out, err)
+}
+
+fn examine<'a, R: Threads + Sync, S: Shelf, T: Tool<'a>>(
+    rt: &R,
+    alloc: Global,
+    tool: &T,
+    shelf: &mut S,
+) -> Result<Outcome<'a>, Stop<'a>>
+    requires { (T.tool tool.now).InRanges }
+    ensures ends { Ends (work (T.tool tool.now)) (S.content shelf.old) (S.tells shelf.old) (S.is_calm shelf.old) result }
+    ensures cause { (ended_report result).status ≡ failure_status Device → Rose (S.faults shelf.old) (S.faults shelf.new) }
+    ensures content { (other : List ℕ) → S.content shelf.new other ≡ S.content shelf.old other }
+    ensures room { (other : List ℕ) → S.room shelf.new other ≡ S.room shelf.old other }
+    ensures tells { S.tells shelf.new ≡ S.tells shelf.old }
+    ensures calm { IsTrue (S.is_calm shelf.old) → IsTrue (S.is_calm shelf.new) }
+    ensures later { S.faults shelf.old ≤ S.faults shelf.new }
+{
+    let inputs = match tool.inputs(alloc) {
+        Ok(inputs) => inputs,
+        Err(Memory) => return Err(Stop::Memory),
+    };
+    match read_inputs(alloc, shelf, &inputs) {
+        Ok(texts) => tool.decide(rt, alloc, &texts),
+        Err(stop) => Err(stop),
+    }
+}

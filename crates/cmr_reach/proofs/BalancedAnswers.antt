@@ -1,0 +1,135 @@
+-- What the answers of `balanced` say of the matrix.
+use Rattle.std.proofs.Common.{◌≡◌, ◌<◌, ◌≤◌, ◌∙◌, inl, inr, ℕ, List, Option, Some, None, refl, subst, sym, arith}
+use Rattle.std.proofs.lemmas.Bool.{cases_lt}
+use Rattle.cmr_base.specs.declared.line_set.LineSet.{LineSet}
+use Rattle.cmr_base.specs.Matrix.{Matrix, height, IsMatrix}
+use Rattle.cmr_base.specs.CyclePlaces.{IsCycleFault}
+use Rattle.cmr_base.proofs.WholeMatrices.{is_ternary}
+use Rattle.tree_type.specs.Invariant.{IsDecTree, IsTreeFor}
+use Rattle.tree_type.specs.Soundness.{IsSound}
+use Rattle.tree_type.specs.Trees.{SizedTree, Tree, tree_of}
+use Rattle.tree_type.specs.Verdicts as verdicts
+use Rattle.tree_type.specs.Verdicts.{verdict_of}
+use Rattle.decomp_tree.specs.Shapes.{IsShape}
+use Rattle.decomp_tree.proofs.OneVerdict.{one_verdict}
+use Rattle.cert_check.specs.Laws.{Tells}
+use Rattle.cert_check.proofs.SoundTrees.{tells}
+use Rattle.balance.specs.declared.search.BalanceSearch.{BalanceSearch}
+use Rattle.balance.specs.declared.search.BalanceSearch.TheVariants.{Clean, Found, TooMany}
+use Rattle.balance.specs.BalanceFaults.{IsBalanced, IsLeastFault}
+use Rattle.balance.specs.Searched.{HasSearchedFaults}
+use Rattle.balance.proofs.FaultLaws.{cycle_fault_unbalanced, free_is_balanced}
+use Rattle.cmr_front.specs.declared.status.Answer.{Answer}
+use Rattle.cmr_front.specs.declared.status.Answer.TheVariants.{Yes, No, Undecided, Refused}
+use Rattle.cmr_front.specs.Report.{Report}
+use Rattle.cmr_front.specs.Status.{answer_status}
+use Rattle.cmr_front.specs.Tool.{IsLawful}
+use Rattle.cmr_front.proofs.MatrixText.{lawful}
+use Rattle.cmr_front.proofs.Statuses.{status_of}
+use Rattle.cmr_reach.specs.Balanced.{BalancedDecides, BalancedMeans, IsDecomposed, IsFaultOf, IsInRanges, IsUndecided, IsUntold, balanced_source, balanced_tool, cycle, decomposed, search_report, searched}
+use Rattle.clap.specs.Words.{Row, Text}
+use Rattle.cmr_front.specs.declared.matrix_file.MatrixForm.{MatrixForm}
+use Rattle.cmr_front.specs.Words.Parsing.{fault_in, file_in, form_in, lines_in, matches_with_input, workers_in}
+use Rattle.cmr_front.specs.Words.Reading.{◌>>=◌}
+use Rattle.cmr_front.proofs.Numbers.{lines_in-le, workers_in-between}
+use Rattle.cmr_reach.specs.Words.Balanced.{BalancedOrder, balanced_app, balanced_order, balanced_order_in}
+use Rattle.cmr_reach.proofs.CamionAnswers.{not_both}
+
+-- ---- faults
+
+-- the least fault is a fault
+least_is_fault : (m : Matrix) (lines : LineSet) → IsLeastFault m lines.rows lines.columns → IsFaultOf m lines
+least_is_fault m lines is = elim (cases_lt m.width (height m)) [
+  | inl few ↦ let by = is.few_columns few in record { row_set = by.rows_least.row_set; column_set = by.column_set; balance_fault = by.rows_least.fault }
+  | inr many ↦ let by = is.few_rows (omega arith) in record { row_set = by.row_set; column_set = by.columns_least.column_set; balance_fault = by.columns_least.fault }
+]
+
+-- and so is the cycle fault
+pub cycle_is_fault : (m : Matrix) (lines : LineSet) → IsMatrix m → IsCycleFault m lines.rows lines.columns → IsFaultOf m lines
+cycle_is_fault m lines shape is = record { row_set = is.row_set; column_set = is.column_set; balance_fault = cycle_fault_unbalanced m shape lines.rows lines.columns is }
+
+-- all decompositions within a budget say yes, or none does
+pub undecomposed : (budget : ℕ) (m : Matrix) (tree : Tree) → IsTreeFor (height m) m.width tree → IsShape budget m tree → ¬ (verdict_of tree ≡ verdicts.Yes) → ¬ (IsDecomposed budget m)
+undecomposed budget m tree is shape apart other = apart (one_verdict budget m tree other.tree is other.is_tree shape other.shape ∙ other.verdict)
+
+pub tree_for : (m : Matrix) (tree : SizedTree) → tree.rows ≡ height m → tree.columns ≡ m.width → IsDecTree tree → IsTreeFor (height m) m.width (tree_of tree.root)
+tree_for m tree rows columns is = subst (λ n. IsTreeFor n m.width (tree_of tree.root)) rows (subst (λ n. IsTreeFor tree.rows n (tree_of tree.root)) columns is)
+
+-- a sound tree that says yes says that the matrix is balanced
+pub balanced_by_tree : (m : Matrix) → IsMatrix m → (tree : SizedTree) → IsDecTree tree → IsSound m tree → verdict_of (tree_of tree.root) ≡ verdicts.Yes → IsBalanced m
+balanced_by_tree m shape tree is sound says = free_is_balanced m (is_ternary m shape) (subst (Tells m) says (tells m shape tree.rows tree.columns (tree_of tree.root) is sound)).none
+
+-- ---- one status
+
+same_found : (o : BalancedOrder) (m : Matrix) (a b : BalanceSearch) → HasSearchedFaults m o.lines a → HasSearchedFaults m o.lines b → (search_report o m a).status ≡ (search_report o m b).status
+same_found o m Clean Clean f g = refl
+same_found o m Clean (Found lines) f g = let is = least_is_fault m lines g.1 in absurd (f.1 lines.rows lines.columns is.row_set is.column_set is.balance_fault)
+same_found o m Clean (TooMany shorter) f g = let l = f.0 in let a = g.0 in let e = g.1 in absurd (omega arith)
+same_found o m (Found lines) Clean f g = let is = least_is_fault m lines f.1 in absurd (g.1 lines.rows lines.columns is.row_set is.column_set is.balance_fault)
+same_found o m (Found lines) (Found lines') f g = refl
+same_found o m (Found lines) (TooMany shorter) f g = let l = f.0 in let a = g.0 in let e = g.1 in absurd (omega arith)
+same_found o m (TooMany shorter) Clean f g = let l = g.0 in let a = f.0 in let e = f.1 in absurd (omega arith)
+same_found o m (TooMany shorter) (Found lines) f g = let l = g.0 in let a = f.0 in let e = f.1 in absurd (omega arith)
+same_found o m (TooMany shorter) (TooMany shorter') f g = refl
+
+one_status : (o : BalancedOrder) (m : Matrix) (r s : Report) → BalancedDecides o m r → BalancedDecides o m s → r.status ≡ s.status
+one_status o m r s (cycle fault is bad e) (cycle fault' is' bad' f) = status_of r _ e ∙ sym (status_of s _ f)
+one_status o m r s (cycle fault is bad e) (decomposed none tree balanced f) = absurd (not_both m fault none is)
+one_status o m r s (cycle fault is bad e) (searched untold found has f) = absurd (not_both m fault untold.no_fault is)
+one_status o m r s (decomposed none tree balanced e) (cycle fault is bad f) = absurd (not_both m fault none is)
+one_status o m r s (decomposed none tree balanced e) (decomposed none' tree' balanced' f) = status_of r _ e ∙ sym (status_of s _ f)
+one_status o m r s (decomposed none tree balanced e) (searched untold found has f) = absurd (untold.undecomposed tree)
+one_status o m r s (searched untold found has e) (cycle fault is bad f) = absurd (not_both m fault untold.no_fault is)
+one_status o m r s (searched untold found has e) (decomposed none tree balanced f) = absurd (untold.undecomposed tree)
+one_status o m r s (searched untold found has e) (searched untold' found' has' f) = status_of r _ e ∙ same_found o m found found' has has' ∙ sym (status_of s _ f)
+
+-- ---- the meaning
+
+module _ (o : BalancedOrder) (m : Matrix) where
+  says_yes : IsBalanced m → (answer : Answer) → 0 ≡ answer_status answer → BalancedMeans o m answer
+  says_yes balanced Yes e = balanced
+  says_yes balanced No e = absurd (omega arith)
+  says_yes balanced Undecided e = absurd (omega arith)
+  says_yes balanced Refused e = absurd (omega arith)
+
+  says_no : (fault : LineSet) → IsFaultOf m fault → (answer : Answer) → 1 ≡ answer_status answer → BalancedMeans o m answer
+  says_no fault is Yes e = absurd (omega arith)
+  says_no fault is No e = (fault, is)
+  says_no fault is Undecided e = absurd (omega arith)
+  says_no fault is Refused e = absurd (omega arith)
+
+  says_open : IsUndecided o.lines m → (answer : Answer) → 6 ≡ answer_status answer → BalancedMeans o m answer
+  says_open is Yes e = absurd (omega arith)
+  says_open is No e = absurd (omega arith)
+  says_open is Undecided e = is
+  says_open is Refused e = absurd (omega arith)
+
+  says_found : IsUntold o.lines m → (found : BalanceSearch) → HasSearchedFaults m o.lines found → (answer : Answer) → (search_report o m found).status ≡ answer_status answer → BalancedMeans o m answer
+  says_found untold Clean has answer e = says_yes has.1 answer e
+  says_found untold (Found lines) has answer e = says_no lines (least_is_fault m lines has.1) answer e
+  says_found untold (TooMany shorter) has answer e = says_open (record { untold = untold; above = subst (λ n. o.lines < n) has.1 has.0 }) answer e
+
+says : (o : BalancedOrder) (m : Matrix) (r : Report) (answer : Answer) → BalancedDecides o m r → r.status ≡ answer_status answer → BalancedMeans o m answer
+says o m r answer (cycle fault is bad e) status = says_no o m fault bad answer (sym (status_of r _ e) ∙ status)
+says o m r answer (decomposed none tree balanced e) status = says_yes o m balanced answer (sym (status_of r _ e) ∙ status)
+says o m r answer (searched untold found has e) status = says_found o m untold found has answer (sym (status_of r _ e) ∙ status)
+
+pub balanced_lawful : (o : BalancedOrder) → IsLawful (balanced_tool o)
+balanced_lawful o = lawful (balanced_source o) (BalancedDecides o) (BalancedMeans o) (says o) (IsInRanges o) (one_status o)
+
+-- the numbers that words of `balanced` name are in their ranges
+pub balanced_order-ranges : (words : List Text) (o : BalancedOrder) → balanced_order words ≡ Some o → IsInRanges o
+balanced_order-ranges words o e = go (matches_with_input balanced_app words) e
+  where
+    of_values : (form : Option MatrixForm) (lines workers : Option ℕ) (rows : List Row) → ((n : ℕ) → lines ≡ Some n → n ≤ 24) → ((n : ℕ) → workers ≡ Some n → (1 ≤ n) × (n ≤ 64))
+        → (form >>= (λ f. lines >>= (λ l. workers >>= (λ w. Some (record { form = f; lines = l; workers = w; fault = fault_in rows; file = file_in rows }))))) ≡ Some o → IsInRanges o
+    of_values None lines workers rows few some e = cc
+    of_values (Some f) None workers rows few some e = cc
+    of_values (Some f) (Some l) None rows few some e = cc
+    of_values (Some f) (Some l) (Some w) rows few some e =
+        let same : ◌≡◌ {A = BalancedOrder} (record { form = f; lines = l; workers = w; fault = fault_in rows; file = file_in rows }) o = cc in
+        subst IsInRanges same (record { lines = few l refl; some = (some w refl).0; workers = (some w refl).1 })
+
+    go : (rows : Option (List Row)) → (rows >>= balanced_order_in) ≡ Some o → IsInRanges o
+    go None e = cc
+    go (Some rows) e = of_values (form_in rows) (lines_in rows) (workers_in rows) rows (lines_in-le rows) (workers_in-between rows) e

@@ -1,0 +1,37 @@
+-- What the answers of `camion` say of the matrix.
+use Rattle.std.proofs.Common.{◌≡◌, ◌∙◌, sym, arith}
+use Rattle.cmr_base.specs.declared.line_set.LineSet.{LineSet}
+use Rattle.cmr_base.specs.Matrix.{Matrix, entry}
+use Rattle.cmr_base.specs.CyclePlaces.{HasNoCycleFault, IsCycleFault}
+use Rattle.cmr_front.specs.declared.status.Answer.{Answer}
+use Rattle.cmr_front.specs.declared.status.Answer.TheVariants.{Yes, No, Undecided, Refused}
+use Rattle.cmr_front.specs.Report.{Report}
+use Rattle.cmr_front.specs.Status.{answer_status}
+use Rattle.cmr_front.specs.Tool.{IsLawful}
+use Rattle.cmr_front.proofs.MatrixText.{lawful}
+use Rattle.cmr_front.proofs.Statuses.{status_of}
+use Rattle.cmr_reach.specs.Camion.{CamionDecides, CamionMeans, camion_source, camion_tool, no, yes}
+use Rattle.cmr_reach.specs.Words.Camion.{CamionOrder}
+
+-- a matrix with a cycle fault is not without one
+pub not_both : (m : Matrix) (fault : LineSet) → HasNoCycleFault (entry m) → IsCycleFault m fault.rows fault.columns → ⊥
+not_both m fault none is = none is.row is.first_column is.last_column is.path is.fault
+
+one_status : (o : CamionOrder) (m : Matrix) (r s : Report) → CamionDecides o m r → CamionDecides o m s → r.status ≡ s.status
+one_status o m r s (yes none e) (yes none' f) = status_of r _ e ∙ sym (status_of s _ f)
+one_status o m r s (yes none e) (no fault is f) = absurd (not_both m fault none is)
+one_status o m r s (no fault is e) (yes none f) = absurd (not_both m fault none is)
+one_status o m r s (no fault is e) (no fault' is' f) = status_of r _ e ∙ sym (status_of s _ f)
+
+says : (o : CamionOrder) (m : Matrix) (r : Report) (answer : Answer) → CamionDecides o m r → r.status ≡ answer_status answer → CamionMeans m answer
+says o m r Yes (yes none e) is = none
+says o m r No (yes none e) is = let s = status_of r _ e in absurd (omega arith)
+says o m r Undecided (yes none e) is = let s = status_of r _ e in absurd (omega arith)
+says o m r Refused (yes none e) is = let s = status_of r _ e in absurd (omega arith)
+says o m r Yes (no fault lines e) is = let s = status_of r _ e in absurd (omega arith)
+says o m r No (no fault lines e) is = (fault, lines)
+says o m r Undecided (no fault lines e) is = let s = status_of r _ e in absurd (omega arith)
+says o m r Refused (no fault lines e) is = let s = status_of r _ e in absurd (omega arith)
+
+pub camion_lawful : (o : CamionOrder) → IsLawful (camion_tool o)
+camion_lawful o = lawful (camion_source o) (CamionDecides o) CamionMeans (says o) (Unit {0}) (one_status o)

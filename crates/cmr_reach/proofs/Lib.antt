@@ -1,0 +1,3 @@
+pub mod CamionAnswers
+pub mod SignAnswers
+pub mod BalancedAnswers

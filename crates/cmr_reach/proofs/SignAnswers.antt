@@ -1,0 +1,66 @@
+-- What the answers of `sign` say of the matrix and the rows.
+use Rattle.std.proofs.Common.{◌≡◌, ◌∙◌, ℕ, List, false, refl, sym, arith}
+use Rattle.cmr_base.specs.declared.line_set.LineSet.{LineSet}
+use Rattle.cmr_base.specs.Matrix.{Matrix}
+use Rattle.cmr_base.specs.Signing.{IsTotallyUnimodular}
+use Rattle.ghouila.specs.Answer.{IsViolatorAmong}
+use Rattle.ghouila.proofs.CamionLaw.{unsigned}
+use Rattle.sign_tool.specs.declared.signing.SetSigning.{SetSigning}
+use Rattle.sign_tool.specs.declared.signing.SetSigning.TheVariants.{Signed, Violated}
+use Rattle.sign_tool.specs.SetSignings.{IsEndOfRun}
+use Rattle.sign_tool.proofs.OneRun.{signs_or_violates}
+use Rattle.cmr_front.specs.declared.status.Answer.{Answer}
+use Rattle.cmr_front.specs.declared.status.Answer.TheVariants.{Yes, No, Undecided, Refused}
+use Rattle.cmr_front.specs.declared.outcome.FaultKind.TheVariants as faults
+use Rattle.cmr_front.specs.MatrixText.{matrix_in}
+use Rattle.cmr_front.specs.Report.{Report}
+use Rattle.cmr_front.specs.Status.{answer_status}
+use Rattle.cmr_front.specs.Texts.{ReportsText}
+use Rattle.cmr_front.specs.Tool.{IsLawful}
+use Rattle.cmr_front.proofs.Statuses.{status_of}
+use Rattle.cmr_front.proofs.Texts.{answered, one_of_text, pair_lawful}
+use Rattle.cmr_reach.specs.RowSet.{lines_in}
+use Rattle.cmr_reach.specs.Sign.{IsAnswerFor, SignDecides, SignMeans, SignReports, SignSays, sign_files, sign_report, sign_tool}
+use Rattle.cmr_reach.specs.Words.Sign.{SignOrder}
+
+-- ---- one status
+
+same_answer : (m : Matrix) (rows : List ℕ) (a b : SetSigning) → IsEndOfRun m rows a → IsEndOfRun m rows b → (sign_report m rows a).status ≡ (sign_report m rows b).status
+same_answer m rows (Signed signs steps) (Signed signs' steps') run run' = refl
+same_answer m rows (Signed signs steps) (Violated lines) (sign, signs_are, run) (steps', run') = absurd (signs_or_violates m rows steps steps' sign lines.rows lines.columns run run')
+same_answer m rows (Violated lines) (Signed signs steps) (steps', run') (sign, signs_are, run) = absurd (signs_or_violates m rows steps steps' sign lines.rows lines.columns run run')
+same_answer m rows (Violated lines) (Violated lines') run run' = refl
+
+one_decision : (m : Matrix) (rows : List ℕ) (r s : Report) → SignDecides m rows r → SignDecides m rows s → r.status ≡ s.status
+one_decision m rows r s a b = status_of r _ a.report_is ∙ same_answer m rows a.answer b.answer a.is_answer.run b.is_answer.run ∙ sym (status_of s _ b.report_is)
+
+one : (o : SignOrder) (matrix rows : List ℕ) (r s : Report) → SignReports o matrix rows r → SignReports o matrix rows s → r.status ≡ s.status
+one o matrix rows = one_of_text faults.Matrix o.matrix (λ m. ReportsText faults.Matrix o.rows (λ lines. SignDecides m lines.rows) (lines_in m rows))
+    (λ m. one_of_text faults.Matrix o.rows (λ lines. SignDecides m lines.rows) (λ lines. one_decision m lines.rows) (lines_in m rows))
+    (matrix_in o.form false matrix)
+
+-- ---- the meaning
+
+-- a violator has rows without a signing
+not_unimodular : (m : Matrix) (rows : List ℕ) (lines : LineSet) → IsViolatorAmong m rows lines.rows lines.columns → ¬ (IsTotallyUnimodular m)
+not_unimodular m rows lines v unimodular = let s = unimodular lines.rows v.row_set in unsigned m lines.rows lines.columns v.column_set v.violator s.0 s.1
+
+says_of_answer : (m : Matrix) (rows : List ℕ) (answer : SetSigning) → IsAnswerFor m rows answer → (given : Answer) → (sign_report m rows answer).status ≡ answer_status given → SignMeans m rows given
+says_of_answer m rows (Signed signs steps) is Yes e = (signs, steps, record { signing = is.right; run = is.run })
+says_of_answer m rows (Signed signs steps) is No e = absurd (omega arith)
+says_of_answer m rows (Signed signs steps) is Undecided e = absurd (omega arith)
+says_of_answer m rows (Signed signs steps) is Refused e = absurd (omega arith)
+says_of_answer m rows (Violated lines) is Yes e = absurd (omega arith)
+says_of_answer m rows (Violated lines) is No e = (lines, record { violator = is.right; run = is.run; not_unimodular = not_unimodular m rows lines is.right })
+says_of_answer m rows (Violated lines) is Undecided e = absurd (omega arith)
+says_of_answer m rows (Violated lines) is Refused e = absurd (omega arith)
+
+says : (o : SignOrder) (matrix rows : List ℕ) (r : Report) (answer : Answer) → SignReports o matrix rows r → r.status ≡ answer_status answer → SignSays o matrix rows answer
+says o matrix rows r answer reports is =
+    let found = answered faults.Matrix o.matrix (λ m. ReportsText faults.Matrix o.rows (λ lines. SignDecides m lines.rows) (lines_in m rows)) (matrix_in o.form false matrix) r answer reports is in
+    let named = answered faults.Matrix o.rows (λ lines. SignDecides found.0 lines.rows) (lines_in found.0 rows) r answer found.2 is in
+    let decided = named.2 in
+    (found.0, found.1, (named.0, named.1, says_of_answer found.0 named.0.rows decided.answer decided.is_answer answer (sym (status_of r _ decided.report_is) ∙ is)))
+
+pub sign_lawful : (o : SignOrder) → IsLawful (sign_tool o)
+sign_lawful o = pair_lawful (SignReports o) (SignSays o) (one o) (says o) (sign_files o)

@@ -1,0 +1,4 @@
+-- What the words behind the names of these tools order.
+pub mod Balanced
+pub mod Camion
+pub mod Sign

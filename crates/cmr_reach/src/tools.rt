@@ -1,0 +1,4 @@
+// The tools.
+pub mod balanced;
+pub mod camion;
+pub mod sign;

@@ -1,0 +1,19 @@
+-- A run of the tool that a command names is a run of the command.
+use Rattle.std.proofs.Common.{◌≡◌, ℕ, Bool, IsTrue, sym, subst}
+use Rattle.cmr_front.specs.Ending.{Devices, Standing}
+use Rattle.cmr_front.specs.Report.{Held}
+use Rattle.cmr_front.specs.Run.{Means, Runs, work}
+use Rattle.cmr_front.specs.Status.{answer_status}
+use Rattle.cmr_front.specs.declared.status.Answer.{Answer}
+use Rattle.cmr_tools.specs.Tools.{tool_of}
+use Rattle.cmr_tools.specs.Words.{order_of}
+use Rattle.cmr_tools.specs.declared.options.Command.{Command}
+
+pub runs_of : (command named : Command) (standing : Standing) (before after : Devices) (status : ℕ) → command ≡ named
+    → Runs (work (tool_of (order_of named))) standing before after status → Runs (work (tool_of (order_of command))) standing before after status
+runs_of command named standing before after status is runs = subst (λ it. Runs (work (tool_of (order_of it))) standing before after status) (sym is) runs
+
+pub means_of : (command named : Command) (tells : Bool) (held : Held) (status : ℕ) → command ≡ named
+    → (IsTrue tells → (answer : Answer) → status ≡ answer_status answer → Means (tool_of (order_of named)) held answer)
+    → IsTrue tells → (answer : Answer) → status ≡ answer_status answer → Means (tool_of (order_of command)) held answer
+means_of command named tells held status is means = subst (λ it. IsTrue tells → (answer : Answer) → status ≡ answer_status answer → Means (tool_of (order_of it)) held answer) (sym is) means

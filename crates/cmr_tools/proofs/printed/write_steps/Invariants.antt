@@ -1,7 +1,0 @@
-use Rattle.std.proofs.Common.{◌≡◌, ◌++◌, drop}
-use Rattle.cmr_tools.specs.Printed.{steps_text}
-use Rattle.cmr_tools.proofs.printed.write_steps.Given as goal
-
--- the lines so far and those of the rest are all
-abbrev pub invariant-loop-step : goal.invariant-loop-step
-invariant-loop-step l = l.text.items ++ steps_text (drop l.step-index l.step-items) ≡ steps_text l.steps
