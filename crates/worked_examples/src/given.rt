@@ -1,15 +1,15 @@
-// What the tables are made of.
+// What the tables are made of, and the texts in which answers are compared. In all texts of the tables `/` stands for a
+// line feed, and lines of a matrix are counted from 0.
 ghost use Rattle.std.specs.Prelude.{◌≤◌, IfOk};
 ghost use Rattle.cmr_base.specs.LineSets.{AllBelow};
 ghost use Rattle.cmr_base.specs.Trees.{IsBinary};
 
-use cmr_base::{Indices, LineSet, Matrix, Memory, Network, Pair, PairList, Word, WordList};
-use cmr_io::MemoryShelf;
-use matrix_text::{read_dense, write_dense};
+use cmr_base::{Indices, LineSet, Matrix, Memory};
+use matrix_text::{read_dense, read_sparse, write_dense};
 use std::alloc::{AllocGlobal, Global};
 use std::process::Abort;
 use std::test::Fail;
-use text_fields::{Words, count_in};
+use text_fields::Writer;
 
 /// The numbers of some rows and of some columns, counted from 0.
 pub type Lines<'a> = (&'a [u32], &'a [u32]);
@@ -26,6 +26,11 @@ pub fn bytes(alloc: Global, text: &str) -> Result<Vec<u8>, Fail> {
 /// The matrix of a dense text.
 pub fn matrix(alloc: Global, text: &str) -> Result<Matrix, Fail> {
     Ok(read_dense(alloc, &bytes(alloc, text)?, false)?)
+}
+
+/// The matrix of a sparse text.
+pub fn sparse(alloc: Global, text: &str) -> Result<Matrix, Fail> {
+    Ok(read_sparse(alloc, &bytes(alloc, text)?, false)?)
 }
 
 /// The 0/1 matrix of a dense text.
@@ -94,73 +99,59 @@ pub fn line_set(alloc: Global, rows: u32, columns: u32, lines: Lines<'_>) -> Res
     })
 }
 
-fn pairs(alloc: Global, ends: &[(u32, u32)]) -> Result<PairList, Fail> {
-    let mut pairs = PairList::new(alloc);
-    for (tail, head) in ends {
-        pairs.push(Pair {
-            tail: *tail,
-            head: *head,
-        })?;
+/// A line of a text: a word and numbers.
+pub fn row_text(alloc: Global, word: &str, numbers: &[u32]) -> Result<Vec<u8>, Fail> {
+    let mut text = Writer::new(alloc);
+    text.word(word.as_bytes())?;
+    for number in numbers {
+        text.number(*number)?;
     }
-    Ok(pairs)
+    text.end_line()?;
+    Ok(text.into_bytes())
 }
 
-/// The directed tree of these arcs, with these walks.
-pub fn network(alloc: Global, arcs: &[(u32, u32)], walks: &[(u32, u32)]) -> Result<Network, Fail> {
-    Ok(Network {
-        arcs: pairs(alloc, arcs)?,
-        walks: pairs(alloc, walks)?,
-    })
+/// The text of a set of lines: its rows, and its columns on a line of their own.
+pub fn lines_text(alloc: Global, lines: &LineSet) -> Result<Vec<u8>, Fail> {
+    let mut text = Writer::new(alloc);
+    text.numbers(lines.rows.as_slice())?;
+    text.numbers(lines.columns.as_slice())?;
+    Ok(text.into_bytes())
 }
 
-/// The words of a command line, with one blank between them. An empty word is written as two single quotes.
-pub fn words(alloc: Global, texts: &str) -> Result<WordList, Fail> {
-    let mut words = WordList::new(alloc);
-    if texts.is_empty() {
-        return Ok(words);
-    }
-    for text in texts.split(' ') {
-        let text = if text == "''" { "" } else { text };
-        words.push(Word::new(alloc, text)?)?;
-    }
-    Ok(words)
-}
-
-/// The directed tree and the walks of a graph text for a matrix, where these letters stand before the numbers of the
-/// rows and of the columns.
-pub fn network_of(
+/// The same below a line with a word and numbers.
+pub fn named_lines_text(
     alloc: Global,
-    text: &[u8],
-    matrix: &Matrix,
-    letters: (&str, &str),
-) -> Result<Network, Fail> {
-    let mut fields = Words::new(text);
-    Ok(Network {
-        arcs: edges(alloc, &mut fields, matrix.rows(), letters.0)?,
-        walks: edges(alloc, &mut fields, matrix.columns(), letters.1)?,
-    })
+    word: &str,
+    numbers: &[u32],
+    lines: &LineSet,
+) -> Result<Vec<u8>, Fail> {
+    let mut text = row_text(alloc, word, numbers)?;
+    text.extend_from_slice(&lines_text(alloc, lines)?)?;
+    Ok(text)
 }
 
-fn edges(
-    alloc: Global,
-    fields: &mut Words<'_>,
-    count: u32,
-    letter: &str,
-) -> Result<PairList, Fail> {
-    let mut edges = PairList::new(alloc);
-    for number in 1..=count {
-        let (_, tail) = fields.next().ok_or("no tail")?;
-        let (_, head) = fields.next().ok_or("no head")?;
-        let (_, name) = fields.next().ok_or("no name")?;
-        if name != format!(in alloc; "{letter}{number}")?.as_bytes() {
-            return Err(Fail::from("another name"));
-        }
-        edges.push(Pair {
-            tail: count_in(tail)?,
-            head: count_in(head)?,
-        })?;
+/// The text of a set of lines that may be there.
+pub fn found_text(alloc: Global, found: &Option<LineSet>) -> Result<Vec<u8>, Fail> {
+    match found {
+        Some(lines) => lines_text(alloc, lines),
+        None => bytes(alloc, "none/"),
     }
-    Ok(edges)
+}
+
+/// The dense text of a matrix.
+pub fn dense(alloc: Global, matrix: &Matrix) -> Result<Vec<u8>, Fail> {
+    Ok(write_dense(alloc, matrix)?)
+}
+
+/// Stops the test where the bytes are not those of the text.
+pub fn is_text<R: Abort + AllocGlobal>(rt: &R, found: &[u8], text: &str) -> Result<(), Fail> {
+    assert_eq!(rt; found, bytes(rt.alloc(), text)?.as_slice());
+    Ok(())
+}
+
+/// Stops the test where an answer is another one.
+pub fn is<R: Abort>(rt: &R, found: bool, expected: bool) {
+    assert!(rt; found == expected);
 }
 
 /// Stops the test where the matrix is not that of the dense text.
@@ -174,28 +165,4 @@ pub fn is_matrix<R: Abort + AllocGlobal>(rt: &R, found: &Matrix, text: &str) -> 
 pub fn are_lines<R: Abort>(rt: &R, found: &LineSet, expected: Lines<'_>) {
     assert_eq!(rt; found.rows.as_slice(), expected.0);
     assert_eq!(rt; found.columns.as_slice(), expected.1);
-}
-
-/// Stops the test where there is another set, or one where there is to be none.
-pub fn is_found<R: Abort>(rt: &R, found: &Option<LineSet>, expected: Option<Lines<'_>>) {
-    match (found, expected) {
-        (Some(found), Some(expected)) => are_lines(rt, found, expected),
-        (None, None) => {}
-        _ => assert!(rt; false),
-    }
-}
-
-/// Stops the test where a name does not hold this text, or is there where there is to be none.
-pub fn holds<R: Abort + AllocGlobal>(
-    rt: &R,
-    shelf: &MemoryShelf,
-    name: &str,
-    text: Option<&str>,
-) -> Result<(), Fail> {
-    match (shelf.content(name), text) {
-        (Some(found), Some(text)) => assert_eq!(rt; found, bytes(rt.alloc(), text)?.as_slice()),
-        (None, None) => {}
-        _ => assert!(rt; false, "{name}"),
-    }
-    Ok(())
 }

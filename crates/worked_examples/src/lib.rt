@@ -3,11 +3,25 @@
 #![tactic(auto)]
 
 #[cfg(test)]
+mod columns;
+#[cfg(test)]
 mod given;
+#[cfg(test)]
+mod graphs;
+#[cfg(test)]
+mod leaves;
 #[cfg(test)]
 mod matrices;
 #[cfg(test)]
+mod networks;
+#[cfg(test)]
 mod r10;
+#[cfg(test)]
+mod reductions;
+#[cfg(test)]
+mod separations;
+#[cfg(test)]
+mod sums;
 #[cfg(test)]
 mod texts;
 #[cfg(test)]

@@ -1,5 +1,5 @@
 // The two tables of R10, up to the order of rows and of columns and the signs.
-use crate::given::matrix;
+use crate::given::{is, matrix};
 use r10_leaf::is_r10;
 use std::test::Fail;
 
@@ -36,7 +36,7 @@ fn tables(rt: HostRuntime) -> Result<(), Fail> {
             false,
         ),
     ] {
-        assert_eq!(rt; is_r10(&matrix(rt.alloc(), text)?), expected, "{text}");
+        is(&rt, is_r10(&matrix(rt.alloc(), text)?), expected);
     }
     Ok(())
 }

@@ -1,0 +1,67 @@
+// Directed trees, their walks, and the matrices that they give.
+use crate::given::{is, matrix};
+use cmr_base::{
+    Network, Pair, PairList, reproduces as has_signs, reproduces_support as has_support,
+};
+use std::alloc::Global;
+use std::test::Fail;
+
+type Ends<'a> = &'a [(u32, u32)];
+
+fn pairs(alloc: Global, ends: Ends<'_>) -> Result<PairList, Fail> {
+    let mut pairs = PairList::new(alloc);
+    for (tail, head) in ends {
+        pairs.push(Pair {
+            tail: *tail,
+            head: *head,
+        })?;
+    }
+    Ok(pairs)
+}
+
+fn network(alloc: Global, arcs: Ends<'_>, walks: Ends<'_>) -> Result<Network, Fail> {
+    Ok(Network {
+        arcs: pairs(alloc, arcs)?,
+        walks: pairs(alloc, walks)?,
+    })
+}
+
+// Whether the supports are the paths of the walks, and whether the signs fit too.
+fn comparison(
+    alloc: Global,
+    arcs: Ends<'_>,
+    walks: Ends<'_>,
+    text: &str,
+) -> Result<(bool, bool), Fail> {
+    let network = network(alloc, arcs, walks)?;
+    let matrix = matrix(alloc, text)?;
+    let support = has_support(alloc, &network, &matrix)?;
+    let signs = has_signs(alloc, &network, &matrix)?;
+    Ok((support, signs))
+}
+
+#[test]
+fn comparisons(rt: HostRuntime) -> Result<(), Fail> {
+    let forwards: Ends<'_> = &[(0, 1), (1, 2)];
+    let path = "2 1/1/1/";
+    let table: [(Ends<'_>, Ends<'_>, &str, bool, bool); 10] = [
+        (forwards, &[(0, 2)], path, true, true),
+        (&[(0, 1)], &[(1, 0)], "1 1/1/", true, false),
+        (&[(0, 1)], &[(1, 0)], "1 1/-1/", true, true),
+        // From a node below the meeting node to another one.
+        (&[(1, 0), (0, 2)], &[(1, 2)], path, true, true),
+        // An arc turned round, and the walk turned round.
+        (&[(1, 0), (1, 2)], &[(0, 2)], path, true, false),
+        (forwards, &[(2, 0)], path, true, false),
+        // A path that is too short, a walk too many, none, and a node out of range.
+        (forwards, &[(0, 1)], path, false, false),
+        (forwards, &[(0, 2), (0, 2)], path, false, false),
+        (forwards, &[], path, false, false),
+        (forwards, &[(0, 3)], path, false, false),
+    ];
+    for (arcs, walks, text, support, signs) in table {
+        let found = comparison(rt.alloc(), arcs, walks, text)?;
+        is(&rt, found == (support, signs), true);
+    }
+    Ok(())
+}
