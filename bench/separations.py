@@ -21,9 +21,9 @@ import argparse
 import pathlib
 import random
 import shlex
-import subprocess
 import tempfile
-import time
+
+from measuring import dense_text, measured
 
 CIRCULANT = [
     [1, -1, 0, 0, -1],
@@ -66,25 +66,6 @@ MOST = {"parts": 200, "sums": 249}
 def shuffled(entries, draw):
     columns = draw.sample(range(len(entries[0])), len(entries[0]))
     return [[row[column] for column in columns] for row in draw.sample(entries, len(entries))]
-
-
-def dense_text(entries):
-    lines = [f"{len(entries)} {len(entries[0])}\n"]
-    lines.extend(" ".join(map(str, row)) + "\n" for row in entries)
-    return "".join(lines)
-
-
-def run(words):
-    start = time.perf_counter()
-    done = subprocess.run(words, stdout=subprocess.DEVNULL, stderr=subprocess.DEVNULL, check=False)
-    return time.perf_counter() - start, done.returncode
-
-
-def measured(words, runs):
-    times = [run(words) for _ in range(runs)]
-    best = min(seconds for seconds, _ in times)
-    statuses = " ".join(str(status) for status in sorted({status for _, status in times}))
-    return f"{best:.3f} s, status {statuses}"
 
 
 def main():
