@@ -7,19 +7,11 @@ use Rattle.std.proofs.lemmas.Nat.{mul-add-lt}
 use Rattle.std.proofs.Math.Seq.{get_or-append_seam}
 use Rattle.cmr_base.specs.Splits.{IsCommon, IsUncut, IsUncutBy, Agree}
 use Rattle.cmr_base.proofs.Members.{in_at}
-use Rattle.cmr_base.proofs.RowLists.{not_both}
-use Rattle.bridge_split.specs.ColumnSets.{has_column, Denies, IsApart, IsWithin}
+use Rattle.cmr_base.specs.ColumnSets.{has_column, Denies, IsApart, IsWithin}
 use Rattle.bridge_split.specs.Cutting.{IsUncutIn, AreUncutIn, IsCollecting, part_at, IsCutTable, HasLine, disagree}
 use Rattle.cmr_base.proofs.Places.{found_at}
 
 module _ (M : ℕ → ℕ → Bool) where
-  -- common columns that are collected
-  pub collected_none : (i : ℕ) (P set : List ℕ) → ((column : ℕ) → has_column set column ≡ false) → IsCollecting M i P set 0
-  collected_none i P set none = record {
-    into = λ column e. absurd (not_both (has_column set column) e (none column));
-    from = λ p column l. absurd (omega arith);
-  }
-
   pub collected_more : (i : ℕ) (P set set' : List ℕ) (place : ℕ) → IsCollecting M i P set place → place < length P → ((column : ℕ) → has_column set' column ≡ (has_column set column || (M i column && M (get_or P place 0) column)))
       → IsCollecting M i P set' (place + 1)
   collected_more i P set set' place w l more = record {

@@ -1,6 +1,3 @@
-pub mod WordBits
-pub mod ColumnWords
-pub mod ColumnCounts
 pub mod ThreeNonzeros
 pub mod Links
 pub mod PartWalks

@@ -6,8 +6,8 @@ use Rattle.cmr_base.specs.Matrix.{Matrix, height}
 use Rattle.cmr_base.specs.Members.{IsIn}
 use Rattle.cmr_base.specs.Trees.{support}
 use Rattle.cmr_base.proofs.Places.{more_placed}
-use Rattle.bridge_split.specs.ColumnSets.{has_column}
-use Rattle.bridge_split.specs.PartNumbers.{number_at, HasRoom, Keeps, IsLeft, IsTouched, IsWalking, IsBetween, ArePassed, IsMeeting, IsWalkingFrom}
+use Rattle.cmr_base.specs.ColumnSets.{has_column}
+use Rattle.bridge_split.specs.PartNumbers.{number_at, HasRoom, Keeps, IsLeft, IsTouched, IsBetween, ArePassed, IsMeeting, IsWalkingFrom}
 use Rattle.bridge_split.proofs.PartWalks.{kept, meets, one_less_left, starts}
 
 module _ (m : Matrix) (S : List ℕ) (i number x : ℕ) (part part' : List (Option ℕ)) (reached reached' : List ℕ) (hx : IsIn x S) (low : x < height m) (left : IsLeft i (number_at part) x)
@@ -50,17 +50,6 @@ passes_one m S i number before part reached met place w free = record {
   fewer = w.fewer;
   none = λ e. more_placed (λ x. ¬ (IsTouched (support m) i (number_at part) (has_column reached) x)) S place (w.none e) free;
   few = let f = w.few in omega arith;
-}
-
-pub meeting_starts : (m : Matrix) (S : List ℕ) (i number : ℕ) (part : List (Option ℕ)) (reached : List ℕ) → HasRoom m part reached → IsWalking (support m) S i (number_at part) number (has_column reached)
-    → IsMeeting m S i number part part reached 0 0
-meeting_starts m S i number part reached room w = record {
-  room = room;
-  walk = w;
-  keeps = λ k a e. e;
-  fewer = omega arith;
-  none = λ e p l. absurd (omega arith);
-  few = omega arith;
 }
 
 -- the rows up to a place more were met

@@ -204,19 +204,6 @@ module _ (M : ℕ → ℕ → Bool) (S : List ℕ) (i : ℕ) where
 
   -- ---- from part to part
 
-  -- nothing is met yet
-  pub none_met : (part : ℕ → Option ℕ) → ((x : ℕ) → part x ≡ None) → IsBetween M S i part 0
-  none_met part free = record {
-    are = record {
-      others = λ k a e. absurd (no_number (part k) a (free k) e);
-      linked = λ j k a e. absurd (no_number (part j) a (free j) e);
-      filled = λ a l. absurd (omega arith);
-      ordered = λ k a hk nk l. absurd (omega arith);
-      few = omega arith;
-    };
-    closed = λ j k a e. absurd (no_number (part j) a (free j) e);
-  }
-
   -- a part is done where no row is touched
   pub part_done : (part : ℕ → Option ℕ) (number : ℕ) (reached : ℕ → Bool) → IsWalking M S i part number reached → ((x : ℕ) → IsIn x S → ¬ (IsTouched M i part reached x)) → IsBetween M S i part (suc number)
   part_done part number reached w none = record {

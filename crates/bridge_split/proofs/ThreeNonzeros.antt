@@ -14,7 +14,7 @@ use Rattle.cmr_base.proofs.Lists.{all_by_places}
 use Rattle.cmr_base.proofs.ListsWithout.{increasing_distinct}
 use Rattle.cmr_base.proofs.Members.{all_in}
 use Rattle.cmr_base.proofs.RowLists.{not_both}
-use Rattle.bridge_split.specs.ColumnSets.{has_column}
+use Rattle.cmr_base.specs.ColumnSets.{has_column}
 use Rattle.bridge_split.specs.Counting.{AreMore}
 use Rattle.bridge_split.specs.SplitCases.{HasThree, IsFirstWithThree}
 

@@ -3,7 +3,7 @@ use Rattle.std.specs.Prelude.{◌≡◌, nat_lt, ℕ, List, length, count_by}
 use Rattle.cmr_base.specs.Matrix.{Matrix, IsMatrix}
 use Rattle.cmr_base.specs.Planes.{words_for}
 use Rattle.cmr_base.specs.Trees.{support}
-use Rattle.bridge_split.specs.ColumnSets.{has_column}
+use Rattle.cmr_base.specs.ColumnSets.{has_column}
 use Rattle.bridge_split.specs.declared.counts.Counts.{Counts}
 
 -- sets for so many columns

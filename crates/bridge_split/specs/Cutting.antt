@@ -5,7 +5,7 @@ use Rattle.cmr_base.specs.Splits.{IsCommon, IsUncutBy}
 use Rattle.cmr_base.specs.Matrix.{Matrix}
 use Rattle.cmr_base.specs.Planes.{words_for}
 use Rattle.cmr_base.specs.Trees.{support}
-use Rattle.bridge_split.specs.ColumnSets.{has_column, Denies}
+use Rattle.cmr_base.specs.ColumnSets.{has_column, Denies}
 
 -- the columns of a set are all in row j, or none of them is
 abbrev pub IsUncutIn : (ℕ → ℕ → Bool) → (ℕ → Bool) → ℕ → Type 0

@@ -1,4 +1,3 @@
-pub mod ColumnSets
 pub mod Counting
 pub mod SplitCases
 pub mod PartNumbers

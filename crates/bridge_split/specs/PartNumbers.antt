@@ -6,7 +6,7 @@ use Rattle.cmr_base.specs.Members.{IsIn}
 use Rattle.cmr_base.specs.Planes.{words_for}
 use Rattle.cmr_base.specs.Splits.{AreJoined, AreLinked, Splits}
 use Rattle.cmr_base.specs.Trees.{support}
-use Rattle.bridge_split.specs.ColumnSets.{has_column}
+use Rattle.cmr_base.specs.ColumnSets.{has_column}
 
 -- the number of a row's part, if it has one
 abbrev pub number_at : List (Option ℕ) → ℕ → Option ℕ

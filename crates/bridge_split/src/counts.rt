@@ -3,10 +3,10 @@ ghost use Rattle.std.specs.Prelude.{◌≡◌, ◌<◌, ◌≤◌, ◌&&◌, ◌
 ghost use Rattle.cmr_base.specs.LineSets.{AllBelow};
 ghost use Rattle.cmr_base.specs.Matrix.{height, IsMatrix};
 ghost use Rattle.cmr_base.specs.Planes.{words_for};
-ghost use Rattle.bridge_split.specs.ColumnSets.{has_column};
+ghost use Rattle.cmr_base.specs.ColumnSets.{has_column};
 ghost use Rattle.bridge_split.specs.Counting.{AreCounts, HasWords};
 
-use crate::columns::{add_common, next_column};
+use cmr_base::columns::{add_common, next_column};
 use cmr_base::{Matrix, Memory, words_for};
 use std::alloc::Global;
 

@@ -5,11 +5,11 @@ ghost use Rattle.cmr_base.specs.Matrix.{height, IsMatrix};
 ghost use Rattle.cmr_base.specs.Planes.{words_for};
 ghost use Rattle.cmr_base.specs.Splits.{IsCommon};
 ghost use Rattle.cmr_base.specs.Trees.{support};
-ghost use Rattle.bridge_split.specs.ColumnSets.{has_column, Denies};
+ghost use Rattle.cmr_base.specs.ColumnSets.{has_column, Denies};
 ghost use Rattle.bridge_split.specs.Cutting.{AreUncutIn, HasLine, IsCutTable, IsUncutIn, part_at};
 ghost use Rattle.bridge_split.specs.Forests.{IsSquare, joins};
 
-use crate::columns::{add_common, is_cut};
+use cmr_base::columns::{add_common, is_cut};
 use cmr_base::{Indices, Matrix, Memory, words_for};
 use std::alloc::Global;
 

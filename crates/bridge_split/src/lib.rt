@@ -2,7 +2,6 @@
 //! Theory of Linear and Integer Programming, chapter 20).
 #![tactic(auto)]
 
-pub mod columns;
 mod counts;
 mod cuts;
 mod forest;

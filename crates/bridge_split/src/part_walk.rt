@@ -5,10 +5,10 @@ ghost use Rattle.cmr_base.specs.LineSets.{AllBelow};
 ghost use Rattle.cmr_base.specs.Matrix.{height};
 ghost use Rattle.cmr_base.specs.Members.{IsIn};
 ghost use Rattle.cmr_base.specs.Trees.{support};
-ghost use Rattle.bridge_split.specs.ColumnSets.{has_column};
+ghost use Rattle.cmr_base.specs.ColumnSets.{has_column};
 ghost use Rattle.bridge_split.specs.PartNumbers.{AreNumbered, ArePassed, HasRoom, IsBetween, IsLeft, IsTouched, IsWalking, Keeps, left_in, number_at};
 
-use crate::columns::{add_outside, meets};
+use cmr_base::columns::{add_outside, meets};
 use cmr_base::{Matrix, Memory, words_for};
 use std::alloc::Global;
 

@@ -1,5 +1,5 @@
 -- Where two rows differ, by the words of both.
-use Rattle.std.proofs.Common.{◌≡◌, ◌<◌, ◌≤◌, ◌+◌, ◌*◌, ◌/◌, ◌%◌, ◌^◌, ◌∙◌, ◌⊎◌, ◌*ℤ◌, max, ℕ, zero, suc, ℤ, pos, negsuc, Bool, true, false, cond, refl, ap, ap₂, sym, subst, inl, inr, arith, get_or, length, ◌≢◌, w8, of_z}
+use Rattle.std.proofs.Common.{◌≡◌, ◌<◌, ◌+◌, ◌*◌, ◌%◌, ◌∙◌, ◌*ℤ◌, max, ℕ, zero, suc, ℤ, pos, negsuc, Bool, true, cond, refl, ap, ap₂, sym, inl, inr, arith, ◌≢◌, w8, of_z}
 use Rattle.std.specs.Int.{bit_at}
 use Rattle.std.specs.Int.Bits.{bit_xor, bit_or}
 use Rattle.std.proofs.lemmas.Int.{ints}
@@ -10,7 +10,7 @@ use Rattle.cmr_base.specs.Matrix.{Matrix, height, row_of, entry, IsMatrix, IsEnt
 use Rattle.cmr_base.specs.Planes.{is_minus, word_of}
 use Rattle.cmr_base.specs.Differences.{differ, differs_at}
 use Rattle.cmr_base.proofs.PlaneWords.{bit-word_of}
-use Rattle.cmr_base.proofs.Integers.{products, sums, mul-zero}
+use Rattle.cmr_base.proofs.Integers.{products, mul-zero}
 
 abbrev bit : Bool → ℕ
 bit b = cond b 1 0

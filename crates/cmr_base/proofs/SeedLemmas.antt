@@ -6,8 +6,9 @@ use Rattle.cmr_base.specs.declared.line.Line.{Line}
 use Rattle.cmr_base.specs.declared.line.Line.TheVariants.{Row, Column}
 use Rattle.cmr_base.specs.declared.separation.Connector.{Connector}
 use Rattle.cmr_base.specs.declared.separation.Form.{Form}
+use Rattle.cmr_base.specs.declared.separation.Form.TheVariants.{Delta, YForm, Mixed, Concentrated}
 use Rattle.cmr_base.specs.LineSets.{first_lines}
-use Rattle.cmr_base.specs.Separations.{Lines, opposite, count_in, AreEnough, AreOn, zeros, product_at, IsTwoSeparation, IsTied, first_is_flat, second_is_flat, connector_lines, IsThreeSeparation}
+use Rattle.cmr_base.specs.Separations.{Lines, opposite, count_in, AreEnough, AreOn, zeros, product_at, IsTwoSeparation, IsTied, AreConnectors, upper_block, lower_block, first_is_flat, second_is_flat, connector_lines, IsThreeSeparation}
 use Rattle.cmr_base.specs.Seeds.{IsLine, IsClosed, HasAll, IsGood, IsGoodTwo, IsGoodThree}
 use Rattle.cmr_base.proofs.Lists.{all_weaker, all_both}
 use Rattle.cmr_base.proofs.ListedLines.{has_line_from_line, line_from_has_line}
@@ -122,11 +123,18 @@ columns_apart : (c c' : ℕ) → c ≢ c' → Column c ≢ Column c'
 unfolding number
 columns_apart c c' h e = h (ap number e)
 
-module _ (m n : ℕ) (M : ℕ → ℕ → ℤ) (form : Form) (one two : Connector) where
-  first_apart : (flat : Bool) → M one.row one.column ≢ pos 0 → IsTied M flat one two.row two.column → AreApart (connector_lines flat one)
-  first_apart true u v = ((row_not_column one.row one.column, (row_not_column one.row one.other, tt)), ((columns_apart one.column one.other (λ e. u (ap (λ (c : ℕ). M one.row c) e ∙ v.0)), tt), (tt, tt)))
-  first_apart false u v = ((row_not_column one.row one.column, (rows_apart one.row one.other (λ e. u (ap (λ (r : ℕ). M r one.column) e ∙ v.0)), tt)), ((λ e. row_not_column one.other one.column (sym e), tt), (tt, tt)))
+tied_apart : (M : ℕ → ℕ → ℤ) (flat : Bool) (one : Connector) (row column : ℕ) → M one.row one.column ≢ pos 0 → IsTied M flat one row column → AreApart (connector_lines flat one)
+tied_apart M true one row column u v = ((row_not_column one.row one.column, (row_not_column one.row one.other, tt)), ((columns_apart one.column one.other (λ e. u (ap (λ (c : ℕ). M one.row c) e ∙ v.0)), tt), (tt, tt)))
+tied_apart M false one row column u v = ((row_not_column one.row one.column, (rows_apart one.row one.other (λ e. u (ap (λ (r : ℕ). M r one.column) e ∙ v.0)), tt)), ((λ e. row_not_column one.other one.column (sym e), tt), (tt, tt)))
 
+first_apart : (M : ℕ → ℕ → ℤ) (form : Form) (one two : Connector) → AreConnectors M form one two → AreApart (connector_lines (first_is_flat form) one)
+first_apart M Delta one two c = tied_apart M true one two.row two.column c.first_corner c.tied.first_tied
+first_apart M YForm one two c = tied_apart M false one two.row two.column c.first_corner c.tied.first_tied
+first_apart M Mixed one two c = tied_apart M true one two.row two.column c.first_corner c.tied.first_tied
+first_apart M Concentrated one two c =
+    ((row_not_column one.row one.column, (row_not_column one.row one.other, tt)), ((columns_apart one.column one.other (λ e. let l = c.tied.columns_rise in omega (arith, e)), tt), (tt, tt)))
+
+module _ (m n : ℕ) (M : ℕ → ℕ → ℤ) (form : Form) (one two : Connector) where
   three_more : (flat : Bool) → 4 ≡ suc (length (connector_lines flat one))
   three_more true = refl
   three_more false = refl
@@ -137,7 +145,7 @@ module _ (m n : ℕ) (M : ℕ → ℕ → ℤ) (form : Form) (one two : Connecto
       let k = connector_lines (second_is_flat form) two in
       let ls = in_ranges m n T true f s.one in
       let ks = in_ranges m n T false k s.two in
-      let g = good_seed m n 4 M (product_at M one.row two.column) (product_at M two.row one.column) f k ls ks (first_apart (first_is_flat form) s.connectors.first_corner s.connectors.first_tied) (three_more (first_is_flat form)) T s.blocks
+      let g = good_seed m n 4 M (upper_block M form one two) (lower_block M form one two) f k ls ks (first_apart M form one two s.connectors) (three_more (first_is_flat form)) T s.blocks
       (values (first_lines m) (first_lines n) T true f s.one) (values (first_lines m) (first_lines n) T false k s.two) s.enough in
       (g.0, g.1, (record { values = s.connectors; first_lines = ls; second_lines = ks }, g.2))
 
@@ -150,6 +158,6 @@ module _ (m n : ℕ) (M : ℕ → ℕ → ℤ) (form : Form) (one two : Connecto
         two = on_sides m n S false k g.0.second_lines g.1.two;
         connectors = g.0.values;
         blocks = g.1.grown.closed;
-        enough = enough_lines m n 4 M (product_at M one.row two.column) (product_at M two.row one.column) f k g.0.first_lines g.0.second_lines
-            (first_apart (first_is_flat form) g.0.values.first_corner g.0.values.first_tied) (three_more (first_is_flat form)) x S g.1;
+        enough = enough_lines m n 4 M (upper_block M form one two) (lower_block M form one two) f k g.0.first_lines g.0.second_lines
+            (first_apart M form one two g.0.values) (three_more (first_is_flat form)) x S g.1;
       }

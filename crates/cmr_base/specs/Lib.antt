@@ -29,3 +29,4 @@ pub mod Components
 pub mod MatrixSums
 pub mod Determinants
 pub mod R10
+pub mod ColumnSets

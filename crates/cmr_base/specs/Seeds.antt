@@ -5,9 +5,9 @@ use Rattle.cmr_base.specs.declared.line.Line.{Line}
 use Rattle.cmr_base.specs.declared.line.Line.TheVariants.{Row, Column}
 use Rattle.cmr_base.specs.declared.separation.Connector.{Connector}
 use Rattle.cmr_base.specs.declared.separation.Form.{Form}
-use Rattle.cmr_base.specs.declared.separation.Form.TheVariants.{Delta, YForm, Mixed}
+use Rattle.cmr_base.specs.declared.separation.Form.TheVariants.{Delta, YForm, Mixed, Concentrated}
 use Rattle.cmr_base.specs.LineSets.{first_lines}
-use Rattle.cmr_base.specs.Separations.{Lines, opposite, count_in, HasBlocks, zeros, product_at, AreConnectors, connector_lines, first_is_flat, second_is_flat}
+use Rattle.cmr_base.specs.Separations.{Lines, opposite, count_in, HasBlocks, zeros, product_at, upper_block, lower_block, AreConnectors, connector_lines, first_is_flat, second_is_flat}
 
 -- a line of a matrix with m rows and n columns
 abbrev pub IsLine : ℕ → ℕ → Line → Type 0
@@ -75,6 +75,7 @@ abbrev pub form_number : Form → ℕ
 form_number Delta = 0
 form_number YForm = 1
 form_number Mixed = 2
+form_number Concentrated = 3
 
 -- two connectors with the values of their form, whose lines are lines of the matrix
 pub record IsConnectorPair (m n : ℕ) (M : ℕ → ℕ → ℤ) (form : Form) (first second : Connector) : Type 0 where
@@ -85,7 +86,7 @@ pub record IsConnectorPair (m n : ℕ) (M : ℕ → ℕ → ℤ) (form : Form) (
 abbrev pub IsGoodThree : ℕ → ℕ → (ℕ → ℕ → ℤ) → Form → Connector → Connector → Line → Lines → Type 0
 IsGoodThree m n M form first second seed side =
     IsConnectorPair m n M form first second
-    × IsGood m n 4 M (product_at M first.row second.column) (product_at M second.row first.column) (connector_lines (first_is_flat form) first) (connector_lines (second_is_flat form) second) seed side
+    × IsGood m n 4 M (upper_block M form first second) (lower_block M form first second) (connector_lines (first_is_flat form) first) (connector_lines (second_is_flat form) second) seed side
 
 -- by the form, then by the corners, then by the other lines, then by the line
 abbrev pub three_key : ℕ → Form → Connector → Connector → Line → List ℕ

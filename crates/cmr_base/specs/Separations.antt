@@ -1,14 +1,15 @@
 -- Separations: the lines of a matrix in two sides, so that few lines make the entries between the sides (Schrijver, Theory of
 -- Linear and Integer Programming, chapter 19; Truemper, Matroid Decomposition). A side is told by a test: side one has the
 -- lines for which it is true, side two the others.
-use Rattle.std.specs.Prelude.{◌≡◌, ◌≢◌, ◌≤◌, ◌+◌, ◌*ℤ◌, ◌==◌, ◌||◌, not, filter, ℕ, ℤ, pos, Bool, true, false, List, [], ◌∷◌, length, Contains}
+use Rattle.std.specs.Prelude.{◌≡◌, ◌≢◌, ◌<◌, ◌≤◌, ◌+◌, ◌+ℤ◌, ◌-ℤ◌, ◌*ℤ◌, ◌==◌, ◌||◌, not, filter, ℕ, ℤ, pos, Bool, true, false, List, [], ◌∷◌, length, Contains}
 use Rattle.std.specs.List.{AllByRecursion, list_any}
 use Rattle.cmr_base.specs.declared.line.Line.{Line}
 use Rattle.cmr_base.specs.declared.line.Line.TheVariants.{Row, Column}
 use Rattle.cmr_base.specs.declared.separation.Connector.{Connector}
 use Rattle.cmr_base.specs.declared.separation.Form.{Form}
-use Rattle.cmr_base.specs.declared.separation.Form.TheVariants.{Delta, YForm, Mixed}
+use Rattle.cmr_base.specs.declared.separation.Form.TheVariants.{Delta, YForm, Mixed, Concentrated}
 use Rattle.cmr_base.specs.Reductions.{HasLine}
+use Rattle.cmr_base.specs.Signing.{IsSign}
 
 -- a set of lines
 abbrev pub Lines : Type 0
@@ -82,11 +83,13 @@ abbrev pub first_is_flat : Form → Bool
 first_is_flat Delta = true
 first_is_flat YForm = false
 first_is_flat Mixed = true
+first_is_flat Concentrated = true
 
 abbrev pub second_is_flat : Form → Bool
 second_is_flat Delta = true
 second_is_flat YForm = false
 second_is_flat Mixed = false
+second_is_flat Concentrated = false
 
 -- the lines of a connector: the row and the column of its corner, and one more column where it is flat, one more row where it is tall
 abbrev pub connector_lines : Bool → Connector → List Line
@@ -98,27 +101,85 @@ abbrev pub IsTied : (ℕ → ℕ → ℤ) → Bool → Connector → ℕ → ℕ
 IsTied M true connector row column = (M connector.row connector.other ≡ pos 0) × (M row connector.other ≢ pos 0)
 IsTied M false connector row column = (M connector.other connector.column ≡ pos 0) × (M connector.other column ≢ pos 0)
 
--- The corners of the two connectors and the two places where the lines of one corner cross those of the other are not 0.
+-- Of the forms delta, y and mixed: the two places where the lines of one corner cross those of the other are not 0.
+pub record AreCrossing (M : ℕ → ℕ → ℤ) (first_flat second_flat : Bool) (first second : Connector) : Type 0 where
+  pub upper : M first.row second.column ≢ pos 0
+  pub lower : M second.row first.column ≢ pos 0
+  pub first_tied : IsTied M first_flat first second.row second.column
+  pub second_tied : IsTied M second_flat second first.row first.column
+
+-- the determinant of the four entries where the rows of a tall connector cross the columns of a flat one
+abbrev pub core_determinant : (ℕ → ℕ → ℤ) → Connector → Connector → ℤ
+core_determinant M first second = M second.row first.column *ℤ M second.other first.other -ℤ M second.row first.other *ℤ M second.other first.column
+
+-- Of the concentrated form: the first connector's row is not 0 in both its columns, the second one's column not 0 in both its rows,
+-- and the four entries where these columns and rows cross have the determinant 1 or -1.
+pub record AreConcentrated (M : ℕ → ℕ → ℤ) (first second : Connector) : Type 0 where
+  pub first_other : M first.row first.other ≢ pos 0
+  pub second_other : M second.other second.column ≢ pos 0
+  pub columns_rise : first.column < first.other
+  pub rows_rise : second.row < second.other
+  pub determinant : IsSign (core_determinant M first second)
+
+-- what ties the connectors of each form
+abbrev pub AreTied : (ℕ → ℕ → ℤ) → Form → Connector → Connector → Type 0
+AreTied M Delta first second = AreCrossing M true true first second
+AreTied M YForm first second = AreCrossing M false false first second
+AreTied M Mixed first second = AreCrossing M true false first second
+AreTied M Concentrated first second = AreConcentrated M first second
+
+-- The corners of the two connectors are not 0, and they are tied as the form says.
 pub record AreConnectors (M : ℕ → ℕ → ℤ) (form : Form) (first second : Connector) : Type 0 where
   pub first_corner : M first.row first.column ≢ pos 0
   pub second_corner : M second.row second.column ≢ pos 0
-  pub upper : M first.row second.column ≢ pos 0
-  pub lower : M second.row first.column ≢ pos 0
-  pub first_tied : IsTied M (first_is_flat form) first second.row second.column
-  pub second_tied : IsTied M (second_is_flat form) second first.row first.column
+  pub tied : AreTied M form first second
 
--- The first connector is in side one, the second in side two. The upper block is made by the first connector's row and the second
--- one's column, the lower block by the second one's row and the first one's column.
+-- The entry that two columns and two rows make, where these cross in four entries with the determinant d, which is 1 or -1: the row
+-- is made from the two rows as its entries in the two columns are.
+abbrev pub spread : (d x y z w row_first row_other column_first column_other : ℤ) → ℤ
+spread d x y z w row_first row_other column_first column_other =
+    d *ℤ (row_first *ℤ (w *ℤ column_first -ℤ y *ℤ column_other) +ℤ row_other *ℤ (x *ℤ column_other -ℤ z *ℤ column_first))
+
+-- the block of rank two that the columns of the first connector and the rows of the second make
+abbrev pub spread_at : (ℕ → ℕ → ℤ) → Connector → Connector → ℕ → ℕ → ℤ
+spread_at M first second r c =
+    spread (core_determinant M first second)
+    (M second.row first.column) (M second.row first.other) (M second.other first.column) (M second.other first.other)
+    (M r first.column) (M r first.other) (M second.row c) (M second.other c)
+
+-- What the entries between the sides are to be. Of the forms delta, y and mixed both blocks are of rank one: the upper one is made by
+-- the first connector's row and the second one's column, the lower one by the second one's row and the first one's column. Of the
+-- concentrated form the upper block is zero.
+abbrev pub upper_block : (ℕ → ℕ → ℤ) → Form → Connector → Connector → ℕ → ℕ → ℤ
+upper_block M Delta first second = product_at M first.row second.column
+upper_block M YForm first second = product_at M first.row second.column
+upper_block M Mixed first second = product_at M first.row second.column
+upper_block M Concentrated first second = zeros
+
+abbrev pub lower_block : (ℕ → ℕ → ℤ) → Form → Connector → Connector → ℕ → ℕ → ℤ
+lower_block M Delta first second = product_at M second.row first.column
+lower_block M YForm first second = product_at M second.row first.column
+lower_block M Mixed first second = product_at M second.row first.column
+lower_block M Concentrated first second = spread_at M first second
+
+-- The first connector is in side one, the second in side two.
 pub record IsThreeSeparation (M : ℕ → ℕ → ℤ) (rows columns : List ℕ) (side : Lines) (form : Form) (first second : Connector) : Type 0 where
   pub one : AreOn rows columns side true (connector_lines (first_is_flat form) first)
   pub two : AreOn rows columns side false (connector_lines (second_is_flat form) second)
   pub connectors : AreConnectors M form first second
-  pub blocks : HasBlocks M rows columns side (product_at M first.row second.column) (product_at M second.row first.column)
+  pub blocks : HasBlocks M rows columns side (upper_block M form first second) (lower_block M form first second)
   pub enough : AreEnough rows columns side 4
 
 -- the product of the four entries where the corners' lines cross; where it is -1, these lines are a violator
 abbrev pub corner_product : (ℕ → ℕ → ℤ) → Connector → Connector → ℤ
 corner_product M first second = (M first.row first.column *ℤ M first.row second.column) *ℤ (M second.row first.column *ℤ M second.row second.column)
+
+-- of the forms delta, y and mixed the corner product is 1; the concentrated form has none
+abbrev pub HaveCornerSign : (ℕ → ℕ → ℤ) → Form → Connector → Connector → Type 0
+HaveCornerSign M Delta first second = corner_product M first second ≡ pos 1
+HaveCornerSign M YForm first second = corner_product M first second ≡ pos 1
+HaveCornerSign M Mixed first second = corner_product M first second ≡ pos 1
+HaveCornerSign M Concentrated first second = Unit {0}
 
 -- ---- the children of a separation
 

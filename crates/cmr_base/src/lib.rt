@@ -2,6 +2,7 @@
 //! shares. Line numbers are counted from 0.
 #![tactic(auto)]
 
+pub mod columns;
 mod differences;
 mod incidences;
 mod indices;

@@ -21,13 +21,15 @@ pub struct Connector {
     pub other: u32,
 }
 
-/// The kinds of the two connectors of a three-separation: both flat (delta), both tall (Y), or the first flat
-/// and the second tall (mixed).
+/// The form of a three-separation. Of delta both connectors are flat, of Y both are tall, of mixed the first is flat and
+/// the second tall, and each makes both entries between the sides a block of rank one. Of the concentrated form one block is
+/// zero and the other of rank two: the first connector is flat and the second tall.
 #[derive(Clone, Copy, Debug, PartialEq, Eq)]
 pub enum Form {
     Delta,
     YForm,
     Mixed,
+    Concentrated,
 }
 
 impl Form {
@@ -36,7 +38,7 @@ impl Form {
         ensures { result ≡ first_is_flat self }
     {
         match self {
-            Form::Delta | Form::Mixed => true,
+            Form::Delta | Form::Mixed | Form::Concentrated => true,
             Form::YForm => false,
         }
     }
@@ -47,7 +49,7 @@ impl Form {
     {
         match self {
             Form::Delta => true,
-            Form::YForm | Form::Mixed => false,
+            Form::YForm | Form::Mixed | Form::Concentrated => false,
         }
     }
 }

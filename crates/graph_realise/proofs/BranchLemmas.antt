@@ -6,7 +6,7 @@ use Rattle.std.specs.Prelude.{slice_index_or}
 use Rattle.cmr_base.specs.LineSets.{first_lines}
 use Rattle.cmr_base.specs.Splits.{IsCommon, IsUncut, IsUncutBy}
 use Rattle.cmr_base.proofs.RowLists.{not_both}
-use Rattle.bridge_split.specs.ColumnSets.{has_column, Denies}
+use Rattle.cmr_base.specs.ColumnSets.{has_column, Denies}
 use Rattle.bridge_split.specs.Cutting.{AreUncutIn, IsUncutIn}
 use Rattle.graph_realise.specs.Branches.{AreBranches, IsBranch, branch_at}
 use Rattle.graph_realise.specs.Merging.{IsWeight}

@@ -7,7 +7,7 @@ use Rattle.cmr_base.specs.Members.{IsIn}
 use Rattle.cmr_base.proofs.Members.{in-append}
 use Rattle.cmr_base.proofs.RowLists.{not_both, in_or_not, is_eq, is_ne, same_or_not}
 use Rattle.graph_realise.specs.Joints.{AreMarks, AreNumbered, IsPartWith, IsPassing, IsTouched, is_part, number_at}
-use Rattle.bridge_split.specs.ColumnSets.{has_column}
+use Rattle.cmr_base.specs.ColumnSets.{has_column}
 use Rattle.graph_realise.specs.Tables.{Grid, cell, IsCellSet}
 use Rattle.graph_realise.specs.Numbers.{AreDisjoint}
 use Rattle.cmr_base.proofs.Places.{all_placed}

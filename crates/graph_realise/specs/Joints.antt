@@ -3,7 +3,7 @@ use Rattle.std.specs.Prelude.{◌≡◌, ◌<◌, ◌≤◌, ◌⊎◌, ◌==◌
 use Rattle.cmr_base.specs.Cuts.{differ}
 use Rattle.cmr_base.specs.LineSets.{AllBelow}
 use Rattle.cmr_base.specs.Members.{IsIn}
-use Rattle.bridge_split.specs.ColumnSets.{has_column}
+use Rattle.cmr_base.specs.ColumnSets.{has_column}
 use Rattle.graph_realise.specs.Branches.{AreBranches, branch_at}
 use Rattle.graph_realise.specs.Merging.{Hanging, heavier, spot, merged_lies, turned_side, turned_lies}
 use Rattle.graph_realise.specs.SideTables.{side_in, end_in, IsArcChanged}

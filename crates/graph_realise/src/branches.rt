@@ -6,8 +6,8 @@ ghost use Rattle.cmr_base.specs.Trees.{support};
 ghost use Rattle.graph_realise.specs.Branches.{AreBranches, IsBranch};
 ghost use Rattle.graph_realise.specs.Joints.{AreInRows};
 
-use bridge_split::columns::{count_columns, empty_set, next_column};
 use bridge_split::{part_cuts, set_common};
+use cmr_base::columns::{count_columns, empty_set, next_column};
 use cmr_base::{Indices, Matrix, Memory, PartList, SideList};
 use std::alloc::Global;
 

@@ -6,13 +6,13 @@ ghost use Rattle.cmr_base.specs.Matrix.{height, IsMatrix};
 ghost use Rattle.cmr_base.specs.Members.{IsIn};
 ghost use Rattle.cmr_base.specs.Planes.{words_for};
 ghost use Rattle.cmr_base.specs.Trees.{support};
-ghost use Rattle.bridge_split.specs.ColumnSets.{has_column};
+ghost use Rattle.cmr_base.specs.ColumnSets.{has_column};
 ghost use Rattle.graph_realise.specs.Joints.{AreInRows, AreMarks, AreNumbered, IsJointOf, IsTouched, number_at};
 ghost use Rattle.graph_realise.specs.Numbers.{AreDisjoint};
 
 use crate::branches::{Branch, branches_at};
 use crate::table::Table;
-use bridge_split::columns::{add_common, add_outside, clear_set, empty_set, next_column};
+use cmr_base::columns::{add_common, add_outside, clear_set, empty_set, next_column};
 use cmr_base::{Indices, Matrix, Memory, PartList, SideList};
 use std::alloc::Global;
 

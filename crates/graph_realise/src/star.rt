@@ -7,13 +7,13 @@ ghost use Rattle.cmr_base.specs.Members.{IsIn};
 ghost use Rattle.cmr_base.specs.Planes.{words_for};
 ghost use Rattle.cmr_base.specs.Splits.{HasNoThree};
 ghost use Rattle.cmr_base.specs.Trees.{support};
-ghost use Rattle.bridge_split.specs.ColumnSets.{has_column};
+ghost use Rattle.cmr_base.specs.ColumnSets.{has_column};
 ghost use Rattle.graph_realise.specs.SideTables.{AreTablesOf, KeepsOthers, KeepsOutside, side_in, end_in};
 ghost use Rattle.graph_realise.specs.Rays.{IsRayAfter};
 
 use crate::arc_sides::ArcSides;
 use crate::joint::add_row;
-use bridge_split::columns::empty_set;
+use cmr_base::columns::empty_set;
 use cmr_base::{Indices, Matrix, Memory};
 use std::alloc::Global;
 

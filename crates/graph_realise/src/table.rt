@@ -4,7 +4,7 @@ ghost use Rattle.cmr_base.specs.Cuts.{differ};
 ghost use Rattle.cmr_base.specs.Matrix.{height};
 ghost use Rattle.cmr_base.specs.Planes.{has_bit, words_for};
 ghost use Rattle.cmr_base.specs.Trees.{support};
-ghost use Rattle.bridge_split.specs.ColumnSets.{has_column};
+ghost use Rattle.cmr_base.specs.ColumnSets.{has_column};
 ghost use Rattle.graph_realise.specs.Tables.{cell, IsCellSet, IsRowFilled, IsWordSet};
 
 use cmr_base::{Matrix, Memory, has_bit, with_bit, words_for};

@@ -149,15 +149,15 @@ module _ (size : ℕ) (leads : ℕ → ℕ → Bool) (starts : List ℕ) where
     pub meeting_starts : (marks : List Bool) (met : List ℕ) → AreReaching size leads starts marks met head → head < length met → get_or met head 0 ≡ from → AreMeeting size leads starts marks met head from first test 0
     meeting_starts marks met r l e = record { reaching = r; longer = l; here = e; so_far = λ k a b. absurd (omega arith) }
 
-    -- before the next place that passes nothing is left
-    so_far_until : (marks : List Bool) (met : List ℕ) (place next : ℕ) → AreMeeting size leads starts marks met head from first test place → ((k : ℕ) → place ≤ k → k < next → test k ≡ false)
+    -- before the next place that passes and has no mark nothing is left
+    so_far_until : (marks : List Bool) (met : List ℕ) (place next : ℕ) → AreMeeting size leads starts marks met head from first test place → ((k : ℕ) → place ≤ k → k < next → test k ≡ true → is_marked marks (first + k) ≡ true)
         → (k : ℕ) → k < next → test k ≡ true → is_marked marks (first + k) ≡ true
     so_far_until marks met place next s none k l e = elim (cases_lt k place) [
       | inl h ↦ s.so_far k h e
-      | inr h ↦ absurd (false≢true (sym (none k h l) ∙ e))
+      | inr h ↦ none k h l e
     ]
 
-    pub meeting_meets : (marks : List Bool) (met : List ℕ) (place next : ℕ) → AreMeeting size leads starts marks met head from first test place → ((k : ℕ) → place ≤ k → k < next → test k ≡ false)
+    pub meeting_meets : (marks : List Bool) (met : List ℕ) (place next : ℕ) → AreMeeting size leads starts marks met head from first test place → ((k : ℕ) → place ≤ k → k < next → test k ≡ true → is_marked marks (first + k) ≡ true)
         → leads from (first + next) ≡ true → first + next < size → is_marked marks (first + next) ≡ false
         → AreMeeting size leads starts (set marks (first + next) true) (met ++ (first + next) ∷ []) head from first test (next + 1)
     meeting_meets marks met place next s none lead l free =
@@ -172,7 +172,7 @@ module _ (size : ℕ) (leads : ℕ → ℕ → Bool) (starts : List ℕ) where
           ];
         }
 
-    pub meeting_passes : (marks : List Bool) (met : List ℕ) (place next : ℕ) → AreMeeting size leads starts marks met head from first test place → ((k : ℕ) → place ≤ k → k < next → test k ≡ false)
+    pub meeting_passes : (marks : List Bool) (met : List ℕ) (place next : ℕ) → AreMeeting size leads starts marks met head from first test place → ((k : ℕ) → place ≤ k → k < next → test k ≡ true → is_marked marks (first + k) ≡ true)
         → is_marked marks (first + next) ≡ true → AreMeeting size leads starts marks met head from first test (next + 1)
     meeting_passes marks met place next s none marked = record {
       reaching = s.reaching;
@@ -185,7 +185,7 @@ module _ (size : ℕ) (leads : ℕ → ℕ → Bool) (starts : List ℕ) where
     }
 
     pub meeting_ends : (width : ℕ) (marks : List Bool) (met : List ℕ) (place : ℕ) → AreMeeting size leads starts marks met head from first test place → LeadsTo size first width (leads from) test
-        → ((k : ℕ) → place ≤ k → test k ≡ false) → AreReaching size leads starts marks met (head + 1)
+        → ((k : ℕ) → place ≤ k → test k ≡ true → is_marked marks (first + k) ≡ true) → AreReaching size leads starts marks met (head + 1)
     meeting_ends width marks met place s to none = record {
       are = s.reaching.are;
       started = s.reaching.started;
@@ -194,7 +194,7 @@ module _ (size : ℕ) (leads : ℕ → ℕ → Bool) (starts : List ℕ) where
         | inr h ↦
             let q : p ≡ head = omega arith in
             let here = to.only y l (subst (λ (x : ℕ). leads x y ≡ true) (ap (λ (z : ℕ). get_or met z 0) q ∙ s.here) e) in
-            subst (λ (z : ℕ). is_marked marks z ≡ true) (sym here.3) (so_far_until marks met place width s (λ i a b. none i a) here.0 here.1 here.2)
+            subst (λ (z : ℕ). is_marked marks z ≡ true) (sym here.3) (so_far_until marks met place width s (λ i a b t. none i a t) here.0 here.1 here.2)
       ];
       fits = let k = s.longer in omega arith;
     }

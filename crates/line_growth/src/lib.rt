@@ -1,6 +1,7 @@
 //! The least set of lines that has some lines and in which no line outside breaks a rule.
 #![tactic(auto)]
 
+mod places;
 mod rule;
 mod walk;
 

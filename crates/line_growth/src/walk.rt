@@ -4,15 +4,19 @@ ghost use Rattle.cmr_base.specs.Differences.{differs_at};
 ghost use Rattle.cmr_base.specs.LineSets.{AllBelow};
 ghost use Rattle.cmr_base.specs.Matrix.{height, IsEntry};
 ghost use Rattle.line_growth.specs.Rules.{IsRuleOf, pulls_along};
-ghost use Rattle.line_growth.specs.Reaching.{AreReached, AreReaching, AreStarting, LeadsTo};
+ghost use Rattle.cmr_base.specs.Planes.{words_for};
+ghost use Rattle.line_growth.specs.Reaching.{AreReached, AreReaching, AreStarting, LeadsTo, is_marked};
+ghost use Rattle.line_growth.specs.FoundPlaces.{AreSeen, HaveSize};
 
+use crate::places::Places;
 use crate::rule::{Direction, Multiple, Rule};
 use cmr_base::{Matrix, Memory, RowsAndColumns};
 use std::alloc::Global;
 
 /// Marks the lines that are pulled in, one after another, from some lines on; backwards, the lines from which these lines
 /// are pulled in. The rows have the numbers from 0 on, and the columns those behind them. It ends early where fewer than
-/// `least` lines are left. For each line that is reached it reads the words of one line and those of another.
+/// `least` lines are left. For each line that is reached it reads the words of one line and those of another, and each line
+/// is found once.
 pub fn reach(
     alloc: Global,
     matrix: &RowsAndColumns<'_>,
@@ -28,10 +32,12 @@ pub fn reach(
 {
     let size = (matrix.rows() + matrix.columns()) as usize;
     let mut walk = Walk::from_starts(alloc, size, starts)?;
+    let mut rows = Places::new(alloc, matrix.rows())?;
+    let mut columns = Places::new(alloc, matrix.columns())?;
     let mut head = 0usize;
     while head < walk.met.len() && walk.met.len() + least <= size {
         walk.take_last(head);
-        walk.meet_led(matrix, rule, direction, head)?;
+        walk.meet_led(matrix, rule, direction, head, &mut rows, &mut columns)?;
         head += 1;
     }
     Ok(walk.marks)
@@ -93,23 +99,33 @@ impl Walk {
         rule: Rule,
         direction: Direction,
         head: usize,
+        seen_rows: &mut Places,
+        seen_columns: &mut Places,
     ) -> Result<(), Memory>
         requires rule { IsRuleOf matrix.now rule }
         requires head { head < length self.old.met.items }
         requires below { AllBelow (height matrix.now + matrix.now.width) self.old.met.items }
         requires marks { length self.old.marks.items ≡ height matrix.now + matrix.now.width }
-        ensures { OnOk result ((starts : List ℕ) → AreReaching (height matrix.now + matrix.now.width) (pulls_along matrix.now rule direction) starts self.old.marks.items self.old.met.items head → AreReaching (height matrix.now + matrix.now.width) (pulls_along matrix.now rule direction) starts self.new.marks.items self.new.met.items (head + 1)) }
+        requires row_size { HaveSize (height matrix.now) seen_rows.old }
+        requires column_size { HaveSize matrix.now.width seen_columns.old }
+        requires rows { AreSeen seen_rows.old 0 self.old.marks.items }
+        requires columns { AreSeen seen_columns.old (height matrix.now) self.old.marks.items }
+        ensures row_size { HaveSize (height matrix.now) seen_rows.new }
+        ensures column_size { HaveSize matrix.now.width seen_columns.new }
+        ensures rows { OnOk result (AreSeen seen_rows.new 0 self.new.marks.items) }
+        ensures columns { OnOk result (AreSeen seen_columns.new (height matrix.now) self.new.marks.items) }
+        ensures reaching { OnOk result ((starts : List ℕ) → AreReaching (height matrix.now + matrix.now.width) (pulls_along matrix.now rule direction) starts self.old.marks.items self.old.met.items head → AreReaching (height matrix.now + matrix.now.width) (pulls_along matrix.now rule direction) starts self.new.marks.items self.new.met.items (head + 1)) }
     {
         let line = self.met[head];
         let rows = matrix.rows();
         if line < rows {
             let multiple = rule.row_block(direction).row(matrix, line);
-            self.meet_differences(matrix.by_rows(), line, multiple, rows, head)?;
+            self.meet_differences(matrix.by_rows(), line, multiple, rows, head, seen_columns)?;
             Ok(())
         } else {
             let column = line - rows;
             let multiple = rule.column_block(direction).column(matrix, column);
-            self.meet_differences(matrix.by_columns(), column, multiple, 0, head)?;
+            self.meet_differences(matrix.by_columns(), column, multiple, 0, head, seen_rows)?;
             Ok(())
         }
     }
@@ -123,6 +139,7 @@ impl Walk {
         multiple: Multiple,
         first: u32,
         head: usize,
+        seen: &mut Places,
     ) -> Result<(), Memory>
         requires row { row < height matrix.now }
         requires model { multiple.model < height matrix.now }
@@ -130,16 +147,23 @@ impl Walk {
         requires first { first ≤ 1000 }
         requires head { head < length self.old.met.items }
         requires marks { first + matrix.now.width ≤ length self.old.marks.items }
-        ensures { OnOk result ((leads : ℕ → ℕ → Bool) (starts : List ℕ) → LeadsTo (length self.old.marks.items) first matrix.now.width (leads (slice_index_or self.old.met.items head 0)) (differs_at matrix.now row multiple.factor multiple.model) → AreReaching (length self.old.marks.items) leads starts self.old.marks.items self.old.met.items head → AreReaching (length self.old.marks.items) leads starts self.new.marks.items self.new.met.items (head + 1)) }
+        requires size { HaveSize matrix.now.width seen.old }
+        requires seen { AreSeen seen.old first self.old.marks.items }
+        ensures size { HaveSize matrix.now.width seen.new }
+        ensures seen { OnOk result (AreSeen seen.new first self.new.marks.items) }
+        ensures grows { OnOk result ((line : ℕ) → is_marked self.old.marks.items line ≡ true → is_marked self.new.marks.items line ≡ true) }
+        ensures reaching { OnOk result ((leads : ℕ → ℕ → Bool) (starts : List ℕ) → LeadsTo (length self.old.marks.items) first matrix.now.width (leads (slice_index_or self.old.met.items head 0)) (differs_at matrix.now row multiple.factor multiple.model) → AreReaching (length self.old.marks.items) leads starts self.old.marks.items self.old.met.items head → AreReaching (length self.old.marks.items) leads starts self.new.marks.items self.new.met.items (head + 1)) }
     {
         let _columns = matrix.columns();
+        seen.find(matrix, row, multiple);
         let mut from = 0;
-        while let Some(place) = matrix.next_difference(row, multiple.factor, multiple.model, from) {
+        while let Some(place) = seen.next(from) {
             if !self.marks[(first + place) as usize] {
                 self.meet(first + place)?;
             }
             from = place + 1;
         }
+        seen.keep();
         Ok(())
     }
 }

@@ -1,7 +1,7 @@
 use Rattle.std.proofs.Common.{below_more, get_or}
 use Rattle.cmr_base.specs.Trees.{support}
 use Rattle.cmr_base.proofs.Members.{in_at}
-use Rattle.bridge_split.specs.ColumnSets.{has_column}
+use Rattle.cmr_base.specs.ColumnSets.{has_column}
 use Rattle.bridge_split.specs.Cutting.{IsUncutIn}
 use Rattle.bridge_split.proofs.cuts.part_cuts.Goals as goal
 use Rattle.cmr_base.proofs.Places.{all_placed}

@@ -2,7 +2,7 @@ use Rattle.std.proofs.Common.{◌≡◌, ◌∙◌, List, ℕ, [], sym, subst}
 use Rattle.cmr_base.specs.LineSets.{AllBelow}
 use Rattle.cmr_base.specs.Matrix.{height}
 use Rattle.cmr_base.specs.Trees.{support}
-use Rattle.bridge_split.specs.ColumnSets.{has_column, Denies}
+use Rattle.cmr_base.specs.ColumnSets.{has_column, Denies}
 use Rattle.bridge_split.specs.Cutting.{part_at, AreUncutIn}
 use Rattle.bridge_split.proofs.CutTables.{line_more}
 use Rattle.bridge_split.proofs.cuts.push_cuts.Goals as goal

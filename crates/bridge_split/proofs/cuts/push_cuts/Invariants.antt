@@ -1,5 +1,5 @@
 use Rattle.cmr_base.specs.Trees.{support}
-use Rattle.bridge_split.specs.ColumnSets.{has_column}
+use Rattle.cmr_base.specs.ColumnSets.{has_column}
 use Rattle.bridge_split.specs.Cutting.{HasLine}
 use Rattle.bridge_split.proofs.cuts.push_cuts.Given as goal
 

@@ -1,8 +1,8 @@
 use Rattle.std.proofs.Common.{◌∙◌, sym, ◌⊎◌}
 use Rattle.cmr_base.specs.Trees.{support}
-use Rattle.bridge_split.specs.ColumnSets.{has_column, IsApart, IsWithin}
+use Rattle.cmr_base.specs.ColumnSets.{has_column, IsApart, IsWithin}
 use Rattle.bridge_split.specs.Cutting.{IsUncutIn}
-use Rattle.bridge_split.proofs.ColumnWords.{words_long, words_columns}
+use Rattle.cmr_base.proofs.ColumnWords.{words_long, words_columns}
 use Rattle.bridge_split.proofs.CutTables.{denied, uncut_sets, sets_uncut}
 use Rattle.bridge_split.proofs.cuts.row_cuts.Goals as goal
 

@@ -1,8 +1,8 @@
 use Rattle.std.proofs.Common.{◌≡◌, ◌<◌, ◌&&◌, ◌||◌, ◌∙◌, ℕ, List, sym, ap, ap₂, subst, arith, length, get_or}
 use Rattle.cmr_base.specs.Matrix.{height}
 use Rattle.cmr_base.specs.Trees.{support}
-use Rattle.bridge_split.specs.ColumnSets.{has_column}
-use Rattle.bridge_split.proofs.ColumnWords.{words_long, words_columns}
+use Rattle.cmr_base.specs.ColumnSets.{has_column}
+use Rattle.cmr_base.proofs.ColumnWords.{words_long, words_columns}
 use Rattle.bridge_split.proofs.CutTables.{collected_more, collected_all}
 use Rattle.bridge_split.proofs.cuts.set_common.Goals as goal
 

@@ -3,7 +3,7 @@ use Rattle.std.proofs.Common.{◌≡◌, ◌≤◌, ◌∙◌, ◌+◌, ◌*◌,
 use Rattle.cmr_base.specs.LineSets.{first_lines}
 use Rattle.cmr_base.specs.Trees.{support}
 use Rattle.cmr_base.proofs.GraphicMatrices.{nonzero_in_range}
-use Rattle.bridge_split.specs.ColumnSets.{has_column, Denies}
+use Rattle.cmr_base.specs.ColumnSets.{has_column, Denies}
 use Rattle.bridge_split.specs.Cutting.{AreUncutIn}
 use Rattle.graph_realise.proofs.BranchLemmas.{common_below, weight_by_set, common_by_set}
 use Rattle.graph_realise.proofs.branches.branch_at.Goals as goal

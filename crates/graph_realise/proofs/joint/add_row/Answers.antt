@@ -1,7 +1,7 @@
 use Rattle.std.proofs.Common.{◌∙◌, ◌||◌, ◌&&◌, Bool, true, false, ◌≡◌, sym, ap, ap₂, refl}
 use Rattle.cmr_base.specs.Trees.{support}
-use Rattle.bridge_split.specs.ColumnSets.{has_column}
-use Rattle.bridge_split.proofs.ColumnWords.{words_long, words_columns}
+use Rattle.cmr_base.specs.ColumnSets.{has_column}
+use Rattle.cmr_base.proofs.ColumnWords.{words_long, words_columns}
 use Rattle.graph_realise.proofs.joint.add_row.Goals as goal
 
 both : (t : Bool) → (t && t) ≡ t

@@ -4,7 +4,7 @@ use Rattle.cmr_base.specs.Planes.{words_for}
 use Rattle.cmr_base.specs.Trees.{support}
 use Rattle.cmr_base.proofs.GraphicMatrices.{nonzero_in_range}
 use Rattle.cmr_base.proofs.Members.{in_at}
-use Rattle.bridge_split.specs.ColumnSets.{has_column}
+use Rattle.cmr_base.specs.ColumnSets.{has_column}
 use Rattle.graph_realise.proofs.JointLemmas.{passing_starts, passing_more, passing_ends, fresh_first}
 use Rattle.graph_realise.proofs.joint.parts_with_columns.Goals as goal
 

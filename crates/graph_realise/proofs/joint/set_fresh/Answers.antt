@@ -1,6 +1,6 @@
 use Rattle.std.proofs.Common.{◌∙◌, ◌||◌, ◌&&◌, not, sym, ap}
-use Rattle.bridge_split.specs.ColumnSets.{has_column}
-use Rattle.bridge_split.proofs.ColumnWords.{words_long, words_columns}
+use Rattle.cmr_base.specs.ColumnSets.{has_column}
+use Rattle.cmr_base.proofs.ColumnWords.{words_long, words_columns}
 use Rattle.graph_realise.proofs.joint.set_fresh.Goals as goal
 
 pub add_outside-requires-clause-one : goal.add_outside-requires-clause-one

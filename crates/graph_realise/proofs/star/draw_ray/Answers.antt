@@ -2,8 +2,8 @@ use Rattle.std.proofs.Common.{◌∙◌, ap, sym}
 use Rattle.cmr_base.specs.Planes.{words_for}
 use Rattle.cmr_base.specs.Trees.{support}
 use Rattle.cmr_base.proofs.GraphicMatrices.{nonzero_in_range}
-use Rattle.bridge_split.specs.ColumnSets.{has_column}
-use Rattle.bridge_split.proofs.ColumnWords.{words_columns, words_long}
+use Rattle.cmr_base.specs.ColumnSets.{has_column}
+use Rattle.cmr_base.proofs.ColumnWords.{words_columns, words_long}
 use Rattle.graph_realise.proofs.Stars.{ray_drawn, ray_others}
 use Rattle.graph_realise.proofs.star.draw_ray.Goals as goal
 

@@ -3,7 +3,7 @@ use Rattle.cmr_base.specs.Members.{IsIn}
 use Rattle.cmr_base.specs.Planes.{words_for}
 use Rattle.cmr_base.specs.Trees.{support}
 use Rattle.graph_realise.specs.Rays.{IsRay, IsRayAfter}
-use Rattle.bridge_split.specs.ColumnSets.{has_column}
+use Rattle.cmr_base.specs.ColumnSets.{has_column}
 use Rattle.graph_realise.proofs.SideLemmas.{redrawn_more, redrawn_all, redrawn_others}
 use Rattle.graph_realise.proofs.Stars.{ray_after, ray_same, rays_cuts, seen_more, seen_none}
 use Rattle.graph_realise.proofs.star.draw_star.Goals as goal

@@ -3,7 +3,7 @@ use Rattle.cmr_base.specs.Planes.{words_for}
 use Rattle.cmr_base.specs.Trees.{support}
 use Rattle.graph_realise.specs.SideTables.{AreTablesOf, AreRedrawn}
 use Rattle.graph_realise.specs.Rays.{AreSeen, IsRay}
-use Rattle.bridge_split.specs.ColumnSets.{has_column}
+use Rattle.cmr_base.specs.ColumnSets.{has_column}
 use Rattle.graph_realise.proofs.star.draw_star.Given as goal
 
 abbrev pub invariant-loop-row : goal.invariant-loop-row

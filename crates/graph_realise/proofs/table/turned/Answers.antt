@@ -1,4 +1,4 @@
-use Rattle.bridge_split.proofs.WordBits.{has_bit-not}
+use Rattle.cmr_base.proofs.WordBits.{has_bit-not}
 use Rattle.graph_realise.proofs.table.turned.Goals as goal
 
 pub returns-then-is_turned : goal.returns-then-is_turned

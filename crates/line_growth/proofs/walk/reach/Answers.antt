@@ -1,7 +1,9 @@
-use Rattle.std.proofs.Common.{◌≡◌, ◌<◌, ◌≤◌, ◌+◌, ap, ap₂, sym, subst, ℕ, Bool, List, length, arith, inl, inr, get_or}
+use Rattle.std.proofs.Common.{◌≡◌, ◌<◌, ◌≤◌, ◌+◌, ◌∙◌, ap, ap₂, sym, subst, ℕ, Bool, List, length, arith, inl, inr, get_or}
+use Rattle.std.proofs.lemmas.Bool.{false≢true}
 use Rattle.cmr_base.specs.Matrix.{height}
 use Rattle.cmr_base.proofs.Members.{in_at}
 use Rattle.line_growth.specs.Rules.{pulls_along}
+use Rattle.line_growth.specs.FoundPlaces.{HaveSize}
 use Rattle.line_growth.specs.Reaching.{AreStarting, AreReaching}
 use Rattle.line_growth.specs.declared.walk.Walk.{Walk}
 use Rattle.line_growth.proofs.Exchanges.{exchanged}
@@ -15,8 +17,14 @@ loop-head-init c =
     let walk = c.in_ok-walk.walk in
     let leads = pulls_along m c.args.rule c.args.direction in
     let size : c.rows.result + c.columns.result ≡ height m + m.width = ap₂ (λ (a b : ℕ). a + b) c.rows.ensures.rows c.columns.ensures.columns in
-    reaching_starts (height m + m.width) leads c.args.starts.now walk.marks.items walk.met.items (length c.args.starts.now)
-    (subst (λ (k : ℕ). AreStarting k leads c.args.starts.now walk.marks.items walk.met.items (length c.args.starts.now)) size (c.in_ok-walk.ensures leads)) (omega arith)
+    record {
+      reaching = reaching_starts (height m + m.width) leads c.args.starts.now walk.marks.items walk.met.items (length c.args.starts.now)
+          (subst (λ (k : ℕ). AreStarting k leads c.args.starts.now walk.marks.items walk.met.items (length c.args.starts.now)) size (c.in_ok-walk.ensures leads)) (omega arith);
+      row_size = subst (λ (k : ℕ). HaveSize k c.in_ok-rows.rows) c.rows-2.ensures.rows c.in_ok-rows.ensures.size;
+      column_size = subst (λ (k : ℕ). HaveSize k c.in_ok-columns.columns) c.columns-2.ensures.columns c.in_ok-columns.ensures.size;
+      rows = λ place e. absurd (false≢true (sym (c.in_ok-rows.ensures.none place) ∙ e));
+      columns = λ place e. absurd (false≢true (sym (c.in_ok-columns.ensures.none place) ∙ e));
+    }
 
 -- after the exchange
 exchanged_reaching : (size : ℕ) (leads : ℕ → ℕ → Bool) (starts : List ℕ) (old new : Walk) (head : ℕ) → AreReaching size leads starts old.marks.items old.met.items head → new.marks ≡ old.marks
@@ -28,19 +36,25 @@ exchanged_reaching size leads starts old new head r same (last, low, high, met) 
 pub meet_led-requires-clause-below : goal.meet_led-requires-clause-below
 meet_led-requires-clause-below c =
     let m = c.args.matrix.now in
-    let r = exchanged_reaching (height m + m.width) (pulls_along m c.args.rule c.args.direction) c.args.starts.now c.loop-head.walk c.take_last.new.self c.loop-head.head c.loop-head.invariant c.take_last.ensures.marks c.take_last.ensures.met in
+    let r = exchanged_reaching (height m + m.width) (pulls_along m c.args.rule c.args.direction) c.args.starts.now c.loop-head.walk c.take_last.new.self c.loop-head.head c.loop-head.invariant.reaching c.take_last.ensures.marks c.take_last.ensures.met in
     λ k l. r.are.below (get_or c.take_last.new.self.met.items k 0) (in_at c.take_last.new.self.met.items k l)
 
 pub loop-head-preserved : goal.loop-head-preserved
 loop-head-preserved c =
     let m = c.args.matrix.now in
-    c.in_ok-meet_led.ensures c.args.starts.now
-    (exchanged_reaching (height m + m.width) (pulls_along m c.args.rule c.args.direction) c.args.starts.now c.loop-head.walk c.take_last.new.self c.loop-head.head c.loop-head.invariant c.take_last.ensures.marks c.take_last.ensures.met)
+    record {
+      reaching = c.in_ok-meet_led.ensures.reaching c.args.starts.now
+          (exchanged_reaching (height m + m.width) (pulls_along m c.args.rule c.args.direction) c.args.starts.now c.loop-head.walk c.take_last.new.self c.loop-head.head c.loop-head.invariant.reaching c.take_last.ensures.marks c.take_last.ensures.met);
+      row_size = c.in_ok-meet_led.ensures.row_size;
+      column_size = c.in_ok-meet_led.ensures.column_size;
+      rows = c.in_ok-meet_led.ensures.rows;
+      columns = c.in_ok-meet_led.ensures.columns;
+    }
 
 pub loop-head-smaller : goal.loop-head-smaller
 loop-head-smaller c =
     let m = c.args.matrix.now in
-    let few = met_few (height m + m.width) (pulls_along m c.args.rule c.args.direction) c.args.starts.now c.loop-head.walk.marks.items c.loop-head.walk.met.items c.loop-head.head c.loop-head.invariant in
+    let few = met_few (height m + m.width) (pulls_along m c.args.rule c.args.direction) c.args.starts.now c.loop-head.walk.marks.items c.loop-head.walk.met.items c.loop-head.head c.loop-head.invariant.reaching in
     let e = c.len.ensures in let l = c.loop-head-test.true in omega arith
 
 pub returns : goal.returns
@@ -49,7 +63,7 @@ returns c =
     let rows = c.rows.ensures.rows in
     let columns = c.columns.ensures.columns in
     let len = c.len.ensures in
-    reached (height m + m.width) (pulls_along m c.args.rule c.args.direction) c.args.starts.now c.args.least c.loop-head.walk.marks.items c.loop-head.walk.met.items c.loop-head.head c.loop-head.invariant
+    reached (height m + m.width) (pulls_along m c.args.rule c.args.direction) c.args.starts.now c.args.least c.loop-head.walk.marks.items c.loop-head.walk.met.items c.loop-head.head c.loop-head.invariant.reaching
     (elim c.loop-head-test.branch [
       | then-loop-head-test+else-len-least w ↦ inr (let a = w.if-len-least.false in let b = w.len-in-loop-head.ensures in omega arith)
       | else-loop-head-test w ↦ inl (let a = w.loop-head-test.false in omega arith)

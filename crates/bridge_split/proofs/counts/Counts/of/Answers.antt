@@ -1,7 +1,7 @@
 use Rattle.std.proofs.Common.{◌≡◌, ◌+◌, cond, ◌&&◌, ◌||◌, ◌∙◌, nat_lt, ℕ, sym, ap, ap₂, take, get_or}
 use Rattle.std.specs.List.{count_by}
 use Rattle.cmr_base.specs.Trees.{support}
-use Rattle.bridge_split.proofs.ColumnWords.{words_long, words_columns}
+use Rattle.cmr_base.proofs.ColumnWords.{words_long, words_columns}
 use Rattle.bridge_split.proofs.ThreeNonzeros.{count_more, more_than, more_than_none}
 use Rattle.bridge_split.proofs.counts.Counts.of.Goals as goal
 

@@ -5,7 +5,7 @@ use Rattle.cmr_base.specs.LineSets.{AllBelow}
 use Rattle.cmr_base.specs.Matrix.{height}
 use Rattle.cmr_base.specs.Splits.{IsCommon}
 use Rattle.cmr_base.specs.Trees.{support}
-use Rattle.bridge_split.specs.ColumnSets.{has_column}
+use Rattle.cmr_base.specs.ColumnSets.{has_column}
 use Rattle.bridge_split.specs.Cutting.{part_at}
 use Rattle.bridge_split.proofs.CutTables.{table_more}
 use Rattle.bridge_split.proofs.cuts.CutTable.new.Goals as goal

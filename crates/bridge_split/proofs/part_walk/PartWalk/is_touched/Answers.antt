@@ -1,7 +1,7 @@
 use Rattle.std.proofs.Common.{◌≡◌, ◌∙◌, ℕ, sym, ap, refl, length}
 use Rattle.cmr_base.specs.Trees.{support}
-use Rattle.bridge_split.specs.ColumnSets.{has_column}
-use Rattle.bridge_split.proofs.ColumnWords.{words_long, words_columns}
+use Rattle.cmr_base.specs.ColumnSets.{has_column}
+use Rattle.cmr_base.proofs.ColumnWords.{words_long, words_columns}
 use Rattle.bridge_split.proofs.part_walk.PartWalk.is_touched.Goals as goal
 
 pub meets-requires : goal.meets-requires

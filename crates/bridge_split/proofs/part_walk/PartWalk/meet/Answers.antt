@@ -1,6 +1,6 @@
 use Rattle.std.proofs.Common.{◌∙◌, ◌&&◌, ◌||◌, not, sym, ap, ap₂}
-use Rattle.bridge_split.specs.ColumnSets.{has_column}
-use Rattle.bridge_split.proofs.ColumnWords.{words_long, words_columns}
+use Rattle.cmr_base.specs.ColumnSets.{has_column}
+use Rattle.cmr_base.proofs.ColumnWords.{words_long, words_columns}
 use Rattle.bridge_split.proofs.part_walk.PartWalk.meet.Goals as goal
 
 pub add_outside-requires-clause-one : goal.add_outside-requires-clause-one

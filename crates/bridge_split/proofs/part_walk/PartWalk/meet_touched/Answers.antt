@@ -2,7 +2,7 @@ use Rattle.std.proofs.Common.{◌≡◌, ◌+◌, ℕ, sym, subst, get_or, refl}
 use Rattle.cmr_base.specs.Trees.{support}
 use Rattle.cmr_base.proofs.Members.{in_at}
 use Rattle.cmr_base.proofs.Places.{all_placed}
-use Rattle.bridge_split.specs.ColumnSets.{has_column}
+use Rattle.cmr_base.specs.ColumnSets.{has_column}
 use Rattle.bridge_split.specs.PartNumbers.{number_at, IsMeeting, IsTouched}
 use Rattle.bridge_split.specs.declared.part_walk.PartWalk.{PartWalk}
 use Rattle.bridge_split.proofs.NumberSteps.{meets_one, passes_one}

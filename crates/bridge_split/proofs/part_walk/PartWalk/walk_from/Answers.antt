@@ -3,7 +3,7 @@ use Rattle.cmr_base.specs.Matrix.{height}
 use Rattle.cmr_base.specs.Trees.{support}
 use Rattle.cmr_base.proofs.Members.{in_at}
 use Rattle.cmr_base.proofs.Parts.{length-rising}
-use Rattle.bridge_split.specs.ColumnSets.{has_column}
+use Rattle.cmr_base.specs.ColumnSets.{has_column}
 use Rattle.bridge_split.specs.PartNumbers.{number_at, IsBetween}
 use Rattle.bridge_split.proofs.PartWalks.{part_done}
 use Rattle.bridge_split.proofs.NumberSteps.{starts_from}

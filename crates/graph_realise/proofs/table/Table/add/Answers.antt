@@ -2,7 +2,7 @@ use Rattle.std.proofs.Common.{◌+◌, ◌*◌, ◌||◌, ◌∙◌, ℕ, Bool, 
 use Rattle.std.specs.Int.Bits.{bit_or}
 use Rattle.graph_realise.specs.Tables.{cell}
 use Rattle.graph_realise.proofs.TableLemmas.{filled_word, filled_row}
-use Rattle.bridge_split.proofs.WordBits.{has_bit-or}
+use Rattle.cmr_base.proofs.WordBits.{has_bit-or}
 use Rattle.graph_realise.proofs.table.Table.add.Goals as goal
 
 pub loop-block-preserved : goal.loop-block-preserved

@@ -2,10 +2,10 @@ use Rattle.std.proofs.Common.{◌+◌, ◌*◌, ◌&&◌, ◌||◌, ◌∙◌, �
 use Rattle.std.specs.Int.Bits.{bit_and, bit_or}
 use Rattle.cmr_base.specs.Trees.{support}
 use Rattle.cmr_base.specs.Planes.{has_bit}
-use Rattle.bridge_split.proofs.WordBits.{bit_at_block}
+use Rattle.cmr_base.proofs.WordBits.{bit_at_block}
 use Rattle.graph_realise.specs.Tables.{cell}
 use Rattle.graph_realise.proofs.TableLemmas.{filled_word, filled_row}
-use Rattle.bridge_split.proofs.WordBits.{has_bit-and, has_bit-or}
+use Rattle.cmr_base.proofs.WordBits.{has_bit-and, has_bit-or}
 use Rattle.graph_realise.proofs.table.Table.add_common.Goals as goal
 
 pub loop-block-preserved : goal.loop-block-preserved

@@ -1,8 +1,8 @@
 use Rattle.std.proofs.Common.{◌&&◌, ◌∙◌, ℕ, Bool, get_or, sym, ap₂, arith}
 use Rattle.std.specs.Int.Bits.{bit_and}
-use Rattle.bridge_split.specs.ColumnSets.{has_column}
-use Rattle.bridge_split.proofs.ColumnWords.{column_at}
-use Rattle.bridge_split.proofs.WordBits.{has_bit-and}
+use Rattle.cmr_base.specs.ColumnSets.{has_column}
+use Rattle.cmr_base.proofs.ColumnWords.{column_at}
+use Rattle.cmr_base.proofs.WordBits.{has_bit-and}
 use Rattle.graph_realise.proofs.TableLemmas.{filled_word, filled_row}
 use Rattle.graph_realise.proofs.table.Table.fill_common.Goals as goal
 

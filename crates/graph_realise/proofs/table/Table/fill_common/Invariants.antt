@@ -1,5 +1,5 @@
 use Rattle.std.proofs.Common.{◌*◌, ◌&&◌}
-use Rattle.bridge_split.specs.ColumnSets.{has_column}
+use Rattle.cmr_base.specs.ColumnSets.{has_column}
 use Rattle.graph_realise.specs.Tables.{IsRowFilled}
 use Rattle.graph_realise.proofs.table.Table.fill_common.Given as goal
 

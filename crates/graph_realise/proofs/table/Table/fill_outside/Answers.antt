@@ -1,9 +1,9 @@
 use Rattle.std.proofs.Common.{◌&&◌, ◌∙◌, ℕ, Bool, not, get_or, sym, ap, ap₂, arith, w64}
 use Rattle.std.specs.Int.{bit_not}
 use Rattle.std.specs.Int.Bits.{bit_and}
-use Rattle.bridge_split.specs.ColumnSets.{has_column}
-use Rattle.bridge_split.proofs.ColumnWords.{column_at}
-use Rattle.bridge_split.proofs.WordBits.{has_bit-and, has_bit-not}
+use Rattle.cmr_base.specs.ColumnSets.{has_column}
+use Rattle.cmr_base.proofs.ColumnWords.{column_at}
+use Rattle.cmr_base.proofs.WordBits.{has_bit-and, has_bit-not}
 use Rattle.graph_realise.proofs.TableLemmas.{filled_word, filled_row}
 use Rattle.graph_realise.proofs.table.Table.fill_outside.Goals as goal
 

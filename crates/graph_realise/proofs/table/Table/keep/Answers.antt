@@ -3,7 +3,7 @@ use Rattle.std.specs.Int.Bits.{bit_and}
 use Rattle.cmr_base.specs.Cuts.{differ}
 use Rattle.graph_realise.specs.Tables.{cell}
 use Rattle.graph_realise.proofs.TableLemmas.{filled_word, filled_row}
-use Rattle.bridge_split.proofs.WordBits.{has_bit-and}
+use Rattle.cmr_base.proofs.WordBits.{has_bit-and}
 use Rattle.graph_realise.proofs.table.Table.keep.Goals as goal
 
 pub loop-block-preserved : goal.loop-block-preserved

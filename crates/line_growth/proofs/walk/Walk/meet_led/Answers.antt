@@ -21,8 +21,8 @@ meet_differences-requires-else-line-rows-clause-row c = in_columns c.args.matrix
 pub meet_differences-requires-else-line-rows-clause-model : goal.meet_differences-requires-else-line-rows-clause-model
 meet_differences-requires-else-line-rows-clause-model c = in_columns c.args.matrix.now c.by_columns.result.now _ c.by_columns.ensures.matrix c.column-multiple.ensures.model
 
-pub returns-in_ok-meet_differences : goal.returns-in_ok-meet_differences
-returns-in_ok-meet_differences c = λ starts r.
+pub returns-in_ok-meet_differences-clause-reaching : goal.returns-in_ok-meet_differences-clause-reaching
+returns-in_ok-meet_differences-clause-reaching c = λ starts r.
     let m = c.args.matrix.now in
     let line = c.index-line.result.now in
     let multiple = c.row-multiple.result in
@@ -32,12 +32,12 @@ returns-in_ok-meet_differences c = λ starts r.
     _ (height m + m.width) _ (height m) _ m.width _ line _ (differs_at m line multiple.factor multiple.model)
     c.requires.marks c.rows-rows.ensures.rows (ap (λ (k : Matrix). k.width) c.by_rows.ensures.matrix) (line_is c.args.self.now.met.items c.args.head line c.requires.head c.index-line.ensures)
     (ap (λ (k : Matrix). differs_at k line multiple.factor multiple.model) c.by_rows.ensures.matrix)
-    (c.in_ok-meet_differences.ensures leads starts)
+    (c.in_ok-meet_differences.ensures.reaching leads starts)
     (row_leads_to m c.args.rule c.args.direction line (differs_at m line multiple.factor multiple.model) low
     (λ k. c.row-multiple.ensures.differences k ∙ ap (λ (b : Block). differ (entry m line k) (block_entry (entry m) b line k)) c.row_block.ensures)) r
 
-pub returns-in_ok-meet_differences-2 : goal.returns-in_ok-meet_differences-2
-returns-in_ok-meet_differences-2 c = λ starts r.
+pub returns-in_ok-meet_differences-2-clause-reaching : goal.returns-in_ok-meet_differences-2-clause-reaching
+returns-in_ok-meet_differences-2-clause-reaching c = λ starts r.
     let m = c.args.matrix.now in
     let line = c.index-line.result.now in
     let column = line - c.rows-rows.result in
@@ -48,6 +48,6 @@ returns-in_ok-meet_differences-2 c = λ starts r.
     _ (height m + m.width) 0 0 _ (height m) _ (height m + column) _ (differs_at (transposed m) column multiple.factor multiple.model)
     c.requires.marks refl (ap (λ (k : Matrix). k.width) c.by_columns.ensures.matrix) (line_is c.args.self.now.met.items c.args.head line c.requires.head c.index-line.ensures ∙ at)
     (ap (λ (k : Matrix). differs_at k column multiple.factor multiple.model) c.by_columns.ensures.matrix)
-    (c.in_ok-meet_differences-2.ensures leads starts)
+    (c.in_ok-meet_differences-2.ensures.reaching leads starts)
     (column_leads_to m c.args.rule c.args.direction column (differs_at (transposed m) column multiple.factor multiple.model)
     (λ k. c.column-multiple.ensures.differences k ∙ ap (λ (b : Block). differ (entry m k column) (block_entry (entry m) b k column)) c.column_block.ensures)) r

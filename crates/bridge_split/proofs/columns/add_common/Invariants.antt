@@ -1,6 +1,0 @@
-use Rattle.std.proofs.Common.{◌&&◌}
-use Rattle.bridge_split.specs.ColumnSets.{has_column, IsAdded}
-use Rattle.bridge_split.proofs.columns.add_common.Given as goal
-
-abbrev pub invariant-loop-block : goal.invariant-loop-block
-invariant-loop-block l = IsAdded (λ column. has_column l.one column && has_column l.two column) l.initial.set.items l.set.items l.block

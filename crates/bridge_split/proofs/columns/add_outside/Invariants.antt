@@ -1,6 +1,0 @@
-use Rattle.std.proofs.Common.{◌&&◌, not}
-use Rattle.bridge_split.specs.ColumnSets.{has_column, IsAdded}
-use Rattle.bridge_split.proofs.columns.add_outside.Given as goal
-
-abbrev pub invariant-loop-block : goal.invariant-loop-block
-invariant-loop-block l = IsAdded (λ column. has_column l.one column && not (has_column l.other column)) l.initial.set.items l.set.items l.block

@@ -1,0 +1,247 @@
+-- Sets of columns, word by word.
+use Rattle.std.proofs.Common.{◌≡◌, ◌≢◌, ◌<◌, ◌≤◌, ◌+◌, ◌-◌, ◌*◌, ◌/◌, ◌%◌, ◌^◌, ◌&&◌, ◌||◌, ◌∙◌, ℕ, zero, suc, Bool, true, false, not, eqb, cond, List, length, get_or, set, sym, ap, ap₂, subst, refl, arith, ◌⊎◌, inl, inr, w64}
+use Rattle.std.specs.Int.{bit_at, bit_not, trailing_zeros}
+use Rattle.std.specs.Int.Bits.{bit_and, bit_or, and_lt}
+use Rattle.std.proofs.Math.Nat.{div-le_self}
+use Rattle.std.proofs.lemmas.Bool.{cases_lt, true≢false}
+use Rattle.std.proofs.lemmas.List.{get_or-set_same, get_or-set_other, get_or_default, get_or_past, length-set}
+use Rattle.std.proofs.lemmas.Nat.Bits.{bit_at-lt, bit_at-zero, bit_at-trailing_zeros}
+use Rattle.cmr_base.specs.Matrix.{Matrix, height, row_of, is_nonzero, IsMatrix}
+use Rattle.cmr_base.specs.Planes.{has_bit, words_for, words_of}
+use Rattle.cmr_base.specs.Trees.{support}
+use Rattle.cmr_base.proofs.NextNonzeros.{column_in}
+use Rattle.cmr_base.proofs.PlaneWords.{length-words_of, word-words_of}
+use Rattle.cmr_base.proofs.FirstBits.{first_by_bits, none_by_bits}
+use Rattle.cmr_base.proofs.RowLists.{is_eq, is_ne, same_or_not}
+use Rattle.std.specs.Prelude.{◌↔◌}
+use Rattle.cmr_base.specs.ColumnSets.{has_column, Denies, HasCommon, IsApart, IsWithin, IsAdded}
+use Rattle.cmr_base.proofs.WordBits.{has_bit-and, has_bit-not, has_bit-or, bit_at_block}
+
+-- a column by its block and its place there
+pub block_of : (block k : ℕ) → k < 64 → (64 * block + k) / 64 ≡ block
+block_of block k l = omega arith
+
+pub place_of : (block k : ℕ) → k < 64 → (64 * block + k) % 64 ≡ k
+place_of block k l = omega arith
+
+pub column_at : (words : List ℕ) (block k : ℕ) → k < 64 → has_column words (64 * block + k) ≡ has_bit (get_or words block 0) k
+column_at words block k l = ap (λ b. has_bit (get_or words b 0) ((64 * block + k) % 64)) (block_of block k l) ∙ ap (has_bit (get_or words block 0)) (place_of block k l)
+
+no_bit : (k : ℕ) → has_bit 0 k ≡ false
+no_bit k = ap (λ bit. eqb bit 1) (bit_at-zero k)
+
+-- no column is past the last word
+pub none_past : (words : List ℕ) (column : ℕ) → 64 * length words ≤ column → has_column words column ≡ false
+none_past words column l = ap (λ word. has_bit word (column % 64)) (get_or_past words (column / 64) 0 (omega arith)) ∙ no_bit (column % 64)
+
+-- the words of a row of a matrix are the set of its nonzeros
+pub row_columns : (m : Matrix) (row : ℕ) → IsMatrix m → row < height m → (column : ℕ) → has_column (words_of (words_for m.width) is_nonzero (row_of m row)) column ≡ support m row column
+row_columns m row is l column = go (cases_lt (column / 64) (words_for m.width))
+  where
+    same : 64 * (column / 64) + column % 64 ≡ column
+    same = omega arith
+
+    past : words_for m.width ≤ column / 64 → (t : Bool) → support m row column ≡ t → support m row column ≡ false
+    past k true e = let inside = column_in m row column is l e in absurd (omega arith)
+    past k false e = e
+
+    go : (column / 64 < words_for m.width) ⊎ (words_for m.width ≤ column / 64) → has_column (words_of (words_for m.width) is_nonzero (row_of m row)) column ≡ support m row column
+    go (inl k) =
+        ap (λ word. has_bit word (column % 64)) (word-words_of (words_for m.width) is_nonzero (row_of m row) (column / 64) k)
+        ∙ bit_at_block m row (column / 64) (column % 64) (omega arith) ∙ ap (support m row) same
+    go (inr k) =
+        none_past (words_of (words_for m.width) is_nonzero (row_of m row)) column (let e = length-words_of (words_for m.width) is_nonzero (row_of m row) in omega arith)
+        ∙ sym (past k (support m row column) refl)
+
+-- the same for words that are those of a row
+pub words_long : (m : Matrix) (row : ℕ) (words : List ℕ) → words ≡ words_of (words_for m.width) is_nonzero (row_of m row) → length words ≡ words_for m.width
+words_long m row words is = ap length is ∙ length-words_of (words_for m.width) is_nonzero (row_of m row)
+
+pub words_columns : (m : Matrix) (row : ℕ) (words : List ℕ) → words ≡ words_of (words_for m.width) is_nonzero (row_of m row) → IsMatrix m → row < height m → (column : ℕ) → has_column words column ≡ support m row column
+words_columns m row words is shape l column = ap (λ ws. has_column ws column) is ∙ row_columns m row shape l column
+
+-- ---- columns that are added
+
+module _ (test : ℕ → Bool) (before : List ℕ) where
+  pub added_none : IsAdded test before before 0
+  added_none = record { size = refl; done = λ column l. absurd (omega arith); left = λ column l. refl }
+
+  pub added_word : (after : List ℕ) (block old word : ℕ) → IsAdded test before after block → block < length after → old ≡ get_or after block old → ((k : ℕ) → k < 64 → has_bit word k ≡ test (64 * block + k))
+      → IsAdded test before (set after block (bit_or old word)) (block + 1)
+  added_word after block old word a l is bits = record {
+    size = length-set after block (bit_or old word) ∙ a.size;
+    done = λ column h. go column h (cases_lt column (64 * block));
+    left = λ column h. other column (λ e. absurd (omega arith)) ∙ a.left column (omega arith);
+  }
+    where
+      after' : List ℕ
+      after' = set after block (bit_or old word)
+
+      other : (column : ℕ) → (column / 64 ≡ block → ⊥) → has_column after' column ≡ has_column after column
+      other column n = ap (λ w. has_bit w (column % 64)) (get_or-set_other after block (column / 64) (bit_or old word) 0 n)
+
+      here : (k : ℕ) → k < 64 → has_column after' (64 * block + k) ≡ (has_column before (64 * block + k) || test (64 * block + k))
+      here k s =
+          column_at after' block k s
+          ∙ ap (λ w. has_bit w k) (get_or-set_same after block (bit_or old word) 0 l)
+          ∙ has_bit-or old word k
+          ∙ ap₂ (λ a b. a || b) (ap (λ w. has_bit w k) (is ∙ get_or_default after block old 0 l) ∙ sym (column_at after block k s) ∙ a.left (64 * block + k) (omega arith)) (bits k s)
+
+      go : (column : ℕ) → column < 64 * (block + 1) → (column < 64 * block) ⊎ (64 * block ≤ column) → has_column after' column ≡ (has_column before column || test column)
+      go column h (inl k) = other column (λ e. absurd (omega arith)) ∙ a.done column k
+      go column h (inr k) =
+          let at : 64 * block + column % 64 ≡ column = omega arith in
+          subst (λ x. has_column after' x ≡ (has_column before x || test x)) at (here (column % 64) (omega arith))
+
+  pub added_all : (after : List ℕ) (block : ℕ) → IsAdded test before after block → length before ≤ block → ((column : ℕ) → 64 * length before ≤ column → test column ≡ false)
+      → (column : ℕ) → has_column after column ≡ (has_column before column || test column)
+  added_all after block a l none column = go (cases_lt column (64 * block))
+    where
+      go : (column < 64 * block) ⊎ (64 * block ≤ column) → has_column after column ≡ (has_column before column || test column)
+      go (inl k) = a.done column k
+      go (inr k) = a.left column k ∙ sym (ap (λ t. has_column before column || t) (none column (omega arith)) ∙ flat (has_column before column))
+        where
+          flat : (t : Bool) → (t || false) ≡ t
+          flat true = refl
+          flat false = refl
+
+-- ---- bits of two words
+
+zero_bits : (n : ℕ) → n < 2 ^ 64 → ((k : ℕ) → k < 64 → has_bit n k ≡ false) → n ≡ 0
+zero_bits n fits none = elim (cases_lt 0 n) [
+  | inl some ↦ let b = bit_at-trailing_zeros w64 n some fits in absurd (true≢false (sym (ap (λ bit. eqb bit 1) b.1) ∙ none (trailing_zeros w64 n) b.0))
+  | inr l ↦ omega arith
+]
+
+some_bit : (n : ℕ) → n < 2 ^ 64 → n ≢ 0 → (k : ℕ) × (k < 64) × (has_bit n k ≡ true)
+some_bit n fits n0 = let b = bit_at-trailing_zeros w64 n (omega arith) fits in (trailing_zeros w64 n, b.0, ap (λ bit. eqb bit 1) b.1)
+
+and_true : (s t : Bool) → (s && t) ≡ true → (s ≡ true) × (t ≡ true)
+and_true true true e = (refl, refl)
+and_true true false e = cc
+and_true false t e = cc
+
+and_not : (s t : Bool) → (s && not t) ≡ false → s ≡ true → t ≡ true
+and_not true true e h = refl
+and_not true false e h = cc
+and_not false t e h = cc
+
+-- two words without a common bit
+pub bits_shared : (a b : ℕ) → a < 2 ^ 64 → b < 2 ^ 64 → bit_and a b ≢ 0 → (k : ℕ) × (k < 64) × (has_bit a k ≡ true) × (has_bit b k ≡ true)
+bits_shared a b fa fb n =
+    let s = some_bit (bit_and a b) (and_lt 64 a b fa fb) n in
+    let both = and_true (has_bit a s.0) (has_bit b s.0) (sym (has_bit-and a b s.0) ∙ s.2) in
+    (s.0, s.1, both.0, both.1)
+
+pub no_bits_shared : (a b k : ℕ) → bit_and a b ≡ 0 → has_bit a k ≡ true → has_bit b k ≡ true → ⊥
+no_bits_shared a b k e ha hb = true≢false (sym (has_bit-and a b k ∙ ap₂ (λ s t. s && t) ha hb) ∙ ap (λ n. has_bit n k) e ∙ no_bit k)
+
+pub nonzero_is : (n : ℕ) → not (eqb n 0) ≡ true → n ≢ 0
+nonzero_is n e z = true≢false (sym e ∙ ap not (is_eq n 0 z))
+
+pub is_nonzero_test : (n : ℕ) → n ≢ 0 → not (eqb n 0) ≡ true
+is_nonzero_test n z = ap not (is_ne n 0 z)
+
+zero_is : (n : ℕ) → eqb n 0 ≡ true → n ≡ 0
+zero_is n e = go (same_or_not n 0)
+  where
+    go : (n ≡ 0) ⊎ (n ≢ 0) → n ≡ 0
+    go (inl z) = z
+    go (inr z) = absurd (true≢false (sym e ∙ is_ne n 0 z))
+
+-- a word whose bits are all bits of another
+pub part_bits : (a b : ℕ) → b < 2 ^ 64 → eqb (bit_and a (bit_not w64 b)) 0 ≡ true → (k : ℕ) → k < 64 → has_bit a k ≡ true → has_bit b k ≡ true
+part_bits a b fb e k small h = and_not (has_bit a k) (has_bit b k) (sym (left_out a b fb k small) ∙ ap (λ n. has_bit n k) (zero_is (bit_and a (bit_not w64 b)) e) ∙ no_bit k) h
+  where
+    left_out : (a b : ℕ) → b < 2 ^ 64 → (k : ℕ) → k < 64 → has_bit (bit_and a (bit_not w64 b)) k ≡ (has_bit a k && not (has_bit b k))
+    left_out a b fb k small = has_bit-and a (bit_not w64 b) k ∙ ap (λ t. has_bit a k && t) (has_bit-not b k fb small)
+
+pub is_part_word : (a b : ℕ) → a < 2 ^ 64 → b < 2 ^ 64 → ((k : ℕ) → k < 64 → has_bit a k ≡ true → has_bit b k ≡ true) → eqb (bit_and a (bit_not w64 b)) 0 ≡ true
+is_part_word a b fa fb all =
+    is_eq (bit_and a (bit_not w64 b)) 0 (zero_bits (bit_and a (bit_not w64 b)) (and_lt 64 a (bit_not w64 b) fa (omega arith))
+    (λ k small. has_bit-and a (bit_not w64 b) k ∙ ap (λ t. has_bit a k && t) (has_bit-not b k fb small) ∙ none (has_bit a k) (has_bit b k) (all k small)))
+  where
+    none : (s t : Bool) → (s ≡ true → t ≡ true) → (s && not t) ≡ false
+    none true true f = refl
+    none true false f = absurd (true≢false (sym (f refl)))
+    none false t f = refl
+
+-- ---- word after word
+
+pub in_block : (column block : ℕ) → 64 * block ≤ column → column < 64 * (block + 1) → 64 * block + column % 64 ≡ column
+in_block column block l h = omega arith
+
+module _ (one two : List ℕ) (block : ℕ) where
+  pub unshared : ((k : ℕ) → k < 64 * block → has_column one k ≡ true → has_column two k ≡ false) → ((k : ℕ) → k < 64 → has_bit (get_or one block 0) k ≡ true → has_bit (get_or two block 0) k ≡ true → ⊥)
+      → (k : ℕ) → k < 64 * (block + 1) → has_column one k ≡ true → has_column two k ≡ false
+  unshared so none k h a = elim (cases_lt k (64 * block)) [
+    | inl l ↦ so k l a
+    | inr l ↦
+        let at = in_block k block l h in
+        let small : k % 64 < 64 = omega arith in
+        pick (has_column two k) refl (λ b. none (k % 64) small (sym (column_at one block (k % 64) small) ∙ ap (has_column one) at ∙ a) (sym (column_at two block (k % 64) small) ∙ ap (has_column two) at ∙ b))
+  ]
+    where
+      pick : (t : Bool) → has_column two k ≡ t → (t ≡ true → ⊥) → t ≡ false
+      pick true e n = absurd (n refl)
+      pick false e n = refl
+
+  pub within_more : ((k : ℕ) → k < 64 * block → has_column one k ≡ true → has_column two k ≡ true) → ((k : ℕ) → k < 64 → has_bit (get_or one block 0) k ≡ true → has_bit (get_or two block 0) k ≡ true)
+      → (k : ℕ) → k < 64 * (block + 1) → has_column one k ≡ true → has_column two k ≡ true
+  within_more so all k h a = elim (cases_lt k (64 * block)) [
+    | inl l ↦ so k l a
+    | inr l ↦
+        let at = in_block k block l h in
+        let small : k % 64 < 64 = omega arith in
+        ap (has_column two) (sym at) ∙ column_at two block (k % 64) small ∙ all (k % 64) small (sym (column_at one block (k % 64) small) ∙ ap (has_column one) at ∙ a)
+  ]
+
+-- ---- the next column of a set
+
+module _ (words : List ℕ) (from column : ℕ) (fits : get_or words (column / 64) 0 < 2 ^ 64) where
+  tells : (i : ℕ) → i < 64 → bit_at (get_or words (column / 64) 0) i ≡ cond (has_column words (64 * (column / 64) + i)) 1 0
+  tells i small = bit_of (bit_at (get_or words (column / 64) 0) i) (bit_at-lt (get_or words (column / 64) 0) i) ∙ ap (λ t. cond t 1 0) (sym (column_at words (column / 64) i small))
+    where
+      bit_of : (b : ℕ) → b < 2 → b ≡ cond (eqb b 1) 1 0
+      bit_of zero l = refl
+      bit_of (suc zero) l = refl
+      bit_of (suc (suc b)) l = absurd (omega arith)
+
+  inside : (c : ℕ) → has_column words c ≡ true → c < 64 * length words
+  inside c h = elim (cases_lt c (64 * length words)) [
+    | inl l ↦ l
+    | inr l ↦ absurd (true≢false (sym h ∙ none_past words c l))
+  ]
+
+  pub next_found : from ≤ column → ((c : ℕ) → from ≤ c → c < column → has_column words c ≡ false) → 0 < get_or words (column / 64) 0 / 2 ^ (column % 64)
+      → (from ≤ column + trailing_zeros w64 (get_or words (column / 64) 0 / 2 ^ (column % 64))) × (column + trailing_zeros w64 (get_or words (column / 64) 0 / 2 ^ (column % 64)) < 64 * length words)
+      × (has_column words (column + trailing_zeros w64 (get_or words (column / 64) 0 / 2 ^ (column % 64))) ≡ true)
+      × ((c : ℕ) → from ≤ c → c < column + trailing_zeros w64 (get_or words (column / 64) 0 / 2 ^ (column % 64)) → has_column words c ≡ false)
+  next_found low none some =
+      let less = div-le_self (get_or words (column / 64) 0) (2 ^ (column % 64)) in
+      let first = first_by_bits (has_column words) column (get_or words (column / 64) 0) fits tells some (omega (arith, fits, less)) in (
+        omega arith,
+        inside (column + trailing_zeros w64 (get_or words (column / 64) 0 / 2 ^ (column % 64))) first.0,
+        first.0,
+        λ c l h. elim (cases_lt c column) [ inl before ↦ none c l before | inr after ↦ first.1 c after h ],
+      )
+
+  pub next_skips : ((c : ℕ) → from ≤ c → c < column → has_column words c ≡ false) → get_or words (column / 64) 0 / 2 ^ (column % 64) ≡ 0 → (c : ℕ) → from ≤ c → c < column - column % 64 + 64 → has_column words c ≡ false
+  next_skips none empty c l h = elim (cases_lt c column) [
+    | inl before ↦ none c l before
+    | inr after ↦ none_by_bits (has_column words) column (get_or words (column / 64) 0) fits tells empty c after h
+  ]
+
+-- ---- two sets by two tests
+
+pub cut_by_tests : (one two : List ℕ) (s t : Bool) → (s ≡ true) ↔ HasCommon one two → (t ≡ true) ↔ IsWithin one two → Denies (s && not t) (IsWithin one two ⊎ IsApart one two)
+cut_by_tests one two false t a b = inr (λ column e. pick column (has_column two column) refl (λ f. true≢false (sym (a.1 (column, e, f)))))
+  where
+    pick : (column : ℕ) (u : Bool) → has_column two column ≡ u → (u ≡ true → ⊥) → u ≡ false
+    pick column true e n = absurd (n refl)
+    pick column false e n = refl
+cut_by_tests one two true true a b = inl (b.0 refl)
+cut_by_tests one two true false a b = λ d. elim d [
+  | inl w ↦ true≢false (sym (b.1 w))
+  | inr n ↦ let h = a.0 refl in true≢false (sym h.2 ∙ n h.0 h.1)
+]

@@ -1,0 +1,148 @@
+//! Sets of columns as words: column c is in a set where the bit 2^(c mod 64) of word c / 64 is 1.
+
+ghost use Rattle.std.specs.Prelude.{◌≡◌, ◌<◌, ◌≤◌, ◌*◌, ◌↔◌, ◌⊎◌, ◌&&◌, ◌||◌, not, ℕ, true, false, length, count_by, IfOk, IsTrue, MatchOption};
+ghost use Rattle.cmr_base.specs.LineSets.{first_lines};
+ghost use Rattle.cmr_base.specs.Planes.{has_bit, words_for};
+ghost use Rattle.cmr_base.specs.ColumnSets.{has_column, Denies, HasCommon, IsApart, IsWithin};
+
+use crate::{Memory, words_for};
+use std::alloc::Global;
+
+/// The empty set for a matrix with so many columns.
+pub fn empty_set(alloc: Global, columns: u32) -> Result<Vec<u64>, Memory>
+    requires { columns ≤ 1000 }
+    ensures size { IfOk result (λ set. length set.items ≡ words_for columns) }
+    ensures none { IfOk result (λ set. (column : ℕ) → has_column set.items column ≡ false) }
+{
+    Ok(vec![in alloc; 0u64; words_for(columns)]?)
+}
+
+/// Takes all columns out of a set.
+pub fn clear_set(set: &mut Vec<u64>)
+    ensures size { length set.new.items ≡ length set.old.items }
+    ensures none { (column : ℕ) → has_column set.new.items column ≡ false }
+{
+    set.fill(0);
+}
+
+/// Adds the columns of another set.
+pub fn add_set(set: &mut Vec<u64>, other: &[u64])
+    requires { length other.now ≡ length set.old.items }
+    ensures size { length set.new.items ≡ length set.old.items }
+    ensures columns { (column : ℕ) → has_column set.new.items column ≡ (has_column set.old.items column || has_column other.now column) }
+{
+    for block in 0..set.len() {
+        set[block] |= other[block];
+    }
+}
+
+/// Adds the columns that are in both of two others.
+pub fn add_common(set: &mut Vec<u64>, one: &[u64], two: &[u64])
+    requires one { length one.now ≡ length set.old.items }
+    requires two { length two.now ≡ length set.old.items }
+    ensures size { length set.new.items ≡ length set.old.items }
+    ensures columns { (column : ℕ) → has_column set.new.items column ≡ (has_column set.old.items column || (has_column one.now column && has_column two.now column)) }
+{
+    for block in 0..set.len() {
+        set[block] |= one[block] & two[block];
+    }
+}
+
+/// Adds the columns that are in one set and not in another.
+pub fn add_outside(set: &mut Vec<u64>, one: &[u64], other: &[u64])
+    requires one { length one.now ≡ length set.old.items }
+    requires other { length other.now ≡ length set.old.items }
+    ensures size { length set.new.items ≡ length set.old.items }
+    ensures columns { (column : ℕ) → has_column set.new.items column ≡ (has_column set.old.items column || (has_column one.now column && not (has_column other.now column))) }
+{
+    for block in 0..set.len() {
+        set[block] |= outside(one[block], other[block]);
+    }
+}
+
+/// The bits of a word that another does not have.
+pub fn outside(word: u64, other: u64) -> u64
+    ensures { (k : ℕ) → k < 64 → has_bit result k ≡ (has_bit word k && not (has_bit other k)) }
+{
+    word & !other
+}
+
+/// Whether some column is in both sets.
+pub fn meets(one: &[u64], two: &[u64]) -> bool
+    requires { length one.now ≡ length two.now }
+    ensures { IsTrue result ↔ HasCommon one.now two.now }
+{
+    for block in 0..one.len() {
+        if share_bit(one[block], two[block]) {
+            return true;
+        }
+    }
+    false
+}
+
+/// Whether each column of the first set is in the second.
+pub fn is_within(one: &[u64], two: &[u64]) -> bool
+    requires { length one.now ≡ length two.now }
+    ensures { IsTrue result ↔ IsWithin one.now two.now }
+{
+    for block in 0..one.len() {
+        if !is_part(one[block], two[block]) {
+            return false;
+        }
+    }
+    true
+}
+
+// Whether each bit of a word is one of another.
+fn is_part(word: u64, other: u64) -> bool
+    ensures { IsTrue result ↔ ((k : ℕ) → k < 64 → has_bit word k ≡ true → has_bit other k ≡ true) }
+{
+    word & !other == 0
+}
+
+// Whether two words have a bit in common.
+fn share_bit(one: u64, two: u64) -> bool
+    ensures { IsTrue result ↔ ((k : ℕ) × (k < 64) × (has_bit one k ≡ true) × (has_bit two k ≡ true)) }
+{
+    one & two != 0
+}
+
+/// The first column of a set from one on.
+pub fn next_column(set: &[u64], from: u32) -> Option<u32>
+    requires size { length set.now ≤ 16 }
+    requires from { from ≤ 1024 }
+    ensures { MatchOption result ((column : ℕ) → from ≤ column → has_column set.now column ≡ false) (λ next. (from ≤ next) × (next < 64 * length set.now) × (has_column set.now next ≡ true) × ((column : ℕ) → from ≤ column → column < next → has_column set.now column ≡ false)) }
+{
+    let mut column = from;
+    while (column as usize) < 64 * set.len() {
+        let word = set[column as usize / 64] >> (column % 64);
+        if word != 0 {
+            return Some(column + word.trailing_zeros());
+        }
+        column = column - column % 64 + 64;
+    }
+    None
+}
+
+/// Whether some column of the first set is in the second and some other one is not.
+pub fn is_cut(one: &[u64], two: &[u64]) -> bool
+    requires { length one.now ≡ length two.now }
+    ensures { Denies result (IsWithin one.now two.now ⊎ IsApart one.now two.now) }
+{
+    meets(one, two) && !is_within(one, two)
+}
+
+/// How many columns are in a set.
+pub fn count_columns(set: &[u64]) -> u32
+    requires { length set.now ≤ 16 }
+    ensures count { (width : ℕ) → ((column : ℕ) → has_column set.now column ≡ true → column < width) → result ≡ count_by (has_column set.now) (first_lines width) }
+    ensures few { result ≤ 1024 }
+{
+    let mut count = 0;
+    let mut from = 0;
+    while let Some(column) = next_column(set, from) {
+        count += 1;
+        from = column + 1;
+    }
+    count
+}
