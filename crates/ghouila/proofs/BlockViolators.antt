@@ -1,5 +1,5 @@
 -- A violator of a matrix of four blocks, block by block.
-use Rattle.std.proofs.Common.{ℕ, ℤ, Bool, true, false, not, cond, List, [], ◌∷◌, ◌≡◌, ◌+ℤ◌, ◌∙◌, sym, ap₂, refl, arith, subst}
+use Rattle.std.proofs.Common.{ℕ, ℤ, Bool, true, false, not, cond, List, [], ◌∷◌, ◌≡◌, ◌+ℤ◌, ◌∙◌, ap₂, refl, arith, subst}
 use Rattle.std.specs.List.{AllByRecursion}
 use Rattle.cmr_base.specs.Sums.{sum_over, IsEven, IsTwoModFour}
 use Rattle.cmr_base.specs.Violator.{IsViolator}

@@ -1,9 +1,7 @@
 -- Entries as signed bytes.
-use Rattle.std.proofs.Common.{◌≡◌, inl, inr, ◌∙◌, ap, ℤ, pos, ◌*ℤ◌, ◌-ℤ◌, w8, of_z, to_z, arith}
+use Rattle.std.proofs.Common.{◌≡◌, ◌∙◌, ap, ℤ, ◌*ℤ◌, ◌-ℤ◌, w8, of_z, to_z}
 use mathlib.Core.Path.{ap₂}
-use Rattle.std.proofs.lemmas.Int.{ints}
 use Rattle.cmr_base.specs.Matrix.{IsEntry}
-use Rattle.cmr_base.specs.Signing.{IsSign}
 use Rattle.cmr_base.proofs.Integers.{mul_assoc}
 pub use Rattle.cmr_base.proofs.EntryBytes.{kept_entry, nonzero_byte, product_bytes, zero_byte}
 

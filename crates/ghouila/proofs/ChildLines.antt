@@ -1,17 +1,17 @@
 -- The children of a separation, as lines of one side and a few of the other.
-use Rattle.std.proofs.Common.{◌≡◌, ◌≢◌, ◌⊎◌, inl, inr, ◌||◌, not, nat_eq, ℕ, zero, suc, ℤ, pos, negsuc, Bool, true, false, List, [], ◌∷◌, sym, subst, refl, arith}
+use Rattle.std.proofs.Common.{◌≡◌, ◌≢◌, ◌⊎◌, inl, inr, ◌||◌, not, nat_eq, ℕ, pos, negsuc, Bool, true, false, List, [], ◌∷◌, sym, subst, arith}
 use Rattle.std.specs.List.{Contains, list_any}
 use Rattle.std.proofs.lemmas.Bool.{false≢true}
 use Rattle.std.proofs.lemmas.Bool.Decides.{nat_tests}
-use Rattle.std.proofs.lemmas.Int.{ints}
 use Rattle.cmr_base.specs.declared.line.Line.{Line}
 use Rattle.cmr_base.specs.declared.line.Line.TheVariants.{Row, Column}
 use Rattle.cmr_base.specs.declared.separation.Connector.{Connector}
 use Rattle.cmr_base.specs.declared.separation.Form.{Form}
-use Rattle.cmr_base.specs.Matrix.{Matrix, entry, IsEntry, HasTernaryEntries}
+use Rattle.cmr_base.specs.declared.separation.Form.TheVariants.{Delta, YForm, Mixed, Concentrated}
+use Rattle.cmr_base.specs.Matrix.{Matrix, entry, HasTernaryEntries}
 use Rattle.cmr_base.specs.Signing.{IsSign}
 use Rattle.cmr_base.specs.Violator.{IsViolator}
-use Rattle.cmr_base.specs.Separations.{Lines, is_same_line, rows_in, columns_in, child_one, child_two, IsTwoSeparation, IsThreeSeparation, AreOn, IsTied, first_is_flat, second_is_flat, connector_lines, corner_product}
+use Rattle.cmr_base.specs.Separations.{Lines, is_same_line, rows_in, columns_in, child_one, child_two, IsTwoSeparation, IsThreeSeparation, AreOn, HasBlocks, product_at, IsTied, AreCrossing, first_is_flat, second_is_flat, connector_lines, corner_product, HaveCornerSign}
 use Rattle.cmr_base.proofs.SignEntries.{sign_of_entry}
 use Rattle.cmr_base.proofs.ListsWithout.{in_from_contains, contains_from_in}
 use Rattle.cmr_base.proofs.RowLists.{filter_in, in_filter}
@@ -21,6 +21,7 @@ use Rattle.ghouila.proofs.Sides.{On, IsFirstOther, IsSecondOther, ConnectorRow, 
 use Rattle.ghouila.proofs.TwoSides.{two_separation}
 use Rattle.ghouila.proofs.CornerSigns.{corners_violate}
 use Rattle.ghouila.proofs.ThreeSides.{three_separation}
+use Rattle.ghouila.proofs.ConcentratedSeparations.{concentrated_separation}
 use Rattle.cmr_base.proofs.Booleans.{is_not, not_is, or_is, or_left, or_right}
 
 -- ---- lines of a set
@@ -201,84 +202,125 @@ module _ (rows columns : List ℕ) (side : Lines) (one : Bool) (flat : Bool) (co
       go true g (inr e) = subst (Contains columns) (sym e) g.1.1.0.0
       go false g e = subst (Contains columns) (sym e) g.1.0.0
 
-pub three_separations_decide : (m : Matrix) (rows columns : List ℕ) (side : Lines) (form : Form) (first second : Connector) → HasTernaryEntries m → IsThreeSeparation (entry m) rows columns side form first second
-    → corner_product (entry m) first second ≡ pos 1 → ChildrenDecide m rows columns side (connector_lines (first_is_flat form) first) (connector_lines (second_is_flat form) second)
-three_separations_decide m rows columns side form first second ternary s plus = go (first_is_flat form) (second_is_flat form) s.one s.two s.connectors.first_tied s.connectors.second_tied
-  where
-    sign : (r c : ℕ) → entry m r c ≢ pos 0 → IsSign (entry m r c)
-    sign r c h = sign_of_entry (entry m r c) (ternary r c) h
+-- the law for a separation whose connectors are of these kinds
+module _ (m : Matrix) (rows columns : List ℕ) (side : Lines) (flat1 flat2 : Bool) (first second : Connector)
+    (one : AreOn rows columns side true (connector_lines flat1 first)) (two : AreOn rows columns side false (connector_lines flat2 second)) where
+  abbrev ChildRows1 : ℕ → Type 0
+  ChildRows1 = With (Contains rows) (row_test side) true (ConnectorRow flat2 second.row second.other)
 
-    first_other : (f : Bool) → AreOn rows columns side true (connector_lines f first) → IsTied (entry m) f first second.row second.column
-        → IsFirstOther (entry m) (Contains rows) (Contains columns) (row_test side) (column_test side) f first.row first.column second.row second.column first.other
-    first_other true on tied = (on.1.1.0, tied.0, sign second.row first.other tied.1)
-    first_other false on tied = (on.1.1.0, tied.0, sign first.other second.column tied.1)
+  abbrev ChildColumns1 : ℕ → Type 0
+  ChildColumns1 = With (Contains columns) (column_test side) true (ConnectorColumn flat2 second.column second.other)
 
-    second_other : (f : Bool) → AreOn rows columns side false (connector_lines f second) → IsTied (entry m) f second first.row first.column
-        → IsSecondOther (entry m) (Contains rows) (Contains columns) (row_test side) (column_test side) f first.row first.column second.row second.column second.other
-    second_other true on tied = (on.1.1.0, tied.0, sign first.row second.other tied.1)
-    second_other false on tied = (on.1.1.0, tied.0, sign second.other first.column tied.1)
+  abbrev ChildRows2 : ℕ → Type 0
+  ChildRows2 = With (Contains rows) (row_test side) false (ConnectorRow flat1 first.row first.other)
 
-    go : (flat1 flat2 : Bool) → AreOn rows columns side true (connector_lines flat1 first) → AreOn rows columns side false (connector_lines flat2 second)
-        → IsTied (entry m) flat1 first second.row second.column → IsTied (entry m) flat2 second first.row first.column
-        → ChildrenDecide m rows columns side (connector_lines flat1 first) (connector_lines flat2 second)
-    go flat1 flat2 one two tied1 tied2 = children_decide m rows columns side (connector_lines flat1 first) (connector_lines flat2 second)
-        (With (Contains rows) (row_test side) true (ConnectorRow flat2 second.row second.other)) (With (Contains columns) (column_test side) true (ConnectorColumn flat2 second.column second.other))
-        (With (Contains rows) (row_test side) false (ConnectorRow flat1 first.row first.other)) (With (Contains columns) (column_test side) false (ConnectorColumn flat1 first.column first.other))
-        p1 p1' q1 q1' p2 p2' q2 q2'
-        (three_separation (entry m) (Contains rows) (Contains columns) (row_test side) (column_test side) flat1 flat2 first.row first.column second.row second.column first.other second.other (record {
-          row1 = corner_row rows columns side true flat1 first one;
-          column1 = corner_column rows columns side true flat1 first one;
-          row2 = corner_row rows columns side false flat2 second two;
-          column2 = corner_column rows columns side false flat2 second two;
-          unit_ip = sign first.row first.column s.connectors.first_corner;
-          unit_kj = sign second.row second.column s.connectors.second_corner;
-          unit_ij = sign first.row second.column s.connectors.upper;
-          unit_kp = sign second.row first.column s.connectors.lower;
-          other1 = first_other flat1 one tied1;
-          other2 = second_other flat2 two tied2;
-          right = λ r c h g. s.blocks.right r c h.0 g.0 h.1 g.1;
-          below = λ r c h g. s.blocks.below r c h.0 g.0 h.1 g.1;
-        }) plus)
-      where
-        p1 : (r : ℕ) → With (Contains rows) (row_test side) true (ConnectorRow flat2 second.row second.other) r → Contains rows r × (child_one side (connector_lines flat2 second) (Row r) ≡ true)
-        p1 r (inl h) = (h.0, or_left (side (Row r)) (is_named (connector_lines flat2 second) (Row r)) h.1)
-        p1 r (inr e) = (connector_row_in rows columns side false flat2 second two r e, or_right (side (Row r)) (is_named (connector_lines flat2 second) (Row r)) (row_listed flat2 second r e))
+  abbrev ChildColumns2 : ℕ → Type 0
+  ChildColumns2 = With (Contains columns) (column_test side) false (ConnectorColumn flat1 first.column first.other)
 
-        p1' : (r : ℕ) → Contains rows r → child_one side (connector_lines flat2 second) (Row r) ≡ true → With (Contains rows) (row_test side) true (ConnectorRow flat2 second.row second.other) r
-        p1' r h e = elim (or_is (side (Row r)) (is_named (connector_lines flat2 second) (Row r)) e) [
-          | inl g ↦ inl (h, g)
-          | inr g ↦ inr (row_among flat2 second r g)
-        ]
+  connected_children_decide : (FreeIn (entry m) (Contains rows) (Contains columns) → FreeIn (entry m) ChildRows1 ChildColumns1 × FreeIn (entry m) ChildRows2 ChildColumns2)
+      × (FreeIn (entry m) ChildRows1 ChildColumns1 × FreeIn (entry m) ChildRows2 ChildColumns2 → FreeIn (entry m) (Contains rows) (Contains columns))
+      → ChildrenDecide m rows columns side (connector_lines flat1 first) (connector_lines flat2 second)
+  connected_children_decide = children_decide m rows columns side (connector_lines flat1 first) (connector_lines flat2 second) ChildRows1 ChildColumns1 ChildRows2 ChildColumns2 p1 p1' q1 q1' p2 p2' q2 q2'
+    where
+      p1 : (r : ℕ) → ChildRows1 r → Contains rows r × (child_one side (connector_lines flat2 second) (Row r) ≡ true)
+      p1 r (inl h) = (h.0, or_left (side (Row r)) (is_named (connector_lines flat2 second) (Row r)) h.1)
+      p1 r (inr e) = (connector_row_in rows columns side false flat2 second two r e, or_right (side (Row r)) (is_named (connector_lines flat2 second) (Row r)) (row_listed flat2 second r e))
 
-        q1 : (c : ℕ) → With (Contains columns) (column_test side) true (ConnectorColumn flat2 second.column second.other) c → Contains columns c × (child_one side (connector_lines flat2 second) (Column c) ≡ true)
-        q1 c (inl h) = (h.0, or_left (side (Column c)) (is_named (connector_lines flat2 second) (Column c)) h.1)
-        q1 c (inr e) = (connector_column_in rows columns side false flat2 second two c e, or_right (side (Column c)) (is_named (connector_lines flat2 second) (Column c)) (column_listed flat2 second c e))
+      p1' : (r : ℕ) → Contains rows r → child_one side (connector_lines flat2 second) (Row r) ≡ true → ChildRows1 r
+      p1' r h e = elim (or_is (side (Row r)) (is_named (connector_lines flat2 second) (Row r)) e) [
+        | inl g ↦ inl (h, g)
+        | inr g ↦ inr (row_among flat2 second r g)
+      ]
 
-        q1' : (c : ℕ) → Contains columns c → child_one side (connector_lines flat2 second) (Column c) ≡ true → With (Contains columns) (column_test side) true (ConnectorColumn flat2 second.column second.other) c
-        q1' c h e = elim (or_is (side (Column c)) (is_named (connector_lines flat2 second) (Column c)) e) [
-          | inl g ↦ inl (h, g)
-          | inr g ↦ inr (column_among flat2 second c g)
-        ]
+      q1 : (c : ℕ) → ChildColumns1 c → Contains columns c × (child_one side (connector_lines flat2 second) (Column c) ≡ true)
+      q1 c (inl h) = (h.0, or_left (side (Column c)) (is_named (connector_lines flat2 second) (Column c)) h.1)
+      q1 c (inr e) = (connector_column_in rows columns side false flat2 second two c e, or_right (side (Column c)) (is_named (connector_lines flat2 second) (Column c)) (column_listed flat2 second c e))
 
-        p2 : (r : ℕ) → With (Contains rows) (row_test side) false (ConnectorRow flat1 first.row first.other) r → Contains rows r × (child_two side (connector_lines flat1 first) (Row r) ≡ true)
-        p2 r (inl h) = (h.0, or_left (not (side (Row r))) (is_named (connector_lines flat1 first) (Row r)) (is_not (side (Row r)) h.1))
-        p2 r (inr e) = (connector_row_in rows columns side true flat1 first one r e, or_right (not (side (Row r))) (is_named (connector_lines flat1 first) (Row r)) (row_listed flat1 first r e))
+      q1' : (c : ℕ) → Contains columns c → child_one side (connector_lines flat2 second) (Column c) ≡ true → ChildColumns1 c
+      q1' c h e = elim (or_is (side (Column c)) (is_named (connector_lines flat2 second) (Column c)) e) [
+        | inl g ↦ inl (h, g)
+        | inr g ↦ inr (column_among flat2 second c g)
+      ]
 
-        p2' : (r : ℕ) → Contains rows r → child_two side (connector_lines flat1 first) (Row r) ≡ true → With (Contains rows) (row_test side) false (ConnectorRow flat1 first.row first.other) r
-        p2' r h e = elim (or_is (not (side (Row r))) (is_named (connector_lines flat1 first) (Row r)) e) [
-          | inl g ↦ inl (h, not_is (side (Row r)) g)
-          | inr g ↦ inr (row_among flat1 first r g)
-        ]
+      p2 : (r : ℕ) → ChildRows2 r → Contains rows r × (child_two side (connector_lines flat1 first) (Row r) ≡ true)
+      p2 r (inl h) = (h.0, or_left (not (side (Row r))) (is_named (connector_lines flat1 first) (Row r)) (is_not (side (Row r)) h.1))
+      p2 r (inr e) = (connector_row_in rows columns side true flat1 first one r e, or_right (not (side (Row r))) (is_named (connector_lines flat1 first) (Row r)) (row_listed flat1 first r e))
 
-        q2 : (c : ℕ) → With (Contains columns) (column_test side) false (ConnectorColumn flat1 first.column first.other) c → Contains columns c × (child_two side (connector_lines flat1 first) (Column c) ≡ true)
-        q2 c (inl h) = (h.0, or_left (not (side (Column c))) (is_named (connector_lines flat1 first) (Column c)) (is_not (side (Column c)) h.1))
-        q2 c (inr e) = (connector_column_in rows columns side true flat1 first one c e, or_right (not (side (Column c))) (is_named (connector_lines flat1 first) (Column c)) (column_listed flat1 first c e))
+      p2' : (r : ℕ) → Contains rows r → child_two side (connector_lines flat1 first) (Row r) ≡ true → ChildRows2 r
+      p2' r h e = elim (or_is (not (side (Row r))) (is_named (connector_lines flat1 first) (Row r)) e) [
+        | inl g ↦ inl (h, not_is (side (Row r)) g)
+        | inr g ↦ inr (row_among flat1 first r g)
+      ]
 
-        q2' : (c : ℕ) → Contains columns c → child_two side (connector_lines flat1 first) (Column c) ≡ true → With (Contains columns) (column_test side) false (ConnectorColumn flat1 first.column first.other) c
-        q2' c h e = elim (or_is (not (side (Column c))) (is_named (connector_lines flat1 first) (Column c)) e) [
-          | inl g ↦ inl (h, not_is (side (Column c)) g)
-          | inr g ↦ inr (column_among flat1 first c g)
-        ]
+      q2 : (c : ℕ) → ChildColumns2 c → Contains columns c × (child_two side (connector_lines flat1 first) (Column c) ≡ true)
+      q2 c (inl h) = (h.0, or_left (not (side (Column c))) (is_named (connector_lines flat1 first) (Column c)) (is_not (side (Column c)) h.1))
+      q2 c (inr e) = (connector_column_in rows columns side true flat1 first one c e, or_right (not (side (Column c))) (is_named (connector_lines flat1 first) (Column c)) (column_listed flat1 first c e))
+
+      q2' : (c : ℕ) → Contains columns c → child_two side (connector_lines flat1 first) (Column c) ≡ true → ChildColumns2 c
+      q2' c h e = elim (or_is (not (side (Column c))) (is_named (connector_lines flat1 first) (Column c)) e) [
+        | inl g ↦ inl (h, not_is (side (Column c)) g)
+        | inr g ↦ inr (column_among flat1 first c g)
+      ]
+
+module _ (m : Matrix) (rows columns : List ℕ) (side : Lines) (ternary : HasTernaryEntries m) where
+  sign : (r c : ℕ) → entry m r c ≢ pos 0 → IsSign (entry m r c)
+  sign r c h = sign_of_entry (entry m r c) (ternary r c) h
+
+  crossing_decide : (flat1 flat2 : Bool) (first second : Connector) → AreOn rows columns side true (connector_lines flat1 first) → AreOn rows columns side false (connector_lines flat2 second)
+      → entry m first.row first.column ≢ pos 0 → entry m second.row second.column ≢ pos 0 → AreCrossing (entry m) flat1 flat2 first second
+      → HasBlocks (entry m) rows columns side (product_at (entry m) first.row second.column) (product_at (entry m) second.row first.column) → corner_product (entry m) first second ≡ pos 1
+      → ChildrenDecide m rows columns side (connector_lines flat1 first) (connector_lines flat2 second)
+  crossing_decide flat1 flat2 first second one two first_corner second_corner crossing blocks plus = connected_children_decide m rows columns side flat1 flat2 first second one two
+      (three_separation (entry m) (Contains rows) (Contains columns) (row_test side) (column_test side) flat1 flat2 first.row first.column second.row second.column first.other second.other (record {
+        row1 = corner_row rows columns side true flat1 first one;
+        column1 = corner_column rows columns side true flat1 first one;
+        row2 = corner_row rows columns side false flat2 second two;
+        column2 = corner_column rows columns side false flat2 second two;
+        unit_ip = sign first.row first.column first_corner;
+        unit_kj = sign second.row second.column second_corner;
+        unit_ij = sign first.row second.column crossing.upper;
+        unit_kp = sign second.row first.column crossing.lower;
+        other1 = first_other flat1 one crossing.first_tied;
+        other2 = second_other flat2 two crossing.second_tied;
+        right = λ r c h g. blocks.right r c h.0 g.0 h.1 g.1;
+        below = λ r c h g. blocks.below r c h.0 g.0 h.1 g.1;
+      }) plus)
+    where
+      first_other : (f : Bool) → AreOn rows columns side true (connector_lines f first) → IsTied (entry m) f first second.row second.column
+          → IsFirstOther (entry m) (Contains rows) (Contains columns) (row_test side) (column_test side) f first.row first.column second.row second.column first.other
+      first_other true on tied = (on.1.1.0, tied.0, sign second.row first.other tied.1)
+      first_other false on tied = (on.1.1.0, tied.0, sign first.other second.column tied.1)
+
+      second_other : (f : Bool) → AreOn rows columns side false (connector_lines f second) → IsTied (entry m) f second first.row first.column
+          → IsSecondOther (entry m) (Contains rows) (Contains columns) (row_test side) (column_test side) f first.row first.column second.row second.column second.other
+      second_other true on tied = (on.1.1.0, tied.0, sign first.row second.other tied.1)
+      second_other false on tied = (on.1.1.0, tied.0, sign second.other first.column tied.1)
+
+  concentrated_decide : (first second : Connector) → IsThreeSeparation (entry m) rows columns side Concentrated first second
+      → ChildrenDecide m rows columns side (connector_lines true first) (connector_lines false second)
+  concentrated_decide first second s = connected_children_decide m rows columns side true false first second s.one s.two
+      (concentrated_separation (entry m) (Contains rows) (Contains columns) (row_test side) (column_test side) first.row first.column second.row second.column first.other second.other (record {
+        row_i = s.one.0;
+        column_p = s.one.1.0;
+        column_q = s.one.1.1.0;
+        row_k = s.two.0;
+        row_o = s.two.1.1.0;
+        column_j = s.two.1.0;
+        unit_ip = sign first.row first.column s.connectors.first_corner;
+        unit_iq = sign first.row first.other s.connectors.tied.first_other;
+        unit_kj = sign second.row second.column s.connectors.second_corner;
+        unit_oj = sign second.other second.column s.connectors.tied.second_other;
+        unit_determinant = s.connectors.tied.determinant;
+        zero = λ r c h g. s.blocks.right r c h.0 g.0 h.1 g.1;
+        below = λ r c h g. s.blocks.below r c h.0 g.0 h.1 g.1;
+      }))
+
+  pub three_separations_decide : (form : Form) (first second : Connector) → IsThreeSeparation (entry m) rows columns side form first second
+      → HaveCornerSign (entry m) form first second → ChildrenDecide m rows columns side (connector_lines (first_is_flat form) first) (connector_lines (second_is_flat form) second)
+  three_separations_decide Delta first second s plus = crossing_decide true true first second s.one s.two s.connectors.first_corner s.connectors.second_corner s.connectors.tied s.blocks plus
+  three_separations_decide YForm first second s plus = crossing_decide false false first second s.one s.two s.connectors.first_corner s.connectors.second_corner s.connectors.tied s.blocks plus
+  three_separations_decide Mixed first second s plus = crossing_decide true false first second s.one s.two s.connectors.first_corner s.connectors.second_corner s.connectors.tied s.blocks plus
+  three_separations_decide Concentrated first second s _ = concentrated_decide first second s
 
 pub corners_decide : (m : Matrix) (first second : Connector) → HasTernaryEntries m → entry m first.row first.column ≢ pos 0 → entry m first.row second.column ≢ pos 0 → entry m second.row first.column ≢ pos 0 → entry m second.row second.column ≢ pos 0
     → (corner_product (entry m) first second ≡ pos 1)

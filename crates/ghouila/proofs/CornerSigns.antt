@@ -1,6 +1,6 @@
 -- Corners with the product -1 are a violator.
 use Rattle.std.proofs.Common.{ℕ, ℤ, pos, negsuc, [], ◌∷◌, ◌≡◌, ◌+ℤ◌, ◌*ℤ◌, refl, arith, ◌⊎◌, inl, inr}
-use Rattle.cmr_base.specs.Sums.{IsEven, IsTwoModFour}
+use Rattle.cmr_base.specs.Sums.{IsTwoModFour}
 use Rattle.cmr_base.specs.Violator.{IsViolator}
 use Rattle.cmr_base.specs.Signing.{IsSign}
 use Rattle.ghouila.proofs.Sides.{corners}

@@ -1,6 +1,6 @@
 -- What is found for rows of a matrix, by the rows' numbers.
-use Rattle.std.proofs.Common.{◌≡◌, ◌∙◌, ℕ, Bool, true, false, ℤ, pos, ◌+ℤ◌, ◌*ℤ◌, List, [], ◌∷◌, length, get_or, map, refl, ap, sym, subst, arith}
-use Rattle.std.specs.List.{AllByRecursion, Contains}
+use Rattle.std.proofs.Common.{◌≡◌, ◌∙◌, ℕ, true, false, ℤ, pos, ◌+ℤ◌, ◌*ℤ◌, List, [], ◌∷◌, get_or, map, refl, ap, sym, subst, arith}
+use Rattle.std.specs.List.{Contains}
 use Rattle.std.proofs.lemmas.List.{length-map}
 use Rattle.std.proofs.lemmas.List.Elements.{All-from_recursion}
 use Rattle.cmr_base.specs.Matrix.{Matrix, height, entry, IsEntry}
@@ -13,10 +13,9 @@ use Rattle.ghouila.specs.declared.by_pivots.Outcome.TheVariants.{Signed, Violate
 use Rattle.ghouila.specs.declared.by_pivots.Pivot.{Pivot}
 use Rattle.ghouila.specs.declared.by_pivots.Signing.{Signing}
 use Rattle.ghouila.specs.declared.by_pivots.Signing.TheVariants as signings
-use Rattle.ghouila.specs.Found.{marked, SignsRows, MarksViolator}
+use Rattle.ghouila.specs.Found.{marked}
 use Rattle.ghouila.specs.Outcome.{IsOutcome, EndsRun, IsNamed, HasSizes}
-use Rattle.ghouila.specs.Answer.{IsViolatorAmong, SignsOrViolates, IsAnswerOfRun}
-use Rattle.ghouila.specs.SignRuns.{ViolatesBySteps}
+use Rattle.ghouila.specs.Answer.{SignsOrViolates, IsAnswerOfRun}
 use Rattle.ghouila.proofs.Marks.{all_marked, marked_rises}
 
 pub sizes_of : (m : Matrix) (rows : List ℕ) (outcome : Outcome) → IsOutcome m rows outcome → HasSizes m outcome

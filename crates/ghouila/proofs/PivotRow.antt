@@ -1,10 +1,13 @@
 -- A pivot made in a matrix, entry by entry and row by row.
-use Rattle.std.proofs.Common.{◌≡◌, ◌≢◌, ◌<◌, ◌≤◌, ◌+◌, ◌++◌, ◌∙◌, inl, inr, ℕ, ℤ, neg_ℤ, ◌*ℤ◌, List, [], ◌∷◌, refl, sym, subst, arith}
-use Rattle.std.proofs.lemmas.Bool.{cases_eq}
+use Rattle.std.proofs.Common.{◌≡◌, ◌≢◌, ◌<◌, ◌≤◌, ◌+◌, ◌++◌, ◌∙◌, inl, inr, ℕ, ℤ, pos, neg_ℤ, ◌-ℤ◌, ◌*ℤ◌, false, List, [], ◌∷◌, refl, ap, sym, subst, arith}
+use Rattle.std.proofs.lemmas.Bool.{cases_eq, cases_lt}
 use Rattle.cmr_base.specs.Matrix.{Matrix, height, entry, with_entry, IsMatrix, IsEntry}
+use Rattle.cmr_base.specs.Trees.{support}
+use Rattle.cmr_base.proofs.Booleans.{zero_is}
 use Rattle.cmr_base.proofs.Entries.{height-with_entry, entry-with_entry_same, entry-with_entry_other_column, entry-with_entry_other_row, is_matrix-with_entry}
+use Rattle.cmr_base.proofs.Integers.{sums, products}
 use Rattle.cmr_base.proofs.Lists.{all-append, all_both, all_front, all_back}
-use Rattle.ghouila.specs.Pivot.{IsOutside, reduced, pivoted, KeepsOthers, PivotsRows}
+use Rattle.ghouila.specs.Pivot.{IsOutside, IsTernaryRow, reduced, pivoted, KeepsOthers, PivotsRows}
 use Rattle.ghouila.proofs.PivotSums.{pivoted_apart, pivoted_at}
 
 pub keeps_all : (m : Matrix) (rows : List ℕ) → KeepsOthers m m rows
@@ -26,6 +29,33 @@ pub record IsReduced (before now : Matrix) (row column other k : ℕ) : Type 0 w
 
 pub reduced_none : (m : Matrix) (row column other : ℕ) → IsMatrix m → IsReduced m m row column other 0
 reduced_none m row column other is = record { shape = is; others = keeps_all m (other ∷ []); done = λ j h. absurd (omega arith); ahead = λ j h. refl }
+
+-- a column in which the pivot's row is 0 stays as it is
+pub reduced_beside : (M : ℕ → ℕ → ℤ) (row column i j : ℕ) → M row j ≡ pos 0 → reduced M row column i j ≡ M i j
+reduced_beside M row column i j e = ap (λ (q : ℤ). M i j -ℤ M row column *ℤ (M i column *ℤ q)) e ∙ less_nothing (M i j) (M row column) (M i column)
+  where
+    less_nothing : (x a p : ℤ) → x -ℤ a *ℤ (p *ℤ pos 0) ≡ x
+    less_nothing x a p = simp products (omega (arith, sums))
+
+-- where the pivot's row is 0, the pivot gives no 2 and no -2
+pub small_over : (m : Matrix) (row column other k next : ℕ) → IsMatrix m → IsTernaryRow k (reduced (entry m) row column other) → ((j : ℕ) → k ≤ j → j < next → support m row j ≡ false) → IsTernaryRow next (reduced (entry m) row column other)
+small_over m row column other k next is small zeros = λ j h. elim (cases_lt j k) [
+  | inl earlier ↦ small j earlier
+  | inr later ↦ subst IsEntry (sym (reduced_beside (entry m) row column other j (zero_is (entry m row j) (zeros j later h)))) (is.small other j)
+]
+
+-- columns in which the pivot's row is 0 are done
+pub reduced_over : (before now : Matrix) (row column other k next : ℕ) → IsOutside row (other ∷ []) → k ≤ next → IsReduced before now row column other k
+    → ((j : ℕ) → k ≤ j → j < next → support now row j ≡ false) → IsReduced before now row column other next
+reduced_over before now row column other k next apart low r zeros = record {
+  shape = r.shape;
+  others = r.others;
+  done = λ j h. elim (cases_lt j k) [
+    | inl earlier ↦ r.done j earlier
+    | inr later ↦ r.ahead j later ∙ sym (reduced_beside (entry before) row column other j (sym (r.others.others row j apart) ∙ zero_is (entry now row j) (zeros j later h)))
+  ];
+  ahead = λ j h. r.ahead j (omega arith);
+}
 
 module _ (before now : Matrix) (row column other k : ℕ) (other_in : other < height before) (r : IsReduced before now row column other k) where
   inside : other < height now

@@ -8,6 +8,8 @@ use Rattle.cmr_base.specs.Matrix.{Matrix, entry}
 use Rattle.cmr_base.specs.Signing.{IsSign}
 use Rattle.cmr_base.specs.Sums.{sum_over, IsEven, IsOdd}
 use Rattle.cmr_base.proofs.Integers.{sums}
+use Rattle.cmr_base.proofs.Parity.{even_not_odd}
+use Rattle.cmr_base.proofs.SignEntries.{sign_nonzero}
 use Rattle.cmr_base.proofs.SumLaws.{sum_over-append}
 use Rattle.cmr_base.proofs.Lists.{all-append, all_at}
 use Rattle.ghouila.specs.Pivot.{IsPivot, HasNoPivot}
@@ -86,3 +88,8 @@ scanned_even m rows column k (Some place) inside h s = (
   },
   tt,
 )
+
+-- a column with a pivot is none without one
+pub pivot_there : (m : Matrix) (rows : List ℕ) (place column : ℕ) → IsPivot m rows place column → HasNoPivot m rows column → ⊥
+pivot_there m rows place column is (inl zeros) = sign_nonzero (entry m (get_or rows place 0) column) is.nonzero (all_at (λ row. entry m row column ≡ pos 0) rows place 0 zeros is.within)
+pivot_there m rows place column is (inr odd) = even_not_odd (sum_over rows (λ row. entry m row column)) is.even odd

@@ -1,15 +1,14 @@
 -- A run with one step more in front.
 use Rattle.std.proofs.Common.{◌≡◌, ◌≢◌, ◌<◌, ◌++◌, ◌∙◌, ℕ, Option, Some, None, ℤ, pos, neg_ℤ, ◌+ℤ◌, ◌*ℤ◌, List, [], ◌∷◌, length, get_or, set, refl, ap, sym, subst, arith}
-use Rattle.std.specs.Prelude.{MatchOption}
 use Rattle.std.specs.List.{AllByRecursion, remove}
 use Rattle.std.proofs.lemmas.List.{get_or-set_same, get_or-set_other, append_assoc}
 use Rattle.cmr_base.specs.Matrix.{Matrix, entry}
 use Rattle.cmr_base.specs.Sums.{sum_over}
 use Rattle.cmr_base.proofs.Integers.{sums, products}
 use Rattle.cmr_base.proofs.SumLaws.{sum_over_same}
-use Rattle.cmr_base.proofs.Lists.{HasOneMore, all_at, all_weaker, all_without}
+use Rattle.cmr_base.proofs.Lists.{all_at, all_weaker, all_without}
 use Rattle.ghouila.specs.declared.by_pivots.Pivot.{Pivot}
-use Rattle.ghouila.specs.SignRuns.{IsPivotNext, IsPutAside, IsPivotMade, pivot_sign, SignsBySteps, IsTakenBack, ViolatesBySteps}
+use Rattle.ghouila.specs.SignRuns.{IsPivotNext, IsPutAside, IsPivotMade, pivot_sign, SignsBySteps}
 use Rattle.ghouila.specs.declared.row_signs.RowSigns.{RowSigns}
 use Rattle.ghouila.specs.declared.by_pivots.Outcome.{Outcome}
 use Rattle.ghouila.specs.declared.by_pivots.Outcome.TheVariants.{Signed, Violated}

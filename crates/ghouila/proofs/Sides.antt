@@ -1,6 +1,7 @@
 -- Separations of the rows P and columns Q: side one has the lines where the test is true.
-use Rattle.std.proofs.Common.{◌≡◌, ◌⊎◌, ◌*ℤ◌, ℕ, ℤ, pos, Bool, true, false}
+use Rattle.std.proofs.Common.{◌≡◌, ◌⊎◌, ◌*ℤ◌, ◌-ℤ◌, ℕ, ℤ, pos, Bool, true, false}
 use Rattle.cmr_base.specs.Signing.{IsSign}
+use Rattle.cmr_base.specs.Separations.{spread}
 
 -- a line of one side
 abbrev pub On : (ℕ → Type 0) → (ℕ → Bool) → Bool → ℕ → Type 0
@@ -40,6 +41,27 @@ pub record IsThree (M : ℕ → ℕ → ℤ) (P Q : ℕ → Type 0) (sr sc : ℕ
 
 abbrev pub corners : (ℕ → ℕ → ℤ) → ℕ → ℕ → ℕ → ℕ → ℤ
 corners M i p k j = (M i p *ℤ M i j) *ℤ (M k p *ℤ M k j)
+
+-- the determinant of the entries in rows k and o and columns p and q
+abbrev pub determinant : (ℕ → ℕ → ℤ) → ℕ → ℕ → ℕ → ℕ → ℤ
+determinant M k o p q = M k p *ℤ M o q -ℤ M k q *ℤ M o p
+
+-- a concentrated three-separation of any number of lines
+pub record IsConcentrated (M : ℕ → ℕ → ℤ) (P Q : ℕ → Type 0) (sr sc : ℕ → Bool) (i p k j q o : ℕ) : Type 0 where
+  pub row_i : On P sr true i
+  pub column_p : On Q sc true p
+  pub column_q : On Q sc true q
+  pub row_k : On P sr false k
+  pub row_o : On P sr false o
+  pub column_j : On Q sc false j
+  pub unit_ip : IsSign (M i p)
+  pub unit_iq : IsSign (M i q)
+  pub unit_kj : IsSign (M k j)
+  pub unit_oj : IsSign (M o j)
+  pub unit_determinant : IsSign (determinant M k o p q)
+  pub zero : (r c : ℕ) → On P sr true r → On Q sc false c → M r c ≡ pos 0
+  pub below : (r c : ℕ) → On P sr false r → On Q sc true c
+      → M r c ≡ spread (determinant M k o p q) (M k p) (M k q) (M o p) (M o q) (M r p) (M r q) (M k c) (M o c)
 
 -- the rows and the columns of a connector with the corner at (row, column) and one other line
 abbrev pub ConnectorRow : Bool → ℕ → ℕ → ℕ → Type 0

@@ -1,15 +1,17 @@
 -- Sums of matrices without violators have none.
-use Rattle.std.proofs.Common.{◌≡◌, ◌<◌, ◌≤◌, ◌+◌, ◌-◌, ◌*ℤ◌, ℕ, ℤ, arith}
+use Rattle.std.proofs.Common.{◌≡◌, ◌<◌, ◌≤◌, ◌+◌, ◌-◌, ◌*ℤ◌, ℕ, ℤ, pos, Bool, true, false, sym, subst, arith}
 use Rattle.cmr_base.specs.declared.separation.Form.{Form}
+use Rattle.cmr_base.specs.declared.separation.Form.TheVariants.{Delta, YForm, Mixed, Concentrated}
 use Rattle.cmr_base.specs.Matrix.{Matrix, height, entry}
 use Rattle.cmr_base.specs.Violator.{HasNoViolator}
-use Rattle.cmr_base.specs.Separations.{zeros, first_is_flat, second_is_flat}
-use Rattle.cmr_base.specs.MatrixSums.{filled, four_blocks, one_sum, HaveTwoSum, two_sum, connecting_rows, connecting_columns, HaveThreeSum, sum_along, three_sum}
+use Rattle.cmr_base.specs.Separations.{zeros}
+use Rattle.cmr_base.specs.MatrixSums.{filled, four_blocks, one_sum, HaveTwoSum, two_sum, connecting_rows, connecting_columns, sum_along, HaveCornerSum, corner_sum, core_block, HaveConcentratedSum, concentrated_sum, HaveThreeSum, three_sum}
 use Rattle.cmr_base.proofs.ViolatorLemmas.{violator_same}
 use Rattle.cmr_base.proofs.Lists.{all_weaker}
 use Rattle.cmr_base.proofs.FilledMatrices.{height-filled, entry-filled}
 use Rattle.ghouila.proofs.ViolatedLines.{narrower, free_from_none, none_from_free}
 use Rattle.ghouila.proofs.BlockSums.{Free, one_sum_free, two_sum_free, three_sum_free}
+use Rattle.ghouila.proofs.ConcentratedSums.{concentrated_sum_free}
 
 module _ (m n : ℕ) (entries : ℕ → ℕ → ℤ) where
   filled_none : Free m n entries → HasNoViolator (filled m n entries)
@@ -47,13 +49,41 @@ two_sums_have_none first second have free1 free2 =
     (resized (entry first) (height first) first.width (height first) ((first.width - 1) + 1) (omega arith) (back_after first.width 1 have.column) (free_from_none first free1))
     (resized (entry second) (height second) second.width (1 + (height second - 1)) second.width (back_before (height second) 1 have.row) (omega arith) (free_from_none second free2)))
 
-pub three_sums_have_none : (form : Form) (first second : Matrix) → HaveThreeSum form first second → HasNoViolator first → HasNoViolator second → HasNoViolator (three_sum form first second)
-three_sums_have_none form first second have free1 free2 =
-    filled_none ((height first - connecting_rows (second_is_flat form)) + (height second - connecting_rows (first_is_flat form))) ((first.width - connecting_columns (second_is_flat form)) + (second.width - connecting_columns (first_is_flat form)))
-    (sum_along (first_is_flat form) (height first - connecting_rows (second_is_flat form)) (first.width - connecting_columns (second_is_flat form)) (entry first) (entry second))
-    (three_sum_free (second_is_flat form) (first_is_flat form) have.corner (height first - connecting_rows (second_is_flat form)) (first.width - connecting_columns (second_is_flat form)) (height second - connecting_rows (first_is_flat form)) (second.width - connecting_columns (first_is_flat form)) (entry first) (entry second)
+corner_sums_have_none : (flat1 flat2 : Bool) (first second : Matrix) → HaveCornerSum flat1 flat2 first second → HasNoViolator first → HasNoViolator second → HasNoViolator (corner_sum flat1 flat2 first second)
+corner_sums_have_none flat1 flat2 first second have free1 free2 =
+    filled_none ((height first - connecting_rows flat2) + (height second - connecting_rows flat1)) ((first.width - connecting_columns flat2) + (second.width - connecting_columns flat1))
+    (sum_along flat1 (height first - connecting_rows flat2) (first.width - connecting_columns flat2) (entry first) (entry second))
+    (three_sum_free flat2 flat1 have.corner (height first - connecting_rows flat2) (first.width - connecting_columns flat2) (height second - connecting_rows flat1) (second.width - connecting_columns flat1) (entry first) (entry second)
     have.sign have.one have.two
-    (resized (entry first) (height first) first.width ((height first - connecting_rows (second_is_flat form)) + connecting_rows (second_is_flat form)) ((first.width - connecting_columns (second_is_flat form)) + connecting_columns (second_is_flat form))
-    (back_after (height first) (connecting_rows (second_is_flat form)) have.first_rows) (back_after first.width (connecting_columns (second_is_flat form)) have.first_columns) (free_from_none first free1))
-    (resized (entry second) (height second) second.width (connecting_rows (first_is_flat form) + (height second - connecting_rows (first_is_flat form))) (connecting_columns (first_is_flat form) + (second.width - connecting_columns (first_is_flat form)))
-    (back_before (height second) (connecting_rows (first_is_flat form)) have.second_rows) (back_before second.width (connecting_columns (first_is_flat form)) have.second_columns) (free_from_none second free2)))
+    (resized (entry first) (height first) first.width ((height first - connecting_rows flat2) + connecting_rows flat2) ((first.width - connecting_columns flat2) + connecting_columns flat2)
+    (back_after (height first) (connecting_rows flat2) have.first_rows) (back_after first.width (connecting_columns flat2) have.first_columns) (free_from_none first free1))
+    (resized (entry second) (height second) second.width (connecting_rows flat1 + (height second - connecting_rows flat1)) (connecting_columns flat1 + (second.width - connecting_columns flat1))
+    (back_before (height second) (connecting_rows flat1) have.second_rows) (back_before second.width (connecting_columns flat1) have.second_columns) (free_from_none second free2)))
+
+concentrated_sums_have_none : (first second : Matrix) → HaveConcentratedSum first second → HasNoViolator first → HasNoViolator second → HasNoViolator (concentrated_sum first second)
+concentrated_sums_have_none first second have free1 free2 =
+    filled_none ((height first - 2) + (height second - 1)) ((first.width - 1) + (second.width - 2)) (blocks (height first - 2) (first.width - 1))
+    (subst (λ (k : ℕ). Free (k + (height second - 1)) ((first.width - 1) + (second.width - 2)) (blocks k (first.width - 1))) (less_two (height first) have.first_rows)
+    (subst (λ (k : ℕ). Free (((height first - 3) + 1) + (height second - 1)) (k + (second.width - 2)) (blocks ((height first - 3) + 1) k)) (less_one first.width have.first_columns)
+    (concentrated_sum_free (height first - 3) (first.width - 3) (height second - 1) (second.width - 2) (entry first) (entry second)
+    (let l = have.second_rows in omega arith, let l = have.second_columns in omega arith) have.core have.same
+    (λ r l. subst (λ (k : ℕ). entry first r k ≡ pos 0) (sym (less_one first.width have.first_columns)) (have.above r l))
+    (λ c l k. have.right c l (let w = have.second_columns in omega arith))
+    (resized (entry first) (height first) first.width ((height first - 3) + 3) ((first.width - 3) + 3) (back_after (height first) 3 have.first_rows) (back_after first.width 3 have.first_columns) (free_from_none first free1))
+    (resized (entry second) (height second) second.width (1 + (height second - 1)) (2 + (second.width - 2))
+    (back_before (height second) 1 (let l = have.second_rows in omega arith)) (back_before second.width 2 (let l = have.second_columns in omega arith)) (free_from_none second free2)))))
+  where
+    blocks : ℕ → ℕ → ℕ → ℕ → ℤ
+    blocks m n = four_blocks m n 1 2 (entry first) zeros (core_block (height first - 3) (entry first) (entry second)) (entry second)
+
+    less_two : (k : ℕ) → 3 ≤ k → (k - 3) + 1 ≡ k - 2
+    less_two k l = omega arith
+
+    less_one : (k : ℕ) → 3 ≤ k → (k - 3) + 2 ≡ k - 1
+    less_one k l = omega arith
+
+pub three_sums_have_none : (form : Form) (first second : Matrix) → HaveThreeSum form first second → HasNoViolator first → HasNoViolator second → HasNoViolator (three_sum form first second)
+three_sums_have_none Delta = corner_sums_have_none true true
+three_sums_have_none YForm = corner_sums_have_none false false
+three_sums_have_none Mixed = corner_sums_have_none true false
+three_sums_have_none Concentrated = concentrated_sums_have_none

@@ -5,7 +5,6 @@ use Rattle.ghouila.proofs.ViolatedLines.{ViolatedIn, FreeIn, narrower}
 use Rattle.ghouila.proofs.Sides.{On, With, IsThree, IsFirstOther, IsSecondOther, corners, ConnectorRow, ConnectorColumn}
 use Rattle.cmr_base.proofs.Integers.{sums, products, mul_comm}
 use Rattle.ghouila.proofs.ParityBits.{when}
-use Rattle.cmr_base.proofs.Lists.{all_weaker}
 use Rattle.ghouila.proofs.BlockViolators.{Blocks}
 use Rattle.ghouila.proofs.BorderedSides.{Edge}
 use Rattle.ghouila.proofs.JoinedSides.{Sides, joined}

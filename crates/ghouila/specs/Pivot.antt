@@ -1,7 +1,8 @@
 -- Pivots that take a row away from a matrix.
-use Rattle.std.specs.Prelude.{◌≡◌, ◌≢◌, ◌<◌, ◌⊎◌, ℕ, ℤ, pos, ◌-ℤ◌, ◌*ℤ◌, neg_ℤ, ◌==◌, if◌then◌else◌, List, length, slice_index}
+use Rattle.std.specs.Prelude.{◌≡◌, ◌≢◌, ◌<◌, ◌⊎◌, ℕ, ℤ, pos, ◌+◌, ◌*◌, ◌-ℤ◌, ◌*ℤ◌, neg_ℤ, true, false, ◌==◌, if◌then◌else◌, List, length, slice_index}
 use Rattle.std.specs.List.{AllByRecursion}
 use Rattle.cmr_base.specs.Matrix.{Matrix, height, entry, IsEntry}
+use Rattle.cmr_base.specs.Planes.{has_bit}
 use Rattle.cmr_base.specs.Signing.{IsSign}
 use Rattle.cmr_base.specs.Sums.{sum_over, IsEven, IsOdd}
 
@@ -31,6 +32,11 @@ pub record IsPivot (m : Matrix) (rows : List ℕ) (place column : ℕ) : Type 0 
 -- the column has no nonzero in the rows, or an odd number of them
 abbrev pub HasNoPivot : Matrix → List ℕ → ℕ → Type 0
 HasNoPivot m rows column = AllByRecursion (λ row. entry m row column ≡ pos 0) rows ⊎ IsOdd (sum_over rows (λ row. entry m row column))
+
+-- the bits of a word are the columns of a block of 64 that have a pivot
+pub record ArePivotColumns (m : Matrix) (rows : List ℕ) (block word : ℕ) : Type 0 where
+  pub pivots : (i : ℕ) → i < 64 → has_bit word i ≡ true → (place : ℕ) × IsPivot m rows place (64 * block + i)
+  pub others : (i : ℕ) → i < 64 → has_bit word i ≡ false → HasNoPivot m rows (64 * block + i)
 
 -- four signs, in two rows and two columns, whose product is -1: alone they are a violator
 pub record IsSquareViolator (a p q x : ℤ) : Type 0 where

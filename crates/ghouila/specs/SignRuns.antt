@@ -1,6 +1,7 @@
 -- The run that signs a set of rows: pivots, and rows put aside, in a fixed order. Its state is a matrix and the rows of the set that are left.
 use Rattle.std.specs.Prelude.{◌≡◌, ◌≢◌, ◌<◌, ◌↔◌, ◌==◌, if◌then◌else◌, ℕ, ℤ, pos, neg_ℤ, ◌*ℤ◌, List, [], ◌∷◌, slice_index, MatchOption}
 use Rattle.std.specs.List.{AllByRecursion, remove}
+use Rattle.std.specs.List.Sorted.{IsStrictlyIncreasing}
 use Rattle.cmr_base.specs.Matrix.{Matrix, entry}
 use Rattle.cmr_base.specs.Members.{IsIn}
 use Rattle.cmr_base.specs.Sums.{sum_over, IsOdd}
@@ -49,8 +50,10 @@ pub record IsFirstSquare (m : Matrix) (rows violator_rows violator_columns : Lis
   pub columns_are : (j : ℕ) → IsIn j violator_columns ↔ IsIn j (column ∷ last ∷ [])
 
 -- from a violator after a pivot to one before it. The pivot's row is in it where the rows after have an odd sum in the pivot's column;
--- the pivot's column is in it where the columns after have an odd sum in the pivot's row, itself counted as 1.
+-- the pivot's column is in it where the columns after have an odd sum in the pivot's row, itself counted as 1. The lines after are sets.
 pub record IsTakenBack (m : Matrix) (row column : ℕ) (after_rows after_columns rows columns : List ℕ) : Type 0 where
+  pub row_set : IsStrictlyIncreasing after_rows
+  pub column_set : IsStrictlyIncreasing after_columns
   pub row_there : IsIn row rows ↔ IsOdd (sum_over after_rows (λ i. entry m i column))
   pub other_rows : (i : ℕ) → i ≢ row → IsIn i rows ↔ IsIn i after_rows
   pub column_there : IsIn column columns ↔ IsOdd (sum_over after_columns (λ j. if j == column then pos 1 else entry m row j))

@@ -9,7 +9,7 @@ use Rattle.cmr_base.specs.Matrix.{Matrix, entry, IsTernary}
 use Rattle.cmr_base.specs.LineSets.{submatrix}
 use Rattle.cmr_base.specs.Violator.{IsViolator, HasNoViolator}
 use Rattle.cmr_base.specs.Reductions.{line_reason, rows_without, columns_without}
-use Rattle.cmr_base.specs.Separations.{Lines, rows_in, columns_in, child_one, child_two, IsTwoSeparation, IsThreeSeparation, first_is_flat, second_is_flat, connector_lines, corner_product}
+use Rattle.cmr_base.specs.Separations.{Lines, rows_in, columns_in, child_one, child_two, IsTwoSeparation, IsThreeSeparation, first_is_flat, second_is_flat, connector_lines, corner_product, HaveCornerSign}
 use Rattle.cmr_base.specs.Components.{AreComponents, ArePartsOf, part_at}
 use Rattle.cmr_base.specs.MatrixSums.{one_sum, HaveTwoSum, two_sum, HaveThreeSum, three_sum}
 
@@ -42,10 +42,10 @@ abbrev pub TwoSeparationsDecide : Type 0
 TwoSeparationsDecide = (m : Matrix) (rows columns : List ℕ) (side : Lines) (i j : ℕ) → IsTernary m → IsTwoSeparation (entry m) rows columns side i j
     → ChildrenDecide m rows columns side (Column j ∷ []) (Row i ∷ [])
 
--- a three-separation with the corner product 1: each side with the other one's connector
+-- a three-separation, with the corner product 1 where its form has one: each side with the other one's connector
 abbrev pub ThreeSeparationsDecide : Type 0
 ThreeSeparationsDecide = (m : Matrix) (rows columns : List ℕ) (side : Lines) (form : Form) (first second : Connector) → IsTernary m → IsThreeSeparation (entry m) rows columns side form first second
-    → corner_product (entry m) first second ≡ pos 1
+    → HaveCornerSign (entry m) form first second
     → ChildrenDecide m rows columns side (connector_lines (first_is_flat form) first) (connector_lines (second_is_flat form) second)
 
 -- a corner product that is not 1 shows a violator

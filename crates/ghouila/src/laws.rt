@@ -50,8 +50,9 @@ pub fn two_sum_free()
     ensures sum { TwoSumsHaveNone }
 {}
 
-/// The same of three-separations whose corner product is 1, and of delta, Y and mixed sums. Where the corner product is
-/// -1, its four lines are a violator.
+/// The same of three-separations: of the forms delta, Y and mixed where the corner product is 1, and of the concentrated
+/// form. Where the corner product is -1, its four lines are a violator. A sum of any of these forms of two matrices without
+/// violators has none.
 pub fn three_sum_free()
     ensures separation { ThreeSeparationsDecide }
     ensures corners { CornersDecide }

@@ -1,11 +1,11 @@
-ghost use Rattle.std.specs.Prelude.{◌≡◌, ◌<◌, ◌≤◌, ◌-ℤ◌, ◌*ℤ◌, ◌≤ℤ◌, pos, negsuc, ℕ, [], ◌∷◌, length, slice_index, IfSome, IfNone, IsTrue, ◌↔◌};
+ghost use Rattle.std.specs.Prelude.{◌≡◌, ◌<◌, ◌≤◌, ◌*◌, ◌-ℤ◌, ◌*ℤ◌, ◌≤ℤ◌, pos, negsuc, ℕ, [], ◌∷◌, length, slice_index, IfSome, IfNone, IsTrue, ◌↔◌};
 ghost use Rattle.std.specs.List.{AllByRecursion, Contains};
 ghost use Rattle.cmr_base.specs.Matrix.{Matrix, height, entry, IsEntry, IsMatrix};
 ghost use Rattle.cmr_base.specs.LineSets.{AllBelow, IsRowSet};
 ghost use Rattle.cmr_base.specs.Signing.{IsSign};
-ghost use Rattle.ghouila.specs.Pivot.{IsOutside, reduced, IsTernaryRow, IsPivot, HasNoPivot, IsFirstPivot, IsFirstTwo, IsSquareViolator, HasSquareViolator, KeepsOthers, PivotsRows};
+ghost use Rattle.ghouila.specs.Pivot.{IsOutside, reduced, IsTernaryRow, IsPivot, HasNoPivot, IsFirstPivot, ArePivotColumns, IsFirstTwo, IsSquareViolator, HasSquareViolator, KeepsOthers, PivotsRows};
 
-use cmr_base::Matrix;
+use cmr_base::{MAX_COLUMNS, Matrix};
 
 /// Where a pivot is made: the place of the row among the rows that are left, and the column.
 #[derive(Debug, Clone, Copy)]
@@ -28,12 +28,33 @@ pub fn first_pivot(work: &Matrix, left: &[u32]) -> Option<PivotPlace>
     ensures none { IfNone result ((column : ℕ) → column < work.now.width → HasNoPivot work.now left.now column) }
     ensures shape { IsMatrix work.now }
 {
-    for column in 0..work.columns() {
-        if let Some(place) = pivot_in(work, left, column) {
+    let blocks = (work.columns() + 63) / 64;
+    for block in 0..blocks {
+        let columns = pivot_columns(work, left, block);
+        if columns != 0 {
+            let column = 64 * block + columns.trailing_zeros();
+            let place = pivot_in(work, left, column)?;
             return Some(PivotPlace { place, column });
         }
     }
     None
+}
+
+// The columns of a block, by their bits, with an even number, at least two, of nonzeros in the rows left.
+fn pivot_columns(work: &Matrix, left: &[u32], block: u32) -> u64
+    requires shape { IsMatrix work.now }
+    requires rows { AllBelow (height work.now) left.now }
+    requires block { 64 * block < work.now.width }
+    ensures { ArePivotColumns work.now left.now block result }
+{
+    let mut some = 0u64;
+    let mut odd = 0u64;
+    for row in left {
+        let word = work.support_word(*row, block);
+        some |= word;
+        odd ^= word;
+    }
+    some & !odd
 }
 
 // The place of the first nonzero of the column, where the column has an even number of them.
@@ -89,11 +110,17 @@ fn square_violator_in(work: &Matrix, row: u32, column: u32, other: u32) -> Optio
     ensures none { IfNone result (IsTernaryRow work.now.width (reduced (entry work.now) row column other)) }
 {
     let factor = product(work.entry(row, column), work.entry(other, column));
-    for last in 0..work.columns() {
+    prove!(work.columns() <= MAX_COLUMNS);
+    if factor == 0 {
+        return None;
+    }
+    let mut from = 0;
+    while let Some(last) = work.next_nonzero(row, from) {
         let left = reduced(work.entry(other, last), factor, work.entry(row, last));
         if !is_entry(left) {
             return Some(last);
         }
+        from = last + 1;
     }
     None
 }
@@ -149,12 +176,15 @@ fn pivot_row(work: &mut Matrix, row: u32, column: u32, other: u32)
     ensures others { KeepsOthers work.old work.new (other ∷ []) }
 {
     let factor = product(work.entry(row, column), work.entry(other, column));
+    prove!(work.columns() <= MAX_COLUMNS);
     if factor == 0 {
         return;
     }
-    for last in 0..work.columns() {
+    let mut from = 0;
+    while let Some(last) = work.next_nonzero(row, from) {
         let left = reduced(work.entry(other, last), factor, work.entry(row, last));
         work.set(other, last, left);
+        from = last + 1;
     }
     work.set(other, column, -factor);
 }

@@ -1,2 +1,3 @@
 pub mod StepRows
 pub mod OneRun
+pub mod OneAnswer

@@ -6,35 +6,33 @@ use Rattle.cmr_base.specs.Matrix.{Matrix, entry, IsEntry}
 use Rattle.cmr_base.specs.Signing.{IsSign}
 use Rattle.cmr_base.specs.Sums.{sum_over, IsEven, IsOdd}
 use Rattle.cmr_base.proofs.Lists.{all_at, all_both, all_weaker, all_without}
-use Rattle.cmr_base.proofs.Parity.{even_not_odd}
+use Rattle.cmr_base.proofs.SignEntries.{sign_nonzero}
 use Rattle.cmr_base.proofs.SumLaws.{sum_over_same}
 use Rattle.ghouila.specs.declared.by_pivots.Pivot.{Pivot}
-use Rattle.ghouila.specs.Pivot.{reduced, pivoted, IsPivot, HasNoPivot, IsTernaryRow, IsFirstPivot, IsFirstTwo}
+use Rattle.ghouila.specs.Pivot.{reduced, pivoted, HasNoPivot, IsTernaryRow, IsFirstPivot, IsFirstTwo}
 use Rattle.ghouila.specs.SignRuns.{IsPivotNext, IsPutAside, IsPivotMade, SignsBySteps, ViolatesBySteps}
 use Rattle.ghouila.proofs.LeftRows.{one_more-remove}
+use Rattle.ghouila.proofs.PivotSearch.{pivot_there}
 
 -- two matrices of one width are the same in these rows
-record AreSame (rows : List ℕ) (m m' : Matrix) : Type 0 where
-  width : m'.width ≡ m.width
-  entries : AllByRecursion (λ i. (j : ℕ) → j < m.width → entry m' i j ≡ entry m i j) rows
+pub record AreSame (rows : List ℕ) (m m' : Matrix) : Type 0 where
+  pub width : m'.width ≡ m.width
+  pub entries : AllByRecursion (λ i. (j : ℕ) → j < m.width → entry m' i j ≡ entry m i j) rows
 
-same_self : (rows : List ℕ) (m : Matrix) → AreSame rows m m
+pub same_self : (rows : List ℕ) (m : Matrix) → AreSame rows m m
 same_self rows m = record { width = refl; entries = each rows }
   where
     each : (rows : List ℕ) → AllByRecursion (λ i. (j : ℕ) → j < m.width → entry m i j ≡ entry m i j) rows
     each [] = tt
     each (row ∷ rows) = (λ j h. refl, each rows)
 
-not_zero : (z : ℤ) → IsSign z → z ≡ pos 0 → ⊥
-not_zero z (inl e) f = let g : pos 1 ≡ pos 0 = sym e ∙ f in cc
-not_zero z (inr e) f = cc
+pub same_back : (rows : List ℕ) (m m' : Matrix) → AreSame rows m m' → AreSame rows m' m
+same_back rows m m' same = record {
+  width = sym same.width;
+  entries = all_weaker (λ i. (j : ℕ) → j < m.width → entry m' i j ≡ entry m i j) (λ i. (j : ℕ) → j < m'.width → entry m i j ≡ entry m' i j) (λ i e j h. sym (e j (subst (λ n. j < n) same.width h))) rows same.entries;
+}
 
 -- ---- the next step
-
--- a pivot at a column is none without one
-pivot_there : (m : Matrix) (rows : List ℕ) (place column : ℕ) → IsPivot m rows place column → HasNoPivot m rows column → ⊥
-pivot_there m rows place column is (inl zeros) = not_zero (entry m (get_or rows place 0) column) is.nonzero (all_at (λ row. entry m row column ≡ pos 0) rows place 0 zeros is.within)
-pivot_there m rows place column is (inr odd) = even_not_odd (sum_over rows (λ row. entry m row column)) is.even odd
 
 module _ (rows : List ℕ) (m m' : Matrix) (same : AreSame rows m m') where
   at : (place column : ℕ) → place < length rows → column < m.width → entry m' (get_or rows place 0) column ≡ entry m (get_or rows place 0) column
@@ -46,12 +44,12 @@ module _ (rows : List ℕ) (m m' : Matrix) (same : AreSame rows m m') where
   sum_same : (column : ℕ) → column < m.width → sum_over rows (λ i. entry m' i column) ≡ sum_over rows (λ i. entry m i column)
   sum_same column inside = sum_over_same rows (λ i. entry m' i column) (λ i. entry m i column) (in_column column inside)
 
-  no_pivot_same : (column : ℕ) → column < m.width → HasNoPivot m' rows column → HasNoPivot m rows column
+  pub no_pivot_same : (column : ℕ) → column < m.width → HasNoPivot m' rows column → HasNoPivot m rows column
   no_pivot_same column inside (inl zeros) =
       inl (all_both (λ i. entry m' i column ≡ entry m i column) (λ i. entry m' i column ≡ pos 0) (λ i. entry m i column ≡ pos 0) (λ i e z. sym e ∙ z) rows (in_column column inside) zeros)
   no_pivot_same column inside (inr odd) = inr (subst IsOdd (sum_same column inside) odd)
 
-  inside_too : (column : ℕ) → column < m'.width → column < m.width
+  pub inside_too : (column : ℕ) → column < m'.width → column < m.width
   inside_too column h = subst (λ n. column < n) same.width h
 
   -- a pivot of the one is one of the other
@@ -72,10 +70,10 @@ module _ (rows : List ℕ) (m m' : Matrix) (same : AreSame rows m m') where
       before : (a : ℕ) {b c : ℕ} → a < b → b < c → a < c
       before a f g = omega arith
 
-  next_same : (row column : ℕ) (left : List ℕ) → IsPivotNext m' rows row column left → IsPivotNext m rows row column left
+  pub next_same : (row column : ℕ) (left : List ℕ) → IsPivotNext m' rows row column left → IsPivotNext m rows row column left
   next_same row column left next = record { place = next.place; first = pivot_same next.place column next.first; row_is = next.row_is; left_is = next.left_is }
 
-neither : (a b : ℕ) → ¬ (a < b) → ¬ (b < a) → a ≡ b
+pub neither : (a b : ℕ) → ¬ (a < b) → ¬ (b < a) → a ≡ b
 neither a b f g = elim (cases_lt a b) [ inl h ↦ absurd (f h) | inr h ↦ elim (cases_lt b a) [ inl k ↦ absurd (g k) | inr k ↦ omega arith ] ]
 
 -- there is one next pivot
@@ -86,15 +84,15 @@ one_column m rows place column place' column' f g = neither column column'
 
 one_place : (m : Matrix) (rows : List ℕ) (place column place' : ℕ) → IsFirstPivot m rows place column → IsFirstPivot m rows place' column → place ≡ place'
 one_place m rows place column place' f g = neither place place'
-    (λ h. not_zero (entry m (get_or rows place 0) column) f.pivot.nonzero (g.first_row place h))
-    (λ h. not_zero (entry m (get_or rows place' 0) column) g.pivot.nonzero (f.first_row place' h))
+    (λ h. sign_nonzero (entry m (get_or rows place 0) column) f.pivot.nonzero (g.first_row place h))
+    (λ h. sign_nonzero (entry m (get_or rows place' 0) column) g.pivot.nonzero (f.first_row place' h))
 
-record AreOneNext (row row' column column' : ℕ) (left left' : List ℕ) : Type 0 where
-  one_row : row' ≡ row
-  one_column : column' ≡ column
-  one_left : left' ≡ left
+pub record AreOneNext (row row' column column' : ℕ) (left left' : List ℕ) : Type 0 where
+  pub one_row : row' ≡ row
+  pub one_column : column' ≡ column
+  pub one_left : left' ≡ left
 
-one_next : (m : Matrix) (rows : List ℕ) (row column row' column' : ℕ) (left left' : List ℕ) → IsPivotNext m rows row column left → IsPivotNext m rows row' column' left' → AreOneNext row row' column column' left left'
+pub one_next : (m : Matrix) (rows : List ℕ) (row column row' column' : ℕ) (left left' : List ℕ) → IsPivotNext m rows row column left → IsPivotNext m rows row' column' left' → AreOneNext row row' column column' left left'
 one_next m rows row column row' column' left left' f g =
     let columns : column' ≡ column = sym (one_column m rows f.place column g.place column' f.first g.first) in
     let places : g.place ≡ f.place = sym (one_place m rows f.place column g.place f.first (subst (IsFirstPivot m rows g.place) columns g.first)) in
@@ -105,26 +103,26 @@ one_next m rows row column row' column' left left' f g =
     }
 
 -- a row is put aside only where no pivot is next
-aside_or_next : (m : Matrix) (rows : List ℕ) (row row' column : ℕ) (left left' : List ℕ) → IsPutAside m rows row left → IsPivotNext m rows row' column left' → ⊥
+pub aside_or_next : (m : Matrix) (rows : List ℕ) (row row' column : ℕ) (left left' : List ℕ) → IsPutAside m rows row left → IsPivotNext m rows row' column left' → ⊥
 aside_or_next m rows row row' column left left' aside next = pivot_there m rows next.place column next.first.pivot (aside.no_pivot column next.first.pivot.column_in)
 
 -- ---- the matrix after a pivot
 
 module _ (rows : List ℕ) (m m' : Matrix) (same : AreSame rows m m') (row column : ℕ) (left : List ℕ) (next : IsPivotNext m rows row column left) where
-  row_same : (j : ℕ) → j < m.width → entry m' row j ≡ entry m row j
+  pub row_same : (j : ℕ) → j < m.width → entry m' row j ≡ entry m row j
   row_same j inside = subst (λ i. entry m' i j ≡ entry m i j) (sym next.row_is) (at rows m m' same next.place j next.first.pivot.within inside)
 
-  left_same : AllByRecursion (λ i. (j : ℕ) → j < m.width → entry m' i j ≡ entry m i j) left
+  pub left_same : AllByRecursion (λ i. (j : ℕ) → j < m.width → entry m' i j ≡ entry m i j) left
   left_same = subst (AllByRecursion (λ i. (j : ℕ) → j < m.width → entry m' i j ≡ entry m i j)) (sym next.left_is)
       (all_without (λ i. (j : ℕ) → j < m.width → entry m' i j ≡ entry m i j) (get_or rows next.place 0) (remove rows next.place) rows (one_more-remove rows next.place next.first.pivot.within) same.entries)
 
-  reduced_same : (i : ℕ) → ((j : ℕ) → j < m.width → entry m' i j ≡ entry m i j) → (j : ℕ) → j < m.width → reduced (entry m') row column i j ≡ reduced (entry m) row column i j
+  pub reduced_same : (i : ℕ) → ((j : ℕ) → j < m.width → entry m' i j ≡ entry m i j) → (j : ℕ) → j < m.width → reduced (entry m') row column i j ≡ reduced (entry m) row column i j
   reduced_same i e j inside = rw (e j inside, row_same column next.first.pivot.column_in, e column next.first.pivot.column_in, row_same j inside) refl
 
   pivoted_same : (i : ℕ) → ((j : ℕ) → j < m.width → entry m' i j ≡ entry m i j) → (j : ℕ) → j < m.width → pivoted (entry m') row column i j ≡ pivoted (entry m) row column i j
   pivoted_same i e j inside = ap₂ (cond (nat_eq j column)) (ap₂ (λ (a b : ℤ). neg_ℤ (a *ℤ b)) (row_same column next.first.pivot.column_in) (e column next.first.pivot.column_in)) (reduced_same i e j inside)
 
-  after_same : (after after' : Matrix) → IsPivotMade m after row column left → IsPivotMade m' after' row column left → AreSame left after after'
+  pub after_same : (after after' : Matrix) → IsPivotMade m after row column left → IsPivotMade m' after' row column left → AreSame left after after'
   after_same after after' made made' = record {
     width = made'.same_width ∙ same.width ∙ sym made.same_width;
     entries = all_both (λ i. (j : ℕ) → j < m.width → entry m' i j ≡ entry m i j)
@@ -140,7 +138,7 @@ module _ (rows : List ℕ) (m m' : Matrix) (same : AreSame rows m m') (row colum
   }
 
   -- a pivot is not made where it gives a 2 or a -2
-  made_or_two : (after : Matrix) (place last : ℕ) → IsPivotMade m after row column left → IsFirstTwo m' left row column place last → ⊥
+  pub made_or_two : (after : Matrix) (place last : ℕ) → IsPivotMade m after row column left → IsFirstTwo m' left row column place last → ⊥
   made_or_two after place last made two =
       let inside = inside_too rows m m' same last two.column_in in
       let is = all_at (λ i. (j : ℕ) → j < m.width → entry m' i j ≡ entry m i j) left place 0 left_same two.within in
@@ -148,7 +146,7 @@ module _ (rows : List ℕ) (m m' : Matrix) (same : AreSame rows m m') (row colum
 
 -- ---- the ends exclude each other
 
-none_next : (m : Matrix) (row column : ℕ) (left : List ℕ) → IsPivotNext m [] row column left → ⊥
+pub none_next : (m : Matrix) (row column : ℕ) (left : List ℕ) → IsPivotNext m [] row column left → ⊥
 none_next m row column left next = let h = next.first.pivot.within in omega arith
 
 abbrev Excludes : List Pivot → Type 0

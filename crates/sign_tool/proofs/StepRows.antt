@@ -33,6 +33,17 @@ distinct_fewer (z ∷ front) back x h =
       (λ g. h.0 (in_more front back x z g), rest.1),
     )
 
+pub in_left : (rows left : List ℕ) (row i : ℕ) → HasOneMore row left rows → IsIn i left → IsIn i rows
+in_left rows left row i more h = subst (IsIn i) (sym more.more_is) (in_more more.front more.back row i (subst (IsIn i) more.fewer_is h))
+
+pub in_rows : (rows left : List ℕ) (row : ℕ) → HasOneMore row left rows → IsIn row rows
+in_rows rows left row more = subst (IsIn row) (sym more.more_is) (in_middle more.front more.back row)
+
+-- the rows before a pivot
+pub one_more_next : (m : Matrix) (rows : List ℕ) (row column : ℕ) (left : List ℕ) → IsPivotNext m rows row column left → HasOneMore row left rows
+one_more_next m rows row column left next =
+    subst (λ r. HasOneMore r left rows) (sym next.row_is) (subst (λ xs. HasOneMore (get_or rows next.place 0) xs rows) (sym next.left_is) (one_more-remove rows next.place next.first.pivot.within))
+
 names_first : (rows left : List ℕ) (step : Pivot) (steps : List Pivot) → HasOneMore step.row left rows → IsDistinct rows → (IsDistinct left → NamesEachOnce steps left) → NamesEachOnce (step ∷ steps) rows
 names_first rows left step steps more distinct rest =
     let parts = distinct_fewer more.front more.back step.row (subst IsDistinct more.more_is distinct) in
@@ -48,8 +59,8 @@ names_first rows left step steps more distinct rest =
     one_longer rows left row more = ap length more.more_is ∙ (let a = length-append more.front (row ∷ more.back) in let b = length-append more.front more.back in let c = ap length more.fewer_is in omega arith)
 
     to : (row : ℕ) → NamesEachOnce steps left → (row ≡ step.row) ⊎ IsIn row (map (λ s. s.row) steps) → IsIn row rows
-    to row names (inl e) = subst (IsIn row) (sym more.more_is) (subst (λ y. IsIn y (more.front ++ step.row ∷ more.back)) (sym e) (in_middle more.front more.back step.row))
-    to row names (inr h) = subst (IsIn row) (sym more.more_is) (in_more more.front more.back step.row row (subst (IsIn row) more.fewer_is ((names.members row).0 h)))
+    to row names (inl e) = subst (λ y. IsIn y rows) (sym e) (in_rows rows left step.row more)
+    to row names (inr h) = in_left rows left step.row row more ((names.members row).0 h)
 
     from : (row : ℕ) → NamesEachOnce steps left → IsIn row rows → (row ≡ step.row) ⊎ IsIn row (map (λ s. s.row) steps)
     from row names h = elim (in_fewer more.front more.back step.row row (subst (IsIn row) more.more_is h)) [
@@ -62,10 +73,7 @@ names_step : (steps : List Pivot) (sign : ℕ → ℤ) → ((m : Matrix) (rows :
 names_step steps sign others row None m rows (left, (aside, one, rest)) distinct =
     names_first rows left (record { row = row; column = None }) steps (subst (HasOneMore row left) (sym aside.rows_are) (one_more_first row left)) distinct (others m left rest)
 names_step steps sign others row (Some column) m rows (left, (next, value, (after, made, rest))) distinct =
-    names_first rows left (record { row = row; column = Some column }) steps (more next) distinct (others after left rest)
-  where
-    more : IsPivotNext m rows row column left → HasOneMore row left rows
-    more next = subst (λ r. HasOneMore r left rows) (sym next.row_is) (subst (λ xs. HasOneMore (get_or rows next.place 0) xs rows) (sym next.left_is) (one_more-remove rows next.place next.first.pivot.within))
+    names_first rows left (record { row = row; column = Some column }) steps (one_more_next m rows row column left next) distinct (others after left rest)
 
 pub names_each_once : (steps : List Pivot) (sign : ℕ → ℤ) (m : Matrix) (rows : List ℕ) → SignsBySteps m rows steps sign → IsDistinct rows → NamesEachOnce steps rows
 names_each_once [] sign m rows none distinct = subst (NamesEachOnce []) (sym none) (record { distinct = tt; members = λ row. (λ h. h, λ h. h); as_many = refl })

@@ -1,1 +1,2 @@
 pub mod SetSignings
+pub mod Laws

@@ -1,17 +1,27 @@
 -- The cells of a matrix of four blocks.
-use Rattle.std.proofs.Common.{◌≡◌, ◌+◌, ◌-◌, ◌*◌, ◌∙◌, ◌++◌, ◌*ℤ◌, ℕ, ℤ, pos, Bool, true, false, cond, nat_lt, List, [], ◌∷◌, map, length, get_or, ap, sym, refl, zero-add}
+use Rattle.std.proofs.Common.{◌≡◌, ◌<◌, ◌≤◌, ◌+◌, ◌-◌, ◌*◌, ◌∙◌, ◌++◌, ◌*ℤ◌, ℕ, ℤ, pos, Bool, true, false, cond, nat_lt, List, [], ◌∷◌, map, length, get_or, ap, ap₂, sym, subst, refl, inl, inr, zero-add, arith}
 use Rattle.std.specs.List.{flat_map}
-use Rattle.std.proofs.lemmas.List.{append-nil, append_assoc, length-map}
+use Rattle.std.proofs.lemmas.Bool.{cases_lt}
+use Rattle.std.proofs.lemmas.List.{append-nil, append_assoc, length-map, get_or-map, get_or_past}
 use Rattle.std.proofs.lemmas.List.Concat.{flat_map-append}
 use Rattle.std.proofs.lemmas.List.FromFn.{length-range_with_len}
-use Rattle.cmr_base.specs.Matrix.{Matrix, entry, rows_of, IsEntry, IsMatrix}
+use Rattle.cmr_base.specs.Matrix.{Matrix, height, entry, rows_of, IsEntry, HasTernaryEntries, IsMatrix}
 use Rattle.cmr_base.specs.LineSets.{first_lines}
 use Rattle.cmr_base.specs.MatrixSums.{filled}
+use Rattle.cmr_base.specs.Separations.{spread}
+use Rattle.cmr_base.proofs.Booleans.{lt_of}
+use Rattle.cmr_base.proofs.FilledMatrices.{height-filled}
+use Rattle.cmr_base.proofs.Integers.{products}
 use Rattle.cmr_base.proofs.SmallEntries.{zero_is_entry, product_is_entry}
 use Rattle.cmr_base.proofs.LineSetLemmas.{range_more}
 use Rattle.cmr_base.proofs.Parts.{length-cells, rows_of-flat_map, each-flat_map, each-map}
+use Rattle.sum_ops.specs.declared.plan.LowerBlock.{LowerBlock}
+use Rattle.sum_ops.specs.declared.plan.LowerBlock.TheVariants.{Zero, Product}
+use Rattle.sum_ops.specs.declared.plan.LowerBlock.TheVariants.{Spread as SpreadBlock}
 use Rattle.sum_ops.specs.declared.plan.Plan.{Plan}
-use Rattle.sum_ops.specs.Plans.{entries_of, upper_block, lower_block}
+use Rattle.sum_ops.specs.declared.spread.Spread.{Spread}
+use Rattle.sum_ops.specs.Spreads.{spread_entry}
+use Rattle.sum_ops.specs.Plans.{entries_of, upper_block, lower_entry, Fits, LowerFits}
 
 -- one more number
 pub lines_more : {A : Type 0} (f : ℕ → A) (k : ℕ) → map f (first_lines (k + 1)) ≡ map f (first_lines k) ++ f k ∷ []
@@ -46,16 +56,47 @@ module _ (m n : ℕ) (entries : ℕ → ℕ → ℤ) where
 
 -- ---- the entries are -1, 0 or 1
 
-module _ (plan : Plan) (first second : Matrix) (one : IsMatrix first) (other : IsMatrix second) where
-  either : (b : Bool) (x : ℤ) → IsEntry x → IsEntry (cond b x (pos 0))
-  either true x h = h
-  either false x h = zero_is_entry
+either : (b : Bool) (x : ℤ) → IsEntry x → IsEntry (cond b x (pos 0))
+either true x h = h
+either false x h = zero_is_entry
+
+-- past the last row
+entry-past : (m : Matrix) (r c : ℕ) → height m ≤ r → entry m r c ≡ pos 0
+entry-past m r c l = ap (λ (row : List ℤ). get_or row c (pos 0)) (get_or_past m.rows r [] l)
+
+spread-zeros : (d x y z w a b : ℤ) → spread d x y z w (pos 0) (pos 0) a b ≡ pos 0
+spread-zeros d x y z w a b = simp products
+
+module _ (plan : Plan) (first second : Matrix) (fits : Fits plan first second) (other : IsMatrix second) where
+  spread_small : (block : Spread) → LowerFits (SpreadBlock block) plan first second → (r c : ℕ) → plan.up ≤ r → c < plan.columns → IsEntry (spread_entry block first second r c)
+  spread_small block lower r c from l = elim (cases_lt r (height second)) [
+    | inl lt ↦ lower.1 r c from lt l
+    | inr ge ↦ subst IsEntry (sym (ap₂ (λ (a b : ℤ). spread block.determinant (entry second 1 0) (entry second 1 1) (entry second 2 0) (entry second 2 1) a b (entry first block.model c) (entry first (block.model + 1) c))
+        (entry-past second r 0 ge) (entry-past second r 1 ge)
+        ∙ spread-zeros block.determinant (entry second 1 0) (entry second 1 1) (entry second 2 0) (entry second 2 1) (entry first block.model c) (entry first (block.model + 1) c))) zero_is_entry
+  ]
+
+  lower_small : (r c : ℕ) → plan.up ≤ r → c < plan.columns → IsEntry (lower_entry plan.lower plan.rows first second r c)
+  lower_small r c from l = go plan.lower fits.lower
+    where
+      go : (block : LowerBlock) → LowerFits block plan first second → IsEntry (lower_entry block plan.rows first second r c)
+      go Zero h = zero_is_entry
+      go Product h = product_is_entry (entry second r 0) (entry first plan.rows c) (other.small r 0) (fits.first_matrix.small plan.rows c)
+      go (SpreadBlock block) h = spread_small block h r c from l
 
   pub entries_small : (r c : ℕ) → IsEntry (entries_of plan first second r c)
-  entries_small r c = go (nat_lt r plan.rows) (nat_lt c plan.columns)
+  entries_small r c = go (nat_lt r plan.rows) (nat_lt c plan.columns) refl
     where
-      go : (s t : Bool) → IsEntry (cond s (cond t (entry first r c) (upper_block plan first second r (plan.left + (c - plan.columns)))) (cond t (lower_block plan first second (plan.up + (r - plan.rows)) c) (entry second (plan.up + (r - plan.rows)) (plan.left + (c - plan.columns)))))
-      go true true = one.small r c
-      go true false = either plan.upper (entry first r plan.columns *ℤ entry second 0 (plan.left + (c - plan.columns))) (product_is_entry (entry first r plan.columns) (entry second 0 (plan.left + (c - plan.columns))) (one.small r plan.columns) (other.small 0 (plan.left + (c - plan.columns))))
-      go false true = either plan.lower (entry second (plan.up + (r - plan.rows)) 0 *ℤ entry first plan.rows c) (product_is_entry (entry second (plan.up + (r - plan.rows)) 0) (entry first plan.rows c) (other.small (plan.up + (r - plan.rows)) 0) (one.small plan.rows c))
-      go false false = other.small (plan.up + (r - plan.rows)) (plan.left + (c - plan.columns))
+      go : (s t : Bool) → nat_lt c plan.columns ≡ t
+          → IsEntry (cond s (cond t (entry first r c) (upper_block plan first second r (plan.left + (c - plan.columns)))) (cond t (lower_entry plan.lower plan.rows first second (plan.up + (r - plan.rows)) c) (entry second (plan.up + (r - plan.rows)) (plan.left + (c - plan.columns)))))
+      go true true e = fits.first_matrix.small r c
+      go true false e = either plan.upper (entry first r plan.columns *ℤ entry second 0 (plan.left + (c - plan.columns))) (product_is_entry (entry first r plan.columns) (entry second 0 (plan.left + (c - plan.columns))) (fits.first_matrix.small r plan.columns) (other.small 0 (plan.left + (c - plan.columns))))
+      go false true e = lower_small (plan.up + (r - plan.rows)) c (omega arith) (lt_of c plan.columns e)
+      go false false e = other.small (plan.up + (r - plan.rows)) (plan.left + (c - plan.columns))
+
+pub filled_small : (m n : ℕ) (entries : ℕ → ℕ → ℤ) → ((r c : ℕ) → IsEntry (entries r c)) → HasTernaryEntries (filled m n entries)
+filled_small m n entries small r c = elim (cases_lt r m) [
+  | inl lt ↦ subst (λ (row : List ℤ). IsEntry (get_or row c (pos 0))) (sym (get_or-map (λ row. map (entries row) (first_lines n)) (first_lines m) r 0 [] (let e = length-range_with_len 0 m in omega arith)))
+      (each-map IsEntry (entries (get_or (first_lines m) r 0)) (first_lines n) zero_is_entry (small (get_or (first_lines m) r 0)) c)
+  | inr ge ↦ subst IsEntry (sym (entry-past (filled m n entries) r c (let e = height-filled m n entries in omega arith))) zero_is_entry
+]

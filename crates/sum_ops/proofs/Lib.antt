@@ -1,2 +1,4 @@
+pub mod SmallNumbers
+pub mod CoreSums
 pub mod FilledRows
 pub mod ChildCounts

@@ -1,4 +1,7 @@
+pub mod Spreads
 pub mod Plans
 pub mod Corners
+pub mod Cores
+pub mod Bounds
 pub mod Causes
 pub mod Children

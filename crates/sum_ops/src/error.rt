@@ -9,6 +9,9 @@ pub enum SumError {
     /// A matrix is too small, its connecting lines have not the form of the sum, or the corners differ.
     #[error("no connecting lines of this sum")]
     BadConnector,
+    /// The connecting lines are right, and an entry of the concentrated sum is not -1, 0 or 1.
+    #[error("an entry of the sum is not -1, 0 or 1")]
+    BadEntry,
     /// Memory was refused.
     #[error("out of memory")]
     Memory,

@@ -1,16 +1,26 @@
 // Matrices of four blocks.
 ghost use Rattle.std.specs.Prelude.{◌≡◌, ◌<◌, ◌≤◌, ◌+◌, ◌-◌, ◌++◌, map, IfOk, OnOk};
 ghost use Rattle.cmr_base.specs.LineSets.{first_lines};
-ghost use Rattle.cmr_base.specs.Matrix.{height, IsEntry, IsMatrix};
+ghost use Rattle.cmr_base.specs.Matrix.{height, IsEntry, HasTernaryEntries, IsMatrix};
 ghost use Rattle.cmr_base.specs.MatrixSums.{filled};
-ghost use Rattle.sum_ops.specs.Plans.{Fits, entries_of, rows_of, columns_of};
+ghost use Rattle.sum_ops.specs.Plans.{Fits, entries_of, lower_entry, rows_of, columns_of};
 
+use crate::spread::Spread;
 use cmr_base::{Matrix, Memory, product};
 use std::alloc::Global;
 
+/// The block below the first matrix: zero, the product of column 0 of the second matrix with the next row of the first, or
+/// what two columns and two rows make.
+#[derive(Clone, Copy, Debug)]
+pub enum LowerBlock {
+    Zero,
+    Product,
+    Spread(Spread),
+}
+
 /// The blocks of a sum: the first so many rows and columns of the first matrix, and the second matrix from a row and a
-/// column on. The upper block, where there is one and it is not zero, is the product of the next column of the first
-/// matrix with row 0 of the second, and the lower block that of column 0 of the second with the next row of the first.
+/// column on. The upper block, where it is not zero, is the product of the next column of the first matrix with row 0 of
+/// the second.
 #[derive(Clone, Copy, Debug)]
 pub struct Plan {
     pub rows: u32,
@@ -18,7 +28,7 @@ pub struct Plan {
     pub up: u32,
     pub left: u32,
     pub upper: bool,
-    pub lower: bool,
+    pub lower: LowerBlock,
 }
 
 impl Plan {
@@ -27,7 +37,8 @@ impl Plan {
         requires fits { Fits self first.now second.now }
         requires rows { rows_of self second.now ≤ 1000 }
         requires columns { columns_of self second.now ≤ 1000 }
-        ensures { IfOk result (λ sum. sum ≡ filled (rows_of self second.now) (columns_of self second.now) (entries_of self first.now second.now)) }
+        ensures blocks { IfOk result (λ sum. sum ≡ filled (rows_of self second.now) (columns_of self second.now) (entries_of self first.now second.now)) }
+        ensures small { IfOk result HasTernaryEntries }
     {
         let rows = self.rows + (second.rows() - self.up);
         let columns = self.columns + (second.columns() - self.left);
@@ -82,13 +93,24 @@ impl Plan {
                 self.up + (row - self.rows),
                 self.left + (column - self.columns),
             )
-        } else if self.lower {
-            product(
-                second.entry(self.up + (row - self.rows), 0),
-                first.entry(self.rows, column),
-            )
         } else {
-            0
+            self.lower_entry(first, second, self.up + (row - self.rows), column)
+        }
+    }
+
+    fn lower_entry(self, first: &Matrix, second: &Matrix, row: u32, column: u32) -> i8
+        requires fits { Fits self first.now second.now }
+        requires second { IsMatrix second.now }
+        requires from { self.up ≤ row }
+        requires row { row < height second.now }
+        requires column { column < self.columns }
+        ensures value { result ≡ lower_entry self.lower self.rows first.now second.now row column }
+        ensures small { IsEntry result }
+    {
+        match self.lower {
+            LowerBlock::Zero => 0,
+            LowerBlock::Product => product(second.entry(row, 0), first.entry(self.rows, column)),
+            LowerBlock::Spread(spread) => spread.entry(first, second, row, column),
         }
     }
 }

@@ -1,17 +1,16 @@
 // Sums of two matrices (Truemper, Matroid Decomposition).
 ghost use Rattle.std.specs.Prelude.{◌≡◌, ◌≤◌, ◌+◌, ◌↔◌, IsTrue, IfOk, IfErr};
 ghost use Rattle.cmr_base.specs.Matrix.{height};
-ghost use Rattle.cmr_base.specs.MatrixSums.{HaveTwoSum, HaveThreeSum, connecting_rows, connecting_columns};
-ghost use Rattle.cmr_base.specs.MatrixSums.{one_sum as the_one_sum, two_sum as the_two_sum, three_sum as the_three_sum};
-ghost use Rattle.cmr_base.specs.Separations.{first_is_flat, second_is_flat};
+ghost use Rattle.cmr_base.specs.MatrixSums.{HaveTwoSum, HaveCornerSum, HaveThreeSum, connecting_rows, connecting_columns};
+ghost use Rattle.cmr_base.specs.MatrixSums.{one_sum as the_one_sum, two_sum as the_two_sum, corner_sum as the_corner_sum, three_sum as the_three_sum};
 ghost use Rattle.cmr_base.specs.declared.separation.Form.TheVariants.{Delta, YForm, Mixed};
 ghost use Rattle.sum_ops.specs.Causes.{IsCause};
 ghost use Rattle.sum_ops.specs.Corners.{HaveOneCorner};
 
 use crate::SumError;
 use crate::corners::{first_corner, last_corner};
-use crate::plan::Plan;
-use cmr_base::{Form, Matrix, Memory};
+use crate::plan::{LowerBlock, Plan};
+use cmr_base::{Matrix, Memory};
 use std::alloc::Global;
 
 /// The one-sum: the two matrices as diagonal blocks.
@@ -26,7 +25,7 @@ pub fn one_sum(alloc: Global, first: &Matrix, second: &Matrix) -> Result<Matrix,
         up: 0,
         left: 0,
         upper: false,
-        lower: false,
+        lower: LowerBlock::Zero,
     };
     plan.sum(alloc, first, second)
 }
@@ -49,7 +48,7 @@ pub fn two_sum(alloc: Global, first: &Matrix, second: &Matrix) -> Result<Matrix,
         up: 1,
         left: 0,
         upper: true,
-        lower: false,
+        lower: LowerBlock::Zero,
     };
     Ok(plan.sum(alloc, first, second)?)
 }
@@ -63,7 +62,7 @@ pub fn delta_sum(alloc: Global, first: &Matrix, second: &Matrix) -> Result<Matri
     ensures defined { IfOk result (λ _. HaveThreeSum Delta first.now second.now) }
     ensures cause { IfErr result (IsCause (HaveThreeSum Delta first.now second.now)) }
 {
-    three_sum(alloc, Form::Delta, first, second)
+    corner_sum(alloc, true, true, first, second)
 }
 
 /// The Y sum `[A ab; dc B]` of `[A a; c 0; c e]` and `[e b; 0 b; d B]`, in the same way.
@@ -74,7 +73,7 @@ pub fn y_sum(alloc: Global, first: &Matrix, second: &Matrix) -> Result<Matrix, S
     ensures defined { IfOk result (λ _. HaveThreeSum YForm first.now second.now) }
     ensures cause { IfErr result (IsCause (HaveThreeSum YForm first.now second.now)) }
 {
-    three_sum(alloc, Form::YForm, first, second)
+    corner_sum(alloc, false, false, first, second)
 }
 
 /// The mixed sum `[A ab; dc B]` of `[A a; c 0; c e]` and `[e 0 b; d d B]`, in the same way.
@@ -85,7 +84,7 @@ pub fn mixed_sum(alloc: Global, first: &Matrix, second: &Matrix) -> Result<Matri
     ensures defined { IfOk result (λ _. HaveThreeSum Mixed first.now second.now) }
     ensures cause { IfErr result (IsCause (HaveThreeSum Mixed first.now second.now)) }
 {
-    three_sum(alloc, Form::Mixed, first, second)
+    corner_sum(alloc, true, false, first, second)
 }
 
 fn connecting_rows(flat: bool) -> u32
@@ -100,25 +99,31 @@ fn connecting_columns(flat: bool) -> u32
     if flat { 2 } else { 1 }
 }
 
-fn three_sum(alloc: Global, form: Form, first: &Matrix, second: &Matrix) -> Result<Matrix, SumError>
-    requires rows { height first.now + height second.now ≤ 1000 + (connecting_rows (second_is_flat form) + connecting_rows (first_is_flat form)) }
-    requires columns { first.now.width + second.now.width ≤ 1000 + (connecting_columns (second_is_flat form) + connecting_columns (first_is_flat form)) }
-    ensures sum { IfOk result (λ sum. sum ≡ the_three_sum form first.now second.now) }
-    ensures defined { IfOk result (λ _. HaveThreeSum form first.now second.now) }
-    ensures cause { IfErr result (IsCause (HaveThreeSum form first.now second.now)) }
+// The sum of a first matrix that ends in connecting lines of the kind of the second connector of a separation, and a second
+// one that begins with those of the kind of the first connector.
+fn corner_sum(
+    alloc: Global,
+    first_flat: bool,
+    second_flat: bool,
+    first: &Matrix,
+    second: &Matrix,
+) -> Result<Matrix, SumError>
+    requires rows { height first.now + height second.now ≤ 1000 + (connecting_rows second_flat + connecting_rows first_flat) }
+    requires columns { first.now.width + second.now.width ≤ 1000 + (connecting_columns second_flat + connecting_columns first_flat) }
+    ensures sum { IfOk result (λ sum. sum ≡ the_corner_sum first_flat second_flat first.now second.now) }
+    ensures defined { IfOk result (λ _. HaveCornerSum first_flat second_flat first.now second.now) }
+    ensures cause { IfErr result (IsCause (HaveCornerSum first_flat second_flat first.now second.now)) }
 {
-    let last = form.second_is_flat();
-    let begin = form.first_is_flat();
-    if !have_one_corner(first, second, last, begin) {
+    if !have_one_corner(first, second, second_flat, first_flat) {
         return Err(SumError::BadConnector);
     }
     let plan = Plan {
-        rows: first.rows() - connecting_rows(last),
-        columns: first.columns() - connecting_columns(last),
-        up: connecting_rows(begin),
-        left: connecting_columns(begin),
+        rows: first.rows() - connecting_rows(second_flat),
+        columns: first.columns() - connecting_columns(second_flat),
+        up: connecting_rows(first_flat),
+        left: connecting_columns(first_flat),
         upper: true,
-        lower: true,
+        lower: LowerBlock::Product,
     };
     Ok(plan.sum(alloc, first, second)?)
 }

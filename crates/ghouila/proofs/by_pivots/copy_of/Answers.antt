@@ -1,7 +1,7 @@
-use Rattle.std.proofs.Common.{◌≡◌, ◌<◌, ◌∙◌, ℕ, List, length, subst, sym, arith}
+use Rattle.std.proofs.Common.{◌≡◌, ℕ, List, subst, sym, arith}
 use Rattle.std.specs.Prelude.{IfOk}
 use Rattle.cmr_base.specs.Matrix.{Matrix, height}
-use Rattle.cmr_base.specs.LineSets.{AllBelow, first_lines, submatrix}
+use Rattle.cmr_base.specs.LineSets.{AllBelow, first_lines}
 use Rattle.cmr_base.proofs.RisingLists.{rises-range, rising_in_range}
 use Rattle.cmr_base.proofs.WholeMatrices.{all_lines_make}
 use Rattle.ghouila.proofs.by_pivots.copy_of.Goals as goal

@@ -1,4 +1,4 @@
-use Rattle.std.proofs.Common.{◌<◌, ℕ, take, get_or, refl, subst, arith}
+use Rattle.std.proofs.Common.{ℕ, take, refl, subst, arith}
 use Rattle.std.proofs.lemmas.List.{get_or-take, length-take}
 use Rattle.cmr_base.specs.Matrix.{entry}
 use Rattle.cmr_base.proofs.Lists.{all_at}

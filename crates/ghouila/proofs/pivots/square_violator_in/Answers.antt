@@ -5,6 +5,7 @@ use Rattle.cmr_base.specs.Matrix.{entry, IsEntry}
 use Rattle.cmr_base.specs.Signing.{IsSign}
 use Rattle.ghouila.specs.Pivot.{reduced}
 use Rattle.ghouila.proofs.Bytes.{reduced_bytes}
+use Rattle.ghouila.proofs.PivotRow.{small_over}
 use Rattle.ghouila.proofs.Square.{small_or_square}
 use Rattle.ghouila.proofs.pivots.square_violator_in.Goals as goal
 
@@ -12,31 +13,44 @@ pub returns-then-not-is_entry-clause-some : goal.returns-then-not-is_entry-claus
 returns-then-not-is_entry-clause-some c =
     let z = c.reduced-left.result in
     let fits : SFits w8 z = search rules in
-    let a = c.entry.ensures in let p = c.entry-2.ensures in let x = c.entry-in-loop-last.ensures in let q = c.entry-in-loop-last-2.ensures in let f = c.product-factor.ensures in
-    let value : z ≡ c.entry-in-loop-last.result -ℤ c.entry.result *ℤ (c.entry-2.result *ℤ c.entry-in-loop-last-2.result) = reduced_bytes c.entry.result c.entry-2.result c.entry-in-loop-last-2.result c.entry-in-loop-last.result c.product-factor.result z a.small p.small q.small x.small f.small f.value c.reduced-left.ensures in
-    elim (small_or_square c.entry.result c.entry-2.result c.entry-in-loop-last-2.result c.entry-in-loop-last.result (subst IsSign (sym a.value) c.requires.nonzero) p.small q.small x.small) [
+    let a = c.entry.ensures in let p = c.entry-2.ensures in let x = c.entry-in-Some.ensures in let q = c.entry-in-Some-2.ensures in let f = c.product-factor.ensures in
+    let value : z ≡ c.entry-in-Some.result -ℤ c.entry.result *ℤ (c.entry-2.result *ℤ c.entry-in-Some-2.result) = reduced_bytes c.entry.result c.entry-2.result c.entry-in-Some-2.result c.entry-in-Some.result c.product-factor.result z a.small p.small q.small x.small f.small f.value c.reduced-left.ensures in
+    elim (small_or_square c.entry.result c.entry-2.result c.entry-in-Some-2.result c.entry-in-Some.result (subst IsSign (sym a.value) c.requires.nonzero) p.small q.small x.small) [
       | inl small ↦ absurd (false≢true (sym c.if-not-is_entry.true ∙ c.is_entry.ensures.1 (subst IsEntry (sym (to_z-of_z w8 z fits ∙ value)) small)))
       | inr square ↦ record {
         row_in = c.requires.other;
-        column_in = omega arith;
+        column_in = c.in-Some.ensures.first.1;
         square = rw (← a.value, ← p.value, ← q.value, ← x.value) square;
       }
     ]
+
+pub returns-then-not-is_entry-clause-first : goal.returns-then-not-is_entry-clause-first
+returns-then-not-is_entry-clause-first c =
+    small_over c.args.work.now c.args.row c.args.column c.args.other c.loop-last.from c.in-Some.last c.columns.ensures.shape c.loop-last.invariant.small c.in-Some.ensures.first.3
 
 pub loop-last-preserved : goal.loop-last-preserved
 loop-last-preserved c =
     let z = c.reduced-left.result in
     let fits : SFits w8 z = search rules in
-    let a = c.entry.ensures in let p = c.entry-2.ensures in let x = c.entry-in-loop-last.ensures in let q = c.entry-in-loop-last-2.ensures in let f = c.product-factor.ensures in
-    let value : z ≡ c.entry-in-loop-last.result -ℤ c.entry.result *ℤ (c.entry-2.result *ℤ c.entry-in-loop-last-2.result) = reduced_bytes c.entry.result c.entry-2.result c.entry-in-loop-last-2.result c.entry-in-loop-last.result c.product-factor.result z a.small p.small q.small x.small f.small f.value c.reduced-left.ensures in
-    let is : z ≡ reduced (entry c.args.work.now) c.args.row c.args.column c.args.other c.loop-last.last = cc in
-    below_more _ _ c.loop-last.invariant (subst IsEntry (to_z-of_z w8 z fits ∙ is) (c.is_entry.ensures.0 c.if-not-is_entry.false))
+    let a = c.entry.ensures in let p = c.entry-2.ensures in let x = c.entry-in-Some.ensures in let q = c.entry-in-Some-2.ensures in let f = c.product-factor.ensures in
+    let value : z ≡ c.entry-in-Some.result -ℤ c.entry.result *ℤ (c.entry-2.result *ℤ c.entry-in-Some-2.result) = reduced_bytes c.entry.result c.entry-2.result c.entry-in-Some-2.result c.entry-in-Some.result c.product-factor.result z a.small p.small q.small x.small f.small f.value c.reduced-left.ensures in
+    let is : z ≡ reduced (entry c.args.work.now) c.args.row c.args.column c.args.other c.in-Some.last = cc in
+    let within = c.in-Some.ensures.first.1 in
+    record {
+      inside = omega (arith, within);
+      small = below_more _ _ (small_over c.args.work.now c.args.row c.args.column c.args.other c.loop-last.from c.in-Some.last c.columns.ensures.shape c.loop-last.invariant.small c.in-Some.ensures.first.3)
+          (subst IsEntry (to_z-of_z w8 z fits ∙ is) (c.is_entry.ensures.0 c.if-not-is_entry.false));
+    }
 
 pub returns-then-not-is_entry-clause-two : goal.returns-then-not-is_entry-clause-two
 returns-then-not-is_entry-clause-two c =
     let z = c.reduced-left.result in
     let fits : SFits w8 z = search rules in
-    let a = c.entry.ensures in let p = c.entry-2.ensures in let x = c.entry-in-loop-last.ensures in let q = c.entry-in-loop-last-2.ensures in let f = c.product-factor.ensures in
-    let value : z ≡ c.entry-in-loop-last.result -ℤ c.entry.result *ℤ (c.entry-2.result *ℤ c.entry-in-loop-last-2.result) = reduced_bytes c.entry.result c.entry-2.result c.entry-in-loop-last-2.result c.entry-in-loop-last.result c.product-factor.result z a.small p.small q.small x.small f.small f.value c.reduced-left.ensures in
-    let is : z ≡ reduced (entry c.args.work.now) c.args.row c.args.column c.args.other c.loop-last.last = cc in
+    let a = c.entry.ensures in let p = c.entry-2.ensures in let x = c.entry-in-Some.ensures in let q = c.entry-in-Some-2.ensures in let f = c.product-factor.ensures in
+    let value : z ≡ c.entry-in-Some.result -ℤ c.entry.result *ℤ (c.entry-2.result *ℤ c.entry-in-Some-2.result) = reduced_bytes c.entry.result c.entry-2.result c.entry-in-Some-2.result c.entry-in-Some.result c.product-factor.result z a.small p.small q.small x.small f.small f.value c.reduced-left.ensures in
+    let is : z ≡ reduced (entry c.args.work.now) c.args.row c.args.column c.args.other c.in-Some.last = cc in
     λ small. false≢true (sym c.if-not-is_entry.true ∙ c.is_entry.ensures.1 (subst IsEntry (sym (to_z-of_z w8 z fits ∙ is)) small))
+
+pub returns-clause-none : goal.returns-clause-none
+returns-clause-none c =
+    small_over c.args.work.now c.args.row c.args.column c.args.other c.loop-last.from c.args.work.now.width c.columns.ensures.shape c.loop-last.invariant.small (λ j low high. c.in_default.ensures.first j low)

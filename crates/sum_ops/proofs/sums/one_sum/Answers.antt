@@ -15,8 +15,7 @@ sum-requires-clause-fits c = record {
   first_matrix = c.rows.ensures.shape;
   upper_column = λ e. cc;
   upper_row = λ e. cc;
-  lower_row = λ e. cc;
-  lower_column = λ e. cc;
+  lower = tt;
 }
 
 pub returns : goal.returns
@@ -29,4 +28,4 @@ returns c =
     let left : second.width - 0 ≡ second.width = omega arith in
     let whole : filled (c.rows.result + (height second - 0)) (c.columns.result + (second.width - 0)) (four_blocks c.rows.result c.columns.result 0 0 (entry first) zeros zeros (entry second)) ≡ filled (c.rows.result + height second) (c.columns.result + second.width) (four_blocks c.rows.result c.columns.result 0 0 (entry first) zeros zeros (entry second)) =
     ap₂ (λ (a b : ℕ). filled (c.rows.result + a) (c.columns.result + b) (four_blocks c.rows.result c.columns.result 0 0 (entry first) zeros zeros (entry second))) up left in
-    IfOk-weaker c.sum.result _ _ (λ sum e. e ∙ whole ∙ sizes) c.sum.ensures
+    IfOk-weaker c.sum.result _ _ (λ sum e. e ∙ whole ∙ sizes) c.sum.ensures.blocks

@@ -1,10 +1,11 @@
 use Rattle.std.proofs.Common.{◌≡◌, ◌∙◌, ◌++◌, ◌+◌, ◌-◌, ◌*◌, map, ap, ap₂, sym, subst, arith, List, ℤ, ℕ, get_or, pos, length, IfOk}
 use Rattle.std.specs.List.{flat_map}
-use Rattle.cmr_base.specs.Matrix.{IsEntry, Matrix}
+use Rattle.std.proofs.lemmas.Result.{IfOk-weaker}
+use Rattle.cmr_base.specs.Matrix.{IsEntry, HasTernaryEntries, Matrix}
 use Rattle.cmr_base.specs.Matrix.{rows_of as cut_rows}
 use Rattle.cmr_base.specs.LineSets.{first_lines}
 use Rattle.sum_ops.specs.Plans.{entries_of, rows_of, columns_of}
-use Rattle.sum_ops.proofs.FilledRows.{cells_more, whole, small, cut, entries_small}
+use Rattle.sum_ops.proofs.FilledRows.{cells_more, whole, small, cut, entries_small, filled_small}
 use Rattle.cmr_base.proofs.SmallEntries.{zero_is_entry}
 use Rattle.sum_ops.proofs.plan.Plan.sum.Goals as goal
 
@@ -38,10 +39,10 @@ from_cells-requires-clause-small c =
     let second = c.args.second.now in
     let plan = c.args.self in
     λ k. subst (λ (cells : List ℤ). IsEntry (get_or cells k (pos 0))) (sym (c.deref.ensures.value ∙ c.loop-row.invariant))
-    (small c.loop-row.row (columns_of plan second) (entries_of plan first second) zero_is_entry (entries_small plan first second c.requires.fits.first_matrix c.rows.ensures.shape) k)
+    (small c.loop-row.row (columns_of plan second) (entries_of plan first second) zero_is_entry (entries_small plan first second c.requires.fits c.rows.ensures.shape) k)
 
-pub returns : goal.returns
-returns c =
+pub returns-clause-blocks : goal.returns-clause-blocks
+returns-clause-blocks c =
     let first = c.args.first.now in
     let second = c.args.second.now in
     let plan = c.args.self in
@@ -54,3 +55,10 @@ returns c =
     (c.deref.ensures.value ∙ c.loop-row.invariant ∙ ap (λ (k : ℕ). flat_map (λ row. map (entries_of plan first second row) (first_lines (columns_of plan second))) (first_lines k)) all)
     ∙ ap (λ (r : List (List ℤ)). record { rows = r; width = columns_of plan second }) (cut (rows_of plan second) (columns_of plan second) (entries_of plan first second)))
     c.from_cells.ensures
+
+pub returns-clause-small : goal.returns-clause-small
+returns-clause-small c =
+    let first = c.args.first.now in
+    let second = c.args.second.now in
+    let plan = c.args.self in
+    IfOk-weaker c.from_cells.result _ _ (λ sum e. subst HasTernaryEntries (sym e) (filled_small (rows_of plan second) (columns_of plan second) (entries_of plan first second) (entries_small plan first second c.requires.fits c.rows.ensures.shape))) (returns-clause-blocks c)

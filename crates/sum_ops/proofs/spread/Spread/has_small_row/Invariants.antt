@@ -1,0 +1,8 @@
+use Rattle.std.proofs.Common.{◌<◌, ℕ}
+use Rattle.cmr_base.specs.Matrix.{IsEntry}
+use Rattle.sum_ops.specs.Spreads.{spread_entry}
+use Rattle.sum_ops.proofs.spread.Spread.has_small_row.Given as goal
+
+-- small so far
+abbrev pub invariant-loop-column : goal.invariant-loop-column
+invariant-loop-column l = (column : ℕ) → column < l.column → IsEntry (spread_entry l.self l.first l.second l.row column)

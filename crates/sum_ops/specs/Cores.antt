@@ -1,0 +1,35 @@
+-- The cores of concentrated sums.
+use Rattle.std.specs.Prelude.{◌≡◌, ◌<◌, ◌≤◌, ◌+◌, ◌-◌, ◌-ℤ◌, ◌*ℤ◌, ℕ, ℤ, pos}
+use Rattle.cmr_base.specs.Matrix.{Matrix, height, entry, IsEntry}
+use Rattle.cmr_base.specs.Signing.{IsSign}
+use Rattle.cmr_base.specs.MatrixSums.{IsCore, core_block}
+
+-- the entries of a core after so many rows and columns that are 1 or -1
+pub record HaveSigns (row column : ℕ) (entries : ℕ → ℕ → ℤ) : Type 0 where
+  pub g : IsSign (entries row column)
+  pub h : IsSign (entries row (column + 1))
+  pub s : IsSign (entries (row + 1) (column + 2))
+  pub t : IsSign (entries (row + 2) (column + 2))
+
+-- the determinant of the entries in rows row + 1 and row + 2 and columns column and column + 1
+abbrev pub core_determinant_at : Matrix → (row column : ℕ) → ℤ
+core_determinant_at m row column = entry m (row + 1) column *ℤ entry m (row + 2) (column + 1) -ℤ entry m (row + 1) (column + 1) *ℤ entry m (row + 2) column
+
+-- the matrix ends in a core with this determinant, above which its last column is 0
+pub record IsLastCore (m : Matrix) (determinant : ℤ) : Type 0 where
+  pub rows : 3 ≤ height m
+  pub columns : 3 ≤ m.width
+  pub core : IsCore (height m - 3) (m.width - 3) (entry m)
+  pub determinant_is : determinant ≡ core_determinant_at m (height m - 3) (m.width - 3)
+  pub above : (r : ℕ) → r < height m - 3 → entry m r (m.width - 1) ≡ pos 0
+
+-- the second matrix begins with the last three rows and columns of the first, and after three columns its first row is 0
+pub record IsFirstCore (first second : Matrix) : Type 0 where
+  pub rows : 3 ≤ height second
+  pub columns : 3 ≤ second.width
+  pub same : (r c : ℕ) → r < 3 → c < 3 → entry second r c ≡ entry first ((height first - 3) + r) ((first.width - 3) + c)
+  pub right : (c : ℕ) → 3 ≤ c → c < second.width → entry second 0 c ≡ pos 0
+
+-- the entries of the block that the core makes are -1, 0 and 1
+abbrev pub IsSmallBlock : Matrix → Matrix → Type 0
+IsSmallBlock first second = (r c : ℕ) → 1 ≤ r → r < height second → c < first.width - 1 → IsEntry (core_block (height first - 3) (entry first) (entry second) r c)

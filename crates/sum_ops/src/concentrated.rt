@@ -1,0 +1,63 @@
+// Concentrated sums of two matrices.
+ghost use Rattle.std.specs.Prelude.{◌≡◌, ◌≤◌, ◌+◌, IfOk, IfErr, MatchOption};
+ghost use Rattle.cmr_base.specs.Matrix.{height, HasTernaryEntries};
+ghost use Rattle.cmr_base.specs.MatrixSums.{HaveConcentratedSum};
+ghost use Rattle.cmr_base.specs.MatrixSums.{concentrated_sum as the_concentrated_sum};
+ghost use Rattle.sum_ops.specs.Causes.{IsConcentratedCause};
+ghost use Rattle.sum_ops.specs.Cores.{IsLastCore, IsFirstCore};
+
+use crate::SumError;
+use crate::cores::{is_first_core, last_core};
+use crate::plan::{LowerBlock, Plan};
+use crate::spread::Spread;
+use cmr_base::Matrix;
+use std::alloc::Global;
+
+/// The concentrated three-sum `[A 0; K B]` (Seymour; Truemper, Matroid Decomposition; the library CMR). The first matrix ends
+/// in three rows and columns `[g h 0; x y s; z w t]`, where g, h, s, t and x w - y z are 1 or -1, and is 0 above them in its
+/// last column; the second begins with the same and is 0 after them in its first row. A is the first matrix without its last
+/// two rows and its last column, B the second without its first row and its first two columns. The rows of K are made from
+/// the first matrix's last two rows as those of the second are from its second and third row in its first two columns.
+///
+/// `BadConnector` comes where the matrices have not this form, or differ in these three rows and columns. `BadEntry` comes
+/// where they have it and an entry of K is not -1, 0 or 1.
+pub fn concentrated_sum(alloc: Global, first: &Matrix, second: &Matrix) -> Result<Matrix, SumError>
+    requires rows { height first.now + height second.now ≤ 1003 }
+    requires columns { first.now.width + second.now.width ≤ 1003 }
+    ensures sum { IfOk result (λ sum. sum ≡ the_concentrated_sum first.now second.now) }
+    ensures defined { IfOk result (λ _. HaveConcentratedSum first.now second.now) }
+    ensures small { IfOk result HasTernaryEntries }
+    ensures cause { IfErr result (IsConcentratedCause first.now second.now) }
+{
+    let Some(determinant) = shared_core(first, second) else {
+        return Err(SumError::BadConnector);
+    };
+    let rows = first.rows() - 2;
+    let columns = first.columns() - 1;
+    let spread = Spread {
+        determinant,
+        model: rows,
+    };
+    if !spread.has_small_entries(first, second, columns) {
+        return Err(SumError::BadEntry);
+    }
+    let plan = Plan {
+        rows,
+        columns,
+        up: 1,
+        left: 2,
+        upper: false,
+        lower: LowerBlock::Spread(spread),
+    };
+    Ok(plan.sum(alloc, first, second)?)
+}
+
+// The determinant of the core in which the first matrix ends and with which the second begins.
+fn shared_core(first: &Matrix, second: &Matrix) -> Option<i8>
+    ensures { MatchOption result (HaveConcentratedSum first.now second.now → ⊥) (λ determinant. IsLastCore first.now determinant × IsFirstCore first.now second.now) }
+{
+    match last_core(first) {
+        Some(determinant) if is_first_core(first, second) => Some(determinant),
+        _ => None,
+    }
+}
