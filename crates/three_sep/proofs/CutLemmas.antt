@@ -24,19 +24,19 @@ exchanged c = record { i = c.k; p = c.j; k = c.i; j = c.p }
 abbrev pub other_side : Lines → Lines
 other_side T = λ x. not (T x)
 
-not_true_is : (b : Bool) → not b ≡ true → b ≡ false
+pub not_true_is : (b : Bool) → not b ≡ true → b ≡ false
 not_true_is true e = absurd (true_or_false false e refl)
 not_true_is false e = refl
 
-not_false_is : (b : Bool) → not b ≡ false → b ≡ true
+pub not_false_is : (b : Bool) → not b ≡ false → b ≡ true
 not_false_is true e = refl
 not_false_is false e = absurd (true_or_false true refl e)
 
-count_same : (one two : ℕ → Bool) (size : ℕ) → ((x : ℕ) → one x ≡ two x) → count one size ≡ count two size
+pub count_same : (one two : ℕ → Bool) (size : ℕ) → ((x : ℕ) → one x ≡ two x) → count one size ≡ count two size
 count_same one two zero h = refl
 count_same one two (suc k) h = rw (h k, count_same one two k h) refl
 
-not_not : (b : Bool) → not (not b) ≡ b
+pub not_not : (b : Bool) → not (not b) ≡ b
 not_not true = refl
 not_not false = refl
 

@@ -1,6 +1,12 @@
 pub mod HalfLemmas
 pub mod SideLemmas
 pub mod CutLemmas
+pub mod CrossingLemmas
+pub mod SpreadLemmas
+pub mod NumberLemmas
+pub mod SpreadSideLemmas
 pub mod SearchLemmas
 pub mod SeedForms
+pub mod TurnedLemmas
+pub mod ConcentratedLemmas
 pub mod BlockLemmas

@@ -12,15 +12,16 @@ use Rattle.three_sep.specs.declared.side.Side.{Side}
 use Rattle.three_sep.specs.declared.groups.Groups.{Groups}
 use Rattle.three_sep.specs.declared.corners.Corners.{Corners}
 use Rattle.cmr_base.specs.declared.separation.Form.{Form}
-use Rattle.cmr_base.specs.declared.separation.Form.TheVariants.{Delta, YForm, Mixed}
+use Rattle.cmr_base.specs.declared.separation.Form.TheVariants.{Delta, YForm, Mixed, Concentrated}
 use Rattle.cmr_base.specs.declared.separation.Three.{Three}
 use Rattle.cmr_base.specs.Separations.{Lines, first_is_flat, second_is_flat}
 use Rattle.cmr_base.specs.Seeds.{IsLine, form_number, line_number, IsBefore}
-use Rattle.three_sep.specs.NumberedSeeds.{Seed, Among, HasAll, HasNone, count, inside, connector, IsFirstOther, IsSecondOther, AreCorners, IsGoodSeed, seed_key, HasLines, seed_of}
+use Rattle.three_sep.specs.NumberedSeeds.{Seed, Among, HasAll, HasNone, count, inside, connector, IsFirstOther, IsSecondOther, AreCorners, IsCrossing, IsGoodSeed, seed_key, HasLines, seed_of}
 use Rattle.three_sep.specs.Halves.{is_in, IsHalf, AreSame}
-use Rattle.three_sep.specs.Sides.{set_of, HasRoom, AreInside, IsGrowing, IsLeast, start_lines}
+use Rattle.three_sep.specs.Sides.{set_of, HasRoom, AreInside, IsGrowingBy, IsLeast, start_lines}
 use Rattle.three_sep.specs.Cuts.{IsCutAt, HasNoCutAt, IsCut, HoldTogether}
 use Rattle.three_sep.specs.Searches.{BeginsWith, HasNoGood, IsFirstOf, HasNoneBelow, corner_front, other_line, LeavesSecond, IsNoSecondRow, IsNoSecondColumn}
+use Rattle.three_sep.proofs.CrossingLemmas.{IsGoodCrossing, as_crossing, as_good}
 use Rattle.three_sep.proofs.HalfLemmas.{true_or_false}
 use Rattle.three_sep.proofs.SideLemmas.{not_false, outside_less}
 
@@ -84,31 +85,40 @@ three_apart a b c n1 n2 n3 = ((λ h. elim h [ inl e ↦ n1 e | inr g ↦ elim g 
 one_apart : (a : ℕ) → IsDistinct (a ∷ [])
 one_apart a = ((λ h. h), tt)
 
+-- the two lines of one kind of a connector are not the same
+abbrev pub IsNotTwice : Bool → ℕ → ℕ → ℕ → Type 0
+IsNotTwice true i p q = p ≢ q
+IsNotTwice false i p q = i ≢ q
+
+not_twice : (M : ℕ → ℕ → ℤ) (flat : Bool) (i p k j q : ℕ) → M i p ≢ pos 0 → IsFirstOther flat M i p k j q → IsNotTwice flat i p q
+not_twice M true i p k j q n other = λ e. n (ap (λ (z : ℕ). M i z) e ∙ other.0)
+not_twice M false i p k j q n other = λ e. n (ap (λ (z : ℕ). M z p) e ∙ other.0)
+
 -- a connector and a line beside it
-enough_lines : (m n : ℕ) (M : ℕ → ℕ → ℤ) (flat : Bool) (i p k j q : ℕ) (x : Line) (S : Lines) → M i p ≢ pos 0 → IsFirstOther flat M i p k j q → IsLine m n x → ((y : Line) → Among (connector flat i p q) y → IsLine m n y)
+pub enough_lines : (m n : ℕ) (flat : Bool) (i p q : ℕ) (x : Line) (S : Lines) → IsNotTwice flat i p q → IsLine m n x → ((y : Line) → Among (connector flat i p q) y → IsLine m n y)
     → ¬ (Among (connector flat i p q) x) → HasAll S (x ∷ connector flat i p q) → 4 ≤ inside m n S
-enough_lines m n M true i p k j q (Row r) S np other l lines beside has =
+enough_lines m n true i p q (Row r) S apart l lines beside has =
     let P : ℕ → Type 0 = λ z. (z < m) × (S (Row z) ≡ true) in
     let Q : ℕ → Type 0 = λ z. (z < n) × (S (Column z) ≡ true) in
-    four_lines m n S (r ∷ i ∷ []) (p ∷ q ∷ []) (two_apart r i (λ e. beside (inl (ap Row e)))) (two_apart p q (λ e. np (ap (λ (z : ℕ). M i z) e ∙ other.0)))
+    four_lines m n S (r ∷ i ∷ []) (p ∷ q ∷ []) (two_apart r i (λ e. beside (inl (ap Row e)))) (two_apart p q apart)
     (in_two P r i (l, has (Row r) (inl refl)) (lines (Row i) (inl refl), has (Row i) (inr (inl refl))))
     (in_two Q p q (lines (Column p) (inr (inl refl)), has (Column p) (inr (inr (inl refl)))) (lines (Column q) (inr (inr (inl refl))), has (Column q) (inr (inr (inr (inl refl)))))) refl
-enough_lines m n M true i p k j q (Column c) S np other l lines beside has =
+enough_lines m n true i p q (Column c) S apart l lines beside has =
     let P : ℕ → Type 0 = λ z. (z < m) × (S (Row z) ≡ true) in
     let Q : ℕ → Type 0 = λ z. (z < n) × (S (Column z) ≡ true) in
-    four_lines m n S (i ∷ []) (c ∷ p ∷ q ∷ []) (one_apart i) (three_apart c p q (λ e. beside (inr (inl (ap Column e)))) (λ e. beside (inr (inr (inl (ap Column e))))) (λ e. np (ap (λ (z : ℕ). M i z) e ∙ other.0)))
+    four_lines m n S (i ∷ []) (c ∷ p ∷ q ∷ []) (one_apart i) (three_apart c p q (λ e. beside (inr (inl (ap Column e)))) (λ e. beside (inr (inr (inl (ap Column e))))) apart)
     (in_one P i (lines (Row i) (inl refl), has (Row i) (inr (inl refl))))
     (in_three Q c p q (l, has (Column c) (inl refl)) (lines (Column p) (inr (inl refl)), has (Column p) (inr (inr (inl refl)))) (lines (Column q) (inr (inr (inl refl))), has (Column q) (inr (inr (inr (inl refl)))))) refl
-enough_lines m n M false i p k j q (Row r) S np other l lines beside has =
+enough_lines m n false i p q (Row r) S apart l lines beside has =
     let P : ℕ → Type 0 = λ z. (z < m) × (S (Row z) ≡ true) in
     let Q : ℕ → Type 0 = λ z. (z < n) × (S (Column z) ≡ true) in
-    four_lines m n S (r ∷ i ∷ q ∷ []) (p ∷ []) (three_apart r i q (λ e. beside (inl (ap Row e))) (λ e. beside (inr (inr (inl (ap Row e))))) (λ e. np (ap (λ (z : ℕ). M z p) e ∙ other.0))) (one_apart p)
+    four_lines m n S (r ∷ i ∷ q ∷ []) (p ∷ []) (three_apart r i q (λ e. beside (inl (ap Row e))) (λ e. beside (inr (inr (inl (ap Row e))))) apart) (one_apart p)
     (in_three P r i q (l, has (Row r) (inl refl)) (lines (Row i) (inl refl), has (Row i) (inr (inl refl))) (lines (Row q) (inr (inr (inl refl))), has (Row q) (inr (inr (inr (inl refl))))))
     (in_one Q p (lines (Column p) (inr (inl refl)), has (Column p) (inr (inr (inl refl))))) refl
-enough_lines m n M false i p k j q (Column c) S np other l lines beside has =
+enough_lines m n false i p q (Column c) S apart l lines beside has =
     let P : ℕ → Type 0 = λ z. (z < m) × (S (Row z) ≡ true) in
     let Q : ℕ → Type 0 = λ z. (z < n) × (S (Column z) ≡ true) in
-    four_lines m n S (i ∷ q ∷ []) (c ∷ p ∷ []) (two_apart i q (λ e. np (ap (λ (z : ℕ). M z p) e ∙ other.0))) (two_apart c p (λ e. beside (inr (inl (ap Column e)))))
+    four_lines m n S (i ∷ q ∷ []) (c ∷ p ∷ []) (two_apart i q apart) (two_apart c p (λ e. beside (inr (inl (ap Column e)))))
     (in_two P i q (lines (Row i) (inl refl), has (Row i) (inr (inl refl))) (lines (Row q) (inr (inr (inl refl))), has (Row q) (inr (inr (inr (inl refl))))))
     (in_two Q c p (l, has (Column c) (inl refl)) (lines (Column p) (inr (inl refl)), has (Column p) (inr (inr (inl refl))))) refl
 
@@ -128,14 +138,14 @@ abbrev pub corners_of : Seed → Corners
 corners_of s = record { i = s.i; p = s.p; k = s.k; j = s.j }
 
 -- the side of a good seed is a cut
-pub good_is_cut_at : (m : Matrix) (s : Seed) (S : Lines) → IsGoodSeed (height m) m.width (entry m) s S → IsCutAt m (corners_of s) S
+pub good_is_cut_at : (m : Matrix) (s : Seed) (S : Lines) → IsGoodCrossing (height m) m.width (entry m) s S → IsCutAt m (corners_of s) S
 good_is_cut_at m s S g = record {
   closed = g.side.closed;
   row_one = g.side.has (Row s.i) (inr (corner_row (first_is_flat s.form) s.i s.p s.q));
   column_one = g.side.has (Column s.p) (inr (corner_column (first_is_flat s.form) s.i s.p s.q));
   row_two = g.two (Row s.k) (corner_row (second_is_flat s.form) s.k s.j s.o);
   column_two = g.two (Column s.j) (corner_column (second_is_flat s.form) s.k s.j s.o);
-  enough_one = enough_lines (height m) m.width (entry m) (first_is_flat s.form) s.i s.p s.k s.j s.q s.x S g.connectors.corners.first g.connectors.first_other g.line g.connectors.first_lines g.beside_first g.side.has;
+  enough_one = enough_lines (height m) m.width (first_is_flat s.form) s.i s.p s.q s.x S (not_twice (entry m) (first_is_flat s.form) s.i s.p s.k s.j s.q g.connectors.corners.first g.connectors.first_other) g.line g.connectors.first_lines g.beside_first g.side.has;
   enough_two = g.enough;
 }
 
@@ -147,8 +157,8 @@ good_inside m s S g = record {
   column_two = g.connectors.second_lines (Column s.j) (corner_column (second_is_flat s.form) s.k s.j s.o);
 }
 
-pub good_is_cut : (m : Matrix) (s : Seed) (S : Lines) → IsGoodSeed (height m) m.width (entry m) s S → IsCut m S
-good_is_cut m s S g = record { corners = corners_of s; are_inside = good_inside m s S g; right = g.connectors.corners.right; below = g.connectors.corners.below; cut = good_is_cut_at m s S g }
+pub good_is_cut : (m : Matrix) (s : Seed) (S : Lines) → IsCrossing s.form → IsGoodSeed (height m) m.width (entry m) s S → IsCut m S
+good_is_cut m s S crossing g0 = let g = as_crossing (height m) m.width (entry m) s S crossing g0 in record { corners = corners_of s; are_inside = good_inside m s S g0; right = g.connectors.corners.right; below = g.connectors.corners.below; cut = good_is_cut_at m s S g }
 
 -- ---- fronts
 
@@ -212,14 +222,21 @@ pub form_is : (a b : Form) → form_number a ≡ form_number b → a ≡ b
 form_is Delta Delta e = refl
 form_is Delta YForm e = absurd (omega arith)
 form_is Delta Mixed e = absurd (omega arith)
+form_is Delta Concentrated e = absurd (omega arith)
 form_is YForm Delta e = absurd (omega arith)
 form_is YForm YForm e = refl
 form_is YForm Mixed e = absurd (omega arith)
+form_is YForm Concentrated e = absurd (omega arith)
 form_is Mixed Delta e = absurd (omega arith)
 form_is Mixed YForm e = absurd (omega arith)
 form_is Mixed Mixed e = refl
+form_is Mixed Concentrated e = absurd (omega arith)
+form_is Concentrated Delta e = absurd (omega arith)
+form_is Concentrated YForm e = absurd (omega arith)
+form_is Concentrated Mixed e = absurd (omega arith)
+form_is Concentrated Concentrated e = refl
 
-seed_is : (s : Seed) (kind : Form) (i p k j q o : ℕ) (x : Line) → kind ≡ s.form → i ≡ s.i → p ≡ s.p → k ≡ s.k → j ≡ s.j → q ≡ s.q → o ≡ s.o → x ≡ s.x
+pub seed_is : (s : Seed) (kind : Form) (i p k j q o : ℕ) (x : Line) → kind ≡ s.form → i ≡ s.i → p ≡ s.p → k ≡ s.k → j ≡ s.j → q ≡ s.q → o ≡ s.o → x ≡ s.x
     → s ≡ record { form = kind; i = i; p = p; k = k; j = j; q = q; o = o; x = x }
 seed_is s kind i p k j q o x e1 e2 e3 e4 e5 e6 e7 e8 = rw (e1, e2, e3, e4, e5, e6, e7, e8) refl
 
@@ -245,15 +262,22 @@ seed_from_all m form c q o place x s lx ls e h =
 
 -- ---- what is passed over
 
-module _ (m : Matrix) (form : Form) where
+module _ (m : Matrix) (form : Form) (crossing : IsCrossing form) where
+  is_crossing : (s : Seed) → form_number form ≡ form_number s.form → IsCrossing s.form
+  is_crossing s e = subst IsCrossing (form_is form s.form e) crossing
+
+  crossing_seed : (s : Seed) (S : Lines) → form_number form ≡ form_number s.form → IsGoodSeed (height m) m.width (entry m) s S → IsGoodCrossing (height m) m.width (entry m) s S
+  crossing_seed s S e = as_crossing (height m) m.width (entry m) s S (is_crossing s e)
+
   pub no_good_corner : (i p : ℕ) → entry m i p ≡ pos 0 → HasNoGood m (form_number form ∷ i ∷ p ∷ [])
-  no_good_corner i p e s S h g = g.connectors.corners.first (rw (sym h.1.0, sym h.1.1.0) e)
+  no_good_corner i p e s S h g = (crossing_seed s S h.0 g).connectors.corners.first (rw (sym h.1.0, sym h.1.1.0) e)
 
   pub no_good_second_row : (groups : Groups) (i p k : ℕ) → HoldTogether (IsCut m) m groups → IsNoSecondRow m groups i p k → HasNoGood m (form_number form ∷ i ∷ p ∷ k ∷ [])
-  no_good_second_row groups i p k hold no_row s S h g =
+  no_good_second_row groups i p k hold no_row s S h g0 =
+      let g = crossing_seed s S h.0 g0 in
       let cut = good_is_cut_at m s S g in
-      let within = good_inside m s S g in
-      let T = hold S (good_is_cut m s S g) in
+      let within = good_inside m s S g0 in
+      let T = hold S (good_is_cut m s S (is_crossing s h.0) g0) in
       elim no_row [
         | inl e ↦ g.connectors.corners.below (rw (sym h.1.1.0, sym h.1.1.1.0) e)
         | inr (inl e) ↦ true_or_false (S (Row s.i)) cut.row_one (T (Row s.i) (Row s.k) within.row_one within.row_two (rw (sym h.1.0, sym h.1.1.1.0) e) ∙ cut.row_two)
@@ -261,10 +285,11 @@ module _ (m : Matrix) (form : Form) where
       ]
 
   pub no_good_second_column : (groups : Groups) (i p k j : ℕ) → HoldTogether (IsCut m) m groups → IsNoSecondColumn m groups i p k j → HasNoGood m (form_number form ∷ i ∷ p ∷ k ∷ j ∷ [])
-  no_good_second_column groups i p k j hold no_column s S h g =
+  no_good_second_column groups i p k j hold no_column s S h g0 =
+      let g = crossing_seed s S h.0 g0 in
       let cut = good_is_cut_at m s S g in
-      let within = good_inside m s S g in
-      let T = hold S (good_is_cut m s S g) in
+      let within = good_inside m s S g0 in
+      let T = hold S (good_is_cut m s S (is_crossing s h.0) g0) in
       elim no_column [
         | inl e ↦ g.connectors.corners.second (rw (sym h.1.1.1.0, sym h.1.1.1.1.0) e)
         | inr (inl e) ↦ g.connectors.corners.right (rw (sym h.1.0, sym h.1.1.1.1.0) e)
@@ -275,30 +300,30 @@ module _ (m : Matrix) (form : Form) where
   module _ (c : Corners) where
     pub no_good_corners : HasNoCutAt m c → HasNoGood m (corner_front form c)
     no_good_corners none s S h g =
-        none S (good_is_cut_at m (seed_at form c s.q s.o s.x) S (subst (λ (z : Seed). IsGoodSeed (height m) m.width (entry m) z S) (seed_from_corners m form c s h) g))
+        none S (good_is_cut_at m (seed_at form c s.q s.o s.x) S (subst (λ (z : Seed). IsGoodCrossing (height m) m.width (entry m) z S) (seed_from_corners m form c s h) (crossing_seed s S h.0 g)))
 
     pub no_good_first : (q : ℕ) → ¬ (IsFirstOther (first_is_flat form) (entry m) c.i c.p c.k c.j q) → HasNoGood m (corner_front form c ++ q ∷ [])
-    no_good_first q none s S h g = none (subst (λ (z : Seed). IsGoodSeed (height m) m.width (entry m) z S) (seed_from_first m form c q s h) g).connectors.first_other
+    no_good_first q none s S h g = none (subst (λ (z : Seed). IsGoodCrossing (height m) m.width (entry m) z S) (seed_from_first m form c q s h) (crossing_seed s S h.0 g)).connectors.first_other
 
-    pub no_good_second : (q o : ℕ) → ¬ (IsSecondOther (second_is_flat form) (entry m) c.i c.p c.k c.j o) → HasNoGood m (corner_front form c ++ q ∷ o ∷ [])
-    no_good_second q o none s S h g = none (subst (λ (z : Seed). IsGoodSeed (height m) m.width (entry m) z S) (seed_from_second m form c q o s h) g).connectors.second_other
+    module _ (q o : ℕ) where
+      crossing_at : (s : Seed) (S : Lines) → BeginsWith (corner_front form c ++ q ∷ o ∷ []) (seed_key (height m) s) → IsGoodSeed (height m) m.width (entry m) s S
+          → IsGoodCrossing (height m) m.width (entry m) (seed_at form c q o s.x) S
+      crossing_at s S h g = subst (λ (z : Seed). IsGoodCrossing (height m) m.width (entry m) z S) (seed_from_second m form c q o s h) (crossing_seed s S h.0 g)
 
-    -- the first connector's closed side has the second's other line
-    pub no_good_held : (q o : ℕ) (L : Lines) → IsLeast m c (connector (first_is_flat form) c.i c.p q) L → L (other_line (second_is_flat form) o) ≡ true → HasNoGood m (corner_front form c ++ q ∷ o ∷ [])
-    no_good_held q o L least held s S h g0 =
-        let g = subst (λ (z : Seed). IsGoodSeed (height m) m.width (entry m) z S) (seed_from_second m form c q o s h) g0 in
-        true_or_false (S (other_line (second_is_flat form) o)) (least.least S g.side.closed (λ x a. g.side.has x (inr a)) (other_line (second_is_flat form) o) held)
-        (g.two (other_line (second_is_flat form) o) (corner_other (second_is_flat form) c.k c.j o))
+      pub no_good_second : ¬ (IsSecondOther (second_is_flat form) (entry m) c.i c.p c.k c.j o) → HasNoGood m (corner_front form c ++ q ∷ o ∷ [])
+      no_good_second none s S h g = none (crossing_at s S h g).connectors.second_other
 
-    module _ (q o place : ℕ) (x : Line) (lx : IsLine (height m) m.width x) (number : line_number (height m) x ≡ place) where
-      pub no_good_beside : Among (connector (first_is_flat form) c.i c.p q) x ⊎ Among (connector (second_is_flat form) c.k c.j o) x → HasNoGood m (corner_front form c ++ q ∷ o ∷ place ∷ [])
-      no_good_beside among s S h g0 =
-          let g = subst (λ (z : Seed). IsGoodSeed (height m) m.width (entry m) z S) (seed_from_all m form c q o place x s lx g0.line number h) g0 in
-          elim among [ inl a ↦ g.beside_first a | inr a ↦ g.beside_second a ]
+      -- the first connector's closed side has the second's other line
+      pub no_good_held : (L : Lines) → IsLeast m c (connector (first_is_flat form) c.i c.p q) L → L (other_line (second_is_flat form) o) ≡ true → HasNoGood m (corner_front form c ++ q ∷ o ∷ [])
+      no_good_held L least held s S h g0 =
+          let g = crossing_at s S h g0 in
+          true_or_false (S (other_line (second_is_flat form) o)) (least.least S g.side.closed (λ x a. g.side.has x (inr a)) (other_line (second_is_flat form) o) held)
+          (g.two (other_line (second_is_flat form) o) (corner_other (second_is_flat form) c.k c.j o))
 
-      pub no_good_line : (L : Lines) → IsLeast m c (x ∷ connector (first_is_flat form) c.i c.p q) L → ¬ (LeavesSecond m c (other_line (second_is_flat form) o) L) → HasNoGood m (corner_front form c ++ q ∷ o ∷ place ∷ [])
-      no_good_line L least unfit s S h g0 =
-          let g = subst (λ (z : Seed). IsGoodSeed (height m) m.width (entry m) z S) (seed_from_all m form c q o place x s lx g0.line number h) g0 in
+      pub no_good_line : (place : ℕ) (x : Line) → IsLine (height m) m.width x → line_number (height m) x ≡ place → (L : Lines) → IsLeast m c (x ∷ connector (first_is_flat form) c.i c.p q) L
+          → ¬ (LeavesSecond m c (other_line (second_is_flat form) o) L) → HasNoGood m (corner_front form c ++ q ∷ o ∷ place ∷ [])
+      no_good_line place x lx number L least unfit s S h g0 =
+          let g = subst (λ (z : Seed). IsGoodCrossing (height m) m.width (entry m) z S) (seed_from_all m form c q o place x s lx g0.line number h) (crossing_seed s S h.0 g0) in
           let within : (y : Line) → L y ≡ true → S y ≡ true = least.least S g.side.closed g.side.has in
           let out : (y : Line) → S y ≡ false → L y ≡ false = λ y e. not_false (L y) (λ t. true_or_false (S y) (within y t) e) in
           unfit (record {
@@ -308,9 +333,16 @@ module _ (m : Matrix) (form : Form) where
             enough = let a = outside_less (height m) m.width L S within in let b = g.enough in omega arith;
           })
 
+-- a line of one of the connectors
+pub no_good_beside : (m : Matrix) (form : Form) (c : Corners) (q o place : ℕ) (x : Line) → IsLine (height m) m.width x → line_number (height m) x ≡ place
+    → Among (connector (first_is_flat form) c.i c.p q) x ⊎ Among (connector (second_is_flat form) c.k c.j o) x → HasNoGood m (corner_front form c ++ q ∷ o ∷ place ∷ [])
+no_good_beside m form c q o place x lx number among s S h g0 =
+    let g = subst (λ (z : Seed). IsGoodSeed (height m) m.width (entry m) z S) (seed_from_all m form c q o place x s lx g0.line number h) g0 in
+    elim among [ inl a ↦ g.beside_first a | inr a ↦ g.beside_second a ]
+
 -- ---- what is found
 
-lines_of_connector : (m n : ℕ) (flat : Bool) (r c o : ℕ) → r < m → c < n → IsLine m n (other_line flat o) → (x : Line) → Among (connector flat r c o) x → IsLine m n x
+pub lines_of_connector : (m n : ℕ) (flat : Bool) (r c o : ℕ) → r < m → c < n → IsLine m n (other_line flat o) → (x : Line) → Among (connector flat r c o) x → IsLine m n x
 lines_of_connector m n true r c o lr lc lo x (inl e) = subst (IsLine m n) (sym e) lr
 lines_of_connector m n true r c o lr lc lo x (inr (inl e)) = subst (IsLine m n) (sym e) lc
 lines_of_connector m n true r c o lr lc lo x (inr (inr (inl e))) = subst (IsLine m n) (sym e) lo
@@ -320,7 +352,7 @@ lines_of_connector m n false r c o lr lc lo x (inr (inl e)) = subst (IsLine m n)
 lines_of_connector m n false r c o lr lc lo x (inr (inr (inl e))) = subst (IsLine m n) (sym e) lo
 lines_of_connector m n false r c o lr lc lo x (inr (inr (inr h))) = absurd h
 
-none_of_connector : (flat : Bool) (r c o : ℕ) (S : Lines) → S (Row r) ≡ false → S (Column c) ≡ false → S (other_line flat o) ≡ false → HasNone S (connector flat r c o)
+pub none_of_connector : (flat : Bool) (r c o : ℕ) (S : Lines) → S (Row r) ≡ false → S (Column c) ≡ false → S (other_line flat o) ≡ false → HasNone S (connector flat r c o)
 none_of_connector true r c o S er ec eo x (inl e) = ap S e ∙ er
 none_of_connector true r c o S er ec eo x (inr (inl e)) = ap S e ∙ ec
 none_of_connector true r c o S er ec eo x (inr (inr (inl e))) = ap S e ∙ eo
@@ -340,11 +372,11 @@ begins_itself [] = tt
 begins_itself (y ∷ ys) = (refl, begins_itself ys)
 
 module _ (m : Matrix) (form : Form) (c : Corners) (q o place : ℕ) (x : Line) (S : Lines) (three : Three) where
-  pub seed_good : AreInside m c → AreCorners (entry m) c.i c.p c.k c.j → IsFirstOther (first_is_flat form) (entry m) c.i c.p c.k c.j q → IsSecondOther (second_is_flat form) (entry m) c.i c.p c.k c.j o
+  pub seed_good : IsCrossing form → AreInside m c → AreCorners (entry m) c.i c.p c.k c.j → IsFirstOther (first_is_flat form) (entry m) c.i c.p c.k c.j q → IsSecondOther (second_is_flat form) (entry m) c.i c.p c.k c.j o
       → IsLine (height m) m.width (other_line (first_is_flat form) q) → IsLine (height m) m.width (other_line (second_is_flat form) o) → IsLine (height m) m.width x
       → ¬ (Among (connector (first_is_flat form) c.i c.p q) x) → ¬ (Among (connector (second_is_flat form) c.k c.j o) x) → IsLeast m c (x ∷ connector (first_is_flat form) c.i c.p q) S
       → LeavesSecond m c (other_line (second_is_flat form) o) S → IsGoodSeed (height m) m.width (entry m) (seed_at form c q o x) S
-  seed_good within corners f1 f2 l1 l2 lx b1 b2 least leaves = record {
+  seed_good crossing within corners f1 f2 l1 l2 lx b1 b2 least leaves = as_good (height m) m.width (entry m) (seed_at form c q o x) S crossing (record {
     connectors = record {
       corners = corners;
       first_other = f1;
@@ -358,7 +390,7 @@ module _ (m : Matrix) (form : Form) (c : Corners) (q o place : ℕ) (x : Line) (
     side = record { closed = least.closed; has = least.has; least = λ T closed has y l e. least.least T closed has y e };
     two = none_of_connector (second_is_flat form) c.k c.j o S leaves.row leaves.column leaves.other;
     enough = leaves.enough;
-  }
+  })
 
   pub three_is : three.form ≡ form → three.first ≡ record { row = c.i; column = c.p; other = q } → three.second ≡ record { row = c.k; column = c.j; other = o } → seed_of three x ≡ seed_at form c q o x
   three_is e1 e2 e3 = rw (e1, e2, e3) refl
@@ -393,8 +425,8 @@ half_same size one two same w =
 pub room_same : (m : Matrix) (one two : Side) → AreSame one.rows two.rows → AreSame one.columns two.columns → HasRoom m two → HasRoom m one
 room_same m one two rows columns w = record { rows = half_same (height m) one.rows two.rows rows w.rows; columns = half_same m.width one.columns two.columns columns w.columns }
 
-pub growing_same : (m : Matrix) (c : Corners) (start : List Line) (one two : Side) → AreSame one.rows two.rows → AreSame one.columns two.columns → IsGrowing m c start two → IsGrowing m c start one
-growing_same m c start one two rows columns g = record {
+pub growing_same : (m : Matrix) (upper lower : ℕ → ℕ → ℤ) (start : List Line) (one two : Side) → AreSame one.rows two.rows → AreSame one.columns two.columns → IsGrowingBy m upper lower start two → IsGrowingBy m upper lower start one
+growing_same m upper lower start one two rows columns g = record {
   has = λ x h. is x ∙ g.has x h;
   least = λ T closed has x e. g.least T closed has x (sym (is x) ∙ e);
   right = λ r k lr lk er ek. elim (g.right r k lr lk (sym (is (Row r)) ∙ er) (sym (is (Column k)) ∙ ek)) [ inl h ↦ inl (subst (λ (v : List ℕ). IsIn r v) (sym rows.fresh) h) | inr e ↦ inr e ];
@@ -407,22 +439,14 @@ growing_same m c start one two rows columns g = record {
 
 -- ---- all forms
 
-pub none_of_forms : (m : Matrix) → HasNoGood m (0 ∷ []) → HasNoGood m (1 ∷ []) → HasNoGood m (2 ∷ []) → HasNoGood m []
-none_of_forms m a b c s S h g = go s.form refl
+pub none_of_forms : (m : Matrix) → HasNoneBelow m [] 3 → HasNoGood m (3 ∷ []) → HasNoGood m []
+none_of_forms m before last s S h g = go s.form refl
   where
     go : (f : Form) → s.form ≡ f → ⊥
-    go Delta e = a s S (ap form_number (sym e), tt) g
-    go YForm e = b s S (ap form_number (sym e), tt) g
-    go Mixed e = c s S (ap form_number (sym e), tt) g
-
-pub below_one : (m : Matrix) → HasNoGood m (0 ∷ []) → HasNoneBelow m [] 1
-below_one m a b l = subst (λ (z : ℕ). HasNoGood m (z ∷ [])) (omega arith) a
-
-pub below_two : (m : Matrix) → HasNoGood m (0 ∷ []) → HasNoGood m (1 ∷ []) → HasNoneBelow m [] 2
-below_two m a c b l = elim (same_or_not b 0) [
-  | inl e ↦ subst (λ (z : ℕ). HasNoGood m (z ∷ [])) (sym e) a
-  | inr n ↦ subst (λ (z : ℕ). HasNoGood m (z ∷ [])) (omega (arith, n)) c
-]
+    go Delta e = before 0 (omega arith) s S (ap form_number (sym e), tt) g
+    go YForm e = before 1 (omega arith) s S (ap form_number (sym e), tt) g
+    go Mixed e = before 2 (omega arith) s S (ap form_number (sym e), tt) g
+    go Concentrated e = last s S (ap form_number (sym e), tt) g
 
 pub below_none : (m : Matrix) → HasNoneBelow m [] 0
 below_none m b l = absurd (omega arith)
@@ -448,8 +472,8 @@ map_none P Q (Ok None) f h = f h
 map_none P Q (Ok (Some x)) f h = h
 map_none P Q (Err e) f h = h
 
-pub first_of_three_forms : {E : Type 0} (m : Matrix) (r : Result (Option Three) E) → HasNoneBelow m [] 2 → IfOk r (λ a. IfSome a (IsFirstOf m (2 ∷ []))) → IfOk r (λ a. IfSome a (IsFirstOf m []))
-first_of_three_forms m r before h = map_first (IsFirstOf m (2 ∷ [])) (IsFirstOf m []) r (λ x f. level_found m [] 2 x (omega arith) before f) h
+pub first_of_last_form : {E : Type 0} (m : Matrix) (r : Result (Option Three) E) → HasNoneBelow m [] 3 → IfOk r (λ a. IfSome a (IsFirstOf m (3 ∷ []))) → IfOk r (λ a. IfSome a (IsFirstOf m []))
+first_of_last_form m r before h = map_first (IsFirstOf m (3 ∷ [])) (IsFirstOf m []) r (λ x f. level_found m [] 3 x (omega arith) before f) h
 
 -- ---- other lines
 

@@ -9,7 +9,7 @@ use Rattle.cmr_base.specs.declared.separation.Form.{Form}
 use Rattle.cmr_base.specs.declared.separation.Three.{Three}
 use Rattle.cmr_base.specs.Matrix.{Matrix, height, entry}
 use Rattle.cmr_base.specs.LineSets.{first_lines}
-use Rattle.cmr_base.specs.Separations.{Lines, listed, opposite, count_in, product_at, first_is_flat, second_is_flat, connector_lines, IsTied}
+use Rattle.cmr_base.specs.Separations.{Lines, listed, opposite, count_in, upper_block, lower_block, first_is_flat, second_is_flat, connector_lines}
 use Rattle.cmr_base.specs.Seeds.{IsLine, IsGood, IsGoodThree, IsBefore, three_key}
 use Rattle.cmr_base.specs.Seeds as base
 use Rattle.cmr_base.proofs.Lists.{all_both}
@@ -18,7 +18,7 @@ use Rattle.cmr_base.proofs.RemovedLines.{in_first_lines, row_set_from_within, co
 use Rattle.cmr_base.proofs.LineCounts.{outside_is}
 use Rattle.cmr_base.proofs.LineCounts as counts
 use Rattle.cmr_base.proofs.SeedLemmas.{outside_grows, good_three_seed, three_separation_of_seed}
-use Rattle.three_sep.specs.NumberedSeeds.{IsClosed, Among, Seed, IsGoodSeed, IsFirstOther, IsSecondOther, connector, count, outside}
+use Rattle.three_sep.specs.NumberedSeeds.{IsClosed, Among, Seed, IsGoodSeed, connector, count, outside}
 use Rattle.three_sep.specs.Searches.{IsFirstOf, HasNoGood}
 use Rattle.three_sep.specs.ThreeSeparations.{HasNoThreeSeparation, IsFirstThreeSeparation}
 
@@ -39,7 +39,7 @@ other_lines x xs h = all_from_among (λ y. x ≢ y) xs (λ y a e. h (subst (λ (
 not_among : (x : Line) (xs : List Line) → AllByRecursion (λ y. x ≢ y) xs → ¬ (Among xs x)
 not_among x xs h a = among_from_all (λ y. x ≢ y) xs h x a refl
 
-closed_to : (m n : ℕ) (M upper lower : ℕ → ℕ → ℤ) (T : Lines) → IsClosed m n M upper lower T → base.IsClosed m n M upper lower T
+pub closed_to : (m n : ℕ) (M upper lower : ℕ → ℕ → ℤ) (T : Lines) → IsClosed m n M upper lower T → base.IsClosed m n M upper lower T
 closed_to m n M upper lower T k = record {
   right = λ r c hr hc e f. k.right r c (first_lines_contain m r hr) (first_lines_contain n c hc) e f;
   below = λ r c hr hc e f. k.below r c (first_lines_contain m r hr) (first_lines_contain n c hc) e f;
@@ -64,25 +64,9 @@ connector_is : (flat : Bool) (c : Connector) → connector flat c.row c.column c
 connector_is true c = refl
 connector_is false c = refl
 
-first_tied : (flat : Bool) (M : ℕ → ℕ → ℤ) (one two : Connector) → IsFirstOther flat M one.row one.column two.row two.column one.other → IsTied M flat one two.row two.column
-first_tied true M one two h = h
-first_tied false M one two h = h
-
-first_other : (flat : Bool) (M : ℕ → ℕ → ℤ) (one two : Connector) → IsTied M flat one two.row two.column → IsFirstOther flat M one.row one.column two.row two.column one.other
-first_other true M one two h = h
-first_other false M one two h = h
-
-second_tied : (flat : Bool) (M : ℕ → ℕ → ℤ) (one two : Connector) → IsSecondOther flat M one.row one.column two.row two.column two.other → IsTied M flat two one.row one.column
-second_tied true M one two h = h
-second_tied false M one two h = h
-
-second_other : (flat : Bool) (M : ℕ → ℕ → ℤ) (one two : Connector) → IsTied M flat two one.row one.column → IsSecondOther flat M one.row one.column two.row two.column two.other
-second_other true M one two h = h
-second_other false M one two h = h
-
 -- ---- good seeds
 
-abbrev seed_with : Form → Connector → Connector → Line → Seed
+abbrev pub seed_with : Form → Connector → Connector → Line → Seed
 seed_with form one two x = record { form = form; i = one.row; p = one.column; k = two.row; j = two.column; q = one.other; o = two.other; x = x }
 
 module _ (m n : ℕ) (M : ℕ → ℕ → ℤ) (form : Form) (one two : Connector) (x : Line) (S : Lines) where
@@ -93,22 +77,15 @@ module _ (m n : ℕ) (M : ℕ → ℕ → ℤ) (form : Form) (one two : Connecto
   seconds = connector (second_is_flat form) two.row two.column two.other
 
   abbrev upper : ℕ → ℕ → ℤ
-  upper = product_at M one.row two.column
+  upper = upper_block M form one two
 
   abbrev lower : ℕ → ℕ → ℤ
-  lower = product_at M two.row one.column
+  lower = lower_block M form one two
 
-  good_three : IsGoodSeed m n M (seed_with form one two x) S → IsGoodThree m n M form one two x S
+  pub good_three : IsGoodSeed m n M (seed_with form one two x) S → IsGoodThree m n M form one two x S
   good_three g = (
     record {
-      values = record {
-        first_corner = g.connectors.corners.first;
-        second_corner = g.connectors.corners.second;
-        upper = g.connectors.corners.right;
-        lower = g.connectors.corners.below;
-        first_tied = first_tied (first_is_flat form) M one two g.connectors.first_other;
-        second_tied = second_tied (second_is_flat form) M one two g.connectors.second_other;
-      };
+      values = g.connectors.values;
       first_lines = subst (AllByRecursion (IsLine m n)) (connector_is (first_is_flat form) one) (all_from_among (IsLine m n) firsts g.connectors.first_lines);
       second_lines = subst (AllByRecursion (IsLine m n)) (connector_is (second_is_flat form) two) (all_from_among (IsLine m n) seconds g.connectors.second_lines);
     },
@@ -130,12 +107,10 @@ module _ (m n : ℕ) (M : ℕ → ℕ → ℤ) (form : Form) (one two : Connecto
         enough = let a = outside_count m n S in let b = g.enough in omega arith;
       }
 
-  good_numbered : IsGoodThree m n M form one two x S → IsGoodSeed m n M (seed_with form one two x) S
+  pub good_numbered : IsGoodThree m n M form one two x S → IsGoodSeed m n M (seed_with form one two x) S
   good_numbered g = record {
     connectors = record {
-      corners = record { first = g.0.values.first_corner; second = g.0.values.second_corner; right = g.0.values.upper; below = g.0.values.lower };
-      first_other = first_other (first_is_flat form) M one two g.0.values.first_tied;
-      second_other = second_other (second_is_flat form) M one two g.0.values.second_tied;
+      values = g.0.values;
       first_lines = among_from_all (IsLine m n) firsts (subst (AllByRecursion (IsLine m n)) (sym (connector_is (first_is_flat form) one)) g.0.first_lines);
       second_lines = among_from_all (IsLine m n) seconds (subst (AllByRecursion (IsLine m n)) (sym (connector_is (second_is_flat form) two)) g.0.second_lines);
     };

@@ -1,4 +1,4 @@
--- Cuts: two sides of four lines or more, with blocks between them that are products and not 0. Every embedded three-separation is one.
+-- Cuts: two sides of four lines or more, with blocks between them that are products and not 0. Every three-separation of the forms delta, y and mixed is one.
 use Rattle.std.specs.Prelude.{◌≡◌, ◌≢◌, ◌<◌, ◌≤◌, ◌+◌, ℕ, pos, true, false, cond, nat_eq, List, length, slice_index_or}
 use Rattle.cmr_base.specs.declared.line.Line.{Line}
 use Rattle.cmr_base.specs.declared.line.Line.TheVariants.{Row, Column}

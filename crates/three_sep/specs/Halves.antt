@@ -1,5 +1,5 @@
 -- The rows, or the columns, of a side that grows.
-use Rattle.std.specs.Prelude.{◌≡◌, ◌<◌, ◌≤◌, ◌+◌, ◌⊎◌, ◌*ℤ◌, ℕ, ℤ, pos, Bool, true, false, List, length, slice_index_or}
+use Rattle.std.specs.Prelude.{◌≡◌, ◌<◌, ◌≤◌, ◌+◌, ◌⊎◌, ◌+ℤ◌, ◌*ℤ◌, ℕ, ℤ, pos, Bool, true, false, List, length, slice_index_or}
 use Rattle.cmr_base.specs.Members.{IsIn}
 use Rattle.three_sep.specs.declared.half.Half.{Half}
 
@@ -49,6 +49,11 @@ pub record IsPulling (count : ℕ) (agrees : ℕ → Type 0) (before half : Half
 -- the entry is the multiple of the model's
 abbrev pub Agrees : List ℤ → ℤ → List ℤ → ℕ → Type 0
 Agrees entries factor model line = slice_index_or entries line (pos 0) ≡ factor *ℤ slice_index_or model line (pos 0)
+
+-- the entry is the sum of those of two multiples
+abbrev pub AgreesWithSum : List ℤ → ℤ → List ℤ → ℤ → List ℤ → ℕ → Type 0
+AgreesWithSum entries one_factor one other_factor other line =
+    slice_index_or entries line (pos 0) ≡ one_factor *ℤ slice_index_or one line (pos 0) +ℤ other_factor *ℤ slice_index_or other line (pos 0)
 
 -- two lines, which may be one, are in the side
 pub record HasStarted (count one two : ℕ) (half : Half) : Type 0 where

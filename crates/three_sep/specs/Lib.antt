@@ -1,7 +1,9 @@
 pub mod NumberedSeeds
+pub mod Numbers
 pub mod ThreeSeparations
 pub mod Halves
 pub mod Sides
+pub mod Concentrated
 pub mod Cuts
 pub mod Searches
 pub mod Blocks

@@ -4,9 +4,12 @@ use Rattle.std.specs.List.Sorted.{IsStrictlyIncreasing}
 use Rattle.cmr_base.specs.declared.line.Line.{Line}
 use Rattle.cmr_base.specs.declared.line.Line.TheVariants.{Row, Column}
 use Rattle.cmr_base.specs.Members.{IsIn}
+use Rattle.cmr_base.specs.declared.separation.Connector.{Connector}
 use Rattle.cmr_base.specs.declared.separation.Form.{Form}
+use Rattle.cmr_base.specs.declared.separation.Form.TheVariants.{Delta, YForm, Mixed, Concentrated}
 use Rattle.cmr_base.specs.declared.separation.Three.{Three}
-use Rattle.cmr_base.specs.Separations.{Lines, product_at, first_is_flat, second_is_flat}
+use Rattle.cmr_base.specs.Separations.{Lines, upper_block, lower_block, first_is_flat, second_is_flat}
+use Rattle.cmr_base.specs.Separations as base
 use Rattle.cmr_base.specs.Seeds.{IsLine, line_number, form_number}
 
 -- no line outside breaks a rule with a line inside: the one for rows inside, or the one for columns inside
@@ -65,13 +68,12 @@ pub record AreCorners (M : ℕ → ℕ → ℤ) (i p k j : ℕ) : Type 0 where
   pub right : M i j ≢ pos 0
   pub below : M k p ≢ pos 0
 
--- two connectors of a form
-pub record AreConnectors (m n : ℕ) (M : ℕ → ℕ → ℤ) (form : Form) (i p k j q o : ℕ) : Type 0 where
-  pub corners : AreCorners M i p k j
-  pub first_other : IsFirstOther (first_is_flat form) M i p k j q
-  pub second_other : IsSecondOther (second_is_flat form) M i p k j o
-  pub first_lines : (x : Line) → Among (connector (first_is_flat form) i p q) x → IsLine m n x
-  pub second_lines : (x : Line) → Among (connector (second_is_flat form) k j o) x → IsLine m n x
+-- the forms of which both blocks are products
+abbrev pub IsCrossing : Form → Type 0
+IsCrossing Delta = Unit {0}
+IsCrossing YForm = Unit {0}
+IsCrossing Mixed = Unit {0}
+IsCrossing Concentrated = ⊥
 
 pub record Seed : Type 0 where
   pub form : Form
@@ -83,19 +85,31 @@ pub record Seed : Type 0 where
   pub o : ℕ
   pub x : Line
 
+abbrev pub first_of : Seed → Connector
+first_of s = record { row = s.i; column = s.p; other = s.q }
+
+abbrev pub second_of : Seed → Connector
+second_of s = record { row = s.k; column = s.j; other = s.o }
+
 abbrev pub first_connector : Seed → List Line
 first_connector s = connector (first_is_flat s.form) s.i s.p s.q
 
 abbrev pub second_connector : Seed → List Line
 second_connector s = connector (second_is_flat s.form) s.k s.j s.o
 
+-- the seed's connectors have the values of their form and are in the matrix
+pub record AreConnectors (m n : ℕ) (M : ℕ → ℕ → ℤ) (s : Seed) : Type 0 where
+  pub values : base.AreConnectors M s.form (first_of s) (second_of s)
+  pub first_lines : (x : Line) → Among (first_connector s) x → IsLine m n x
+  pub second_lines : (x : Line) → Among (second_connector s) x → IsLine m n x
+
 -- a good seed: S, its closed side one, has no line of the second connector and leaves four lines or more
 pub record IsGoodSeed (m n : ℕ) (M : ℕ → ℕ → ℤ) (s : Seed) (S : Lines) : Type 0 where
-  pub connectors : AreConnectors m n M s.form s.i s.p s.k s.j s.q s.o
+  pub connectors : AreConnectors m n M s
   pub line : IsLine m n s.x
   pub beside_first : ¬ (Among (first_connector s) s.x)
   pub beside_second : ¬ (Among (second_connector s) s.x)
-  pub side : IsSide m n M (product_at M s.i s.j) (product_at M s.k s.p) (s.x ∷ first_connector s) S
+  pub side : IsSide m n M (upper_block M s.form (first_of s) (second_of s)) (lower_block M s.form (first_of s) (second_of s)) (s.x ∷ first_connector s) S
   pub two : HasNone S (second_connector s)
   pub enough : 4 ≤ outside m n S
 

@@ -2,6 +2,7 @@
 ghost use Rattle.std.specs.Prelude.{◌≡◌, ◌≢◌, ◌<◌, ◌≤◌, ◌↔◌, pos, true, false, IsTrue, IfOk, OnOk};
 ghost use Rattle.cmr_base.specs.Matrix.{height, entry, IsMatrix};
 ghost use Rattle.first_hit.specs.First.{IsFirst};
+ghost use Rattle.three_sep.specs.NumberedSeeds.{IsCrossing};
 ghost use Rattle.three_sep.specs.Sides.{HasSize};
 ghost use Rattle.three_sep.specs.Cuts.{HasNames, HoldTogether, IsCut};
 ghost use Rattle.three_sep.specs.Blocks.{HasGoodColumn};
@@ -48,6 +49,7 @@ impl<'a, 'b> Block<'a, 'b> {
         p: u32,
         k: u32,
     ) -> Block<'a, 'b>
+        requires crossing { IsCrossing form }
         requires names { HasNames views.now groups.now }
         requires together { HoldTogether (IsCut views.now) views.now groups.now }
         requires row { i < height views.now }
@@ -137,6 +139,7 @@ pub fn first_column<R: Threads + Sync>(
     k: u32,
 ) -> Result<Option<u64>, Memory>
     requires workers { (1 ≤ workers) × (workers ≤ 64) }
+    requires crossing { IsCrossing form }
     requires names { HasNames views.now groups.now }
     requires together { HoldTogether (IsCut views.now) views.now groups.now }
     requires row { i < height views.now }

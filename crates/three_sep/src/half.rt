@@ -3,11 +3,20 @@ ghost use Rattle.std.specs.Prelude.{◌≡◌, ◌<◌, ◌≤◌, ◌+◌, ◌�
 ghost use Rattle.cmr_base.specs.Matrix.{height, row_of, IsEntry};
 ghost use Rattle.cmr_base.specs.Members.{IsIn};
 ghost use Rattle.three_sep.specs.NumberedSeeds.{count};
-ghost use Rattle.three_sep.specs.Halves.{Agrees, AreSame, HasAdded, HasPulled, HasStarted, HasStartedWith, IsNamed, HasTaken, IsHalf, is_in};
+ghost use Rattle.three_sep.specs.Numbers.{IsSmall};
+ghost use Rattle.three_sep.specs.Halves.{Agrees, AgreesWithSum, AreSame, HasAdded, HasPulled, HasStarted, HasStartedWith, IsNamed, HasTaken, IsHalf, is_in};
 
+use crate::connectors::times;
 use cmr_base::{Matrix, Memory};
 use std::alloc::Global;
 use std::mem;
+
+/// A multiple of a row.
+#[derive(Clone, Copy)]
+pub struct Multiple {
+    pub factor: i8,
+    pub row: u32,
+}
 
 fn is_either(line: u32, one: u32, two: u32) -> bool
     ensures { IsTrue result ↔ ((line ≡ one) ⊎ (line ≡ two)) }
@@ -24,6 +33,21 @@ fn is_multiple_at(matrix: &Matrix, row: u32, factor: i8, model: u32, place: u32)
     ensures { IsTrue result ↔ Agrees (row_of matrix.now row) factor (row_of matrix.now model) place }
 {
     matrix.entry(row, place) == factor * matrix.entry(model, place)
+}
+
+// Whether the entry of a row at a place is the sum of those of two multiples.
+fn is_sum_at(matrix: &Matrix, row: u32, one: &Multiple, other: &Multiple, place: u32) -> bool
+    requires row { row < height matrix.now }
+    requires one_row { one.now.row < height matrix.now }
+    requires other_row { other.now.row < height matrix.now }
+    requires one_factor { IsSmall one.now.factor }
+    requires other_factor { IsSmall other.now.factor }
+    requires place { place < matrix.now.width }
+    ensures { IsTrue result ↔ AgreesWithSum (row_of matrix.now row) one.now.factor (row_of matrix.now one.now.row) other.now.factor (row_of matrix.now other.now.row) place }
+{
+    let one_part = times(one.factor, matrix.entry(one.row, place));
+    let other_part = times(other.factor, matrix.entry(other.row, place));
+    matrix.entry(row, place) == one_part + other_part
 }
 
 /// The rows, or the columns, of a side that grows: which are in it, those that may still come, and those in it whose
@@ -124,6 +148,38 @@ impl Half {
         for place in 0..self.outside.len() {
             let line = self.outside[place];
             if is_multiple_at(matrix, row, factor, model, line) {
+                self.kept.push(line)?;
+            } else {
+                self.inside[line as usize] = true;
+                self.fresh.push(line)?;
+            }
+        }
+        mem::swap(&mut self.outside, &mut self.kept);
+        Ok(())
+    }
+
+    /// Takes in the lines outside at which the entry of a row is not the sum of those of two multiples. The lines are the
+    /// columns of the matrix.
+    pub fn pull_sum(
+        &mut self,
+        matrix: &Matrix,
+        row: u32,
+        one: &Multiple,
+        other: &Multiple,
+    ) -> Result<(), Memory>
+        requires half { IsHalf (length self.old.inside.items) self.old }
+        requires width { matrix.now.width ≡ length self.old.inside.items }
+        requires row { row < height matrix.now }
+        requires one_row { one.now.row < height matrix.now }
+        requires other_row { other.now.row < height matrix.now }
+        requires one_factor { IsSmall one.now.factor }
+        requires other_factor { IsSmall other.now.factor }
+        ensures { OnOk result (HasPulled (length self.old.inside.items) (AgreesWithSum (row_of matrix.now row) one.now.factor (row_of matrix.now one.now.row) other.now.factor (row_of matrix.now other.now.row)) self.old self.new) }
+    {
+        self.kept.clear();
+        for place in 0..self.outside.len() {
+            let line = self.outside[place];
+            if is_sum_at(matrix, row, one, other, line) {
                 self.kept.push(line)?;
             } else {
                 self.inside[line as usize] = true;

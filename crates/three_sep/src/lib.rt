@@ -2,11 +2,14 @@
 #![tactic(auto)]
 
 mod block;
+mod concentrated;
+mod connectors;
 mod corners;
 mod groups;
 mod half;
 mod search;
 mod side;
+mod spread_side;
 
 pub use cmr_base::{Connector, Form, Three};
 pub use search::three_separation;

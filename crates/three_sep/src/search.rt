@@ -8,13 +8,14 @@ ghost use Rattle.cmr_base.specs.Members.{IsIn};
 ghost use Rattle.three_sep.specs.Halves.{IsHalf, is_in};
 ghost use Rattle.cmr_base.specs.Separations.{first_is_flat, second_is_flat};
 ghost use Rattle.cmr_base.specs.Seeds.{line_number, IsLine, form_number};
-ghost use Rattle.three_sep.specs.NumberedSeeds.{Among, AreCorners, HasLines, IsFirstOther, IsSecondOther, connector};
+ghost use Rattle.three_sep.specs.NumberedSeeds.{Among, AreCorners, HasLines, IsCrossing, IsFirstOther, IsSecondOther, connector};
 ghost use Rattle.three_sep.specs.ThreeSeparations.{HasNoThreeSeparation, IsFirstThreeSeparation};
 ghost use Rattle.three_sep.specs.Sides.{AreInside, HasRoom, HasSize, IsGrowing, IsLeast, set_of, start_lines};
 ghost use Rattle.three_sep.specs.Cuts.{HasNames, HoldTogether, IsCut};
 ghost use Rattle.three_sep.specs.Searches.{IsNoSecondRow, IsNoSecondColumn, HasNoGood, HasNoneBelow, IsBeside, IsFirstOf, LeavesSecond, corner_front, other_line};
 
 use crate::block::first_column;
+use crate::concentrated::ConcentratedSearch;
 use crate::corners::Corners;
 use crate::groups::{Groups, groups_of, may_cut};
 use crate::half::Half;
@@ -120,7 +121,10 @@ impl Search {
         if let Some(three) = self.first_of_form(rt, alloc, workers, views, Form::YForm)? {
             return Ok(Some(three));
         }
-        self.first_of_form(rt, alloc, workers, views, Form::Mixed)
+        if let Some(three) = self.first_of_form(rt, alloc, workers, views, Form::Mixed)? {
+            return Ok(Some(three));
+        }
+        ConcentratedSearch::new(alloc, views)?.first(alloc, views)
     }
 
     // The rows i.
@@ -132,6 +136,7 @@ impl Search {
         views: &RowsAndColumns<'_>,
         form: Form,
     ) -> Result<Option<Three>, Memory>
+        requires crossing { IsCrossing form }
         requires workers { (1 ≤ workers) × (workers ≤ 64) }
         requires side { HasSize views.now self.old.side }
         requires grown { HasSize views.now self.old.grown }
@@ -162,6 +167,7 @@ impl Search {
         form: Form,
         i: u32,
     ) -> Result<Option<Three>, Memory>
+        requires crossing { IsCrossing form }
         requires workers { (1 ≤ workers) × (workers ≤ 64) }
         requires side { HasSize views.now self.old.side }
         requires grown { HasSize views.now self.old.grown }
@@ -196,6 +202,7 @@ impl Search {
         i: u32,
         p: u32,
     ) -> Result<Option<Three>, Memory>
+        requires crossing { IsCrossing form }
         requires workers { (1 ≤ workers) × (workers ≤ 64) }
         requires side { HasSize views.now self.old.side }
         requires grown { HasSize views.now self.old.grown }
@@ -235,6 +242,7 @@ impl Search {
         p: u32,
         k: u32,
     ) -> Result<Option<Three>, Memory>
+        requires crossing { IsCrossing form }
         requires workers { (1 ≤ workers) × (workers ≤ 64) }
         requires side { HasSize views.now self.old.side }
         requires grown { HasSize views.now self.old.grown }
@@ -283,6 +291,7 @@ impl Search {
         p: u32,
         k: u32,
     ) -> Result<Option<Three>, Memory>
+        requires crossing { IsCrossing form }
         requires workers { (1 ≤ workers) × (workers ≤ 64) }
         requires side { HasSize views.now self.old.side }
         requires grown { HasSize views.now self.old.grown }
@@ -321,6 +330,7 @@ impl Search {
         form: Form,
         corners: &Corners,
     ) -> Result<Option<Three>, Memory>
+        requires crossing { IsCrossing form }
         requires side { HasSize views.now self.old.side }
         requires grown { HasSize views.now self.old.grown }
         requires inside { AreInside views.now corners.now }
@@ -357,6 +367,7 @@ impl Search {
         corners: &Corners,
         q: u32,
     ) -> Result<Option<Three>, Memory>
+        requires crossing { IsCrossing form }
         requires room { HasRoom views.now self.old.side }
         requires growing { IsGrowing views.now corners.now (connector (first_is_flat form) corners.now.i corners.now.p q) self.old.side }
         requires least { IsLeast views.now corners.now (connector (first_is_flat form) corners.now.i corners.now.p q) (set_of self.old.side) }
@@ -393,6 +404,7 @@ impl Search {
         q: u32,
         o: u32,
     ) -> Result<Option<Three>, Memory>
+        requires crossing { IsCrossing form }
         requires room { HasRoom views.now self.old.side }
         requires growing { IsGrowing views.now corners.now (connector (first_is_flat form) corners.now.i corners.now.p q) self.old.side }
         requires grown { HasSize views.now self.old.grown }
@@ -413,7 +425,7 @@ impl Search {
             if is_beside(form, corners, q, o, line)
                 && self.is_good(views, corners, line_of(form.second_is_flat(), o), line)?
             {
-                return Ok(Some(self.three(alloc, views, form, corners, q, o)?));
+                return Ok(Some(separation_of(alloc, views, &self.grown, form, corners, q, o)?));
             }
         }
         Ok(None)
@@ -441,41 +453,6 @@ impl Search {
         self.grown.add(views, line)?;
         self.grown.close_all(views, corners)?;
         Ok(leaves_second(views, &self.grown, corners, second))
-    }
-
-    // The separation of the grown side.
-    fn three(
-        &self,
-        alloc: Global,
-        views: &RowsAndColumns<'_>,
-        form: Form,
-        corners: &Corners,
-        q: u32,
-        o: u32,
-    ) -> Result<Three, Memory>
-        requires { HasRoom views.now self.now.grown }
-        ensures form { IfOk result (λ three. three.form ≡ form) }
-        ensures first { IfOk result (λ three. three.first ≡ record { row = corners.now.i; column = corners.now.p; other = q }) }
-        ensures second { IfOk result (λ three. three.second ≡ record { row = corners.now.k; column = corners.now.j; other = o }) }
-        ensures lines { IfOk result (λ three. HasLines (height views.now) views.now.width (set_of self.now.grown) three.side.rows three.side.columns) }
-    {
-        Ok(Three {
-            form,
-            side: LineSet {
-                rows: indices_of(alloc, &self.grown.rows, views.rows())?,
-                columns: indices_of(alloc, &self.grown.columns, views.columns())?,
-            },
-            first: Connector {
-                row: corners.i,
-                column: corners.p,
-                other: q,
-            },
-            second: Connector {
-                row: corners.k,
-                column: corners.j,
-                other: o,
-            },
-        })
     }
 }
 
@@ -561,8 +538,8 @@ fn line_of(flat: bool, other: u32) -> Line
     }
 }
 
-// The line at a place, the rows first.
-fn line_at(views: &RowsAndColumns<'_>, place: u32) -> Line
+/// The line at a place, the rows first.
+pub fn line_at(views: &RowsAndColumns<'_>, place: u32) -> Line
     requires { place < height views.now + views.now.width }
     ensures line { IsLine (height views.now) views.now.width result }
     ensures number { line_number (height views.now) result ≡ place }
@@ -581,10 +558,10 @@ fn is_first_other(views: &RowsAndColumns<'_>, form: Form, corners: &Corners, q: 
     ensures yes { result ≡ true → IsFirstOther (first_is_flat form) (entry views.now) corners.now.i corners.now.p corners.now.k corners.now.j q }
     ensures no { result ≡ false → ¬ (IsFirstOther (first_is_flat form) (entry views.now) corners.now.i corners.now.p corners.now.k corners.now.j q) }
 {
-    match form {
-        Form::Delta => is_flat_other(views, corners.i, corners.k, q),
-        Form::YForm => is_tall_other(views, corners.p, corners.j, q),
-        Form::Mixed => is_flat_other(views, corners.i, corners.k, q),
+    if form.first_is_flat() {
+        is_flat_other(views, corners.i, corners.k, q)
+    } else {
+        is_tall_other(views, corners.p, corners.j, q)
     }
 }
 
@@ -595,10 +572,10 @@ fn is_second_other(views: &RowsAndColumns<'_>, form: Form, corners: &Corners, o:
     ensures yes { result ≡ true → IsSecondOther (second_is_flat form) (entry views.now) corners.now.i corners.now.p corners.now.k corners.now.j o }
     ensures no { result ≡ false → ¬ (IsSecondOther (second_is_flat form) (entry views.now) corners.now.i corners.now.p corners.now.k corners.now.j o) }
 {
-    match form {
-        Form::Delta => is_flat_other(views, corners.k, corners.i, o),
-        Form::YForm => is_tall_other(views, corners.j, corners.p, o),
-        Form::Mixed => is_tall_other(views, corners.j, corners.p, o),
+    if form.second_is_flat() {
+        is_flat_other(views, corners.k, corners.i, o)
+    } else {
+        is_tall_other(views, corners.j, corners.p, o)
     }
 }
 
@@ -630,8 +607,8 @@ fn is_tall_other(views: &RowsAndColumns<'_>, own: u32, across: u32, other: u32) 
     views.is_nonzero(other, across)
 }
 
-// Whether a line is in neither connector.
-fn is_beside(form: Form, corners: &Corners, q: u32, o: u32, line: Line) -> bool
+/// Whether a line is in neither connector.
+pub fn is_beside(form: Form, corners: &Corners, q: u32, o: u32, line: Line) -> bool
     ensures first { result ≡ true → ¬ (Among (connector (first_is_flat form) corners.now.i corners.now.p q) line) }
     ensures second { result ≡ true → ¬ (Among (connector (second_is_flat form) corners.now.k corners.now.j o) line) }
     ensures no { result ≡ false → Among (connector (first_is_flat form) corners.now.i corners.now.p q) line ⊎ Among (connector (second_is_flat form) corners.now.k corners.now.j o) line }
@@ -652,8 +629,13 @@ fn is_in_connector(flat: bool, row: u32, column: u32, other: u32, line: Line) ->
     }
 }
 
-// Whether a side leaves the second connector and four lines or more.
-fn leaves_second(views: &RowsAndColumns<'_>, side: &Side, corners: &Corners, second: Line) -> bool
+/// Whether a side leaves the second connector and four lines or more.
+pub fn leaves_second(
+    views: &RowsAndColumns<'_>,
+    side: &Side,
+    corners: &Corners,
+    second: Line,
+) -> bool
     requires room { HasRoom views.now side.now }
     requires inside { AreInside views.now corners.now }
     requires second { IsLine (height views.now) views.now.width second }
@@ -666,6 +648,41 @@ fn leaves_second(views: &RowsAndColumns<'_>, side: &Side, corners: &Corners, sec
         return false;
     }
     side.rows.count_outside() + side.columns.count_outside() >= 4
+}
+
+/// The separation of a side.
+pub fn separation_of(
+    alloc: Global,
+    views: &RowsAndColumns<'_>,
+    grown: &Side,
+    form: Form,
+    corners: &Corners,
+    q: u32,
+    o: u32,
+) -> Result<Three, Memory>
+    requires { HasRoom views.now grown.now }
+    ensures form { IfOk result (λ three. three.form ≡ form) }
+    ensures first { IfOk result (λ three. three.first ≡ record { row = corners.now.i; column = corners.now.p; other = q }) }
+    ensures second { IfOk result (λ three. three.second ≡ record { row = corners.now.k; column = corners.now.j; other = o }) }
+    ensures lines { IfOk result (λ three. HasLines (height views.now) views.now.width (set_of grown.now) three.side.rows three.side.columns) }
+{
+    Ok(Three {
+        form,
+        side: LineSet {
+            rows: indices_of(alloc, &grown.rows, views.rows())?,
+            columns: indices_of(alloc, &grown.columns, views.columns())?,
+        },
+        first: Connector {
+            row: corners.i,
+            column: corners.p,
+            other: q,
+        },
+        second: Connector {
+            row: corners.k,
+            column: corners.j,
+            other: o,
+        },
+    })
 }
 
 fn indices_of(alloc: Global, half: &Half, count: u32) -> Result<Indices, Memory>

@@ -1,11 +1,10 @@
 // Side one of a seed, which grows until it is closed.
-ghost use Rattle.std.specs.Prelude.{◌≡◌, ◌<◌, ◌≤◌, ◌+◌, ◌∷◌, ℕ, List, length, Bool, true, false, IfOk, OnOk};
+ghost use Rattle.std.specs.Prelude.{◌≡◌, ◌<◌, ◌≤◌, ◌+◌, ◌∷◌, ℕ, ℤ, List, length, Bool, true, false, IfOk, OnOk};
 ghost use Rattle.cmr_base.specs.Matrix.{height};
 ghost use Rattle.cmr_base.specs.Seeds.{IsLine};
 ghost use Rattle.three_sep.specs.Halves.{AreSame};
 ghost use Rattle.cmr_base.specs.declared.line.Line.{Line};
-ghost use Rattle.three_sep.specs.declared.corners.Corners.{Corners};
-ghost use Rattle.three_sep.specs.Sides.{AreInside, HasNamedStart, HasRoom, HasSize, IsGrowing, IsLeast, KeepsGrowing, LeavesFew, TellsClosed, set_of, start_lines, work};
+ghost use Rattle.three_sep.specs.Sides.{AreInside, HasNamedStart, HasRoom, HasSize, IsGrowing, IsGrowingBy, IsLeast, KeepsGrowing, LeavesFew, TellsClosed, set_of, start_lines, work};
 
 use crate::corners::Corners;
 use crate::half::Half;
@@ -79,7 +78,7 @@ impl Side {
         requires room { HasRoom views.now self.old }
         requires line { IsLine (height views.now) views.now.width line }
         ensures room { OnOk result (HasRoom views.now self.new) }
-        ensures growing { OnOk result ((corners : Corners) (start : List Line) → IsGrowing views.now corners start self.old → IsGrowing views.now corners (line ∷ start) self.new) }
+        ensures growing { OnOk result ((upper lower : ℕ → ℕ → ℤ) (start : List Line) → IsGrowingBy views.now upper lower start self.old → IsGrowingBy views.now upper lower (line ∷ start) self.new) }
     {
         match line {
             Line::Row(row) => {
@@ -148,8 +147,8 @@ impl Side {
         }
     }
 
-    // Whether a row is followed next: where fewer rows are left than columns.
-    fn rows_first(&self) -> bool
+    /// Whether a row is followed next: where fewer rows are left than columns.
+    pub fn rows_first(&self) -> bool
         requires { 0 < length self.now.rows.fresh.items + length self.now.columns.fresh.items }
         ensures row { result ≡ true → 0 < length self.now.rows.fresh.items }
         ensures column { result ≡ false → 0 < length self.now.columns.fresh.items }

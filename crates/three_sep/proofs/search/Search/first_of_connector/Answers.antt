@@ -30,10 +30,10 @@ loop-o-preserved c =
         none_below_more m front c.loop-o.o c.loop-o.invariant.2 (
             elim w.else-is_second_other.branch [
               | else-is_second_other-via-then-is_second_other+else-not-has v ↦
-                  no_good_held m c.args.form c.args.corners.now c.args.q c.loop-o.o (set_of c.loop-o.self.side)
+                  no_good_held m c.args.form c.requires.crossing c.args.corners.now c.args.q c.loop-o.o (set_of c.loop-o.self.side)
                   (subst (λ (s : Side). IsLeast m c.args.corners.now (connector (first_is_flat c.args.form) c.args.corners.now.i c.args.corners.now.p c.args.q) (set_of s)) (sym c.loop-o.invariant.0) c.requires.least)
                   (ap (λ (z : Line). set_of c.loop-o.self.side z) (sym (v.line_of.ensures ∙ ap (λ (z : Bool). other_line z c.loop-o.o) v.second_is_flat-then-is_second_other.ensures)) ∙ sym v.has.ensures ∙ v.if-not-has.false)
-              | else-is_second_other-via-else-is_second_other v ↦ no_good_second m c.args.form c.args.corners.now c.args.q c.loop-o.o (c.is_second_other.ensures.no v.if-is_second_other.false)
+              | else-is_second_other-via-else-is_second_other v ↦ no_good_second m c.args.form c.requires.crossing c.args.corners.now c.args.q c.loop-o.o (c.is_second_other.ensures.no v.if-is_second_other.false)
             ]
             ),
         ap (λ (s : Search). s.groups) w.self-is ∙ c.loop-o.invariant.3,

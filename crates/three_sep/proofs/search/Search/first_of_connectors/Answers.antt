@@ -18,15 +18,15 @@ returns-then-branch-clause-first c =
     let d = c.args.corners.now in
     let x = c.line_at-line.result in
     let S = set_of c.is_good.new.self.grown in
-    let three = c.in_ok-three.field-0 in
+    let three = c.in_ok-separation_of.field-0 in
     let second = c.line_of.ensures ∙ ap (λ (z : Bool). other_line z c.args.o) c.second_is_flat.ensures in
     level_found m (corner_front form d ++ c.args.q ∷ c.args.o ∷ []) c.loop-place.place three (omega arith) c.loop-place.invariant.2
-    (found_here m form d c.args.q c.args.o c.loop-place.place x S three (three_is m form d c.args.q c.args.o c.loop-place.place x S three c.in_ok-three.ensures.form c.in_ok-three.ensures.first c.in_ok-three.ensures.second)
-    (seed_good m form d c.args.q c.args.o c.loop-place.place x S three c.requires.inside c.requires.corners c.requires.first_other c.requires.second_other c.requires.first_line c.requires.second_line c.line_at-line.ensures.line
+    (found_here m form d c.args.q c.args.o c.loop-place.place x S three (three_is m form d c.args.q c.args.o c.loop-place.place x S three c.in_ok-separation_of.ensures.form c.in_ok-separation_of.ensures.first c.in_ok-separation_of.ensures.second)
+    (seed_good m form d c.args.q c.args.o c.loop-place.place x S three c.requires.crossing c.requires.inside c.requires.corners c.requires.first_other c.requires.second_other c.requires.first_line c.requires.second_line c.line_at-line.ensures.line
     (c.is_beside.ensures.first c.if-is_beside.true) (c.is_beside.ensures.second c.if-is_beside.true)
     (c.in_ok-is_good.ensures.least _ (subst (λ (s : Side). IsGrowing m d (connector (first_is_flat form) d.i d.p c.args.q) s) (sym c.loop-place.invariant.0) c.requires.growing))
     (subst (λ (z : Line). LeavesSecond m d z S) second (c.in_ok-is_good.ensures.good.0 c.if-branch.true)))
-    c.line_at-line.ensures.line c.line_at-line.ensures.number c.in_ok-three.ensures.lines)
+    c.line_at-line.ensures.line c.line_at-line.ensures.number c.in_ok-separation_of.ensures.lines)
 
 pub loop-place-preserved : goal.loop-place-preserved
 loop-place-preserved c =
@@ -40,7 +40,7 @@ loop-place-preserved c =
         ap (λ (s : Search). s.side) w.self-is ∙ w.in_ok-is_good.ensures.side ∙ c.loop-place.invariant.0,
         subst (λ (s : Search). HasSize m s.grown) (sym w.self-is) (has_size m w.is_good.new.self.grown w.in_ok-is_good.ensures.room),
         none_below_more m front c.loop-place.place c.loop-place.invariant.2 (
-            no_good_line m form d c.args.q c.args.o c.loop-place.place x c.line_at-line.ensures.line c.line_at-line.ensures.number (set_of w.is_good.new.self.grown)
+            no_good_line m form c.requires.crossing d c.args.q c.args.o c.loop-place.place x c.line_at-line.ensures.line c.line_at-line.ensures.number (set_of w.is_good.new.self.grown)
             (w.in_ok-is_good.ensures.least _ (subst (λ (s : Side). IsGrowing m d (connector (first_is_flat form) d.i d.p c.args.q) s) (sym c.loop-place.invariant.0) c.requires.growing))
             (λ leaves. not_good w.in_ok-is_good.field-0 (w.in_ok-is_good.ensures.good.1 (subst (λ (z : Line). LeavesSecond m d z (set_of w.is_good.new.self.grown)) (sym (w.line_of.ensures ∙ ap (λ (z : Bool). other_line z c.args.o) w.second_is_flat.ensures)) leaves)) w.if-branch.false)
             ),

@@ -24,7 +24,7 @@ loop-k-preserved g c =
       | else-is_second_row w ↦ (
         subst (λ (s : Search). HasSize m s.side) (sym w.self-is) c.loop-k.invariant.0,
         subst (λ (s : Search). HasSize m s.grown) (sym w.self-is) c.loop-k.invariant.1,
-        none_below_more m (form_number c.args.form ∷ c.args.i ∷ c.args.p ∷ []) c.loop-k.k c.loop-k.invariant.2 (no_good_second_row m c.args.form c.loop-k.self.groups c.args.i c.args.p c.loop-k.k c.loop-k.invariant.4 (c.is_second_row.ensures.no w.if-is_second_row.false)),
+        none_below_more m (form_number c.args.form ∷ c.args.i ∷ c.args.p ∷ []) c.loop-k.k c.loop-k.invariant.2 (no_good_second_row m c.args.form c.requires.crossing c.loop-k.self.groups c.args.i c.args.p c.loop-k.k c.loop-k.invariant.4 (c.is_second_row.ensures.no w.if-is_second_row.false)),
         subst (λ (s : Search). HasNames m s.groups) (sym w.self-is) c.loop-k.invariant.3,
         subst (λ (s : Search). HoldTogether (IsCut m) m s.groups) (sym w.self-is) c.loop-k.invariant.4,
       )

@@ -8,7 +8,7 @@ use Rattle.three_sep.proofs.search.Search.first_of_corners.Goals as goal
 use Rattle.three_sep.proofs.search.Search.first_of_corners.Goals.{then-is_first_other+in_ok-start+in_ok-close_all+in_ok-three+in_default, else-is_first_other}
 
 pub returns-then-not-branch-clause-none : goal.returns-then-not-branch-clause-none
-returns-then-not-branch-clause-none c = no_good_corners c.args.views.now c.args.form c.args.corners.now (c.in_ok-may_cut.ensures.none c.if-not-branch.true)
+returns-then-not-branch-clause-none c = no_good_corners c.args.views.now c.args.form c.requires.crossing c.args.corners.now (c.in_ok-may_cut.ensures.none c.if-not-branch.true)
 
 pub first_of_connector-requires-clause-growing : goal.first_of_connector-requires-clause-growing
 first_of_connector-requires-clause-growing c =
@@ -37,7 +37,7 @@ loop-q-preserved c =
       | else-is_first_other w ↦ (
         subst (λ (s : Search). HasSize m s.side) (sym w.self-is) c.loop-q.invariant.0,
         subst (λ (s : Search). HasSize m s.grown) (sym w.self-is) c.loop-q.invariant.1,
-        none_below_more m front c.loop-q.q c.loop-q.invariant.2 (no_good_first m c.args.form c.args.corners.now c.loop-q.q (c.is_first_other.ensures.no w.if-is_first_other.false)),
+        none_below_more m front c.loop-q.q c.loop-q.invariant.2 (no_good_first m c.args.form c.requires.crossing c.args.corners.now c.loop-q.q (c.is_first_other.ensures.no w.if-is_first_other.false)),
         ap (λ (s : Search). s.groups) w.self-is ∙ c.loop-q.invariant.3,
       )
     ]

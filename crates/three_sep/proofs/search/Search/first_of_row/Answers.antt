@@ -24,7 +24,7 @@ loop-p-preserved g c =
       | else-is_nonzero w ↦ (
         subst (λ (s : Search). HasSize m s.side) (sym w.self-is) c.loop-p.invariant.0,
         subst (λ (s : Search). HasSize m s.grown) (sym w.self-is) c.loop-p.invariant.1,
-        none_below_more m (form_number c.args.form ∷ c.args.i ∷ []) c.loop-p.p c.loop-p.invariant.2 (no_good_corner m c.args.form c.args.i c.loop-p.p (c.is_nonzero.ensures.no w.if-is_nonzero.false)),
+        none_below_more m (form_number c.args.form ∷ c.args.i ∷ []) c.loop-p.p c.loop-p.invariant.2 (no_good_corner m c.args.form c.requires.crossing c.args.i c.loop-p.p (c.is_nonzero.ensures.no w.if-is_nonzero.false)),
         subst (λ (s : Search). HasNames m s.groups) (sym w.self-is) c.loop-p.invariant.3,
         subst (λ (s : Search). HoldTogether (IsCut m) m s.groups) (sym w.self-is) c.loop-p.invariant.4,
       )

@@ -26,7 +26,7 @@ loop-j-preserved g c =
       | else-is_second_column w ↦ (
         subst (λ (s : Search). HasSize m s.side) (sym w.self-is) c.loop-j.invariant.0,
         subst (λ (s : Search). HasSize m s.grown) (sym w.self-is) c.loop-j.invariant.1,
-        none_below_more m (form_number c.args.form ∷ c.args.i ∷ c.args.p ∷ c.args.k ∷ []) c.loop-j.j c.loop-j.invariant.2 (no_good_second_column m c.args.form c.loop-j.self.groups c.args.i c.args.p c.args.k c.loop-j.j c.loop-j.invariant.4 (c.is_second_column.ensures.no w.if-is_second_column.false)),
+        none_below_more m (form_number c.args.form ∷ c.args.i ∷ c.args.p ∷ c.args.k ∷ []) c.loop-j.j c.loop-j.invariant.2 (no_good_second_column m c.args.form c.requires.crossing c.loop-j.self.groups c.args.i c.args.p c.args.k c.loop-j.j c.loop-j.invariant.4 (c.is_second_column.ensures.no w.if-is_second_column.false)),
         subst (λ (s : Search). HasNames m s.groups) (sym w.self-is) c.loop-j.invariant.3,
         subst (λ (s : Search). HoldTogether (IsCut m) m s.groups) (sym w.self-is) c.loop-j.invariant.4,
       )

@@ -1,0 +1,306 @@
+-- Good seeds of the concentrated form.
+use Rattle.std.proofs.Common.{ℕ, zero, suc, ℤ, pos, ◌+◌, ◌<◌, ◌≤◌, ◌*ℤ◌, ◌+ℤ◌, ◌-ℤ◌, Bool, true, false, not, set, List, [], ◌∷◌, ◌++◌, ◌≡◌, ◌≢◌, ◌∙◌, sym, ap, refl, arith, subst, ◌⊎◌, inl, inr, length, get_or, Option, Some, None, Result, Ok, Err, IfOk, IfSome, IfNone}
+use Rattle.cmr_base.specs.declared.line.Line.{Line}
+use Rattle.cmr_base.specs.declared.line.Line.TheVariants.{Row, Column}
+use Rattle.cmr_base.specs.declared.separation.Connector.{Connector}
+use Rattle.cmr_base.specs.declared.separation.Form.TheVariants.{Concentrated}
+use Rattle.cmr_base.specs.Matrix.{Matrix, height, entry, transposed, IsMatrix}
+use Rattle.cmr_base.specs.LineSets as sets
+use Rattle.cmr_base.specs.Signing.{IsSign}
+use Rattle.cmr_base.specs.Separations.{Lines, zeros, spread_at, core_determinant, AreConcentrated, AreOn, IsThreeSeparation, connector_lines}
+use Rattle.cmr_base.specs.Separations as base
+use Rattle.cmr_base.specs.Seeds.{IsLine, line_number}
+use Rattle.cmr_base.proofs.Integers.{sums, products}
+use Rattle.cmr_base.proofs.ListedLines.{has_line_from_line}
+use Rattle.cmr_base.proofs.RowLists.{same_or_not, two_cases}
+use Rattle.cmr_base.proofs.SeedLemmas.{good_three_seed, three_separation_of_seed}
+use Rattle.three_sep.specs.declared.corners.Corners.{Corners}
+use Rattle.three_sep.specs.declared.connectors.Connectors.{Connectors}
+use Rattle.three_sep.specs.NumberedSeeds.{Among, HasAll, IsGoodSeed, Seed, connector, inside, seed_key}
+use Rattle.three_sep.specs.Sides.{AreInside, IsClosedBy}
+use Rattle.three_sep.specs.Searches.{BeginsWith, HasNoGood, LeavesSecond, corner_front}
+use Rattle.three_sep.specs.Concentrated.{AreCandidates, AreConcentratedCorners, ArePlaced, HasNoLeaving, HasNoneBetween, IsLeastFor, IsNoOtherColumn, IsOtherColumn, IsOtherRow, TellsClosedFor, all_front, first_lines, first_of, second_of, turned}
+use Rattle.three_sep.proofs.HalfLemmas.{set_elsewhere, set_there, true_or_false}
+use Rattle.three_sep.proofs.SideLemmas.{not_false, not_not_true, outside_less}
+use Rattle.three_sep.proofs.CutLemmas.{not_false_is}
+use Rattle.three_sep.proofs.SearchLemmas.{enough_lines, form_is, good_inside, lines_of_connector, none_of_connector, seed_at, seed_from_all, seed_from_first, seed_from_second, seed_is}
+use Rattle.three_sep.proofs.SeedForms.{closed_to, good_numbered, good_three, seed_with}
+use Rattle.three_sep.proofs.SpreadLemmas.{spread_parts, spread_same}
+use Rattle.three_sep.proofs.TurnedLemmas.{closed_turned, has_turned, leaves_turned, no_turned, turned_side}
+
+-- ---- what a good seed says
+
+module _ (m : Matrix) (c : Corners) (q o : ℕ) (x : Line) (S : Lines) (g : IsGoodSeed (height m) m.width (entry m) (seed_at Concentrated c q o x) S) where
+  row_in : c.i < height m
+  row_in = g.connectors.first_lines (Row c.i) (inl refl)
+
+  column_in : c.j < m.width
+  column_in = g.connectors.second_lines (Column c.j) (inr (inl refl))
+
+  row_one : S (Row c.i) ≡ true
+  row_one = g.side.has (Row c.i) (inr (inl refl))
+
+  column_two : S (Column c.j) ≡ false
+  column_two = g.two (Column c.j) (inr (inl refl))
+
+  -- the columns of row i are in side one, and the rows of column j in side two
+  columns_one : (column : ℕ) → column < m.width → entry m c.i column ≢ pos 0 → S (Column column) ≡ true
+  columns_one column l n = not_not_true (S (Column column)) (λ out. n (g.side.closed.right c.i column row_in l row_one out))
+
+  rows_two : (row : ℕ) → row < height m → entry m row c.j ≢ pos 0 → S (Row row) ≡ false
+  rows_two row l n = not_false (S (Row row)) (λ inside. n (g.side.closed.right row c.j l column_in inside column_two))
+
+  zero_between : entry m c.i c.j ≡ pos 0
+  zero_between = g.side.closed.right c.i c.j row_in column_in row_one column_two
+
+  -- a column of the lower block from columns p and q
+  abbrev determinant : ℤ
+  determinant = entry m c.k c.p *ℤ entry m o q -ℤ entry m c.k q *ℤ entry m o c.p
+
+  abbrev of_first : ℕ → ℤ
+  of_first column = determinant *ℤ (entry m o q *ℤ entry m c.k column -ℤ entry m c.k q *ℤ entry m o column)
+
+  abbrev of_other : ℕ → ℤ
+  of_other column = determinant *ℤ (entry m c.k c.p *ℤ entry m o column -ℤ entry m o c.p *ℤ entry m c.k column)
+
+  parts : (row column : ℕ) → row < height m → column < m.width → S (Row row) ≡ false → S (Column column) ≡ true → entry m row column ≡ of_first column *ℤ entry m row c.p +ℤ of_other column *ℤ entry m row q
+  parts row column lr lc er ec =
+      g.side.closed.below row column lr lc er ec
+      ∙ spread_parts determinant (entry m c.k c.p) (entry m c.k q) (entry m o c.p) (entry m o q) (entry m row c.p) (entry m row q) (entry m c.k column) (entry m o column)
+
+  -- other connectors with row i and column j
+  module _ (d : Connectors) (placed : ArePlaced m d) (same_row : d.corners.i ≡ c.i) (same_column : d.corners.j ≡ c.j) (corners : AreConcentratedCorners (entry m) d.corners) (column : IsOtherColumn (entry m) d.corners d.q) (row : IsOtherRow (entry m) d) where
+    p_one : S (Column d.corners.p) ≡ true
+    p_one = columns_one d.corners.p placed.corners.column_one (λ e. corners.first (ap (λ (z : ℕ). entry m z d.corners.p) same_row ∙ e))
+
+    q_one : S (Column d.q) ≡ true
+    q_one = columns_one d.q placed.first_other (λ e. column.nonzero (ap (λ (z : ℕ). entry m z d.q) same_row ∙ e))
+
+    k_two : S (Row d.corners.k) ≡ false
+    k_two = rows_two d.corners.k placed.corners.row_two (λ e. corners.second (ap (λ (z : ℕ). entry m d.corners.k z) same_column ∙ e))
+
+    o_two : S (Row d.o) ≡ false
+    o_two = rows_two d.o placed.second_other (λ e. row.nonzero (ap (λ (z : ℕ). entry m d.o z) same_column ∙ e))
+
+    closed_elsewhere : IsClosedBy m zeros (spread_at (entry m) (first_of d) (second_of d)) S
+    closed_elsewhere = record {
+      right = g.side.closed.right;
+      below = λ r k lr lk er ek.
+          let p' = d.corners.p in
+          let k' = d.corners.k in
+          let lp = placed.corners.column_one in
+          let lq = placed.first_other in
+          let lk' = placed.corners.row_two in
+          let lo = placed.second_other in
+          spread_same (entry m r c.p) (entry m r q) (entry m k' c.p) (entry m k' q) (entry m d.o c.p) (entry m d.o q) (of_first k) (of_other k) (of_first p') (of_other p') (of_first d.q) (of_other d.q)
+          (core_determinant (entry m) (first_of d) (second_of d)) (entry m k' p') (entry m k' d.q) (entry m d.o p') (entry m d.o d.q) (entry m r p') (entry m r d.q) (entry m k' k) (entry m d.o k) (entry m r k) row.determinant refl
+          (parts k' p' lk' lp k_two p_one) (parts k' d.q lk' lq k_two q_one) (parts d.o p' lo lp o_two p_one) (parts d.o d.q lo lq o_two q_one)
+          (parts r p' lr lp er p_one) (parts r d.q lr lq er q_one) (parts k' k lk' lk k_two ek) (parts d.o k lo lk o_two ek) (parts r k lr lk er ek);
+    }
+
+    values_elsewhere : base.AreConnectors (entry m) Concentrated (first_of d) (second_of d)
+    values_elsewhere = record {
+      first_corner = corners.first;
+      second_corner = corners.second;
+      tied = record { first_other = column.nonzero; second_other = row.nonzero; columns_rise = column.rises; rows_rise = row.rises; determinant = row.determinant };
+    }
+
+    separation_elsewhere : IsThreeSeparation (entry m) (sets.first_lines (height m)) (sets.first_lines m.width) S Concentrated (first_of d) (second_of d)
+    separation_elsewhere =
+        let on : (y : Line) → IsLine (height m) m.width y → _ = has_line_from_line (height m) m.width in
+        let own = three_separation_of_seed (height m) m.width (entry m) Concentrated (record { row = c.i; column = c.p; other = q }) (record { row = c.k; column = c.j; other = o }) x S
+        (good_three (height m) m.width (entry m) Concentrated (record { row = c.i; column = c.p; other = q }) (record { row = c.k; column = c.j; other = o }) x S g) in
+        record {
+          one = (
+            (has_line_from_line (height m) m.width (Row d.corners.i) placed.corners.row_one, ap (λ (z : ℕ). S (Row z)) same_row ∙ row_one),
+            ((has_line_from_line (height m) m.width (Column d.corners.p) placed.corners.column_one, p_one), ((has_line_from_line (height m) m.width (Column d.q) placed.first_other, q_one), tt)),
+          );
+          two = (
+            (has_line_from_line (height m) m.width (Row d.corners.k) placed.corners.row_two, k_two),
+            (
+              (has_line_from_line (height m) m.width (Column d.corners.j) placed.corners.column_two, ap (λ (z : ℕ). S (Column z)) same_column ∙ column_two),
+              ((has_line_from_line (height m) m.width (Row d.o) placed.second_other, o_two), tt),
+            ),
+          );
+          connectors = values_elsewhere;
+          blocks = closed_to (height m) m.width (entry m) zeros (spread_at (entry m) (first_of d) (second_of d)) S closed_elsewhere;
+          enough = own.enough;
+        }
+
+    -- so there is a good seed with them
+    some_elsewhere : HasNoGood m (all_front d) → ⊥
+    some_elsewhere none =
+        let (y, T, good) = good_three_seed (height m) m.width (entry m) Concentrated (first_of d) (second_of d) S separation_elsewhere in
+        none (seed_with Concentrated (first_of d) (second_of d) y) T (refl, (refl, (refl, (refl, (refl, (refl, (refl, tt)))))))
+        (good_numbered (height m) m.width (entry m) Concentrated (first_of d) (second_of d) y T good)
+
+-- ---- what is passed over
+
+between_seed : (s : Seed) (i j : ℕ) → s.form ≡ Concentrated → s.i ≡ i → s.j ≡ j → s ≡ seed_at Concentrated (record { i = i; p = s.p; k = s.k; j = j }) s.q s.o s.x
+between_seed s i j ef ei ej = seed_is s Concentrated i s.p s.k j s.q s.o s.x (sym ef) (sym ei) refl refl (sym ej) refl refl refl
+
+module _ (m : Matrix) where
+  at_seed : (s : Seed) (S : Lines) (t : Seed) → s ≡ t → IsGoodSeed (height m) m.width (entry m) s S → IsGoodSeed (height m) m.width (entry m) t S
+  at_seed s S t e g = subst (λ (z : Seed). IsGoodSeed (height m) m.width (entry m) z S) e g
+
+  -- where two connectors are in no good seed, no others with their row i and column j are
+  pub none_between : (d : Connectors) → ArePlaced m d → AreConcentratedCorners (entry m) d.corners → IsOtherColumn (entry m) d.corners d.q → IsOtherRow (entry m) d → HasNoGood m (all_front d) → HasNoneBetween m d.corners.i d.corners.j
+  none_between d placed corners column row none s S ef ei ej g =
+      let c : Corners = record { i = d.corners.i; p = s.p; k = s.k; j = d.corners.j } in
+      some_elsewhere m c s.q s.o s.x S (at_seed s S (seed_at Concentrated c s.q s.o s.x) (between_seed s d.corners.i d.corners.j ef ei ej) g) d placed refl refl corners column row none
+
+  pub none_at_nonzero : (i j : ℕ) → entry m i j ≢ pos 0 → HasNoneBetween m i j
+  none_at_nonzero i j n s S ef ei ej g =
+      let c : Corners = record { i = i; p = s.p; k = s.k; j = j } in
+      n (zero_between m c s.q s.o s.x S (at_seed s S (seed_at Concentrated c s.q s.o s.x) (between_seed s i j ef ei ej) g))
+
+  pub no_corner : (i p : ℕ) → entry m i p ≡ pos 0 → HasNoGood m (3 ∷ i ∷ p ∷ [])
+  no_corner i p e s S h g = g.connectors.values.first_corner (rw (sym h.1.0, sym h.1.1.0) e)
+
+  pub no_second_corner : (i p k j : ℕ) → entry m k j ≡ pos 0 → HasNoGood m (3 ∷ i ∷ p ∷ k ∷ j ∷ [])
+  no_second_corner i p k j e s S h g = g.connectors.values.second_corner (rw (sym h.1.1.1.0, sym h.1.1.1.1.0) e)
+
+  pub no_candidate : (i p k j : ℕ) → HasNoneBetween m i j → HasNoGood m (3 ∷ i ∷ p ∷ k ∷ j ∷ [])
+  no_candidate i p k j none s S h g = none s S (sym (form_is Concentrated s.form h.0)) (sym h.1.0) (sym h.1.1.1.1.0) g
+
+  pub no_candidates : (i p : ℕ) (candidates : List Bool) → AreCandidates m i candidates → ((j : ℕ) → get_or candidates j false ≡ false) → HasNoGood m (3 ∷ i ∷ p ∷ [])
+  no_candidates i p candidates are none s S h g = are.others s.j (good_inside m s S g).column_two (none s.j) s S (sym (form_is Concentrated s.form h.0)) (sym h.1.0) refl g
+
+  zero_determinant : (x y z w : ℤ) → x ≡ pos 0 → y ≡ pos 0 → ¬ (IsSign (x *ℤ w -ℤ y *ℤ z))
+  zero_determinant x y z w ex ey (inl e) = let k : x *ℤ w -ℤ y *ℤ z ≡ pos 0 = rw (ex, ey) (simp products (omega (arith, sums))) in let l = sym k ∙ e in absurd (omega (arith, sums))
+  zero_determinant x y z w ex ey (inr e) = let k : x *ℤ w -ℤ y *ℤ z ≡ pos 0 = rw (ex, ey) (simp products (omega (arith, sums))) in let l = sym k ∙ e in absurd (omega (arith, sums))
+
+  pub no_column : (c : Corners) (q : ℕ) → IsNoOtherColumn (entry m) c q → HasNoGood m (corner_front Concentrated c ++ q ∷ [])
+  no_column c q refused s S h g0 =
+      let g = at_seed s S (seed_at Concentrated c q s.o s.x) (seed_from_first m Concentrated c q s h) g0 in
+      elim refused [
+        | inl l ↦ let r = g.connectors.values.tied.columns_rise in absurd (omega arith)
+        | inr (inl e) ↦ g.connectors.values.tied.first_other e
+        | inr (inr (ep, eq)) ↦ zero_determinant (entry m c.k c.p) (entry m c.k q) (entry m s.o c.p) (entry m s.o q) ep eq g.connectors.values.tied.determinant
+      ]
+
+  pub column_shut : (c : Corners) (q : ℕ) → HasNoneBetween m c.i c.j → HasNoGood m (corner_front Concentrated c ++ q ∷ [])
+  column_shut c q none s S h g = none s S (sym (form_is Concentrated s.form h.0)) (sym h.1.0) (sym h.1.1.1.1.0) g
+
+  module _ (d : Connectors) where
+    abbrev seed_here : Line → Seed
+    seed_here x = seed_at Concentrated d.corners d.q d.o x
+
+    good_here : (s : Seed) (S : Lines) → BeginsWith (all_front d) (seed_key (height m) s) → IsGoodSeed (height m) m.width (entry m) s S → IsGoodSeed (height m) m.width (entry m) (seed_here s.x) S
+    good_here s S h g = at_seed s S (seed_here s.x) (seed_from_second m Concentrated d.corners d.q d.o s h) g
+
+    pub row_shut : HasNoneBetween m d.corners.i d.corners.j → HasNoGood m (all_front d)
+    row_shut none s S h g = none s S (sym (form_is Concentrated s.form h.0)) (sym h.1.0) (sym h.1.1.1.1.0) g
+
+    pub no_row : ¬ (IsOtherRow (entry m) d) → HasNoGood m (all_front d)
+    no_row refused s S h g0 = let g = good_here s S h g0 in refused (record { rises = g.connectors.values.tied.rows_rise; nonzero = g.connectors.values.tied.second_other; determinant = g.connectors.values.tied.determinant })
+
+    leaves_here : (x : Line) (S : Lines) → IsGoodSeed (height m) m.width (entry m) (seed_here x) S → LeavesSecond m d.corners (Row d.o) S
+    leaves_here x S g = record { row = g.two (Row d.corners.k) (inl refl); column = g.two (Column d.corners.j) (inr (inl refl)); other = g.two (Row d.o) (inr (inr (inl refl))); enough = g.enough }
+
+    pub no_leaving : HasNoLeaving m d (first_lines d) → HasNoGood m (all_front d)
+    no_leaving refused s S h g0 = let g = good_here s S h g0 in refused S g.side.closed (λ y a. g.side.has y (inr a)) (leaves_here s.x S g)
+
+    four_here : (x : Line) (S : Lines) → IsGoodSeed (height m) m.width (entry m) (seed_here x) S → 4 ≤ inside (height m) m.width S
+    four_here x S g = enough_lines (height m) m.width true d.corners.i d.corners.p d.q x S (λ e. let l = g.connectors.values.tied.columns_rise in omega (arith, e)) g.line g.connectors.first_lines g.beside_first g.side.has
+
+    -- nor does any in the transposed matrix
+    pub no_left : IsMatrix m → HasNoLeaving (transposed m) (turned d) (first_lines (turned d)) → HasNoGood m (all_front d)
+    no_left is refused s S h g0 =
+        let g = good_here s S h g0 in
+        no_turned m is d S refused g.side.closed (λ y a. g.side.has y (inr a)) (leaves_here s.x S g)
+        (four_here s.x S g)
+
+    -- a row that can be on neither side
+    pub no_refused : IsMatrix m → (row : ℕ) → HasNoLeaving m d (Row row ∷ first_lines d) → HasNoLeaving (transposed m) (turned d) (Column row ∷ first_lines (turned d)) → HasNoGood m (all_front d)
+    no_refused is row one two s S h g0 =
+        let g = good_here s S h g0 in
+        elim (two_cases (S (Row row))) [
+          | inl e ↦ one S g.side.closed (λ y a. elim a [ inl f ↦ ap S f ∙ e | inr b ↦ g.side.has y (inr b) ]) (leaves_here s.x S g)
+          | inr e ↦
+              two (turned_side m is d S) (closed_turned m is d S g.side.closed) (λ y a. elim a [ inl f ↦ ap (turned_side m is d S) f ∙ ap not e | inr b ↦ has_turned m is d S (leaves_here s.x S g) y b ])
+              (leaves_turned m is d S (λ y a. g.side.has y (inr a)) (four_here s.x S g))
+        ]
+
+    pub no_line : (place : ℕ) (x : Line) → IsLine (height m) m.width x → line_number (height m) x ≡ place → HasNoLeaving m d (x ∷ first_lines d) → HasNoGood m (all_front d ++ place ∷ [])
+    no_line place x lx number refused s S h g0 =
+        let g = at_seed s S (seed_here x) (seed_from_all m Concentrated d.corners d.q d.o place x s lx g0.line number h) g0 in
+        refused S g.side.closed g.side.has (leaves_here x S g)
+
+    pub concentrated_good : (x : Line) (S : Lines) → ArePlaced m d → AreConcentratedCorners (entry m) d.corners → IsOtherColumn (entry m) d.corners d.q → IsOtherRow (entry m) d → IsLine (height m) m.width x
+        → ¬ (Among (connector true d.corners.i d.corners.p d.q) x) → ¬ (Among (connector false d.corners.k d.corners.j d.o) x) → IsLeastFor m d (x ∷ first_lines d) S → LeavesSecond m d.corners (Row d.o) S
+        → IsGoodSeed (height m) m.width (entry m) (seed_here x) S
+    concentrated_good x S placed corners column row lx b1 b2 least leaves = record {
+      connectors = record {
+        values = record {
+          first_corner = corners.first;
+          second_corner = corners.second;
+          tied = record { first_other = column.nonzero; second_other = row.nonzero; columns_rise = column.rises; rows_rise = row.rises; determinant = row.determinant };
+        };
+        first_lines = lines_of_connector (height m) m.width true d.corners.i d.corners.p d.q placed.corners.row_one placed.corners.column_one placed.first_other;
+        second_lines = lines_of_connector (height m) m.width false d.corners.k d.corners.j d.o placed.corners.row_two placed.corners.column_two placed.second_other;
+      };
+      line = lx;
+      beside_first = b1;
+      beside_second = b2;
+      side = record { closed = least.closed; has = least.has; least = λ T closed has y l e. least.least T closed has y e };
+      two = none_of_connector false d.corners.k d.corners.j d.o S leaves.row leaves.column leaves.other;
+      enough = leaves.enough;
+    }
+
+-- ---- candidates
+
+pub one_less : (m : Matrix) (i j : ℕ) (before after : List Bool) → AreCandidates m i before → HasNoneBetween m i j → length after ≡ length before → ((other : ℕ) → other ≢ j → get_or after other false ≡ get_or before other false) → AreCandidates m i after
+one_less m i j before after are none size same = record {
+  size = size ∙ are.size;
+  others = λ other l e. elim (same_or_not other j) [
+    | inl is ↦ subst (λ (z : ℕ). HasNoneBetween m i z) (sym is) none
+    | inr n ↦ are.others other l (sym (same other n) ∙ e)
+  ];
+}
+
+pub more_looked : (m : Matrix) (i j : ℕ) (before : List Bool) (nonzero : Bool) → j < length before → (nonzero ≡ true → entry m i j ≢ pos 0) → ((k : ℕ) → k < j → get_or before k false ≡ false → HasNoneBetween m i k)
+    → (k : ℕ) → k < j + 1 → get_or (set before j (not nonzero)) k false ≡ false → HasNoneBetween m i k
+more_looked m i j before nonzero l not_zero looked k lk e = elim (same_or_not k j) [
+  | inl is ↦
+      let there : get_or (set before j (not nonzero)) j false ≡ not nonzero = set_there before j (not nonzero) l in
+      subst (λ (z : ℕ). HasNoneBetween m i z) (sym is) (none_at_nonzero m i j (not_zero (not_false_is nonzero (sym there ∙ ap (λ (z : ℕ). get_or (set before j (not nonzero)) z false) (sym is) ∙ e))))
+  | inr n ↦ looked k (omega (arith, n)) (sym (set_elsewhere before j k (not nonzero) n) ∙ e)
+]
+
+-- ---- what a test refuses
+
+pub no_second : (m : Matrix) (i p k j : ℕ) (candidates : List Bool) → AreCandidates m i candidates → j < m.width → (entry m k j ≡ pos 0) ⊎ (get_or candidates j false ≡ false) → HasNoGood m (3 ∷ i ∷ p ∷ k ∷ j ∷ [])
+no_second m i p k j candidates are l (inl e) = no_second_corner m i p k j e
+no_second m i p k j candidates are l (inr e) = no_candidate m i p k j (are.others j l e)
+
+pub no_other_column : (m : Matrix) (c : Corners) (q : ℕ) (candidates : List Bool) → AreInside m c → AreCandidates m c.i candidates → IsNoOtherColumn (entry m) c q ⊎ (get_or candidates c.j false ≡ false)
+    → HasNoGood m (corner_front Concentrated c ++ q ∷ [])
+no_other_column m c q candidates inside are (inl h) = no_column m c q h
+no_other_column m c q candidates inside are (inr e) = column_shut m c q (are.others c.j inside.column_two e)
+
+pub no_other_row : (m : Matrix) (d : Connectors) (candidates : List Bool) → AreInside m d.corners → AreCandidates m d.corners.i candidates → (¬ (IsOtherRow (entry m) d)) ⊎ (get_or candidates d.corners.j false ≡ false) → HasNoGood m (all_front d)
+no_other_row m d candidates inside are (inl h) = no_row m d h
+no_other_row m d candidates inside are (inr e) = row_shut m d (are.others d.corners.j inside.column_two e)
+
+-- ---- what a closed side tells
+
+module _ (m : Matrix) (d : Connectors) (start : List Line) where
+  pub told_few_leaving : (closed : Bool) (S : Lines) → TellsClosedFor m d start closed S → closed ≡ false → HasNoLeaving m d start
+  told_few_leaving true S h e = absurd (true_or_false true refl e)
+  told_few_leaving false S h e = λ T closed has leaves. let few = h T closed has in let l = leaves.enough in absurd (omega arith)
+
+  pub told_least : (closed : Bool) (S : Lines) → TellsClosedFor m d start closed S → closed ≡ true → IsLeastFor m d start S
+  told_least true S h e = h
+  told_least false S h e = absurd (true_or_false false e refl)
+
+  pub least_leaving : (S : Lines) → IsLeastFor m d start S → ¬ (LeavesSecond m d.corners (Row d.o) S) → HasNoLeaving m d start
+  least_leaving S least unfit T closed has leaves =
+      let within : (y : Line) → S y ≡ true → T y ≡ true = least.least T closed has in
+      let out : (y : Line) → T y ≡ false → S y ≡ false = λ y e. not_false (S y) (λ t. true_or_false (T y) (within y t) e) in
+      unfit (record {
+        row = out (Row d.corners.k) leaves.row;
+        column = out (Column d.corners.j) leaves.column;
+        other = out (Row d.o) leaves.other;
+        enough = let a = outside_less (height m) m.width S T within in let b = leaves.enough in omega arith;
+      })

@@ -1,0 +1,98 @@
+-- Good seeds of the forms of which both blocks are products.
+use Rattle.std.proofs.Common.{ℕ, ℤ, ◌≤◌, Bool, List, ◌∷◌}
+use Rattle.cmr_base.specs.declared.line.Line.{Line}
+use Rattle.cmr_base.specs.declared.separation.Connector.{Connector}
+use Rattle.cmr_base.specs.declared.separation.Form.{Form}
+use Rattle.cmr_base.specs.declared.separation.Form.TheVariants.{Delta, YForm, Mixed, Concentrated}
+use Rattle.cmr_base.specs.Separations.{Lines, product_at, upper_block, lower_block, first_is_flat, second_is_flat}
+use Rattle.cmr_base.specs.Separations as base
+use Rattle.cmr_base.specs.Seeds.{IsLine}
+use Rattle.three_sep.specs.NumberedSeeds.{Among, AreCorners, HasNone, IsCrossing, IsFirstOther, IsGoodSeed, IsSecondOther, IsSide, Seed, first_connector, first_of, outside, second_connector, second_of}
+
+pub record AreCrossingConnectors (m n : ℕ) (M : ℕ → ℕ → ℤ) (s : Seed) : Type 0 where
+  pub corners : AreCorners M s.i s.p s.k s.j
+  pub first_other : IsFirstOther (first_is_flat s.form) M s.i s.p s.k s.j s.q
+  pub second_other : IsSecondOther (second_is_flat s.form) M s.i s.p s.k s.j s.o
+  pub first_lines : (x : Line) → Among (first_connector s) x → IsLine m n x
+  pub second_lines : (x : Line) → Among (second_connector s) x → IsLine m n x
+
+pub record IsGoodCrossing (m n : ℕ) (M : ℕ → ℕ → ℤ) (s : Seed) (S : Lines) : Type 0 where
+  pub connectors : AreCrossingConnectors m n M s
+  pub line : IsLine m n s.x
+  pub beside_first : ¬ (Among (first_connector s) s.x)
+  pub beside_second : ¬ (Among (second_connector s) s.x)
+  pub side : IsSide m n M (product_at M s.i s.j) (product_at M s.k s.p) (s.x ∷ first_connector s) S
+  pub two : HasNone S (second_connector s)
+  pub enough : 4 ≤ outside m n S
+
+module _ (M : ℕ → ℕ → ℤ) (one two : Connector) where
+  corners_from : (form : Form) → IsCrossing form → base.AreConnectors M form one two → AreCorners M one.row one.column two.row two.column
+  corners_from Delta c v = record { first = v.first_corner; second = v.second_corner; right = v.tied.upper; below = v.tied.lower }
+  corners_from YForm c v = record { first = v.first_corner; second = v.second_corner; right = v.tied.upper; below = v.tied.lower }
+  corners_from Mixed c v = record { first = v.first_corner; second = v.second_corner; right = v.tied.upper; below = v.tied.lower }
+  corners_from Concentrated c v = absurd c
+
+  first_other_from : (form : Form) → IsCrossing form → base.AreConnectors M form one two → IsFirstOther (first_is_flat form) M one.row one.column two.row two.column one.other
+  first_other_from Delta c v = v.tied.first_tied
+  first_other_from YForm c v = v.tied.first_tied
+  first_other_from Mixed c v = v.tied.first_tied
+  first_other_from Concentrated c v = absurd c
+
+  second_other_from : (form : Form) → IsCrossing form → base.AreConnectors M form one two → IsSecondOther (second_is_flat form) M one.row one.column two.row two.column two.other
+  second_other_from Delta c v = v.tied.second_tied
+  second_other_from YForm c v = v.tied.second_tied
+  second_other_from Mixed c v = v.tied.second_tied
+  second_other_from Concentrated c v = absurd c
+
+  values_to : (form : Form) → IsCrossing form → AreCorners M one.row one.column two.row two.column → IsFirstOther (first_is_flat form) M one.row one.column two.row two.column one.other
+      → IsSecondOther (second_is_flat form) M one.row one.column two.row two.column two.other → base.AreConnectors M form one two
+  values_to Delta c v f s = record { first_corner = v.first; second_corner = v.second; tied = record { upper = v.right; lower = v.below; first_tied = f; second_tied = s } }
+  values_to YForm c v f s = record { first_corner = v.first; second_corner = v.second; tied = record { upper = v.right; lower = v.below; first_tied = f; second_tied = s } }
+  values_to Mixed c v f s = record { first_corner = v.first; second_corner = v.second; tied = record { upper = v.right; lower = v.below; first_tied = f; second_tied = s } }
+  values_to Concentrated c v f s = absurd c
+
+  module _ (m n : ℕ) (start : List Line) (S : Lines) where
+    side_from : (form : Form) → IsCrossing form → IsSide m n M (upper_block M form one two) (lower_block M form one two) start S → IsSide m n M (product_at M one.row two.column) (product_at M two.row one.column) start S
+    side_from Delta c side = side
+    side_from YForm c side = side
+    side_from Mixed c side = side
+    side_from Concentrated c side = absurd c
+
+    side_to : (form : Form) → IsCrossing form → IsSide m n M (product_at M one.row two.column) (product_at M two.row one.column) start S → IsSide m n M (upper_block M form one two) (lower_block M form one two) start S
+    side_to Delta c side = side
+    side_to YForm c side = side
+    side_to Mixed c side = side
+    side_to Concentrated c side = absurd c
+
+module _ (m n : ℕ) (M : ℕ → ℕ → ℤ) (s : Seed) (S : Lines) (crossing : IsCrossing s.form) where
+  pub as_crossing : IsGoodSeed m n M s S → IsGoodCrossing m n M s S
+  as_crossing g = record {
+    connectors = record {
+      corners = corners_from M (first_of s) (second_of s) s.form crossing g.connectors.values;
+      first_other = first_other_from M (first_of s) (second_of s) s.form crossing g.connectors.values;
+      second_other = second_other_from M (first_of s) (second_of s) s.form crossing g.connectors.values;
+      first_lines = g.connectors.first_lines;
+      second_lines = g.connectors.second_lines;
+    };
+    line = g.line;
+    beside_first = g.beside_first;
+    beside_second = g.beside_second;
+    side = side_from M (first_of s) (second_of s) m n (s.x ∷ first_connector s) S s.form crossing g.side;
+    two = g.two;
+    enough = g.enough;
+  }
+
+  pub as_good : IsGoodCrossing m n M s S → IsGoodSeed m n M s S
+  as_good g = record {
+    connectors = record {
+      values = values_to M (first_of s) (second_of s) s.form crossing g.connectors.corners g.connectors.first_other g.connectors.second_other;
+      first_lines = g.connectors.first_lines;
+      second_lines = g.connectors.second_lines;
+    };
+    line = g.line;
+    beside_first = g.beside_first;
+    beside_second = g.beside_second;
+    side = side_to M (first_of s) (second_of s) m n (s.x ∷ first_connector s) S s.form crossing g.side;
+    two = g.two;
+    enough = g.enough;
+  }

@@ -1,0 +1,33 @@
+use Rattle.std.proofs.Common.{[], ◌∷◌, sym, arith, subst}
+use Rattle.three_sep.specs.declared.concentrated.ConcentratedSearch.{ConcentratedSearch}
+use Rattle.three_sep.specs.Sides.{HasSize}
+use Rattle.three_sep.specs.Concentrated.{AreCandidates}
+use Rattle.three_sep.proofs.SearchLemmas.{found_some, none_more, level_ends, none_below_more, good_inside}
+use Rattle.three_sep.proofs.ConcentratedLemmas.{no_corner}
+use Rattle.three_sep.proofs.concentrated.ConcentratedSearch.first_of_row.Goals as goal
+use Rattle.three_sep.proofs.concentrated.ConcentratedSearch.first_of_row.Goals.{then-is_nonzero+in_ok-three+in_default, else-is_nonzero}
+
+pub returns-in-Some-clause-first : goal.returns-in-Some-clause-first
+returns-in-Some-clause-first c = found_some c.args.views.now (3 ∷ c.args.i ∷ []) c.loop-p.p c.in_ok-three.field-0 c.in-Some.three (omega arith) c.loop-p.invariant.2 c.in-Some.is c.in_ok-three.ensures.first
+
+pub loop-p-preserved : goal.loop-p-preserved
+loop-p-preserved c =
+    let m = c.args.views.now in
+    elim c.if-is_nonzero.branch [
+      | then-is_nonzero+in_ok-three+in_default w ↦ (
+        subst (λ (s : ConcentratedSearch). HasSize m s.side) (sym w.self-is) w.in_ok-three.ensures.side,
+        subst (λ (s : ConcentratedSearch). HasSize m s.grown) (sym w.self-is) w.in_ok-three.ensures.grown,
+        none_more m (3 ∷ c.args.i ∷ []) c.loop-p.p w.in_ok-three.field-0 c.loop-p.invariant.2 w.in_default.is w.in_ok-three.ensures.none,
+        subst (λ (s : ConcentratedSearch). AreCandidates m c.args.i s.candidates.items) (sym w.self-is) w.in_ok-three.ensures.candidates,
+      )
+      | else-is_nonzero w ↦ (
+        subst (λ (s : ConcentratedSearch). HasSize m s.side) (sym w.self-is) c.loop-p.invariant.0,
+        subst (λ (s : ConcentratedSearch). HasSize m s.grown) (sym w.self-is) c.loop-p.invariant.1,
+        none_below_more m (3 ∷ c.args.i ∷ []) c.loop-p.p c.loop-p.invariant.2 (no_corner m c.args.i c.loop-p.p (c.is_nonzero.ensures.no w.if-is_nonzero.false)),
+        subst (λ (s : ConcentratedSearch). AreCandidates m c.args.i s.candidates.items) (sym w.self-is) c.loop-p.invariant.3,
+      )
+    ]
+
+pub returns-clause-none : goal.returns-clause-none
+returns-clause-none c = level_ends c.args.views.now (3 ∷ c.args.i ∷ []) c.loop-p.p (omega arith) c.loop-p.invariant.2
+    (λ s S b g h. let k = (good_inside c.args.views.now s S g).column_one in let e = h.1.1.0 in let l = c.loop-p-test.false in let r = c.columns-p-end.ensures.columns in omega arith)

@@ -1,0 +1,20 @@
+use Rattle.std.proofs.Common.{◌∷◌}
+use Rattle.three_sep.specs.Sides.{set_of}
+use Rattle.three_sep.specs.Concentrated.{first_lines}
+use Rattle.three_sep.proofs.SearchLemmas.{not_good}
+use Rattle.three_sep.proofs.ConcentratedLemmas.{least_leaving, told_few_leaving, told_least}
+use Rattle.three_sep.proofs.concentrated.may_hold.Goals as goal
+
+pub returns-then-not-branch-clause-no : goal.returns-then-not-branch-clause-no
+returns-then-not-branch-clause-no c =
+    let d = c.args.connectors.now in
+    let m = c.args.views.now in
+    λ e. told_few_leaving m d (c.args.line ∷ first_lines d) c.in_ok-spread.field-0 (set_of c.spread.new.self) (c.in_ok-spread.ensures.closed _ (c.in_ok-add.ensures.growing _ _ (first_lines d) (c.in_ok-start_flat.ensures.growing _ _))) c.if-not-branch.true
+
+pub returns-clause-no : goal.returns-clause-no
+returns-clause-no c =
+    let d = c.args.connectors.now in
+    let m = c.args.views.now in
+    λ e. least_leaving m d (c.args.line ∷ first_lines d) (set_of c.spread.new.self)
+    (told_least m d (c.args.line ∷ first_lines d) c.in_ok-spread.field-0 (set_of c.spread.new.self) (c.in_ok-spread.ensures.closed _ (c.in_ok-add.ensures.growing _ _ (first_lines d) (c.in_ok-start_flat.ensures.growing _ _))) c.if-not-branch.false)
+    (λ leaves. not_good c.leaves_second.result (c.leaves_second.ensures.1 leaves) e)
