@@ -12,3 +12,4 @@ pub mod SumRules
 pub mod Children
 pub mod ApartRules
 pub mod CleanSets
+pub mod Spreads

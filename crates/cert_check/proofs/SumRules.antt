@@ -1,5 +1,5 @@
 -- The rules on separations and reductions, by the tests that are made.
-use Rattle.std.proofs.Common.{◌≡◌, ◌<◌, ◌↔◌, ◌∙◌, ◌*ℤ◌, IsTrue, ℕ, ℤ, pos, Bool, true, false, not, eqb, List, [], ◌∷◌, filter, get_or, Contains, nat_eq, w8, of_z, refl, ap, sym, subst, arith, eqb-true}
+use Rattle.std.proofs.Common.{◌≡◌, ◌<◌, ◌↔◌, ◌∙◌, ◌*ℤ◌, IsTrue, ℕ, ℤ, pos, Bool, true, false, not, eqb, List, [], ◌∷◌, filter, get_or, Contains, nat_eq, w8, of_z, inl, inr, ◌⊎◌, refl, ap, sym, subst, arith, eqb-true}
 use Rattle.std.proofs.lemmas.Bool.{true≢false}
 use Rattle.std.proofs.lemmas.Int.{ints}
 use Rattle.std.proofs.lemmas.List.Kept.{IsStrictlyIncreasing-filter}
@@ -15,7 +15,9 @@ use Rattle.cmr_base.specs.declared.separation.Three.{Three}
 use Rattle.cmr_base.specs.declared.separation.Connector.{Connector}
 use Rattle.cmr_base.specs.Matrix.{Matrix, height, entry, IsEntry}
 use Rattle.cmr_base.specs.LineSets.{AllBelow}
-use Rattle.cmr_base.specs.Separations.{product_at}
+use Rattle.cmr_base.specs.declared.separation.Form.{Form}
+use Rattle.cmr_base.specs.declared.separation.Form.TheVariants.{Delta, YForm, Mixed}
+use Rattle.cmr_base.specs.Separations.{product_at, upper_block, lower_block}
 use Rattle.tree_type.specs.Sides.{Sides, sides, inside, outside, HaveLines, AreEntries, IsReference, AreTwoBlocks, HasConnector, AreConnectors, HasCornerSign, AreThreeBlocks}
 use Rattle.cmr_base.proofs.Lists.{all_weaker, all_contained, all_contain}
 use Rattle.cmr_base.proofs.ListsWithout.{contains_from_in, in_from_contains, in-get_or, place_of, place_is}
@@ -54,6 +56,30 @@ one_byte z w small e = ((λ t. sym e ∙ is_one (eqb-true (of_z w8 z) 1 t)), λ 
   where
     is_one : of_z w8 z ≡ 1 → z ≡ pos 1
     is_one h = let low = small.low in let high = small.high in omega (arith, ints)
+
+blocks_are : (M : ℕ → ℕ → ℤ) (s : Sides) (t : Three) (upper lower : ℕ → ℕ → ℤ) (made : Bool) → upper_block M t.form t.first t.second ≡ upper → lower_block M t.form t.first t.second ≡ lower
+    → IsTrue made ↔ (AreEntries M s.rows_one s.columns_two upper × AreEntries M s.rows_two s.columns_one lower) → IsTrue made ↔ AreThreeBlocks M s t
+blocks_are M s t upper lower made e f h = (
+  (λ yes. let entries = h.0 yes in record {
+    right = subst (AreEntries M s.rows_one s.columns_two) (sym e) entries.0;
+    below = subst (AreEntries M s.rows_two s.columns_one) (sym f) entries.1;
+  }),
+  λ blocks. h.1 (subst (AreEntries M s.rows_one s.columns_two) e blocks.right, subst (AreEntries M s.rows_two s.columns_one) f blocks.below),
+)
+
+-- the blocks of rank one of the forms delta, y and mixed
+pub made_blocks : (M : ℕ → ℕ → ℤ) (s : Sides) (t : Three) (made : Bool) → (t.form ≡ Delta) ⊎ ((t.form ≡ YForm) ⊎ (t.form ≡ Mixed))
+    → IsTrue made ↔ (AreEntries M s.rows_one s.columns_two (product_at M t.first.row t.second.column) × AreEntries M s.rows_two s.columns_one (product_at M t.second.row t.first.column)) → IsTrue made ↔ AreThreeBlocks M s t
+made_blocks M s t made form h =
+    let upper = product_at M t.first.row t.second.column in
+    let lower = product_at M t.second.row t.first.column in
+    let by_form : (f : Form) → upper_block M f t.first t.second ≡ upper → lower_block M f t.first t.second ≡ lower → t.form ≡ f → IsTrue made ↔ AreThreeBlocks M s t =
+    λ f a b e. blocks_are M s t upper lower made (ap (λ x. upper_block M x t.first t.second) e ∙ a) (ap (λ x. lower_block M x t.first t.second) e ∙ b) h in
+    elim form [
+      | inl e ↦ by_form Delta refl refl e
+      | inr (inl e) ↦ by_form YForm refl refl e
+      | inr (inr e) ↦ by_form Mixed refl refl e
+    ]
 
 -- ---- lines in range
 

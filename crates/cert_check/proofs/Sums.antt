@@ -32,7 +32,7 @@ pub free_three : (m : Matrix) → IsMatrix m → (lines : LineSet) (t : Three) �
 free_three m is lines t enough joined plus blocks one other =
     let children = three_sums_have_children lines t in
     free_from_submatrix m lines.rows lines.columns
-    ((three_separations_decide m lines.rows lines.columns (side_one t.side) t.form t.first t.second is.small ((three_sums_separate (entry m) lines t).0 (enough, joined, blocks)) plus).1 (
+    ((three_separations_decide m lines.rows lines.columns (side_one t.side) is.small t.form t.first t.second ((three_sums_separate (entry m) lines t).0 (enough, joined, blocks)) plus).1 (
       none_on m lines (three_one lines t) (child_one (side_one t.side) (connector_lines (second_is_flat t.form) t.second)) children.0 one,
       none_on m lines (three_two lines t) (child_two (side_one t.side) (connector_lines (first_is_flat t.form) t.first)) children.1 other,
     ))

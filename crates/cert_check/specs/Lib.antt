@@ -2,3 +2,4 @@ pub mod Laws
 pub mod Answers
 pub mod Sides
 pub mod Children
+pub mod Spreads

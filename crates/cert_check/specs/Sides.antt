@@ -1,5 +1,5 @@
 -- Lines on the sides of a separation.
-use Rattle.std.specs.Prelude.{◌≢◌, ◌<◌, ℕ, ℤ, pos, Bool, true, false}
+use Rattle.std.specs.Prelude.{◌<◌, Bool, true, false}
 use Rattle.cmr_base.specs.declared.line_set.LineSet.{LineSet}
 use Rattle.cmr_base.specs.declared.separation.Two.{Two}
 use Rattle.cmr_base.specs.declared.separation.Connector.{Connector}
@@ -24,10 +24,3 @@ sides_from one two = record { rows_one = one.rows; columns_one = one.columns; ro
 abbrev pub IsConnectorIn : Matrix → Bool → Connector → Type 0
 IsConnectorIn m true c = (c.row < height m) × (c.column < m.width) × (c.other < m.width)
 IsConnectorIn m false c = (c.row < height m) × (c.column < m.width) × (c.other < height m)
-
--- rows i and k are not 0 in columns p and j
-pub record AreCorners (M : ℕ → ℕ → ℤ) (i p k j : ℕ) : Type 0 where
-  pub first : M i p ≢ pos 0
-  pub second : M k j ≢ pos 0
-  pub right : M i j ≢ pos 0
-  pub below : M k p ≢ pos 0

@@ -5,12 +5,14 @@ mod apart_rule;
 mod blocks;
 mod check_tree;
 mod clean;
+mod connectors;
 mod due_lines;
 pub mod laws;
 mod leaf_rules;
 mod members;
 mod own_rule;
 mod reduced_rule;
+mod spread;
 mod sum_rules;
 
 pub use check_tree::accept;

@@ -1,18 +1,20 @@
 // The rules on separations.
-ghost use Rattle.std.specs.Prelude.{◌≡◌, ◌≤◌, ◌<◌, ◌↔◌, pos, IfOk, IsTrue, Contains};
+ghost use Rattle.std.specs.Prelude.{◌≡◌, ◌≤◌, ◌<◌, ◌↔◌, true, false, IfOk, IsTrue, Contains};
 ghost use Rattle.cmr_base.specs.Matrix.{entry, height};
 ghost use Rattle.cmr_base.specs.declared.line_set.LineSet.{LineSet};
-ghost use Rattle.cmr_base.specs.Separations.{corner_product, first_is_flat, second_is_flat};
-ghost use Rattle.tree_type.specs.Sides.{sides, HaveLines, IsReference, AreTwoBlocks, HasConnector, IsOtherLine, AreConnectors, AreThreeBlocks};
+ghost use Rattle.cmr_base.specs.Separations.{zeros, product_at, spread_at, first_is_flat, second_is_flat};
+ghost use Rattle.tree_type.specs.Sides.{sides, AreEntries, HaveLines, IsReference, AreTwoBlocks, HasConnector, AreThreeBlocks};
 ghost use Rattle.tree_type.specs.Trees as says;
 ghost use Rattle.tree_type.specs.Invariant.{AreLines, size_of};
 ghost use Rattle.cert_check.specs.Answers.{Says};
-ghost use Rattle.cert_check.specs.Sides.{sides_from, IsConnectorIn, AreCorners};
+ghost use Rattle.cert_check.specs.Sides.{sides_from, IsConnectorIn};
 
 use crate::blocks::{is_made_block, is_zero_block};
+use crate::connectors::{are_connectors, have_corner_sign};
 use crate::leaf_rules::unless;
 use crate::members::is_in;
-use cmr_base::{Connector, LineSet, Matrix, Memory, Three, Two, product};
+use crate::spread::is_spread_block;
+use cmr_base::{Connector, Form, LineSet, Matrix, Memory, Three, Two};
 use std::alloc::Global;
 use tree_type::{Rule, side_one, side_two};
 
@@ -112,77 +114,10 @@ fn three_rule_on(matrix: &Matrix, one: &LineSet, other: &LineSet, three: &Three)
     if !are_connectors(matrix, one, other, three) {
         return Some(Rule::BadConnector);
     }
-    if !has_corner_sign(matrix, three.first, three.second) {
+    if !have_corner_sign(matrix, three.form, three.first, three.second) {
         return Some(Rule::CornerSign);
     }
     unless(are_three_blocks(matrix, one, other, three), Rule::BadBlock)
-}
-
-fn are_connectors(matrix: &Matrix, one: &LineSet, other: &LineSet, three: &Three) -> bool
-    requires first { IsConnectorIn matrix.now (first_is_flat three.now.form) three.now.first }
-    requires second { IsConnectorIn matrix.now (second_is_flat three.now.form) three.now.second }
-    ensures { IsTrue result ↔ AreConnectors (entry matrix.now) (sides_from one.now other.now) three.now }
-{
-    let first_flat = three.form.first_is_flat();
-    let second_flat = three.form.second_is_flat();
-    has_connector(one, first_flat, three.first)
-        && has_connector(other, second_flat, three.second)
-        && are_corners(matrix, three.first, three.second)
-        && is_other_line(matrix, first_flat, three.first, three.second)
-        && is_other_line(matrix, second_flat, three.second, three.first)
-}
-
-fn has_connector(side: &LineSet, flat: bool, c: Connector) -> bool
-    ensures { IsTrue result ↔ HasConnector flat side.now.rows side.now.columns c }
-{
-    is_in(&side.rows, c.row)
-        && is_in(&side.columns, c.column)
-        && is_in(if flat { &side.columns } else { &side.rows }, c.other)
-}
-
-fn are_corners(matrix: &Matrix, one: Connector, other: Connector) -> bool
-    requires one_row { one.row < height matrix.now }
-    requires one_column { one.column < matrix.now.width }
-    requires other_row { other.row < height matrix.now }
-    requires other_column { other.column < matrix.now.width }
-    ensures { IsTrue result ↔ AreCorners (entry matrix.now) one.row one.column other.row other.column }
-{
-    matrix.entry(one.row, one.column) != 0
-        && matrix.entry(other.row, other.column) != 0
-        && matrix.entry(one.row, other.column) != 0
-        && matrix.entry(other.row, one.column) != 0
-}
-
-// Whether the third line of a connector is 0 where it crosses the other two, and not 0 on the other side.
-fn is_other_line(matrix: &Matrix, flat: bool, one: Connector, other: Connector) -> bool
-    requires one { IsConnectorIn matrix.now flat one }
-    requires other_row { other.row < height matrix.now }
-    requires other_column { other.column < matrix.now.width }
-    ensures { IsTrue result ↔ IsOtherLine flat (entry matrix.now) one.row one.column one.other other.row other.column }
-{
-    if flat {
-        matrix.entry(one.row, one.other) == 0 && matrix.entry(other.row, one.other) != 0
-    } else {
-        matrix.entry(one.other, one.column) == 0 && matrix.entry(one.other, other.column) != 0
-    }
-}
-
-fn has_corner_sign(matrix: &Matrix, one: Connector, other: Connector) -> bool
-    requires one_row { one.row < height matrix.now }
-    requires one_column { one.column < matrix.now.width }
-    requires other_row { other.row < height matrix.now }
-    requires other_column { other.column < matrix.now.width }
-    ensures { IsTrue result ↔ (corner_product (entry matrix.now) one other ≡ pos 1) }
-{
-    let above = product(
-        matrix.entry(one.row, one.column),
-        matrix.entry(one.row, other.column),
-    );
-    let below = product(
-        matrix.entry(other.row, one.column),
-        matrix.entry(other.row, other.column),
-    );
-    product(above, below) == 1
 }
 
 fn are_three_blocks(matrix: &Matrix, one: &LineSet, other: &LineSet, three: &Three) -> bool
@@ -192,8 +127,48 @@ fn are_three_blocks(matrix: &Matrix, one: &LineSet, other: &LineSet, three: &Thr
     requires second { IsConnectorIn matrix.now (second_is_flat three.now.form) three.now.second }
     ensures { IsTrue result ↔ AreThreeBlocks (entry matrix.now) (sides_from one.now other.now) three.now }
 {
-    let first = three.first;
-    let second = three.second;
+    match three.form {
+        Form::Delta | Form::YForm | Form::Mixed => {
+            are_made_blocks(matrix, one, other, three.first, three.second)
+        }
+        Form::Concentrated => {
+            are_concentrated_blocks(matrix, one, other, three.first, three.second)
+        }
+    }
+}
+
+fn are_made_blocks(
+    matrix: &Matrix,
+    one: &LineSet,
+    other: &LineSet,
+    first: Connector,
+    second: Connector,
+) -> bool
+    requires one { AreLines matrix.now one.now }
+    requires other { AreLines matrix.now other.now }
+    requires first_row { first.row < height matrix.now }
+    requires first_column { first.column < matrix.now.width }
+    requires second_row { second.row < height matrix.now }
+    requires second_column { second.column < matrix.now.width }
+    ensures { IsTrue result ↔ (AreEntries (entry matrix.now) one.now.rows other.now.columns (product_at (entry matrix.now) first.row second.column) × AreEntries (entry matrix.now) other.now.rows one.now.columns (product_at (entry matrix.now) second.row first.column)) }
+{
     is_made_block(matrix, &one.rows, &other.columns, first.row, second.column)
         && is_made_block(matrix, &other.rows, &one.columns, second.row, first.column)
+}
+
+fn are_concentrated_blocks(
+    matrix: &Matrix,
+    one: &LineSet,
+    other: &LineSet,
+    first: Connector,
+    second: Connector,
+) -> bool
+    requires one { AreLines matrix.now one.now }
+    requires other { AreLines matrix.now other.now }
+    requires first { IsConnectorIn matrix.now true first }
+    requires second { IsConnectorIn matrix.now false second }
+    ensures { IsTrue result ↔ (AreEntries (entry matrix.now) one.now.rows other.now.columns zeros × AreEntries (entry matrix.now) other.now.rows one.now.columns (spread_at (entry matrix.now) first second)) }
+{
+    is_zero_block(matrix, &one.rows, &other.columns)
+        && is_spread_block(matrix, &other.rows, &one.columns, first, second)
 }

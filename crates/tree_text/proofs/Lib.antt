@@ -5,3 +5,6 @@ pub mod TreesRead
 pub mod WrittenLines
 pub mod WordsAgain
 pub mod TreesAgain
+pub mod LineCounts
+pub mod ReadTrees
+pub mod VersionsRead

@@ -13,23 +13,25 @@ use Rattle.tree_type.specs.declared.tree.Node.{Node}
 use Rattle.tree_type.specs.Trees.{Tree, Branch, tree_of, trees_from}
 use Rattle.tree_text.specs.declared.error.TreeKind.{TreeKind}
 use Rattle.tree_text.specs.declared.error.TreeKind.TheVariants.{Short, Extra}
-use Rattle.tree_text.specs.declared.value.Sizes.{Sizes}
+use Rattle.tree_text.specs.declared.header.Header.{Header}
+use Rattle.tree_text.specs.declared.header.Version.{Version}
 use Rattle.std.specs.Prelude.{codes}
 use Rattle.tree_text.specs.Values.{exactly, limited}
+use Rattle.tree_text.specs.Versions.{version_in}
 use Rattle.tree_text.specs.Findings.{NodeFront}
 use Rattle.tree_text.specs.Reading.{Reader, PlainTree, another_tree, front, node, tree}
 
-pub levels_left : (sizes : Sizes) (levels : ℕ) (parent : Option LineSet) (text : Text) → ¬ (levels ≡ 0) → node sizes levels parent text ≡ node sizes (suc (levels - 1)) parent text
-levels_left sizes levels parent text some = let more : levels ≡ suc (levels - 1) = omega (arith, some) in ap (λ k. node sizes k parent text) more
+pub levels_left : (header : Header) (levels : ℕ) (parent : Option LineSet) (text : Text) → ¬ (levels ≡ 0) → node header levels parent text ≡ node header (suc (levels - 1)) parent text
+levels_left header levels parent text some = let more : levels ≡ suc (levels - 1) = omega (arith, some) in ap (λ k. node header k parent text) more
 
-module _ (sizes : Sizes) (levels : ℕ) (parent : Option LineSet) (text : Text) (head : NodeFront) (rest : Text) (read : front sizes parent text ≡ Ok (head, rest)) where
+module _ (header : Header) (levels : ℕ) (parent : Option LineSet) (text : Text) (head : NodeFront) (rest : Text) (read : front header parent text ≡ Ok (head, rest)) where
   abbrev pub children : Result (List Tree × Text) (Fault TreeKind)
-  children = times (another_tree (node sizes levels (Some head.lines))) head.children [] rest
+  children = times (another_tree (node header levels (Some head.lines))) head.children [] rest
 
-  pub children_fail : (e : FieldError TreeKind) → Fails e children → Fails e (node sizes (suc levels) parent text)
+  pub children_fail : (e : FieldError TreeKind) → Fails e children → Fails e (node header (suc levels) parent text)
   children_fail e fails = rw read (bind_fails e children (λ (children : List Tree × Text). Ok (Branch head.lines head.finding (trees_from children.0), children.1)) fails)
 
-  pub node_made : (trees : List Tree) (behind : Text) → children ≡ Ok (trees, behind) → node sizes (suc levels) parent text ≡ Ok (Branch head.lines head.finding (trees_from trees), behind)
+  pub node_made : (trees : List Tree) (behind : Text) → children ≡ Ok (trees, behind) → node header (suc levels) parent text ≡ Ok (Branch head.lines head.finding (trees_from trees), behind)
   node_made trees behind made = rw (read, made) refl
 
 err_same : {A E : Type 0} (x y : E) → ◌≡◌ {A = Result A E} (Err x) (Err y) → x ≡ y
@@ -80,25 +82,26 @@ pub not_none : (read : Reader Tree) (text : Text) (nodes : List Node) (rest : Te
 not_none read text nodes rest made none = let more = one_node_more read [] nodes text rest made in omega (arith, more, none)
 
 -- the words in front of the root, with some way to read the root
-abbrev pub read_whole : (Sizes → Reader Tree) → Text → Result PlainTree (Fault TreeKind)
+abbrev pub read_whole : (Header → Reader Tree) → Text → Result PlainTree (Fault TreeKind)
 read_whole read text = do
   name ← field Short (exactly (codes "cmr-tree")) text
-  version ← field Short (exactly (codes "1")) name.1
+  version ← field Short version_in name.1
   rows ← field Short (limited 1000) version.1
   columns ← field Short (limited 1000) rows.1
-  root ← read (record { rows = rows.0; columns = columns.0 }) columns.1
+  root ← read (record { version = version.0; sizes = record { rows = rows.0; columns = columns.0 } }) columns.1
   ended Extra (record { rows = rows.0; columns = columns.0; root = root.0 }) root.1
 
-whole_fails : (read : Sizes → Reader Tree) (text name version rows_text columns_text : Text) (rows columns : ℕ) (e : FieldError TreeKind)
-    → field Short (exactly (codes "cmr-tree")) text ≡ Ok (tt, name) → field Short (exactly (codes "1")) name ≡ Ok (tt, version)
-    → field Short (limited 1000) version ≡ Ok (rows, rows_text) → field Short (limited 1000) rows_text ≡ Ok (columns, columns_text)
-    → Fails e (read (record { rows = rows; columns = columns }) columns_text) → Fails e (read_whole read text)
-whole_fails read text name version rows_text columns_text rows columns e named versioned row_count column_count fails =
-    rw (named, versioned, row_count, column_count) (bind_fails e (read (record { rows = rows; columns = columns }) columns_text) (λ (root : Tree × Text). ended Extra (record { rows = rows; columns = columns; root = root.0 }) root.1) fails)
+whole_fails : (read : Header → Reader Tree) (text name version_text rows_text columns_text : Text) (version : Version) (rows columns : ℕ) (e : FieldError TreeKind)
+    → field Short (exactly (codes "cmr-tree")) text ≡ Ok (tt, name) → field Short version_in name ≡ Ok (version, version_text)
+    → field Short (limited 1000) version_text ≡ Ok (rows, rows_text) → field Short (limited 1000) rows_text ≡ Ok (columns, columns_text)
+    → Fails e (read (record { version = version; sizes = record { rows = rows; columns = columns } }) columns_text) → Fails e (read_whole read text)
+whole_fails read text name version_text rows_text columns_text version rows columns e named versioned row_count column_count fails =
+    rw (named, versioned, row_count, column_count)
+    (bind_fails e (read (record { version = version; sizes = record { rows = rows; columns = columns } }) columns_text) (λ (root : Tree × Text). ended Extra (record { rows = rows; columns = columns; root = root.0 }) root.1) fails)
 
 -- what fails at the root fails as a whole
-pub root_fails : (text name version rows_text columns_text : Text) (rows columns : ℕ) (e : FieldError TreeKind)
-    → field Short (exactly (codes "cmr-tree")) text ≡ Ok (tt, name) → field Short (exactly (codes "1")) name ≡ Ok (tt, version)
-    → field Short (limited 1000) version ≡ Ok (rows, rows_text) → field Short (limited 1000) rows_text ≡ Ok (columns, columns_text)
-    → Fails e (node (record { rows = rows; columns = columns }) 2001 None columns_text) → Fails e (tree text)
-root_fails text name version rows_text columns_text rows columns e = whole_fails (λ sizes. node sizes 2001 None) text name version rows_text columns_text rows columns e
+pub root_fails : (text name version_text rows_text columns_text : Text) (version : Version) (rows columns : ℕ) (e : FieldError TreeKind)
+    → field Short (exactly (codes "cmr-tree")) text ≡ Ok (tt, name) → field Short version_in name ≡ Ok (version, version_text)
+    → field Short (limited 1000) version_text ≡ Ok (rows, rows_text) → field Short (limited 1000) rows_text ≡ Ok (columns, columns_text)
+    → Fails e (node (record { version = version; sizes = record { rows = rows; columns = columns } }) 2001 None columns_text) → Fails e (tree text)
+root_fails text name version_text rows_text columns_text version rows columns e = whole_fails (λ header. node header 2001 None) text name version_text rows_text columns_text version rows columns e

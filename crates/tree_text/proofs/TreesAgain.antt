@@ -13,7 +13,7 @@ use Rattle.cmr_base.specs.declared.network.Pair.{Pair}
 use Rattle.cmr_base.specs.declared.separation.Connector.{Connector}
 use Rattle.cmr_base.specs.declared.separation.Two.{Two}
 use Rattle.cmr_base.specs.declared.separation.Three.{Three}
-use Rattle.cmr_base.specs.declared.separation.Form.TheVariants.{Delta, YForm, Mixed}
+use Rattle.cmr_base.specs.declared.separation.Form.TheVariants.{Delta, YForm, Mixed, Concentrated}
 use Rattle.cmr_base.specs.LineSets.{AllBelow}
 use Rattle.cmr_base.specs.Reductions.{HasLine}
 use Rattle.cmr_base.specs.Separations.{first_is_flat, second_is_flat}
@@ -32,7 +32,10 @@ use Rattle.tree_text.specs.declared.error.TreeKind.TheVariants.{Short}
 use Rattle.tree_text.specs.declared.kind_word.KindWord.{KindWord}
 use Rattle.tree_text.specs.declared.kind_word.KindWord.TheVariants as kind
 use Rattle.tree_text.specs.declared.value.Sizes.{Sizes}
+use Rattle.tree_text.specs.declared.header.Header.{Header}
+use Rattle.tree_text.specs.declared.header.Version.TheVariants as version
 use Rattle.tree_text.specs.Findings.{NodeFront}
+use Rattle.tree_text.specs.Versions.{version_word, version_in}
 use Rattle.tree_text.specs.KindWords.{word_of, kind_in, kind_of}
 use Rattle.tree_text.specs.Values.{exactly, limited, line_of, step_in}
 use Rattle.tree_text.specs.Reading.{Reader, rising_lines, line_set, another_pair, network, connector, two, three, own_part, front, another_tree, node, tree}
@@ -172,7 +175,8 @@ module _ (sizes : Sizes) (few_rows : sizes.rows ≤ 1000) (few_columns : sizes.c
   own_again (Violator fault) trees fits e = counted (own_part sizes lines kind.Violator) (set_words fault) (Violator fault) 0 (count_trees trees) e (again_wrap (line_set sizes (Some lines)) (λ (f : LineSet). (Violator f, 0)) (set_words fault) fault (part_again fault fits))
   own_again Undecided trees fits e = counted (own_part sizes lines kind.Undecided) [] Undecided 0 (count_trees trees) e (again_done (Undecided, 0))
 
-kind_again : (k : KindWord) → kind_in (word_of k) ≡ Ok k
+-- version 2 has a word for each kind
+kind_again : (k : KindWord) → kind_in version.Two (word_of k) ≡ Ok k
 kind_again kind.Empty = refl
 kind_again kind.Cycle = refl
 kind_again kind.Reduced = refl
@@ -184,6 +188,7 @@ kind_again kind.TwoSum = refl
 kind_again (kind.ThreeSum Delta) = refl
 kind_again (kind.ThreeSum YForm) = refl
 kind_again (kind.ThreeSum Mixed) = refl
+kind_again (kind.ThreeSum Concentrated) = refl
 kind_again kind.Enumerated = refl
 kind_again kind.Violator = refl
 kind_again kind.Undecided = refl
@@ -212,31 +217,34 @@ part_of : (whole : LineSet) (levels : ℕ) (tree : Tree) → IsTreeWithin whole 
 part_of whole levels (Branch lines finding trees) within = within.1
 
 module _ (sizes : Sizes) (few_rows : sizes.rows ≤ 1000) (few_columns : sizes.columns ≤ 1000) where
+  abbrev header : Header
+  header = record { version = version.Two; sizes = sizes }
+
   front_again : (parent : Option LineSet) (lines : LineSet) (finding : Finding) (trees : Trees) → IsSome sizes parent lines → Fits lines finding trees → HasChildren finding (count_trees trees)
-      → Again (front sizes parent) (front_words lines finding trees) (record { lines = lines; finding = finding; children = count_trees trees })
+      → Again (front header parent) (front_words lines finding trees) (record { lines = lines; finding = finding; children = count_trees trees })
   front_again parent lines finding trees some fits children =
       let head : NodeFront = record { lines = lines; finding = finding; children = count_trees trees } in
       let own = again_wrap (own_part sizes lines (kind_of finding)) (λ (own : Finding × ℕ). record { lines = lines; finding = own.0; children = own.1 }) (own_words finding trees) (finding, count_trees trees)
       (own_again sizes few_rows few_columns lines some.rows.rise some.columns.rise some.rows.below some.columns.below finding trees fits children) in
       let set = again_bind (line_set sizes parent) _ (set_words lines) (own_words finding trees) lines head (set_again sizes few_rows few_columns parent lines some) own in
-      again_bind (field Short kind_in) _ (word_of (kind_of finding) ∷ []) (set_words lines ++ own_words finding trees) (kind_of finding) head (again_field kind_in (word_of (kind_of finding)) (kind_of finding) (kind_again (kind_of finding))) set
+      again_bind (field Short (kind_in version.Two)) _ (word_of (kind_of finding) ∷ []) (set_words lines ++ own_words finding trees) (kind_of finding) head (again_field (kind_in version.Two) (word_of (kind_of finding)) (kind_of finding) (kind_again (kind_of finding))) set
 
   mutual
-    node_again : (levels : ℕ) (parent : Option LineSet) (tree : Tree) (whole : LineSet) → IsSome sizes parent (lines_of tree) → IsTreeWithin whole levels tree → Again (node sizes levels parent) (node_words tree) tree
+    node_again : (levels : ℕ) (parent : Option LineSet) (tree : Tree) (whole : LineSet) → IsSome sizes parent (lines_of tree) → IsTreeWithin whole levels tree → Again (node header levels parent) (node_words tree) tree
     node_again levels parent (Branch lines finding trees) whole some (l, part, fits, children, below) =
         let more : levels ≡ suc (levels - 1) = omega (arith, l) in
         let head : NodeFront = record { lines = lines; finding = finding; children = count_trees trees } in
-        let forest = again_wrap (times (another_tree (node sizes (levels - 1) (Some lines))) (count_trees trees) []) (λ (ts : List Tree). Branch lines finding (trees_from ts)) (forest_words trees) (list_of trees) (forest_again (levels - 1) lines [] trees some.rows.rise some.columns.rise some.rows.below some.columns.below below) in
+        let forest = again_wrap (times (another_tree (node header (levels - 1) (Some lines))) (count_trees trees) []) (λ (ts : List Tree). Branch lines finding (trees_from ts)) (forest_words trees) (list_of trees) (forest_again (levels - 1) lines [] trees some.rows.rise some.columns.rise some.rows.below some.columns.below below) in
         let back = ap (Branch lines finding) (trees_back trees) in
-        subst (λ k. Again (node sizes k parent) (front_words lines finding trees ++ forest_words trees) (Branch lines finding trees)) (sym more)
-        (again_bind (front sizes parent) (λ (h : NodeFront × Text). times (another_tree (node sizes (levels - 1) (Some (h.0).lines))) (h.0).children [] h.1 >>= λ (children : List Tree × Text). Ok (Branch (h.0).lines (h.0).finding (trees_from children.0), children.1)) (front_words lines finding trees) (forest_words trees) head (Branch lines finding trees) (front_again parent lines finding trees some fits children)
-        (subst (λ tree. Again (λ text. times (another_tree (node sizes (levels - 1) (Some lines))) (count_trees trees) [] text >>= λ (children : List Tree × Text). Ok (Branch lines finding (trees_from children.0), children.1)) (forest_words trees) tree) back forest))
+        subst (λ k. Again (node header k parent) (front_words lines finding trees ++ forest_words trees) (Branch lines finding trees)) (sym more)
+        (again_bind (front header parent) (λ (h : NodeFront × Text). times (another_tree (node header (levels - 1) (Some (h.0).lines))) (h.0).children [] h.1 >>= λ (children : List Tree × Text). Ok (Branch (h.0).lines (h.0).finding (trees_from children.0), children.1)) (front_words lines finding trees) (forest_words trees) head (Branch lines finding trees) (front_again parent lines finding trees some fits children)
+        (subst (λ tree. Again (λ text. times (another_tree (node header (levels - 1) (Some lines))) (count_trees trees) [] text >>= λ (children : List Tree × Text). Ok (Branch lines finding (trees_from children.0), children.1)) (forest_words trees) tree) back forest))
 
     forest_again : (levels : ℕ) (lines : LineSet) (before : List Tree) (trees : Trees) → IsStrictlyIncreasing lines.rows → IsStrictlyIncreasing lines.columns → AllBelow sizes.rows lines.rows → AllBelow sizes.columns lines.columns → AreTreesWithin lines levels trees
-        → Again (times (another_tree (node sizes levels (Some lines))) (count_trees trees) before) (forest_words trees) (before ++ list_of trees)
+        → Again (times (another_tree (node header levels (Some lines))) (count_trees trees) before) (forest_words trees) (before ++ list_of trees)
     forest_again levels lines before NoTrees rows columns rows_in columns_in within = subst (λ ts. Again (λ text. Ok (before, text)) [] ts) (sym (append-nil before)) (again_done before)
     forest_again levels lines before (MoreTrees tree trees) rows columns rows_in columns_in within =
-        let read = node sizes levels (Some lines) in
+        let read = node header levels (Some lines) in
         let some = some_from sizes few_rows few_columns lines rows columns rows_in columns_in (lines_of tree) (part_of lines levels tree within.0) in
         let one = again_wrap read (λ t. before ++ t ∷ []) (node_words tree) tree (node_again levels (Some lines) tree lines some within.0) in
         subst (Again (times (another_tree read) (suc (count_trees trees)) before) (node_words tree ++ forest_words trees)) (append_assoc before (tree ∷ []) (list_of trees))
@@ -283,6 +291,7 @@ kind_word kind.TwoSum = plain_word _ _ (refl, (refl, (refl, (refl, (refl, (refl,
 kind_word (kind.ThreeSum Delta) = plain_word _ _ (refl, (refl, (refl, (refl, (refl, tt)))))
 kind_word (kind.ThreeSum YForm) = plain_word _ _ (refl, tt)
 kind_word (kind.ThreeSum Mixed) = plain_word _ _ (refl, (refl, (refl, (refl, (refl, tt)))))
+kind_word (kind.ThreeSum Concentrated) = plain_word _ _ (refl, (refl, (refl, (refl, (refl, (refl, (refl, (refl, (refl, (refl, (refl, (refl, tt))))))))))))
 kind_word kind.Enumerated = plain_word _ _ (refl, (refl, (refl, (refl, (refl, (refl, (refl, (refl, (refl, (refl, tt))))))))))
 kind_word kind.Violator = plain_word _ _ (refl, (refl, (refl, (refl, (refl, (refl, (refl, (refl, tt))))))))
 kind_word kind.Undecided = plain_word _ _ (refl, (refl, (refl, (refl, (refl, (refl, (refl, (refl, (refl, tt)))))))))
@@ -379,24 +388,24 @@ module _ (sizes : Sizes) (few_rows : sizes.rows ≤ 1000) (few_columns : sizes.c
         all-append AreWords (node_lines tree) (forest_lines trees) (node_all levels (Some lines) tree lines some within.0) (forest_all levels lines trees rows columns rows_in columns_in within.1)
 
 -- the words in front of the root, and some way to read the root back
-whole_again : (read : Sizes → Reader Tree) (rows columns : ℕ) (root : Tree) (words : List (List ℕ)) → rows ≤ 1000 → columns ≤ 1000 → Again (read (record { rows = rows; columns = columns })) words root → (size : ℕ) (front : List (ℕ × List ℕ))
-    → texts_of front ≡ codes "cmr-tree" ∷ codes "1" ∷ decimal rows ∷ decimal columns ∷ words → read_whole read (record { size = size; words = front }) ≡ Ok (record { rows = rows; columns = columns; root = root })
+whole_again : (read : Header → Reader Tree) (rows columns : ℕ) (root : Tree) (words : List (List ℕ)) → rows ≤ 1000 → columns ≤ 1000 → Again (read (record { version = version.Two; sizes = record { rows = rows; columns = columns } })) words root → (size : ℕ) (front : List (ℕ × List ℕ))
+    → texts_of front ≡ codes "cmr-tree" ∷ version_word version.Two ∷ decimal rows ∷ decimal columns ∷ words → read_whole read (record { size = size; words = front }) ≡ Ok (record { rows = rows; columns = columns; root = root })
 whole_again read rows columns root words few_rows few_columns again size [] e = absurd (cc)
 whole_again read rows columns root words few_rows few_columns again size (a ∷ []) e = absurd (cc)
 whole_again read rows columns root words few_rows few_columns again size (a ∷ b ∷ []) e = absurd (cc)
 whole_again read rows columns root words few_rows few_columns again size (a ∷ b ∷ p ∷ []) e = absurd (cc)
 whole_again read rows columns root words few_rows few_columns again size (a ∷ b ∷ p ∷ q ∷ rest) e =
     let ae : a.1 ≡ codes "cmr-tree" = cc in
-    let be : b.1 ≡ codes "1" = cc in
+    let be : b.1 ≡ version_word version.Two = cc in
     let pe : p.1 ≡ decimal rows = cc in
     let qe : q.1 ≡ decimal columns = cc in
     let re : texts_of rest ≡ words = cc in
     let named : exactly (codes "cmr-tree") a.1 ≡ Ok tt = ap (exactly (codes "cmr-tree")) ae in
-    let versioned : exactly (codes "1") b.1 ≡ Ok tt = ap (exactly (codes "1")) be in
+    let versioned : version_in b.1 ≡ Ok version.Two = ap version_in be in
     let row_count : limited 1000 p.1 ≡ Ok rows = ap (limited 1000) pe ∙ limited_again 1000 rows few_rows (omega arith) in
     let column_count : limited 1000 q.1 ≡ Ok columns = ap (limited 1000) qe ∙ limited_again 1000 columns few_columns (omega arith) in
-    let here : read (record { rows = rows; columns = columns }) (record { size = size; words = rest }) ≡ Ok (root, record { size = size; words = [] }) =
-    ap (λ ws. read (record { rows = rows; columns = columns }) (record { size = size; words = ws })) (sym (append-nil rest)) ∙ again size rest [] re in
+    let here : read (record { version = version.Two; sizes = record { rows = rows; columns = columns } }) (record { size = size; words = rest }) ≡ Ok (root, record { size = size; words = [] }) =
+    ap (λ ws. read (record { version = version.Two; sizes = record { rows = rows; columns = columns } }) (record { size = size; words = ws })) (sym (append-nil rest)) ∙ again size rest [] re in
     rw (named, versioned, row_count, column_count, here) refl
 
 pub tree_again : (rows columns : ℕ) (root : Tree) → IsTreeFor rows columns root → tree (text_of (tree_text rows columns root)) ≡ Ok (record { rows = rows; columns = columns; root = root })
@@ -414,5 +423,5 @@ tree_again rows columns root is =
         node_all sizes is.rows_in is.columns_in 2001 None root (lines_of root) some is.nodes,
       ),
     ) in
-    let words = words_in_lines (tree_lines rows columns root) all ∙ ap (λ ws. codes "cmr-tree" ∷ codes "1" ∷ decimal rows ∷ decimal columns ∷ ws) (node_joined root) in
-    whole_again (λ sizes. node sizes 2001 None) rows columns root (node_words root) is.rows_in is.columns_in (node_again sizes is.rows_in is.columns_in 2001 None root (lines_of root) some is.nodes) (length (tree_text rows columns root)) (words_from 0 (tree_text rows columns root)) words
+    let words = words_in_lines (tree_lines rows columns root) all ∙ ap (λ ws. codes "cmr-tree" ∷ version_word version.Two ∷ decimal rows ∷ decimal columns ∷ ws) (node_joined root) in
+    whole_again (λ header. node header 2001 None) rows columns root (node_words root) is.rows_in is.columns_in (node_again sizes is.rows_in is.columns_in 2001 None root (lines_of root) some is.nodes) (length (tree_text rows columns root)) (words_from 0 (tree_text rows columns root)) words

@@ -31,6 +31,8 @@ use Rattle.tree_text.specs.declared.error.TreeKind.TheVariants.{Short}
 use Rattle.tree_text.specs.declared.kind_word.KindWord.{KindWord}
 use Rattle.tree_text.specs.declared.kind_word.KindWord.TheVariants as kind
 use Rattle.tree_text.specs.declared.value.Sizes.{Sizes}
+use Rattle.tree_text.specs.declared.header.Header.{Header}
+use Rattle.tree_text.specs.declared.header.Version.{Version}
 use Rattle.tree_text.specs.Findings.{NodeFront}
 use Rattle.tree_text.specs.KindWords.{kind_in}
 use Rattle.tree_text.specs.Values.{limited, line_of, step_in}
@@ -207,9 +209,10 @@ record IsFront (sizes : Sizes) (parent : Option LineSet) (head : NodeFront) : Ty
   lines : IsSome sizes parent head.lines
   fits : (trees : Trees) → count_trees trees ≡ head.children → Fits head.lines head.finding trees × HasChildren head.finding (count_trees trees)
 
-front_ok : (sizes : Sizes) (parent : Option LineSet) (text : Text) (head : NodeFront × Text) → front sizes parent text ≡ Ok head → IsFront sizes parent head.0
-front_ok sizes parent text head h =
-    let kind = bind_ok (field Short kind_in text) (λ (kind : KindWord × Text). line_set sizes parent kind.1 >>= λ (lines : LineSet × Text). own_part sizes lines.0 kind.0 lines.1 >>= λ (own : (Finding × ℕ) × Text). Ok (record { lines = lines.0; finding = (own.0).0; children = (own.0).1 }, own.1)) head h in
+front_ok : (header : Header) (parent : Option LineSet) (text : Text) (head : NodeFront × Text) → front header parent text ≡ Ok head → IsFront header.sizes parent head.0
+front_ok header parent text head h =
+    let sizes = header.sizes in
+    let kind = bind_ok (field Short (kind_in header.version) text) (λ (kind : KindWord × Text). line_set sizes parent kind.1 >>= λ (lines : LineSet × Text). own_part sizes lines.0 kind.0 lines.1 >>= λ (own : (Finding × ℕ) × Text). Ok (record { lines = lines.0; finding = (own.0).0; children = (own.0).1 }, own.1)) head h in
     let lines = bind_ok (line_set sizes parent kind.0.1) (λ (lines : LineSet × Text). own_part sizes lines.0 kind.0.0 lines.1 >>= λ (own : (Finding × ℕ) × Text). Ok (record { lines = lines.0; finding = (own.0).0; children = (own.0).1 }, own.1)) head kind.2 in
     let own = bind_ok (own_part sizes lines.0.0 kind.0.0 lines.0.1) (λ (own : (Finding × ℕ) × Text). Ok (record { lines = lines.0.0; finding = (own.0).0; children = (own.0).1 }, own.1)) head lines.2 in
     let made : NodeFront = record { lines = lines.0.0; finding = (own.0.0).0; children = (own.0.0).1 } in
@@ -229,42 +232,43 @@ record IsRead (sizes : Sizes) (levels : ℕ) (parent : Option LineSet) (tree : T
   lines : IsSome sizes parent (lines_of tree)
   within : (whole : LineSet) → AreLinesOf (lines_of tree) whole → IsTreeWithin whole levels tree
 
-child_kept : (sizes : Sizes) (levels : ℕ) (lines : LineSet) → ((text : Text) (tree : Tree × Text) → node sizes levels (Some lines) text ≡ Ok tree → IsRead sizes levels (Some lines) tree.0)
-    → (k : ℕ) (s : List Tree) (text : Text) (next : List Tree) (rest : Text) → (length s ≡ k) × AreTreesWithin lines levels (trees_from s) → another_tree (node sizes levels (Some lines)) s text ≡ Ok (next, rest)
+child_kept : (header : Header) (levels : ℕ) (lines : LineSet) → ((text : Text) (tree : Tree × Text) → node header levels (Some lines) text ≡ Ok tree → IsRead header.sizes levels (Some lines) tree.0)
+    → (k : ℕ) (s : List Tree) (text : Text) (next : List Tree) (rest : Text) → (length s ≡ k) × AreTreesWithin lines levels (trees_from s) → another_tree (node header levels (Some lines)) s text ≡ Ok (next, rest)
     → (length next ≡ suc k) × AreTreesWithin lines levels (trees_from next)
-child_kept sizes levels lines each k s text next rest held made =
-    let one = bind_ok (node sizes levels (Some lines) text) (λ (tree : Tree × Text). Ok (s ++ tree.0 ∷ [], tree.1)) (next, rest) made in
+child_kept header levels lines each k s text next rest held made =
+    let one = bind_ok (node header levels (Some lines) text) (λ (tree : Tree × Text). Ok (s ++ tree.0 ∷ [], tree.1)) (next, rest) made in
     let e = ap (λ (p : List Tree × Text). p.0) (ok_same (s ++ one.0.0 ∷ [], one.0.1) (next, rest) one.2) in
     let is = each text one.0 one.1 in
-    let tree = is.within lines (lines_of_whole sizes lines (lines_of one.0.0) is.lines) in
+    let tree = is.within lines (lines_of_whole header.sizes lines (lines_of one.0.0) is.lines) in
     subst (λ trees. (length trees ≡ suc k) × AreTreesWithin lines levels (trees_from trees)) e (
       (let l = length_push s one.0.0 in let h = held.0 in omega (arith, l, h)),
       trees_push lines levels s one.0.0 held.1 tree,
     )
 
-node_ok : (sizes : Sizes) (levels : ℕ) (parent : Option LineSet) (text : Text) (tree : Tree × Text) → node sizes levels parent text ≡ Ok tree → IsRead sizes levels parent tree.0
-node_ok sizes zero parent text tree h = absurd (let f = field_ok Short too_deep text tree.0 tree.1 h in let p = f.parsed in cc)
-node_ok sizes (suc levels) parent text tree h =
-    let head = bind_ok (front sizes parent text) (λ (head : NodeFront × Text). times (another_tree (node sizes levels (Some (head.0).lines))) (head.0).children [] head.1 >>= λ (children : List Tree × Text). Ok (Branch (head.0).lines (head.0).finding (trees_from children.0), children.1)) tree h in
+node_ok : (header : Header) (levels : ℕ) (parent : Option LineSet) (text : Text) (tree : Tree × Text) → node header levels parent text ≡ Ok tree → IsRead header.sizes levels parent tree.0
+node_ok header zero parent text tree h = absurd (let f = field_ok Short too_deep text tree.0 tree.1 h in let p = f.parsed in cc)
+node_ok header (suc levels) parent text tree h =
+    let head = bind_ok (front header parent text) (λ (head : NodeFront × Text). times (another_tree (node header levels (Some (head.0).lines))) (head.0).children [] head.1 >>= λ (children : List Tree × Text). Ok (Branch (head.0).lines (head.0).finding (trees_from children.0), children.1)) tree h in
     let lines = (head.0.0).lines in
     let finding = (head.0.0).finding in
     let count = (head.0.0).children in
-    let children = bind_ok (times (another_tree (node sizes levels (Some lines))) count [] head.0.1) (λ (children : List Tree × Text). Ok (Branch lines finding (trees_from children.0), children.1)) tree head.2 in
+    let children = bind_ok (times (another_tree (node header levels (Some lines))) count [] head.0.1) (λ (children : List Tree × Text). Ok (Branch lines finding (trees_from children.0), children.1)) tree head.2 in
     let e = ap (λ (p : Tree × Text). p.0) (ok_same (Branch lines finding (trees_from children.0.0), children.0.1) tree children.2) in
-    let is = front_ok sizes parent text head.0 head.1 in
-    let all = times_keep (another_tree (node sizes levels (Some lines))) (λ k trees. (length trees ≡ k) × AreTreesWithin lines levels (trees_from trees)) (child_kept sizes levels lines (λ text tree. node_ok sizes levels (Some lines) text tree)) count 0 [] head.0.1 children.0.0 children.0.1 (refl, tt) children.1 in
+    let is = front_ok header parent text head.0 head.1 in
+    let all = times_keep (another_tree (node header levels (Some lines))) (λ k trees. (length trees ≡ k) × AreTreesWithin lines levels (trees_from trees)) (child_kept header levels lines (λ text tree. node_ok header levels (Some lines) text tree)) count 0 [] head.0.1 children.0.0 children.0.1 (refl, tt) children.1 in
     let counted : count_trees (trees_from children.0.0) ≡ count = (let n = count_from children.0.0 in let m = all.0 in omega (arith, n, m)) in
     let fits = is.fits (trees_from children.0.0) counted in
     let same : suc levels - 1 ≡ levels = omega arith in
-    subst (IsRead sizes (suc levels) parent) e (record { lines = is.lines; within = λ whole part. (omega arith, part, fits.0, fits.1, subst (λ k. AreTreesWithin lines k (trees_from children.0.0)) (sym same) all.1) })
+    subst (IsRead header.sizes (suc levels) parent) e (record { lines = is.lines; within = λ whole part. (omega arith, part, fits.0, fits.1, subst (λ k. AreTreesWithin lines k (trees_from children.0.0)) (sym same) all.1) })
 
 itself : (lines : LineSet) → IsStrictlyIncreasing lines.rows → IsStrictlyIncreasing lines.columns → AreLinesOf lines lines
 itself lines rows columns = record { rows_rise = rows; columns_rise = columns; rows = λ row h. h; columns = λ column h. h }
 
 -- what was read as the root is a tree for a matrix of these sizes
-pub root_ok : (rows columns : ℕ) (text : Text) (tree : Tree) (rest : Text) → rows ≤ 1000 → columns ≤ 1000 → node (record { rows = rows; columns = columns }) 2001 None text ≡ Ok (tree, rest) → IsTreeFor rows columns tree
-root_ok rows columns text tree rest few_rows few_columns h =
-    let is = node_ok (record { rows = rows; columns = columns }) 2001 None text (tree, rest) h in record {
+pub root_ok : (version : Version) (rows columns : ℕ) (text : Text) (tree : Tree) (rest : Text) → rows ≤ 1000 → columns ≤ 1000
+    → node (record { version = version; sizes = record { rows = rows; columns = columns } }) 2001 None text ≡ Ok (tree, rest) → IsTreeFor rows columns tree
+root_ok version rows columns text tree rest few_rows few_columns h =
+    let is = node_ok (record { version = version; sizes = record { rows = rows; columns = columns } }) 2001 None text (tree, rest) h in record {
       rows_in = few_rows;
       columns_in = few_columns;
       root_rows = is.lines.rows.below;

@@ -1,4 +1,4 @@
--- The canonical text of a tree: its lines, each a list of words.
+-- The canonical text of a tree, which is of version 2: its lines, each a list of words.
 use Rattle.std.specs.Prelude.{◌+◌, ◌++◌, ℕ, List, [], ◌∷◌, length, map, codes}
 use Rattle.std.specs.List.{flat_map}
 use Rattle.std.specs.Fmt.{decimal}
@@ -10,6 +10,8 @@ use Rattle.cmr_base.specs.declared.network.Pair.{Pair}
 use Rattle.cmr_base.specs.declared.separation.Connector.{Connector}
 use Rattle.text_fields.specs.Written.{text_of_lines}
 use Rattle.tree_type.specs.Trees.{Finding, Cycle, Reduced, OneSum, Network, Conetwork, TwoSum, ThreeSum, Violator, Tree, Trees, Branch, NoTrees, MoreTrees, count_trees}
+use Rattle.tree_text.specs.declared.header.Version.TheVariants.{Two}
+use Rattle.tree_text.specs.Versions.{version_word}
 use Rattle.tree_text.specs.KindWords.{word_of, kind_of}
 
 -- a line's number, counted from 1
@@ -71,7 +73,7 @@ abbrev mutual
 -- the version, the sizes of the matrix, and the nodes in preorder
 abbrev pub tree_lines : ℕ → ℕ → Tree → List (List (List ℕ))
 tree_lines rows columns root =
-    (codes "cmr-tree" ∷ codes "1" ∷ []) ∷ (decimal rows ∷ decimal columns ∷ []) ∷ node_lines root
+    (codes "cmr-tree" ∷ version_word Two ∷ []) ∷ (decimal rows ∷ decimal columns ∷ []) ∷ node_lines root
 
 abbrev pub tree_text : ℕ → ℕ → Tree → List ℕ
 tree_text rows columns root = text_of_lines (tree_lines rows columns root)

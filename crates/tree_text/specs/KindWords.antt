@@ -1,11 +1,14 @@
 -- The kinds of nodes and their words.
-use Rattle.std.specs.Prelude.{if◌then◌else◌, ℕ, List, [], ◌∷◌, Result, Ok, Err, codes, bytes_eq}
-use Rattle.cmr_base.specs.declared.separation.Form.TheVariants.{Delta, YForm, Mixed}
+use Rattle.std.specs.Prelude.{if◌then◌else◌, ℕ, Bool, true, false, List, [], ◌∷◌, Result, Ok, Err, codes, bytes_eq}
+use Rattle.cmr_base.specs.declared.separation.Form.TheVariants.{Delta, YForm, Mixed, Concentrated}
+use Rattle.text_fields.specs.Result.{◌>>=◌}
 use Rattle.tree_type.specs.Trees as said
 use Rattle.tree_text.specs.declared.error.TreeKind.{TreeKind}
 use Rattle.tree_text.specs.declared.error.TreeKind.TheVariants.{UnknownKind}
 use Rattle.tree_text.specs.declared.kind_word.KindWord.{KindWord}
 use Rattle.tree_text.specs.declared.kind_word.KindWord.TheVariants.{Empty, Cycle, Reduced, OneSum, Network, Conetwork, R10, TwoSum, ThreeSum, Enumerated, Violator, Undecided}
+use Rattle.tree_text.specs.declared.header.Version.{Version}
+use Rattle.tree_text.specs.declared.header.Version.TheVariants.{One}
 
 abbrev pub word_of : KindWord → List ℕ
 word_of Empty = codes "empty"
@@ -19,23 +22,31 @@ word_of TwoSum = codes "twosum"
 word_of (ThreeSum Delta) = codes "delta"
 word_of (ThreeSum YForm) = codes "y"
 word_of (ThreeSum Mixed) = codes "mixed"
+word_of (ThreeSum Concentrated) = codes "concentrated"
 word_of Enumerated = codes "enumerated"
 word_of Violator = codes "violator"
 word_of Undecided = codes "undecided"
 
--- the kinds that a text of version 1 has words for
 abbrev pub kind_words : List KindWord
 kind_words =
-    Empty ∷ Cycle ∷ Reduced ∷ OneSum ∷ Network ∷ Conetwork ∷ R10 ∷ TwoSum ∷ ThreeSum Delta ∷ ThreeSum YForm ∷ ThreeSum Mixed ∷ Enumerated
-    ∷ Violator ∷ Undecided ∷ []
+    Empty ∷ Cycle ∷ Reduced ∷ OneSum ∷ Network ∷ Conetwork ∷ R10 ∷ TwoSum ∷ ThreeSum Delta ∷ ThreeSum YForm ∷ ThreeSum Mixed
+    ∷ ThreeSum Concentrated ∷ Enumerated ∷ Violator ∷ Undecided ∷ []
 
 -- the first of some kinds whose word it is
 abbrev pub kind_among : List KindWord → List ℕ → Result KindWord TreeKind
 kind_among [] word = Err UnknownKind
 kind_among (kind ∷ kinds) word = if bytes_eq word (word_of kind) then Ok kind else kind_among kinds word
 
-abbrev pub kind_in : List ℕ → Result KindWord TreeKind
-kind_in word = kind_among kind_words word
+-- version 1 has no word for concentrated three-sums
+abbrev pub has_word : Version → KindWord → Bool
+has_word One (ThreeSum Concentrated) = false
+has_word version kind = true
+
+-- the kind whose word it is in texts of a version
+abbrev pub kind_in : Version → List ℕ → Result KindWord TreeKind
+kind_in version word = do
+  kind ← kind_among kind_words word
+  if has_word version kind then Ok kind else Err UnknownKind
 
 -- the kind of a node that says this
 abbrev pub kind_of : said.Finding → KindWord

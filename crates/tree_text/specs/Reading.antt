@@ -18,7 +18,9 @@ use Rattle.tree_text.specs.declared.error.TreeKind.TheVariants.{Short, Extra, To
 use Rattle.tree_text.specs.declared.kind_word.KindWord.{KindWord}
 use Rattle.tree_text.specs.declared.kind_word.KindWord.TheVariants as kind
 use Rattle.tree_text.specs.declared.value.Sizes.{Sizes}
+use Rattle.tree_text.specs.declared.header.Header.{Header}
 use Rattle.tree_text.specs.Findings.{NodeFront}
+use Rattle.tree_text.specs.Versions.{version_in}
 use Rattle.tree_text.specs.KindWords.{kind_in}
 use Rattle.tree_text.specs.Values.{exactly, limited, line_of, last_number, next_line, step_in}
 
@@ -112,11 +114,11 @@ own_part sizes lines kind.Violator text = do
 own_part sizes lines kind.Undecided text = Ok ((Undecided, 0), text)
 
 -- the front of a node: its kind word, its lines and its own part
-abbrev pub front : Sizes → Option LineSet → Reader NodeFront
-front sizes parent text = do
-  kind ← field Short kind_in text
-  lines ← line_set sizes parent kind.1
-  own ← own_part sizes lines.0 kind.0 lines.1
+abbrev pub front : Header → Option LineSet → Reader NodeFront
+front header parent text = do
+  kind ← field Short (kind_in header.version) text
+  lines ← line_set header.sizes parent kind.1
+  own ← own_part header.sizes lines.0 kind.0 lines.1
   Ok (record { lines = lines.0; finding = (own.0).0; children = (own.0).1 }, own.1)
 
 -- one more tree behind those that were read
@@ -130,11 +132,11 @@ abbrev pub too_deep : List ℕ → Result Tree TreeKind
 too_deep word = Err TooDeep
 
 -- a node and the nodes below it, on at most so many levels
-abbrev pub node : Sizes → ℕ → Option LineSet → Reader Tree
-node sizes zero parent text = field Short too_deep text
-node sizes (suc levels) parent text = do
-  front ← front sizes parent text
-  children ← times (another_tree (node sizes levels (Some (front.0).lines))) (front.0).children [] front.1
+abbrev pub node : Header → ℕ → Option LineSet → Reader Tree
+node header zero parent text = field Short too_deep text
+node header (suc levels) parent text = do
+  front ← front header parent text
+  children ← times (another_tree (node header levels (Some (front.0).lines))) (front.0).children [] front.1
   Ok (Branch (front.0).lines (front.0).finding (trees_from children.0), children.1)
 
 -- a tree with the sizes of its matrix
@@ -150,8 +152,8 @@ plain tree = record { rows = tree.rows; columns = tree.columns; root = tree_of t
 abbrev pub tree : Text → Result PlainTree (Fault TreeKind)
 tree text = do
   name ← field Short (exactly (codes "cmr-tree")) text
-  version ← field Short (exactly (codes "1")) name.1
+  version ← field Short version_in name.1
   rows ← field Short (limited 1000) version.1
   columns ← field Short (limited 1000) rows.1
-  root ← node (record { rows = rows.0; columns = columns.0 }) 2001 None columns.1
+  root ← node (record { version = version.0; sizes = record { rows = rows.0; columns = columns.0 } }) 2001 None columns.1
   ended Extra (record { rows = rows.0; columns = columns.0; root = root.0 }) root.1

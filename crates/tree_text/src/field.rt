@@ -3,8 +3,10 @@ ghost use Rattle.std.specs.Prelude.{◌≤◌, ◌<◌, IfOk, option_copied};
 ghost use Rattle.text_fields.specs.Reading.{field, Reads};
 ghost use Rattle.tree_text.specs.declared.error.TreeKind.TheVariants.{Short};
 ghost use Rattle.tree_text.specs.KindWords.{kind_in};
+ghost use Rattle.tree_text.specs.Versions.{version_in};
 ghost use Rattle.tree_text.specs.Values.{exactly, limited, line_of, next_line, step_in};
 
+use crate::header::{Version, version_in};
 use crate::kind_word::{KindWord, kind_in};
 use crate::value::{self, Sizes};
 use crate::{TreeError, TreeKind};
@@ -18,11 +20,18 @@ pub fn exactly(words: &mut Words<'_>, due: &[u8]) -> Result<(), TreeError>
     at_place(place, value::exactly(word, due))
 }
 
-pub fn kind(words: &mut Words<'_>) -> Result<KindWord, TreeError>
-    ensures { Reads (λ x. x) words.new result (field Short kind_in words.old) }
+pub fn version(words: &mut Words<'_>) -> Result<Version, TreeError>
+    ensures { Reads (λ x. x) words.new result (field Short version_in words.old) }
 {
     let (place, word) = words.due(TreeKind::Short)?;
-    at_place(place, kind_in(word))
+    at_place(place, version_in(word))
+}
+
+pub fn kind(words: &mut Words<'_>, version: Version) -> Result<KindWord, TreeError>
+    ensures { Reads (λ x. x) words.new result (field Short (kind_in version) words.old) }
+{
+    let (place, word) = words.due(TreeKind::Short)?;
+    at_place(place, kind_in(version, word))
 }
 
 pub fn limited(words: &mut Words<'_>, most: u32) -> Result<u32, TreeError>

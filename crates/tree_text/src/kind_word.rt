@@ -1,9 +1,10 @@
 // The kinds of nodes and their words.
 ghost use Rattle.std.specs.Prelude.{◌≡◌};
 ghost use Rattle.tree_type.specs.Trees.{tree_of};
-ghost use Rattle.tree_text.specs.KindWords.{word_of, kind_among, kind_in, kind_of, finding_of};
+ghost use Rattle.tree_text.specs.KindWords.{word_of, kind_among, has_word, kind_in, kind_of, finding_of};
 
 use crate::TreeKind;
+use crate::header::Version;
 use cmr_base::Form;
 use tree_type::{Kind, Node};
 
@@ -25,7 +26,7 @@ pub enum KindWord {
 }
 
 /// All of them.
-const KIND_WORDS: [KindWord; 14] = [
+const KIND_WORDS: [KindWord; 15] = [
     KindWord::Empty,
     KindWord::Cycle,
     KindWord::Reduced,
@@ -37,6 +38,7 @@ const KIND_WORDS: [KindWord; 14] = [
     KindWord::ThreeSum(Form::Delta),
     KindWord::ThreeSum(Form::YForm),
     KindWord::ThreeSum(Form::Mixed),
+    KindWord::ThreeSum(Form::Concentrated),
     KindWord::Enumerated,
     KindWord::Violator,
     KindWord::Undecided,
@@ -58,17 +60,33 @@ pub fn word_of(kind: KindWord) -> &'static [u8]
         KindWord::ThreeSum(Form::Delta) => b"delta",
         KindWord::ThreeSum(Form::YForm) => b"y",
         KindWord::ThreeSum(Form::Mixed) => b"mixed",
+        KindWord::ThreeSum(Form::Concentrated) => b"concentrated",
         KindWord::Enumerated => b"enumerated",
         KindWord::Violator => b"violator",
         KindWord::Undecided => b"undecided",
     }
 }
 
-/// The kind whose word it is.
-pub fn kind_in(word: &[u8]) -> Result<KindWord, TreeKind>
-    ensures { result ≡ kind_in word.now }
+/// The kind whose word it is in texts of this version.
+pub fn kind_in(version: Version, word: &[u8]) -> Result<KindWord, TreeKind>
+    ensures { result ≡ kind_in version word.now }
 {
-    kind_among(&KIND_WORDS, word)
+    let kind = kind_among(&KIND_WORDS, word)?;
+    if has_word(version, kind) {
+        Ok(kind)
+    } else {
+        Err(TreeKind::UnknownKind)
+    }
+}
+
+// Version 1 has no word for concentrated three-sums.
+fn has_word(version: Version, kind: KindWord) -> bool
+    ensures { result ≡ has_word version kind }
+{
+    match (version, kind) {
+        (Version::One, KindWord::ThreeSum(Form::Concentrated)) => false,
+        _ => true,
+    }
 }
 
 fn kind_among(kinds: &[KindWord], word: &[u8]) -> Result<KindWord, TreeKind>

@@ -3,7 +3,9 @@
 
 mod error;
 mod field;
+mod header;
 mod kind_word;
+pub mod laws;
 mod own_part;
 mod read;
 mod value;

@@ -9,6 +9,7 @@ ghost use Rattle.tree_type.specs.Findings.{finding_shown};
 ghost use Rattle.tree_text.specs.Findings.{own_shown, front_shown};
 ghost use Rattle.tree_text.specs.Reading.{rising_lines, line_set, another_pair, network, connector, two, three, own_part, front};
 
+use crate::header::Header;
 use crate::kind_word::KindWord;
 use crate::value::Sizes;
 use crate::{TreeError, field};
@@ -231,15 +232,16 @@ pub fn read_own_part(
 pub fn read_front(
     alloc: Global,
     words: &mut Words<'_>,
-    sizes: Sizes,
+    header: Header,
     parent: Option<&LineSet>,
 ) -> Result<Box<Front>, TreeError>
-    requires rows { sizes.rows ≤ 1000 }
-    requires columns { sizes.columns ≤ 1000 }
-    ensures read { Reads (λ front. front_shown front.value) words.new result (front sizes (option_copied parent.entry) words.old) }
+    requires rows { header.sizes.rows ≤ 1000 }
+    requires columns { header.sizes.columns ≤ 1000 }
+    ensures read { Reads (λ front. front_shown front.value) words.new result (front header (option_copied parent.entry) words.old) }
     ensures children { IfOk result (λ front. HasChildren (finding_shown front.value.finding) front.value.children) }
 {
-    let kind = field::kind(words)?;
+    let Header { version, sizes } = header;
+    let kind = field::kind(words, version)?;
     let lines = read_line_set(alloc, words, sizes, parent)?;
     let own = read_own_part(alloc, words, sizes, &lines, kind)?;
     let front = Front {

@@ -8,6 +8,7 @@ ghost use Rattle.tree_text.specs.declared.error.TreeKind.TheVariants.{Short};
 ghost use Rattle.tree_type.specs.Findings.{finding_shown};
 ghost use Rattle.tree_text.specs.Reading.{another_tree, too_deep, node, plain, tree};
 
+use crate::header::Header;
 use crate::own_part::{Front, read_front};
 use crate::value::Sizes;
 use crate::{TreeError, TreeKind, field};
@@ -22,11 +23,14 @@ pub fn read_tree(alloc: Global, bytes: &[u8]) -> Result<DecTree, TreeError>
 {
     let mut words = Words::new(bytes);
     field::exactly(&mut words, b"cmr-tree")?;
-    field::exactly(&mut words, b"1")?;
+    let version = field::version(&mut words)?;
     let rows = field::limited(&mut words, MAX_ROWS)?;
     let columns = field::limited(&mut words, MAX_COLUMNS)?;
-    let sizes = Sizes { rows, columns };
-    let root = read_root(alloc, &mut words, sizes, MAX_DEPTH + 1)?;
+    let header = Header {
+        version,
+        sizes: Sizes { rows, columns },
+    };
+    let root = read_root(alloc, &mut words, header, MAX_DEPTH + 1)?;
     words.end(TreeKind::Extra)?;
     Ok(DecTree::make(rows, columns, root))
 }
@@ -35,15 +39,15 @@ pub fn read_tree(alloc: Global, bytes: &[u8]) -> Result<DecTree, TreeError>
 fn read_root(
     alloc: Global,
     words: &mut Words<'_>,
-    sizes: Sizes,
+    header: Header,
     levels: u32,
 ) -> Result<Node, TreeError>
-    requires rows { sizes.rows ≤ 1000 }
-    requires columns { sizes.columns ≤ 1000 }
-    ensures { Reads tree_of words.new result (node sizes levels None words.old) }
+    requires rows { header.sizes.rows ≤ 1000 }
+    requires columns { header.sizes.columns ≤ 1000 }
+    ensures { Reads tree_of words.new result (node header levels None words.old) }
 {
     let mut roots = Vec::new(alloc);
-    read_node(alloc, words, sizes, None, levels, &mut roots)?;
+    read_node(alloc, words, header, None, levels, &mut roots)?;
     let Some(root) = roots.pop() else {
         unreachable!()
     };
@@ -55,25 +59,25 @@ fn read_root(
 fn read_node(
     alloc: Global,
     words: &mut Words<'_>,
-    sizes: Sizes,
+    header: Header,
     parent: Option<&LineSet>,
     levels: u32,
     nodes: &mut Vec<Node>,
 ) -> Result<(), TreeError>
-    requires rows { sizes.rows ≤ 1000 }
-    requires columns { sizes.columns ≤ 1000 }
-    ensures { Reads (λ x. map tree_of nodes.new.items) words.new result (another_tree (node sizes levels (option_copied parent.entry)) (map tree_of nodes.old.items) words.old) }
+    requires rows { header.sizes.rows ≤ 1000 }
+    requires columns { header.sizes.columns ≤ 1000 }
+    ensures { Reads (λ x. map tree_of nodes.new.items) words.new result (another_tree (node header levels (option_copied parent.entry)) (map tree_of nodes.old.items) words.old) }
 {
     if levels == 0 {
         return Err(too_deep(words));
     }
-    let front = read_front(alloc, words, sizes, parent)?;
+    let front = read_front(alloc, words, header, parent)?;
     let mut children = Vec::new(alloc);
     for _ in 0..front.children {
         read_node(
             alloc,
             words,
-            sizes,
+            header,
             Some(&front.lines),
             levels - 1,
             &mut children,

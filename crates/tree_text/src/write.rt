@@ -1,14 +1,16 @@
 // Writing of trees.
-ghost use Rattle.std.specs.Prelude.{◌≡◌, ◌+◌, ◌++◌, ◌∷◌, [], false, fold, length, map, Ok, IfOk, OnOk};
+ghost use Rattle.std.specs.Prelude.{◌≡◌, ◌≤◌, ◌+◌, ◌++◌, ◌∷◌, [], false, fold, length, map, Ok, IfOk, OnOk};
 ghost use Rattle.std.specs.Fmt.{decimal};
 ghost use Rattle.std.specs.List.{flat_map};
 ghost use Rattle.text_fields.specs.Words.{text_of};
 ghost use Rattle.text_fields.specs.Written.{with_word, with_line};
+ghost use Rattle.tree_type.specs.NodeCounts.{node_count};
 ghost use Rattle.tree_type.specs.Trees.{tree_of};
 ghost use Rattle.tree_text.specs.KindWords.{word_of, kind_of, finding_of};
 ghost use Rattle.tree_text.specs.Reading as reading;
 ghost use Rattle.tree_text.specs.Canonical.{number_of_line, line_name, set_words, pair_words, network_words, connector_words, line_for, own_line, front_lines, node_lines, tree_text};
 
+use crate::header::{Version, version_word};
 use crate::kind_word::{kind_of, word_of};
 use cmr_base::{Connector, Line, LineSet, Memory, Network, Pair, Three, Two};
 use itoa::Buffer;
@@ -16,15 +18,17 @@ use std::alloc::Global;
 use text_fields::Writer;
 use tree_type::{DecTree, Kind, Node};
 
-/// The canonical text of a tree.
+/// The canonical text of a tree, in version 2.
 pub fn write_tree(alloc: Global, tree: &DecTree) -> Result<Vec<u8>, Memory>
     ensures text { IfOk result (λ v. v.items ≡ tree_text tree.now.rows tree.now.columns (tree_of tree.now.root)) }
     // It is read again as the same tree.
     ensures again { IfOk result (λ v. reading.tree (text_of v.items) ≡ Ok (reading.plain tree.now)) }
+    // It has a byte or more for each node.
+    ensures nodes { IfOk result (λ v. node_count (tree_of tree.now.root) ≤ length v.items) }
 {
     let mut text = Writer::new(alloc);
     text.word(b"cmr-tree")?;
-    text.word(b"1")?;
+    text.word(version_word(Version::Two))?;
     text.end_line()?;
     text.numbers(&[tree.rows(), tree.columns()])?;
     write_node(alloc, &mut text, tree.root())?;

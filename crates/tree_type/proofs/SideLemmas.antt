@@ -6,10 +6,10 @@ use Rattle.cmr_base.specs.declared.line_set.LineSet.{LineSet}
 use Rattle.cmr_base.specs.declared.separation.Connector.{Connector}
 use Rattle.cmr_base.specs.declared.separation.Two.{Two}
 use Rattle.cmr_base.specs.declared.separation.Three.{Three}
-use Rattle.cmr_base.specs.Separations.{Lines, is_same_line, child_one, child_two, AreEnough, AreOn, connector_lines, first_is_flat, second_is_flat, IsTied, IsTwoSeparation, IsThreeSeparation}
+use Rattle.cmr_base.specs.Separations.{Lines, is_same_line, child_one, child_two, AreEnough, AreOn, connector_lines, first_is_flat, second_is_flat, IsTwoSeparation, IsThreeSeparation}
 use Rattle.cmr_base.proofs.ListsWithout.{true_is_false, in_from_contains, contains_from_in}
 use Rattle.cmr_base.proofs.RowLists.{eq_of, is_eq, two_cases, filter_in, in_filter}
-use Rattle.tree_type.specs.Sides.{is_among, inside, outside, sides, HaveLines, IsReference, AreTwoBlocks, two_one, two_two, HasConnector, connector_rows, connector_columns, IsOtherLine, AreConnectors, AreThreeBlocks, three_one, three_two}
+use Rattle.tree_type.specs.Sides.{is_among, inside, outside, sides, HaveLines, IsReference, AreTwoBlocks, two_one, two_two, HasConnector, connector_rows, connector_columns, AreConnectors, AreThreeBlocks, three_one, three_two}
 use Rattle.tree_type.specs.SideLaws.{side_one, lines_in}
 use Rattle.tree_type.proofs.Among.{filter_same, not_true, not_false}
 
@@ -92,14 +92,6 @@ module _ (lines set : LineSet) where
   connector_from_two true c h = (to_two set.rows lines.rows c.row h.0.0 h.0.1, to_two set.columns lines.columns c.column h.1.0.0 h.1.0.1, to_two set.columns lines.columns c.other h.1.1.0.0 h.1.1.0.1)
   connector_from_two false c h = (to_two set.rows lines.rows c.row h.0.0 h.0.1, to_two set.columns lines.columns c.column h.1.0.0 h.1.0.1, to_two set.rows lines.rows c.other h.1.1.0.0 h.1.1.0.1)
 
-tied_to : (flat : Bool) (M : ℕ → ℕ → ℤ) (c : Connector) (row column : ℕ) → IsOtherLine flat M c.row c.column c.other row column → IsTied M flat c row column
-tied_to true M c row column h = h
-tied_to false M c row column h = h
-
-tied_from : (flat : Bool) (M : ℕ → ℕ → ℤ) (c : Connector) (row column : ℕ) → IsTied M flat c row column → IsOtherLine flat M c.row c.column c.other row column
-tied_from true M c row column h = h
-tied_from false M c row column h = h
-
 -- ---- the laws
 
 pub two_sums_separate : (M : ℕ → ℕ → ℤ) (lines : LineSet) (two : Two)
@@ -142,14 +134,7 @@ three_sums_separate M lines t = (to, from)
     to (enough, joined, blocks) = record {
       one = connector_to_one lines t.side (first_is_flat t.form) t.first joined.first;
       two = connector_to_two lines t.side (second_is_flat t.form) t.second joined.second;
-      connectors = record {
-        first_corner = joined.first_corner;
-        second_corner = joined.second_corner;
-        upper = joined.right_corner;
-        lower = joined.below_corner;
-        first_tied = tied_to (first_is_flat t.form) M t.first t.second.row t.second.column joined.first_other;
-        second_tied = tied_to (second_is_flat t.form) M t.second t.first.row t.first.column joined.second_other;
-      };
+      connectors = joined.values;
       blocks = record {
         right = λ r c h k e f. blocks.right r c (to_one t.side.rows lines.rows r h e) (to_two t.side.columns lines.columns c k f);
         below = λ r c h k e f. blocks.below r c (to_two t.side.rows lines.rows r h e) (to_one t.side.columns lines.columns c k f);
@@ -163,12 +148,7 @@ three_sums_separate M lines t = (to, from)
       record {
         first = connector_from_one lines t.side (first_is_flat t.form) t.first s.one;
         second = connector_from_two lines t.side (second_is_flat t.form) t.second s.two;
-        first_corner = s.connectors.first_corner;
-        second_corner = s.connectors.second_corner;
-        right_corner = s.connectors.upper;
-        below_corner = s.connectors.lower;
-        first_other = tied_from (first_is_flat t.form) M t.first t.second.row t.second.column s.connectors.first_tied;
-        second_other = tied_from (second_is_flat t.form) M t.second t.first.row t.first.column s.connectors.second_tied;
+        values = s.connectors;
       },
       record {
         right = λ r c h k. let a = from_one t.side.rows lines.rows r h in let b = from_two t.side.columns lines.columns c k in s.blocks.right r c a.0 b.0 a.1 b.1;

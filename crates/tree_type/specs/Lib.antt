@@ -1,4 +1,5 @@
 pub mod Trees
+pub mod NodeCounts
 pub mod Verdicts
 pub mod Sides
 pub mod Invariant

@@ -6,7 +6,8 @@ use Rattle.cmr_base.specs.declared.line_set.LineSet.{LineSet}
 use Rattle.cmr_base.specs.declared.separation.Two.{Two}
 use Rattle.cmr_base.specs.declared.separation.Connector.{Connector}
 use Rattle.cmr_base.specs.declared.separation.Three.{Three}
-use Rattle.cmr_base.specs.Separations.{product_at, first_is_flat, second_is_flat, corner_product}
+use Rattle.cmr_base.specs.Separations as separations
+use Rattle.cmr_base.specs.Separations.{product_at, first_is_flat, second_is_flat, upper_block, lower_block, HaveCornerSign}
 
 -- the number is in the list
 abbrev pub is_among : List ℕ → ℕ → Bool
@@ -76,7 +77,7 @@ two_two lines two = record {
   columns = outside_with two.side.columns (two.column ∷ []) lines.columns;
 }
 
--- Three-separations: both blocks are made from one row and one column.
+-- Three-separations: both blocks are made from the connectors, as the form says.
 
 -- a row, a column and one more line of a side: a column where the connector is flat, a row where it is tall
 abbrev pub HasConnector : Bool → List ℕ → List ℕ → Connector → Type 0
@@ -91,30 +92,19 @@ abbrev pub connector_columns : Bool → Connector → List ℕ
 connector_columns true c = c.column ∷ c.other ∷ []
 connector_columns false c = c.column ∷ []
 
--- The other line of connector (i, p, q) is 0 where it crosses the connector, and not 0 where it crosses row k or column j
--- of the other side.
-abbrev pub IsOtherLine : Bool → (ℕ → ℕ → ℤ) → (i p q k j : ℕ) → Type 0
-IsOtherLine true M i p q k j = (M i q ≡ pos 0) × (M k q ≢ pos 0)
-IsOtherLine false M i p q k j = (M q p ≡ pos 0) × (M q j ≢ pos 0)
-
--- the connectors (i, p, q) of side one and (k, j, o) of side two
+-- the first connector in side one and the second in side two, with the values of the form
 pub record AreConnectors (M : ℕ → ℕ → ℤ) (s : Sides) (t : Three) : Type 0 where
   pub first : HasConnector (first_is_flat t.form) s.rows_one s.columns_one t.first
   pub second : HasConnector (second_is_flat t.form) s.rows_two s.columns_two t.second
-  pub first_corner : M t.first.row t.first.column ≢ pos 0
-  pub second_corner : M t.second.row t.second.column ≢ pos 0
-  pub right_corner : M t.first.row t.second.column ≢ pos 0
-  pub below_corner : M t.second.row t.first.column ≢ pos 0
-  pub first_other : IsOtherLine (first_is_flat t.form) M t.first.row t.first.column t.first.other t.second.row t.second.column
-  pub second_other : IsOtherLine (second_is_flat t.form) M t.second.row t.second.column t.second.other t.first.row t.first.column
+  pub values : separations.AreConnectors M t.form t.first t.second
 
--- the product of the four entries where the corners' lines cross is 1
+-- the signs of the corners, where the form has them
 abbrev pub HasCornerSign : (ℕ → ℕ → ℤ) → Three → Type 0
-HasCornerSign M t = corner_product M t.first t.second ≡ pos 1
+HasCornerSign M t = HaveCornerSign M t.form t.first t.second
 
 pub record AreThreeBlocks (M : ℕ → ℕ → ℤ) (s : Sides) (t : Three) : Type 0 where
-  pub right : AreEntries M s.rows_one s.columns_two (product_at M t.first.row t.second.column)
-  pub below : AreEntries M s.rows_two s.columns_one (product_at M t.second.row t.first.column)
+  pub right : AreEntries M s.rows_one s.columns_two (upper_block M t.form t.first t.second)
+  pub below : AreEntries M s.rows_two s.columns_one (lower_block M t.form t.first t.second)
 
 -- the lines of the children: each side with the connector of the other
 abbrev pub three_one : LineSet → Three → LineSet

@@ -5,6 +5,7 @@ mod child_lines;
 mod dec_tree;
 mod finding;
 pub mod laws;
+mod node_count;
 mod refusal;
 mod tree;
 mod verdicts;
@@ -17,6 +18,7 @@ pub use cmr_base::{
 };
 pub use dec_tree::DecTree;
 pub use finding::{Finding, join_node};
+pub use node_count::count_nodes;
 pub use refusal::{Refusal, Rule};
 pub use tree::{Kind, Node, NodeList};
 pub use verdicts::{VerdictOf, verdict};

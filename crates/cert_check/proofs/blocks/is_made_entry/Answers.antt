@@ -2,7 +2,7 @@ use Rattle.std.proofs.Common.{◌≡◌, ◌↔◌, ◌∙◌, ◌*ℤ◌, ℤ, 
 use mathlib.Core.Path.{ap₂}
 use Rattle.cmr_base.specs.Matrix.{entry, IsEntry}
 use Rattle.cmr_base.proofs.RowLists.{eq_of, is_eq}
-use Rattle.ghouila.proofs.Bytes.{kept_entry, product_bytes}
+use Rattle.cmr_base.proofs.EntryBytes.{kept_entry, product_bytes}
 use Rattle.cert_check.proofs.blocks.is_made_entry.Goals as goal
 
 same_entry : (x y p q : ℤ) → IsEntry x → IsEntry y → x ≡ p → y ≡ q → IsTrue (nat_eq (of_z w8 x) (of_z w8 y)) ↔ (p ≡ q)

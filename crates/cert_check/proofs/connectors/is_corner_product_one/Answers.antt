@@ -2,9 +2,9 @@ use Rattle.std.proofs.Common.{◌≡◌, ◌∙◌, ◌*ℤ◌, ℤ}
 use mathlib.Core.Path.{ap₂}
 use Rattle.cmr_base.specs.Matrix.{entry}
 use Rattle.cmr_base.specs.Separations.{corner_product}
-use Rattle.ghouila.proofs.Bytes.{product_bytes}
+use Rattle.cmr_base.proofs.EntryBytes.{product_bytes}
 use Rattle.cert_check.proofs.SumRules.{one_byte}
-use Rattle.cert_check.proofs.sum_rules.has_corner_sign.Goals as goal
+use Rattle.cert_check.proofs.connectors.is_corner_product_one.Goals as goal
 
 pub returns : goal.returns
 returns c =
