@@ -2,7 +2,8 @@
 use Rattle.std.proofs.Common.{◌≡◌, ◌<◌, ◌≤◌, ◌+◌, ◌-◌, ◌∙◌, ◌++◌, ℕ, zero, suc, List, [], ◌∷◌, length, map, refl, ap, ap₂, sym, subst, arith}
 use Rattle.std.specs.List.{AllByRecursion}
 use Rattle.cmr_base.specs.declared.line_set.LineSet.{LineSet}
-use Rattle.cmr_base.specs.Matrix.{Matrix, height, IsMatrix}
+use Rattle.cmr_base.specs.CyclePlaces.{HasNoCycleFault}
+use Rattle.cmr_base.specs.Matrix.{Matrix, height, entry, IsMatrix}
 use Rattle.cmr_base.specs.LineSets.{AllBelow, IsRowSet, IsColumnSet, first_lines}
 use Rattle.cmr_base.proofs.Lists.{all-append}
 use Rattle.cmr_base.proofs.Parts.{length-rising}
@@ -10,10 +11,11 @@ use Rattle.cmr_base.proofs.RemovedLines.{first_lines_increase}
 use Rattle.tree_type.specs.Trees.{Finding, Tree, Trees, Branch, NoTrees, MoreTrees, trees_from, count_trees, lines_of}
 use Rattle.tree_type.specs.Invariant.{AreLines, AreLinesOf, size_of, Fits, HasChildren, IsTreeWithin, AreTreesWithin, IsTreeFor}
 use Rattle.tree_type.specs.Places.{Due, AllLines, places_from, places_below, due_child, lines_of_each}
-use Rattle.tree_type.specs.Soundness.{HasItsLines, IsSoundTree}
+use Rattle.tree_type.specs.Soundness.{part, HasItsLines, IsSoundTree}
 use Rattle.tree_type.proofs.PlacedLines.{lines_within}
-use Rattle.decomp_tree.specs.Shapes.{IsShapedAt, IsShape, HasParts, set_in}
+use Rattle.decomp_tree.specs.Shapes.{case_number, IsShapedAt, IsShape, HasParts, set_in}
 use Rattle.decomp_tree.specs.Seen.{AreDue, AreFewer, IsSaid, IsDrawn, AreDrawn}
+use Rattle.decomp_tree.proofs.Said.{first_case}
 use Rattle.decomp_tree.proofs.ShapeSound.{shapes_are_sound}
 
 module _ (limit : ℕ) (m : Matrix) where
@@ -47,14 +49,15 @@ module _ (limit : ℕ) (m : Matrix) where
   within_below lines levels (child ∷ children) (tree ∷ trees) d fewer l =
       (d.0.within lines levels fewer.0.among (let k = fewer.0.fewer in omega (arith, k, l)), within_below lines levels children trees d.1 fewer.1 l)
 
-  pub drawn : (lines : LineSet) (finding : Finding) (children : List LineSet) (trees : List Tree) → IsSaid limit m lines finding children → AreDrawn limit m children trees → IsDrawn limit m lines (Branch lines finding (trees_from trees))
-  drawn lines finding children trees said d = record {
+  pub drawn : (lines : LineSet) (finding : Finding) (children : List LineSet) (trees : List Tree) (said : IsSaid limit m lines finding children) → (2 < case_number said.case → HasNoCycleFault (entry (part m lines)))
+      → AreDrawn limit m children trees → IsDrawn limit m lines (Branch lines finding (trees_from trees))
+  drawn lines finding children trees said no_fault d = record {
     lines_are = refl;
     shaped = λ path due has. (
       record {
         lines = has;
         case = said.case;
-        first = said.first;
+        first = first_case limit (part m lines) said.case said.applies said.others no_fault;
         found = said.found;
         parts = said.parts;
         says = said.says;

@@ -4,7 +4,7 @@ use Rattle.cmr_base.specs.declared.line.Line.{Line}
 use Rattle.cmr_base.specs.declared.line_set.LineSet.{LineSet}
 use Rattle.cmr_base.specs.declared.separation.Connector.{Connector}
 use Rattle.cmr_base.specs.declared.separation.Form.{Form}
-use Rattle.cmr_base.specs.declared.separation.Form.TheVariants.{Delta, YForm, Mixed}
+use Rattle.cmr_base.specs.declared.separation.Form.TheVariants.{Delta, YForm, Mixed, Concentrated}
 use Rattle.cmr_base.specs.declared.separation.Two.{Two}
 use Rattle.cmr_base.specs.declared.separation.Three.{Three}
 use Rattle.cmr_base.specs.Matrix.{Matrix, height, entry}
@@ -77,12 +77,19 @@ one_form : (form other : Form) → form_number form ≡ form_number other → fo
 one_form Delta Delta e = refl
 one_form Delta YForm e = absurd (omega arith)
 one_form Delta Mixed e = absurd (omega arith)
+one_form Delta Concentrated e = absurd (omega arith)
 one_form YForm Delta e = absurd (omega arith)
 one_form YForm YForm e = refl
 one_form YForm Mixed e = absurd (omega arith)
+one_form YForm Concentrated e = absurd (omega arith)
 one_form Mixed Delta e = absurd (omega arith)
 one_form Mixed YForm e = absurd (omega arith)
 one_form Mixed Mixed e = refl
+one_form Mixed Concentrated e = absurd (omega arith)
+one_form Concentrated Delta e = absurd (omega arith)
+one_form Concentrated YForm e = absurd (omega arith)
+one_form Concentrated Mixed e = absurd (omega arith)
+one_form Concentrated Concentrated e = refl
 
 one_connector : (x y : Connector) → x.row ≡ y.row → x.column ≡ y.column → x.other ≡ y.other → x ≡ y
 one_connector x y a b c =

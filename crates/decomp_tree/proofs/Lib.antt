@@ -12,6 +12,9 @@ pub mod SaidSums
 pub mod Children
 pub mod Roots
 pub mod NoFaults
+pub mod FreeNodes
+pub mod DraftLemmas
+pub mod Settled
 pub mod SameSets
 pub mod FirstSeeds
 pub mod Components

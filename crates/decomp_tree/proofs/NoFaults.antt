@@ -2,17 +2,15 @@
 use Rattle.std.proofs.Common.{◌≡◌, ◌<◌, ℕ, ℤ, List, length, map, Contains, subst}
 use Rattle.std.specs.List.{AllByRecursion}
 use Rattle.cmr_base.specs.declared.line_set.LineSet.{LineSet}
-use Rattle.cmr_base.specs.Matrix.{Matrix, height, entry, IsMatrix, transposed}
+use Rattle.cmr_base.specs.Matrix.{Matrix, height, entry, IsMatrix}
 use Rattle.cmr_base.specs.LineSets.{IsRowSet, IsColumnSet}
 use Rattle.cmr_base.specs.CyclePlaces.{HasNoCycleFault}
-use Rattle.cmr_base.specs.Trees.{IsNetworkMatrix, IsConetworkMatrix}
 use Rattle.cmr_base.specs.Violator.{IsViolator}
 use Rattle.cmr_base.proofs.Lists.{all_weaker, all-map}
 use Rattle.cmr_base.proofs.RisingLists.{row_set_rises, column_set_rises, rising_below}
 use Rattle.cert_check.proofs.FreeSets.{IsFreeOn}
-use Rattle.cert_check.proofs.Leaves.{free_network, free_conetwork}
 use Rattle.ghouila.proofs.SignsUnique.{no_violator_no_fault}
-use Rattle.tree_type.specs.Invariant.{AreLines, AreLinesOf}
+use Rattle.tree_type.specs.Invariant.{AreLines}
 use Rattle.tree_type.specs.Soundness.{part}
 use Rattle.tree_type.proofs.PlacedLines.{part_is}
 use Rattle.decomp_tree.specs.Shapes.{numbered}
@@ -20,22 +18,15 @@ use Rattle.decomp_tree.specs.Seen.{HasNoneAmong}
 use Rattle.decomp_tree.proofs.Kept.{named_contained}
 use Rattle.decomp_tree.proofs.Numbered.{height_in, violator_in}
 
--- none stands among some of the lines
-pub none_among_some : (m : Matrix) (lines child : LineSet) → AreLinesOf child lines → HasNoneAmong m lines → HasNoneAmong m child
-none_among_some m lines child among none R C rows columns v =
-    none R C (all_weaker (Contains child.rows) (Contains lines.rows) among.rows R rows) (all_weaker (Contains child.columns) (Contains lines.columns) among.columns C columns) v
+-- in both forms
+pub none_from_free : (m : Matrix) (lines : LineSet) → IsFreeOn m lines → HasNoneAmong m lines
+none_from_free m lines free R C rows columns v = free (record { R = R; C = C; rows = rows; columns = columns; violator = v })
+
+pub free_from_none : (m : Matrix) (lines : LineSet) → HasNoneAmong m lines → IsFreeOn m lines
+free_from_none m lines none v = none v.R v.C v.rows v.columns v.violator
 
 module _ (m : Matrix) (is : IsMatrix m) (lines : LineSet) (are : AreLines m lines) where
-  none_from_free : IsFreeOn m lines → HasNoneAmong m lines
-  none_from_free free R C rows columns v = free (record { R = R; C = C; rows = rows; columns = columns; violator = v })
-
-  pub none_in_network : IsNetworkMatrix (part m lines) → HasNoneAmong m lines
-  none_in_network net = none_from_free (free_network m lines is are net)
-
-  pub none_in_conetwork : IsConetworkMatrix (part m lines) → HasNoneAmong m lines
-  none_in_conetwork net = none_from_free (free_conetwork m lines is are net)
-
-  -- and then there is no cycle fault
+  -- there is no cycle fault where no violator stands
   pub no_fault_among : HasNoneAmong m lines → HasNoCycleFault (entry (part m lines))
   no_fault_among none = no_violator_no_fault (part m lines) inner.rectangular inner.small (λ R C rows columns v.
       let low_rows = subst (λ k. AllByRecursion (λ r. r < k) R) (height_in m lines) (rising_below 0 (height (part m lines)) R (row_set_rises (part m lines) R rows)) in

@@ -1,6 +1,6 @@
 -- What a node says in each case without separation.
 use Rattle.std.proofs.Common.{◌≡◌, ◌≢◌, ◌<◌, ◌≤◌, ◌+◌, ◌∙◌, ◌⊎◌, inl, inr, ℕ, zero, suc, Bool, true, false, min, List, [], ◌∷◌, length, map, get_or, Contains, Result, Ok, Err, IfOk, refl, ap, ap₂, sym, subst, arith}
-use Rattle.std.proofs.lemmas.Bool.{cases_lt}
+use Rattle.std.proofs.lemmas.Bool.{cases_lt, true≢false}
 use Rattle.std.proofs.lemmas.List.{length-map, get_or-map}
 use Rattle.std.proofs.lemmas.List.FromFn.{length-range_with_len}
 use Rattle.std.specs.List.{AllByRecursion}
@@ -32,7 +32,7 @@ use Rattle.tree_type.specs.Places.{lines_left}
 use Rattle.tree_type.specs.Soundness.{part}
 use Rattle.decomp_tree.specs.Shapes.{Case, HasNoLines, HasFault, IsReducible, IsApart, IsNetwork, IsConetwork, IsR10Matrix, IsTwoSum, IsThreeSum, IsShort, IsLeft, case_number, Applies, IsFirstCase, Says, numbered, line_in, set_in, finding_in, HasParts}
 use Rattle.decomp_tree.specs.declared.seen.Seen.{Seen}
-use Rattle.decomp_tree.specs.Seen.{IsPlace, IsPlacedSet, HasNoneBefore, AreDue, AreFewer, IsSaid, IsSeen}
+use Rattle.decomp_tree.specs.Seen.{IsPlace, IsPlacedSet, IsOther, HasNoneBefore, IsNamedFault, AreDue, AreFewer, IsSaid, IsSeen}
 use Rattle.decomp_tree.proofs.Numbered.{height_in}
 use Rattle.decomp_tree.proofs.Apart.{IsPartOf, all_from_places, each_part}
 use Rattle.decomp_tree.proofs.Kept.{below_members, named_contained, named_lines}
@@ -73,16 +73,43 @@ from_one IsShort = omega arith
 from_one IsLeft = omega arith
 
 pub none_first : (limit : ℕ) (n : Matrix) → HasNoneBefore limit n 1
-none_first limit n earlier l = let a = from_one earlier in absurd (omega (arith, l, a))
+none_first limit n earlier l other = let a = from_one earlier in absurd (omega (arith, l, a))
 
 pub none_next : (limit : ℕ) (n : Matrix) (case : Case) → HasNoneBefore limit n (case_number case) → ¬ (Applies limit n case) → HasNoneBefore limit n (suc (case_number case))
-none_next limit n case before here earlier l = go (cases_lt (case_number earlier) (case_number case))
+none_next limit n case before here earlier l other = go (cases_lt (case_number earlier) (case_number case))
   where
     go : (case_number earlier < case_number case) ⊎ (case_number case ≤ case_number earlier) → ¬ (Applies limit n earlier)
-    go (inl less) = before earlier less
+    go (inl less) = before earlier less other
     go (inr more) =
         let same : case_number earlier ≡ case_number case = omega (arith, l, more) in
         subst (λ c. ¬ (Applies limit n c)) (sym (sym (numbered_back earlier) ∙ ap case_numbered same ∙ numbered_back case)) here
+
+-- the case of a cycle fault does not count
+pub none_after_fault : (limit : ℕ) (n : Matrix) → HasNoneBefore limit n 2 → HasNoneBefore limit n 3
+none_after_fault limit n before earlier l other = go (cases_lt (case_number earlier) 2)
+  where
+    go : (case_number earlier < 2) ⊎ (2 ≤ case_number earlier) → ¬ (Applies limit n earlier)
+    go (inl less) = before earlier less other
+    go (inr more) =
+        let same : case_number earlier ≡ 2 = omega (arith, l, more) in
+        absurd (subst IsOther (sym (numbered_back earlier) ∙ ap case_numbered same ∙ numbered_back HasFault) other)
+
+-- without a cycle fault it is the first case that applies
+pub first_case : (limit : ℕ) (n : Matrix) (case : Case) → Applies limit n case → HasNoneBefore limit n (case_number case) → (2 < case_number case → HasNoCycleFault (entry n)) → IsFirstCase limit n case
+first_case limit n case applies others no_fault = record { applies = applies; first = before }
+  where
+    before : (earlier : Case) → case_number earlier < case_number case → ¬ (Applies limit n earlier)
+    before HasFault l = λ w. no_fault l w.0 w.1 w.2 w.3 w.4
+    before HasNoLines l = others HasNoLines l tt
+    before IsReducible l = others IsReducible l tt
+    before IsApart l = others IsApart l tt
+    before IsNetwork l = others IsNetwork l tt
+    before IsConetwork l = others IsConetwork l tt
+    before IsR10Matrix l = others IsR10Matrix l tt
+    before IsTwoSum l = others IsTwoSum l tt
+    before IsThreeSum l = others IsThreeSum l tt
+    before IsShort l = others IsShort l tt
+    before IsLeft l = others IsLeft l tt
 
 pub empty_from_length : (steps : List Step) → length steps ≤ 0 → steps ≡ []
 empty_from_length [] l = refl
@@ -106,7 +133,9 @@ module _ (limit : ℕ) (m : Matrix) (is : IsMatrix m) (lines : LineSet) (are : A
   pub seen_empty : height (part m lines) ≡ 0 → (part m lines).width ≡ 0 → IsSaid limit m lines Empty []
   seen_empty e f = record {
     case = HasNoLines;
-    first = record { applies = (e, f); first = none_first limit (part m lines) };
+    applies = (e, f);
+    others = none_first limit (part m lines);
+    searched = λ e l. absurd (omega (arith, l));
     found = Empty;
     parts = [];
     says = tt;
@@ -118,10 +147,19 @@ module _ (limit : ℕ) (m : Matrix) (is : IsMatrix m) (lines : LineSet) (are : A
     fits = λ trees e. tt;
   }
 
-  pub seen_cycle : (fault : LineSet) → HasNoneBefore limit (part m lines) 2 → IsCycleFault (part m lines) fault.rows fault.columns → IsSaid limit m lines (Cycle (set_in lines fault)) []
-  seen_cycle fault none says = record {
+  -- a matrix with a cycle fault has lines
+  not_empty : (fault : LineSet) → IsCycleFault (part m lines) fault.rows fault.columns → ¬ (Applies limit (part m lines) HasNoLines)
+  not_empty fault says none =
+      let l = below_members fault.rows (height (part m lines)) says.row_set.in_range says.row ((says.rows_are says.row).1 (inl refl)) in
+      let e = none.0 in
+      omega (arith, l, e)
+
+  seen_cycle : (fault : LineSet) → IsCycleFault (part m lines) fault.rows fault.columns → IsSaid limit m lines (Cycle (set_in lines fault)) []
+  seen_cycle fault says = record {
     case = HasFault;
-    first = record { applies = (says.row, says.first_column, says.last_column, says.path, says.fault); first = none };
+    applies = (says.row, says.first_column, says.last_column, says.path, says.fault);
+    others = none_next limit (part m lines) HasNoLines (none_first limit (part m lines)) (not_empty fault says);
+    searched = λ e l. absurd (omega (arith, l));
     found = Cycle fault;
     parts = [];
     says = says;
@@ -132,6 +170,9 @@ module _ (limit : ℕ) (m : Matrix) (is : IsMatrix m) (lines : LineSet) (are : A
     fewer = tt;
     fits = λ trees e. named fault.rows fault.columns says.row_set says.column_set;
   }
+
+  pub seen_fault : (fault : LineSet) → IsNamedFault m lines fault → IsSaid limit m lines (Cycle fault) []
+  seen_fault fault (found, says, named) = subst (λ some. IsSaid limit m lines (Cycle some) []) (sym named) (seen_cycle found says)
 
   sizes : (n : net.Network) (arcs walks : ℕ) → IsNetworkOf n arcs walks → HasSizes arcs walks n
   sizes n arcs walks network = record {
@@ -144,7 +185,9 @@ module _ (limit : ℕ) (m : Matrix) (is : IsMatrix m) (lines : LineSet) (are : A
   pub seen_network : (n : net.Network) → HasNoneBefore limit (part m lines) 5 → Reproduces n (part m lines) → IsSaid limit m lines (Network n) []
   seen_network n none says = record {
     case = IsNetwork;
-    first = record { applies = (n, says); first = none };
+    applies = (n, says);
+    others = none;
+    searched = λ e. absurd (true≢false e);
     found = Network n;
     parts = [];
     says = says;
@@ -159,7 +202,9 @@ module _ (limit : ℕ) (m : Matrix) (is : IsMatrix m) (lines : LineSet) (are : A
   pub seen_conetwork : (n : net.Network) → HasNoneBefore limit (part m lines) 6 → Reproduces n (transposed (part m lines)) → IsSaid limit m lines (Conetwork n) []
   seen_conetwork n none says = record {
     case = IsConetwork;
-    first = record { applies = (n, says); first = none };
+    applies = (n, says);
+    others = none;
+    searched = λ e. absurd (true≢false e);
     found = Conetwork n;
     parts = [];
     says = says;
@@ -171,10 +216,12 @@ module _ (limit : ℕ) (m : Matrix) (is : IsMatrix m) (lines : LineSet) (are : A
     fits = λ trees e. subst (λ k. HasSizes (length lines.columns) k n) (height_in m lines) (subst (λ k. HasSizes k (height (part m lines)) n) (height-transposed (part m lines)) (sizes n (height (transposed (part m lines))) (height (part m lines)) says.network));
   }
 
-  pub seen_r10 : HasNoneBefore limit (part m lines) 7 → IsR10 (part m lines) → IsSaid limit m lines R10 []
-  seen_r10 none says = record {
+  pub seen_r10 : HasNoneBefore limit (part m lines) 7 → HasNoCycleFault (entry (part m lines)) → IsR10 (part m lines) → IsSaid limit m lines R10 []
+  seen_r10 none no_fault says = record {
     case = IsR10Matrix;
-    first = record { applies = says; first = none };
+    applies = says;
+    others = none;
+    searched = λ e l. no_fault;
     found = R10;
     parts = [];
     says = tt;
@@ -186,13 +233,15 @@ module _ (limit : ℕ) (m : Matrix) (is : IsMatrix m) (lines : LineSet) (are : A
     fits = λ trees e. tt;
   }
 
-  pub seen_violator : (fault : LineSet) → limit ≤ 24 → HasNoneBefore limit (part m lines) 10 → min (height (part m lines)) (length lines.columns) ≤ limit → IsLeastViolator (part m lines) fault.rows fault.columns
-      → IsSaid limit m lines (Violator (set_in lines fault)) []
-  seen_violator fault few none short says =
+  pub seen_violator : (fault : LineSet) → limit ≤ 24 → HasNoneBefore limit (part m lines) 10 → HasNoCycleFault (entry (part m lines)) → min (height (part m lines)) (length lines.columns) ≤ limit
+      → IsLeastViolator (part m lines) fault.rows fault.columns → IsSaid limit m lines (Violator (set_in lines fault)) []
+  seen_violator fault few none no_fault short says =
       let w = least_violator limit few m is lines are fault.rows fault.columns says in
       record {
         case = IsShort;
-        first = record { applies = short; first = none };
+        applies = short;
+        others = none;
+        searched = λ e l. no_fault;
         found = Violator fault;
         parts = [];
         says = says;
@@ -207,10 +256,12 @@ module _ (limit : ℕ) (m : Matrix) (is : IsMatrix m) (lines : LineSet) (are : A
   pub placed_violator : (fault : LineSet) → limit ≤ 24 → IsLeastViolator (part m lines) fault.rows fault.columns → IsPlacedSet lines fault
   placed_violator fault few says = let w = least_violator limit few m is lines are fault.rows fault.columns says in placed fault.rows fault.columns w.0 w.1
 
-  pub seen_enumerated : HasNoneBefore limit (part m lines) 10 → min (height (part m lines)) (length lines.columns) ≤ limit → HasNoViolator (part m lines) → IsSaid limit m lines Enumerated []
-  seen_enumerated none short says = record {
+  pub seen_enumerated : HasNoneBefore limit (part m lines) 10 → HasNoCycleFault (entry (part m lines)) → min (height (part m lines)) (length lines.columns) ≤ limit → HasNoViolator (part m lines) → IsSaid limit m lines Enumerated []
+  seen_enumerated none no_fault short says = record {
     case = IsShort;
-    first = record { applies = short; first = none };
+    applies = short;
+    others = none;
+    searched = λ e l. no_fault;
     found = Enumerated;
     parts = [];
     says = says;
@@ -222,10 +273,12 @@ module _ (limit : ℕ) (m : Matrix) (is : IsMatrix m) (lines : LineSet) (are : A
     fits = λ trees e. tt;
   }
 
-  pub seen_undecided : HasNoneBefore limit (part m lines) 10 → limit < min (height (part m lines)) (length lines.columns) → IsSaid limit m lines Undecided []
-  seen_undecided none long = record {
+  pub seen_undecided : HasNoneBefore limit (part m lines) 10 → HasNoCycleFault (entry (part m lines)) → limit < min (height (part m lines)) (length lines.columns) → IsSaid limit m lines Undecided []
+  seen_undecided none no_fault long = record {
     case = IsLeft;
-    first = record { applies = tt; first = none_next limit (part m lines) IsShort none (λ short. omega (arith, long, short)) };
+    applies = tt;
+    others = none_next limit (part m lines) IsShort none (λ short. omega (arith, long, short));
+    searched = λ e l. no_fault;
     found = Undecided;
     parts = [];
     says = tt;
@@ -273,7 +326,9 @@ module _ (limit : ℕ) (m : Matrix) (is : IsMatrix m) (lines : LineSet) (are : A
       let placed_rest = rest_placed rest f g in
       record {
         case = IsReducible;
-        first = record { applies = reducible_from_removed (entry (part m lines)) (height (part m lines) + length lines.columns) (first_lines (height (part m lines))) (first_lines (length lines.columns)) (subst (λ s. 0 < length s) e some); first = none };
+        applies = reducible_from_removed (entry (part m lines)) (height (part m lines) + length lines.columns) (first_lines (height (part m lines))) (first_lines (length lines.columns)) (subst (λ s. 0 < length s) e some);
+        others = none;
+        searched = λ e. absurd (true≢false e);
         found = Reduced (map (λ step. step.line) steps);
         parts = [];
         says = ap (map (λ step. step.line)) e;
@@ -438,7 +493,9 @@ module _ (limit : ℕ) (m : Matrix) (is : IsMatrix m) (lines : LineSet) (are : A
   pub seen_parts : (parts : List LineSet) → HasNoneBefore limit (part m lines) 4 → AreComponents (part m lines) parts → 2 ≤ length parts → IsSaid limit m lines OneSum (map (set_in lines) parts)
   seen_parts parts none apart more = record {
     case = IsApart;
-    first = record { applies = (parts, apart, more); first = none };
+    applies = (parts, apart, more);
+    others = none;
+    searched = λ e. absurd (true≢false e);
     found = OneSum;
     parts = parts;
     says = (apart, more);

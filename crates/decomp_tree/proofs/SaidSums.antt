@@ -1,5 +1,6 @@
 -- What a node says of a separation.
 use Rattle.std.proofs.Common.{◌≡◌, ◌<◌, ◌≤◌, ℕ, Bool, true, false, List, [], ◌∷◌, length, refl, arith, subst}
+use Rattle.std.proofs.lemmas.Bool.{true≢false}
 use Rattle.cmr_base.specs.declared.line_set.LineSet.{LineSet}
 use Rattle.cmr_base.specs.declared.separation.Connector.{Connector}
 use Rattle.cmr_base.specs.declared.separation.Two.{Two}
@@ -15,7 +16,7 @@ use Rattle.tree_type.specs.Invariant.{AreLines, AreLinesOf}
 use Rattle.tree_type.specs.Sides.{HasConnector, two_one, two_two, three_one, three_two}
 use Rattle.tree_type.specs.Soundness.{part}
 use Rattle.tree_type.specs.Trees.{TwoSum, ThreeSum}
-use Rattle.decomp_tree.specs.Shapes.{HasFault, IsTwoSum, IsThreeSum, set_in, connector_in, two_in, three_in}
+use Rattle.decomp_tree.specs.Shapes.{IsTwoSum, IsThreeSum, set_in, connector_in, two_in, three_in}
 use Rattle.decomp_tree.specs.Seen.{IsPlacedSet, IsPlacedConnector, HasNoneBefore, IsSaid}
 use Rattle.decomp_tree.proofs.Numbered.{height_in}
 use Rattle.decomp_tree.proofs.Kept.{named_contained, named_lines, children_two, children_three}
@@ -44,7 +45,9 @@ module _ (limit : ℕ) (few : limit ≤ 24) (m : Matrix) (is : IsMatrix m) (line
         let children = children_two lines are.rows.rising are.columns.rising (two_in lines two) (short_two limit few m is lines are two found) in
         record {
           case = IsTwoSum;
-          first = record { applies = (two.row, two.column, listed two.side.rows two.side.columns, found.separates); first = none };
+          applies = (two.row, two.column, listed two.side.rows two.side.columns, found.separates);
+          others = none;
+          searched = λ e. absurd (true≢false e);
           found = TwoSum two;
           parts = [];
           says = found;
@@ -82,14 +85,15 @@ module _ (limit : ℕ) (few : limit ≤ 24) (m : Matrix) (is : IsMatrix m) (line
     pub second_placed : IsPlacedConnector (second_is_flat t.form) lines t.second
     second_placed = placed_connector false (second_is_flat t.form) (listed t.side.rows t.side.columns) t.second found.separates.two
 
-    pub said_three : HasNoneBefore limit (part m lines) 9 → IsSaid limit m lines (ThreeSum (three_in lines t)) (three_one lines (three_in lines t) ∷ three_two lines (three_in lines t) ∷ [])
-    said_three none =
-        let no_fault : HasNoCycleFault (entry (part m lines)) = (λ r c d path fault. none HasFault (omega arith) (r, c, d, path, fault)) in
+    pub said_three : HasNoneBefore limit (part m lines) 9 → HasNoCycleFault (entry (part m lines)) → IsSaid limit m lines (ThreeSum (three_in lines t)) (three_one lines (three_in lines t) ∷ three_two lines (three_in lines t) ∷ [])
+    said_three none no_fault =
         let keeps = keeps_three limit few m is lines are t no_fault found in
         let children = children_three lines are.rows.rising are.columns.rising (three_in lines t) keeps.short in
         record {
           case = IsThreeSum;
-          first = record { applies = (t.form, t.first, t.second, listed t.side.rows t.side.columns, found.separates); first = none };
+          applies = (t.form, t.first, t.second, listed t.side.rows t.side.columns, found.separates);
+          others = none;
+          searched = λ e l. no_fault;
           found = ThreeSum t;
           parts = [];
           says = found;

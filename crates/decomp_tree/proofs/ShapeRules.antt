@@ -56,7 +56,7 @@ module _ (limit : ℕ) (few : limit ≤ 24) (m : Matrix) (is : IsMatrix m) (line
   low_columns : (C : List ℕ) → IsColumnSet (part m lines) C → AllByRecursion (λ c. c < length lines.columns) C
   low_columns C set = rising_below 0 (length lines.columns) C (column_set_rises (part m lines) C set)
 
-  reductions : (steps : List Line) → steps ≡ map (λ step. step.line) (removal false (part m lines)).steps → Applies limit (part m lines) IsReducible
+  pub reductions : (steps : List Line) → steps ≡ map (λ step. step.line) (removal false (part m lines)).steps → Applies limit (part m lines) IsReducible
       → (0 < length (map (line_in lines) steps)) × AreReductions (entry m) lines.rows lines.columns (map (line_in lines) steps)
   reductions steps e (l, has, some) = (
     (let a = some_removed (entry (part m lines)) (height (part m lines) + length lines.columns) (first_lines (height (part m lines))) (first_lines (length lines.columns)) l (some_line (height (part m lines)) (length lines.columns) l has) has some in

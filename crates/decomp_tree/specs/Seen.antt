@@ -7,14 +7,15 @@ use Rattle.cmr_base.specs.declared.line_set.LineSet.{LineSet}
 use Rattle.cmr_base.specs.declared.separation.Connector.{Connector}
 use Rattle.cmr_base.specs.Matrix.{Matrix, entry}
 use Rattle.cmr_base.specs.LineSets.{AllBelow}
+use Rattle.cmr_base.specs.CyclePlaces.{HasNoCycleFault, IsCycleFault}
 use Rattle.cmr_base.specs.Violator.{IsViolator}
 use Rattle.tree_type.specs.Findings.{finding_shown}
-use Rattle.tree_type.specs.Trees.{Finding, Tree, Trees, count_trees, lines_of}
+use Rattle.tree_type.specs.Trees.{Finding, Cycle, Reduced, OneSum, Network, Conetwork, TwoSum, Violator, Undecided, Tree, Trees, count_trees, lines_of}
 use Rattle.tree_type.specs.Invariant.{AreLinesOf, size_of, Fits, HasChildren, IsTreeWithin}
 use Rattle.tree_type.specs.Places.{Due, due_child, places_from}
 use Rattle.tree_type.specs.Soundness.{part, HasItsLines}
 use Rattle.decomp_tree.specs.declared.seen.Seen.{Seen}
-use Rattle.decomp_tree.specs.Shapes.{Case, case_number, Applies, IsFirstCase, Says, finding_in, set_in, HasParts, IsShapedAt}
+use Rattle.decomp_tree.specs.Shapes.{Case, HasFault, case_number, Applies, Says, finding_in, set_in, HasParts, IsShapedAt}
 
 -- Places of some lines: the lines of the submatrix on them.
 
@@ -34,9 +35,34 @@ IsPlacedConnector false lines c = (c.row < length lines.rows) × (c.column < len
 abbrev pub HasNoneAmong : Matrix → LineSet → Type 0
 HasNoneAmong m lines = (R C : List ℕ) → AllByRecursion (Contains lines.rows) R → AllByRecursion (Contains lines.columns) C → ¬ (IsViolator (entry m) R C)
 
--- no case before this number applies
+-- the cases but for that of a cycle fault
+abbrev pub IsOther : Case → Type 0
+IsOther HasFault = ⊥
+IsOther case = Unit {0}
+
+-- no case before this number applies, unless that of a cycle fault does
 abbrev pub HasNoneBefore : ℕ → Matrix → ℕ → Type 0
-HasNoneBefore limit m number = (earlier : Case) → case_number earlier < number → ¬ (Applies limit m earlier)
+HasNoneBefore limit m number = (earlier : Case) → case_number earlier < number → IsOther earlier → ¬ (Applies limit m earlier)
+
+-- whether no cycle fault is looked for when a node that says this is drawn
+abbrev pub is_unsearched : Finding → Bool
+is_unsearched (Reduced steps) = true
+is_unsearched OneSum = true
+is_unsearched (Network net) = true
+is_unsearched (Conetwork net) = true
+is_unsearched (TwoSum two) = true
+is_unsearched finding = false
+
+-- whether a node that says this has no violator among its lines where none of its children has one
+abbrev pub keeps_free : Finding → Bool
+keeps_free (Cycle fault) = false
+keeps_free (Violator fault) = false
+keeps_free Undecided = false
+keeps_free finding = true
+
+-- the cycle fault of a submatrix, by its numbers in the whole matrix
+abbrev pub IsNamedFault : Matrix → LineSet → LineSet → Type 0
+IsNamedFault m lines fault = (found : LineSet) × IsCycleFault (part m lines) found.rows found.columns × (fault ≡ set_in lines found)
 
 -- the children have the lines that they are to have
 abbrev pub AreDue : LineSet → Finding → ℕ → List LineSet → Type 0
@@ -48,10 +74,13 @@ pub record AreFewer (lines child : LineSet) : Type 0 where
   pub among : AreLinesOf child lines
   pub fewer : size_of child < size_of lines
 
--- what a node on these lines is to say, and the lines of its children
+-- What a node on these lines is to say, and the lines of its children, by the first case that applies but for that of a
+-- cycle fault. Where a cycle fault was looked for there is none, or it is what the node says.
 pub record IsSaid (limit : ℕ) (m : Matrix) (lines : LineSet) (finding : Finding) (children : List LineSet) : Type 0 where
   pub case : Case
-  pub first : IsFirstCase limit (part m lines) case
+  pub applies : Applies limit (part m lines) case
+  pub others : HasNoneBefore limit (part m lines) (case_number case)
+  pub searched : is_unsearched finding ≡ false → 2 < case_number case → HasNoCycleFault (entry (part m lines))
   pub found : Finding
   pub parts : List LineSet
   pub says : Says case (part m lines) found parts

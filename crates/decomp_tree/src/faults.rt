@@ -1,62 +1,117 @@
 // Cycle faults, which are not looked for where there can be none.
-ghost use Rattle.std.specs.Prelude.{◌≡◌, MatchOption, IfOk, IsTrue};
+ghost use Rattle.std.specs.Prelude.{◌≡◌, true, MatchOption, IfOk, IfSome, IsTrue};
 ghost use Rattle.cmr_base.specs.Matrix.{entry, IsMatrix};
-ghost use Rattle.cmr_base.specs.CyclePlaces.{HasNoCycleFault, IsCycleFault};
+ghost use Rattle.cmr_base.specs.CyclePlaces.{HasNoCycleFault};
 ghost use Rattle.cmr_base.specs.LineSets.{IsRowSet, IsColumnSet};
 ghost use Rattle.tree_type.specs.Soundness.{part};
-ghost use Rattle.decomp_tree.specs.Seen.{HasNoneAmong};
+ghost use Rattle.tree_type.specs.Findings.{finding_shown};
+ghost use Rattle.decomp_tree.specs.Seen.{HasNoneAmong, IsNamedFault, is_unsearched, keeps_free};
+ghost use Rattle.decomp_tree.specs.Sketches.{HasNoLateFault};
 
+use crate::naming::named_set;
 use camion_sign::cycle_fault;
 use cmr_base::{LineSet, Matrix, Memory};
-use network_orient::orient;
+use network_orient::has_graphic_support;
 use std::alloc::Global;
+use tree_type::Finding;
 
-/// Whether it is known that no violator stands among these lines: it was known before, or their submatrix or its
-/// transpose is a network matrix. Then none stands among some of these lines either.
-#[inline(never)]
-pub fn is_free_of_violators(
-    alloc: Global,
-    matrix: &Matrix,
-    lines: &LineSet,
-    was_free: bool,
-) -> Result<bool, Memory>
-    requires shape { IsMatrix matrix.now }
-    requires rows { IsRowSet matrix.now lines.now.rows }
-    requires columns { IsColumnSet matrix.now lines.now.columns }
-    requires free { IsTrue was_free → HasNoneAmong matrix.now lines.now }
-    ensures { IfOk result (λ yes. IsTrue yes → HasNoneAmong matrix.now lines.now) }
-{
-    if was_free {
-        return Ok(true);
-    }
-    let part = matrix.part(alloc, lines)?;
-    if let Some(_net) = orient(alloc, &part)? {
-        return Ok(true);
-    }
-    let transposed = part.transposed(alloc)?;
-    if let Some(_net) = orient(alloc, &transposed)? {
-        return Ok(true);
-    }
-    Ok(false)
-}
-
-/// The cycle fault of the submatrix on these lines.
+/// The cycle fault of the submatrix on these lines, by its numbers in the whole matrix.
 pub fn fault_of(
     alloc: Global,
     _matrix: &Matrix,
-    _lines: &LineSet,
+    lines: &LineSet,
     inner: &Matrix,
-    is_free: bool,
 ) -> Result<Option<LineSet>, Memory>
     requires shape { IsMatrix _matrix.now }
-    requires rows { IsRowSet _matrix.now _lines.now.rows }
-    requires columns { IsColumnSet _matrix.now _lines.now.columns }
-    requires inner { inner.now ≡ part _matrix.now _lines.now }
-    requires free { IsTrue is_free → HasNoneAmong _matrix.now _lines.now }
-    ensures { IfOk result (λ found. MatchOption found (HasNoCycleFault (entry inner.now)) (λ lines. IsCycleFault inner.now lines.rows lines.columns)) }
+    requires rows { IsRowSet _matrix.now lines.now.rows }
+    requires columns { IsColumnSet _matrix.now lines.now.columns }
+    requires inner { inner.now ≡ part _matrix.now lines.now }
+    ensures { IfOk result (λ found. MatchOption found (HasNoCycleFault (entry (part _matrix.now lines.now))) (IsNamedFault _matrix.now lines.now)) }
 {
-    if is_free {
+    match cycle_fault(alloc, inner)? {
+        Some(found) => Ok(Some(named_set(alloc, lines, &found)?)),
+        None => Ok(None),
+    }
+}
+
+/// The cycle fault of the submatrix on these lines, looked for only where there must be one: where it is no network
+/// matrix and its support is graphic, or so is that of the transposed matrix, since the signs of a matrix without
+/// cycle fault are those of a network, but for lines that are negated.
+pub fn certain_fault(
+    alloc: Global,
+    matrix: &Matrix,
+    lines: &LineSet,
+    inner: &Matrix,
+    transposed: &Matrix,
+) -> Result<Option<LineSet>, Memory>
+    requires shape { IsMatrix matrix.now }
+    requires rows { IsRowSet matrix.now lines.now.rows }
+    requires columns { IsColumnSet matrix.now lines.now.columns }
+    requires inner { inner.now ≡ part matrix.now lines.now }
+    ensures { IfOk result (λ found. IfSome found (IsNamedFault matrix.now lines.now)) }
+{
+    if has_graphic_support(alloc, inner)? || has_graphic_support(alloc, transposed)? {
+        return fault_of(alloc, matrix, lines, inner);
+    }
+    Ok(None)
+}
+
+/// The cycle fault of a node's submatrix, where none was looked for when the node was drawn and there may be one.
+#[inline(never)]
+pub fn late_fault(
+    alloc: Global,
+    matrix: &Matrix,
+    lines: &LineSet,
+    finding: &Finding,
+    is_free: bool,
+) -> Result<Option<LineSet>, Memory>
+    requires shape { IsMatrix matrix.now }
+    requires rows { IsRowSet matrix.now lines.now.rows }
+    requires columns { IsColumnSet matrix.now lines.now.columns }
+    requires free { IsTrue is_free → HasNoneAmong matrix.now lines.now }
+    ensures { IfOk result (λ found. MatchOption found (HasNoLateFault matrix.now lines.now (finding_shown finding.now)) (λ fault. IsNamedFault matrix.now lines.now fault × (is_unsearched (finding_shown finding.now) ≡ true))) }
+{
+    if is_free || !is_unsearched(finding) {
         return Ok(None);
     }
-    cycle_fault(alloc, inner)
+    let part = matrix.part(alloc, lines)?;
+    fault_of(alloc, matrix, lines, &part)
+}
+
+// Whether no cycle fault is looked for when a node that says this is drawn.
+fn is_unsearched(finding: &Finding) -> bool
+    ensures { result ≡ is_unsearched (finding_shown finding.now) }
+{
+    match finding {
+        Finding::Reduced(_)
+        | Finding::OneSum
+        | Finding::Network(_)
+        | Finding::Conetwork(_)
+        | Finding::TwoSum(_) => true,
+        Finding::Empty
+        | Finding::Cycle(_)
+        | Finding::R10
+        | Finding::ThreeSum(_)
+        | Finding::Enumerated
+        | Finding::Violator(_)
+        | Finding::Undecided => false,
+    }
+}
+
+/// Whether a node that says this has no violator among its lines where none of its children has one.
+pub fn keeps_free(finding: &Finding) -> bool
+    ensures { result ≡ keeps_free (finding_shown finding.now) }
+{
+    match finding {
+        Finding::Cycle(_) | Finding::Violator(_) | Finding::Undecided => false,
+        Finding::Empty
+        | Finding::Reduced(_)
+        | Finding::OneSum
+        | Finding::Network(_)
+        | Finding::Conetwork(_)
+        | Finding::R10
+        | Finding::TwoSum(_)
+        | Finding::ThreeSum(_)
+        | Finding::Enumerated => true,
+    }
 }

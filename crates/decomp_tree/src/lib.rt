@@ -1,11 +1,13 @@
 //! Decompositions of matrices.
 #![tactic(auto)]
 
+mod drafts;
 mod drawing;
 mod faults;
 pub mod laws;
 mod looking;
 mod naming;
 mod seen;
+mod settling;
 
 pub use drawing::decompose;

@@ -1,14 +1,16 @@
 // The first case that applies to some lines.
 ghost use Rattle.std.specs.Prelude.{◌≡◌, ◌≤◌, ◌<◌, false, length, IfOk, IsTrue};
-ghost use Rattle.cmr_base.specs.Matrix.{IsMatrix};
+ghost use Rattle.cmr_base.specs.Matrix.{entry, IsMatrix};
+ghost use Rattle.cmr_base.specs.CyclePlaces.{HasNoCycleFault};
+ghost use Rattle.cmr_base.specs.R10.{IsR10};
 ghost use Rattle.cmr_base.specs.LineSets.{IsRowSet, IsColumnSet};
 ghost use Rattle.cmr_base.specs.Reductions.{removal};
 ghost use Rattle.tree_type.specs.Soundness.{part};
 ghost use Rattle.two_sep.specs.FirstSeeds.{IsFirstTwoSeparation};
 ghost use Rattle.three_sep.specs.ThreeSeparations.{IsFirstThreeSeparation};
-ghost use Rattle.decomp_tree.specs.Seen.{HasNoneAmong, HasNoneBefore, IsSeen};
+ghost use Rattle.decomp_tree.specs.Seen.{HasNoneBefore, IsSeen};
 
-use crate::faults::fault_of;
+use crate::faults::{certain_fault, fault_of};
 use crate::naming::{named_parts, named_set, named_steps, named_three, named_two};
 use crate::seen::{Seen, above_one, above_two, leaf};
 use cmr_base::{LineSet, Matrix, Memory, Three, Two};
@@ -22,7 +24,7 @@ use three_sep::three_separation;
 use tree_type::{Finding, three_one, three_two, two_one, two_two};
 use two_sep::{components, two_separation};
 
-/// What a node on these lines is to say.
+/// What a node on these lines is to say, where no cycle fault of the submatrix is looked for unless nothing else helps.
 #[inline(never)]
 pub fn look<R: Threads + Sync>(
     rt: &R,
@@ -31,29 +33,23 @@ pub fn look<R: Threads + Sync>(
     lines: &LineSet,
     limit: u32,
     workers: u32,
-    is_free: bool,
 ) -> Result<Seen, Memory>
     requires limit { limit ≤ 24 }
     requires workers { (1 ≤ workers) × (workers ≤ 64) }
     requires shape { IsMatrix matrix.now }
     requires rows { IsRowSet matrix.now lines.now.rows }
     requires columns { IsColumnSet matrix.now lines.now.columns }
-    requires free { IsTrue is_free → HasNoneAmong matrix.now lines.now }
     ensures { IfOk result (IsSeen limit matrix.now lines.now) }
 {
     let part = matrix.part(alloc, lines)?;
     if part.rows() == 0 && part.columns() == 0 {
         return Ok(leaf(alloc, Finding::Empty));
     }
-    if let Some(found) = fault_of(alloc, matrix, lines, &part, is_free)? {
-        let fault = named_set(alloc, lines, &found)?;
-        return Ok(leaf(alloc, Finding::Cycle(fault)));
-    }
-    look_faultless(rt, alloc, matrix, lines, &part, limit, workers)
+    look_filled(rt, alloc, matrix, lines, &part, limit, workers)
 }
 
-// The cases of a matrix without cycle fault.
-fn look_faultless<R: Threads + Sync>(
+// The cases of a matrix with lines.
+fn look_filled<R: Threads + Sync>(
     rt: &R,
     alloc: Global,
     matrix: &Matrix,
@@ -157,13 +153,68 @@ fn look_connected<R: Threads + Sync>(
         return Ok(leaf(alloc, Finding::Conetwork(net)));
     }
     if is_r10(inner) {
-        return Ok(leaf(alloc, Finding::R10));
+        return look_r10(alloc, matrix, lines, inner, limit);
     }
-    look_separated(rt, alloc, matrix, lines, inner, limit, workers)
+    look_separated(rt, alloc, matrix, lines, inner, &transposed, limit, workers)
 }
 
-// The cases of a matrix that is no network matrix, no transposed one and no R10.
+// An R10 matrix, which has no violator but where it has a cycle fault.
+fn look_r10(
+    alloc: Global,
+    matrix: &Matrix,
+    lines: &LineSet,
+    inner: &Matrix,
+    _limit: u32,
+) -> Result<Seen, Memory>
+    requires shape { IsMatrix matrix.now }
+    requires rows { IsRowSet matrix.now lines.now.rows }
+    requires columns { IsColumnSet matrix.now lines.now.columns }
+    requires inner { inner.now ≡ part matrix.now lines.now }
+    requires none { HasNoneBefore _limit (part matrix.now lines.now) 7 }
+    requires r10 { IsR10 (part matrix.now lines.now) }
+    ensures { IfOk result (IsSeen _limit matrix.now lines.now) }
+{
+    if let Some(fault) = fault_of(alloc, matrix, lines, inner)? {
+        return Ok(leaf(alloc, Finding::Cycle(fault)));
+    }
+    Ok(leaf(alloc, Finding::R10))
+}
+
+// The cases of a matrix that is no network matrix, no transposed one and no R10. A cycle fault is looked for first where
+// there must be one.
 fn look_separated<R: Threads + Sync>(
+    rt: &R,
+    alloc: Global,
+    matrix: &Matrix,
+    lines: &LineSet,
+    inner: &Matrix,
+    transposed: &Matrix,
+    limit: u32,
+    workers: u32,
+) -> Result<Seen, Memory>
+    requires limit { limit ≤ 24 }
+    requires workers { (1 ≤ workers) × (workers ≤ 64) }
+    requires shape { IsMatrix matrix.now }
+    requires rows { IsRowSet matrix.now lines.now.rows }
+    requires columns { IsColumnSet matrix.now lines.now.columns }
+    requires inner { inner.now ≡ part matrix.now lines.now }
+    requires none { HasNoneBefore limit (part matrix.now lines.now) 8 }
+    ensures { IfOk result (IsSeen limit matrix.now lines.now) }
+{
+    if let Some(fault) = certain_fault(alloc, matrix, lines, inner, transposed)? {
+        return Ok(leaf(alloc, Finding::Cycle(fault)));
+    }
+    if let Some(two) = two_separation(alloc, inner)? {
+        return seen_two(alloc, matrix, lines, &two, limit);
+    }
+    if let Some(fault) = fault_of(alloc, matrix, lines, inner)? {
+        return Ok(leaf(alloc, Finding::Cycle(fault)));
+    }
+    look_faultless(rt, alloc, matrix, lines, inner, limit, workers)
+}
+
+// The cases of a matrix without two-separation and without cycle fault.
+fn look_faultless<R: Threads + Sync>(
     rt: &R,
     alloc: Global,
     matrix: &Matrix,
@@ -178,12 +229,10 @@ fn look_separated<R: Threads + Sync>(
     requires rows { IsRowSet matrix.now lines.now.rows }
     requires columns { IsColumnSet matrix.now lines.now.columns }
     requires inner { inner.now ≡ part matrix.now lines.now }
-    requires none { HasNoneBefore limit (part matrix.now lines.now) 8 }
+    requires none { HasNoneBefore limit (part matrix.now lines.now) 9 }
+    requires faultless { HasNoCycleFault (entry (part matrix.now lines.now)) }
     ensures { IfOk result (IsSeen limit matrix.now lines.now) }
 {
-    if let Some(two) = two_separation(alloc, inner)? {
-        return seen_two(alloc, matrix, lines, &two, limit);
-    }
     if let Some(three) = three_separation(rt, alloc, inner, workers)? {
         return seen_three(alloc, matrix, lines, &three, limit);
     }
@@ -225,6 +274,7 @@ fn seen_three(
     requires rows { IsRowSet _matrix.now lines.now.rows }
     requires columns { IsColumnSet _matrix.now lines.now.columns }
     requires none { HasNoneBefore _limit (part _matrix.now lines.now) 9 }
+    requires faultless { HasNoCycleFault (entry (part _matrix.now lines.now)) }
     requires found { IsFirstThreeSeparation (part _matrix.now lines.now) found.now }
     ensures { IfOk result (IsSeen _limit _matrix.now lines.now) }
 {
@@ -251,6 +301,7 @@ fn look_last<R: Threads + Sync>(
     requires columns { IsColumnSet matrix.now lines.now.columns }
     requires inner { inner.now ≡ part matrix.now lines.now }
     requires none { HasNoneBefore limit (part matrix.now lines.now) 10 }
+    requires faultless { HasNoCycleFault (entry (part matrix.now lines.now)) }
     ensures { IfOk result (IsSeen limit matrix.now lines.now) }
 {
     let finding = match least_violator(rt, alloc, inner, limit, workers)? {

@@ -136,7 +136,7 @@ module _ (m marks : Matrix) (h : IsSupportOf m marks) where
       subst (λ height_m. RealisesSupport net (support m) height_m m.width) h.height_same (subst (λ width. RealisesSupport net (support m) (height marks) width) h.width_same
       (support_same net (height marks) marks.width (support marks) (support m) (λ r c lr lc. one_support r c) G))
 
-  marks_by_support : (net : Network) → ReproducesSupport net m → ReproducesSupport net marks
+  pub marks_by_support : (net : Network) → ReproducesSupport net m → ReproducesSupport net marks
   marks_by_support net G =
       subst (λ height_m. RealisesSupport net (support marks) height_m marks.width) (sym h.height_same) (subst (λ width. RealisesSupport net (support marks) (height m) width) (sym h.width_same)
       (support_same net (height m) m.width (support m) (support marks) (λ r c lr lc. sym (one_support r c)) G))

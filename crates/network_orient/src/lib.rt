@@ -10,4 +10,4 @@ mod supports;
 mod turning;
 
 pub use minimal::minimal_not_network;
-pub use orienting::orient;
+pub use orienting::{has_graphic_support, orient};

@@ -1,6 +1,6 @@
 // A directed tree in which the columns are paths.
-ghost use Rattle.std.specs.Prelude.{IfOk, MatchOption};
-ghost use Rattle.cmr_base.specs.Trees.{IsNetworkMatrix, Reproduces};
+ghost use Rattle.std.specs.Prelude.{◌↔◌, IfOk, IsTrue, MatchOption};
+ghost use Rattle.cmr_base.specs.Trees.{HasGraphicSupport, IsNetworkMatrix, Reproduces};
 
 use crate::line_signs::signs_between;
 use crate::supports::support_of;
@@ -23,4 +23,15 @@ pub fn orient(alloc: Global, matrix: &Matrix) -> Result<Option<Network>, Memory>
         return Ok(None);
     };
     Ok(Some(turned_network(alloc, &net, &signs)?))
+}
+
+/// Whether the supports of the columns are the paths of some tree, whatever the signs.
+pub fn has_graphic_support(alloc: Global, matrix: &Matrix) -> Result<bool, Memory>
+    ensures { IfOk result (λ yes. IsTrue yes ↔ HasGraphicSupport matrix.now) }
+{
+    let support = support_of(alloc, matrix)?;
+    match realise(alloc, &support)? {
+        Some(_net) => Ok(true),
+        None => Ok(false),
+    }
 }

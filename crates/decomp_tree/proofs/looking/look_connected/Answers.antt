@@ -7,7 +7,7 @@ use Rattle.cmr_base.specs.Trees.{Reproduces, IsNetworkMatrix, IsConetworkMatrix}
 use Rattle.tree_type.specs.Soundness.{part}
 use Rattle.decomp_tree.specs.Shapes.{IsNetwork, IsConetwork, IsR10Matrix}
 use Rattle.decomp_tree.specs.Seen.{IsSeen}
-use Rattle.decomp_tree.proofs.Said.{none_next, seen_network, seen_conetwork, seen_r10}
+use Rattle.decomp_tree.proofs.Said.{none_next, seen_network, seen_conetwork}
 use Rattle.decomp_tree.proofs.looking.look_connected.Goals as goal
 
 pub returns-in-Some : goal.returns-in-Some
@@ -28,17 +28,17 @@ returns-in-Some-2 g c =
     (subst (Reproduces n) (c.in_ok-transposed.ensures ∙ ap transposed c.requires.inner)
     (subst (λ (o : Option Network). MatchOption o (¬ (IsNetworkMatrix c.in_ok-transposed.transposed)) (λ net. Reproduces net c.in_ok-transposed.transposed)) c.in-Some-2.is c.in_ok-net-2.ensures)))
 
-pub returns-then-is_r10 : goal.returns-then-is_r10
-returns-then-is_r10 g c =
+pub look_r10-requires-clause-none : goal.look_r10-requires-clause-none
+look_r10-requires-clause-none g c =
     let m = c.args.matrix.now in
     let lines = c.args.lines.now in
     let no_network = subst (λ (k : Matrix). ¬ (IsNetworkMatrix k)) c.requires.inner (subst (λ (o : Option Network). MatchOption o (¬ (IsNetworkMatrix c.args.inner.now)) (λ net. Reproduces net c.args.inner.now)) c.in_default.is c.in_ok-net.ensures) in
     let no_conetwork = subst (λ (k : Matrix). ¬ (IsNetworkMatrix k)) (c.in_ok-transposed.ensures ∙ ap transposed c.requires.inner)
     (subst (λ (o : Option Network). MatchOption o (¬ (IsNetworkMatrix c.in_ok-transposed.transposed)) (λ net. Reproduces net c.in_ok-transposed.transposed)) c.in_default-2.is c.in_ok-net-2.ensures) in
-    subst (IsSeen c.args.limit m lines) (sym c.leaf-then-is_r10.ensures)
-    (seen_r10 c.args.limit m c.requires.shape lines (record { rows = c.requires.rows; columns = c.requires.columns })
-    (none_next c.args.limit (part m lines) IsConetwork (none_next c.args.limit (part m lines) IsNetwork c.requires.none no_network) no_conetwork)
-    (subst IsR10 c.requires.inner (c.is_r10.ensures.0 c.if-is_r10.true)))
+    none_next c.args.limit (part m lines) IsConetwork (none_next c.args.limit (part m lines) IsNetwork c.requires.none no_network) no_conetwork
+
+pub look_r10-requires-clause-r10 : goal.look_r10-requires-clause-r10
+look_r10-requires-clause-r10 g c = subst IsR10 c.requires.inner (c.is_r10.ensures.0 c.if-is_r10.true)
 
 pub look_separated-requires-clause-none : goal.look_separated-requires-clause-none
 look_separated-requires-clause-none g c =

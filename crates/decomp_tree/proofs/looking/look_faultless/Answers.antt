@@ -1,17 +1,14 @@
-use Rattle.std.proofs.Common.{◌≡◌, ◌≤◌, ◌∙◌, false, List, [], ◌∷◌, length, ap, sym, subst, arith}
-use Rattle.cmr_base.specs.declared.line.Step.{Step}
+use Rattle.std.proofs.Common.{Option, MatchOption, subst}
+use Rattle.cmr_base.specs.declared.separation.Three.{Three}
 use Rattle.cmr_base.specs.Matrix.{Matrix}
-use Rattle.cmr_base.specs.Reductions.{removal}
+use Rattle.three_sep.specs.ThreeSeparations.{HasNoThreeSeparation, IsFirstThreeSeparation}
 use Rattle.tree_type.specs.Soundness.{part}
-use Rattle.decomp_tree.specs.Shapes.{IsReducible}
-use Rattle.decomp_tree.proofs.Said.{none_next, not_reducible, empty_from_length}
+use Rattle.decomp_tree.specs.Shapes.{IsThreeSum}
+use Rattle.decomp_tree.proofs.Said.{none_next}
 use Rattle.decomp_tree.proofs.looking.look_faultless.Goals as goal
 
-pub look_irreducible-requires-clause-none : goal.look_irreducible-requires-clause-none
-look_irreducible-requires-clause-none g c =
-    let m = c.args.matrix.now in
-    let lines = c.args.lines.now in
-    let empty = empty_from_length c.in_ok-reduction.reduction.steps (let l = c.if-len-gt0.false in let e = c.len.ensures in omega (arith, l, e)) in
-    let removed = ap (λ (n : Matrix). (removal false n).steps) (sym c.requires.inner) ∙ sym c.in_ok-reduction.ensures.steps ∙ empty in
-    λ κs lives. none_next c.args.limit (part m lines) IsReducible c.requires.none
-    (not_reducible c.args.limit m c.requires.shape lines (record { rows = c.requires.rows; columns = c.requires.columns }) removed)
+pub look_last-requires-clause-none : goal.look_last-requires-clause-none
+look_last-requires-clause-none g c =
+    let n = part c.args.matrix.now c.args.lines.now in
+    let no_three = subst (λ (k : Matrix). HasNoThreeSeparation k) c.requires.inner (subst (λ (o : Option Three). MatchOption o (HasNoThreeSeparation c.args.inner.now) (λ three. IsFirstThreeSeparation c.args.inner.now three)) c.in_default.is c.in_ok-three.ensures) in
+    λ κs lives. none_next c.args.limit n IsThreeSum c.requires.none (λ w. no_three w.0 w.1 w.2 w.3 w.4)

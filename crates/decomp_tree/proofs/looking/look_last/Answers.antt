@@ -19,14 +19,14 @@ returns g c =
           let found = w.in-Found.found in
           let has = subst (λ (k : Matrix). (shorter_side k ≤ limit) × IsLeastViolator k found.rows found.columns) c.requires.inner (subst (HasSearched c.args.inner.now limit) w.in-Found.is c.in_ok-found.ensures) in
           subst (λ (f : Finding). IsSeen limit m lines (record { finding = f; children = [] })) (sym (w.finding-is ∙ ap held.Violator w.in_ok-named_set-in-Found.ensures))
-          (seen_violator limit m c.requires.shape lines (record { rows = c.requires.rows; columns = c.requires.columns }) found c.requires.limit c.requires.none has.0 has.1)
+          (seen_violator limit m c.requires.shape lines (record { rows = c.requires.rows; columns = c.requires.columns }) found c.requires.limit c.requires.none c.requires.faultless has.0 has.1)
       | in-Clean w ↦
           let has = subst (λ (k : Matrix). (shorter_side k ≤ limit) × HasNoViolator k) c.requires.inner (subst (HasSearched c.args.inner.now limit) w.in-Clean.is c.in_ok-found.ensures) in
           subst (λ (f : Finding). IsSeen limit m lines (record { finding = f; children = [] })) (sym w.finding-is)
-          (seen_enumerated limit m c.requires.shape lines (record { rows = c.requires.rows; columns = c.requires.columns }) c.requires.none has.0 has.1)
+          (seen_enumerated limit m c.requires.shape lines (record { rows = c.requires.rows; columns = c.requires.columns }) c.requires.none c.requires.faultless has.0 has.1)
       | in-TooMany w ↦
           let shorter = w.in-TooMany.shorter in
           let has = subst (λ (k : Matrix). (limit < shorter) × (shorter ≡ shorter_side k)) c.requires.inner (subst (HasSearched c.args.inner.now limit) w.in-TooMany.is c.in_ok-found.ensures) in
           subst (λ (f : Finding). IsSeen limit m lines (record { finding = f; children = [] })) (sym w.finding-is)
-          (seen_undecided limit m c.requires.shape lines (record { rows = c.requires.rows; columns = c.requires.columns }) c.requires.none (subst (λ (n : ℕ). limit < n) has.1 has.0))
+          (seen_undecided limit m c.requires.shape lines (record { rows = c.requires.rows; columns = c.requires.columns }) c.requires.none c.requires.faultless (subst (λ (n : ℕ). limit < n) has.1 has.0))
     ])

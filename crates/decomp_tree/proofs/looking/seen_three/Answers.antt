@@ -20,4 +20,4 @@ returns c =
     (subst (λ (other : LineSet). IsSaid c.args._limit c.args._matrix.now lines (ThreeSum c.in_ok-three.three) (c.in_ok-one.one ∷ other ∷ [])) (sym c.in_ok-other.ensures)
     (subst (λ (one : LineSet). IsSaid c.args._limit c.args._matrix.now lines (ThreeSum c.in_ok-three.three) (one ∷ three_two lines c.in_ok-three.three ∷ [])) (sym c.in_ok-one.ensures)
     (subst (λ (three : Three). IsSaid c.args._limit c.args._matrix.now lines (ThreeSum three) (three_one lines three ∷ three_two lines three ∷ [])) (sym c.in_ok-three.ensures)
-    (said_three c.args._limit c.requires.limit c.args._matrix.now c.requires.shape lines (record { rows = c.requires.rows; columns = c.requires.columns }) c.args.found.now c.requires.found c.requires.none))))
+    (said_three c.args._limit c.requires.limit c.args._matrix.now c.requires.shape lines (record { rows = c.requires.rows; columns = c.requires.columns }) c.args.found.now c.requires.found c.requires.none c.requires.faultless))))

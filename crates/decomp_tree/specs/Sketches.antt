@@ -1,0 +1,68 @@
+-- Trees as they are drawn before cycle faults are looked for late.
+use Rattle.std.specs.Prelude.{◌≡◌, ◌++◌, Bool, true, ℕ, List, [], ◌∷◌, IsTrue}
+use Rattle.cmr_base.specs.declared.line_set.LineSet.{LineSet}
+use Rattle.cmr_base.specs.CyclePlaces.{HasNoCycleFault}
+use Rattle.cmr_base.specs.Matrix.{Matrix, entry}
+use Rattle.tree_type.specs.Trees.{Finding}
+use Rattle.tree_type.specs.Soundness.{part}
+use Rattle.decomp_tree.specs.declared.drafts.Front.{Front}
+use Rattle.decomp_tree.specs.declared.drafts.Draft.{Draft, out-Draft}
+use Rattle.decomp_tree.specs.declared.drafts.Draft.TheOpen as open'
+use Rattle.decomp_tree.specs.declared.drafts.Draft.TheFolds.{fold-Draft}
+use Rattle.decomp_tree.specs.Seen.{HasNoneAmong, is_unsearched}
+use Rattle.decomp_tree.specs.Fronts.{IsFront}
+
+mutual
+  -- what a node says, whether it is known that no violator stands among its lines, and its children
+  pub data Sketch : Type 0 where
+    Sketched : Front → Bool → Sketches → Sketch
+
+  pub data Sketches : Type 0 where
+    NoSketches : Sketches
+    MoreSketches : Sketch → Sketches → Sketches
+
+abbrev pub sketches_from : List Sketch → Sketches
+sketches_from [] = NoSketches
+sketches_from (sketch ∷ sketches) = MoreSketches sketch (sketches_from sketches)
+
+abbrev pub draft_step : open'.Draft-F Sketch → Sketch
+draft_step draft = Sketched draft.front.value draft.is_free (sketches_from draft.children.items)
+
+-- a draft as a plain value
+abbrev pub sketch_of : Draft → Sketch
+sketch_of = fold-Draft Sketch draft_step
+
+-- what stands in a draft
+abbrev pub front_in : Draft → Front
+front_in draft = (out-Draft draft).front.value
+
+abbrev pub is_free_in : Draft → Bool
+is_free_in draft = (out-Draft draft).is_free
+
+abbrev pub drafts_in : Draft → List Draft
+drafts_in draft = (out-Draft draft).children.items
+
+abbrev pub lines_of_sketch : Sketch → LineSet
+lines_of_sketch (Sketched front is_free below) = front.lines
+
+abbrev mutual
+  -- each node says what it is to say but for late cycle faults, and no violator stands where none is said to
+  pub IsDrafted : ℕ → Matrix → Sketch → Type 0
+  IsDrafted limit m (Sketched front is_free below) =
+      IsFront limit m front.lines front × (IsTrue is_free → HasNoneAmong m front.lines) × AreDrafted limit m front.children below
+
+  pub AreDrafted : ℕ → Matrix → List LineSet → Sketches → Type 0
+  AreDrafted limit m [] NoSketches = Unit {0}
+  AreDrafted limit m (lines ∷ children) (MoreSketches sketch sketches) = (lines_of_sketch sketch ≡ lines) × IsDrafted limit m sketch × AreDrafted limit m children sketches
+  AreDrafted limit m children others = ⊥
+
+-- a draft of these lines stands behind some others
+pub record IsDraftedBehind (limit : ℕ) (m : Matrix) (lines : LineSet) (before after : List Sketch) : Type 0 where
+  pub sketch : Sketch
+  pub order : after ≡ before ++ sketch ∷ []
+  pub lines_are : lines_of_sketch sketch ≡ lines
+  pub drafted : IsDrafted limit m sketch
+
+-- a node that says this has no cycle fault among its lines, where none was looked for yet
+abbrev pub HasNoLateFault : Matrix → LineSet → Finding → Type 0
+HasNoLateFault m lines finding = is_unsearched finding ≡ true → HasNoCycleFault (entry (part m lines))

@@ -1,0 +1,112 @@
+// Trees that are drawn as if no submatrix had a cycle fault that is looked for late.
+ghost use Rattle.std.specs.Prelude.{◌≡◌, ◌≤◌, ◌++◌, ◌∷◌, ◌&&◌, [], map, IfOk, OnOk};
+ghost use Rattle.std.specs.List.{list_all};
+ghost use Rattle.cmr_base.specs.Matrix.{IsMatrix};
+ghost use Rattle.cmr_base.specs.LineSets.{IsRowSet, IsColumnSet};
+ghost use Rattle.tree_type.specs.Findings.{finding_shown};
+ghost use Rattle.decomp_tree.specs.Seen.{keeps_free};
+ghost use Rattle.decomp_tree.specs.Fronts.{IsFront};
+ghost use Rattle.decomp_tree.specs.Sketches.{Sketched, sketch_of, sketches_from, is_free_in, IsDraftedBehind};
+
+use crate::faults::keeps_free;
+use crate::looking::look;
+use crate::seen::Seen;
+use cmr_base::{LineSet, LineSetList, Matrix, Memory};
+use std::alloc::Global;
+use std::thread::Threads;
+use tree_type::{Finding, copy_of};
+
+/// What a node says, before its children are drawn.
+#[derive(Drop)]
+pub struct Front {
+    pub lines: LineSet,
+    pub finding: Finding,
+    pub children: LineSetList,
+}
+
+/// A node over its children, as it is drawn before cycle faults are looked for.
+#[derive(Drop)]
+#[cycle(tree)]
+pub struct Draft {
+    pub front: Box<Front>,
+    pub children: Vec<Draft>,
+    /// Whether it is known that no violator stands among its lines.
+    pub is_free: bool,
+}
+
+/// Draws the submatrix on these lines, and puts it behind the drafts that are there. Each child has fewer lines, so no
+/// node stands deeper than there are lines. The recursion goes by the ordinary stack: what is large stands on the heap.
+pub fn draw<R: Threads + Sync>(
+    rt: &R,
+    alloc: Global,
+    matrix: &Matrix,
+    lines: &LineSet,
+    limit: u32,
+    workers: u32,
+    drafts: &mut Vec<Draft>,
+) -> Result<(), Memory>
+    requires limit { limit ≤ 24 }
+    requires workers { (1 ≤ workers) × (workers ≤ 64) }
+    requires shape { IsMatrix matrix.now }
+    requires rows { IsRowSet matrix.now lines.now.rows }
+    requires columns { IsColumnSet matrix.now lines.now.columns }
+    ensures { OnOk result (IsDraftedBehind limit matrix.now lines.now (map sketch_of drafts.old.items) (map sketch_of drafts.new.items)) }
+{
+    let front = front_of(rt, alloc, matrix, lines, limit, workers)?;
+    let mut children = Vec::new(alloc);
+    for child in front.children.as_slice() {
+        draw(rt, alloc, matrix, child, limit, workers, &mut children)?;
+    }
+    push_draft(alloc, front, children, drafts)?;
+    Ok(())
+}
+
+#[inline(never)]
+fn front_of<R: Threads + Sync>(
+    rt: &R,
+    alloc: Global,
+    matrix: &Matrix,
+    lines: &LineSet,
+    limit: u32,
+    workers: u32,
+) -> Result<Box<Front>, Memory>
+    requires limit { limit ≤ 24 }
+    requires workers { (1 ≤ workers) × (workers ≤ 64) }
+    requires shape { IsMatrix matrix.now }
+    requires rows { IsRowSet matrix.now lines.now.rows }
+    requires columns { IsColumnSet matrix.now lines.now.columns }
+    ensures { IfOk result (λ front. IsFront limit matrix.now lines.now front.value) }
+{
+    let Seen { finding, children } = look(rt, alloc, matrix, lines, limit, workers)?;
+    let front = Front {
+        lines: copy_of(alloc, lines)?,
+        finding,
+        children,
+    };
+    Ok(Box::new(alloc, front)?)
+}
+
+// A node that keeps free is free where all its children are.
+#[inline(never)]
+fn push_draft(
+    alloc: Global,
+    front: Box<Front>,
+    children: Vec<Draft>,
+    drafts: &mut Vec<Draft>,
+) -> Result<(), Memory>
+    ensures { OnOk result (map sketch_of drafts.new.items ≡ map sketch_of drafts.old.items ++ Sketched front.value (keeps_free (finding_shown front.value.finding) && list_all is_free_in children.items) (sketches_from (map sketch_of children.items)) ∷ []) }
+{
+    let is_free = keeps_free(&front.finding) && are_free(children.as_slice());
+    drafts.push(Draft {
+        front,
+        children,
+        is_free,
+    })?;
+    Ok(())
+}
+
+fn are_free(drafts: &[Draft]) -> bool
+    ensures { result ≡ list_all is_free_in drafts.now }
+{
+    drafts.iter().all(|draft| draft.is_free)
+}
