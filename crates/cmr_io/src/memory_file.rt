@@ -1,6 +1,8 @@
-ghost use Rattle.std.specs.Prelude.{◌≡◌, ◌≤◌, ◌++◌, [], true, None, Some, IfOk, IsTrue, is_some, vec_capacity, length, min, take};
+ghost use Rattle.std.specs.Prelude.{◌≡◌, ◌≤◌, ◌++◌, [], true, None, Some, IfOk, IsTrue, is_some, vec_capacity, take};
 ghost use Rattle.std.specs.Option.{ForSome};
+ghost use Rattle.cmr_io.specs.Limit.{taken_by_put};
 
+use crate::limit::Limit;
 use std::alloc::{AllocError, Global};
 
 /// A name of a shelf in memory. It may not be there yet, and may have no room. Its room is reserved.
@@ -79,10 +81,10 @@ impl File {
         self.is_there = true;
     }
 
-    /// Appends as much of the piece as its room allows, and says how much.
-    pub fn put(&mut self, piece: &[u8]) -> usize
+    /// Appends as much of the piece as its room and the limit allow, and says how much.
+    pub fn put(&mut self, piece: &[u8], limit: &Limit) -> usize
         requires { IsTrue (is_writable self.old) }
-        ensures count { result ≡ min (length piece.now) (room_left self.old) }
+        ensures count { result ≡ taken_by_put limit.now.most piece.now (room_left self.old) }
         ensures bytes { self.new.bytes.items ≡ self.old.bytes.items ++ take result piece.now }
         ensures held { held_by self.new ≡ Some self.new.bytes.items }
         ensures name { name_of self.new ≡ name_of self.old }
@@ -90,7 +92,7 @@ impl File {
         ensures writable { is_writable self.new ≡ true }
     {
         let room = self.room.unwrap_or(0) - self.bytes.len();
-        let count = room.min(piece.len());
+        let count = limit.of(room.min(piece.len()));
         self.bytes.extend_from_slice(&piece[..count]).unwrap();
         count
     }

@@ -1,7 +1,9 @@
 ghost use Rattle.std.specs.Prelude.{◌≡◌, ◌≢◌, ◌≤◌, ◌<◌, ◌+◌, ◌-◌, ◌^◌, ◌++◌, [], ℕ, List, true, false, None, Some, IsTrue, IfNone, IfSome, OnOk, OnErr, length, take, drop, min, unwrap_or, vec_len};
 ghost use Rattle.cmr_io.specs.Files.{content_in, room_in, bytes_at, name_at, has_name, is_writable_at, IsFirst};
+ghost use Rattle.cmr_io.specs.Limit.{taken_by_put, given_by_next};
 ghost use Rattle.cmr_io.specs.Writes.{Writes};
 
+use crate::limit::Limit;
 use crate::memory_file::{File, with_room};
 use std::alloc::{AllocError, Global};
 
@@ -93,17 +95,17 @@ pub fn bytes_of(files: &[File], file: usize) -> &[u8]
     files[file].bytes()
 }
 
-/// Copies what a file holds from a place on, as far as there is room, and says how much.
-pub fn read_at(files: &[File], file: usize, at: usize, into: &mut [u8]) -> usize
+/// Copies what a file holds from a place on, as far as there is room and the limit allows, and says how much.
+pub fn read_at(files: &[File], file: usize, at: usize, into: &mut [u8], limit: &Limit) -> usize
     requires file { file < length files.now }
     requires at { at ≤ length (bytes_at files.now file) }
-    ensures count { result ≡ min (length (drop at (bytes_at files.now file))) (length into.new) }
+    ensures count { result ≡ given_by_next limit.now.most (drop at (bytes_at files.now file)) into.new }
     ensures copied { take result into.new ≡ take result (drop at (bytes_at files.now file)) }
     ensures end { at + result ≤ length (bytes_at files.now file) }
     ensures fits { at + result < 2 ^ 64 }
 {
     let rest = &bytes_of(files, file)[at..];
-    let count = rest.len().min(into.len());
+    let count = limit.of(rest.len().min(into.len()));
     into[..count].copy_from_slice(&rest[..count]);
     count
 }
@@ -124,15 +126,15 @@ pub fn empty(files: &mut Vec<File>, name: &str) -> Option<usize>
     Some(file)
 }
 
-/// Appends as much of the piece to a file as its room allows, and says how much.
-pub fn put(files: &mut Vec<File>, file: usize, piece: &[u8]) -> usize
+/// Appends as much of the piece to a file as its room and the limit allow, and says how much.
+pub fn put(files: &mut Vec<File>, file: usize, piece: &[u8], limit: &Limit) -> usize
     requires within { file < vec_len files.old }
     requires writable { IsTrue (is_writable_at files.old.items file) }
-    ensures count { result ≡ min (length piece.now)
+    ensures count { result ≡ taken_by_put limit.now.most piece.now
         (unwrap_or (room_in files.old.items (name_at files.old.items file)) 0 - length (bytes_at files.old.items file)) }
     ensures name { name_at files.new.items file ≡ name_at files.old.items file }
     ensures writes { Writes files.old.items files.new.items file (bytes_at files.old.items file ++ take result piece.now) }
     ensures within { file < vec_len files.new }
 {
-    files[file].put(piece)
+    files[file].put(piece, limit)
 }
