@@ -2,6 +2,8 @@ pub mod Statuses
 pub mod Inputs
 pub mod Texts
 pub mod MatrixText
+pub mod OneText
+pub mod TreeFile
 pub mod Matches
 pub mod Parts
 pub mod Endings

@@ -16,7 +16,7 @@ use Rattle.cmr_front.specs.Tool.{IsDecision, IsLawful}
 use Rattle.cmr_front.proofs.Texts.{answered, fault_reported, one_of_text, read_reported}
 
 -- the text of a list of one
-one_text : (ts : List Text) (t : Text) → length ts ≡ 1 → t ≡ get_or ts 0 t → map bytes_of ts ≡ bytes_of t ∷ []
+pub one_text : (ts : List Text) (t : Text) → length ts ≡ 1 → t ≡ get_or ts 0 t → map bytes_of ts ≡ bytes_of t ∷ []
 one_text [] t one is = absurd (omega arith)
 one_text (first ∷ []) t one is = ap (λ (x : Text). bytes_of x ∷ []) (sym is)
 one_text (first ∷ second ∷ ts) t one is = absurd (omega arith)

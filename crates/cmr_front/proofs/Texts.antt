@@ -14,7 +14,7 @@ use Rattle.cmr_front.specs.Report.{Report}
 use Rattle.cmr_front.specs.Status.{answer_status}
 use Rattle.cmr_front.specs.Stopped.{StopsText}
 use Rattle.cmr_front.specs.Texts.{ReportsPair, ReportsText, SaysOfPair, pair_tool}
-use Rattle.cmr_front.specs.Tool.{IsDecision, IsLawful}
+use Rattle.cmr_front.specs.Tool.{HasOneReport, IsDecision, IsLawful}
 use Rattle.cmr_front.proofs.Statuses.{answered_or_failed, status_of}
 
 module _ {A K : Type 0} (kind_of : K → FaultKind) (file : List ℕ) (Decides : A → Report → Type 0) where
@@ -36,6 +36,11 @@ module _ {A K : Type 0} (kind_of : K → FaultKind) (file : List ℕ) (Decides :
   one_of_text one (Ok x) r t a b = one x r t a b
   one_of_text one (Err fault) r t a b = status_of r _ a ∙ sym (status_of t _ b)
 
+  pub one_report_of_text : ((x : A) (r t : Report) → Decides x r → Decides x t → r ≡ t) → (read : Result A (Fault K)) (r t : Report)
+      → ReportsText kind_of file Decides read r → ReportsText kind_of file Decides read t → r ≡ t
+  one_report_of_text one (Ok x) r t a b = one x r t a b
+  one_report_of_text one (Err fault) r t a b = a ∙ sym b
+
   -- an answer is one on what the text stands for
   pub answered : (read : Result A (Fault K)) (r : Report) (answer : Answer) → ReportsText kind_of file Decides read r → r.status ≡ answer_status answer → (x : A) × (read ≡ Ok x) × Decides x r
   answered (Ok x) r answer d is = (x, refl, d)
@@ -54,6 +59,12 @@ module _ (On : List ℕ → List ℕ → Report → Type 0) where
   pub decided_on_two : (ts : List Text) (t u : Text) (r : Result Outcome Stop) → length ts ≡ 2 → t ≡ get_or ts 0 t → u ≡ get_or ts 1 u
       → IsDecision (On (bytes_of t) (bytes_of u)) r → IsDecision (ReportsPair On (map bytes_of ts)) r
   decided_on_two ts t u r two is are d = subst (λ bytes. IsDecision (ReportsPair On bytes) r) (sym (two_texts ts t u two is are)) d
+
+  pub one_report_of_pair : ((first second : List ℕ) (r t : Report) → On first second r → On first second t → r ≡ t) → (Says : List ℕ → List ℕ → Answer → Type 0) (files : List InputFile) → HasOneReport (pair_tool files On Says)
+  one_report_of_pair one Says files [] r t a b = absurd a
+  one_report_of_pair one Says files (first ∷ []) r t a b = absurd a
+  one_report_of_pair one Says files (first ∷ second ∷ []) r t a b = one first second r t a b
+  one_report_of_pair one Says files (first ∷ second ∷ third ∷ texts) r t a b = absurd a
 
   module _ (Says : List ℕ → List ℕ → Answer → Type 0) (one : (first second : List ℕ) (r t : Report) → On first second r → On first second t → r.status ≡ t.status)
       (says : (first second : List ℕ) (r : Report) (answer : Answer) → On first second r → r.status ≡ answer_status answer → Says first second answer) where

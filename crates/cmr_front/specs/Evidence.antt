@@ -1,11 +1,15 @@
--- Tools that read a matrix text and evidence.
-use Rattle.std.specs.Prelude.{ℕ, List, [], ◌∷◌}
+-- Tools that read evidence, alone or behind a matrix text.
+use Rattle.std.specs.Prelude.{◌≡◌, ℕ, List, [], ◌∷◌, Ok}
+use Rattle.text_fields.specs.Words.{text_of}
+use Rattle.tree_text.specs.Reading.{PlainTree, tree}
 use Rattle.cmr_front.specs.declared.input.InputKind.TheVariants.{Evidence}
+use Rattle.cmr_front.specs.declared.outcome.FaultKind.TheVariants as faults
 use Rattle.cmr_front.specs.declared.status.Answer.{Answer}
 use Rattle.cmr_front.specs.Inputs.{InputFile}
 use Rattle.cmr_front.specs.MatrixText.{matrix_file}
+use Rattle.cmr_front.specs.OneText.{text_tool}
 use Rattle.cmr_front.specs.Report.{Report}
-use Rattle.cmr_front.specs.Texts.{pair_tool}
+use Rattle.cmr_front.specs.Texts.{ReportsText, pair_tool}
 use Rattle.cmr_front.specs.Tool.{Tool}
 
 abbrev pub evidence_file : List ℕ → InputFile
@@ -18,3 +22,15 @@ evidence_files matrix evidence = matrix_file matrix ∷ evidence_file evidence �
 -- the tool that reports this on the two texts, and whose answers say that of them
 abbrev pub evidence_tool : List ℕ → List ℕ → (List ℕ → List ℕ → Report → Type 0) → (List ℕ → List ℕ → Answer → Type 0) → Tool
 evidence_tool matrix evidence Reports Says = pair_tool (evidence_files matrix evidence) Reports Says
+
+-- what is reported on the tree that a text stands for
+abbrev pub ReportsTree : List ℕ → (PlainTree → Report → Type 0) → List ℕ → Report → Type 0
+ReportsTree file Decides bytes report = ReportsText faults.Tree file Decides (tree (text_of bytes)) report
+
+-- the text stands for a tree, of which an answer says so
+abbrev pub SaysOfTree : (PlainTree → Answer → Type 0) → List ℕ → Answer → Type 0
+SaysOfTree Says bytes answer = (t : PlainTree) × (tree (text_of bytes) ≡ Ok t) × Says t answer
+
+-- the tool that decides on the tree of one file
+abbrev pub tree_tool : List ℕ → (PlainTree → Report → Type 0) → (PlainTree → Answer → Type 0) → Tool
+tree_tool file Decides Says = text_tool (evidence_file file) (ReportsTree file Decides) (SaysOfTree Says)

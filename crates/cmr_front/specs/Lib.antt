@@ -7,6 +7,7 @@ pub mod Inputs
 pub mod Tool
 pub mod Texts
 pub mod MatrixText
+pub mod OneText
 pub mod Evidence
 pub mod Printed
 pub mod Refusals

@@ -24,6 +24,10 @@ pub record IsLawful (tool : Tool) : Type 0 where
   pub one_status : (bytes : List (List ℕ)) (r s : Report) → tool.Reports bytes r → tool.Reports bytes s → r.status ≡ s.status
   pub means : (bytes : List (List ℕ)) (r : Report) (answer : Answer) → tool.Reports bytes r → r.status ≡ answer_status answer → tool.Means bytes answer
 
+-- The texts determine the whole report.
+abbrev pub HasOneReport : Tool → Type 0
+HasOneReport tool = (bytes : List (List ℕ)) (r s : Report) → tool.Reports bytes r → tool.Reports bytes s → r ≡ s
+
 -- What is decided on texts that were read: a report, or want of memory.
 abbrev pub IsDecision : (Report → Type 0) → Result Outcome Stop → Type 0
 IsDecision Reports (Ok outcome) = Reports (outcome_report outcome)

@@ -1,5 +1,5 @@
-// The files of a tool that reads a matrix text and evidence.
-ghost use Rattle.std.specs.Prelude.{◌≡◌, IfOk, IfErr, Ok, map};
+// The files of a tool that reads evidence, alone or behind a matrix text.
+ghost use Rattle.std.specs.Prelude.{◌≡◌, ◌∷◌, [], IfOk, IfErr, Ok, map};
 ghost use Rattle.text_fields.specs.Words.{text_of};
 ghost use Rattle.matrix_text.specs.Submatrix.{submatrix};
 ghost use Rattle.camion_sign.specs.ChainTexts.{chain};
@@ -7,7 +7,7 @@ ghost use Rattle.tree_text.specs.Reading.{plain, tree};
 ghost use Rattle.cmr_base.specs.LineSets.{AllBelow};
 ghost use Rattle.std.specs.List.Sorted.{IsStrictlyIncreasing};
 ghost use Rattle.cmr_front.specs.Inputs.{input_file};
-ghost use Rattle.cmr_front.specs.Evidence.{evidence_files};
+ghost use Rattle.cmr_front.specs.Evidence.{evidence_file, evidence_files};
 ghost use Rattle.cmr_front.specs.Stopped.{StopsText};
 ghost use Rattle.cmr_front.specs.declared.outcome.FaultKind.TheVariants as faults;
 
@@ -20,7 +20,7 @@ use std::alloc::Global;
 use tree_text::{TreeError, read_tree};
 use tree_type::DecTree;
 
-/// The two files that such a tool reads.
+/// The matrix text and the evidence.
 pub fn evidence_inputs<'a>(
     alloc: Global,
     matrix: &'a str,
@@ -33,11 +33,26 @@ pub fn evidence_inputs<'a>(
         name: matrix,
         kind: InputKind::MatrixText,
     })?;
-    inputs.push(Input {
-        name: evidence,
-        kind: InputKind::Evidence,
-    })?;
+    inputs.push(evidence_of(evidence))?;
     Ok(inputs)
+}
+
+/// The one file of a tool that reads evidence alone.
+pub fn evidence_input<'a>(alloc: Global, name: &'a str) -> Result<Vec<Input<'a>>, Memory>
+    ensures { IfOk result (λ inputs. map input_file inputs.items ≡ evidence_file name.entry.now ∷ []) }
+{
+    let mut inputs = Vec::new(alloc);
+    inputs.push(evidence_of(name))?;
+    Ok(inputs)
+}
+
+fn evidence_of<'a>(name: &'a str) -> Input<'a>
+    ensures { input_file result ≡ evidence_file name.now }
+{
+    Input {
+        name,
+        kind: InputKind::Evidence,
+    }
 }
 
 /// The tree that the text of a file stands for, or why the run ends: the text's first fault.

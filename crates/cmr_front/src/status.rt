@@ -5,7 +5,7 @@ ghost use Rattle.cmr_front.specs.Status.{answer_status, failure_status};
 /// What a tool answers on what it read.
 #[derive(Clone, Copy, Debug, PartialEq, Eq)]
 pub enum Answer {
-    /// The matrix has the property, or the evidence that it has is accepted.
+    /// The matrix has the property, the evidence that it has is accepted, or what was asked for is made.
     Yes,
     /// It has not, or the evidence that it has not is accepted.
     No,

@@ -1,5 +1,5 @@
 -- What the answers of `sign` say of the matrix and the rows.
-use Rattle.std.proofs.Common.{◌≡◌, ◌∙◌, ℕ, List, false, refl, sym, arith}
+use Rattle.std.proofs.Common.{◌≡◌, ◌∙◌, ℕ, List, false, ap, sym, arith}
 use Rattle.cmr_base.specs.declared.line_set.LineSet.{LineSet}
 use Rattle.cmr_base.specs.Matrix.{Matrix}
 use Rattle.cmr_base.specs.Signing.{IsTotallyUnimodular}
@@ -7,8 +7,7 @@ use Rattle.ghouila.specs.Answer.{IsViolatorAmong}
 use Rattle.ghouila.proofs.CamionLaw.{unsigned}
 use Rattle.sign_tool.specs.declared.signing.SetSigning.{SetSigning}
 use Rattle.sign_tool.specs.declared.signing.SetSigning.TheVariants.{Signed, Violated}
-use Rattle.sign_tool.specs.SetSignings.{IsEndOfRun}
-use Rattle.sign_tool.proofs.OneRun.{signs_or_violates}
+use Rattle.sign_tool.proofs.OneAnswer.{answers_are_one}
 use Rattle.cmr_front.specs.declared.status.Answer.{Answer}
 use Rattle.cmr_front.specs.declared.status.Answer.TheVariants.{Yes, No, Undecided, Refused}
 use Rattle.cmr_front.specs.declared.outcome.FaultKind.TheVariants as faults
@@ -16,28 +15,25 @@ use Rattle.cmr_front.specs.MatrixText.{matrix_in}
 use Rattle.cmr_front.specs.Report.{Report}
 use Rattle.cmr_front.specs.Status.{answer_status}
 use Rattle.cmr_front.specs.Texts.{ReportsText}
-use Rattle.cmr_front.specs.Tool.{IsLawful}
+use Rattle.cmr_front.specs.Tool.{HasOneReport, IsLawful}
 use Rattle.cmr_front.proofs.Statuses.{status_of}
-use Rattle.cmr_front.proofs.Texts.{answered, one_of_text, pair_lawful}
+use Rattle.cmr_front.proofs.Texts.{answered, one_report_of_pair, one_report_of_text, pair_lawful}
 use Rattle.cmr_reach.specs.RowSet.{lines_in}
 use Rattle.cmr_reach.specs.Sign.{IsAnswerFor, SignDecides, SignMeans, SignReports, SignSays, sign_files, sign_report, sign_tool}
 use Rattle.cmr_reach.specs.Words.Sign.{SignOrder}
 
--- ---- one status
+-- ---- one report
 
-same_answer : (m : Matrix) (rows : List ℕ) (a b : SetSigning) → IsEndOfRun m rows a → IsEndOfRun m rows b → (sign_report m rows a).status ≡ (sign_report m rows b).status
-same_answer m rows (Signed signs steps) (Signed signs' steps') run run' = refl
-same_answer m rows (Signed signs steps) (Violated lines) (sign, signs_are, run) (steps', run') = absurd (signs_or_violates m rows steps steps' sign lines.rows lines.columns run run')
-same_answer m rows (Violated lines) (Signed signs steps) (steps', run') (sign, signs_are, run) = absurd (signs_or_violates m rows steps steps' sign lines.rows lines.columns run run')
-same_answer m rows (Violated lines) (Violated lines') run run' = refl
+one_decision : (m : Matrix) (rows : List ℕ) (r s : Report) → SignDecides m rows r → SignDecides m rows s → r ≡ s
+one_decision m rows r s a b = a.report_is ∙ ap (sign_report m rows) (answers_are_one m rows a.answer b.answer a.is_answer.right b.is_answer.right a.is_answer.run b.is_answer.run) ∙ sym b.report_is
 
-one_decision : (m : Matrix) (rows : List ℕ) (r s : Report) → SignDecides m rows r → SignDecides m rows s → r.status ≡ s.status
-one_decision m rows r s a b = status_of r _ a.report_is ∙ same_answer m rows a.answer b.answer a.is_answer.run b.is_answer.run ∙ sym (status_of s _ b.report_is)
-
-one : (o : SignOrder) (matrix rows : List ℕ) (r s : Report) → SignReports o matrix rows r → SignReports o matrix rows s → r.status ≡ s.status
-one o matrix rows = one_of_text faults.Matrix o.matrix (λ m. ReportsText faults.Matrix o.rows (λ lines. SignDecides m lines.rows) (lines_in m rows))
-    (λ m. one_of_text faults.Matrix o.rows (λ lines. SignDecides m lines.rows) (λ lines. one_decision m lines.rows) (lines_in m rows))
+one : (o : SignOrder) (matrix rows : List ℕ) (r s : Report) → SignReports o matrix rows r → SignReports o matrix rows s → r ≡ s
+one o matrix rows = one_report_of_text faults.Matrix o.matrix (λ m. ReportsText faults.Matrix o.rows (λ lines. SignDecides m lines.rows) (lines_in m rows))
+    (λ m. one_report_of_text faults.Matrix o.rows (λ lines. SignDecides m lines.rows) (λ lines. one_decision m lines.rows) (lines_in m rows))
     (matrix_in o.form false matrix)
+
+pub sign_has_one_report : (o : SignOrder) → HasOneReport (sign_tool o)
+sign_has_one_report o = one_report_of_pair (SignReports o) (one o) (SignSays o) (sign_files o)
 
 -- ---- the meaning
 
@@ -63,4 +59,4 @@ says o matrix rows r answer reports is =
     (found.0, found.1, (named.0, named.1, says_of_answer found.0 named.0.rows decided.answer decided.is_answer answer (sym (status_of r _ decided.report_is) ∙ is)))
 
 pub sign_lawful : (o : SignOrder) → IsLawful (sign_tool o)
-sign_lawful o = pair_lawful (SignReports o) (SignSays o) (one o) (says o) (sign_files o)
+sign_lawful o = pair_lawful (SignReports o) (SignSays o) (λ matrix rows r s a b. ap (λ report. report.status) (one o matrix rows r s a b)) (says o) (sign_files o)

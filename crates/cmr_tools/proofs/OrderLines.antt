@@ -5,7 +5,7 @@ use Rattle.clap.specs.Words.{Row, Text, first_of}
 use Rattle.cmr_front.specs.declared.matrix_file.MatrixForm.{MatrixForm}
 use Rattle.cmr_tools.specs.Tools.{tool_of}
 use Rattle.cmr_tools.specs.declared.options.Property.TheVariants.{Graphic, Network}
-use Rattle.cmr_tools.specs.Words.{Order, order, tu, regular, series_parallel, test, generate, check, camion, sign, balanced}
+use Rattle.cmr_tools.specs.Words.{Order, order, tu, regular, series_parallel, test, generate, check, upgrade, camion, sign, balanced}
 use Rattle.cmr_front.specs.Words.Parsing.{fault_in, file_in, form_in, lines_in, matches_in, matches_with_input, number_from, workers_in}
 use Rattle.cmr_front.specs.Words.Reading.{◌>>=◌}
 use Rattle.generate.specs.declared.making.MakeKind.{MakeKind}
@@ -14,6 +14,7 @@ use Rattle.cmr_tools.specs.Regular.{regular_tool}
 use Rattle.cmr_tools.specs.Tu.{tu_tool}
 use Rattle.cmr_tools.specs.Words.Generate.{GenerateOrder, generate_app, generate_order, generate_order_in, kind_in, most_size, number_in, size_in}
 use Rattle.cmr_tools.specs.Words.Check.{check_order}
+use Rattle.cmr_tools.specs.Words.Upgrade.{upgrade_order}
 use Rattle.cmr_tools.specs.Words.Regular.{RegularOrder, regular_app, regular_order, regular_order_in}
 use Rattle.cmr_tools.specs.Words.SeriesParallel.{series_parallel_order}
 use Rattle.cmr_tools.specs.Words.GraphicNetwork.{test_order}
@@ -141,7 +142,8 @@ in_ranges (tool ∷ words) ordered e =
     (either (bytes_eq tool (codes "network")) _ _ (of_order (test Network) (test_order Network words) (λ o e. tt))
     (either (bytes_eq tool (codes "generate")) _ _ (of_order generate (generate_order words) (generate_order-range words))
     (either (bytes_eq tool (codes "check")) _ _ (of_order check (check_order words) (λ o e. tt))
+    (either (bytes_eq tool (codes "upgrade")) _ _ (of_order upgrade (upgrade_order words) (λ o e. tt))
     (either (bytes_eq tool (codes "camion")) _ _ (of_order camion (camion_order words) (λ o e. tt))
     (either (bytes_eq tool (codes "sign")) _ _ (of_order sign (sign_order words) (λ o e. tt))
-    (either (bytes_eq tool (codes "balanced")) _ None (of_order balanced (balanced_order words) (balanced_order-ranges words)) (λ ordered e. cc))))))))))
+    (either (bytes_eq tool (codes "balanced")) _ None (of_order balanced (balanced_order words) (balanced_order-ranges words)) (λ ordered e. cc)))))))))))
     ordered e

@@ -16,12 +16,12 @@ use Rattle.tree_type.specs.Verdicts as verdicts
 use Rattle.tree_type.specs.Verdicts.{Verdict, verdict_of}
 use Rattle.tree_type.specs.declared.refusal.Rule.{Rule}
 use Rattle.tree_type.specs.declared.refusal.Rule.TheVariants.{NotViolator}
-use Rattle.tree_text.specs.Reading.{PlainTree, tree}
+use Rattle.tree_text.specs.Reading.{PlainTree}
 use Rattle.cert_check.specs.Laws.{IsRefuted, Tells}
 use Rattle.cmr_front.specs.declared.outcome.FaultKind.TheVariants as faults
 use Rattle.cmr_front.specs.declared.status.Answer.{Answer}
 use Rattle.cmr_front.specs.declared.status.Answer.TheVariants.{Yes, No, Undecided, Refused}
-use Rattle.cmr_front.specs.Evidence.{evidence_tool}
+use Rattle.cmr_front.specs.Evidence.{ReportsTree, SaysOfTree, evidence_tool}
 use Rattle.cmr_front.specs.MatrixText.{matrix_in}
 use Rattle.cmr_front.specs.Printed.{open_line, violator_line}
 use Rattle.cmr_front.specs.Refusals.{refusal_line}
@@ -110,7 +110,7 @@ pub data ChainDecides (a : Matrix) (c : SizedChain) (report : Report) : Type 0 w
 
 -- the evidence's own text is tested after that of the matrix
 abbrev pub EvidenceReports : List ℕ → EvidenceKind → Matrix → List ℕ → Report → Type 0
-EvidenceReports file kinds.Tree m bytes report = ReportsText faults.Tree file (TreeDecides m) (tree (text_of bytes)) report
+EvidenceReports file kinds.Tree m bytes report = ReportsTree file (TreeDecides m) bytes report
 EvidenceReports file kinds.Chain m bytes report = ReportsText faults.Chain file (ChainDecides m) (chain (text_of bytes)) report
 EvidenceReports file kinds.Violator m bytes report = ReportsText faults.Matrix file (ViolatorDecides m) (submatrix (height m) m.width (text_of bytes)) report
 
@@ -143,7 +143,7 @@ ChainMeans a c Refused = (step : ℕ) × IsFirstBroken a c step
 
 -- the evidence's text stands for a tree, a chain or lines, of which the answer says so
 abbrev pub EvidenceMeans : EvidenceKind → Matrix → List ℕ → Answer → Type 0
-EvidenceMeans kinds.Tree m bytes answer = (t : PlainTree) × (tree (text_of bytes) ≡ Ok t) × TreeMeans m t answer
+EvidenceMeans kinds.Tree m bytes answer = SaysOfTree (TreeMeans m) bytes answer
 EvidenceMeans kinds.Chain m bytes answer = (c : SizedChain) × (chain (text_of bytes) ≡ Ok c) × ChainMeans m c answer
 EvidenceMeans kinds.Violator m bytes answer = (lines : LineSet) × (submatrix (height m) m.width (text_of bytes) ≡ Ok lines) × ViolatorMeans m lines answer
 

@@ -8,4 +8,5 @@ pub mod Generate
 pub mod SeriesParallel
 pub mod GraphicNetwork
 pub mod Check
+pub mod Upgrade
 pub mod Tools

@@ -3,6 +3,7 @@ use Rattle.std.specs.Prelude.{Option, Some, None}
 use Rattle.cmr_front.specs.Run.{Ordered, nothing, work}
 use Rattle.cmr_tools.specs.Generate.{generate_tool}
 use Rattle.cmr_tools.specs.Check.{check_tool}
+use Rattle.cmr_tools.specs.Upgrade.{upgrade_tool}
 use Rattle.cmr_tools.specs.GraphicNetwork.{test_tool}
 use Rattle.cmr_tools.specs.Regular.{regular_tool}
 use Rattle.cmr_tools.specs.SeriesParallel.{series_parallel_tool}
@@ -11,7 +12,7 @@ use Rattle.cmr_reach.specs.Balanced.{balanced_tool}
 use Rattle.cmr_reach.specs.Camion.{camion_tool}
 use Rattle.cmr_reach.specs.Sign.{sign_tool}
 use Rattle.cmr_tools.specs.Tu.{tu_tool}
-use Rattle.cmr_tools.specs.Words.{Order, tu, regular, series_parallel, test, generate, check, camion, sign, balanced}
+use Rattle.cmr_tools.specs.Words.{Order, tu, regular, series_parallel, test, generate, check, upgrade, camion, sign, balanced}
 
 abbrev pub tool_of : Order → Tool
 tool_of (tu o) = tu_tool o
@@ -20,6 +21,7 @@ tool_of (series_parallel o) = series_parallel_tool o
 tool_of (test p o) = test_tool p o
 tool_of (generate o) = generate_tool o
 tool_of (check o) = check_tool o
+tool_of (upgrade o) = upgrade_tool o
 tool_of (camion o) = camion_tool o
 tool_of (sign o) = sign_tool o
 tool_of (balanced o) = balanced_tool o

@@ -1,5 +1,6 @@
 -- What the words of the command line order.
 pub mod Check
+pub mod Upgrade
 pub mod SeriesParallel
 pub mod GraphicNetwork
 pub mod Tu
@@ -12,6 +13,7 @@ use Rattle.cmr_tools.specs.declared.options.Command.TheVariants as command
 use Rattle.cmr_tools.specs.declared.options.Property.{Property}
 use Rattle.cmr_tools.specs.declared.options.Property.TheVariants.{Graphic, Network}
 use Rattle.cmr_tools.specs.Words.Check.{CheckOrder, check_order, check_order_of}
+use Rattle.cmr_tools.specs.Words.Upgrade.{UpgradeOrder, upgrade_order, upgrade_order_of}
 use Rattle.cmr_tools.specs.Words.SeriesParallel.{SeriesParallelOrder, series_parallel_order, series_parallel_order_of}
 use Rattle.cmr_tools.specs.Words.GraphicNetwork.{TestOrder, test_order, test_order_of}
 use Rattle.cmr_reach.specs.Words.Balanced.{BalancedOrder, balanced_order, balanced_order_of}
@@ -29,6 +31,7 @@ pub data Order : Type 0 where
   test : Property → TestOrder → Order
   generate : GenerateOrder → Order
   check : CheckOrder → Order
+  upgrade : UpgradeOrder → Order
   camion : CamionOrder → Order
   sign : SignOrder → Order
   balanced : BalancedOrder → Order
@@ -44,6 +47,7 @@ order (tool ∷ words) =
     else if bytes_eq tool (codes "network") then option_map (test Network) (test_order Network words)
     else if bytes_eq tool (codes "generate") then option_map generate (generate_order words)
     else if bytes_eq tool (codes "check") then option_map check (check_order words)
+    else if bytes_eq tool (codes "upgrade") then option_map upgrade (upgrade_order words)
     else if bytes_eq tool (codes "camion") then option_map camion (camion_order words)
     else if bytes_eq tool (codes "sign") then option_map sign (sign_order words)
     else if bytes_eq tool (codes "balanced") then option_map balanced (balanced_order words)
@@ -56,6 +60,7 @@ order_of (command.SeriesParallel options) = series_parallel (series_parallel_ord
 order_of (command.Test property options) = test property (test_order_of options)
 order_of (command.Generate options) = generate (generate_order_of options)
 order_of (command.Check options) = check (check_order_of options)
+order_of (command.Upgrade options) = upgrade (upgrade_order_of options)
 order_of (command.Camion options) = camion (camion_order_of options)
 order_of (command.Sign options) = sign (sign_order_of options)
 order_of (command.Balanced options) = balanced (balanced_order_of options)

@@ -14,6 +14,7 @@ pub use cmr_front::status::{Answer, Failure};
 pub use generate::MakeKind;
 pub use options::{
     CheckOptions, GenerateOptions, RegularOptions, SeriesParallelOptions, TestOptions, TuOptions,
+    UpgradeOptions,
 };
 pub use program::run;
 pub use tools::check::check;
@@ -22,3 +23,4 @@ pub use tools::graphic_network::{graphic, network};
 pub use tools::regular::regular;
 pub use tools::series_parallel::series_parallel;
 pub use tools::tu::tu;
+pub use tools::upgrade::upgrade;

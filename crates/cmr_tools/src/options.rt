@@ -110,6 +110,15 @@ pub struct CheckOptions<'a> {
     pub evidence: &'a str,
 }
 
+/// What `upgrade` is asked to do. A file of the name `-` is standard input where it is read.
+#[derive(Clone, Copy, Debug, PartialEq, Eq)]
+pub struct UpgradeOptions<'a> {
+    /// The file that holds the tree text, of either version.
+    pub evidence: &'a str,
+    /// The file that gets the text of version 2.
+    pub tree: &'a str,
+}
+
 /// A tool with its options.
 #[derive(Clone, Copy, Debug, PartialEq, Eq)]
 pub enum Command<'a> {
@@ -125,6 +134,8 @@ pub enum Command<'a> {
     Generate(GenerateOptions<'a>),
     /// Checks evidence on a matrix.
     Check(CheckOptions<'a>),
+    /// Writes a decomposition tree anew, in version 2 of tree texts.
+    Upgrade(UpgradeOptions<'a>),
     /// Tests whether a matrix has no cycle fault.
     Camion(CamionOptions<'a>),
     /// Signs a given set of rows.

@@ -14,6 +14,7 @@ use crate::tools::graphic_network::test_property;
 use crate::tools::regular::regular;
 use crate::tools::series_parallel::series_parallel;
 use crate::tools::tu::tu;
+use crate::tools::upgrade::upgrade;
 use crate::words::read_words;
 use cmr_base::WordList;
 use cmr_front::carry_out::carry_out;
@@ -75,6 +76,7 @@ fn obey<R: Threads + Sync, S: Shelf, O: Sink, E: Sink>(
         }
         Command::Generate(options) => generate_and_run(rt, alloc, options, shelf, out, err),
         Command::Check(options) => check(rt, alloc, options, shelf, out, err),
+        Command::Upgrade(options) => upgrade(rt, alloc, options, shelf, out, err),
         Command::Camion(options) => camion(rt, alloc, options, shelf, out, err),
         Command::Sign(options) => sign_rows(rt, alloc, options, shelf, out, err),
         Command::Balanced(options) => balanced(rt, alloc, options, shelf, out, err),

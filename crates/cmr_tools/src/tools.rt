@@ -5,3 +5,4 @@ pub mod graphic_network;
 pub mod regular;
 pub mod series_parallel;
 pub mod tu;
+pub mod upgrade;

@@ -9,6 +9,7 @@ mod graphic_network;
 mod regular;
 mod series_parallel;
 mod tu;
+mod upgrade;
 
 use crate::options::{Command, Property};
 use cmr_base::WordList;
@@ -41,6 +42,7 @@ pub fn read_words<'a>(alloc: Global, words: &'a WordList) -> Result<Command<'a>,
         }
         "generate" => Ok(Command::Generate(generated::read_generate(alloc, rest)?)),
         "check" => Ok(Command::Check(check::read_check(alloc, rest)?)),
+        "upgrade" => Ok(Command::Upgrade(upgrade::read_upgrade(alloc, rest)?)),
         "camion" => Ok(Command::Camion(read_camion(alloc, rest)?)),
         "sign" => Ok(Command::Sign(read_sign(alloc, rest)?)),
         "balanced" => Ok(Command::Balanced(read_balanced(alloc, rest)?)),

@@ -37,6 +37,8 @@ pub const MATRIX: &str = "matrix";
 
 pub const ROWS: &str = "rows";
 
+pub const EVIDENCE: &str = "evidence";
+
 pub const WORKERS: &str = "workers";
 
 /// A command with no argument. A name of the program, help and version are no words of it.
@@ -175,6 +177,14 @@ pub fn operand<'a>(alloc: Global, id: &'a str) -> Arg<'a>
     ensures local { result.global ≡ false }
 {
     Arg::new(alloc, id).required(true)
+}
+
+/// The argument, which may not be left out.
+pub fn required<'a>(arg: Arg<'a>) -> Arg<'a>
+    ensures rule { rule_of result ≡ arguments.required (rule_of arg.entry) }
+    ensures local { result.global ≡ arg.entry.global }
+{
+    arg.required(true)
 }
 
 /// The operand FILE.

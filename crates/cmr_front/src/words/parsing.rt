@@ -55,7 +55,7 @@ pub fn value_in<'a>(matches: &ArgMatches<'a>, id: &str) -> Option<&'a str>
     matches.get_str(id)
 }
 
-/// The value of an operand that may not be left out.
+/// The value of an argument that may not be left out.
 pub fn operand_in<'a>(matches: &ArgMatches<'a>, id: &str) -> Result<&'a str, WordsError>
     ensures { Gives (λ text. text.now) result (first_of id.now (rows_of (found_of matches.now))) }
 {

@@ -8,7 +8,7 @@ ghost use Rattle.cmr_front.specs.Outcome.{outcome_report};
 ghost use Rattle.cmr_front.specs.Run.{Means, Runs, work};
 ghost use Rattle.cmr_front.specs.Status.{answer_status};
 ghost use Rattle.cmr_front.specs.Texts.{ReportsText};
-ghost use Rattle.cmr_front.specs.Tool.{IsDecision};
+ghost use Rattle.cmr_front.specs.Tool.{HasOneReport, IsDecision};
 ghost use Rattle.cmr_front.specs.declared.outcome.FaultKind.TheVariants as faults;
 ghost use Rattle.cmr_front.specs.declared.status.Answer.{Answer};
 ghost use Rattle.cmr_reach.specs.RowSet.{lines_in};
@@ -45,6 +45,7 @@ pub fn sign_rows<R: Threads + Sync, S: Shelf, O: Sink, E: Sink>(
         (devices (S.content shelf.new) (O.got out.new) (E.got err.new) (S.faults shelf.new) (O.faults out.new) (E.faults err.new))
         result }
     ensures means { IsTrue (S.tells shelf.old) → (answer : Answer) → result ≡ answer_status answer → Means (sign_tool (sign_order_of options.now)) (S.content shelf.old) answer }
+    ensures one { HasOneReport (sign_tool (sign_order_of options.now)) }
 {
     run_tool(rt, alloc, options, shelf, out, err)
 }

@@ -7,13 +7,10 @@ ghost use Rattle.cmr_tools.specs.Words.Check.{check_app, check_order, check_orde
 use crate::options::CheckOptions;
 use clap::{ArgMatches, Command};
 use cmr_base::Word;
-use cmr_front::words::arguments::MATRIX;
+use cmr_front::words::arguments::{EVIDENCE, MATRIX};
 use cmr_front::words::parsing::{form_in, matches_in, operand_in};
 use cmr_front::words::{WordsError, arguments};
 use std::alloc::{AllocError, Global};
-
-// The id of the operand.
-const EVIDENCE: &str = "evidence";
 
 fn check_command<'a>(alloc: Global) -> Result<Command<'a>, AllocError>
     ensures { IfOk result (λ c. app_of c ≡ check_app) }

@@ -31,6 +31,12 @@ returns-in-Check-clause-runs g c = runs_of c.args.command.now _ _ _ _ _ c.in-Che
 pub returns-in-Check-clause-means : goal.returns-in-Check-clause-means
 returns-in-Check-clause-means g c = means_of c.args.command.now _ _ _ _ c.in-Check.is c.check.ensures.means
 
+pub returns-in-Upgrade-clause-runs : goal.returns-in-Upgrade-clause-runs
+returns-in-Upgrade-clause-runs g c = runs_of c.args.command.now _ _ _ _ _ c.in-Upgrade.is c.upgrade.ensures.runs
+
+pub returns-in-Upgrade-clause-means : goal.returns-in-Upgrade-clause-means
+returns-in-Upgrade-clause-means g c = means_of c.args.command.now _ _ _ _ c.in-Upgrade.is c.upgrade.ensures.means
+
 pub returns-in-Camion-clause-runs : goal.returns-in-Camion-clause-runs
 returns-in-Camion-clause-runs g c = runs_of c.args.command.now _ _ _ _ _ c.in-Camion.is c.camion.ensures.runs
 
