@@ -153,16 +153,3 @@ pub fn is_text<R: Abort + AllocGlobal>(rt: &R, found: &[u8], text: &str) -> Resu
 pub fn is<R: Abort>(rt: &R, found: bool, expected: bool) {
     assert!(rt; found == expected);
 }
-
-/// Stops the test where the matrix is not that of the dense text.
-pub fn is_matrix<R: Abort + AllocGlobal>(rt: &R, found: &Matrix, text: &str) -> Result<(), Fail> {
-    let written = write_dense(rt.alloc(), found)?;
-    assert_eq!(rt; written.as_slice(), bytes(rt.alloc(), text)?.as_slice());
-    Ok(())
-}
-
-/// Stops the test where the set is another.
-pub fn are_lines<R: Abort>(rt: &R, found: &LineSet, expected: Lines<'_>) {
-    assert_eq!(rt; found.rows.as_slice(), expected.0);
-    assert_eq!(rt; found.columns.as_slice(), expected.1);
-}

@@ -1,7 +1,7 @@
 // Directed trees, their walks, and the matrices that they give.
 use crate::given::{is, matrix};
 use cmr_base::{
-    Network, Pair, PairList, reproduces as has_signs, reproduces_support as has_support,
+    Network, Pair, PairList, is_tree, reproduces as has_signs, reproduces_support as has_support,
 };
 use std::alloc::Global;
 use std::test::Fail;
@@ -24,6 +24,30 @@ fn network(alloc: Global, arcs: Ends<'_>, walks: Ends<'_>) -> Result<Network, Fa
         arcs: pairs(alloc, arcs)?,
         walks: pairs(alloc, walks)?,
     })
+}
+
+fn are_tree(alloc: Global, arcs: Ends<'_>, rows: u32) -> Result<bool, Fail> {
+    Ok(is_tree(alloc, &network(alloc, arcs, &[])?, rows)?)
+}
+
+#[test]
+fn trees(rt: HostRuntime) -> Result<(), Fail> {
+    let table: [(Ends<'_>, u32, bool); 8] = [
+        (&[(0, 1)], 1, true),
+        // A path, a star and the lone node.
+        (&[(2, 1), (0, 2), (1, 3)], 3, true),
+        (&[(3, 1), (0, 3), (2, 3)], 3, true),
+        (&[], 0, true),
+        // A cycle beside a lone node, a loop, an arc too few, and a node out of range.
+        (&[(0, 1), (1, 2), (2, 0)], 3, false),
+        (&[(0, 0)], 1, false),
+        (&[(0, 1)], 2, false),
+        (&[(0, 1), (1, 4_294_967_295)], 2, false),
+    ];
+    for (arcs, rows, expected) in table {
+        is(&rt, are_tree(rt.alloc(), arcs, rows)?, expected);
+    }
+    Ok(())
 }
 
 // Whether the supports are the paths of the walks, and whether the signs fit too.

@@ -1,5 +1,6 @@
-// The least violator, by the sets of the shorter side.
+// The least violator and the least balance fault, by the sets of the shorter side.
 use crate::given::{bytes, is_text, lines_text, matrix, row_text, sparse};
+use balance::{BalanceSearch, least_balance_fault};
 use cmr_base::Matrix;
 use leaf_enumerate::{Search, least_violator};
 use std::alloc::Global;
@@ -44,4 +45,45 @@ fn violators(rt: HostRuntime) -> Result<(), Fail> {
     // A late set of rows.
     let late = sparse(rt.alloc(), "12 12 4/11 4 1/11 5 1/12 4 1/12 5 -1/")?;
     is_text(&rt, &violator(&rt, &late, 12, 4)?, "10 11/3 4/")
+}
+
+fn balance_text(alloc: Global, search: &BalanceSearch) -> Result<Vec<u8>, Fail> {
+    match search {
+        BalanceSearch::Clean => bytes(alloc, "clean/"),
+        BalanceSearch::Found(lines) => lines_text(alloc, lines),
+        BalanceSearch::TooMany { shorter } => row_text(alloc, "too many", &[*shorter]),
+    }
+}
+
+fn balance_fault<R: Threads + Sync + Abort + AllocGlobal>(
+    rt: &R,
+    matrix: &Matrix,
+    limit: u32,
+    workers: u32,
+) -> Result<Vec<u8>, Fail> {
+    assert!(rt; limit <= 24 && workers >= 1 && workers <= 64);
+    let found = least_balance_fault(rt, rt.alloc(), matrix, limit, workers)?;
+    balance_text(rt.alloc(), &found)
+}
+
+// The rows and columns of a balance fault have two nonzeros each, and its sum is 2 modulo 4.
+#[test]
+fn balance_faults(rt: HostRuntime) -> Result<(), Fail> {
+    let triangle = "3 3/1 1 0/0 1 1/1 0 1/";
+    for (text, limit, workers, expected) in [
+        (triangle, 3, 1, "0 1 2/0 1 2/"),
+        (triangle, 3, 3, "0 1 2/0 1 2/"),
+        (triangle, 2, 1, "too many 3/"),
+        ("4 4/1 1 0 0/1 0 1 0/1 0 0 1/1 1 1 1/", 4, 3, "clean/"),
+        // Of four columns on two rows the first two that are a fault, also where there are more rows than columns.
+        ("2 4/1 0 1 1/1 0 1 -1/", 2, 1, "0 1/0 3/"),
+        ("4 2/1 1/0 0/1 1/1 -1/", 2, 3, "0 3/0 1/"),
+        // Of columns alike the least is taken.
+        ("3 5/1 1 1 0 0/0 0 1 0 1/1 1 0 0 1/", 3, 1, "0 1 2/0 2 4/"),
+        ("3 5/1 1 1 0 0/0 0 1 0 1/1 1 0 0 1/", 3, 3, "0 1 2/0 2 4/"),
+    ] {
+        let matrix = matrix(rt.alloc(), text)?;
+        is_text(&rt, &balance_fault(&rt, &matrix, limit, workers)?, expected)?;
+    }
+    Ok(())
 }

@@ -3,8 +3,6 @@
 #![tactic(auto)]
 
 #[cfg(test)]
-mod columns;
-#[cfg(test)]
 mod given;
 #[cfg(test)]
 mod graphs;

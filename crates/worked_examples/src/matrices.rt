@@ -1,116 +1,160 @@
 // Matrices, their lines and their words.
-use crate::given::{Lines, are_lines, indices, is_matrix, line_set, matrix};
+use crate::given::{Lines, dense, indices, is, is_text, line_set, lines_text, matrix};
 use cmr_base::{LineSet, Matrix, SignList, Word, xor_words};
+use std::alloc::Global;
+use std::process::Abort;
 use std::test::Fail;
 
 #[test]
 fn zeros(rt: HostRuntime) -> Result<(), Fail> {
-    for (rows, columns, text) in [(1, 2, "1 2/0 0/"), (2, 0, "2 0///"), (0, 3, "0 3/")] {
-        is_matrix(&rt, &Matrix::zero(rt.alloc(), rows, columns)?, text)?;
+    let alloc = rt.alloc();
+    is_text(&rt, &dense(alloc, &Matrix::zero(alloc, 1, 2)?)?, "1 2/0 0/")?;
+    is_text(&rt, &dense(alloc, &Matrix::zero(alloc, 2, 0)?)?, "2 0///")?;
+    is_text(&rt, &dense(alloc, &Matrix::zero(alloc, 0, 3)?)?, "0 3/")
+}
+
+fn square(alloc: Global) -> Result<Matrix, Fail> {
+    Ok(Matrix::from_cells(alloc, 2, 2, &[1, 1, 0, -1])?)
+}
+
+fn has_entries(matrix: &Matrix, entries: [i8; 4]) -> bool {
+    matrix.rows() == 2
+        && matrix.columns() == 2
+        && matrix.entry(0, 0) == entries[0]
+        && matrix.entry(0, 1) == entries[1]
+        && matrix.entry(1, 0) == entries[2]
+        && matrix.entry(1, 1) == entries[3]
+}
+
+fn change(matrix: &mut Matrix) {
+    if matrix.rows() == 2 && matrix.columns() == 2 {
+        matrix.set(1, 0, 1);
+        matrix.set(0, 0, 0);
     }
-    Ok(())
 }
 
 #[test]
 fn entries(rt: HostRuntime) -> Result<(), Fail> {
-    let mut square = Matrix::from_cells(rt.alloc(), 2, 2, &[1, 1, 0, -1])?;
-    for (row, column, entry) in [(0, 0, 1), (0, 1, 1), (1, 0, 0), (1, 1, -1)] {
-        assert!(&rt; row < square.rows() && column < square.columns());
-        assert_eq!(rt; square.entry(row, column), entry);
-    }
-    square.set(1, 0, 1);
-    square.set(0, 0, 0);
-    is_matrix(&rt, &square, "2 2/0 1/1 -1/")?;
-    assert_eq!(rt; square.nonzeros(), 3);
+    let mut square = square(rt.alloc())?;
+    is(&rt, has_entries(&square, [1, 1, 0, -1]), true);
+    change(&mut square);
+    is(&rt, has_entries(&square, [0, 1, 1, -1]), true);
+    is(&rt, square.nonzeros() == 3, true);
     Ok(())
 }
 
-// Some rows and columns, the submatrix on them with its sum, and that transposed.
-#[derive(Clone, Copy)]
-struct Part {
-    matrix: &'static str,
-    lines: Lines<'static>,
-    part: &'static str,
-    sum: i32,
-    transposed: &'static str,
+fn part(alloc: Global, text: &str, lines: Lines<'_>) -> Result<Matrix, Fail> {
+    let matrix = matrix(alloc, text)?;
+    let lines = line_set(alloc, matrix.rows(), matrix.columns(), lines)?;
+    Ok(matrix.part(alloc, &lines)?)
+}
+
+fn sum(alloc: Global, text: &str, lines: Lines<'_>) -> Result<i32, Fail> {
+    let matrix = matrix(alloc, text)?;
+    let lines = line_set(alloc, matrix.rows(), matrix.columns(), lines)?;
+    Ok(matrix.sum(&lines))
+}
+
+fn turned(alloc: Global, matrix: &Matrix) -> Result<Vec<u8>, Fail> {
+    dense(alloc, &matrix.transposed(alloc)?)
 }
 
 #[test]
 fn parts(rt: HostRuntime) -> Result<(), Fail> {
     let alloc = rt.alloc();
-    for row in [
-        Part {
-            matrix: "2 2/1 1/1 -1/",
-            lines: (&[1], &[0, 1]),
-            part: "1 2/1 -1/",
-            sum: 0,
-            transposed: "2 1/1/-1/",
-        },
-        Part {
-            matrix: "3 3/1 0 1/0 -1 -1/0 0 -1/",
-            lines: (&[0, 1], &[1, 2]),
-            part: "2 2/0 1/-1 -1/",
-            sum: -1,
-            transposed: "2 2/0 -1/1 -1/",
-        },
-    ] {
-        let matrix = matrix(alloc, row.matrix)?;
-        let lines = line_set(alloc, matrix.rows(), matrix.columns(), row.lines)?;
-        let part = matrix.part(alloc, &lines)?;
-        is_matrix(&rt, &part, row.part)?;
-        assert_eq!(rt; matrix.sum(&lines), row.sum);
-        is_matrix(&rt, &part.transposed(alloc)?, row.transposed)?;
-    }
+    let row = part(alloc, "2 2/1 1/1 -1/", (&[1], &[0, 1]))?;
+    is_text(&rt, &dense(alloc, &row)?, "1 2/1 -1/")?;
+    is_text(&rt, &turned(alloc, &row)?, "2 1/1/-1/")?;
+    let corner = part(alloc, "3 3/1 0 1/0 -1 -1/0 0 -1/", (&[0, 1], &[1, 2]))?;
+    is_text(&rt, &dense(alloc, &corner)?, "2 2/0 1/-1 -1/")?;
+    is_text(&rt, &turned(alloc, &corner)?, "2 2/0 -1/1 -1/")
+}
+
+#[test]
+fn sums(rt: HostRuntime) -> Result<(), Fail> {
+    let row = sum(rt.alloc(), "2 2/1 1/1 -1/", (&[1], &[0, 1]))?;
+    let corner = sum(rt.alloc(), "3 3/1 0 1/0 -1 -1/0 0 -1/", (&[0, 1], &[1, 2]))?;
+    is(&rt, row == 0 && corner == -1, true);
     Ok(())
+}
+
+fn is_set<R: Abort + AllocGlobal>(
+    rt: &R,
+    set: &LineSet,
+    text: &str,
+    size: u32,
+) -> Result<(), Fail> {
+    assert!(rt; set.rows.len() <= 2 && set.columns.len() <= 2);
+    is(rt, set.size() == size, true);
+    is_text(rt, &lines_text(rt.alloc(), set)?, text)
 }
 
 #[test]
 fn line_sets(rt: HostRuntime) -> Result<(), Fail> {
     let alloc = rt.alloc();
     let all = LineSet::all(alloc, 2, 2)?;
-    are_lines(&rt, &all, (&[0, 1], &[0, 1]));
-    let second = all.without_row(alloc, 0)?;
-    are_lines(&rt, &second, (&[1], &[0, 1]));
-    let first = all.without_column(alloc, 1)?;
-    are_lines(&rt, &first, (&[0, 1], &[0]));
-    for (set, size) in [(&all, 4), (&second, 3), (&first, 3)] {
-        assert!(&rt; set.rows.len() <= 2 && set.columns.len() <= 2);
-        assert_eq!(rt; set.size(), size);
+    is_set(&rt, &all, "0 1/0 1/", 4)?;
+    is_set(&rt, &all.without_row(alloc, 0)?, "1/0 1/", 3)?;
+    is_set(&rt, &all.without_column(alloc, 1)?, "0 1/0/", 3)
+}
+
+fn second(alloc: Global) -> Result<u32, Fail> {
+    let numbers = indices(alloc, 3, &[0, 2])?;
+    if numbers.len() == 2 {
+        Ok(*numbers.get(1))
+    } else {
+        Ok(0)
     }
-    Ok(())
+}
+
+fn sign(alloc: Global) -> Result<i8, Fail> {
+    let mut signs = SignList::new(alloc);
+    signs.push(-1)?;
+    if signs.len() == 1 {
+        Ok(*signs.get(0))
+    } else {
+        Ok(0)
+    }
 }
 
 #[test]
 fn lists(rt: HostRuntime) -> Result<(), Fail> {
-    let numbers = indices(rt.alloc(), 3, &[0, 2])?;
-    assert_eq!(rt; numbers.len(), 2);
-    assert_eq!(rt; *numbers.get(1), 2);
-    let mut signs = SignList::new(rt.alloc());
-    signs.push(-1)?;
-    assert_eq!(rt; signs.len(), 1);
-    assert_eq!(rt; *signs.get(0), -1);
-    assert_eq!(rt; Word::new(rt.alloc(), "--lines")?.text(), "--lines");
-    Ok(())
+    is(&rt, second(rt.alloc())? == 2, true);
+    is(&rt, sign(rt.alloc())? == -1, true);
+    let word = Word::new(rt.alloc(), "--lines")?;
+    is_text(&rt, word.text().as_bytes(), "--lines")
 }
 
-#[test]
-fn words(rt: HostRuntime) -> Result<(), Fail> {
-    let alloc = rt.alloc();
+fn wide(alloc: Global) -> Result<Matrix, Fail> {
     let mut wide = Matrix::zero(alloc, 1, 66)?;
     wide.set(0, 0, 1);
     wide.set(0, 2, -1);
     wide.set(0, 63, 1);
     wide.set(0, 65, -1);
-    assert_eq!(rt; wide.support_word(0, 0), 0x8000_0000_0000_0005);
-    assert_eq!(rt; wide.minus_word(0, 0), 4);
-    assert_eq!(rt; wide.support_word(0, 1), 2);
-    assert_eq!(rt; wide.minus_word(0, 1), 2);
-    let narrow = matrix(alloc, "1 3/1 0 -1/")?;
-    assert!(&rt; narrow.rows() == 1 && narrow.columns() == 3);
-    assert_eq!(rt; narrow.support_word(0, 0), 5);
-    assert_eq!(rt; narrow.minus_word(0, 0), 4);
+    Ok(wide)
+}
+
+fn has_words(matrix: &Matrix, block: u32, support: u64, minus: u64) -> bool {
+    matrix.rows() == 1
+        && block < 16
+        && 64 * block < matrix.columns()
+        && matrix.support_word(0, block) == support
+        && matrix.minus_word(0, block) == minus
+}
+
+#[test]
+fn words(rt: HostRuntime) -> Result<(), Fail> {
+    let wide = wide(rt.alloc())?;
+    is(&rt, has_words(&wide, 0, 0x8000_0000_0000_0005, 4), true);
+    is(&rt, has_words(&wide, 1, 2, 2), true);
+    let narrow = matrix(rt.alloc(), "1 3/1 0 -1/")?;
+    is(&rt, has_words(&narrow, 0, 5, 4), true);
+    Ok(())
+}
+
+#[test]
+fn sums_of_words(rt: HostRuntime) {
     let mut sums = [1u64; 9];
     xor_words(&mut sums, &[3u64; 9]);
-    assert_eq!(rt; sums, [2u64; 9]);
-    Ok(())
+    is(&rt, sums == [2u64; 9], true);
 }

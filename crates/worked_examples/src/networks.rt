@@ -1,7 +1,8 @@
 // Graphic matrices and network matrices, and the minimal submatrices of the others.
+ghost use Rattle.std.specs.Prelude.{IfOk};
 ghost use Rattle.cmr_base.specs.Trees.{IsBinary};
 
-use crate::given::{binary, found_text, is, is_text, matrix};
+use crate::given::{binary, found_text, is, is_text, mark, matrix, zeros};
 use cmr_base::{Matrix, reproduces, reproduces_support};
 use graph_realise::{minimal_not_graphic, realise};
 use network_orient::{minimal_not_network, orient};
@@ -59,6 +60,26 @@ fn graphic(rt: HostRuntime) -> Result<(), Fail> {
         is(&rt, is_graphic(rt.alloc(), &matrix)?, yes);
         is_text(&rt, &least_not_graphic(rt.alloc(), &matrix)?, minimal)?;
     }
+    Ok(())
+}
+
+// Each three rows in a row are a column, so that each split takes few rows away.
+fn path(alloc: Global) -> Result<Matrix, Fail>
+    ensures { IfOk result IsBinary }
+{
+    let mut path = zeros(alloc, 200, 198)?;
+    for column in 0..198u32 {
+        mark(&mut path, column, column);
+        mark(&mut path, column + 1, column);
+        mark(&mut path, column + 2, column);
+    }
+    Ok(path)
+}
+
+#[test]
+fn long_path(rt: HostRuntime) -> Result<(), Fail> {
+    let path = path(rt.alloc())?;
+    is(&rt, is_graphic(rt.alloc(), &path)?, true);
     Ok(())
 }
 

@@ -4,7 +4,7 @@ use cmr_base::Matrix;
 use std::alloc::Global;
 use std::process::Abort;
 use std::test::Fail;
-use sum_ops::{SumError, delta_sum, mixed_sum, one_sum, two_sum, y_sum};
+use sum_ops::{SumError, concentrated_sum, delta_sum, mixed_sum, one_sum, two_sum, y_sum};
 
 #[derive(Clone, Copy)]
 enum Sum {
@@ -13,6 +13,7 @@ enum Sum {
     Delta,
     Y,
     Mixed,
+    Concentrated,
 }
 
 fn sum_of<R: Abort + AllocGlobal>(
@@ -30,6 +31,7 @@ fn sum_of<R: Abort + AllocGlobal>(
         Sum::Delta => delta_sum(alloc, first, second),
         Sum::Y => y_sum(alloc, first, second),
         Sum::Mixed => mixed_sum(alloc, first, second),
+        Sum::Concentrated => concentrated_sum(alloc, first, second),
     }
 }
 
@@ -37,6 +39,7 @@ fn sum_text(alloc: Global, sum: Result<Matrix, SumError>) -> Result<Vec<u8>, Fai
     match sum {
         Ok(sum) => dense(alloc, &sum),
         Err(SumError::BadConnector) => bytes(alloc, "bad connector/"),
+        Err(SumError::BadEntry) => bytes(alloc, "bad entry/"),
         Err(SumError::Memory) => bytes(alloc, "memory/"),
     }
 }
@@ -104,6 +107,47 @@ fn three_sums(rt: HostRuntime) -> Result<(), Fail> {
         (Sum::Y, "0 0/", tall.1, "bad connector/"),
     ] {
         is_sum(&rt, sum, (first, second), expected)?;
+    }
+    Ok(())
+}
+
+#[test]
+fn concentrated_sums(rt: HostRuntime) -> Result<(), Fail> {
+    let first = "4 3/1 0 0/1 1 0/1 0 1/0 1 -1/";
+    let second = "3 4/1 1 0 0/1 0 1 1/0 1 -1 0/";
+    for (first, second, expected) in [
+        (first, second, "4 4/1 0 0 0/1 1 0 0/1 0 1 1/0 1 -1 0/"),
+        // Connecting lines alone.
+        (
+            "3 3/1 1 0/1 0 1/0 1 -1/",
+            "3 3/1 1 0/1 0 1/0 1 -1/",
+            "3 3/1 1 0/1 0 1/0 1 -1/",
+        ),
+        // Three rows and columns that differ, and a nonzero beside them.
+        (first, "3 4/-1 1 0 0/1 0 1 1/0 1 -1 0/", "bad connector/"),
+        (first, "3 4/1 1 0 1/1 0 1 1/0 1 -1 0/", "bad connector/"),
+        ("4 3/1 0 1/1 1 0/1 0 1/0 1 -1/", second, "bad connector/"),
+        // The determinant 0, a corner that is 0, and lines that are missing.
+        (
+            "3 3/1 1 0/1 1 1/1 1 1/",
+            "3 3/1 1 0/1 1 1/1 1 1/",
+            "bad connector/",
+        ),
+        (
+            "3 3/1 0 0/1 0 1/0 1 1/",
+            "3 3/1 0 0/1 0 1/0 1 1/",
+            "bad connector/",
+        ),
+        ("2 3/1 0 1/0 1 -1/", second, "bad connector/"),
+        (first, "0 0/", "bad connector/"),
+        // An entry of the block is 2.
+        (
+            "3 4/0 1 1 0/1 1 0 1/1 0 1 1/",
+            "4 3/1 1 0/1 0 1/0 1 1/1 1 0/",
+            "bad entry/",
+        ),
+    ] {
+        is_sum(&rt, Sum::Concentrated, (first, second), expected)?;
     }
     Ok(())
 }

@@ -1,14 +1,36 @@
 // Matrix and submatrix texts: bad ones with their first faults, and canonical ones, which come back as they are.
-use crate::given::{bytes, is_matrix};
+ghost use Rattle.std.specs.Prelude.{◌≤◌};
+
+use crate::given::{bytes, dense, is, is_text, matrix, sparse};
 use matrix_text::{
-    TextError, TextKind, read_dense, read_sparse, read_submatrix, write_dense, write_sparse,
-    write_submatrix,
+    TextError, TextKind, read_dense, read_sparse, read_submatrix, write_sparse, write_submatrix,
 };
+use std::alloc::Global;
+use std::process::Abort;
 use std::test::Fail;
+
+fn is_fault<R: Abort>(rt: &R, found: Option<TextError>, expected: TextKind, at: usize) {
+    match found {
+        Some(TextError::Fault { kind, place }) => is(rt, kind == expected && place == at, true),
+        _ => is(rt, false, true),
+    }
+}
+
+fn dense_fault(alloc: Global, text: &str, binary: bool) -> Result<Option<TextError>, Fail> {
+    Ok(read_dense(alloc, &bytes(alloc, text)?, binary).err())
+}
+
+fn sparse_fault(alloc: Global, text: &str) -> Result<Option<TextError>, Fail> {
+    Ok(read_sparse(alloc, &bytes(alloc, text)?, false).err())
+}
+
+// In a matrix with two rows and two columns.
+fn submatrix_fault(alloc: Global, text: &str) -> Result<Option<TextError>, Fail> {
+    Ok(read_submatrix(alloc, &bytes(alloc, text)?, 2, 2).err())
+}
 
 #[test]
 fn faults_of_dense_texts(rt: HostRuntime) -> Result<(), Fail> {
-    let alloc = rt.alloc();
     for (text, binary, kind, place) in [
         ("2 2/1 0/0 2/", false, TextKind::BadEntry, 10),
         ("2 2/", false, TextKind::Short, 4),
@@ -23,15 +45,13 @@ fn faults_of_dense_texts(rt: HostRuntime) -> Result<(), Fail> {
         ("", false, TextKind::Short, 0),
         ("1 2/1 -1/", true, TextKind::NotBinary, 6),
     ] {
-        let found = read_dense(alloc, &bytes(alloc, text)?, binary).err();
-        assert_eq!(rt; found, Some(TextError::Fault { kind, place }), "in {text}");
+        is_fault(&rt, dense_fault(rt.alloc(), text, binary)?, kind, place);
     }
     Ok(())
 }
 
 #[test]
 fn faults_of_sparse_texts(rt: HostRuntime) -> Result<(), Fail> {
-    let alloc = rt.alloc();
     for (text, kind, place) in [
         ("2 2 2/1 1 1/1 1 -1/", TextKind::TwiceNamed, 14),
         ("2 2 2/1 1 0/1 1 1/", TextKind::TwiceNamed, 14),
@@ -41,16 +61,13 @@ fn faults_of_sparse_texts(rt: HostRuntime) -> Result<(), Fail> {
         ("0 0 2147483647/", TextKind::Short, 15),
         ("0 0 2147483648/", TextKind::TooBig, 4),
     ] {
-        let found = read_sparse(alloc, &bytes(alloc, text)?, false).err();
-        assert_eq!(rt; found, Some(TextError::Fault { kind, place }), "in {text}");
+        is_fault(&rt, sparse_fault(rt.alloc(), text)?, kind, place);
     }
     Ok(())
 }
 
-// In a matrix with two rows and two columns.
 #[test]
 fn faults_of_submatrix_texts(rt: HostRuntime) -> Result<(), Fail> {
-    let alloc = rt.alloc();
     for (text, kind, place) in [
         ("3 2 0 0/", TextKind::OtherSize, 0),
         ("2 2 3 0/", TextKind::RowOutOfRange, 4),
@@ -58,54 +75,54 @@ fn faults_of_submatrix_texts(rt: HostRuntime) -> Result<(), Fail> {
         ("2 2 2 2/2 1/1 2/", TextKind::NotRising, 10),
         ("2 2 2 2/2 0/1 2/", TextKind::RowOutOfRange, 10),
     ] {
-        let found = read_submatrix(alloc, &bytes(alloc, text)?, 2, 2).err();
-        assert_eq!(rt; found, Some(TextError::Fault { kind, place }), "in {text}");
+        is_fault(&rt, submatrix_fault(rt.alloc(), text)?, kind, place);
     }
     Ok(())
 }
 
 #[test]
 fn dense_texts(rt: HostRuntime) -> Result<(), Fail> {
-    let alloc = rt.alloc();
     for text in ["2 2/1 -1/0 1/", "2 0///", "0 3/"] {
-        let bytes = bytes(alloc, text)?;
-        let written = write_dense(alloc, &read_dense(alloc, &bytes, false)?)?;
-        assert_eq!(rt; written.as_slice(), bytes.as_slice());
+        is_text(&rt, &dense(rt.alloc(), &matrix(rt.alloc(), text)?)?, text)?;
     }
     Ok(())
 }
 
+fn sparse_again(alloc: Global, text: &str) -> Result<Vec<u8>, Fail> {
+    Ok(write_sparse(alloc, &sparse(alloc, text)?)?)
+}
+
 #[test]
 fn sparse_texts(rt: HostRuntime) -> Result<(), Fail> {
-    let alloc = rt.alloc();
     for text in [
         "2 2 2/1 1 1/2 2 1/",
         "2 3 1/2 1 -1/",
         "1000 1000 0/",
         "0 3 0/",
     ] {
-        let bytes = bytes(alloc, text)?;
-        let written = write_sparse(alloc, &read_sparse(alloc, &bytes, false)?)?;
-        assert_eq!(rt; written.as_slice(), bytes.as_slice());
+        is_text(&rt, &sparse_again(rt.alloc(), text)?, text)?;
     }
     // The order of the triples and the spelling of their numbers are free.
-    let free = bytes(alloc, "2 2 3/2 2 +1/1 2 0/1 1 1/")?;
-    is_matrix(&rt, &read_sparse(alloc, &free, true)?, "2 2/1 0/0 1/")
+    let free = sparse(rt.alloc(), "2 2 3/2 2 +1/1 2 0/1 1 1/")?;
+    is_text(&rt, &dense(rt.alloc(), &free)?, "2 2/1 0/0 1/")
+}
+
+fn submatrix_again(alloc: Global, rows: u32, columns: u32, text: &str) -> Result<Vec<u8>, Fail>
+    requires rows { rows ≤ 1000 }
+    requires columns { columns ≤ 1000 }
+{
+    let lines = read_submatrix(alloc, &bytes(alloc, text)?, rows, columns)?;
+    Ok(write_submatrix(alloc, &lines, rows, columns)?)
 }
 
 #[test]
 fn submatrix_texts(rt: HostRuntime) -> Result<(), Fail> {
-    let alloc = rt.alloc();
-    for (rows, columns, text) in [
-        (2, 2, "2 2 2 2/1 2/1 2/"),
-        (12, 3, "12 3 1 0/12//"),
-        (0, 0, "0 0 0 0///"),
-    ] {
-        assert!(&rt; rows <= 1000 && columns <= 1000);
-        let bytes = bytes(alloc, text)?;
-        let lines = read_submatrix(alloc, &bytes, rows, columns)?;
-        let written = write_submatrix(alloc, &lines, rows, columns)?;
-        assert_eq!(rt; written.as_slice(), bytes.as_slice());
+    for text in ["12 3 2 2/1 12/1 3/", "12 3 1 0/12//", "12 3 0 0///"] {
+        is_text(&rt, &submatrix_again(rt.alloc(), 12, 3, text)?, text)?;
     }
-    Ok(())
+    is_text(
+        &rt,
+        &submatrix_again(rt.alloc(), 0, 0, "0 0 0 0///")?,
+        "0 0 0 0///",
+    )
 }
