@@ -1,4 +1,4 @@
-"""Decomposition trees, read from their text of version 1. docs/FORMATS.md has the format."""
+"""Decomposition trees, read from their text of version 1 or 2. docs/FORMATS.md has the format."""
 
 from __future__ import annotations
 
@@ -14,8 +14,10 @@ LIMIT = 1000
 
 LEAVES = frozenset({"empty", "cycle", "network", "conetwork", "r10", "violator", "enumerated", "undecided"})
 # The lines at which the two children of a sum are joined, as rows and columns.
-JOINTS = {"twosum": "rc", "delta": "rccrcc", "y": "rcrrcr", "mixed": "rccrcr"}
+JOINTS = {"twosum": "rc", "delta": "rccrcc", "y": "rcrrcr", "mixed": "rccrcr", "concentrated": "rccrcr"}
 KINDS = LEAVES | {"reduced", "onesum"} | JOINTS.keys()
+# The kinds of nodes that a text of each version has words for.
+KINDS_OF_VERSION = {"1": KINDS - {"concentrated"}, "2": KINDS}
 
 
 @dataclass
@@ -74,12 +76,15 @@ class _TreeReader:
     def __init__(self, text: str) -> None:
         self._words = re.finditer(r"[^\t-\r ]+", text)
         self._place = 0
+        self._kinds = KINDS
         self._rows = 0
         self._columns = 0
 
     def tree(self) -> Tree:
-        if (self._word(), self._word()) != ("cmr-tree", "1"):
-            raise BadInput("it does not begin with the words `cmr-tree 1`")
+        name, version = self._word(), self._word()
+        if name != "cmr-tree" or version not in KINDS_OF_VERSION:
+            raise BadInput("it does not begin with the words `cmr-tree 1` or `cmr-tree 2`")
+        self._kinds = KINDS_OF_VERSION[version]
         self._rows = self._count(LIMIT)
         self._columns = self._count(LIMIT)
         root, due = self._node()
@@ -98,7 +103,7 @@ class _TreeReader:
     def _node(self) -> tuple[Node, int]:
         """The next node, without its children, and their number."""
         kind = self._word()
-        if kind not in KINDS:
+        if kind not in self._kinds:
             raise self._refusal(f"{_short(kind)} is no kind of node")
         node = Node(kind, self._line_set())
         return node, self._own_part(node)

@@ -9,7 +9,7 @@ from tests.support import ScriptTest, needs_dot, needs_python
 from tests.trees import EACH_KIND, chain, first_lines
 
 SHIFTS = """\
-cmr-tree 1
+cmr-tree 2
 4 4
 reduced 4 4 1 2 3 4 1 2 3 4
 1 c4
@@ -30,14 +30,21 @@ class Reading(ScriptTest):
         self.assertEqual(
             outline,
             "0onesum 1reduced 2empty 1conetwork 1twosum 2network 2enumerated 1delta 2r10 2undecided 1y 2r10 2r10 "
-            "1mixed 2r10 2r10 1cycle 1violator",
+            "1mixed 2r10 2r10 1concentrated 2r10 2r10 1cycle 1violator",
         )
         joints = [node.joint for _, node in tree.preorder() if node.joint]
         self.assertEqual(joints[0], ("r6", "c5"))
         self.assertEqual(
             joints[1:],
-            [tuple(words.split()) for words in ("r1 c1 c2 r5 c5 c6", "r1 c1 r2 r5 c5 r6", "r1 c1 c2 r5 c5 r6")],
+            [
+                tuple(words.split())
+                for words in ("r1 c1 c2 r5 c5 c6", "r1 c1 r2 r5 c5 r6", "r1 c1 c2 r5 c5 r6", "r1 c1 c2 r5 c5 r6")
+            ],
         )
+
+    def test_both_versions(self):
+        first = SHIFTS.replace("cmr-tree 2", "cmr-tree 1")
+        self.assertEqual(parse_tree(first), parse_tree(SHIFTS))
 
     def test_depths_that_the_format_allows(self):
         tree = parse_tree(chain(*["twosum", "reduced"] * 1000))
@@ -46,11 +53,12 @@ class Reading(ScriptTest):
     def test_texts_that_are_no_trees(self):
         for text, fault in [
             ("", "the text ends too early"),
-            ("4 4\n", "it does not begin with the words `cmr-tree 1`"),
-            ("cmr-tree 3\n", "it does not begin with the words `cmr-tree 1`"),
+            ("4 4\n", "it does not begin with the words `cmr-tree 1` or `cmr-tree 2`"),
+            ("cmr-tree 3\n", "it does not begin with the words `cmr-tree 1` or `cmr-tree 2`"),
             ("cmr-tree 1 1001 1", "1001 is above 1000 (at character 11)"),
             ("cmr-tree 1 2 -2", "-2 is no number (at character 13)"),
-            ("cmr-tree 1 2 2\nforest 0 0", "forest is no kind of node (at character 15)"),
+            ("cmr-tree 2 2 2\nforest 0 0", "forest is no kind of node (at character 15)"),
+            ("cmr-tree 1 2 2\nconcentrated 0 0", "concentrated is no kind of node (at character 15)"),
             ("cmr-tree 1 2 2\nempty 1 0 0", "rows and columns begin with 1 (at character 25)"),
             ("cmr-tree 1 2 2\nr10 2 0 2 1", "the numbers of a list do not rise (at character 25)"),
             ("cmr-tree 1 2 2\nr10 1 1 1 3", "3 is above 2 (at character 25)"),
@@ -88,7 +96,7 @@ class Pictures(ScriptTest):
 
     def test_like_leaves_are_counted_together(self):
         leaves = "".join(f"network {first_lines(size, 1)}\n{'0 0 ' * (size + 1)}\n" for size in range(1, 300))
-        text = f"cmr-tree 1\n300 300\nonesum {first_lines(300, 300)}\n300\n{leaves}r10 {first_lines(5, 5)}\n"
+        text = f"cmr-tree 2\n300 300\nonesum {first_lines(300, 300)}\n300\n{leaves}r10 {first_lines(5, 5)}\n"
         self.assertEqual(self.labels(text, "--small", "0"), ["onesum 300x300", "299 network / 1x1 to 299x1", "r10 5x5"])
 
     def test_like_sums_are_counted_together_in_large_trees(self):
@@ -113,7 +121,7 @@ class Pictures(ScriptTest):
         self.assertEqual(line, "the names are those of a matrix of size 1x1, and here it is 4x4")
 
     def test_texts_that_are_no_trees(self):
-        line = self.refusal("tree_to_dot", self.write("bad.tree", "cmr-tree 1 2\n"))
+        line = self.refusal("tree_to_dot", self.write("bad.tree", "cmr-tree 2 2\n"))
         self.assertEqual(line, "bad.tree: no decomposition tree: the text ends too early")
         self.assertEqual(self.refusal("tree_to_dot", "none"), "cannot read none: No such file or directory")
 

@@ -13,10 +13,10 @@ def first_lines(rows, columns):
 
 # Each kind of node stands in this tree. It is that of no matrix.
 EACH_KIND = f"""\
-cmr-tree 1
+cmr-tree 2
 20 20
 onesum {first_lines(20, 20)}
-8
+9
 reduced 2 2 1 2 1 2
 4 r1 c1 r2 c2
 empty 0 0
@@ -39,6 +39,10 @@ mixed {first_lines(9, 9)}
 1 1 2 5 5 6 2 2 1 2 1 2
 r10 {first_lines(5, 5)}
 r10 {first_lines(5, 5)}
+concentrated {first_lines(9, 9)}
+1 1 2 5 5 6 2 2 1 2 1 2
+r10 {first_lines(5, 5)}
+r10 {first_lines(5, 5)}
 cycle {first_lines(12, 12)}
 {line_set([2, 3], [4, 5])}
 violator 2 2 7 8 7 8
@@ -56,4 +60,4 @@ OWN_PARTS = {
 def chain(*kinds):
     """A chain of reductions, and of sums with an R10 leaf, that ends with a network."""
     nodes = [f"{kind} {first_lines(5, 5)}\n{OWN_PARTS[kind]}\n" for kind in kinds]
-    return f"cmr-tree 1\n1000 1000\n{''.join(nodes)}network 1 1 1 1\n0 1 0 1\n"
+    return f"cmr-tree 2\n1000 1000\n{''.join(nodes)}network 1 1 1 1\n0 1 0 1\n"
