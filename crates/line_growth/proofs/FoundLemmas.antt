@@ -1,10 +1,14 @@
 -- Places that are found for the first time.
-use Rattle.std.proofs.Common.{◌≡◌, ◌<◌, ◌≤◌, ◌+◌, ◌&&◌, ◌||◌, ◌∙◌, not, sym, subst, refl, arith, inl, inr, ℕ, ℤ, Bool, true, false, List}
+use Rattle.std.proofs.Common.{◌≡◌, ◌<◌, ◌≤◌, ◌+◌, ◌*◌, ◌/◌, ◌%◌, ◌⊎◌, ◌&&◌, ◌||◌, ◌∙◌, not, set, length, ap, sym, subst, refl, arith, inl, inr, ℕ, ℤ, Bool, true, false, List}
 use Rattle.std.proofs.lemmas.Bool.{false≢true, cases_lt}
+use Rattle.std.proofs.lemmas.List.{get_or-set_same, get_or-set_other, length-set}
 use Rattle.cmr_base.specs.ColumnSets.{has_column}
 use Rattle.cmr_base.specs.Differences.{differs_at}
 use Rattle.cmr_base.specs.Matrix.{Matrix, height, IsMatrix}
+use Rattle.cmr_base.specs.Planes.{has_bit}
+use Rattle.cmr_base.proofs.ColumnWords.{column_at, none_past}
 use Rattle.cmr_base.proofs.DifferenceWords.{difference_in}
+use Rattle.line_growth.specs.FoundPlaces.{IsFilled}
 use Rattle.line_growth.specs.Reaching.{is_marked}
 
 first_of : (t s : Bool) → (t && not s) ≡ true → t ≡ true
@@ -44,3 +48,26 @@ found_until found marks marks' first from next grows before none here place l e 
 pub kept_marked : (before now : Bool) {P : Type 0} → (before ≡ true → P) → (now ≡ true → P) → (before || now) ≡ true → P
 kept_marked true now f g e = f refl
 kept_marked false now f g e = g e
+
+-- ---- words that are filled one after another
+
+pub filled_word : (test : ℕ → Bool) (before after : List ℕ) (block word : ℕ) → IsFilled test before after block → block < length after → ((k : ℕ) → k < 64 → has_bit word k ≡ test (64 * block + k))
+    → IsFilled test before (set after block word) (block + 1)
+filled_word test before after block word f l bits = record {
+  size = length-set after block word ∙ f.size;
+  done = λ place h. go place h (cases_lt place (64 * block));
+}
+  where
+    go : (place : ℕ) → place < 64 * (block + 1) → (place < 64 * block) ⊎ (64 * block ≤ place) → has_column (set after block word) place ≡ test place
+    go place h (inl k) = ap (λ w. has_bit w (place % 64)) (get_or-set_other after block (place / 64) word 0 (λ e. absurd (omega arith))) ∙ f.done place k
+    go place h (inr k) =
+        let at : 64 * block + place % 64 ≡ place = omega arith in
+        subst (λ x. has_column (set after block word) x ≡ test x) at
+        (column_at (set after block word) block (place % 64) (omega arith) ∙ ap (λ w. has_bit w (place % 64)) (get_or-set_same after block word 0 l) ∙ bits (place % 64) (omega arith))
+
+pub filled_all : (test : ℕ → Bool) (before after : List ℕ) (block : ℕ) → IsFilled test before after block → length before ≤ block → ((place : ℕ) → 64 * length before ≤ place → test place ≡ false)
+    → (place : ℕ) → has_column after place ≡ test place
+filled_all test before after block f l none place = elim (cases_lt place (64 * block)) [
+  | inl k ↦ f.done place k
+  | inr k ↦ none_past after place (let s = f.size in omega arith) ∙ sym (none place (omega arith))
+]

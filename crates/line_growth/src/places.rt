@@ -6,7 +6,7 @@ ghost use Rattle.cmr_base.specs.Matrix.{height, IsEntry};
 ghost use Rattle.line_growth.specs.FoundPlaces.{HaveSize};
 
 use crate::rule::Multiple;
-use cmr_base::columns::{add_set, clear_set, empty_set, next_column, outside};
+use cmr_base::columns::{add_set, empty_set, next_column, outside};
 use cmr_base::{Matrix, Memory};
 use std::alloc::Global;
 
@@ -41,10 +41,9 @@ impl Places {
         ensures found { (column : ℕ) → has_column self.new.found.items column ≡ (differs_at matrix.now row multiple.factor multiple.model column && not (has_column self.old.seen.items column)) }
     {
         let _columns = matrix.columns();
-        clear_set(&mut self.found);
         for block in 0..self.found.len() {
             let word = matrix.difference_word(row, multiple.factor, multiple.model, block as u32);
-            self.found[block] |= outside(word, self.seen[block]);
+            self.found[block] = outside(word, self.seen[block]);
         }
     }
 

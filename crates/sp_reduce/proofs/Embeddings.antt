@@ -1,21 +1,17 @@
 -- A matrix that lies in another, up to the order and the signs of lines, is series-parallel where the other is.
-use Rattle.std.proofs.Common.{◌≡◌, ◌≢◌, ◌&&◌, ◌∙◌, ◌⊎◌, inl, inr, ℕ, Bool, true, false, cond, not, eqb, ℤ, pos, negsuc, neg_ℤ, ◌*ℤ◌, List, [], ◌∷◌, find, Option, Some, None, is_some, IsSome, option_map, eqb-true, eq-eqb, ne_eqb, refl, ap, sym, subst, arith}
-use Rattle.std.specs.Option.{option_or}
+use Rattle.std.proofs.Common.{◌≡◌, ◌≢◌, ◌∙◌, ◌⊎◌, inl, inr, ℕ, Bool, cond, eqb, ℤ, pos, ◌*ℤ◌, List, [], ◌∷◌, eq-eqb, ne_eqb, refl, ap, sym, subst, arith}
 use Rattle.std.specs.List.Sorted.{IsStrictlyIncreasing}
-use Rattle.std.proofs.lemmas.Bool.{eqb-false, cases_eq}
+use Rattle.std.proofs.lemmas.Bool.{cases_eq}
 use Rattle.cmr_base.specs.declared.line.Line.{Line}
 use Rattle.cmr_base.specs.declared.line.Line.TheVariants.{Row, Column}
-use Rattle.cmr_base.specs.declared.line.Reason.{Reason}
-use Rattle.cmr_base.specs.declared.line.Reason.TheVariants.{Zero, Unit as One, Copy, Negative}
-use Rattle.cmr_base.specs.Matrix.{is_nonzero}
 use Rattle.cmr_base.specs.LineSets.{without}
-use Rattle.cmr_base.specs.Reductions.{nonzeros_at, equal_at, first_equal, first_reason, IsFullRemoval, IsSeriesParallelOn}
+use Rattle.cmr_base.specs.Reductions.{IsFullRemoval, IsSeriesParallelOn}
 use Rattle.cmr_base.proofs.Integers.{sums, products}
 use Rattle.cmr_base.specs.Members.{IsIn}
 use Rattle.cmr_base.proofs.Members.{IsWithin}
-use Rattle.cmr_base.proofs.ListsWithout.{true_is_false, increasing_distinct, in_without, without_in, without_increases, preimage, contains_from_in, empty_from_none}
-use Rattle.cmr_base.proofs.ThinLines.{and_is, is_and, not_is, found_is, is_found, equal_is, is_equal, IsThin, thin_from_count, count_from_thin, nonzero_found}
-use Rattle.cmr_base.proofs.ReducibleLines.{IsFactor, HasTwin, IsReducible, some_map, reducible_from_reason, reason_from_reducible}
+use Rattle.cmr_base.proofs.ListsWithout.{in_without, without_in, without_increases, preimage, contains_from_in, empty_from_none}
+use Rattle.cmr_base.proofs.ThinLines.{IsThin}
+use Rattle.cmr_base.proofs.ReducibleLines.{IsFactor, HasTwin, IsReducible, reducible_from_reason, reason_from_reducible}
 
 -- f with the value v at k
 put : {X : Type 0} → ℕ → X → (ℕ → X) → ℕ → X

@@ -13,3 +13,5 @@ pub mod ChangeLemmas
 pub mod Pairs
 pub mod StatedOrder
 pub mod Loops
+pub mod PlaceSums
+pub mod TallyLemmas

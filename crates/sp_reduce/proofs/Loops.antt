@@ -1,29 +1,13 @@
 -- Loops over the lines of a side: the lines so far are done, and the others are as they were.
-use Rattle.std.proofs.Common.{◌≡◌, ◌<◌, ◌≤◌, ◌+◌, ◌*◌, ◌^◌, ◌++◌, ◌∙◌, inl, inr, ℕ, Bool, false, cond, Fits, w64, List, [], ◌∷◌, length, get_or, sym, ap, subst, arith}
-use Rattle.std.specs.List.Sorted.{IsStrictlyIncreasing}
+use Rattle.std.proofs.Common.{◌≡◌, ◌<◌, ◌≤◌, ◌+◌, ◌++◌, ◌∙◌, inl, inr, ℕ, Bool, false, cond, List, [], ◌∷◌, length, get_or, sym, ap, subst, arith}
 use Rattle.std.proofs.lemmas.Bool.{cases_eq}
 use Rattle.std.proofs.lemmas.List.{get_or_append_left}
 use Rattle.std.proofs.Math.Seq.{get_or-append_seam}
-use Rattle.cmr_base.specs.Matrix.{Matrix, height, entry, IsMatrix}
-use Rattle.cmr_base.specs.LineSets.{AllBelow}
-use Rattle.cmr_base.proofs.Members.{distinct_few}
-use Rattle.cmr_base.proofs.ListsWithout.{increasing_distinct, place_of, place_is}
-use Rattle.sp_reduce.specs.declared.kind.Kind.{Kind}
-use Rattle.sp_reduce.specs.declared.kind.Kind.TheVariants.{Rows, Columns}
+use Rattle.cmr_base.specs.Matrix.{Matrix, entry}
 use Rattle.sp_reduce.specs.declared.side.Side.{Side}
 use Rattle.sp_reduce.specs.Kinds.{table, is_twin}
-use Rattle.sp_reduce.specs.Sides.{weight, IsAcross}
+use Rattle.sp_reduce.specs.Sides.{weight}
 use Rattle.sp_reduce.specs.Changes.{crosses, HasForgotten, IsSameAt, IsUnsettled}
-use Rattle.cmr_base.proofs.Parts.{length-rising}
-
--- ---- how many lines there are
-
-pub across_few : (m : Matrix) (kind : Kind) (across : List ℕ) → IsMatrix m → IsAcross m kind across → length across ≤ 1000
-across_few m Rows across shape is = let few = length-rising across m.width is.rising is.in_range in let small = shape.width_in in omega (arith, few, small)
-across_few m Columns across shape is = let few = length-rising across (height m) is.rising is.in_range in let small = shape.height_in in omega (arith, few, small)
-
-pub weights_fit : (sum place more : ℕ) → sum ≤ place * 1000 ^ 5 → place < 1000 → more ≤ 1000 ^ 5 → Fits w64 (sum + more)
-weights_fit sum place more h few small = omega (arith, h, few, small)
 
 -- ---- the numbers of the lines so far
 

@@ -1,11 +1,15 @@
 -- Searches that go on from the front of a list.
-use Rattle.std.proofs.Common.{◌≡◌, ◌<◌, ◌+◌, ◌∙◌, ℕ, zero, suc, Bool, true, false, cond, List, [], ◌∷◌, length, take, get_or, find, Option, Some, None, ap, subst, arith}
+use Rattle.std.proofs.Common.{◌≡◌, ◌<◌, ◌+◌, ◌∙◌, ℕ, zero, suc, Bool, true, false, cond, List, [], ◌∷◌, length, take, get_or, find, Option, Some, None, refl, ap, subst, arith}
 use Rattle.std.specs.Option.{option_or}
 use Rattle.std.proofs.lemmas.List.{take_more}
 use Rattle.std.proofs.lemmas.List.Folds.{find-append}
 
 pub some_not_none : {X A : Type 0} {y : X} → Some y ≡ None → A
 some_not_none e = absurd (subst (λ o. elim o as (λ _. Type 0) [ None ↦ ⊥ | Some z ↦ Unit {0} ]) e tt)
+
+pub find_none : (test : ℕ → Bool) (xs : List ℕ) → ((i : ℕ) → i < length xs → test (get_or xs i 0) ≡ false) → find test xs ≡ None
+find_none test [] h = refl
+find_none test (x ∷ xs) h = rw (h 0 (omega arith)) (find_none test xs (λ i g. h (suc i) (omega (arith, g))))
 
 pub find_more : (test : ℕ → Bool) (xs : List ℕ) (i : ℕ) → i < length xs → find test (take i xs) ≡ None → test (get_or xs i 0) ≡ false → find test (take (i + 1) xs) ≡ None
 find_more test xs i h none no_ =

@@ -25,6 +25,11 @@ abbrev pub other_kind : Kind → Kind
 other_kind Rows = Columns
 other_kind Columns = Rows
 
+-- the line of the kind through a row and a column
+abbrev pub own_line : Kind → ℕ → ℕ → ℕ
+own_line Rows row column = row
+own_line Columns row column = column
+
 -- how many lines of the kind there are, and how many of the other kind
 abbrev pub size_of : Matrix → Kind → ℕ
 size_of m Rows = height m

@@ -1,4 +1,5 @@
 pub mod Laws
 pub mod Kinds
 pub mod Sides
+pub mod Tallies
 pub mod Changes

@@ -38,6 +38,15 @@ pub record IsAcross (m : Matrix) (kind : Kind) (across : List ℕ) : Type 0 wher
   pub rising : IsStrictlyIncreasing across
   pub in_range : AllBelow (cross_size m kind) across
 
+-- the lines at two places are not one, and have one sum
+abbrev pub may_be_twins : Side → ℕ → ℕ → Bool
+may_be_twins side place other =
+    slice_index side.sums.items other == slice_index side.sums.items place && not (slice_index side.stays.items other == slice_index side.stays.items place)
+
+-- no other line has the sum of the line at a place
+abbrev pub IsAlone : Side → ℕ → Type 0
+IsAlone side place = (other : ℕ) → other < length side.stays.items → may_be_twins side place other ≡ false
+
 -- the counts and sums are those of the nonzeros in these crossing lines
 pub record IsCounted (m : Matrix) (side : Side) (across : List ℕ) : Type 0 where
   pub counts : (at : ℕ) → at < length side.stays.items

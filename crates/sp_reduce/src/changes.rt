@@ -8,7 +8,8 @@ ghost use Rattle.sp_reduce.specs.Sides.{IsParallel, IsSide, IsAcross, IsCounted,
 ghost use Rattle.sp_reduce.specs.Changes.{IsBefore, IsCutAt, IsHeld, IsHeldAt, HasForgotten, IsSameAt, IsForgetting, IsUnsettled};
 
 use crate::kind::{is_nonzero, number_of};
-use crate::side::{Side, weight};
+use crate::side::Side;
+use crate::tallies::weight;
 use cmr_base::{Matrix, Reason};
 
 impl Side {

@@ -4,7 +4,7 @@ ghost use Rattle.std.specs.Ordering.{int_eq};
 ghost use Rattle.cmr_base.specs.Matrix.{entry, is_nonzero, IsEntry};
 ghost use Rattle.cmr_base.specs.LineSets.{AllBelow};
 ghost use Rattle.cmr_base.specs.Reductions.{nonzeros_at, equal_at};
-ghost use Rattle.sp_reduce.specs.Kinds.{number_of, line_named, cross_named, size_of, cross_size, table};
+ghost use Rattle.sp_reduce.specs.Kinds.{number_of, line_named, cross_named, other_kind, own_line, size_of, cross_size, table};
 
 use cmr_base::{Line, Matrix};
 
@@ -22,6 +22,35 @@ impl Kind {
         match self {
             Kind::Rows => Line::Row(number),
             Kind::Columns => Line::Column(number),
+        }
+    }
+
+    pub fn other(self) -> Kind
+        ensures { result ≡ other_kind self }
+    {
+        match self {
+            Kind::Rows => Kind::Columns,
+            Kind::Columns => Kind::Rows,
+        }
+    }
+
+    // How many lines of this kind there are.
+    pub fn size(self, matrix: &Matrix) -> u32
+        ensures { result ≡ size_of matrix.now self }
+    {
+        match self {
+            Kind::Rows => matrix.rows(),
+            Kind::Columns => matrix.columns(),
+        }
+    }
+
+    // The line of this kind through a place.
+    pub fn own(self, row: u32, column: u32) -> u32
+        ensures { result ≡ own_line self row column }
+    {
+        match self {
+            Kind::Rows => row,
+            Kind::Columns => column,
         }
     }
 
@@ -62,7 +91,10 @@ pub fn is_nonzero(matrix: &Matrix, kind: Kind, line: u32, other: u32) -> bool
     requires other { other < cross_size matrix.now kind }
     ensures { result ≡ is_nonzero (table (entry matrix.now) kind line other) }
 {
-    entry(matrix, kind, line, other) != 0
+    match kind {
+        Kind::Rows => matrix.is_nonzero(line, other),
+        Kind::Columns => matrix.is_nonzero(other, line),
+    }
 }
 
 fn is_equal(matrix: &Matrix, kind: Kind, line: u32, twin: u32, other: u32) -> bool

@@ -8,6 +8,7 @@ mod minimal;
 mod reducible;
 mod removal;
 mod side;
+mod tallies;
 
 pub use cmr_base::{Reason, Step, StepList};
 pub use minimal::minimal_not_sp;

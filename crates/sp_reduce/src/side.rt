@@ -1,13 +1,14 @@
 // The lines of one kind that stay, and what is known of each.
-ghost use Rattle.std.specs.Prelude.{IfOk, if◌then◌else◌, Bool, ◌≡◌, ◌<◌, ◌≤◌, ◌&&◌, ◌==◌, ◌^◌, not, neg_ℤ, length, slice_index, slice_get, find, Some, None, MatchOption};
+ghost use Rattle.std.specs.Prelude.{IfOk, if◌then◌else◌, Bool, false, ◌≡◌, ◌<◌, ◌≤◌, ◌^◌, not, neg_ℤ, length, slice_index, slice_get, find, Some, None, MatchOption};
 ghost use Rattle.std.specs.List.Sorted.{IsStrictlyIncreasing};
 ghost use Rattle.cmr_base.specs.Matrix.{entry, is_nonzero, IsMatrix};
 ghost use Rattle.cmr_base.specs.LineSets.{AllBelow};
 ghost use Rattle.cmr_base.specs.Reductions.{nonzeros_at, equal_at, first_equal};
 ghost use Rattle.sp_reduce.specs.Kinds.{size_of, cross_size, table, line_named, reason_for, is_twin};
-ghost use Rattle.sp_reduce.specs.Sides.{weight, weight_at, is_copy, is_negative, twin_reason, IsParallel, IsSide, IsAcross, IsCounted, IsSettled, IsFirst, first_step_of};
+ghost use Rattle.sp_reduce.specs.Sides.{weight, weight_at, is_copy, is_negative, twin_reason, may_be_twins, IsAlone, IsParallel, IsSide, IsAcross, IsCounted, IsSettled, IsFirst, first_step_of};
 
-use crate::kind::{Kind, are_equal, are_opposite, count_nonzeros, is_nonzero};
+use crate::kind::{Kind, are_equal, are_opposite, is_nonzero};
+use crate::tallies::{Tallies, marks_of};
 use cmr_base::{Matrix, Memory, Reason};
 use std::alloc::Global;
 
@@ -29,14 +30,6 @@ pub struct Found {
     pub reason: Reason,
 }
 
-pub fn weight(number: u32) -> u64
-    requires { number < 1000 }
-    ensures value { result ≡ weight number }
-    ensures small { result ≤ 1000 ^ 5 }
-{
-    (u64::from(number) + 1).pow(5)
-}
-
 impl Side {
     // Counts the nonzeros of some lines in some crossing lines.
     pub fn new(
@@ -56,11 +49,13 @@ impl Side {
         ensures counted { IfOk result (λ side. IsCounted matrix.now side across.now) }
         ensures settled { IfOk result (λ side. (binary : Bool) → IsSettled binary matrix.now side across.now) }
     {
+        let marks = marks_of(alloc, kind.other().size(matrix), across)?;
+        let tallies = Tallies::new(alloc, matrix, kind, &marks)?;
         let mut counts = Vec::with_capacity(alloc, stays.len())?;
         let mut sums = Vec::with_capacity(alloc, stays.len())?;
         'lines: for line in stays {
-            counts.push(count_nonzeros(matrix, kind, *line, across) as u32)?;
-            sums.push(weigh(matrix, kind, *line, across))?;
+            counts.push(tallies.counts[*line as usize])?;
+            sums.push(tallies.sums[*line as usize])?;
         }
         Ok(Side {
             kind,
@@ -153,6 +148,40 @@ impl Side {
         requires place { place < length self.now.stays.items }
         ensures { result ≡ twin_reason binary (entry matrix.now) self.now.kind self.now.stays.items across.now (slice_index self.now.stays.items place) }
     {
+        if self.shares_sum(place) {
+            self.first_twin(matrix, place, across, binary)
+        } else {
+            None
+        }
+    }
+
+    // Whether the line at another place has the same sum.
+    fn shares_sum(&self, place: usize) -> bool
+        requires parallel { IsParallel self.now }
+        requires place { place < length self.now.stays.items }
+        ensures { result ≡ false → IsAlone self.now place }
+    {
+        'places: for other in 0..self.stays.len() {
+            if self.may_be_twins(place, other) {
+                return true;
+            }
+        }
+        false
+    }
+
+    fn first_twin(
+        &self,
+        matrix: &Matrix,
+        place: usize,
+        across: &[u32],
+        binary: bool,
+    ) -> Option<Reason>
+        requires side { IsSide matrix.now self.now }
+        requires across { IsAcross matrix.now self.now.kind across.now }
+        requires counted { IsCounted matrix.now self.now across.now }
+        requires place { place < length self.now.stays.items }
+        ensures { result ≡ twin_reason binary (entry matrix.now) self.now.kind self.now.stays.items across.now (slice_index self.now.stays.items place) }
+    {
         if let Some(twin) = self.first_copy(matrix, place, across) {
             return Some(Reason::Copy(self.kind.line(twin)));
         }
@@ -217,9 +246,9 @@ impl Side {
         requires parallel { IsParallel self.now }
         requires place { place < length self.now.stays.items }
         requires other { other < length self.now.stays.items }
-        ensures { result ≡ (not (slice_index self.now.stays.items other == slice_index self.now.stays.items place) && slice_index self.now.sums.items other == slice_index self.now.sums.items place) }
+        ensures { result ≡ may_be_twins self.now place other }
     {
-        self.stays[other] != self.stays[place] && self.sums[other] == self.sums[place]
+        self.sums[other] == self.sums[place] && self.stays[other] != self.stays[place]
     }
 
     fn is_copy(&self, matrix: &Matrix, place: usize, other: usize, across: &[u32]) -> bool
@@ -257,28 +286,6 @@ impl Side {
                 across,
             )
     }
-}
-
-// The weights of the crossing lines in which the line has a nonzero.
-fn weigh(matrix: &Matrix, kind: Kind, line: u32, across: &[u32]) -> u64
-    requires shape { IsMatrix matrix.now }
-    requires line { line < size_of matrix.now kind }
-    requires across { IsAcross matrix.now kind across.now }
-    ensures { result ≡ weight_at across.now (table (entry matrix.now) kind line) }
-{
-    let mut sum = 0;
-    'others: for other in across {
-        sum += weight_if(is_nonzero(matrix, kind, line, *other), *other);
-    }
-    sum
-}
-
-fn weight_if(counts: bool, number: u32) -> u64
-    requires { number < 1000 }
-    ensures value { result ≡ (if counts then weight number else 0) }
-    ensures small { result ≤ 1000 ^ 5 }
-{
-    if counts { weight(number) } else { 0 }
 }
 
 fn first_nonzero(matrix: &Matrix, kind: Kind, line: u32, across: &[u32]) -> Option<u32>

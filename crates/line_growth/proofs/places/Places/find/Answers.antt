@@ -5,15 +5,16 @@ use Rattle.cmr_base.specs.ColumnSets.{has_column}
 use Rattle.cmr_base.specs.Differences.{differs_at}
 use Rattle.cmr_base.specs.Matrix.{Matrix, height, IsMatrix}
 use Rattle.cmr_base.specs.Planes.{has_bit}
-use Rattle.cmr_base.proofs.ColumnWords.{added_none, added_word, added_all, column_at}
+use Rattle.cmr_base.proofs.ColumnWords.{column_at}
 use Rattle.cmr_base.proofs.DifferenceWords.{difference_in}
 use Rattle.cmr_base.proofs.SmallEntries.{entry_as_byte}
+use Rattle.line_growth.proofs.FoundLemmas.{filled_word, filled_all}
 use Rattle.line_growth.proofs.places.Places.find.Goals as goal
 
 pub loop-block-init : goal.loop-block-init
 loop-block-init c = record {
   seen = refl;
-  added = added_none (λ column. differs_at c.args.matrix.now c.args.row c.args.multiple.factor c.args.multiple.model column && not (has_column c.args.self.now.seen.items column)) c.clear_set.new.set.items;
+  filled = record { size = refl; done = λ place l. absurd (omega arith) };
 }
 
 -- a bit by its test
@@ -31,8 +32,7 @@ loop-block-preserved c =
     let block = c.loop-block.block in
     let word = c.difference_word-word.result in
     let i = c.loop-block.invariant in
-    let e = i.added.size in
-    let k = c.clear_set.ensures.size in
+    let e = i.filled.size in
     let f = c.requires.size.found in
     let l = c.loop-block-test.true in
     let inside : block < length seen = let o = c.requires.size.seen in let z = c.len-block-end.ensures in omega arith in
@@ -43,7 +43,7 @@ loop-block-preserved c =
     let test : ℕ → Bool = λ x. differs_at m row factor model x && not (has_column seen x) in
     record {
       seen = i.seen;
-      added = added_word test c.clear_set.new.set.items c.loop-block.self.found.items block c.index_mut.result.now c.outside.result i.added (omega arith) c.index_mut.ensures.value
+      filled = filled_word test c.args.self.now.found.items c.loop-block.self.found.items block c.outside.result i.filled (omega arith)
           (λ j s. c.outside.ensures j s ∙ ap₂ (λ a b. a && not b) (differs j s) (ap (λ w. has_bit w j) own ∙ sym (column_at seen block j s)));
     }
 
@@ -64,11 +64,10 @@ returns-clause-found c = λ column.
     let m = c.args.matrix.now in
     let factor = c.args.multiple.factor in
     let model = c.args.multiple.model in
-    let s = c.loop-block.invariant.added.size in
-    let k = c.clear_set.ensures.size in
+    let s = c.loop-block.invariant.filled.size in
+    let e = c.len-block-end.ensures in
     let f = c.requires.size.found in
     let l = c.loop-block-test.false in
     let test : ℕ → Bool = λ x. differs_at m c.args.row factor model x && not (has_column c.args.self.now.seen.items x) in
-    added_all test c.clear_set.new.set.items c.loop-block.self.found.items c.loop-block.block c.loop-block.invariant.added (omega arith)
+    filled_all test c.args.self.now.found.items c.loop-block.self.found.items c.loop-block.block c.loop-block.invariant.filled (omega arith)
     (λ x past. none_past_words m c.args.row factor model c.columns-columns.ensures.shape c.requires.row c.requires.model (not (has_column c.args.self.now.seen.items x)) x (omega arith)) column
-    ∙ ap (λ t. t || test column) (c.clear_set.ensures.none column)

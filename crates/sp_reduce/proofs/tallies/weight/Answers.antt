@@ -1,6 +1,6 @@
 use Rattle.std.proofs.Common.{◌+◌, arith}
 use Rattle.sp_reduce.proofs.Weights.{weight_small}
-use Rattle.sp_reduce.proofs.side.weight.Goals as goal
+use Rattle.sp_reduce.proofs.tallies.weight.Goals as goal
 
 pub pow-requires : goal.pow-requires
 pow-requires c = omega (arith, weight_small (c.from.result + 1) (omega (arith, c.from.ensures, c.requires)))

@@ -1,0 +1,45 @@
+use Rattle.std.proofs.Common.{◌≡◌, ◌+◌, ◌≤◌, ◌^◌, ◌*◌, ◌∙◌, ℕ, cond, false, get_or, set, ap, ap₂, subst, sym, arith}
+use Rattle.sp_reduce.specs.Kinds.{own_line, other_kind}
+use Rattle.sp_reduce.specs.Sides.{weight}
+use Rattle.sp_reduce.specs.declared.kind.Kind.{Kind}
+use Rattle.sp_reduce.proofs.TallyLemmas.{tallies_same, tallies_step, passed_row, counts_small, sums_small, own_in}
+use Rattle.sp_reduce.proofs.tallies.Tallies.add_row.Goals as goal
+
+pub returns : goal.returns
+returns c =
+    tallies_same c.args.matrix.now c.args.kind c.args.marks.now c.args.row c.columns.from (c.args.row + 1) 0 c.columns.self
+    (passed_row c.args.matrix.now c.args.row c.columns.from c.in_default.ensures.first) c.columns.invariant.are
+
+pub add-requires-clause-few : goal.add-requires-clause-few
+add-requires-clause-few c =
+    let m = c.args.matrix.now in
+    let row = c.args.row in
+    let next = c.in-Some.column in
+    subst (λ (n : ℕ). get_or c.columns.self.counts.items n 0 ≤ 1000) (sym c.own-line.ensures)
+    (counts_small m c.args.kind c.args.marks.now row c.columns.from c.columns.self c.requires.shape c.columns.invariant.are (own_line c.args.kind row next) (own_in m c.args.kind row next c.requires.row c.in-Some.ensures.first.1))
+
+pub add-requires-clause-light : goal.add-requires-clause-light
+add-requires-clause-light c =
+    let m = c.args.matrix.now in
+    let row = c.args.row in
+    let next = c.in-Some.column in
+    subst (λ (n : ℕ). get_or c.columns.self.sums.items n 0 ≤ 1000 * 1000 ^ 5) (sym c.own-line.ensures)
+    (sums_small m c.args.kind c.args.marks.now row c.columns.from c.columns.self c.requires.shape c.columns.invariant.are (own_line c.args.kind row next) (own_in m c.args.kind row next c.requires.row c.in-Some.ensures.first.1))
+
+pub columns-preserved : goal.columns-preserved
+columns-preserved c =
+    let kind = c.args.kind in
+    let marks = c.args.marks.now in
+    let row = c.args.row in
+    let next = c.in-Some.column in
+    let counts = c.columns.self.counts.items in
+    let sums = c.columns.self.sums.items in
+    let found = c.in-Some.ensures.first in
+    let small = c.in-Some.ensures.small in
+    let other : c.own-other.result ≡ own_line (other_kind kind) row next = c.own-other.ensures ∙ ap (λ (k : Kind). own_line k row next) c.other.ensures in
+    record {
+      inside = omega (arith, small);
+      are = tallies_step c.args.matrix.now kind marks row c.columns.from next c.columns.self c.add.new.self c.columns.invariant.are c.requires.row found.1 found.0 found.2 found.3
+          (c.add.ensures.counts ∙ ap₂ (λ (l o : ℕ). set counts l (get_or counts l 0 + cond (get_or marks o false) 1 0)) c.own-line.ensures other)
+          (c.add.ensures.sums ∙ ap₂ (λ (l o : ℕ). set sums l (get_or sums l 0 + cond (get_or marks o false) (weight o) 0)) c.own-line.ensures other);
+    }

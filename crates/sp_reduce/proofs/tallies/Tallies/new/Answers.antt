@@ -1,0 +1,13 @@
+use Rattle.std.proofs.Common.{rules, ◌≡◌, ◌∙◌, ℕ, ap, replicate}
+use Rattle.sp_reduce.specs.declared.tallies.Tallies.{Tallies}
+use Rattle.sp_reduce.specs.Kinds.{size_of}
+use Rattle.sp_reduce.proofs.TallyLemmas.{tallies_start}
+use Rattle.sp_reduce.proofs.tallies.Tallies.new.Goals as goal
+
+pub rows-init : goal.rows-init
+rows-init c =
+    let size : c.size-size.result ≡ size_of c.args.matrix.now c.args.kind = c.size-size.ensures in
+    let counts : c.in_ok-vec.field-0.items ≡ replicate c.size-size.result 0 = search rules in
+    let sums : c.in_ok-vec-2.field-0.items ≡ replicate c.size-size.result 0 = search rules in
+    let tallies : Tallies = record { counts = c.in_ok-vec.field-0; sums = c.in_ok-vec-2.field-0 } in
+    tallies_start c.args.matrix.now c.args.kind c.args.marks.now tallies (counts ∙ ap (λ (n : ℕ). replicate n 0) size) (sums ∙ ap (λ (n : ℕ). replicate n 0) size)

@@ -1,0 +1,42 @@
+-- Nonzeros of all lines of a kind in marked crossing lines, counted row by row.
+use Rattle.std.specs.Prelude.{◌≡◌, ◌<◌, ◌&&◌, ◌||◌, ◌==◌, ◌↔◌, nat_lt, if◌then◌else◌, Bool, true, false, ℕ, List, length, slice_index, slice_index_or, sum_by}
+use Rattle.cmr_base.specs.Matrix.{Matrix}
+use Rattle.cmr_base.specs.Trees.{support}
+use Rattle.cmr_base.specs.LineSets.{first_lines}
+use Rattle.cmr_base.specs.Members.{IsIn}
+use Rattle.sp_reduce.specs.declared.kind.Kind.{Kind}
+use Rattle.sp_reduce.specs.declared.kind.Kind.TheVariants.{Rows, Columns}
+use Rattle.sp_reduce.specs.declared.tallies.Tallies.{Tallies}
+use Rattle.sp_reduce.specs.Kinds.{size_of, cross_size}
+use Rattle.sp_reduce.specs.Sides.{weight}
+
+-- of so many lines, these are marked
+pub record AreMarks (size : ℕ) (lines : List ℕ) (marks : List Bool) : Type 0 where
+  pub long : length marks ≡ size
+  pub exact : (k : ℕ) → (slice_index_or marks k false ≡ true) ↔ IsIn k lines
+
+-- a place above the row, or in it and before the column
+abbrev pub is_before : ℕ → ℕ → ℕ → ℕ → Bool
+is_before row column i j = nat_lt i row || (i == row && nat_lt j column)
+
+-- a nonzero there
+abbrev pub is_passed : Matrix → ℕ → ℕ → ℕ → ℕ → Bool
+is_passed m row column i j = is_before row column i j && support m i j
+
+-- the same of a line of the kind and a crossing line
+abbrev pub turned : (ℕ → ℕ → Bool) → Kind → ℕ → ℕ → Bool
+turned test Rows line other = test line other
+turned test Columns line other = test other line
+
+-- the sum of the numbers of the marked places that pass the test
+abbrev pub tally : (ℕ → ℕ) → List Bool → ℕ → (ℕ → Bool) → ℕ
+tally number marks size test = sum_by (λ k. if slice_index_or marks k false && test k then number k else 0) (first_lines size)
+
+-- each line of the kind has the count and the weights of its nonzeros that were passed
+pub record AreTallies (m : Matrix) (kind : Kind) (marks : List Bool) (row column : ℕ) (tallies : Tallies) : Type 0 where
+  pub many_counts : length tallies.counts.items ≡ size_of m kind
+  pub many_sums : length tallies.sums.items ≡ size_of m kind
+  pub counts : (line : ℕ) → line < size_of m kind
+      → slice_index tallies.counts.items line ≡ tally (λ _. 1) marks (cross_size m kind) (turned (is_passed m row column) kind line)
+  pub sums : (line : ℕ) → line < size_of m kind
+      → slice_index tallies.sums.items line ≡ tally weight marks (cross_size m kind) (turned (is_passed m row column) kind line)

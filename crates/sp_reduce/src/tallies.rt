@@ -1,0 +1,101 @@
+// The nonzeros of all lines of one kind in some crossing lines, found in the words of the rows.
+ghost use Rattle.std.specs.Prelude.{◌≡◌, ◌<◌, ◌≤◌, ◌+◌, ◌*◌, ◌^◌, if◌then◌else◌, length, set, slice_index, IfOk};
+ghost use Rattle.cmr_base.specs.Matrix.{height, IsMatrix};
+ghost use Rattle.cmr_base.specs.LineSets.{AllBelow};
+ghost use Rattle.sp_reduce.specs.Kinds.{cross_size};
+ghost use Rattle.sp_reduce.specs.Sides.{weight};
+ghost use Rattle.sp_reduce.specs.Tallies.{AreMarks, AreTallies};
+
+use crate::kind::Kind;
+use cmr_base::{Matrix, Memory};
+use std::alloc::Global;
+
+// For each line of a kind, the count of its nonzeros in marked crossing lines, and the sum of the weights of these
+// crossing lines.
+#[derive(Debug, Drop)]
+pub struct Tallies {
+    pub counts: Vec<u32>,
+    pub sums: Vec<u64>,
+}
+
+pub fn weight(number: u32) -> u64
+    requires { number < 1000 }
+    ensures value { result ≡ weight number }
+    ensures small { result ≤ 1000 ^ 5 }
+{
+    (u64::from(number) + 1).pow(5)
+}
+
+// For each of so many lines, whether it is one of these.
+pub fn marks_of(alloc: Global, size: u32, lines: &[u32]) -> Result<Vec<bool>, Memory>
+    requires { AllBelow size lines.now }
+    ensures { IfOk result (λ marks. AreMarks size lines.now marks.items) }
+{
+    let mut marks = vec![in alloc; false; size as usize]?;
+    'lines: for line in lines {
+        marks[*line as usize] = true;
+    }
+    Ok(marks)
+}
+
+impl Tallies {
+    // Goes through the nonzeros of all rows.
+    pub fn new(
+        alloc: Global,
+        matrix: &Matrix,
+        kind: Kind,
+        marks: &[bool],
+    ) -> Result<Tallies, Memory>
+        requires shape { IsMatrix matrix.now }
+        requires marks { length marks.now ≡ cross_size matrix.now kind }
+        ensures { IfOk result (AreTallies matrix.now kind marks.now (height matrix.now) 0) }
+    {
+        let size = kind.size(matrix) as usize;
+        let mut tallies = Tallies {
+            counts: vec![in alloc; 0u32; size]?,
+            sums: vec![in alloc; 0u64; size]?,
+        };
+        'rows: for row in 0..matrix.rows() {
+            tallies.add_row(matrix, kind, marks, row);
+        }
+        Ok(tallies)
+    }
+
+    fn add_row(&mut self, matrix: &Matrix, kind: Kind, marks: &[bool], row: u32)
+        requires shape { IsMatrix matrix.now }
+        requires marks { length marks.now ≡ cross_size matrix.now kind }
+        requires row { row < height matrix.now }
+        requires before { AreTallies matrix.now kind marks.now row 0 self.old }
+        ensures { AreTallies matrix.now kind marks.now (row + 1) 0 self.new }
+    {
+        let mut from = 0;
+        'columns: while let Some(column) = matrix.next_nonzero(row, from) {
+            let line = kind.own(row, column);
+            let other = kind.other().own(row, column);
+            self.add(line, other, marks[other as usize]);
+            from = column + 1;
+        }
+    }
+
+    // A line has a nonzero in another line, which counts where this is marked.
+    fn add(&mut self, line: u32, other: u32, is_marked: bool)
+        requires in_counts { line < length self.old.counts.items }
+        requires in_sums { line < length self.old.sums.items }
+        requires other { other < 1000 }
+        requires few { slice_index self.old.counts.items line ≤ 1000 }
+        requires light { slice_index self.old.sums.items line ≤ 1000 * 1000 ^ 5 }
+        ensures counts { self.new.counts.items ≡ set self.old.counts.items line (slice_index self.old.counts.items line + (if is_marked then 1 else 0)) }
+        ensures sums { self.new.sums.items ≡ set self.old.sums.items line (slice_index self.old.sums.items line + (if is_marked then weight other else 0)) }
+    {
+        self.counts[line as usize] += if is_marked { 1 } else { 0 };
+        self.sums[line as usize] += weight_if(is_marked, other);
+    }
+}
+
+fn weight_if(counts: bool, number: u32) -> u64
+    requires { number < 1000 }
+    ensures value { result ≡ (if counts then weight number else 0) }
+    ensures small { result ≤ 1000 ^ 5 }
+{
+    if counts { weight(number) } else { 0 }
+}
