@@ -15,6 +15,8 @@ use Rattle.cmr_base.proofs.Parity.{IsFour, even-add, four-double, two_mod_four_n
 use Rattle.cmr_base.proofs.RisingLists.{row_set_rises, column_set_rises, rising_column_set, rising_below}
 use Rattle.cmr_base.proofs.RowLists.{in_filter, search_rows}
 use Rattle.cmr_base.proofs.SumLaws.{sum_over_same, sum_over-add, sum_over-exchange}
+use Rattle.cmr_base.proofs.Booleans.{not_is, is_zero}
+use Rattle.cmr_base.proofs.SignEntries.{sign_is_nonzero}
 use Rattle.ghouila.proofs.SignProducts.{sign_nonzero}
 use Rattle.ghouila.proofs.SignedSums.{zero_or_sign}
 use Rattle.balance.specs.BalanceFaults.{IsBalanceFault}
@@ -24,14 +26,7 @@ use Rattle.balance.proofs.NonzeroCounts.{mark, mark_zero, mark_sign, counted, tw
 use Rattle.balance.proofs.FilterSums.{with_line, sum-with_line, all-with_line, rises-with_line, sum_split, sum_part}
 use Rattle.balance.proofs.ColumnPairs.{some_nonzero, third_zero}
 use Rattle.balance.proofs.AddedLines.{added, only, added_true, added_false, not_added, sum_added, sum_only}
-use Rattle.balance.proofs.MinimalFaults.{IsClosed, closed_rest, part_no_fault, part_sum, less_four, not_true, rows_two, columns_two, other_row, no_lesser, no_chord}
-
-nonzero_sign : (z : ℤ) → IsSign z → is_nonzero z ≡ true
-nonzero_sign z (inl e) = ap is_nonzero e
-nonzero_sign z (inr e) = ap is_nonzero e
-
-zero_not : (z : ℤ) → z ≡ pos 0 → is_nonzero z ≡ false
-zero_not z e = ap is_nonzero e
+use Rattle.balance.proofs.MinimalFaults.{IsClosed, closed_rest, part_no_fault, part_sum, less_four, rows_two, columns_two, other_row, no_lesser, no_chord}
 
 combined : (a b d : ℤ) → IsTwoModFour (a +ℤ b) → IsTwoModFour (d +ℤ b) → IsEven b → IsFour (a +ℤ d)
 combined a b d (k, e) (l, f) (n, g) = (((pos 1 +ℤ k) +ℤ l) -ℤ n, omega (arith, sums))
@@ -74,7 +69,7 @@ module _ (m : Matrix) (small : (i j : ℕ) → IsEntry (entry m i j)) (R C : Lis
             v = v;
             u_in = u_in;
             v_in = k.0;
-            apart = λ e. (added_false (λ i. false) u v (not_true (only u v) k.1)).1 (sym e);
+            apart = λ e. (added_false (λ i. false) u v (not_is (only u v) k.1)).1 (sym e);
             at_u = s;
             at_v = t;
           }
@@ -103,7 +98,7 @@ module _ (m : Matrix) (small : (i j : ℕ) → IsEntry (entry m i j)) (R C : Lis
   never_alike c d c_in d_in apart same four = go (some_nonzero (λ i. entry m i c) (λ i. small i c) R (λ e. let k = columns_two m small R C row_set column_set f before c c_in in omega (arith, sums)))
     where
       sign_of : (z : ℤ) → IsEntry z → is_nonzero z ≡ true → IsSign z
-      sign_of z h e = elim (zero_or_sign z h) [ inl k ↦ absurd (false≢true (sym (zero_not z k) ∙ e)) | inr k ↦ k ]
+      sign_of z h e = elim (zero_or_sign z h) [ inl k ↦ absurd (false≢true (sym (is_zero z k) ∙ e)) | inr k ↦ k ]
 
       closed : IsClosed m small R C row_set column_set f before (λ i. is_nonzero (entry m i c)) (added (only c) d)
       closed i j i_in j_in h = cases (added (only c) d j) refl (is_nonzero (entry m i c)) refl
@@ -115,8 +110,8 @@ module _ (m : Matrix) (small : (i j : ℕ) → IsEntry (entry m i j)) (R C : Lis
           cases true e true g = g ∙ sym e
           cases false e false g = g ∙ sym e
           cases true e false g = absurd (false≢true (sym g ∙ elim (added_true (only c) d j e) [
-            | inr k ↦ same i i_in ∙ nonzero_sign (entry m i d) (subst (λ x. IsSign (entry m i x)) k here)
-            | inl k ↦ elim (added_true (λ x. false) c j k) [ inl l ↦ absurd (false≢true l) | inr l ↦ nonzero_sign (entry m i c) (subst (λ x. IsSign (entry m i x)) l here) ]
+            | inr k ↦ same i i_in ∙ sign_is_nonzero (entry m i d) (subst (λ x. IsSign (entry m i x)) k here)
+            | inl k ↦ elim (added_true (λ x. false) c j k) [ inl l ↦ absurd (false≢true l) | inr l ↦ sign_is_nonzero (entry m i c) (subst (λ x. IsSign (entry m i x)) l here) ]
           ]))
           cases false e true g =
               let out = added_false (only c) d j e in
@@ -128,7 +123,7 @@ module _ (m : Matrix) (small : (i j : ℕ) → IsEntry (entry m i j)) (R C : Lis
       column_part j zeros = sum_part (λ i. is_nonzero (entry m i c)) R (λ i. entry m i j) zeros
 
       zero_of : (z : ℤ) → IsEntry z → is_nonzero z ≡ false → z ≡ pos 0
-      zero_of z h e = elim (zero_or_sign z h) [ inl k ↦ k | inr k ↦ absurd (false≢true (sym e ∙ nonzero_sign z k)) ]
+      zero_of z h e = elim (zero_or_sign z h) [ inl k ↦ k | inr k ↦ absurd (false≢true (sym e ∙ sign_is_nonzero z k)) ]
 
       first : sum_over (filter (λ i. is_nonzero (entry m i c)) R) (λ i. sum_over (filter (added (only c) d) C) (λ j. entry m i j)) ≡ sum_over R (λ i. entry m i d) +ℤ sum_over R (λ i. entry m i c)
       first =
@@ -153,7 +148,7 @@ module _ (m : Matrix) (small : (i j : ℕ) → IsEntry (entry m i j)) (R C : Lis
 
       go : (a : ℕ) × IsIn a R × IsSign (entry m a c) → ⊥
       go (a, a_in, s) = part_no_fault m small R C row_set column_set f before (λ i. not (is_nonzero (entry m i c))) (λ j. not (added (only c) d j)) (closed_rest m small R C row_set column_set f before (λ i. is_nonzero (entry m i c)) (added (only c) d) closed) a a_in
-          (ap not (nonzero_sign (entry m a c) s))
+          (ap not (sign_is_nonzero (entry m a c) s))
           (less_four (sum_over R (λ i. sum_over C (λ j. entry m i j)))
           (sum_over (filter (λ i. is_nonzero (entry m i c)) R) (λ i. sum_over (filter (added (only c) d) C) (λ j. entry m i j)))
           (sum_over (filter (λ i. not (is_nonzero (entry m i c))) R) (λ i. sum_over (filter (λ j. not (added (only c) d j)) C) (λ j. entry m i j)))
@@ -167,12 +162,12 @@ module _ (m : Matrix) (small : (i j : ℕ) → IsEntry (entry m i j)) (R C : Lis
 
   one_support : (w c : ℕ) → IsCandidate m R w → IsCandidate m R c → (j : Joins w) → IsSign (entry m j.u c) → IsSign (entry m j.v c) → (i : ℕ) → IsIn i R → is_nonzero (entry m i w) ≡ is_nonzero (entry m i c)
   one_support w c is is' j s t i h = elim (cases_eq i j.u) [
-    | inl e ↦ subst (λ r. is_nonzero (entry m r w) ≡ is_nonzero (entry m r c)) (sym e) (nonzero_sign (entry m j.u w) j.at_u ∙ sym (nonzero_sign (entry m j.u c) s))
+    | inl e ↦ subst (λ r. is_nonzero (entry m r w) ≡ is_nonzero (entry m r c)) (sym e) (sign_is_nonzero (entry m j.u w) j.at_u ∙ sym (sign_is_nonzero (entry m j.u c) s))
     | inr a ↦ elim (cases_eq i j.v) [
-      | inl e ↦ subst (λ r. is_nonzero (entry m r w) ≡ is_nonzero (entry m r c)) (sym e) (nonzero_sign (entry m j.v w) j.at_v ∙ sym (nonzero_sign (entry m j.v c) t))
+      | inl e ↦ subst (λ r. is_nonzero (entry m r w) ≡ is_nonzero (entry m r c)) (sym e) (sign_is_nonzero (entry m j.v w) j.at_v ∙ sym (sign_is_nonzero (entry m j.v c) t))
       | inr b ↦
-          zero_not (entry m i w) (third_zero (λ k. entry m k w) (λ k. small k w) R (counted (λ k. entry m k w) R ∙ ap pos is) j.u j.v i j.apart (λ e. a (sym e)) (λ e. b (sym e)) j.u_in j.v_in h j.at_u j.at_v)
-          ∙ sym (zero_not (entry m i c) (third_zero (λ k. entry m k c) (λ k. small k c) R (counted (λ k. entry m k c) R ∙ ap pos is') j.u j.v i j.apart (λ e. a (sym e)) (λ e. b (sym e)) j.u_in j.v_in h s t))
+          is_zero (entry m i w) (third_zero (λ k. entry m k w) (λ k. small k w) R (counted (λ k. entry m k w) R ∙ ap pos is) j.u j.v i j.apart (λ e. a (sym e)) (λ e. b (sym e)) j.u_in j.v_in h j.at_u j.at_v)
+          ∙ sym (is_zero (entry m i c) (third_zero (λ k. entry m k c) (λ k. small k c) R (counted (λ k. entry m k c) R ∙ ap pos is') j.u j.v i j.apart (λ e. a (sym e)) (λ e. b (sym e)) j.u_in j.v_in h s t))
     ]
   ]
 
@@ -249,7 +244,7 @@ module _ (m : Matrix) (small : (i j : ℕ) → IsEntry (entry m i j)) (R C : Lis
       d_in = (in_filter (λ k. not (only c k)) d C h).0
 
       d_c : d ≢ c
-      d_c = (added_false (λ x. false) c d (not_true (only c d) (in_filter (λ k. not (only c k)) d C h).1)).1
+      d_c = (added_false (λ x. false) c d (not_is (only c d) (in_filter (λ k. not (only c k)) d C h).1)).1
 
       at_v : IsSign (entry m j.v d)
       at_v = go (other_row m small R C row_set column_set f before j.u d j.u_in d_in a)

@@ -14,13 +14,14 @@ use Rattle.ghouila.proofs.Cycles.{four_or_two}
 use Rattle.cmr_base.proofs.RisingLists.{RisesIn, column_set_rises, rising_below}
 use Rattle.cmr_base.proofs.RowLists.{filter_in, in_filter}
 use Rattle.cmr_base.proofs.SumLaws.{sum_over-exchange}
+use Rattle.cmr_base.proofs.Booleans.{not_is}
 use Rattle.balance.specs.BalanceFaults.{row_nonzeros, column_nonzeros, IsBalanceFault}
 use Rattle.balance.specs.Searched.{HasNoneBefore}
 use Rattle.balance.specs.Kept.{IsCandidate, AreAlike, IsLeastAlike, AreKept}
 use Rattle.balance.proofs.NonzeroCounts.{mark, two_from_sum, two_is_even}
 use Rattle.balance.proofs.FilterSums.{sum_split, rises-part}
 use Rattle.balance.proofs.AddedLines.{only, added_false, not_added, sum_only}
-use Rattle.balance.proofs.MinimalFaults.{not_true, rows_two}
+use Rattle.balance.proofs.MinimalFaults.{rows_two}
 use Rattle.balance.proofs.AlikeColumns.{IsAlike, alike, fault_column, never_alike}
 
 -- ---- lists matched item by item
@@ -54,7 +55,7 @@ matched_sums r none more t f g high (x ∷ xs) ys d s m each = subst (r (f x +�
     rest : IsMatched t xs (filter (λ z. not (only y z)) ys)
     rest = record {
       to = λ a h. let q = m.to a (inr h) in (q.0, kept q.0 q.1 (λ e. d.0 (subst (λ k. IsIn k xs) (m.one_x a x y (inr h) (inl refl) partner.1 (subst (t a) e q.2) partner.2) h)), q.2);
-      from = λ b h. let k = in_filter (λ z. not (only y z)) b ys h in later b k.0 ((added_false (λ z. false) y b (not_true (only y b) k.1)).1) (m.from b k.0);
+      from = λ b h. let k = in_filter (λ z. not (only y z)) b ys h in later b k.0 ((added_false (λ z. false) y b (not_is (only y b) k.1)).1) (m.from b k.0);
       one_y = λ a b c h k l. m.one_y a b c (inr h) (in_filter (λ z. not (only y z)) b ys k).0 (in_filter (λ z. not (only y z)) c ys l).0;
       one_x = λ a c b h k l. m.one_x a c b (inr h) (inr k) (in_filter (λ z. not (only y z)) b ys l).0;
     }

@@ -14,6 +14,7 @@ use Rattle.cmr_base.proofs.Parity.{IsFour, even-sum_over, four-double, two_mod_f
 use Rattle.cmr_base.proofs.RisingLists.{row_set_rises, column_set_rises, rising_row_set, rising_column_set}
 use Rattle.cmr_base.proofs.RowLists.{filter_in, in_filter}
 use Rattle.cmr_base.proofs.SumLaws.{sum_over_same, sum_over-add, sum_over-exchange}
+use Rattle.cmr_base.proofs.Booleans.{not_is, not_false}
 use Rattle.ghouila.proofs.Cycles.{four_or_two}
 use Rattle.ghouila.proofs.SignProducts.{sign_nonzero}
 use Rattle.ghouila.proofs.SignedSums.{zero_or_sign}
@@ -23,14 +24,6 @@ use Rattle.balance.proofs.NonzeroCounts.{mark, mark_zero, mark_sign, counted, tw
 use Rattle.balance.proofs.FilterSums.{with_line, sum-with_line, all-with_line, rises-with_line, sum_split, sum_part, sum_empty, number_less, rises-part, fewer_kept}
 use Rattle.balance.proofs.ColumnPairs.{some_nonzero, one_term, third_zero}
 use Rattle.balance.proofs.AddedLines.{added, only, added_true, added_old, added_new, added_false, not_added, sum_added, sum_only}
-
-pub not_true : (b : Bool) → not b ≡ true → b ≡ false
-not_true true e = absurd (false≢true e)
-not_true false e = refl
-
-not_false : (b : Bool) → not b ≡ false → b ≡ true
-not_false true e = refl
-not_false false e = absurd (false≢true (sym e))
 
 true_apart : (a b : Bool) → a ≡ b → a ≡ true → b ≡ false → ⊥
 true_apart a b e f g = false≢true (sym g ∙ sym e ∙ f)
@@ -119,7 +112,7 @@ module _ (m : Matrix) (small : (i j : ℕ) → IsEntry (entry m i j)) (R C : Lis
       let rest : sum_over (filter (λ i. not (only x i)) R) (λ i. mark (entry m i j)) ≡ pos 1 = omega (arith, sums) in
       let found = some_nonzero (λ i. entry m i j) (λ i. small i j) (filter (λ i. not (only x i)) R) (λ e. omega (arith, sums)) in
       let there = in_filter (λ i. not (only x i)) found.0 R found.1 in
-      (found.0, there.0, (added_false (λ i. false) x found.0 (not_true (only x found.0) there.1)).1, found.2)
+      (found.0, there.0, (added_false (λ i. false) x found.0 (not_is (only x found.0) there.1)).1, found.2)
 
   -- rows p and columns q are a path from row u to row x
   pub record IsPathTo (u x : ℕ) (p q : ℕ → Bool) : Type 0 where
@@ -271,14 +264,14 @@ module _ (m : Matrix) (small : (i j : ℕ) → IsEntry (entry m i j)) (R C : Lis
       from_row c c_in c_out s (y, y_in, y_apart, t) = at_row c y c_in c_out s y_in y_apart t (p y) refl
 
       from_column : (c : ℕ) × IsIn c (filter (λ j. not (q j)) C) × IsSign (entry m x c) → IsLonger u p
-      from_column (c, h, s) = let k = in_filter (λ j. not (q j)) c C h in from_row c k.0 (not_true (q c) k.1) s (other_row x c w.x_in k.0 s)
+      from_column (c, h, s) = let k = in_filter (λ j. not (q j)) c C h in from_row c k.0 (not_is (q c) k.1) s (other_row x c w.x_in k.0 s)
 
   walk : (n : ℕ) (u x v : ℕ) (p q : ℕ → Bool) → length (filter (λ i. not (p i)) R) ≤ n → IsPathTo u x p q → IsIn v R → p v ≡ false → (p' : ℕ → Bool) × (q' : ℕ → Bool) × IsPathTo u v p' q'
   walk zero u x v p q few w v_in out =
       let some = fewer_kept (λ i. not (p i)) (λ i. false) R (λ i e. absurd (false≢true e)) v v_in (ap not out) refl in absurd (omega arith)
   walk (suc n) u x v p q few w v_in out =
       let l = longer u x v p q w v_in out in
-      let less = fewer_kept (λ i. not (p i)) (λ i. not (added p l.y i)) R (λ i e. ap not (added_false p l.y i (not_true (added p l.y i) e)).0) l.y l.y_in (ap not l.y_out) (ap not (added_new p l.y l.y refl)) in
+      let less = fewer_kept (λ i. not (p i)) (λ i. not (added p l.y i)) R (λ i e. ap not (added_false p l.y i (not_is (added p l.y i) e)).0) l.y l.y_in (ap not l.y_out) (ap not (added_new p l.y l.y refl)) in
       elim (cases_eq v l.y) [
         | inl e ↦ (added p l.y, l.q, subst (λ k. IsPathTo u k (added p l.y) l.q) (sym e) l.path)
         | inr apart ↦ walk n u l.y v (added p l.y) l.q (omega arith) l.path v_in (not_added p l.y v out apart)
@@ -334,7 +327,7 @@ module _ (m : Matrix) (small : (i j : ℕ) → IsEntry (entry m i j)) (R C : Lis
     rest_true : (u v : ℕ) (p : ℕ → Bool) (i : ℕ) → rest_rows u v p i ≡ true → (p i ≡ false) ⊎ ((i ≡ u) ⊎ (i ≡ v))
     rest_true u v p i e = elim (added_true (added (λ i. not (p i)) u) v i e) [
       | inr k ↦ inr (inr k)
-      | inl k ↦ elim (added_true (λ i. not (p i)) u i k) [ inr l ↦ inr (inl l) | inl l ↦ inl (not_true (p i) l) ]
+      | inl k ↦ elim (added_true (λ i. not (p i)) u i k) [ inr l ↦ inr (inl l) | inl l ↦ inl (not_is (p i) l) ]
     ]
 
     pub no_chord : (u v : ℕ) → IsIn u R → IsIn v R → u ≢ v → IsSign (entry m u w) → IsSign (entry m v w) → ((c : ℕ) → IsIn c C → IsSign (entry m u c) → IsSign (entry m v c) → ⊥) → ⊥
@@ -368,7 +361,7 @@ module _ (m : Matrix) (small : (i j : ℕ) → IsEntry (entry m i j)) (R C : Lis
             arc2 : IsArc (rest_rows u v p) (λ j. not (q j))
             arc2 = record {
               at_w = λ i h e. let k = rest_false u v p i e in no_other i h k.1 k.2;
-              across_columns = λ i j h k e g. let l = rest_false u v p i e in zero_by i j (λ sign. false≢true (sym (not_true (q j) g) ∙ path.inner i j h k l.0 l.1 l.2 sign));
+              across_columns = λ i j h k e g. let l = rest_false u v p i e in zero_by i j (λ sign. false≢true (sym (not_is (q j) g) ∙ path.inner i j h k l.0 l.1 l.2 sign));
             }
 
             rows1 : (i : ℕ) → IsIn i R → p i ≡ true → sum_over (with_line w (filter q C)) (λ j. mark (entry m i j)) ≡ pos 2
@@ -409,7 +402,7 @@ module _ (m : Matrix) (small : (i j : ℕ) → IsEntry (entry m i j)) (R C : Lis
             let k = in_filter (λ j. not (q j)) c C h in
             let y = other_row u c u_in k.0 sign in
             let y_v : y.0 ≢ v = λ e. none c k.0 sign (subst (λ r. IsSign (entry m r c)) e y.3) in
-            part (p y.0) refl k.0 (not_true (q c) k.1) y.1 y.2 y_v y.3
+            part (p y.0) refl k.0 (not_is (q c) k.1) y.1 y.2 y_v y.3
           where
             part : (b : Bool) → {y : ℕ} → p y ≡ b → IsIn c C → q c ≡ false → IsIn y R → y ≢ u → y ≢ v → IsSign (entry m y c) → ⊥
             part true {y} e c_in c_out y_in y_u y_v t = false≢true (sym c_out ∙ path.inner y c y_in c_in e y_u y_v t)

@@ -7,8 +7,9 @@ use Rattle.cmr_base.specs.Members.{IsIn, IsDistinct}
 use Rattle.cmr_base.proofs.ListsWithout.{place_of, IsPlaceOf, place_is}
 use Rattle.cmr_base.proofs.Members.{distinct_few, in-append, in_at}
 use Rattle.cmr_base.proofs.RowLists.{in_or_not, not_both, is_eq, is_ne}
+use Rattle.cmr_base.proofs.Lists.{length-more}
 use Rattle.bridge_split.specs.Forests.{AreReached, IsSettled, AreSettled, IsGrowing, IsGrown, IsReaching, IsConflict, IsTwoColoured}
-use Rattle.bridge_split.proofs.GrowingLists.{push_length, once-append}
+use Rattle.bridge_split.proofs.GrowingLists.{once-append}
 
 distinct_of : (xs : List ℕ) → IsDistinct xs → IsDistinct xs
 distinct_of [] h = tt
@@ -52,7 +53,7 @@ module _ (D : ℕ → ℕ → Bool) (count : ℕ) where
     at_place p l = get_or_append_left reached (x ∷ []) 0 p l
 
     len : length (reached ++ x ∷ []) ≡ suc (length reached)
-    len = push_length reached x
+    len = length-more reached x
 
     still_settled : (a y : ℕ) → IsIn a reached → IsSettled D count depth reached a y → IsSettled D count depth' (reached ++ x ∷ []) a y
     still_settled a y h s = record { there = there y (inl s.there); parity = λ e. s.parity (ap (λ (v : ℕ). v % 2) (sym (old y s.there)) ∙ e ∙ ap (λ (v : ℕ). v % 2) (old a h)) }
@@ -143,7 +144,7 @@ module _ (D : ℕ → ℕ → Bool) (count : ℕ) where
         let low : depth k ≤ head = subst (λ (v : ℕ). depth v ≤ head) (sym k_is) (are.low head l) in
         let more = reach_more depth parent reached are upto k d depth' parent' inside none now same now_up same_up (are.root k) (omega arith) (λ e. absurd (omega arith)) (λ m. (kin, d_is, join, refl)) in
         let at = at_place depth parent reached are upto k d depth' parent' inside none now same now_up same_up in
-        let size = push_length reached upto in
+        let size = length-more reached upto in
         record {
           growing = record {
             are = more.0;

@@ -4,11 +4,8 @@ use Rattle.std.proofs.lemmas.List.{get_or_append_left}
 use Rattle.cmr_base.specs.Members.{IsIn, IsDistinct}
 use Rattle.cmr_base.proofs.ListsWithout.{place_of, IsPlaceOf, place_is}
 use Rattle.cmr_base.proofs.Members.{in-append, in_at}
+use Rattle.cmr_base.proofs.Lists.{length-more}
 use Rattle.bridge_split.specs.Forests.{Extends}
-
-pub push_length : (xs : List ℕ) (x : ℕ) → length (xs ++ x ∷ []) ≡ suc (length xs)
-push_length [] x = refl
-push_length (y ∷ ys) x = let e = push_length ys x in omega arith
 
 pub once-append : (xs : List ℕ) (x : ℕ) → IsDistinct xs → ¬ (IsIn x xs) → IsDistinct (xs ++ x ∷ [])
 once-append [] x h n = ((λ g. g), tt)
@@ -28,7 +25,7 @@ extends_more met met' met2 a b = record {
 
 pub extends_one : (met : List ℕ) (x : ℕ) → Extends met (met ++ x ∷ [])
 extends_one met x = record {
-  longer = let e = push_length met x in omega arith;
+  longer = let e = length-more met x in omega arith;
   same = λ p l. get_or_append_left met (x ∷ []) 0 p l;
 }
 

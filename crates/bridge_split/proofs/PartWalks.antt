@@ -8,6 +8,7 @@ use Rattle.cmr_base.specs.Splits.{AreJoined, AreLinked}
 use Rattle.cmr_base.proofs.Places.{found_at}
 use Rattle.cmr_base.proofs.RowLists.{not_both}
 use Rattle.cmr_base.proofs.Submatrices.{increasing_places}
+use Rattle.cmr_base.proofs.Booleans.{or_is, or_left, or_right}
 use Rattle.bridge_split.specs.PartNumbers.{is_none, left_in, Keeps, IsPast, AreNumbered, AreMet, AreClosed, IsWalking, IsBetween, ArePassed, IsTouched}
 use Rattle.bridge_split.proofs.Links.{joined_back, linked_on, linked_from}
 
@@ -26,17 +27,6 @@ no_number o a e f = true≢false (ap is_none (sym e ∙ f))
 pub some_or_none : (o : Option ℕ) → (o ≡ None) ⊎ ((a : ℕ) × (o ≡ Some a))
 some_or_none None = inl refl
 some_or_none (Some a) = inr (a, refl)
-
-or_true : (s t : Bool) → (s || t) ≡ true → (s ≡ true) ⊎ (t ≡ true)
-or_true true t e = inl refl
-or_true false t e = inr e
-
-true_left : (s t : Bool) → s ≡ true → (s || t) ≡ true
-true_left s t e = ap (λ b. b || t) e
-
-true_right : (s t : Bool) → t ≡ true → (s || t) ≡ true
-true_right true t e = refl
-true_right false t e = e
 
 and_not_true : (s t : Bool) → (s && not t) ≡ true → (s ≡ true) × (t ≡ false)
 and_not_true true true e = cc
@@ -138,13 +128,13 @@ module _ (M : ℕ → ℕ → Bool) (S : List ℕ) (i : ℕ) where
         few = w.are.few;
       };
       closed = closed' (suc number) w.are (omega arith) w.closed;
-      into = λ c e. elim (or_true (reached c) (M x c && not (M i c)) (sym (more c) ∙ e)) [
+      into = λ c e. elim (or_is (reached c) (M x c && not (M i c)) (sym (more c) ∙ e)) [
         | inl f ↦ let k = w.into c f in (k.0, kept k.0 number k.1, k.2, k.3)
         | inr f ↦ let g = and_not_true (M x c) (M i c) f in (x, now, g.0, g.1)
       ];
       from = λ k c e mk mi. more c ∙ elim (was k number e) [
-        | inl f ↦ true_left (reached c) (M x c && not (M i c)) (w.from k c f mk mi)
-        | inr p ↦ true_right (reached c) (M x c && not (M i c)) (true_and_not (M x c) (M i c) (ap (λ (v : ℕ). M v c) (sym p.0) ∙ mk) mi)
+        | inl f ↦ or_left (reached c) (M x c && not (M i c)) (w.from k c f mk mi)
+        | inr p ↦ or_right (reached c) (M x c && not (M i c)) (true_and_not (M x c) (M i c) (ap (λ (v : ℕ). M v c) (sym p.0) ∙ mk) mi)
       ];
     }
       where

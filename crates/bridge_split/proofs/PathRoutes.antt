@@ -1,8 +1,8 @@
 -- Routes along two paths of one tree.
 use Rattle.std.proofs.Common.{ℕ, suc, ◌+◌, ◌%◌, Bool, true, List, [], ◌∷◌, ◌++◌, ◌≡◌, ◌≢◌, ◌<◌, ◌≤◌, ◌∙◌, sym, ap, refl, arith, subst, inl, inr, length, append_assoc}
 use Rattle.std.proofs.lemmas.Bool.{cases_eq}
+use Rattle.cmr_base.proofs.Lists.{length-more}
 use Rattle.bridge_split.specs.Forests.{IsRoute, AreInOneTree, HasRoute}
-use Rattle.bridge_split.proofs.GrowingLists.{push_length}
 
 module _ (D : ℕ → ℕ → Bool) (count : ℕ) where
   route_begin : (x k y : ℕ) (rest : List ℕ) → IsRoute D count k rest y → x < count → D x k ≡ true → x ≢ k → IsRoute D count x (x ∷ rest) y
@@ -38,7 +38,7 @@ module _ (D : ℕ → ℕ → Bool) (count : ℕ) where
       rest = h.rest ++ y ∷ [];
       appended = e ∙ ap (λ (v : List ℕ). v ++ y ∷ []) h.appended ∙ append_assoc before h.rest (y ∷ []);
       route = route_end x k y h.rest h.route l join (λ q. let f = ap depth q in omega arith);
-      parity = odd (length h.rest) (length (h.rest ++ y ∷ [])) (depth x) (depth y) (depth k) (push_length h.rest y) deeper h.parity;
+      parity = odd (length h.rest) (length (h.rest ++ y ∷ [])) (depth x) (depth y) (depth k) (length-more h.rest y) deeper h.parity;
     }
       where
         odd : (n m a b c : ℕ) → m ≡ suc n → b ≡ suc c → (n + a + c) % 2 ≡ 1 → (m + a + b) % 2 ≡ 1

@@ -14,6 +14,7 @@ use Rattle.cmr_base.proofs.Lists.{all_by_places}
 use Rattle.cmr_base.proofs.ListsWithout.{increasing_distinct}
 use Rattle.cmr_base.proofs.Members.{all_in}
 use Rattle.cmr_base.proofs.RowLists.{not_both}
+use Rattle.cmr_base.proofs.Booleans.{is_not_lt, is_lt, lt_of}
 use Rattle.cmr_base.specs.ColumnSets.{has_column}
 use Rattle.bridge_split.specs.Counting.{AreMore}
 use Rattle.bridge_split.specs.SplitCases.{HasThree, IsFirstWithThree}
@@ -109,20 +110,11 @@ below_in x bound S below h = all_in (λ y. y < bound) S (all_by_places (λ y. y 
 
 -- ---- counts up to three
 
-lt_true : (a b : ℕ) → a < b → nat_lt a b ≡ true
-lt_true a b l = grind (arith, nat_tests)
-
-lt_false : (a b : ℕ) → b ≤ a → nat_lt a b ≡ false
-lt_false a b l = grind (arith, nat_tests)
-
-pub is_lt : (a b : ℕ) → nat_lt a b ≡ true → a < b
-is_lt a b e = elim (cases_lt a b) [ inl l ↦ l | inr l ↦ absurd (not_both (nat_lt a b) e (lt_false a b l)) ]
-
 -- one more, where that is counted
 pub more_than : (k n : ℕ) (b : Bool) → nat_lt (suc k) (n + cond b 1 0) ≡ (nat_lt (suc k) n || (nat_lt k n && b))
 more_than k n true = elim (cases_lt k n) [
-  | inl l ↦ lt_true (suc k) (n + 1) (omega arith) ∙ sym (ap (λ t. nat_lt (suc k) n || (t && true)) (lt_true k n l) ∙ or_true (nat_lt (suc k) n))
-  | inr l ↦ lt_false (suc k) (n + 1) (omega arith) ∙ sym (ap₂ (λ s t. s || (t && true)) (lt_false (suc k) n (omega arith)) (lt_false k n l))
+  | inl l ↦ is_lt (suc k) (n + 1) (omega arith) ∙ sym (ap (λ t. nat_lt (suc k) n || (t && true)) (is_lt k n l) ∙ or_true (nat_lt (suc k) n))
+  | inr l ↦ is_not_lt (suc k) (n + 1) (omega arith) ∙ sym (ap₂ (λ s t. s || (t && true)) (is_not_lt (suc k) n (omega arith)) (is_not_lt k n l))
 ]
   where
     or_true : (t : Bool) → (t || true) ≡ true
@@ -136,7 +128,7 @@ more_than k n false = ap (nat_lt (suc k)) (let e : n + 0 ≡ n = omega arith in 
     none false false = refl
 
 pub more_than_none : (n : ℕ) (b : Bool) → nat_lt 0 (n + cond b 1 0) ≡ (nat_lt 0 n || (b && b))
-more_than_none n true = lt_true 0 (n + 1) (omega arith) ∙ sym (one (nat_lt 0 n))
+more_than_none n true = is_lt 0 (n + 1) (omega arith) ∙ sym (one (nat_lt 0 n))
   where
     one : (t : Bool) → (t || true) ≡ true
     one true = refl
@@ -162,12 +154,12 @@ pub first_is : (m : Matrix) (S set : List ℕ) (found : Option ℕ) → IsStrict
 first_is m S set None rises counted h = λ column r s t hr hs ht er es et rs rt st.
     let three = three_count (λ row. support m row column) S r s t hr hs ht rs rt st er es et in
     let f = length-filter (λ row. support m row column) S in
-    not_both (has_column set column) (counted column ∙ lt_true 2 (count_by (λ row. support m row column) S) (omega arith)) (h column)
+    not_both (has_column set column) (counted column ∙ is_lt 2 (count_by (λ row. support m row column) S) (omega arith)) (h column)
 first_is m S set (Some first) rises counted h = record {
   here = three_here (support m) first S (increasing_distinct S rises)
-      (let l = is_lt 2 (count_by (λ row. support m row first) S) (sym (counted first) ∙ h.0) in let f = length-filter (λ row. support m row first) S in omega arith);
+      (let l = lt_of 2 (count_by (λ row. support m row first) S) (sym (counted first) ∙ h.0) in let f = length-filter (λ row. support m row first) S in omega arith);
   first = λ other l three.
       let k = here_three (support m) other S three in
       let f = length-filter (λ row. support m row other) S in
-      not_both (has_column set other) (counted other ∙ lt_true 2 (count_by (λ row. support m row other) S) (omega arith)) (h.1 other l);
+      not_both (has_column set other) (counted other ∙ is_lt 2 (count_by (λ row. support m row other) S) (omega arith)) (h.1 other l);
 }

@@ -7,6 +7,7 @@ use Rattle.cmr_base.specs.declared.line_set.LineSet.{LineSet}
 use Rattle.cmr_base.specs.Matrix.{Matrix, entry}
 use Rattle.tree_type.specs.Sides.{is_among}
 use Rattle.cmr_base.proofs.Lists.{all_weaker, all_contained, all_contain}
+use Rattle.cmr_base.proofs.Booleans.{or_false}
 use Rattle.tree_type.specs.declared.refusal.Rule.{Rule}
 use Rattle.tree_type.specs.declared.refusal.Rule.TheVariants as rule
 use Rattle.tree_type.specs.declared.tree.Node.{Node}
@@ -20,7 +21,6 @@ use Rattle.cert_check.specs.Answers.{IsFirstOf, unless}
 use Rattle.cert_check.specs.Children.{lines_in}
 use Rattle.cert_check.proofs.Answering.{lines_is}
 use Rattle.std.proofs.lemmas.List.Sums.{sum_by-cons}
-use Rattle.tree_type.proofs.Among.{or_nothing}
 
 pub lines_at : (P : LineSet → Type 0) (nodes : List Node) (i : ℕ) (child other : Node) → i < length nodes → child ≡ get_or nodes i other → AllByRecursion P (lines_in nodes) → P child.lines
 lines_at P [] i child other l e h = absurd (omega (arith, l))
@@ -55,7 +55,7 @@ none_counted row column (child ∷ children) e = go (is_among child.rows row) re
 pub beside_here : (all : List LineSet) (row : ℕ) (child : LineSet) (rest : List LineSet) → is_among child.rows row ≡ true → IsBeside all row (child ∷ rest) → (column : ℕ) → list_any (has_both row column) all ≡ is_among child.columns column
 beside_here all row child rest f h column =
     let none = none_counted row column rest (let g = count_yes (λ child. is_among child.rows row) child rest f in let e = h.one in omega (arith, g, e)) in
-    h.same column ∙ rw (f, none) (or_nothing (is_among child.columns column))
+    h.same column ∙ rw (f, none) (or_false (is_among child.columns column))
 
 pub beside_later : (all : List LineSet) (row : ℕ) (child : LineSet) (rest : List LineSet) → is_among child.rows row ≡ false → IsBeside all row (child ∷ rest) → IsBeside all row rest
 beside_later all row child rest f h = record {

@@ -12,4 +12,3 @@ pub mod SumRules
 pub mod Children
 pub mod ApartRules
 pub mod CleanSets
-pub mod Spreads

@@ -4,12 +4,10 @@ use Rattle.std.proofs.lemmas.Bool.Decides.{nat_tests}
 use Rattle.std.specs.List.{AllByRecursion}
 use Rattle.cmr_base.specs.Sums.{sum_over, IsTwoModFour}
 use Rattle.cmr_base.proofs.Integers.{sums}
+use Rattle.cmr_base.proofs.Booleans.{eq_of}
 use Rattle.ghouila.proofs.ViolatedLines.{ViolatedIn, FreeIn, widened}
 use Rattle.ghouila.proofs.Sides.{On}
 use Rattle.ghouila.proofs.ConnectedParts.{one_children}
-
-same_number : (x y : ℕ) → nat_eq x y ≡ true → x ≡ y
-same_number x y e = grind (arith, nat_tests)
 
 less_number : (x y : ℕ) → nat_eq x y ≡ false → x < suc y → x < y
 less_number x y e l = grind (arith, nat_tests)
@@ -48,7 +46,7 @@ one_part M row_part column_part (suc k) P Q rows columns zeros v =
       k,
       omega arith,
       widened M (λ r. P r × (row_part r ≡ k)) (λ c. Q c × (column_part c ≡ k)) (On P (λ r. nat_eq (row_part r) k) true) (On Q (λ c. nat_eq (column_part c) k) true)
-          (λ r h. (h.0, same_number (row_part r) k h.1)) (λ c h. (h.0, same_number (column_part c) k h.1)) w,
+          (λ r h. (h.0, eq_of (row_part r) k h.1)) (λ c h. (h.0, eq_of (column_part c) k h.1)) w,
     )
     go (inr w) rest = let h = rest w in (
       h.0,

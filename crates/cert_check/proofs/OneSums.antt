@@ -1,28 +1,27 @@
 -- Nodes whose children are parts with no nonzero between them.
-use Rattle.std.proofs.Common.{◌≡◌, ◌≢◌, ◌<◌, ◌+◌, ◌∙◌, ◌&&◌, ◌||◌, inl, inr, ℕ, zero, suc, pos, Bool, true, false, cond, eqb, int_eq, List, [], ◌∷◌, length, Contains, refl, ap, sym, arith}
+use Rattle.std.proofs.Common.{◌≡◌, ◌≢◌, ◌<◌, ◌+◌, ◌∙◌, ◌&&◌, ◌||◌, inl, inr, ℕ, zero, suc, pos, Bool, true, false, cond, int_eq, List, [], ◌∷◌, length, Contains, refl, ap, sym, arith}
 use Rattle.std.specs.List.{AllByRecursion, list_any, count_by}
 use Rattle.std.proofs.lemmas.List.Sums.{sum_by-cons}
 use Rattle.std.proofs.lemmas.Bool.Decides.{Decides-int_eq}
 use Rattle.cmr_base.specs.declared.line_set.LineSet.{LineSet}
 use Rattle.cmr_base.specs.Matrix.{Matrix, entry}
-use Rattle.cmr_base.specs.Members.{IsIn}
 use Rattle.tree_type.specs.Sides.{is_among}
 use Rattle.cmr_base.proofs.Lists.{all_contained}
-use Rattle.cmr_base.proofs.ListsWithout.{true_is_false, contains_from_in}
-use Rattle.std.proofs.lemmas.Bool.{eqb-true}
+use Rattle.cmr_base.proofs.ListsWithout.{true_is_false}
 use Rattle.cmr_base.proofs.ThinLines.{and_is}
+use Rattle.cmr_base.proofs.Booleans.{or_is}
 use Rattle.ghouila.proofs.ViolatedLines.{FreeIn, narrower}
 use Rattle.tree_type.specs.Soundness.{AreApart}
+use Rattle.tree_type.proofs.Among.{among_contains}
 use Rattle.cert_check.proofs.FreeSets.{IsFreeOn}
 use Rattle.cert_check.proofs.NumberedParts.{free_from_parts}
-use Rattle.tree_type.proofs.Among.{or_either}
 
 -- the first child that passes
 abbrev index_of : (LineSet → Bool) → List LineSet → ℕ
 index_of test [] = 0
 index_of test (child ∷ children) = cond (test child) 0 (suc (index_of test children))
 
-counted : (test : LineSet → Bool) (child : LineSet) (children : List LineSet) → count_by test (child ∷ children) ≡ cond (test child) 1 0 + count_by test children
+pub counted : (test : LineSet → Bool) (child : LineSet) (children : List LineSet) → count_by test (child ∷ children) ≡ cond (test child) 1 0 + count_by test children
 counted test child children = sum_by-cons (λ x. cond (test x) 1 0) child children
 
 none_first : (n k : ℕ) → 0 + n ≡ k → n ≡ k
@@ -57,7 +56,7 @@ index_below test (child ∷ children) h = go (test child) refl h (λ f. index_be
 
 weaker_any : (p q : LineSet → Bool) (children : List LineSet) → list_any (λ x. p x && q x) children ≡ true → (list_any p children ≡ true) × (list_any q children ≡ true)
 weaker_any p q [] h = true_is_false (sym h)
-weaker_any p q (child ∷ children) h = elim (or_either (p child && q child) (list_any (λ x. p x && q x) children) h) [
+weaker_any p q (child ∷ children) h = elim (or_is (p child && q child) (list_any (λ x. p x && q x) children) h) [
   | inl e ↦ let w = and_is (p child) (q child) e in (rw w.0 refl, rw w.1 refl)
   | inr e ↦ let w = weaker_any p q children e in (any_later p w.0, any_later q w.1)
 ]
@@ -89,16 +88,6 @@ same_index p q (child ∷ children) e f h =
         less : 1 + count_by q children ≡ 1 → count_by q children ≡ 0
         less e = omega (arith, e)
 
-contains_among : (set : List ℕ) (x : ℕ) → is_among set x ≡ true → Contains set x
-contains_among set x e = contains_from_in set x (in_among set e)
-  where
-    in_among : (set : List ℕ) → is_among set x ≡ true → IsIn x set
-    in_among [] e = true_is_false (sym e)
-    in_among (y ∷ ys) e = elim (or_either (eqb x y) (is_among ys x) e) [
-      | inl f ↦ inl (eqb-true x y f)
-      | inr f ↦ inr (in_among ys f)
-    ]
-
 -- what stands in one child is free where the child is
 at_child : (m : Matrix) (children : List LineSet) → AllByRecursion (IsFreeOn m) children → (part : ℕ) → part < length children → (P Q : ℕ → Type 0)
     → ((r : ℕ) → P r → (list_any (λ child. is_among child.rows r) children ≡ true) × (index_of (λ child. is_among child.rows r) children ≡ part))
@@ -106,7 +95,7 @@ at_child : (m : Matrix) (children : List LineSet) → AllByRecursion (IsFreeOn m
 at_child m [] free part l P Q rows columns = absurd (omega (arith, l))
 at_child m (child ∷ children) free zero l P Q rows columns =
     narrower (entry m) (Contains child.rows) (Contains child.columns) P Q
-    (λ r h. contains_among child.rows r (at_first (λ x. is_among x.rows r) (rows r h).1)) (λ c h. contains_among child.columns c (at_first (λ x. is_among x.columns c) (columns c h).1)) free.0
+    (λ r h. among_contains child.rows r (at_first (λ x. is_among x.rows r) (rows r h).1)) (λ c h. among_contains child.columns c (at_first (λ x. is_among x.columns c) (columns c h).1)) free.0
   where
     at_first : (test : LineSet → Bool) → cond (test child) 0 (suc (index_of test children)) ≡ 0 → test child ≡ true
     at_first test e = go (test child) refl e

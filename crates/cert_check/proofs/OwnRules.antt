@@ -1,6 +1,5 @@
 -- The first rule that a node breaks by what it says, by the tests of its kind.
 use Rattle.std.proofs.Common.{◌≡◌, ◌<◌, ◌≤◌, ◌∙◌, min, length, map, ap, ◌↔◌, IsTrue, ℕ, Bool, true, false, Contains, Option, None, refl, sym, subst, arith}
-use Rattle.std.proofs.lemmas.Bool.{true≢false}
 use Rattle.std.proofs.lemmas.List.{length-map}
 use Rattle.std.specs.declared.alloc.Global.{Global}
 use Rattle.std.specs.declared.boxed.Box.{Box}
@@ -28,6 +27,7 @@ use Rattle.tree_type.proofs.NodeTrees.{said, tree_is, said_cycle, said_two_sum, 
 use Rattle.tree_type.proofs.PlacedLines.{lines_within}
 use Rattle.cert_check.specs.Answers.{Stands, IsFirstOf, Says, IsOwnRule, unless}
 use Rattle.cert_check.proofs.Answering.{kind_is, children_stand}
+use Rattle.cert_check.proofs.SumRules.{false_not}
 
 -- what a node says decides
 pub own_of : (m : Matrix) (node : Node) (k : Kind) (f : Finding) (trees : Trees) (answer : Option Rule) → node.kind ≡ k → said k ≡ (f, trees) → IsFirstOf m node.lines f (lines_of_each trees) answer → IsOwnRule m (tree_of node) answer
@@ -63,9 +63,6 @@ three_lines m node t one_child two_child e stands = go (branch_stands m node (ki
   where
     go : Stands m (Branch node.lines (ThreeSum t) (two_trees (tree_of one_child.value) (tree_of two_child.value))) → HasConnector (first_is_flat t.form) node.lines.rows node.lines.columns t.first × HasConnector (second_is_flat t.form) node.lines.rows node.lines.columns t.second
     go (parent, levels, are, within) = (within.2.1, within.2.2)
-
-false_not : {D : Type 0} → IsTrue false ↔ D → ¬ D
-false_not h d = true≢false (sym (h.1 d))
 
 -- ---- one rule
 

@@ -1,5 +1,5 @@
 -- What the rules that all nodes keep say of the matrix.
-use Rattle.std.proofs.Common.{◌≡◌, ◌<◌, ◌∙◌, ◌-◌, ◌⊎◌, inl, inr, ℕ, suc, List, [], ◌∷◌, ◌++◌, length, get_or, Contains, Option, Some, None, is_some, refl, ap, sym, subst, arith}
+use Rattle.std.proofs.Common.{◌≡◌, ◌<◌, ◌∙◌, ◌-◌, inl, inr, ℕ, suc, List, [], ◌∷◌, ◌++◌, length, get_or, Contains, Option, Some, None, is_some, refl, ap, sym, subst, arith}
 use Rattle.std.specs.List.{AllByRecursion}
 use Rattle.std.specs.Option.{option_or}
 use Rattle.cmr_base.specs.declared.line_set.LineSet.{LineSet}
@@ -8,6 +8,7 @@ use Rattle.cmr_base.specs.LineSets.{first_lines}
 use Rattle.cmr_base.specs.Violator.{IsViolator, HasNoViolator}
 use Rattle.cmr_base.proofs.Lists.{all_front, all_back}
 use Rattle.cmr_base.proofs.ListsWithout.{true_is_false}
+use Rattle.cmr_base.proofs.Options.{some_or, some_same}
 use Rattle.ghouila.proofs.CamionLaw.{camion, unsigned}
 use Rattle.r10_leaf.proofs.FreeR10.{fault_free_r10_has_no_violator}
 use Rattle.ghouila.proofs.ViolatedLines.{FreeIn}
@@ -29,16 +30,9 @@ use Rattle.cert_check.proofs.Reductions.{free_reduced}
 some_is_none : {A B : Type 0} (x : A) → Some x ≡ None → B
 some_is_none x e = true_is_false (ap is_some e)
 
-some_same : {A : Type 0} (x y : A) → Some x ≡ Some y → x ≡ y
-some_same {A = A} x y e = ap (λ o. elim o as (λ _. A) [ None ↦ x | Some z ↦ z ]) e
-
 none_or : {A : Type 0} (a b : Option A) → option_or a b ≡ None → (a ≡ None) × (b ≡ None)
 none_or None b e = (refl, e)
 none_or (Some x) b e = some_is_none x e
-
-some_or : {A : Type 0} (a b : Option A) (x : A) → option_or a b ≡ Some x → (a ≡ Some x) ⊎ (b ≡ Some x)
-some_or None b x e = inr e
-some_or (Some y) b x e = inl e
 
 free_same : (m : Matrix) (a b : LineSet) → a.rows ≡ b.rows → a.columns ≡ b.columns → IsFreeOn m a → IsFreeOn m b
 free_same m a b e f free = subst (λ columns. IsFreeOn m (record { rows = b.rows; columns = columns })) f (subst (λ rows. IsFreeOn m (record { rows = rows; columns = a.columns })) e free)

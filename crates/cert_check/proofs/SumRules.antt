@@ -1,5 +1,5 @@
 -- The rules on separations and reductions, by the tests that are made.
-use Rattle.std.proofs.Common.{◌≡◌, ◌<◌, ◌↔◌, ◌∙◌, ◌*ℤ◌, IsTrue, ℕ, ℤ, pos, Bool, true, false, not, eqb, List, [], ◌∷◌, filter, get_or, Contains, nat_eq, w8, of_z, inl, inr, ◌⊎◌, refl, ap, sym, subst, arith, eqb-true}
+use Rattle.std.proofs.Common.{◌≡◌, ◌<◌, ◌↔◌, ◌∙◌, ◌*ℤ◌, IsTrue, ℕ, ℤ, pos, Bool, true, false, not, eqb, List, ◌∷◌, filter, get_or, Contains, nat_eq, w8, of_z, inl, inr, ◌⊎◌, refl, ap, sym, subst, arith, eqb-true}
 use Rattle.std.proofs.lemmas.Bool.{true≢false}
 use Rattle.std.proofs.lemmas.Int.{ints}
 use Rattle.std.proofs.lemmas.List.Kept.{IsStrictlyIncreasing-filter}
@@ -20,8 +20,9 @@ use Rattle.cmr_base.specs.declared.separation.Form.TheVariants.{Delta, YForm, Mi
 use Rattle.cmr_base.specs.Separations.{product_at, upper_block, lower_block}
 use Rattle.tree_type.specs.Sides.{Sides, sides, inside, outside, HaveLines, AreEntries, IsReference, AreTwoBlocks, HasConnector, AreConnectors, HasCornerSign, AreThreeBlocks}
 use Rattle.cmr_base.proofs.Lists.{all_weaker, all_contained, all_contain}
-use Rattle.cmr_base.proofs.ListsWithout.{contains_from_in, in_from_contains, in-get_or, place_of, place_is}
+use Rattle.cmr_base.proofs.ListsWithout.{contains_from_in, in-get_or}
 use Rattle.cmr_base.proofs.Integers.{products}
+use Rattle.cmr_base.proofs.Places.{contained_below}
 use Rattle.tree_type.specs.declared.refusal.Rule.{Rule}
 use Rattle.tree_type.specs.declared.refusal.Rule.TheVariants as rule
 use Rattle.tree_type.specs.Trees.{TwoSum, ThreeSum}
@@ -83,11 +84,8 @@ made_blocks M s t made form h =
 
 -- ---- lines in range
 
-pub contains_below : (n : ℕ) (xs : List ℕ) (x : ℕ) → AllBelow n xs → Contains xs x → x < n
-contains_below n xs x below h = let at = place_is x xs (in_from_contains xs x h) in subst (λ (y : ℕ). y < n) at.there (below (place_of x xs) at.in_range)
-
 kept_lines : (n : ℕ) (test : ℕ → Bool) (xs : List ℕ) → AllBelow n xs → AllBelow n (filter test xs)
-kept_lines n test xs below k l = contains_below n xs (get_or (filter test xs) k 0) below (passed test xs (get_or (filter test xs) k 0) (contains_from_in (filter test xs) (get_or (filter test xs) k 0) (in-get_or (filter test xs) k l))).0
+kept_lines n test xs below k l = contained_below n xs (get_or (filter test xs) k 0) below (passed test xs (get_or (filter test xs) k 0) (contains_from_in (filter test xs) (get_or (filter test xs) k 0) (in-get_or (filter test xs) k l))).0
 
 pub side_lines : (m : Matrix) (lines side : LineSet) (t u : ℕ → Bool) → AreLines m lines → side.rows ≡ filter t lines.rows → side.columns ≡ filter u lines.columns → AreLines m side
 side_lines m lines side t u are e f = record {
@@ -96,8 +94,8 @@ side_lines m lines side t u are e f = record {
 }
 
 pub connector_in : (m : Matrix) (lines : LineSet) (flat : Bool) (c : Connector) → AreLines m lines → HasConnector flat lines.rows lines.columns c → IsConnectorIn m flat c
-connector_in m lines true c are h = (contains_below (height m) lines.rows c.row are.rows.in_range h.0, contains_below m.width lines.columns c.column are.columns.in_range h.1, contains_below m.width lines.columns c.other are.columns.in_range h.2)
-connector_in m lines false c are h = (contains_below (height m) lines.rows c.row are.rows.in_range h.0, contains_below m.width lines.columns c.column are.columns.in_range h.1, contains_below (height m) lines.rows c.other are.rows.in_range h.2)
+connector_in m lines true c are h = (contained_below (height m) lines.rows c.row are.rows.in_range h.0, contained_below m.width lines.columns c.column are.columns.in_range h.1, contained_below m.width lines.columns c.other are.columns.in_range h.2)
+connector_in m lines false c are h = (contained_below (height m) lines.rows c.row are.rows.in_range h.0, contained_below m.width lines.columns c.column are.columns.in_range h.1, contained_below (height m) lines.rows c.other are.rows.in_range h.2)
 
 abbrev sides_made : List ℕ → List ℕ → List ℕ → List ℕ → Sides
 sides_made a b c d = record { rows_one = a; columns_one = b; rows_two = c; columns_two = d }
@@ -112,7 +110,7 @@ sides_are lines side one other a b c d =
 
 -- ---- what sums say
 
-false_not : {D : Type 0} → IsTrue false ↔ D → ¬ D
+pub false_not : {D : Type 0} → IsTrue false ↔ D → ¬ D
 false_not h d = true≢false (sym (h.1 d))
 
 two_decides : (m : Matrix) (lines : LineSet) (two : Two) (yes : Bool) → HaveLines 2 (sides lines two.side) → IsReference (entry m) (sides lines two.side) two.row two.column

@@ -2,4 +2,3 @@ pub mod Laws
 pub mod Answers
 pub mod Sides
 pub mod Children
-pub mod Spreads

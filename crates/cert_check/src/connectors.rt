@@ -1,5 +1,6 @@
 // The connectors of three-separations.
 ghost use Rattle.std.specs.Prelude.{◌≡◌, ◌<◌, ◌↔◌, pos, true, false, IsTrue};
+ghost use Rattle.cmr_base.specs.Cores.{IsBounded};
 ghost use Rattle.cmr_base.specs.Matrix.{entry, height};
 ghost use Rattle.cmr_base.specs.Separations as separations;
 ghost use Rattle.cmr_base.specs.Separations.{first_is_flat, second_is_flat, corner_product, core_determinant, AreTied, AreCrossing, AreConcentrated, IsTied, HaveCornerSign};
@@ -8,7 +9,7 @@ ghost use Rattle.tree_type.specs.Sides.{HasConnector, AreConnectors};
 ghost use Rattle.cert_check.specs.Sides.{sides_from, IsConnectorIn};
 
 use crate::members::is_in;
-use crate::spread::determinant;
+use crate::spread::core_of;
 use cmr_base::{Connector, Form, LineSet, Matrix, Three, product};
 
 /// Whether the connectors of a three-sum are in their sides and have the entries of the form.
@@ -101,8 +102,17 @@ fn is_core_unimodular(matrix: &Matrix, first: Connector, second: Connector) -> b
     requires second { IsConnectorIn matrix.now false second }
     ensures { IsTrue result ↔ IsSign (core_determinant (entry matrix.now) first second) }
 {
-    let core = determinant(matrix, second.row, second.other, first);
-    core == 1 || core == -1
+    let determinant = determinant_of_core(matrix, first, second);
+    determinant == 1 || determinant == -1
+}
+
+fn determinant_of_core(matrix: &Matrix, first: Connector, second: Connector) -> i8
+    requires first { IsConnectorIn matrix.now true first }
+    requires second { IsConnectorIn matrix.now false second }
+    ensures value { result ≡ core_determinant (entry matrix.now) first second }
+    ensures small { IsBounded 2 result }
+{
+    core_of(matrix, first, second).determinant()
 }
 
 /// Whether the corners of two connectors have the signs that the form asks for.

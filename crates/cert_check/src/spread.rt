@@ -1,14 +1,14 @@
 // Blocks of rank two, whose rows are made from the two rows of one connector as their entries in the two columns of another are.
 ghost use Rattle.std.specs.Prelude.{◌≡◌, ◌<◌, ◌+ℤ◌, ◌*ℤ◌, ◌↔◌, ℕ, true, false, IsTrue};
 ghost use Rattle.std.specs.List.{AllByRecursion};
-ghost use Rattle.cmr_base.specs.Matrix.{entry, height, IsEntry};
+ghost use Rattle.cmr_base.specs.Cores.{HasEntries, IsBounded, IsCoreAt};
+ghost use Rattle.cmr_base.specs.Matrix.{entry, height};
 ghost use Rattle.cmr_base.specs.LineSets.{AllBelow};
 ghost use Rattle.cmr_base.specs.Separations.{spread_at};
 ghost use Rattle.tree_type.specs.Sides.{AreEntries};
 ghost use Rattle.cert_check.specs.Sides.{IsConnectorIn};
-ghost use Rattle.cert_check.specs.Spreads.{determinant_at, IsWithin};
 
-use cmr_base::{Connector, Indices, Matrix, product};
+use cmr_base::{Connector, Core, Factors, Indices, Matrix};
 
 /// Whether all entries are made from the columns of the first connector, which is flat, and the rows of the second, which is
 /// tall.
@@ -63,90 +63,73 @@ fn is_spread_row(
     ensures { IsTrue result ↔ AllByRecursion (λ column. entry matrix.now row column ≡ spread_at (entry matrix.now) first second row column) columns.now }
 {
     let factors = factors_of(matrix, row, first, second);
-    factors.make_row(matrix, row, columns, second)
+    is_row_made(matrix, row, columns, factors, second)
 }
 
-// How many times each of the two rows of a tall connector goes into another row.
-#[derive(Clone, Copy)]
-struct Factors {
-    row: i8,
-    other: i8,
-}
-
-impl Factors {
-    // Whether each entry of a row is the sum of those of the two rows, so many times.
-    fn make_row(self, matrix: &Matrix, row: u32, columns: &[u32], second: Connector) -> bool
-        requires row_factor { IsWithin 4 self.row }
-        requires other_factor { IsWithin 4 self.other }
-        requires row { row < height matrix.now }
-        requires columns { AllBelow matrix.now.width columns.now }
-        requires second { IsConnectorIn matrix.now false second }
-        ensures { IsTrue result ↔ AllByRecursion (λ column. entry matrix.now row column ≡ self.row *ℤ entry matrix.now second.row column +ℤ self.other *ℤ entry matrix.now second.other column) columns.now }
-    {
-        for column in columns {
-            if !self.make_entry(matrix, row, *column, second) {
-                return false;
-            }
+// Whether each entry of a row is the sum of those of the two rows of a tall connector, so many times.
+fn is_row_made(
+    matrix: &Matrix,
+    row: u32,
+    columns: &[u32],
+    factors: Factors,
+    second: Connector,
+) -> bool
+    requires first_factor { IsBounded 4 factors.first }
+    requires other_factor { IsBounded 4 factors.other }
+    requires row { row < height matrix.now }
+    requires columns { AllBelow matrix.now.width columns.now }
+    requires second { IsConnectorIn matrix.now false second }
+    ensures { IsTrue result ↔ AllByRecursion (λ column. entry matrix.now row column ≡ factors.first *ℤ entry matrix.now second.row column +ℤ factors.other *ℤ entry matrix.now second.other column) columns.now }
+{
+    for column in columns {
+        if !is_entry_made(matrix, row, *column, factors, second) {
+            return false;
         }
-        true
     }
-
-    fn make_entry(self, matrix: &Matrix, row: u32, column: u32, second: Connector) -> bool
-        requires row_factor { IsWithin 4 self.row }
-        requires other_factor { IsWithin 4 self.other }
-        requires row { row < height matrix.now }
-        requires column { column < matrix.now.width }
-        requires second { IsConnectorIn matrix.now false second }
-        ensures { IsTrue result ↔ (entry matrix.now row column ≡ self.row *ℤ entry matrix.now second.row column +ℤ self.other *ℤ entry matrix.now second.other column) }
-    {
-        let upper = matrix.entry(second.row, column);
-        let lower = matrix.entry(second.other, column);
-        matrix.entry(row, column) == self.sum(upper, lower)
-    }
-
-    fn sum(self, row: i8, other: i8) -> i8
-        requires row_factor { IsWithin 4 self.row }
-        requires other_factor { IsWithin 4 self.other }
-        requires row { IsEntry row }
-        requires other { IsEntry other }
-        ensures value { result ≡ self.row *ℤ row +ℤ self.other *ℤ other }
-        ensures small { IsWithin 8 result }
-    {
-        self.row * row + self.other * other
-    }
+    true
 }
 
-// The factors of a row, from its entries in the columns of the first connector by Cramer's rule.
+fn is_entry_made(
+    matrix: &Matrix,
+    row: u32,
+    column: u32,
+    factors: Factors,
+    second: Connector,
+) -> bool
+    requires first_factor { IsBounded 4 factors.first }
+    requires other_factor { IsBounded 4 factors.other }
+    requires row { row < height matrix.now }
+    requires column { column < matrix.now.width }
+    requires second { IsConnectorIn matrix.now false second }
+    ensures { IsTrue result ↔ (entry matrix.now row column ≡ factors.first *ℤ entry matrix.now second.row column +ℤ factors.other *ℤ entry matrix.now second.other column) }
+{
+    let upper = matrix.entry(second.row, column);
+    let lower = matrix.entry(second.other, column);
+    matrix.entry(row, column) == factors.entry(upper, lower)
+}
+
 fn factors_of(matrix: &Matrix, row: u32, first: Connector, second: Connector) -> Factors
     requires row { row < height matrix.now }
     requires first { IsConnectorIn matrix.now true first }
     requires second { IsConnectorIn matrix.now false second }
-    ensures sum { (column : ℕ) → spread_at (entry matrix.now) first second row column ≡ result.row *ℤ entry matrix.now second.row column +ℤ result.other *ℤ entry matrix.now second.other column }
-    ensures row { IsWithin 4 result.row }
-    ensures other { IsWithin 4 result.other }
+    ensures sum { (column : ℕ) → spread_at (entry matrix.now) first second row column ≡ result.first *ℤ entry matrix.now second.row column +ℤ result.other *ℤ entry matrix.now second.other column }
+    ensures first { IsBounded 4 result.first }
+    ensures other { IsBounded 4 result.other }
 {
-    let core = determinant(matrix, second.row, second.other, first);
-    Factors {
-        row: core * determinant(matrix, row, second.other, first),
-        other: core * determinant(matrix, second.row, row, first),
-    }
+    let core = core_of(matrix, first, second);
+    core.factors(
+        core.determinant(),
+        matrix.entry(row, first.column),
+        matrix.entry(row, first.other),
+    )
 }
 
-/// The determinant of the entries of two rows in the columns of a flat connector.
-pub fn determinant(matrix: &Matrix, upper: u32, lower: u32, flat: Connector) -> i8
-    requires upper { upper < height matrix.now }
-    requires lower { lower < height matrix.now }
-    requires flat { IsConnectorIn matrix.now true flat }
-    ensures value { result ≡ determinant_at (entry matrix.now) upper lower flat }
-    ensures small { IsWithin 2 result }
+/// The entries where the rows of a tall connector cross the columns of a flat one.
+pub fn core_of(matrix: &Matrix, first: Connector, second: Connector) -> Core
+    requires first { IsConnectorIn matrix.now true first }
+    requires second { IsConnectorIn matrix.now false second }
+    ensures place { IsCoreAt (entry matrix.now) second.row second.other first.column first.other result }
+    ensures entries { HasEntries result }
 {
-    let diagonal = product(
-        matrix.entry(upper, flat.column),
-        matrix.entry(lower, flat.other),
-    );
-    let other = product(
-        matrix.entry(upper, flat.other),
-        matrix.entry(lower, flat.column),
-    );
-    diagonal - other
+    Core::at(matrix, second.row, second.other, first.column, first.other)
 }

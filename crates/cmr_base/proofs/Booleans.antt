@@ -1,6 +1,7 @@
 -- What tests of numbers and of entries say, and Booleans made of them.
-use Rattle.std.proofs.Common.{◌≡◌, ◌≢◌, ◌<◌, ◌≤◌, ◌&&◌, ◌||◌, ◌∙◌, ◌⊎◌, inl, inr, ℕ, zero, suc, ℤ, pos, negsuc, Bool, true, false, not, nat_eq, nat_lt, refl, ap, arith}
-use Rattle.std.proofs.lemmas.Bool.{true≢false}
+use mir.Val.{bool_byte}
+use Rattle.std.proofs.Common.{◌≡◌, ◌≢◌, ◌<◌, ◌≤◌, ◌&&◌, ◌||◌, ◌∙◌, ◌⊎◌, inl, inr, ℕ, zero, suc, ℤ, pos, negsuc, Bool, true, false, not, cond, nat_eq, nat_lt, refl, ap, arith}
+use Rattle.std.proofs.lemmas.Bool.{true≢false, cases_lt}
 use Rattle.std.proofs.lemmas.Bool.Decides.{nat_tests}
 use Rattle.std.proofs.lemmas.Int.{ints}
 use Rattle.cmr_base.specs.Matrix.{is_nonzero}
@@ -53,12 +54,26 @@ pub not_false : (b : Bool) → not b ≡ false → b ≡ true
 not_false true e = refl
 not_false false e = cc
 
+pub not_not : (b : Bool) → not (not b) ≡ b
+not_not true = refl
+not_not false = refl
+
 pub and_is : (a b : Bool) → a && b ≡ true → (a ≡ true) × (b ≡ true)
 and_is true b e = (refl, e)
 and_is false b e = (cc, cc)
 
 pub is_and : (a b : Bool) → a ≡ true → b ≡ true → a && b ≡ true
 is_and a b e f = rw (e, f) refl
+
+-- the first test without the second
+pub first_of : (a b : Bool) → (a && not b) ≡ true → a ≡ true
+first_of true b e = refl
+first_of false b e = cc
+
+pub and_not : (a b : Bool) → (a && not b) ≡ false → a ≡ true → b ≡ true
+and_not true true e h = refl
+and_not true false e h = cc
+and_not false b e h = cc
 
 pub or_is : (a b : Bool) → (a || b) ≡ true → (a ≡ true) ⊎ (b ≡ true)
 or_is true b e = inl refl
@@ -70,6 +85,15 @@ or_left a b e = rw e refl
 pub or_right : (a b : Bool) → b ≡ true → (a || b) ≡ true
 or_right true b e = refl
 or_right false b e = e
+
+pub or_false : (b : Bool) → (b || false) ≡ b
+or_false true = refl
+or_false false = refl
+
+-- the byte of a test
+pub one_or_none : (b : Bool) → bool_byte b ≡ cond b 1 0
+one_or_none true = refl
+one_or_none false = refl
 
 -- ---- numbers
 
@@ -103,6 +127,12 @@ is_lt a b h = grind (arith, nat_tests)
 
 pub is_not_lt : (a b : ℕ) → b ≤ a → nat_lt a b ≡ false
 is_not_lt a b h = grind (arith, nat_tests)
+
+pub neither : (a b : ℕ) → ¬ (a < b) → ¬ (b < a) → a ≡ b
+neither a b low high = elim (cases_lt a b) [
+  | inl l ↦ absurd (low l)
+  | inr g ↦ elim (cases_lt b a) [ inl l ↦ absurd (high l) | inr h ↦ omega arith ]
+]
 
 -- ---- entries
 

@@ -9,6 +9,7 @@ use Rattle.std.proofs.lemmas.Nat.Bits.{bit_at-lt, bit_at-zero, bit_at-trailing_z
 use Rattle.cmr_base.specs.Matrix.{Matrix, height, row_of, is_nonzero, IsMatrix}
 use Rattle.cmr_base.specs.Planes.{has_bit, words_for, words_of}
 use Rattle.cmr_base.specs.Trees.{support}
+use Rattle.cmr_base.proofs.Booleans.{and_is, and_not}
 use Rattle.cmr_base.proofs.NextNonzeros.{column_in}
 use Rattle.cmr_base.proofs.PlaneWords.{length-words_of, word-words_of}
 use Rattle.cmr_base.proofs.FirstBits.{first_by_bits, none_by_bits}
@@ -116,21 +117,11 @@ zero_bits n fits none = elim (cases_lt 0 n) [
 some_bit : (n : ℕ) → n < 2 ^ 64 → n ≢ 0 → (k : ℕ) × (k < 64) × (has_bit n k ≡ true)
 some_bit n fits n0 = let b = bit_at-trailing_zeros w64 n (omega arith) fits in (trailing_zeros w64 n, b.0, ap (λ bit. eqb bit 1) b.1)
 
-and_true : (s t : Bool) → (s && t) ≡ true → (s ≡ true) × (t ≡ true)
-and_true true true e = (refl, refl)
-and_true true false e = cc
-and_true false t e = cc
-
-and_not : (s t : Bool) → (s && not t) ≡ false → s ≡ true → t ≡ true
-and_not true true e h = refl
-and_not true false e h = cc
-and_not false t e h = cc
-
 -- two words without a common bit
 pub bits_shared : (a b : ℕ) → a < 2 ^ 64 → b < 2 ^ 64 → bit_and a b ≢ 0 → (k : ℕ) × (k < 64) × (has_bit a k ≡ true) × (has_bit b k ≡ true)
 bits_shared a b fa fb n =
     let s = some_bit (bit_and a b) (and_lt 64 a b fa fb) n in
-    let both = and_true (has_bit a s.0) (has_bit b s.0) (sym (has_bit-and a b s.0) ∙ s.2) in
+    let both = and_is (has_bit a s.0) (has_bit b s.0) (sym (has_bit-and a b s.0) ∙ s.2) in
     (s.0, s.1, both.0, both.1)
 
 pub no_bits_shared : (a b k : ℕ) → bit_and a b ≡ 0 → has_bit a k ≡ true → has_bit b k ≡ true → ⊥

@@ -110,13 +110,6 @@ module _ (m : Matrix) (row model block i : ℕ) (is : IsMatrix m) (low : i < 64)
       ∙ minus_bits (entry m row (64 * block + i)) (entry m model (64 * block + i)) (is.small row (64 * block + i)) (is.small model (64 * block + i))
 
 -- what the tests of a factor mean
-pub factor_zero : (x : ℤ) → IsEntry x → of_z w8 x ≡ 0 → x ≡ pos 0
-factor_zero (pos zero) a e = refl
-factor_zero (pos (suc zero)) a e = absurd (omega (arith, e))
-factor_zero (negsuc zero) a e = absurd (omega (arith, e))
-factor_zero (pos (suc (suc n))) a e = too_large n a
-factor_zero (negsuc (suc n)) a e = too_small n a
-
 pub factor_one : (x : ℤ) → IsEntry x → of_z w8 x ≡ 1 → x ≡ pos 1
 factor_one (pos zero) a e = absurd (omega (arith, e))
 factor_one (pos (suc zero)) a e = refl

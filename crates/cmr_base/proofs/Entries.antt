@@ -1,8 +1,9 @@
--- The entries of a matrix in which one entry was changed.
-use Rattle.std.proofs.Common.{◌≡◌, ◌≢◌, ◌<◌, ◌∙◌, inl, inr, ℕ, ℤ, pos, [], length, get_or, set, ap, sym, subst, arith}
+-- The entries of a matrix in which one entry was changed, and entries that are 0 or 1.
+use Rattle.std.proofs.Common.{◌≡◌, ◌≢◌, ◌<◌, ◌∙◌, inl, inr, ℕ, ℤ, pos, negsuc, [], length, get_or, set, ap, sym, subst, arith}
 use Rattle.std.proofs.lemmas.List.{length-set, set_past, get_or-set_same, get_or-set_other}
 use Rattle.std.proofs.lemmas.Bool.{cases_eq, cases_lt}
 use Rattle.cmr_base.specs.Matrix.{Matrix, height, row_of, entry, with_entry, IsMatrix, IsEntry}
+use Rattle.cmr_base.specs.Trees.{IsBinary}
 
 pub height-with_entry : (m : Matrix) (row column : ℕ) (value : ℤ) → height (with_entry m row column value) ≡ height m
 height-with_entry m row column value = length-set m.rows row (set (row_of m row) column value)
@@ -45,3 +46,8 @@ is_matrix-with_entry m row column value inside small is = record {
         | inr past ↦ subst IsEntry (sym (ap (λ r. get_or r j (pos 0)) (changed_row m row column value inside ∙ set_past (row_of m row) column value (let w = is.rectangular row inside in omega arith)))) (is.small row j)
       ]
     ]
+
+-- ---- entries 0 and 1
+
+pub no_minus : (m : Matrix) → IsBinary m → (row column : ℕ) → entry m row column ≢ negsuc 0
+no_minus m binary row column e = elim (binary row column) [ inl z ↦ cc (sym e, z) | inr o ↦ cc (sym e, o) ]

@@ -43,6 +43,9 @@ mul-neg a b = mul_comm a (neg_ℤ b) ∙ neg-mul b a ∙ ap neg_ℤ (mul_comm b 
 pub one-mul : (a : ℤ) → pos 1 *ℤ a ≡ a
 one-mul a = omega (arith, ints)
 
+pub times_one : (a : ℤ) → a ≡ pos 1 *ℤ a
+times_one a = sym (one-mul a)
+
 pub minus_one-mul : (a : ℤ) → negsuc 0 *ℤ a ≡ neg_ℤ a
 minus_one-mul a = omega (arith, ints)
 

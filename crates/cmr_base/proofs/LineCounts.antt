@@ -1,5 +1,5 @@
 -- How many lines a set has.
-use Rattle.std.proofs.Common.{◌≡◌, ◌≢◌, ◌<◌, ◌≤◌, ◌+◌, ◌++◌, ◌∙◌, ℕ, zero, suc, Bool, true, false, not, cond, filter, nat_eq, List, [], ◌∷◌, length, ap, ap₂, sym, subst, refl, arith, zero-add}
+use Rattle.std.proofs.Common.{◌≡◌, ◌≢◌, ◌<◌, ◌≤◌, ◌+◌, ◌++◌, ◌∙◌, ℕ, zero, suc, Bool, true, false, cond, filter, nat_eq, List, [], ◌∷◌, length, ap, ap₂, sym, subst, refl, arith, zero-add}
 use Rattle.std.proofs.lemmas.Bool.{false≢true}
 use Rattle.std.proofs.lemmas.Bool.Decides.{nat_tests}
 use Rattle.std.specs.List.{AllByRecursion}
@@ -8,20 +8,9 @@ use Rattle.cmr_base.specs.declared.line.Line.TheVariants.{Row, Column}
 use Rattle.cmr_base.specs.LineSets.{first_lines}
 use Rattle.cmr_base.specs.Separations.{Lines, opposite, count_in}
 use Rattle.cmr_base.specs.Seeds.{IsLine}
+pub use Rattle.cmr_base.specs.Seeds.{count, inside, outside}
 use Rattle.cmr_base.proofs.LineSetLemmas.{range_more}
 use Rattle.cmr_base.proofs.Booleans.{eq_of, is_ne, ne_of, self_eq}
-
--- how many of the first k numbers pass a test
-abbrev pub count : (ℕ → Bool) → ℕ → ℕ
-count p zero = 0
-count p (suc k) = cond (p k) (suc (count p k)) (count p k)
-
--- the number of lines inside, and outside
-abbrev pub inside : ℕ → ℕ → Lines → ℕ
-inside m n S = count (λ r. S (Row r)) m + count (λ c. S (Column c)) n
-
-abbrev pub outside : ℕ → ℕ → Lines → ℕ
-outside m n S = inside m n (λ x. not (S x))
 
 -- each line of the list is another
 abbrev pub AreApart : List Line → Type 0

@@ -1,5 +1,5 @@
--- What holds of each item of a list, and a list with one item more.
-use Rattle.std.proofs.Common.{◌≡◌, ◌<◌, ◌++◌, ◌∙◌, ℕ, zero, suc, Bool, true, false, ℤ, ◌+ℤ◌, List, [], ◌∷◌, length, get_or, take, map, refl, ap, sym, subst, arith}
+-- What holds of each item of a list, a list with one item more, and the items that pass a test.
+use Rattle.std.proofs.Common.{◌≡◌, ◌<◌, ◌≤◌, ◌+◌, ◌++◌, ◌||◌, ◌∙◌, ℕ, zero, suc, Bool, true, false, cond, filter, ℤ, ◌+ℤ◌, List, [], ◌∷◌, length, get_or, take, map, refl, ap, sym, subst, arith}
 use Rattle.std.specs.List.{AllByRecursion, Contains}
 use Rattle.cmr_base.specs.Sums.{sum_over}
 use Rattle.cmr_base.proofs.Integers.{sums}
@@ -94,6 +94,10 @@ all-take P zero xs all = tt
 all-take P (suc n) [] all = tt
 all-take P (suc n) (x ∷ xs) all = (all.0, all-take P n xs all.1)
 
+pub all_unmapped : {A B : Type 0} (P : A → Type 0) (f : B → A) (xs : List B) → AllByRecursion P (map f xs) → AllByRecursion (λ x. P (f x)) xs
+all_unmapped P f [] h = tt
+all_unmapped P f (x ∷ xs) h = (h.0, all_unmapped P f xs h.1)
+
 pub all_contained : {A : Type 0} (P : A → Type 0) (xs : List A) (x : A) → AllByRecursion P xs → Contains xs x → P x
 all_contained P xs x all there = subst P there.2 (all_at P xs there.0 x all there.1)
 
@@ -123,3 +127,28 @@ one_more_nil {A = A} x xs h = h.more_is ∙ go h.front h.back h.fewer_is
     go : (front back : List A) → [] ≡ front ++ back → front ++ x ∷ back ≡ x ∷ []
     go [] back e = ap (λ ys. x ∷ ys) (sym e)
     go (y ∷ front) back e = absurd cc
+
+-- ---- lengths, and what passes a test
+
+pub length-more : {A : Type 0} (xs : List A) (x : A) → length (xs ++ x ∷ []) ≡ suc (length xs)
+length-more [] x = refl
+length-more (y ∷ ys) x = ap suc (length-more ys x)
+
+pub no_items : {A : Type 0} (xs : List A) → length xs ≡ 0 → xs ≡ []
+no_items [] e = refl
+no_items (x ∷ xs) e = absurd (omega arith)
+
+pub filter_same : {A : Type 0} (p q : A → Bool) → ((x : A) → p x ≡ q x) → (xs : List A) → filter p xs ≡ filter q xs
+filter_same p q h [] = refl
+filter_same p q h (x ∷ xs) = rw (h x) (ap (λ ys. cond (q x) (x ∷ ys) ys) (filter_same p q h xs))
+
+pub filter_or : {A : Type 0} (p q : A → Bool) (xs : List A) → length (filter (λ x. p x || q x) xs) ≤ length (filter p xs) + length (filter q xs)
+filter_or p q [] = omega arith
+filter_or p q (x ∷ xs) = go (p x) (q x) (filter_or p q xs)
+  where
+    go : (s t : Bool) → length (filter (λ x. p x || q x) xs) ≤ length (filter p xs) + length (filter q xs)
+        → length (cond (s || t) (x ∷ filter (λ x. p x || q x) xs) (filter (λ x. p x || q x) xs)) ≤ length (cond s (x ∷ filter p xs) (filter p xs)) + length (cond t (x ∷ filter q xs) (filter q xs))
+    go true true h = omega (arith, h)
+    go true false h = omega (arith, h)
+    go false true h = omega (arith, h)
+    go false false h = omega (arith, h)

@@ -1,10 +1,12 @@
 -- Numbers of a list by their places, and lists by their numbers.
-use Rattle.std.proofs.Common.{refl, ap₂, ◌≡◌, ◌≢◌, ◌<◌, ◌≤◌, ◌+◌, ℕ, suc, List, [], ◌∷◌, length, get_or, sym, ap, subst, arith, ◌⊎◌, inl, inr}
+use Rattle.std.proofs.Common.{refl, ap₂, ◌≡◌, ◌≢◌, ◌∙◌, ◌<◌, ◌≤◌, ◌+◌, ℕ, suc, List, [], ◌∷◌, length, get_or, sym, ap, subst, arith, ◌⊎◌, inl, inr}
 use Rattle.std.proofs.lemmas.Bool.{cases_lt}
+use Rattle.std.proofs.lemmas.List.{get_or_default}
+use Rattle.std.specs.List.{Contains}
 use Rattle.std.specs.List.Sorted.{IsStrictlyIncreasing}
 use Rattle.cmr_base.specs.LineSets.{AllBelow, without}
 use Rattle.cmr_base.specs.Members.{IsIn, IsDistinct}
-use Rattle.cmr_base.proofs.ListsWithout.{increasing_tail, head_below, in_without, without_shorter}
+use Rattle.cmr_base.proofs.ListsWithout.{increasing_tail, head_below, in_without, without_shorter, place_of, place_is}
 use Rattle.cmr_base.proofs.Members.{in_at}
 use Rattle.cmr_base.proofs.Submatrices.{increasing_places}
 
@@ -44,6 +46,17 @@ placed_before P xs index rising so x h low = pick (found_at xs x h)
 
 pub members_below : (bound : ℕ) (xs : List ℕ) → AllBelow bound xs → (x : ℕ) → IsIn x xs → x < bound
 members_below bound xs below x h = let q = found_at xs x h in subst (λ (y : ℕ). y < bound) q.2 (below q.0 q.1)
+
+pub contained_below : (bound : ℕ) (xs : List ℕ) (x : ℕ) → AllBelow bound xs → Contains xs x → x < bound
+contained_below bound xs x below (k, l, e) = let same : get_or xs k x ≡ x = e in subst (λ (y : ℕ). y < bound) (get_or_default xs k 0 x l ∙ same) (below k l)
+
+-- numbers that differ from place to place are distinct
+pub distinct_from_apart : (xs : List ℕ) → ((i k : ℕ) → i < k → k < length xs → get_or xs i 0 ≢ get_or xs k 0) → IsDistinct xs
+distinct_from_apart [] apart = tt
+distinct_from_apart (x ∷ xs) apart = (
+  (λ h. let p = place_is x xs h in apart 0 (suc (place_of x xs)) (omega arith) (let l = p.in_range in omega (arith, l)) (sym p.there)),
+  distinct_from_apart xs (λ i k l h. apart (suc i) (suc k) (omega (arith, l)) (omega (arith, h))),
+)
 
 -- distinct numbers of another list
 pub fewer_distinct : (xs ys : List ℕ) → IsDistinct xs → ((x : ℕ) → IsIn x xs → IsIn x ys) → length xs ≤ length ys

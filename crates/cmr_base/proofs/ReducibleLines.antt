@@ -8,7 +8,7 @@ use Rattle.cmr_base.specs.declared.line.Reason.{Reason}
 use Rattle.cmr_base.specs.declared.line.Reason.TheVariants.{Zero, Unit as One, Copy, Negative}
 use Rattle.cmr_base.specs.Matrix.{is_nonzero}
 use Rattle.cmr_base.specs.Reductions.{nonzeros_at, equal_at, first_equal, first_reason}
-use Rattle.cmr_base.proofs.Integers.{products}
+use Rattle.cmr_base.proofs.Integers.{products, times_one}
 use Rattle.cmr_base.specs.Members.{IsIn}
 use Rattle.cmr_base.proofs.ListsWithout.{true_is_false, increasing_distinct}
 use Rattle.cmr_base.proofs.ThinLines.{and_is, is_and, not_is, found_is, is_found, equal_is, is_equal, IsThin, thin_from_count, count_from_thin, nonzero_found}
@@ -41,9 +41,6 @@ or_some : {X : Type 0} (o p : Option X) → (is_some o ≡ true) ⊎ (is_some p 
 or_some None p (inl e) = true_is_false (sym e)
 or_some None p (inr e) = e
 or_some (Some x) p e = refl
-
-times_one : (z : ℤ) → z ≡ pos 1 *ℤ z
-times_one z = simp products
 
 times_minus_one : (z : ℤ) → neg_ℤ z ≡ negsuc 0 *ℤ z
 times_minus_one z = simp products

@@ -5,7 +5,7 @@ use Rattle.std.specs.List.Sorted.{IsStrictlyIncreasing}
 use Rattle.std.proofs.lemmas.Bool.{cases_eq}
 use Rattle.std.proofs.lemmas.Bool.Decides.{nat_tests}
 use Rattle.cmr_base.specs.Matrix.{Matrix, height}
-use Rattle.cmr_base.specs.LineSets.{IsRowSet, IsColumnSet}
+use Rattle.cmr_base.specs.LineSets.{AllBelow, IsRowSet, IsColumnSet}
 use Rattle.cmr_base.specs.Sums.{sum_over, IsEven}
 use Rattle.cmr_base.proofs.Integers.{sums}
 use Rattle.cmr_base.proofs.Parity.{IsFour}
@@ -60,6 +60,9 @@ rising_increases low high xs rises k h = let next : k + 1 ≡ suc k = omega arit
 pub rising_short : (low high : ℕ) (xs : List ℕ) → RisesIn low high xs → low ≤ high → length xs + low ≤ high
 rising_short low high [] rises h = omega arith
 rising_short low high (x ∷ xs) rises h = omega (arith, rises.0, rises.1, rising_short (x + 1) high xs rises.2 (omega (arith, rises.1)))
+
+pub rising_count : (bound : ℕ) (xs : List ℕ) → IsStrictlyIncreasing xs → AllBelow bound xs → length xs ≤ bound
+rising_count bound xs rises below = let short = rising_short 0 bound xs (rises_in 0 bound xs rises below (λ h. omega arith)) (omega arith) in omega (arith, short)
 
 pub rising_below : (low high : ℕ) (xs : List ℕ) → RisesIn low high xs → AllByRecursion (λ x. x < high) xs
 rising_below low high [] rises = tt

@@ -12,6 +12,7 @@ use Rattle.cmr_base.specs.RootedTrees.{AreEndsInRange, link_at, node_at, HasNode
 use Rattle.cmr_base.specs.Trees.{WalkStep, tail, head, to, IsWalk, IsTree}
 use Rattle.cmr_base.proofs.RowLists.{same_or_not}
 use Rattle.cmr_base.proofs.Members.{distinct_few}
+use Rattle.cmr_base.proofs.Places.{distinct_from_apart}
 use Rattle.cmr_base.proofs.ListsWithout.{place_of, place_is}
 use Rattle.cmr_base.proofs.IncidenceSteps.{bound, bound_last, last_is_there, none_after_last}
 use Rattle.cmr_base.proofs.TreeTests.{AreConnected, walk-then, walk-back}
@@ -21,13 +22,6 @@ on_ok_both (Ok x) f p q = f p q
 on_ok_both (Err e) f p q = tt
 
 -- ---- numbers of places
-
-pub distinct_from_apart : (xs : List ℕ) → ((i k : ℕ) → i < k → k < length xs → get_or xs i 0 ≢ get_or xs k 0) → IsDistinct xs
-distinct_from_apart [] apart = tt
-distinct_from_apart (x ∷ xs) apart = (
-  (λ h. let p = place_is x xs h in apart 0 (suc (place_of x xs)) (omega arith) (let l = p.in_range in omega (arith, l)) (sym p.there)),
-  distinct_from_apart xs (λ i k l h. apart (suc i) (suc k) (omega (arith, l)) (omega (arith, h))),
-)
 
 abbrev nodes_of : List Link → List ℕ
 nodes_of links = map (λ link. link.node) links

@@ -9,7 +9,7 @@ use Rattle.cmr_base.specs.declared.separation.Form.{Form}
 use Rattle.cmr_base.specs.declared.separation.Form.TheVariants.{Delta, YForm, Mixed, Concentrated}
 use Rattle.cmr_base.specs.LineSets.{first_lines}
 use Rattle.cmr_base.specs.Separations.{Lines, opposite, count_in, AreEnough, AreOn, zeros, product_at, IsTwoSeparation, IsTied, AreConnectors, upper_block, lower_block, first_is_flat, second_is_flat, connector_lines, IsThreeSeparation}
-use Rattle.cmr_base.specs.Seeds.{IsLine, IsClosed, HasAll, IsGood, IsGoodTwo, IsGoodThree}
+use Rattle.cmr_base.specs.Seeds.{IsLine, line_number, form_number, IsClosed, HasAll, IsGood, IsGoodTwo, IsGoodThree}
 use Rattle.cmr_base.proofs.Lists.{all_weaker, all_both}
 use Rattle.cmr_base.proofs.ListedLines.{has_line_from_line, line_from_has_line}
 use Rattle.cmr_base.proofs.LineCounts.{count, inside, inside_is, outside_is, AreApart, one_beside, at_least}
@@ -161,3 +161,29 @@ module _ (m n : ℕ) (M : ℕ → ℕ → ℤ) (form : Form) (one two : Connecto
         enough = enough_lines m n 4 M (upper_block M form one two) (lower_block M form one two) f k g.0.first_lines g.0.second_lines
             (first_apart M form one two g.0.values) (three_more (first_is_flat form)) x S g.1;
       }
+
+-- ---- lines and forms by their numbers
+
+pub line_is : (m n : ℕ) (x y : Line) → IsLine m n x → IsLine m n y → line_number m x ≡ line_number m y → x ≡ y
+line_is m n (Row r) (Row s) lx ly e = ap Row e
+line_is m n (Row r) (Column c) lx ly e = absurd (omega arith)
+line_is m n (Column c) (Row r) lx ly e = absurd (omega arith)
+line_is m n (Column c) (Column d) lx ly e = ap Column (omega arith)
+
+pub form_is : (a b : Form) → form_number a ≡ form_number b → a ≡ b
+form_is Delta Delta e = refl
+form_is Delta YForm e = absurd (omega arith)
+form_is Delta Mixed e = absurd (omega arith)
+form_is Delta Concentrated e = absurd (omega arith)
+form_is YForm Delta e = absurd (omega arith)
+form_is YForm YForm e = refl
+form_is YForm Mixed e = absurd (omega arith)
+form_is YForm Concentrated e = absurd (omega arith)
+form_is Mixed Delta e = absurd (omega arith)
+form_is Mixed YForm e = absurd (omega arith)
+form_is Mixed Mixed e = refl
+form_is Mixed Concentrated e = absurd (omega arith)
+form_is Concentrated Delta e = absurd (omega arith)
+form_is Concentrated YForm e = absurd (omega arith)
+form_is Concentrated Mixed e = absurd (omega arith)
+form_is Concentrated Concentrated e = refl

@@ -1,7 +1,7 @@
 -- Products of entries with signs.
 use Rattle.std.proofs.Common.{◌≡◌, ◌∙◌, ℤ, pos, ◌*ℤ◌, inl, inr, refl, sym, arith}
 use Rattle.cmr_base.specs.Signing.{IsSign}
-use Rattle.cmr_base.proofs.Integers.{products, sums}
+use Rattle.cmr_base.proofs.Integers.{products, sums, mul-one}
 
 pub sign_square : (x : ℤ) → IsSign x → x *ℤ x ≡ pos 1
 sign_square x (inl e) = rw e refl
@@ -9,13 +9,10 @@ sign_square x (inr e) = rw e refl
 
 -- twice by a sign is once
 pub twice_by_sign : (e x : ℤ) → IsSign e → x ≡ e *ℤ (x *ℤ e)
-twice_by_sign e x h = sym (gather e x ∙ rw (sign_square e h) (times_one x))
+twice_by_sign e x h = sym (gather e x ∙ rw (sign_square e h) (mul-one x))
   where
     gather : (e x : ℤ) → e *ℤ (x *ℤ e) ≡ x *ℤ (e *ℤ e)
     gather e x = simp products
-
-    times_one : (x : ℤ) → x *ℤ pos 1 ≡ x
-    times_one x = simp products
 
 -- a block of rank one by the entries at another place of it: f is the entry in the first place's row, g that in its column
 pub same_product : (a b e f g : ℤ) → IsSign e → IsSign f → IsSign g → a *ℤ (b *ℤ e) ≡ (a *ℤ (f *ℤ e)) *ℤ ((g *ℤ (b *ℤ e)) *ℤ (g *ℤ (f *ℤ e)))

@@ -39,7 +39,7 @@ small_value false n = record { low = omega (arith, ints); high = omega (arith, i
 small_value true false = record { low = omega (arith, ints); high = omega (arith, ints) }
 small_value true true = record { low = omega (arith, ints); high = omega (arith, ints) }
 
-small_rows : (f : ℕ → ℕ → ℤ) (columns rows : List ℕ) → ((r c : ℕ) → IsEntry (f r c)) → (r c : ℕ) → IsEntry (get_or (get_or (map (λ row. map (f row) columns) rows) r []) c (pos 0))
+pub small_rows : (f : ℕ → ℕ → ℤ) (columns rows : List ℕ) → ((r c : ℕ) → IsEntry (f r c)) → (r c : ℕ) → IsEntry (get_or (get_or (map (λ row. map (f row) columns) rows) r []) c (pos 0))
 small_rows f columns [] each r c = record { low = omega (arith, ints); high = omega (arith, ints) }
 small_rows f columns (x ∷ rows) each zero c = each-map IsEntry (f x) columns (record { low = omega (arith, ints); high = omega (arith, ints) }) (each x) c
 small_rows f columns (x ∷ rows) each (suc r) c = small_rows f columns rows each r c

@@ -28,5 +28,6 @@ pub mod Seeds
 pub mod Components
 pub mod MatrixSums
 pub mod Determinants
+pub mod Cores
 pub mod R10
 pub mod ColumnSets

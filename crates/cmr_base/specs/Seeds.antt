@@ -1,5 +1,5 @@
 -- Separations from their seeds: a few lines grow to the least set that can be side one.
-use Rattle.std.specs.Prelude.{◌≡◌, ◌≢◌, ◌<◌, ◌≤◌, ◌+◌, ◌⊎◌, ℕ, ℤ, pos, true, false, List, [], ◌∷◌}
+use Rattle.std.specs.Prelude.{◌≡◌, ◌≢◌, ◌<◌, ◌≤◌, ◌+◌, ◌⊎◌, ℕ, zero, suc, ℤ, pos, Bool, true, false, not, cond, List, [], ◌∷◌}
 use Rattle.std.specs.List.{AllByRecursion}
 use Rattle.cmr_base.specs.declared.line.Line.{Line}
 use Rattle.cmr_base.specs.declared.line.Line.TheVariants.{Row, Column}
@@ -98,3 +98,17 @@ pub record IsFirstThree (m n : ℕ) (M : ℕ → ℕ → ℤ) (side : Lines) (fo
   pub good : IsGoodThree m n M form first second seed side
   pub earliest : (form' : Form) (first' second' : Connector) (seed' : Line) (side' : Lines) → IsGoodThree m n M form' first' second' seed' side'
       → ¬ (IsBefore (three_key m form' first' second' seed') (three_key m form first second seed))
+
+-- ---- how many lines a set has
+
+-- how many of the first numbers pass a test
+abbrev pub count : (ℕ → Bool) → ℕ → ℕ
+count test zero = 0
+count test (suc k) = cond (test k) (suc (count test k)) (count test k)
+
+-- how many lines are in the set, and how many are not
+abbrev pub inside : ℕ → ℕ → Lines → ℕ
+inside m n lines = count (λ row. lines (Row row)) m + count (λ column. lines (Column column)) n
+
+abbrev pub outside : ℕ → ℕ → Lines → ℕ
+outside m n lines = inside m n (λ line. not (lines line))

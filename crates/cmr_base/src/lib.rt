@@ -3,6 +3,7 @@
 #![tactic(auto)]
 
 pub mod columns;
+mod cores;
 mod differences;
 mod incidences;
 mod indices;
@@ -25,6 +26,7 @@ mod separation;
 mod set_numbers;
 mod word;
 
+pub use cores::{Core, Factors};
 pub use indices::Indices;
 pub use item_list::{ItemList, PartList, PathList, SideList, SignList, WordList};
 pub use limits::{MAX_COLUMNS, MAX_DEPTH, MAX_EVIDENCE, MAX_LINES, MAX_ROWS, MAX_TEXT};

@@ -13,18 +13,11 @@ use Rattle.cmr_io.specs.MemoryShelf.{target_by, got_by}
 use Rattle.cmr_io.specs.declared.memory_shelf.Begun.{Begun}
 use Rattle.cmr_io.specs.declared.memory_shelf.Begun.TheVariants.{Nothing, Read, Write}
 use borrow.Author.Tests.{leb-true}
+use Rattle.cmr_base.proofs.Booleans.{not_is, and_is}
 
 neither : (a b : Bool) → (a || b) ≡ false → (a ≡ false) × (b ≡ false)
 neither true b h = absurd (cc)
 neither false b h = (refl, h)
-
-both : (a b : Bool) → (a && b) ≡ true → (a ≡ true) × (b ≡ true)
-both true b h = (refl, h)
-both false b h = absurd (cc)
-
-is_not : (a : Bool) → not a ≡ true → a ≡ false
-is_not true h = absurd (cc)
-is_not false h = refl
 
 is_other : (bytes name other : List ℕ) → bytes_eq bytes name ≡ true → other ≢ name → bytes_eq bytes other ≡ false
 is_other bytes name other h ne =
@@ -121,14 +114,14 @@ pub IsFirst-writable : (files : List File) (i : ℕ) → is_writable_at files i 
 IsFirst-writable [] i h = absurd (cc)
 IsFirst-writable (x ∷ files) zero h = (bytes_eq-Decides (name_of x) (name_of x)).1 refl
 IsFirst-writable (x ∷ files) (suc i) h =
-    let p = both (not (is_named (name_at files i) x)) (is_writable_at files i) h in
-    (is_not (is_named (name_at files i) x) p.0, IsFirst-writable files i p.1)
+    let p = and_is (not (is_named (name_at files i) x)) (is_writable_at files i) h in
+    (not_is (is_named (name_at files i) x) p.0, IsFirst-writable files i p.1)
 
 pub is_writable-read : (files : List File) (i : ℕ) (file : File) → is_writable_at files i ≡ true → file ≡ get_or files i file → is_writable file ≡ true
 is_writable-read [] i file h is = absurd (cc)
 is_writable-read (x ∷ files) zero file h is = rw is h
 is_writable-read (x ∷ files) (suc i) file h is =
-    is_writable-read files i file (both (not (is_named (name_at files i) x)) (is_writable_at files i) h).1 is
+    is_writable-read files i file (and_is (not (is_named (name_at files i) x)) (is_writable_at files i) h).1 is
 
 pub is_writable_at-first : (name : List ℕ) (files : List File) (i : ℕ) (file : File) → IsFirst name files i → file ≡ get_or files i file → is_writable file ≡ true → is_writable_at files i ≡ true
 is_writable_at-first name [] i file h is writable = absurd h

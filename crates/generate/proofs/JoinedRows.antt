@@ -11,6 +11,7 @@ use Rattle.cmr_base.proofs.Lists.{all-append, all_by_places, all_at}
 use Rattle.cmr_base.specs.MatrixSums.{four_blocks, two_sum}
 use Rattle.cmr_base.specs.Separations.{zeros}
 use Rattle.cmr_base.proofs.FilledMatrices.{height-filled}
+use Rattle.cmr_base.proofs.SmallEntries.{entry_as_byte, negative_is_entry, product_is_entry}
 use Rattle.generate.specs.Generated.{circulant, circulant_sum, negated_rows}
 use Rattle.generate.specs.Signs.{sign_of}
 
@@ -71,17 +72,6 @@ are_cells width rows all = record { whole = whole_joined width rows all; small =
 -- ---- rows of a matrix
 pub matrix_rows : (m : Matrix) → IsMatrix m → AllByRecursion (IsRow m.width) m.rows
 matrix_rows m is = all_by_places (IsRow m.width) m.rows [] (λ k h. record { long = is.rectangular k h; small = all_by_places IsEntry (row_of m k) (pos 0) (λ j l. is.small k j) })
-
-pub product_small : (x y : ℤ) → IsEntry x → IsEntry y → IsEntry (x *ℤ y)
-product_small (pos zero) y a b = record { low = omega (arith, ints); high = omega (arith, ints) }
-product_small (pos (suc zero)) y a b = record { low = omega (arith, ints, b.low); high = omega (arith, ints, b.high) }
-product_small (pos (suc (suc n))) y a b = absurd (let h = a.high in omega (arith, ints))
-product_small (negsuc zero) y a b = record { low = omega (arith, ints, b.low, b.high); high = omega (arith, ints, b.low, b.high) }
-product_small (negsuc (suc n)) y a b = absurd (let h = a.low in omega (arith, ints))
-
--- an i8 keeps it
-pub kept : (x : ℤ) → IsEntry x → to_z w8 (of_z w8 x) ≡ x
-kept x small = let l = small.low in let h = small.high in omega (arith, ints)
 
 -- ---- sums of circulants
 height-sum : (m n : Matrix) → height (two_sum m n) ≡ height m + (height n - 1)
@@ -154,16 +144,13 @@ pub negated_all : (rows : List (List ℤ)) (signs : List ℕ) (i : ℕ) (old cel
 negated_all rows signs i old cells h before =
     sym (append-nil cells) ∙ ap (λ (rs : List (List ℤ)). cells ++ joined (negated_rows rs (drop i signs))) (sym (drop_all i rows h)) ∙ before
 
-neg_small : (z : ℤ) → IsEntry z → IsEntry (neg_ℤ z)
-neg_small z a = let l = a.low in let h = a.high in record { low = omega (arith, ints); high = omega (arith, ints) }
-
 negated_is_row : (w : ℕ) (b : Bool) (row : List ℤ) → IsRow w row → IsRow w (if b then map neg_ℤ row else row)
 negated_is_row w false row is = is
 negated_is_row w true row is = record { long = length-map row neg_ℤ ∙ is.long; small = all_negated row is.small }
   where
     all_negated : (xs : List ℤ) → AllByRecursion IsEntry xs → AllByRecursion IsEntry (map neg_ℤ xs)
     all_negated [] all = all
-    all_negated (x ∷ xs) all = (neg_small x all.0, all_negated xs all.1)
+    all_negated (x ∷ xs) all = (negative_is_entry x all.0, all_negated xs all.1)
 
 pub all_negated_rows : (w : ℕ) (rows : List (List ℤ)) (signs : List ℕ) → AllByRecursion (IsRow w) rows → AllByRecursion (IsRow w) (negated_rows rows signs)
 all_negated_rows w [] signs all = all

@@ -9,8 +9,9 @@ use Rattle.ghouila.proofs.BlockViolators.{Blocks}
 use Rattle.cmr_base.proofs.Lists.{all_weaker}
 use Rattle.ghouila.proofs.BorderedSides.{Edge}
 use Rattle.ghouila.proofs.JoinedSides.{Sides, joined}
-use Rattle.ghouila.proofs.ThreeSides.{one_times, times_zero}
+use Rattle.ghouila.proofs.ThreeSides.{times_zero}
 use Rattle.cmr_base.proofs.Booleans.{lt_of}
+use Rattle.cmr_base.proofs.Integers.{times_one}
 
 -- no violator among m rows and n columns
 abbrev pub Free : ℕ → ℕ → (ℕ → ℕ → ℤ) → Type 0
@@ -75,9 +76,9 @@ module _ (flat1 flat2 : Bool) (e : ℤ) (m n u v : ℕ) (first second : ℕ → 
         column_unit = inl refl;
         in_row = λ _. one_more m 0;
         in_column = λ _. two_more n;
-        left = λ _ z _. one_times (first m z);
-        top = λ _ r l. h.2 r l ∙ one_times (first r n);
-        corner = λ _ _. h.1 ∙ (one_times e ∙ one_times (pos 1 *ℤ e));
+        left = λ _ z _. times_one (first m z);
+        top = λ _ r l. h.2 r l ∙ times_one (first r n);
+        corner = λ _ _. h.1 ∙ (times_one e ∙ times_one (pos 1 *ℤ e));
       }
       go true false h = record {
         row = m;
@@ -88,8 +89,8 @@ module _ (flat1 flat2 : Bool) (e : ℤ) (m n u v : ℕ) (first second : ℕ → 
         column_unit = inl refl;
         in_row = λ _. one_more m 0;
         in_column = λ _. one_more n 1;
-        left = λ _ z _. one_times (first m z);
-        top = λ _ r l. one_times (first r n);
+        left = λ _ z _. times_one (first m z);
+        top = λ _ r l. times_one (first r n);
         corner = λ _ _. h.0 ∙ times_zero (pos 1) (pos 1);
       }
       go false true h = record {
@@ -101,9 +102,9 @@ module _ (flat1 flat2 : Bool) (e : ℤ) (m n u v : ℕ) (first second : ℕ → 
         column_unit = inl refl;
         in_row = λ _. two_more m;
         in_column = λ _. one_more n 0;
-        left = λ _ z l. h.2 z l ∙ one_times (first m z);
-        top = λ _ r l. one_times (first r n);
-        corner = λ _ _. h.1 ∙ (one_times e ∙ one_times (pos 1 *ℤ e));
+        left = λ _ z l. h.2 z l ∙ times_one (first m z);
+        top = λ _ r l. times_one (first r n);
+        corner = λ _ _. h.1 ∙ (times_one e ∙ times_one (pos 1 *ℤ e));
       }
       go false false h = record {
         row = m;
@@ -114,8 +115,8 @@ module _ (flat1 flat2 : Bool) (e : ℤ) (m n u v : ℕ) (first second : ℕ → 
         column_unit = inl refl;
         in_row = λ _. one_more m 1;
         in_column = λ _. one_more n 0;
-        left = λ _ z _. one_times (first m z);
-        top = λ _ r l. one_times (first r n);
+        left = λ _ z _. times_one (first m z);
+        top = λ _ r l. times_one (first r n);
         corner = λ _ _. h.0 ∙ times_zero (pos 1) (pos 1);
       }
 
@@ -132,9 +133,9 @@ module _ (flat1 flat2 : Bool) (e : ℤ) (m n u v : ℕ) (first second : ℕ → 
         column_unit = inl refl;
         in_row = λ _. omega arith;
         in_column = λ _. omega arith;
-        left = λ _ z _. one_times (second 0 z);
-        top = λ _ r l. one_times (second r 0);
-        corner = λ _ _. h.0 ∙ (one_times e ∙ one_times (pos 1 *ℤ e));
+        left = λ _ z _. times_one (second 0 z);
+        top = λ _ r l. times_one (second r 0);
+        corner = λ _ _. h.0 ∙ (times_one e ∙ times_one (pos 1 *ℤ e));
       }
       go true false h = record {
         row = 0;
@@ -145,8 +146,8 @@ module _ (flat1 flat2 : Bool) (e : ℤ) (m n u v : ℕ) (first second : ℕ → 
         column_unit = inl refl;
         in_row = λ _. omega arith;
         in_column = λ _. omega arith;
-        left = λ _ z _. one_times (second 0 z);
-        top = λ _ r l. h.2 r l.0 l.1 ∙ one_times (second r 0);
+        left = λ _ z _. times_one (second 0 z);
+        top = λ _ r l. h.2 r l.0 l.1 ∙ times_one (second r 0);
         corner = λ _ _. h.1 ∙ times_zero (pos 1) (pos 1);
       }
       go false true h = record {
@@ -158,9 +159,9 @@ module _ (flat1 flat2 : Bool) (e : ℤ) (m n u v : ℕ) (first second : ℕ → 
         column_unit = inl refl;
         in_row = λ _. omega arith;
         in_column = λ _. omega arith;
-        left = λ _ z _. one_times (second 0 z);
-        top = λ _ r l. one_times (second r 0);
-        corner = λ _ _. h.0 ∙ (one_times e ∙ one_times (pos 1 *ℤ e));
+        left = λ _ z _. times_one (second 0 z);
+        top = λ _ r l. times_one (second r 0);
+        corner = λ _ _. h.0 ∙ (times_one e ∙ times_one (pos 1 *ℤ e));
       }
       go false false h = record {
         row = 1;
@@ -171,8 +172,8 @@ module _ (flat1 flat2 : Bool) (e : ℤ) (m n u v : ℕ) (first second : ℕ → 
         column_unit = inl refl;
         in_row = λ _. omega arith;
         in_column = λ _. omega arith;
-        left = λ _ z l. h.2 z l.0 l.1 ∙ one_times (second 0 z);
-        top = λ _ r l. one_times (second r 0);
+        left = λ _ z l. h.2 z l.0 l.1 ∙ times_one (second 0 z);
+        top = λ _ r l. times_one (second r 0);
         corner = λ _ _. h.1 ∙ times_zero (pos 1) (pos 1);
       }
 
@@ -204,7 +205,7 @@ two_sum_free m n u v first second free1 free2 w = elim (joined (two_blocks m n f
       in_row = λ h. absurd (no h (λ _. refl));
       in_column = λ _. one_more n 0;
       left = λ h z _. absurd (no h (λ _. refl));
-      top = λ _ r l. one_times (first r n);
+      top = λ _ r l. times_one (first r n);
       corner = λ h _. absurd (no h (λ _. refl));
     })
     (λ s t w _ no. record {
@@ -216,7 +217,7 @@ two_sum_free m n u v first second free1 free2 w = elim (joined (two_blocks m n f
       column_unit = inl refl;
       in_row = λ _. omega arith;
       in_column = λ h. absurd (no h (λ _. refl));
-      left = λ _ z _. one_times (second 0 z);
+      left = λ _ z _. times_one (second 0 z);
       top = λ h r _. absurd (no h (λ _. refl));
       corner = λ _ h. absurd (no h (λ _. refl));
     }) w) [

@@ -11,7 +11,7 @@ use Rattle.ghouila.proofs.ConcentratedSides.{concentrated_children}
 spread_same : (d x y z w x' y' z' w' a b c e : ℤ) → x ≡ x' → y ≡ y' → z ≡ z' → w ≡ w' → spread d x y z w a b c e ≡ spread d x' y' z' w' a b c e
 spread_same d x y z w x' y' z' w' a b c e f g h k = rw (f, g, h, k) refl
 
-determinant_same : (x y z w x' y' z' w' : ℤ) → x ≡ x' → y ≡ y' → z ≡ z' → w ≡ w' → x *ℤ w -ℤ y *ℤ z ≡ x' *ℤ w' -ℤ y' *ℤ z'
+pub determinant_same : (x y z w x' y' z' w' : ℤ) → x ≡ x' → y ≡ y' → z ≡ z' → w ≡ w' → x *ℤ w -ℤ y *ℤ z ≡ x' *ℤ w' -ℤ y' *ℤ z'
 determinant_same x y z w x' y' z' w' f g h k = rw (f, g, h, k) refl
 
 -- the first ends in the core, which begins the second

@@ -17,18 +17,16 @@ use Rattle.ghouila.proofs.Camion.{HasViolatorIn, rows_after, violator_back}
 use Rattle.ghouila.proofs.Expansions.{expansion_zero_column, minor, minor_same, schur}
 use Rattle.ghouila.proofs.Sublists.{IsSublist, sublist_none, sublist_each, sublist_with, length-one_more, HasSignIn, zeros_or_sign}
 use Rattle.cmr_base.proofs.SignEntries.{sign_square}
+use Rattle.cmr_base.proofs.SmallEntries.{negative_is_entry}
 
 -- ---- signs
-
-pub entry_turned : (z : ℤ) → IsEntry z → IsEntry (neg_ℤ z)
-entry_turned z h = record { low = let l = h.high in omega (arith, sums); high = let l = h.low in omega (arith, sums) }
 
 pub entry_by_sign : (s z : ℤ) → IsSign s → IsEntry z → IsEntry (s *ℤ z)
 entry_by_sign s z (inl e) h = subst IsEntry (plain s z e) h
   where
     plain : (s z : ℤ) → s ≡ pos 1 → z ≡ s *ℤ z
     plain s z e = rw e (simp products)
-entry_by_sign s z (inr e) h = subst IsEntry (plain s z e) (entry_turned z h)
+entry_by_sign s z (inr e) h = subst IsEntry (plain s z e) (negative_is_entry z h)
   where
     plain : (s z : ℤ) → s ≡ negsuc 0 → neg_ℤ z ≡ s *ℤ z
     plain s z e = rw e (simp products)

@@ -43,7 +43,7 @@ one_there (x ∷ rows) f a d o (inr h) = rw (is_ne x a (λ e. o.0 (subst (λ (z 
     first : (x y : ℤ) → x *ℤ pos 0 +ℤ y ≡ y
     first x y = simp products (omega (arith, sums))
 
-same_at_members : (rows : List ℕ) (f g : ℕ → ℤ) → ((r : ℕ) → IsIn r rows → f r ≡ g r) → sum_over rows f ≡ sum_over rows g
+pub same_at_members : (rows : List ℕ) (f g : ℕ → ℤ) → ((r : ℕ) → IsIn r rows → f r ≡ g r) → sum_over rows f ≡ sum_over rows g
 same_at_members rows f g h = sum_over_same rows f g (all_of_members (λ r. f r ≡ g r) rows h)
 
 no_difference : (b : Bool) → pos 0 ≡ bit b -ℤ bit b

@@ -5,7 +5,7 @@ use Rattle.cmr_base.specs.Sums.{sum_over, IsEven, IsTwoModFour}
 use Rattle.cmr_base.specs.Signing.{IsSign}
 use Rattle.ghouila.proofs.ViolatedLines.{ViolatedIn, FreeIn, narrower}
 use Rattle.ghouila.proofs.ReducibleRows.{IsZeroRow, IsUnitRow, IsCopyRow, IsNegativeRow, IsReducibleRow, But, turned}
-use Rattle.cmr_base.proofs.Integers.{sums, products}
+use Rattle.cmr_base.proofs.Integers.{sums, products, times_one}
 use Rattle.cmr_base.proofs.SumLaws.{sum_over-add, sum_over-scale, sum_over-zero}
 use Rattle.cmr_base.proofs.Parity.{IsFour, four-mul_evens}
 use Rattle.cmr_base.proofs.Lists.{all_weaker}
@@ -87,9 +87,6 @@ module _ (M M' : ℕ → ℕ → ℤ) (P Q P' : ℕ → Type 0) (f : ℕ → ℕ
     };
   }
 
-one_is : (z : ℤ) → z ≡ pos 1 *ℤ z
-one_is z = simp products
-
 minus_is : (z : ℤ) → z ≡ negsuc 0 *ℤ neg_ℤ z
 minus_is z = simp products (omega (arith, sums))
 
@@ -108,10 +105,10 @@ module _ (M : ℕ → ℕ → ℤ) (P Q : ℕ → Type 0) (r : ℕ) where
 
       is : (x c : ℕ) → Q c → (t : Bool) → nat_eq x r ≡ t → M (cond t s x) c ≡ cond t u (pos 1) *ℤ M x c
       is x c q true f = e c q ∙ ap (λ (y : ℕ). u *ℤ M y c) (sym (eq_of x r f))
-      is x c q false f = one_is (M x c)
+      is x c q false f = times_one (M x c)
 
   pub copy_row : IsCopyRow M P Q r → ViolatedIn M P Q → ViolatedIn M (But P r) Q
-  copy_row (s, p, apart, e) = multiple (pos 1) (inl refl) s p apart (λ c q. sym (e c q) ∙ one_is (M r c))
+  copy_row (s, p, apart, e) = multiple (pos 1) (inl refl) s p apart (λ c q. sym (e c q) ∙ times_one (M r c))
 
   pub negative_row : IsNegativeRow M P Q r → ViolatedIn M P Q → ViolatedIn M (But P r) Q
   negative_row (s, p, apart, e) = multiple (negsuc 0) (inr refl) s p apart (λ c q. minus_is (M s c) ∙ ap (λ (z : ℤ). negsuc 0 *ℤ z) (sym (e c q)))

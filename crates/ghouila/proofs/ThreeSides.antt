@@ -3,7 +3,7 @@ use Rattle.std.proofs.Common.{ℕ, ℤ, pos, negsuc, Bool, true, false, ◌≡�
 use Rattle.cmr_base.specs.Signing.{IsSign}
 use Rattle.ghouila.proofs.ViolatedLines.{ViolatedIn, FreeIn, narrower}
 use Rattle.ghouila.proofs.Sides.{On, With, IsThree, IsFirstOther, IsSecondOther, corners, ConnectorRow, ConnectorColumn}
-use Rattle.cmr_base.proofs.Integers.{sums, products, mul_comm}
+use Rattle.cmr_base.proofs.Integers.{sums, products, mul_comm, times_one}
 use Rattle.ghouila.proofs.ParityBits.{when}
 use Rattle.ghouila.proofs.BlockViolators.{Blocks}
 use Rattle.ghouila.proofs.BorderedSides.{Edge}
@@ -11,9 +11,6 @@ use Rattle.ghouila.proofs.JoinedSides.{Sides, joined}
 use Rattle.cmr_base.proofs.SignEntries.{sign-mul, twice_by_sign}
 
 -- ---- units
-
-pub one_times : (x : ℤ) → x ≡ pos 1 *ℤ x
-one_times x = simp products
 
 pub times_zero : (u v : ℤ) → pos 0 ≡ u *ℤ (v *ℤ pos 0)
 times_zero u v = simp products
@@ -116,7 +113,7 @@ module _ (M : ℕ → ℕ → ℤ) (P Q : ℕ → Type 0) (sr sc : ℕ → Bool)
         in_row = λ _. inr (row_k f);
         in_column = λ _. inr (column_j f);
         left = λ _ z h. twice_by_sign (M k p) (M k z) t.unit_kp;
-        top = λ _ r h. one_times (M r j);
+        top = λ _ r h. times_one (M r j);
         corner = λ _ _. corner_one (M k p) (M k j) t.unit_kp;
       }
       go true false other = record {
@@ -142,7 +139,7 @@ module _ (M : ℕ → ℕ → ℤ) (P Q : ℕ → Type 0) (sr sc : ℕ → Bool)
         in_row = λ _. inr (inr refl);
         in_column = λ _. inr refl;
         left = λ _ z h. t.below o z other.0 h;
-        top = λ _ r h. one_times (M r j);
+        top = λ _ r h. times_one (M r j);
         corner = λ _ _. other.1 ∙ times_zero (M o p) (pos 1);
       }
 
@@ -168,7 +165,7 @@ module _ (M : ℕ → ℕ → ℤ) (P Q : ℕ → Type 0) (sr sc : ℕ → Bool)
         in_row = λ _. inr (row_i f);
         in_column = λ _. inr (column_p f);
         left = λ _ z h. twice_by_sign (M i j) (M i z) t.unit_ij;
-        top = λ _ r h. one_times (M r p);
+        top = λ _ r h. times_one (M r p);
         corner = λ _ _. corner_two (M i p) (M i j) (M k p *ℤ M k j) t.unit_ip t.unit_ij plus;
       }
       go true false other = record {
@@ -194,7 +191,7 @@ module _ (M : ℕ → ℕ → ℤ) (P Q : ℕ → Type 0) (sr sc : ℕ → Bool)
         in_row = λ _. inr (inr refl);
         in_column = λ _. inr refl;
         left = λ _ z h. t.right q z other.0 h;
-        top = λ _ r h. one_times (M r p);
+        top = λ _ r h. times_one (M r p);
         corner = λ _ _. other.1 ∙ times_zero (M q j) (pos 1);
       }
 

@@ -4,8 +4,9 @@ use Rattle.ghouila.proofs.ViolatedLines.{ViolatedIn, FreeIn, narrower}
 use Rattle.ghouila.proofs.Sides.{On, With, IsTwo}
 use Rattle.ghouila.proofs.BlockViolators.{Blocks}
 use Rattle.ghouila.proofs.JoinedSides.{Sides, joined}
-use Rattle.ghouila.proofs.ThreeSides.{with_in, one_times}
+use Rattle.ghouila.proofs.ThreeSides.{with_in}
 use Rattle.cmr_base.proofs.SignEntries.{twice_by_sign}
+use Rattle.cmr_base.proofs.Integers.{times_one}
 
 module _ (M : ℕ → ℕ → ℤ) (P Q : ℕ → Type 0) (sr sc : ℕ → Bool) (i j : ℕ) (t : IsTwo M P Q sr sc i j) where
   zero_product : pos 0 ≡ pos 0 *ℤ pos 0
@@ -60,7 +61,7 @@ module _ (M : ℕ → ℕ → ℤ) (P Q : ℕ → Type 0) (sr sc : ℕ → Bool)
         in_row = λ h. absurd (no h (λ _. refl));
         in_column = λ _. inr refl;
         left = λ h z _. absurd (no h (λ _. refl));
-        top = λ _ r h. one_times (M r j);
+        top = λ _ r h. times_one (M r j);
         corner = λ h _. absurd (no h (λ _. refl));
       })
 

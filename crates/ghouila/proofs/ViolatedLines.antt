@@ -7,7 +7,7 @@ use Rattle.cmr_base.specs.Sums.{sum_over, IsEven, IsTwoModFour}
 use Rattle.cmr_base.specs.Matrix.{Matrix, height, entry}
 use Rattle.cmr_base.specs.LineSets.{submatrix}
 use Rattle.cmr_base.specs.Violator.{IsViolator, HasNoViolator}
-use Rattle.cmr_base.proofs.Lists.{all_of, all_weaker, all-map}
+use Rattle.cmr_base.proofs.Lists.{all_of, all_weaker, all-map, all_unmapped}
 use Rattle.cmr_base.proofs.SumLaws.{sum_over-map, sum_over_same}
 use Rattle.cmr_base.proofs.Parts.{entry-submatrix}
 use Rattle.cmr_base.proofs.RisingLists.{odd_times, rises-odd_times, rising_row_set, rising_column_set, row_set_rises, column_set_rises, rising_below}
@@ -49,10 +49,6 @@ module _ (m : Matrix) where
   })
 
 -- ---- rows and columns by their places in lists
-
-all_unmapped : (P : ℕ → Type 0) (f : ℕ → ℕ) (xs : List ℕ) → AllByRecursion P (map f xs) → AllByRecursion (λ x. P (f x)) xs
-all_unmapped P f [] h = tt
-all_unmapped P f (x ∷ xs) h = (h.0, all_unmapped P f xs h.1)
 
 module _ (M : ℕ → ℕ → ℤ) (f g : ℕ → ℕ) (I J : List ℕ) where
   whole : sum_over (map f I) (λ r. sum_over (map g J) (λ c. M r c)) ≡ sum_over I (λ i. sum_over J (λ j. M (f i) (g j)))

@@ -6,6 +6,7 @@ use Rattle.std.proofs.lemmas.List.{get_or_read}
 use Rattle.cmr_base.specs.Cuts.{differ}
 use Rattle.cmr_base.specs.Matrix.{Matrix, height}
 use Rattle.cmr_base.proofs.RowLists.{is_eq, is_ne, same_or_not, two_cases}
+use Rattle.cmr_base.proofs.Booleans.{or_false}
 use Rattle.graph_realise.specs.Branches.{branch_at}
 use Rattle.graph_realise.specs.Joints.{AreHung, AreOff, FitsJoint, IsArcJoined, IsLineFor, by_part, end_of, hanging_of, hung, is_part, is_used, joined_side, number_at, part_or_first}
 use Rattle.graph_realise.specs.Merging.{column_half, end_off, merged_lies, spot, turned_lies, turned_side}
@@ -66,10 +67,6 @@ row_unused M joint end column value part e p v =
 and_false : (a : Bool) → (a && false) ≡ false
 and_false true = refl
 and_false false = refl
-
-or_false : (a : Bool) → (a || false) ≡ a
-or_false true = refl
-or_false false = refl
 
 -- the tables of the marks have the sizes of those of the sides
 pub line_for : (m : Matrix) (joint : Joint) (sides : ArcSides) (arc part : ℕ) → FitsJoint (height m) m.width joint → AreTablesOf m sides → arc < height m → part < length joint.branches.items → IsLineFor joint sides arc part

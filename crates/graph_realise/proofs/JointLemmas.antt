@@ -11,6 +11,7 @@ use Rattle.cmr_base.specs.ColumnSets.{has_column}
 use Rattle.graph_realise.specs.Tables.{Grid, cell, IsCellSet}
 use Rattle.graph_realise.specs.Numbers.{AreDisjoint}
 use Rattle.cmr_base.proofs.Places.{all_placed}
+use Rattle.cmr_base.proofs.Booleans.{first_of}
 
 -- an item appended to a list
 pub appended_before : {A : Type 0} → (xs : List A) (x d : A) (k : ℕ) → k < length xs → get_or (xs ++ x ∷ []) k d ≡ get_or xs k d
@@ -20,10 +21,6 @@ pub appended_last : {A : Type 0} → (xs : List A) (x d : A) (k : ℕ) → k ≡
 appended_last {A} xs x d k e =
     let w : k ≡ length xs + 0 = omega arith in
     ap (λ (z : ℕ). get_or (xs ++ x ∷ []) z d) w ∙ get_or-append-add xs (x ∷ []) 0 d
-
-pub fresh_first : (s t : Bool) → (s && not t) ≡ true → s ≡ true
-fresh_first true t e = refl
-fresh_first false t e = cc
 
 -- ---- the columns of one row after another
 

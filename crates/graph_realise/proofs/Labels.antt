@@ -3,10 +3,8 @@ use Rattle.std.proofs.Common.{ℕ, zero, suc, Bool, true, false, cond, List, [],
 use Rattle.std.proofs.lemmas.Bool.{cases_lt}
 use Rattle.cmr_base.specs.Members.{IsIn}
 use Rattle.cmr_base.specs.Splits.{LeadsTo, AreLinked, IsNaming}
+pub use Rattle.cmr_base.proofs.ComponentLabels.{joined as merged}
 use Rattle.cmr_base.proofs.RowLists.{eq_of, self_eq}
-
-abbrev pub merged : (ℕ → ℕ) → ℕ → ℕ → ℕ → ℕ
-merged part u v x = cond (nat_eq (part x) (part v)) (part u) (part x)
 
 -- the names after all pairs are joined
 abbrev pub labels : (ℕ → ℕ) → List (ℕ × ℕ) → ℕ → ℕ

@@ -10,28 +10,17 @@ use Rattle.std.proofs.Math.Nat.{mul-le-mul_right, suc-mul}
 use Rattle.cmr_base.specs.MatrixLayout.{is_in}
 use Rattle.cmr_base.specs.Planes.{has_bit, words_for}
 use Rattle.cmr_base.proofs.RowLists.{same_or_not}
+use Rattle.cmr_base.proofs.Booleans.{is_not_lt, is_lt}
+use Rattle.cmr_base.proofs.ColumnWords.{block_of, place_of}
 use Rattle.graph_realise.specs.declared.table.Table.TheInside.{Inside}
 use Rattle.graph_realise.specs.Tables.{Grid, cell, IsCellSet, IsRowFilled, IsWordSet, KeepsOtherRows}
 use Rattle.graph_realise.specs.TableLayout.{grid_of, IsLaidOut}
-
-is_lt : (a b : ℕ) → a < b → nat_lt a b ≡ true
-is_lt a b l = grind (arith, nat_tests)
-
-is_past : (a b : ℕ) → b ≤ a → nat_lt a b ≡ false
-is_past a b l = grind (arith, nat_tests)
 
 pub cell_inside : (table : Grid) (row column : ℕ) → column < table.width → cell table row column ≡ is_in (words_for table.width) table.words row column
 cell_inside table row column l = ap (λ (b : Bool). cond b (is_in (words_for table.width) table.words row column) false) (is_lt column table.width l)
 
 pub cell_past : (table : Grid) (row column : ℕ) → table.width ≤ column → cell table row column ≡ false
-cell_past table row column l = ap (λ (b : Bool). cond b (is_in (words_for table.width) table.words row column) false) (is_past column table.width l)
-
--- a column by its block and its place there
-pub block_of : (block k : ℕ) → k < 64 → (64 * block + k) / 64 ≡ block
-block_of block k l = omega arith
-
-pub place_of : (block k : ℕ) → k < 64 → (64 * block + k) % 64 ≡ k
-place_of block k l = omega arith
+cell_past table row column l = ap (λ (b : Bool). cond b (is_in (words_for table.width) table.words row column) false) (is_not_lt column table.width l)
 
 -- a table without values
 pub none_in : (table : Grid) → ((k : ℕ) → get_or table.words k 0 ≡ 0) → (row column : ℕ) → cell table row column ≡ false
@@ -106,7 +95,7 @@ word_set table new row block word whole hr hb e = rw e (record {
     pick : {x y : Bool} → (c : ℕ) → (c < table.width) ⊎ (table.width ≤ c) → (c < table.width → x ≡ y)
         → cond (nat_lt c table.width) x false ≡ cond (nat_lt c table.width) y false
     pick c (inl l) h = ap (λ z. cond (nat_lt c table.width) z false) (h l)
-    pick c (inr l) h = rw (is_past c table.width l) refl
+    pick c (inr l) h = rw (is_not_lt c table.width l) refl
 
 pub set_laid_out : (a : Inside) (table new : Grid) (row block word : ℕ) → grid_of a ≡ table → IsLaidOut a → row < table.height → 64 * block < table.width
     → new ≡ record { height = a.height; width = a.width; words = set a.words.items (row * words_for a.width + block) word }

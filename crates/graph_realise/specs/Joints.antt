@@ -4,6 +4,7 @@ use Rattle.cmr_base.specs.Cuts.{differ}
 use Rattle.cmr_base.specs.LineSets.{AllBelow}
 use Rattle.cmr_base.specs.Members.{IsIn}
 use Rattle.cmr_base.specs.ColumnSets.{has_column}
+pub use Rattle.bridge_split.specs.PartNumbers.{number_at, is_number as is_part}
 use Rattle.graph_realise.specs.Branches.{AreBranches, branch_at}
 use Rattle.graph_realise.specs.Merging.{Hanging, heavier, spot, merged_lies, turned_side, turned_lies}
 use Rattle.graph_realise.specs.SideTables.{side_in, end_in, IsArcChanged}
@@ -14,10 +15,6 @@ use Rattle.graph_realise.specs.declared.joint.Joint.{Joint}
 -- lists of rows
 abbrev pub AreInRows : ℕ → List (List ℕ) → Type 0
 AreInRows height parts = (a : ℕ) → a < length parts → AllBelow height (slice_index_or parts a [])
-
--- the part of a row or of a column, if it has one
-abbrev pub number_at : List (Option ℕ) → ℕ → Option ℕ
-number_at numbers line = slice_index_or numbers line None
 
 abbrev pub part_or_first : Option ℕ → ℕ
 part_or_first None = 0
@@ -54,11 +51,6 @@ pub record IsPassing (M : ℕ → ℕ → Bool) (n i : ℕ) (rows : List ℕ) (p
   pub some : (column : ℕ) → has_column passed column ≡ true → IsTouched M i rows part_of column (number_at numbers column)
   pub own : (column : ℕ) → M i column ≡ true → has_column passed column ≡ true
   pub from : (p column : ℕ) → p < place → M (slice_index rows p) column ≡ true → has_column passed column ≡ true
-
--- the number is that of this part
-abbrev pub is_part : ℕ → Option ℕ → Bool
-is_part part None = false
-is_part part (Some number) = number == part
 
 -- a table with a line for each part, which marks the lines with its number
 pub record AreMarks (numbers : List (Option ℕ)) (count : ℕ) (marks : Grid) : Type 0 where

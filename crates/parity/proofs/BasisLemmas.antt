@@ -3,6 +3,7 @@ use Rattle.std.proofs.Common.{◌≡◌, ◌<◌, ◌≤◌, ◌+◌, ◌*◌, �
 use Rattle.std.specs.Prelude.{slice_get}
 use Rattle.std.proofs.lemmas.List.{drop-append-le, drop-drop, length-drop, length-take-le, take-append-le, take_all}
 use Rattle.std.proofs.Math.Nat.{mul-le-mul_right, suc-mul, zero-mul}
+use Rattle.cmr_base.proofs.Lists.{no_items}
 use Rattle.parity.specs.declared.narrow.Equation.{Equation}
 use Rattle.parity.specs.Equations.{System, number_of}
 use Rattle.parity.specs.declared.basis.Basis.TheInside.{Inside}
@@ -18,10 +19,6 @@ slice_get-paired words (pivot ∷ pivots) flat zero h = ap (λ (n : ℕ). Some (
 slice_get-paired words (pivot ∷ pivots) flat (suc k) h =
     slice_get-paired words pivots (drop words flat) k (omega arith)
     ∙ ap (λ (rest : List ℕ). Some (record { pivot = get_or pivots k 0; columns = number_of (take words rest) })) (drop-drop (k * words) words flat ∙ ap (λ n. drop n flat) (omega (arith, suc-mul k words)))
-
-no_items : (xs : List ℕ) → length xs ≡ 0 → xs ≡ []
-no_items [] e = refl
-no_items (x ∷ xs) e = absurd (omega arith)
 
 pub paired-push : (words : ℕ) (pivots flat : List ℕ) (pivot : ℕ) (columns : List ℕ) → length flat ≡ length pivots * words → length columns ≡ words → paired words (pivots ++ pivot ∷ []) (flat ++ columns) ≡ paired words pivots flat ++ record { pivot = pivot; columns = number_of columns } ∷ []
 paired-push words [] flat pivot columns whole len =

@@ -13,7 +13,7 @@ use Rattle.cmr_base.specs.LineSets.{set_number, set_numbered}
 use Rattle.cmr_base.specs.Sums.{sum_over, IsEven, IsTwoModFour}
 use Rattle.cmr_base.specs.Violator.{IsViolator, IsLeastColumnSet, HasNoColumnSet}
 use Rattle.cmr_base.proofs.Integers.{sums}
-use Rattle.cmr_base.proofs.Lists.{all_weaker}
+use Rattle.cmr_base.proofs.Lists.{all_weaker, all_unmapped}
 use Rattle.cmr_base.proofs.RisingLists.{column_set_rises}
 use Rattle.cmr_base.proofs.SetNumbers.{set_number-lt, numbered_same, number_of_numbered, column_set-numbered}
 use Rattle.cmr_base.proofs.SumLaws.{sum_over-exchange}
@@ -130,10 +130,6 @@ all-map : (P : ℕ → Type 0) (f : ℕ → ℕ) (xs : List ℕ) → AllByRecurs
 all-map P f [] all = tt
 all-map P f (x ∷ xs) all = (all.0, all-map P f xs all.1)
 
-all_from-map : (P : ℕ → Type 0) (f : ℕ → ℕ) (xs : List ℕ) → AllByRecursion P (map f xs) → AllByRecursion (λ x. P (f x)) xs
-all_from-map P f [] all = tt
-all_from-map P f (x ∷ xs) all = (all.0, all_from-map P f xs all.1)
-
 pub outside_apart : (gone number : ℕ) → bit_and (outside gone number) gone ≡ 0
 outside_apart gone number = same_from_bits (bit_and (outside gone number) gone) 0 (λ i.
     bit_at_and (outside gone number) gone i
@@ -147,7 +143,7 @@ column_set_from_solution m rows ones twos set is are solution = record {
   column_set = column_set-numbered m set;
   violator = violator_from_solution m rows ones twos set is are solution.small (record {
     apart = solution.apart;
-    hold = all_from-map (λ n. common n set ≡ 0) (λ row. outside ones (support_of m row)) rows solution.hold;
+    hold = all_unmapped (λ n. common n set ≡ 0) (λ row. outside ones (support_of m row)) rows solution.hold;
     fails = solution.fails;
   });
   least = λ others is_set violator.

@@ -16,6 +16,7 @@ use Rattle.cmr_base.proofs.Members.{all_in, rising_distinct}
 use Rattle.cmr_base.proofs.RisingLists.{row_set_rises, column_set_rises, rising_below}
 use Rattle.cmr_base.proofs.RowLists.{is_eq, is_ne}
 use Rattle.cmr_base.proofs.ListsWithout.{true_is_false}
+use Rattle.cmr_base.proofs.Submatrices.{map_members}
 use Rattle.ghouila.proofs.SignsUnique.{row_in, column_in, fault_free_has_no_violator}
 use Rattle.r10_leaf.proofs.Signings.{circulant, bordered, circulant_clean, bordered_clean, always, is_clean}
 use Rattle.r10_leaf.proofs.TableOrders.{sizes}
@@ -29,10 +30,6 @@ abbrev pub beside : {A : Type 0} → List ℕ → List A → A → ℕ → A
 beside [] values other x = other
 beside (y ∷ ys) [] other x = other
 beside (y ∷ ys) (v ∷ values) other x = cond (nat_eq x y) v (beside ys values other x)
-
-map_members : {A : Type 0} (f g : ℕ → A) (xs : List ℕ) → ((x : ℕ) → IsIn x xs → f x ≡ g x) → map f xs ≡ map g xs
-map_members f g [] h = refl
-map_members f g (x ∷ xs) h = rw (h x (inl refl), map_members f g xs (λ y i. h y (inr i))) refl
 
 map-beside : {A : Type 0} (xs : List ℕ) (values : List A) (other : A) → IsDistinct xs → length values ≡ length xs → map (beside xs values other) xs ≡ values
 map-beside [] [] other d e = refl

@@ -1,6 +1,6 @@
 -- One signing of each table, and that it has no violator: all sets of its rows and of its columns are tried.
-use Rattle.std.proofs.Common.{◌≡◌, ℕ, zero, suc, ℤ, pos, negsuc, ◌+◌, ◌%◌, ◌+ℤ◌, Bool, true, false, not, cond, ◌&&◌, nat_eq, List, [], ◌∷◌, map, length, refl, sym, arith}
-use Rattle.cmr_base.proofs.ListsWithout.{true_is_false}
+use Rattle.std.proofs.Common.{◌≡◌, ℕ, zero, suc, ℤ, pos, negsuc, ◌+◌, ◌%◌, ◌+ℤ◌, Bool, true, false, not, cond, ◌&&◌, nat_eq, List, [], ◌∷◌, map, length, refl, arith}
+use Rattle.cmr_base.proofs.Booleans.{and_is}
 
 abbrev pub circulant : List (List ℤ)
 circulant =
@@ -61,17 +61,13 @@ abbrev pub always : ℕ → (List Bool → Bool) → Bool
 always zero test = test []
 always (suc n) test = always n (λ bs. test (true ∷ bs)) && always n (λ bs. test (false ∷ bs))
 
-both : (a b : Bool) → a && b ≡ true → (a ≡ true) × (b ≡ true)
-both true b h = (refl, h)
-both false b h = true_is_false (sym h)
-
 -- what always holds holds of each choice
 pub always_holds : (n : ℕ) (test : List Bool → Bool) → always n test ≡ true → (bs : List Bool) → length bs ≡ n → test bs ≡ true
 always_holds zero test h [] e = h
 always_holds zero test h (b ∷ bs) e = absurd (omega arith)
 always_holds (suc n) test h [] e = absurd (omega arith)
-always_holds (suc n) test h (true ∷ bs) e = always_holds n (λ cs. test (true ∷ cs)) (both (always n (λ cs. test (true ∷ cs))) (always n (λ cs. test (false ∷ cs))) h).0 bs (omega arith)
-always_holds (suc n) test h (false ∷ bs) e = always_holds n (λ cs. test (false ∷ cs)) (both (always n (λ cs. test (true ∷ cs))) (always n (λ cs. test (false ∷ cs))) h).1 bs (omega arith)
+always_holds (suc n) test h (true ∷ bs) e = always_holds n (λ cs. test (true ∷ cs)) (and_is (always n (λ cs. test (true ∷ cs))) (always n (λ cs. test (false ∷ cs))) h).0 bs (omega arith)
+always_holds (suc n) test h (false ∷ bs) e = always_holds n (λ cs. test (false ∷ cs)) (and_is (always n (λ cs. test (true ∷ cs))) (always n (λ cs. test (false ∷ cs))) h).1 bs (omega arith)
 
 pub circulant_clean : always 5 (λ rows. always 5 (λ columns. is_clean circulant rows columns)) ≡ true
 circulant_clean = refl

@@ -10,6 +10,7 @@ use Rattle.cmr_base.proofs.Lists.{all_at, all_both, all-one_more}
 use Rattle.cmr_base.proofs.Members.{all_in, all_of_members, in_at}
 use Rattle.cmr_base.proofs.Places.{rising_same}
 use Rattle.cmr_base.proofs.SumLaws.{sum_over_same}
+use Rattle.cmr_base.proofs.Booleans.{neither}
 use Rattle.ghouila.specs.declared.by_pivots.Pivot.{Pivot}
 use Rattle.ghouila.specs.Pivot.{reduced, IsFirstTwo}
 use Rattle.ghouila.specs.SignRuns.{IsPivotNext, IsPutAside, IsPivotMade, IsFirstSquare, IsTakenBack, pivot_sign, SignsBySteps, ViolatesBySteps}
@@ -17,7 +18,7 @@ use Rattle.ghouila.proofs.PivotSearch.{pivot_there}
 use Rattle.sign_tool.specs.declared.signing.SetSigning.{SetSigning}
 use Rattle.sign_tool.specs.declared.signing.SetSigning.TheVariants.{Signed, Violated}
 use Rattle.sign_tool.specs.SetSignings.{SignsSetOrViolates, IsEndOfRun}
-use Rattle.sign_tool.proofs.OneRun.{AreSame, AreOneNext, same_self, same_back, next_same, one_next, aside_or_next, no_pivot_same, inside_too, row_same, left_same, reduced_same, after_same, made_or_two, none_next, neither, signs_or_violates}
+use Rattle.sign_tool.proofs.OneRun.{AreSame, AreOneNext, same_self, same_back, next_same, one_next, aside_or_next, no_pivot_same, inside_too, row_same, left_same, reduced_same, after_same, made_or_two, none_next, signs_or_violates}
 use Rattle.sign_tool.proofs.StepRows.{in_left, in_rows, one_more_next}
 
 abbrev step_at : ℕ → Option ℕ → Pivot

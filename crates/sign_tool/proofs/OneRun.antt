@@ -1,13 +1,13 @@
 -- A run on a set of rows has one end: signs and a violator exclude each other.
 use Rattle.std.proofs.Common.{◌≡◌, ◌<◌, ◌∙◌, inl, inr, ℕ, ℤ, pos, ◌*ℤ◌, neg_ℤ, cond, nat_eq, Option, Some, None, List, [], ◌∷◌, length, get_or, refl, ap, ap₂, sym, subst, arith}
 use Rattle.std.specs.List.{AllByRecursion, remove}
-use Rattle.std.proofs.lemmas.Bool.{cases_lt}
 use Rattle.cmr_base.specs.Matrix.{Matrix, entry, IsEntry}
 use Rattle.cmr_base.specs.Signing.{IsSign}
 use Rattle.cmr_base.specs.Sums.{sum_over, IsEven, IsOdd}
 use Rattle.cmr_base.proofs.Lists.{all_at, all_both, all_weaker, all_without}
 use Rattle.cmr_base.proofs.SignEntries.{sign_nonzero}
 use Rattle.cmr_base.proofs.SumLaws.{sum_over_same}
+use Rattle.cmr_base.proofs.Booleans.{neither}
 use Rattle.ghouila.specs.declared.by_pivots.Pivot.{Pivot}
 use Rattle.ghouila.specs.Pivot.{reduced, pivoted, HasNoPivot, IsTernaryRow, IsFirstPivot, IsFirstTwo}
 use Rattle.ghouila.specs.SignRuns.{IsPivotNext, IsPutAside, IsPivotMade, SignsBySteps, ViolatesBySteps}
@@ -72,9 +72,6 @@ module _ (rows : List ℕ) (m m' : Matrix) (same : AreSame rows m m') where
 
   pub next_same : (row column : ℕ) (left : List ℕ) → IsPivotNext m' rows row column left → IsPivotNext m rows row column left
   next_same row column left next = record { place = next.place; first = pivot_same next.place column next.first; row_is = next.row_is; left_is = next.left_is }
-
-pub neither : (a b : ℕ) → ¬ (a < b) → ¬ (b < a) → a ≡ b
-neither a b f g = elim (cases_lt a b) [ inl h ↦ absurd (f h) | inr h ↦ elim (cases_lt b a) [ inl k ↦ absurd (g k) | inr k ↦ omega arith ] ]
 
 -- there is one next pivot
 one_column : (m : Matrix) (rows : List ℕ) (place column place' column' : ℕ) → IsFirstPivot m rows place column → IsFirstPivot m rows place' column' → column ≡ column'

@@ -12,11 +12,9 @@ use Rattle.cmr_base.proofs.Members.{IsWithin}
 use Rattle.cmr_base.proofs.ListsWithout.{true_is_false, increasing_distinct}
 use Rattle.cmr_base.proofs.ThinLines.{false_is, nonzero_is, zero_is, thin_from_count, count_from_thin, counted_none}
 use Rattle.cmr_base.proofs.ReducibleLines.{HasTwin, IsReducible, reducible_from_reason, reason_from_reducible}
+use Rattle.cmr_base.proofs.Options.{some_same}
 use Rattle.sp_reduce.proofs.Searches.{some_not_none}
 use Rattle.sp_reduce.proofs.SideLemmas.{none_is}
-
-some_same : {X : Type 0} (x y : X) → Some x ≡ Some y → x ≡ y
-some_same {X = X} x y e = ap (λ o. elim o as (λ _. X) [ None ↦ x | Some z ↦ z ]) e
 
 pub found_there : (test : ℕ → Bool) (xs : List ℕ) (x : ℕ) → find test xs ≡ Some x → IsIn x xs × (test x ≡ true)
 found_there test [] x e = some_not_none (sym e)

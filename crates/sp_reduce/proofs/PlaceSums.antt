@@ -9,8 +9,7 @@ use Rattle.cmr_base.specs.LineSets.{first_lines, without}
 use Rattle.cmr_base.specs.Members.{IsIn, IsDistinct}
 use Rattle.cmr_base.proofs.Members.{IsWithin, in-append}
 use Rattle.cmr_base.proofs.ListsWithout.{in_without, without_in, without_increases, increasing_distinct}
-use Rattle.cmr_base.proofs.RemovedLines.{in_first_lines, first_lines_in}
-use Rattle.cmr_base.proofs.RisingLists.{rises-range, rising_increases}
+use Rattle.cmr_base.proofs.RemovedLines.{in_first_lines, first_lines_in, first_lines_increase}
 use Rattle.sp_reduce.specs.Tallies.{AreMarks, tally}
 use Rattle.sp_reduce.proofs.WithoutLemmas.{sum_by-without}
 
@@ -65,9 +64,6 @@ sum_within f (x ∷ xs) ys distinct rises within none =
 
 -- ---- sums over marked places
 
-first_rises : (count : ℕ) → IsStrictlyIncreasing (first_lines count)
-first_rises count = rising_increases 0 count (first_lines count) (rises-range 0 count count (omega arith))
-
 pub tally_same : (number : ℕ → ℕ) (marks : List Bool) (size : ℕ) (p q : ℕ → Bool) → ((k : ℕ) → k < size → p k ≡ q k) → tally number marks size p ≡ tally number marks size q
 tally_same number marks size p q same =
     sum_same (λ k. cond (get_or marks k false && p k) (number k) 0) (λ k. cond (get_or marks k false && q k) (number k) 0) (first_lines size)
@@ -96,7 +92,7 @@ tally_bound number marks size most p small =
 pub tally_marked : (number : ℕ → ℕ) (marks : List Bool) (size : ℕ) (lines : List ℕ) (p : ℕ → Bool) → AreMarks size lines marks → IsStrictlyIncreasing lines → ((k : ℕ) → IsIn k lines → k < size)
     → tally number marks size p ≡ sum_by (λ k. cond (p k) (number k) 0) lines
 tally_marked number marks size lines p are rises inside =
-    sum_within (λ k. cond (get_or marks k false && p k) (number k) 0) lines (first_lines size) (increasing_distinct lines rises) (first_rises size)
+    sum_within (λ k. cond (get_or marks k false && p k) (number k) 0) lines (first_lines size) (increasing_distinct lines rises) (first_lines_increase size)
     (λ k i. in_first_lines size k (inside k i))
     (λ k i out. unmarked (get_or marks k false) (p k) (number k) (λ e. out ((are.exact k).0 e)))
     ∙ sum_same (λ k. cond (get_or marks k false && p k) (number k) 0) (λ k. cond (p k) (number k) 0) lines
@@ -113,7 +109,7 @@ module _ (number : ℕ → ℕ) (marks : List Bool) (size own place : ℕ) (befo
   own_more : tally number marks size (after own) ≡ tally number marks size (before own) + cond (get_or marks place false) (number place) 0
   own_more =
       sum_more (λ k. cond (get_or marks k false && before own k) (number k) 0) (λ k. cond (get_or marks k false && after own k) (number k) 0) place (cond (get_or marks place false) (number place) 0)
-      (first_lines size) (increasing_distinct (first_lines size) (first_rises size)) (in_first_lines size place inside) (here (get_or marks place false))
+      (first_lines size) (increasing_distinct (first_lines size) (first_lines_increase size)) (in_first_lines size place inside) (here (get_or marks place false))
       (λ k d. ap (λ (b : Bool). cond (get_or marks k false && b) (number k) 0) (apart own k (λ e q. d q)))
     where
       here : (b : Bool) → cond (b && after own place) (number place) 0 ≡ cond (b && before own place) (number place) 0 + cond b (number place) 0

@@ -14,14 +14,8 @@ use Rattle.cmr_base.proofs.ListsWithout.{true_is_false, in_without, without_incr
 use Rattle.sp_reduce.specs.Kinds.{is_twin}
 use Rattle.cmr_base.proofs.ThinLines.{nonzero_is, zero_is, is_and, is_equal, count_from_thin}
 use Rattle.cmr_base.proofs.ReducibleLines.{IsFactor, HasTwin, IsReducible}
+use Rattle.cmr_base.proofs.Booleans.{or_left, or_right}
 use Rattle.sp_reduce.proofs.Meanings.{IsMeant}
-
-or_left : (a b : Bool) → a ≡ true → (a || b) ≡ true
-or_left a b e = rw e refl
-
-or_right : (a b : Bool) → b ≡ true → (a || b) ≡ true
-or_right true b e = refl
-or_right false b e = e
 
 pub twin_is : (binary : Bool) (N : ℕ → ℕ → ℤ) (places : List ℕ) (c j : ℕ) (u : ℤ) → j ≢ c → IsFactor binary u → ((k : ℕ) → IsIn k places → N c k ≡ u *ℤ N j k) → is_twin binary N places c j ≡ true
 twin_is binary N places c j u other (inl e) same =

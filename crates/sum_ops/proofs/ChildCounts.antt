@@ -9,6 +9,8 @@ use Rattle.cmr_base.specs.Members.{IsIn, IsDistinct}
 use Rattle.cmr_base.specs.Separations.{Lines, listed, opposite, is_same_line, with_lines, rows_in, columns_in, count_in, AreEnough}
 use Rattle.cmr_base.proofs.ListsWithout.{increasing_distinct}
 use Rattle.cmr_base.proofs.RowLists.{eq_of}
+use Rattle.cmr_base.proofs.Lists.{filter_or, filter_same}
+use Rattle.cmr_base.proofs.Booleans.{not_not}
 use Rattle.sum_ops.specs.Children.{on_side, chosen, AreOfChild, HasFewer}
 
 pub chosen_rows : (inside : Bool) (R C : List ℕ) (more : List Line) (rows : List ℕ) → chosen Row inside R more rows ≡ rows_in (with_lines (on_side inside (listed R C)) more) rows
@@ -20,17 +22,6 @@ chosen_columns true R C more columns = refl
 chosen_columns false R C more columns = refl
 
 -- ---- counts
-
-either_few : (p q : ℕ → Bool) (xs : List ℕ) → length (filter (λ x. p x || q x) xs) ≤ length (filter p xs) + length (filter q xs)
-either_few p q [] = omega arith
-either_few p q (x ∷ xs) = go (p x) (q x) (either_few p q xs)
-  where
-    go : (s t : Bool) → length (filter (λ x. p x || q x) xs) ≤ length (filter p xs) + length (filter q xs)
-        → length (cond (s || t) (x ∷ filter (λ x. p x || q x) xs) (filter (λ x. p x || q x) xs)) ≤ length (cond s (x ∷ filter p xs) (filter p xs)) + length (cond t (x ∷ filter q xs) (filter q xs))
-    go true true h = omega arith
-    go true false h = omega arith
-    go false true h = omega arith
-    go false false h = omega arith
 
 halves : (p : ℕ → Bool) (xs : List ℕ) → length (filter p xs) + length (filter (λ x. not (p x)) xs) ≡ length xs
 halves p [] = refl
@@ -66,29 +57,21 @@ named_few [] rows columns dr dc =
     omega arith
 named_few (Row k ∷ more) rows columns dr dc =
     let h = named_few more rows columns dr dc in
-    let a = either_few (λ r. nat_eq k r) (λ r. list_any (is_same_line (Row r)) more) rows in
+    let a = filter_or (λ r. nat_eq k r) (λ r. list_any (is_same_line (Row r)) more) rows in
     let b = one_few k rows dr in
     omega arith
 named_few (Column k ∷ more) rows columns dr dc =
     let h = named_few more rows columns dr dc in
-    let a = either_few (λ c. nat_eq k c) (λ c. list_any (is_same_line (Column c)) more) columns in
+    let a = filter_or (λ c. nat_eq k c) (λ c. list_any (is_same_line (Column c)) more) columns in
     let b = one_few k columns dc in
     omega arith
-
-same_kept : (p q : ℕ → Bool) → ((x : ℕ) → p x ≡ q x) → (xs : List ℕ) → filter p xs ≡ filter q xs
-same_kept p q h [] = refl
-same_kept p q h (x ∷ xs) = rw (h x) (ap (λ ys. cond (q x) (x ∷ ys) ys) (same_kept p q h xs))
-
-not_not : (b : Bool) → not (not b) ≡ b
-not_not true = refl
-not_not false = refl
 
 -- enough lines are not on a side
 others_enough : (inside : Bool) (side : Lines) (rows columns : List ℕ) (least : ℕ) → AreEnough rows columns side least → least ≤ count_in (opposite (on_side inside side)) rows columns
 others_enough true side rows columns least enough = enough.two
 others_enough false side rows columns least enough =
-    let a = ap length (same_kept (λ r. not (not (side (Row r)))) (λ r. side (Row r)) (λ r. not_not (side (Row r))) rows) in
-    let b = ap length (same_kept (λ c. not (not (side (Column c)))) (λ c. side (Column c)) (λ c. not_not (side (Column c))) columns) in
+    let a = ap length (filter_same (λ r. not (not (side (Row r)))) (λ r. side (Row r)) (λ r. not_not (side (Row r))) rows) in
+    let b = ap length (filter_same (λ c. not (not (side (Column c)))) (λ c. side (Column c)) (λ c. not_not (side (Column c))) columns) in
     let h = enough.one in
     omega arith
 
@@ -96,8 +79,8 @@ pub fewer_in_child : (lines : LineSet) (inside : Bool) (R C : List ℕ) (more : 
     → AreEnough lines.rows lines.columns (listed R C) least → length more < least → AreOfChild lines (with_lines (on_side inside (listed R C)) more) child → HasFewer lines child
 fewer_in_child lines inside R C more least child rr rc enough few of_child =
     let set = on_side inside (listed R C) in
-    let a = either_few (λ r. set (Row r)) (λ r. list_any (is_same_line (Row r)) more) lines.rows in
-    let b = either_few (λ c. set (Column c)) (λ c. list_any (is_same_line (Column c)) more) lines.columns in
+    let a = filter_or (λ r. set (Row r)) (λ r. list_any (is_same_line (Row r)) more) lines.rows in
+    let b = filter_or (λ c. set (Column c)) (λ c. list_any (is_same_line (Column c)) more) lines.columns in
     let n = named_few more lines.rows lines.columns (increasing_distinct lines.rows rr) (increasing_distinct lines.columns rc) in
     let h = halves (λ r. set (Row r)) lines.rows in
     let k = halves (λ c. set (Column c)) lines.columns in

@@ -1,5 +1,5 @@
 -- The concentrated sum, by the core that both matrices have.
-use Rattle.std.proofs.Common.{◌≡◌, ◌<◌, ◌≤◌, ◌+◌, ◌-◌, ◌∙◌, ◌-ℤ◌, ◌*ℤ◌, ℕ, ℤ, true, false, nat_lt, ap, ap₂, sym, subst, refl, arith}
+use Rattle.std.proofs.Common.{◌≡◌, ◌<◌, ◌≤◌, ◌+◌, ◌-◌, ◌∙◌, ◌-ℤ◌, ◌*ℤ◌, ℕ, ℤ, true, false, nat_lt, ap, ap₂, sym, subst, refl, arith, w8, to_z, of_z}
 use Rattle.std.proofs.lemmas.Bool.Decides.{nat_tests}
 use Rattle.cmr_base.specs.Matrix.{Matrix, height, entry, IsEntry, HasTernaryEntries}
 use Rattle.cmr_base.specs.Signing.{IsSign}
@@ -11,7 +11,10 @@ use Rattle.cmr_base.proofs.SignEntries.{sign_is_entry}
 use Rattle.sum_ops.specs.Cores.{core_determinant_at, IsLastCore, IsFirstCore}
 use Rattle.sum_ops.specs.declared.spread.Spread.{Spread}
 use Rattle.sum_ops.specs.Spreads.{spread_entry}
-use Rattle.sum_ops.proofs.SmallNumbers.{byte}
+
+-- what an `i8` keeps of a number
+abbrev pub byte : ℤ → ℤ
+byte z = to_z w8 (of_z w8 z)
 
 module _ (first second : Matrix) where
   pub last_core_of : HaveConcentratedSum first second → IsLastCore first (core_determinant_at first (height first - 3) (first.width - 3))

@@ -1,4 +1,3 @@
-pub mod SmallNumbers
 pub mod CoreSums
 pub mod FilledRows
 pub mod ChildCounts

@@ -2,6 +2,5 @@ pub mod Spreads
 pub mod Plans
 pub mod Corners
 pub mod Cores
-pub mod Bounds
 pub mod Causes
 pub mod Children

@@ -1,13 +1,12 @@
 // Cores of concentrated sums: `[g h 0; x y s; z w t]`, where g, h, s, t and x w - y z are 1 or -1.
 ghost use Rattle.std.specs.Prelude.{◌≡◌, ◌<◌, ◌≤◌, ◌+◌, ◌-◌, ◌↔◌, ℕ, ℤ, pos, IsTrue, MatchOption};
+ghost use Rattle.cmr_base.specs.Cores.{IsBounded};
 ghost use Rattle.cmr_base.specs.Matrix.{height, entry, IsMatrix};
 ghost use Rattle.cmr_base.specs.MatrixSums.{IsCore};
 ghost use Rattle.cmr_base.specs.Signing.{IsSign};
-ghost use Rattle.sum_ops.specs.Bounds.{IsWithin};
 ghost use Rattle.sum_ops.specs.Cores.{HaveSigns, core_determinant_at, IsLastCore, IsFirstCore};
 
-use crate::spread::product_difference;
-use cmr_base::Matrix;
+use cmr_base::{Core, Matrix};
 
 /// The determinant x w - y z of the core in which a matrix ends, `None` where it does not end in a core with zeros above.
 pub fn last_core(matrix: &Matrix) -> Option<i8>
@@ -84,14 +83,9 @@ fn core_determinant(matrix: &Matrix, row: u32, column: u32) -> i8
     requires column { column + 2 < matrix.now.width }
     requires shape { IsMatrix matrix.now }
     ensures value { result ≡ core_determinant_at matrix.now row column }
-    ensures small { IsWithin 2 result }
+    ensures small { IsBounded 2 result }
 {
-    product_difference(
-        matrix.entry(row + 1, column),
-        matrix.entry(row + 2, column + 1),
-        matrix.entry(row + 1, column + 1),
-        matrix.entry(row + 2, column),
-    )
+    Core::at(matrix, row + 1, row + 2, column, column + 1).determinant()
 }
 
 fn is_sign(number: i8) -> bool

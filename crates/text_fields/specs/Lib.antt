@@ -4,3 +4,4 @@ pub mod Numbers
 pub mod Reading
 pub mod Written
 pub mod Spelling
+pub mod LineNumbers

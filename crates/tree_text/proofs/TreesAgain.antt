@@ -19,7 +19,8 @@ use Rattle.cmr_base.specs.Reductions.{HasLine}
 use Rattle.cmr_base.specs.Separations.{first_is_flat, second_is_flat}
 use Rattle.tree_type.specs.Sides.{HasConnector}
 use Rattle.cmr_base.proofs.Lists.{all_contain, all_weaker, all_of, all-append}
-use Rattle.cmr_base.proofs.RisingLists.{rises_in, rising_short}
+use Rattle.cmr_base.proofs.RisingLists.{rises_in, rising_short, rising_count}
+use Rattle.cmr_base.proofs.Places.{contained_below}
 use Rattle.text_fields.specs.Words.{Text, is_space, text_of, words_from}
 use Rattle.text_fields.specs.Result.{◌>>=◌}
 use Rattle.text_fields.specs.Reading.{field, times, fields, another}
@@ -47,9 +48,6 @@ use Rattle.tree_text.proofs.WordsAgain.{Again, again_done, again_field, again_bi
 some_lines : (most : ℕ) (whole : Option (List ℕ)) (lines : List ℕ) → most ≤ 1000 → AreSome most whole lines → Again (rising_lines most whole (length lines)) (map number_of_line lines) lines
 some_lines most whole lines small some = again_lines most whole small [] lines (rises_in 0 most lines some.rise some.below (λ h. zero-le)) some.within
 
-count_below : (most : ℕ) (lines : List ℕ) → IsStrictlyIncreasing lines → AllBelow most lines → length lines ≤ most
-count_below most lines rise below = let short = rising_short 0 most lines (rises_in 0 most lines rise below (λ h. zero-le)) zero-le in omega (arith, short)
-
 module _ (sizes : Sizes) (few_rows : sizes.rows ≤ 1000) (few_columns : sizes.columns ≤ 1000) where
   set_again : (whole : Option LineSet) (lines : LineSet) → IsSome sizes whole lines → Again (line_set sizes whole) (set_words lines) lines
   set_again whole lines some =
@@ -57,15 +55,12 @@ module _ (sizes : Sizes) (few_rows : sizes.rows ≤ 1000) (few_columns : sizes.c
       let whole_columns = option_map (λ (lines : LineSet). lines.columns) whole in
       let p = length lines.rows in
       let q = length lines.columns in
-      let few_p = count_below sizes.rows lines.rows some.rows.rise some.rows.below in
-      let few_q = count_below sizes.columns lines.columns some.columns.rise some.columns.below in
+      let few_p = rising_count sizes.rows lines.rows some.rows.rise some.rows.below in
+      let few_q = rising_count sizes.columns lines.columns some.columns.rise some.columns.below in
       let columns = again_wrap (rising_lines sizes.columns whole_columns q) (λ (columns : List ℕ). record { rows = lines.rows; columns = columns }) (map number_of_line lines.columns) lines.columns (some_lines sizes.columns whole_columns lines.columns few_columns some.columns) in
       let rows = again_bind (rising_lines sizes.rows whole_rows p) _ (map number_of_line lines.rows) (map number_of_line lines.columns) lines.rows lines (some_lines sizes.rows whole_rows lines.rows few_rows some.rows) columns in
       let second = again_bind (field Short (limited sizes.columns)) _ (decimal q ∷ []) (map number_of_line lines.rows ++ map number_of_line lines.columns) q lines (again_field (limited sizes.columns) (decimal q) q (limited_again sizes.columns q few_q (omega (arith, few_columns)))) rows in
       again_bind (field Short (limited sizes.rows)) _ (decimal p ∷ []) (decimal q ∷ (map number_of_line lines.rows ++ map number_of_line lines.columns)) p lines (again_field (limited sizes.rows) (decimal p) p (limited_again sizes.rows p few_p (omega (arith, few_rows)))) second
-
-contained_below : (bound : ℕ) (xs : List ℕ) (x : ℕ) → AllBelow bound xs → Contains xs x → x < bound
-contained_below bound xs x below (k, l, e) = let same : get_or xs k x ≡ x = e in subst (λ y. y < bound) (get_or_default xs k 0 x l ∙ same) (below k l)
 
 pairs_again : (last : ℕ) (pairs : List Pair) → last ≤ 1000 → AllByRecursion (λ pair. (pair.tail ≤ last) × (pair.head ≤ last)) pairs → Again (times (another_pair last) (length pairs) []) (flat_map pair_words pairs) pairs
 pairs_again last pairs small all = again_times (another_pair last) pair_words (λ pair. (pair.tail ≤ last) × (pair.head ≤ last)) each [] pairs all
@@ -136,8 +131,8 @@ module _ (sizes : Sizes) (few_rows : sizes.rows ≤ 1000) (few_columns : sizes.c
 
   few_lines : size_of lines ≤ 2000
   few_lines =
-      let p = count_below sizes.rows lines.rows rise_rows rows_in in
-      let q = count_below sizes.columns lines.columns rise_columns columns_in in
+      let p = rising_count sizes.rows lines.rows rise_rows rows_in in
+      let q = rising_count sizes.columns lines.columns rise_columns columns_in in
       omega (arith, p, q, few_rows, few_columns)
 
   count_again : (n : ℕ) → n ≤ size_of lines → Again (field Short (limited (size_of lines))) (decimal n ∷ []) n
@@ -162,10 +157,10 @@ module _ (sizes : Sizes) (few_rows : sizes.rows ≤ 1000) (few_columns : sizes.c
   own_again OneSum trees fits e = again_wrap (field Short (limited (size_of lines))) (λ (n : ℕ). (OneSum, n)) (decimal (count_trees trees) ∷ []) (count_trees trees) (count_again (count_trees trees) fits)
   own_again (Network n) trees fits e =
       counted (own_part sizes lines kind.Network) (network_words n) (Network n) 0 (count_trees trees) e
-      (again_wrap (network (length lines.rows) (length lines.columns)) (λ (n : net.Network). (Network n, 0)) (network_words n) n (network_again (length lines.rows) (length lines.columns) n (let p = count_below sizes.rows lines.rows rise_rows rows_in in omega (arith, p, few_rows)) fits))
+      (again_wrap (network (length lines.rows) (length lines.columns)) (λ (n : net.Network). (Network n, 0)) (network_words n) n (network_again (length lines.rows) (length lines.columns) n (let p = rising_count sizes.rows lines.rows rise_rows rows_in in omega (arith, p, few_rows)) fits))
   own_again (Conetwork n) trees fits e =
       counted (own_part sizes lines kind.Conetwork) (network_words n) (Conetwork n) 0 (count_trees trees) e
-      (again_wrap (network (length lines.columns) (length lines.rows)) (λ (n : net.Network). (Conetwork n, 0)) (network_words n) n (network_again (length lines.columns) (length lines.rows) n (let q = count_below sizes.columns lines.columns rise_columns columns_in in omega (arith, q, few_columns)) fits))
+      (again_wrap (network (length lines.columns) (length lines.rows)) (λ (n : net.Network). (Conetwork n, 0)) (network_words n) n (network_again (length lines.columns) (length lines.rows) n (let q = rising_count sizes.columns lines.columns rise_columns columns_in in omega (arith, q, few_columns)) fits))
   own_again R10 trees fits e = counted (own_part sizes lines kind.R10) [] R10 0 (count_trees trees) e (again_done (R10, 0))
   own_again (TwoSum t) trees fits e =
       counted (own_part sizes lines kind.TwoSum) (own_words (TwoSum t) trees) (TwoSum t) 2 (count_trees trees) e (again_wrap (two sizes lines) (λ (t : Two). (TwoSum t, 2)) (own_words (TwoSum t) trees) t (two_again t fits.0 fits.1 fits.2))
@@ -320,8 +315,8 @@ line_for_words (word ∷ words) all = (all, tt)
 module _ (sizes : Sizes) (few_rows : sizes.rows ≤ 1000) (few_columns : sizes.columns ≤ 1000) where
   set_all : (whole : Option LineSet) (lines : LineSet) → IsSome sizes whole lines → AreWords (set_words lines)
   set_all whole lines some =
-      let p = count_below sizes.rows lines.rows some.rows.rise some.rows.below in
-      let q = count_below sizes.columns lines.columns some.columns.rise some.columns.below in (
+      let p = rising_count sizes.rows lines.rows some.rows.rise some.rows.below in
+      let q = rising_count sizes.columns lines.columns some.columns.rise some.columns.below in (
         decimal_word (length lines.rows) (omega (arith, p, few_rows)),
         (
           decimal_word (length lines.columns) (omega (arith, q, few_columns)),
@@ -333,10 +328,10 @@ module _ (sizes : Sizes) (few_rows : sizes.rows ≤ 1000) (few_columns : sizes.c
   own_all whole lines finding trees some fits = go finding fits
     where
       p : length lines.rows ≤ sizes.rows
-      p = count_below sizes.rows lines.rows some.rows.rise some.rows.below
+      p = rising_count sizes.rows lines.rows some.rows.rise some.rows.below
 
       q : length lines.columns ≤ sizes.columns
-      q = count_below sizes.columns lines.columns some.columns.rise some.columns.below
+      q = rising_count sizes.columns lines.columns some.columns.rise some.columns.below
 
       part : (set : LineSet) → AreLinesOf set lines → AreWords (set_words set)
       part set is = set_all (Some lines) set (some_from sizes few_rows few_columns lines some.rows.rise some.columns.rise some.rows.below some.columns.below set is)

@@ -18,6 +18,7 @@ use Rattle.text_fields.specs.Result.{◌>>=◌}
 use Rattle.text_fields.specs.Reading.{Fault, field, times}
 use Rattle.text_fields.specs.Spelling.{texts_of}
 use Rattle.text_fields.proofs.Decimals.{count_of_decimal}
+use Rattle.text_fields.proofs.LineWords.{AreSplit, split_texts}
 use Rattle.tree_text.specs.declared.error.TreeKind.{TreeKind}
 use Rattle.tree_text.specs.declared.error.TreeKind.TheVariants.{Short}
 use Rattle.tree_text.specs.declared.value.Sizes.{Sizes}
@@ -62,32 +63,10 @@ again_field parse word x h size [] later e = absurd (cc)
 again_field parse word x h size (first ∷ []) later e = let same : first.1 ≡ word = cc in rw (same, h) refl
 again_field parse word x h size (first ∷ second ∷ front) later e = absurd (cc)
 
-record AreSplit (words : List (ℕ × List ℕ)) (front back : List (List ℕ)) : Type 0 where
-  first : List (ℕ × List ℕ)
-  second : List (ℕ × List ℕ)
-  words_are : words ≡ first ++ second
-  front_is : texts_of first ≡ front
-  back_is : texts_of second ≡ back
-
-split : (words : List (ℕ × List ℕ)) (front back : List (List ℕ)) → texts_of words ≡ front ++ back → AreSplit words front back
-split words [] back e = record { first = []; second = words; words_are = refl; front_is = refl; back_is = e }
-split [] (text ∷ front) back e = absurd (cc)
-split (word ∷ words) (text ∷ front) back e =
-    let head : word.1 ≡ text = cc in
-    let tail : texts_of words ≡ front ++ back = cc in
-    let later = split words front back tail in
-    record {
-      first = word ∷ later.first;
-      second = later.second;
-      words_are = ap (λ ws. word ∷ ws) later.words_are;
-      front_is = rw (head, later.front_is) refl;
-      back_is = later.back_is;
-    }
-
 -- one reading after another
 pub again_bind : {A B : Type 0} (read : Reader A) (next : A × Text → Result (B × Text) (Fault TreeKind)) (words more : List (List ℕ)) (x : A) (y : B) → Again read words x → Again (λ text. next (x, text)) more y → Again (λ text. read text >>= next) (words ++ more) y
 again_bind read next words more x y first second size front later e =
-    let s = split front words more e in
+    let s = split_texts front words more e in
     let here : read (record { size = size; words = front ++ later }) ≡ Ok (x, record { size = size; words = s.second ++ later }) =
     ap (λ ws. read (record { size = size; words = ws })) (ap (λ ws. ws ++ later) s.words_are ∙ append_assoc s.first s.second later) ∙ first size s.first (s.second ++ later) s.front_is in
     rw here (second size s.second later s.back_is)

@@ -10,6 +10,7 @@ use Rattle.cmr_base.specs.declared.line.Line.TheVariants.{Row, Column}
 use Rattle.cmr_base.specs.declared.line_set.LineSet.{LineSet}
 use Rattle.cmr_base.specs.Reductions.{HasLine}
 use Rattle.tree_type.specs.Sides.{is_among}
+use Rattle.tree_type.proofs.Among.{among_contains}
 use Rattle.cmr_base.proofs.Lists.{contains_first, contains_later}
 use Rattle.cmr_base.proofs.RisingLists.{RisesIn}
 use Rattle.text_fields.specs.Words.{Text}
@@ -53,14 +54,6 @@ line_in_ok most word line h =
     let some : 0 < b.0 = grind (arith, g.0) in
     let within = limited_ok most word b.0 b.1 in
     omega (arith, g.1, within)
-
-pub among_contains : (lines : List ℕ) (line : ℕ) → is_among lines line ≡ true → Contains lines line
-among_contains [] line h = absurd (cc)
-among_contains (x ∷ lines) line h = go (eqb line x) refl (among_contains lines line) h
-  where
-    go : (t : Bool) → eqb line x ≡ t → (is_among lines line ≡ true → Contains lines line) → (t || is_among lines line) ≡ true → Contains (x ∷ lines) line
-    go true e later h = let same : line ≡ x = grind (arith, nat_tests) in subst (Contains (x ∷ lines)) (sym same) (contains_first x lines)
-    go false e later h = contains_later line x lines (later h)
 
 -- one of these lines, where there are some to be one of
 abbrev pub IsAmong : Option (List ℕ) → ℕ → Type 0

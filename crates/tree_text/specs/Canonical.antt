@@ -8,25 +8,17 @@ use Rattle.cmr_base.specs.declared.line_set.LineSet.{LineSet}
 use Rattle.cmr_base.specs.declared.network.Network as net
 use Rattle.cmr_base.specs.declared.network.Pair.{Pair}
 use Rattle.cmr_base.specs.declared.separation.Connector.{Connector}
+pub use Rattle.text_fields.specs.LineNumbers.{number_of_line, set_words}
 use Rattle.text_fields.specs.Written.{text_of_lines}
 use Rattle.tree_type.specs.Trees.{Finding, Cycle, Reduced, OneSum, Network, Conetwork, TwoSum, ThreeSum, Violator, Tree, Trees, Branch, NoTrees, MoreTrees, count_trees}
 use Rattle.tree_text.specs.declared.header.Version.TheVariants.{Two}
 use Rattle.tree_text.specs.Versions.{version_word}
 use Rattle.tree_text.specs.KindWords.{word_of, kind_of}
 
--- a line's number, counted from 1
-abbrev pub number_of_line : ℕ → List ℕ
-number_of_line line = decimal (line + 1)
-
 -- r or c, and the line's number
 abbrev pub line_name : Line → List ℕ
 line_name (Row row) = 114 ∷ number_of_line row
 line_name (Column column) = 99 ∷ number_of_line column
-
--- how many rows and columns there are, the rows, the columns
-abbrev pub set_words : LineSet → List (List ℕ)
-set_words lines =
-    decimal (length lines.rows) ∷ decimal (length lines.columns) ∷ (map number_of_line lines.rows ++ map number_of_line lines.columns)
 
 abbrev pub pair_words : Pair → List (List ℕ)
 pair_words pair = decimal pair.tail ∷ decimal pair.head ∷ []

@@ -1,5 +1,5 @@
 -- Lines that are among some lines.
-use Rattle.std.proofs.Common.{◌≡◌, ◌<◌, ◌≤◌, ◌||◌, ◌⊎◌, inl, inr, ℕ, Bool, true, false, not, eqb, filter, List, [], ◌∷◌, length, get_or, Contains, Result, Ok, Err, is_ok, refl, ap, sym, subst, arith, eqb-true}
+use Rattle.std.proofs.Common.{◌≡◌, ◌<◌, ◌≤◌, ◌||◌, inl, inr, ℕ, Bool, true, false, not, eqb, List, [], ◌∷◌, length, get_or, Contains, Result, Ok, Err, is_ok, refl, ap, sym, subst, arith, eqb-true}
 use Rattle.std.proofs.lemmas.Bool.{eq-eqb, cases_lt}
 use Rattle.std.specs.List.Sorted.{IsStrictlyIncreasing, IsBinarySearchResult}
 use Rattle.std.specs.Ordering.{nat_cmp}
@@ -7,36 +7,18 @@ use Rattle.std.proofs.lemmas.List.Sorted.{searched}
 use Rattle.cmr_base.specs.Members.{IsIn}
 use Rattle.cmr_base.proofs.ListsWithout.{true_is_false, in_from_contains, contains_from_in, in-get_or, place_of, place_is}
 use Rattle.cmr_base.proofs.Submatrices.{increasing_places}
+use Rattle.cmr_base.proofs.Booleans.{or_is, or_left, or_right, or_false}
+use Rattle.cmr_base.proofs.Lists.{filter_same}
 use Rattle.tree_type.specs.Sides.{is_among, inside, outside, inside_with, outside_with}
-
-pub or_first : (a b : Bool) → a ≡ true → (a || b) ≡ true
-or_first true b e = refl
-or_first false b e = true_is_false (sym e)
-
-pub or_second : (a b : Bool) → b ≡ true → (a || b) ≡ true
-or_second true b e = refl
-or_second false b e = e
-
-pub or_either : (a b : Bool) → (a || b) ≡ true → (a ≡ true) ⊎ (b ≡ true)
-or_either true b e = inl refl
-or_either false b e = inr e
-
-pub not_false : (b : Bool) → b ≡ false → not b ≡ true
-not_false true e = true_is_false e
-not_false false e = refl
-
-pub not_true : (b : Bool) → not b ≡ true → b ≡ false
-not_true true e = true_is_false (sym e)
-not_true false e = refl
 
 pub in_among : (xs : List ℕ) (x : ℕ) → IsIn x xs → is_among xs x ≡ true
 in_among [] x h = absurd h
-in_among (y ∷ ys) x (inl e) = or_first (eqb x y) (is_among ys x) (eq-eqb x y e)
-in_among (y ∷ ys) x (inr h) = or_second (eqb x y) (is_among ys x) (in_among ys x h)
+in_among (y ∷ ys) x (inl e) = or_left (eqb x y) (is_among ys x) (eq-eqb x y e)
+in_among (y ∷ ys) x (inr h) = or_right (eqb x y) (is_among ys x) (in_among ys x h)
 
 pub among_in : (xs : List ℕ) (x : ℕ) → is_among xs x ≡ true → IsIn x xs
 among_in [] x e = true_is_false (sym e)
-among_in (y ∷ ys) x e = elim (or_either (eqb x y) (is_among ys x) e) [
+among_in (y ∷ ys) x e = elim (or_is (eqb x y) (is_among ys x) e) [
   | inl q ↦ inl (eqb-true x y q)
   | inr q ↦ inr (among_in ys x q)
 ]
@@ -71,17 +53,9 @@ searched_among xs x (Err i) up h = let parted = searched xs x (Err i) h (rises x
       | inr a ↦ let high = after k a l in omega (arith, high, e)
     ]
 
-pub filter_same : (f g : ℕ → Bool) → ((x : ℕ) → f x ≡ g x) → (xs : List ℕ) → filter f xs ≡ filter g xs
-filter_same f g h [] = refl
-filter_same f g h (x ∷ xs) = rw (h x, filter_same f g h xs) refl
-
-pub or_nothing : (b : Bool) → (b || false) ≡ b
-or_nothing true = refl
-or_nothing false = refl
-
 -- no line more
 pub inside_alone : (set xs : List ℕ) → inside_with set [] xs ≡ inside set xs
-inside_alone set xs = filter_same (λ x. is_among set x || false) (is_among set) (λ x. or_nothing (is_among set x)) xs
+inside_alone set xs = filter_same (λ x. is_among set x || false) (is_among set) (λ x. or_false (is_among set x)) xs
 
 pub outside_alone : (set xs : List ℕ) → outside_with set [] xs ≡ outside set xs
-outside_alone set xs = filter_same (λ x. not (is_among set x) || false) (λ x. not (is_among set x)) (λ x. or_nothing (not (is_among set x))) xs
+outside_alone set xs = filter_same (λ x. not (is_among set x) || false) (λ x. not (is_among set x)) (λ x. or_false (not (is_among set x))) xs

@@ -9,9 +9,10 @@ use Rattle.cmr_base.specs.declared.separation.Three.{Three}
 use Rattle.cmr_base.specs.Separations.{Lines, is_same_line, child_one, child_two, AreEnough, AreOn, connector_lines, first_is_flat, second_is_flat, IsTwoSeparation, IsThreeSeparation}
 use Rattle.cmr_base.proofs.ListsWithout.{true_is_false, in_from_contains, contains_from_in}
 use Rattle.cmr_base.proofs.RowLists.{eq_of, is_eq, two_cases, filter_in, in_filter}
+use Rattle.cmr_base.proofs.Lists.{filter_same}
+use Rattle.cmr_base.proofs.Booleans.{not_is, is_not}
 use Rattle.tree_type.specs.Sides.{is_among, inside, outside, sides, HaveLines, IsReference, AreTwoBlocks, two_one, two_two, HasConnector, connector_rows, connector_columns, AreConnectors, AreThreeBlocks, three_one, three_two}
 use Rattle.tree_type.specs.SideLaws.{side_one, lines_in}
-use Rattle.tree_type.proofs.Among.{filter_same, not_true, not_false}
 
 -- ---- tests
 
@@ -45,10 +46,10 @@ module _ (set xs : List ℕ) where
   from_one x h = let w = in_filter (is_among set) x xs (in_from_contains (inside set xs) x h) in (contains_from_in xs x w.0, sym (among_is set x) ∙ w.1)
 
   to_two : (x : ℕ) → Contains xs x → on_one x ≡ false → Contains (outside set xs) x
-  to_two x h e = contains_from_in (outside set xs) x (filter_in (λ z. not (is_among set z)) x xs (in_from_contains xs x h) (not_false (is_among set x) (among_is set x ∙ e)))
+  to_two x h e = contains_from_in (outside set xs) x (filter_in (λ z. not (is_among set z)) x xs (in_from_contains xs x h) (is_not (is_among set x) (among_is set x ∙ e)))
 
   from_two : (x : ℕ) → Contains (outside set xs) x → Contains xs x × (on_one x ≡ false)
-  from_two x h = let w = in_filter (λ z. not (is_among set z)) x xs (in_from_contains (outside set xs) x h) in (contains_from_in xs x w.0, sym (among_is set x) ∙ not_true (is_among set x) w.1)
+  from_two x h = let w = in_filter (λ z. not (is_among set z)) x xs (in_from_contains (outside set xs) x h) in (contains_from_in xs x w.0, sym (among_is set x) ∙ not_is (is_among set x) w.1)
 
   one_is : inside set xs ≡ filter on_one xs
   one_is = filter_same (is_among set) on_one (among_is set) xs

@@ -1,4 +1,4 @@
-use Rattle.std.proofs.Common.{rules, ◌≡◌, ◌∙◌, ◌+◌, drop, sym, ap, subst}
+use Rattle.std.proofs.Common.{◌∙◌, ◌+◌, drop, sym, ap, subst}
 use Rattle.std.proofs.lemmas.List.{drop_all}
 use Rattle.cert_check.specs.Children.{lines_in}
 use Rattle.cert_check.proofs.Children.{child_first}

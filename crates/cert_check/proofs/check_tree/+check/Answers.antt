@@ -4,7 +4,7 @@ use Rattle.tree_type.specs.Places.{places_from}
 use Rattle.tree_type.specs.Soundness.{IsFirstBroken}
 use Rattle.tree_type.specs.declared.tree.Node.{the_lemmas}
 use Rattle.cert_check.specs.Answers.{AnswersOn, IsRuleAt, Stands, nodes_below, due_child_of}
-use Rattle.cert_check.proofs.Answering.{broken_here, answers_below, if_ok, reduced_is, two_sum_is, three_sum_is, first_stands, second_stands, only_child, first_refused, second_decides}
+use Rattle.cert_check.proofs.Answering.{broken_here, answers_below, if_ok, reduced_is, two_sum_is, three_sum_is, first_stands, second_stands, first_refused, second_decides}
 use Rattle.cert_check.proofs.Children.{few_children, left_stands, left_refused, left_next, left_none, AreLeft, all_left, child_first, unnamed}
 use Rattle.std.proofs.lemmas.List.{drop_all}
 use Rattle.cert_check.proofs.check_tree.+check.Goals as goal

@@ -1,38 +1,31 @@
-use Rattle.std.proofs.Common.{◌≡◌, ◌∙◌, ◌+ℤ◌, ◌*ℤ◌, ℤ, w8, of_z, to_z, ap₂, sym, subst, FitsSigned, arith}
+use Rattle.std.proofs.Common.{◌≡◌, ◌∙◌, ◌+ℤ◌, ◌*ℤ◌, ℤ, w8, of_z, to_z, sym, refl, arith}
 use Rattle.cmr_base.specs.Matrix.{entry}
-use Rattle.cmr_base.specs.Separations.{core_determinant}
-use Rattle.cert_check.specs.Spreads.{IsWithin}
-use Rattle.cert_check.proofs.Spreads.{fits, within_double, within_four, product_same, product_kept, spread_is}
+use Rattle.cmr_base.specs.Separations.{spread, core_determinant}
+use Rattle.cmr_base.proofs.SmallEntries.{entry_as_byte}
+use Rattle.cmr_base.proofs.SmallNumbers.{small_as_byte}
+use Rattle.ghouila.proofs.ConcentratedSums.{determinant_same}
 use Rattle.cert_check.proofs.spread.factors_of.Goals as goal
 
-kept : (x y : ℤ) → IsWithin 2 x → IsWithin 2 y → to_z w8 (of_z w8 (to_z w8 (of_z w8 x) *ℤ to_z w8 (of_z w8 y))) ≡ x *ℤ y
-kept x y a b = product_kept x y (within_four x a) b (within_double 2 x y a b)
-
-product_fits : (x y : ℤ) → IsWithin 2 x → IsWithin 2 y → FitsSigned w8 (to_z w8 (of_z w8 x) *ℤ to_z w8 (of_z w8 y))
-product_fits x y a b = fits 4 (to_z w8 (of_z w8 x) *ℤ to_z w8 (of_z w8 y)) (omega arith) (subst (IsWithin 4) (sym (product_same x y (within_four x a) b)) (within_double 2 x y a b))
-
-small : (x y : ℤ) → IsWithin 2 x → IsWithin 2 y → IsWithin 4 (to_z w8 (of_z w8 (to_z w8 (of_z w8 x) *ℤ to_z w8 (of_z w8 y))))
-small x y a b = subst (IsWithin 4) (sym (kept x y a b)) (within_double 2 x y a b)
-
-pub overflow_mul-result : goal.overflow_mul-result
-overflow_mul-result c = product_fits c.determinant-core.result c.determinant.result c.determinant-core.ensures.small c.determinant.ensures.small
-
-pub overflow_mul-result-2 : goal.overflow_mul-result-2
-overflow_mul-result-2 c = product_fits c.determinant-core.result c.determinant-2.result c.determinant-core.ensures.small c.determinant-2.ensures.small
+made : (d x y z w r o d' x' y' z' w' r' o' a b f g : ℤ) → d ≡ d' → x ≡ x' → y ≡ y' → z ≡ z' → w ≡ w' → r ≡ r' → o ≡ o'
+    → spread d x y z w r o a b ≡ f *ℤ a +ℤ g *ℤ b → spread d' x' y' z' w' r' o' a b ≡ f *ℤ a +ℤ g *ℤ b
+made d x y z w r o d' x' y' z' w' r' o' a b f g e h i j k l m is = sym same ∙ is
+  where
+    same : spread d x y z w r o a b ≡ spread d' x' y' z' w' r' o' a b
+    same = rw (e, h, i, j, k, l, m) refl
 
 pub returns-clause-sum : goal.returns-clause-sum
 returns-clause-sum c column =
     let M = entry c.args.matrix.now in
     let first = c.args.first in
     let second = c.args.second in
-    let core = c.determinant-core in
-    let row = kept core.result c.determinant.result core.ensures.small c.determinant.ensures.small ∙ ap₂ (λ (x y : ℤ). x *ℤ y) core.ensures.value c.determinant.ensures.value in
-    let other = kept core.result c.determinant-2.result core.ensures.small c.determinant-2.ensures.small ∙ ap₂ (λ (x y : ℤ). x *ℤ y) core.ensures.value c.determinant-2.ensures.value in
-    spread_is (core_determinant M first second) (M second.row first.column) (M second.row first.other) (M second.other first.column) (M second.other first.other) (M c.args.row first.column) (M c.args.row first.other) (M second.row column) (M second.other column)
-    ∙ sym (ap₂ (λ (x y : ℤ). x *ℤ M second.row column +ℤ y *ℤ M second.other column) row other)
-
-pub returns-clause-row : goal.returns-clause-row
-returns-clause-row c = small c.determinant-core.result c.determinant.result c.determinant-core.ensures.small c.determinant.ensures.small
-
-pub returns-clause-other : goal.returns-clause-other
-returns-clause-other c = small c.determinant-core.result c.determinant-2.result c.determinant-core.ensures.small c.determinant-2.ensures.small
+    let core = c.core_of-core in
+    let place = core.ensures.place in
+    let determinant : to_z w8 (of_z w8 c.determinant.result) ≡ core_determinant M first second =
+    small_as_byte 2 c.determinant.result (omega arith) c.determinant.ensures.small
+    ∙ c.determinant.ensures.value
+    ∙ determinant_same core.result.x core.result.y core.result.z core.result.w (M second.row first.column) (M second.row first.other) (M second.other first.column) (M second.other first.other) place.x place.y place.z place.w in
+    made (to_z w8 (of_z w8 c.determinant.result)) core.result.x core.result.y core.result.z core.result.w (to_z w8 (of_z w8 c.entry.result)) (to_z w8 (of_z w8 c.entry-2.result))
+    (core_determinant M first second) (M second.row first.column) (M second.row first.other) (M second.other first.column) (M second.other first.other) (M c.args.row first.column) (M c.args.row first.other)
+    (M second.row column) (M second.other column) c.factors.result.first c.factors.result.other determinant place.x place.y place.z place.w
+    (entry_as_byte c.entry.result c.entry.ensures.small ∙ c.entry.ensures.value) (entry_as_byte c.entry-2.result c.entry-2.ensures.small ∙ c.entry-2.ensures.value)
+    (c.factors.ensures.sum (M second.row column) (M second.other column))

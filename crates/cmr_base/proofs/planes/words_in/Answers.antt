@@ -1,14 +1,10 @@
-use mir.Val.{bool_byte}
-use Rattle.std.proofs.Common.{◌∙◌, ◌≡◌, SFits, ap, get_or, pos, w8, Bool, true, false, cond, refl, rules, arith}
+use Rattle.std.proofs.Common.{◌∙◌, SFits, ap, get_or, pos, w8, Bool, cond, rules, arith}
 use Rattle.std.proofs.lemmas.Int.{to_z-of_z}
 use Rattle.cmr_base.specs.Matrix.{is_nonzero}
 use Rattle.cmr_base.specs.Planes.{is_minus}
+use Rattle.cmr_base.proofs.Booleans.{one_or_none}
 use Rattle.cmr_base.proofs.PlaneWords.{bit_added}
 use Rattle.cmr_base.proofs.planes.words_in.Goals as goal
-
-one_or_none : (b : Bool) → bool_byte b ≡ cond b 1 0
-one_or_none true = refl
-one_or_none false = refl
 
 pub loop-place-preserved : goal.loop-place-preserved
 loop-place-preserved c =

@@ -1,8 +1,9 @@
 use Rattle.std.proofs.Common.{◌≡◌, ◌∙◌, ◌+◌, ◌++◌, ℕ, ℤ, List, [], get_or, drop, ap, ap₂, arith, sym, subst, length, pos, IfOk}
 use Rattle.cmr_base.specs.Matrix.{Matrix, height, rows_of, IsEntry}
+use Rattle.cmr_base.proofs.SmallEntries.{entry_as_byte}
 use Rattle.generate.specs.Generated.{negated_rows}
 use Rattle.generate.specs.Signs.{sign_of}
-use Rattle.generate.proofs.JoinedRows.{joined, kept, times, negated_row, negated_cells, of_size}
+use Rattle.generate.proofs.JoinedRows.{joined, times, negated_row, negated_cells, of_size}
 use Rattle.generate.proofs.sums.negated.Goals as goal
 
 pub loop-row-preserved : goal.loop-row-preserved
@@ -12,7 +13,7 @@ loop-row-preserved c =
     let row = c.loop-row.row in
     let cells = c.loop-row.cells.items in
     let pushed : c.push_multiple.new.cells.items ≡ cells ++ times (sign_of (get_or signs row 0)) (get_or rows row []) =
-    c.in_ok-push_multiple.ensures ∙ ap (λ (s : ℤ). cells ++ times s (get_or rows row [])) (kept c.sign.result c.sign.ensures.small ∙ c.sign.ensures.value) in
+    c.in_ok-push_multiple.ensures ∙ ap (λ (s : ℤ). cells ++ times s (get_or rows row [])) (entry_as_byte c.sign.result c.sign.ensures.small ∙ c.sign.ensures.value) in
     ap (λ (xs : List ℤ). xs ++ joined (negated_rows (drop (row + 1) rows) (drop (row + 1) signs))) pushed
     ∙ negated_row rows signs row _ cells (omega (arith, c.loop-row-test.true, c.rows-rows.ensures.rows)) c.requires c.loop-row.invariant
 

@@ -4,8 +4,9 @@ use Rattle.cmr_base.specs.Planes.{words_for}
 use Rattle.cmr_base.specs.Trees.{support}
 use Rattle.cmr_base.proofs.GraphicMatrices.{nonzero_in_range}
 use Rattle.cmr_base.proofs.Members.{in_at}
+use Rattle.cmr_base.proofs.Booleans.{first_of}
 use Rattle.cmr_base.specs.ColumnSets.{has_column}
-use Rattle.graph_realise.proofs.JointLemmas.{passing_starts, passing_more, passing_ends, fresh_first}
+use Rattle.graph_realise.proofs.JointLemmas.{passing_starts, passing_more, passing_ends}
 use Rattle.graph_realise.proofs.joint.parts_with_columns.Goals as goal
 
 pub loop-other-init : goal.loop-other-init
@@ -24,7 +25,7 @@ number_columns-requires-clause-inside c = λ column e.
     let x = get_or c.as_slice-other-items.result.now c.loop-other.other-index 0 in
     let passed = c.as_slice.result.now in
     let fresh = ap (λ (xs : List ℕ). has_column xs column) c.as_slice-in-loop-other.ensures.value in
-    let here = fresh_first (support m x column) (has_column passed column) (sym (c.set_fresh.ensures.columns column) ∙ sym fresh ∙ e) in
+    let here = first_of (support m x column) (has_column passed column) (sym (c.set_fresh.ensures.columns column) ∙ sym fresh ∙ e) in
     let l = nonzero_in_range m c.columns.ensures.shape.rectangular x column here in
     let s = c.loop-other.invariant.passing.size in omega (arith, l, s)
 

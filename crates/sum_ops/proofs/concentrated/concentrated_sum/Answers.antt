@@ -1,8 +1,7 @@
 use Rattle.std.proofs.Common.{◌<◌, ◌-◌, ◌∙◌, ℕ, subst, ap}
 use Rattle.std.proofs.lemmas.Bool.{false≢true}
 use Rattle.sum_ops.specs.declared.spread.Spread.{Spread}
-use Rattle.sum_ops.proofs.CoreSums.{concentrated_of, last_core_of_byte, sum_is, small_in_sum}
-use Rattle.sum_ops.proofs.SmallNumbers.{byte}
+use Rattle.sum_ops.proofs.CoreSums.{byte, concentrated_of, last_core_of_byte, sum_is, small_in_sum}
 use Rattle.sum_ops.proofs.concentrated.concentrated_sum.Goals as goal
 
 pub returns-then-not-has_small_entries-clause-cause : goal.returns-then-not-has_small_entries-clause-cause

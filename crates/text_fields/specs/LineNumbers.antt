@@ -1,0 +1,12 @@
+-- The words for lines of a matrix.
+use Rattle.std.specs.Prelude.{◌+◌, ◌++◌, ℕ, List, ◌∷◌, length, map}
+use Rattle.std.specs.Fmt.{decimal}
+use Rattle.cmr_base.specs.declared.line_set.LineSet.{LineSet}
+
+-- a line's number, counted from 1
+abbrev pub number_of_line : ℕ → List ℕ
+number_of_line line = decimal (line + 1)
+
+-- how many rows and columns there are, the rows, the columns
+abbrev pub set_words : LineSet → List (List ℕ)
+set_words lines = decimal (length lines.rows) ∷ decimal (length lines.columns) ∷ (map number_of_line lines.rows ++ map number_of_line lines.columns)
