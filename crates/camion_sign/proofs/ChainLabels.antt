@@ -6,7 +6,7 @@ use Rattle.cmr_base.specs.Signing.{IsSign}
 use Rattle.cmr_base.specs.declared.line.Line.{Line}
 use Rattle.cmr_base.specs.declared.line.Line.TheVariants.{Row, Column}
 use Rattle.cmr_base.proofs.RowLists.{is_eq, is_ne, eq_of}
-use Rattle.camion_sign.proofs.Comparisons.{true_is_false}
+use Rattle.cmr_base.proofs.Booleans.{true_is_false}
 use Rattle.ghouila.proofs.SignProducts.{sign_nonzero}
 use Rattle.ghouila.proofs.SignsUnique.{row_in, column_in}
 use Rattle.camion_sign.specs.SignSteps.{AreSigns, IsUnsignedOne}

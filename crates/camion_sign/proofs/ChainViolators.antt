@@ -13,15 +13,17 @@ use Rattle.cmr_base.specs.declared.line.Line.TheVariants.{Row, Column}
 use Rattle.cmr_base.specs.declared.line_set.LineSet.{LineSet}
 use Rattle.cmr_base.proofs.Integers.{sums, products}
 use Rattle.cmr_base.proofs.Parity.{even-sum_over, even_by_difference}
-use Rattle.cmr_base.proofs.SumLaws.{sum_over_same, sum_over-sub}
+use Rattle.cmr_base.proofs.SumLaws.{sum_over-sub}
 use Rattle.cmr_base.proofs.Members.{all_in, all_of_members, rising_distinct}
 use Rattle.cmr_base.proofs.RisingLists.{row_set_rises, column_set_rises}
 use Rattle.cmr_base.proofs.RowLists.{is_eq, is_ne}
+use Rattle.cmr_base.proofs.Entries.{no_minus}
 use Rattle.ghouila.proofs.SignedSums.{zero_or_sign}
 use Rattle.ghouila.proofs.SignProducts.{sign_nonzero}
 use Rattle.ghouila.proofs.Cycles.{four_or_two}
 use Rattle.ghouila.proofs.SignsUnique.{violator_up_to_signs}
 use Rattle.ghouila.proofs.CamionLaw.{camion as equivalence}
+use Rattle.ghouila.proofs.NetworkSignings.{same_at_members}
 use Rattle.cmr_base.specs.Trees.{IsBinary}
 use Rattle.camion_sign.specs.declared.step.SignStep.{SignStep}
 use Rattle.camion_sign.specs.declared.step.SignStep.TheVariants.{Free, Forced}
@@ -30,15 +32,11 @@ use Rattle.camion_sign.specs.Chains.{KeepsRule, IsSignedViolator}
 use Rattle.camion_sign.specs.Laws.{ChainsMeanViolators, ChainsRefuteRegularity}
 use Rattle.camion_sign.proofs.GivenSigns.{HasOneMore, here_or, one_more, signs_more, Labels, no_labels, more_labels}
 
--- sums of functions that agree on the items
-sum_over_in : (xs : List ℕ) (f g : ℕ → ℤ) → ((x : ℕ) → IsIn x xs → f x ≡ g x) → sum_over xs f ≡ sum_over xs g
-sum_over_in xs f g h = sum_over_same xs f g (all_of_members (λ x. f x ≡ g x) xs h)
-
 violator_in : (M N : ℕ → ℕ → ℤ) (R C : List ℕ) → ((i j : ℕ) → IsIn i R → IsIn j C → M i j ≡ N i j) → IsViolator M R C → IsViolator N R C
 violator_in M N R C e v = record {
-  even_rows = all_of_members (λ i. IsEven (sum_over C (λ j. N i j))) R (λ i h. subst IsEven (sum_over_in C (λ j. M i j) (λ j. N i j) (λ j g. e i j h g)) (all_in (λ x. IsEven (sum_over C (λ j. M x j))) R v.even_rows i h));
-  even_columns = all_of_members (λ j. IsEven (sum_over R (λ i. N i j))) C (λ j h. subst IsEven (sum_over_in R (λ i. M i j) (λ i. N i j) (λ i g. e i j g h)) (all_in (λ x. IsEven (sum_over R (λ i. M i x))) C v.even_columns j h));
-  two_mod_four = subst IsTwoModFour (sum_over_in R (λ i. sum_over C (λ j. M i j)) (λ i. sum_over C (λ j. N i j)) (λ i h. sum_over_in C (λ j. M i j) (λ j. N i j) (λ j g. e i j h g))) v.two_mod_four;
+  even_rows = all_of_members (λ i. IsEven (sum_over C (λ j. N i j))) R (λ i h. subst IsEven (same_at_members C (λ j. M i j) (λ j. N i j) (λ j g. e i j h g)) (all_in (λ x. IsEven (sum_over C (λ j. M x j))) R v.even_rows i h));
+  even_columns = all_of_members (λ j. IsEven (sum_over R (λ i. N i j))) C (λ j h. subst IsEven (same_at_members R (λ i. M i j) (λ i. N i j) (λ i g. e i j g h)) (all_in (λ x. IsEven (sum_over R (λ i. M i x))) C v.even_columns j h));
+  two_mod_four = subst IsTwoModFour (same_at_members R (λ i. sum_over C (λ j. M i j)) (λ i. sum_over C (λ j. N i j)) (λ i h. same_at_members C (λ j. M i j) (λ j. N i j) (λ j g. e i j h g))) v.two_mod_four;
 }
 
 -- a sum with one term that is not 0
@@ -60,7 +58,7 @@ pub one_entry : (F G : ℕ → ℕ → ℤ) (R C : List ℕ) (r c : ℕ) → IsD
     → sum_over R (λ i. sum_over C (λ j. F i j)) -ℤ sum_over R (λ i. sum_over C (λ j. G i j)) ≡ F r c -ℤ G r c
 one_entry F G R C r c dr dc hr hc e =
     sym (sum_over-sub R (λ i. sum_over C (λ j. F i j)) (λ i. sum_over C (λ j. G i j)))
-    ∙ sum_over_in R (λ i. sum_over C (λ j. F i j) -ℤ sum_over C (λ j. G i j)) (λ i. sum_over C (λ j. F i j -ℤ G i j)) (λ i h. sym (sum_over-sub C (λ j. F i j) (λ j. G i j)))
+    ∙ same_at_members R (λ i. sum_over C (λ j. F i j) -ℤ sum_over C (λ j. G i j)) (λ i. sum_over C (λ j. F i j -ℤ G i j)) (λ i h. sym (sum_over-sub C (λ j. F i j) (λ j. G i j)))
     ∙ one_member R (λ i. sum_over C (λ j. F i j -ℤ G i j)) r dr hr (λ i h d. no_member C (λ j. F i j -ℤ G i j) (λ j g. none (F i j) (G i j) (e i j h g (inl d))))
     ∙ one_member C (λ j. F r j -ℤ G r j) c dc hc (λ j g d. none (F r j) (G r j) (e r j hr g (inr d)))
   where
@@ -159,10 +157,6 @@ record Found (a : Matrix) (N : ℕ → ℕ → ℤ) : Type 0 where
   column_set : IsColumnSet a columns
   violator : IsViolator N rows columns
 
--- a 0/1 matrix has no -1
-pub not_minus : (a : Matrix) → IsBinary a → (i j : ℕ) → entry a i j ≢ negsuc 0
-not_minus a binary i j e = elim (binary i j) [ inl z ↦ absurd (omega (arith, sums, e, z)) | inr o ↦ absurd (omega (arith, sums, e, o)) ]
-
 -- an entry of a 0/1 matrix and its sign have one parity
 same_parity : (x y : ℤ) → x ≢ negsuc 0 → IsEntry x → IsEntry y → (x ≡ pos 0) ↔ (y ≡ pos 0) → IsEven (x -ℤ y)
 same_parity x y b u v e = go (zero_or_sign x u) (zero_or_sign y v)
@@ -207,7 +201,7 @@ module _ (a : Matrix) (is : IsMatrix a) (binary : IsBinary a) (lines : LineSet) 
   chain (Forced r c cycle ∷ steps) s N f m w (v, rule, rest) v' = go (four_or_two (sum_over cycle.rows (λ i. sum_over cycle.columns (λ j. N i j))) even) (λ k. chain steps (with_entry s r c v) N (signs_more a s is f r c v rule.here.one rule.is_sign) k (more_labels s (with_entry s r c v) r c v rule.is_sign (one_more a s is f r c v rule.here.one) w) rest v')
     where
       parity : (i j : ℕ) → IsEven (entry a i j -ℤ N i j)
-      parity i j = same_parity (entry a i j) (N i j) (not_minus a binary i j) (is.small i j) (m.small i j) (m.support i j)
+      parity i j = same_parity (entry a i j) (N i j) (no_minus a binary i j) (is.small i j) (m.small i j) (m.support i j)
 
       row_even : (i : ℕ) → IsIn i cycle.rows → IsEven (sum_over cycle.columns (λ j. N i j))
       row_even i h = even_line cycle.columns (λ j. entry a i j) (λ j. N i j) (λ j. parity i j) (rule.two_each.row_twos i h)

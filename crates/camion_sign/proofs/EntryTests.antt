@@ -8,6 +8,7 @@ use Rattle.cmr_base.proofs.Integers.{sums}
 use Rattle.ghouila.proofs.SignedSums.{zero_or_sign}
 use Rattle.camion_sign.specs.Walks.{TwoIf}
 use Rattle.cmr_base.proofs.RowLists.{eq_of, ne_of}
+use Rattle.cmr_base.proofs.EntryBytes.{same_bytes}
 
 sign_of : (m : Matrix) (i j : ℕ) → IsMatrix m → entry m i j ≢ pos 0 → IsSign (entry m i j)
 sign_of m i j is h = elim (zero_or_sign (entry m i j) (is.small i j)) [ inl z ↦ absurd (h z) | inr u ↦ u ]
@@ -30,19 +31,12 @@ pub two_not : (z : ℤ) (odd : Bool) → TwoIf odd z → IsTwoModFour z → odd 
 two_not z true h g = refl
 two_not z false (k, e) (l, f) = absurd (omega (arith, sums))
 
-same_entry : (v w : ℤ) → IsEntry v → IsEntry w → of_z w8 v ≡ of_z w8 w → v ≡ w
-same_entry v w s r e = let a = s.low in let b = s.high in let c = r.low in let d = r.high in omega (arith, ints)
-
 -- the code's test of two entries
 pub test_two : (m : Matrix) (i j k l : ℕ) (v w : ℤ) → IsMatrix m → v ≡ entry m i j → w ≡ entry m k l → IsEntry v → IsEntry w → entry m i j ≢ pos 0 → entry m k l ≢ pos 0
     → TwoIf (nat_eq (of_z w8 v) (of_z w8 w)) (entry m i j +ℤ entry m k l)
 test_two m i j k l v w is e f s r a b = entries_two m i j k l (nat_eq (of_z w8 v) (of_z w8 w)) is a b
-    (λ t. sym e ∙ same_entry v w s r (eq_of (of_z w8 v) (of_z w8 w) t) ∙ f)
+    (λ t. sym e ∙ same_bytes v w s r (eq_of (of_z w8 v) (of_z w8 w) t) ∙ f)
     (λ t q. ne_of (of_z w8 v) (of_z w8 w) t (ap (of_z w8) (e ∙ q ∙ sym f)))
 
--- what a test of an entry against 0 says
-pub byte_zero : (v : ℤ) → IsEntry v → of_z w8 v ≡ 0 → v ≡ pos 0
-byte_zero v s e = let a = s.low in let b = s.high in omega (arith, ints)
-
-pub zero_byte : (v : ℤ) → v ≡ pos 0 → of_z w8 v ≡ 0
-zero_byte v e = omega (arith, ints)
+pub zero_as_byte : (v : ℤ) → v ≡ pos 0 → of_z w8 v ≡ 0
+zero_as_byte v e = omega (arith, ints)

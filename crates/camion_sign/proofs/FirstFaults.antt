@@ -19,7 +19,7 @@ use Rattle.camion_sign.proofs.EntryTests.{two_not}
 use Rattle.camion_sign.proofs.Steps.{any_default, step_is}
 
 -- the path of a place is the only one
-same_list : (p q : List ℕ) → length p ≡ length q → IsNotAfter p q → IsNotAfter q p → p ≡ q
+pub same_list : (p q : List ℕ) → length p ≡ length q → IsNotAfter p q → IsNotAfter q p → p ≡ q
 same_list [] [] e a b = refl
 same_list [] (y ∷ ys) e a b = absurd (omega arith)
 same_list (x ∷ xs) [] e a b = absurd (omega arith)

@@ -14,6 +14,7 @@ use Rattle.cmr_base.proofs.Lists.{all_of}
 use Rattle.cmr_base.proofs.Members.{all_in, rising_distinct, sum_over_members}
 use Rattle.cmr_base.proofs.RisingLists.{row_set_rises, column_set_rises}
 use Rattle.cmr_base.proofs.SumLaws.{sum_over_same}
+use Rattle.cmr_base.proofs.Entries.{no_minus}
 use Rattle.ghouila.proofs.SignedSums.{zero_or_sign}
 use Rattle.ghouila.proofs.SignProducts.{sign_nonzero}
 use Rattle.ghouila.proofs.Cycles.{IsCycle, one_term, two_terms, rows_even}
@@ -23,7 +24,7 @@ use Rattle.camion_sign.specs.SignSteps.{AreSigns, IsUnsignedOne}
 use Rattle.camion_sign.specs.SignOrder.{IsPlaceOf, IsCycleLines, IsNextForced, IsRowsTurn}
 use Rattle.camion_sign.specs.Chains.{HasTwoEach, IsForcedStep}
 use Rattle.camion_sign.proofs.GivenSigns.{one_more, signs_more, keeps}
-use Rattle.camion_sign.proofs.ChainViolators.{one_entry, not_minus}
+use Rattle.camion_sign.proofs.ChainViolators.{one_entry}
 use Rattle.camion_sign.proofs.LineLists.{path_rows_low}
 
 -- the lesser of the two columns first
@@ -69,7 +70,7 @@ inner_zero M t c d (r ∷ x ∷ lines) h j (inr g) = inner_zero M t x d lines h.
 
 one_is : (a : Matrix) → IsBinary a → (i j : ℕ) → IsSign (entry a i j) → entry a i j ≡ pos 1
 one_is a binary i j (inl e) = e
-one_is a binary i j (inr e) = absurd (not_minus a binary i j e)
+one_is a binary i j (inr e) = absurd (no_minus a binary i j e)
 
 module _ (a : Matrix) (is : IsMatrix a) (t c d : ℕ) (cycle : LineSet) (o : IsOrdered a t c d cycle) where
   the_route : Route (entry a) is.small t o.first o.last o.path

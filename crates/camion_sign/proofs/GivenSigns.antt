@@ -1,20 +1,16 @@
 -- One more sign: what stays, and the lines that are linked then.
 use Rattle.std.proofs.Common.{◌≡◌, ◌≢◌, ◌∙◌, ◌<◌, ◌⊎◌, ◌+◌, ℕ, suc, ℤ, pos, Bool, true, false, cond, nat_eq, List, [], ◌∷◌, inl, inr, refl, sym, ap, subst, arith}
-use Rattle.std.proofs.lemmas.Int.{ints}
-use Rattle.cmr_base.specs.Matrix.{Matrix, height, entry, with_entry, IsMatrix, IsEntry}
+use Rattle.cmr_base.specs.Matrix.{Matrix, height, entry, with_entry, IsMatrix}
 use Rattle.cmr_base.specs.Signing.{IsSign}
 use Rattle.cmr_base.specs.declared.line.Line.{Line}
 use Rattle.cmr_base.specs.declared.line.Line.TheVariants.{Row, Column}
 use Rattle.cmr_base.proofs.Entries.{height-with_entry, entry-with_entry_same, entry-with_entry_other_column, entry-with_entry_other_row, is_matrix-with_entry}
 use Rattle.cmr_base.proofs.RowLists.{same_or_not, is_eq, eq_of}
+use Rattle.cmr_base.proofs.SignEntries.{sign_is_entry}
 use Rattle.ghouila.proofs.SignProducts.{sign_nonzero}
 use Rattle.ghouila.proofs.SignsUnique.{row_in, column_in}
 use Rattle.camion_sign.specs.SignSteps.{AreSigns}
 use Rattle.camion_sign.specs.Chains.{AreJoined, JoinsTo, AreLinked}
-
-pub sign_small : (v : ℤ) → IsSign v → IsEntry v
-sign_small v (inl e) = record { low = omega (arith, ints); high = omega (arith, ints) }
-sign_small v (inr e) = record { low = omega (arith, ints); high = omega (arith, ints) }
 
 -- one more sign
 pub record HasOneMore (s t : Matrix) (r c : ℕ) (v : ℤ) : Type 0 where
@@ -43,7 +39,7 @@ module _ (a s : Matrix) (is : IsMatrix a) (signs : AreSigns a s) (r c : ℕ) (v 
 
   pub signs_more : IsSign v → AreSigns a (with_entry s r c v)
   signs_more u = record {
-    matrix = is_matrix-with_entry s r c v row_inside (sign_small v u) signs.matrix;
+    matrix = is_matrix-with_entry s r c v row_inside (sign_is_entry v u) signs.matrix;
     same_height = height-with_entry s r c v ∙ signs.same_height;
     same_width = signs.same_width;
     inside = λ i j z. elim (here_or i j r c) [

@@ -1,5 +1,5 @@
 -- The places of the nonzeros of a row.
-use Rattle.std.proofs.Common.{ℕ, zero, suc, ◌+◌, Bool, true, false, cond, List, [], ◌∷◌, ◌≡◌, ◌≢◌, ◌<◌, ◌≤◌, ℤ, pos, negsuc, length, get_or, map, inl, inr, ◌∙◌, sym, ap, refl, arith, subst, zero-add}
+use Rattle.std.proofs.Common.{ℕ, zero, suc, ◌+◌, Bool, true, false, cond, List, [], ◌∷◌, ◌≡◌, ◌≢◌, ◌<◌, ◌≤◌, ℤ, pos, length, get_or, map, inl, inr, ◌∙◌, sym, ap, refl, arith, subst, zero-add}
 use Rattle.std.proofs.lemmas.List.{get_or-map}
 use Rattle.std.proofs.lemmas.List.FromFn.{length-map-range_with_len}
 use Rattle.cmr_base.specs.Matrix.{Matrix, height, row_of, column_of, entry, IsMatrix, transposed, is_nonzero}
@@ -7,16 +7,9 @@ use Rattle.cmr_base.specs.Members.{IsIn}
 use Rattle.cmr_base.proofs.Parts.{entry-transposed}
 use Rattle.cmr_base.proofs.Members.{in_at}
 use Rattle.cmr_base.proofs.RisingLists.{RisesIn, rises_from_lower, rising_at_least}
-use Rattle.camion_sign.proofs.Comparisons.{true_is_false}
+use Rattle.cmr_base.proofs.Places.{found_at}
+use Rattle.cmr_base.proofs.Booleans.{zero_is, nonzero_is}
 use Rattle.camion_sign.specs.Nonzeros.{AreNonzeros, nonzeros_from}
-
-nonzero_is : (z : ℤ) → is_nonzero z ≡ true → z ≢ pos 0
-nonzero_is z t e = true_is_false (sym t ∙ ap is_nonzero e)
-
-zero_is : (z : ℤ) → is_nonzero z ≡ false → z ≡ pos 0
-zero_is (pos zero) e = refl
-zero_is (pos (suc n)) e = true_is_false e
-zero_is (negsuc n) e = true_is_false e
 
 rises : (place high : ℕ) (line : List ℤ) → place + length line ≤ high → RisesIn place high (nonzeros_from place line)
 rises place high [] l = tt
@@ -51,11 +44,6 @@ in_is place (z ∷ line) x h = go (is_nonzero z) refl (λ g. in_is (place + 1) l
     go true e k (inr g) = later (k g)
     go false e k g = later (k g)
 
-place_of : (xs : List ℕ) (x : ℕ) → IsIn x xs → (k : ℕ) × (k < length xs) × (get_or xs k 0 ≡ x)
-place_of [] x h = absurd h
-place_of (y ∷ ys) x (inl e) = (0, omega arith, sym e)
-place_of (y ∷ ys) x (inr h) = let v = place_of ys x h in (suc v.0, let l = v.1 in omega arith, v.2)
-
 rising_pairs : (low high : ℕ) (xs : List ℕ) → RisesIn low high xs → (i j : ℕ) → i < j → j < length xs → get_or xs i 0 < get_or xs j 0
 rising_pairs low high [] h i j l m = absurd (omega arith)
 rising_pairs low high (x ∷ xs) h i zero l m = absurd (omega arith)
@@ -69,7 +57,7 @@ are_nonzeros f line same = record {
       let v = in_is 0 line (get_or (nonzeros_from 0 line) k 0) (in_at (nonzeros_from 0 line) k l) in
       let e : v.0 ≡ get_or (nonzeros_from 0 line) k 0 = let q = v.1 in omega arith in
       v.2 (same v.0 ∙ ap f e ∙ z);
-  all = λ x n. place_of (nonzeros_from 0 line) x (subst (λ (y : ℕ). IsIn y (nonzeros_from 0 line)) (zero-add x) (is_in 0 line x (λ z. n (sym (same x) ∙ z))));
+  all = λ x n. found_at (nonzeros_from 0 line) x (subst (λ (y : ℕ). IsIn y (nonzeros_from 0 line)) (zero-add x) (is_in 0 line x (λ z. n (sym (same x) ∙ z))));
 }
 
 -- the list of a row

@@ -1,9 +1,10 @@
 -- The state of a signing, after one more step and after a row.
-use Rattle.std.proofs.Common.{◌≡◌, ◌≢◌, ◌∙◌, ◌<◌, ◌≤◌, ◌+◌, ◌++◌, ℕ, zero, suc, ℤ, pos, negsuc, true, false, cond, List, [], ◌∷◌, inl, inr, refl, sym, subst, arith}
+use Rattle.std.proofs.Common.{◌≡◌, ◌≢◌, ◌∙◌, ◌<◌, ◌≤◌, ◌+◌, ◌++◌, ℕ, zero, suc, ℤ, pos, cond, List, [], ◌∷◌, inl, inr, refl, sym, subst, arith}
 use Rattle.std.proofs.lemmas.Bool.{cases_lt}
 use Rattle.cmr_base.specs.Matrix.{Matrix, height, entry, with_entry, is_nonzero, IsMatrix}
 use Rattle.cmr_base.specs.Signing.{IsSign}
 use Rattle.cmr_base.specs.Supports.{HaveOneSupport}
+use Rattle.cmr_base.proofs.Booleans.{is_zero, is_nonzero_is}
 use Rattle.ghouila.proofs.SignedSums.{zero_or_sign}
 use Rattle.ghouila.proofs.SignProducts.{sign_nonzero}
 use Rattle.ghouila.proofs.SignsUnique.{row_in, column_in}
@@ -19,14 +20,6 @@ pub lead_more : (Rule : Matrix → SignStep → ℤ → Type 0) (s end : Matrix)
 lead_more Rule s end [] step v e rule = subst (λ x. LeadTo Rule x (step ∷ []) (signed_by end step v)) (sym e) (v, rule, refl)
 lead_more Rule s end (x ∷ steps) step v (w, first, rest) rule = (w, first, lead_more Rule (signed_by s x w) end steps step v rest rule)
 
-nonzero_of : (z : ℤ) → z ≢ pos 0 → is_nonzero z ≡ true
-nonzero_of (pos zero) h = absurd (h refl)
-nonzero_of (pos (suc n)) h = refl
-nonzero_of (negsuc n) h = refl
-
-zero_of : (z : ℤ) → z ≡ pos 0 → is_nonzero z ≡ false
-zero_of z e = rw e refl
-
 -- one more sign leaves fewer ones without
 pub fewer_unsigned : (a s t : Matrix) (row column : ℕ) (v : ℤ) → IsSign v → HasOneMore s t row column v → IsUnsignedOne a s row column → (n : ℕ) → column < n → unsigned_before a t row n < unsigned_before a s row n
 fewer_unsigned a s t row column v u more here zero l = absurd (omega arith)
@@ -35,7 +28,7 @@ fewer_unsigned a s t row column v u more here (suc n) l = elim (cases_lt column 
       rw (more.other row n (inr (omega arith))) (omega (arith, k))
   | inr ge ↦ let e : column ≡ n = omega arith in
       subst (λ j. (cond (is_nonzero (entry a row j)) (cond (is_nonzero (entry t row j)) 0 1) 0) + unsigned_before a t row n < (cond (is_nonzero (entry a row j)) (cond (is_nonzero (entry s row j)) 0 1) 0) + unsigned_before a s row n) e
-      (rw (nonzero_of (entry a row column) here.one, zero_of (entry s row column) here.no_sign, nonzero_of (entry t row column) (λ z. sign_nonzero v u (sym more.here ∙ z)), same n (omega arith)) (omega arith))
+      (rw (is_nonzero_is (entry a row column) here.one, is_zero (entry s row column) here.no_sign, is_nonzero_is (entry t row column) (λ z. sign_nonzero v u (sym more.here ∙ z)), same n (omega arith)) (omega arith))
 ]
   where
     same : (n : ℕ) → n ≤ column → unsigned_before a t row n ≡ unsigned_before a s row n

@@ -1,11 +1,12 @@
 -- Each step signs a one that had no sign, so there are no more steps than places.
-use Rattle.std.proofs.Common.{◌≡◌, ◌<◌, ◌≤◌, ◌+◌, ◌*◌, ℕ, zero, suc, zero-le, ℤ, pos, Bool, true, cond, List, [], ◌∷◌, take, length, get_or, set, inl, inr, refl, ap, subst, arith}
+use Rattle.std.proofs.Common.{◌≡◌, ◌<◌, ◌≤◌, ◌+◌, ◌*◌, ℕ, zero, suc, zero-le, ℤ, pos, Bool, cond, List, [], ◌∷◌, take, length, get_or, set, inl, refl, ap, subst, arith}
 use Rattle.std.specs.List.{AllByRecursion, count_by}
 use Rattle.std.proofs.lemmas.List.{length-take-le, take_all}
 use Rattle.std.proofs.lemmas.List.Sums.{count_by-le-length, sum_by-set}
 use Rattle.std.proofs.Math.Nat.{suc-mul, mul-le-mul_left, mul-le-mul_right}
 use Rattle.cmr_base.specs.Matrix.{Matrix, height, is_nonzero, nonzeros_of, IsMatrix}
 use Rattle.cmr_base.specs.Signing.{IsSign}
+use Rattle.cmr_base.proofs.SignEntries.{sign_is_nonzero}
 use Rattle.ghouila.proofs.SignsUnique.{row_in, column_in}
 use Rattle.camion_sign.specs.declared.step.SignStep.{SignStep}
 use Rattle.camion_sign.specs.declared.step.SignStep.TheVariants.{Free, Forced}
@@ -19,15 +20,11 @@ use Rattle.camion_sign.proofs.ChainViolators.{unsigned_signs}
 
 -- ---- nonzeros
 
-sign_counts : (v : ℤ) → IsSign v → is_nonzero v ≡ true
-sign_counts v (inl e) = ap is_nonzero e
-sign_counts v (inr e) = ap is_nonzero e
-
 count_set : (xs : List ℤ) (c : ℕ) (v : ℤ) → c < length xs → get_or xs c (pos 0) ≡ pos 0 → IsSign v → count_by is_nonzero (set xs c v) ≡ count_by is_nonzero xs + 1
 count_set xs c v h e u =
     let changed = sum_by-set (λ (x : ℤ). cond (is_nonzero x) 1 0) xs c v (pos 0) h in
     let none : ◌≡◌ {A = ℕ} (cond (is_nonzero (get_or xs c (pos 0))) 1 0) 0 = ap (λ (x : ℤ). cond (is_nonzero x) 1 0) e in
-    let one : ◌≡◌ {A = ℕ} (cond (is_nonzero v) 1 0) 1 = ap (λ (t : Bool). cond t 1 0) (sign_counts v u) in
+    let one : ◌≡◌ {A = ℕ} (cond (is_nonzero v) 1 0) 1 = ap (λ (t : Bool). cond t 1 0) (sign_is_nonzero v u) in
     omega (arith, changed, none, one)
 
 nonzeros_set : (rows : List (List ℤ)) (r c : ℕ) (v : ℤ) → r < length rows → c < length (get_or rows r []) → get_or (get_or rows r []) c (pos 0) ≡ pos 0 → IsSign v → nonzeros_of (set rows r (set (get_or rows r []) c v)) ≡ nonzeros_of rows + 1

@@ -3,6 +3,7 @@ use Rattle.std.proofs.Common.{ℕ, suc, List, [], ◌∷◌, ◌++◌, ◌≡◌
 use Rattle.std.proofs.lemmas.List.{append_cancel_right}
 use Rattle.cmr_base.specs.CyclePlaces.{IsPath, IsNotAfter, path_sum}
 use Rattle.cmr_base.proofs.Integers.{sums}
+use Rattle.cmr_base.proofs.Lists.{length-more}
 use Rattle.camion_sign.specs.Trails.{IsLess, IsBefore, IsUpTo, GoesOn, IsTrail, trail_end, trail_sum}
 
 less_trans : (xs ys zs : List ℕ) → IsLess xs ys → IsLess ys zs → IsLess xs zs
@@ -72,16 +73,12 @@ less_not_after (x ∷ xs) [] d e l = absurd (omega arith)
 less_not_after (x ∷ xs) (y ∷ ys) d e (inl l) = inl l
 less_not_after (x ∷ xs) (y ∷ ys) d e (inr l) = inr (l.0, less_not_after xs ys d (omega arith) l.1)
 
-length_one : (xs : List ℕ) (d : ℕ) → length (xs ++ d ∷ []) ≡ suc (length xs)
-length_one [] d = refl
-length_one (y ∷ ys) d = let e = length_one ys d in omega arith
-
 -- what the order says of the lines before the last
 pub not_after : (xs ys : List ℕ) (d : ℕ) → IsUpTo (xs ++ d ∷ []) (ys ++ d ∷ []) → (length xs < length ys) ⊎ ((length xs ≡ length ys) × IsNotAfter xs ys)
 not_after xs ys d (inr e) = let same = append_cancel_right xs ys (d ∷ []) e in inr (ap length same, subst (IsNotAfter xs) same (not_after_same xs))
-not_after xs ys d (inl (inl l)) = inl (omega (arith, length_one xs d, length_one ys d))
+not_after xs ys d (inl (inl l)) = inl (omega (arith, length-more xs d, length-more ys d))
 not_after xs ys d (inl (inr l)) =
-    let e : length xs ≡ length ys = let f = l.0 in omega (arith, length_one xs d, length_one ys d) in
+    let e : length xs ≡ length ys = let f = l.0 in omega (arith, length-more xs d, length-more ys d) in
     inr (e, less_not_after xs ys d e l.1)
 
 module _ (M : ℕ → ℕ → ℤ) (t : ℕ) where

@@ -1,13 +1,12 @@
 -- Breadth-first walks: what stays true, over functions of the place.
 use Rattle.std.proofs.Common.{ℕ, zero, suc, Bool, true, false, cond, nat_eq, ℤ, pos, ◌+ℤ◌, List, [], ◌∷◌, ◌++◌, ◌≡◌, ◌≢◌, ◌<◌, ◌≤◌, ◌⊎◌, inl, inr, ◌∙◌, sym, ap, refl, arith, subst, length}
 use Rattle.std.proofs.lemmas.Bool.{cases_lt, cases_eq}
-use Rattle.std.proofs.lemmas.Bool.Decides.{nat_tests}
 use Rattle.cmr_base.specs.Members.{IsIn, IsDistinct}
 use Rattle.cmr_base.proofs.Integers.{sums}
 use Rattle.cmr_base.proofs.Members.{distinct_few}
+use Rattle.cmr_base.proofs.Booleans.{is_ne, self_eq, true_is_false}
 use Rattle.camion_sign.specs.Trails.{IsBefore, IsUpTo, IsTrail, trail_end, trail_sum}
 use Rattle.camion_sign.specs.Walks.{Progress, IsQueue, Goes, IsMet, IsFront, IsSettled, TwoIf, flip}
-use Rattle.camion_sign.proofs.Comparisons.{true_is_false}
 use Rattle.camion_sign.proofs.Trails.{before_trans, up_to_before, before_up_to, up_to_trans, before_more, up_to_more, next_before, longer_before, length_more, trail_more, end_more, sum_more, last_step, HasLast}
 
 pub two_add : (a b : Bool) (x y : ℤ) → TwoIf a x → TwoIf b y → TwoIf (flip a b) (x +ℤ y)
@@ -30,12 +29,6 @@ pub record IsOneMore (s s' : Progress) (x r h : ℕ) (two : Bool) : Type 0 where
   pub place : s'.place x ≡ s.count
   pub places : (z : ℕ) → z ≢ x → s'.place z ≡ s.place z
   pub used : (q : ℕ) → s'.used q ≡ s.used q
-
-not_same : (a b : ℕ) → a ≢ b → nat_eq a b ≡ false
-not_same a b e = grind (arith, nat_tests)
-
-same_same : (a : ℕ) → nat_eq a a ≡ true
-same_same a = grind (arith, nat_tests)
 
 module _ (M : ℕ → ℕ → ℤ) (t c n : ℕ) where
   module _ (s : Progress) (key : ℕ → List ℕ) where
@@ -193,11 +186,11 @@ module _ (M : ℕ → ℕ → ℤ) (t c n : ℕ) where
 
     old_key : (j : ℕ) → j < s.count → with_key j ≡ key j
     unfolding with_key
-    old_key j l = ap (λ (b : Bool). cond b (key h ++ r ∷ x ∷ []) (key j)) (not_same j s.count (λ e. omega arith))
+    old_key j l = ap (λ (b : Bool). cond b (key h ++ r ∷ x ∷ []) (key j)) (is_ne j s.count (λ e. omega arith))
 
     new_key : (j : ℕ) → j ≡ s.count → with_key j ≡ key h ++ r ∷ x ∷ []
     unfolding with_key
-    new_key j e = ap (λ (i : ℕ). cond (nat_eq i s.count) (key h ++ r ∷ x ∷ []) (key i)) e ∙ ap (λ (b : Bool). cond b (key h ++ r ∷ x ∷ []) (key s.count)) (same_same s.count)
+    new_key j e = ap (λ (i : ℕ). cond (nat_eq i s.count) (key h ++ r ∷ x ∷ []) (key i)) e ∙ ap (λ (b : Bool). cond b (key h ++ r ∷ x ∷ []) (key s.count)) (self_eq s.count)
 
     module _ (P Q : ℕ → ℕ → Type 0) (low : n < 4294967295) (w : IsFront M t c n s key h P) (l : h < s.count) (o : IsOneMore s s' x r h (flip (s.is_two h) same)) (unmet : s.place x ≡ 4294967295) where
       few_top : s.count < 4294967295

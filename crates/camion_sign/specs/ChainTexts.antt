@@ -6,6 +6,7 @@ use Rattle.cmr_base.specs.LineSets.{AllBelow}
 use Rattle.cmr_base.specs.declared.line_set.LineSet.{LineSet}
 use Rattle.text_fields.specs.Words.{Text}
 use Rattle.text_fields.specs.Result.{◌>>=◌, renamed}
+pub use Rattle.text_fields.specs.LineNumbers.{number_of_line, set_words as line_set_words}
 use Rattle.text_fields.specs.Numbers.{count_in}
 use Rattle.text_fields.specs.Reading.{Fault, field, times, ended}
 use Rattle.text_fields.specs.Written.{text_of_lines}
@@ -101,14 +102,6 @@ chain text = do
   ended Extra (record { chain = record { steps = steps.0; violator = violator.0 }; rows = height.0; columns = width.0 }) violator.1
 
 -- ---- canonical texts
-
--- a line's number, counted from 1
-abbrev pub number_of_line : ℕ → List ℕ
-number_of_line line = decimal (line + 1)
-
--- two counts, the rows and the columns
-abbrev pub line_set_words : LineSet → List (List ℕ)
-line_set_words lines = decimal (length lines.rows) ∷ decimal (length lines.columns) ∷ (map number_of_line lines.rows ++ map number_of_line lines.columns)
 
 abbrev pub step_words : SignStep → List (List ℕ)
 step_words (Free row column) = codes "free" ∷ number_of_line row ∷ number_of_line column ∷ []

@@ -1,13 +1,8 @@
 -- Paths from a column on, with the column in which they end.
 use Rattle.std.specs.Prelude.{ℕ, List, [], ◌∷◌, ℤ, pos, ◌+ℤ◌, ◌≡◌, ◌≢◌, ◌<◌, ◌⊎◌, length}
+pub use Rattle.cmr_base.specs.Seeds.{IsBefore as IsLess}
 
--- before the second in lexicographic order, for lists of one length
-abbrev pub IsLess : List ℕ → List ℕ → Type 0
-IsLess [] ys = ⊥
-IsLess (x ∷ xs) [] = ⊥
-IsLess (x ∷ xs) (y ∷ ys) = (x < y) ⊎ ((x ≡ y) × IsLess xs ys)
-
--- shorter, or of one length and less
+-- shorter, or of one length and before in lexicographic order
 abbrev pub IsBefore : List ℕ → List ℕ → Type 0
 IsBefore xs ys = (length xs < length ys) ⊎ ((length xs ≡ length ys) × IsLess xs ys)
 

@@ -4,17 +4,13 @@ use Rattle.std.proofs.lemmas.Bool.{cases_eq, cases_lt}
 use Rattle.std.proofs.lemmas.List.{get_or-set_same, get_or-set_other, length-set}
 use Rattle.cmr_base.specs.Members.{IsIn, IsDistinct}
 use Rattle.cmr_base.proofs.Members.{in_at}
+use Rattle.cmr_base.proofs.Places.{found_at, distinct_from_apart}
 
 abbrev pub exchanged : List ℕ → ℕ → ℕ → List ℕ
 exchanged xs a b = set (set xs a (get_or xs b 0)) b (get_or xs a 0)
 
 pub length-exchanged : (xs : List ℕ) (a b : ℕ) → length (exchanged xs a b) ≡ length xs
 length-exchanged xs a b = length-set (set xs a (get_or xs b 0)) b (get_or xs a 0) ∙ length-set xs a (get_or xs b 0)
-
-place_of : (xs : List ℕ) (x : ℕ) → IsIn x xs → (p : ℕ) × (p < length xs) × (get_or xs p 0 ≡ x)
-place_of [] x h = absurd h
-place_of (y ∷ ys) x (inl e) = (0, omega arith, sym e)
-place_of (y ∷ ys) x (inr h) = let m = place_of ys x h in (suc m.0, (let l = m.1 in omega arith), m.2)
 
 -- distinct numbers by their places
 apart_at : (xs : List ℕ) (p q : ℕ) → IsDistinct xs → p < q → q < length xs → get_or xs p 0 ≢ get_or xs q 0
@@ -23,13 +19,6 @@ apart_at (x ∷ xs) zero zero d l h e = omega arith
 apart_at (x ∷ xs) zero (suc q) d l h e = d.0 (subst (λ (z : ℕ). IsIn z xs) (sym e) (in_at xs q (omega arith)))
 apart_at (x ∷ xs) (suc p) zero d l h e = omega arith
 apart_at (x ∷ xs) (suc p) (suc q) d l h e = apart_at xs p q d.1 (omega arith) (omega arith) e
-
-distinct_by_places : (xs : List ℕ) → ((p q : ℕ) → p < q → q < length xs → get_or xs p 0 ≢ get_or xs q 0) → IsDistinct xs
-distinct_by_places [] h = tt
-distinct_by_places (x ∷ xs) h = (
-  (λ i. let m = place_of xs x i in h 0 (suc m.0) (omega arith) (let l = m.1 in omega arith) (sym m.2)),
-  distinct_by_places xs (λ p q l k. h (suc p) (suc q) (omega arith) (omega arith)),
-)
 
 module _ (xs : List ℕ) (a b : ℕ) (la : a < length xs) (lb : b < length xs) where
   at_second : get_or (exchanged xs a b) b 0 ≡ get_or xs a 0
@@ -56,7 +45,7 @@ module _ (xs : List ℕ) (a b : ℕ) (la : a < length xs) (lb : b < length xs) w
 
   pub exchanged_has : (x : ℕ) → IsIn x xs → IsIn x (exchanged xs a b)
   exchanged_has x h =
-      let m = place_of xs x h in
+      let m = found_at xs x h in
       let to = moved_to m.0 m.1 in
       subst (λ (z : ℕ). IsIn z (exchanged xs a b)) (to.2 ∙ m.2) (in_at (exchanged xs a b) to.0 (let l = to.1 in let e = length-exchanged xs a b in omega (arith, e, l)))
 
@@ -71,12 +60,12 @@ module _ (xs : List ℕ) (a b : ℕ) (la : a < length xs) (lb : b < length xs) w
 
   pub has_exchanged : (x : ℕ) → IsIn x (exchanged xs a b) → IsIn x xs
   has_exchanged x h =
-      let m = place_of (exchanged xs a b) x h in
+      let m = found_at (exchanged xs a b) x h in
       let from = came_from m.0 (let l = m.1 in let e = length-exchanged xs a b in omega (arith, e, l)) in
       subst (λ (z : ℕ). IsIn z xs) (from.2 ∙ m.2) (in_at xs from.0 from.1)
 
   pub distinct-exchanged : IsDistinct xs → IsDistinct (exchanged xs a b)
-  distinct-exchanged d = distinct_by_places (exchanged xs a b) (λ p q l k e. go p q l (let s = length-exchanged xs a b in omega (arith, s, k)) e)
+  distinct-exchanged d = distinct_from_apart (exchanged xs a b) (λ p q l k e. go p q l (let s = length-exchanged xs a b in omega (arith, s, k)) e)
     where
       apart : (p q : ℕ) → p < length xs → q < length xs → get_or xs p 0 ≡ get_or xs q 0 → p ≡ q
       apart p q l k e = elim (cases_lt p q) [

@@ -1,38 +1,36 @@
 -- Places that are found for the first time.
-use Rattle.std.proofs.Common.{◌≡◌, ◌<◌, ◌≤◌, ◌+◌, ◌*◌, ◌/◌, ◌%◌, ◌⊎◌, ◌&&◌, ◌||◌, ◌∙◌, not, set, length, ap, sym, subst, refl, arith, inl, inr, ℕ, ℤ, Bool, true, false, List}
-use Rattle.std.proofs.lemmas.Bool.{false≢true, cases_lt}
-use Rattle.std.proofs.lemmas.List.{get_or-set_same, get_or-set_other, length-set}
+use Rattle.std.proofs.Common.{◌≡◌, ◌≢◌, ◌<◌, ◌≤◌, ◌+◌, ◌*◌, ◌/◌, ◌%◌, ◌⊎◌, ◌&&◌, ◌||◌, ◌∙◌, not, set, length, get_or, ap, sym, subst, refl, arith, inl, inr, ℕ, Bool, true, false, List, [], ◌∷◌}
+use Rattle.std.specs.Int.Bits.{bit_or}
+use Rattle.std.proofs.lemmas.Bool.{false≢true, cases_lt, cases_eq}
+use Rattle.std.proofs.lemmas.List.{get_or-set_same, get_or-set_other, get_or_default}
 use Rattle.cmr_base.specs.ColumnSets.{has_column}
-use Rattle.cmr_base.specs.Differences.{differs_at}
-use Rattle.cmr_base.specs.Matrix.{Matrix, height, IsMatrix}
 use Rattle.cmr_base.specs.Planes.{has_bit}
-use Rattle.cmr_base.proofs.ColumnWords.{column_at, none_past}
-use Rattle.cmr_base.proofs.DifferenceWords.{difference_in}
-use Rattle.line_growth.specs.FoundPlaces.{IsFilled}
+use Rattle.cmr_base.proofs.ColumnWords.{column_at}
+use Rattle.cmr_base.proofs.WordBits.{has_bit-or}
+use Rattle.line_growth.specs.declared.places.Places.{Places}
+use Rattle.line_growth.specs.FoundPlaces.{AreSeen, HaveAdded}
 use Rattle.line_growth.specs.Reaching.{is_marked}
 
-first_of : (t s : Bool) → (t && not s) ≡ true → t ≡ true
-first_of true s e = refl
-first_of false s e = e
+-- what is found for the first time passes the test
+pub found_passes : (word t s : Bool) → word ≡ (t && not s) → word ≡ true → t ≡ true
+found_passes word true s is e = refl
+found_passes word false s is e = sym is ∙ e
 
-seen_then : (t s : Bool) → (t && not s) ≡ false → t ≡ true → s ≡ true
-seen_then true true e f = refl
-seen_then true false e f = sym e ∙ f
-seen_then false s e f = absurd (false≢true f)
+-- what passes the test was seen before, or is found
+pub seen_or_found : (word t s : Bool) → word ≡ (t && not s) → t ≡ true → (s ≡ true) ⊎ (word ≡ true)
+seen_or_found word true true is e = inl refl
+seen_or_found word true false is e = inr is
+seen_or_found word false s is e = absurd (false≢true e)
 
--- what is found of a row that is not a multiple of another
-module _ (m : Matrix) (row : ℕ) (factor : ℤ) (model : ℕ) (seen found : List ℕ) (is : (column : ℕ) → has_column found column ≡ (differs_at m row factor model column && not (has_column seen column))) where
-  pub found_differs : (place : ℕ) → has_column found place ≡ true → differs_at m row factor model place ≡ true
-  found_differs place e = first_of (differs_at m row factor model place) (has_column seen place) (sym (is place) ∙ e)
+old_or_new : (before bit : Bool) → (before || bit) ≡ true → (before ≡ true) ⊎ (bit ≡ true)
+old_or_new true bit e = inl refl
+old_or_new false bit e = inr e
 
-  pub found_inside : IsMatrix m → row < height m → model < height m → (place : ℕ) → has_column found place ≡ true → place < m.width
-  found_inside shape low model_low place e = difference_in m row factor model place shape low model_low (found_differs place e)
+-- the bits of a word as a set of columns
+pub bit_in : (word k : ℕ) → k < 64 → has_column (word ∷ []) k ≡ has_bit word k
+bit_in word k l = ap (has_column (word ∷ [])) (omega arith) ∙ column_at (word ∷ []) 0 k l
 
-  -- a difference that is not found was seen before
-  pub seen_before : (place : ℕ) → has_column found place ≡ false → differs_at m row factor model place ≡ true → has_column seen place ≡ true
-  seen_before place e d = seen_then (differs_at m row factor model place) (has_column seen place) (sym (is place) ∙ e) d
-
--- the places found before the next one have marks, and so has this one
+-- the places before the next one have marks, and so has this one
 pub found_until : (found : List ℕ) (marks marks' : List Bool) (first from next : ℕ) → ((line : ℕ) → is_marked marks line ≡ true → is_marked marks' line ≡ true)
     → ((place : ℕ) → place < from → has_column found place ≡ true → is_marked marks (first + place) ≡ true) → ((place : ℕ) → from ≤ place → place < next → has_column found place ≡ false)
     → is_marked marks' (first + next) ≡ true → (place : ℕ) → place < next + 1 → has_column found place ≡ true → is_marked marks' (first + place) ≡ true
@@ -44,30 +42,34 @@ found_until found marks marks' first from next grows before none here place l e 
   ]
 ]
 
--- a place that was seen before, or is found and has a mark
-pub kept_marked : (before now : Bool) {P : Type 0} → (before ≡ true → P) → (now ≡ true → P) → (before || now) ≡ true → P
-kept_marked true now f g e = f refl
-kept_marked false now f g e = g e
+-- at the end all of them have
+pub found_all : (found : List ℕ) (marks : List Bool) (first from : ℕ) → ((place : ℕ) → place < from → has_column found place ≡ true → is_marked marks (first + place) ≡ true)
+    → ((place : ℕ) → from ≤ place → has_column found place ≡ false) → (place : ℕ) → has_column found place ≡ true → is_marked marks (first + place) ≡ true
+found_all found marks first from before none place e = elim (cases_lt place from) [
+  | inl h ↦ before place h e
+  | inr h ↦ absurd (false≢true (sym (none place h) ∙ e))
+]
 
--- ---- words that are filled one after another
+-- ---- words to which bits are added
 
-pub filled_word : (test : ℕ → Bool) (before after : List ℕ) (block word : ℕ) → IsFilled test before after block → block < length after → ((k : ℕ) → k < 64 → has_bit word k ≡ test (64 * block + k))
-    → IsFilled test before (set after block word) (block + 1)
-filled_word test before after block word f l bits = record {
-  size = length-set after block word ∙ f.size;
-  done = λ place h. go place h (cases_lt place (64 * block));
-}
-  where
-    go : (place : ℕ) → place < 64 * (block + 1) → (place < 64 * block) ⊎ (64 * block ≤ place) → has_column (set after block word) place ≡ test place
-    go place h (inl k) = ap (λ w. has_bit w (place % 64)) (get_or-set_other after block (place / 64) word 0 (λ e. absurd (omega arith))) ∙ f.done place k
-    go place h (inr k) =
-        let at : 64 * block + place % 64 ≡ place = omega arith in
-        subst (λ x. has_column (set after block word) x ≡ test x) at
-        (column_at (set after block word) block (place % 64) (omega arith) ∙ ap (λ w. has_bit w (place % 64)) (get_or-set_same after block word 0 l) ∙ bits (place % 64) (omega arith))
+module _ (words : List ℕ) (block old word : ℕ) (inside : block < length words) (is : old ≡ get_or words block old) where
+  pub added_here : (k : ℕ) → k < 64 → has_column (set words block (bit_or old word)) (64 * block + k) ≡ (has_column words (64 * block + k) || has_bit word k)
+  added_here k s =
+      column_at (set words block (bit_or old word)) block k s ∙ ap (λ w. has_bit w k) (get_or-set_same words block (bit_or old word) 0 inside) ∙ has_bit-or old word k
+      ∙ ap (λ b. b || has_bit word k) (ap (λ w. has_bit w k) (is ∙ get_or_default words block old 0 inside) ∙ sym (column_at words block k s))
 
-pub filled_all : (test : ℕ → Bool) (before after : List ℕ) (block : ℕ) → IsFilled test before after block → length before ≤ block → ((place : ℕ) → 64 * length before ≤ place → test place ≡ false)
-    → (place : ℕ) → has_column after place ≡ test place
-filled_all test before after block f l none place = elim (cases_lt place (64 * block)) [
-  | inl k ↦ f.done place k
-  | inr k ↦ none_past after place (let s = f.size in omega arith) ∙ sym (none place (omega arith))
+  pub added_others : (place : ℕ) → place / 64 ≢ block → has_column (set words block (bit_or old word)) place ≡ has_column words place
+  added_others place n = ap (λ w. has_bit w (place % 64)) (get_or-set_other words block (place / 64) (bit_or old word) 0 n)
+
+-- the places that were seen before and those that are added have marks
+pub seen_added : (old new : Places) (block word first : ℕ) (marks : List Bool) → HaveAdded old block word new → AreSeen old first marks → ((k : ℕ) → k < 64 → has_bit word k ≡ true → is_marked marks (first + (64 * block + k)) ≡ true)
+    → AreSeen new first marks
+seen_added old new block word first marks a before added place e = elim (cases_eq (place / 64) block) [
+  | inr n ↦ before place (sym (a.others place n) ∙ e)
+  | inl q ↦
+      let at : 64 * block + place % 64 ≡ place = omega arith in
+      elim (old_or_new (has_column old.seen.items (64 * block + place % 64)) (has_bit word (place % 64)) (sym (a.here (place % 64) (omega arith)) ∙ ap (has_column new.seen.items) at ∙ e)) [
+        | inl s ↦ before place (ap (has_column old.seen.items) (sym at) ∙ s)
+        | inr b ↦ subst (λ (x : ℕ). is_marked marks (first + x) ≡ true) at (added (place % 64) (omega arith) b)
+      ]
 ]

@@ -1,8 +1,8 @@
 -- What is reached by a rule is the least closed set of lines.
-use Rattle.std.proofs.Common.{◌≡◌, ◌<◌, ◌≤◌, ◌+◌, ◌-◌, ◌⊎◌, inl, inr, ◌∙◌, not, cond, nat_lt, ℕ, zero, suc, ℤ, Bool, true, false, List, ap, sym, refl, arith}
+use Rattle.std.proofs.Common.{◌≡◌, ◌<◌, ◌≤◌, ◌+◌, ◌-◌, ◌⊎◌, inl, inr, ◌∙◌, not, cond, ℕ, zero, suc, ℤ, Bool, true, false, List, ap, sym, refl, arith}
 use Rattle.std.specs.Ordering.{int_eq}
 use Rattle.std.proofs.lemmas.Bool.{false≢true, cases_lt}
-use Rattle.std.proofs.lemmas.Bool.Decides.{nat_tests, Decides-int_eq}
+use Rattle.std.proofs.lemmas.Bool.Decides.{Decides-int_eq}
 use Rattle.cmr_base.specs.declared.line.Line.{Line}
 use Rattle.cmr_base.specs.declared.line.Line.TheVariants.{Row, Column}
 use Rattle.cmr_base.specs.LineSets.{first_lines}
@@ -11,15 +11,10 @@ use Rattle.cmr_base.specs.Seeds.{IsLine, IsClosed, line_number}
 use Rattle.cmr_base.proofs.ListedLines.{contains_first_lines, first_lines_contain}
 use Rattle.cmr_base.proofs.LineCounts.{count, count-filter, outside_is}
 use Rattle.cmr_base.proofs.RowLists.{two_cases}
+use Rattle.cmr_base.proofs.Booleans.{is_not_lt, is_lt}
 use Rattle.cmr_base.specs.Differences.{differ}
 use Rattle.line_growth.specs.Rules.{pulls}
 use Rattle.line_growth.specs.Reaching.{is_marked, marked_lines, numbered, IsClosedUnder, unmarked}
-
-yes : (a b : ℕ) → a < b → nat_lt a b ≡ true
-yes a b l = grind (arith, nat_tests)
-
-no : (a b : ℕ) → b ≤ a → nat_lt a b ≡ false
-no a b l = grind (arith, nat_tests)
 
 differs_not : (a b : ℤ) → differ a b ≡ false → a ≡ b
 differs_not a b e = go (int_eq a b) refl e
@@ -33,10 +28,10 @@ same_not a b e = ap not ((Decides-int_eq a b).1 e)
 
 module _ (m n : ℕ) (M upper lower : ℕ → ℕ → ℤ) where
   row_pulls : (r c : ℕ) → r < m → pulls m M upper lower r (m + c) ≡ differ (M r c) (upper r c)
-  row_pulls r c l = let back : (m + c) - m ≡ c = omega arith in rw (yes r m l, no (m + c) m (omega arith), back) refl
+  row_pulls r c l = let back : (m + c) - m ≡ c = omega arith in rw (is_lt r m l, is_not_lt (m + c) m (omega arith), back) refl
 
   column_pulls : (r c : ℕ) → r < m → pulls m M upper lower (m + c) r ≡ differ (M r c) (lower r c)
-  column_pulls r c l = let back : (m + c) - m ≡ c = omega arith in rw (no (m + c) m (omega arith), yes r m l, back) refl
+  column_pulls r c l = let back : (m + c) - m ≡ c = omega arith in rw (is_not_lt (m + c) m (omega arith), is_lt r m l, back) refl
 
   pub closed_from_marks : (marks : List Bool) → IsClosedUnder (m + n) (pulls m M upper lower) (is_marked marks) → IsClosed m n M upper lower (marked_lines m marks)
   closed_from_marks marks closed = record {
@@ -57,10 +52,10 @@ module _ (m n : ℕ) (M upper lower : ℕ → ℕ → ℤ) where
   }
 
   numbered_row : (T : Lines) (r : ℕ) → r < m → numbered m T r ≡ T (Row r)
-  numbered_row T r l = rw (yes r m l) refl
+  numbered_row T r l = rw (is_lt r m l) refl
 
   numbered_column : (T : Lines) (k : ℕ) → m ≤ k → numbered m T k ≡ T (Column (k - m))
-  numbered_column T k l = rw (no k m l) refl
+  numbered_column T k l = rw (is_not_lt k m l) refl
 
   pub numbered_line : (T : Lines) (line : Line) → IsLine m n line → numbered m T (line_number m line) ≡ T line
   numbered_line T (Row r) l = numbered_row T r l
@@ -77,19 +72,19 @@ module _ (m n : ℕ) (M upper lower : ℕ → ℕ → ℤ) where
       go (inl k) (inl l) = absurd (false≢true (sym same ∙ f))
         where
           same : pulls m M upper lower x y ≡ false
-          same = rw (yes x m k, yes y m l) refl
+          same = rw (is_lt x m k, is_lt y m l) refl
       go (inr k) (inr l) = absurd (false≢true (sym same ∙ f))
         where
           same : pulls m M upper lower x y ≡ false
-          same = rw (no x m k, no y m l) refl
+          same = rw (is_not_lt x m k, is_not_lt y m l) refl
       go (inl k) (inr l) = numbered_column T y l ∙ truth (T (Column (y - m))) (λ g. false≢true (sym (same_not (M x (y - m)) (upper x (y - m)) (closed.right x (y - m) (contains_first_lines m x k) (contains_first_lines n (y - m) (omega arith)) (sym (numbered_row T x k) ∙ e) g)) ∙ (sym same ∙ f)))
         where
           same : pulls m M upper lower x y ≡ differ (M x (y - m)) (upper x (y - m))
-          same = rw (yes x m k, no y m l) refl
+          same = rw (is_lt x m k, is_not_lt y m l) refl
       go (inr k) (inl l) = numbered_row T y l ∙ truth (T (Row y)) (λ g. false≢true (sym (same_not (M y (x - m)) (lower y (x - m)) (closed.below y (x - m) (contains_first_lines m y l) (contains_first_lines n (x - m) (omega arith)) g (sym (numbered_column T x k) ∙ e))) ∙ (sym same ∙ f)))
         where
           same : pulls m M upper lower x y ≡ differ (M y (x - m)) (lower y (x - m))
-          same = rw (no x m k, yes y m l) refl
+          same = rw (is_not_lt x m k, is_lt y m l) refl
 
 -- ---- counts
 

@@ -2,16 +2,13 @@
 use Rattle.std.proofs.Common.{◌≡◌, ◌∙◌, ap, ap₂, sym, ◌*ℤ◌, ℕ, ℤ, pos, w8, to_z, of_z}
 use Rattle.cmr_base.specs.Differences.{differ, differs_at}
 use Rattle.cmr_base.specs.Matrix.{Matrix, entry, transposed, IsMatrix, IsEntry}
-use Rattle.cmr_base.proofs.Integers.{products}
+use Rattle.cmr_base.proofs.Integers.{products, zero-mul}
 use Rattle.cmr_base.proofs.Parts.{entry-transposed}
 use Rattle.cmr_base.proofs.SmallEntries.{entry_as_byte}
 use Rattle.line_growth.specs.declared.rule.Block.{Block}
 use Rattle.line_growth.specs.declared.rule.Block.TheVariants.{Zero, Product}
 use Rattle.line_growth.specs.declared.rule.Place.{Place}
 use Rattle.line_growth.specs.Rules.{block_entry}
-
-no_times : (x : ℤ) → pos 0 *ℤ x ≡ pos 0
-no_times x = simp products
 
 along_row : (a b e : ℤ) → (a *ℤ e) *ℤ b ≡ a *ℤ (b *ℤ e)
 along_row a b e = simp products
@@ -28,7 +25,7 @@ product_row m block place row column factor e f =
 module _ (m : Matrix) (is : IsMatrix m) where
   pub zero_column : (block : Block) (column row : ℕ) → block ≡ Zero → differs_at (transposed m) column (pos 0) column row ≡ differ (entry m row column) (block_entry (entry m) block row column)
   zero_column block column row e =
-      ap₂ differ (entry-transposed m row column is) (no_times (entry (transposed m) column row)) ∙ ap (λ (b : Block). differ (entry m row column) (block_entry (entry m) b row column)) (sym e)
+      ap₂ differ (entry-transposed m row column is) (zero-mul (entry (transposed m) column row)) ∙ ap (λ (b : Block). differ (entry m row column) (block_entry (entry m) b row column)) (sym e)
 
   pub product_column : (block : Block) (place : Place) (column row : ℕ) (factor : ℤ) → block ≡ Product place → factor ≡ entry m place.row column *ℤ entry m place.row place.column
       → differs_at (transposed m) column factor place.column row ≡ differ (entry m row column) (block_entry (entry m) block row column)

@@ -1,5 +1,5 @@
 -- The steps of a walk.
-use Rattle.std.proofs.Common.{◌≡◌, ◌<◌, ◌≤◌, ◌+◌, ◌-◌, ◌⊎◌, inl, inr, ◌∙◌, ◌++◌, not, cond, nat_lt, nat_eq, ℕ, zero, suc, Bool, true, false, List, [], ◌∷◌, length, get_or, set, ap, sym, subst, refl, arith}
+use Rattle.std.proofs.Common.{◌≡◌, ◌<◌, ◌≤◌, ◌+◌, ◌-◌, ◌⊎◌, inl, inr, ◌∙◌, ◌++◌, not, cond, nat_eq, ℕ, zero, suc, Bool, true, false, List, [], ◌∷◌, length, get_or, set, ap, sym, subst, refl, arith}
 use Rattle.std.proofs.lemmas.Bool.{false≢true, cases_eq, cases_lt}
 use Rattle.std.proofs.lemmas.Bool.Decides.{nat_tests}
 use Rattle.std.proofs.lemmas.List.{get_or-set_same, get_or-set_other, length-set}
@@ -8,6 +8,9 @@ use Rattle.cmr_base.specs.Matrix.{Matrix, height, entry}
 use Rattle.cmr_base.specs.Members.{IsIn, IsDistinct}
 use Rattle.cmr_base.proofs.Members.{in-append, in_at, distinct_few}
 use Rattle.cmr_base.proofs.LineCounts.{count, count-filter, count_more, less}
+use Rattle.cmr_base.proofs.Places.{found_at}
+use Rattle.cmr_base.proofs.Booleans.{is_not_lt, is_lt}
+use Rattle.cmr_base.proofs.Lists.{length-more}
 use Rattle.line_growth.proofs.Exchanges.{exchanged, length-exchanged, at_other, exchanged_has, has_exchanged, distinct-exchanged}
 use Rattle.line_growth.specs.declared.rule.Rule.{Rule}
 use Rattle.line_growth.specs.declared.rule.Direction.{Direction}
@@ -29,15 +32,6 @@ get_front : (xs : List ℕ) (y p : ℕ) → p < length xs → get_or (xs ++ y �
 get_front [] y p l = absurd (omega arith)
 get_front (x ∷ xs) y zero l = refl
 get_front (x ∷ xs) y (suc p) l = get_front xs y p (omega arith)
-
-length-more : (xs : List ℕ) (y : ℕ) → length (xs ++ y ∷ []) ≡ suc (length xs)
-length-more [] y = refl
-length-more (x ∷ xs) y = ap suc (length-more xs y)
-
-place_in : (xs : List ℕ) (x : ℕ) → IsIn x xs → (p : ℕ) × (p < length xs) × (get_or xs p 0 ≡ x)
-place_in [] x h = absurd h
-place_in (y ∷ ys) x (inl e) = (0, omega arith, sym e)
-place_in (y ∷ ys) x (inr h) = let m = place_in ys x h in (suc m.0, (let l = m.1 in omega arith), m.2)
 
 module _ (marks : List Bool) (y : ℕ) (inside : y < length marks) where
   pub marked_here : is_marked (set marks y true) y ≡ true
@@ -109,7 +103,7 @@ module _ (size : ℕ) (leads : ℕ → ℕ → Bool) (starts : List ℕ) where
   pub reaching_starts : (marks : List Bool) (met : List ℕ) (place : ℕ) → AreStarting size leads starts marks met place → length starts ≤ place → AreReaching size leads starts marks met 0
   reaching_starts marks met place s l = record {
     are = s.are;
-    started = λ x h. let p = place_in starts x h in subst (λ (z : ℕ). is_marked marks z ≡ true) p.2 (s.started p.0 (let k = p.1 in omega arith));
+    started = λ x h. let p = found_at starts x h in subst (λ (z : ℕ). is_marked marks z ≡ true) p.2 (s.started p.0 (let k = p.1 in omega arith));
     done = λ p y k. absurd (omega arith);
     fits = omega arith;
   }
@@ -145,48 +139,18 @@ module _ (size : ℕ) (leads : ℕ → ℕ → Bool) (starts : List ℕ) where
         fits = let f = r.fits in let e = length-more met y in omega arith;
       }
 
-  module _ (head from first : ℕ) (test : ℕ → Bool) where
-    pub meeting_starts : (marks : List Bool) (met : List ℕ) → AreReaching size leads starts marks met head → head < length met → get_or met head 0 ≡ from → AreMeeting size leads starts marks met head from first test 0
-    meeting_starts marks met r l e = record { reaching = r; longer = l; here = e; so_far = λ k a b. absurd (omega arith) }
-
-    -- before the next place that passes and has no mark nothing is left
-    so_far_until : (marks : List Bool) (met : List ℕ) (place next : ℕ) → AreMeeting size leads starts marks met head from first test place → ((k : ℕ) → place ≤ k → k < next → test k ≡ true → is_marked marks (first + k) ≡ true)
-        → (k : ℕ) → k < next → test k ≡ true → is_marked marks (first + k) ≡ true
-    so_far_until marks met place next s none k l e = elim (cases_lt k place) [
-      | inl h ↦ s.so_far k h e
-      | inr h ↦ none k h l e
-    ]
-
-    pub meeting_meets : (marks : List Bool) (met : List ℕ) (place next : ℕ) → AreMeeting size leads starts marks met head from first test place → ((k : ℕ) → place ≤ k → k < next → test k ≡ true → is_marked marks (first + k) ≡ true)
-        → leads from (first + next) ≡ true → first + next < size → is_marked marks (first + next) ≡ false
-        → AreMeeting size leads starts (set marks (first + next) true) (met ++ (first + next) ∷ []) head from first test (next + 1)
-    meeting_meets marks met place next s none lead l free =
-        let inside : first + next < length marks = let e = s.reaching.are.all in omega arith in
-        record {
-          reaching = reaching_meets marks met head (first + next) s.reaching s.longer (subst (λ (x : ℕ). leads x (first + next) ≡ true) (sym s.here) lead) l free;
-          longer = let k = s.longer in let e = length-more met (first + next) in omega arith;
-          here = get_front met (first + next) head s.longer ∙ s.here;
-          so_far = λ k a e. elim (cases_lt k next) [
-            | inl h ↦ marked_stays marks (first + next) inside (first + k) (so_far_until marks met place next s none k h e)
-            | inr h ↦ let q : k ≡ next = omega arith in subst (λ (x : ℕ). is_marked (set marks (first + next) true) (first + x) ≡ true) (sym q) (marked_here marks (first + next) inside)
-          ];
-        }
-
-    pub meeting_passes : (marks : List Bool) (met : List ℕ) (place next : ℕ) → AreMeeting size leads starts marks met head from first test place → ((k : ℕ) → place ≤ k → k < next → test k ≡ true → is_marked marks (first + k) ≡ true)
-        → is_marked marks (first + next) ≡ true → AreMeeting size leads starts marks met head from first test (next + 1)
-    meeting_passes marks met place next s none marked = record {
-      reaching = s.reaching;
-      longer = s.longer;
-      here = s.here;
-      so_far = λ k a e. elim (cases_lt k next) [
-        | inl h ↦ so_far_until marks met place next s none k h e
-        | inr h ↦ let q : k ≡ next = omega arith in subst (λ (x : ℕ). is_marked marks (first + x) ≡ true) (sym q) marked
-      ];
+  module _ (head from : ℕ) where
+    pub meeting_meets : (marks : List Bool) (met : List ℕ) (next : ℕ) → AreMeeting size leads starts marks met head from → leads from next ≡ true → next < size → is_marked marks next ≡ false
+        → AreMeeting size leads starts (set marks next true) (met ++ next ∷ []) head from
+    meeting_meets marks met next s lead l free = record {
+      reaching = reaching_meets marks met head next s.reaching s.longer (subst (λ (x : ℕ). leads x next ≡ true) (sym s.here) lead) l free;
+      longer = let k = s.longer in let e = length-more met next in omega arith;
+      here = get_front met next head s.longer ∙ s.here;
     }
 
-    pub meeting_ends : (width : ℕ) (marks : List Bool) (met : List ℕ) (place : ℕ) → AreMeeting size leads starts marks met head from first test place → LeadsTo size first width (leads from) test
-        → ((k : ℕ) → place ≤ k → test k ≡ true → is_marked marks (first + k) ≡ true) → AreReaching size leads starts marks met (head + 1)
-    meeting_ends width marks met place s to none = record {
+    pub meeting_ends : (first width : ℕ) (test : ℕ → Bool) (marks : List Bool) (met : List ℕ) → AreMeeting size leads starts marks met head from → LeadsTo size first width (leads from) test
+        → ((k : ℕ) → k < width → test k ≡ true → is_marked marks (first + k) ≡ true) → AreReaching size leads starts marks met (head + 1)
+    meeting_ends first width test marks met s to all = record {
       are = s.reaching.are;
       started = s.reaching.started;
       done = λ p y k l e. elim (cases_lt p head) [
@@ -194,7 +158,7 @@ module _ (size : ℕ) (leads : ℕ → ℕ → Bool) (starts : List ℕ) where
         | inr h ↦
             let q : p ≡ head = omega arith in
             let here = to.only y l (subst (λ (x : ℕ). leads x y ≡ true) (ap (λ (z : ℕ). get_or met z 0) q ∙ s.here) e) in
-            subst (λ (z : ℕ). is_marked marks z ≡ true) (sym here.3) (so_far_until marks met place width s (λ i a b t. none i a t) here.0 here.1 here.2)
+            subst (λ (z : ℕ). is_marked marks z ≡ true) (sym here.3) (all here.0 here.1 here.2)
       ];
       fits = let k = s.longer in omega arith;
     }
@@ -206,7 +170,7 @@ module _ (size : ℕ) (leads : ℕ → ℕ → Bool) (starts : List ℕ) where
 
   pub all_done : (marks : List Bool) (met : List ℕ) (head : ℕ) → AreReaching size leads starts marks met head → length met ≤ head → IsClosedUnder size leads (is_marked marks)
   all_done marks met head r l x y i j e f =
-      let p = place_in met x (r.are.marked_met x e) in
+      let p = found_at met x (r.are.marked_met x e) in
       r.done p.0 y (let k = p.1 in omega arith) j (subst (λ (z : ℕ). leads z y ≡ true) (sym p.2) f)
 
   pub reached : (least : ℕ) (marks : List Bool) (met : List ℕ) (head : ℕ) → AreReaching size leads starts marks met head → (length met ≤ head) ⊎ (size < length met + least) → AreReached size leads least starts marks
@@ -251,26 +215,20 @@ module _ (size : ℕ) (leads : ℕ → ℕ → Bool) (starts : List ℕ) where
 
 -- ---- what a line leads to
 
-yes : (a b : ℕ) → a < b → nat_lt a b ≡ true
-yes a b l = grind (arith, nat_tests)
-
-no : (a b : ℕ) → b ≤ a → nat_lt a b ≡ false
-no a b l = grind (arith, nat_tests)
-
 module _ (m : Matrix) (rule : Rule) where
   both_rows : (a b : ℕ) → a < height m → b < height m → pulls_by m rule a b ≡ false
-  both_rows a b k l = rw (yes a (height m) k, yes b (height m) l) refl
+  both_rows a b k l = rw (is_lt a (height m) k, is_lt b (height m) l) refl
 
   both_columns : (a b : ℕ) → height m ≤ a → height m ≤ b → pulls_by m rule a b ≡ false
-  both_columns a b k l = rw (no a (height m) k, no b (height m) l) refl
+  both_columns a b k l = rw (is_not_lt a (height m) k, is_not_lt b (height m) l) refl
 
   row_leads : (direction : Direction) (row c : ℕ) → row < height m → pulls_along m rule direction row (height m + c) ≡ differ (entry m row c) (block_entry (entry m) (row_block rule direction) row c)
-  row_leads Forwards row c l = let back : (height m + c) - height m ≡ c = omega arith in rw (yes row (height m) l, no (height m + c) (height m) (omega arith), back) refl
-  row_leads Backwards row c l = let back : (height m + c) - height m ≡ c = omega arith in rw (no (height m + c) (height m) (omega arith), yes row (height m) l, back) refl
+  row_leads Forwards row c l = let back : (height m + c) - height m ≡ c = omega arith in rw (is_lt row (height m) l, is_not_lt (height m + c) (height m) (omega arith), back) refl
+  row_leads Backwards row c l = let back : (height m + c) - height m ≡ c = omega arith in rw (is_not_lt (height m + c) (height m) (omega arith), is_lt row (height m) l, back) refl
 
   column_leads : (direction : Direction) (column r : ℕ) → r < height m → pulls_along m rule direction (height m + column) r ≡ differ (entry m r column) (block_entry (entry m) (column_block rule direction) r column)
-  column_leads Forwards column r l = let back : (height m + column) - height m ≡ column = omega arith in rw (no (height m + column) (height m) (omega arith), yes r (height m) l, back) refl
-  column_leads Backwards column r l = let back : (height m + column) - height m ≡ column = omega arith in rw (yes r (height m) l, no (height m + column) (height m) (omega arith), back) refl
+  column_leads Forwards column r l = let back : (height m + column) - height m ≡ column = omega arith in rw (is_not_lt (height m + column) (height m) (omega arith), is_lt r (height m) l, back) refl
+  column_leads Backwards column r l = let back : (height m + column) - height m ≡ column = omega arith in rw (is_lt r (height m) l, is_not_lt (height m + column) (height m) (omega arith), back) refl
 
   no_row_by_row : (direction : Direction) (row y : ℕ) → row < height m → y < height m → pulls_along m rule direction row y ≡ false
   no_row_by_row Forwards row y l k = both_rows row y l k

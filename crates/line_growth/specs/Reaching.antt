@@ -3,6 +3,7 @@ use Rattle.std.specs.Prelude.{◌≡◌, ◌<◌, ◌≤◌, ◌+◌, ◌-◌, �
 use Rattle.cmr_base.specs.declared.line.Line.TheVariants.{Row, Column}
 use Rattle.cmr_base.specs.LineSets.{first_lines}
 use Rattle.cmr_base.specs.Members.{IsIn, IsDistinct}
+use Rattle.cmr_base.specs.Planes.{has_bit}
 use Rattle.cmr_base.specs.Separations.{Lines}
 use Rattle.cmr_base.specs.Seeds.{line_number}
 
@@ -58,9 +59,12 @@ pub record LeadsTo (size first width : ℕ) (leads test : ℕ → Bool) : Type 0
   pub into : (k : ℕ) → k < width → test k ≡ true → (first + k < size) × (leads (first + k) ≡ true)
   pub only : (y : ℕ) → y < size → leads y ≡ true → (k : ℕ) × (k < width) × (test k ≡ true) × (y ≡ first + k)
 
--- while what the number at `head` leads to is met: those of the range before a place were
-pub record AreMeeting (size : ℕ) (leads : ℕ → ℕ → Bool) (starts : List ℕ) (marks : List Bool) (met : List ℕ) (head from first : ℕ) (test : ℕ → Bool) (place : ℕ) : Type 0 where
+-- a number leads to the bits of a word, which have the numbers from `first` on
+abbrev pub LeadsToBits : (size first word : ℕ) → (ℕ → Bool) → Type 0
+LeadsToBits size first word leads = (k : ℕ) → k < 64 → has_bit word k ≡ true → (first + k < size) × (leads (first + k) ≡ true)
+
+-- while what the number at `head` leads to is met: the number there is `from`
+pub record AreMeeting (size : ℕ) (leads : ℕ → ℕ → Bool) (starts : List ℕ) (marks : List Bool) (met : List ℕ) (head from : ℕ) : Type 0 where
   pub reaching : AreReaching size leads starts marks met head
   pub longer : head < length met
   pub here : slice_index_or met head 0 ≡ from
-  pub so_far : (k : ℕ) → k < place → test k ≡ true → is_marked marks (first + k) ≡ true

@@ -4,12 +4,13 @@ ghost use Rattle.cmr_base.specs.Differences.{differs_at};
 ghost use Rattle.cmr_base.specs.LineSets.{AllBelow};
 ghost use Rattle.cmr_base.specs.Matrix.{height, IsEntry};
 ghost use Rattle.line_growth.specs.Rules.{IsRuleOf, pulls_along};
-ghost use Rattle.cmr_base.specs.Planes.{words_for};
-ghost use Rattle.line_growth.specs.Reaching.{AreReached, AreReaching, AreStarting, LeadsTo, is_marked};
+ghost use Rattle.cmr_base.specs.Planes.{has_bit};
+ghost use Rattle.line_growth.specs.Reaching.{AreMeeting, AreReached, AreReaching, AreStarting, LeadsTo, LeadsToBits, is_marked};
 ghost use Rattle.line_growth.specs.FoundPlaces.{AreSeen, HaveSize};
 
 use crate::places::Places;
 use crate::rule::{Direction, Multiple, Rule};
+use cmr_base::columns::next_column;
 use cmr_base::{Matrix, Memory, RowsAndColumns};
 use std::alloc::Global;
 
@@ -155,15 +156,34 @@ impl Walk {
         ensures reaching { OnOk result ((leads : ℕ → ℕ → Bool) (starts : List ℕ) → LeadsTo (length self.old.marks.items) first matrix.now.width (leads (slice_index_or self.old.met.items head 0)) (differs_at matrix.now row multiple.factor multiple.model) → AreReaching (length self.old.marks.items) leads starts self.old.marks.items self.old.met.items head → AreReaching (length self.old.marks.items) leads starts self.new.marks.items self.new.met.items (head + 1)) }
     {
         let _columns = matrix.columns();
-        seen.find(matrix, row, multiple);
-        let mut from = 0;
-        while let Some(place) = seen.next(from) {
-            if !self.marks[(first + place) as usize] {
-                self.meet(first + place)?;
+        let words = matrix.support_words(row);
+        for block in 0..seen.blocks() {
+            let word = seen.unseen(matrix, row, words, multiple, block);
+            if word != 0 {
+                self.meet_word(first + 64 * block as u32, word)?;
+                seen.add(block, word);
             }
-            from = place + 1;
         }
-        seen.keep();
+        Ok(())
+    }
+
+    // Meets the lines of the bits of a word, which have the numbers from `first` on.
+    fn meet_word(&mut self, first: u32, word: u64) -> Result<(), Memory>
+        requires first { first ≤ 2000 }
+        requires marks { (k : ℕ) → k < 64 → has_bit word k ≡ true → first + k < length self.old.marks.items }
+        ensures size { OnOk result (length self.new.marks.items ≡ length self.old.marks.items) }
+        ensures marked { OnOk result ((k : ℕ) → k < 64 → has_bit word k ≡ true → is_marked self.new.marks.items (first + k) ≡ true) }
+        ensures grows { OnOk result ((line : ℕ) → is_marked self.old.marks.items line ≡ true → is_marked self.new.marks.items line ≡ true) }
+        ensures reaching { OnOk result ((leads : ℕ → ℕ → Bool) (starts : List ℕ) (head from : ℕ) → LeadsToBits (length self.old.marks.items) first word (leads from) → AreMeeting (length self.old.marks.items) leads starts self.old.marks.items self.old.met.items head from → AreMeeting (length self.old.marks.items) leads starts self.new.marks.items self.new.met.items head from) }
+    {
+        let bits = [word];
+        let mut from = 0;
+        while let Some(bit) = next_column(&bits, from) {
+            if !self.marks[(first + bit) as usize] {
+                self.meet(first + bit)?;
+            }
+            from = bit + 1;
+        }
         Ok(())
     }
 }

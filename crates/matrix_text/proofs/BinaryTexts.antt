@@ -1,8 +1,8 @@
 -- A text that is read as 0/1 stands for a matrix of zeros and ones.
-use Rattle.std.proofs.Common.{◌≡◌, ◌≢◌, ◌⊎◌, ℕ, ℤ, pos, negsuc, zero, suc, Bool, true, false, cond, List, [], ◌∷◌, map, take, drop, Result, Ok, Err, sym, subst, inl, inr, refl}
+use Rattle.std.proofs.Common.{◌≡◌, ◌⊎◌, ℕ, ℤ, pos, negsuc, zero, suc, Bool, true, false, cond, List, [], ◌∷◌, map, take, drop, Result, Ok, Err, sym, subst, inl, inr, refl}
 use Rattle.std.specs.Prelude.{IfOk}
 use Rattle.std.specs.List.{AllByRecursion, range_with_len, slice_index_or}
-use Rattle.cmr_base.specs.Matrix.{Matrix, entry, rows_of}
+use Rattle.cmr_base.specs.Matrix.{Matrix, rows_of}
 use Rattle.cmr_base.specs.Trees.{IsBinary}
 use Rattle.text_fields.specs.Numbers.{signed_in}
 use Rattle.text_fields.specs.Reading.{Gives}
@@ -36,12 +36,12 @@ word_binary word z e =
 
 -- ---- zeros and ones in lists
 
-list_binary : (cells : List ℤ) → AllByRecursion IsZeroOrOne cells → (k : ℕ) → IsZeroOrOne (slice_index_or cells k (pos 0))
+pub list_binary : (cells : List ℤ) → AllByRecursion IsZeroOrOne cells → (k : ℕ) → IsZeroOrOne (slice_index_or cells k (pos 0))
 list_binary [] all k = inl refl
 list_binary (z ∷ cells) all zero = all.0
 list_binary (z ∷ cells) all (suc k) = list_binary cells all.1 k
 
-rows_binary : (rows : List (List ℤ)) → AllByRecursion (AllByRecursion IsZeroOrOne) rows → (row column : ℕ) → IsZeroOrOne (slice_index_or (slice_index_or rows row []) column (pos 0))
+pub rows_binary : (rows : List (List ℤ)) → AllByRecursion (AllByRecursion IsZeroOrOne) rows → (row column : ℕ) → IsZeroOrOne (slice_index_or (slice_index_or rows row []) column (pos 0))
 rows_binary [] all row column = inl refl
 rows_binary (r ∷ rows) all zero column = list_binary r all.0 column
 rows_binary (r ∷ rows) all (suc row) column = rows_binary rows all.1 row column
@@ -61,7 +61,7 @@ cut_binary zero width cells all = tt
 cut_binary (suc n) width cells all = (take_binary width cells all, cut_binary n width (drop width cells) (drop_binary width cells all))
 
 -- what holds of each value of a function holds of what it maps to
-all-map : {A B : Type 0} (P : B → Type 0) (f : A → B) (xs : List A) → ((x : A) → P (f x)) → AllByRecursion P (map f xs)
+pub all-map : {A B : Type 0} (P : B → Type 0) (f : A → B) (xs : List A) → ((x : A) → P (f x)) → AllByRecursion P (map f xs)
 all-map P f [] each = tt
 all-map P f (x ∷ xs) each = (each x, all-map P f xs each)
 
@@ -101,7 +101,3 @@ sparse_binary binary text (Ok m) read is_binary =
     subst IsBinary (sym is.matrix) (rows_binary (matrix_of_triples is.height is.width is.triples).rows
     (all-map (AllByRecursion IsZeroOrOne) (λ row. map (value_at is.triples row) (range_with_len 1 is.width)) (range_with_len 1 is.height)
     (λ row. all-map IsZeroOrOne (value_at is.triples row) (range_with_len 1 is.width) (values_binary is.triple_words is.triples is.triples_are row))))
-
--- no entry of such a matrix is -1
-pub no_minus : (m : Matrix) → IsBinary m → (row column : ℕ) → entry m row column ≢ negsuc 0
-no_minus m binary row column e = elim (binary row column) [ inl z ↦ cc (sym e, z) | inr o ↦ cc (sym e, o) ]

@@ -1,11 +1,10 @@
 -- Numbers of lines.
-use Rattle.std.proofs.Common.{◌≡◌, ◌<◌, ◌≤◌, ◌+◌, ◌-◌, ◌*◌, ◌∙◌, ℕ, zero, suc, zero-le, Bool, true, false, cond, leb, eqb, List, [], ◌∷◌, length, get_or, take, drop, Ok, Err, refl, ap, sym, subst, arith}
+use Rattle.std.proofs.Common.{◌≡◌, ◌<◌, ◌≤◌, ◌+◌, ◌-◌, ◌*◌, ◌∙◌, ℕ, zero, suc, zero-le, Bool, true, false, cond, leb, eqb, List, ◌∷◌, length, get_or, take, drop, Ok, Err, refl, ap, sym, subst, arith}
 use Rattle.std.proofs.lemmas.Bool.Decides.{nat_tests}
 use Rattle.std.proofs.lemmas.Bool.{leb-true, le-leb}
 use Rattle.std.proofs.lemmas.List.{get_or-take, get_or-drop, length-take-le, length-drop}
 use Rattle.std.proofs.Math.Nat.{suc-mul, mul-le-mul_right}
 use Rattle.std.specs.List.Sorted.{IsStrictlyIncreasing}
-use Rattle.cmr_base.specs.LineSets.{AllBelow}
 use Rattle.text_fields.specs.Words.{Text}
 use Rattle.text_fields.specs.Numbers.{count_in}
 use Rattle.text_fields.specs.Reading.{field}
@@ -65,11 +64,6 @@ rising_at lines rising (suc k) h =
     let next : k + 1 ≡ suc k = omega arith in
     let above : get_or lines k 0 < get_or lines (suc k) 0 = subst (λ i. get_or lines k 0 < get_or lines i 0) next (rising k (omega arith)) in
     omega (arith, rising_at lines rising k (omega arith))
-
--- there are no more rising lines than lines
-pub rising_count : (bound : ℕ) (lines : List ℕ) → IsStrictlyIncreasing lines → AllBelow bound lines → length lines ≤ bound
-rising_count bound [] rising below = zero-le
-rising_count bound (line ∷ lines) rising below = omega (arith, rising_at (line ∷ lines) rising (length lines) (omega arith), below (length lines) (omega arith))
 
 pub line_in_again : (most : ℕ) (outside : TextKind) (word : List ℕ) (n : ℕ) → count_in word ≡ Ok n → 0 < n → n ≤ most → line_in most outside word ≡ Ok n
 line_in_again most outside word n h above within = let t : eqb n 0 ≡ false = grind (arith, nat_tests) in rw (limited_again most outside word n h within, t) refl

@@ -5,6 +5,7 @@ use Rattle.std.proofs.lemmas.Bool.Decides.{nat_tests}
 use Rattle.std.proofs.lemmas.List.{append-nil}
 use Rattle.std.proofs.lemmas.List.Sums.{fold_push}
 use Rattle.cmr_base.specs.LineSets.{AllBelow}
+use Rattle.cmr_base.proofs.RisingLists.{RisesIn}
 use Rattle.text_fields.specs.Words.{Text}
 use Rattle.text_fields.specs.Numbers.{count_in}
 use Rattle.text_fields.specs.Spelling.{texts_of, Spell}
@@ -18,11 +19,6 @@ use Rattle.matrix_text.specs.Values.{line_in, rising_line_in}
 use Rattle.matrix_text.specs.Submatrix.{numbers_of, last_number, another_line}
 use Rattle.matrix_text.proofs.Lines.{line_in_ok, line_in_again}
 
--- each line from low on and below high, and above the one before it
-abbrev pub RisesIn : ℕ → ℕ → List ℕ → Type 0
-RisesIn low high [] = Unit {0}
-RisesIn low high (line ∷ lines) = (low ≤ line) × (line < high) × RisesIn (line + 1) high lines
-
 pub rises_in : (low high : ℕ) (lines : List ℕ) → IsStrictlyIncreasing lines → AllBelow high lines → (0 < length lines → low ≤ get_or lines 0 0) → RisesIn low high lines
 rises_in low high [] rises below from = tt
 rises_in low high (line ∷ lines) rises below from = (
@@ -30,14 +26,6 @@ rises_in low high (line ∷ lines) rises below from = (
   below 0 (omega arith),
   rises_in (line + 1) high lines (λ k h. let next : suc k + 1 ≡ suc (k + 1) = omega arith in subst (λ n. get_or lines k 0 < get_or (line ∷ lines) n 0) next (rises (suc k) (omega arith))) (λ k h. below (suc k) (omega arith)) (λ h. let up = rises 0 (omega arith) in omega (arith, up)),
 )
-
-pub increasing : (low high : ℕ) (lines : List ℕ) → RisesIn low high lines → IsStrictlyIncreasing lines
-increasing low high [] rises k h = absurd (omega arith)
-increasing low high (line ∷ []) rises k h = absurd (omega arith)
-increasing low high (line ∷ next ∷ lines) rises zero h = omega (arith, rises.2.0)
-increasing low high (line ∷ next ∷ lines) rises (suc k) h =
-    let more : suc k + 1 ≡ suc (k + 1) = omega arith in
-    subst (λ n. get_or (next ∷ lines) k 0 < get_or (line ∷ next ∷ lines) n 0) (sym more) (increasing (line + 1) high (next ∷ lines) rises.2 k (omega arith))
 
 pub all_below : (low high : ℕ) (lines : List ℕ) → RisesIn low high lines → AllBelow high lines
 all_below low high [] rises k h = absurd (omega arith)

@@ -7,6 +7,7 @@ use Rattle.std.proofs.lemmas.List.{append-nil}
 use Rattle.cmr_base.specs.declared.limits.TheConstants.{MAX_COLUMNS, MAX_ROWS}
 use Rattle.cmr_base.specs.LineSets.{AllBelow}
 use Rattle.cmr_base.specs.declared.line_set.LineSet.{LineSet}
+use Rattle.cmr_base.proofs.RisingLists.{rising_count}
 use Rattle.text_fields.specs.Words.{text_of, words_from}
 use Rattle.text_fields.specs.Numbers.{count_in}
 use Rattle.text_fields.specs.Spelling.{Spell}
@@ -14,7 +15,6 @@ use Rattle.text_fields.proofs.LineWords.{IsWord, words_in_lines}
 use Rattle.text_fields.proofs.Decimals.{decimal_word, count_of_decimal}
 use Rattle.matrix_text.specs.Submatrix.{numbers_of, submatrix}
 use Rattle.matrix_text.specs.Canonical.{number_of_line, submatrix_lines, submatrix_text}
-use Rattle.matrix_text.proofs.Lines.{rising_count}
 use Rattle.matrix_text.proofs.SubmatrixTexts.{submatrix_only}
 
 line_words : (bound : ℕ) (lines : List ℕ) → bound ≤ MAX_ROWS → AllBelow bound lines → AllByRecursion IsWord (map number_of_line lines)

@@ -4,6 +4,7 @@ use Rattle.std.specs.Prelude.{IfOk}
 use Rattle.std.proofs.lemmas.List.{append-nil, map-append}
 use Rattle.std.proofs.lemmas.Bool.Decides.{nat_tests}
 use Rattle.cmr_base.specs.declared.line_set.LineSet.{LineSet}
+use Rattle.cmr_base.proofs.RisingLists.{rising_count, RisesIn, rising_increases}
 use Rattle.text_fields.specs.Words.{Text}
 use Rattle.text_fields.specs.Result.{◌>>=◌}
 use Rattle.text_fields.specs.Numbers.{count_in}
@@ -12,13 +13,14 @@ use Rattle.text_fields.specs.Reading.{Fault, field, ended, Gives}
 use Rattle.text_fields.specs.declared.error.FieldError.{FieldError}
 use Rattle.text_fields.proofs.Results.{bind_ok, guard_ok, renamed_ok}
 use Rattle.text_fields.proofs.Fields.{field_ok, ended_ok}
+use Rattle.text_fields.proofs.LineWords.{split_texts}
 use Rattle.matrix_text.specs.declared.error.TextKind.{TextKind}
 use Rattle.matrix_text.specs.declared.error.TextKind.TheVariants.{Short, Extra, RowOutOfRange, ColumnOutOfRange, OtherSize}
 use Rattle.matrix_text.specs.Kinds.{text_kind}
 use Rattle.matrix_text.specs.Values.{count, limited, own_size}
 use Rattle.matrix_text.specs.Submatrix.{IsSubmatrix, numbers_of, rising_lines, submatrix}
-use Rattle.matrix_text.proofs.Lines.{size_found, limited_again, rising_count}
-use Rattle.matrix_text.proofs.Rising.{RisesIn, rises_in, increasing, all_below, lines_ok, lines_again}
+use Rattle.matrix_text.proofs.Lines.{size_found, limited_again}
+use Rattle.matrix_text.proofs.Rising.{rises_in, all_below, lines_ok, lines_again}
 
 own_size_found : (size : ℕ) (text : Text) (n : ℕ) (rest : Text) → field Short (own_size size) text ≡ Ok (n, rest) → (word : ℕ × List ℕ) × (text.words ≡ word ∷ rest.words) × (count_in word.1 ≡ Ok size)
 own_size_found size text n rest h =
@@ -107,8 +109,8 @@ submatrix_found height width text lines h =
           column_count = columns.2 ∙ ap Ok (sym lists.column_count);
           rows_are = lists.rows_are;
           columns_are = lists.columns_are;
-          rows_rise = increasing 0 height lines.rows lists.rows_rise;
-          columns_rise = increasing 0 width lines.columns lists.columns_rise;
+          rows_rise = rising_increases 0 height lines.rows lists.rows_rise;
+          columns_rise = rising_increases 0 width lines.columns lists.columns_rise;
           rows_in = all_below 0 height lines.rows lists.rows_rise;
           columns_in = all_below 0 width lines.columns lists.columns_rise;
         }
@@ -116,33 +118,10 @@ submatrix_found height width text lines h =
 own_size_again : (size : ℕ) (word : List ℕ) → count_in word ≡ Ok size → own_size size word ≡ Ok size
 own_size_again size word h = let same : eqb size size ≡ true = grind (arith, nat_tests) in rw (h, same) refl
 
--- words whose texts are those of two lists, one after the other
-record AreSplit (words : List (ℕ × List ℕ)) (front back : List (List ℕ)) : Type 0 where
-  first : List (ℕ × List ℕ)
-  second : List (ℕ × List ℕ)
-  words_are : words ≡ first ++ second
-  front_is : texts_of first ≡ front
-  back_is : texts_of second ≡ back
-
-split : (words : List (ℕ × List ℕ)) (front back : List (List ℕ)) → texts_of words ≡ front ++ back → AreSplit words front back
-split words [] back e = record { first = []; second = words; words_are = refl; front_is = refl; back_is = e }
-split [] (text ∷ front) back e = absurd (cc)
-split (word ∷ words) (text ∷ front) back e =
-    let head : word.1 ≡ text = cc in
-    let tail : texts_of words ≡ front ++ back = cc in
-    let later = split words front back tail in
-    record {
-      first = word ∷ later.first;
-      second = later.second;
-      words_are = ap (λ ws. word ∷ ws) later.words_are;
-      front_is = rw (head, later.front_is) refl;
-      back_is = later.back_is;
-    }
-
 lists_again : (height width size : ℕ) (words : List (ℕ × List ℕ)) (lines : LineSet) → AreLists height width (length lines.rows) (length lines.columns) (texts_of words) lines
     → lines_behind height width (length lines.rows) (length lines.columns) (record { size = size; words = words }) ≡ Ok lines
 lists_again height width size words lines are =
-    let s = split words are.row_words are.column_words are.words_are in
+    let s = split_texts words are.row_words are.column_words are.words_are in
     let rows : rising_lines height RowOutOfRange (length lines.rows) (record { size = size; words = words }) ≡ Ok (lines.rows, record { size = size; words = s.second }) =
     ap (λ ws. rising_lines height RowOutOfRange (length lines.rows) (record { size = size; words = ws })) s.words_are
     ∙ lines_again height RowOutOfRange size s.first s.second [] lines.rows (subst (λ ws. Spell count_in ws (numbers_of lines.rows)) (sym s.front_is) are.rows_are) are.rows_rise in

@@ -53,17 +53,16 @@ fn matrix_by_triples(
     requires columns { columns ≤ MAX_COLUMNS }
     ensures { Reads (λ m. m) words.new result (matrix_by_triples binary rows columns count words.old) }
 {
-    let size = rows as usize * columns as usize;
-    let mut cells = vec![in alloc; 0i8; size]?;
-    let mut taken = vec![in alloc; false; size]?;
+    let mut matrix = Matrix::zero(alloc, rows, columns)?;
+    let mut taken = vec![in alloc; false; rows as usize * columns as usize]?;
     for _ in 0..count {
         let (row, column) = free_place(words, rows, columns, &taken)?;
         let value = field::entry(words, binary)?;
         let place = (row as usize - 1) * columns as usize + (column as usize - 1);
-        cells[place] = value;
+        matrix.set(row - 1, column - 1, value);
         taken[place] = true;
     }
-    Ok(Matrix::from_cells(alloc, rows, columns, &cells)?)
+    Ok(matrix)
 }
 
 // The row and the column of a place that is not taken.

@@ -1,32 +1,21 @@
 -- The signs that an agreement of two matrices has in a group of columns, up to one factor.
-use Rattle.std.proofs.Common.{◌≡◌, ◌≢◌, ◌<◌, ◌≤◌, ◌∙◌, ◌⊎◌, inl, inr, ◌+◌, ◌*ℤ◌, w8, to_z, of_z, ℕ, zero, suc, ℤ, pos, negsuc, List, [], ◌∷◌, length, get_or, replicate, refl, ap, ap₂, sym, subst, arith}
-use Rattle.std.specs.List.{range_with_len}
+use Rattle.std.proofs.Common.{◌≡◌, ◌≢◌, ◌<◌, ◌≤◌, ◌∙◌, ◌⊎◌, inl, inr, ◌+◌, ◌*ℤ◌, w8, to_z, of_z, ℕ, zero, suc, ℤ, pos, negsuc, List, length, replicate, refl, ap, ap₂, sym, subst, arith}
 use Rattle.std.proofs.lemmas.Bool.{cases_eq, cases_lt}
 use Rattle.std.proofs.lemmas.List.{get_or-replicate, get_or_past, length-replicate}
 use Rattle.std.proofs.lemmas.List.FromFn.{get_or-range_with_len, length-range_with_len}
-use Rattle.cmr_base.specs.Matrix.{Matrix, height, entry, IsEntry, IsMatrix}
+use Rattle.cmr_base.specs.Matrix.{Matrix, entry, IsEntry}
 use Rattle.cmr_base.specs.LineSets.{first_lines}
 use Rattle.cmr_base.specs.Signing.{IsSign}
 use Rattle.cmr_base.specs.Supports.{AgreeUpToSigns, HaveOneSupport}
 use Rattle.cmr_base.proofs.Integers.{products, sums, mul_assoc, mul_comm, one-mul}
+use Rattle.cmr_base.proofs.SignEntries.{sign_is_entry}
 use Rattle.ghouila.proofs.Bytes.{kept_entry, product_bytes}
-use Rattle.ghouila.proofs.SignedSums.{zero_or_sign}
 use Rattle.ghouila.proofs.SignProducts.{sign-mul, sign_square}
 use Rattle.network_orient.specs.SignedGroups.{AreSignedGroups, IsCoarser, IsMerged, IsRowJoined, IsRowTurned, group_of, sign_of, row_sign_by}
 
-pub entry_of_sign : (z : ℤ) → IsSign z → IsEntry z
-entry_of_sign z (inl e) = record { low = omega (arith, sums); high = omega (arith, sums) }
-entry_of_sign z (inr e) = record { low = omega (arith, sums); high = omega (arith, sums) }
-
-pub sign_of_entry : (z : ℤ) → IsEntry z → z ≢ pos 0 → IsSign z
-sign_of_entry z small nonzero = elim (zero_or_sign z small) [
-  | inl e ↦ absurd (nonzero e)
-  | inr sign ↦ sign
-]
-
 -- as signed bytes
 pub kept_sign : (z : ℤ) → IsSign z → IsSign (to_z w8 (of_z w8 z))
-kept_sign z sign = subst IsSign (sym (kept_entry z (entry_of_sign z sign))) sign
+kept_sign z sign = subst IsSign (sym (kept_entry z (sign_is_entry z sign))) sign
 
 -- each column in a group of its own
 pub own_groups : (m n : Matrix) → AreSignedGroups m n (first_lines m.width) (replicate m.width (pos 1))
@@ -248,10 +237,7 @@ no_row_joined m n groups signs e f = record { all = rw (e, f) (own_groups m n); 
 -- what an entry is compared with, as signed bytes
 pub turned_bytes : (sign s x p q : ℤ) → IsSign sign → IsEntry s → IsEntry x → IsEntry p → IsEntry q → p ≡ to_z w8 (of_z w8 s) *ℤ to_z w8 (of_z w8 x)
     → q ≡ to_z w8 (of_z w8 sign) *ℤ to_z w8 (of_z w8 p) → q ≡ sign *ℤ (s *ℤ x)
-turned_bytes sign s x p q is_sign hs hx hp hq e f = product_bytes sign p q (entry_of_sign sign is_sign) hp f ∙ ap (λ z. sign *ℤ z) (product_bytes s x p hs hx e)
-
-pub same_bytes : (x y : ℤ) → IsEntry x → IsEntry y → of_z w8 x ≡ of_z w8 y → x ≡ y
-same_bytes x y hx hy e = sym (kept_entry x hx) ∙ ap (to_z w8) e ∙ kept_entry y hy
+turned_bytes sign s x p q is_sign hs hx hp hq e f = product_bytes sign p q (sign_is_entry sign is_sign) hp f ∙ ap (λ z. sign *ℤ z) (product_bytes s x p hs hx e)
 
 pub one_column_more : (P : ℕ → Type 0) (count : ℕ) → P count → ((column : ℕ) → column < count → P column) → (column : ℕ) → column < count + 1 → P column
 one_column_more P count here before column l = go (cases_eq column count)

@@ -5,3 +5,4 @@ pub mod TurnedRows
 pub mod SupportMarks
 pub mod TurnedPairs
 pub mod SignedSupports
+pub mod FirstRows

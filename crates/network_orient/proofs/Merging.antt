@@ -1,5 +1,5 @@
 -- The columns of a group moved into another one, column by column.
-use Rattle.std.proofs.Common.{◌≡◌, ◌≢◌, ◌<◌, ◌≤◌, ◌∙◌, ◌⊎◌, inl, inr, ◌+◌, ◌*ℤ◌, ℕ, ℤ, pos, List, length, get_or, set, refl, ap, sym, arith}
+use Rattle.std.proofs.Common.{◌≡◌, ◌≢◌, ◌<◌, ◌≤◌, ◌∙◌, ◌⊎◌, inl, inr, ◌+◌, ◌*ℤ◌, ℕ, ℤ, pos, List, length, set, refl, ap, sym, arith}
 use Rattle.std.proofs.lemmas.Bool.{cases_eq}
 use Rattle.std.proofs.lemmas.List.{length-set, get_or-set_same, get_or-set_other}
 use Rattle.network_orient.specs.SignedGroups.{group_of, sign_of, IsMerged}

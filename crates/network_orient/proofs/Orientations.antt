@@ -1,5 +1,5 @@
 -- A network matrix agrees, up to the signs of lines, with what any directions of a tree for its support reproduce.
-use Rattle.std.proofs.Common.{◌≡◌, ◌<◌, ◌≤◌, ◌↔◌, ◌⊎◌, inl, inr, ◌∙◌, ℕ, zero, suc, ℤ, pos, negsuc, Bool, true, false, get_or, List, [], refl, sym, ap, subst, arith}
+use Rattle.std.proofs.Common.{◌≡◌, ◌<◌, ◌≤◌, ◌↔◌, ◌⊎◌, inl, inr, ◌∙◌, ℕ, ℤ, pos, get_or, List, [], sym, ap, subst, arith}
 use Rattle.std.proofs.lemmas.Bool.{cases_lt}
 use Rattle.std.proofs.lemmas.List.{get_or_past}
 use Rattle.cmr_base.specs.declared.network.Network.{Network}
@@ -11,6 +11,7 @@ use Rattle.cmr_base.proofs.ThinLines.{zero_is}
 use Rattle.cmr_base.proofs.TreeTests.{path_by_walk}
 use Rattle.cmr_base.proofs.ReproducedCuts.{nonzero_direction}
 use Rattle.cmr_base.proofs.TurnedWalks.{turned_realises}
+use Rattle.cmr_base.proofs.Booleans.{same_test}
 use Rattle.ghouila.proofs.NetworkSignings.{networks_are_unimodular}
 use Rattle.ghouila.proofs.SignsUnique.{signs_are_unique}
 
@@ -24,11 +25,6 @@ beyond_sizes m is row column (inr far) = inside (cases_lt row (height m))
 
 same_zeros : (x y : ℤ) → is_nonzero x ≡ is_nonzero y → (x ≡ pos 0) ↔ (y ≡ pos 0)
 same_zeros x y e = ((λ z. zero_is y (sym e ∙ ap is_nonzero z)), (λ z. zero_is x (e ∙ ap is_nonzero z)))
-
-same_test : (a b : Bool) → (a ≡ true → b ≡ true) → (b ≡ true → a ≡ true) → a ≡ b
-same_test true b f g = sym (f refl)
-same_test false true f g = g refl
-same_test false false f g = refl
 
 -- what one network reproduces, with directions and without
 pub one_support : (net : Network) (m n : Matrix) → IsRectangular m → IsRectangular n → height m ≡ height n → m.width ≡ n.width → Reproduces net m → ReproducesSupport net n → HaveOneSupport m n

@@ -1,5 +1,5 @@
 -- Network matrices are the matrices without cycle fault whose support is graphic.
-use Rattle.std.proofs.Common.{zero, suc, [], ◌∷◌, length, refl, ◌≡◌, ◌<◌, ◌≤◌, ◌↔◌, ◌⊎◌, inl, inr, ◌∙◌, ℕ, ℤ, pos, ◌*ℤ◌, List, map, get_or, sym, ap, ap₂, subst, arith}
+use Rattle.std.proofs.Common.{[], length, refl, ◌<◌, ◌≤◌, ◌⊎◌, inl, inr, ◌∙◌, ℕ, ℤ, pos, ◌*ℤ◌, map, sym, ap, ap₂, subst, arith}
 use Rattle.std.proofs.lemmas.Bool.{cases_lt}
 use Rattle.std.proofs.lemmas.List.FromFn.{length-map-range_with_len, get_or-map-range_with_len}
 use Rattle.cmr_base.specs.declared.network.Network.{Network}
@@ -8,15 +8,15 @@ use Rattle.cmr_base.specs.LineSets.{first_lines}
 use Rattle.cmr_base.specs.Matrix.{Matrix, height, entry, IsEntry, IsTernary}
 use Rattle.cmr_base.specs.MatrixSums.{filled}
 use Rattle.cmr_base.specs.Signing.{IsSign}
-use Rattle.cmr_base.specs.Supports.{HaveOneSupport, AgreeUpToSigns}
+use Rattle.cmr_base.specs.Supports.{AgreeUpToSigns}
 use Rattle.cmr_base.specs.TurnedNetworks.{turned_network, IsMultiplied}
 use Rattle.cmr_base.specs.Trees.{IsDirectedPathOf, HasGraphicSupport, IsNetworkMatrix, Realises, Reproduces, ReproducesSupport, direction, head, tail}
 use Rattle.cmr_base.proofs.ColumnSteps.{direction_is_small}
 use Rattle.cmr_base.proofs.FilledMatrices.{height-filled, entry-filled}
 use Rattle.cmr_base.proofs.Integers.{sums}
 use Rattle.cmr_base.proofs.Lists.{all_of, all-map}
-use Rattle.cmr_base.proofs.Parts.{each-map}
 use Rattle.cmr_base.proofs.ReproducedCuts.{support_realised}
+use Rattle.cmr_base.proofs.Views.{small_rows}
 use Rattle.ghouila.proofs.NetworkSignings.{networks_are_unimodular}
 use Rattle.ghouila.proofs.SignsAgree.{signs_agree}
 use Rattle.ghouila.proofs.SignsUnique.{column_in, no_violator_no_fault, row_in}
@@ -30,15 +30,10 @@ network_has_none m is (net, N) = (
   no_violator_no_fault m is.rectangular is.small (networks_are_unimodular m is (net, N)).1,
 )
 
-each_small : (f : ℕ → ℕ → ℤ) (columns rows : List ℕ) → ((r c : ℕ) → IsEntry (f r c)) → (r c : ℕ) → IsEntry (get_or (get_or (map (λ row. map (f row) columns) rows) r []) c (pos 0))
-each_small f columns [] each r c = record { low = omega (arith, sums); high = omega (arith, sums) }
-each_small f columns (x ∷ rows) each zero c = each-map IsEntry (f x) columns (record { low = omega (arith, sums); high = omega (arith, sums) }) (each x) c
-each_small f columns (x ∷ rows) each (suc r) c = each_small f columns rows each r c
-
-filled_is_ternary : (m n : ℕ) (entries : ℕ → ℕ → ℤ) → ((r c : ℕ) → IsEntry (entries r c)) → IsTernary (filled m n entries)
+pub filled_is_ternary : (m n : ℕ) (entries : ℕ → ℕ → ℤ) → ((r c : ℕ) → IsEntry (entries r c)) → IsTernary (filled m n entries)
 filled_is_ternary m n entries each = record {
   rectangular = λ row l. ap length (get_or-map-range_with_len (λ r. map (entries r) (first_lines n)) 0 m row row [] (let h = height-filled m n entries in omega (arith, l, h)) (omega arith)) ∙ length-map-range_with_len (entries row) 0 n;
-  small = each_small entries (first_lines n) (first_lines m) each;
+  small = small_rows entries (first_lines n) (first_lines m) each;
 }
 
 -- signs for lines as lists

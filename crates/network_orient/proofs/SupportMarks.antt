@@ -1,10 +1,9 @@
 -- The matrix of the nonzeros, marked row by row.
-use Rattle.std.proofs.Common.{◌≡◌, ◌≢◌, ◌<◌, ◌≤◌, ◌∙◌, ◌⊎◌, inl, inr, ◌+◌, ℕ, zero, suc, ℤ, pos, negsuc, true, false, Bool, cond, List, [], replicate, length, get_or, refl, ap, sym, subst, arith}
+use Rattle.std.proofs.Common.{◌≡◌, ◌≢◌, ◌<◌, ◌≤◌, ◌∙◌, ◌⊎◌, inl, inr, ◌+◌, ℕ, zero, suc, ℤ, pos, negsuc, true, cond, [], replicate, get_or, refl, ap, sym, subst, arith}
 use Rattle.std.proofs.lemmas.Bool.{cases_eq, cases_lt}
 use Rattle.std.proofs.lemmas.List.{get_or-replicate, get_or_past, length-replicate}
 use Rattle.cmr_base.specs.declared.network.Network.{Network}
 use Rattle.cmr_base.specs.Matrix.{Matrix, height, entry, with_entry, is_nonzero, IsMatrix}
-use Rattle.cmr_base.specs.Signing.{IsSign}
 use Rattle.cmr_base.specs.Trees.{RealisesSupport, IsBinary, IsGraphic, IsNetworkMatrix, ReproducesSupport, support}
 use Rattle.cmr_base.proofs.Entries.{height-with_entry, entry-with_entry_same, entry-with_entry_other_column, entry-with_entry_other_row, is_matrix-with_entry}
 use Rattle.cmr_base.proofs.Integers.{sums}
@@ -12,10 +11,6 @@ use Rattle.cmr_base.proofs.GraphicMatrices.{support_same}
 use Rattle.cmr_base.proofs.ReproducedCuts.{support_realised}
 use Rattle.network_orient.specs.SupportMatrices.{mark, IsSupportOf, IsRowMarked}
 use Rattle.network_orient.proofs.Orientations.{beyond_sizes}
-
-pub sign_is_nonzero : (z : ℤ) → IsSign z → is_nonzero z ≡ true
-sign_is_nonzero z (inl e) = rw e refl
-sign_is_nonzero z (inr e) = rw e refl
 
 module _ (m old : Matrix) (row : ℕ) where
   pub none_marked : IsMatrix old → IsRowMarked m old old row 0

@@ -1,5 +1,5 @@
 -- Pairs turned one after another.
-use Rattle.std.proofs.Common.{◌≡◌, ◌<◌, ◌∙◌, ◌+◌, ◌++◌, ℕ, zero, suc, ℤ, pos, List, [], ◌∷◌, length, take, get_or, refl, ap, ap₂, sym, arith}
+use Rattle.std.proofs.Common.{◌≡◌, ◌<◌, ◌∙◌, ◌+◌, ◌++◌, ℕ, ℤ, List, [], ◌∷◌, length, take, get_or, refl, ap, ap₂, sym, arith}
 use Rattle.std.proofs.lemmas.List.{take_more, length-take-le}
 use Rattle.cmr_base.specs.declared.network.Pair.{Pair}
 use Rattle.cmr_base.specs.TurnedNetworks.{turned_pair, turned_pairs}

@@ -1,5 +1,5 @@
 -- Rows multiplied by their signs, one after another.
-use Rattle.std.proofs.Common.{◌≡◌, ◌≢◌, ◌<◌, ◌≤◌, ◌∙◌, ◌⊎◌, inl, inr, ◌+◌, ◌++◌, ◌*ℤ◌, ℕ, ℤ, pos, List, [], ◌∷◌, length, get_or, refl, ap, sym, subst, arith}
+use Rattle.std.proofs.Common.{◌≡◌, ◌≢◌, ◌<◌, ◌∙◌, ◌⊎◌, inl, inr, ◌+◌, ◌++◌, ℕ, ℤ, pos, List, [], ◌∷◌, length, refl, ap, sym, subst, arith}
 use Rattle.std.specs.List.{AllByRecursion}
 use Rattle.std.proofs.lemmas.Bool.{cases_eq}
 use Rattle.std.proofs.lemmas.List.{length-append, get_or_append_left}
@@ -9,8 +9,9 @@ use Rattle.cmr_base.specs.Signing.{IsSign}
 use Rattle.cmr_base.specs.Supports.{AgreeUpToSigns, HaveOneSupport}
 use Rattle.cmr_base.specs.TurnedNetworks.{IsMultiplied}
 use Rattle.cmr_base.proofs.Lists.{all-append, all_by_places}
+use Rattle.cmr_base.proofs.SignEntries.{sign_of_entry}
 use Rattle.network_orient.specs.SignedGroups.{AreSignedGroups, IsRowJoined, IsRowTurned, row_sign_by, sign_of}
-use Rattle.network_orient.proofs.ForcedSigns.{row_turned, zero_row_turned, sign_of_entry}
+use Rattle.network_orient.proofs.ForcedSigns.{row_turned, zero_row_turned}
 
 -- the rows below a number are turned
 pub record AreRowsTurned (m n : Matrix) (count : ℕ) (rows columns : List ℤ) : Type 0 where

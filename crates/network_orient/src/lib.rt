@@ -2,6 +2,7 @@
 #![tactic(auto)]
 
 mod column_groups;
+mod first_rows;
 pub mod laws;
 mod line_signs;
 mod minimal;
@@ -9,5 +10,6 @@ mod orienting;
 mod supports;
 mod turning;
 
+pub use first_rows::rows_without_fault;
 pub use minimal::minimal_not_network;
 pub use orienting::{has_graphic_support, orient};

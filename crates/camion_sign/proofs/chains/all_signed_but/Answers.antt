@@ -1,8 +1,8 @@
 use Rattle.std.proofs.Common.{◌∙◌, refl, sym, ap, subst, List, ℕ, arith, length, take, get_or}
 use Rattle.std.specs.List.{AllByRecursion}
 use Rattle.std.proofs.lemmas.List.{take_all}
+use Rattle.cmr_base.proofs.Booleans.{true_is_false}
 use Rattle.camion_sign.specs.ChainStates.{IsOpenBut}
-use Rattle.camion_sign.proofs.Comparisons.{true_is_false}
 use Rattle.camion_sign.proofs.ChainChecks.{all_signed_from, row_signed_from, in_lines}
 use Rattle.camion_sign.proofs.chains.all_signed_but.Goals as goal
 

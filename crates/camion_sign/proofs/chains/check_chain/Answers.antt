@@ -1,5 +1,5 @@
 use Rattle.std.proofs.Common.{◌∙◌, sym, arith}
-use Rattle.camion_sign.proofs.Comparisons.{true_is_false}
+use Rattle.cmr_base.proofs.Booleans.{true_is_false}
 use Rattle.camion_sign.proofs.ChainChecks.{step_broken, violator_broken}
 use Rattle.camion_sign.proofs.chains.check_chain.Goals as goal
 

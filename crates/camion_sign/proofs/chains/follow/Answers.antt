@@ -1,6 +1,6 @@
 use Rattle.std.proofs.Common.{◌≡◌, to_z, of_z, w8, arith}
 use Rattle.std.proofs.lemmas.Int.{ints}
-use Rattle.camion_sign.proofs.GivenSigns.{sign_small}
+use Rattle.cmr_base.proofs.SignEntries.{sign_is_entry}
 use Rattle.camion_sign.proofs.ChainChecks.{rule_one, step_kept}
 use Rattle.camion_sign.proofs.StepCounts.{few_followed, few_all}
 use Rattle.camion_sign.proofs.chains.follow.Goals as goal
@@ -12,7 +12,7 @@ loop-kept-preserved c =
     let v = c.in-Some.sign in
     let before = c.loop-kept.invariant in
     let rule = c.in-Some.ensures in
-    let small = sign_small v (rule_one a s c.index-steps-kept.result v rule).1 in
+    let small = sign_is_entry v (rule_one a s c.index-steps-kept.result v rule).1 in
     let low = small.low in
     let high = small.high in
     let kept : to_z w8 (of_z w8 v) ≡ v = omega (arith, ints) in

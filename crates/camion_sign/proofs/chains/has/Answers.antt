@@ -1,5 +1,5 @@
 use Rattle.std.proofs.Common.{refl, sym, arith}
-use Rattle.camion_sign.proofs.Comparisons.{true_is_false}
+use Rattle.cmr_base.proofs.Booleans.{true_is_false}
 use Rattle.camion_sign.proofs.ChainChecks.{in_lines, not_in_lines}
 use Rattle.camion_sign.proofs.chains.has.Goals as goal
 

@@ -2,7 +2,7 @@ use Rattle.std.proofs.Common.{◌∙◌, sym, ap, subst, List, ℕ, arith, lengt
 use Rattle.cmr_base.specs.Matrix.{height}
 use Rattle.camion_sign.specs.Chains.{HasTwoEach}
 use Rattle.cmr_base.proofs.Parts.{length-rising}
-use Rattle.camion_sign.proofs.Comparisons.{true_is_false}
+use Rattle.cmr_base.proofs.Booleans.{true_is_false}
 use Rattle.camion_sign.proofs.ChainChecks.{two_each_from, rows_two, columns_two}
 use Rattle.camion_sign.proofs.chains.have_two_each.Goals as goal
 

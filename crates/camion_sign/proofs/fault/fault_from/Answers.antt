@@ -1,5 +1,5 @@
 use Rattle.std.proofs.Common.{◌∙◌, refl, sym}
-use Rattle.camion_sign.proofs.Comparisons.{true_is_false}
+use Rattle.cmr_base.proofs.Booleans.{true_is_false}
 use Rattle.camion_sign.proofs.FirstFaults.{column_fault, one_more_last}
 use Rattle.camion_sign.proofs.fault.fault_from.Goals as goal
 

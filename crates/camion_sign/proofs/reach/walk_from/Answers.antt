@@ -1,5 +1,5 @@
 use Rattle.std.proofs.Common.{◌∙◌, inl, inr, arith}
-use Rattle.camion_sign.proofs.EntryTests.{zero_byte}
+use Rattle.camion_sign.proofs.EntryTests.{zero_as_byte}
 use Rattle.camion_sign.proofs.Steps.{begin_walk, smaller, skip_place, went_on, end_walk}
 use Rattle.camion_sign.proofs.reach.walk_from.Goals as goal
 use Rattle.camion_sign.proofs.reach.walk_from.Goals.{then-head-eq0+in_ok-pending, else-head-eq0+else-entry-eq0}
@@ -21,7 +21,7 @@ loop-head-preserved c =
       | else-head-eq0+else-entry-eq0 w ↦
           skip_place m c.args.start.row c.args.start.column c.loop-head.head c.loop-head.pending c.if-head-eq0.pending c.loop-head.walk c.if-head-eq0.walk w.index.result.now c.loop-head.invariant
           (let e = c.columns.ensures.columns in let l = c.if-pending-columns.true in omega arith) (let e = c.len.ensures in let l = c.loop-head-test.true in omega arith)
-          w.if-head-eq0.false w.index.ensures (λ z. w.if-entry-eq0.false (zero_byte w.entry.result (w.entry.ensures.value ∙ z))) w.walk-is w.pending-is
+          w.if-head-eq0.false w.index.ensures (λ z. w.if-entry-eq0.false (zero_as_byte w.entry.result (w.entry.ensures.value ∙ z))) w.walk-is w.pending-is
     ]
 
 pub returns-else-pending-columns : goal.returns-else-pending-columns

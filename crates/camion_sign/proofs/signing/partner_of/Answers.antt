@@ -1,6 +1,7 @@
 use Rattle.std.proofs.Common.{◌∙◌, sym, subst}
+use Rattle.cmr_base.proofs.EntryBytes.{zero_byte}
 use Rattle.camion_sign.specs.Signings.{KnowsPlaces}
-use Rattle.camion_sign.proofs.EntryTests.{byte_zero, zero_byte}
+use Rattle.camion_sign.proofs.EntryTests.{zero_as_byte}
 use Rattle.camion_sign.proofs.PartnerSteps.{partner_is, no_partner, one_passed}
 use Rattle.camion_sign.proofs.signing.partner_of.Goals as goal
 use Rattle.camion_sign.proofs.signing.partner_of.Goals.{then-entry-ne0+in_ok-is_place+else-is_place, else-entry-ne0}
@@ -8,7 +9,7 @@ use Rattle.camion_sign.proofs.signing.partner_of.Goals.{then-entry-ne0+in_ok-is_
 pub returns-then-is_place-clause-partner : goal.returns-then-is_place-clause-partner
 returns-then-is_place-clause-partner c =
     partner_is c.args.support.now c.args.signs.now c.args.row c.args.column c.row-partner-items.result.now c.requires.signs c.row-partner-items.ensures c.loop-partner.partner-index c.loop-partner-test.true
-    ((λ z. c.if-entry-ne0.true (zero_byte c.entry.result (c.entry.ensures.value ∙ z))), c.in_ok-is_place.ensures.yes c.if-is_place.true) c.loop-partner.invariant.none
+    ((λ z. c.if-entry-ne0.true (zero_as_byte c.entry.result (c.entry.ensures.value ∙ z))), c.in_ok-is_place.ensures.yes c.if-is_place.true) c.loop-partner.invariant.none
 
 pub loop-partner-preserved : goal.loop-partner-preserved
 loop-partner-preserved c =
@@ -22,7 +23,7 @@ loop-partner-preserved c =
         knows = subst (KnowsPlaces a c.args.row) (sym w.places-is) w.in_ok-is_place.ensures.places;
       }
       | else-entry-ne0 w ↦ record {
-        none = one_passed a s c.args.row c.args.column columns c.requires.signs c.row-partner-items.ensures k (λ forced. forced.0 (sym c.entry.ensures.value ∙ byte_zero c.entry.result c.entry.ensures.small w.if-entry-ne0.false)) c.loop-partner.invariant.none;
+        none = one_passed a s c.args.row c.args.column columns c.requires.signs c.row-partner-items.ensures k (λ forced. forced.0 (sym c.entry.ensures.value ∙ zero_byte c.entry.result c.entry.ensures.small w.if-entry-ne0.false)) c.loop-partner.invariant.none;
         knows = subst (KnowsPlaces a c.args.row) (sym w.places-is) c.loop-partner.invariant.knows;
       }
     ]

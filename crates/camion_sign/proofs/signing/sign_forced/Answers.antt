@@ -2,10 +2,10 @@ use Rattle.std.proofs.Common.{◌≡◌, ◌∙◌, ◌+ℤ◌, ℤ, refl, rules
 use Rattle.std.proofs.lemmas.Int.{ints, to_z-of_z}
 use Rattle.cmr_base.specs.Matrix.{with_entry}
 use Rattle.cmr_base.specs.Sums.{IsOdd}
+use Rattle.cmr_base.proofs.SignEntries.{sign_is_entry}
 use Rattle.camion_sign.specs.SignSteps.{IsZeroModFour}
 use Rattle.camion_sign.specs.SignOrder.{IsNextForced}
 use Rattle.camion_sign.specs.declared.step.SignStep.TheVariants.{Forced}
-use Rattle.camion_sign.proofs.GivenSigns.{sign_small}
 use Rattle.camion_sign.proofs.ForcedCycles.{sum_more, odd_sum}
 use Rattle.camion_sign.proofs.PartnerSteps.{ones_kept}
 use Rattle.camion_sign.proofs.SigningStates.{state_more, fewer_more}
@@ -20,7 +20,7 @@ closing_sign-sign-requires c =
 pub returns-clause-state : goal.returns-clause-state
 returns-clause-state c =
     let state = c.requires.state in
-    let small = sign_small c.closing_sign-sign.result c.closing_sign-sign.ensures.sign in
+    let small = sign_is_entry c.closing_sign-sign.result c.closing_sign-sign.ensures.sign in
     let low = small.low in
     let high = small.high in
     let kept : to_z w8 (of_z w8 c.closing_sign-sign.result) ≡ c.closing_sign-sign.result = omega (arith, ints) in
@@ -45,7 +45,7 @@ returns-clause-state c =
 pub returns-clause-fewer : goal.returns-clause-fewer
 returns-clause-fewer c =
     let state = c.requires.state in
-    let small = sign_small c.closing_sign-sign.result c.closing_sign-sign.ensures.sign in
+    let small = sign_is_entry c.closing_sign-sign.result c.closing_sign-sign.ensures.sign in
     let low = small.low in
     let high = small.high in
     let kept : to_z w8 (of_z w8 c.closing_sign-sign.result) ≡ c.closing_sign-sign.result = omega (arith, ints) in
@@ -55,7 +55,7 @@ returns-clause-fewer c =
 pub returns-clause-keeps : goal.returns-clause-keeps
 returns-clause-keeps c =
     let state = c.requires.state in
-    let small = sign_small c.closing_sign-sign.result c.closing_sign-sign.ensures.sign in
+    let small = sign_is_entry c.closing_sign-sign.result c.closing_sign-sign.ensures.sign in
     let low = small.low in
     let high = small.high in
     let kept : to_z w8 (of_z w8 c.closing_sign-sign.result) ≡ c.closing_sign-sign.result = omega (arith, ints) in

@@ -4,13 +4,13 @@ use Rattle.std.specs.Fmt.{decimal}
 use Rattle.std.proofs.lemmas.List.{drop_more, drop_all, map-append}
 use Rattle.std.proofs.lemmas.List.Sums.{fold-append}
 use Rattle.cmr_base.specs.Matrix.{height, nonzeros_of}
+use Rattle.cmr_base.proofs.Entries.{no_minus}
 use Rattle.text_fields.specs.Written.{Draft, with_line, text_of_lines}
 use Rattle.text_fields.proofs.Lines.{lines_written, lines_end}
 use Rattle.matrix_text.specs.Canonical.{triple_line, row_triples, triples_from}
 use Rattle.text_fields.specs.Words.{text_of}
 use Rattle.matrix_text.specs.Sparse.{sparse}
 use Rattle.matrix_text.proofs.SparseAgain.{sparse_again}
-use Rattle.matrix_text.proofs.BinaryTexts.{no_minus}
 use Rattle.matrix_text.proofs.sparse.write_sparse.Goals as goal
 
 -- the lines of a row before those of the rows behind it

@@ -1,10 +1,10 @@
 use Rattle.std.proofs.Common.{◌≡◌, ap, ◌∙◌, arith}
 use Rattle.std.proofs.lemmas.Grind.{common_steps}
+use Rattle.cmr_base.proofs.RisingLists.{rising_count}
 use Rattle.text_fields.specs.Words.{text_of}
 use Rattle.matrix_text.specs.Submatrix.{submatrix}
 use Rattle.matrix_text.specs.Canonical.{submatrix_text}
 use Rattle.matrix_text.proofs.SubmatrixAgain.{submatrix_again}
-use Rattle.matrix_text.proofs.Lines.{rising_count}
 use Rattle.matrix_text.proofs.submatrix.write_submatrix.Goals as goal
 
 pub overflow_cast-row_count : goal.overflow_cast-row_count

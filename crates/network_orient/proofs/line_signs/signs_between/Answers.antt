@@ -1,10 +1,9 @@
 use Rattle.std.proofs.Common.{◌≡◌, refl, ◌∙◌, ◌+◌, ◌++◌, ◌∷◌, [], ℕ, ℤ, List, arith, sym, subst, ap, w8, to_z, of_z}
 use Rattle.std.proofs.lemmas.Bool.{false≢true}
 use Rattle.cmr_base.specs.Matrix.{height}
-use Rattle.cmr_base.specs.Signing.{IsSign}
+use Rattle.cmr_base.proofs.SignEntries.{sign_is_entry}
 use Rattle.ghouila.proofs.Bytes.{kept_entry}
 use Rattle.network_orient.specs.SignedGroups.{IsRowTurned}
-use Rattle.network_orient.proofs.ForcedSigns.{entry_of_sign}
 use Rattle.network_orient.proofs.TurnedRows.{AreRowsTurned, no_row_turned, one_row_turned, all_rows_turned, none_agrees}
 use Rattle.network_orient.proofs.line_signs.signs_between.Goals as goal
 
@@ -19,13 +18,13 @@ loop-row-preserved c =
     let n = c.args.to.now in
     let columns = c.in_ok-groups.groups.signs.items in
     let sign = c.row_sign-sign.result in
-    let kept : to_z w8 (of_z w8 sign) ≡ sign = kept_entry sign (entry_of_sign sign c.row_sign-sign.ensures.sign) in
+    let kept : to_z w8 (of_z w8 sign) ≡ sign = kept_entry sign (sign_is_entry sign c.row_sign-sign.ensures.sign) in
     subst (λ (rows : List ℤ). AreRowsTurned m n (c.loop-row.row + 1) rows columns) (ap (λ (z : ℤ). c.loop-row.rows.items ++ z ∷ []) (sym kept) ∙ sym c.in_ok-push.ensures.items)
     (one_row_turned m n c.loop-row.row c.loop-row.rows.items columns sign c.row_sign-sign.ensures.sign (subst (IsRowTurned m n columns c.loop-row.row) kept (c.if-not-is_row_turned.ensures.0 refl)) c.loop-row.invariant)
 
 pub returns-then-not-is_row_turned-clause-signs : goal.returns-then-not-is_row_turned-clause-signs
 returns-then-not-is_row_turned-clause-signs c =
-    let kept = kept_entry c.row_sign-sign.result (entry_of_sign c.row_sign-sign.result c.row_sign-sign.ensures.sign) in
+    let kept = kept_entry c.row_sign-sign.result (sign_is_entry c.row_sign-sign.result c.row_sign-sign.ensures.sign) in
     none_agrees c.args.from.now c.args.to.now c.in_ok-groups.groups.groups.items c.in_ok-groups.groups.signs.items c.loop-row.row c.row_sign-sign.result c.requires c.in_ok-groups.ensures.groups
     (c.in_ok-groups.ensures.joined c.loop-row.row (omega (arith, c.loop-row-test.true, c.rows-row-end.ensures.rows))) c.row_sign-sign.ensures.value
     (λ column. c.rows.ensures.shape.small c.loop-row.row column) (λ turned. false≢true (c.if-not-is_row_turned.ensures.1 (subst (IsRowTurned c.args.from.now c.args.to.now c.in_ok-groups.groups.signs.items c.loop-row.row) (sym kept) turned)))

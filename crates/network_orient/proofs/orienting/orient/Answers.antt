@@ -1,4 +1,4 @@
-use Rattle.std.proofs.Common.{◌≡◌, ◌∙◌, Option, MatchOption, sym, subst}
+use Rattle.std.proofs.Common.{◌∙◌, Option, MatchOption, sym, subst}
 use Rattle.cmr_base.specs.declared.network.Network.{Network}
 use Rattle.cmr_base.specs.Matrix.{entry, height}
 use Rattle.cmr_base.specs.Supports.{AgreeUpToSigns}

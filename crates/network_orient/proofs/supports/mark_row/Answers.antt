@@ -1,9 +1,10 @@
-use Rattle.std.proofs.Common.{◌≡◌, ◌<◌, ◌+◌, ◌∙◌, ℤ, true, arith, sym, subst, ap}
+use Rattle.std.proofs.Common.{◌<◌, ◌+◌, ◌∙◌, arith, sym, subst}
 use Rattle.ghouila.proofs.Bytes.{zero_byte, nonzero_byte}
-use Rattle.cmr_base.specs.Matrix.{Matrix, entry, is_nonzero}
+use Rattle.cmr_base.specs.Matrix.{Matrix, entry}
 use Rattle.cmr_base.specs.Signing.{IsSign}
+use Rattle.cmr_base.proofs.SignEntries.{sign_is_nonzero}
 use Rattle.network_orient.specs.SupportMatrices.{IsRowMarked}
-use Rattle.network_orient.proofs.SupportMarks.{none_marked, zero_kept, nonzero_marked, sign_is_nonzero}
+use Rattle.network_orient.proofs.SupportMarks.{none_marked, zero_kept, nonzero_marked}
 use Rattle.network_orient.proofs.supports.mark_row.Goals as goal
 use Rattle.network_orient.proofs.supports.mark_row.Goals.{then-entry-ne0, else-entry-ne0}
 

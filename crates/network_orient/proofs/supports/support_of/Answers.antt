@@ -1,4 +1,4 @@
-use Rattle.std.proofs.Common.{◌≡◌, ◌∙◌, ℕ, pos, replicate, arith, ap, sym, subst, ap₂}
+use Rattle.std.proofs.Common.{◌≡◌, ◌∙◌, ℕ, pos, replicate, arith, ap, subst, ap₂}
 use Rattle.std.proofs.lemmas.List.{length-replicate}
 use Rattle.cmr_base.specs.Matrix.{height}
 use Rattle.network_orient.proofs.SupportMarks.{AreRowsMarked, no_rows_marked, one_row_marked, all_rows_marked}

@@ -1,4 +1,4 @@
-use Rattle.std.proofs.Common.{◌≡◌, SFits, get_or, to_z, of_z, w8, rules, ap, arith, pos, sym, ◌∙◌, ap₂}
+use Rattle.std.proofs.Common.{◌≡◌, SFits, get_or, to_z, of_z, w8, rules, ap, arith, pos, ◌∙◌, ap₂}
 use Rattle.std.proofs.lemmas.List.{take_all}
 use Rattle.std.proofs.lemmas.Int.{to_z-of_z}
 use Rattle.cmr_base.specs.TurnedNetworks.{turned_pair, turned_pairs}

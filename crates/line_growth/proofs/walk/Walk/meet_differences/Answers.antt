@@ -1,124 +1,131 @@
-use Rattle.std.proofs.Common.{◌≡◌, ◌<◌, ◌≤◌, ◌+◌, ◌∙◌, inl, inr, ap, sym, subst, refl, List, Bool, ℕ, true, false, set, get_or, length, arith}
+use Rattle.std.proofs.Common.{◌≡◌, ◌<◌, ◌+◌, ◌*◌, ◌%◌, ◌⊎◌, ◌∙◌, inl, inr, ap, sym, subst, eqb, List, Bool, ℕ, true, length, arith, get_or}
 use Rattle.std.proofs.lemmas.Bool.{cases_lt, false≢true}
-use Rattle.std.proofs.lemmas.List.{length-set, get_or_default}
+use Rattle.std.proofs.lemmas.Nat.Bits.{bit_at-zero}
 use Rattle.cmr_base.specs.ColumnSets.{has_column}
 use Rattle.cmr_base.specs.Differences.{differs_at}
-use Rattle.line_growth.specs.Reaching.{AreMeeting, is_marked}
-use Rattle.line_growth.proofs.FoundLemmas.{found_differs, found_inside, seen_before, found_until, kept_marked}
-use Rattle.line_growth.proofs.WalkSteps.{marked_here, marked_stays, meeting_starts, meeting_meets, meeting_passes, meeting_ends}
+use Rattle.cmr_base.specs.Planes.{has_bit}
+use Rattle.cmr_base.proofs.DifferenceWords.{difference_in}
+use Rattle.line_growth.specs.declared.places.Places.{Places}
+use Rattle.line_growth.specs.FoundPlaces.{AreSeen, HaveSize}
+use Rattle.line_growth.specs.Reaching.{AreMeeting, LeadsToBits, is_marked}
+use Rattle.line_growth.proofs.FoundLemmas.{found_passes, seen_or_found, seen_added}
+use Rattle.line_growth.proofs.WalkSteps.{meeting_ends}
 use Rattle.line_growth.proofs.walk.Walk.meet_differences.Goals as goal
-use Rattle.line_growth.proofs.walk.Walk.meet_differences.Goals.{then-not-index+in_ok-meet, else-not-index}
+use Rattle.line_growth.proofs.walk.Walk.meet_differences.Goals.{then-word-ne0+in_ok-meet_word, else-word-ne0}
 
-pub loop-place-init : goal.loop-place-init
-loop-place-init c = record {
-  marks = refl;
-  from_in = omega arith;
-  grows = λ line e. e;
-  found = λ place l e. absurd (omega arith);
-  meeting = λ leads starts to r.
-      meeting_starts (length c.args.self.now.marks.items) leads starts c.args.head (get_or c.args.self.now.met.items c.args.head 0) c.args.first (differs_at c.args.matrix.now c.args.row c.args.multiple.factor c.args.multiple.model)
-      c.args.self.now.marks.items c.args.self.now.met.items r c.requires.head refl;
-}
+shifted : (first block k n : ℕ) → first + 64 * block + k < n → first + (64 * block + k) < n
+shifted first block k n l = omega arith
 
-pub next-requires-clause-from : goal.next-requires-clause-from
-next-requires-clause-from c = let l = c.loop-place.invariant.from_in in omega arith
+shifted_back : (first block k n : ℕ) → first + (64 * block + k) < n → first + 64 * block + k < n
+shifted_back first block k n l = omega arith
 
-pub index-requires : goal.index-requires
-index-requires c =
-    let w = found_inside c.args.matrix.now c.args.row c.args.multiple.factor c.args.multiple.model c.args.seen.now.seen.items c.find.new.self.found.items c.find.ensures.found c.columns-columns.ensures.shape c.requires.row c.requires.model c.in-Some.place c.in-Some.ensures.2 in
-    let e = c.loop-place.invariant.marks in let r = c.requires.marks in omega arith
+regrouped : (first block k : ℕ) → first + 64 * block + k ≡ first + (64 * block + k)
+regrouped first block k = omega arith
 
-pub meet-requires : goal.meet-requires
-meet-requires c =
-    let w = found_inside c.args.matrix.now c.args.row c.args.multiple.factor c.args.multiple.model c.args.seen.now.seen.items c.find.new.self.found.items c.find.ensures.found c.columns-columns.ensures.shape c.requires.row c.requires.model c.in-Some.place c.in-Some.ensures.2 in
-    let e = c.loop-place.invariant.marks in let r = c.requires.marks in omega arith
+pub meet_word-requires-clause-marks : goal.meet_word-requires-clause-marks
+meet_word-requires-clause-marks c = λ k l e.
+    let m = c.args.matrix.now in
+    let column = 64 * c.loop-block.block + k in
+    let t = found_passes (has_bit c.unseen-word.result k) (differs_at m c.args.row c.args.multiple.factor c.args.multiple.model column) (has_column c.loop-block.seen.seen.items column) (c.unseen-word.ensures k l) e in
+    let w = difference_in m c.args.row c.args.multiple.factor c.args.multiple.model column c.columns-columns.ensures.shape c.requires.row c.requires.model t in
+    let same = c.loop-block.invariant.marks in
+    let r = c.requires.marks in
+    omega arith
 
-pub loop-place-smaller : goal.loop-place-smaller
-loop-place-smaller c =
-    let w = found_inside c.args.matrix.now c.args.row c.args.multiple.factor c.args.multiple.model c.args.seen.now.seen.items c.find.new.self.found.items c.find.ensures.found c.columns-columns.ensures.shape c.requires.row c.requires.model c.in-Some.place c.in-Some.ensures.2 in
-    let few = c.requires.size.few in let l = c.in-Some.ensures.0 in omega arith
+-- the columns of a block and of those before it
+marked_until : (test : ℕ → Bool) (marks : List Bool) (first block : ℕ) → ((k : ℕ) → k < 64 * block → test k ≡ true → is_marked marks (first + k) ≡ true)
+    → ((k : ℕ) → k < 64 → test (64 * block + k) ≡ true → is_marked marks (first + (64 * block + k)) ≡ true) → (k : ℕ) → k < 64 * (block + 1) → test k ≡ true → is_marked marks (first + k) ≡ true
+marked_until test marks first block before here k l e = elim (cases_lt k (64 * block)) [
+  | inl h ↦ before k h e
+  | inr h ↦
+      let at : 64 * block + k % 64 ≡ k = omega arith in
+      subst (λ (x : ℕ). is_marked marks (first + x) ≡ true) at (here (k % 64) (omega arith) (ap test at ∙ e))
+]
 
-pub loop-place-preserved : goal.loop-place-preserved
-loop-place-preserved c =
+no_bit : (word k : ℕ) → word ≡ 0 → has_bit word k ≡ true → ⊥
+no_bit word k z e = false≢true (sym (ap (λ (bit : ℕ). eqb bit 1) (bit_at-zero k)) ∙ ap (λ (w : ℕ). has_bit w k) (sym z) ∙ e)
+
+same_size : (count : ℕ) (old new : Places) → HaveSize count old → length new.seen.items ≡ length old.seen.items → HaveSize count new
+same_size count old new size e = record { few = size.few; seen = e ∙ size.seen }
+
+-- what holds for the marks' own number of a size, for the size
+met_on : (leads : ℕ → ℕ → Bool) (starts : List ℕ) (marks marks' : List Bool) (met met' : List ℕ) (count size first word head from : ℕ) → count ≡ size
+    → (LeadsToBits count first word (leads from) → AreMeeting count leads starts marks met head from → AreMeeting count leads starts marks' met' head from)
+    → LeadsToBits size first word (leads from) → AreMeeting size leads starts marks met head from → AreMeeting size leads starts marks' met' head from
+met_on leads starts marks marks' met met' count size first word head from e f =
+    subst (λ (n : ℕ). LeadsToBits n first word (leads from) → AreMeeting n leads starts marks met head from → AreMeeting n leads starts marks' met' head from) e f
+
+pub loop-block-preserved : goal.loop-block-preserved
+loop-block-preserved c =
     let m = c.args.matrix.now in
     let size = length c.args.self.now.marks.items in
     let first = c.args.first in
-    let from = get_or c.args.self.now.met.items c.args.head 0 in
+    let head = c.args.head in
+    let from = get_or c.args.self.now.met.items head 0 in
     let test = differs_at m c.args.row c.args.multiple.factor c.args.multiple.model in
-    let seen = c.args.seen.now.seen.items in
-    let found = c.find.new.self.found.items in
-    let old = c.loop-place.self in
-    let place = c.in-Some.place in
-    let now = c.if-not-index.self in
-    let so = c.loop-place.invariant in
-    let inside = found_inside m c.args.row c.args.multiple.factor c.args.multiple.model seen found c.find.ensures.found c.columns-columns.ensures.shape c.requires.row c.requires.model place c.in-Some.ensures.2 in
-    let differs = found_differs m c.args.row c.args.multiple.factor c.args.multiple.model seen found c.find.ensures.found place c.in-Some.ensures.2 in
-    let few = c.requires.size.few in
-    let in_marks : first + place < length old.marks.items = let e = so.marks in let r = c.requires.marks in omega arith in
-    let mark : is_marked old.marks.items (first + place) ≡ c.index.result.now = get_or_default old.marks.items (first + place) false c.index.result.now in_marks ∙ sym c.index.ensures in
-    let rest : (k : ℕ) → c.loop-place.from ≤ k → k < place → test k ≡ true → is_marked old.marks.items (first + k) ≡ true =
-    λ k low high e. so.grows (first + k) (c.requires.seen k (seen_before m c.args.row c.args.multiple.factor c.args.multiple.model seen found c.find.ensures.found k (c.in-Some.ensures.3 k low high) e)) in
-    elim c.if-not-index.branch [
-      | then-not-index+in_ok-meet w ↦
-          let marks = ap (λ v. v.marks.items) w.self-is ∙ w.in_ok-meet.ensures.marks in
-          let met = ap (λ v. v.met.items) w.self-is ∙ w.in_ok-meet.ensures.met in
+    let block = c.loop-block.block in
+    let word = c.unseen-word.result in
+    let old = c.loop-block.self in
+    let seen = c.loop-block.seen in
+    let now = c.if-word-ne0.self in
+    let so = c.loop-block.invariant in
+    let passes : (k : ℕ) → k < 64 → has_bit word k ≡ true → test (64 * block + k) ≡ true =
+    λ k l e. found_passes (has_bit word k) (test (64 * block + k)) (has_column seen.seen.items (64 * block + k)) (c.unseen-word.ensures k l) e in
+    let either : (k : ℕ) → k < 64 → test (64 * block + k) ≡ true → (has_column seen.seen.items (64 * block + k) ≡ true) ⊎ (has_bit word k ≡ true) =
+    λ k l e. seen_or_found (has_bit word k) (test (64 * block + k)) (has_column seen.seen.items (64 * block + k)) (c.unseen-word.ensures k l) e in
+    elim c.if-word-ne0.branch [
+      | then-word-ne0+in_ok-meet_word w ↦
+          let marks = ap (λ v. v.marks.items) w.self-is in
+          let met = ap (λ v. v.met.items) w.self-is in
           let stays : (line : ℕ) → is_marked old.marks.items line ≡ true → is_marked now.marks.items line ≡ true =
-          λ line e. subst (λ (ms : List Bool). is_marked ms line ≡ true) (sym marks) (marked_stays old.marks.items (first + place) in_marks line e) in
+          λ line e. subst (λ (ms : List Bool). is_marked ms line ≡ true) (sym marks) (w.in_ok-meet_word.ensures.grows line e) in
+          let added : (k : ℕ) → k < 64 → has_bit word k ≡ true → is_marked now.marks.items (first + (64 * block + k)) ≡ true =
+          λ k l e. subst (λ (ms : List Bool). is_marked ms (first + (64 * block + k)) ≡ true) (sym marks)
+          (subst (λ (x : ℕ). is_marked w.meet_word.new.self.marks.items x ≡ true) (regrouped first block k) (w.in_ok-meet_word.ensures.marked k l e)) in
+          let kept : AreSeen seen first now.marks.items = λ place e. stays (first + place) (so.seen place e) in
           record {
-            marks = ap (λ (xs : List Bool). length xs) marks ∙ length-set old.marks.items (first + place) true ∙ so.marks;
-            from_in = omega arith;
+            marks = ap (λ (xs : List Bool). length xs) marks ∙ w.in_ok-meet_word.ensures.size ∙ so.marks;
+            size = same_size m.width seen c.if-word-ne0.seen so.size (ap (λ v. length v.seen.items) w.seen-is ∙ w.add.ensures.size);
             grows = λ line e. stays line (so.grows line e);
-            found = found_until found old.marks.items now.marks.items first c.loop-place.from place stays so.found c.in-Some.ensures.3
-                (subst (λ (ms : List Bool). is_marked ms (first + place) ≡ true) (sym marks) (marked_here old.marks.items (first + place) in_marks));
+            seen = λ place e. seen_added seen w.add.new.self block word first now.marks.items w.add.ensures kept added place (ap (λ v. has_column v.seen.items place) (sym w.seen-is) ∙ e);
+            done = marked_until test now.marks.items first block (λ k l e. stays (first + k) (so.done k l e))
+                (λ k l e. elim (either k l e) [ inl s ↦ kept (64 * block + k) s | inr b ↦ added k l b ]);
             meeting = λ leads starts to r.
-                let into = to.into place inside differs in
-                subst (λ (ms : List Bool). AreMeeting size leads starts ms now.met.items c.args.head from first test (place + 1)) (sym marks)
-                (subst (λ (xs : List ℕ). AreMeeting size leads starts (set old.marks.items (first + place) true) xs c.args.head from first test (place + 1)) (sym met)
-                (meeting_meets size leads starts c.args.head from first test old.marks.items old.met.items c.loop-place.from place (so.meeting leads starts to r) rest into.1 into.0 (mark ∙ w.if-not-index.true)));
+                subst (λ (ms : List Bool). AreMeeting size leads starts ms now.met.items head from) (sym marks)
+                (subst (λ (xs : List ℕ). AreMeeting size leads starts w.meet_word.new.self.marks.items xs head from) (sym met)
+                (met_on leads starts old.marks.items w.meet_word.new.self.marks.items old.met.items w.meet_word.new.self.met.items (length old.marks.items) size (first + 64 * block) word head from so.marks (w.in_ok-meet_word.ensures.reaching leads starts head from)
+                (λ k l e. let column = 64 * block + k in let into = to.into column (difference_in m c.args.row c.args.multiple.factor c.args.multiple.model column c.columns-columns.ensures.shape c.requires.row c.requires.model (passes k l e)) (passes k l e) in
+                ((let a = into.0 in omega arith), subst (λ (x : ℕ). leads from x ≡ true) (sym (regrouped first block k)) into.1))
+                (so.meeting leads starts to r)));
           }
-      | else-not-index w ↦
+      | else-word-ne0 w ↦
           let marks = ap (λ v. v.marks.items) w.self-is in
           let met = ap (λ v. v.met.items) w.self-is in
           let stays : (line : ℕ) → is_marked old.marks.items line ≡ true → is_marked now.marks.items line ≡ true =
           λ line e. subst (λ (ms : List Bool). is_marked ms line ≡ true) (sym marks) e in
+          let none : word ≡ 0 = let z = w.if-word-ne0.false in omega (arith, z) in
           record {
             marks = ap (λ (xs : List Bool). length xs) marks ∙ so.marks;
-            from_in = omega arith;
+            size = same_size m.width seen c.if-word-ne0.seen so.size (ap (λ v. length v.seen.items) w.seen-is);
             grows = λ line e. stays line (so.grows line e);
-            found = found_until found old.marks.items now.marks.items first c.loop-place.from place stays so.found c.in-Some.ensures.3 (stays (first + place) (mark ∙ w.if-not-index.false));
+            seen = λ place e. stays (first + place) (so.seen place (ap (λ v. has_column v.seen.items place) (sym w.seen-is) ∙ e));
+            done = marked_until test now.marks.items first block (λ k l e. stays (first + k) (so.done k l e))
+                (λ k l e. elim (either k l e) [ inl s ↦ stays (first + (64 * block + k)) (so.seen (64 * block + k) s) | inr b ↦ absurd (no_bit word k none b) ]);
             meeting = λ leads starts to r.
-                subst (λ (ms : List Bool). AreMeeting size leads starts ms now.met.items c.args.head from first test (place + 1)) (sym marks)
-                (subst (λ (xs : List ℕ). AreMeeting size leads starts old.marks.items xs c.args.head from first test (place + 1)) (sym met)
-                (meeting_passes size leads starts c.args.head from first test old.marks.items old.met.items c.loop-place.from place (so.meeting leads starts to r) rest (mark ∙ w.if-not-index.false)));
+                subst (λ (ms : List Bool). AreMeeting size leads starts ms now.met.items head from) (sym marks)
+                (subst (λ (xs : List ℕ). AreMeeting size leads starts old.marks.items xs head from) (sym met) (so.meeting leads starts to r));
           }
     ]
-
--- all places found have marks at the end
-found_marked : (found : List ℕ) (marks : List Bool) (first from : ℕ) → ((place : ℕ) → place < from → has_column found place ≡ true → is_marked marks (first + place) ≡ true)
-    → ((place : ℕ) → from ≤ place → has_column found place ≡ false) → (place : ℕ) → has_column found place ≡ true → is_marked marks (first + place) ≡ true
-found_marked found marks first from before none place e = elim (cases_lt place from) [
-  | inl h ↦ before place h e
-  | inr h ↦ absurd (false≢true (sym (none place h) ∙ e))
-]
-
-pub returns-clause-seen : goal.returns-clause-seen
-returns-clause-seen c = λ place e.
-    let found = c.find.new.self.found.items in
-    let marks = c.loop-place.self.marks.items in
-    kept_marked (has_column c.find.new.self.seen.items place) (has_column found place)
-    (λ s. c.loop-place.invariant.grows (c.args.first + place) (c.requires.seen place (ap (λ v. has_column v.items place) (sym c.find.ensures.seen) ∙ s)))
-    (found_marked found marks c.args.first c.loop-place.from c.loop-place.invariant.found c.in_default.ensures place)
-    (sym (c.keep.ensures.seen place) ∙ e)
-
-pub returns-clause-grows : goal.returns-clause-grows
-returns-clause-grows c = c.loop-place.invariant.grows
 
 pub returns-clause-reaching : goal.returns-clause-reaching
 returns-clause-reaching c = λ leads starts to r.
     let m = c.args.matrix.now in
     let test = differs_at m c.args.row c.args.multiple.factor c.args.multiple.model in
-    let seen = c.args.seen.now.seen.items in
-    let found = c.find.new.self.found.items in
-    meeting_ends (length c.args.self.now.marks.items) leads starts c.args.head (get_or c.args.self.now.met.items c.args.head 0) c.args.first test
-    m.width c.loop-place.self.marks.items c.loop-place.self.met.items c.loop-place.from (c.loop-place.invariant.meeting leads starts to r)
-    to (λ k low e. c.loop-place.invariant.grows (c.args.first + k) (c.requires.seen k (seen_before m c.args.row c.args.multiple.factor c.args.multiple.model seen found c.find.ensures.found k (c.in_default.ensures k low) e)))
+    let so = c.loop-block.invariant in
+    let size = so.size.seen in
+    let s = c.requires.size.seen in
+    let e = c.blocks-block-end.ensures in
+    let l = c.loop-block-test.false in
+    meeting_ends (length c.args.self.now.marks.items) leads starts c.args.head (get_or c.args.self.now.met.items c.args.head 0) c.args.first m.width test
+    c.loop-block.self.marks.items c.loop-block.self.met.items (so.meeting leads starts to r) to
+    (λ k low t. so.done k (omega arith) t)

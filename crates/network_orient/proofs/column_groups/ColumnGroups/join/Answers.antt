@@ -1,7 +1,6 @@
 use Rattle.std.proofs.Common.{◌≡◌, ◌∙◌, ◌*ℤ◌, ℕ, ℤ, ap₂, sym, subst, to_z, of_z, w8, arith}
 use Rattle.std.proofs.lemmas.List.{get_or_read}
 use Rattle.ghouila.proofs.Bytes.{kept_entry, product_bytes}
-use Rattle.cmr_base.specs.Signing.{IsSign}
 use Rattle.network_orient.specs.SignedGroups.{group_of, row_sign_by, IsMerged}
 use Rattle.network_orient.proofs.ForcedSigns.{kept_sign, joined_groups, merged_coarser}
 use Rattle.network_orient.proofs.column_groups.ColumnGroups.join.Goals as goal

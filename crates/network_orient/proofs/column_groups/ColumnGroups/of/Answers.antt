@@ -1,4 +1,4 @@
-use Rattle.std.proofs.Common.{◌≡◌, ◌∙◌, replicate, pos, ap, sym, arith, rules}
+use Rattle.std.proofs.Common.{◌∙◌, replicate, pos, ap}
 use Rattle.cmr_base.specs.LineSets.{first_lines}
 use Rattle.network_orient.proofs.ForcedSigns.{no_row_joined, one_row_joined}
 use Rattle.network_orient.proofs.column_groups.ColumnGroups.of.Goals as goal

@@ -1,0 +1,115 @@
+-- Rows that are those of a network matrix have no cycle fault.
+use Rattle.std.proofs.Common.{zero, suc, [], ◌∷◌, refl, ◌≡◌, ◌≢◌, ◌<◌, ◌≤◌, inl, inr, ◌∙◌, ℕ, ℤ, pos, negsuc, neg_ℤ, ◌*ℤ◌, List, get_or, sym, ap, subst, arith}
+use Rattle.std.specs.List.{AllByRecursion}
+use Rattle.std.proofs.lemmas.Bool.{cases_lt}
+use Rattle.std.proofs.lemmas.List.{get_or_past}
+use Rattle.cmr_base.specs.CyclePlaces.{HasNoCycleFault, IsFaultAt, IsPath, cycle_columns, cycle_rows, path_rows}
+use Rattle.cmr_base.specs.Matrix.{Matrix, height, entry, row_of, IsEntry, IsMatrix, IsRectangular, IsTernary}
+use Rattle.cmr_base.specs.MatrixSums.{filled}
+use Rattle.cmr_base.specs.Signing.{IsSign}
+use Rattle.cmr_base.specs.Sums.{IsTwoModFour, sum_over}
+use Rattle.cmr_base.specs.Trees.{IsNetworkMatrix}
+use Rattle.cmr_base.specs.TurnedNetworks.{turned_network}
+use Rattle.cmr_base.proofs.FilledMatrices.{height-filled, entry-filled}
+use Rattle.cmr_base.proofs.Integers.{sums, products}
+use Rattle.cmr_base.proofs.Lists.{all_of, all_by_places}
+use Rattle.cmr_base.proofs.SumLaws.{sum_over_same}
+use Rattle.network_orient.specs.FirstRows.{HasNoFaultBefore}
+use Rattle.network_orient.specs.SignedGroups.{AreSignedGroups, sign_of}
+use Rattle.network_orient.proofs.Orientations.{turned_reproduces}
+use Rattle.network_orient.proofs.SignedSupports.{filled_is_ternary, signed_graphic}
+use Rattle.network_orient.proofs.TurnedRows.{AreRowsTurned}
+
+-- ---- a place looks at the rows up to its own alone
+
+module _ (M N : ℕ → ℕ → ℤ) (count : ℕ) (agree : (r x : ℕ) → r < count → M r x ≡ N r x) where
+  nonzero_on : (r x : ℕ) → r < count → M r x ≢ pos 0 → N r x ≢ pos 0
+  nonzero_on r x l nonzero e = nonzero (agree r x l ∙ e)
+
+  path_on : (t c d : ℕ) (lines : List ℕ) → t < count → IsPath M t c d lines → IsPath N t c d lines
+  path_on t c d [] l p = p
+  path_on t c d (r ∷ []) l (low, one, two) = (low, nonzero_on r c (omega arith) one, nonzero_on r d (omega arith) two)
+  path_on t c d (r ∷ j ∷ lines) l (low, one, two, none, rest) =
+      (low, nonzero_on r c (omega arith) one, nonzero_on r j (omega arith) two, sym (agree t j l) ∙ none, path_on t j d lines l rest)
+
+  rows_low : (t c d : ℕ) (lines : List ℕ) → t < count → IsPath M t c d lines → AllByRecursion (λ r. r < count) (path_rows lines)
+  rows_low t c d [] l p = tt
+  rows_low t c d (r ∷ []) l (low, one, two) = (omega arith, tt)
+  rows_low t c d (r ∷ j ∷ lines) l (low, one, two, none, rest) = (omega arith, rows_low t j d lines l rest)
+
+  sums_on : (columns rows : List ℕ) → AllByRecursion (λ r. r < count) rows → AllByRecursion (λ r. sum_over columns (M r) ≡ sum_over columns (N r)) rows
+  sums_on columns [] low = tt
+  sums_on columns (r ∷ rows) (l, low) = (sum_over_same columns (M r) (N r) (all_of (λ x. M r x ≡ N r x) (λ x. agree r x l) columns), sums_on columns rows low)
+
+fault_on : (M N : ℕ → ℕ → ℤ) (count : ℕ) → ((r x : ℕ) → r < count → M r x ≡ N r x) → (t c d : ℕ) (path : List ℕ) → t < count → IsFaultAt M t c d path → IsFaultAt N t c d path
+fault_on M N count agree t c d path l f =
+    let back : (r x : ℕ) → r < count → N r x ≡ M r x = λ r x k. sym (agree r x k) in
+    let columns = cycle_columns c d path in
+    record {
+      place = record {
+        order = f.place.order;
+        first = nonzero_on M N count agree t c l f.place.first;
+        last = nonzero_on M N count agree t d l f.place.last;
+        is_path = path_on M N count agree t c d path l f.place.is_path;
+        least = λ other p. f.place.least other (path_on N M count back t c d other l p);
+      };
+      two_mod_four = subst IsTwoModFour
+          (sum_over_same (cycle_rows t path) (λ row. sum_over columns (M row)) (λ row. sum_over columns (N row))
+          (sums_on M N count agree columns (cycle_rows t path) (l, rows_low M N count agree t c d path l f.place.is_path)))
+          f.two_mod_four;
+    }
+
+-- ---- the network matrix whose first rows these are
+
+sign_at : (signs : List ℤ) → AllByRecursion IsSign signs → (k : ℕ) → IsSign (get_or signs k (pos 1))
+sign_at [] all k = inl refl
+sign_at (s ∷ signs) (here, all) zero = here
+sign_at (s ∷ signs) (here, all) (suc k) = sign_at signs all k
+
+one_times : (z : ℤ) → pos 1 *ℤ z ≡ z
+one_times z = simp products
+
+minus_times : (z : ℤ) → negsuc 0 *ℤ z ≡ neg_ℤ z
+minus_times z = simp products
+
+small_times : (s z : ℤ) → IsSign s → IsEntry z → IsEntry (s *ℤ z)
+small_times s z (inl e) small = subst IsEntry (sym (ap (λ (t : ℤ). t *ℤ z) e ∙ one_times z)) small
+small_times s z (inr e) small = subst IsEntry (sym (ap (λ (t : ℤ). t *ℤ z) e ∙ minus_times z)) (record { low = let h = small.high in omega (arith, sums); high = let l = small.low in omega (arith, sums) })
+
+past_width : (m : Matrix) → IsRectangular m → (row column : ℕ) → row < height m → m.width ≤ column → entry m row column ≡ pos 0
+past_width m is row column l past = get_or_past (row_of m row) column (pos 0) (let e = is row l in omega (arith, e, past))
+
+module _ (m n : Matrix) (is_m : IsMatrix m) (is_n : IsMatrix n) (height_same : height m ≡ height n) (width_same : m.width ≡ n.width) (network : IsNetworkMatrix m) where
+  pub first_rows_free : (groups : List ℕ) (count : ℕ) (rows columns : List ℤ) → AreSignedGroups m n groups columns → AreRowsTurned m n count rows columns → count ≤ height m → HasNoFaultBefore n count
+  first_rows_free groups count rows columns signed turned fits t c d path l fault = free t c d path (fault_on (entry n) (entry whole) count agree t c d path l fault)
+    where
+      entries : ℕ → ℕ → ℤ
+      entries row column = sign_of rows row *ℤ (sign_of columns column *ℤ entry m row column)
+
+      whole : Matrix
+      whole = filled (height m) m.width entries
+
+      same : height whole ≡ height m
+      same = height-filled (height m) m.width entries
+
+      is_whole : IsTernary whole
+      is_whole = filled_is_ternary (height m) m.width entries (λ row column. small_times (sign_of rows row) (sign_of columns column *ℤ entry m row column) (sign_at rows turned.row_signs row) (small_times (sign_of columns column) (entry m row column) (signed.each_sign column) (is_m.small row column)))
+
+      net : IsNetworkMatrix whole
+      net = (
+        turned_network network.0 rows columns,
+        turned_reproduces network.0 m whole rows columns (sym same) refl network.1 (record {
+          rows = turned.row_signs;
+          columns = all_by_places IsSign columns (pos 1) (λ column k. signed.each_sign column);
+          entries = λ row column low near. entry-filled (height m) m.width entries row column low near;
+        }),
+      )
+
+      free : HasNoCycleFault (entry whole)
+      free = ((signed_graphic whole is_whole).0 net).1
+
+      agree : (r x : ℕ) → r < count → entry n r x ≡ entry whole r x
+      agree r x k = elim (cases_lt x m.width) [
+        | inl near ↦ turned.turned r k x near ∙ sym (entry-filled (height m) m.width entries r x (omega arith) near)
+        | inr past ↦ past_width n is_n.rectangular r x (omega arith) (omega arith) ∙ sym (past_width whole is_whole.rectangular r x (omega (arith, same, k, fits)) past)
+      ]
