@@ -5,18 +5,20 @@ use Rattle.first_hit.specs.First.{IsFirst, NoneBetween}
 use Rattle.three_sep.specs.declared.groups.Groups.{Groups}
 use Rattle.cmr_base.specs.declared.separation.Three.{Three}
 use Rattle.cmr_base.specs.Seeds.{form_number}
+use Rattle.cmr_base.proofs.SeedLemmas.{form_is}
+use Rattle.cmr_base.proofs.Booleans.{not_both}
 use Rattle.three_sep.specs.NumberedSeeds.{AreCorners, IsCrossing}
 use Rattle.three_sep.specs.Cuts.{HoldTogether, IsCut}
 use Rattle.three_sep.specs.Searches.{HasNoGood, HasNoneBelow, IsFirstOf, IsNoSecondColumn}
 use Rattle.three_sep.specs.Blocks.{SeedBlock, HasGoodColumn, block_front}
 use Rattle.three_sep.proofs.CrossingLemmas.{as_crossing}
-use Rattle.three_sep.proofs.SearchLemmas.{form_is, good_inside, level_ends, level_found, map_first, map_none, no_good_second_column, not_good}
+use Rattle.three_sep.proofs.SearchLemmas.{good_inside, level_ends, level_found, map_first, map_none, no_good_second_column}
 
 pub none_has : (b : SeedBlock) (j : ℕ) → HasNoGood b.matrix (form_number b.form ∷ b.i ∷ b.p ∷ b.k ∷ j ∷ []) → ¬ (HasGoodColumn b j)
 none_has b j none has = none has.seed has.side has.begins has.good
 
 pub no_second_column : (b : SeedBlock) (groups : Groups) (j : ℕ) → IsCrossing b.form → HoldTogether (IsCut b.matrix) b.matrix groups → IsNoSecondColumn b.matrix groups b.i b.p b.k j → IsTrue false ↔ HasGoodColumn b j
-no_second_column b groups j crossing hold refused = ((λ h. absurd (not_good false h refl)), (λ has. absurd (none_has b j (no_good_second_column b.matrix b.form crossing groups b.i b.p b.k j hold refused) has)))
+no_second_column b groups j crossing hold refused = ((λ h. absurd (not_both false h refl)), (λ has. absurd (none_has b j (no_good_second_column b.matrix b.form crossing groups b.i b.p b.k j hold refused) has)))
 
 none_below : (b : SeedBlock) (j : ℕ) → NoneBetween (HasGoodColumn b) 0 j → HasNoneBelow b.matrix (block_front b) j
 none_below b j none l less s S begins good = none l (omega arith) less (record { seed = s; side = S; begins = begins; good = good })

@@ -1,8 +1,7 @@
 -- Good seeds of the concentrated form.
-use Rattle.std.proofs.Common.{ℕ, zero, suc, ℤ, pos, ◌+◌, ◌<◌, ◌≤◌, ◌*ℤ◌, ◌+ℤ◌, ◌-ℤ◌, Bool, true, false, not, set, List, [], ◌∷◌, ◌++◌, ◌≡◌, ◌≢◌, ◌∙◌, sym, ap, refl, arith, subst, ◌⊎◌, inl, inr, length, get_or, Option, Some, None, Result, Ok, Err, IfOk, IfSome, IfNone}
+use Rattle.std.proofs.Common.{ℕ, ℤ, pos, ◌+◌, ◌<◌, ◌≤◌, ◌*ℤ◌, ◌+ℤ◌, ◌-ℤ◌, Bool, true, false, not, set, List, [], ◌∷◌, ◌++◌, ◌≡◌, ◌≢◌, ◌∙◌, sym, ap, refl, arith, subst, ◌⊎◌, inl, inr, length, get_or}
 use Rattle.cmr_base.specs.declared.line.Line.{Line}
 use Rattle.cmr_base.specs.declared.line.Line.TheVariants.{Row, Column}
-use Rattle.cmr_base.specs.declared.separation.Connector.{Connector}
 use Rattle.cmr_base.specs.declared.separation.Form.TheVariants.{Concentrated}
 use Rattle.cmr_base.specs.Matrix.{Matrix, height, entry, transposed, IsMatrix}
 use Rattle.cmr_base.specs.LineSets as sets
@@ -13,17 +12,17 @@ use Rattle.cmr_base.specs.Seeds.{IsLine, line_number}
 use Rattle.cmr_base.proofs.Integers.{sums, products}
 use Rattle.cmr_base.proofs.ListedLines.{has_line_from_line}
 use Rattle.cmr_base.proofs.RowLists.{same_or_not, two_cases}
-use Rattle.cmr_base.proofs.SeedLemmas.{good_three_seed, three_separation_of_seed}
+use Rattle.cmr_base.proofs.SeedLemmas.{good_three_seed, three_separation_of_seed, form_is}
+use Rattle.cmr_base.proofs.Booleans.{not_false, false_is, not_both}
 use Rattle.three_sep.specs.declared.corners.Corners.{Corners}
 use Rattle.three_sep.specs.declared.connectors.Connectors.{Connectors}
-use Rattle.three_sep.specs.NumberedSeeds.{Among, HasAll, IsGoodSeed, Seed, connector, inside, seed_key}
+use Rattle.three_sep.specs.NumberedSeeds.{Among, IsGoodSeed, Seed, connector, inside, seed_key}
 use Rattle.three_sep.specs.Sides.{AreInside, IsClosedBy}
 use Rattle.three_sep.specs.Searches.{BeginsWith, HasNoGood, LeavesSecond, corner_front}
 use Rattle.three_sep.specs.Concentrated.{AreCandidates, AreConcentratedCorners, ArePlaced, HasNoLeaving, HasNoneBetween, IsLeastFor, IsNoOtherColumn, IsOtherColumn, IsOtherRow, TellsClosedFor, all_front, first_lines, first_of, second_of, turned}
-use Rattle.three_sep.proofs.HalfLemmas.{set_elsewhere, set_there, true_or_false}
-use Rattle.three_sep.proofs.SideLemmas.{not_false, not_not_true, outside_less}
-use Rattle.three_sep.proofs.CutLemmas.{not_false_is}
-use Rattle.three_sep.proofs.SearchLemmas.{enough_lines, form_is, good_inside, lines_of_connector, none_of_connector, seed_at, seed_from_all, seed_from_first, seed_from_second, seed_is}
+use Rattle.three_sep.proofs.HalfLemmas.{set_elsewhere, set_there}
+use Rattle.three_sep.proofs.SideLemmas.{not_not_true, outside_less}
+use Rattle.three_sep.proofs.SearchLemmas.{enough_lines, good_inside, lines_of_connector, none_of_connector, seed_at, seed_from_all, seed_from_first, seed_from_second, seed_is}
 use Rattle.three_sep.proofs.SeedForms.{closed_to, good_numbered, good_three, seed_with}
 use Rattle.three_sep.proofs.SpreadLemmas.{spread_parts, spread_same}
 use Rattle.three_sep.proofs.TurnedLemmas.{closed_turned, has_turned, leaves_turned, no_turned, turned_side}
@@ -48,7 +47,7 @@ module _ (m : Matrix) (c : Corners) (q o : ℕ) (x : Line) (S : Lines) (g : IsGo
   columns_one column l n = not_not_true (S (Column column)) (λ out. n (g.side.closed.right c.i column row_in l row_one out))
 
   rows_two : (row : ℕ) → row < height m → entry m row c.j ≢ pos 0 → S (Row row) ≡ false
-  rows_two row l n = not_false (S (Row row)) (λ inside. n (g.side.closed.right row c.j l column_in inside column_two))
+  rows_two row l n = false_is (S (Row row)) (λ inside. n (g.side.closed.right row c.j l column_in inside column_two))
 
   zero_between : entry m c.i c.j ≡ pos 0
   zero_between = g.side.closed.right c.i c.j row_in column_in row_one column_two
@@ -166,6 +165,9 @@ module _ (m : Matrix) where
   pub no_candidates : (i p : ℕ) (candidates : List Bool) → AreCandidates m i candidates → ((j : ℕ) → get_or candidates j false ≡ false) → HasNoGood m (3 ∷ i ∷ p ∷ [])
   no_candidates i p candidates are none s S h g = are.others s.j (good_inside m s S g).column_two (none s.j) s S (sym (form_is Concentrated s.form h.0)) (sym h.1.0) refl g
 
+  pub no_candidates_left : (i p k : ℕ) (candidates : List Bool) → AreCandidates m i candidates → ((j : ℕ) → get_or candidates j false ≡ false) → HasNoGood m (3 ∷ i ∷ p ∷ k ∷ [])
+  no_candidates_left i p k candidates are none s S h g = are.others s.j (good_inside m s S g).column_two (none s.j) s S (sym (form_is Concentrated s.form h.0)) (sym h.1.0) refl g
+
   zero_determinant : (x y z w : ℤ) → x ≡ pos 0 → y ≡ pos 0 → ¬ (IsSign (x *ℤ w -ℤ y *ℤ z))
   zero_determinant x y z w ex ey (inl e) = let k : x *ℤ w -ℤ y *ℤ z ≡ pos 0 = rw (ex, ey) (simp products (omega (arith, sums))) in let l = sym k ∙ e in absurd (omega (arith, sums))
   zero_determinant x y z w ex ey (inr e) = let k : x *ℤ w -ℤ y *ℤ z ≡ pos 0 = rw (ex, ey) (simp products (omega (arith, sums))) in let l = sym k ∙ e in absurd (omega (arith, sums))
@@ -264,7 +266,7 @@ pub more_looked : (m : Matrix) (i j : ℕ) (before : List Bool) (nonzero : Bool)
 more_looked m i j before nonzero l not_zero looked k lk e = elim (same_or_not k j) [
   | inl is ↦
       let there : get_or (set before j (not nonzero)) j false ≡ not nonzero = set_there before j (not nonzero) l in
-      subst (λ (z : ℕ). HasNoneBetween m i z) (sym is) (none_at_nonzero m i j (not_zero (not_false_is nonzero (sym there ∙ ap (λ (z : ℕ). get_or (set before j (not nonzero)) z false) (sym is) ∙ e))))
+      subst (λ (z : ℕ). HasNoneBetween m i z) (sym is) (none_at_nonzero m i j (not_zero (not_false nonzero (sym there ∙ ap (λ (z : ℕ). get_or (set before j (not nonzero)) z false) (sym is) ∙ e))))
   | inr n ↦ looked k (omega (arith, n)) (sym (set_elsewhere before j k (not nonzero) n) ∙ e)
 ]
 
@@ -287,17 +289,17 @@ no_other_row m d candidates inside are (inr e) = row_shut m d (are.others d.corn
 
 module _ (m : Matrix) (d : Connectors) (start : List Line) where
   pub told_few_leaving : (closed : Bool) (S : Lines) → TellsClosedFor m d start closed S → closed ≡ false → HasNoLeaving m d start
-  told_few_leaving true S h e = absurd (true_or_false true refl e)
+  told_few_leaving true S h e = absurd (not_both true refl e)
   told_few_leaving false S h e = λ T closed has leaves. let few = h T closed has in let l = leaves.enough in absurd (omega arith)
 
   pub told_least : (closed : Bool) (S : Lines) → TellsClosedFor m d start closed S → closed ≡ true → IsLeastFor m d start S
   told_least true S h e = h
-  told_least false S h e = absurd (true_or_false false e refl)
+  told_least false S h e = absurd (not_both false e refl)
 
   pub least_leaving : (S : Lines) → IsLeastFor m d start S → ¬ (LeavesSecond m d.corners (Row d.o) S) → HasNoLeaving m d start
   least_leaving S least unfit T closed has leaves =
       let within : (y : Line) → S y ≡ true → T y ≡ true = least.least T closed has in
-      let out : (y : Line) → T y ≡ false → S y ≡ false = λ y e. not_false (S y) (λ t. true_or_false (T y) (within y t) e) in
+      let out : (y : Line) → T y ≡ false → S y ≡ false = λ y e. false_is (S y) (λ t. not_both (T y) (within y t) e) in
       unfit (record {
         row = out (Row d.corners.k) leaves.row;
         column = out (Column d.corners.j) leaves.column;

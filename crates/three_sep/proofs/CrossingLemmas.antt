@@ -1,5 +1,5 @@
 -- Good seeds of the forms of which both blocks are products.
-use Rattle.std.proofs.Common.{ℕ, ℤ, ◌≤◌, Bool, List, ◌∷◌}
+use Rattle.std.proofs.Common.{ℕ, ℤ, ◌≤◌, List, ◌∷◌}
 use Rattle.cmr_base.specs.declared.line.Line.{Line}
 use Rattle.cmr_base.specs.declared.separation.Connector.{Connector}
 use Rattle.cmr_base.specs.declared.separation.Form.{Form}

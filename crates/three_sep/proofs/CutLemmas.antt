@@ -1,11 +1,13 @@
 -- Cuts, and groups of lines that they do not part.
-use Rattle.std.proofs.Common.{ℕ, zero, suc, ◌+◌, Bool, true, false, not, cond, List, ◌≡◌, ◌≢◌, ◌<◌, ◌∙◌, sym, ap, refl, arith, subst, ◌⊎◌, inl, inr, length, get_or, nat_eq, ℤ, pos, negsuc, ◌*ℤ◌}
+use Rattle.std.proofs.Common.{ℕ, zero, suc, ◌+◌, Bool, true, false, not, cond, List, ◌≡◌, ◌≢◌, ◌<◌, ◌∙◌, sym, ap, refl, arith, subst, ◌⊎◌, inl, inr, length, get_or, nat_eq, ℤ, pos, ◌*ℤ◌}
 use Rattle.cmr_base.specs.declared.line.Line.{Line}
 use Rattle.cmr_base.specs.declared.line.Line.TheVariants.{Row, Column}
 use Rattle.cmr_base.specs.Matrix.{Matrix, height, entry, IsMatrix, IsEntry}
-use Rattle.cmr_base.specs.Signing.{IsSign}
 use Rattle.cmr_base.proofs.Integers.{sums, products}
 use Rattle.cmr_base.proofs.RowLists.{two_cases, is_eq, is_ne, same_or_not}
+use Rattle.cmr_base.proofs.SignedProducts.{same_product}
+use Rattle.cmr_base.proofs.Booleans.{not_is, not_false, not_not, not_both}
+use Rattle.cmr_base.proofs.SignEntries.{sign_of_entry}
 use Rattle.three_sep.specs.declared.side.Side.{Side}
 use Rattle.three_sep.specs.declared.groups.Groups.{Groups}
 use Rattle.three_sep.specs.declared.corners.Corners.{Corners}
@@ -14,7 +16,7 @@ use Rattle.cmr_base.specs.Seeds.{IsLine, line_number}
 use Rattle.three_sep.specs.NumberedSeeds.{HasAll, count, inside, outside}
 use Rattle.three_sep.specs.Sides.{HasRoom, HasSize, AreInside, IsClosedAt, LeavesFew, TellsClosed, start_lines, HasNamedStart, name_in, IsGrowing}
 use Rattle.three_sep.specs.Cuts.{IsCutAt, HasNoCutAt, IsCut, IsCutBetween, Respects, name_of, HasNames, HoldTogether, IsJoined, IsNotBelow, AreTogether}
-use Rattle.three_sep.proofs.HalfLemmas.{true_or_false, any_default}
+use Rattle.three_sep.proofs.HalfLemmas.{any_default}
 
 -- ---- the other side
 
@@ -24,29 +26,17 @@ exchanged c = record { i = c.k; p = c.j; k = c.i; j = c.p }
 abbrev pub other_side : Lines → Lines
 other_side T = λ x. not (T x)
 
-pub not_true_is : (b : Bool) → not b ≡ true → b ≡ false
-not_true_is true e = absurd (true_or_false false e refl)
-not_true_is false e = refl
-
-pub not_false_is : (b : Bool) → not b ≡ false → b ≡ true
-not_false_is true e = refl
-not_false_is false e = absurd (true_or_false true refl e)
-
 pub count_same : (one two : ℕ → Bool) (size : ℕ) → ((x : ℕ) → one x ≡ two x) → count one size ≡ count two size
 count_same one two zero h = refl
 count_same one two (suc k) h = rw (h k, count_same one two k h) refl
-
-pub not_not : (b : Bool) → not (not b) ≡ b
-not_not true = refl
-not_not false = refl
 
 outside_other : (m n : ℕ) (T : Lines) → outside m n (other_side T) ≡ inside m n T
 outside_other m n T = rw (count_same (λ r. not (not (T (Row r)))) (λ r. T (Row r)) m (λ r. not_not (T (Row r))), count_same (λ c. not (not (T (Column c)))) (λ c. T (Column c)) n (λ c. not_not (T (Column c)))) refl
 
 pub other_closed : (m : Matrix) (c : Corners) (T : Lines) → IsClosedAt m c T → IsClosedAt m (exchanged c) (other_side T)
 other_closed m c T w = record {
-  right = λ r k lr lk er ek. w.below r k lr lk (not_true_is (T (Row r)) er) (not_false_is (T (Column k)) ek);
-  below = λ r k lr lk er ek. w.right r k lr lk (not_false_is (T (Row r)) er) (not_true_is (T (Column k)) ek);
+  right = λ r k lr lk er ek. w.below r k lr lk (not_is (T (Row r)) er) (not_false (T (Column k)) ek);
+  below = λ r k lr lk er ek. w.right r k lr lk (not_false (T (Row r)) er) (not_is (T (Column k)) ek);
 }
 
 pub other_cut : (m : Matrix) (c : Corners) (T : Lines) → IsCutAt m c T → IsCutAt m (exchanged c) (other_side T)
@@ -76,7 +66,7 @@ no_cut m c x one two T w = elim (two_cases (T x)) [
 ]
 
 pub told_few : (m : Matrix) (c : Corners) (start : List Line) (closed : Bool) (S : Lines) → TellsClosed m c start closed S → closed ≡ false → LeavesFew m c start
-told_few m c start true S h e = absurd (true_or_false true refl e)
+told_few m c start true S h e = absurd (not_both true refl e)
 told_few m c start false S h e = h
 
 pub has_size : (m : Matrix) (side : Side) → HasRoom m side → HasSize m side
@@ -84,25 +74,11 @@ has_size m side w = record { few_rows = w.rows.few; few_columns = w.columns.few;
 
 -- ---- a cut holds at all its corners
 
-pub sign_of : (z : ℤ) → IsEntry z → z ≢ pos 0 → IsSign z
-sign_of (pos zero) h n = absurd (n refl)
-sign_of (pos (suc zero)) h n = inl refl
-sign_of (pos (suc (suc k))) h n = let l = h.high in absurd (omega (arith, sums))
-sign_of (negsuc zero) h n = inr refl
-sign_of (negsuc (suc k)) h n = let l = h.low in absurd (omega (arith, sums))
-
-square : (z : ℤ) → IsSign z → z *ℤ z ≡ pos 1
-square z (inl e) = rw e refl
-square z (inr e) = rw e refl
-
 gather : (a b e x y : ℤ) → (a *ℤ (x *ℤ e)) *ℤ ((y *ℤ (b *ℤ e)) *ℤ (y *ℤ (x *ℤ e))) ≡ (a *ℤ (b *ℤ e)) *ℤ ((x *ℤ x) *ℤ ((y *ℤ y) *ℤ (e *ℤ e)))
 gather a b e x y = simp products (omega (arith, sums))
 
 times_ones : (z : ℤ) → z *ℤ (pos 1 *ℤ (pos 1 *ℤ pos 1)) ≡ z
 times_ones z = simp products (omega (arith, sums))
-
-same_product : (a b e x y : ℤ) → IsSign e → IsSign x → IsSign y → a *ℤ (b *ℤ e) ≡ (a *ℤ (x *ℤ e)) *ℤ ((y *ℤ (b *ℤ e)) *ℤ (y *ℤ (x *ℤ e)))
-same_product a b e x y he hx hy = sym (gather a b e x y ∙ rw (square e he, square x hx, square y hy) (times_ones (a *ℤ (b *ℤ e))))
 
 -- the rule of products by another corner of the block
 other_corner : (M : ℕ → ℕ → ℤ) (i j i' j' r c : ℕ) → ((r c : ℕ) → IsEntry (M r c)) → M i j ≢ pos 0 → M i' j' ≢ pos 0 → M r c ≡ product_at M i j r c → M r j' ≡ product_at M i j r j'
@@ -110,7 +86,7 @@ other_corner : (M : ℕ → ℕ → ℤ) (i j i' j' r c : ℕ) → ((r c : ℕ) 
 other_corner M i j i' j' r c small n n' rc rj ic ij =
     let x : M i j' ≢ pos 0 = λ e. n' (ij ∙ rw e (simp products (omega (arith, sums)))) in
     let y : M i' j ≢ pos 0 = λ e. n' (ij ∙ rw e (simp products (omega (arith, sums)))) in
-    rc ∙ same_product (M r j) (M i c) (M i j) (M i j') (M i' j) (sign_of (M i j) (small i j) n) (sign_of (M i j') (small i j') x) (sign_of (M i' j) (small i' j) y)
+    rc ∙ same_product (M r j) (M i c) (M i j) (M i j') (M i' j) (sign_of_entry (M i j) (small i j) n) (sign_of_entry (M i j') (small i j') x) (sign_of_entry (M i' j) (small i' j) y)
     ∙ sym (rw (rj, ic, ij) refl)
 
 pub cut_elsewhere : (m : Matrix) (T : Lines) (c : Corners) → IsMatrix m → IsCut m T → AreInside m c → entry m c.i c.j ≢ pos 0 → entry m c.k c.p ≢ pos 0
@@ -207,13 +183,13 @@ refused_below m i j k p is li lj lk lp n n' none T w ea eb =
     none T (cut_elsewhere m T (record { i = i; p = p; k = k; j = j }) is w.cut (record { row_one = li; column_one = lp; row_two = lk; column_two = lj }) n n' w.row_one eb ea w.column_two)
 
 pub named_below : (m : Matrix) (i j k p : ℕ) (groups : Groups) → HoldTogether (IsCutBetween m i j) m groups → k < height m → p < m.width → name_of m groups (Row k) ≡ name_of m groups (Column p) → IsNotBelow m i j k p
-named_below m i j k p groups h lk lp e T w ea eb = true_or_false (T (Row k)) (h T w (Row k) (Column p) lk lp e ∙ eb) ea
+named_below m i j k p groups h lk lp e T w ea eb = not_both (T (Row k)) (h T w (Row k) (Column p) lk lp e ∙ eb) ea
 
 pub own_row_below : (m : Matrix) (i j p : ℕ) → IsNotBelow m i j i p
-own_row_below m i j p T w ea eb = true_or_false (T (Row i)) w.row_one ea
+own_row_below m i j p T w ea eb = not_both (T (Row i)) w.row_one ea
 
 pub own_column_below : (m : Matrix) (i j k : ℕ) → IsNotBelow m i j k j
-own_column_below m i j k T w ea eb = true_or_false (T (Column j)) eb w.column_two
+own_column_below m i j k T w ea eb = not_both (T (Column j)) eb w.column_two
 
 -- no cut has row i in side one and column j in side two
 abbrev pub HasNoCutBetween : Matrix → ℕ → ℕ → Type 0
@@ -223,7 +199,7 @@ pub none_between : (m : Matrix) (i j : ℕ) → ((k p : ℕ) → k < height m �
 none_between m i j h T w = let d = w.cut.corners in h d.k d.p w.cut.are_inside.row_two w.cut.are_inside.column_one w.cut.below T w w.cut.cut.row_two w.cut.cut.column_one
 
 pub none_between_named : (m : Matrix) (i j : ℕ) (groups : Groups) → HoldTogether (IsCutBetween m i j) m groups → i < height m → j < m.width → name_of m groups (Row i) ≡ name_of m groups (Column j) → HasNoCutBetween m i j
-none_between_named m i j groups h li lj e T w = true_or_false (T (Row i)) w.row_one (h T w (Row i) (Column j) li lj e ∙ w.column_two)
+none_between_named m i j groups h li lj e T w = not_both (T (Row i)) w.row_one (h T w (Row i) (Column j) li lj e ∙ w.column_two)
 
 pub together : (m : Matrix) (i j : ℕ) → HasNoCutBetween m i j → AreTogether m i j
 together m i j none T w = go (T (Row i)) (T (Column j)) refl refl

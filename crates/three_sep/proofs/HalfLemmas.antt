@@ -1,18 +1,14 @@
 -- A half that grows, step by step.
-use Rattle.std.proofs.Common.{IsTrue, ℕ, zero, suc, ◌+◌, Bool, true, false, List, [], ◌∷◌, ◌++◌, ◌≡◌, ◌≢◌, ◌<◌, ◌≤◌, ◌∙◌, sym, ap, refl, arith, subst, ◌⊎◌, inl, inr, length, get_or, set, ℤ, w8, of_z, to_z, length-append}
-use Rattle.std.proofs.lemmas.Int.{ints}
-use Rattle.cmr_base.specs.Matrix.{IsEntry}
+use Rattle.std.proofs.Common.{ℕ, zero, suc, ◌+◌, Bool, true, false, List, [], ◌∷◌, ◌++◌, ◌≡◌, ◌≢◌, ◌<◌, ◌≤◌, ◌∙◌, sym, ap, refl, arith, subst, ◌⊎◌, inl, inr, length, get_or, set, ℤ, length-append}
 use Rattle.std.proofs.lemmas.Bool.{cases_lt, cases_eq}
 use Rattle.std.proofs.lemmas.List.{get_or-set_same, get_or-set_other, length-set}
 use Rattle.cmr_base.specs.Members.{IsIn}
 use Rattle.cmr_base.proofs.Members.{in-append, in_at}
 use Rattle.cmr_base.proofs.RowLists.{two_cases}
+use Rattle.cmr_base.proofs.Booleans.{not_both}
 use Rattle.three_sep.specs.NumberedSeeds.{count}
 use Rattle.three_sep.specs.declared.half.Half.{Half}
 use Rattle.three_sep.specs.Halves.{is_in, IsHalf, HasPulled, IsPulling, HasStarted, IsStarting, HasStartedWith, IsStartingWith, HasAdded, HasTaken, Agrees}
-
-pub true_or_false : (b : Bool) → b ≡ true → b ≡ false → ⊥
-true_or_false b e f = cc
 
 -- tests after one of them was set
 pub set_there : (xs : List Bool) (line : ℕ) (v : Bool) → line < length xs → get_or (set xs line v) line false ≡ v
@@ -35,7 +31,7 @@ set_only xs line other e = elim (cases_eq other line) [
 
 pub set_outside : (xs : List Bool) (line other : ℕ) → line < length xs → get_or (set xs line true) other false ≡ false → (other ≢ line) × (get_or xs other false ≡ false)
 set_outside xs line other l e = elim (cases_eq other line) [
-  | inl h ↦ absurd (true_or_false (get_or (set xs line true) other false) (subst (λ (z : ℕ). get_or (set xs line true) z false ≡ true) (sym h) (set_there xs line true l)) e)
+  | inl h ↦ absurd (not_both (get_or (set xs line true) other false) (subst (λ (z : ℕ). get_or (set xs line true) z false ≡ true) (sym h) (set_there xs line true l)) e)
   | inr n ↦ (n, sym (set_elsewhere xs line other true n) ∙ e)
 ]
 
@@ -221,7 +217,7 @@ module _ (count one two : ℕ) (half : Half) (place : ℕ) where
       let is : (x : ℕ) → is_in after x ≡ get_or (set half.inside.items place false) x false = λ x. ap (λ (v : List Bool). get_or v x false) inside in
       let earlier : (x : ℕ) → x < place + 1 → x ≢ place → x < place = λ x h n. omega (arith, n) in
       let same : (x : ℕ) → x ≢ place → is_in after x ≡ is_in half x = λ x n. is x ∙ set_elsewhere half.inside.items place x false n in
-      let not_here : (x : ℕ) → is_in after x ≡ true → x ≢ place = λ x e q. true_or_false (is_in after x) e (is x ∙ subst (λ (z : ℕ). get_or (set half.inside.items place false) z false ≡ false) (sym q) (set_there half.inside.items place false low)) in
+      let not_here : (x : ℕ) → is_in after x ≡ true → x ≢ place = λ x e q. not_both (is_in after x) e (is x ∙ subst (λ (z : ℕ). get_or (set half.inside.items place false) z false ≡ false) (sym q) (set_there half.inside.items place false low)) in
       record {
         size = ap (λ (v : List Bool). length v) inside ∙ length-set half.inside.items place false ∙ w.size;
         outside_in = λ x h. elim (in_pushed half.outside.items after.outside.items place x outside h) [ inl g ↦ w.outside_in x g | inr e ↦ subst (λ (z : ℕ). z < count) (sym e) l ];
@@ -252,7 +248,7 @@ starting_starts count one two half size outside fresh = record {
 
 -- past the lines no test is true
 pub past_false : (xs : List Bool) (x : ℕ) → get_or xs x false ≡ true → x < length xs
-past_false [] x e = absurd (true_or_false false e refl)
+past_false [] x e = absurd (not_both false e refl)
 past_false (b ∷ xs) zero e = omega arith
 past_false (b ∷ xs) (suc x) e = let k = past_false xs x e in omega arith
 
@@ -319,9 +315,6 @@ count_most test (suc k) = elim (two_cases (test k)) [
   | inr e ↦ rw e (let h = count_most test k in omega arith)
 ]
 
-pub kept_entry : (z : ℤ) → IsEntry z → to_z w8 (of_z w8 z) ≡ z
-kept_entry z h = let low = h.low in let high = h.high in omega (arith, ints)
-
 pub any_default : {A : Type 0} (xs : List A) (i : ℕ) (d e : A) → i < length xs → get_or xs i d ≡ get_or xs i e
 any_default [] i d e l = absurd (omega arith)
 any_default (x ∷ xs) zero d e l = refl
@@ -333,9 +326,6 @@ pub line_at : (count : ℕ) (agrees : ℕ → Type 0) (before half : Half) (plac
 line_at count agrees before half place line w l e =
     let is : line ≡ get_or before.outside.items place 0 = e ∙ ap (λ v. get_or v.items place line) w.outside_same ∙ any_default before.outside.items place line 0 l in
     (is, subst (λ (z : ℕ). z < count) (sym is) (w.outside_in (get_or before.outside.items place 0) (in_at before.outside.items place l)))
-
-pub not_true : (b : Bool) → IsTrue b → b ≡ false → ⊥
-not_true b h e = true_or_false b h e
 
 pub pulling_ends_as : (count : ℕ) (entries model : List ℤ) (f g : ℤ) (before half after : Half) (place : ℕ) → f ≡ g → IsPulling count (Agrees entries f model) before half place
     → length before.outside.items ≤ place → place ≤ length before.outside.items → after.inside ≡ half.inside → after.outside ≡ half.kept → after.fresh ≡ half.fresh → HasPulled count (Agrees entries g model) before after
@@ -382,7 +372,7 @@ module _ (count : ℕ) (P : ℕ → Type 0) (half : Half) (place : ℕ) where
       let is : (x : ℕ) → is_in after x ≡ get_or (set half.inside.items place false) x false = λ x. ap (λ (v : List Bool). get_or v x false) inside in
       let earlier : (x : ℕ) → x < place + 1 → x ≢ place → x < place = λ x h n. omega (arith, n) in
       let same : (x : ℕ) → x ≢ place → is_in after x ≡ is_in half x = λ x n. is x ∙ set_elsewhere half.inside.items place x false n in
-      let not_here : (x : ℕ) → is_in after x ≡ true → x ≢ place = λ x e q. true_or_false (is_in after x) e (is x ∙ subst (λ (z : ℕ). get_or (set half.inside.items place false) z false ≡ false) (sym q) (set_there half.inside.items place false low)) in
+      let not_here : (x : ℕ) → is_in after x ≡ true → x ≢ place = λ x e q. not_both (is_in after x) e (is x ∙ subst (λ (z : ℕ). get_or (set half.inside.items place false) z false ≡ false) (sym q) (set_there half.inside.items place false low)) in
       record {
         size = ap (λ (v : List Bool). length v) inside ∙ length-set half.inside.items place false ∙ w.size;
         outside_in = λ x h. elim (in_pushed half.outside.items after.outside.items place x outside h) [ inl g ↦ w.outside_in x g | inr e ↦ subst (λ (z : ℕ). z < count) (sym e) l ];

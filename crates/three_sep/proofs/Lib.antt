@@ -1,6 +1,7 @@
 pub mod HalfLemmas
 pub mod SideLemmas
 pub mod CutLemmas
+pub mod PartedLemmas
 pub mod CrossingLemmas
 pub mod SpreadLemmas
 pub mod NumberLemmas
@@ -8,5 +9,6 @@ pub mod SpreadSideLemmas
 pub mod SearchLemmas
 pub mod SeedForms
 pub mod TurnedLemmas
+pub mod PulledLemmas
 pub mod ConcentratedLemmas
 pub mod BlockLemmas

@@ -1,17 +1,14 @@
 -- Sums and differences of small numbers in a byte.
-use Rattle.std.proofs.Common.{◌≡◌, ◌∙◌, ◌↔◌, ◌+ℤ◌, ◌-ℤ◌, ◌*ℤ◌, ℕ, ℤ, pos, IsTrue, nat_eq, FitsSigned, w8, to_z, of_z, sym, ap, ap₂, refl, subst, arith}
+use Rattle.std.proofs.Common.{◌≡◌, ◌∙◌, ◌↔◌, ◌+ℤ◌, ◌-ℤ◌, ◌*ℤ◌, ℕ, ℤ, IsTrue, nat_eq, FitsSigned, w8, to_z, of_z, sym, ap, ap₂, arith}
 use Rattle.std.proofs.lemmas.Int.{ints}
 use Rattle.cmr_base.specs.Matrix.{IsEntry}
 use Rattle.cmr_base.proofs.Integers.{sums}
 use Rattle.cmr_base.proofs.RowLists.{eq_of, is_eq}
+use Rattle.cmr_base.proofs.EntryBytes.{kept_entry}
 use Rattle.three_sep.specs.Numbers.{IsSmall}
-use Rattle.three_sep.proofs.HalfLemmas.{kept_entry}
 
 pub kept_small : (z : ℤ) → IsSmall z → to_z w8 (of_z w8 z) ≡ z
 kept_small z h = let low = h.low in let high = h.high in omega (arith, ints)
-
-pub difference_fits : (a b : ℤ) → IsEntry a → IsEntry b → FitsSigned w8 (to_z w8 (of_z w8 a) -ℤ to_z w8 (of_z w8 b))
-difference_fits a b ha hb = rw (kept_entry a ha, kept_entry b hb) (let la = ha.low in let ua = ha.high in let lb = hb.low in let ub = hb.high in omega (arith, ints))
 
 pub difference_small : (a b : ℤ) → IsEntry a → IsEntry b → IsSmall (a -ℤ b)
 difference_small a b ha hb =
@@ -20,9 +17,6 @@ difference_small a b ha hb =
     let lb = hb.low in
     let ub = hb.high in
     record { low = omega (arith, sums); high = omega (arith, sums) }
-
-pub difference_kept : (a b : ℤ) → IsEntry a → IsEntry b → to_z w8 (of_z w8 (to_z w8 (of_z w8 a) -ℤ to_z w8 (of_z w8 b))) ≡ a -ℤ b
-difference_kept a b ha hb = ap (λ (z : ℤ). to_z w8 (of_z w8 z)) (ap₂ (λ (x y : ℤ). x -ℤ y) (kept_entry a ha) (kept_entry b hb)) ∙ kept_small (a -ℤ b) (difference_small a b ha hb)
 
 pub sum_fits : (a b : ℤ) → IsSmall a → IsSmall b → FitsSigned w8 (to_z w8 (of_z w8 a) +ℤ to_z w8 (of_z w8 b))
 sum_fits a b ha hb = rw (kept_small a ha, kept_small b hb) (let la = ha.low in let ua = ha.high in let lb = hb.low in let ub = hb.high in omega (arith, ints))

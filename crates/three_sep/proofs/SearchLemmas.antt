@@ -1,5 +1,5 @@
 -- The search for the first good seed, level by level.
-use Rattle.std.proofs.Common.{ℕ, zero, suc, ◌+◌, Bool, true, false, cond, List, [], ◌∷◌, ◌++◌, ◌≡◌, ◌≢◌, ◌<◌, ◌≤◌, ◌∙◌, ◌↔◌, sym, ap, refl, arith, subst, ◌⊎◌, inl, inr, length, get_or, nat_eq, ℤ, pos, IsTrue, Option, Some, None, Result, Ok, Err, IfOk, IfSome, IfNone}
+use Rattle.std.proofs.Common.{ℕ, zero, suc, ◌+◌, Bool, true, false, cond, List, [], ◌∷◌, ◌++◌, ◌≡◌, ◌≢◌, ◌<◌, ◌≤◌, ◌∙◌, ◌↔◌, sym, ap, refl, arith, subst, ◌⊎◌, inl, inr, length, get_or, nat_eq, ℤ, pos, Option, Some, None, Result, Ok, Err, IfOk, IfSome, IfNone}
 use Rattle.std.proofs.lemmas.Bool.{cases_lt}
 use Rattle.cmr_base.specs.declared.line.Line.{Line}
 use Rattle.cmr_base.specs.declared.line.Line.TheVariants.{Row, Column}
@@ -7,6 +7,9 @@ use Rattle.cmr_base.specs.Matrix.{Matrix, height, entry}
 use Rattle.cmr_base.specs.Members.{IsIn, IsDistinct}
 use Rattle.cmr_base.proofs.Members.{in-append}
 use Rattle.cmr_base.proofs.RowLists.{two_cases, is_eq, is_ne, same_or_not}
+use Rattle.cmr_base.proofs.Booleans.{false_is, not_both}
+use Rattle.cmr_base.proofs.SeedLemmas.{line_is, form_is}
+use Rattle.cmr_base.proofs.LineCounts.{count_same}
 use Rattle.three_sep.specs.declared.half.Half.{Half}
 use Rattle.three_sep.specs.declared.side.Side.{Side}
 use Rattle.three_sep.specs.declared.groups.Groups.{Groups}
@@ -19,11 +22,10 @@ use Rattle.cmr_base.specs.Seeds.{IsLine, form_number, line_number, IsBefore}
 use Rattle.three_sep.specs.NumberedSeeds.{Seed, Among, HasAll, HasNone, count, inside, connector, IsFirstOther, IsSecondOther, AreCorners, IsCrossing, IsGoodSeed, seed_key, HasLines, seed_of}
 use Rattle.three_sep.specs.Halves.{is_in, IsHalf, AreSame}
 use Rattle.three_sep.specs.Sides.{set_of, HasRoom, AreInside, IsGrowingBy, IsLeast, start_lines}
-use Rattle.three_sep.specs.Cuts.{IsCutAt, HasNoCutAt, IsCut, HoldTogether}
+use Rattle.three_sep.specs.Cuts.{IsCutAt, HasNoCutAt, IsCut, HasNames, HoldTogether}
 use Rattle.three_sep.specs.Searches.{BeginsWith, HasNoGood, IsFirstOf, HasNoneBelow, corner_front, other_line, LeavesSecond, IsNoSecondRow, IsNoSecondColumn}
 use Rattle.three_sep.proofs.CrossingLemmas.{IsGoodCrossing, as_crossing, as_good}
-use Rattle.three_sep.proofs.HalfLemmas.{true_or_false}
-use Rattle.three_sep.proofs.SideLemmas.{not_false, outside_less}
+use Rattle.three_sep.proofs.SideLemmas.{outside_less}
 
 -- ---- four lines
 
@@ -36,16 +38,12 @@ unfold_other test x y n = rw (is_ne y x n) refl
 pub unfold_same : (test : ℕ → Bool) (x y : ℕ) → y ≡ x → minus test x y ≡ false
 unfold_same test x y e = rw (is_eq y x e) refl
 
-pub count_below : (one two : ℕ → Bool) (size : ℕ) → ((y : ℕ) → y < size → one y ≡ two y) → count one size ≡ count two size
-count_below one two zero h = refl
-count_below one two (suc k) h = rw (h k (omega arith), count_below one two k (λ y l. h y (omega arith))) refl
-
 pub count_minus : (test : ℕ → Bool) (x size : ℕ) → x < size → test x ≡ true → count test size ≡ suc (count (minus test x) size)
 count_minus test x zero l e = absurd (omega arith)
 count_minus test x (suc k) l e = elim (same_or_not k x) [
   | inl same ↦
       rw (unfold_same test x k same, ap test same ∙ e)
-      (ap suc (count_below test (minus test x) k (λ y low. sym (unfold_other test x y (λ h. omega arith)))))
+      (ap suc (count_same test (minus test x) k (λ y low. sym (unfold_other test x y (λ h. omega arith)))))
   | inr n ↦ rw (unfold_other test x k n) (elim (two_cases (test k)) [
     | inl t ↦ rw t (ap suc (count_minus test x k (omega (arith, n)) e))
     | inr f ↦ rw f (count_minus test x k (omega (arith, n)) e)
@@ -218,24 +216,6 @@ level_found m front a three short before found = record {
 abbrev pub seed_at : Form → Corners → ℕ → ℕ → Line → Seed
 seed_at form c q o x = record { form = form; i = c.i; p = c.p; k = c.k; j = c.j; q = q; o = o; x = x }
 
-pub form_is : (a b : Form) → form_number a ≡ form_number b → a ≡ b
-form_is Delta Delta e = refl
-form_is Delta YForm e = absurd (omega arith)
-form_is Delta Mixed e = absurd (omega arith)
-form_is Delta Concentrated e = absurd (omega arith)
-form_is YForm Delta e = absurd (omega arith)
-form_is YForm YForm e = refl
-form_is YForm Mixed e = absurd (omega arith)
-form_is YForm Concentrated e = absurd (omega arith)
-form_is Mixed Delta e = absurd (omega arith)
-form_is Mixed YForm e = absurd (omega arith)
-form_is Mixed Mixed e = refl
-form_is Mixed Concentrated e = absurd (omega arith)
-form_is Concentrated Delta e = absurd (omega arith)
-form_is Concentrated YForm e = absurd (omega arith)
-form_is Concentrated Mixed e = absurd (omega arith)
-form_is Concentrated Concentrated e = refl
-
 pub seed_is : (s : Seed) (kind : Form) (i p k j q o : ℕ) (x : Line) → kind ≡ s.form → i ≡ s.i → p ≡ s.p → k ≡ s.k → j ≡ s.j → q ≡ s.q → o ≡ s.o → x ≡ s.x
     → s ≡ record { form = kind; i = i; p = p; k = k; j = j; q = q; o = o; x = x }
 seed_is s kind i p k j q o x e1 e2 e3 e4 e5 e6 e7 e8 = rw (e1, e2, e3, e4, e5, e6, e7, e8) refl
@@ -248,12 +228,6 @@ seed_from_first m form c q s h = seed_is s form c.i c.p c.k c.j q s.o s.x (form_
 
 pub seed_from_second : (m : Matrix) (form : Form) (c : Corners) (q o : ℕ) (s : Seed) → BeginsWith (corner_front form c ++ q ∷ o ∷ []) (seed_key (height m) s) → s ≡ seed_at form c q o s.x
 seed_from_second m form c q o s h = seed_is s form c.i c.p c.k c.j q o s.x (form_is form s.form h.0) h.1.0 h.1.1.0 h.1.1.1.0 h.1.1.1.1.0 h.1.1.1.1.1.0 h.1.1.1.1.1.1.0 refl
-
-pub line_is : (m n : ℕ) (x y : Line) → IsLine m n x → IsLine m n y → line_number m x ≡ line_number m y → x ≡ y
-line_is m n (Row r) (Row s) lx ly e = ap Row e
-line_is m n (Row r) (Column c) lx ly e = absurd (omega arith)
-line_is m n (Column c) (Row r) lx ly e = absurd (omega arith)
-line_is m n (Column c) (Column d) lx ly e = ap Column (omega arith)
 
 pub seed_from_all : (m : Matrix) (form : Form) (c : Corners) (q o place : ℕ) (x : Line) (s : Seed) → IsLine (height m) m.width x → IsLine (height m) m.width s.x → line_number (height m) x ≡ place
     → BeginsWith (corner_front form c ++ q ∷ o ∷ place ∷ []) (seed_key (height m) s) → s ≡ seed_at form c q o x
@@ -272,6 +246,15 @@ module _ (m : Matrix) (form : Form) (crossing : IsCrossing form) where
   pub no_good_corner : (i p : ℕ) → entry m i p ≡ pos 0 → HasNoGood m (form_number form ∷ i ∷ p ∷ [])
   no_good_corner i p e s S h g = (crossing_seed s S h.0 g).connectors.corners.first (rw (sym h.1.0, sym h.1.1.0) e)
 
+  pub no_good_whole : (groups : Groups) (i : ℕ) → HasNames m groups → HoldTogether (IsCut m) m groups
+      → ((k l : ℕ) → k < length groups.names.items → l < length groups.names.items → get_or groups.names.items k 0 ≡ get_or groups.names.items l 0) → HasNoGood m (form_number form ∷ i ∷ [])
+  no_good_whole groups i names hold one s S h g0 =
+      let cut = good_is_cut_at m s S (crossing_seed s S h.0 g0) in
+      let within = good_inside m s S g0 in
+      let li : s.i < length groups.names.items = let l = within.row_one in omega (arith, names, l) in
+      let lk : s.k < length groups.names.items = let l = within.row_two in omega (arith, names, l) in
+      not_both (S (Row s.i)) cut.row_one (hold S (good_is_cut m s S (is_crossing s h.0) g0) (Row s.i) (Row s.k) within.row_one within.row_two (one s.i s.k li lk) ∙ cut.row_two)
+
   pub no_good_second_row : (groups : Groups) (i p k : ℕ) → HoldTogether (IsCut m) m groups → IsNoSecondRow m groups i p k → HasNoGood m (form_number form ∷ i ∷ p ∷ k ∷ [])
   no_good_second_row groups i p k hold no_row s S h g0 =
       let g = crossing_seed s S h.0 g0 in
@@ -280,8 +263,8 @@ module _ (m : Matrix) (form : Form) (crossing : IsCrossing form) where
       let T = hold S (good_is_cut m s S (is_crossing s h.0) g0) in
       elim no_row [
         | inl e ↦ g.connectors.corners.below (rw (sym h.1.1.0, sym h.1.1.1.0) e)
-        | inr (inl e) ↦ true_or_false (S (Row s.i)) cut.row_one (T (Row s.i) (Row s.k) within.row_one within.row_two (rw (sym h.1.0, sym h.1.1.1.0) e) ∙ cut.row_two)
-        | inr (inr e) ↦ true_or_false (S (Column s.p)) cut.column_one (T (Column s.p) (Row s.k) within.column_one within.row_two (rw (sym h.1.1.0, sym h.1.1.1.0) e) ∙ cut.row_two)
+        | inr (inl e) ↦ not_both (S (Row s.i)) cut.row_one (T (Row s.i) (Row s.k) within.row_one within.row_two (rw (sym h.1.0, sym h.1.1.1.0) e) ∙ cut.row_two)
+        | inr (inr e) ↦ not_both (S (Column s.p)) cut.column_one (T (Column s.p) (Row s.k) within.column_one within.row_two (rw (sym h.1.1.0, sym h.1.1.1.0) e) ∙ cut.row_two)
       ]
 
   pub no_good_second_column : (groups : Groups) (i p k j : ℕ) → HoldTogether (IsCut m) m groups → IsNoSecondColumn m groups i p k j → HasNoGood m (form_number form ∷ i ∷ p ∷ k ∷ j ∷ [])
@@ -293,8 +276,8 @@ module _ (m : Matrix) (form : Form) (crossing : IsCrossing form) where
       elim no_column [
         | inl e ↦ g.connectors.corners.second (rw (sym h.1.1.1.0, sym h.1.1.1.1.0) e)
         | inr (inl e) ↦ g.connectors.corners.right (rw (sym h.1.0, sym h.1.1.1.1.0) e)
-        | inr (inr (inl e)) ↦ true_or_false (S (Row s.i)) cut.row_one (T (Row s.i) (Column s.j) within.row_one within.column_two (rw (sym h.1.0, sym h.1.1.1.1.0) e) ∙ cut.column_two)
-        | inr (inr (inr e)) ↦ true_or_false (S (Column s.p)) cut.column_one (T (Column s.p) (Column s.j) within.column_one within.column_two (rw (sym h.1.1.0, sym h.1.1.1.1.0) e) ∙ cut.column_two)
+        | inr (inr (inl e)) ↦ not_both (S (Row s.i)) cut.row_one (T (Row s.i) (Column s.j) within.row_one within.column_two (rw (sym h.1.0, sym h.1.1.1.1.0) e) ∙ cut.column_two)
+        | inr (inr (inr e)) ↦ not_both (S (Column s.p)) cut.column_one (T (Column s.p) (Column s.j) within.column_one within.column_two (rw (sym h.1.1.0, sym h.1.1.1.1.0) e) ∙ cut.column_two)
       ]
 
   module _ (c : Corners) where
@@ -317,7 +300,7 @@ module _ (m : Matrix) (form : Form) (crossing : IsCrossing form) where
       pub no_good_held : (L : Lines) → IsLeast m c (connector (first_is_flat form) c.i c.p q) L → L (other_line (second_is_flat form) o) ≡ true → HasNoGood m (corner_front form c ++ q ∷ o ∷ [])
       no_good_held L least held s S h g0 =
           let g = crossing_at s S h g0 in
-          true_or_false (S (other_line (second_is_flat form) o)) (least.least S g.side.closed (λ x a. g.side.has x (inr a)) (other_line (second_is_flat form) o) held)
+          not_both (S (other_line (second_is_flat form) o)) (least.least S g.side.closed (λ x a. g.side.has x (inr a)) (other_line (second_is_flat form) o) held)
           (g.two (other_line (second_is_flat form) o) (corner_other (second_is_flat form) c.k c.j o))
 
       pub no_good_line : (place : ℕ) (x : Line) → IsLine (height m) m.width x → line_number (height m) x ≡ place → (L : Lines) → IsLeast m c (x ∷ connector (first_is_flat form) c.i c.p q) L
@@ -325,7 +308,7 @@ module _ (m : Matrix) (form : Form) (crossing : IsCrossing form) where
       no_good_line place x lx number L least unfit s S h g0 =
           let g = subst (λ (z : Seed). IsGoodCrossing (height m) m.width (entry m) z S) (seed_from_all m form c q o place x s lx g0.line number h) (crossing_seed s S h.0 g0) in
           let within : (y : Line) → L y ≡ true → S y ≡ true = least.least S g.side.closed g.side.has in
-          let out : (y : Line) → S y ≡ false → L y ≡ false = λ y e. not_false (L y) (λ t. true_or_false (S y) (within y t) e) in
+          let out : (y : Line) → S y ≡ false → L y ≡ false = λ y e. false_is (L y) (λ t. not_both (S y) (within y t) e) in
           unfit (record {
             row = out (Row c.k) (g.two (Row c.k) (corner_row (second_is_flat form) c.k c.j o));
             column = out (Column c.j) (g.two (Column c.j) (corner_column (second_is_flat form) c.k c.j o));
@@ -514,9 +497,6 @@ start_is c form flat q line ef el = ap (λ (z : Line). start_lines c z) (el ∙ 
     go true = refl
     go false = refl
 
-pub not_good : (b : Bool) → IsTrue b → b ≡ false → ⊥
-not_good b h e = true_or_false b h e
-
 -- ---- lists of lines
 
 abbrev pub AreFirst : (ℕ → Bool) → List ℕ → ℕ → Type 0
@@ -541,7 +521,7 @@ indices_less test before after line w t e x = (to, from)
     to h = let k = (w x).0 (subst (λ (z : List ℕ). IsIn x z) e h) in (let l = k.0 in omega arith, k.1)
 
     from : (x < line + 1) × (test x ≡ true) → IsIn x after
-    from h = subst (λ (z : List ℕ). IsIn x z) (sym e) ((w x).1 (elim (same_or_not x line) [ inl f ↦ absurd (true_or_false (test x) h.1 (ap test f ∙ t)) | inr n ↦ let l = h.0 in omega (arith, n) ], h.1))
+    from h = subst (λ (z : List ℕ). IsIn x z) (sym e) ((w x).1 (elim (same_or_not x line) [ inl f ↦ absurd (not_both (test x) h.1 (ap test f ∙ t)) | inr n ↦ let l = h.0 in omega (arith, n) ], h.1))
 
 pub indices_all : (test : ℕ → Bool) (lines : List ℕ) (line bound : ℕ) → AreFirst test lines line → line ≡ bound → AreFirst test lines bound
 indices_all test lines line bound w e = subst (λ (z : ℕ). AreFirst test lines z) e w

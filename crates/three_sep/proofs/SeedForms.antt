@@ -1,5 +1,5 @@
 -- Good seeds by their numbers are good three-seeds, and the first of them gives the first three-separation.
-use Rattle.std.proofs.Common.{ℕ, zero, suc, ℤ, ◌+◌, Bool, true, false, not, cond, List, [], ◌∷◌, ◌≡◌, ◌≢◌, ◌∙◌, sym, ap, ap₂, refl, arith, subst, inl, inr, Option, Some, None, Result, Ok, Err, IfOk, IfSome, IfNone}
+use Rattle.std.proofs.Common.{ℕ, ℤ, Bool, true, false, List, [], ◌∷◌, ◌≡◌, ◌≢◌, ◌∙◌, sym, refl, arith, subst, inl, inr, Option, Some, None, Result, Ok, Err, IfOk, IfSome, IfNone}
 use Rattle.std.specs.List.{AllByRecursion}
 use Rattle.std.specs.Prelude.{MatchOption}
 use Rattle.cmr_base.specs.declared.line.Line.{Line}
@@ -8,17 +8,16 @@ use Rattle.cmr_base.specs.declared.separation.Connector.{Connector}
 use Rattle.cmr_base.specs.declared.separation.Form.{Form}
 use Rattle.cmr_base.specs.declared.separation.Three.{Three}
 use Rattle.cmr_base.specs.Matrix.{Matrix, height, entry}
-use Rattle.cmr_base.specs.LineSets.{first_lines}
-use Rattle.cmr_base.specs.Separations.{Lines, listed, opposite, count_in, upper_block, lower_block, first_is_flat, second_is_flat, connector_lines}
+use Rattle.cmr_base.specs.Separations.{Lines, listed, upper_block, lower_block, first_is_flat, second_is_flat, connector_lines}
 use Rattle.cmr_base.specs.Seeds.{IsLine, IsGood, IsGoodThree, IsBefore, three_key}
 use Rattle.cmr_base.specs.Seeds as base
 use Rattle.cmr_base.proofs.Lists.{all_both}
 use Rattle.cmr_base.proofs.ListedLines.{in_from_listed, listed_from_in, contains_first_lines, first_lines_contain}
 use Rattle.cmr_base.proofs.RemovedLines.{in_first_lines, row_set_from_within, column_set_from_within}
 use Rattle.cmr_base.proofs.LineCounts.{outside_is}
-use Rattle.cmr_base.proofs.LineCounts as counts
 use Rattle.cmr_base.proofs.SeedLemmas.{outside_grows, good_three_seed, three_separation_of_seed}
-use Rattle.three_sep.specs.NumberedSeeds.{IsClosed, Among, Seed, IsGoodSeed, connector, count, outside}
+use Rattle.cmr_base.proofs.Booleans.{same_test}
+use Rattle.three_sep.specs.NumberedSeeds.{IsClosed, Among, Seed, IsGoodSeed, connector}
 use Rattle.three_sep.specs.Searches.{IsFirstOf, HasNoGood}
 use Rattle.three_sep.specs.ThreeSeparations.{HasNoThreeSeparation, IsFirstThreeSeparation}
 
@@ -50,13 +49,6 @@ closed_from m n M upper lower T k = record {
   right = λ r c lr lc e f. k.right r c (contains_first_lines m r lr) (contains_first_lines n c lc) e f;
   below = λ r c lr lc e f. k.below r c (contains_first_lines m r lr) (contains_first_lines n c lc) e f;
 }
-
-count_is : (p : ℕ → Bool) (k : ℕ) → counts.count p k ≡ count p k
-count_is p zero = refl
-count_is p (suc k) = ap (λ (n : ℕ). cond (p k) (suc n) n) (count_is p k)
-
-outside_count : (m n : ℕ) (S : Lines) → count_in (opposite S) (first_lines m) (first_lines n) ≡ outside m n S
-outside_count m n S = outside_is m n S ∙ ap₂ (λ (a b : ℕ). a + b) (count_is (λ r. not (S (Row r))) m) (count_is (λ c. not (S (Column c))) n)
 
 -- ---- connectors
 
@@ -104,7 +96,7 @@ module _ (m n : ℕ) (M : ℕ → ℕ → ℤ) (form : Form) (one two : Connecto
           least = λ T closed has y l e. g.side.least T (closed_from m n M upper lower T closed) (among_from_all (λ z. T z ≡ true) (x ∷ firsts) has) y l e;
         };
         two = all_from_among (λ y. S y ≡ false) seconds g.two;
-        enough = let a = outside_count m n S in let b = g.enough in omega arith;
+        enough = let a = outside_is m n S in let b = g.enough in omega arith;
       }
 
   pub good_numbered : IsGoodThree m n M form one two x S → IsGoodSeed m n M (seed_with form one two x) S
@@ -123,7 +115,7 @@ module _ (m n : ℕ) (M : ℕ → ℕ → ℤ) (form : Form) (one two : Connecto
       least = λ T closed has y l e. good.grown.least T (closed_to m n M upper lower T closed) (all_from_among (λ z. T z ≡ true) (x ∷ firsts) has) y l e;
     };
     two = among_from_all (λ y. S y ≡ false) seconds good.two;
-    enough = let a = outside_count m n S in let b = good.enough in omega arith;
+    enough = let a = outside_is m n S in let b = good.enough in omega arith;
   }
     where
       good : IsGood m n 4 M upper lower firsts seconds x S
@@ -131,12 +123,6 @@ module _ (m n : ℕ) (M : ℕ → ℕ → ℤ) (form : Form) (one two : Connecto
           (subst (λ (ks : List Line). IsGood m n 4 M upper lower (connector_lines (first_is_flat form) one) ks x S) (sym (connector_is (second_is_flat form) two)) g.1)
 
 -- ---- a set as lists
-
-both_ways : (s t : Bool) → (s ≡ true → t ≡ true) → (t ≡ true → s ≡ true) → s ≡ t
-both_ways true true f g = refl
-both_ways true false f g = sym (f refl)
-both_ways false true f g = g refl
-both_ways false false f g = refl
 
 -- a good seed with the same lines of the matrix
 good_same : (m n : ℕ) (M : ℕ → ℕ → ℤ) (form : Form) (one two : Connector) (x : Line) (S T : Lines) → ((y : Line) → IsLine m n y → S y ≡ T y) → IsGoodThree m n M form one two x S → IsGoodThree m n M form one two x T
@@ -167,8 +153,8 @@ module _ (m : Matrix) (three : Three) (f : IsFirstOf m [] three) where
   side = listed three.side.rows three.side.columns
 
   same_lines : (y : Line) → IsLine (height m) m.width y → f.side y ≡ side y
-  same_lines (Row r) l = both_ways (f.side (Row r)) (side (Row r)) (λ e. listed_from_in r three.side.rows ((f.lines.rows_are r).1 (l, e))) (λ e. ((f.lines.rows_are r).0 (in_from_listed r three.side.rows e)).1)
-  same_lines (Column c) l = both_ways (f.side (Column c)) (side (Column c)) (λ e. listed_from_in c three.side.columns ((f.lines.columns_are c).1 (l, e))) (λ e. ((f.lines.columns_are c).0 (in_from_listed c three.side.columns e)).1)
+  same_lines (Row r) l = same_test (f.side (Row r)) (side (Row r)) (λ e. listed_from_in r three.side.rows ((f.lines.rows_are r).1 (l, e))) (λ e. ((f.lines.rows_are r).0 (in_from_listed r three.side.rows e)).1)
+  same_lines (Column c) l = same_test (f.side (Column c)) (side (Column c)) (λ e. listed_from_in c three.side.columns ((f.lines.columns_are c).1 (l, e))) (λ e. ((f.lines.columns_are c).0 (in_from_listed c three.side.columns e)).1)
 
   good : IsGoodThree (height m) m.width (entry m) three.form three.first three.second f.x side
   good = good_same (height m) m.width (entry m) three.form three.first three.second f.x f.side side same_lines

@@ -10,6 +10,9 @@ use Rattle.cmr_base.specs.LineSets.{without}
 use Rattle.cmr_base.proofs.Integers.{mul_assoc, mul_comm}
 use Rattle.cmr_base.proofs.ListsWithout.{in_without, without_shorter}
 use Rattle.cmr_base.proofs.RowLists.{two_cases}
+use Rattle.cmr_base.proofs.Booleans.{not_is, false_is, not_both}
+use Rattle.cmr_base.proofs.EntryBytes.{kept_entry}
+use Rattle.cmr_base.proofs.SeedLemmas.{count_grows}
 use Rattle.three_sep.specs.declared.half.Half.{Half}
 use Rattle.three_sep.specs.declared.side.Side.{Side}
 use Rattle.three_sep.specs.declared.corners.Corners.{Corners}
@@ -18,14 +21,8 @@ use Rattle.cmr_base.specs.Seeds.{IsLine}
 use Rattle.three_sep.specs.NumberedSeeds.{Among, HasAll, count, outside}
 use Rattle.three_sep.specs.Halves.{is_in, HasPulled, HasAdded, HasTaken, Agrees, HasStartedWith, IsNamed}
 use Rattle.three_sep.specs.Sides.{set_of, HasRoom, IsClosedBy, IsGrowingBy, IsGrowing, IsLeastBy, LeavesFewBy, HasNamedStart, name_in}
-use Rattle.three_sep.proofs.HalfLemmas.{true_or_false, kept_entry}
 
 -- ---- counts
-
--- what fails is false, and the other way round
-pub not_false : (b : Bool) → (b ≡ true → ⊥) → b ≡ false
-not_false true h = absurd (h refl)
-not_false false h = refl
 
 pub not_not_true : (b : Bool) → (b ≡ false → ⊥) → b ≡ true
 not_not_true true h = refl
@@ -41,19 +38,10 @@ count_covered test (suc k) xs h = elim (two_cases (test k)) [
   | inr e ↦ rw e (count_covered test k xs (λ x l t. h x (omega arith) t))
 ]
 
-pub count_grows : (one two : ℕ → Bool) (size : ℕ) → ((x : ℕ) → x < size → one x ≡ true → two x ≡ true) → count one size ≤ count two size
-count_grows one two zero h = omega arith
-count_grows one two (suc k) h =
-    let rest = count_grows one two k (λ x l t. h x (omega arith) t) in
-    elim (two_cases (one k)) [
-      | inl e ↦ rw (e, h k (omega arith) e) (omega arith)
-      | inr e ↦ rw e (elim (two_cases (two k)) [ inl f ↦ rw f (omega arith) | inr f ↦ rw f rest ])
-    ]
-
 -- what is not in the greater set is not in the smaller one
 pub not_grows : (a b : Bool) → (a ≡ true → b ≡ true) → not b ≡ true → not a ≡ true
 not_grows true true h e = e
-not_grows true false h e = absurd (true_or_false false (h refl) refl)
+not_grows true false h e = absurd (not_both false (h refl) refl)
 not_grows false b h e = refl
 
 pub outside_less : (m n : ℕ) (S T : Lines) → ((x : Line) → S x ≡ true → T x ≡ true) → outside m n T ≤ outside m n S
@@ -62,14 +50,10 @@ outside_less m n S T h =
     let b = count_grows (λ c. not (T (Column c))) (λ c. not (S (Column c))) n (λ x l e. not_grows (S (Column x)) (T (Column x)) (h (Column x)) e) in
     omega arith
 
-not_true_false : (b : Bool) → not b ≡ true → b ≡ false
-not_true_false true e = absurd (true_or_false false e refl)
-not_true_false false e = refl
-
 pub outside_listed : (m : Matrix) (side : Side) → HasRoom m side → outside (height m) m.width (set_of side) ≤ length side.rows.outside.items + length side.columns.outside.items
 outside_listed m side w =
-    let a = count_covered (λ r. not (is_in side.rows r)) (height m) side.rows.outside.items (λ x l e. w.rows.covered x l (not_true_false (is_in side.rows x) e)) in
-    let b = count_covered (λ c. not (is_in side.columns c)) m.width side.columns.outside.items (λ x l e. w.columns.covered x l (not_true_false (is_in side.columns x) e)) in
+    let a = count_covered (λ r. not (is_in side.rows r)) (height m) side.rows.outside.items (λ x l e. w.rows.covered x l (not_is (is_in side.rows x) e)) in
+    let b = count_covered (λ c. not (is_in side.columns c)) m.width side.columns.outside.items (λ x l e. w.columns.covered x l (not_is (is_in side.columns x) e)) in
     omega arith
 
 -- ---- pulls
@@ -96,7 +80,7 @@ module _ (m : Matrix) (upper lower : ℕ → ℕ → ℤ) (before after : Side) 
   row_same r = ap (λ v. is_in v r) rows ∙ ap (λ v. get_or v.items r false) t.inside_same
 
   column_out : (k : ℕ) → is_in after.columns k ≡ false → is_in before.columns k ≡ false
-  column_out k e = not_false (is_in before.columns k) (λ h. true_or_false (is_in after.columns k) (w.kept k h) e)
+  column_out k e = false_is (is_in before.columns k) (λ h. not_both (is_in after.columns k) (w.kept k h) e)
 
   row_has : (x : Line) → Among start x → set_of after x ≡ true
   row_has (Row r) h = row_same r ∙ g.has (Row r) h
@@ -135,7 +119,7 @@ module _ (m : Matrix) (upper lower : ℕ → ℕ → ℤ) (before after : Side) 
   column_same k = ap (λ v. is_in v k) columns ∙ ap (λ v. get_or v.items k false) t.inside_same
 
   row_out : (r : ℕ) → is_in after.rows r ≡ false → is_in before.rows r ≡ false
-  row_out r e = not_false (is_in before.rows r) (λ h. true_or_false (is_in after.rows r) (w.kept r h) e)
+  row_out r e = false_is (is_in before.rows r) (λ h. not_both (is_in after.rows r) (w.kept r h) e)
 
   column_has : (x : Line) → Among start x → set_of after x ≡ true
   column_has (Row r) h = w.kept r (g.has (Row r) h)
@@ -176,7 +160,7 @@ module _ (m : Matrix) (upper lower : ℕ → ℕ → ℤ) (before after : Side) 
       same k = ap (λ v. is_in v k) columns
 
       out : (r : ℕ) → is_in after.rows r ≡ false → is_in before.rows r ≡ false
-      out r e = not_false (is_in before.rows r) (λ h. true_or_false (is_in after.rows r) (w.kept r h) e)
+      out r e = false_is (is_in before.rows r) (λ h. not_both (is_in after.rows r) (w.kept r h) e)
 
       has : (x : Line) → Among (Row row ∷ start) x → set_of after x ≡ true
       has x (inl e) = subst (λ (z : Line). set_of after z ≡ true) (sym e) w.line_in
@@ -206,7 +190,7 @@ module _ (m : Matrix) (upper lower : ℕ → ℕ → ℤ) (before after : Side) 
       same r = ap (λ v. is_in v r) rows
 
       out : (k : ℕ) → is_in after.columns k ≡ false → is_in before.columns k ≡ false
-      out k e = not_false (is_in before.columns k) (λ h. true_or_false (is_in after.columns k) (w.kept k h) e)
+      out k e = false_is (is_in before.columns k) (λ h. not_both (is_in after.columns k) (w.kept k h) e)
 
       has : (x : Line) → Among (Column column ∷ start) x → set_of after x ≡ true
       has x (inl e) = subst (λ (z : Line). set_of after z ≡ true) (sym e) w.line_in

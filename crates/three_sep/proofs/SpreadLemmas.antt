@@ -1,9 +1,9 @@
 -- The block of rank two that two columns and two rows make is also made by any other two columns and rows of its own whose determinant is
 -- 1 or -1.
-use Rattle.std.proofs.Common.{ℕ, ℤ, pos, ◌≡◌, ◌+ℤ◌, ◌-ℤ◌, ◌*ℤ◌, ◌∙◌, sym, ap, refl, subst, arith}
+use Rattle.std.proofs.Common.{ℤ, ◌≡◌, ◌+ℤ◌, ◌-ℤ◌, ◌*ℤ◌, ◌∙◌, sym, ap, arith}
 use Rattle.cmr_base.specs.Signing.{IsSign}
 use Rattle.cmr_base.specs.Separations.{spread}
-use Rattle.cmr_base.proofs.Integers.{sums, products}
+use Rattle.cmr_base.proofs.Integers.{sums, products, one-mul}
 use Rattle.cmr_base.proofs.SignedProducts.{sign_square}
 
 -- an entry of the block by the two columns
@@ -38,9 +38,6 @@ shift d g h z = simp products (omega (arith, sums))
 twice : (d z : ℤ) → d *ℤ (d *ℤ z) ≡ (d *ℤ d) *ℤ z
 twice d z = simp products (omega (arith, sums))
 
-once : (z : ℤ) → pos 1 *ℤ z ≡ z
-once z = simp products (omega (arith, sums))
-
 module _ (u1 u2 x1 x2 y1 y2 a1 a2 b1 b2 e1 e2 : ℤ) where
   abbrev rows_minor : ℤ
   rows_minor = x1 *ℤ y2 -ℤ x2 *ℤ y1
@@ -63,7 +60,7 @@ module _ (u1 u2 x1 x2 y1 y2 a1 a2 b1 b2 e1 e2 : ℤ) where
       ∙ ap (λ (z : ℤ). d *ℤ (z *ℤ here)) (sym is)
       ∙ twice d here
       ∙ ap (λ (z : ℤ). z *ℤ here) (sign_square d sign)
-      ∙ once here
+      ∙ one-mul here
 
   -- the same of entries that are these sums
   pub spread_same : (d x y z w row_first row_other column_first column_other value : ℤ) → IsSign d → d ≡ x *ℤ w -ℤ y *ℤ z → x ≡ b1 *ℤ x1 +ℤ b2 *ℤ x2 → y ≡ e1 *ℤ x1 +ℤ e2 *ℤ x2 → z ≡ b1 *ℤ y1 +ℤ b2 *ℤ y2

@@ -1,9 +1,9 @@
 -- A side that grows by the rules of the concentrated form, step by step.
-use Rattle.std.proofs.Common.{ℕ, ℤ, pos, List, ◌≡◌, ◌∙◌, ◌+ℤ◌, ◌-ℤ◌, ◌*ℤ◌, sym, ap, ap₂, subst, get_or, refl, arith, Result, Ok, Err, OnOk}
+use Rattle.std.proofs.Common.{ℕ, ℤ, pos, List, ◌≡◌, ◌∙◌, ◌+ℤ◌, ◌-ℤ◌, ◌*ℤ◌, sym, ap, ap₂, subst, get_or, refl, Result, Ok, Err, OnOk}
 use Rattle.cmr_base.specs.declared.line.Line.{Line}
 use Rattle.cmr_base.specs.Matrix.{Matrix, height, row_of, entry}
 use Rattle.cmr_base.specs.Separations.{zeros, spread_at, core_determinant}
-use Rattle.cmr_base.proofs.Integers.{products, sums}
+use Rattle.cmr_base.proofs.Integers.{zero-mul}
 use Rattle.three_sep.specs.declared.side.Side.{Side}
 use Rattle.three_sep.specs.declared.connectors.Connectors.{Connectors}
 use Rattle.three_sep.specs.Halves.{Agrees, AgreesWithSum, HasPulled, HasTaken}
@@ -11,25 +11,22 @@ use Rattle.three_sep.specs.Concentrated.{IsGrowingFor, first_of, second_of}
 use Rattle.three_sep.proofs.SideLemmas.{row_followed, column_followed}
 use Rattle.three_sep.proofs.SpreadLemmas.{spread_parts}
 
-zero_times : (z : ℤ) → pos 0 *ℤ z ≡ pos 0
-zero_times z = simp products
-
 pub zero_row_step : (m : Matrix) (d : Connectors) (before after : Side) (row cr cc : ℕ) (entries model : List ℤ) → cr ≡ height m → cc ≡ m.width → HasTaken cr row before.rows after.rows
     → HasPulled cc (Agrees entries (pos 0) model) before.columns after.columns → entries ≡ row_of m row → (start : List Line) → IsGrowingFor m d start before → IsGrowingFor m d start after
 zero_row_step m d before after row cr cc entries model er ec t w ee start g =
     row_followed m zeros (spread_at (entry m) (first_of d) (second_of d)) before after after.rows row (Agrees entries (pos 0) model) (subst (λ (z : ℕ). HasTaken z row before.rows after.rows) er t) refl
     (subst (λ (z : ℕ). HasPulled z (Agrees entries (pos 0) model) before.columns after.columns) ec w)
-    (λ k h. ap (λ (z : List ℤ). get_or z k (pos 0)) ee ∙ h ∙ sym (zero_times (get_or model k (pos 0))))
-    (λ k h. sym (ap (λ (z : List ℤ). get_or z k (pos 0)) ee) ∙ h ∙ zero_times (get_or model k (pos 0))) start g
+    (λ k h. ap (λ (z : List ℤ). get_or z k (pos 0)) ee ∙ h ∙ sym (zero-mul (get_or model k (pos 0))))
+    (λ k h. sym (ap (λ (z : List ℤ). get_or z k (pos 0)) ee) ∙ h ∙ zero-mul (get_or model k (pos 0))) start g
 
 module _ (m : Matrix) (d : Connectors) where
-  abbrev determinant : ℤ
+  abbrev pub determinant : ℤ
   determinant = core_determinant (entry m) (first_of d) (second_of d)
 
-  abbrev part_first : ℕ → ℤ
+  abbrev pub part_first : ℕ → ℤ
   part_first column = determinant *ℤ (entry m d.o d.q *ℤ entry m d.corners.k column -ℤ entry m d.corners.k d.q *ℤ entry m d.o column)
 
-  abbrev part_other : ℕ → ℤ
+  abbrev pub part_other : ℕ → ℤ
   part_other column = determinant *ℤ (entry m d.corners.k d.corners.p *ℤ entry m d.o column -ℤ entry m d.o d.corners.p *ℤ entry m d.corners.k column)
 
   pub spread_column_step : (before after : Side) (column cr cc : ℕ) (entries one other : List ℤ) (f g : ℤ) → cr ≡ height m → cc ≡ m.width → HasTaken cc column before.columns after.columns

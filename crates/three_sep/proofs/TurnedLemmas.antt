@@ -1,18 +1,18 @@
 -- A side of the concentrated form and its other side in the transposed matrix.
-use Rattle.std.proofs.Common.{ℕ, ℤ, pos, ◌+◌, ◌<◌, ◌≤◌, ◌*ℤ◌, ◌-ℤ◌, Bool, true, false, not, ◌≡◌, ◌∙◌, sym, ap, ap₂, refl, arith, subst, inl, inr}
-use Rattle.cmr_base.specs.declared.line.Line.{Line}
+use Rattle.std.proofs.Common.{ℕ, ℤ, ◌≤◌, ◌*ℤ◌, ◌-ℤ◌, not, ◌≡◌, ◌∙◌, sym, ap, ap₂, refl, arith, subst, inl, inr}
 use Rattle.cmr_base.specs.declared.line.Line.TheVariants.{Row, Column}
 use Rattle.cmr_base.specs.Matrix.{Matrix, height, entry, transposed, IsMatrix}
 use Rattle.cmr_base.specs.Signing.{IsSign}
-use Rattle.cmr_base.specs.Separations.{Lines, zeros, spread, spread_at, core_determinant}
+use Rattle.cmr_base.specs.Separations.{Lines, zeros, spread_at, core_determinant}
 use Rattle.cmr_base.proofs.Integers.{mul_comm}
 use Rattle.cmr_base.proofs.Parts.{entry-transposed, height-transposed}
+use Rattle.cmr_base.proofs.Booleans.{not_false, not_not, not_is}
 use Rattle.three_sep.specs.declared.connectors.Connectors.{Connectors}
-use Rattle.three_sep.specs.NumberedSeeds.{Among, HasAll, count, inside, outside}
+use Rattle.three_sep.specs.NumberedSeeds.{HasAll, inside, outside}
 use Rattle.three_sep.specs.Sides.{IsClosedBy}
 use Rattle.three_sep.specs.Searches.{LeavesSecond}
 use Rattle.three_sep.specs.Concentrated.{ArePlaced, HasNoLeaving, first_lines, first_of, second_of, turned}
-use Rattle.three_sep.proofs.CutLemmas.{count_same, not_false_is, not_not, not_true_is}
+use Rattle.three_sep.proofs.CutLemmas.{count_same}
 use Rattle.three_sep.proofs.SpreadLemmas.{spread_turned}
 
 module _ (m : Matrix) (is : IsMatrix m) (d : Connectors) where
@@ -53,8 +53,8 @@ module _ (m : Matrix) (is : IsMatrix m) (d : Connectors) where
 
     pub closed_turned : IsClosedBy m zeros (spread_at (entry m) (first_of d) (second_of d)) S → IsClosedBy (transposed m) zeros (spread_at (entry (transposed m)) (first_of (turned d)) (second_of (turned d))) turned_side
     closed_turned closed = record {
-      right = λ r c lr lc er ec. there c r ∙ closed.right c r lc (let h = height-transposed m in omega arith) (not_false_is (S (Row c)) ec) (not_true_is (S (Column r)) er);
-      below = λ r c lr lc er ec. there c r ∙ closed.below c r lc (let h = height-transposed m in omega arith) (not_true_is (S (Row c)) ec) (not_false_is (S (Column r)) er) ∙ sym (turned_at c r);
+      right = λ r c lr lc er ec. there c r ∙ closed.right c r lc (let h = height-transposed m in omega arith) (not_false (S (Row c)) ec) (not_is (S (Column r)) er);
+      below = λ r c lr lc er ec. there c r ∙ closed.below c r lc (let h = height-transposed m in omega arith) (not_is (S (Row c)) ec) (not_false (S (Column r)) er) ∙ sym (turned_at c r);
     }
 
     pub has_turned : LeavesSecond m d.corners (Row d.o) S → HasAll turned_side (first_lines (turned d))

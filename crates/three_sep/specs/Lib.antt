@@ -5,6 +5,8 @@ pub mod Halves
 pub mod Sides
 pub mod Concentrated
 pub mod Cuts
+pub mod Parted
+pub mod Finders
 pub mod Searches
 pub mod Blocks
 pub mod BlocksView

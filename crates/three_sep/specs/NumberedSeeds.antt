@@ -1,5 +1,5 @@
 -- Seeds of three-separations by the numbers with which they are ordered, as the search goes through them.
-use Rattle.std.specs.Prelude.{◌≡◌, ◌≢◌, ◌<◌, ◌≤◌, ◌+◌, ◌⊎◌, ◌↔◌, ℕ, zero, suc, ℤ, pos, Bool, true, false, not, cond, List, [], ◌∷◌}
+use Rattle.std.specs.Prelude.{◌≡◌, ◌≢◌, ◌<◌, ◌≤◌, ◌⊎◌, ◌↔◌, ℕ, ℤ, pos, Bool, true, false, List, [], ◌∷◌}
 use Rattle.std.specs.List.Sorted.{IsStrictlyIncreasing}
 use Rattle.cmr_base.specs.declared.line.Line.{Line}
 use Rattle.cmr_base.specs.declared.line.Line.TheVariants.{Row, Column}
@@ -11,6 +11,7 @@ use Rattle.cmr_base.specs.declared.separation.Three.{Three}
 use Rattle.cmr_base.specs.Separations.{Lines, upper_block, lower_block, first_is_flat, second_is_flat}
 use Rattle.cmr_base.specs.Separations as base
 use Rattle.cmr_base.specs.Seeds.{IsLine, line_number, form_number}
+pub use Rattle.cmr_base.specs.Seeds.{count, inside, outside}
 
 -- no line outside breaks a rule with a line inside: the one for rows inside, or the one for columns inside
 pub record IsClosed (m n : ℕ) (M right_rule below_rule : ℕ → ℕ → ℤ) (S : Lines) : Type 0 where
@@ -33,18 +34,6 @@ pub record IsSide (m n : ℕ) (M right_rule below_rule : ℕ → ℕ → ℤ) (s
   pub closed : IsClosed m n M right_rule below_rule S
   pub has : HasAll S start
   pub least : (T : Lines) → IsClosed m n M right_rule below_rule T → HasAll T start → (x : Line) → IsLine m n x → S x ≡ true → T x ≡ true
-
--- how many of the first numbers pass
-abbrev pub count : (ℕ → Bool) → ℕ → ℕ
-count test zero = 0
-count test (suc k) = cond (test k) (suc (count test k)) (count test k)
-
--- how many lines are in the set, and how many are not
-abbrev pub inside : ℕ → ℕ → Lines → ℕ
-inside m n S = count (λ r. S (Row r)) m + count (λ c. S (Column c)) n
-
-abbrev pub outside : ℕ → ℕ → Lines → ℕ
-outside m n S = count (λ r. not (S (Row r))) m + count (λ c. not (S (Column c))) n
 
 -- the lines of a connector with its corner at (row, column)
 abbrev pub connector : Bool → ℕ → ℕ → ℕ → List Line

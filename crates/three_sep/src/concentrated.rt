@@ -13,6 +13,7 @@ ghost use Rattle.three_sep.specs.Concentrated.{AreConcentratedCorners, AreCandid
 
 use crate::connectors::Connectors;
 use crate::corners::Corners;
+use crate::pulled::is_second_pulled;
 use crate::search::{is_beside, leaves_second, line_at, separation_of};
 use crate::side::Side;
 use cmr_base::{Form, Line, Memory, RowsAndColumns, Three};
@@ -211,6 +212,9 @@ impl ConcentratedSearch {
         ensures first { IfOk result (λ answer. IfSome answer (IsFirstOf views.now (3 ∷ i ∷ p ∷ k ∷ []))) }
         ensures none { IfOk result (λ answer. IfNone answer (HasNoGood views.now (3 ∷ i ∷ p ∷ k ∷ []))) }
     {
+        if !self.has_candidate() {
+            return Ok(None);
+        }
         for j in 0..views.columns() {
             if self.is_second_column(views, k, j) {
                 if let Some(three) = self.first_of_corners(
@@ -346,6 +350,9 @@ impl ConcentratedSearch {
         ensures none { IfOk result (λ answer. IfNone answer (HasNoGood views.now (all_front connectors.now))) }
     {
         let _rows = views.rows();
+        if is_second_pulled(views, connectors) {
+            return Ok(None);
+        }
         if !may_part(views, &mut self.side, connectors)? {
             return Ok(None);
         }

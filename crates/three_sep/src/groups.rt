@@ -7,8 +7,11 @@ ghost use Rattle.cmr_base.specs.Separations.{Lines};
 ghost use Rattle.cmr_base.specs.Seeds.{IsLine};
 ghost use Rattle.three_sep.specs.Sides.{AreInside, HasSize};
 ghost use Rattle.three_sep.specs.Cuts.{AreTogether, HasNames, HasNoCutAt, HoldTogether, IsCut, IsCutAt, IsCutBetween, Respects, IsJoined, IsNotBelow, name_of};
+ghost use Rattle.three_sep.specs.Finders.{AreFound};
+ghost use Rattle.three_sep.specs.Parted.{IsAlwaysParted};
 
 use crate::corners::Corners;
+use crate::parted::is_parted_by_cuts;
 use crate::side::Side;
 use cmr_base::{Line, Memory, RowsAndColumns};
 use std::alloc::Global;
@@ -82,6 +85,23 @@ impl Groups {
         Ok(Groups { names })
     }
 
+    /// All lines are one group.
+    pub fn whole(alloc: Global, views: &RowsAndColumns<'_>) -> Result<Groups, Memory>
+        ensures { IfOk result (HasNames views.now) }
+    {
+        let count = views.rows() + views.columns();
+        Ok(Groups {
+            names: vec![in alloc; 0u32; count as usize]?,
+        })
+    }
+
+    /// The names of the lines, the rows first.
+    pub fn as_slice(&self) -> &[u32]
+        ensures { result.now ≡ self.now.names.items }
+    {
+        &self.names
+    }
+
     /// Becomes equal to others.
     pub fn copy(&mut self, other: &Groups) -> Result<(), Memory>
         ensures { OnOk result (self.new.names.items ≡ other.now.names.items) }
@@ -91,6 +111,14 @@ impl Groups {
         Ok(())
     }
 
+    /// The name of a line's group.
+    pub fn name(&self, line: u32) -> u32
+        requires { line < length self.now.names.items }
+        ensures { result ≡ slice_index_or self.now.names.items line 0 }
+    {
+        self.names[line as usize]
+    }
+
     /// Whether two lines are in one group.
     pub fn are_one(&self, one: u32, two: u32) -> bool
         requires one { one < length self.now.names.items }
@@ -98,6 +126,18 @@ impl Groups {
         ensures { IsTrue result ↔ (slice_index_or self.now.names.items one 0 ≡ slice_index_or self.now.names.items two 0) }
     {
         self.names[one as usize] == self.names[two as usize]
+    }
+
+    /// Whether all lines are shown to be in one group.
+    pub fn are_all_one(&self) -> bool
+        ensures { result ≡ true → (k l : ℕ) → k < length self.now.names.items → l < length self.now.names.items → slice_index_or self.now.names.items k 0 ≡ slice_index_or self.now.names.items l 0 }
+    {
+        for line in 0..self.names.len() {
+            if self.names[line] != self.names[0] {
+                return false;
+            }
+        }
+        true
     }
 
     /// How many lines are in the group of a line.
@@ -125,7 +165,11 @@ impl Groups {
     }
 }
 
-/// Finds groups of lines that no cut parts.
+/// How many rows and columns are looked at first.
+const FIRST_LINES: u32 = 16;
+
+/// Finds groups of lines that no cut parts. Lines are joined by the nonzeros of the first rows and columns, and of twice
+/// as many each time that these are not enough to show that there is no cut.
 pub fn groups_of(
     alloc: Global,
     views: &RowsAndColumns<'_>,
@@ -136,27 +180,103 @@ pub fn groups_of(
     ensures names { IfOk result (HasNames views.now) }
     ensures together { IfOk result (HoldTogether (IsCut views.now) views.now) }
 {
-    let mut groups = Groups::new(alloc, views)?;
-    let mut linked = Groups::new(alloc, views)?;
-    let mut within = Groups::new(alloc, views)?;
-    for i in 0..views.rows() {
-        for j in 0..views.columns() {
-            if views.is_nonzero(i, j) && !linked.are_one(i, views.rows() + j) {
-                linked.join(i, views.rows() + j);
-                within.copy(&groups)?;
-                if are_together(views, side, &mut within, i, j)? {
-                    groups.join(i, views.rows() + j);
+    let mut finder = GroupFinder::new(alloc, views)?;
+    let most = views.rows().max(views.columns());
+    let mut lines = FIRST_LINES;
+    while lines < most {
+        finder.join_first(alloc, views, side, lines)?;
+        if finder.has_parted(alloc, views)? {
+            return Groups::whole(alloc, views);
+        }
+        lines *= 2;
+    }
+    finder.join_first(alloc, views, side, most)?;
+    Ok(finder.groups)
+}
+
+// Groups while they are found: those found so far, lines that are linked by nonzeros that were looked at, and room for the
+// groups that are not parted by the cuts that part one nonzero's lines.
+#[derive(Drop)]
+struct GroupFinder {
+    groups: Groups,
+    linked: Groups,
+    within: Groups,
+}
+
+impl GroupFinder {
+    fn new(alloc: Global, views: &RowsAndColumns<'_>) -> Result<GroupFinder, Memory>
+        ensures { IfOk result (AreFound views.now) }
+    {
+        Ok(GroupFinder {
+            groups: Groups::new(alloc, views)?,
+            linked: Groups::new(alloc, views)?,
+            within: Groups::new(alloc, views)?,
+        })
+    }
+
+    // Whether the first group is shown to be parted by every cut.
+    fn has_parted(&self, alloc: Global, views: &RowsAndColumns<'_>) -> Result<bool, Memory>
+        requires found { AreFound views.now self.now }
+        requires some { 1 ≤ height views.now + views.now.width }
+        ensures { IfOk result (λ parted. parted ≡ true → (T : Lines) → ¬ (IsCut views.now T)) }
+    {
+        is_parted_by_cuts(alloc, views, &self.groups, self.groups.name(0))
+    }
+
+    // Goes over the nonzeros of so many rows and columns.
+    fn join_first(
+        &mut self,
+        alloc: Global,
+        views: &RowsAndColumns<'_>,
+        side: &mut Side,
+        lines: u32,
+    ) -> Result<(), Memory>
+        requires size { HasSize views.now side.old }
+        requires found { AreFound views.now self.old }
+        ensures size { OnOk result (HasSize views.now side.new) }
+        ensures found { OnOk result (AreFound views.now self.new) }
+    {
+        for i in 0..views.rows().min(lines) {
+            for j in 0..views.columns().min(lines) {
+                if views.is_nonzero(i, j) && !self.linked.are_one(i, views.rows() + j) {
+                    self.link(alloc, views, side, i, j)?;
                 }
             }
         }
+        Ok(())
     }
-    Ok(groups)
+
+    // Links the lines of a nonzero, and joins them where no cut parts them.
+    fn link(
+        &mut self,
+        alloc: Global,
+        views: &RowsAndColumns<'_>,
+        side: &mut Side,
+        i: u32,
+        j: u32,
+    ) -> Result<(), Memory>
+        requires size { HasSize views.now side.old }
+        requires found { AreFound views.now self.old }
+        requires row { i < height views.now }
+        requires column { j < views.now.width }
+        requires nonzero { entry views.now i j ≢ pos 0 }
+        ensures size { OnOk result (HasSize views.now side.new) }
+        ensures found { OnOk result (AreFound views.now self.new) }
+    {
+        self.linked.join(i, views.rows() + j);
+        self.within.copy(&self.groups)?;
+        if are_together(alloc, views, side, &mut self.within, i, j)? {
+            self.groups.join(i, views.rows() + j);
+        }
+        Ok(())
+    }
 }
 
 // Whether no cut parts row i from column j. First lines are joined that no cut parts which has row i in side one and
 // column j in side two: a nonzero (k, p) with a 0 in (k, j) or in (i, p) is not in the upper block of such a cut. Then
-// no nonzero must be left for the lower block.
+// a group must be parted by every cut, or no nonzero be left for the lower block.
 fn are_together(
+    alloc: Global,
     views: &RowsAndColumns<'_>,
     side: &mut Side,
     within: &mut Groups,
@@ -173,14 +293,87 @@ fn are_together(
     ensures names { OnOk result (HasNames views.now within.new) }
     ensures together { IfOk result (λ together. together ≡ true → AreTogether views.now i j) }
 {
-    for k in 0..views.rows() {
-        if k != i && !join_row(views, side, within, i, j, k)? {
+    let most = views.rows().max(views.columns());
+    let mut lines = FIRST_LINES;
+    while lines < most {
+        if !join_rows(views, side, within, i, j, lines)? {
             return Ok(false);
         }
+        if is_one_side_parted(alloc, views, within)? {
+            return Ok(true);
+        }
+        lines *= 2;
+    }
+    if !join_rows(views, side, within, i, j, most)? {
+        return Ok(false);
     }
     if within.are_one(i, views.rows() + j) {
         return Ok(true);
     }
+    are_all_refused(views, side, within, i, j)
+}
+
+// Whether the group of the first line or that of the second is shown to be parted by every cut.
+fn is_one_side_parted(
+    alloc: Global,
+    views: &RowsAndColumns<'_>,
+    groups: &Groups,
+) -> Result<bool, Memory>
+    requires names { HasNames views.now groups.now }
+    requires some { 2 ≤ height views.now + views.now.width }
+    ensures { IfOk result (λ parted. parted ≡ true → (name : ℕ) × IsAlwaysParted views.now groups.now name) }
+{
+    if is_parted_by_cuts(alloc, views, groups, groups.name(0))? {
+        return Ok(true);
+    }
+    is_parted_by_cuts(alloc, views, groups, groups.name(1))
+}
+
+// Joins the rows to the columns where they are not 0, among so many of both, as far as this is right between row i and
+// column j. Says no where a cut may be there.
+fn join_rows(
+    views: &RowsAndColumns<'_>,
+    side: &mut Side,
+    within: &mut Groups,
+    i: u32,
+    j: u32,
+    lines: u32,
+) -> Result<bool, Memory>
+    requires size { HasSize views.now side.old }
+    requires names { HasNames views.now within.old }
+    requires together { HoldTogether (IsCutBetween views.now i j) views.now within.old }
+    requires row { i < height views.now }
+    requires column { j < views.now.width }
+    requires nonzero { entry views.now i j ≢ pos 0 }
+    ensures size { OnOk result (HasSize views.now side.new) }
+    ensures names { OnOk result (HasNames views.now within.new) }
+    ensures together { OnOk result (HoldTogether (IsCutBetween views.now i j) views.now within.new) }
+{
+    for k in 0..views.rows().min(lines) {
+        if k != i && !join_row(views, side, within, i, j, k, lines)? {
+            return Ok(false);
+        }
+    }
+    Ok(true)
+}
+
+// Whether no nonzero is left for the lower block of a cut between row i and column j.
+fn are_all_refused(
+    views: &RowsAndColumns<'_>,
+    side: &mut Side,
+    within: &Groups,
+    i: u32,
+    j: u32,
+) -> Result<bool, Memory>
+    requires size { HasSize views.now side.old }
+    requires names { HasNames views.now within.now }
+    requires together { HoldTogether (IsCutBetween views.now i j) views.now within.now }
+    requires row { i < height views.now }
+    requires column { j < views.now.width }
+    requires nonzero { entry views.now i j ≢ pos 0 }
+    ensures size { OnOk result (HasSize views.now side.new) }
+    ensures together { IfOk result (λ together. together ≡ true → AreTogether views.now i j) }
+{
     for k in 0..views.rows() {
         if k != i && !is_row_refused(views, side, within, i, j, k)? {
             return Ok(false);
@@ -189,8 +382,8 @@ fn are_together(
     Ok(true)
 }
 
-// Joins row k to the columns where it is not 0, as far as this is right between row i and column j. Says no where a
-// cut may be there.
+// Joins row k to the columns where it is not 0, among so many, as far as this is right between row i and column j. Says
+// no where a cut may be there.
 fn join_row(
     views: &RowsAndColumns<'_>,
     side: &mut Side,
@@ -198,6 +391,7 @@ fn join_row(
     i: u32,
     j: u32,
     k: u32,
+    lines: u32,
 ) -> Result<bool, Memory>
     requires size { HasSize views.now side.old }
     requires names { HasNames views.now within.old }
@@ -210,7 +404,7 @@ fn join_row(
     ensures names { OnOk result (HasNames views.now within.new) }
     ensures together { OnOk result (HoldTogether (IsCutBetween views.now i j) views.now within.new) }
 {
-    for p in 0..views.columns() {
+    for p in 0..views.columns().min(lines) {
         if is_lower(views, i, p, k, j) && !within.are_one(k, views.rows() + p) {
             if may_cut_groups(views, side, within, &Corners { i, p, k, j })? {
                 return Ok(false);

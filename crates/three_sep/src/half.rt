@@ -35,8 +35,8 @@ fn is_multiple_at(matrix: &Matrix, row: u32, factor: i8, model: u32, place: u32)
     matrix.entry(row, place) == factor * matrix.entry(model, place)
 }
 
-// Whether the entry of a row at a place is the sum of those of two multiples.
-fn is_sum_at(matrix: &Matrix, row: u32, one: &Multiple, other: &Multiple, place: u32) -> bool
+/// Whether the entry of a row at a place is the sum of those of two multiples.
+pub fn is_sum_at(matrix: &Matrix, row: u32, one: &Multiple, other: &Multiple, place: u32) -> bool
     requires row { row < height matrix.now }
     requires one_row { one.now.row < height matrix.now }
     requires other_row { other.now.row < height matrix.now }

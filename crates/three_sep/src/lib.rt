@@ -7,6 +7,8 @@ mod connectors;
 mod corners;
 mod groups;
 mod half;
+mod parted;
+mod pulled;
 mod search;
 mod side;
 mod spread_side;

@@ -181,6 +181,9 @@ impl Search {
         ensures first { IfOk result (λ answer. IfSome answer (IsFirstOf views.now (form_number form ∷ i ∷ []))) }
         ensures none { IfOk result (λ answer. IfNone answer (HasNoGood views.now (form_number form ∷ i ∷ []))) }
     {
+        if self.groups.are_all_one() {
+            return Ok(None);
+        }
         for p in 0..views.columns() {
             if views.is_nonzero(i, p) {
                 if let Some(three) = self.first_of_corner(rt, alloc, workers, views, form, i, p)? {

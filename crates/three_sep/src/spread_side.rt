@@ -113,8 +113,8 @@ impl Side {
     }
 }
 
-// The multiple of column p in what the connectors make of a column.
-fn part_of_first(views: &RowsAndColumns<'_>, connectors: &Connectors, column: u32) -> Multiple
+/// The multiple of column p in what the connectors make of a column.
+pub fn part_of_first(views: &RowsAndColumns<'_>, connectors: &Connectors, column: u32) -> Multiple
     requires placed { ArePlaced views.now connectors.now }
     requires column { column < views.now.width }
     requires determinant { IsSign (core_determinant (entry views.now) (first_of connectors.now) (second_of connectors.now)) }
@@ -136,8 +136,8 @@ fn part_of_first(views: &RowsAndColumns<'_>, connectors: &Connectors, column: u3
     }
 }
 
-// The multiple of column q in what the connectors make of a column.
-fn part_of_other(views: &RowsAndColumns<'_>, connectors: &Connectors, column: u32) -> Multiple
+/// The multiple of column q in what the connectors make of a column.
+pub fn part_of_other(views: &RowsAndColumns<'_>, connectors: &Connectors, column: u32) -> Multiple
     requires placed { ArePlaced views.now connectors.now }
     requires column { column < views.now.width }
     requires determinant { IsSign (core_determinant (entry views.now) (first_of connectors.now) (second_of connectors.now)) }

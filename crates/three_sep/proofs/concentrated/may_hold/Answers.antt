@@ -1,7 +1,7 @@
 use Rattle.std.proofs.Common.{◌∷◌}
+use Rattle.cmr_base.proofs.Booleans.{not_both}
 use Rattle.three_sep.specs.Sides.{set_of}
 use Rattle.three_sep.specs.Concentrated.{first_lines}
-use Rattle.three_sep.proofs.SearchLemmas.{not_good}
 use Rattle.three_sep.proofs.ConcentratedLemmas.{least_leaving, told_few_leaving, told_least}
 use Rattle.three_sep.proofs.concentrated.may_hold.Goals as goal
 
@@ -17,4 +17,4 @@ returns-clause-no c =
     let m = c.args.views.now in
     λ e. least_leaving m d (c.args.line ∷ first_lines d) (set_of c.spread.new.self)
     (told_least m d (c.args.line ∷ first_lines d) c.in_ok-spread.field-0 (set_of c.spread.new.self) (c.in_ok-spread.ensures.closed _ (c.in_ok-add.ensures.growing _ _ (first_lines d) (c.in_ok-start_flat.ensures.growing _ _))) c.if-not-branch.false)
-    (λ leaves. not_good c.leaves_second.result (c.leaves_second.ensures.1 leaves) e)
+    (λ leaves. not_both c.leaves_second.result (c.leaves_second.ensures.1 leaves) e)

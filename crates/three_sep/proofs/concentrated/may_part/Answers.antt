@@ -1,7 +1,6 @@
-use Rattle.std.proofs.Common.{◌∙◌, sym, subst, Bool}
+use Rattle.cmr_base.proofs.Booleans.{not_both}
 use Rattle.three_sep.specs.Sides.{set_of}
 use Rattle.three_sep.specs.Concentrated.{first_lines}
-use Rattle.three_sep.proofs.SearchLemmas.{not_good}
 use Rattle.three_sep.proofs.ConcentratedLemmas.{least_leaving, told_few_leaving, told_least}
 use Rattle.three_sep.proofs.concentrated.may_part.Goals as goal
 
@@ -19,4 +18,4 @@ pub returns-clause-no : goal.returns-clause-no
 returns-clause-no c = λ e.
     (least_leaving c.args.views.now c.args.connectors.now (first_lines c.args.connectors.now) (set_of c.spread.new.self)
     (told_least c.args.views.now c.args.connectors.now (first_lines c.args.connectors.now) c.in_ok-spread.field-0 (set_of c.spread.new.self) (c.in_ok-spread.ensures.closed (first_lines c.args.connectors.now) (c.in_ok-start_flat.ensures.growing _ _)) c.if-not-branch.false)
-    (λ leaves. not_good c.leaves_second.result (c.leaves_second.ensures.1 leaves) e))
+    (λ leaves. not_both c.leaves_second.result (c.leaves_second.ensures.1 leaves) e))

@@ -1,7 +1,8 @@
 use Rattle.std.proofs.Common.{◌∙◌, ◌-ℤ◌, ◌*ℤ◌, ℤ, sym, ap₂, subst}
+use Rattle.cmr_base.proofs.SmallNumbers.{difference_kept, difference_fits}
+use Rattle.cmr_base.proofs.EntryBytes.{kept_entry}
 use Rattle.three_sep.specs.Numbers.{IsSmall}
-use Rattle.three_sep.proofs.HalfLemmas.{kept_entry}
-use Rattle.three_sep.proofs.NumberLemmas.{difference_fits, difference_kept, difference_small}
+use Rattle.three_sep.proofs.NumberLemmas.{difference_small}
 use Rattle.three_sep.proofs.connectors.cross.Goals as goal
 
 pub overflow_sub-result : goal.overflow_sub-result

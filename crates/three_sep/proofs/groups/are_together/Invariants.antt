@@ -1,11 +1,10 @@
-use Rattle.std.proofs.Common.{◌≢◌, ◌<◌, ℕ, pos}
-use Rattle.cmr_base.specs.Matrix.{entry}
+use Rattle.std.proofs.Common.{◌≤◌, ◌-◌}
 use Rattle.three_sep.specs.Sides.{HasSize}
-use Rattle.three_sep.specs.Cuts.{HasNames, HoldTogether, IsCutBetween, IsNotBelow}
+use Rattle.three_sep.specs.Cuts.{HasNames, HoldTogether, IsCutBetween}
 use Rattle.three_sep.proofs.groups.are_together.Given as goal
 
-abbrev pub invariant-loop-k : goal.invariant-loop-k
-invariant-loop-k l = HasSize l.views l.side × HasNames l.views l.within × HoldTogether (IsCutBetween l.views l.i l.j) l.views l.within
+abbrev pub invariant-loop-lines : goal.invariant-loop-lines
+invariant-loop-lines l = HasSize l.views l.side × HasNames l.views l.within × HoldTogether (IsCutBetween l.views l.i l.j) l.views l.within × (16 ≤ l.lines)
 
-abbrev pub invariant-loop-k-2 : goal.invariant-loop-k-2
-invariant-loop-k-2 l = HasSize l.views l.side × ((r p : ℕ) → r < l.k → p < l.views.width → entry l.views r p ≢ pos 0 → IsNotBelow l.views l.i l.j r p)
+abbrev pub decreases-loop-lines : goal.decreases-loop-lines
+decreases-loop-lines l = l.most - l.lines

@@ -1,5 +1,5 @@
 use Rattle.std.proofs.Common.{◌∙◌, ◌*ℤ◌, ℤ, ap₂}
-use Rattle.three_sep.proofs.HalfLemmas.{kept_entry}
+use Rattle.cmr_base.proofs.EntryBytes.{kept_entry}
 use Rattle.three_sep.proofs.NumberLemmas.{is_same_sum, kept_small, sum_fits}
 use Rattle.three_sep.proofs.half.is_sum_at.Goals as goal
 

@@ -1,4 +1,4 @@
-use Rattle.std.proofs.Common.{subst, sym, false, List, Bool, ap, ◌∙◌}
+use Rattle.std.proofs.Common.{subst, sym, false}
 use Rattle.std.proofs.lemmas.List.{length-set}
 use Rattle.three_sep.specs.Concentrated.{AreCandidates, all_front}
 use Rattle.three_sep.specs.Searches.{HasNoGood}

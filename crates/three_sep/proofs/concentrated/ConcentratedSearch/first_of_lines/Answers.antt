@@ -1,4 +1,4 @@
-use Rattle.std.proofs.Common.{[], ◌∷◌, ◌++◌, sym, ap, arith, subst, refl, ◌∙◌, Bool}
+use Rattle.std.proofs.Common.{sym, ap, arith, subst, ◌∙◌}
 use Rattle.cmr_base.specs.declared.separation.Form.TheVariants.{Concentrated}
 use Rattle.three_sep.specs.declared.side.Side.{Side}
 use Rattle.three_sep.specs.declared.concentrated.ConcentratedSearch.{ConcentratedSearch}

@@ -1,4 +1,4 @@
-use Rattle.std.proofs.Common.{◌∙◌, ℕ, sym, ap, subst}
+use Rattle.std.proofs.Common.{sym, subst}
 use Rattle.cmr_base.specs.Matrix.{Matrix, entry}
 use Rattle.cmr_base.specs.Signing.{IsSign}
 use Rattle.cmr_base.specs.Separations.{core_determinant}
@@ -6,6 +6,9 @@ use Rattle.three_sep.specs.Concentrated.{ArePlaced, HasNoLeaving, first_lines, f
 use Rattle.three_sep.proofs.ConcentratedLemmas.{no_leaving, no_left}
 use Rattle.three_sep.proofs.TurnedLemmas.{placed_turned, sign_turned}
 use Rattle.three_sep.proofs.concentrated.ConcentratedSearch.first_of_placed.Goals as goal
+
+pub returns-then-is_second_pulled-clause-none : goal.returns-then-is_second_pulled-clause-none
+returns-then-is_second_pulled-clause-none c = no_leaving c.args.views.now c.args.connectors.now (c.is_second_pulled.ensures c.if-is_second_pulled.true)
 
 pub returns-then-not-branch-clause-none : goal.returns-then-not-branch-clause-none
 returns-then-not-branch-clause-none c = no_leaving c.args.views.now c.args.connectors.now (c.in_ok-may_part.ensures.no c.if-not-branch.true)

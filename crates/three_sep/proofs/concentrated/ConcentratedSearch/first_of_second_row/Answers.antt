@@ -1,11 +1,14 @@
-use Rattle.std.proofs.Common.{[], ◌∷◌, ◌++◌, sym, arith, subst}
+use Rattle.std.proofs.Common.{[], ◌∷◌, sym, arith, subst}
 use Rattle.three_sep.specs.declared.concentrated.ConcentratedSearch.{ConcentratedSearch}
 use Rattle.three_sep.proofs.SearchLemmas.{found_some, none_more, level_ends, none_below_more, good_inside}
-use Rattle.three_sep.proofs.ConcentratedLemmas.{no_second}
+use Rattle.three_sep.proofs.ConcentratedLemmas.{no_second, no_candidates_left}
 use Rattle.three_sep.specs.Sides.{HasSize}
 use Rattle.three_sep.specs.Concentrated.{AreCandidates}
 use Rattle.three_sep.proofs.concentrated.ConcentratedSearch.first_of_second_row.Goals as goal
 use Rattle.three_sep.proofs.concentrated.ConcentratedSearch.first_of_second_row.Goals.{then-is_second_column+in_ok-three+in_default, else-is_second_column}
+
+pub returns-then-not-has_candidate-clause-none : goal.returns-then-not-has_candidate-clause-none
+returns-then-not-has_candidate-clause-none c = no_candidates_left c.args.views.now c.args.i c.args.p c.args.k c.args.self.now.candidates.items c.requires.candidates (c.has_candidate.ensures c.if-not-has_candidate.true)
 
 pub returns-in-Some-clause-first : goal.returns-in-Some-clause-first
 returns-in-Some-clause-first c = found_some c.args.views.now (3 ∷ c.args.i ∷ c.args.p ∷ c.args.k ∷ []) c.loop-j.j c.in_ok-three.field-0 c.in-Some.three (omega arith) c.loop-j.invariant.2 c.in-Some.is c.in_ok-three.ensures.first

@@ -1,6 +1,6 @@
-use Rattle.std.proofs.Common.{[], ◌∷◌, ◌++◌}
+use Rattle.std.proofs.Common.{[], ◌∷◌}
 use Rattle.three_sep.specs.Sides.{HasSize}
-use Rattle.three_sep.specs.Searches.{HasNoneBelow, corner_front}
+use Rattle.three_sep.specs.Searches.{HasNoneBelow}
 use Rattle.three_sep.specs.Concentrated.{AreCandidates}
 use Rattle.three_sep.proofs.concentrated.ConcentratedSearch.first_of_second_row.Given as goal
 

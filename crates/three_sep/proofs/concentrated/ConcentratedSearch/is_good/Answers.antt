@@ -1,7 +1,8 @@
-use Rattle.std.proofs.Common.{◌∷◌, sym, subst, Bool}
+use Rattle.std.proofs.Common.{◌∷◌}
+use Rattle.cmr_base.proofs.Booleans.{not_both}
 use Rattle.three_sep.specs.Sides.{set_of}
 use Rattle.three_sep.specs.Concentrated.{first_lines}
-use Rattle.three_sep.proofs.SearchLemmas.{growing_same, not_good, room_same}
+use Rattle.three_sep.proofs.SearchLemmas.{growing_same, room_same}
 use Rattle.three_sep.proofs.ConcentratedLemmas.{least_leaving, told_few_leaving, told_least}
 use Rattle.three_sep.proofs.concentrated.ConcentratedSearch.is_good.Goals as goal
 
@@ -32,4 +33,4 @@ returns-clause-no c =
     λ e. least_leaving m d (c.args.line ∷ first_lines d) (set_of c.spread.new.self)
     (told_least m d (c.args.line ∷ first_lines d) c.in_ok-spread.field-0 (set_of c.spread.new.self)
     (c.in_ok-spread.ensures.closed _ (c.in_ok-add.ensures.growing _ _ (first_lines d) (growing_same m _ _ (first_lines d) _ c.args.self.now.side c.in_ok-copy.ensures.rows c.in_ok-copy.ensures.columns c.requires.growing))) c.if-not-branch.false)
-    (λ leaves. not_good c.leaves_second.result (c.leaves_second.ensures.1 leaves) e)
+    (λ leaves. not_both c.leaves_second.result (c.leaves_second.ensures.1 leaves) e)

@@ -1,6 +1,8 @@
 use Rattle.std.proofs.Common.{◌<◌, refl, arith, ◌∙◌, ap, length}
 use Rattle.cmr_base.specs.Matrix.{row_of}
-use Rattle.three_sep.proofs.HalfLemmas.{pulling_starts, pulling_keeps, pulling_takes, pulling_ends_as, kept_entry, line_at, not_true}
+use Rattle.cmr_base.proofs.EntryBytes.{kept_entry}
+use Rattle.cmr_base.proofs.Booleans.{not_both}
+use Rattle.three_sep.proofs.HalfLemmas.{pulling_starts, pulling_keeps, pulling_takes, pulling_ends_as, line_at}
 use Rattle.three_sep.proofs.half.Half.pull.Goals as goal
 use Rattle.three_sep.proofs.half.Half.pull.Goals.{then-is_multiple_at+in_ok-push, else-is_multiple_at+in_ok-push-2}
 
@@ -25,7 +27,7 @@ loop-place-preserved c =
           (c.is_multiple_at.ensures.0 w.if-is_multiple_at.true)
           (ap (λ v. v.inside) w.self-is) (ap (λ v. v.outside) w.self-is) (ap (λ v. v.fresh) w.self-is) (ap (λ v. v.kept.items) w.self-is ∙ w.in_ok-push.ensures.items)
       | else-is_multiple_at+in_ok-push-2 w ↦ pulling_takes _ _ c.args.self.now c.loop-place.self c.loop-place.place c.if-is_multiple_at.self line c.loop-place.invariant there k.0
-          (λ h. not_true c.is_multiple_at.result (c.is_multiple_at.ensures.1 h) w.if-is_multiple_at.false)
+          (λ h. not_both c.is_multiple_at.result (c.is_multiple_at.ensures.1 h) w.if-is_multiple_at.false)
           (ap (λ v. v.inside.items) w.self-is) (ap (λ v. v.outside) w.self-is) (ap (λ v. v.fresh.items) w.self-is ∙ w.in_ok-push-2.ensures.items) (ap (λ v. v.kept) w.self-is)
     ]
 

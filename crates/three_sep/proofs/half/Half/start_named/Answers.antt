@@ -1,5 +1,6 @@
 use Rattle.std.proofs.Common.{refl, arith, ◌∙◌, ap}
-use Rattle.three_sep.proofs.HalfLemmas.{starting_with_starts, starting_with_takes, starting_with_leaves, starting_with_ends, not_true}
+use Rattle.cmr_base.proofs.Booleans.{not_both}
+use Rattle.three_sep.proofs.HalfLemmas.{starting_with_starts, starting_with_takes, starting_with_leaves, starting_with_ends}
 use Rattle.three_sep.proofs.half.Half.start_named.Goals as goal
 use Rattle.three_sep.proofs.half.Half.start_named.Goals.{then-is_either+in_ok-push, else-is_either+in_ok-push-2}
 
@@ -15,7 +16,7 @@ loop-line-preserved c =
           (ap (λ v. v.inside.items) w.self-is) (ap (λ v. v.outside) w.self-is) (ap (λ v. v.fresh.items) w.self-is ∙ w.in_ok-push.ensures.items)
       | else-is_either+in_ok-push-2 w ↦ starting_with_leaves _ _ c.loop-line.self c.loop-line.line c.if-is_either.self c.loop-line.invariant
           (let e = c.len-line-end.ensures in let l = c.loop-line-test.true in omega arith)
-          (λ h. not_true c.is_either.result (c.is_either.ensures.1 h) w.if-is_either.false)
+          (λ h. not_both c.is_either.result (c.is_either.ensures.1 h) w.if-is_either.false)
           (ap (λ v. v.inside.items) w.self-is) (ap (λ v. v.outside.items) w.self-is ∙ w.in_ok-push-2.ensures.items) (ap (λ v. v.fresh) w.self-is)
     ]
 

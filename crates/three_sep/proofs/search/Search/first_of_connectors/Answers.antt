@@ -3,10 +3,11 @@ use Rattle.cmr_base.specs.declared.line.Line.{Line}
 use Rattle.three_sep.specs.declared.side.Side.{Side}
 use Rattle.three_sep.specs.declared.search.Search.{Search}
 use Rattle.cmr_base.specs.Separations.{first_is_flat}
+use Rattle.cmr_base.proofs.Booleans.{not_both}
 use Rattle.three_sep.specs.NumberedSeeds.{connector}
 use Rattle.three_sep.specs.Sides.{HasSize, IsGrowing, set_of}
 use Rattle.three_sep.specs.Searches.{corner_front, other_line, LeavesSecond}
-use Rattle.three_sep.proofs.SearchLemmas.{level_found, level_ends, none_below_more, no_good_beside, no_good_line, seed_good, three_is, found_here, place_below, not_good}
+use Rattle.three_sep.proofs.SearchLemmas.{level_found, level_ends, none_below_more, no_good_beside, no_good_line, seed_good, three_is, found_here, place_below}
 use Rattle.three_sep.proofs.search.Search.first_of_connectors.Goals as goal
 use Rattle.three_sep.proofs.CutLemmas.{has_size}
 use Rattle.three_sep.proofs.search.Search.first_of_connectors.Goals.{else-is_beside-via-then-is_beside+in_ok-is_good+else-branch, else-is_beside-via-else-is_beside}
@@ -42,7 +43,7 @@ loop-place-preserved c =
         none_below_more m front c.loop-place.place c.loop-place.invariant.2 (
             no_good_line m form c.requires.crossing d c.args.q c.args.o c.loop-place.place x c.line_at-line.ensures.line c.line_at-line.ensures.number (set_of w.is_good.new.self.grown)
             (w.in_ok-is_good.ensures.least _ (subst (λ (s : Side). IsGrowing m d (connector (first_is_flat form) d.i d.p c.args.q) s) (sym c.loop-place.invariant.0) c.requires.growing))
-            (λ leaves. not_good w.in_ok-is_good.field-0 (w.in_ok-is_good.ensures.good.1 (subst (λ (z : Line). LeavesSecond m d z (set_of w.is_good.new.self.grown)) (sym (w.line_of.ensures ∙ ap (λ (z : Bool). other_line z c.args.o) w.second_is_flat.ensures)) leaves)) w.if-branch.false)
+            (λ leaves. not_both w.in_ok-is_good.field-0 (w.in_ok-is_good.ensures.good.1 (subst (λ (z : Line). LeavesSecond m d z (set_of w.is_good.new.self.grown)) (sym (w.line_of.ensures ∙ ap (λ (z : Bool). other_line z c.args.o) w.second_is_flat.ensures)) leaves)) w.if-branch.false)
             ),
         ap (λ (s : Search). s.groups) w.self-is ∙ w.in_ok-is_good.ensures.groups ∙ c.loop-place.invariant.3,
       )

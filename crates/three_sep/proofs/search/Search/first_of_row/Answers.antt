@@ -3,9 +3,12 @@ use Rattle.three_sep.specs.declared.search.Search.{Search}
 use Rattle.cmr_base.specs.Seeds.{form_number}
 use Rattle.three_sep.specs.Sides.{HasSize}
 use Rattle.three_sep.specs.Cuts.{HasNames, HoldTogether, IsCut}
-use Rattle.three_sep.proofs.SearchLemmas.{found_some, none_more, level_ends, none_below_more, good_inside, no_good_corner}
+use Rattle.three_sep.proofs.SearchLemmas.{found_some, none_more, level_ends, none_below_more, good_inside, no_good_corner, no_good_whole}
 use Rattle.three_sep.proofs.search.Search.first_of_row.Goals as goal
 use Rattle.three_sep.proofs.search.Search.first_of_row.Goals.{then-is_nonzero+in_ok-three+in_default, else-is_nonzero}
+
+pub returns-then-are_all_one-clause-none : goal.returns-then-are_all_one-clause-none
+returns-then-are_all_one-clause-none g c = no_good_whole c.args.views.now c.args.form c.requires.crossing c.args.self.now.groups c.args.i c.requires.names c.requires.together (c.are_all_one.ensures c.if-are_all_one.true)
 
 pub returns-in-Some-clause-first : goal.returns-in-Some-clause-first
 returns-in-Some-clause-first g c = found_some c.args.views.now (form_number c.args.form ∷ c.args.i ∷ []) c.loop-p.p c.in_ok-three.field-0 c.in-Some.three (omega arith) c.loop-p.invariant.2 c.in-Some.is c.in_ok-three.ensures.first
