@@ -18,11 +18,14 @@ use Rattle.cmr_base.proofs.Members.{all_of_members}
 use Rattle.cmr_base.proofs.ListsWithout.{true_is_false, in_from_contains, contains_from_in, place_of, place_is}
 use Rattle.cmr_base.proofs.ListedLines.{has_line_from_listed, listed_from_has_line, contains_first_lines}
 use Rattle.cmr_base.proofs.RowLists.{two_cases}
+use Rattle.cmr_base.proofs.Booleans.{same_test}
+use Rattle.cert_check.proofs.OneSums.{counted}
 use Rattle.tree_type.specs.Invariant.{AreLines, size_of}
 use Rattle.tree_type.specs.Sides.{is_among}
 use Rattle.tree_type.specs.Soundness.{part, AreApart}
+use Rattle.tree_type.proofs.Among.{among_in, in_among}
 use Rattle.decomp_tree.specs.Shapes.{numbered, set_in}
-use Rattle.decomp_tree.proofs.Numbered.{entry_in, height_in, in_map, map_in, among_in, in_among, bool_is, once}
+use Rattle.decomp_tree.proofs.Numbered.{entry_in, height_in, in_map, map_in, once}
 
 -- ---- the lines of a part as a test
 
@@ -64,16 +67,13 @@ each_part n parts are = all_from_places (IsPartOf n) parts (λ a l. record { row
 
 -- ---- a line is in exactly one of the parts
 
-in_some_counted : (test : LineSet → Bool) (p : LineSet) (parts : List LineSet) → count_by test (p ∷ parts) ≡ cond (test p) 1 0 + count_by test parts
-in_some_counted test p parts = sum_by-cons (λ x. cond (test x) 1 0) p parts
-
 count_none : (test : LineSet → Bool) (parts : List LineSet) → ((b : ℕ) → b < length parts → test (part_at parts b) ≡ true → ⊥) → count_by test parts ≡ 0
 count_none test [] h = refl
 count_none test (p ∷ parts) h = go (test p) refl (count_none test parts (λ b l e. h (suc b) (omega (arith, l)) e))
   where
     go : (b : Bool) → test p ≡ b → count_by test parts ≡ 0 → count_by test (p ∷ parts) ≡ 0
     go true e k = absurd (h 0 (omega arith) e)
-    go false e k = in_some_counted test p parts ∙ rw e (omega (arith, k))
+    go false e k = counted test p parts ∙ rw e (omega (arith, k))
 
 not_zero : (b : ℕ) → suc b ≡ 0 → ⊥
 not_zero b e = omega (arith, e)
@@ -85,12 +85,12 @@ count_once : (test : LineSet → Bool) (parts : List LineSet) (a : ℕ) → a < 
 count_once test [] a l e only = absurd (omega (arith, l))
 count_once test (p ∷ parts) zero l e only =
     let none = count_none test parts (λ b k f. not_zero b (only (suc b) (omega (arith, k)) f)) in
-    in_some_counted test p parts ∙ rw e (omega (arith, none))
+    counted test p parts ∙ rw e (omega (arith, none))
 count_once test (p ∷ parts) (suc a) l e only = go (test p) refl (count_once test parts a (omega (arith, l)) e (λ b k f. less_one a b (only (suc b) (omega (arith, k)) f)))
   where
     go : (b : Bool) → test p ≡ b → count_by test parts ≡ 1 → count_by test (p ∷ parts) ≡ 1
     go true f k = absurd (not_zero a (sym (only 0 (omega arith) f)))
-    go false f k = in_some_counted test p parts ∙ rw f (omega (arith, k))
+    go false f k = counted test p parts ∙ rw f (omega (arith, k))
 
 counted_once : (n : Matrix) (parts : List LineSet) → AreComponents n parts → (x : Line) → IsLine (height n) n.width x → count_by (λ q. set_of q x) parts ≡ 1
 counted_once n parts are x line =
@@ -108,10 +108,10 @@ any_at test (p ∷ parts) (suc a) l e = later (test p) (any_at test parts a (ome
 
 count_map : (f : LineSet → LineSet) (test other : LineSet → Bool) (parts : List LineSet) → AllByRecursion (λ p. test (f p) ≡ other p) parts → count_by test (map f parts) ≡ count_by other parts
 count_map f test other [] h = refl
-count_map f test other (p ∷ parts) h = in_some_counted test (f p) (map f parts) ∙ ap₂ (λ a b. cond a 1 0 + b) h.0 (count_map f test other parts h.1) ∙ sym (in_some_counted other p parts)
+count_map f test other (p ∷ parts) h = counted test (f p) (map f parts) ∙ ap₂ (λ a b. cond a 1 0 + b) h.0 (count_map f test other parts h.1) ∙ sym (counted other p parts)
 
 among_named : (xs set : List ℕ) (k : ℕ) → IsStrictlyIncreasing xs → ((x : ℕ) → IsIn x set → x < length xs) → k < length xs → is_among (map (numbered xs) set) (numbered xs k) ≡ is_among set k
-among_named xs set k rises low l = bool_is (is_among (map (numbered xs) set) (numbered xs k)) (is_among set k)
+among_named xs set k rises low l = same_test (is_among (map (numbered xs) set) (numbered xs k)) (is_among set k)
     (λ e. let w = map_in (numbered xs) set (numbered xs k) (among_in (map (numbered xs) set) (numbered xs k) e) in in_among set k (subst (λ y. IsIn y set) (sym (once xs rises (λ _. true) k w.0 l (low w.0 w.1) w.2)) w.1))
     (λ e. in_among (map (numbered xs) set) (numbered xs k) (in_map (numbered xs) set k (among_in set k e)))
 

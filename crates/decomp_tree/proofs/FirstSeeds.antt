@@ -10,9 +10,11 @@ use Rattle.cmr_base.specs.declared.separation.Three.{Three}
 use Rattle.cmr_base.specs.Matrix.{Matrix, height, entry}
 use Rattle.cmr_base.specs.Separations.{Lines}
 use Rattle.cmr_base.specs.Seeds.{IsBefore, IsGoodTwo, IsGoodThree, IsGrown, form_number, line_number, two_key, three_key}
+use Rattle.cmr_base.proofs.Booleans.{neither}
+use Rattle.cmr_base.proofs.SeedLemmas.{line_is, form_is}
 use Rattle.two_sep.specs.FirstSeeds.{IsFirstTwoSeparation}
 use Rattle.three_sep.specs.ThreeSeparations.{IsFirstThreeSeparation}
-use Rattle.decomp_tree.proofs.SameSets.{HasAllOf, IsSet, lines_in, neither, one_line, same_sets}
+use Rattle.decomp_tree.proofs.SameSets.{HasAllOf, IsSet, lines_in, same_sets}
 
 same_keys : (xs ys : List ℕ) → length xs ≡ length ys → ¬ (IsBefore xs ys) → ¬ (IsBefore ys xs) → xs ≡ ys
 same_keys [] [] e a b = refl
@@ -58,7 +60,7 @@ one_two m two other x y =
     seed =
         let k = keys in
         let number : line_number (height m) x.first.seed ≡ line_number (height m) y.first.seed = cc in
-        one_line (height m) m.width x.first.seed y.first.seed x.first.good.1.line y.first.good.1.line number
+        line_is (height m) m.width x.first.seed y.first.seed x.first.good.1.line y.first.good.1.line number
 
     up : HasAllOf m (lines_in two.side) (lines_in other.side)
     up = let g = good_two (height m) m.width (entry m) other.row two.row other.column two.column y.first.seed x.first.seed (lines_in other.side) (sym row) (sym column) (sym seed) y.first.good in
@@ -72,24 +74,6 @@ one_two m two other x y =
     side = same_sets m two.side other.side (record { rows = x.row_set; columns = x.column_set }) (record { rows = y.row_set; columns = y.column_set }) up down
 
 -- ---- three-separations
-
-one_form : (form other : Form) → form_number form ≡ form_number other → form ≡ other
-one_form Delta Delta e = refl
-one_form Delta YForm e = absurd (omega arith)
-one_form Delta Mixed e = absurd (omega arith)
-one_form Delta Concentrated e = absurd (omega arith)
-one_form YForm Delta e = absurd (omega arith)
-one_form YForm YForm e = refl
-one_form YForm Mixed e = absurd (omega arith)
-one_form YForm Concentrated e = absurd (omega arith)
-one_form Mixed Delta e = absurd (omega arith)
-one_form Mixed YForm e = absurd (omega arith)
-one_form Mixed Mixed e = refl
-one_form Mixed Concentrated e = absurd (omega arith)
-one_form Concentrated Delta e = absurd (omega arith)
-one_form Concentrated YForm e = absurd (omega arith)
-one_form Concentrated Mixed e = absurd (omega arith)
-one_form Concentrated Concentrated e = refl
 
 one_connector : (x y : Connector) → x.row ≡ y.row → x.column ≡ y.column → x.other ≡ y.other → x ≡ y
 one_connector x y a b c =
@@ -110,7 +94,7 @@ one_three m three other x y =
         (x.first.earliest other.form other.first other.second y.first.seed (lines_in other.side) y.first.good)
 
     form : three.form ≡ other.form
-    form = let k = keys in let e : form_number three.form ≡ form_number other.form = cc in one_form three.form other.form e
+    form = let k = keys in let e : form_number three.form ≡ form_number other.form = cc in form_is three.form other.form e
 
     first : three.first ≡ other.first
     first =
@@ -132,7 +116,7 @@ one_three m three other x y =
     seed =
         let k = keys in
         let number : line_number (height m) x.first.seed ≡ line_number (height m) y.first.seed = cc in
-        one_line (height m) m.width x.first.seed y.first.seed x.first.good.1.line y.first.good.1.line number
+        line_is (height m) m.width x.first.seed y.first.seed x.first.good.1.line y.first.good.1.line number
 
     up : HasAllOf m (lines_in three.side) (lines_in other.side)
     up = let g = good_three (height m) m.width (entry m) other.form three.form other.first three.first other.second three.second y.first.seed x.first.seed (lines_in other.side) (sym form) (sym first) (sym second) (sym seed) y.first.good in

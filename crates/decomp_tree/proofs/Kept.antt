@@ -16,6 +16,7 @@ use Rattle.cmr_base.specs.Separations.{first_is_flat, second_is_flat}
 use Rattle.tree_type.specs.Sides.{is_among, inside, outside, inside_with, outside_with, sides, HaveLines, two_one, two_two, three_one, three_two, connector_rows, connector_columns}
 use Rattle.cmr_base.proofs.ListsWithout.{in_from_contains, contains_from_in, in-get_or, place_of, place_is, increasing_distinct}
 use Rattle.cmr_base.proofs.RowLists.{in_filter}
+use Rattle.cmr_base.proofs.Lists.{filter_or}
 use Rattle.tree_type.specs.Invariant.{AreLines, AreLinesOf, size_of}
 use Rattle.decomp_tree.specs.Shapes.{numbered, set_in}
 use Rattle.decomp_tree.specs.Seen.{IsPlacedSet, AreFewer}
@@ -54,17 +55,6 @@ filtered_lines lines p q rows columns = record {
   rows = filtered p lines.rows;
   columns = filtered q lines.columns;
 }
-
-filter_or : (p q : ℕ → Bool) (xs : List ℕ) → length (filter (λ x. p x || q x) xs) ≤ length (filter p xs) + length (filter q xs)
-filter_or p q [] = omega arith
-filter_or p q (x ∷ xs) = go (p x) (q x) (filter_or p q xs)
-  where
-    go : (a b : Bool) → length (filter (λ x. p x || q x) xs) ≤ length (filter p xs) + length (filter q xs)
-        → length (cond (a || b) (x ∷ filter (λ x. p x || q x) xs) (filter (λ x. p x || q x) xs)) ≤ length (cond a (x ∷ filter p xs) (filter p xs)) + length (cond b (x ∷ filter q xs) (filter q xs))
-    go true true h = omega (arith, h)
-    go true false h = omega (arith, h)
-    go false true h = omega (arith, h)
-    go false false h = omega (arith, h)
 
 none_equal : (i : ℕ) (xs : List ℕ) → ¬ (IsIn i xs) → length (filter (λ x. eqb x i) xs) ≡ 0
 none_equal i [] d = refl

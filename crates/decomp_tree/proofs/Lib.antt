@@ -22,3 +22,4 @@ pub mod OneCycleFault
 pub mod OneLeast
 pub mod OneTree
 pub mod OneVerdict
+pub mod NoNetworks

@@ -23,7 +23,9 @@ use Rattle.cmr_base.proofs.RowLists.{filter_in, in_filter}
 use Rattle.cmr_base.proofs.Submatrices.{increasing_places}
 use Rattle.cmr_base.proofs.ViolatorLemmas.{violator_same, violator-map, violator-transposed}
 use Rattle.cmr_base.proofs.LineCounts.{count}
+use Rattle.cmr_base.proofs.Booleans.{same_test, not_is}
 use Rattle.tree_type.specs.Soundness.{part}
+use Rattle.tree_type.proofs.Among.{among_in, in_among}
 use Rattle.decomp_tree.specs.Shapes.{numbered}
 
 pub entry_in : (m : Matrix) (lines : LineSet) (i j : ℕ) → i < length lines.rows → j < length lines.columns → entry (part m lines) i j ≡ entry m (numbered lines.rows i) (numbered lines.columns j)
@@ -53,32 +55,6 @@ map_in f [] y h = absurd h
 map_in f (x ∷ xs) y (inl e) = (x, inl refl, e)
 map_in f (x ∷ xs) y (inr h) = let w = map_in f xs y h in (w.0, inr w.1, w.2)
 
-pub among_in : (set : List ℕ) (x : ℕ) → is_among set x ≡ true → IsIn x set
-among_in [] x e = true_is_false (sym e)
-among_in (y ∷ ys) x e = go (eqb x y) refl e (λ f. among_in ys x f)
-  where
-    go : (b : Bool) → eqb x y ≡ b → (b || is_among ys x) ≡ true → (is_among ys x ≡ true → IsIn x ys) → IsIn x (y ∷ ys)
-    go true f e k = inl (eqb-true x y f)
-    go false f e k = inr (k e)
-
-pub in_among : (set : List ℕ) (x : ℕ) → IsIn x set → is_among set x ≡ true
-in_among [] x h = absurd h
-in_among (y ∷ ys) x (inl e) = rw (eq-eqb x y e) refl
-in_among (y ∷ ys) x (inr h) = later (eqb x y) (in_among ys x h)
-  where
-    later : (b : Bool) → is_among ys x ≡ true → (b || is_among ys x) ≡ true
-    later true e = refl
-    later false e = e
-
-pub bool_is : (b c : Bool) → (b ≡ true → c ≡ true) → (c ≡ true → b ≡ true) → b ≡ c
-bool_is true c f g = sym (f refl)
-bool_is false true f g = g refl
-bool_is false false f g = refl
-
-not_true : (b : Bool) → not b ≡ true → b ≡ false
-not_true true e = true_is_false (sym e)
-not_true false e = refl
-
 -- the lines of a side by their numbers in a rising list
 module _ (xs : List ℕ) (rises : IsStrictlyIncreasing xs) (s : ℕ → Bool) where
   abbrev pub named : List ℕ
@@ -88,7 +64,7 @@ module _ (xs : List ℕ) (rises : IsStrictlyIncreasing xs) (s : ℕ → Bool) wh
   once i k h l e = same_place xs i k (increasing_distinct xs rises) h l e
 
   pub among_named : (k : ℕ) → k < length xs → is_among named (numbered xs k) ≡ s k
-  among_named k l = bool_is (is_among named (numbered xs k)) (s k)
+  among_named k l = same_test (is_among named (numbered xs k)) (s k)
       (λ e. let w = map_in (numbered xs) (filter s (first_lines (length xs))) (numbered xs k) (among_in named (numbered xs k) e) in
       let v = in_filter s w.0 (first_lines (length xs)) w.1 in
       ap s (once k w.0 l (first_lines_in (length xs) w.0 v.0) w.2) ∙ v.1)
@@ -105,7 +81,7 @@ module _ (xs : List ℕ) (rises : IsStrictlyIncreasing xs) (s : ℕ → Bool) wh
   from_outside x h =
       let w = in_filter (λ y. not (is_among named y)) x xs (in_from_contains (outside named xs) x h) in
       let p = place_is x xs w.0 in
-      (place_of x xs, p.in_range, sym p.there, sym (among_named (place_of x xs) p.in_range) ∙ ap (is_among named) p.there ∙ not_true (is_among named x) w.1)
+      (place_of x xs, p.in_range, sym p.there, sym (among_named (place_of x xs) p.in_range) ∙ ap (is_among named) p.there ∙ not_is (is_among named x) w.1)
 
   pub to_inside : (k : ℕ) → k < length xs → s k ≡ true → Contains (inside named xs) (numbered xs k)
   to_inside k l e = contains_from_in (inside named xs) (numbered xs k) (filter_in (is_among named) (numbered xs k) xs (in-get_or xs k l) (among_named k l ∙ e))

@@ -5,7 +5,9 @@ use Rattle.std.proofs.lemmas.Bool.{cases_lt}
 use Rattle.cmr_base.specs.Matrix.{Matrix, entry}
 use Rattle.cmr_base.specs.Members.{IsIn}
 use Rattle.cmr_base.specs.CyclePlaces.{IsNotAfter, IsCyclePlace, IsEarlierPlace, IsCycleFault, cycle_rows, cycle_columns}
-use Rattle.decomp_tree.proofs.SameSets.{neither, same_numbers}
+use Rattle.cmr_base.proofs.Booleans.{neither}
+use Rattle.camion_sign.proofs.FirstFaults.{place_unique, same_list}
+use Rattle.decomp_tree.proofs.SameSets.{same_numbers}
 
 -- places of which neither is earlier
 same_place : (t c d t' c' d' : ℕ) → ¬ (IsEarlierPlace t c d t' c' d') → ¬ (IsEarlierPlace t' c' d' t c d) → (t ≡ t') × (c ≡ c') × (d ≡ d')
@@ -15,32 +17,9 @@ same_place t c d t' c' d' before after =
     let last = neither d d' (λ l. before (inr (row, inr (first, l)))) (λ l. after (inr (sym row, inr (sym first, l)))) in
     (row, first, last)
 
--- lists of one length of which neither is after the other
-same_list : (p q : List ℕ) → length p ≡ length q → IsNotAfter p q → IsNotAfter q p → p ≡ q
-same_list [] [] e a b = refl
-same_list [] (y ∷ ys) e a b = absurd (omega arith)
-same_list (x ∷ xs) [] e a b = absurd (omega arith)
-same_list (x ∷ xs) (y ∷ ys) e a b = go a b (λ f g. same_list xs ys (omega arith) f g)
-  where
-    go : (x < y) ⊎ ((x ≡ y) × IsNotAfter xs ys) → (y < x) ⊎ ((y ≡ x) × IsNotAfter ys xs) → (IsNotAfter xs ys → IsNotAfter ys xs → xs ≡ ys) → x ∷ xs ≡ y ∷ ys
-    go (inl l) (inl m) k = absurd (omega arith)
-    go (inl l) (inr (q, g)) k = absurd (omega arith)
-    go (inr (q, f)) (inl m) k = absurd (omega arith)
-    go (inr (q, f)) (inr (s, g)) k = ap (λ (v : ℕ). v ∷ xs) q ∙ ap (λ (vs : List ℕ). y ∷ vs) (k f g)
-
--- a place has one path
-one_path : (M : ℕ → ℕ → ℤ) (t c d : ℕ) (p q : List ℕ) → IsCyclePlace M t c d p → IsCyclePlace M t c d q → p ≡ q
-one_path M t c d p q a b = go (a.least q b.is_path) (b.least p a.is_path)
-  where
-    go : (length p < length q) ⊎ ((length p ≡ length q) × IsNotAfter p q) → (length q < length p) ⊎ ((length q ≡ length p) × IsNotAfter q p) → p ≡ q
-    go (inl l) (inl m) = absurd (omega arith)
-    go (inl l) (inr m) = absurd (let e = m.0 in omega arith)
-    go (inr l) (inl m) = absurd (let e = l.0 in omega arith)
-    go (inr l) (inr m) = same_list p q l.0 l.1 m.1
-
 same_path : (M : ℕ → ℕ → ℤ) (t c d t' c' d' : ℕ) (p q : List ℕ) → t ≡ t' → c ≡ c' → d ≡ d' → IsCyclePlace M t c d p → IsCyclePlace M t' c' d' q → p ≡ q
 same_path M t c d t' c' d' p q row first last place place' =
-    one_path M t' c' d' p q
+    place_unique M t' c' d' p q
     (subst (λ (x : ℕ). IsCyclePlace M t' c' x p) last (subst (λ (x : ℕ). IsCyclePlace M t' x d p) first (subst (λ (x : ℕ). IsCyclePlace M x c d p) row place)))
     place'
 

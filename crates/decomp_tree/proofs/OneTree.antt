@@ -4,6 +4,7 @@ use Rattle.std.specs.List.{AllByRecursion}
 use Rattle.cmr_base.specs.declared.line_set.LineSet.{LineSet}
 use Rattle.cmr_base.specs.Matrix.{Matrix, height}
 use Rattle.cmr_base.proofs.Lists.{all_front, all_back}
+use Rattle.cmr_base.proofs.Booleans.{neither}
 use Rattle.tree_type.specs.Trees.{Finding, Empty, Cycle, Reduced, OneSum, Network, Conetwork, R10, TwoSum, ThreeSum, Enumerated, Violator, Undecided, Tree, Trees, Branch, NoTrees, MoreTrees, count_trees, lines_of}
 use Rattle.tree_type.specs.Invariant.{HasChildren, IsTreeWithin, AreTreesWithin, IsTreeFor}
 use Rattle.tree_type.specs.Places.{Due, AllLines, These, Unnamed, due_child, lines_of_each, places_from, places_below}
@@ -11,16 +12,11 @@ use Rattle.tree_type.specs.Soundness.{part, HasItsLines}
 use Rattle.decomp_tree.specs.Shapes.{Case, HasNoLines, HasFault, IsReducible, IsApart, IsNetwork, IsConetwork, IsR10Matrix, IsTwoSum, IsThreeSum, IsShort, IsLeft, case_number, IsFirstCase, Says, finding_in, set_in, HasParts, IsShapedAt, IsShape}
 use Rattle.decomp_tree.specs.PlainTrees.{plain, plain_tree, plain_trees}
 use Rattle.decomp_tree.specs.PlainTrees.{OneShape}
-use Rattle.decomp_tree.proofs.SameSets.{neither}
 use Rattle.decomp_tree.proofs.FirstSeeds.{one_two, one_three}
 use Rattle.decomp_tree.proofs.Components.{one_components}
 use Rattle.decomp_tree.proofs.OneCycleFault.{one_cycle_fault}
 use Rattle.decomp_tree.proofs.OneLeast.{least_on_lines, one_least}
-
--- the children have the lines that they are to have
-abbrev AreDue : LineSet → Finding → ℕ → List LineSet → Type 0
-AreDue lines finding k [] = Unit {0}
-AreDue lines finding k (child ∷ children) = HasItsLines (due_child lines finding k) child × AreDue lines finding (suc k) children
+use Rattle.decomp_tree.specs.Seen.{AreDue}
 
 -- ---- one case
 
@@ -48,13 +44,8 @@ one_case limit n c d x y =
 
 -- ---- one saying
 
--- the parts of a one-sum are the same
-abbrev HasSameParts : Finding → List LineSet → List LineSet → Type 0
-HasSameParts OneSum parts others = parts ≡ others
-HasSameParts finding parts others = Unit {0}
-
 abbrev AreSame : Finding → Finding → List LineSet → List LineSet → Type 0
-AreSame found other parts others = (plain found ≡ plain other) × HasSameParts found parts others
+AreSame found other parts others = (plain found ≡ plain other) × HasParts found parts others
 
 set_same : (f g : LineSet) → (f.rows ≡ g.rows) × (f.columns ≡ g.columns) → f ≡ g
 set_same f g e = ap₂ (λ (rows columns : List ℕ). let set : LineSet = record { rows = rows; columns = columns } in set) e.0 e.1
@@ -113,14 +104,14 @@ plain_in lines (Violator f) = refl
 plain_in lines Undecided = refl
 
 -- the children of a one-sum have the lines of its parts
-parts_same : (lines : LineSet) (finding found : Finding) (children others parts parts' : List LineSet) → finding ≡ finding_in lines found → HasSameParts found parts parts'
+parts_same : (lines : LineSet) (finding found : Finding) (children others parts parts' : List LineSet) → finding ≡ finding_in lines found → HasParts found parts parts'
     → HasParts finding children (map (set_in lines) parts) → HasParts OneSum others (map (set_in lines) parts') → finding ≡ OneSum → children ≡ others
 parts_same lines finding found children others parts parts' is same a b e = go found is same
   where
     here : children ≡ map (set_in lines) parts
     here = subst (λ f. HasParts f children (map (set_in lines) parts)) e a
 
-    go : (f : Finding) → finding ≡ finding_in lines f → HasSameParts f parts parts' → children ≡ others
+    go : (f : Finding) → finding ≡ finding_in lines f → HasParts f parts parts' → children ≡ others
     go OneSum is same = here ∙ ap (map (set_in lines)) same ∙ sym b
     go Empty is same = let z : OneSum ≡ Empty = sym e ∙ is in cc
     go (Cycle x) is same = let z : OneSum ≡ Cycle (set_in lines x) = sym e ∙ is in cc
@@ -245,7 +236,7 @@ module _ (limit : ℕ) (m : Matrix) where
       }
     where
       one_sum : (lines : LineSet) (finding finding' : Finding) → plain finding ≡ plain finding' → plain finding' ≡ OneSum → (found : Finding) (parts parts' children others : List LineSet) → finding ≡ finding_in lines found
-          → HasSameParts found parts parts' → HasParts finding children (map (set_in lines) parts) → HasParts finding' others (map (set_in lines) parts') → children ≡ others
+          → HasParts found parts parts' → HasParts finding children (map (set_in lines) parts) → HasParts finding' others (map (set_in lines) parts') → children ≡ others
       one_sum lines finding finding' said e found parts parts' children others is same a b =
           parts_same lines finding found children others parts parts' is same a (subst (λ f. HasParts f others (map (set_in lines) parts')) (only_one_sum finding' e) b) (only_one_sum finding (said ∙ e))
         where

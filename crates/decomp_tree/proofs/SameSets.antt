@@ -14,6 +14,8 @@ use Rattle.cmr_base.proofs.Members.{IsWithin, all_in}
 use Rattle.cmr_base.proofs.ListsWithout.{head_below, increasing_tail}
 use Rattle.cmr_base.proofs.ListedLines.{in_from_listed, listed_from_in}
 use Rattle.cmr_base.proofs.RisingLists.{rising_below, row_set_rises, column_set_rises}
+use Rattle.cmr_base.proofs.SeedLemmas.{line_is}
+use Rattle.cmr_base.proofs.Booleans.{neither}
 
 -- rising lists of the same numbers
 pub same_numbers : (xs ys : List ℕ) → IsStrictlyIncreasing xs → IsStrictlyIncreasing ys → IsWithin xs ys → IsWithin ys xs → xs ≡ ys
@@ -68,16 +70,3 @@ same_sets m s t is is' up down =
     ap₂ (λ (rows columns : List ℕ). let set : LineSet = record { rows = rows; columns = columns } in set)
     (same_numbers s.rows t.rows is.rows.rising is'.rows.rising (rows_within m s t is up) (rows_within m t s is' down))
     (same_numbers s.columns t.columns is.columns.rising is'.columns.rising (columns_within m s t is up) (columns_within m t s is' down))
-
-pub neither : (a b : ℕ) → ¬ (a < b) → ¬ (b < a) → a ≡ b
-neither a b low high = elim (cases_lt a b) [
-  | inl l ↦ absurd (low l)
-  | inr g ↦ elim (cases_lt b a) [ inl l ↦ absurd (high l) | inr h ↦ omega arith ]
-]
-
--- lines of one number are one
-pub one_line : (m n : ℕ) (line other : Line) → IsLine m n line → IsLine m n other → line_number m line ≡ line_number m other → line ≡ other
-one_line m n (Row row) (Row row') l l' e = ap Row e
-one_line m n (Row row) (Column column) l l' e = absurd (omega arith)
-one_line m n (Column column) (Row row) l l' e = absurd (omega arith)
-one_line m n (Column column) (Column column') l l' e = ap Column (omega arith)

@@ -22,6 +22,7 @@ use Rattle.cmr_base.proofs.ListsWithout.{increasing_tail, head_below, place_of, 
 use Rattle.cmr_base.proofs.RemovedLines.{first_lines_increase, in_first_lines}
 use Rattle.cmr_base.proofs.RowLists.{filter_in, in_filter}
 use Rattle.cmr_base.proofs.Submatrices.{increasing_places}
+use Rattle.cmr_base.proofs.Places.{rising_same}
 use Rattle.camion_sign.proofs.FullSquares.{full_squares}
 use Rattle.tree_type.specs.Invariant.{AreLines}
 use Rattle.tree_type.specs.Sides.{is_among, inside, outside, sides, HaveLines, IsReference, AreTwoBlocks, HasConnector, AreConnectors, HasCornerSign, AreThreeBlocks}
@@ -29,27 +30,9 @@ use Rattle.tree_type.specs.Soundness.{part}
 use Rattle.decomp_tree.specs.Shapes.{numbered, set_in, connector_in, three_in}
 use Rattle.decomp_tree.proofs.Numbered.{entry_in, height_in, among_named, from_inside, from_outside, to_inside, to_outside, counted_all}
 
--- rising lists with the same members are one
-same_members : (xs ys : List ℕ) → IsStrictlyIncreasing xs → IsStrictlyIncreasing ys → ((x : ℕ) → IsIn x xs → IsIn x ys) → ((x : ℕ) → IsIn x ys → IsIn x xs) → xs ≡ ys
-same_members [] [] a b f g = refl
-same_members [] (y ∷ ys) a b f g = absurd (g y (inl refl))
-same_members (x ∷ xs) [] a b f g = absurd (f x (inl refl))
-same_members (x ∷ xs) (y ∷ ys) a b f g =
-    let e = heads (f x (inl refl)) (g y (inl refl)) in
-    ap₂ (λ z zs. z ∷ zs) e (same_members xs ys (increasing_tail x xs a) (increasing_tail y ys b) (λ z h. tail_of y ys z (f z (inr h)) (let l = head_below x z xs a h in λ q. omega (arith, l, q, e))) (λ z h. tail_of x xs z (g z (inr h)) (let l = head_below y z ys b h in λ q. omega (arith, l, q, e))))
-  where
-    heads : (x ≡ y) ⊎ IsIn x ys → (y ≡ x) ⊎ IsIn y xs → x ≡ y
-    heads (inl e) k = e
-    heads (inr h) (inl e) = sym e
-    heads (inr h) (inr k) = let l = head_below y x ys b h in let r = head_below x y xs a k in absurd (omega (arith, l, r))
-
-    tail_of : (y : ℕ) (ys : List ℕ) (z : ℕ) → (z ≡ y) ⊎ IsIn z ys → z ≢ y → IsIn z ys
-    tail_of y ys z (inl e) d = absurd (d e)
-    tail_of y ys z (inr h) d = h
-
 -- a rising list below a bound has the lines that it lists
 listed_lines : (xs : List ℕ) (bound : ℕ) → IsStrictlyIncreasing xs → ((k : ℕ) → k < length xs → numbered xs k < bound) → xs ≡ filter (λ x. list_any (λ y. nat_eq y x) xs) (first_lines bound)
-listed_lines xs bound rises low = same_members xs (filter (λ x. list_any (λ y. nat_eq y x) xs) (first_lines bound)) rises
+listed_lines xs bound rises low = rising_same xs (filter (λ x. list_any (λ y. nat_eq y x) xs) (first_lines bound)) rises
     (IsStrictlyIncreasing-filter (λ x. list_any (λ y. nat_eq y x) xs) (first_lines bound) (first_lines_increase bound))
     (λ x h. let w = place_is x xs h in
     filter_in (λ z. list_any (λ y. nat_eq y z) xs) x (first_lines bound) (in_first_lines bound x (subst (λ z. z < bound) w.there (low (place_of x xs) w.in_range))) (listed_from_in x xs h))

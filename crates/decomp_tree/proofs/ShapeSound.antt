@@ -77,7 +77,7 @@ module _ (limit : ℕ) (few : limit ≤ 24) (m : Matrix) (is : IsMatrix m) where
         (sound_trees path lines finding levels (suc k) trees are fits.1
         (all_back (IsShapedAt limit m) (places_from (path ++ k ∷ []) (due_child lines finding k) tree) (places_below path lines finding (suc k) trees) shaped))
 
-root_lines : (m : Matrix) (tree : Tree) → IsTreeFor (height m) m.width tree → AreLines m (lines_of tree)
+pub root_lines : (m : Matrix) (tree : Tree) → IsTreeFor (height m) m.width tree → AreLines m (lines_of tree)
 root_lines m (Branch lines finding trees) within = record {
   rows = record { rising = within.nodes.1.rows_rise; in_range = within.root_rows };
   columns = record { rising = within.nodes.1.columns_rise; in_range = within.root_columns };

@@ -4,3 +4,4 @@ pub mod Seen
 pub mod Fronts
 pub mod Sketches
 pub mod PlainTrees
+pub mod Obstructions

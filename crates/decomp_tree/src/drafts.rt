@@ -6,10 +6,12 @@ ghost use Rattle.cmr_base.specs.LineSets.{IsRowSet, IsColumnSet};
 ghost use Rattle.tree_type.specs.Findings.{finding_shown};
 ghost use Rattle.decomp_tree.specs.Seen.{keeps_free};
 ghost use Rattle.decomp_tree.specs.Fronts.{IsFront};
+ghost use Rattle.decomp_tree.specs.Obstructions.{IsKnown};
 ghost use Rattle.decomp_tree.specs.Sketches.{Sketched, sketch_of, sketches_from, is_free_in, IsDraftedBehind};
 
 use crate::faults::keeps_free;
 use crate::looking::look;
+use crate::obstructions::Obstruction;
 use crate::seen::Seen;
 use cmr_base::{LineSet, LineSetList, Matrix, Memory};
 use std::alloc::Global;
@@ -34,13 +36,14 @@ pub struct Draft {
     pub is_free: bool,
 }
 
-/// Draws the submatrix on these lines, and puts it behind the drafts that are there. Each child has fewer lines, so no
+/// Draws the submatrix on these lines, with what is known of some of them, and puts it behind the drafts that are there. Each child has fewer lines, so no
 /// node stands deeper than there are lines. The recursion goes by the ordinary stack: what is large stands on the heap.
 pub fn draw<R: Threads + Sync>(
     rt: &R,
     alloc: Global,
     matrix: &Matrix,
     lines: &LineSet,
+    obstruction: &Obstruction,
     limit: u32,
     workers: u32,
     drafts: &mut Vec<Draft>,
@@ -50,12 +53,24 @@ pub fn draw<R: Threads + Sync>(
     requires shape { IsMatrix matrix.now }
     requires rows { IsRowSet matrix.now lines.now.rows }
     requires columns { IsColumnSet matrix.now lines.now.columns }
+    requires known { IsKnown matrix.now obstruction.now }
+    requires sought { obstruction.now.sought ≤ 4000 }
     ensures { OnOk result (IsDraftedBehind limit matrix.now lines.now (map sketch_of drafts.old.items) (map sketch_of drafts.new.items)) }
 {
-    let front = front_of(rt, alloc, matrix, lines, limit, workers)?;
+    let front = front_of(rt, alloc, matrix, lines, obstruction, limit, workers)?;
     let mut children = Vec::new(alloc);
     for child in front.children.as_slice() {
-        draw(rt, alloc, matrix, child, limit, workers, &mut children)?;
+        let known = obstruction.in_child(alloc, matrix, &front.finding, child)?;
+        draw(
+            rt,
+            alloc,
+            matrix,
+            child,
+            &known,
+            limit,
+            workers,
+            &mut children,
+        )?;
     }
     push_draft(alloc, front, children, drafts)?;
     Ok(())
@@ -67,6 +82,7 @@ fn front_of<R: Threads + Sync>(
     alloc: Global,
     matrix: &Matrix,
     lines: &LineSet,
+    obstruction: &Obstruction,
     limit: u32,
     workers: u32,
 ) -> Result<Box<Front>, Memory>
@@ -75,9 +91,10 @@ fn front_of<R: Threads + Sync>(
     requires shape { IsMatrix matrix.now }
     requires rows { IsRowSet matrix.now lines.now.rows }
     requires columns { IsColumnSet matrix.now lines.now.columns }
+    requires known { IsKnown matrix.now obstruction.now }
     ensures { IfOk result (λ front. IsFront limit matrix.now lines.now front.value) }
 {
-    let Seen { finding, children } = look(rt, alloc, matrix, lines, limit, workers)?;
+    let Seen { finding, children } = look(rt, alloc, matrix, lines, obstruction, limit, workers)?;
     let front = Front {
         lines: copy_of(alloc, lines)?,
         finding,

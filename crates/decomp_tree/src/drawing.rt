@@ -9,6 +9,7 @@ ghost use Rattle.decomp_tree.specs.Seen.{IsDrawn};
 ghost use Rattle.decomp_tree.specs.Sketches.{IsDrafted, lines_of_sketch, sketch_of};
 
 use crate::drafts::{Draft, draw};
+use crate::obstructions::Obstruction;
 use crate::settling::settle;
 use cmr_base::{LineSet, Matrix, Memory};
 use std::alloc::Global;
@@ -79,7 +80,17 @@ fn draft_root<R: Threads + Sync>(
     ensures drafted { IfOk result (λ drawn. IsDrafted limit matrix.now (sketch_of drawn)) }
 {
     let mut drafts = Vec::new(alloc);
-    draw(rt, alloc, matrix, lines, limit, workers, &mut drafts)?;
+    let unknown = Obstruction::unknown(matrix);
+    draw(
+        rt,
+        alloc,
+        matrix,
+        lines,
+        &unknown,
+        limit,
+        workers,
+        &mut drafts,
+    )?;
     let Some(drawn) = drafts.pop() else {
         unreachable!()
     };

@@ -10,7 +10,7 @@ ghost use Rattle.decomp_tree.specs.Sketches.{HasNoLateFault};
 
 use crate::naming::named_set;
 use camion_sign::cycle_fault;
-use cmr_base::{LineSet, Matrix, Memory};
+use cmr_base::{LineSet, Matrix, Memory, RowsAndColumns};
 use network_orient::has_graphic_support;
 use std::alloc::Global;
 use tree_type::Finding;
@@ -41,8 +41,7 @@ pub fn certain_fault(
     alloc: Global,
     matrix: &Matrix,
     lines: &LineSet,
-    inner: &Matrix,
-    transposed: &Matrix,
+    inner: &RowsAndColumns<'_>,
 ) -> Result<Option<LineSet>, Memory>
     requires shape { IsMatrix matrix.now }
     requires rows { IsRowSet matrix.now lines.now.rows }
@@ -50,8 +49,10 @@ pub fn certain_fault(
     requires inner { inner.now ≡ part matrix.now lines.now }
     ensures { IfOk result (λ found. IfSome found (IsNamedFault matrix.now lines.now)) }
 {
-    if has_graphic_support(alloc, inner)? || has_graphic_support(alloc, transposed)? {
-        return fault_of(alloc, matrix, lines, inner);
+    if has_graphic_support(alloc, inner.by_rows())?
+        || has_graphic_support(alloc, inner.by_columns())?
+    {
+        return fault_of(alloc, matrix, lines, inner.by_rows());
     }
     Ok(None)
 }

@@ -8,12 +8,14 @@ ghost use Rattle.cmr_base.specs.Reductions.{removal};
 ghost use Rattle.tree_type.specs.Soundness.{part};
 ghost use Rattle.two_sep.specs.FirstSeeds.{IsFirstTwoSeparation};
 ghost use Rattle.three_sep.specs.ThreeSeparations.{IsFirstThreeSeparation};
+ghost use Rattle.decomp_tree.specs.Obstructions.{IsKnown};
 ghost use Rattle.decomp_tree.specs.Seen.{HasNoneBefore, IsSeen};
 
 use crate::faults::{certain_fault, fault_of};
 use crate::naming::{named_parts, named_set, named_steps, named_three, named_two};
+use crate::obstructions::Obstruction;
 use crate::seen::{Seen, above_one, above_two, leaf};
-use cmr_base::{LineSet, Matrix, Memory, Three, Two};
+use cmr_base::{LineSet, Matrix, Memory, RowsAndColumns, Three, Two};
 use leaf_enumerate::{Search, least_violator};
 use network_orient::orient;
 use r10_leaf::is_r10;
@@ -22,7 +24,7 @@ use std::alloc::Global;
 use std::thread::Threads;
 use three_sep::three_separation;
 use tree_type::{Finding, three_one, three_two, two_one, two_two};
-use two_sep::{components, two_separation};
+use two_sep::{components_of, two_separation_of};
 
 /// What a node on these lines is to say, where no cycle fault of the submatrix is looked for unless nothing else helps.
 #[inline(never)]
@@ -31,6 +33,7 @@ pub fn look<R: Threads + Sync>(
     alloc: Global,
     matrix: &Matrix,
     lines: &LineSet,
+    obstruction: &Obstruction,
     limit: u32,
     workers: u32,
 ) -> Result<Seen, Memory>
@@ -39,13 +42,14 @@ pub fn look<R: Threads + Sync>(
     requires shape { IsMatrix matrix.now }
     requires rows { IsRowSet matrix.now lines.now.rows }
     requires columns { IsColumnSet matrix.now lines.now.columns }
+    requires known { IsKnown matrix.now obstruction.now }
     ensures { IfOk result (IsSeen limit matrix.now lines.now) }
 {
     let part = matrix.part(alloc, lines)?;
     if part.rows() == 0 && part.columns() == 0 {
         return Ok(leaf(alloc, Finding::Empty));
     }
-    look_filled(rt, alloc, matrix, lines, &part, limit, workers)
+    look_filled(rt, alloc, matrix, lines, &part, obstruction, limit, workers)
 }
 
 // The cases of a matrix with lines.
@@ -55,6 +59,7 @@ fn look_filled<R: Threads + Sync>(
     matrix: &Matrix,
     lines: &LineSet,
     inner: &Matrix,
+    obstruction: &Obstruction,
     limit: u32,
     workers: u32,
 ) -> Result<Seen, Memory>
@@ -65,13 +70,14 @@ fn look_filled<R: Threads + Sync>(
     requires columns { IsColumnSet matrix.now lines.now.columns }
     requires inner { inner.now ≡ part matrix.now lines.now }
     requires none { HasNoneBefore limit (part matrix.now lines.now) 3 }
+    requires known { IsKnown matrix.now obstruction.now }
     ensures { IfOk result (IsSeen limit matrix.now lines.now) }
 {
     let reduction = reduce(alloc, inner, false)?;
     if reduction.steps.len() > 0 {
         return seen_reduced(alloc, matrix, lines, &reduction, limit);
     }
-    look_irreducible(rt, alloc, matrix, lines, inner, limit, workers)
+    look_irreducible(rt, alloc, matrix, lines, inner, obstruction, limit, workers)
 }
 
 // The removed lines, and those that are left.
@@ -104,6 +110,7 @@ fn look_irreducible<R: Threads + Sync>(
     matrix: &Matrix,
     lines: &LineSet,
     inner: &Matrix,
+    obstruction: &Obstruction,
     limit: u32,
     workers: u32,
 ) -> Result<Seen, Memory>
@@ -114,25 +121,55 @@ fn look_irreducible<R: Threads + Sync>(
     requires columns { IsColumnSet matrix.now lines.now.columns }
     requires inner { inner.now ≡ part matrix.now lines.now }
     requires none { HasNoneBefore limit (part matrix.now lines.now) 4 }
+    requires known { IsKnown matrix.now obstruction.now }
     ensures { IfOk result (IsSeen limit matrix.now lines.now) }
 {
-    let parts = components(alloc, inner)?;
+    let both = RowsAndColumns::new(alloc, inner)?;
+    let parts = components_of(alloc, &both)?;
     if parts.len() >= 2 {
         return Ok(Seen {
             finding: Finding::OneSum,
             children: named_parts(alloc, lines, parts.as_slice())?,
         });
     }
-    look_connected(rt, alloc, matrix, lines, inner, limit, workers)
+    look_connected(rt, alloc, matrix, lines, &both, obstruction, limit, workers)
 }
 
-// The cases of a connected matrix without reducible line.
+// The cases of a connected matrix without reducible line. Where it has the lines of the obstruction, it is no network
+// matrix and not the transposed matrix of one.
 fn look_connected<R: Threads + Sync>(
     rt: &R,
     alloc: Global,
     matrix: &Matrix,
     lines: &LineSet,
-    inner: &Matrix,
+    inner: &RowsAndColumns<'_>,
+    obstruction: &Obstruction,
+    limit: u32,
+    workers: u32,
+) -> Result<Seen, Memory>
+    requires limit { limit ≤ 24 }
+    requires workers { (1 ≤ workers) × (workers ≤ 64) }
+    requires shape { IsMatrix matrix.now }
+    requires rows { IsRowSet matrix.now lines.now.rows }
+    requires columns { IsColumnSet matrix.now lines.now.columns }
+    requires inner { inner.now ≡ part matrix.now lines.now }
+    requires none { HasNoneBefore limit (part matrix.now lines.now) 5 }
+    requires known { IsKnown matrix.now obstruction.now }
+    ensures { IfOk result (IsSeen limit matrix.now lines.now) }
+{
+    if obstruction.stands_in(matrix, lines) {
+        return look_no_network(rt, alloc, matrix, lines, inner, limit, workers);
+    }
+    look_tested(rt, alloc, matrix, lines, inner, limit, workers)
+}
+
+// The same by tests. Where there must be a cycle fault one is looked for.
+fn look_tested<R: Threads + Sync>(
+    rt: &R,
+    alloc: Global,
+    matrix: &Matrix,
+    lines: &LineSet,
+    inner: &RowsAndColumns<'_>,
     limit: u32,
     workers: u32,
 ) -> Result<Seen, Memory>
@@ -145,17 +182,41 @@ fn look_connected<R: Threads + Sync>(
     requires none { HasNoneBefore limit (part matrix.now lines.now) 5 }
     ensures { IfOk result (IsSeen limit matrix.now lines.now) }
 {
-    if let Some(net) = orient(alloc, inner)? {
+    if let Some(net) = orient(alloc, inner.by_rows())? {
         return Ok(leaf(alloc, Finding::Network(net)));
     }
-    let transposed = inner.transposed(alloc)?;
-    if let Some(net) = orient(alloc, &transposed)? {
+    if let Some(net) = orient(alloc, inner.by_columns())? {
         return Ok(leaf(alloc, Finding::Conetwork(net)));
     }
-    if is_r10(inner) {
-        return look_r10(alloc, matrix, lines, inner, limit);
+    if let Some(fault) = certain_fault(alloc, matrix, lines, inner)? {
+        return Ok(leaf(alloc, Finding::Cycle(fault)));
     }
-    look_separated(rt, alloc, matrix, lines, inner, &transposed, limit, workers)
+    look_no_network(rt, alloc, matrix, lines, inner, limit, workers)
+}
+
+// The cases of a matrix that is no network matrix and not the transposed matrix of one.
+fn look_no_network<R: Threads + Sync>(
+    rt: &R,
+    alloc: Global,
+    matrix: &Matrix,
+    lines: &LineSet,
+    inner: &RowsAndColumns<'_>,
+    limit: u32,
+    workers: u32,
+) -> Result<Seen, Memory>
+    requires limit { limit ≤ 24 }
+    requires workers { (1 ≤ workers) × (workers ≤ 64) }
+    requires shape { IsMatrix matrix.now }
+    requires rows { IsRowSet matrix.now lines.now.rows }
+    requires columns { IsColumnSet matrix.now lines.now.columns }
+    requires inner { inner.now ≡ part matrix.now lines.now }
+    requires none { HasNoneBefore limit (part matrix.now lines.now) 7 }
+    ensures { IfOk result (IsSeen limit matrix.now lines.now) }
+{
+    if is_r10(inner.by_rows()) {
+        return look_r10(alloc, matrix, lines, inner.by_rows(), limit);
+    }
+    look_separated(rt, alloc, matrix, lines, inner, limit, workers)
 }
 
 // An R10 matrix, which has no violator but where it has a cycle fault.
@@ -180,15 +241,13 @@ fn look_r10(
     Ok(leaf(alloc, Finding::R10))
 }
 
-// The cases of a matrix that is no network matrix, no transposed one and no R10. A cycle fault is looked for first where
-// there must be one.
+// The cases of a matrix that is no network matrix, no transposed one and no R10.
 fn look_separated<R: Threads + Sync>(
     rt: &R,
     alloc: Global,
     matrix: &Matrix,
     lines: &LineSet,
-    inner: &Matrix,
-    transposed: &Matrix,
+    inner: &RowsAndColumns<'_>,
     limit: u32,
     workers: u32,
 ) -> Result<Seen, Memory>
@@ -201,16 +260,13 @@ fn look_separated<R: Threads + Sync>(
     requires none { HasNoneBefore limit (part matrix.now lines.now) 8 }
     ensures { IfOk result (IsSeen limit matrix.now lines.now) }
 {
-    if let Some(fault) = certain_fault(alloc, matrix, lines, inner, transposed)? {
-        return Ok(leaf(alloc, Finding::Cycle(fault)));
-    }
-    if let Some(two) = two_separation(alloc, inner)? {
+    if let Some(two) = two_separation_of(alloc, inner)? {
         return seen_two(alloc, matrix, lines, &two, limit);
     }
-    if let Some(fault) = fault_of(alloc, matrix, lines, inner)? {
+    if let Some(fault) = fault_of(alloc, matrix, lines, inner.by_rows())? {
         return Ok(leaf(alloc, Finding::Cycle(fault)));
     }
-    look_faultless(rt, alloc, matrix, lines, inner, limit, workers)
+    look_faultless(rt, alloc, matrix, lines, inner.by_rows(), limit, workers)
 }
 
 // The cases of a matrix without two-separation and without cycle fault.

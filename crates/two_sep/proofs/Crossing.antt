@@ -7,27 +7,16 @@ use Rattle.std.proofs.lemmas.List.FromFn.{length-range_with_len, get_or-range_wi
 use Rattle.cmr_base.specs.declared.line.Line.TheVariants.{Row, Column}
 use Rattle.cmr_base.specs.Matrix.{Matrix, height, entry, IsMatrix}
 use Rattle.cmr_base.specs.LineSets.{first_lines}
-use Rattle.cmr_base.specs.Signing.{IsSign}
 use Rattle.cmr_base.specs.Separations.{Lines, IsTwoSeparation}
-use Rattle.cmr_base.proofs.Integers.{sums, products}
+use Rattle.cmr_base.proofs.Integers.{products}
 use Rattle.cmr_base.proofs.RowLists.{two_cases}
 use Rattle.cmr_base.proofs.ListedLines.{contains_first_lines, first_lines_contain}
 use Rattle.cmr_base.proofs.SeedLemmas.{good_two_seed}
 use Rattle.cmr_base.proofs.SignEntries.{sign_of_entry}
+use Rattle.cmr_base.proofs.SignedProducts.{same_product}
 use Rattle.line_growth.specs.Reaching.{numbered}
 use Rattle.line_growth.proofs.GrownLines.{numbered_line}
 use Rattle.two_sep.specs.FirstSeeds.{Separates, HasNoTwoSeparation, HasNoGoodSeed, AreTogether, ArePassed}
-
--- (a*f*e) * ((g*b*e) * (g*f*e)) is a*b*e where e, f and g are 1 or -1
-same_product : (a b e f g : ℤ) → IsSign e → IsSign f → IsSign g → a *ℤ (b *ℤ e) ≡ (a *ℤ (f *ℤ e)) *ℤ ((g *ℤ (b *ℤ e)) *ℤ (g *ℤ (f *ℤ e)))
-same_product a b e f g (inl p) (inl q) (inl r) = rw (p, q, r) (simp products (omega (arith, sums)))
-same_product a b e f g (inl p) (inl q) (inr r) = rw (p, q, r) (simp products (omega (arith, sums)))
-same_product a b e f g (inl p) (inr q) (inl r) = rw (p, q, r) (simp products (omega (arith, sums)))
-same_product a b e f g (inl p) (inr q) (inr r) = rw (p, q, r) (simp products (omega (arith, sums)))
-same_product a b e f g (inr p) (inl q) (inl r) = rw (p, q, r) (simp products (omega (arith, sums)))
-same_product a b e f g (inr p) (inl q) (inr r) = rw (p, q, r) (simp products (omega (arith, sums)))
-same_product a b e f g (inr p) (inr q) (inl r) = rw (p, q, r) (simp products (omega (arith, sums)))
-same_product a b e f g (inr p) (inr q) (inr r) = rw (p, q, r) (simp products (omega (arith, sums)))
 
 first_factor : (g x : ℤ) → g *ℤ x ≢ pos 0 → g ≢ pos 0
 first_factor g x h e = h (ap (λ (z : ℤ). z *ℤ x) e ∙ none x)

@@ -1,5 +1,5 @@
 -- The first two-separation, with its side as lists.
-use Rattle.std.proofs.Common.{◌≡◌, ◌<◌, ◌+◌, ◌⊎◌, inl, inr, ◌∙◌, filter, nat_eq, ℕ, ℤ, Bool, true, false, List, ap, sym, subst, refl, arith}
+use Rattle.std.proofs.Common.{◌≡◌, ◌<◌, ◌+◌, ◌⊎◌, inl, inr, ◌∙◌, filter, nat_eq, ℕ, ℤ, Bool, List, ap, sym, subst, arith}
 use Rattle.std.specs.List.{list_any}
 use Rattle.std.proofs.lemmas.List.Kept.{IsStrictlyIncreasing-filter}
 use Rattle.cmr_base.specs.declared.line.Line.{Line}
@@ -12,18 +12,13 @@ use Rattle.cmr_base.proofs.ListedLines.{in_from_listed, listed_from_in, first_li
 use Rattle.cmr_base.proofs.RowLists.{filter_in, in_filter}
 use Rattle.cmr_base.proofs.RemovedLines.{first_lines_increase, in_first_lines, row_set_from_within, column_set_from_within}
 use Rattle.cmr_base.proofs.SeedLemmas.{outside_grows, two_separation_of_seed}
+use Rattle.cmr_base.proofs.Booleans.{same_test}
 use Rattle.line_growth.specs.Reaching.{is_marked, marked_lines}
 use Rattle.two_sep.specs.FirstSeeds.{IsFirstTwoSeparation, IsFirstGoodSide, ArePassed}
 use Rattle.two_sep.proofs.Crossing.{parted}
 
-both_ways : (s t : Bool) → (s ≡ true → t ≡ true) → (t ≡ true → s ≡ true) → s ≡ t
-both_ways true true f g = refl
-both_ways true false f g = sym (f refl)
-both_ways false true f g = g refl
-both_ways false false f g = refl
-
 pub listed_filter : (p : ℕ → Bool) (n x : ℕ) → x < n → list_any (λ y. nat_eq y x) (filter p (first_lines n)) ≡ p x
-listed_filter p n x l = both_ways (list_any (λ y. nat_eq y x) (filter p (first_lines n))) (p x)
+listed_filter p n x l = same_test (list_any (λ y. nat_eq y x) (filter p (first_lines n))) (p x)
     (λ e. (in_filter p x (first_lines n) (in_from_listed x (filter p (first_lines n)) e)).1)
     (λ e. listed_from_in x (filter p (first_lines n)) (filter_in p x (first_lines n) (in_first_lines n x l) e))
 

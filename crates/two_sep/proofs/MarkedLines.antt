@@ -1,7 +1,5 @@
 -- Lists of the lines with marks.
-use Rattle.std.proofs.Common.{◌≡◌, ◌+◌, ◌∙◌, ◌++◌, cond, filter, ℕ, Bool, true, false, List, [], ◌∷◌, get_or, ap, sym, refl, arith, zero-add, ℤ, pos, of_z, w8}
-use Rattle.std.proofs.lemmas.Int.{ints}
-use Rattle.cmr_base.specs.Matrix.{IsEntry}
+use Rattle.std.proofs.Common.{◌≡◌, ◌+◌, ◌∙◌, ◌++◌, cond, filter, ℕ, Bool, true, false, List, [], ◌∷◌, get_or, ap, sym, refl, zero-add}
 use Rattle.cmr_base.specs.Indices.{IsAbove}
 use Rattle.cmr_base.specs.LineSets.{first_lines}
 use Rattle.cmr_base.proofs.LineSetLemmas.{range_more}
@@ -33,7 +31,3 @@ filter_no p k xs e h = e ∙ sym (filter_more p k ∙ ap (λ (t : Bool). cond t 
 
 pub filter_below : (p : ℕ → Bool) (k : ℕ) → IsAbove k (filter p (first_lines k))
 filter_below p k q l = first_lines_in k (get_or (filter p (first_lines k)) q 0) (in_filter p (get_or (filter p (first_lines k)) q 0) (first_lines k) (in-get_or (filter p (first_lines k)) q l)).0
-
--- an i8 that is 0
-pub zero_entry : (x : ℤ) → IsEntry x → of_z w8 x ≡ 0 → x ≡ pos 0
-zero_entry x small e = let l = small.low in let h = small.high in omega (arith, ints)

@@ -18,6 +18,7 @@ use Rattle.cmr_base.proofs.ListedLines.{has_line_from_listed, listed_from_has_li
 use Rattle.cmr_base.proofs.ListsWithout.{in_from_contains, contains_from_in}
 use Rattle.cmr_base.proofs.RowLists.{two_cases, in_filter, filter_in}
 use Rattle.cmr_base.proofs.RemovedLines.{first_lines_increase, in_first_lines, row_set_from_within, column_set_from_within}
+use Rattle.cmr_base.proofs.Booleans.{not_is, or_is, or_left, or_right, not_false, false_is}
 use Rattle.line_growth.specs.Rules.{pulls}
 use Rattle.line_growth.specs.Reaching.{is_marked, numbered, IsClosedUnder, unmarked, AreReached}
 use Rattle.line_growth.proofs.GrownLines.{closed_from_marks, numbered_line, numbered_closed}
@@ -68,33 +69,10 @@ first_pass p (suc n) k l e h = go (cases_lt k n) (λ m. first_pass p n k m e h)
         let q : n ≡ k = omega arith in
         ([], more ∙ ap (λ (t : Bool). cond t (filter p (first_lines n) ++ n ∷ []) (filter p (first_lines n))) (ap p q ∙ e) ∙ ap (λ (xs : List ℕ). xs ++ n ∷ []) (none_pass p n (λ r l. h r (omega arith))) ∙ ap (λ (z : ℕ). z ∷ []) q)
 
-not_back : (t : Bool) → not t ≡ true → t ≡ false
-not_back true u = sym u
-not_back false u = refl
-
-not_false : (t : Bool) → not t ≡ false → t ≡ true
-not_false true u = refl
-not_false false u = sym u
-
-not_in : (t : Bool) → (t ≡ true → ⊥) → t ≡ false
-not_in true h = absurd (h refl)
-not_in false h = refl
-
-or_cases : (s t : Bool) → (s || t) ≡ true → (s ≡ true) ⊎ (t ≡ true)
-or_cases true t e = inl refl
-or_cases false t e = inr e
-
-or_left : (s t : Bool) → s ≡ true → (s || t) ≡ true
-or_left s t e = rw e refl
-
-or_right : (s t : Bool) → t ≡ true → (s || t) ≡ true
-or_right true t e = refl
-or_right false t e = e
-
 opposite_apart : (m n : ℕ) (M : ℕ → ℕ → ℤ) (S : Lines) → IsApart m n M S → IsApart m n M (opposite S)
 opposite_apart m n M S s = record {
-  right = λ r c hr hc e f. s.below r c hr hc (not_back (S (Row r)) e) (not_false (S (Column c)) f);
-  below = λ r c hr hc e f. s.right r c hr hc (not_false (S (Row r)) e) (not_back (S (Column c)) f);
+  right = λ r c hr hc e f. s.below r c hr hc (not_is (S (Row r)) e) (not_false (S (Column c)) f);
+  below = λ r c hr hc e f. s.right r c hr hc (not_false (S (Row r)) e) (not_is (S (Column c)) f);
 }
 
 module _ (m : Matrix) where
@@ -162,7 +140,7 @@ module _ (m : Matrix) where
           let apart = opposite_apart h m.width (entry m) S (found.components a.0 a.1).apart in
           let out : numbered h (opposite S) x ≡ true =
           ap (numbered h (opposite S)) (sym (number-line_of h x)) ∙ numbered_line h m.width (entry m) zeros zeros (opposite S) (line_of h x) (line-line_of h m.width x lx)
-          ∙ ap not (not_in (S (line_of h x)) (λ t. false≢true (sym (not_back (is_marked seen x) e) ∙ (ap (is_marked seen) (sym (number-line_of h x)) ∙ found.in_seen a.0 (line_of h x) a.1 (has_line_from_listed part.rows part.columns (line_of h x) t))))) in
+          ∙ ap not (false_is (S (line_of h x)) (λ t. false≢true (sym (not_is (is_marked seen x) e) ∙ (ap (is_marked seen) (sym (number-line_of h x)) ∙ found.in_seen a.0 (line_of h x) a.1 (has_line_from_listed part.rows part.columns (line_of h x) t))))) in
           let far = numbered_closed h m.width (entry m) zeros zeros (opposite S) apart x y lx ly out f in
           let near : numbered h (opposite S) y ≡ false =
           ap (numbered h (opposite S)) (sym (number-line_of h y)) ∙ numbered_line h m.width (entry m) zeros zeros (opposite S) line is_line ∙ ap not (listed_from_has_line part.rows part.columns line a.2) in
@@ -200,7 +178,7 @@ module _ (m : Matrix) where
       only_start set e x (inr a) = absurd a
 
       unseen : (x : ℕ) → is_marked marks x ≡ true → is_marked seen x ≡ false
-      unseen x e = not_back (is_marked seen x) (r.within (λ k. not (is_marked seen k)) (only_start (λ k. not (is_marked seen k)) (ap not new)) unseen_closed x e)
+      unseen x e = not_is (is_marked seen x) (r.within (λ k. not (is_marked seen k)) (only_start (λ k. not (is_marked seen k)) (ap not new)) unseen_closed x e)
 
       all_marked : unmarked size marks < 1 → (x : ℕ) → x < size → is_marked marks x ≡ true
       all_marked few x l = elim (two_cases (is_marked marks x)) [
@@ -241,7 +219,7 @@ module _ (m : Matrix) where
           | inl e ↦ within_other other is_apart e line l t
           | inr e ↦
               let out = within_other (opposite other) (opposite_apart h m.width (entry m) other is_apart) (ap not e) some.0 some.1 (within some.0 some.1 some.2) in
-              absurd (false≢true (sym (not_back (other some.0) out) ∙ some.2))
+              absurd (false≢true (sym (not_is (other some.0) out) ∙ some.2))
         ];
       }
 
@@ -249,7 +227,7 @@ module _ (m : Matrix) where
       first_is = go (cases_lt number h)
         where
           before : (k : ℕ) → k < number → is_marked marks k ≡ false
-          before k l = not_in (is_marked marks k) (λ e. false≢true (sym (unseen k e) ∙ found.passed k l))
+          before k l = false_is (is_marked marks k) (λ e. false≢true (sym (unseen k e) ∙ found.passed k l))
 
           by_lists : (rows columns : List ℕ) → part.rows ≡ rows → part.columns ≡ columns → first_number h part ≡ first_number h (record { rows = rows; columns = columns })
           by_lists rows columns e f = ap₂ (λ (a b : List ℕ). first_number h (record { rows = a; columns = b })) e f
@@ -268,7 +246,7 @@ module _ (m : Matrix) where
         row_sets = λ a l. each (λ p. IsRowSet m p.rows) found.row_sets (subst (IsRowSet m) (sym rows_are) (row_set_from_within m (filter (λ x. is_marked marks x) (first_lines h)) (IsStrictlyIncreasing-filter (λ x. is_marked marks x) (first_lines h) (first_lines_increase h)) (λ x i. (in_filter (λ x. is_marked marks x) x (first_lines h) i).0))) a l;
         column_sets = λ a l. each (λ p. IsColumnSet m p.columns) found.column_sets (subst (IsColumnSet m) (sym columns_are) (column_set_from_within m (filter (λ x. is_marked marks (h + x)) (first_lines m.width)) (IsStrictlyIncreasing-filter (λ x. is_marked marks (h + x)) (first_lines m.width) (first_lines_increase m.width)) (λ x i. (in_filter (λ x. is_marked marks (h + x)) x (first_lines m.width) i).0))) a l;
         components = λ a l. each (λ p. IsComponent h m.width (entry m) (listed p.rows p.columns)) found.components component a l;
-        seen_in = λ line l e. elim (or_cases (is_marked seen (line_number h line)) (is_marked marks (line_number h line)) (sym (is (line_number h line)) ∙ e)) [
+        seen_in = λ line l e. elim (or_is (is_marked seen (line_number h line)) (is_marked marks (line_number h line)) (sym (is (line_number h line)) ∙ e)) [
           | inl f ↦ let a = found.seen_in line l f in (a.0, (let k = a.1 in let n = length-more parts part in omega arith), subst (λ p. HasLine p.rows p.columns line) (sym (part_front parts part a.0 a.1)) a.2)
           | inr f ↦ (length parts, (let n = length-more parts part in omega arith), subst (λ p. HasLine p.rows p.columns line) (sym (part_last parts part)) (has_line_from_listed part.rows part.columns line (same_lines line l ∙ f)))
         ];

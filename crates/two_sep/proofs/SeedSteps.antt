@@ -1,8 +1,7 @@
 -- What is reached at a nonzero, and good seeds.
-use Rattle.std.proofs.Common.{◌≡◌, ◌≢◌, ◌<◌, ◌≤◌, ◌+◌, ◌-◌, ◌⊎◌, inl, inr, ◌∙◌, ◌*ℤ◌, not, cond, nat_lt, nat_eq, ℕ, ℤ, pos, negsuc, Bool, true, false, List, [], ◌∷◌, ap, sym, subst, refl, arith}
+use Rattle.std.proofs.Common.{◌≡◌, ◌≢◌, ◌<◌, ◌≤◌, ◌+◌, ◌-◌, ◌⊎◌, inl, inr, ◌∙◌, not, cond, nat_lt, nat_eq, ℕ, ℤ, pos, Bool, true, false, List, [], ◌∷◌, ap, sym, subst, refl, arith}
 use Rattle.std.specs.List.{AllByRecursion}
 use Rattle.std.proofs.lemmas.Bool.{false≢true, cases_lt, cases_eq}
-use Rattle.std.proofs.lemmas.Bool.Decides.{nat_tests}
 use Rattle.cmr_base.specs.declared.line.Line.{Line}
 use Rattle.cmr_base.specs.declared.line.Line.TheVariants.{Row, Column}
 use Rattle.cmr_base.specs.Matrix.{Matrix, height, entry, IsMatrix}
@@ -11,26 +10,15 @@ use Rattle.cmr_base.specs.Members.{IsIn}
 use Rattle.cmr_base.specs.Signing.{IsSign}
 use Rattle.cmr_base.specs.Separations.{Lines, opposite, count_in, zeros, product_at}
 use Rattle.cmr_base.specs.Seeds.{IsLine, IsGrown, IsReference, IsGoodTwo, line_number}
-use Rattle.cmr_base.proofs.Integers.{sums, products}
 use Rattle.cmr_base.proofs.RowLists.{two_cases}
 use Rattle.cmr_base.proofs.SeedLemmas.{outside_grows}
 use Rattle.cmr_base.proofs.SignEntries.{sign_of_entry}
+use Rattle.cmr_base.proofs.Booleans.{is_not_lt, is_lt, is_ne, self_eq}
+use Rattle.cmr_base.proofs.SignedProducts.{twice_by_sign}
 use Rattle.line_growth.specs.Rules.{pulls}
 use Rattle.line_growth.specs.Reaching.{is_marked, marked_lines, numbered, IsClosedUnder, unmarked, AreReached}
 use Rattle.two_sep.specs.FirstSeeds.{HasNoGoodSeed, IsFirstGoodSide}
 use Rattle.line_growth.proofs.GrownLines.{closed_from_marks, numbered_line, numbered_closed, unmarked_outside, same_not}
-
-yes : (a b : ℕ) → a < b → nat_lt a b ≡ true
-yes a b l = grind (arith, nat_tests)
-
-no : (a b : ℕ) → b ≤ a → nat_lt a b ≡ false
-no a b l = grind (arith, nat_tests)
-
-other : (a b : ℕ) → a ≢ b → nat_eq a b ≡ false
-other a b d = grind (arith, nat_tests)
-
-same : (a : ℕ) → nat_eq a a ≡ true
-same a = grind (arith, nat_tests)
 
 -- the line of a number
 abbrev pub line_of : ℕ → ℕ → Line
@@ -38,33 +26,23 @@ line_of m k = cond (nat_lt k m) (Row k) (Column (k - m))
 
 pub number-line_of : (m k : ℕ) → line_number m (line_of m k) ≡ k
 number-line_of m k = elim (cases_lt k m) [
-  | inl l ↦ rw (yes k m l) refl
-  | inr l ↦ rw (no k m l) (let e : m + (k - m) ≡ k = omega arith in e)
+  | inl l ↦ rw (is_lt k m l) refl
+  | inr l ↦ rw (is_not_lt k m l) (let e : m + (k - m) ≡ k = omega arith in e)
 ]
 
 pub line-line_of : (m n k : ℕ) → k < m + n → IsLine m n (line_of m k)
 line-line_of m n k h = elim (cases_lt k m) [
-  | inl l ↦ rw (yes k m l) l
-  | inr l ↦ rw (no k m l) (let e : k - m < n = omega arith in e)
+  | inl l ↦ rw (is_lt k m l) l
+  | inr l ↦ rw (is_not_lt k m l) (let e : k - m < n = omega arith in e)
 ]
 
 pub line_of-number : (m n : ℕ) (line : Line) → IsLine m n line → line_of m (line_number m line) ≡ line
-line_of-number m n (Row r) l = rw (yes r m l) refl
-line_of-number m n (Column c) l = let e : (m + c) - m ≡ c = omega arith in rw (no (m + c) m (omega arith), e) refl
+line_of-number m n (Row r) l = rw (is_lt r m l) refl
+line_of-number m n (Column c) l = let e : (m + c) - m ≡ c = omega arith in rw (is_not_lt (m + c) m (omega arith), e) refl
 
 pub number_in : (m n : ℕ) (line : Line) → IsLine m n line → line_number m line < m + n
 number_in m n (Row r) l = omega arith
 number_in m n (Column c) l = omega arith
-
-unit_back : (e x : ℤ) → IsSign e → x ≡ e *ℤ (x *ℤ e)
-unit_back e x (inl h) = rw h (plain x)
-  where
-    plain : (x : ℤ) → x ≡ pos 1 *ℤ (x *ℤ pos 1)
-    plain x = simp products
-unit_back e x (inr h) = rw h (plain x)
-  where
-    plain : (x : ℤ) → x ≡ negsuc 0 *ℤ (x *ℤ negsuc 0)
-    plain x = simp products (omega (arith, sums))
 
 module _ (m : Matrix) (is : IsMatrix m) (i j : ℕ) (row : i < height m) (column : j < m.width) (nonzero : entry m i j ≢ pos 0) where
   abbrev h : ℕ
@@ -85,14 +63,14 @@ module _ (m : Matrix) (is : IsMatrix m) (i j : ℕ) (row : i < height m) (column
   -- nothing pulls row i
   row_stays : (x : ℕ) → leads x i ≡ false
   row_stays x = elim (cases_lt x h) [
-    | inl l ↦ rw (yes x h l, yes i h row) refl
-    | inr l ↦ rw (no x h l, yes i h row) (same_not (M i (x - h)) (product_at M i j i (x - h)) (unit_back (M i j) (M i (x - h)) sign))
+    | inl l ↦ rw (is_lt x h l, is_lt i h row) refl
+    | inr l ↦ rw (is_not_lt x h l, is_lt i h row) (same_not (M i (x - h)) (product_at M i j i (x - h)) (twice_by_sign (M i j) (M i (x - h)) sign))
   ]
 
   others_closed : IsClosedUnder size leads (λ k. not (nat_eq k i))
   others_closed x y l k e f = elim (cases_eq y i) [
     | inl q ↦ absurd (false≢true (sym (row_stays x) ∙ subst (λ (z : ℕ). leads x z ≡ true) q f))
-    | inr d ↦ ap not (other y i d)
+    | inr d ↦ ap not (is_ne y i d)
   ]
 
   module _ (seed : ℕ) (seed_in : seed < size) (not_row : seed ≢ i) (not_column : seed ≢ h + j) (marks : List Bool) (r : AreReached size leads 2 (seed ∷ (h + j) ∷ []) marks) where
@@ -101,13 +79,13 @@ module _ (m : Matrix) (is : IsMatrix m) (i j : ℕ) (row : i < height m) (column
 
     row_unmarked : is_marked marks i ≡ false
     row_unmarked = elim (two_cases (is_marked marks i)) [
-      | inl e ↦ absurd (false≢true (ap not (sym (same i)) ∙ r.within (λ k. not (nat_eq k i)) starts others_closed i e))
+      | inl e ↦ absurd (false≢true (ap not (sym (self_eq i)) ∙ r.within (λ k. not (nat_eq k i)) starts others_closed i e))
       | inr e ↦ e
     ]
       where
         starts : (x : ℕ) → IsIn x (seed ∷ (h + j) ∷ []) → not (nat_eq x i) ≡ true
-        starts x (inl e) = ap not (other x i (λ q. not_row (sym e ∙ q)))
-        starts x (inr (inl e)) = ap not (other x i (λ q. let l = row in omega arith))
+        starts x (inl e) = ap not (is_ne x i (λ q. not_row (sym e ∙ q)))
+        starts x (inr (inl e)) = ap not (is_ne x i (λ q. let l = row in omega arith))
         starts x (inr (inr a)) = absurd a
 
     -- the marks are within each closed set that has the seed and column j

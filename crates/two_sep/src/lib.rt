@@ -8,5 +8,5 @@ mod seeds;
 mod separations;
 
 pub use cmr_base::{LineSetList, Two};
-pub use parts::components;
-pub use separations::two_separation;
+pub use parts::{components, components_of};
+pub use separations::{two_separation, two_separation_of};

@@ -12,11 +12,11 @@ use std::alloc::Global;
 pub fn components(alloc: Global, matrix: &Matrix) -> Result<LineSetList, Memory>
     ensures { IfOk result (AreComponents matrix.now) }
 {
-    parts_of(alloc, &RowsAndColumns::new(alloc, matrix)?)
+    components_of(alloc, &RowsAndColumns::new(alloc, matrix)?)
 }
 
-// The same, of a matrix by its rows and its columns.
-fn parts_of(alloc: Global, matrix: &RowsAndColumns<'_>) -> Result<LineSetList, Memory>
+/// The same, of a matrix by its rows and its columns.
+pub fn components_of(alloc: Global, matrix: &RowsAndColumns<'_>) -> Result<LineSetList, Memory>
     ensures { IfOk result (AreComponents matrix.now) }
 {
     let rows = matrix.rows();

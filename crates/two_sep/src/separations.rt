@@ -15,11 +15,11 @@ use std::alloc::Global;
 pub fn two_separation(alloc: Global, matrix: &Matrix) -> Result<Option<Two>, Memory>
     ensures { IfOk result (λ found. MatchOption found (HasNoTwoSeparation matrix.now) (λ two. IsFirstTwoSeparation matrix.now two)) }
 {
-    first_separation(alloc, &RowsAndColumns::new(alloc, matrix)?)
+    two_separation_of(alloc, &RowsAndColumns::new(alloc, matrix)?)
 }
 
-// The same, of a matrix by its rows and its columns.
-fn first_separation(alloc: Global, matrix: &RowsAndColumns<'_>) -> Result<Option<Two>, Memory>
+/// The same, of a matrix by its rows and its columns.
+pub fn two_separation_of(alloc: Global, matrix: &RowsAndColumns<'_>) -> Result<Option<Two>, Memory>
     ensures { IfOk result (λ found. MatchOption found (HasNoTwoSeparation matrix.now) (λ two. IsFirstTwoSeparation matrix.now two)) }
 {
     let mut labels = own_labels(alloc, matrix.rows() + matrix.columns())?;

@@ -9,6 +9,22 @@ use Rattle.decomp_tree.proofs.Children.{child_rows, child_columns}
 use Rattle.decomp_tree.proofs.DraftLemmas.{drafted_next, drafted_all, drafted_behind}
 use Rattle.decomp_tree.proofs.drafts.+draw.Goals as goal
 
+pub in_child-requires-clause-rows : goal.in_child-requires-clause-rows
+in_child-requires-clause-rows g t c =
+    let front = c.in_ok-front.front.value in
+    let items = c.as_slice-child-items.result.now in
+    let same : items ≡ front.children = c.as_slice-child-items.ensures ∙ ap (λ (f : Front). f.children) c.deref.ensures in
+    let fewer = all_at (AreFewer c.args.lines.now) items c.loop-child.child-index c.child-item.result (subst (AllByRecursion (AreFewer c.args.lines.now)) (sym same) c.in_ok-front.ensures.said.fewer) c.loop-child-test.true in
+    child_rows c.args.matrix.now c.args.lines.now c.child-item.result (record { rows = c.requires.rows; columns = c.requires.columns }) (subst (AreFewer c.args.lines.now) (sym c.child-item.is) fewer)
+
+pub in_child-requires-clause-columns : goal.in_child-requires-clause-columns
+in_child-requires-clause-columns g t c =
+    let front = c.in_ok-front.front.value in
+    let items = c.as_slice-child-items.result.now in
+    let same : items ≡ front.children = c.as_slice-child-items.ensures ∙ ap (λ (f : Front). f.children) c.deref.ensures in
+    let fewer = all_at (AreFewer c.args.lines.now) items c.loop-child.child-index c.child-item.result (subst (AllByRecursion (AreFewer c.args.lines.now)) (sym same) c.in_ok-front.ensures.said.fewer) c.loop-child-test.true in
+    child_columns c.args.matrix.now c.args.lines.now c.child-item.result (record { rows = c.requires.rows; columns = c.requires.columns }) (subst (AreFewer c.args.lines.now) (sym c.child-item.is) fewer)
+
 pub draw-requires-clause-rows : goal.draw-requires-clause-rows
 draw-requires-clause-rows g t c =
     let front = c.in_ok-front.front.value in

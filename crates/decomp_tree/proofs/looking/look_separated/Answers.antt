@@ -1,4 +1,4 @@
-use Rattle.std.proofs.Common.{Option, IfSome, MatchOption, sym, subst}
+use Rattle.std.proofs.Common.{Option, MatchOption, sym, subst}
 use Rattle.cmr_base.specs.declared.line_set.LineSet.{LineSet}
 use Rattle.cmr_base.specs.declared.separation.Two.{Two}
 use Rattle.cmr_base.specs.Matrix.{Matrix, entry}
@@ -10,24 +10,16 @@ use Rattle.decomp_tree.specs.Seen.{IsNamedFault, IsSeen}
 use Rattle.decomp_tree.proofs.Said.{none_next, seen_fault}
 use Rattle.decomp_tree.proofs.looking.look_separated.Goals as goal
 
-pub returns-in-Some : goal.returns-in-Some
-returns-in-Some g c =
+pub returns-in-Some-2 : goal.returns-in-Some-2
+returns-in-Some-2 g c =
     let m = c.args.matrix.now in
     let lines = c.args.lines.now in
     subst (IsSeen c.args.limit m lines) (sym c.leaf.ensures)
-    (seen_fault c.args.limit m c.requires.shape lines (record { rows = c.requires.rows; columns = c.requires.columns }) c.in-Some.fault
-    (subst (λ (o : Option LineSet). IfSome o (IsNamedFault m lines)) c.in-Some.is c.in_ok-fault.ensures))
-
-pub returns-in-Some-3 : goal.returns-in-Some-3
-returns-in-Some-3 g c =
-    let m = c.args.matrix.now in
-    let lines = c.args.lines.now in
-    subst (IsSeen c.args.limit m lines) (sym c.leaf-in-Some-3.ensures)
-    (seen_fault c.args.limit m c.requires.shape lines (record { rows = c.requires.rows; columns = c.requires.columns }) c.in-Some-3.fault
-    (subst (λ (o : Option LineSet). MatchOption o (HasNoCycleFault (entry (part m lines))) (IsNamedFault m lines)) c.in-Some-3.is c.in_ok-fault-2.ensures))
+    (seen_fault c.args.limit m c.requires.shape lines (record { rows = c.requires.rows; columns = c.requires.columns }) c.in-Some-2.fault
+    (subst (λ (o : Option LineSet). MatchOption o (HasNoCycleFault (entry (part m lines))) (IsNamedFault m lines)) c.in-Some-2.is c.in_ok-fault.ensures))
 
 pub look_faultless-requires-clause-none : goal.look_faultless-requires-clause-none
 look_faultless-requires-clause-none g c =
     let n = part c.args.matrix.now c.args.lines.now in
-    let no_two = subst (λ (k : Matrix). HasNoTwoSeparation k) c.requires.inner (subst (λ (o : Option Two). MatchOption o (HasNoTwoSeparation c.args.inner.now) (λ two. IsFirstTwoSeparation c.args.inner.now two)) c.in_default-2.is c.in_ok-two.ensures) in
+    let no_two = subst (λ (k : Matrix). HasNoTwoSeparation k) c.requires.inner (subst (λ (o : Option Two). MatchOption o (HasNoTwoSeparation c.args.inner.now) (λ two. IsFirstTwoSeparation c.args.inner.now two)) c.in_default.is c.in_ok-two.ensures) in
     λ κs lives. none_next c.args.limit n IsTwoSum c.requires.none (λ w. no_two w.0 w.1 w.2 w.3)

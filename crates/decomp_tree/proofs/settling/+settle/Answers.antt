@@ -1,6 +1,7 @@
 use Rattle.std.proofs.Common.{◌≡◌, ◌<◌, ◌∙◌, ◌++◌, true, Option, MatchOption, List, [], ◌∷◌, length, map, append_assoc, append-nil, refl, ap, sym, subst, arith}
 use Rattle.std.specs.Vec.Iter.{into_iter_items}
 use Rattle.cmr_base.specs.declared.line_set.LineSet.{LineSet}
+use Rattle.cmr_base.proofs.Lists.{no_items}
 use Rattle.tree_type.specs.Findings.{finding_shown}
 use Rattle.tree_type.specs.Invariant.{size_of}
 use Rattle.tree_type.specs.Trees.{tree_of}
@@ -13,17 +14,13 @@ use Rattle.decomp_tree.proofs.Children.{child_rows, child_columns}
 use Rattle.decomp_tree.proofs.Settled.{lines_in, child_at, settled_next, count_settled, whole_settled, fault_settled}
 use Rattle.decomp_tree.proofs.settling.+settle.Goals as goal
 
-nothing_left : {X : Type 0} (items : List X) → length items ≡ 0 → items ≡ []
-nothing_left [] e = refl
-nothing_left (x ∷ items) e = absurd (omega (arith, e))
-
 -- this child stands among the children
 next_child : (yielded : List Draft) (child : Draft) (left rest all items : List Draft) → left ≡ child ∷ rest → yielded ++ left ≡ all → all ≡ items → yielded ++ child ∷ rest ≡ items
 next_child yielded child left rest all items e f g = ap (λ (some : List Draft). yielded ++ some) (sym e) ∙ f ∙ g
 
 -- all are settled
 all_yielded : (yielded left all items : List Draft) → length left ≡ 0 → yielded ++ left ≡ all → all ≡ items → yielded ≡ items
-all_yielded yielded left all items e f g = sym (append-nil yielded) ∙ ap (λ (some : List Draft). yielded ++ some) (sym (nothing_left left e)) ∙ f ∙ g
+all_yielded yielded left all items e f g = sym (append-nil yielded) ∙ ap (λ (some : List Draft). yielded ++ some) (sym (no_items left e)) ∙ f ∙ g
 
 pub returns-in-Some : goal.returns-in-Some
 returns-in-Some t c =

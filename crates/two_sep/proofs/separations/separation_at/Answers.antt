@@ -2,11 +2,11 @@ use Rattle.std.proofs.Common.{◌≡◌, ◌<◌, ◌+◌, ◌∙◌, filter, ap
 use Rattle.std.proofs.lemmas.List.{get_or_default}
 use Rattle.cmr_base.specs.Matrix.{height}
 use Rattle.cmr_base.specs.LineSets.{first_lines}
+use Rattle.cmr_base.proofs.EntryBytes.{zero_byte}
 use Rattle.line_growth.specs.Reaching.{is_marked}
 use Rattle.two_sep.specs.FirstSeeds.{ArePassed, HasNoGoodSeed, IsFirstGoodSide}
 use Rattle.two_sep.proofs.Crossing.{passed_on, passed_joined}
 use Rattle.two_sep.proofs.FirstTwo.{first_two}
-use Rattle.two_sep.proofs.MarkedLines.{zero_entry}
 use Rattle.two_sep.proofs.separations.separation_at.Goals as goal
 use Rattle.two_sep.proofs.separations.separation_at.Goals.{then-label-other+then-entry-ne0+in_ok-side+in_default, else-label-other, else-label-other-via-then-label-other+else-entry-ne0, else-label-other-via-else-label-other}
 
@@ -46,7 +46,7 @@ loop-column-preserved c =
           subst (λ (xs : List ℕ). ArePassed m i (j + 1) xs) (sym (ap (λ v. v.items) w.labels-is))
           (passed_on m i j labels p c.requires.row column_in
           (elim w.else-label-other.branch [
-            | else-label-other-via-then-label-other+else-entry-ne0 w' ↦ inl (sym w'.entry.ensures.value ∙ zero_entry w'.entry.result w'.entry.ensures.small w'.if-entry-ne0.false)
+            | else-label-other-via-then-label-other+else-entry-ne0 w' ↦ inl (sym w'.entry.ensures.value ∙ zero_byte w'.entry.result w'.entry.ensures.small w'.if-entry-ne0.false)
             | else-label-other-via-else-label-other w' ↦ inr (label ∙ w'.if-label-other.false ∙ sym other)
           ]))
     ]

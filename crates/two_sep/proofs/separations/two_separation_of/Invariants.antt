@@ -1,5 +1,5 @@
 use Rattle.two_sep.specs.FirstSeeds.{ArePassed}
-use Rattle.two_sep.proofs.separations.first_separation.Given as goal
+use Rattle.two_sep.proofs.separations.two_separation_of.Given as goal
 
 abbrev pub invariant-loop-row : goal.invariant-loop-row
 invariant-loop-row l = ArePassed l.matrix l.row 0 l.labels.items

@@ -6,8 +6,8 @@ use Rattle.cmr_base.specs.LineSets.{first_lines}
 use Rattle.line_growth.specs.Reaching.{is_marked}
 use Rattle.two_sep.specs.FoundParts.{AreFound}
 use Rattle.two_sep.proofs.PartSteps.{found_passes, found_more, found_all}
-use Rattle.two_sep.proofs.parts.parts_of.Goals as goal
-use Rattle.two_sep.proofs.parts.parts_of.Goals.{then-not-index+in_ok-marks+in_ok-marked_set+in_ok-push, else-not-index}
+use Rattle.two_sep.proofs.parts.components_of.Goals as goal
+use Rattle.two_sep.proofs.parts.components_of.Goals.{then-not-index+in_ok-marks+in_ok-marked_set+in_ok-push, else-not-index}
 
 pub loop-line-preserved : goal.loop-line-preserved
 loop-line-preserved c =

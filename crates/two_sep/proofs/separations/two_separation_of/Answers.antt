@@ -1,7 +1,7 @@
 use Rattle.std.proofs.Common.{◌+◌, ◌∙◌, ap₂, arith, ℕ}
 use Rattle.std.specs.List.{range_with_len}
 use Rattle.two_sep.proofs.Crossing.{own_labels_passed, none_left}
-use Rattle.two_sep.proofs.separations.first_separation.Goals as goal
+use Rattle.two_sep.proofs.separations.two_separation_of.Goals as goal
 
 pub loop-row-init : goal.loop-row-init
 loop-row-init c =

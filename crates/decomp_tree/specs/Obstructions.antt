@@ -1,0 +1,32 @@
+-- Lines by which submatrices are known to be no network matrices.
+use Rattle.std.specs.Prelude.{◌<◌, ℕ, List, length, slice_index, IfSome}
+use Rattle.std.specs.List.Sorted.{IsStrictlyIncreasing}
+use Rattle.cmr_base.specs.declared.line_set.LineSet.{LineSet}
+use Rattle.cmr_base.specs.Matrix.{Matrix, transposed}
+use Rattle.cmr_base.specs.LineSets.{IsRowSet, IsColumnSet}
+use Rattle.cmr_base.specs.Members.{IsIn}
+use Rattle.cmr_base.specs.Trees.{HasGraphicSupport, IsNetworkMatrix, IsConetworkMatrix}
+use Rattle.tree_type.specs.Soundness.{part}
+use Rattle.decomp_tree.specs.declared.obstructions.Obstruction.{Obstruction}
+
+-- neither the matrix nor the transposed one has a graphic support
+abbrev pub HasNoGraphicSupport : Matrix → Type 0
+HasNoGraphicSupport m = (¬ (HasGraphicSupport m)) × (¬ (HasGraphicSupport (transposed m)))
+
+-- the matrix is no network matrix, and neither is the transposed one
+abbrev pub IsNoNetwork : Matrix → Type 0
+IsNoNetwork m = (¬ (IsNetworkMatrix m)) × (¬ (IsConetworkMatrix m))
+
+-- the submatrix on these lines has no graphic support
+pub record IsObstruction (m : Matrix) (lines : LineSet) : Type 0 where
+  pub row_set : IsRowSet m lines.rows
+  pub column_set : IsColumnSet m lines.columns
+  pub none : HasNoGraphicSupport (part m lines)
+
+abbrev pub IsKnown : Matrix → Obstruction → Type 0
+IsKnown m obstruction = IfSome obstruction.lines (IsObstruction m)
+
+-- some of these lines, rising
+pub record IsSomeOf (lines some : List ℕ) : Type 0 where
+  pub rising : IsStrictlyIncreasing some
+  pub among : (x : ℕ) → IsIn x some → IsIn x lines

@@ -1,0 +1,202 @@
+// Lines by which submatrices are known to be no network matrices.
+ghost use Rattle.std.specs.Prelude.{◌≡◌, ◌≤◌, ◌+◌, true, drop, length, take, IfOk, IsTrue};
+ghost use Rattle.std.specs.List.{AllByRecursion};
+ghost use Rattle.cmr_base.specs.Matrix.{IsMatrix};
+ghost use Rattle.cmr_base.specs.LineSets.{IsRowSet, IsColumnSet};
+ghost use Rattle.tree_type.specs.Sides.{is_among};
+ghost use Rattle.tree_type.specs.Soundness.{part};
+ghost use Rattle.decomp_tree.specs.Obstructions.{IsKnown, IsNoNetwork, IsSomeOf, HasNoGraphicSupport};
+
+use cmr_base::{Indices, LineSet, Matrix, Memory};
+use network_orient::has_graphic_support;
+use std::alloc::Global;
+use tree_type::{Finding, copy_of, has_line};
+
+// The fewest lines of a submatrix in which an obstruction is sought. Smaller ones are tested themselves.
+const LEAST_LINES: u32 = 40;
+
+// More lines than any matrix has.
+const MORE_LINES: u32 = 4000;
+
+/// Lines on which neither the matrix nor the transposed one has a graphic support, where such are known. So no submatrix that
+/// has all these lines is a network matrix or the transposed matrix of one, and no test of it is needed.
+#[derive(Drop)]
+pub struct Obstruction {
+    pub lines: Option<LineSet>,
+    /// How many lines the submatrix had in which they were sought last.
+    pub sought: u32,
+}
+
+impl Obstruction {
+    /// Nothing is known.
+    pub fn unknown(_matrix: &Matrix) -> Obstruction
+        ensures known { IsKnown _matrix.now result }
+        ensures sought { result.sought ≤ 4000 }
+    {
+        Obstruction {
+            lines: None,
+            sought: MORE_LINES,
+        }
+    }
+
+    /// Whether these lines have all that are known, so that the submatrix on them is no network matrix and not the
+    /// transposed matrix of one.
+    pub fn stands_in(&self, _matrix: &Matrix, lines: &LineSet) -> bool
+        requires shape { IsMatrix _matrix.now }
+        requires known { IsKnown _matrix.now self.now }
+        requires rows { IsRowSet _matrix.now lines.now.rows }
+        requires columns { IsColumnSet _matrix.now lines.now.columns }
+        ensures { IsTrue result → IsNoNetwork (part _matrix.now lines.now) }
+    {
+        if let Some(own) = &self.lines {
+            return has_lines(lines, own);
+        }
+        false
+    }
+
+    /// What is known for a child of a node that says this. Where the child has not all of these lines, others are sought
+    /// in it, though only in children of two-sums, and not again until a quarter of the lines is gone.
+    pub fn in_child(
+        &self,
+        alloc: Global,
+        matrix: &Matrix,
+        finding: &Finding,
+        child: &LineSet,
+    ) -> Result<Obstruction, Memory>
+        requires shape { IsMatrix matrix.now }
+        requires known { IsKnown matrix.now self.now }
+        requires rows { IsRowSet matrix.now child.now.rows }
+        requires columns { IsColumnSet matrix.now child.now.columns }
+        requires sought { self.now.sought ≤ 4000 }
+        ensures known { IfOk result (IsKnown matrix.now) }
+        ensures sought { IfOk result (λ obstruction. obstruction.sought ≤ 4000) }
+    {
+        if self.stands_in(matrix, child) {
+            return self.copied(alloc, matrix);
+        }
+        let size = size_of(matrix, child);
+        if is_two_sum(finding) && size >= LEAST_LINES && 4 * size <= 3 * self.sought {
+            return obstruction_in(alloc, matrix, child, size);
+        }
+        Ok(Obstruction {
+            lines: None,
+            sought: self.sought,
+        })
+    }
+
+    fn copied(&self, alloc: Global, _matrix: &Matrix) -> Result<Obstruction, Memory>
+        requires known { IsKnown _matrix.now self.now }
+        requires sought { self.now.sought ≤ 4000 }
+        ensures known { IfOk result (IsKnown _matrix.now) }
+        ensures sought { IfOk result (λ obstruction. obstruction.sought ≤ 4000) }
+    {
+        if let Some(own) = &self.lines {
+            return Ok(Obstruction {
+                lines: Some(copy_of(alloc, own)?),
+                sought: self.sought,
+            });
+        }
+        Ok(Obstruction {
+            lines: None,
+            sought: self.sought,
+        })
+    }
+}
+
+fn is_two_sum(finding: &Finding) -> bool {
+    matches!(finding, Finding::TwoSum(_))
+}
+
+// How many lines there are.
+fn size_of(_matrix: &Matrix, lines: &LineSet) -> u32
+    requires shape { IsMatrix _matrix.now }
+    requires rows { IsRowSet _matrix.now lines.now.rows }
+    requires columns { IsColumnSet _matrix.now lines.now.columns }
+    ensures { result ≤ 2000 }
+{
+    lines.size()
+}
+
+// Whether these are among some lines.
+fn has_lines(lines: &LineSet, own: &LineSet) -> bool
+    ensures rows { IsTrue result → AllByRecursion (λ line. is_among lines.now.rows line ≡ true) own.now.rows }
+    ensures columns { IsTrue result → AllByRecursion (λ line. is_among lines.now.columns line ≡ true) own.now.columns }
+{
+    has_all(&lines.rows, own.rows.as_slice()) && has_all(&lines.columns, own.columns.as_slice())
+}
+
+// Whether a set has all these lines.
+fn has_all(set: &Indices, lines: &[u32]) -> bool
+    ensures { IsTrue result → AllByRecursion (λ line. is_among set.now line ≡ true) lines.now }
+{
+    for line in lines {
+        if !has_line(set, *line) {
+            return false;
+        }
+    }
+    true
+}
+
+// An obstruction in the middle of some lines, where it is one: it stands in what is left of a chain of sums until much of
+// the chain is gone, whichever end is taken first.
+fn obstruction_in(
+    alloc: Global,
+    matrix: &Matrix,
+    lines: &LineSet,
+    size: u32,
+) -> Result<Obstruction, Memory>
+    requires shape { IsMatrix matrix.now }
+    requires rows { IsRowSet matrix.now lines.now.rows }
+    requires columns { IsColumnSet matrix.now lines.now.columns }
+    requires size { size ≤ 4000 }
+    ensures known { IfOk result (IsKnown matrix.now) }
+    ensures sought { IfOk result (λ obstruction. obstruction.sought ≤ 4000) }
+{
+    let middle = LineSet {
+        rows: middle_of(alloc, &lines.rows)?,
+        columns: middle_of(alloc, &lines.columns)?,
+    };
+    let inner = matrix.part(alloc, &middle)?;
+    if has_no_graphic_support(alloc, &inner)? {
+        return Ok(Obstruction {
+            lines: Some(middle),
+            sought: size,
+        });
+    }
+    Ok(Obstruction {
+        lines: None,
+        sought: size,
+    })
+}
+
+// Whether neither the matrix nor the transposed one has a graphic support.
+fn has_no_graphic_support(alloc: Global, matrix: &Matrix) -> Result<bool, Memory>
+    ensures { IfOk result (λ yes. IsTrue yes → HasNoGraphicSupport matrix.now) }
+{
+    if has_graphic_support(alloc, matrix)? {
+        return Ok(false);
+    }
+    let transposed = matrix.transposed(alloc)?;
+    Ok(!has_graphic_support(alloc, &transposed)?)
+}
+
+// The lines but for the first and the last quarter.
+fn middle_of(alloc: Global, lines: &Indices) -> Result<Indices, Memory>
+    ensures { IfOk result (λ middle. IsSomeOf lines.now middle) }
+{
+    let numbers = lines.as_slice();
+    let quarter = numbers.len() / 4;
+    let middle = Indices::of(
+        alloc,
+        run_of(numbers, quarter, numbers.len() - quarter - quarter),
+    )?;
+    Ok(middle)
+}
+
+// So many lines from a place on.
+fn run_of(lines: &[u32], from: usize, count: usize) -> &[u32]
+    requires { from + count ≤ length lines.now }
+    ensures { result.now ≡ take count (drop from lines.now) }
+{
+    &lines[from..from + count]
+}
