@@ -1,0 +1,12 @@
+pub mod OrderedBlocks
+pub mod SignedPlaces
+pub mod SignedCells
+pub mod SideLines
+pub mod Orders
+pub mod TwoRoundTrips
+pub mod CornerRoundTrips
+pub mod CoreRoundTrips
+pub mod RoundTrips
+pub mod FittingLines
+pub mod FittingArrangements
+pub mod SumSizes

@@ -1,0 +1,155 @@
+-- The two matrices whose sum is a matrix with a separation: each is a submatrix of it with some lines multiplied by -1. The lines
+-- of the matrix come in the sum in an order of their own.
+use Rattle.std.specs.Prelude.{Contains, ◌≡◌, ◌<◌, ◌≤◌, ◌++◌, ◌*ℤ◌, filter, ℕ, ℤ, pos, Bool, true, false, List, [], ◌∷◌, map, length}
+use Rattle.std.specs.List.{AllByRecursion}
+use Rattle.cmr_base.specs.declared.line_set.LineSet.{LineSet}
+use Rattle.cmr_base.specs.declared.separation.Connector.{Connector}
+use Rattle.cmr_base.specs.declared.separation.Form.{Form}
+use Rattle.cmr_base.specs.declared.separation.Form.TheVariants.{Delta, YForm, Mixed, Concentrated}
+use Rattle.cmr_base.specs.declared.separation.Two.{Two}
+use Rattle.cmr_base.specs.declared.separation.Three.{Three}
+use Rattle.cmr_base.specs.Matrix.{Matrix, height, entry}
+use Rattle.cmr_base.specs.LineSets.{first_lines}
+use Rattle.cmr_base.specs.Signing.{IsSign}
+use Rattle.sum_ops.specs.Children.{on_list}
+use Rattle.compose.specs.declared.signed_line.SignedLine.{SignedLine}
+use Rattle.compose.specs.declared.sides.Sides.{Sides}
+use Rattle.compose.specs.declared.arrangement.Arrangement.{Arrangement}
+use Rattle.compose.specs.declared.arrangement.Arranged.{Arranged}
+
+abbrev pub signed : ℕ → ℤ → SignedLine
+signed line sign = record { line = line; sign = sign }
+
+-- the line itself
+abbrev pub plain : ℕ → SignedLine
+plain line = signed line (pos 1)
+
+-- some lines themselves, after some and before some more
+abbrev pub framed : List SignedLine → List ℕ → List SignedLine → List SignedLine
+framed first lines last = first ++ (map plain lines ++ last)
+
+abbrev pub signed_entry : (ℕ → ℕ → ℤ) → SignedLine → SignedLine → ℤ
+signed_entry M row column = row.sign *ℤ (column.sign *ℤ M row.line column.line)
+
+-- the submatrix on these lines in their order, each line times its sign
+abbrev pub signed_submatrix : Matrix → List SignedLine → List SignedLine → Matrix
+signed_submatrix m rows columns = record { rows = map (λ row. map (signed_entry (entry m) row) columns) rows; width = length columns }
+
+-- at most so many lines as the bound, each below it and with a sign
+pub record AreSignedLines (bound : ℕ) (lines : List SignedLine) : Type 0 where
+  pub few : length lines ≤ bound
+  pub each : AllByRecursion (λ line. (line.line < bound) × IsSign line.sign) lines
+
+-- those of some lines that are on a list, or that are not
+abbrev pub lines_on : Bool → List ℕ → List ℕ → List ℕ
+lines_on inside list lines = filter (on_list inside list) lines
+
+-- side one has the lines of the set, side two the others
+abbrev pub sides_of : Matrix → LineSet → Sides
+sides_of m one = record {
+  rows_one = lines_on true one.rows (first_lines (height m));
+  columns_one = lines_on true one.columns (first_lines m.width);
+  rows_two = lines_on false one.rows (first_lines (height m));
+  columns_two = lines_on false one.columns (first_lines m.width);
+}
+
+-- as many lines as there are, and each of them: each once
+pub record IsOrder (count : ℕ) (lines : List ℕ) : Type 0 where
+  pub as_many : length lines ≡ count
+  pub each : (line : ℕ) → line < count → Contains lines line
+
+-- the signed lines of both matrices are lines of this one
+pub record Fits (m : Matrix) (arrangement : Arrangement) : Type 0 where
+  pub first_rows : AreSignedLines (height m) arrangement.first_rows
+  pub first_columns : AreSignedLines m.width arrangement.first_columns
+  pub second_rows : AreSignedLines (height m) arrangement.second_rows
+  pub second_columns : AreSignedLines m.width arrangement.second_columns
+
+-- the two matrices, and the order of the lines
+abbrev pub arranged : Matrix → Arrangement → Arranged
+arranged m arrangement = record {
+  first = signed_submatrix m arrangement.first_rows arrangement.first_columns;
+  second = signed_submatrix m arrangement.second_rows arrangement.second_columns;
+  rows = arrangement.rows;
+  columns = arrangement.columns;
+}
+
+-- ---- two-separations
+
+-- `[A a]` of side two with column j, and `[b; B]` of row i times the entry where they cross, with side one
+abbrev pub two_lines : (ℕ → ℕ → ℤ) → Sides → (i j : ℕ) → Arrangement
+two_lines M s i j = record {
+  first_rows = framed [] s.rows_two [];
+  first_columns = framed [] s.columns_two (plain j ∷ []);
+  second_rows = framed (signed i (M i j) ∷ []) s.rows_one [];
+  second_columns = framed [] s.columns_one [];
+  rows = s.rows_two ++ s.rows_one;
+  columns = s.columns_two ++ s.columns_one;
+}
+
+-- ---- three-separations of the forms delta, y and mixed
+
+-- the rows of side one, then those of the second connector; its other row gets the sign that makes it equal to the corner's row there
+abbrev pub last_rows : (ℕ → ℕ → ℤ) → Bool → List ℕ → (first second : Connector) → List SignedLine
+last_rows M true rows first second = framed [] rows (plain second.row ∷ [])
+last_rows M false rows first second = framed [] rows (signed second.other (M second.other first.column *ℤ M second.row first.column) ∷ plain second.row ∷ [])
+
+abbrev pub last_columns : (ℕ → ℕ → ℤ) → Bool → List ℕ → (first second : Connector) → List SignedLine
+last_columns M true columns first second = framed [] columns (signed second.other (M first.row second.other *ℤ M first.row second.column) ∷ plain second.column ∷ [])
+last_columns M false columns first second = framed [] columns (plain second.column ∷ [])
+
+-- the rows of the first connector, each times its entry in the second one's column, then those of side two
+abbrev pub begin_rows : (ℕ → ℕ → ℤ) → Bool → List ℕ → (first second : Connector) → List SignedLine
+begin_rows M true rows first second = framed (signed first.row (M first.row second.column) ∷ []) rows []
+begin_rows M false rows first second = framed (signed first.row (M first.row second.column) ∷ signed first.other (M first.other second.column) ∷ []) rows []
+
+-- the columns of the first connector, each times its entry in the second one's row, then those of side two
+abbrev pub begin_columns : (ℕ → ℕ → ℤ) → Bool → List ℕ → (first second : Connector) → List SignedLine
+begin_columns M true columns first second = framed (signed first.column (M second.row first.column) ∷ signed first.other (M second.row first.other) ∷ []) columns []
+begin_columns M false columns first second = framed (signed first.column (M second.row first.column) ∷ []) columns []
+
+abbrev pub corner_lines : (ℕ → ℕ → ℤ) → (first_flat second_flat : Bool) → Sides → (first second : Connector) → Arrangement
+corner_lines M first_flat second_flat s first second = record {
+  first_rows = last_rows M second_flat s.rows_one first second;
+  first_columns = last_columns M second_flat s.columns_one first second;
+  second_rows = begin_rows M first_flat s.rows_two first second;
+  second_columns = begin_columns M first_flat s.columns_two first second;
+  rows = s.rows_one ++ s.rows_two;
+  columns = s.columns_one ++ s.columns_two;
+}
+
+-- ---- three-separations of the concentrated form
+
+-- the lines of a side without some lines
+abbrev pub others : List ℕ → List ℕ → List ℕ
+others gone lines = lines_on false gone lines
+
+-- both matrices have the connectors; the first has them last, after the other lines of side one, and the second first
+abbrev pub core_lines : Sides → (first second : Connector) → Arrangement
+core_lines s first second = record {
+  first_rows = framed [] (others (first.row ∷ []) s.rows_one) (plain first.row ∷ plain second.row ∷ plain second.other ∷ []);
+  first_columns = framed [] (others (first.column ∷ first.other ∷ []) s.columns_one) (plain first.column ∷ plain first.other ∷ plain second.column ∷ []);
+  second_rows = framed (plain first.row ∷ plain second.row ∷ plain second.other ∷ []) (others (second.row ∷ second.other ∷ []) s.rows_two) [];
+  second_columns = framed (plain first.column ∷ plain first.other ∷ plain second.column ∷ []) (others (second.column ∷ []) s.columns_two) [];
+  rows = others (first.row ∷ []) s.rows_one ++ (first.row ∷ second.row ∷ second.other ∷ others (second.row ∷ second.other ∷ []) s.rows_two);
+  columns = others (first.column ∷ first.other ∷ []) s.columns_one ++ (first.column ∷ first.other ∷ second.column ∷ others (second.column ∷ []) s.columns_two);
+}
+
+-- ---- of a matrix with a separation
+
+abbrev pub two_arrangement : Matrix → Two → Arrangement
+two_arrangement m two = two_lines (entry m) (sides_of m two.side) two.row two.column
+
+abbrev pub three_lines : (ℕ → ℕ → ℤ) → Form → Sides → (first second : Connector) → Arrangement
+three_lines M Delta s first second = corner_lines M true true s first second
+three_lines M YForm s first second = corner_lines M false false s first second
+three_lines M Mixed s first second = corner_lines M true false s first second
+three_lines M Concentrated s first second = core_lines s first second
+
+abbrev pub three_arrangement : Matrix → Three → Arrangement
+three_arrangement m three = three_lines (entry m) three.form (sides_of m three.side) three.first three.second
+
+-- a row, a column and one more line of the matrix: a column where the connector is flat, a row where it is tall
+abbrev pub HasConnector : Bool → Matrix → Connector → Type 0
+HasConnector true m c = (c.row < height m) × (c.column < m.width) × (c.other < m.width)
+HasConnector false m c = (c.row < height m) × (c.column < m.width) × (c.other < height m)

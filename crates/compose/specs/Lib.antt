@@ -1,0 +1,3 @@
+pub mod Arrangements
+pub mod Kinds
+pub mod RoundTrips
