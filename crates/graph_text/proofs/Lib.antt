@@ -1,0 +1,7 @@
+pub mod EdgeSteps
+pub mod FoundTexts
+pub mod OneMatrix
+pub mod OneReading
+pub mod ReadAgain
+pub mod SupportCells
+pub mod WrittenEdges
