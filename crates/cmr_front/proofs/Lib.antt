@@ -4,6 +4,7 @@ pub mod Texts
 pub mod MatrixText
 pub mod OneText
 pub mod TreeFile
+pub mod GraphFile
 pub mod Matches
 pub mod Parts
 pub mod Endings

@@ -9,6 +9,7 @@ pub mod Texts
 pub mod MatrixText
 pub mod OneText
 pub mod Evidence
+pub mod GraphText
 pub mod Printed
 pub mod Refusals
 pub mod Minimal

@@ -7,8 +7,10 @@ use Rattle.tree_text.specs.declared.error.TreeKind.{TreeKind}
 use Rattle.tree_text.specs.declared.error.TreeKind.TheVariants as trees
 use Rattle.camion_sign.specs.declared.chain_error.ChainKind.{ChainKind}
 use Rattle.camion_sign.specs.declared.chain_error.ChainKind.TheVariants as chains
+use Rattle.graph_text.specs.declared.error.GraphKind.{GraphKind}
+use Rattle.graph_text.specs.declared.error.GraphKind.TheVariants as graphs
 use Rattle.cmr_front.specs.declared.outcome.FaultKind.{FaultKind}
-use Rattle.cmr_front.specs.declared.outcome.FaultKind.TheVariants.{Matrix, Tree, Chain}
+use Rattle.cmr_front.specs.declared.outcome.FaultKind.TheVariants.{Matrix, Tree, Chain, Graph}
 use Rattle.cmr_front.specs.declared.outcome.OutputFile.{OutputFile}
 use Rattle.cmr_front.specs.declared.outcome.Outcome.{Outcome}
 use Rattle.cmr_front.specs.declared.outcome.Stop.{Stop}
@@ -54,10 +56,21 @@ chain_kind_name chains.NotRising = codes "NotRising"
 chain_kind_name chains.OutOfRange = codes "OutOfRange"
 chain_kind_name chains.WrongVersion = codes "WrongVersion"
 
+abbrev pub graph_kind_name : GraphKind → List ℕ
+graph_kind_name graphs.NotNumber = codes "NotNumber"
+graph_kind_name graphs.TooBig = codes "TooBig"
+graph_kind_name graphs.BadElement = codes "BadElement"
+graph_kind_name graphs.TooManyRows = codes "TooManyRows"
+graph_kind_name graphs.TooManyColumns = codes "TooManyColumns"
+graph_kind_name graphs.Short = codes "Short"
+graph_kind_name graphs.OutOfRange = codes "OutOfRange"
+graph_kind_name graphs.NotTree = codes "NotTree"
+
 abbrev pub kind_name : FaultKind → List ℕ
 kind_name (Matrix kind) = text_kind_name kind
 kind_name (Tree kind) = tree_kind_name kind
 kind_name (Chain kind) = chain_kind_name kind
+kind_name (Graph kind) = graph_kind_name kind
 
 abbrev pub file_of : OutputFile → File
 file_of file = record { name = file.name.now; bytes = file.bytes.items }

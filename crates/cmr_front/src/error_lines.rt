@@ -2,12 +2,13 @@
 ghost use Rattle.std.specs.Prelude.{◌≡◌, ◌++◌, IsTrue, map};
 ghost use Rattle.std.specs.List.{concat};
 ghost use Rattle.std.specs.Fmt.{decimal};
-ghost use Rattle.cmr_front.specs.Outcome.{cannot_write_line, fault_line, chain_kind_name, kind_name, stop_report, text_kind_name, tree_kind_name};
+ghost use Rattle.cmr_front.specs.Outcome.{cannot_write_line, fault_line, chain_kind_name, graph_kind_name, kind_name, stop_report, text_kind_name, tree_kind_name};
 ghost use Rattle.cmr_front.specs.Written.{IsWritten};
 
 use crate::outcome::{FaultKind, Stop};
 use camion_sign::ChainKind;
 use cmr_io::{Sink, WriteFault, write_whole};
+use graph_text::GraphKind;
 use itoa::Buffer;
 use matrix_text::TextKind;
 use tree_text::TreeKind;
@@ -72,6 +73,7 @@ fn kind_name(kind: FaultKind) -> &'static str
         FaultKind::Matrix(kind) => text_kind_name(kind),
         FaultKind::Tree(kind) => tree_kind_name(kind),
         FaultKind::Chain(kind) => chain_kind_name(kind),
+        FaultKind::Graph(kind) => graph_kind_name(kind),
     }
 }
 
@@ -124,5 +126,20 @@ fn chain_kind_name(kind: ChainKind) -> &'static str
         ChainKind::NotRising => "NotRising",
         ChainKind::OutOfRange => "OutOfRange",
         ChainKind::WrongVersion => "WrongVersion",
+    }
+}
+
+fn graph_kind_name(kind: GraphKind) -> &'static str
+    ensures { result.now ≡ graph_kind_name kind }
+{
+    match kind {
+        GraphKind::NotNumber => "NotNumber",
+        GraphKind::TooBig => "TooBig",
+        GraphKind::BadElement => "BadElement",
+        GraphKind::TooManyRows => "TooManyRows",
+        GraphKind::TooManyColumns => "TooManyColumns",
+        GraphKind::Short => "Short",
+        GraphKind::OutOfRange => "OutOfRange",
+        GraphKind::NotTree => "NotTree",
     }
 }

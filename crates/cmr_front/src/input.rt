@@ -15,7 +15,7 @@ use std::alloc::Global;
 /// What a file is read for.
 #[derive(Clone, Copy, Debug, PartialEq, Eq)]
 pub enum InputKind {
-    /// The text of a matrix.
+    /// The text of a matrix, or of a graph that stands for one.
     MatrixText,
     /// A tree, a violator or a chain.
     Evidence,

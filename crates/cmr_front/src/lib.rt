@@ -6,6 +6,7 @@ pub mod asked;
 pub mod carry_out;
 mod error_lines;
 pub mod evidence_file;
+pub mod graph_file;
 pub mod input;
 pub mod matrix_file;
 pub mod outcome;

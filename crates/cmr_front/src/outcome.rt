@@ -3,6 +3,7 @@ ghost use Rattle.std.specs.Prelude.{◌≡◌};
 
 use crate::status::{Answer, Failure};
 use camion_sign::ChainKind;
+use graph_text::GraphKind;
 use matrix_text::TextKind;
 use tree_text::TreeKind;
 
@@ -31,6 +32,8 @@ pub enum FaultKind {
     Tree(TreeKind),
     /// With a chain text.
     Chain(ChainKind),
+    /// With a graph text.
+    Graph(GraphKind),
 }
 
 /// Why a run has no outcome.

@@ -1,5 +1,6 @@
 //! What the words of the command line ask for.
 use cmr_front::matrix_file::MatrixForm;
+use compose::SumKind;
 
 /// What `camion` is asked to do. A file of the name `-` is standard input.
 #[derive(Clone, Copy, Debug, PartialEq, Eq)]
@@ -36,4 +37,34 @@ pub struct BalancedOptions<'a> {
     pub fault: Option<&'a str>,
     /// The file that holds the matrix text.
     pub file: &'a str,
+}
+
+/// What `parts` is asked to do. A file of the name `-` is standard input where it is read.
+#[derive(Clone, Copy, Debug, PartialEq, Eq)]
+pub struct PartsOptions<'a> {
+    /// The form of the matrix text.
+    pub form: MatrixForm,
+    /// The file that holds the matrix text.
+    pub matrix: &'a str,
+    /// The file that holds a decomposition tree of the matrix.
+    pub tree: &'a str,
+    /// The file that gets the first matrix of the sum.
+    pub first: &'a str,
+    /// The file that gets the second matrix of the sum.
+    pub second: &'a str,
+}
+
+/// What `compose` is asked to do. A file of the name `-` is standard input where it is read.
+#[derive(Clone, Copy, Debug, PartialEq, Eq)]
+pub struct ComposeOptions<'a> {
+    /// The form of both matrix texts.
+    pub form: MatrixForm,
+    /// The sum that is made.
+    pub sum: SumKind,
+    /// The file that holds the text of the first matrix.
+    pub first: &'a str,
+    /// The file that holds the text of the second matrix.
+    pub second: &'a str,
+    /// The file that gets the sum.
+    pub output: &'a str,
 }

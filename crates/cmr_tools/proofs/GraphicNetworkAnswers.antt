@@ -6,13 +6,14 @@ use Rattle.cmr_base.specs.declared.memory.Memory.{Memory}
 use Rattle.cmr_base.specs.declared.network.Network.{Network as Net}
 use Rattle.cmr_base.specs.Matrix.{Matrix, height, transposed}
 use Rattle.cmr_base.specs.LineSets.{AllBelow}
+use Rattle.cmr_base.specs.Trees.{IsNetworkOf}
 use Rattle.cmr_base.specs.GreedySets.{IsGreedySet, IsMinimalWithout}
 use Rattle.cmr_base.proofs.Parts.{height-transposed}
 use Rattle.cmr_tools.specs.declared.options.Property.{Property}
 use Rattle.cmr_tools.specs.declared.options.Property.TheVariants.{Graphic, Network}
 use Rattle.cmr_front.specs.declared.status.Answer.{Answer}
 use Rattle.cmr_front.specs.declared.status.Answer.TheVariants.{Yes, No, Undecided, Refused}
-use Rattle.cmr_tools.specs.GraphicNetwork.{Has, IsTestable, Shows, TestDecides, TestMeans, yes, no, test_source, test_tool, tested_lines, tested_matrix}
+use Rattle.cmr_tools.specs.GraphicNetwork.{Has, IsTestable, Shows, TestDecides, TestMeans, yes, no, path_tool, test_source, tested_lines, tested_matrix}
 use Rattle.cmr_front.specs.Minimal.{IsMinimalAsked, IsMinimalSet}
 use Rattle.cmr_front.specs.Report.{Report}
 use Rattle.cmr_front.specs.Status.{answer_status}
@@ -33,6 +34,11 @@ tested_testable Network transposed m testable = tt
 pub has_shown : (p : Property) (m : Matrix) (net : Net) → IsTestable p m → Shows p net m → Has p m
 has_shown Graphic m net binary shows = (binary, (net, shows))
 has_shown Network m net testable shows = (net, shows)
+
+-- what shows a property of a matrix is a network of its sizes
+pub shown_network : (p : Property) (net : Net) (m : Matrix) → Shows p net m → IsNetworkOf net (height m) m.width
+shown_network Graphic net m shows = shows.network
+shown_network Network net m shows = shows.network
 
 -- what is found where a matrix lacks a property
 pub minimal_found : (P : Matrix → Type 0) (m : Matrix) (r : Result (Option LineSet) Memory) → ¬ (P m) → IfOk r (λ found. MatchOption found (P m) (λ lines. (¬ (P m)) × IsGreedySet P m lines.rows lines.columns))
@@ -73,5 +79,5 @@ says p o m r No (no minimal lacks e) is = (minimal, lacks)
 says p o m r Undecided (no minimal lacks e) is = let s = status_of r _ e in absurd (omega arith)
 says p o m r Refused (no minimal lacks e) is = let s = status_of r _ e in absurd (omega arith)
 
-pub test_lawful : (p : Property) (o : TestOrder) → IsLawful (test_tool p o)
-test_lawful p o = lawful (test_source p o) (TestDecides p o) (TestMeans p o) (says p o) (Unit {0}) (one_status p o)
+pub path_lawful : (p : Property) (o : TestOrder) → IsLawful (path_tool p o)
+path_lawful p o = lawful (test_source p o) (TestDecides p o) (TestMeans p o) (says p o) (Unit {0}) (one_status p o)

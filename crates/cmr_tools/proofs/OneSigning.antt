@@ -1,12 +1,13 @@
 -- A matrix has one signing by Camion.
-use Rattle.std.proofs.Common.{◌≡◌, ◌<◌, ◌⊎◌, ◌∙◌, ◌+ℤ◌, ◌-ℤ◌, inl, inr, ℕ, ℤ, List, [], ◌∷◌, length, refl, ap, ap₂, sym, subst, arith}
+use Rattle.std.proofs.Common.{◌≡◌, ◌∙◌, ◌+ℤ◌, ◌-ℤ◌, inl, inr, ℕ, ℤ, List, [], ◌∷◌, ap, ap₂, sym, subst, arith}
 use Rattle.cmr_base.specs.Matrix.{Matrix, entry, IsMatrix}
 use Rattle.cmr_base.specs.Members.{IsIn}
 use Rattle.cmr_base.specs.LineSets.{submatrix_sum}
 use Rattle.cmr_base.specs.Signing.{IsSign}
-use Rattle.cmr_base.specs.CyclePlaces.{IsNotAfter, IsCyclePlace, cycle_rows, cycle_columns}
+use Rattle.cmr_base.specs.CyclePlaces.{cycle_rows, cycle_columns}
 use Rattle.cmr_base.specs.declared.line_set.LineSet.{LineSet}
 use Rattle.cmr_base.proofs.Integers.{sums}
+use Rattle.cmr_base.proofs.Booleans.{neither}
 use Rattle.camion_sign.specs.declared.step.SignStep.{SignStep}
 use Rattle.camion_sign.specs.declared.step.SignStep.TheVariants.{Free, Forced}
 use Rattle.camion_sign.specs.SignOrder.{IsPlaceOf, IsForcedBy, IsCycleLines, IsNextForced, IsNextFree, IsRowsTurn, IsNextSign, IsSignedBy}
@@ -14,38 +15,16 @@ use Rattle.camion_sign.specs.SignSteps.{AllSigned, AreSigns, IsUnsignedOne, Lead
 use Rattle.camion_sign.proofs.ChainViolators.{sign_four, unsigned_signs}
 use Rattle.camion_sign.proofs.ForcedCycles.{sum_more}
 use Rattle.camion_sign.proofs.GivenSigns.{signs_more}
-use Rattle.decomp_tree.proofs.SameSets.{neither, same_numbers}
+use Rattle.camion_sign.proofs.FirstFaults.{place_unique}
+use Rattle.decomp_tree.proofs.SameSets.{same_numbers}
 
 -- ---- one cycle
 
--- lists of one length of which neither is after the other
-same_list : (p q : List ℕ) → length p ≡ length q → IsNotAfter p q → IsNotAfter q p → p ≡ q
-same_list [] [] e a b = refl
-same_list [] (y ∷ ys) e a b = absurd (omega arith)
-same_list (x ∷ xs) [] e a b = absurd (omega arith)
-same_list (x ∷ xs) (y ∷ ys) e a b = go a b (λ f g. same_list xs ys (omega arith) f g)
-  where
-    go : (x < y) ⊎ ((x ≡ y) × IsNotAfter xs ys) → (y < x) ⊎ ((y ≡ x) × IsNotAfter ys xs) → (IsNotAfter xs ys → IsNotAfter ys xs → xs ≡ ys) → x ∷ xs ≡ y ∷ ys
-    go (inl l) (inl m) k = absurd (omega arith)
-    go (inl l) (inr (q, g)) k = absurd (omega arith)
-    go (inr (q, f)) (inl m) k = absurd (omega arith)
-    go (inr (q, f)) (inr (s, g)) k = ap (λ (v : ℕ). v ∷ xs) q ∙ ap (λ (vs : List ℕ). y ∷ vs) (k f g)
-
--- a place has one path
-one_path : (M : ℕ → ℕ → ℤ) (t c d : ℕ) (p q : List ℕ) → IsCyclePlace M t c d p → IsCyclePlace M t c d q → p ≡ q
-one_path M t c d p q a b = go (a.least q b.is_path) (b.least p a.is_path)
-  where
-    go : (length p < length q) ⊎ ((length p ≡ length q) × IsNotAfter p q) → (length q < length p) ⊎ ((length q ≡ length p) × IsNotAfter q p) → p ≡ q
-    go (inl l) (inl m) = absurd (omega arith)
-    go (inl l) (inr m) = absurd (let e = m.0 in omega arith)
-    go (inr l) (inl m) = absurd (let e = l.0 in omega arith)
-    go (inr l) (inr m) = same_list p q l.0 l.1 m.1
-
 one_place : (a : Matrix) (row c d : ℕ) (p q : List ℕ) → IsPlaceOf a row c d p → IsPlaceOf a row c d q → p ≡ q
-one_place a row c d p q (inl x) (inl y) = one_path (entry a) row c d p q x y
+one_place a row c d p q (inl x) (inl y) = place_unique (entry a) row c d p q x y
 one_place a row c d p q (inl x) (inr y) = absurd (let l = x.order in let m = y.order in omega arith)
 one_place a row c d p q (inr x) (inl y) = absurd (let l = x.order in let m = y.order in omega arith)
-one_place a row c d p q (inr x) (inr y) = one_path (entry a) row d c p q x y
+one_place a row c d p q (inr x) (inr y) = place_unique (entry a) row d c p q x y
 
 one_cycle : (a : Matrix) (row c d : ℕ) (x y : LineSet) → IsCycleLines a row c d x → IsCycleLines a row c d y → x ≡ y
 one_cycle a row c d x y p q = ap₂ (λ rows columns. let lines : LineSet = record { rows = rows; columns = columns } in lines) rows columns

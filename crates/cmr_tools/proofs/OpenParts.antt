@@ -1,11 +1,11 @@
 -- The lines that a decomposition leaves open.
-use Rattle.std.proofs.Common.{◌≡◌, ◌⊎◌, ◌-◌, ◌++◌, inl, inr, ℕ, suc, List, [], ◌∷◌, min, Option, Some, None, refl, subst, arith}
+use Rattle.std.proofs.Common.{◌≡◌, ◌-◌, ◌++◌, inl, inr, ℕ, suc, List, [], ◌∷◌, min, Some, refl, subst, arith}
 use Rattle.std.specs.List.{AllByRecursion}
-use Rattle.std.specs.Option.{option_or}
 use Rattle.std.proofs.lemmas.Bool.{cases_lt}
 use Rattle.cmr_base.specs.declared.line_set.LineSet.{LineSet}
 use Rattle.cmr_base.specs.Matrix.{Matrix, height}
 use Rattle.cmr_base.proofs.Lists.{all_front, all_back}
+use Rattle.cmr_base.proofs.Options.{some_or, some_same}
 use Rattle.tree_type.specs.Invariant.{AreLines, IsTreeWithin, AreTreesWithin}
 use Rattle.tree_type.specs.Places.{Due, due_child, lines_of_each, places_from, places_below}
 use Rattle.tree_type.specs.Soundness.{part}
@@ -56,13 +56,6 @@ left_open budget n is = record {
   no_three_separation = λ form first second side separates. is.first IsThreeSum (omega arith) (form, first, second, side, separates);
   above = elim (cases_lt budget (min (height n) n.width)) [ inl less ↦ less | inr short ↦ absurd (is.first IsShort (omega arith) short) ];
 }
-
-some_same : {A : Type 0} (x y : A) → Some x ≡ Some y → x ≡ y
-some_same x y e = cc
-
-some_or : {A : Type 0} (a b : Option A) (x : A) → option_or a b ≡ Some x → (a ≡ Some x) ⊎ (b ≡ Some x)
-some_or None b x e = inr e
-some_or (Some y) b x e = inl e
 
 module _ (budget : ℕ) (m : Matrix) where
   node_open : (path : List ℕ) (due : Due) (lines : LineSet) (children : List LineSet) → AreLines m lines → IsShapedAt budget m (record { path = path; due = due; lines = lines; finding = Undecided; children = children }) → IsOpenPart budget m lines

@@ -5,7 +5,7 @@ use Rattle.clap.specs.Words.{Row, Text, first_of}
 use Rattle.cmr_front.specs.declared.matrix_file.MatrixForm.{MatrixForm}
 use Rattle.cmr_tools.specs.Tools.{tool_of}
 use Rattle.cmr_tools.specs.declared.options.Property.TheVariants.{Graphic, Network}
-use Rattle.cmr_tools.specs.Words.{Order, order, tu, regular, series_parallel, test, generate, check, upgrade, camion, sign, balanced}
+use Rattle.cmr_tools.specs.Words.{Order, order, tu, regular, series_parallel, test, generate, check, upgrade, camion, sign, balanced, parts, compose}
 use Rattle.cmr_front.specs.Words.Parsing.{fault_in, file_in, form_in, lines_in, matches_in, matches_with_input, number_from, workers_in}
 use Rattle.cmr_front.specs.Words.Reading.{◌>>=◌}
 use Rattle.generate.specs.declared.making.MakeKind.{MakeKind}
@@ -18,8 +18,11 @@ use Rattle.cmr_tools.specs.Words.Upgrade.{upgrade_order}
 use Rattle.cmr_tools.specs.Words.Regular.{RegularOrder, regular_app, regular_order, regular_order_in}
 use Rattle.cmr_tools.specs.Words.SeriesParallel.{series_parallel_order}
 use Rattle.cmr_tools.specs.Words.GraphicNetwork.{test_order}
+use Rattle.cmr_tools.proofs.GraphMatrixAnswers.{test_in_ranges}
 use Rattle.cmr_reach.specs.Words.Balanced.{balanced_order}
 use Rattle.cmr_reach.specs.Words.Camion.{camion_order}
+use Rattle.cmr_reach.specs.Words.Compose.{compose_order}
+use Rattle.cmr_reach.specs.Words.Parts.{parts_order}
 use Rattle.cmr_reach.specs.Words.Sign.{sign_order}
 use Rattle.cmr_reach.proofs.BalancedAnswers.{balanced_order-ranges}
 use Rattle.cmr_tools.specs.Words.Tu.{TuOrder, tu_app, tu_order, tu_order_in}
@@ -138,12 +141,14 @@ in_ranges (tool ∷ words) ordered e =
     either (bytes_eq tool (codes "tu")) _ _ (of_order tu (tu_order words) (tu_order-ranges words))
     (either (bytes_eq tool (codes "regular")) _ _ (of_order regular (regular_order words) (regular_order-ranges words))
     (either (bytes_eq tool (codes "series-parallel")) _ _ (of_order series_parallel (series_parallel_order words) (λ o e. tt))
-    (either (bytes_eq tool (codes "graphic")) _ _ (of_order (test Graphic) (test_order Graphic words) (λ o e. tt))
-    (either (bytes_eq tool (codes "network")) _ _ (of_order (test Network) (test_order Network words) (λ o e. tt))
+    (either (bytes_eq tool (codes "graphic")) _ _ (of_order (test Graphic) (test_order Graphic words) (λ o e. test_in_ranges Graphic o))
+    (either (bytes_eq tool (codes "network")) _ _ (of_order (test Network) (test_order Network words) (λ o e. test_in_ranges Network o))
     (either (bytes_eq tool (codes "generate")) _ _ (of_order generate (generate_order words) (generate_order-range words))
     (either (bytes_eq tool (codes "check")) _ _ (of_order check (check_order words) (λ o e. tt))
     (either (bytes_eq tool (codes "upgrade")) _ _ (of_order upgrade (upgrade_order words) (λ o e. tt))
     (either (bytes_eq tool (codes "camion")) _ _ (of_order camion (camion_order words) (λ o e. tt))
     (either (bytes_eq tool (codes "sign")) _ _ (of_order sign (sign_order words) (λ o e. tt))
-    (either (bytes_eq tool (codes "balanced")) _ None (of_order balanced (balanced_order words) (balanced_order-ranges words)) (λ ordered e. cc)))))))))))
+    (either (bytes_eq tool (codes "balanced")) _ _ (of_order balanced (balanced_order words) (balanced_order-ranges words))
+    (either (bytes_eq tool (codes "parts")) _ _ (of_order parts (parts_order words) (λ o e. tt))
+    (either (bytes_eq tool (codes "compose")) _ None (of_order compose (compose_order words) (λ o e. tt)) (λ ordered e. cc)))))))))))))
     ordered e

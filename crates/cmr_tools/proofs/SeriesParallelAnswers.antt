@@ -1,5 +1,5 @@
 -- What the answers of `series-parallel` say of the matrix.
-use Rattle.std.proofs.Common.{◌≡◌, ◌∙◌, ℕ, ℤ, Bool, zero, suc, List, [], ◌∷◌, Option, Some, None, ap, sym, refl, arith, length}
+use Rattle.std.proofs.Common.{◌≡◌, ◌∙◌, ℕ, ℤ, Bool, zero, suc, List, Option, Some, None, ap, sym, arith, length}
 use Rattle.std.specs.Prelude.{◌+◌}
 use Rattle.cmr_base.specs.declared.line.Step.{Step}
 use Rattle.cmr_base.specs.Matrix.{Matrix, height, entry}
@@ -7,6 +7,7 @@ use Rattle.cmr_base.specs.LineSets.{AllBelow, first_lines}
 use Rattle.cmr_base.specs.Reductions.{IsSeriesParallel, first_step, lines_of, removal, removal_on, rows_without, columns_without}
 use Rattle.cmr_base.proofs.Members.{IsWithin, in_at}
 use Rattle.cmr_base.proofs.RemovedLines.{rows_within, columns_within, first_lines_in}
+use Rattle.cmr_base.proofs.Lists.{no_items}
 use Rattle.sp_reduce.proofs.Orders.{after_step}
 use Rattle.sp_reduce.proofs.Submatrices.{any_order}
 use Rattle.cmr_front.specs.declared.status.Answer.{Answer}
@@ -44,14 +45,10 @@ rest_rows_below binary m = below (height m) (removal binary m).rows (left binary
 pub rest_columns_below : (binary : Bool) (m : Matrix) → AllBelow m.width (removal binary m).columns
 rest_columns_below binary m = below m.width (removal binary m).columns (left binary (entry m) (height m + m.width) (first_lines (height m)) (first_lines m.width)).columns_in
 
-empty : (lines : List ℕ) → length lines ≡ 0 → lines ≡ []
-empty [] e = refl
-empty (line ∷ lines) e = absurd (omega arith)
-
 -- a matrix of which no line is left is series-parallel
 pub series_parallel_without_rest : (binary : Bool) (m : Matrix) (rows columns : List ℕ) → rows ≡ (removal binary m).rows → columns ≡ (removal binary m).columns
     → length rows ≡ 0 → length columns ≡ 0 → IsSeriesParallel binary m
-series_parallel_without_rest binary m rows columns r c e f = (any_order binary m).1 (sym r ∙ empty rows e, sym c ∙ empty columns f)
+series_parallel_without_rest binary m rows columns r c e f = (any_order binary m).1 (sym r ∙ no_items rows e, sym c ∙ no_items columns f)
 
 -- and of a series-parallel one no line is left
 pub rest_of_series_parallel : (binary : Bool) (m : Matrix) (rows columns : List ℕ) → rows ≡ (removal binary m).rows → columns ≡ (removal binary m).columns

@@ -5,8 +5,8 @@ use Rattle.cmr_base.specs.declared.line_set.LineSet.{LineSet}
 use Rattle.cmr_base.specs.LineSets.{AllBelow, first_lines}
 use Rattle.cmr_base.specs.Matrix.{Matrix, height, IsMatrix}
 use Rattle.decomp_tree.specs.Shapes.{IsShape}
+use Rattle.decomp_tree.proofs.ShapeSound.{root_lines}
 use Rattle.tree_type.specs.declared.tree.Node.{Node}
-use Rattle.tree_type.specs.Invariant.{AreLines, IsTreeFor}
 use Rattle.tree_type.specs.Places.{AllLines}
 use Rattle.tree_type.specs.Trees.{SizedTree, Tree, Branch, lines_of, tree_of}
 use Rattle.tree_type.specs.Verdicts as verdicts
@@ -22,13 +22,6 @@ open_from : (fault undecided : Option LineSet) (lines : LineSet) → verdict_fro
 open_from None None lines e = cc
 open_from None (Some found) lines e = cc
 open_from (Some fault) undecided lines e = cc
-
--- the lines of the root are lines of the matrix
-root_lines : (m : Matrix) (tree : Tree) → IsTreeFor (height m) m.width tree → AreLines m (lines_of tree)
-root_lines m (Branch lines finding trees) is = record {
-  rows = record { rising = is.nodes.1.rows_rise; in_range = is.root_rows };
-  columns = record { rising = is.nodes.1.columns_rise; in_range = is.root_columns };
-}
 
 pub told : (budget : ℕ) (m : Matrix) → IsMatrix m → (tree : SizedTree) → IsDecomposition budget m tree → IsTold budget m (verdict_in tree)
 told budget m is tree d = go (verdict_in tree) refl (tells m is tree.rows tree.columns (tree_of tree.root) d.is_tree d.sound)

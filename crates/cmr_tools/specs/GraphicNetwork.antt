@@ -10,7 +10,7 @@ use Rattle.cmr_front.specs.declared.status.Answer.{Answer}
 use Rattle.cmr_front.specs.declared.status.Answer.TheVariants.{Yes, No, Undecided, Refused}
 use Rattle.cmr_tools.specs.Words.GraphicNetwork.{TestOrder}
 use Rattle.cmr_front.specs.MatrixText.{Source, matrix_tool, source}
-use Rattle.cmr_tools.specs.Graph.{graph_text}
+use Rattle.graph_text.specs.GraphTexts.{graph_text, transposed_graph_text}
 use Rattle.cmr_front.specs.Minimal.{IsMinimalAsked, minimal_file, minimal_line}
 use Rattle.cmr_front.specs.Report.{Report, asked_file}
 use Rattle.cmr_front.specs.Status.{answer_status}
@@ -53,12 +53,17 @@ property_name Graphic true = codes "cographic"
 property_name Network false = codes "network"
 property_name Network true = codes "conetwork"
 
+-- the text of a network for the matrix that is given
+abbrev pub written_graph : Bool → Net → List ℕ
+written_graph true net = transposed_graph_text net
+written_graph false net = graph_text net
+
 abbrev pub test_yes : Property → TestOrder → Net → Report
 test_yes p o net = record {
   status = answer_status Yes;
   output = property_name p o.transposed ++ codes ": yes\n";
   error = [];
-  files = asked_file o.graph (graph_text o.transposed net);
+  files = asked_file o.graph (written_graph o.transposed net);
 }
 
 abbrev pub test_no : Property → TestOrder → Matrix → Option LineSet → Report
@@ -93,5 +98,6 @@ TestMeans p o m Refused = ⊥
 abbrev pub test_source : Property → TestOrder → Source
 test_source p o = source o.form (is_binary p) o.file
 
-abbrev pub test_tool : Property → TestOrder → Tool
-test_tool p o = matrix_tool (test_source p o) (Unit {0}) (TestDecides p o) (TestMeans p o)
+-- without `-c`
+abbrev pub path_tool : Property → TestOrder → Tool
+path_tool p o = matrix_tool (test_source p o) (Unit {0}) (TestDecides p o) (TestMeans p o)

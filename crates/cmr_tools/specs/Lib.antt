@@ -1,5 +1,4 @@
 pub mod Words
-pub mod Graph
 pub mod Outline
 pub mod Verdict
 pub mod Tu
@@ -7,6 +6,8 @@ pub mod Regular
 pub mod Generate
 pub mod SeriesParallel
 pub mod GraphicNetwork
+pub mod GraphMatrix
+pub mod Laws
 pub mod Check
 pub mod Upgrade
 pub mod Tools

@@ -18,6 +18,8 @@ use Rattle.cmr_tools.specs.Words.SeriesParallel.{SeriesParallelOrder, series_par
 use Rattle.cmr_tools.specs.Words.GraphicNetwork.{TestOrder, test_order, test_order_of}
 use Rattle.cmr_reach.specs.Words.Balanced.{BalancedOrder, balanced_order, balanced_order_of}
 use Rattle.cmr_reach.specs.Words.Camion.{CamionOrder, camion_order, camion_order_of}
+use Rattle.cmr_reach.specs.Words.Compose.{ComposeOrder, compose_order, compose_order_of}
+use Rattle.cmr_reach.specs.Words.Parts.{PartsOrder, parts_order, parts_order_of}
 use Rattle.cmr_reach.specs.Words.Sign.{SignOrder, sign_order, sign_order_of}
 use Rattle.cmr_tools.specs.Words.Tu.{TuOrder, tu_order, tu_order_of}
 use Rattle.cmr_tools.specs.Words.Regular.{RegularOrder, regular_order, regular_order_of}
@@ -35,6 +37,8 @@ pub data Order : Type 0 where
   camion : CamionOrder → Order
   sign : SignOrder → Order
   balanced : BalancedOrder → Order
+  parts : PartsOrder → Order
+  compose : ComposeOrder → Order
 
 -- the first word names the tool, which takes the others; nothing where the words are refused
 abbrev pub order : List (List ℕ) → Option Order
@@ -51,6 +55,8 @@ order (tool ∷ words) =
     else if bytes_eq tool (codes "camion") then option_map camion (camion_order words)
     else if bytes_eq tool (codes "sign") then option_map sign (sign_order words)
     else if bytes_eq tool (codes "balanced") then option_map balanced (balanced_order words)
+    else if bytes_eq tool (codes "parts") then option_map parts (parts_order words)
+    else if bytes_eq tool (codes "compose") then option_map compose (compose_order words)
     else None
 
 abbrev pub order_of : Command → Order
@@ -64,3 +70,5 @@ order_of (command.Upgrade options) = upgrade (upgrade_order_of options)
 order_of (command.Camion options) = camion (camion_order_of options)
 order_of (command.Sign options) = sign (sign_order_of options)
 order_of (command.Balanced options) = balanced (balanced_order_of options)
+order_of (command.Parts options) = parts (parts_order_of options)
+order_of (command.Compose options) = compose (compose_order_of options)

@@ -1,7 +1,7 @@
 //! The tools of the program, and the one call that it makes.
 #![tactic(auto)]
 
-mod graph_text;
+pub mod laws;
 mod options;
 mod outline;
 mod program;

@@ -1,6 +1,6 @@
 //! What the words of the command line ask for.
 use cmr_front::matrix_file::MatrixForm;
-use cmr_reach::{BalancedOptions, CamionOptions, SignOptions};
+use cmr_reach::{BalancedOptions, CamionOptions, ComposeOptions, PartsOptions, SignOptions};
 use generate::MakeKind;
 
 /// What `tu` is asked to do. A file of the name `-` is standard input.
@@ -70,7 +70,7 @@ pub enum Property {
 /// What `graphic` or `network` is asked to do. A file of the name `-` is standard input where it is read.
 #[derive(Clone, Copy, Debug, PartialEq, Eq)]
 pub struct TestOptions<'a> {
-    /// The form of the matrix text.
+    /// The form of the matrix text, dense where a graph text is read.
     pub form: MatrixForm,
     /// Whether the transposed matrix is tested.
     pub transposed: bool,
@@ -78,7 +78,9 @@ pub struct TestOptions<'a> {
     pub minimal: Option<&'a str>,
     /// The file that gets a graph that shows the property, where there is one.
     pub graph: Option<&'a str>,
-    /// The file that holds the matrix text.
+    /// Whether a graph text is read and its matrix written, and nothing tested. No other option then stands beside it.
+    pub from_graph: bool,
+    /// The file that holds the matrix text or the graph text.
     pub file: &'a str,
 }
 
@@ -142,4 +144,8 @@ pub enum Command<'a> {
     Sign(SignOptions<'a>),
     /// Tests whether a matrix is balanced.
     Balanced(BalancedOptions<'a>),
+    /// Writes the two matrices of which the root of a decomposition tree is a sum.
+    Parts(PartsOptions<'a>),
+    /// Writes a sum of two matrices.
+    Compose(ComposeOptions<'a>),
 }

@@ -21,7 +21,7 @@ use cmr_front::carry_out::carry_out;
 use cmr_front::outcome::Stop;
 use cmr_front::words::WordsError;
 use cmr_io::{Shelf, Sink};
-use cmr_reach::{balanced, camion, sign_rows};
+use cmr_reach::{balanced, camion, compose, parts, sign_rows};
 use std::alloc::Global;
 use std::thread::Threads;
 
@@ -80,5 +80,7 @@ fn obey<R: Threads + Sync, S: Shelf, O: Sink, E: Sink>(
         Command::Camion(options) => camion(rt, alloc, options, shelf, out, err),
         Command::Sign(options) => sign_rows(rt, alloc, options, shelf, out, err),
         Command::Balanced(options) => balanced(rt, alloc, options, shelf, out, err),
+        Command::Parts(options) => parts(rt, alloc, options, shelf, out, err),
+        Command::Compose(options) => compose(rt, alloc, options, shelf, out, err),
     }
 }

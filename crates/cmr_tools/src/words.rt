@@ -16,6 +16,8 @@ use cmr_base::WordList;
 use cmr_front::words::WordsError;
 use cmr_reach::words::balanced::read_balanced;
 use cmr_reach::words::camion::read_camion;
+use cmr_reach::words::composed::read_compose;
+use cmr_reach::words::parted::read_parts;
 use cmr_reach::words::sign::read_sign;
 use std::alloc::Global;
 
@@ -46,6 +48,8 @@ pub fn read_words<'a>(alloc: Global, words: &'a WordList) -> Result<Command<'a>,
         "camion" => Ok(Command::Camion(read_camion(alloc, rest)?)),
         "sign" => Ok(Command::Sign(read_sign(alloc, rest)?)),
         "balanced" => Ok(Command::Balanced(read_balanced(alloc, rest)?)),
+        "parts" => Ok(Command::Parts(read_parts(alloc, rest)?)),
+        "compose" => Ok(Command::Compose(read_compose(alloc, rest)?)),
         _ => Err(WordsError::Refused),
     }
 }

@@ -65,6 +65,10 @@ rest_rule = value_rule (codes "rest") 82
 abbrev pub graph_rule : Rule
 graph_rule = value_rule (codes "graph") 71
 
+-- [-c]
+abbrev pub from_graph_rule : Rule
+from_graph_rule = flag_rule (codes "from-graph") 99
+
 -- [-M FILE]
 abbrev pub output_rule : Rule
 output_rule = value_rule (codes "output") 77

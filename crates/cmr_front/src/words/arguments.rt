@@ -27,6 +27,8 @@ pub const REST: &str = "rest";
 
 pub const GRAPH: &str = "graph";
 
+pub const FROM_GRAPH: &str = "from-graph";
+
 pub const OUTPUT: &str = "output";
 
 pub const CHAIN: &str = "chain";
@@ -153,6 +155,14 @@ pub fn graph_option<'a>(alloc: Global) -> Arg<'a>
     ensures local { result.global ≡ false }
 {
     value_option(alloc, GRAPH, 'G')
+}
+
+/// The flag `-c`.
+pub fn from_graph_flag<'a>(alloc: Global) -> Arg<'a>
+    ensures rule { rule_of result ≡ arguments.from_graph_rule }
+    ensures local { result.global ≡ false }
+{
+    flag(alloc, FROM_GRAPH, 'c')
 }
 
 /// The option `-M FILE`.

@@ -1,10 +1,11 @@
-// Testing whether the columns of a matrix are paths of a tree, with or without directions.
-ghost use Rattle.std.specs.Prelude.{◌≡◌, ◌++◌, IfOk, IfSome, IsSomeAnd, IsTrue, MatchOption, OnOk, map, option_map};
+// Testing whether the columns of a matrix are paths of a tree, with or without directions, and writing the matrix of such a
+// tree.
+ghost use Rattle.std.specs.Prelude.{◌≡◌, ◌++◌, IfOk, IfSome, IsSomeAnd, IsTrue, MatchOption, OnOk, length, map, option_map};
 ghost use Rattle.cmr_base.specs.LineSets.{AllBelow};
 ghost use Rattle.cmr_base.specs.Matrix.{height};
 ghost use Rattle.cmr_front.specs.Ending.{devices, standing};
-ghost use Rattle.cmr_tools.specs.Graph.{graph_text};
-ghost use Rattle.cmr_tools.specs.GraphicNetwork.{Has, IsTestable, Shows, TestDecides, is_binary, property_name, test_no, test_yes, tested_lines, tested_matrix, test_tool};
+ghost use Rattle.cmr_tools.specs.GraphicNetwork.{Has, IsTestable, Shows, TestDecides, is_binary, path_tool, property_name, test_no, test_yes, tested_lines, tested_matrix, written_graph};
+ghost use Rattle.cmr_tools.specs.GraphMatrix.{test_tool};
 ghost use Rattle.cmr_front.specs.Minimal.{IsMinimalAsked, IsMinimalSet};
 ghost use Rattle.cmr_front.specs.Outcome.{file_of, outcome_report};
 ghost use Rattle.cmr_front.specs.Report.{asked_file};
@@ -14,8 +15,8 @@ ghost use Rattle.cmr_tools.specs.Words.GraphicNetwork.{test_order_of};
 ghost use Rattle.cmr_tools.specs.declared.options.Property.TheVariants as properties;
 ghost use Rattle.cmr_front.specs.declared.status.Answer.{Answer};
 
-use crate::graph_text::write_graph;
 use crate::options::{Property, TestOptions};
+use crate::tools::graph_matrix::GraphMatrix;
 use cmr_base::{LineSet, Matrix, Memory, Network};
 use cmr_front::asked::push_minimal;
 use cmr_front::input::{Input, Text};
@@ -26,6 +27,7 @@ use cmr_front::status::Answer;
 use cmr_front::tool::{Tool, run_tool};
 use cmr_io::{Shelf, Sink};
 use graph_realise::{minimal_not_graphic, realise};
+use graph_text::{write_graph, write_transposed_graph};
 use network_orient::{minimal_not_network, orient};
 use std::alloc::Global;
 use std::thread::Threads;
@@ -85,11 +87,19 @@ pub fn test_property<R: Threads + Sync, S: Shelf, O: Sink, E: Sink>(
         result }
     ensures means { IsTrue (S.tells shelf.old) → (answer : Answer) → result ≡ answer_status answer → Means (test_tool property (test_order_of options.now)) (S.content shelf.old) answer }
 {
-    let test = PathTest {
-        property,
-        options: *options,
-    };
-    run_tool(rt, alloc, &test, shelf, out, err)
+    if options.from_graph {
+        let graph = GraphMatrix {
+            property,
+            file: options.file,
+        };
+        run_tool(rt, alloc, &graph, shelf, out, err)
+    } else {
+        let test = PathTest {
+            property,
+            options: *options,
+        };
+        run_tool(rt, alloc, &test, shelf, out, err)
+    }
 }
 
 // The test of a property.
@@ -100,7 +110,7 @@ struct PathTest<'a> {
 }
 
 impl<'a> Tool<'a> for PathTest<'a> {
-    ghost tool = { λ test. test_tool test.property (test_order_of test.options) };
+    ghost tool = { λ test. path_tool test.property (test_order_of test.options) };
 
     fn inputs(&self, alloc: Global) -> Result<Vec<Input<'a>>, Memory> {
         matrix_input(alloc, self.options.file)
@@ -163,7 +173,7 @@ fn decide<'a>(
     ensures { IfOk result (λ outcome. TestDecides property (test_order_of options.now) matrix.now (outcome_report outcome)) }
 {
     if let Some(network) = find_network(alloc, property, tested)? {
-        return yes(alloc, property, options, &network);
+        return yes(alloc, property, options, tested, &network);
     }
     let minimal = asked_minimal(alloc, property, options, tested)?;
     no(alloc, property, options, matrix, &minimal)
@@ -187,14 +197,16 @@ fn yes<'a>(
     alloc: Global,
     property: Property,
     options: &TestOptions<'a>,
+    tested: &Matrix,
     network: &Network,
 ) -> Result<Outcome<'a>, Memory>
+    requires { Shows property network.now tested.now }
     ensures { IfOk result (λ outcome. outcome_report outcome ≡ test_yes property (test_order_of options.now) network.now) }
 {
     let mut output = property_name(property, options.transposed).to_vec(alloc)?;
     output.extend_from_slice(b": yes\n")?;
     let mut files = Vec::new(alloc);
-    push_graph(alloc, &mut files, options, network)?;
+    push_graph(alloc, &mut files, options, tested, network)?;
     Ok(Outcome {
         answer: Answer::Yes,
         output,
@@ -206,16 +218,37 @@ fn push_graph<'a>(
     alloc: Global,
     files: &mut Vec<OutputFile<'a>>,
     options: &TestOptions<'a>,
+    tested: &Matrix,
     network: &Network,
 ) -> Result<(), Memory>
+    requires rows { length network.now.arcs ≡ height tested.now }
+    requires columns { length network.now.walks ≡ tested.now.width }
     ensures { OnOk result (map file_of files.new.items ≡ map file_of files.old.items
-        ++ asked_file (option_map (λ name. name.now) options.now.graph) (graph_text options.now.transposed network.now)) }
+        ++ asked_file (option_map (λ name. name.now) options.now.graph) (written_graph options.now.transposed network.now)) }
 {
     if let Some(name) = options.graph {
-        let bytes = write_graph(alloc, network, options.transposed)?;
+        let bytes = write_tested(alloc, options.transposed, tested, network)?;
         files.push(OutputFile { name, bytes })?;
     }
     Ok(())
+}
+
+// The text of a network for the matrix that is tested.
+fn write_tested(
+    alloc: Global,
+    transposed: bool,
+    tested: &Matrix,
+    network: &Network,
+) -> Result<Vec<u8>, Memory>
+    requires rows { length network.now.arcs ≡ height tested.now }
+    requires columns { length network.now.walks ≡ tested.now.width }
+    ensures { IfOk result (λ text. text.items ≡ written_graph transposed network.now) }
+{
+    if transposed {
+        write_transposed_graph(alloc, network, tested.columns(), tested.rows())
+    } else {
+        write_graph(alloc, network, tested.rows(), tested.columns())
+    }
 }
 
 fn no<'a>(

@@ -54,3 +54,15 @@ returns-in-Balanced-clause-runs g c = runs_of c.args.command.now _ _ _ _ _ c.in-
 
 pub returns-in-Balanced-clause-means : goal.returns-in-Balanced-clause-means
 returns-in-Balanced-clause-means g c = means_of c.args.command.now _ _ _ _ c.in-Balanced.is c.balanced.ensures.means
+
+pub returns-in-Parts-clause-runs : goal.returns-in-Parts-clause-runs
+returns-in-Parts-clause-runs g c = runs_of c.args.command.now _ _ _ _ _ c.in-Parts.is c.parts.ensures.runs
+
+pub returns-in-Parts-clause-means : goal.returns-in-Parts-clause-means
+returns-in-Parts-clause-means g c = means_of c.args.command.now _ _ _ _ c.in-Parts.is c.parts.ensures.means
+
+pub returns-in-Compose-clause-runs : goal.returns-in-Compose-clause-runs
+returns-in-Compose-clause-runs g c = runs_of c.args.command.now _ _ _ _ _ c.in-Compose.is c.compose.ensures.runs
+
+pub returns-in-Compose-clause-means : goal.returns-in-Compose-clause-means
+returns-in-Compose-clause-means g c = means_of c.args.command.now _ _ _ _ c.in-Compose.is c.compose.ensures.means

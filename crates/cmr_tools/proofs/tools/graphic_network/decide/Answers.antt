@@ -7,6 +7,11 @@ use Rattle.cmr_tools.specs.GraphicNetwork.{Has, Shows, yes, no, tested_lines}
 use Rattle.cmr_tools.proofs.GraphicNetworkAnswers.{asked_below, has_shown}
 use Rattle.cmr_tools.proofs.tools.graphic_network.decide.Goals as goal
 
+pub yes-requires : goal.yes-requires
+yes-requires c =
+    let p = c.args.property in
+    subst (λ found. MatchOption found (¬ (Has p c.args.tested.now)) (λ net. Shows p net c.args.tested.now)) c.in-Some.is c.in_ok-network.ensures
+
 pub returns-in-Some : goal.returns-in-Some
 returns-in-Some c =
     let p = c.args.property in

@@ -1,0 +1,111 @@
+-- What `compose` reports on two matrices, and what its answers mean.
+use Rattle.std.specs.Prelude.{◌≡◌, ◌≤◌, ◌+◌, ◌++◌, ℕ, false, List, [], ◌∷◌, Ok, codes}
+use Rattle.std.specs.Fmt.{decimal}
+use Rattle.cmr_base.specs.Matrix.{Matrix, HasTernaryEntries, IsMatrix, height, nonzeros_of}
+use Rattle.text_fields.specs.Words.{text_of}
+use Rattle.matrix_text.specs.Canonical.{dense_text}
+use Rattle.matrix_text.specs.Dense.{dense}
+use Rattle.compose.specs.declared.sum_kind.SumKind.{SumKind}
+use Rattle.compose.specs.Kinds.{HaveSum, lost_columns, lost_rows, sum_of}
+use Rattle.cmr_front.specs.declared.outcome.FaultKind.TheVariants as faults
+use Rattle.cmr_front.specs.declared.status.Answer.{Answer}
+use Rattle.cmr_front.specs.declared.status.Answer.TheVariants.{Yes, No, Undecided, Refused}
+use Rattle.cmr_front.specs.Inputs.{InputFile}
+use Rattle.cmr_front.specs.MatrixText.{matrix_file, matrix_in}
+use Rattle.cmr_front.specs.Report.{Report}
+use Rattle.cmr_front.specs.Status.{answer_status}
+use Rattle.cmr_front.specs.Texts.{ReportsText, pair_tool}
+use Rattle.cmr_front.specs.Tool.{Tool}
+use Rattle.cmr_reach.specs.declared.tools.composed.Composition.{Composition}
+use Rattle.cmr_reach.specs.declared.tools.composed.Composition.TheVariants.{Sum, Without}
+use Rattle.cmr_reach.specs.declared.tools.composed.Obstacle.{Obstacle}
+use Rattle.cmr_reach.specs.declared.tools.composed.Obstacle.TheVariants.{TooManyRows, TooManyColumns, BadConnector, BadEntry}
+use Rattle.cmr_reach.specs.Words.Compose.{ComposeOrder}
+
+-- ---- the sum, or why there is none
+
+-- The sum would have at most as many rows and columns as a matrix may have: those of both matrices without the ones that it loses.
+abbrev pub HaveFewRows : SumKind → Matrix → Matrix → Type 0
+HaveFewRows kind first second = height first + height second ≤ 1000 + lost_rows kind
+
+abbrev pub HaveFewColumns : SumKind → Matrix → Matrix → Type 0
+HaveFewColumns kind first second = first.width + second.width ≤ 1000 + lost_columns kind
+
+-- the sum is defined, and a matrix
+pub record IsComposed (kind : SumKind) (first second : Matrix) : Type 0 where
+  pub rows : HaveFewRows kind first second
+  pub columns : HaveFewColumns kind first second
+  pub connected : HaveSum kind first second
+  pub is_matrix : IsMatrix (sum_of kind first second)
+
+-- each obstacle stands where those before it do not
+abbrev pub IsObstacle : SumKind → Matrix → Matrix → Obstacle → Type 0
+IsObstacle kind first second TooManyRows = ¬ (HaveFewRows kind first second)
+IsObstacle kind first second TooManyColumns = HaveFewRows kind first second × ¬ (HaveFewColumns kind first second)
+IsObstacle kind first second BadConnector = HaveFewRows kind first second × HaveFewColumns kind first second × ¬ (HaveSum kind first second)
+IsObstacle kind first second BadEntry =
+    HaveFewRows kind first second × HaveFewColumns kind first second × HaveSum kind first second × ¬ (HasTernaryEntries (sum_of kind first second))
+
+abbrev pub IsComposition : SumKind → Matrix → Matrix → Composition → Type 0
+IsComposition kind first second (Sum sum) = IsComposed kind first second × (sum ≡ sum_of kind first second)
+IsComposition kind first second (Without obstacle) = IsObstacle kind first second obstacle
+
+-- ---- the reports
+
+-- composed RxC nonzeros K
+abbrev pub composed_line : Matrix → List ℕ
+composed_line m = codes "composed " ++ decimal (height m) ++ codes "x" ++ decimal m.width ++ codes " nonzeros " ++ decimal (nonzeros_of m.rows) ++ codes "\n"
+
+-- the sum in its file
+abbrev pub composed_report : List ℕ → Matrix → Report
+composed_report output sum = record {
+  status = answer_status Yes;
+  output = composed_line sum;
+  error = [];
+  files = (record { name = output; bytes = dense_text sum }) ∷ [];
+}
+
+abbrev pub obstacle_name : Obstacle → List ℕ
+obstacle_name TooManyRows = codes "TooManyRows"
+obstacle_name TooManyColumns = codes "TooManyColumns"
+obstacle_name BadConnector = codes "BadConnector"
+obstacle_name BadEntry = codes "BadEntry"
+
+abbrev pub obstacle_report : Obstacle → Report
+obstacle_report obstacle = record {
+  status = answer_status Refused;
+  output = codes "refused: " ++ obstacle_name obstacle ++ codes "\n";
+  error = [];
+  files = [];
+}
+
+-- on two matrices
+pub data ComposeDecides (o : ComposeOrder) (first second : Matrix) (report : Report) : Type 0 where
+  composed : IsComposed o.sum first second → report ≡ composed_report o.output (sum_of o.sum first second) → ComposeDecides o first second report
+  refused : (obstacle : Obstacle) → IsObstacle o.sum first second obstacle → report ≡ obstacle_report obstacle → ComposeDecides o first second report
+
+-- ---- the meaning
+
+-- the sum is defined, and the text that is written stands for it
+abbrev pub ComposeMeans : ComposeOrder → Matrix → Matrix → Answer → Type 0
+ComposeMeans o first second Yes =
+    IsComposed o.sum first second × (dense false (text_of (dense_text (sum_of o.sum first second))) ≡ Ok (sum_of o.sum first second))
+ComposeMeans o first second No = ⊥
+ComposeMeans o first second Undecided = ⊥
+ComposeMeans o first second Refused = (obstacle : Obstacle) × IsObstacle o.sum first second obstacle
+
+-- ---- the tool
+
+-- on the texts of the two matrices: the faults of the first come first
+abbrev pub ComposeReports : ComposeOrder → List ℕ → List ℕ → Report → Type 0
+ComposeReports o first second report =
+    ReportsText faults.Matrix o.first (λ a. ReportsText faults.Matrix o.second (ComposeDecides o a) (matrix_in o.form false second)) (matrix_in o.form false first) report
+
+abbrev pub ComposeSays : ComposeOrder → List ℕ → List ℕ → Answer → Type 0
+ComposeSays o first second answer = (a : Matrix) × (matrix_in o.form false first ≡ Ok a) × ((b : Matrix) × (matrix_in o.form false second ≡ Ok b) × ComposeMeans o a b answer)
+
+abbrev pub compose_files : ComposeOrder → List InputFile
+compose_files o = matrix_file o.first ∷ matrix_file o.second ∷ []
+
+abbrev pub compose_tool : ComposeOrder → Tool
+compose_tool o = pair_tool (compose_files o) (ComposeReports o) (ComposeSays o)
