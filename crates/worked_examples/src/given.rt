@@ -2,6 +2,7 @@
 // line feed, and lines of a matrix are counted from 0.
 ghost use Rattle.std.specs.Prelude.{◌≤◌, IfOk};
 ghost use Rattle.cmr_base.specs.LineSets.{AllBelow};
+ghost use Rattle.cmr_base.specs.Matrix.{IsEntry};
 ghost use Rattle.cmr_base.specs.Trees.{IsBinary};
 
 use cmr_base::{Indices, LineSet, Matrix, Memory};
@@ -37,10 +38,16 @@ pub fn sparse(alloc: Global, text: &str) -> Result<Matrix, Fail> {
 pub fn binary(alloc: Global, text: &str) -> Result<Matrix, Fail>
     ensures { IfOk result IsBinary }
 {
-    let entries = matrix(alloc, text)?;
+    ones_of(alloc, &matrix(alloc, text)?)
+}
+
+/// The ones of a matrix, as a 0/1 matrix.
+pub fn ones_of(alloc: Global, entries: &Matrix) -> Result<Matrix, Fail>
+    ensures { IfOk result IsBinary }
+{
     let mut ones = zeros(alloc, entries.rows(), entries.columns())?;
     for row in 0..entries.rows() {
-        mark_row(&mut ones, &entries, row);
+        mark_row(&mut ones, entries, row);
     }
     Ok(ones)
 }
@@ -53,6 +60,17 @@ fn mark_row(ones: &mut Matrix, entries: &Matrix, row: u32)
         if row < entries.rows() && entries.entry(row, column) == 1 {
             mark(ones, row, column);
         }
+    }
+}
+
+/// The entry at a place, and 0 outside the matrix.
+pub fn entry_at(matrix: &Matrix, row: u32, column: u32) -> i8
+    ensures { IsEntry result }
+{
+    if row < matrix.rows() && column < matrix.columns() {
+        matrix.entry(row, column)
+    } else {
+        0
     }
 }
 

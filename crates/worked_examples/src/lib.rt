@@ -3,13 +3,23 @@
 #![tactic(auto)]
 
 #[cfg(test)]
+mod chains;
+#[cfg(test)]
+mod devices;
+#[cfg(test)]
+mod generated;
+#[cfg(test)]
 mod given;
+#[cfg(test)]
+mod graph_texts;
 #[cfg(test)]
 mod graphs;
 #[cfg(test)]
 mod leaves;
 #[cfg(test)]
 mod matrices;
+#[cfg(test)]
+mod matroids;
 #[cfg(test)]
 mod networks;
 #[cfg(test)]
@@ -19,9 +29,13 @@ mod reductions;
 #[cfg(test)]
 mod separations;
 #[cfg(test)]
+mod signings;
+#[cfg(test)]
 mod sums;
 #[cfg(test)]
 mod texts;
+#[cfg(test)]
+mod trees;
 #[cfg(test)]
 mod violators;
 #[cfg(test)]

@@ -55,7 +55,15 @@ fn least_numbers(rt: HostRuntime) -> Result<(), Fail> {
         (700, 300, 64, 1000, Some(300)),
         (700, 300, 3, 300, None),
         (0, 0, 2, 0, None),
+        // More workers than numbers, the first number and the last one.
         (0, 0, 64, 1, Some(0)),
+        (2, 2, 64, 3, Some(2)),
+        (2, 1, 64, 3, Some(1)),
+        (3, 4, 64, 3, None),
+        (0, 999, 3, 1000, Some(0)),
+        (999, 999, 1, 1000, Some(999)),
+        (999, 999, 3, 1000, Some(999)),
+        (999, 999, 64, 1000, Some(999)),
     ] {
         assert!(&rt; workers >= 1 && workers <= 64);
         let found = first_hit(&rt, rt.alloc(), workers, total, &Pair { one, two })?;
