@@ -23,6 +23,7 @@ pub mod Incidences
 pub mod RootedTrees
 pub mod Comparisons
 pub mod WrittenColumns
+pub mod CopiedEntries
 pub mod Separations
 pub mod Seeds
 pub mod Components

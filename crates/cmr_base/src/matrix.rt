@@ -1,5 +1,8 @@
-ghost use Rattle.std.specs.Prelude.{◌≡◌, ◌<◌, ◌≤◌, ◌*◌, ◌++◌, ℕ, map, length, slice_index_or, IfOk, OnOk, pos, replicate, count_by};
-ghost use Rattle.cmr_base.specs.Matrix.{Matrix, height, row_of, column_of, entry, with_entry, transposed, IsMatrix, IsEntry, rows_of, nonzeros_of, is_nonzero};
+ghost use Rattle.std.specs.Prelude.{◌≡◌, ◌<◌, ◌≤◌, ◌*◌, ℕ, length, slice_index_or, IfOk, pos, replicate};
+ghost use Rattle.std.specs.List.Sorted.{IsStrictlyIncreasing};
+ghost use Rattle.cmr_base.specs.CopiedEntries.{ArePlaces, IsEmptyRow, IsRowCopied};
+ghost use Rattle.cmr_base.specs.WrittenColumns.{IsColumnWritten};
+ghost use Rattle.cmr_base.specs.Matrix.{Matrix, height, row_of, entry, with_entry, transposed, IsMatrix, IsEntry, rows_of, nonzeros_of, is_nonzero};
 ghost use Rattle.cmr_base.specs.LineSets.{AllBelow, submatrix};
 ghost use Rattle.cmr_base.specs.MatrixLayout.{value_of};
 ghost use Rattle.cmr_base.specs.Planes.{is_minus, word_of, words_for, words_of};
@@ -169,45 +172,74 @@ impl Matrix {
         let columns = lines.columns.as_slice();
         prove!(rows.len() <= self.rows() as usize);
         prove!(columns.len() <= self.columns() as usize);
-        let mut cells = Vec::with_capacity(alloc, rows.len() * columns.len())?;
-        for row in rows {
-            self.push_chosen(*row, columns, &mut cells)?;
+        let places = places_of(alloc, columns, self.columns())?;
+        let mut part = Matrix::zero(alloc, rows.len() as u32, columns.len() as u32)?;
+        for place in 0..rows.len() {
+            self.copy_row(rows[place], columns, &places, &mut part, place as u32);
         }
-        Matrix::from_cells(alloc, rows.len() as u32, columns.len() as u32, &cells)
+        Ok(part)
     }
 
     /// The matrix with rows and columns exchanged.
     pub fn transposed(&self, alloc: Global) -> Result<Matrix, Memory>
         ensures { IfOk result (λ m. m ≡ transposed self.now) }
     {
-        let size = self.rows() as usize * self.columns() as usize;
-        let mut cells = Vec::with_capacity(alloc, size)?;
-        for column in 0..self.columns() {
-            self.push_column(column, &mut cells)?;
-        }
-        Matrix::from_cells(alloc, self.columns(), self.rows(), &cells)
-    }
-
-    fn push_chosen(&self, row: u32, columns: &[u32], cells: &mut Vec<i8>) -> Result<(), Memory>
-        requires row { row < height self.now }
-        requires columns { AllBelow self.now.width columns.now }
-        ensures { OnOk result (cells.new.items ≡ cells.old.items ++ map (entry self.now row) columns.now) }
-    {
-        for column in columns {
-            cells.push(self.entry(row, *column))?;
-        }
-        Ok(())
-    }
-
-    fn push_column(&self, column: u32, cells: &mut Vec<i8>) -> Result<(), Memory>
-        requires { column < self.now.width }
-        ensures { OnOk result (cells.new.items ≡ cells.old.items ++ column_of self.now column) }
-    {
+        let mut turned = Matrix::zero(alloc, self.columns(), self.rows())?;
         for row in 0..self.rows() {
-            cells.push(self.entry(row, column))?;
+            self.turn_row(row, &mut turned);
         }
-        Ok(())
+        Ok(turned)
     }
+
+    // Writes the chosen entries of a row into an empty row, nonzero by nonzero.
+    fn copy_row(&self, row: u32, _columns: &[u32], places: &[u32], part: &mut Matrix, to: u32)
+        requires row { row < height self.now }
+        requires to { to < height part.old }
+        requires width { part.old.width ≡ length _columns.now }
+        requires places { ArePlaces self.now.width _columns.now places.now }
+        requires shape { IsMatrix part.old }
+        requires empty { IsEmptyRow part.old to }
+        ensures { IsRowCopied self.now row _columns.now to part.old part.new }
+    {
+        let mut from = 0;
+        while let Some(column) = self.next_nonzero(row, from) {
+            let place = places[column as usize];
+            if place < part.columns() {
+                part.set(to, place, self.entry(row, column));
+            }
+            from = column + 1;
+        }
+    }
+
+    // Writes a row into an empty column, nonzero by nonzero.
+    fn turn_row(&self, row: u32, turned: &mut Matrix)
+        requires row { row < height self.now }
+        requires shape { IsMatrix turned.old }
+        requires height { height turned.old ≡ self.now.width }
+        requires width { row < turned.old.width }
+        requires empty { (column : ℕ) → column < self.now.width → entry turned.old column row ≡ pos 0 }
+        ensures { IsColumnWritten turned.old turned.new row (row_of self.now row) self.now.width }
+    {
+        let mut from = 0;
+        while let Some(column) = self.next_nonzero(row, from) {
+            turned.set(column, row, self.entry(row, column));
+            from = column + 1;
+        }
+    }
+}
+
+// For each of so many columns its place among the chosen ones, and a number that is no place for the others.
+fn places_of(alloc: Global, chosen: &[u32], columns: u32) -> Result<Vec<u32>, Memory>
+    requires rising { IsStrictlyIncreasing chosen.now }
+    requires below { AllBelow columns chosen.now }
+    requires columns { columns ≤ MAX_COLUMNS }
+    ensures { IfOk result (λ places. ArePlaces columns chosen.now places.items) }
+{
+    let mut places = vec![in alloc; MAX_COLUMNS; columns as usize]?;
+    for place in 0..chosen.len() {
+        places[chosen[place] as usize] = place as u32;
+    }
+    Ok(places)
 }
 
 // The entry with these bits.

@@ -1,8 +1,5 @@
-use Rattle.std.proofs.Common.{◌≡◌, map, take}
-use Rattle.std.specs.List.{flat_map}
-use Rattle.cmr_base.specs.Matrix.{entry}
+use Rattle.cmr_base.proofs.CopiedRows.{AreRowsCopied}
 use Rattle.cmr_base.proofs.matrix.Matrix.part.Given as goal
 
--- the rows so far
-abbrev pub invariant-loop-row : goal.invariant-loop-row
-invariant-loop-row l = l.cells.items ≡ flat_map (λ row. map (entry l.self row) l.columns) (take l.row-index l.rows)
+abbrev pub invariant-loop-place : goal.invariant-loop-place
+invariant-loop-place l = AreRowsCopied l.self l.rows l.columns l.place l.part
