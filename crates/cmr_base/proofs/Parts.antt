@@ -1,12 +1,11 @@
 -- Cells that are made one row after another, and the entries of a submatrix and of a transposed matrix.
-use Rattle.std.proofs.Common.{◌≡◌, ◌<◌, ◌≤◌, ◌*◌, ◌+◌, ◌++◌, ◌∙◌, ℕ, zero, suc, ℤ, pos, List, [], ◌∷◌, map, length, take, drop, get_or, refl, ap, sym, subst, ◌⊎◌, inl, inr, arith, length-append}
-use Rattle.std.proofs.lemmas.List.{take_all, get_or-map, get_or_past, take_more, length-map, append-nil}
-use Rattle.std.proofs.lemmas.List.Concat.{flat_map-append}
+use Rattle.std.proofs.Common.{◌≡◌, ◌<◌, ◌≤◌, ◌*◌, ◌++◌, ◌∙◌, ℕ, zero, suc, ℤ, pos, List, [], ◌∷◌, map, length, take, drop, get_or, refl, ap, sym, subst, ◌⊎◌, inl, inr, arith, length-append}
+use Rattle.std.proofs.lemmas.List.{get_or-map, get_or_past, length-map}
 use Rattle.std.proofs.lemmas.Bool.{cases_lt}
-use Rattle.std.proofs.lemmas.List.FromFn.{length-range_with_len, get_or-map-range_with_len, length-map-range_with_len}
+use Rattle.std.proofs.lemmas.List.FromFn.{get_or-map-range_with_len, length-map-range_with_len}
 use Rattle.std.proofs.Math.Nat.{suc-mul, zero-mul}
 use Rattle.std.proofs.Math.Seq.{take-append_seam, drop-append_seam}
-use Rattle.std.specs.List.{flat_map, range_with_len}
+use Rattle.std.specs.List.{flat_map}
 use Rattle.std.specs.List.Sorted.{IsStrictlyIncreasing}
 use Rattle.cmr_base.specs.declared.limits.TheConstants.{MAX_COLUMNS, MAX_ROWS}
 use Rattle.cmr_base.specs.Matrix.{Matrix, height, entry, column_of, transposed, IsMatrix, IsEntry, rows_of, IsRectangular, IsTernary}
@@ -115,46 +114,3 @@ is_matrix-transposed m is = let turned = is_ternary-transposed m (record { recta
 -- rising lines below a bound are at most so many
 pub length-rising : (lines : List ℕ) (bound : ℕ) → IsStrictlyIncreasing lines → AllBelow bound lines → length lines ≤ bound
 length-rising lines bound rising below = omega (arith, rising_short 0 bound lines (rises_in 0 bound lines rising below (λ h. omega arith)) (omega arith))
-
--- one more row of cells
-pub more_cells : {A : Type 0} (f : A → List ℤ) (xs : List A) (i : ℕ) (d : A) → i < length xs → flat_map f (take (i + 1) xs) ≡ flat_map f (take i xs) ++ f (get_or xs i d)
-more_cells f xs i d h =
-    ap (flat_map f) (take_more xs i d h) ∙ flat_map-append f (take i xs) (get_or xs i d ∷ []) ∙ ap (λ last. flat_map f (take i xs) ++ last) (append-nil (f (get_or xs i d)))
-
--- the cells of a transposed matrix
-pub record AreTransposed (m : Matrix) (cells : List ℤ) : Type 0 where
-  pub whole : length cells ≡ m.width * height m
-  pub small : (k : ℕ) → IsEntry (get_or cells k (pos 0))
-  pub cut : rows_of m.width (height m) cells ≡ (transposed m).rows
-
-pub transposed_cells : (m : Matrix) → IsMatrix m → AreTransposed m (flat_map (column_of m) (range_with_len 0 m.width))
-transposed_cells m is =
-    let numbers = range_with_len 0 m.width in
-    let count : length numbers ≡ m.width = length-range_with_len 0 m.width in
-    let each : (column : ℕ) → length (column_of m column) ≡ height m = λ column. length-map m.rows (λ r. get_or r column (pos 0)) in
-    record {
-      whole = length-cells (column_of m) (height m) numbers each ∙ ap (λ n. n * height m) count;
-      small = each-flat_map IsEntry (column_of m) numbers zero_is_entry (λ column j. subst IsEntry (sym (get_or-column_of m.rows j column)) (is.small j column));
-      cut = subst (λ n. rows_of n (height m) (flat_map (column_of m) numbers) ≡ map (column_of m) numbers) count (rows_of-flat_map (column_of m) (height m) numbers each);
-    }
-
--- the cells of a submatrix
-pub record ArePart (m : Matrix) (rows columns : List ℕ) (cells : List ℤ) : Type 0 where
-  pub whole : length cells ≡ length rows * length columns
-  pub small : (k : ℕ) → IsEntry (get_or cells k (pos 0))
-  pub cut : rows_of (length rows) (length columns) cells ≡ (submatrix m rows columns).rows
-
-pub part_cells : (m : Matrix) (rows columns : List ℕ) → IsMatrix m → ArePart m rows columns (flat_map (λ row. map (entry m row) columns) rows)
-part_cells m rows columns is =
-    let each : (row : ℕ) → length (map (entry m row) columns) ≡ length columns = λ row. length-map columns (entry m row) in
-    record {
-      whole = length-cells (λ row. map (entry m row) columns) (length columns) rows each;
-      small = each-flat_map IsEntry (λ row. map (entry m row) columns) rows zero_is_entry (λ row. each-map IsEntry (entry m row) columns zero_is_entry (is.small row));
-      cut = rows_of-flat_map (λ row. map (entry m row) columns) (length columns) rows each;
-    }
-
-pub all_transposed : (m : Matrix) (cells : List ℤ) (column : ℕ) → IsMatrix m → cells ≡ flat_map (column_of m) (range_with_len 0 column) → column ≡ m.width → AreTransposed m cells
-all_transposed m cells column is so_far all = subst (AreTransposed m) (sym (so_far ∙ ap (λ n. flat_map (column_of m) (range_with_len 0 n)) all)) (transposed_cells m is)
-
-pub all_of_part : (m : Matrix) (rows columns : List ℕ) (cells : List ℤ) (i : ℕ) → IsMatrix m → cells ≡ flat_map (λ row. map (entry m row) columns) (take i rows) → length rows ≤ i → ArePart m rows columns cells
-all_of_part m rows columns cells i is so_far all = subst (ArePart m rows columns) (sym (so_far ∙ ap (flat_map (λ row. map (entry m row) columns)) (take_all i rows all))) (part_cells m rows columns is)
