@@ -13,7 +13,7 @@ use Rattle.sp_reduce.specs.declared.kind.Kind.TheVariants.{Rows, Columns}
 use Rattle.sp_reduce.specs.declared.tallies.Tallies.{Tallies}
 use Rattle.sp_reduce.specs.Kinds.{size_of, cross_size, other_kind, own_line, table}
 use Rattle.sp_reduce.specs.Sides.{weight, weight_at, IsAcross}
-use Rattle.sp_reduce.specs.Tallies.{AreMarks, AreTallies, is_passed, turned}
+use Rattle.sp_reduce.specs.Tallies.{AreMarks, AreTallies, AreWeights, is_passed, turned}
 use Rattle.sp_reduce.proofs.PlaceSums.{tally_same, tally_none, tally_bound, tally_marked, one_more}
 use Rattle.sp_reduce.proofs.Weights.{weight_small}
 
@@ -113,6 +113,13 @@ other_in m Columns row column h g = h
 pub cross_small : (m : Matrix) (kind : Kind) → IsMatrix m → cross_size m kind ≤ 1000
 cross_small m Rows is = is.width_in
 cross_small m Columns is = is.height_in
+
+pub weights_small : (marks : List Bool) (weights : List ℕ) → AreWeights marks weights → length marks ≤ 1000 → (k : ℕ) → k < length marks → get_or weights k 0 ≤ 1000 ^ 5
+weights_small marks weights are few k h = subst (λ (n : ℕ). n ≤ 1000 ^ 5) (sym (are.exact k h)) (of_mark (get_or marks k false))
+  where
+    of_mark : (mark : Bool) → cond mark (weight k) 0 ≤ 1000 ^ 5
+    of_mark true = weight_small (k + 1) (omega (arith, h, few))
+    of_mark false = omega arith
 
 turned_all : (m : Matrix) (kind : Kind) (l k : ℕ) → l < size_of m kind → k < cross_size m kind → turned (is_passed m (height m) 0) kind l k ≡ turned (support m) kind l k
 turned_all m Rows l k h g = all_passed m l k h

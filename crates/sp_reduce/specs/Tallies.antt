@@ -15,6 +15,11 @@ pub record AreMarks (size : ℕ) (lines : List ℕ) (marks : List Bool) : Type 0
   pub long : length marks ≡ size
   pub exact : (k : ℕ) → (slice_index_or marks k false ≡ true) ↔ IsIn k lines
 
+-- the weight of each marked line, and 0 for the others
+pub record AreWeights (marks : List Bool) (weights : List ℕ) : Type 0 where
+  pub long : length weights ≡ length marks
+  pub exact : (k : ℕ) → k < length marks → slice_index weights k ≡ (if slice_index_or marks k false then weight k else 0)
+
 -- a place above the row, or in it and before the column
 abbrev pub is_before : ℕ → ℕ → ℕ → ℕ → Bool
 is_before row column i j = nat_lt i row || (i == row && nat_lt j column)

@@ -1,5 +1,5 @@
 // The lines of one kind that stay, and what is known of each.
-ghost use Rattle.std.specs.Prelude.{IfOk, if◌then◌else◌, Bool, false, ◌≡◌, ◌<◌, ◌≤◌, ◌^◌, not, neg_ℤ, length, slice_index, slice_get, find, Some, None, MatchOption};
+ghost use Rattle.std.specs.Prelude.{IfOk, if◌then◌else◌, Bool, ℕ, false, ◌≡◌, ◌≢◌, ◌<◌, ◌≤◌, ◌^◌, not, neg_ℤ, length, slice_index, slice_get, find, Some, None, MatchOption};
 ghost use Rattle.std.specs.List.Sorted.{IsStrictlyIncreasing};
 ghost use Rattle.cmr_base.specs.Matrix.{entry, is_nonzero, IsMatrix};
 ghost use Rattle.cmr_base.specs.LineSets.{AllBelow};
@@ -161,12 +161,8 @@ impl Side {
         requires place { place < length self.now.stays.items }
         ensures { result ≡ false → IsAlone self.now place }
     {
-        'places: for other in 0..self.stays.len() {
-            if self.may_be_twins(place, other) {
-                return true;
-            }
-        }
-        false
+        let sum = self.sums[place];
+        has_sum(&self.sums, 0, place, sum) || has_sum(&self.sums, place + 1, self.sums.len(), sum)
     }
 
     fn first_twin(
@@ -286,6 +282,19 @@ impl Side {
                 across,
             )
     }
+}
+
+// Whether one of the sums from one place to before another is this.
+fn has_sum(sums: &[u64], from: usize, to: usize, sum: u64) -> bool
+    requires { to ≤ length sums.now }
+    ensures { result ≡ false → (place : ℕ) → from ≤ place → place < to → slice_index sums.now place ≢ sum }
+{
+    'places: for place in from..to {
+        if sums[place] == sum {
+            return true;
+        }
+    }
+    false
 }
 
 fn first_nonzero(matrix: &Matrix, kind: Kind, line: u32, across: &[u32]) -> Option<u32>

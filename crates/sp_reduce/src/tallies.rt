@@ -4,7 +4,7 @@ ghost use Rattle.cmr_base.specs.Matrix.{height, IsMatrix};
 ghost use Rattle.cmr_base.specs.LineSets.{AllBelow};
 ghost use Rattle.sp_reduce.specs.Kinds.{cross_size};
 ghost use Rattle.sp_reduce.specs.Sides.{weight};
-ghost use Rattle.sp_reduce.specs.Tallies.{AreMarks, AreTallies};
+ghost use Rattle.sp_reduce.specs.Tallies.{AreMarks, AreTallies, AreWeights};
 
 use crate::kind::Kind;
 use cmr_base::{Matrix, Memory};
@@ -50,20 +50,22 @@ impl Tallies {
         requires marks { length marks.now ≡ cross_size matrix.now kind }
         ensures { IfOk result (AreTallies matrix.now kind marks.now (height matrix.now) 0) }
     {
+        let weights = weights_of(alloc, marks)?;
         let size = kind.size(matrix) as usize;
         let mut tallies = Tallies {
             counts: vec![in alloc; 0u32; size]?,
             sums: vec![in alloc; 0u64; size]?,
         };
         'rows: for row in 0..matrix.rows() {
-            tallies.add_row(matrix, kind, marks, row);
+            tallies.add_row(matrix, kind, marks, &weights, row);
         }
         Ok(tallies)
     }
 
-    fn add_row(&mut self, matrix: &Matrix, kind: Kind, marks: &[bool], row: u32)
+    fn add_row(&mut self, matrix: &Matrix, kind: Kind, marks: &[bool], weights: &[u64], row: u32)
         requires shape { IsMatrix matrix.now }
         requires marks { length marks.now ≡ cross_size matrix.now kind }
+        requires weights { AreWeights marks.now weights.now }
         requires row { row < height matrix.now }
         requires before { AreTallies matrix.now kind marks.now row 0 self.old }
         ensures { AreTallies matrix.now kind marks.now (row + 1) 0 self.new }
@@ -71,25 +73,37 @@ impl Tallies {
         let mut from = 0;
         'columns: while let Some(column) = matrix.next_nonzero(row, from) {
             let line = kind.own(row, column);
-            let other = kind.other().own(row, column);
-            self.add(line, other, marks[other as usize]);
+            let other = kind.other().own(row, column) as usize;
+            self.add(line, marks[other], weights[other]);
             from = column + 1;
         }
     }
 
-    // A line has a nonzero in another line, which counts where this is marked.
-    fn add(&mut self, line: u32, other: u32, is_marked: bool)
+    // A line has a nonzero in another line, which counts where this is marked, by its weight.
+    fn add(&mut self, line: u32, is_marked: bool, weight: u64)
         requires in_counts { line < length self.old.counts.items }
         requires in_sums { line < length self.old.sums.items }
-        requires other { other < 1000 }
         requires few { slice_index self.old.counts.items line ≤ 1000 }
         requires light { slice_index self.old.sums.items line ≤ 1000 * 1000 ^ 5 }
+        requires small { weight ≤ 1000 ^ 5 }
         ensures counts { self.new.counts.items ≡ set self.old.counts.items line (slice_index self.old.counts.items line + (if is_marked then 1 else 0)) }
-        ensures sums { self.new.sums.items ≡ set self.old.sums.items line (slice_index self.old.sums.items line + (if is_marked then weight other else 0)) }
+        ensures sums { self.new.sums.items ≡ set self.old.sums.items line (slice_index self.old.sums.items line + weight) }
     {
         self.counts[line as usize] += if is_marked { 1 } else { 0 };
-        self.sums[line as usize] += weight_if(is_marked, other);
+        self.sums[line as usize] += weight;
     }
+}
+
+// The weight of each marked line, and 0 for the others.
+fn weights_of(alloc: Global, marks: &[bool]) -> Result<Vec<u64>, Memory>
+    requires { length marks.now ≤ 1000 }
+    ensures { IfOk result (λ weights. AreWeights marks.now weights.items) }
+{
+    let mut weights = Vec::with_capacity(alloc, marks.len())?;
+    'lines: for line in 0..marks.len() {
+        weights.push(weight_if(marks[line], line as u32))?;
+    }
+    Ok(weights)
 }
 
 fn weight_if(counts: bool, number: u32) -> u64

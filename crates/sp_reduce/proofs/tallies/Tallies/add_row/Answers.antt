@@ -1,8 +1,7 @@
-use Rattle.std.proofs.Common.{◌≡◌, ◌+◌, ◌≤◌, ◌^◌, ◌*◌, ◌∙◌, ℕ, cond, false, get_or, set, ap, ap₂, subst, sym, arith}
+use Rattle.std.proofs.Common.{◌≡◌, ◌+◌, ◌<◌, ◌≤◌, ◌^◌, ◌*◌, ◌∙◌, ℕ, cond, false, get_or, length, set, ap, ap₂, subst, sym, arith}
 use Rattle.sp_reduce.specs.Kinds.{own_line, other_kind}
-use Rattle.sp_reduce.specs.Sides.{weight}
 use Rattle.sp_reduce.specs.declared.kind.Kind.{Kind}
-use Rattle.sp_reduce.proofs.TallyLemmas.{tallies_same, tallies_step, passed_row, counts_small, sums_small, own_in}
+use Rattle.sp_reduce.proofs.TallyLemmas.{tallies_same, tallies_step, passed_row, counts_small, cross_small, sums_small, own_in, other_in, weights_small}
 use Rattle.sp_reduce.proofs.tallies.Tallies.add_row.Goals as goal
 
 pub returns : goal.returns
@@ -26,6 +25,18 @@ add-requires-clause-light c =
     subst (λ (n : ℕ). get_or c.columns.self.sums.items n 0 ≤ 1000 * 1000 ^ 5) (sym c.own-line.ensures)
     (sums_small m c.args.kind c.args.marks.now row c.columns.from c.columns.self c.requires.shape c.columns.invariant.are (own_line c.args.kind row next) (own_in m c.args.kind row next c.requires.row c.in-Some.ensures.first.1))
 
+pub add-requires-clause-small : goal.add-requires-clause-small
+add-requires-clause-small c =
+    let m = c.args.matrix.now in
+    let kind = c.args.kind in
+    let row = c.args.row in
+    let next = c.in-Some.column in
+    let crossing = own_line (other_kind kind) row next in
+    let few : length c.args.marks.now ≤ 1000 = omega (arith, cross_small m kind c.requires.shape, c.requires.marks) in
+    let in_marks : crossing < length c.args.marks.now = omega (arith, other_in m kind row next c.requires.row c.in-Some.ensures.first.1, c.requires.marks) in
+    subst (λ (n : ℕ). get_or c.args.weights.now n 0 ≤ 1000 ^ 5) (sym (c.own-other.ensures ∙ ap (λ (k : Kind). own_line k row next) c.other.ensures))
+    (weights_small c.args.marks.now c.args.weights.now c.requires.weights few crossing in_marks)
+
 pub columns-preserved : goal.columns-preserved
 columns-preserved c =
     let kind = c.args.kind in
@@ -37,9 +48,12 @@ columns-preserved c =
     let found = c.in-Some.ensures.first in
     let small = c.in-Some.ensures.small in
     let other : c.own-other.result ≡ own_line (other_kind kind) row next = c.own-other.ensures ∙ ap (λ (k : Kind). own_line k row next) c.other.ensures in
+    let weights = c.args.weights.now in
+    let in_marks : own_line (other_kind kind) row next < length marks = omega (arith, other_in c.args.matrix.now kind row next c.requires.row found.1, c.requires.marks) in
     record {
       inside = omega (arith, small);
       are = tallies_step c.args.matrix.now kind marks row c.columns.from next c.columns.self c.add.new.self c.columns.invariant.are c.requires.row found.1 found.0 found.2 found.3
           (c.add.ensures.counts ∙ ap₂ (λ (l o : ℕ). set counts l (get_or counts l 0 + cond (get_or marks o false) 1 0)) c.own-line.ensures other)
-          (c.add.ensures.sums ∙ ap₂ (λ (l o : ℕ). set sums l (get_or sums l 0 + cond (get_or marks o false) (weight o) 0)) c.own-line.ensures other);
+          (c.add.ensures.sums ∙ ap₂ (λ (l o : ℕ). set sums l (get_or sums l 0 + get_or weights o 0)) c.own-line.ensures other
+          ∙ ap (λ (n : ℕ). set sums (own_line kind row next) (get_or sums (own_line kind row next) 0 + n)) (c.requires.weights.exact (own_line (other_kind kind) row next) in_marks));
     }

@@ -1,7 +1,7 @@
-use Rattle.std.proofs.Common.{rules, ◌≡◌, ◌∙◌, ℕ, ap, replicate}
+use Rattle.std.proofs.Common.{rules, arith, ◌≡◌, ◌∙◌, ℕ, ap, replicate}
 use Rattle.sp_reduce.specs.declared.tallies.Tallies.{Tallies}
 use Rattle.sp_reduce.specs.Kinds.{size_of}
-use Rattle.sp_reduce.proofs.TallyLemmas.{tallies_start}
+use Rattle.sp_reduce.proofs.TallyLemmas.{cross_small, tallies_start}
 use Rattle.sp_reduce.proofs.tallies.Tallies.new.Goals as goal
 
 pub rows-init : goal.rows-init
@@ -11,3 +11,6 @@ rows-init c =
     let sums : c.in_ok-vec-2.field-0.items ≡ replicate c.size-size.result 0 = search rules in
     let tallies : Tallies = record { counts = c.in_ok-vec.field-0; sums = c.in_ok-vec-2.field-0 } in
     tallies_start c.args.matrix.now c.args.kind c.args.marks.now tallies (counts ∙ ap (λ (n : ℕ). replicate n 0) size) (sums ∙ ap (λ (n : ℕ). replicate n 0) size)
+
+pub weights_of-requires : goal.weights_of-requires
+weights_of-requires c = omega (arith, cross_small c.args.matrix.now c.args.kind c.requires.shape, c.requires.marks)
