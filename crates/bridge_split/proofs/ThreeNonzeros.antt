@@ -1,10 +1,10 @@
 -- Columns with three nonzeros, by their counts.
-use Rattle.std.proofs.Common.{ℕ, suc, ◌+◌, ◌&&◌, ◌||◌, nat_lt, take, ap₂, Bool, true, false, cond, List, [], ◌∷◌, ◌≡◌, ◌≢◌, ◌<◌, ◌≤◌, ◌∙◌, sym, ap, refl, arith, subst, ◌⊎◌, inl, inr, length, get_or, Option, Some, None, MatchOption}
+use Rattle.std.proofs.Common.{ℕ, zero, suc, ◌+◌, ◌&&◌, ◌||◌, nat_lt, take, ap₂, Bool, true, false, cond, List, [], ◌∷◌, ◌≡◌, ◌≢◌, ◌<◌, ◌≤◌, ◌∙◌, sym, ap, refl, arith, subst, ◌⊎◌, inl, inr, length, get_or, Option, Some, None, MatchOption}
 use Rattle.std.specs.List.{count_by, filter}
 use Rattle.std.specs.List.Sorted.{IsStrictlyIncreasing}
 use Rattle.std.proofs.lemmas.Bool.{cases_lt}
+use Rattle.std.proofs.lemmas.List.{take_all}
 use Rattle.std.proofs.lemmas.List.Sums.{length-filter, count_by_more_no, count_by_more_yes}
-use Rattle.std.proofs.lemmas.Bool.Decides.{nat_tests}
 use Rattle.cmr_base.specs.Matrix.{Matrix}
 use Rattle.cmr_base.specs.LineSets.{AllBelow}
 use Rattle.cmr_base.specs.Members.{IsIn, IsDistinct}
@@ -15,8 +15,8 @@ use Rattle.cmr_base.proofs.ListsWithout.{increasing_distinct}
 use Rattle.cmr_base.proofs.Members.{all_in}
 use Rattle.cmr_base.proofs.RowLists.{not_both}
 use Rattle.cmr_base.proofs.Booleans.{is_not_lt, is_lt, lt_of}
-use Rattle.cmr_base.specs.ColumnSets.{has_column}
-use Rattle.bridge_split.specs.Counting.{AreMore}
+use Rattle.cmr_base.specs.ColumnSets.{has_column, HasCommon}
+use Rattle.bridge_split.specs.Counting.{AreMore, HaveNoThird}
 use Rattle.bridge_split.specs.SplitCases.{HasThree, IsFirstWithThree}
 
 module _ (p : ℕ → Bool) where
@@ -163,3 +163,68 @@ first_is m S set (Some first) rises counted h = record {
       let f = length-filter (λ row. support m row other) S in
       not_both (has_column set other) (counted other ∙ is_lt 2 (count_by (λ row. support m row other) S) (omega arith)) (h.1 other l);
 }
+
+-- ---- the first rows, up to a third nonzero of a column
+
+front_filtered : (p : ℕ → Bool) (k : ℕ) (S : List ℕ) → length (filter p (take k S)) ≤ length (filter p S)
+front_filtered p zero S = omega arith
+front_filtered p (suc k) [] = omega arith
+front_filtered p (suc k) (x ∷ S) = go (p x) (front_filtered p k S)
+  where
+    go : (t : Bool) → length (filter p (take k S)) ≤ length (filter p S) → length (cond t (x ∷ filter p (take k S)) (filter p (take k S))) ≤ length (cond t (x ∷ filter p S) (filter p S))
+    go true l = omega arith
+    go false l = l
+
+both_same : (t : Bool) → (t && t) ≡ t
+both_same true = refl
+both_same false = refl
+
+never_both : (s t : Bool) → (s ≡ true → t ≡ true → ⊥) → (s && t) ≡ false
+never_both true true h = absurd (h refl refl)
+never_both true false h = refl
+never_both false t h = refl
+
+-- a row that is not 0 in a column with two nonzeros before it
+pub third_found : (m : Matrix) (S : List ℕ) (k column : ℕ) → IsStrictlyIncreasing S → k < length S
+    → nat_lt 1 (count_by (λ row. support m row column) (take k S)) ≡ true → support m (get_or S k 0) column ≡ true → ¬ (HasNoThree (support m) S)
+third_found m S k column rises low two here =
+    let p : ℕ → Bool = λ row. support m row column in
+    let more = count_by_more_yes p S k 0 low here in
+    let l = lt_of 1 (count_by p (take k S)) two in
+    let f = length-filter p (take (k + 1) S) in
+    let g = front_filtered p (k + 1) S in
+    not_star (support m) S column (three_here (support m) column S (increasing_distinct S rises) (omega arith))
+
+-- one row more, without a third nonzero
+pub no_third_more : (m : Matrix) (S : List ℕ) (k : ℕ) (ones twos more_ones more_twos row : List ℕ) → HaveNoThird m S k ones twos → k < length S
+    → length more_ones ≡ length ones → length more_twos ≡ length twos
+    → ((column : ℕ) → has_column row column ≡ support m (get_or S k 0) column)
+    → ((column : ℕ) → has_column more_twos column ≡ (has_column twos column || (has_column ones column && has_column row column)))
+    → ((column : ℕ) → has_column more_ones column ≡ (has_column ones column || has_column row column))
+    → ¬ (HasCommon twos row) → HaveNoThird m S (k + 1) more_ones more_twos
+no_third_more m S k ones twos more_ones more_twos row so low ones_size twos_size row_is doubled added none =
+    let x = get_or S k 0 in
+    let n : ℕ → ℕ = λ column. count_by (λ r. support m r column) (take k S) in
+    let more : (column : ℕ) → count_by (λ r. support m r column) (take (k + 1) S) ≡ n column + cond (support m x column) 1 0 = λ column. count_more (λ r. support m r column) S k low in
+    record {
+      matrix = so.matrix;
+      ones_long = ones_size ∙ so.ones_long;
+      twos_long = twos_size ∙ so.twos_long;
+      once = λ column.
+          added column ∙ ap₂ (λ s t. s || t) (so.once column) (row_is column)
+          ∙ sym (ap (nat_lt 0) (more column) ∙ more_than_none (n column) (support m x column) ∙ ap (λ t. nat_lt 0 (n column) || t) (both_same (support m x column)));
+      twice = λ column.
+          doubled column ∙ ap₂ (λ s t. s || t) (so.twice column) (ap₂ (λ s t. s && t) (so.once column) (row_is column))
+          ∙ sym (ap (nat_lt 1) (more column) ∙ more_than 0 (n column) (support m x column));
+      few = λ column.
+          ap (nat_lt 2) (more column) ∙ more_than 1 (n column) (support m x column)
+          ∙ ap₂ (λ s t. s || t) (so.few column) (never_both (nat_lt 1 (n column)) (support m x column) (λ two here. none (column, so.twice column ∙ two, row_is column ∙ here)));
+    }
+
+-- all rows, without a third nonzero
+pub no_third_ends : (m : Matrix) (S : List ℕ) (k : ℕ) (ones twos : List ℕ) → HaveNoThird m S k ones twos → length S ≤ k → HasNoThree (support m) S
+no_third_ends m S k ones twos so l = λ column r s t hr hs ht er es et rs rt st.
+    let p : ℕ → Bool = λ row. support m row column in
+    let three = three_count p S r s t hr hs ht rs rt st er es et in
+    let f = length-filter p S in
+    not_both (nat_lt 2 (count_by p S)) (is_lt 2 (count_by p S) (omega arith)) (ap (λ (xs : List ℕ). nat_lt 2 (count_by p xs)) (sym (take_all k S l)) ∙ so.few column)

@@ -1,5 +1,5 @@
 -- How many nonzeros the columns have in some rows, up to three.
-use Rattle.std.specs.Prelude.{◌≡◌, nat_lt, ℕ, List, length, count_by}
+use Rattle.std.specs.Prelude.{◌≡◌, nat_lt, ℕ, false, List, length, take, count_by}
 use Rattle.cmr_base.specs.Matrix.{Matrix, IsMatrix}
 use Rattle.cmr_base.specs.Planes.{words_for}
 use Rattle.cmr_base.specs.Trees.{support}
@@ -22,3 +22,12 @@ pub record AreCounts (m : Matrix) (S : List ℕ) (counts : Counts) : Type 0 wher
   pub once : AreMore m S 0 counts.once.items
   pub twice : AreMore m S 1 counts.twice.items
   pub thrice : AreMore m S 2 counts.thrice.items
+
+-- the columns with one nonzero and with two in the first rows of S, where none has three
+pub record HaveNoThird (m : Matrix) (S : List ℕ) (place : ℕ) (ones twos : List ℕ) : Type 0 where
+  pub matrix : IsMatrix m
+  pub ones_long : length ones ≡ words_for m.width
+  pub twos_long : length twos ≡ words_for m.width
+  pub once : AreMore m (take place S) 0 ones
+  pub twice : AreMore m (take place S) 1 twos
+  pub few : (column : ℕ) → nat_lt 2 (count_by (λ row. support m row column) (take place S)) ≡ false

@@ -11,7 +11,6 @@ use Rattle.cmr_base.specs.ColumnSets.{has_column}
 use Rattle.graph_realise.specs.Tables.{Grid, cell, IsCellSet}
 use Rattle.graph_realise.specs.Numbers.{AreDisjoint}
 use Rattle.cmr_base.proofs.Places.{all_placed}
-use Rattle.cmr_base.proofs.Booleans.{first_of}
 
 -- an item appended to a list
 pub appended_before : {A : Type 0} → (xs : List A) (x d : A) (k : ℕ) → k < length xs → get_or (xs ++ x ∷ []) k d ≡ get_or xs k d

@@ -20,9 +20,8 @@ use Rattle.graph_realise.specs.Searches.{AreWholeBelow, IsSplit}
 use Rattle.graph_realise.specs.SideTables.{side_in, end_in, KeepsOutside}
 use Rattle.graph_realise.specs.declared.arc_sides.ArcSides.{ArcSides}
 use Rattle.graph_realise.specs.declared.joint.Joint.{Joint}
-use Rattle.bridge_split.specs.SplitCases.{IsFirstWithThree}
 use Rattle.bridge_split.specs.declared.splitting.SplitRow.{SplitRow}
-use Rattle.graph_realise.proofs.NoCuts.{three_refused}
+use Rattle.graph_realise.proofs.NoCuts.{no_three}
 use Rattle.graph_realise.proofs.CutTables.{has_fewer, is_fewer, is_same}
 use Rattle.graph_realise.proofs.MergedTables.{keeps_after, keeps_own, merged_kept}
 use Rattle.graph_realise.proofs.SideLemmas.{keeps_row_trans}
@@ -303,6 +302,5 @@ module _ (M : ℕ → ℕ → Bool) (m n : ℕ) (short : (r c : ℕ) → M r c �
     joined_cuts = is_same M (λ r. IsIn r S) (merged_side M i (hanging_of joint) (turned_side i (side_in old))) (side_in new) (merged_lies M i (hanging_of joint) (turned_lies i (side_in old) (end_in old))) (end_in new) sides tips cuts
 
 -- a column with three nonzeros and no row that splits
-pub some_three : (M : ℕ → ℕ → Bool) (S : List ℕ) (found : Option ℕ) → MatchOption found (HasNoThree M S) (IsFirstWithThree M S) → found ≢ None → ((row : ℕ) → ¬ (Splits M S row)) → ¬ (HasCuts M (λ r. IsIn r S))
-some_three M S None h n none = absurd (n refl)
-some_three M S (Some column) h n none = three_refused M S column h.here none
+pub some_three : (M : ℕ → ℕ → Bool) (S : List ℕ) → ¬ (HasNoThree M S) → ((row : ℕ) → ¬ (Splits M S row)) → ¬ (HasCuts M (λ r. IsIn r S))
+some_three M S three none K = three (no_three M S K none)

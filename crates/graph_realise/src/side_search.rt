@@ -11,7 +11,7 @@ use crate::arc_sides::ArcSides;
 use crate::joining::join;
 use crate::joint::Joint;
 use crate::star::draw_star;
-use bridge_split::{Sides, SplitRow, first_column_with_three, first_splitting_row, sides_at};
+use bridge_split::{Sides, SplitRow, first_splitting_row, has_column_with_three, sides_at};
 use cmr_base::{Indices, Matrix, Memory, SideList};
 use std::alloc::Global;
 
@@ -40,7 +40,7 @@ pub fn find_sides(
     ensures found { IfOk result (IsSearch (support matrix.now) rows.now sides.new) }
     ensures others { KeepsOutside sides.old sides.new rows.now }
 {
-    if first_column_with_three(alloc, matrix, rows)?.is_none() {
+    if !has_column_with_three(alloc, matrix, rows)? {
         draw_star(alloc, matrix, rows, sides)?;
         return Ok(TreeSearch::Found);
     }

@@ -1,5 +1,4 @@
-use mir.Val.{bool_byte}
-use Rattle.std.proofs.Common.{◌≡◌, ◌≤◌, ◌∙◌, ◌+◌, ◌*◌, ◌<◌, ℕ, Bool, true, false, not, cond, count_by, length, refl, ap, List, subst, MatchOption}
+use Rattle.std.proofs.Common.{◌≡◌, ◌≤◌, ◌∙◌, ◌+◌, ◌*◌, ◌<◌, ℕ, true, false, not, count_by, length, refl, ap, List, subst, MatchOption}
 use Rattle.cmr_base.specs.LineSets.{first_lines}
 use Rattle.cmr_base.specs.Trees.{support}
 use Rattle.cmr_base.proofs.GraphicMatrices.{nonzero_in_range}

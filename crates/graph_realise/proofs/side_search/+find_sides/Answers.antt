@@ -1,8 +1,8 @@
-use Rattle.std.proofs.Common.{◌≡◌, ◌<◌, ◌+◌, ◌*◌, ◌∙◌, ℕ, length, ap, sym, subst, arith, MatchOption, is_some, Bool, true, false, not, refl}
+use Rattle.std.proofs.Common.{◌<◌, ◌+◌, ◌*◌, ℕ, length, subst, arith, MatchOption, Bool}
 use Rattle.cmr_base.specs.Matrix.{height}
-use Rattle.cmr_base.specs.Splits.{Splits}
+use Rattle.cmr_base.specs.ColumnSets.{Denies}
+use Rattle.cmr_base.specs.Splits.{HasNoThree, Splits}
 use Rattle.cmr_base.specs.Trees.{support}
-use Rattle.cmr_base.proofs.RowLists.{not_both}
 use Rattle.bridge_split.specs.SplitCases.{AreSidesOf}
 use Rattle.graph_realise.specs.Searches.{IsSearch, IsSplit}
 use Rattle.graph_realise.proofs.NoCuts.{no_odd}
@@ -13,16 +13,16 @@ use Rattle.graph_realise.proofs.side_search.+find_sides.Goals as goal
 use Rattle.cmr_base.proofs.Places.{members_below}
 use Rattle.cmr_base.proofs.GraphicMatrices.{nonzero_in_range}
 
-both_false : (t : Bool) → t ≡ false → not t ≡ false → ⊥
-both_false true a b = not_both true refl a
-both_false false a b = not_both true refl b
+pub find_sides-draw_star-requires-clause-few : goal.find_sides-draw_star-requires-clause-few
+find_sides-draw_star-requires-clause-few t c =
+    subst (λ (yes : Bool). Denies yes (HasNoThree (support c.args.matrix.now) c.args.rows.now)) c.if-not-branch.true c.in_ok-has_column_with_three.ensures
 
 pub find_sides-returns-in-None-clause-found : goal.find_sides-returns-in-None-clause-found
 find_sides-returns-in-None-clause-found t c =
     let M = support c.args.matrix.now in
     let S = c.args.rows.now in
     let none : (row : ℕ) → ¬ (Splits M S row) = subst (λ o. MatchOption o ((row : ℕ) → ¬ (Splits M S row)) (IsSplit M S)) c.in-None.is c.in_ok-find_split.ensures in
-    some_three M S c.in_ok-first_column_with_three.field-0 c.in_ok-first_column_with_three.ensures (λ e. both_false c.is_none.result c.if-is_none.false (sym c.is_none.ensures ∙ ap is_some e)) none
+    some_three M S (subst (λ (yes : Bool). Denies yes (HasNoThree M S)) c.if-not-branch.false c.in_ok-has_column_with_three.ensures) none
 
 pub find_sides-returns-in-OddCycle-clause-found : goal.find_sides-returns-in-OddCycle-clause-found
 find_sides-returns-in-OddCycle-clause-found t c =
