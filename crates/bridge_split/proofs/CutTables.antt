@@ -8,38 +8,10 @@ use Rattle.std.proofs.Math.Seq.{get_or-append_seam}
 use Rattle.cmr_base.specs.Splits.{IsCommon, IsUncut, IsUncutBy, Agree}
 use Rattle.cmr_base.proofs.Members.{in_at}
 use Rattle.cmr_base.specs.ColumnSets.{has_column, Denies, IsApart, IsWithin}
-use Rattle.bridge_split.specs.Cutting.{IsUncutIn, AreUncutIn, IsCollecting, part_at, IsCutTable, HasLine, disagree}
+use Rattle.bridge_split.specs.Cutting.{IsUncutIn, AreUncutIn, part_at, IsCutTable, HasLine, disagree}
 use Rattle.cmr_base.proofs.Places.{found_at}
 
 module _ (M : ℕ → ℕ → Bool) where
-  pub collected_more : (i : ℕ) (P set set' : List ℕ) (place : ℕ) → IsCollecting M i P set place → place < length P → ((column : ℕ) → has_column set' column ≡ (has_column set column || (M i column && M (get_or P place 0) column)))
-      → IsCollecting M i P set' (place + 1)
-  collected_more i P set set' place w l more = record {
-    into = λ column e. pick column (has_column set column) (M i column) (M (get_or P place 0) column) refl refl refl (sym (more column) ∙ e);
-    from = λ p column h mi mp. more column ∙ elim (cases_lt p place) [
-      | inl k ↦ ap (λ t. t || (M i column && M (get_or P place 0) column)) (w.from p column k mi mp)
-      | inr k ↦
-          let q : p ≡ place = omega arith in
-          ap₂ (λ s t. has_column set column || (s && t)) mi (ap (λ (z : ℕ). M (get_or P z 0) column) (sym q) ∙ mp) ∙ right (has_column set column)
-    ];
-  }
-    where
-      right : (t : Bool) → (t || (true && true)) ≡ true
-      right true = refl
-      right false = refl
-
-      pick : (column : ℕ) (s t u : Bool) → has_column set column ≡ s → M i column ≡ t → M (get_or P place 0) column ≡ u → (s || (t && u)) ≡ true → IsCommon M i P column
-      pick column true t u e f g h = w.into column e
-      pick column false true true e f g h = (f, (get_or P place 0, in_at P place l, g))
-      pick column false true false e f g h = cc
-      pick column false false u e f g h = cc
-
-  pub collected_all : (i : ℕ) (P set : List ℕ) (place : ℕ) → IsCollecting M i P set place → length P ≤ place → (column : ℕ) → (has_column set column ≡ true) ↔ IsCommon M i P column
-  collected_all i P set place w l column = (w.into column, λ (mi, (k, hk, mk)). at mi k mk (found_at P k hk))
-    where
-      at : M i column ≡ true → (k : ℕ) → M k column ≡ true → (p : ℕ) × (p < length P) × (get_or P p 0 ≡ k) → has_column set column ≡ true
-      at mi k mk (p, h, e) = w.from p column (omega arith) mi (ap (λ (z : ℕ). M z column) e ∙ mk)
-
   -- the columns of a row as a set
   pub uncut_sets : (columns words : List ℕ) (j : ℕ) → ((column : ℕ) → has_column words column ≡ M j column) → IsWithin columns words ⊎ IsApart columns words → IsUncutIn M (has_column columns) j
   uncut_sets columns words j row (inl w) = inl (λ column e. sym (row column) ∙ w column e)

@@ -5,6 +5,7 @@ pub mod GrowingLists
 pub mod NumberSteps
 pub mod NumberedParts
 pub mod FirstSplit
+pub mod CommonColumns
 pub mod CutTables
 pub mod Forests
 pub mod ForestSteps

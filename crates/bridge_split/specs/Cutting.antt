@@ -1,9 +1,9 @@
 -- Rows that cut the common columns of a part, and tables of which parts do.
-use Rattle.std.specs.Prelude.{◌≡◌, ◌<◌, ◌+◌, ◌*◌, ◌&&◌, ◌⊎◌, ℕ, Bool, true, false, List, [], length, slice_index, slice_index_or}
+use Rattle.std.specs.Prelude.{◌≡◌, ◌<◌, ◌+◌, ◌*◌, ◌&&◌, ◌⊎◌, ◌↔◌, ℕ, Bool, true, false, List, [], length, slice_index, slice_index_or}
 use Rattle.cmr_base.specs.Members.{IsIn}
 use Rattle.cmr_base.specs.Splits.{IsCommon, IsUncutBy}
 use Rattle.cmr_base.specs.Matrix.{Matrix}
-use Rattle.cmr_base.specs.Planes.{words_for}
+use Rattle.cmr_base.specs.Planes.{has_bit, words_for}
 use Rattle.cmr_base.specs.Trees.{support}
 use Rattle.cmr_base.specs.ColumnSets.{has_column, Denies}
 
@@ -14,10 +14,19 @@ IsUncutIn M columns j = ((column : ℕ) → columns column ≡ true → M j colu
 abbrev pub AreUncutIn : (ℕ → ℕ → Bool) → (ℕ → Bool) → List ℕ → Type 0
 AreUncutIn M columns rows = (j : ℕ) → IsIn j rows → IsUncutIn M columns j
 
--- in the middle of the rows of a part: the columns are common ones, and have those of the rows before a place
-pub record IsCollecting (M : ℕ → ℕ → Bool) (i : ℕ) (part set : List ℕ) (place : ℕ) : Type 0 where
-  pub into : (column : ℕ) → has_column set column ≡ true → IsCommon M i part column
-  pub from : (p column : ℕ) → p < place → M i column ≡ true → M (slice_index part p) column ≡ true → has_column set column ≡ true
+-- in the middle of the rows of a part: the bits of a word are common columns of a block, and have those of the rows before a place
+pub record IsCollectingWord (M : ℕ → ℕ → Bool) (i : ℕ) (part : List ℕ) (block word place : ℕ) : Type 0 where
+  pub into : (k : ℕ) → k < 64 → has_bit word k ≡ true → IsCommon M i part (64 * block + k)
+  pub from : (p k : ℕ) → p < place → k < 64 → M i (64 * block + k) ≡ true → M (slice_index part p) (64 * block + k) ≡ true → has_bit word k ≡ true
+
+-- the bits of a word are the common columns of a block
+abbrev pub IsCommonWord : (ℕ → ℕ → Bool) → ℕ → List ℕ → ℕ → ℕ → Type 0
+IsCommonWord M i part block word = (k : ℕ) → k < 64 → (has_bit word k ≡ true) ↔ IsCommon M i part (64 * block + k)
+
+-- the first words of a set have the common columns of their blocks
+pub record AreCommonWords (m : Matrix) (i : ℕ) (part set : List ℕ) (block : ℕ) : Type 0 where
+  pub size : length set ≡ words_for m.width
+  pub right : (column : ℕ) → column < 64 * block → (has_column set column ≡ true) ↔ IsCommon (support m) i part column
 
 abbrev pub part_at : List (List ℕ) → ℕ → List ℕ
 part_at parts a = slice_index_or parts a []

@@ -6,10 +6,10 @@ ghost use Rattle.cmr_base.specs.Planes.{words_for};
 ghost use Rattle.cmr_base.specs.Splits.{IsCommon};
 ghost use Rattle.cmr_base.specs.Trees.{support};
 ghost use Rattle.cmr_base.specs.ColumnSets.{has_column, Denies};
-ghost use Rattle.bridge_split.specs.Cutting.{AreUncutIn, HasLine, IsCutTable, IsUncutIn, part_at};
+ghost use Rattle.bridge_split.specs.Cutting.{AreUncutIn, HasLine, IsCommonWord, IsCutTable, IsUncutIn, part_at};
 ghost use Rattle.bridge_split.specs.Forests.{IsSquare, joins};
 
-use cmr_base::columns::{add_common, is_cut};
+use cmr_base::columns::is_cut;
 use cmr_base::{Indices, Matrix, Memory, words_for};
 use std::alloc::Global;
 
@@ -75,14 +75,29 @@ pub fn set_common(matrix: &Matrix, row: u32, part: &Indices, common: &mut Vec<u6
     ensures size { length common.new.items ≡ words_for matrix.now.width }
     ensures common { (column : ℕ) → (has_column common.new.items column ≡ true) ↔ IsCommon (support matrix.now) row part.now column }
 {
-    common.fill(0);
-    for other in part.as_slice() {
-        add_common(
-            common,
-            matrix.support_words(row),
-            matrix.support_words(*other),
-        );
+    for block in 0..common.len() {
+        common[block] = common_word(matrix, row, part, block as u32);
     }
+}
+
+// The columns of a block that `row` has in common with some row of the part. The rows are gone through until all columns of
+// `row` there were met.
+fn common_word(matrix: &Matrix, row: u32, part: &Indices, block: u32) -> u64
+    requires shape { IsMatrix matrix.now }
+    requires row { row < height matrix.now }
+    requires rows { AllBelow (height matrix.now) part.now }
+    requires block { 64 * block < matrix.now.width }
+    ensures { IsCommonWord (support matrix.now) row part.now block result }
+{
+    let own = matrix.support_word(row, block);
+    let mut common = 0;
+    for other in part.as_slice() {
+        if common == own {
+            return common;
+        }
+        common |= own & matrix.support_word(*other, block);
+    }
+    common
 }
 
 fn push_cuts(

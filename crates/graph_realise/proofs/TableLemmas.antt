@@ -174,6 +174,21 @@ filled_word values old now new row block word so s bits = record {
         let wide = so.rows.width in
         subst (λ x. cell new row x ≡ values x) at (s.here (c % 64) (omega arith) (omega arith) ∙ bits (c % 64) (omega arith) (omega arith))
 
+-- a word that has the values already
+pub filled_as : (values : ℕ → Bool) (old now : Grid) (row block : ℕ) → IsRowFilled values old now row (64 * block)
+    → ((k : ℕ) → k < 64 → 64 * block + k < old.width → cell now row (64 * block + k) ≡ values (64 * block + k)) → IsRowFilled values old now row (64 * (block + 1))
+filled_as values old now row block so bits = record {
+  rows = so.rows;
+  done = λ c l w. pick c w (cases_lt c (64 * block)) l;
+  left = λ c l. so.left c (omega arith);
+}
+  where
+    pick : (c : ℕ) → c < old.width → (c < 64 * block) ⊎ (64 * block ≤ c) → c < 64 * (block + 1) → cell now row c ≡ values c
+    pick c w (inl l) k = so.done c l w
+    pick c w (inr l) k =
+        let at : 64 * block + c % 64 ≡ c = omega arith in
+        subst (λ x. cell now row x ≡ values x) at (bits (c % 64) (omega arith) (omega arith))
+
 -- and all of them
 pub filled_row : (values : ℕ → Bool) (old new : Grid) (row count : ℕ) → words_for old.width ≤ count → IsRowFilled values old new row (64 * count) → IsRowFilled values old new row old.width
 filled_row values old new row count many so = record {

@@ -1,5 +1,5 @@
 // Tables of truth values.
-ghost use Rattle.std.specs.Prelude.{◌≡◌, ◌<◌, ◌≤◌, ◌+◌, ◌*◌, ◌&&◌, ◌||◌, not, ℕ, false, length, IfOk};
+ghost use Rattle.std.specs.Prelude.{◌≡◌, ◌<◌, ◌≤◌, ◌+◌, ◌*◌, ◌&&◌, ◌||◌, not, ℕ, true, false, length, IfOk};
 ghost use Rattle.cmr_base.specs.Cuts.{differ};
 ghost use Rattle.cmr_base.specs.Matrix.{height};
 ghost use Rattle.cmr_base.specs.Planes.{has_bit, words_for};
@@ -83,8 +83,11 @@ impl Table {
         ensures { IsRowFilled (λ column. cell marks.now line column && differ is_turned (cell self.old row column)) self.old self.new row self.old.width }
     {
         for block in 0..self.blocks() {
-            let word = turned(self.word(row, block), is_turned);
-            self.set_word(row, block, marks.word(line, block) & word);
+            let word = self.word(row, block);
+            if !stays_clear(word, is_turned) {
+                let kept = marks.word(line, block) & turned(word, is_turned);
+                self.set_word(row, block, kept);
+            }
         }
     }
 
@@ -111,7 +114,9 @@ impl Table {
     {
         for block in 0..self.blocks() {
             let common = matrix.support_word(one, block) & matrix.support_word(other, block);
-            self.set_word(row, block, self.word(row, block) | common);
+            if common != 0 {
+                self.set_word(row, block, self.word(row, block) | common);
+            }
         }
     }
 
@@ -180,4 +185,11 @@ fn turned(word: u64, is_turned: bool) -> u64
     ensures { (k : ℕ) → k < 64 → has_bit result k ≡ differ is_turned (has_bit word k) }
 {
     if is_turned { !word } else { word }
+}
+
+// Whether no bit is set, and none is where some bits of the word are kept, turned or not.
+fn stays_clear(word: u64, is_turned: bool) -> bool
+    ensures { result ≡ true → (word ≡ 0) × (is_turned ≡ false) }
+{
+    word == 0 && !is_turned
 }

@@ -1,25 +1,48 @@
-use Rattle.std.proofs.Common.{◌+◌, ◌*◌, ◌&&◌, ◌||◌, ◌∙◌, ℕ, Bool, ap, ap₂, arith}
+use Rattle.std.proofs.Common.{◌≡◌, ◌<◌, ◌+◌, ◌*◌, ◌&&◌, ◌||◌, ◌∙◌, eqb, ℕ, Bool, true, false, refl, sym, subst, ap, ap₂, arith}
+use Rattle.std.proofs.lemmas.Nat.Bits.{bit_at-zero}
 use Rattle.std.specs.Int.Bits.{bit_and, bit_or}
 use Rattle.cmr_base.specs.Trees.{support}
 use Rattle.cmr_base.specs.Planes.{has_bit}
 use Rattle.cmr_base.proofs.WordBits.{bit_at_block}
-use Rattle.graph_realise.specs.Tables.{cell}
-use Rattle.graph_realise.proofs.TableLemmas.{filled_word, filled_row}
+use Rattle.graph_realise.specs.Tables.{Grid, cell, IsRowFilled}
+use Rattle.graph_realise.proofs.TableLemmas.{filled_as, filled_word, filled_row}
 use Rattle.cmr_base.proofs.WordBits.{has_bit-and, has_bit-or}
 use Rattle.graph_realise.proofs.table.Table.add_common.Goals as goal
+use Rattle.graph_realise.proofs.table.Table.add_common.Goals.{then-common-ne0, else-common-ne0}
+
+none_added : (t : Bool) → (t || false) ≡ t
+none_added true = refl
+none_added false = refl
 
 pub loop-block-preserved : goal.loop-block-preserved
 loop-block-preserved c =
+    let m = c.args.matrix.now in
+    let old : Grid = c.args.self.now in
+    let now : Grid = c.loop-block.self in
+    let row = c.args.row in
     let block = c.loop-block.block in
     let so = c.loop-block.invariant in
+    let one = c.support_word.result in
+    let other = c.support_word-in-loop-block.result in
     let values : ℕ → Bool = λ column. cell c.args.self.now c.args.row column || support c.args.matrix.now c.args.one column && support c.args.matrix.now c.args.other column in
-    filled_word values c.args.self.now c.loop-block.self c.set_word.new.self c.args.row block (bit_or c.word.result (bit_and c.support_word.result c.support_word-in-loop-block.result)) so c.set_word.ensures
-    (λ k small inside.
-    has_bit-or c.word.result (bit_and c.support_word.result c.support_word-in-loop-block.result) k
-    ∙ ap₂ (λ a b. a || b) (c.word.ensures k small (omega (arith, inside, so.rows.width)) ∙ so.left (64 * block + k) (omega arith))
-    (has_bit-and c.support_word.result c.support_word-in-loop-block.result k ∙ ap₂ (λ a b. a && b)
-    (ap (λ n. has_bit n k) c.support_word.ensures ∙ bit_at_block c.args.matrix.now c.args.one block k small)
-    (ap (λ n. has_bit n k) c.support_word-in-loop-block.ensures ∙ bit_at_block c.args.matrix.now c.args.other block k small)))
+    let both : (k : ℕ) → k < 64 → has_bit (bit_and one other) k ≡ (support m c.args.one (64 * block + k) && support m c.args.other (64 * block + k)) = λ k small.
+    has_bit-and one other k ∙ ap₂ (λ a b. a && b)
+    (ap (λ (n : ℕ). has_bit n k) c.support_word.ensures ∙ bit_at_block m c.args.one block k small)
+    (ap (λ (n : ℕ). has_bit n k) c.support_word-in-loop-block.ensures ∙ bit_at_block m c.args.other block k small) in
+    elim c.if-common-ne0.branch [
+      | then-common-ne0 w ↦
+          subst (λ (t : Grid). IsRowFilled values old t row (64 * (block + 1))) (sym w.self-is)
+          (filled_word values old now w.set_word.new.self row block (bit_or w.word.result (bit_and one other)) so w.set_word.ensures
+          (λ k small inside.
+          has_bit-or w.word.result (bit_and one other) k
+          ∙ ap₂ (λ a b. a || b) (w.word.ensures k small (omega (arith, inside, so.rows.width)) ∙ so.left (64 * block + k) (omega arith)) (both k small)))
+      | else-common-ne0 w ↦
+          subst (λ (t : Grid). IsRowFilled values old t row (64 * (block + 1))) (sym w.self-is)
+          (filled_as values old now row block so
+          (λ k small inside.
+          so.left (64 * block + k) (omega arith)
+          ∙ sym (ap (λ t. cell old row (64 * block + k) || t) (sym (both k small) ∙ ap (λ (n : ℕ). has_bit n k) w.if-common-ne0.false ∙ ap (λ bit. eqb bit 1) (bit_at-zero k)) ∙ none_added (cell old row (64 * block + k)))))
+    ]
 
 pub returns : goal.returns
 returns c =
