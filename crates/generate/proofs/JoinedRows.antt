@@ -1,5 +1,5 @@
 -- Cells that are made of whole rows.
-use Rattle.std.proofs.Common.{◌≡◌, ◌<◌, ◌≤◌, ◌+◌, ◌-◌, ◌*◌, ◌∙◌, ◌++◌, ◌*ℤ◌, ℕ, zero, suc, ℤ, pos, negsuc, neg_ℤ, Bool, List, [], ◌∷◌, true, false, map, length, take, drop, get_or, refl, ap, ap₂, sym, subst, arith, inl, inr, length-append, w8, to_z, of_z, if◌then◌else◌, ◌==◌}
+use Rattle.std.proofs.Common.{◌≡◌, ◌<◌, ◌≤◌, ◌+◌, ◌-◌, ◌*◌, ◌∙◌, ◌++◌, ◌*ℤ◌, ℕ, zero, suc, ℤ, pos, negsuc, neg_ℤ, Bool, List, [], ◌∷◌, true, false, map, length, take, drop, get_or, refl, ap, ap₂, sym, subst, arith, inl, inr, length-append, if◌then◌else◌, ◌==◌}
 use Rattle.std.specs.List.{AllByRecursion}
 use Rattle.std.proofs.lemmas.Bool.{cases_lt}
 use Rattle.std.proofs.lemmas.Int.{ints}
@@ -11,7 +11,7 @@ use Rattle.cmr_base.proofs.Lists.{all-append, all_by_places, all_at}
 use Rattle.cmr_base.specs.MatrixSums.{four_blocks, two_sum}
 use Rattle.cmr_base.specs.Separations.{zeros}
 use Rattle.cmr_base.proofs.FilledMatrices.{height-filled}
-use Rattle.cmr_base.proofs.SmallEntries.{entry_as_byte, negative_is_entry, product_is_entry}
+use Rattle.cmr_base.proofs.SmallEntries.{negative_is_entry, zero_is_entry}
 use Rattle.generate.specs.Generated.{circulant, circulant_sum, negated_rows}
 use Rattle.generate.specs.Signs.{sign_of}
 
@@ -41,14 +41,11 @@ pub record AreRows (height width : ℕ) (cells : List ℤ) (rows : List (List �
   pub small : (k : ℕ) → IsEntry (get_or cells k (pos 0))
   pub cut : rows_of height width cells ≡ rows
 
-pub zero_small : IsEntry (pos 0)
-zero_small = record { low = omega (arith, ints); high = omega (arith, ints) }
-
 -- ---- an entry, or 0 past the end
 pub small_at : (xs : List ℤ) → AllByRecursion IsEntry xs → (k : ℕ) → IsEntry (get_or xs k (pos 0))
 small_at xs all k = elim (cases_lt k (length xs)) [
   | inl inside ↦ all_at IsEntry xs k (pos 0) all inside
-  | inr past ↦ subst IsEntry (sym (get_or_past xs k (pos 0) past)) zero_small
+  | inr past ↦ subst IsEntry (sym (get_or_past xs k (pos 0) past)) zero_is_entry
 ]
 
 small_joined : (width : ℕ) (rows : List (List ℤ)) → AllByRecursion (IsRow width) rows → AllByRecursion IsEntry (joined rows)
@@ -78,12 +75,6 @@ height-sum : (m n : Matrix) → height (two_sum m n) ≡ height m + (height n - 
 height-sum m n = height-filled (height m + (height n - 1)) ((m.width - 1) + n.width)
     (four_blocks (height m) (m.width - 1) 1 0 (entry m) (λ r c. entry m r (m.width - 1) *ℤ entry n 0 c) zeros (entry n))
 
-pub sum_more : (k : ℕ) → 1 ≤ k → circulant_sum (k + 1) ≡ two_sum (circulant_sum k) circulant
-sum_more zero h = absurd (omega (arith, h))
-sum_more (suc k) h =
-    let e : suc k + 1 ≡ suc (suc k) = omega arith in
-    ap circulant_sum e
-
 pub height-circulant_sum : (k : ℕ) → height (circulant_sum (suc k)) ≡ 4 * k + 5
 height-circulant_sum zero = refl
 height-circulant_sum (suc k) = height-sum (circulant_sum (suc k)) circulant ∙ (let e = height-circulant_sum k in omega (arith, e))
@@ -101,7 +92,7 @@ sum_width zero h = absurd (omega (arith, h))
 sum_width (suc k) h = width-circulant_sum k ∙ omega arith
 
 -- ---- negated rows
-one_times : (row : List ℤ) → map (λ z. pos 1 *ℤ z) row ≡ row
+pub one_times : (row : List ℤ) → map (λ z. pos 1 *ℤ z) row ≡ row
 one_times [] = refl
 one_times (x ∷ xs) = ap₂ (λ y ys. y ∷ ys) (omega (arith, ints)) (one_times xs)
 

@@ -2,3 +2,4 @@ pub mod Samples
 pub mod DrawnNumbers
 pub mod RandomTrees
 pub mod JoinedRows
+pub mod SumRows

@@ -1,14 +1,12 @@
 // Two-sums of R10 matrices, with some rows negated.
-ghost use Rattle.std.specs.Prelude.{◌≡◌, ◌≤◌, ◌<◌, ◌+◌, ◌-◌, ◌^◌, ◌*ℤ◌, ◌++◌, ◌==◌, if◌then◌else◌, neg_ℤ, ℕ, pos, length, map, take, replicate, slice_index_or, IfOk, OnOk, true, Bool, cond};
+ghost use Rattle.std.specs.Prelude.{◌≡◌, ◌≤◌, ◌<◌, ◌+◌, ◌-◌, ◌*◌, ◌^◌, ◌*ℤ◌, ◌++◌, ◌==◌, if◌then◌else◌, neg_ℤ, ℕ, pos, length, map, take, replicate, slice_index_or, IfOk, OnOk, true, Bool, cond};
 ghost use Rattle.cmr_base.specs.Matrix.{height, row_of, IsEntry};
 ghost use Rattle.generate.specs.Signs.{sign_of};
-ghost use Rattle.cmr_base.specs.MatrixSums.{HaveTwoSum, two_sum as the_two_sum};
 ghost use Rattle.generate.specs.Generated.{circulant, circulant_sum, negated_rows, generated_sum};
 
 use crate::draws::draw;
 use cmr_base::{Matrix, Memory};
 use std::alloc::Global;
-use sum_ops::two_sum;
 
 /// The two-sum of so many R10 matrices, with rows that are negated by chance.
 pub fn generated_sum(alloc: Global, size: u32, number: u32) -> Result<Matrix, Memory>
@@ -36,25 +34,41 @@ fn circulant_sum(alloc: Global, size: u32) -> Result<Matrix, Memory>
     requires size { size ≤ 249 }
     ensures { IfOk result (λ sum. sum ≡ circulant_sum size) }
 {
+    let lines = 4 * size + 1;
     let part = circulant(alloc)?;
-    let mut sum = circulant(alloc)?;
-    for count in 1..size {
-        sum = two_sum_of(alloc, &sum, &part)?;
+    let mut cells = Vec::with_capacity(alloc, lines as usize * lines as usize)?;
+    for row in 0..lines {
+        push_sum_row(&mut cells, &part, size, row)?;
     }
-    Ok(sum)
+    Matrix::from_cells(alloc, lines, lines, &cells)
 }
 
-// The two-sum, which is defined.
-fn two_sum_of(alloc: Global, first: &Matrix, second: &Matrix) -> Result<Matrix, Memory>
-    requires defined { HaveTwoSum first.now second.now }
-    requires rows { height first.now + height second.now ≤ 1001 }
-    requires columns { first.now.width + second.now.width ≤ 1001 }
-    ensures { IfOk result (λ sum. sum ≡ the_two_sum first.now second.now) }
+// Pushes a row of the sum of so many circulants. One of them brings the row, behind zeros. In each sum with one circulant
+// more the last entry x gives way to its multiple of the first row: x, -x, 0, 0, -x.
+fn push_sum_row(cells: &mut Vec<i8>, part: &Matrix, size: u32, row: u32) -> Result<(), Memory>
+    requires part { part.now ≡ circulant }
+    requires size { size ≤ 249 }
+    requires row { row < 4 * size + 1 }
+    requires positive { 1 ≤ size }
+    ensures { OnOk result (cells.new.items ≡ cells.old.items ++ row_of (circulant_sum size) row) }
 {
-    match two_sum(alloc, first, second) {
-        Ok(sum) => Ok(sum),
-        Err(_) => Err(Memory),
+    let before = row.saturating_sub(1) / 4;
+    let own_row = row - 4 * before;
+    push_zeros(cells, 4 * before)?;
+    push_multiple(cells, 1, part, own_row)?;
+    let mut last = part.entry(own_row, 4);
+    for count in before + 1..size {
+        cells.extend_from_slice(&[-last, 0, 0, -last])?;
+        last = -last;
     }
+    Ok(())
+}
+
+fn push_zeros(cells: &mut Vec<i8>, count: u32) -> Result<(), Memory>
+    ensures { OnOk result (cells.new.items ≡ cells.old.items ++ replicate count (pos 0)) }
+{
+    cells.resize(cells.len() + count as usize, 0)?;
+    Ok(())
 }
 
 // Pushes a row of a matrix, times a sign.

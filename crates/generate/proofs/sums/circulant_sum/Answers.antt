@@ -1,22 +1,30 @@
-use Rattle.std.proofs.Common.{◌∙◌, sym, ap, ap₂, arith}
-use Rattle.cmr_base.specs.Matrix.{Matrix, height}
-use Rattle.cmr_base.specs.MatrixSums.{two_sum}
-use Rattle.generate.proofs.JoinedRows.{sum_more, sum_height, sum_width}
+use Rattle.std.proofs.Common.{◌≡◌, ◌+◌, ◌*◌, ◌∙◌, ℕ, ℤ, List, length, get_or, refl, ap, ap₂, arith, sym, subst, pos, IfOk}
+use Rattle.cmr_base.specs.Matrix.{Matrix, rows_of, IsEntry}
+use Rattle.generate.specs.Generated.{circulant_sum}
+use Rattle.generate.proofs.JoinedRows.{sum_height, sum_width}
+use Rattle.generate.proofs.SumRows.{more_rows, sum_cells}
 use Rattle.generate.proofs.sums.circulant_sum.Goals as goal
 
-pub two_sum_of-requires-clause-defined : goal.two_sum_of-requires-clause-defined
-two_sum_of-requires-clause-defined c = record {
-  column = omega (arith, ap (λ (m : Matrix). m.width) c.loop-count.invariant, sum_width c.loop-count.count c.loop-count.auto.count);
-  row = omega (arith, ap (λ (m : Matrix). height m) c.in_ok-part.ensures);
-}
+pub loop-row-preserved : goal.loop-row-preserved
+loop-row-preserved c =
+    more_rows (circulant_sum c.args.size) c.loop-row.row c.loop-row.cells.items _ (omega (arith, c.loop-row-test.true, sum_height c.args.size c.requires.positive)) c.loop-row.invariant
+    c.in_ok-push_sum_row.ensures
 
-pub two_sum_of-requires-clause-rows : goal.two_sum_of-requires-clause-rows
-two_sum_of-requires-clause-rows c =
-    omega (arith, ap (λ (m : Matrix). height m) c.loop-count.invariant, sum_height c.loop-count.count c.loop-count.auto.count, ap (λ (m : Matrix). height m) c.in_ok-part.ensures, c.loop-count-test.true, c.requires.size)
+pub from_cells-requires-clause-whole : goal.from_cells-requires-clause-whole
+from_cells-requires-clause-whole c =
+    ap length c.deref.ensures.value
+    ∙ (sum_cells c.args.size (4 * c.args.size + 1) c.loop-row.cells.items c.loop-row.row c.requires.positive refl (omega (arith, c.loop-row-test.false)) c.loop-row.invariant).whole
 
-pub two_sum_of-requires-clause-columns : goal.two_sum_of-requires-clause-columns
-two_sum_of-requires-clause-columns c =
-    omega (arith, ap (λ (m : Matrix). m.width) c.loop-count.invariant, sum_width c.loop-count.count c.loop-count.auto.count, ap (λ (m : Matrix). m.width) c.in_ok-part.ensures, c.loop-count-test.true, c.requires.size)
+pub from_cells-requires-clause-small : goal.from_cells-requires-clause-small
+from_cells-requires-clause-small c =
+    subst (λ (cells : List ℤ). (k : ℕ) → IsEntry (get_or cells k (pos 0))) (sym c.deref.ensures.value)
+    (sum_cells c.args.size (4 * c.args.size + 1) c.loop-row.cells.items c.loop-row.row c.requires.positive refl (omega (arith, c.loop-row-test.false)) c.loop-row.invariant).small
 
-pub loop-count-preserved : goal.loop-count-preserved
-loop-count-preserved c = c.in_ok-sum-2.ensures ∙ ap₂ two_sum c.loop-count.invariant c.in_ok-part.ensures ∙ sym (sum_more c.loop-count.count c.loop-count.auto.count)
+pub returns : goal.returns
+returns c =
+    let lines = 4 * c.args.size + 1 in
+    let made = sum_cells c.args.size lines c.loop-row.cells.items c.loop-row.row c.requires.positive refl (omega (arith, c.loop-row-test.false)) c.loop-row.invariant in
+    subst (λ (t : Matrix). IfOk c.from_cells.result (λ made. made ≡ t))
+    (ap (λ (cells : List ℤ). record { rows = rows_of lines lines cells; width = lines }) c.deref.ensures.value
+    ∙ ap₂ (λ (rows : List (List ℤ)) (width : ℕ). record { rows = rows; width = width }) made.cut (sym (sum_width c.args.size c.requires.positive)))
+    c.from_cells.ensures
