@@ -14,7 +14,7 @@ use Rattle.compose.specs.declared.sides.Sides.{Sides}
 use Rattle.compose.specs.declared.signed_line.SignedLine.{SignedLine}
 use Rattle.compose.specs.Arrangements.{signed, plain, signed_submatrix, last_rows, last_columns, begin_rows, begin_columns}
 use Rattle.compose.proofs.OrderedBlocks.{blocks_ordered, filled_is}
-use Rattle.compose.proofs.SignedPlaces.{at, at_plain, at_after, at_next, length-framed, height-signed, entry_of, ones, one_left, one_right}
+use Rattle.compose.proofs.SignedPlaces.{at, at_plain, at_after, at_next, length-framed, height-signed, entry_of, factors_turned, ones, one_left, one_right}
 
 -- the other line of the first connector, and of the second
 abbrev pub IsFirstOther : (ℕ → ℕ → ℤ) → Bool → Sides → (first second : Connector) → Type 0
@@ -75,9 +75,6 @@ zero_end s t z e = ap (λ (x : ℤ). s *ℤ (t *ℤ x)) e ∙ none s t
   where
     none : (s t : ℤ) → s *ℤ (t *ℤ pos 0) ≡ pos 0
     none s t = simp products
-
-turn_right : (x u y : ℤ) → x *ℤ (u *ℤ y) ≡ x *ℤ (y *ℤ u)
-turn_right x u y = simp products
 
 turn_below : (u x y : ℤ) → (u *ℤ x) *ℤ y ≡ x *ℤ (y *ℤ u)
 turn_below u x y = simp products
@@ -290,7 +287,7 @@ module _ (m : Matrix) (flat1 flat2 : Bool) (s : Sides) (f g : Connector) (t : Ar
       ∙ blocks_ordered M R1 C1 R2 C2 (connecting_rows flat1) (connecting_columns flat1) (entry F) (λ r c. entry F r (length C1) *ℤ entry S 0 c) (λ r c. entry S r 0 *ℤ entry F (length R1) c) (entry S)
       (first_inner flat2)
       (λ x y lx ly. ap₂ (λ (u v : ℤ). u *ℤ v) (column_a flat2 t.other2 x lx) (row_b flat1 y ly)
-      ∙ (turn_right (M (get_or R1 x 0) j) (M i j) (M i (get_or C2 y 0)) ∙ sym (t.right (get_or R1 x 0) (get_or C2 y 0) (in_at R1 x lx) (in_at C2 y ly))))
+      ∙ (factors_turned (M (get_or R1 x 0) j) (M i j) (M i (get_or C2 y 0)) ∙ sym (t.right (get_or R1 x 0) (get_or C2 y 0) (in_at R1 x lx) (in_at C2 y ly))))
       (λ x y lx ly. ap₂ (λ (u v : ℤ). u *ℤ v) (column_d flat1 x lx) (row_c flat2 t.other2 y ly)
       ∙ (turn_below (M k p) (M (get_or R2 x 0) p) (M k (get_or C1 y 0)) ∙ sym (t.below (get_or R2 x 0) (get_or C1 y 0) (in_at R2 x lx) (in_at C1 y ly))))
       (second_inner flat1) a b (let e = length-append R1 R2 in omega arith) (let e = length-append C1 C2 in omega arith))

@@ -3,7 +3,7 @@ use Rattle.std.proofs.Common.{◌≡◌, ◌<◌, ◌+◌, ◌∙◌, ◌++◌, 
 use Rattle.std.proofs.lemmas.List.{length-map}
 use Rattle.cmr_base.specs.Matrix.{Matrix, height, entry}
 use Rattle.cmr_base.specs.LineSets.{submatrix}
-use Rattle.cmr_base.proofs.Integers.{products}
+use Rattle.cmr_base.proofs.Integers.{products, zero-mul}
 use Rattle.compose.specs.declared.signed_line.SignedLine.{SignedLine}
 use Rattle.compose.specs.Arrangements.{signed, plain, framed, signed_entry, signed_submatrix}
 
@@ -40,22 +40,22 @@ height-signed m rows columns = length-map rows (λ row. map (signed_entry (entry
 none_right : (s z : ℤ) → s *ℤ (pos 0 *ℤ z) ≡ pos 0
 none_right s z = simp products
 
-none_left : (z : ℤ) → pos 0 *ℤ z ≡ pos 0
-none_left z = simp products
-
 entry_in_row : (M : ℕ → ℕ → ℤ) (row : SignedLine) (columns : List SignedLine) (b : ℕ) → get_or (map (signed_entry M row) columns) b (pos 0) ≡ signed_entry M row (at columns b)
 entry_in_row M row [] b = sym (none_right row.sign (M row.line 0))
 entry_in_row M row (c ∷ cs) zero = refl
 entry_in_row M row (c ∷ cs) (suc b) = entry_in_row M row cs b
 
 entry_at : (m : Matrix) (rows columns : List SignedLine) (a b : ℕ) → entry (signed_submatrix m rows columns) a b ≡ signed_entry (entry m) (at rows a) (at columns b)
-entry_at m [] columns a b = sym (none_left ((at columns b).sign *ℤ entry m 0 (at columns b).line))
+entry_at m [] columns a b = sym (zero-mul ((at columns b).sign *ℤ entry m 0 (at columns b).line))
 entry_at m (r ∷ rs) columns zero b = entry_in_row (entry m) r columns b
 entry_at m (r ∷ rs) columns (suc a) b = entry_at m rs columns a b
 
 -- the entry, by the lines at its places
 pub entry_of : (m : Matrix) (rows columns : List SignedLine) (a b r c : ℕ) (s t : ℤ) → at rows a ≡ signed r s → at columns b ≡ signed c t → entry (signed_submatrix m rows columns) a b ≡ s *ℤ (t *ℤ entry m r c)
 entry_of m rows columns a b r c s t e f = entry_at m rows columns a b ∙ ap₂ (λ (x y : SignedLine). signed_entry (entry m) x y) e f
+
+pub factors_turned : (x u y : ℤ) → x *ℤ (u *ℤ y) ≡ x *ℤ (y *ℤ u)
+factors_turned x u y = simp products
 
 pub ones : (z : ℤ) → pos 1 *ℤ (pos 1 *ℤ z) ≡ z
 ones z = simp products
