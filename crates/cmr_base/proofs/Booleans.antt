@@ -122,6 +122,9 @@ same_or_not a b = go (nat_eq a b) refl
 pub lt_of : (a b : ℕ) → nat_lt a b ≡ true → a < b
 lt_of a b e = grind (arith, nat_tests)
 
+pub at_least_of : (a b : ℕ) → nat_lt a b ≡ false → b ≤ a
+at_least_of a b e = grind (arith, nat_tests)
+
 pub is_lt : (a b : ℕ) → a < b → nat_lt a b ≡ true
 is_lt a b h = grind (arith, nat_tests)
 

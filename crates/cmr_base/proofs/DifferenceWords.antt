@@ -15,10 +15,11 @@ use Rattle.cmr_base.proofs.Integers.{products, mul-zero}
 abbrev bit : Bool → ℕ
 bit b = cond b 1 0
 
-too_large : {P : Type 0} (n : ℕ) → IsEntry (pos (suc (suc n))) → P
+-- no entry is above 1 or below -1
+pub too_large : {P : Type 0} (n : ℕ) → IsEntry (pos (suc (suc n))) → P
 too_large n small = absurd (let l = small.high in omega (arith, ints))
 
-too_small : {P : Type 0} (n : ℕ) → IsEntry (negsuc (suc n)) → P
+pub too_small : {P : Type 0} (n : ℕ) → IsEntry (negsuc (suc n)) → P
 too_small n small = absurd (let l = small.low in omega (arith, ints))
 
 zero_bits : (x : ℤ) → IsEntry x → bit (is_nonzero x) ≡ bit (differ x (pos 0))

@@ -4,8 +4,7 @@ use Rattle.std.specs.List.{range_with_len}
 use Rattle.cmr_base.specs.Matrix.{Matrix, entry}
 use Rattle.cmr_base.specs.LineSets.{first_lines, submatrix}
 use Rattle.cmr_base.specs.MatrixSums.{filled, four_blocks}
-use Rattle.cmr_base.proofs.Booleans.{lt_of}
-use Rattle.std.proofs.lemmas.Bool.Decides.{nat_tests}
+use Rattle.cmr_base.proofs.Booleans.{lt_of, at_least_of}
 
 pub get_left : (xs ys : List ℕ) (i : ℕ) → i < length xs → get_or (xs ++ ys) i 0 ≡ get_or xs i 0
 get_left [] ys i l = absurd (omega arith)
@@ -23,9 +22,6 @@ get_after (x ∷ xs) ys (suc i) t e = get_after xs ys i t (omega arith)
 pub get_right : (xs ys : List ℕ) (i : ℕ) → length xs ≤ i → get_or (xs ++ ys) i 0 ≡ get_or ys (i - length xs) 0
 get_right xs ys i l = get_after xs ys i (i - length xs) (omega arith)
 
-not_less : (r m : ℕ) → nat_lt r m ≡ false → m ≤ r
-not_less r m e = grind (arith, nat_tests)
-
 within : (r m u : ℕ) → r < m + u → m ≤ r → r - m < u
 within r m u l k = omega arith
 
@@ -41,9 +37,9 @@ blocks_ordered M R1 C1 R2 C2 up left first right below second one two three four
     go : (s t : Bool) → nat_lt a (length R1) ≡ s → nat_lt b (length C1) ≡ t
         → cond s (cond t (first a b) (right a (left + (b - length C1)))) (cond t (below (up + (a - length R1)) b) (second (up + (a - length R1)) (left + (b - length C1)))) ≡ M (get_or (R1 ++ R2) a 0) (get_or (C1 ++ C2) b 0)
     go true true e f = one a b (lt_of a (length R1) e) (lt_of b (length C1) f) ∙ sym (ap₂ M (get_left R1 R2 a (lt_of a (length R1) e)) (get_left C1 C2 b (lt_of b (length C1) f)))
-    go true false e f = two a (b - length C1) (lt_of a (length R1) e) (within b (length C1) (length C2) lb (not_less b (length C1) f)) ∙ sym (ap₂ M (get_left R1 R2 a (lt_of a (length R1) e)) (get_right C1 C2 b (not_less b (length C1) f)))
-    go false true e f = three (a - length R1) b (within a (length R1) (length R2) la (not_less a (length R1) e)) (lt_of b (length C1) f) ∙ sym (ap₂ M (get_right R1 R2 a (not_less a (length R1) e)) (get_left C1 C2 b (lt_of b (length C1) f)))
-    go false false e f = four (a - length R1) (b - length C1) (within a (length R1) (length R2) la (not_less a (length R1) e)) (within b (length C1) (length C2) lb (not_less b (length C1) f)) ∙ sym (ap₂ M (get_right R1 R2 a (not_less a (length R1) e)) (get_right C1 C2 b (not_less b (length C1) f)))
+    go true false e f = two a (b - length C1) (lt_of a (length R1) e) (within b (length C1) (length C2) lb (at_least_of b (length C1) f)) ∙ sym (ap₂ M (get_left R1 R2 a (lt_of a (length R1) e)) (get_right C1 C2 b (at_least_of b (length C1) f)))
+    go false true e f = three (a - length R1) b (within a (length R1) (length R2) la (at_least_of a (length R1) e)) (lt_of b (length C1) f) ∙ sym (ap₂ M (get_right R1 R2 a (at_least_of a (length R1) e)) (get_left C1 C2 b (lt_of b (length C1) f)))
+    go false false e f = four (a - length R1) (b - length C1) (within a (length R1) (length R2) la (at_least_of a (length R1) e)) (within b (length C1) (length C2) lb (at_least_of b (length C1) f)) ∙ sym (ap₂ M (get_right R1 R2 a (at_least_of a (length R1) e)) (get_right C1 C2 b (at_least_of b (length C1) f)))
 
 -- two lists made one from the places of the other
 map_places : {A : Type 0} (g k : ℕ → A) (xs : List ℕ) (from : ℕ) → ((i : ℕ) → i < length xs → g (from + i) ≡ k (get_or xs i 0)) → map g (range_with_len from (length xs)) ≡ map k xs

@@ -1,6 +1,5 @@
 -- The sum of two matrices free of violators is free.
-use Rattle.std.proofs.Common.{ℕ, suc, ◌+◌, ◌-◌, ◌<◌, ◌≤◌, ℤ, pos, Bool, true, false, nat_lt, ◌≡◌, ◌*ℤ◌, ◌∙◌, refl, arith, inl, inr}
-use Rattle.std.proofs.lemmas.Bool.Decides.{nat_tests}
+use Rattle.std.proofs.Common.{ℕ, suc, ◌+◌, ◌-◌, ◌<◌, ◌≤◌, ℤ, pos, Bool, true, false, nat_lt, ◌*ℤ◌, ◌∙◌, refl, arith, inl, inr}
 use Rattle.cmr_base.specs.Signing.{IsSign}
 use Rattle.cmr_base.specs.MatrixSums.{four_blocks, sum_along, connecting_rows, connecting_columns, EndsIn, BeginsWith}
 use Rattle.ghouila.proofs.ViolatedLines.{FreeIn}
@@ -10,7 +9,7 @@ use Rattle.cmr_base.proofs.Lists.{all_weaker}
 use Rattle.ghouila.proofs.BorderedSides.{Edge}
 use Rattle.ghouila.proofs.JoinedSides.{Sides, joined}
 use Rattle.ghouila.proofs.ThreeSides.{times_zero}
-use Rattle.cmr_base.proofs.Booleans.{lt_of}
+use Rattle.cmr_base.proofs.Booleans.{lt_of, at_least_of}
 use Rattle.cmr_base.proofs.Integers.{times_one}
 
 -- no violator among m rows and n columns
@@ -22,9 +21,6 @@ one_blocks m n first second = four_blocks m n 0 0 first (λ r c. pos 0) (λ r c.
 
 abbrev two_blocks : (m n : ℕ) (first second : ℕ → ℕ → ℤ) → ℕ → ℕ → ℤ
 two_blocks m n first second = four_blocks m n 1 0 first (λ r c. first r n *ℤ second 0 c) (λ r c. pos 0) second
-
-not_less : (r m : ℕ) → nat_lt r m ≡ false → m ≤ r
-not_less r m e = grind (arith, nat_tests)
 
 beyond : (r m u up : ℕ) → r < m + u → m ≤ r → (up ≤ up + (r - m)) × (up + (r - m) < up + u)
 beyond r m u up l k = (omega arith, omega arith)
@@ -48,8 +44,8 @@ pub sides_of : (m n u v up left mm nn : ℕ)
 sides_of m n u v up left mm nn = record {
   one_row = λ r _ e. lt_of r m e;
   one_column = λ c _ e. lt_of c n e;
-  two_row = λ r l e. beyond r m u up l (not_less r m e);
-  two_column = λ c l e. beyond c n v left l (not_less c n e);
+  two_row = λ r l e. beyond r m u up l (at_least_of r m e);
+  two_column = λ c l e. beyond c n v left l (at_least_of c n e);
   first_row = λ r l. wider r m mm l;
   first_column = λ c l. wider c n nn l;
   second_row = λ r l. l.1;

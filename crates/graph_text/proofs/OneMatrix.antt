@@ -1,26 +1,10 @@
 -- A network has one matrix.
-use Rattle.std.proofs.Common.{◌≡◌, ◌<◌, ◌∙◌, ◌⊎◌, inl, inr, ℕ, ℤ, pos, true, false, List, [], map, refl, sym, ap, ap₂, subst}
-use Rattle.std.proofs.lemmas.List.FromFn.{fill_by_all}
-use Rattle.cmr_base.specs.Matrix.{Matrix, height, row_of, entry, is_nonzero, IsMatrix}
-use Rattle.cmr_base.specs.LineSets.{first_lines}
+use Rattle.std.proofs.Common.{◌≡◌, ◌<◌, ◌∙◌, ◌⊎◌, inl, inr, ℕ, ℤ, pos, true, false, sym, ap, subst}
+use Rattle.cmr_base.proofs.WholeMatrices.{same_matrix}
+use Rattle.cmr_base.specs.Matrix.{height, entry, is_nonzero}
 use Rattle.cmr_base.specs.Trees.{head, tail, support, IsDirectedPathOf, IsPathOf}
 use Rattle.cmr_base.proofs.TreeTests.{path_by_walk, directed_path_by_walk}
 use Rattle.graph_text.specs.Laws.{BinaryMatricesAreOne, MatricesAreOne}
-
--- the rows of a matrix with these entries
-rows_by : (m : Matrix) (f : ℕ → ℕ → ℤ) → IsMatrix m → ((row column : ℕ) → row < height m → column < m.width → entry m row column ≡ f row column) → m.rows ≡ map (λ row. map (f row) (first_lines m.width)) (first_lines (height m))
-rows_by m f is same =
-    fill_by_all (λ row. map (f row) (first_lines m.width)) m.rows (height m) [] refl
-    (λ row l. fill_by_all (f row) (row_of m row) m.width (pos 0) (is.rectangular row l) (λ column k. same row column l k))
-
--- matrices of one size with the same entries
-pub same_matrix : (m n : Matrix) → IsMatrix m → IsMatrix n → height m ≡ height n → m.width ≡ n.width → ((row column : ℕ) → row < height m → column < m.width → entry m row column ≡ entry n row column) → m ≡ n
-same_matrix m n is_m is_n heights widths same =
-    let rows : m.rows ≡ n.rows =
-    rows_by m (entry n) is_m same
-    ∙ ap₂ (λ (h w : ℕ). map (λ row. map (entry n row) (first_lines w)) (first_lines h)) heights widths
-    ∙ sym (rows_by n (entry n) is_n (λ row column l k. refl)) in
-    ap₂ (λ (rows : List (List ℤ)) (width : ℕ). record { rows = rows; width = width }) rows widths
 
 pub matrices_are_one : MatricesAreOne
 matrices_are_one net m n is_m is_n heights widths one two = same_matrix m n is_m is_n heights widths (λ row column low near.

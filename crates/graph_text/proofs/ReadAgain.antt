@@ -6,6 +6,7 @@ use Rattle.std.proofs.lemmas.Bool.Decides.{Decides-ltb}
 use Rattle.std.proofs.lemmas.List.{append-nil, length-map, length_push}
 use Rattle.cmr_base.specs.declared.network.Pair.{Pair}
 use Rattle.cmr_base.specs.Trees.{head, tail}
+use Rattle.text_fields.proofs.LineWords.{split_texts}
 use Rattle.text_fields.specs.Result.{◌>>=◌}
 use Rattle.text_fields.specs.Reading.{Fault, placed}
 use Rattle.text_fields.specs.Spelling.{texts_of}
@@ -111,35 +112,13 @@ within last (edge ∷ edges) each =
     let two : leb (edge.head).number last ≡ true = le-leb (edge.head).number last here.1 in
     rw (one, two) (within last edges (λ k l. each (suc k) (omega (arith, l))))
 
-record AreSplit (words : List (ℕ × List ℕ)) (front back : List (List ℕ)) : Type 0 where
-  first : List (ℕ × List ℕ)
-  second : List (ℕ × List ℕ)
-  words_are : words ≡ first ++ second
-  front_is : texts_of first ≡ front
-  back_is : texts_of second ≡ back
-
-split : (words : List (ℕ × List ℕ)) (front back : List (List ℕ)) → texts_of words ≡ front ++ back → AreSplit words front back
-split words [] back e = record { first = []; second = words; words_are = refl; front_is = refl; back_is = e }
-split [] (text ∷ front) back e = absurd (cc)
-split (word ∷ words) (text ∷ front) back e =
-    let head : word.1 ≡ text = cc in
-    let tail : texts_of words ≡ front ++ back = cc in
-    let later = split words front back tail in
-    record {
-      first = word ∷ later.first;
-      second = later.second;
-      words_are = ap (λ ws. word ∷ ws) later.words_are;
-      front_is = rw (head, later.front_is) refl;
-      back_is = later.back_is;
-    }
-
 same_net : (net : SizedNetwork) (edges : Edges) → map ends edges.rows ≡ net.net.arcs → map ends edges.columns ≡ net.net.walks → length edges.rows ≡ net.rows → length edges.columns ≡ net.columns → sized edges ≡ net
 same_net net edges arcs walks rows columns = rw (arcs, walks, rows, columns) refl
 
 -- the words of a graph text are read as its network
 pub graph_again : (size : ℕ) (words : List (ℕ × List ℕ)) (net : SizedNetwork) → IsGraphText (texts_of words) net → IsGraph (record { size = size; words = words }) (Ok net)
 graph_again size words net g =
-    let s = split words g.row_words g.column_words g.words_are in
+    let s = split_texts words g.row_words g.column_words g.words_are in
     let arcs = net.net.arcs in
     let walks = net.net.walks in
     let tree = g.network.tree in

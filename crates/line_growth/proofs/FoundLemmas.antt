@@ -5,6 +5,7 @@ use Rattle.std.proofs.lemmas.Bool.{false≢true, cases_lt, cases_eq}
 use Rattle.std.proofs.lemmas.List.{get_or-set_same, get_or-set_other, get_or_default}
 use Rattle.cmr_base.specs.ColumnSets.{has_column}
 use Rattle.cmr_base.specs.Planes.{has_bit}
+use Rattle.cmr_base.proofs.Booleans.{or_is}
 use Rattle.cmr_base.proofs.ColumnWords.{column_at}
 use Rattle.cmr_base.proofs.WordBits.{has_bit-or}
 use Rattle.line_growth.specs.declared.places.Places.{Places}
@@ -21,10 +22,6 @@ pub seen_or_found : (word t s : Bool) → word ≡ (t && not s) → t ≡ true �
 seen_or_found word true true is e = inl refl
 seen_or_found word true false is e = inr is
 seen_or_found word false s is e = absurd (false≢true e)
-
-old_or_new : (before bit : Bool) → (before || bit) ≡ true → (before ≡ true) ⊎ (bit ≡ true)
-old_or_new true bit e = inl refl
-old_or_new false bit e = inr e
 
 -- the bits of a word as a set of columns
 pub bit_in : (word k : ℕ) → k < 64 → has_column (word ∷ []) k ≡ has_bit word k
@@ -68,7 +65,7 @@ seen_added old new block word first marks a before added place e = elim (cases_e
   | inr n ↦ before place (sym (a.others place n) ∙ e)
   | inl q ↦
       let at : 64 * block + place % 64 ≡ place = omega arith in
-      elim (old_or_new (has_column old.seen.items (64 * block + place % 64)) (has_bit word (place % 64)) (sym (a.here (place % 64) (omega arith)) ∙ ap (has_column new.seen.items) at ∙ e)) [
+      elim (or_is (has_column old.seen.items (64 * block + place % 64)) (has_bit word (place % 64)) (sym (a.here (place % 64) (omega arith)) ∙ ap (has_column new.seen.items) at ∙ e)) [
         | inl s ↦ before place (ap (has_column old.seen.items) (sym at) ∙ s)
         | inr b ↦ subst (λ (x : ℕ). is_marked marks (first + x) ≡ true) at (added (place % 64) (omega arith) b)
       ]

@@ -1,19 +1,19 @@
 -- Rows that are those of a network matrix have no cycle fault.
-use Rattle.std.proofs.Common.{zero, suc, [], ◌∷◌, refl, ◌≡◌, ◌≢◌, ◌<◌, ◌≤◌, inl, inr, ◌∙◌, ℕ, ℤ, pos, negsuc, neg_ℤ, ◌*ℤ◌, List, get_or, sym, ap, subst, arith}
+use Rattle.std.proofs.Common.{zero, suc, [], ◌∷◌, refl, ◌≡◌, ◌≢◌, ◌<◌, ◌≤◌, inl, inr, ◌∙◌, ℕ, ℤ, pos, ◌*ℤ◌, List, get_or, sym, ap, subst, arith}
 use Rattle.std.specs.List.{AllByRecursion}
 use Rattle.std.proofs.lemmas.Bool.{cases_lt}
 use Rattle.std.proofs.lemmas.List.{get_or_past}
 use Rattle.cmr_base.specs.CyclePlaces.{HasNoCycleFault, IsFaultAt, IsPath, cycle_columns, cycle_rows, path_rows}
-use Rattle.cmr_base.specs.Matrix.{Matrix, height, entry, row_of, IsEntry, IsMatrix, IsRectangular, IsTernary}
+use Rattle.cmr_base.specs.Matrix.{Matrix, height, entry, row_of, IsMatrix, IsRectangular, IsTernary}
 use Rattle.cmr_base.specs.MatrixSums.{filled}
 use Rattle.cmr_base.specs.Signing.{IsSign}
 use Rattle.cmr_base.specs.Sums.{IsTwoModFour, sum_over}
 use Rattle.cmr_base.specs.Trees.{IsNetworkMatrix}
 use Rattle.cmr_base.specs.TurnedNetworks.{turned_network}
 use Rattle.cmr_base.proofs.FilledMatrices.{height-filled, entry-filled}
-use Rattle.cmr_base.proofs.Integers.{sums, products}
 use Rattle.cmr_base.proofs.Lists.{all_of, all_by_places}
 use Rattle.cmr_base.proofs.SumLaws.{sum_over_same}
+use Rattle.ghouila.proofs.Minors.{entry_by_sign}
 use Rattle.network_orient.specs.FirstRows.{HasNoFaultBefore}
 use Rattle.network_orient.specs.SignedGroups.{AreSignedGroups, sign_of}
 use Rattle.network_orient.proofs.Orientations.{turned_reproduces}
@@ -66,16 +66,6 @@ sign_at [] all k = inl refl
 sign_at (s ∷ signs) (here, all) zero = here
 sign_at (s ∷ signs) (here, all) (suc k) = sign_at signs all k
 
-one_times : (z : ℤ) → pos 1 *ℤ z ≡ z
-one_times z = simp products
-
-minus_times : (z : ℤ) → negsuc 0 *ℤ z ≡ neg_ℤ z
-minus_times z = simp products
-
-small_times : (s z : ℤ) → IsSign s → IsEntry z → IsEntry (s *ℤ z)
-small_times s z (inl e) small = subst IsEntry (sym (ap (λ (t : ℤ). t *ℤ z) e ∙ one_times z)) small
-small_times s z (inr e) small = subst IsEntry (sym (ap (λ (t : ℤ). t *ℤ z) e ∙ minus_times z)) (record { low = let h = small.high in omega (arith, sums); high = let l = small.low in omega (arith, sums) })
-
 past_width : (m : Matrix) → IsRectangular m → (row column : ℕ) → row < height m → m.width ≤ column → entry m row column ≡ pos 0
 past_width m is row column l past = get_or_past (row_of m row) column (pos 0) (let e = is row l in omega (arith, e, past))
 
@@ -93,7 +83,7 @@ module _ (m n : Matrix) (is_m : IsMatrix m) (is_n : IsMatrix n) (height_same : h
       same = height-filled (height m) m.width entries
 
       is_whole : IsTernary whole
-      is_whole = filled_is_ternary (height m) m.width entries (λ row column. small_times (sign_of rows row) (sign_of columns column *ℤ entry m row column) (sign_at rows turned.row_signs row) (small_times (sign_of columns column) (entry m row column) (signed.each_sign column) (is_m.small row column)))
+      is_whole = filled_is_ternary (height m) m.width entries (λ row column. entry_by_sign (sign_of rows row) (sign_of columns column *ℤ entry m row column) (sign_at rows turned.row_signs row) (entry_by_sign (sign_of columns column) (entry m row column) (signed.each_sign column) (is_m.small row column)))
 
       net : IsNetworkMatrix whole
       net = (

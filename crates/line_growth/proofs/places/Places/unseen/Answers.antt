@@ -1,11 +1,11 @@
 use Rattle.std.proofs.Common.{◌≡◌, ◌*◌, ◌+◌, ◌∙◌, ◌&&◌, not, ◌*ℤ◌, eqb, cond, ℕ, zero, suc, ℤ, pos, negsuc, w8, to_z, Bool, true, false, ap, ap₂, sym, refl, arith, get_or}
 use Rattle.std.proofs.lemmas.List.{get_or_default}
 use Rattle.std.specs.Int.{bit_at}
-use Rattle.std.proofs.lemmas.Int.{ints}
 use Rattle.cmr_base.specs.Differences.{differ, differs_at}
 use Rattle.cmr_base.specs.Matrix.{entry, is_nonzero, IsEntry}
 use Rattle.cmr_base.specs.Planes.{has_bit}
 use Rattle.cmr_base.proofs.ColumnWords.{column_at, words_long, words_columns}
+use Rattle.cmr_base.proofs.DifferenceWords.{too_large, too_small}
 use Rattle.cmr_base.proofs.Integers.{products}
 use Rattle.cmr_base.proofs.SmallEntries.{entry_as_byte}
 use Rattle.line_growth.proofs.places.Places.unseen.Goals as goal
@@ -14,12 +14,6 @@ use Rattle.line_growth.proofs.places.Places.unseen.Goals as goal
 bit_is : (t : Bool) (bit : ℕ) → bit ≡ cond t 1 0 → eqb bit 1 ≡ t
 bit_is true bit e = rw e refl
 bit_is false bit e = rw e refl
-
-too_large : {P : Type 0} (n : ℕ) → IsEntry (pos (suc (suc n))) → P
-too_large n small = absurd (let l = small.high in omega (arith, ints))
-
-too_small : {P : Type 0} (n : ℕ) → IsEntry (negsuc (suc n)) → P
-too_small n small = absurd (let l = small.low in omega (arith, ints))
 
 is_nonzero_by : (x : ℤ) → IsEntry x → is_nonzero x ≡ differ x (pos 0)
 is_nonzero_by (pos zero) a = refl

@@ -1,6 +1,6 @@
 use Rattle.std.proofs.Common.{◌∙◌}
 use Rattle.sum_ops.specs.Plans.{entries_of}
-use Rattle.sum_ops.proofs.FilledRows.{entry_pushed}
+use Rattle.cmr_base.proofs.FilledCells.{entry_pushed}
 use Rattle.cmr_base.proofs.SmallEntries.{entry_as_byte}
 use Rattle.sum_ops.proofs.plan.Plan.push_row.Goals as goal
 

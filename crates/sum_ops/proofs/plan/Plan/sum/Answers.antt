@@ -5,7 +5,8 @@ use Rattle.cmr_base.specs.Matrix.{IsEntry, HasTernaryEntries, Matrix}
 use Rattle.cmr_base.specs.Matrix.{rows_of as cut_rows}
 use Rattle.cmr_base.specs.LineSets.{first_lines}
 use Rattle.sum_ops.specs.Plans.{entries_of, rows_of, columns_of}
-use Rattle.sum_ops.proofs.FilledRows.{cells_more, whole, small, cut, entries_small, filled_small}
+use Rattle.cmr_base.proofs.FilledCells.{cells_more, whole, small, cut, filled_small}
+use Rattle.sum_ops.proofs.FilledRows.{entries_small}
 use Rattle.cmr_base.proofs.SmallEntries.{zero_is_entry}
 use Rattle.sum_ops.proofs.plan.Plan.sum.Goals as goal
 
