@@ -1,20 +1,23 @@
-"""Times a command on matrices that are decided by their row sets.
+"""Times the search of `regular` through the row sets of a leaf, with several numbers of workers.
 
-For each shape the dense text of a directed graph is made in a temporary folder, from a seed. It has no violator, so every
-row set is tried. The command is run on it. In the command {lines} stands for the number of rows and {file} for the path:
+    python3 bench/row_sets.py --program crates/cmr/out/cmr
 
-    python3 bench/row_sets.py --cmd './cmr tu --lines {lines} {file}'
+For each number of rows a 0/1 matrix is made from a seed: paths of a random tree, with one more row that has four ones. Without its
+last row it is a network matrix, so no violator has all its rows among the others, and the search goes through all of their sets
+before it comes to one with the last row. Seeds are tried one after another until the decomposition, with a budget below the number
+of rows, leaves all rows open behind reductions alone; so nothing but the search decides.
 
-Printed for each text: the shape, the shortest time of the runs, that time for each row set, and the exit statuses.
+Printed for each number of rows and of workers: the size of the leaf, the time beyond that of the same run with the budget below (which
+searches no set), that time for each row set without the last row, and the exit statuses.
 """
 
 import argparse
 import pathlib
 import random
-import shlex
 import subprocess
 import tempfile
-import time
+
+from measuring import dense_text, run
 
 
 def directed_graph(rows, columns, draw):
@@ -25,43 +28,59 @@ def directed_graph(rows, columns, draw):
     return entries
 
 
-def dense_text(entries, columns):
-    lines = [f"{len(entries)} {columns}\n"]
-    lines.extend(" ".join(map(str, row)) + "\n" for row in entries)
-    return "".join(lines)
+def to_root(parents, node):
+    arcs = set()
+    while node:
+        arcs.add(node - 1)
+        node = parents[node]
+    return arcs
 
 
-def run(words):
-    start = time.perf_counter()
-    done = subprocess.run(words, stdout=subprocess.DEVNULL, check=False)
-    return time.perf_counter() - start, done.returncode
+def paths_and_a_row(rows, columns, draw):
+    parents = [draw.randrange(node) if node else 0 for node in range(rows)]
+    paths = []
+    while len(paths) < columns:
+        first, last = draw.sample(range(rows), 2)
+        path = to_root(parents, first) ^ to_root(parents, last)
+        if len(path) >= 3:
+            paths.append(path)
+    chosen = set(draw.sample(range(columns), 4))
+    entries = [[int(row in path) for path in paths] for row in range(rows - 1)]
+    return entries + [[int(column in chosen) for column in range(columns)]]
 
 
-def shape(text):
-    rows, columns = map(int, text.split("x"))
-    if not 3 <= rows <= min(24, columns):
-        raise argparse.ArgumentTypeError("a shape is ROWSxCOLUMNS with 3 to 24 rows and at least as many columns")
-    return rows, columns
+def open_leaf(program, path, rows):
+    """Writes a matrix whose rows all stand in one open leaf, and answers the size of the leaf."""
+    for seed in range(1000):
+        path.write_text(dense_text(paths_and_a_row(rows, 2 * rows, random.Random(seed))), encoding="ascii")
+        words = [program, "regular", "--lines", str(rows - 1), path]
+        said = subprocess.run(words, capture_output=True, check=False, text=True).stdout.split("\n")
+        outline = said[2:-1]
+        if len(outline) == 2 and outline[1].startswith(f"1 undecided {rows}x"):
+            return outline[1].split()[2]
+    raise SystemExit(f"no leaf of {rows} rows was found")
 
 
 def main():
-    parser = argparse.ArgumentParser(description="Times a command on matrices that are decided by their row sets.")
-    parser.add_argument("--cmd", required=True, help="the command, with {lines} and {file}")
-    parser.add_argument("--shapes", type=shape, nargs="+", default=[(8, 1000), (10, 20), (14, 20), (18, 20)])
+    parser = argparse.ArgumentParser(description="Times the search through the row sets of a leaf.")
+    parser.add_argument("--program", required=True, help="the program")
+    parser.add_argument("--rows", type=int, nargs="+", default=[14, 18, 20, 22])
+    parser.add_argument("--workers", type=int, nargs="+", default=[1, 2, 4])
     parser.add_argument("--runs", type=int, default=3)
-    parser.add_argument("--seed", type=int, default=1)
     options = parser.parse_args()
 
     with tempfile.TemporaryDirectory() as folder:
         path = pathlib.Path(folder, "matrix")
-        for rows, columns in options.shapes:
-            entries = directed_graph(rows, columns, random.Random(options.seed))
-            path.write_text(dense_text(entries, columns), encoding="ascii")
-            words = [word.format(lines=rows, file=path) for word in shlex.split(options.cmd)]
-            runs = [run(words) for _ in range(options.runs)]
-            best = min(seconds for seconds, _ in runs)
-            statuses = sorted({status for _, status in runs})
-            print(f"{rows} by {columns}: {best:.3f} s, {best / 2**rows * 1e6:.2f} us a row set, status {statuses}")
+        for rows in options.rows:
+            size = open_leaf(options.program, path, rows)
+            words = [options.program, "regular", path, "--lines"]
+            before = min(run([*words, str(rows - 1)])[0] for _ in range(options.runs))
+            for workers in options.workers:
+                runs = [run([*words, str(rows), "-w", str(workers)]) for _ in range(options.runs)]
+                search = max(min(seconds for seconds, _ in runs) - before, 0)
+                per_set = search / 2 ** (rows - 1) * 1e6
+                statuses = sorted({status for _, status in runs})
+                print(f"{size}, {workers} workers: {search:.3f} s, {per_set:.2f} us a row set, status {statuses}")
 
 
 if __name__ == "__main__":
