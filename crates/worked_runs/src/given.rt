@@ -1,0 +1,156 @@
+// What the tables are made of. In all texts of the tables `/` stands for a line feed.
+use cmr_base::{Word, WordList};
+use cmr_io::{MemoryShelf, MemorySink, Shelf, Sink};
+use cmr_tools::run;
+use std::alloc::{AllocGlobal, Global};
+use std::test::Fail;
+use std::thread::Threads;
+
+/// What a name holds before the run that may write it. It stays where the run does not write it.
+pub const UNTOUCHED: &str = "as before";
+
+/// The bytes of a text in which `/` stands for each line feed.
+pub fn bytes(alloc: Global, text: &str) -> Result<Vec<u8>, Fail> {
+    let mut bytes = Vec::new(alloc);
+    for byte in text.as_bytes() {
+        bytes.push(if *byte == b'/' { b'\n' } else { *byte })?;
+    }
+    Ok(bytes)
+}
+
+/// The words of a command line, with one blank between them. An empty word is written as two single quotes.
+pub fn words(alloc: Global, texts: &str) -> Result<WordList, Fail> {
+    let mut words = WordList::new(alloc);
+    for text in texts.split(' ') {
+        let text = if text == "''" { "" } else { text };
+        words.push(Word::new(alloc, text)?)?;
+    }
+    Ok(words)
+}
+
+/// A run: its words, what names hold before it, its status, what it prints, and what the names hold then that it may
+/// write. What is printed goes to standard error where it begins with `cmr: `, and else to standard output.
+#[derive(Clone, Copy)]
+pub struct Run<'a> {
+    pub words: &'a str,
+    pub before: &'a str,
+    pub status: &'a str,
+    pub printed: &'a str,
+    pub after: &'a str,
+}
+
+/// The run of a row of a table: its parts with ` | ` between them. Files are written as `NAME: TEXT`, with `; ` between
+/// them, and `none` where there is no file.
+pub fn run_of(row: &str) -> Result<Run<'_>, Fail> {
+    let mut parts = row.split(" | ");
+    Ok(Run {
+        words: parts.next().ok_or("no words")?,
+        before: parts.next().ok_or("no files")?,
+        status: parts.next().ok_or("no status")?,
+        printed: parts.next().ok_or("nothing printed")?,
+        after: parts.next().ok_or("no files behind")?,
+    })
+}
+
+impl Run<'_> {
+    /// What standard output gets.
+    pub fn output(&self) -> &str {
+        if self.printed.starts_with("cmr: ") {
+            ""
+        } else {
+            self.printed
+        }
+    }
+
+    /// What standard error gets.
+    pub fn error_line(&self) -> &str {
+        if self.printed.starts_with("cmr: ") {
+            self.printed
+        } else {
+            ""
+        }
+    }
+}
+
+/// What a run works on.
+#[derive(Drop)]
+pub struct Devices {
+    pub shelf: MemoryShelf,
+    pub out: MemorySink,
+    pub err: MemorySink,
+}
+
+/// The devices before a run: each name that it may write holds other bytes and has room for a thousand, and standard
+/// error has room for so many bytes.
+pub fn devices_before(alloc: Global, run: &Run<'_>, error_room: usize) -> Result<Devices, Fail> {
+    let mut shelf = MemoryShelf::new(alloc)?;
+    for file in run.after.split("; ") {
+        if let Some((name, _)) = file.split_once(": ") {
+            shelf.hold(name, UNTOUCHED.as_bytes())?;
+            shelf.prepare(name, 1000)?;
+        }
+    }
+    hold(alloc, &mut shelf, run.before)?;
+    let out = MemorySink::new(alloc, 1000)?;
+    let err = MemorySink::new(alloc, error_room)?;
+    Ok(Devices { shelf, out, err })
+}
+
+fn hold(alloc: Global, shelf: &mut MemoryShelf, files: &str) -> Result<(), Fail> {
+    for file in files.split("; ") {
+        if let Some((name, text)) = file.split_once(": ") {
+            shelf.hold(name, &bytes(alloc, text)?)?;
+        }
+    }
+    Ok(())
+}
+
+/// Runs the program, and answers its status.
+pub fn run_on<R: Threads + Sync + AllocGlobal>(rt: &R, words: &WordList, on: &mut Devices) -> u8 {
+    run_over(rt, words, &mut on.shelf, &mut on.out, &mut on.err)
+}
+
+// Says nothing of what is known of the call, so that the tests rest on what they see alone.
+fn run_over<R: Threads + Sync + AllocGlobal, S: Shelf, O: Sink, E: Sink>(
+    rt: &R,
+    words: &WordList,
+    shelf: &mut S,
+    out: &mut O,
+    err: &mut E,
+) -> u8 {
+    run(rt, rt.alloc(), words, shelf, out, err)
+}
+
+/// What stands after a run, as one text: its status, what the standard streams have got, and the names that it may write
+/// with what they hold.
+pub fn found_text(
+    alloc: Global,
+    run: &Run<'_>,
+    status: u8,
+    devices: &Devices,
+) -> Result<Vec<u8>, Fail> {
+    let mut text = heading(alloc, &format!(in alloc; "{status}")?)?;
+    add(&mut text, devices.out.content())?;
+    add(&mut text, devices.err.content())?;
+    for file in run.after.split("; ") {
+        if let Some((name, _)) = file.split_once(": ") {
+            add(&mut text, name.as_bytes())?;
+            add(&mut text, devices.shelf.content(name).unwrap_or(b""))?;
+        }
+    }
+    Ok(text)
+}
+
+/// The text of a status.
+pub fn heading(alloc: Global, status: &str) -> Result<Vec<u8>, Fail> {
+    let mut text = Vec::new(alloc);
+    add(&mut text, status.as_bytes())?;
+    Ok(text)
+}
+
+/// Adds a part to the text.
+pub fn add(text: &mut Vec<u8>, part: &[u8]) -> Result<(), Fail> {
+    text.extend_from_slice(part)?;
+    text.push(b'|')?;
+    Ok(())
+}
