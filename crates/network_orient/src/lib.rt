@@ -12,4 +12,4 @@ mod turning;
 
 pub use first_rows::rows_without_fault;
 pub use minimal::minimal_not_network;
-pub use orienting::{has_graphic_support, orient};
+pub use orienting::{Orientation, has_graphic_support, orient, orientation_of};

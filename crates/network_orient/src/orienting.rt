@@ -1,6 +1,7 @@
 // A directed tree in which the columns are paths.
 ghost use Rattle.std.specs.Prelude.{◌↔◌, IfOk, IsTrue, MatchOption};
 ghost use Rattle.cmr_base.specs.Trees.{HasGraphicSupport, IsNetworkMatrix, Reproduces};
+ghost use Rattle.network_orient.specs.Orientations.{IsOrientation};
 
 use crate::line_signs::signs_between;
 use crate::supports::support_of;
@@ -9,20 +10,42 @@ use cmr_base::{Matrix, Memory, Network};
 use graph_realise::realise;
 use std::alloc::Global;
 
+/// How the columns of a matrix are paths of a tree whose arcs are the rows.
+#[derive(Debug, Drop)]
+pub enum Orientation {
+    /// A directed tree, and for each column a path that uses the arcs as its entries say, +1 forwards and -1 backwards.
+    Directed(Network),
+    /// The supports of the columns are the paths of some tree, but the signs are not those of a directed one.
+    WrongSigns,
+    /// The supports of the columns are not the paths of a tree.
+    NoTree,
+}
+
+/// How the columns are paths of a tree, told by one tree for their supports.
+pub fn orientation_of(alloc: Global, matrix: &Matrix) -> Result<Orientation, Memory>
+    ensures { IfOk result (IsOrientation matrix.now) }
+{
+    let support = support_of(alloc, matrix)?;
+    let Some(net) = realise(alloc, &support)? else {
+        return Ok(Orientation::NoTree);
+    };
+    let reproduced = net.matrix(alloc, matrix.rows(), matrix.columns())?;
+    let Some(signs) = signs_between(alloc, &reproduced, matrix)? else {
+        return Ok(Orientation::WrongSigns);
+    };
+    Ok(Orientation::Directed(turned_network(alloc, &net, &signs)?))
+}
+
 /// A directed tree whose arcs are the rows, and for each column a path that uses the arcs as its entries say, +1
 /// forwards and -1 backwards; `None` exactly where there is none, that is where the matrix is no network matrix.
 pub fn orient(alloc: Global, matrix: &Matrix) -> Result<Option<Network>, Memory>
     ensures { IfOk result (λ found. MatchOption found (¬ (IsNetworkMatrix matrix.now)) (λ net. Reproduces net matrix.now)) }
 {
-    let support = support_of(alloc, matrix)?;
-    let Some(net) = realise(alloc, &support)? else {
-        return Ok(None);
-    };
-    let reproduced = net.matrix(alloc, matrix.rows(), matrix.columns())?;
-    let Some(signs) = signs_between(alloc, &reproduced, matrix)? else {
-        return Ok(None);
-    };
-    Ok(Some(turned_network(alloc, &net, &signs)?))
+    match orientation_of(alloc, matrix)? {
+        Orientation::Directed(net) => Ok(Some(net)),
+        Orientation::WrongSigns => Ok(None),
+        Orientation::NoTree => Ok(None),
+    }
 }
 
 /// Whether the supports of the columns are the paths of some tree, whatever the signs.

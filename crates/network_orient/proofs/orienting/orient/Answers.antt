@@ -1,48 +1,12 @@
-use Rattle.std.proofs.Common.{◌∙◌, Option, MatchOption, sym, subst}
-use Rattle.cmr_base.specs.declared.network.Network.{Network}
-use Rattle.cmr_base.specs.Matrix.{entry, height}
-use Rattle.cmr_base.specs.Supports.{AgreeUpToSigns}
-use Rattle.cmr_base.specs.Trees.{IsGraphic, Reproduces, ReproducesSupport}
-use Rattle.cmr_base.specs.TurnedNetworks.{IsMultiplied}
-use Rattle.network_orient.specs.declared.line_signs.LineSigns.{LineSigns}
-use Rattle.cmr_base.proofs.WholeMatrices.{is_ternary}
-use Rattle.network_orient.proofs.Orientations.{one_support, agrees_where_network, turned_reproduces}
-use Rattle.network_orient.proofs.SupportMarks.{support_by_marks, network_has_graphic_marks}
+use Rattle.std.proofs.Common.{subst}
+use Rattle.network_orient.specs.Orientations.{IsOrientation}
 use Rattle.network_orient.proofs.orienting.orient.Goals as goal
 
-pub returns-in_default : goal.returns-in_default
-returns-in_default c =
-    let support = c.in_ok-support.support in
-    let none = subst (λ (found : Option Network). MatchOption found (¬ (IsGraphic support)) (λ net. ReproducesSupport net support)) c.in_default.is c.in_ok-net.ensures in
-    λ network. none (network_has_graphic_marks c.args.matrix.now support c.in_ok-support.ensures network)
+pub returns-in-Directed : goal.returns-in-Directed
+returns-in-Directed c = subst (IsOrientation c.args.matrix.now) c.in-Directed.is c.in_ok-net.ensures
 
-pub signs_between-requires : goal.signs_between-requires
-signs_between-requires c =
-    let m = c.args.matrix.now in
-    let support = c.in_ok-support.support in
-    let reproduced = c.in_ok-reproduced in
-    let some = subst (λ (found : Option Network). MatchOption found (¬ (IsGraphic support)) (λ net. ReproducesSupport net support)) c.in-Some.is c.in_ok-net.ensures in
-    one_support c.in-Some.net reproduced.reproduced m reproduced.ensures.shape.rectangular c.rows.ensures.shape.rectangular (reproduced.ensures.rows ∙ c.rows.ensures.rows) (reproduced.ensures.columns ∙ c.columns.ensures.columns)
-    reproduced.ensures.reproduced (support_by_marks m support c.in_ok-support.ensures c.in-Some.net some)
+pub returns-in-WrongSigns : goal.returns-in-WrongSigns
+returns-in-WrongSigns c = (subst (IsOrientation c.args.matrix.now) c.in-WrongSigns.is c.in_ok-net.ensures).0
 
-pub returns-in_default-2 : goal.returns-in_default-2
-returns-in_default-2 c =
-    let m = c.args.matrix.now in
-    let support = c.in_ok-support.support in
-    let reproduced = c.in_ok-reproduced in
-    let some = subst (λ (found : Option Network). MatchOption found (¬ (IsGraphic support)) (λ net. ReproducesSupport net support)) c.in-Some.is c.in_ok-net.ensures in
-    let none = subst (λ (found : Option LineSigns). MatchOption found (¬ (AgreeUpToSigns (entry reproduced.reproduced) (entry m)))
-    (λ signs. IsMultiplied (entry reproduced.reproduced) (entry m) (height reproduced.reproduced) reproduced.reproduced.width signs.rows.items signs.columns.items)) c.in_default-2.is c.in_ok-signs.ensures.signs in
-    λ network. none (agrees_where_network c.in-Some.net reproduced.reproduced m (is_ternary reproduced.reproduced reproduced.ensures.shape) (is_ternary m c.rows.ensures.shape) (reproduced.ensures.rows ∙ c.rows.ensures.rows) (reproduced.ensures.columns ∙ c.columns.ensures.columns)
-    reproduced.ensures.reproduced (support_by_marks m support c.in_ok-support.ensures c.in-Some.net some) network)
-
-pub returns : goal.returns
-returns c =
-    let m = c.args.matrix.now in
-    let reproduced = c.in_ok-reproduced in
-    let signs = c.in-Some-2.signs in
-    let multiplied = subst (λ (found : Option LineSigns). MatchOption found (¬ (AgreeUpToSigns (entry reproduced.reproduced) (entry m)))
-    (λ signs. IsMultiplied (entry reproduced.reproduced) (entry m) (height reproduced.reproduced) reproduced.reproduced.width signs.rows.items signs.columns.items)) c.in-Some-2.is c.in_ok-signs.ensures.signs in
-    subst (λ (net : Network). Reproduces net m) (sym c.in_ok-turned_network.ensures)
-    (turned_reproduces c.in-Some.net reproduced.reproduced m signs.rows.items signs.columns.items (reproduced.ensures.rows ∙ c.rows.ensures.rows) (reproduced.ensures.columns ∙ c.columns.ensures.columns)
-    reproduced.ensures.reproduced multiplied)
+pub returns-in-NoTree : goal.returns-in-NoTree
+returns-in-NoTree c = (subst (IsOrientation c.args.matrix.now) c.in-NoTree.is c.in_ok-net.ensures).0
