@@ -10,8 +10,8 @@ ghost use Rattle.decomp_tree.specs.Sketches.{HasNoLateFault};
 
 use crate::naming::named_set;
 use camion_sign::cycle_fault;
-use cmr_base::{LineSet, Matrix, Memory, RowsAndColumns};
-use network_orient::has_graphic_support;
+use cmr_base::{LineSet, Matrix, Memory};
+use network_orient::Orientation;
 use std::alloc::Global;
 use tree_type::Finding;
 
@@ -34,14 +34,15 @@ pub fn fault_of(
     }
 }
 
-/// The cycle fault of the submatrix on these lines, looked for only where there must be one: where it is no network
-/// matrix and its support is graphic, or so is that of the transposed matrix, since the signs of a matrix without
-/// cycle fault are those of a network, but for lines that are negated.
+/// The cycle fault of the submatrix on these lines, looked for only where there must be one: where a tree has the supports
+/// of the columns as paths, or those of the transposed matrix, but no directed tree has the signs. The signs of a matrix
+/// without cycle fault are those of a network, but for lines that are negated.
 pub fn certain_fault(
     alloc: Global,
     matrix: &Matrix,
     lines: &LineSet,
-    inner: &RowsAndColumns<'_>,
+    inner: &Matrix,
+    orientation: &Orientation,
 ) -> Result<Option<LineSet>, Memory>
     requires shape { IsMatrix matrix.now }
     requires rows { IsRowSet matrix.now lines.now.rows }
@@ -49,12 +50,10 @@ pub fn certain_fault(
     requires inner { inner.now ≡ part matrix.now lines.now }
     ensures { IfOk result (λ found. IfSome found (IsNamedFault matrix.now lines.now)) }
 {
-    if has_graphic_support(alloc, inner.by_rows())?
-        || has_graphic_support(alloc, inner.by_columns())?
-    {
-        return fault_of(alloc, matrix, lines, inner.by_rows());
+    match orientation {
+        Orientation::WrongSigns => fault_of(alloc, matrix, lines, inner),
+        Orientation::Directed(_) | Orientation::NoTree => Ok(None),
     }
-    Ok(None)
 }
 
 /// The cycle fault of a node's submatrix, where none was looked for when the node was drawn and there may be one.

@@ -17,7 +17,7 @@ use crate::obstructions::Obstruction;
 use crate::seen::{Seen, above_one, above_two, leaf};
 use cmr_base::{LineSet, Matrix, Memory, RowsAndColumns, Three, Two};
 use leaf_enumerate::{Search, least_violator};
-use network_orient::orient;
+use network_orient::{Orientation, orientation_of};
 use r10_leaf::is_r10;
 use sp_reduce::{Reduction, reduce};
 use std::alloc::Global;
@@ -182,14 +182,41 @@ fn look_tested<R: Threads + Sync>(
     requires none { HasNoneBefore limit (part matrix.now lines.now) 5 }
     ensures { IfOk result (IsSeen limit matrix.now lines.now) }
 {
-    if let Some(net) = orient(alloc, inner.by_rows())? {
+    let of_rows = orientation_of(alloc, inner.by_rows())?;
+    if let Some(fault) = certain_fault(alloc, matrix, lines, inner.by_rows(), &of_rows)? {
+        return Ok(leaf(alloc, Finding::Cycle(fault)));
+    }
+    if let Orientation::Directed(net) = of_rows {
         return Ok(leaf(alloc, Finding::Network(net)));
     }
-    if let Some(net) = orient(alloc, inner.by_columns())? {
-        return Ok(leaf(alloc, Finding::Conetwork(net)));
-    }
-    if let Some(fault) = certain_fault(alloc, matrix, lines, inner)? {
+    look_transposed(rt, alloc, matrix, lines, inner, limit, workers)
+}
+
+// The cases of a matrix that is no network matrix.
+fn look_transposed<R: Threads + Sync>(
+    rt: &R,
+    alloc: Global,
+    matrix: &Matrix,
+    lines: &LineSet,
+    inner: &RowsAndColumns<'_>,
+    limit: u32,
+    workers: u32,
+) -> Result<Seen, Memory>
+    requires limit { limit ≤ 24 }
+    requires workers { (1 ≤ workers) × (workers ≤ 64) }
+    requires shape { IsMatrix matrix.now }
+    requires rows { IsRowSet matrix.now lines.now.rows }
+    requires columns { IsColumnSet matrix.now lines.now.columns }
+    requires inner { inner.now ≡ part matrix.now lines.now }
+    requires none { HasNoneBefore limit (part matrix.now lines.now) 6 }
+    ensures { IfOk result (IsSeen limit matrix.now lines.now) }
+{
+    let of_columns = orientation_of(alloc, inner.by_columns())?;
+    if let Some(fault) = certain_fault(alloc, matrix, lines, inner.by_rows(), &of_columns)? {
         return Ok(leaf(alloc, Finding::Cycle(fault)));
+    }
+    if let Orientation::Directed(net) = of_columns {
+        return Ok(leaf(alloc, Finding::Conetwork(net)));
     }
     look_no_network(rt, alloc, matrix, lines, inner, limit, workers)
 }

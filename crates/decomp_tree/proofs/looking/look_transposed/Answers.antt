@@ -1,0 +1,37 @@
+use Rattle.std.proofs.Common.{◌∙◌, Option, IfSome, ap, sym, subst}
+use Rattle.cmr_base.specs.declared.line_set.LineSet.{LineSet}
+use Rattle.cmr_base.specs.Matrix.{Matrix, transposed}
+use Rattle.cmr_base.specs.Trees.{Reproduces, IsNetworkMatrix}
+use Rattle.network_orient.specs.Orientations.{IsOrientation}
+use Rattle.tree_type.specs.Soundness.{part}
+use Rattle.decomp_tree.specs.Shapes.{IsNetwork, IsConetwork}
+use Rattle.decomp_tree.specs.Seen.{IsNamedFault, IsSeen}
+use Rattle.decomp_tree.proofs.NoNetworks.{not_directed}
+use Rattle.decomp_tree.proofs.Said.{none_next, seen_fault, seen_network, seen_conetwork}
+use Rattle.decomp_tree.proofs.looking.look_transposed.Goals as goal
+
+pub returns-in-Some : goal.returns-in-Some
+returns-in-Some g c =
+    let m = c.args.matrix.now in
+    let lines = c.args.lines.now in
+    subst (IsSeen c.args.limit m lines) (sym c.leaf.ensures)
+    (seen_fault c.args.limit m c.requires.shape lines (record { rows = c.requires.rows; columns = c.requires.columns }) c.in-Some.fault
+    (subst (λ (o : Option LineSet). IfSome o (IsNamedFault m lines)) c.in-Some.is c.in_ok-fault.ensures))
+
+pub returns-in-Directed : goal.returns-in-Directed
+returns-in-Directed g c =
+    let n = c.in-Directed.net in
+    let m = c.args.matrix.now in
+    let lines = c.args.lines.now in
+    subst (IsSeen c.args.limit m lines) (sym c.leaf-in-Directed.ensures)
+    (seen_conetwork c.args.limit m c.requires.shape lines (record { rows = c.requires.rows; columns = c.requires.columns }) n c.requires.none
+    (subst (Reproduces n) (c.by_columns.ensures.matrix ∙ ap transposed c.requires.inner)
+    (subst (IsOrientation c.by_columns.result.now) c.in-Directed.is c.in_ok-of_columns.ensures)))
+
+pub look_no_network-requires-clause-none : goal.look_no_network-requires-clause-none
+look_no_network-requires-clause-none g c =
+    let m = c.args.matrix.now in
+    let lines = c.args.lines.now in
+    let no_conetwork = subst (λ (k : Matrix). ¬ (IsNetworkMatrix k)) (c.by_columns.ensures.matrix ∙ ap transposed c.requires.inner)
+    (not_directed c.by_columns.result.now c.in_ok-of_columns.of_columns c.in_ok-of_columns.ensures c.in_default-of_columns.not-Directed) in
+    λ κs lives. none_next c.args.limit (part m lines) IsConetwork c.requires.none no_conetwork
