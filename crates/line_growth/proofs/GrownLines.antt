@@ -16,7 +16,7 @@ use Rattle.cmr_base.specs.Differences.{differ}
 use Rattle.line_growth.specs.Rules.{pulls}
 use Rattle.line_growth.specs.Reaching.{is_marked, marked_lines, numbered, IsClosedUnder, unmarked}
 
-differs_not : (a b : ℤ) → differ a b ≡ false → a ≡ b
+pub differs_not : (a b : ℤ) → differ a b ≡ false → a ≡ b
 differs_not a b e = go (int_eq a b) refl e
   where
     go : (t : Bool) → int_eq a b ≡ t → not t ≡ false → a ≡ b

@@ -2,4 +2,4 @@ pub mod WalkSteps
 pub mod GrownLines
 mod Multiples
 mod Exchanges
-mod FoundLemmas
+pub mod FoundLemmas

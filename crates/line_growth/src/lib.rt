@@ -5,5 +5,6 @@ mod places;
 mod rule;
 mod walk;
 
-pub use rule::{Block, Direction, Place, Rule};
+pub use places::Places;
+pub use rule::{Block, Direction, Multiple, Place, Rule};
 pub use walk::reach;

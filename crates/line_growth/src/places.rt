@@ -1,5 +1,5 @@
 // The places of a kind of lines that were met.
-ghost use Rattle.std.specs.Prelude.{◌≡◌, ◌<◌, ◌≤◌, ◌+◌, ◌*◌, ◌&&◌, not, ℕ, false, length, IfOk};
+ghost use Rattle.std.specs.Prelude.{◌≡◌, ◌<◌, ◌≤◌, ◌+◌, ◌*◌, ◌&&◌, not, ℕ, false, length, IfOk, OnOk};
 ghost use Rattle.cmr_base.specs.ColumnSets.{has_column};
 ghost use Rattle.cmr_base.specs.Differences.{differs_at};
 ghost use Rattle.cmr_base.specs.Matrix.{height, row_of, is_nonzero, IsEntry};
@@ -7,7 +7,7 @@ ghost use Rattle.cmr_base.specs.Planes.{has_bit, words_for, words_of};
 ghost use Rattle.line_growth.specs.FoundPlaces.{HaveSize, HaveAdded};
 
 use crate::rule::Multiple;
-use cmr_base::columns::{empty_set, outside};
+use cmr_base::columns::{clear_set, empty_set, outside};
 use cmr_base::{Matrix, Memory};
 use std::alloc::Global;
 
@@ -27,6 +27,23 @@ impl Places {
         Ok(Places {
             seen: empty_set(alloc, count)?,
         })
+    }
+
+    /// None was seen.
+    pub fn clear(&mut self)
+        ensures size { (count : ℕ) → HaveSize count self.old → HaveSize count self.new }
+        ensures none { (place : ℕ) → has_column self.new.seen.items place ≡ false }
+    {
+        clear_set(&mut self.seen);
+    }
+
+    /// Becomes equal to others.
+    pub fn copy(&mut self, other: &Places) -> Result<(), Memory>
+        ensures { OnOk result (self.new.seen.items ≡ other.now.seen.items) }
+    {
+        self.seen.clear();
+        self.seen.extend_from_slice(&other.seen)?;
+        Ok(())
     }
 
     /// How many words there are.

@@ -70,7 +70,10 @@ told_few m c start true S h e = absurd (not_both true refl e)
 told_few m c start false S h e = h
 
 pub has_size : (m : Matrix) (side : Side) → HasRoom m side → HasSize m side
-has_size m side w = record { few_rows = w.rows.few; few_columns = w.columns.few; rows = w.rows.size; columns = w.columns.size }
+has_size m side w = record {
+  rows = record { few = w.rows.few; size = w.rows.size; words = w.rows.words };
+  columns = record { few = w.columns.few; size = w.columns.size; words = w.columns.words };
+}
 
 -- ---- a cut holds at all its corners
 

@@ -1,5 +1,7 @@
 pub mod HalfLemmas
 pub mod SideLemmas
+pub mod RoomLemmas
+pub mod StartLemmas
 pub mod CutLemmas
 pub mod PartedLemmas
 pub mod CrossingLemmas

@@ -1,9 +1,10 @@
 -- The search for the first good seed, level by level.
-use Rattle.std.proofs.Common.{ℕ, zero, suc, ◌+◌, Bool, true, false, cond, List, [], ◌∷◌, ◌++◌, ◌≡◌, ◌≢◌, ◌<◌, ◌≤◌, ◌∙◌, ◌↔◌, sym, ap, refl, arith, subst, ◌⊎◌, inl, inr, length, get_or, nat_eq, ℤ, pos, Option, Some, None, Result, Ok, Err, IfOk, IfSome, IfNone}
+use Rattle.std.proofs.Common.{ℕ, zero, suc, ◌+◌, Bool, true, false, cond, not, List, [], ◌∷◌, ◌++◌, ◌≡◌, ◌≢◌, ◌<◌, ◌≤◌, ◌∙◌, ◌↔◌, sym, ap, refl, arith, subst, ◌⊎◌, inl, inr, length, get_or, nat_eq, ℤ, pos, Option, Some, None, Result, Ok, Err, IfOk, IfSome, IfNone}
 use Rattle.std.proofs.lemmas.Bool.{cases_lt}
 use Rattle.cmr_base.specs.declared.line.Line.{Line}
 use Rattle.cmr_base.specs.declared.line.Line.TheVariants.{Row, Column}
 use Rattle.cmr_base.specs.Matrix.{Matrix, height, entry}
+use Rattle.cmr_base.specs.ColumnSets.{has_column}
 use Rattle.cmr_base.specs.Members.{IsIn, IsDistinct}
 use Rattle.cmr_base.proofs.Members.{in-append}
 use Rattle.cmr_base.proofs.RowLists.{two_cases, is_eq, is_ne, same_or_not}
@@ -399,10 +400,11 @@ half_same size one two same w =
     record {
       size = ap (λ (v : List Bool). length v) same.inside ∙ w.size;
       few = w.few;
-      outside_in = λ x h. w.outside_in x (subst (λ (v : List ℕ). IsIn x v) same.outside h);
+      words = record { few = w.few; seen = ap (λ (v : List ℕ). length v) same.seen ∙ w.words.seen };
+      seen_in = λ x e. is x ∙ w.seen_in x (sym (ap (λ (v : List ℕ). has_column v x) same.seen) ∙ e);
       fresh_in = λ x h. w.fresh_in x (subst (λ (v : List ℕ). IsIn x v) same.fresh h);
       fresh_inside = λ x h. is x ∙ w.fresh_inside x (subst (λ (v : List ℕ). IsIn x v) same.fresh h);
-      covered = λ x l e. subst (λ (v : List ℕ). IsIn x v) (sym same.outside) (w.covered x l (sym (is x) ∙ e));
+      left = same.left ∙ w.left ∙ count_same (λ x. not (is_in two x)) (λ x. not (is_in one x)) size (λ x l. ap not (sym (is x)));
     }
 
 pub room_same : (m : Matrix) (one two : Side) → AreSame one.rows two.rows → AreSame one.columns two.columns → HasRoom m two → HasRoom m one

@@ -1,16 +1,13 @@
 -- A side that grows, step by step.
-use Rattle.std.proofs.Common.{ℕ, zero, suc, ◌+◌, Bool, true, false, not, List, [], ◌∷◌, ◌≡◌, ◌<◌, ◌≤◌, ◌∙◌, sym, ap, refl, arith, subst, ◌⊎◌, inl, inr, length, get_or, ℤ, pos, ◌*ℤ◌, w8, of_z, to_z}
+use Rattle.std.proofs.Common.{ℕ, ◌+◌, Bool, true, false, not, List, [], ◌∷◌, ◌≡◌, ◌<◌, ◌≤◌, ◌∙◌, sym, ap, refl, arith, subst, ◌⊎◌, inl, inr, length, get_or, ℤ, pos, ◌*ℤ◌, w8, of_z, to_z}
 use mathlib.Core.Path.{ap₂}
 use Rattle.cmr_base.specs.declared.line.Line.{Line}
 use Rattle.cmr_base.specs.declared.line.Line.TheVariants.{Row, Column}
 use Rattle.cmr_base.proofs.Parts.{entry-transposed, height-transposed}
 use Rattle.cmr_base.specs.Matrix.{transposed, IsMatrix, Matrix, height, row_of, entry, IsEntry}
 use Rattle.cmr_base.specs.Members.{IsIn}
-use Rattle.cmr_base.specs.LineSets.{without}
 use Rattle.cmr_base.proofs.Integers.{mul_assoc, mul_comm}
-use Rattle.cmr_base.proofs.ListsWithout.{in_without, without_shorter}
-use Rattle.cmr_base.proofs.RowLists.{two_cases}
-use Rattle.cmr_base.proofs.Booleans.{not_is, false_is, not_both}
+use Rattle.cmr_base.proofs.Booleans.{false_is, not_both}
 use Rattle.cmr_base.proofs.EntryBytes.{kept_entry}
 use Rattle.cmr_base.proofs.SeedLemmas.{count_grows}
 use Rattle.three_sep.specs.declared.half.Half.{Half}
@@ -18,8 +15,9 @@ use Rattle.three_sep.specs.declared.side.Side.{Side}
 use Rattle.three_sep.specs.declared.corners.Corners.{Corners}
 use Rattle.cmr_base.specs.Separations.{Lines, product_at}
 use Rattle.cmr_base.specs.Seeds.{IsLine}
-use Rattle.three_sep.specs.NumberedSeeds.{Among, HasAll, count, outside}
+use Rattle.three_sep.specs.NumberedSeeds.{Among, HasAll, outside}
 use Rattle.three_sep.specs.Halves.{is_in, HasPulled, HasAdded, HasTaken, Agrees, HasStartedWith, IsNamed}
+use Rattle.three_sep.proofs.HalfLemmas.{count_most}
 use Rattle.three_sep.specs.Sides.{set_of, HasRoom, IsClosedBy, IsGrowingBy, IsGrowing, IsLeastBy, LeavesFewBy, HasNamedStart, name_in}
 
 -- ---- counts
@@ -27,16 +25,6 @@ use Rattle.three_sep.specs.Sides.{set_of, HasRoom, IsClosedBy, IsGrowingBy, IsGr
 pub not_not_true : (b : Bool) → (b ≡ false → ⊥) → b ≡ true
 not_not_true true h = refl
 not_not_true false h = absurd (h refl)
-
-pub count_covered : (test : ℕ → Bool) (size : ℕ) (xs : List ℕ) → ((x : ℕ) → x < size → test x ≡ true → IsIn x xs) → count test size ≤ length xs
-count_covered test zero xs h = omega arith
-count_covered test (suc k) xs h = elim (two_cases (test k)) [
-  | inl e ↦ rw e (
-      let rest = count_covered test k (without xs k) (λ x l t. in_without k x xs (h x (omega arith) t) (λ same. omega arith)) in
-      let less = without_shorter k xs (h k (omega arith) e) in
-      omega arith)
-  | inr e ↦ rw e (count_covered test k xs (λ x l t. h x (omega arith) t))
-]
 
 -- what is not in the greater set is not in the smaller one
 pub not_grows : (a b : Bool) → (a ≡ true → b ≡ true) → not b ≡ true → not a ≡ true
@@ -50,10 +38,17 @@ outside_less m n S T h =
     let b = count_grows (λ c. not (T (Column c))) (λ c. not (S (Column c))) n (λ x l e. not_grows (S (Column x)) (T (Column x)) (h (Column x)) e) in
     omega arith
 
-pub outside_listed : (m : Matrix) (side : Side) → HasRoom m side → outside (height m) m.width (set_of side) ≤ length side.rows.outside.items + length side.columns.outside.items
-outside_listed m side w =
-    let a = count_covered (λ r. not (is_in side.rows r)) (height m) side.rows.outside.items (λ x l e. w.rows.covered x l (not_is (is_in side.rows x) e)) in
-    let b = count_covered (λ c. not (is_in side.columns c)) m.width side.columns.outside.items (λ x l e. w.columns.covered x l (not_is (is_in side.columns x) e)) in
+pub outside_left : (m : Matrix) (side : Side) → HasRoom m side → outside (height m) m.width (set_of side) ≡ side.rows.left + side.columns.left
+outside_left m side w = let a = w.rows.left in let b = w.columns.left in omega arith
+
+pub left_few : (m : Matrix) (side : Side) → HasRoom m side → side.rows.left + side.columns.left ≤ 2000
+left_few m side w =
+    let a = count_most (λ line. not (is_in side.rows line)) (height m) in
+    let b = count_most (λ line. not (is_in side.columns line)) m.width in
+    let c = w.rows.left in
+    let d = w.columns.left in
+    let e = w.rows.few in
+    let f = w.columns.few in
     omega arith
 
 -- ---- pulls
@@ -229,10 +224,10 @@ least_when_none_waits m upper lower start side g nr nc = record {
   least = g.least;
 }
 
-pub few_left : (m : Matrix) (upper lower : ℕ → ℕ → ℤ) (start : List Line) (side : Side) → HasRoom m side → IsGrowingBy m upper lower start side → length side.rows.outside.items + length side.columns.outside.items < 4 → LeavesFewBy m upper lower start
+pub few_left : (m : Matrix) (upper lower : ℕ → ℕ → ℤ) (start : List Line) (side : Side) → HasRoom m side → IsGrowingBy m upper lower start side → side.rows.left + side.columns.left < 4 → LeavesFewBy m upper lower start
 few_left m upper lower start side room g few T closed has =
     let a = outside_less (height m) m.width (set_of side) T (g.least T closed has) in
-    let b = outside_listed m side room in
+    let b = outside_left m side room in
     omega arith
 
 -- ---- the steps in the words of the code

@@ -1,23 +1,47 @@
 -- The rows, or the columns, of a side that grows.
-use Rattle.std.specs.Prelude.{◌≡◌, ◌<◌, ◌≤◌, ◌+◌, ◌⊎◌, ◌+ℤ◌, ◌*ℤ◌, ℕ, ℤ, pos, Bool, true, false, List, length, slice_index_or}
+use Rattle.std.specs.Prelude.{◌≡◌, ◌<◌, ◌≤◌, ◌+◌, ◌⊎◌, ◌+ℤ◌, ◌*ℤ◌, ℕ, ℤ, pos, Bool, true, false, not, List, length, slice_index_or}
+use Rattle.cmr_base.specs.Planes.{has_bit}
+use Rattle.cmr_base.specs.Seeds.{count as number_of_lines}
+use Rattle.cmr_base.specs.ColumnSets.{has_column}
+use Rattle.line_growth.specs.FoundPlaces.{HaveSize}
 use Rattle.cmr_base.specs.Members.{IsIn}
 use Rattle.three_sep.specs.declared.half.Half.{Half}
 
 abbrev pub is_in : Half → ℕ → Bool
 is_in half line = slice_index_or half.inside.items line false
 
--- Of so many lines those that are not in the side are listed as outside, and others may be.
+-- room for so many lines
+pub record HasPlaces (count : ℕ) (half : Half) : Type 0 where
+  pub few : count ≤ 1000
+  pub size : length half.inside.items ≡ count
+  pub words : HaveSize count half.seen
+
+-- of so many lines some are in the side, and what is left are the others
 pub record IsHalf (count : ℕ) (half : Half) : Type 0 where
   pub size : length half.inside.items ≡ count
   pub few : count ≤ 1000
-  pub outside_in : (line : ℕ) → IsIn line half.outside.items → line < count
+  pub words : HaveSize count half.seen
+  pub seen_in : (line : ℕ) → has_column half.seen.seen.items line ≡ true → is_in half line ≡ true
   pub fresh_in : (line : ℕ) → IsIn line half.fresh.items → line < count
   pub fresh_inside : (line : ℕ) → IsIn line half.fresh.items → is_in half line ≡ true
-  pub covered : (line : ℕ) → line < count → is_in half line ≡ false → IsIn line half.outside.items
+  pub left : half.left ≡ number_of_lines (λ line. not (is_in half line)) count
 
 -- the most lines that may still come, or whose pulls are still to be followed
 abbrev pub room : Half → ℕ
-room half = length half.outside.items + length half.fresh.items
+room half = half.left + length half.fresh.items
+
+-- what comes of taking in lines that pass a test
+pub record HasGrown (count : ℕ) (P : ℕ → Type 0) (before after : Half) : Type 0 where
+  pub whole : IsHalf count after
+  pub kept : (line : ℕ) → is_in before line ≡ true → is_in after line ≡ true
+  pub only : (line : ℕ) → is_in after line ≡ true → (is_in before line ≡ true) ⊎ ((line < count) × P line)
+  pub news : (line : ℕ) → is_in after line ≡ true → (is_in before line ≡ true) ⊎ IsIn line after.fresh.items
+  pub waits : (line : ℕ) → IsIn line before.fresh.items → IsIn line after.fresh.items
+  pub room_same : room after ≡ room before
+
+-- a line is that of a bit of a word, whose bits stand for the lines from `first` on
+abbrev pub IsBitOf : (first word line : ℕ) → Type 0
+IsBitOf first word line = (k : ℕ) × (k < 64) × (has_bit word k ≡ true) × (line ≡ first + k)
 
 -- what comes of lines that are taken in where a test fails
 pub record HasPulled (count : ℕ) (agrees : ℕ → Type 0) (before after : Half) : Type 0 where
@@ -28,23 +52,6 @@ pub record HasPulled (count : ℕ) (agrees : ℕ → Type 0) (before after : Hal
   pub news : (line : ℕ) → is_in after line ≡ true → (is_in before line ≡ true) ⊎ IsIn line after.fresh.items
   pub waits : (line : ℕ) → IsIn line before.fresh.items → IsIn line after.fresh.items
   pub room_same : room after ≡ room before
-
--- the lines outside from a place on were not looked at
-pub record IsPulling (count : ℕ) (agrees : ℕ → Type 0) (before half : Half) (place : ℕ) : Type 0 where
-  pub size : length half.inside.items ≡ count
-  pub outside_same : half.outside ≡ before.outside
-  pub outside_in : (line : ℕ) → IsIn line before.outside.items → line < count
-  pub few : count ≤ 1000
-  pub kept_in : (line : ℕ) → IsIn line half.kept.items → line < count
-  pub kept_agree : (line : ℕ) → IsIn line half.kept.items → agrees line
-  pub fresh_in : (line : ℕ) → IsIn line half.fresh.items → line < count
-  pub fresh_inside : (line : ℕ) → IsIn line half.fresh.items → is_in half line ≡ true
-  pub covered : (line : ℕ) → line < count → is_in half line ≡ false → IsIn line half.kept.items ⊎ ((at : ℕ) × (place ≤ at) × (at < length before.outside.items) × (slice_index_or before.outside.items at 0 ≡ line))
-  pub kept : (line : ℕ) → is_in before line ≡ true → is_in half line ≡ true
-  pub only : (line : ℕ) → is_in half line ≡ true → (is_in before line ≡ true) ⊎ ((line < count) × (¬ agrees line))
-  pub news : (line : ℕ) → is_in half line ≡ true → (is_in before line ≡ true) ⊎ IsIn line half.fresh.items
-  pub waits : (line : ℕ) → IsIn line before.fresh.items → IsIn line half.fresh.items
-  pub room_same : length half.kept.items + length half.fresh.items ≡ place + length before.fresh.items
 
 -- the entry is the multiple of the model's
 abbrev pub Agrees : List ℤ → ℤ → List ℤ → ℕ → Type 0
@@ -63,18 +70,6 @@ pub record HasStarted (count one two : ℕ) (half : Half) : Type 0 where
   pub only : (line : ℕ) → is_in half line ≡ true → (line ≡ one) ⊎ (line ≡ two)
   pub fresh : (line : ℕ) → is_in half line ≡ true → IsIn line half.fresh.items
 
--- the lines below a place were looked at
-pub record IsStarting (count one two : ℕ) (half : Half) (place : ℕ) : Type 0 where
-  pub size : length half.inside.items ≡ count
-  pub outside_in : (line : ℕ) → IsIn line half.outside.items → line < count
-  pub fresh_in : (line : ℕ) → IsIn line half.fresh.items → line < place
-  pub fresh_inside : (line : ℕ) → IsIn line half.fresh.items → is_in half line ≡ true
-  pub covered : (line : ℕ) → line < place → is_in half line ≡ false → IsIn line half.outside.items
-  pub one_in : one < place → is_in half one ≡ true
-  pub two_in : two < place → is_in half two ≡ true
-  pub only : (line : ℕ) → line < place → is_in half line ≡ true → (line ≡ one) ⊎ (line ≡ two)
-  pub fresh : (line : ℕ) → line < place → is_in half line ≡ true → IsIn line half.fresh.items
-
 -- one more line is in the side
 pub record HasAdded (count line : ℕ) (before after : Half) : Type 0 where
   pub whole : IsHalf count after
@@ -83,6 +78,8 @@ pub record HasAdded (count line : ℕ) (before after : Half) : Type 0 where
   pub only : (other : ℕ) → is_in after other ≡ true → (is_in before other ≡ true) ⊎ (other ≡ line)
   pub news : (other : ℕ) → is_in after other ≡ true → (is_in before other ≡ true) ⊎ IsIn other after.fresh.items
   pub waits : (other : ℕ) → IsIn other before.fresh.items → IsIn other after.fresh.items
+  pub room_same : room after ≡ room before
+  pub seen_same : after.seen ≡ before.seen
 
 -- a line's pulls are followed next
 pub record HasTaken (count line : ℕ) (before after : Half) : Type 0 where
@@ -96,7 +93,8 @@ pub record HasTaken (count line : ℕ) (before after : Half) : Type 0 where
 -- the same lines are in the side, and the same wait
 pub record AreSame (one two : Half) : Type 0 where
   pub inside : one.inside.items ≡ two.inside.items
-  pub outside : one.outside.items ≡ two.outside.items
+  pub seen : one.seen.seen.items ≡ two.seen.seen.items
+  pub left : one.left ≡ two.left
   pub fresh : one.fresh.items ≡ two.fresh.items
 
 -- the lines that pass, and they alone, are in the side
@@ -106,16 +104,12 @@ pub record HasStartedWith (count : ℕ) (P : ℕ → Type 0) (half : Half) : Typ
   pub only : (line : ℕ) → is_in half line ≡ true → P line
   pub fresh : (line : ℕ) → is_in half line ≡ true → IsIn line half.fresh.items
 
--- the lines below a place were looked at
+-- so far: those of the lines below a place
 pub record IsStartingWith (count : ℕ) (P : ℕ → Type 0) (half : Half) (place : ℕ) : Type 0 where
-  pub size : length half.inside.items ≡ count
-  pub outside_in : (line : ℕ) → IsIn line half.outside.items → line < count
-  pub fresh_in : (line : ℕ) → IsIn line half.fresh.items → line < place
-  pub fresh_inside : (line : ℕ) → IsIn line half.fresh.items → is_in half line ≡ true
-  pub covered : (line : ℕ) → line < place → is_in half line ≡ false → IsIn line half.outside.items
+  pub whole : IsHalf count half
   pub taken : (line : ℕ) → line < place → P line → is_in half line ≡ true
-  pub only : (line : ℕ) → line < place → is_in half line ≡ true → P line
-  pub fresh : (line : ℕ) → line < place → is_in half line ≡ true → IsIn line half.fresh.items
+  pub only : (line : ℕ) → is_in half line ≡ true → P line
+  pub fresh : (line : ℕ) → is_in half line ≡ true → IsIn line half.fresh.items
 
 -- the name of a line is one of two
 abbrev pub IsNamed : List ℕ → ℕ → ℕ → ℕ → ℕ → Type 0

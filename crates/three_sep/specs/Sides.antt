@@ -1,5 +1,5 @@
 -- Side one while it grows.
-use Rattle.std.specs.Prelude.{◌≡◌, ◌<◌, ◌≤◌, ◌+◌, ◌⊎◌, ℕ, ℤ, Bool, true, false, List, [], ◌∷◌, length, slice_index_or}
+use Rattle.std.specs.Prelude.{◌≡◌, ◌<◌, ◌+◌, ◌⊎◌, ℕ, ℤ, Bool, true, false, List, [], ◌∷◌, slice_index_or}
 use Rattle.cmr_base.specs.declared.line.Line.{Line}
 use Rattle.cmr_base.specs.declared.line.Line.TheVariants.{Row, Column}
 use Rattle.cmr_base.specs.Matrix.{Matrix, height, entry}
@@ -9,7 +9,7 @@ use Rattle.three_sep.specs.declared.side.Side.{Side}
 use Rattle.cmr_base.specs.Separations.{Lines, product_at}
 use Rattle.cmr_base.specs.Seeds.{IsLine}
 use Rattle.three_sep.specs.NumberedSeeds.{IsClosed, Among, HasAll, outside}
-use Rattle.three_sep.specs.Halves.{is_in, IsHalf, room}
+use Rattle.three_sep.specs.Halves.{is_in, HasPlaces, IsHalf, room}
 
 -- the lines of a side
 abbrev pub set_of : Side → Lines
@@ -89,10 +89,8 @@ start_lines c x = Row c.i ∷ Column c.p ∷ x ∷ []
 
 -- room for the lines of the matrix
 pub record HasSize (m : Matrix) (side : Side) : Type 0 where
-  pub few_rows : height m ≤ 1000
-  pub few_columns : m.width ≤ 1000
-  pub rows : length side.rows.inside.items ≡ height m
-  pub columns : length side.columns.inside.items ≡ m.width
+  pub rows : HasPlaces (height m) side.rows
+  pub columns : HasPlaces m.width side.columns
 
 -- the place of a line in a list of names, the rows first
 abbrev pub name_in : Matrix → List ℕ → Line → ℕ

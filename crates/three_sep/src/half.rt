@@ -1,15 +1,15 @@
 // The rows, or the columns, of a side that grows.
-ghost use Rattle.std.specs.Prelude.{◌≡◌, ◌<◌, ◌≤◌, ◌+◌, ◌↔◌, ◌⊎◌, IsTrue, not, ℕ, length, IfOk, OnOk, MatchOption};
+ghost use Rattle.std.specs.Prelude.{◌≡◌, ◌<◌, ◌≤◌, ◌+◌, ◌↔◌, ◌⊎◌, IsTrue, ℕ, true, false, length, IfOk, OnOk, MatchOption};
+ghost use Rattle.cmr_base.specs.Planes.{has_bit};
 ghost use Rattle.cmr_base.specs.Matrix.{height, row_of, IsEntry};
-ghost use Rattle.cmr_base.specs.Members.{IsIn};
-ghost use Rattle.three_sep.specs.NumberedSeeds.{count};
 ghost use Rattle.three_sep.specs.Numbers.{IsSmall};
-ghost use Rattle.three_sep.specs.Halves.{Agrees, AgreesWithSum, AreSame, HasAdded, HasPulled, HasStarted, HasStartedWith, IsNamed, HasTaken, IsHalf, is_in};
+ghost use Rattle.three_sep.specs.Halves.{Agrees, AgreesWithSum, AreSame, HasAdded, HasGrown, HasPlaces, HasPulled, HasStarted, HasStartedWith, HasTaken, IsBitOf, IsHalf, IsNamed, is_in};
 
 use crate::connectors::times;
+use cmr_base::columns::next_column;
 use cmr_base::{Matrix, Memory};
+use line_growth::Places;
 use std::alloc::Global;
-use std::mem;
 
 /// A multiple of a row.
 #[derive(Clone, Copy)]
@@ -22,17 +22,6 @@ fn is_either(line: u32, one: u32, two: u32) -> bool
     ensures { IsTrue result ↔ ((line ≡ one) ⊎ (line ≡ two)) }
 {
     line == one || line == two
-}
-
-// Whether the entry of a row at a place is the multiple of the model's.
-fn is_multiple_at(matrix: &Matrix, row: u32, factor: i8, model: u32, place: u32) -> bool
-    requires row { row < height matrix.now }
-    requires model { model < height matrix.now }
-    requires place { place < matrix.now.width }
-    requires factor { IsEntry factor }
-    ensures { IsTrue result ↔ Agrees (row_of matrix.now row) factor (row_of matrix.now model) place }
-{
-    matrix.entry(row, place) == factor * matrix.entry(model, place)
 }
 
 /// Whether the entry of a row at a place is the sum of those of two multiples.
@@ -50,49 +39,53 @@ pub fn is_sum_at(matrix: &Matrix, row: u32, one: &Multiple, other: &Multiple, pl
     matrix.entry(row, place) == one_part + other_part
 }
 
-/// The rows, or the columns, of a side that grows: which are in it, those that may still come, and those in it whose
-/// pulls were not followed yet.
+/// The rows, or the columns, of a side that grows: which are in it, how many are not, and those in it whose pulls were not
+/// followed yet.
 #[derive(Drop)]
 pub struct Half {
     inside: Vec<bool>,
-    outside: Vec<u32>,
+    // Some of those inside, as words.
+    seen: Places,
+    left: usize,
     fresh: Vec<u32>,
-    // Room for the lines that stay outside.
-    kept: Vec<u32>,
 }
 
 impl Half {
     /// Room for so many lines, all of them outside.
     pub fn new(alloc: Global, size: u32) -> Result<Half, Memory>
         requires { size ≤ 1000 }
-        ensures { IfOk result (λ half. length half.inside.items ≡ size) }
+        ensures { IfOk result (HasPlaces size) }
     {
         Ok(Half {
             inside: vec![in alloc; false; size as usize]?,
-            outside: Vec::with_capacity(alloc, size as usize)?,
+            seen: Places::new(alloc, size)?,
+            left: size as usize,
             fresh: Vec::with_capacity(alloc, size as usize)?,
-            kept: Vec::with_capacity(alloc, size as usize)?,
         })
+    }
+
+    // All lines are outside.
+    fn clear(&mut self)
+        requires { HasPlaces (length self.old.inside.items) self.old }
+        ensures whole { IsHalf (length self.old.inside.items) self.new }
+        ensures none { (line : ℕ) → is_in self.new line ≡ false }
+    {
+        self.inside.fill(false);
+        self.seen.clear();
+        self.left = self.inside.len();
+        self.fresh.clear();
     }
 
     /// Begins with two lines, which may be one.
     pub fn start(&mut self, one: u32, two: u32) -> Result<(), Memory>
-        requires few { length self.old.inside.items ≤ 1000 }
+        requires places { HasPlaces (length self.old.inside.items) self.old }
         requires one { one < length self.old.inside.items }
         requires two { two < length self.old.inside.items }
         ensures { OnOk result (HasStarted (length self.old.inside.items) one two self.new) }
     {
-        self.outside.clear();
-        self.fresh.clear();
-        for line in 0..self.inside.len() as u32 {
-            if is_either(line, one, two) {
-                self.inside[line as usize] = true;
-                self.fresh.push(line)?;
-            } else {
-                self.inside[line as usize] = false;
-                self.outside.push(line)?;
-            }
-        }
+        self.clear();
+        self.add(one)?;
+        self.add(two)?;
         Ok(())
     }
 
@@ -104,20 +97,15 @@ impl Half {
         one: u32,
         two: u32,
     ) -> Result<(), Memory>
-        requires few { length self.old.inside.items ≤ 1000 }
+        requires places { HasPlaces (length self.old.inside.items) self.old }
         requires offset { offset ≤ 1000 }
         requires names { offset + length self.old.inside.items ≤ length names.now }
         ensures { OnOk result (HasStartedWith (length self.old.inside.items) (IsNamed names.now offset one two) self.new) }
     {
-        self.outside.clear();
-        self.fresh.clear();
+        self.clear();
         for line in 0..self.inside.len() as u32 {
             if is_either(names[(offset + line) as usize], one, two) {
-                self.inside[line as usize] = true;
-                self.fresh.push(line)?;
-            } else {
-                self.inside[line as usize] = false;
-                self.outside.push(line)?;
+                self.add(line)?;
             }
         }
         Ok(())
@@ -129,7 +117,11 @@ impl Half {
         requires line { line < length self.old.inside.items }
         ensures { OnOk result (HasAdded (length self.old.inside.items) line self.old self.new) }
     {
+        if self.inside[line as usize] {
+            return Ok(());
+        }
         self.inside[line as usize] = true;
+        self.left -= 1;
         self.fresh.push(line)?;
         Ok(())
     }
@@ -144,17 +136,39 @@ impl Half {
         requires factor { IsEntry factor }
         ensures { OnOk result (HasPulled (length self.old.inside.items) (Agrees (row_of matrix.now row) factor (row_of matrix.now model)) self.old self.new) }
     {
-        self.kept.clear();
-        for place in 0..self.outside.len() {
-            let line = self.outside[place];
-            if is_multiple_at(matrix, row, factor, model, line) {
-                self.kept.push(line)?;
-            } else {
-                self.inside[line as usize] = true;
-                self.fresh.push(line)?;
+        let _columns = matrix.columns();
+        let words = matrix.support_words(row);
+        for block in 0..self.seen.blocks() {
+            let word = self.seen.unseen(
+                matrix,
+                row,
+                words,
+                line_growth::Multiple { factor, model },
+                block,
+            );
+            if word != 0 {
+                self.add_word(64 * block as u32, word)?;
+                self.seen.add(block, word);
             }
         }
-        mem::swap(&mut self.outside, &mut self.kept);
+        Ok(())
+    }
+
+    // Takes in the lines of the bits of a word, which have the numbers from `first` on.
+    fn add_word(&mut self, first: u32, word: u64) -> Result<(), Memory>
+        requires half { IsHalf (length self.old.inside.items) self.old }
+        requires first { first ≤ 1000 }
+        requires lines { (k : ℕ) → k < 64 → has_bit word k ≡ true → first + k < length self.old.inside.items }
+        ensures taken { OnOk result ((k : ℕ) → k < 64 → has_bit word k ≡ true → is_in self.new (first + k) ≡ true) }
+        ensures grown { OnOk result (HasGrown (length self.old.inside.items) (IsBitOf first word) self.old self.new) }
+        ensures seen { OnOk result (self.new.seen ≡ self.old.seen) }
+    {
+        let bits = [word];
+        let mut from = 0;
+        while let Some(bit) = next_column(&bits, from) {
+            self.add(first + bit)?;
+            from = bit + 1;
+        }
         Ok(())
     }
 
@@ -176,18 +190,37 @@ impl Half {
         requires other_factor { IsSmall other.now.factor }
         ensures { OnOk result (HasPulled (length self.old.inside.items) (AgreesWithSum (row_of matrix.now row) one.now.factor (row_of matrix.now one.now.row) other.now.factor (row_of matrix.now other.now.row)) self.old self.new) }
     {
-        self.kept.clear();
-        for place in 0..self.outside.len() {
-            let line = self.outside[place];
-            if is_sum_at(matrix, row, one, other, line) {
-                self.kept.push(line)?;
-            } else {
-                self.inside[line as usize] = true;
-                self.fresh.push(line)?;
+        for line in 0..self.inside.len() as u32 {
+            if self.is_unlike(matrix, row, one, other, line) {
+                self.add(line)?;
             }
         }
-        mem::swap(&mut self.outside, &mut self.kept);
         Ok(())
+    }
+
+    // Whether a line is outside and the entry of a row there is not the sum of those of two multiples.
+    fn is_unlike(
+        &self,
+        matrix: &Matrix,
+        row: u32,
+        one: &Multiple,
+        other: &Multiple,
+        line: u32,
+    ) -> bool
+        requires width { matrix.now.width ≡ length self.now.inside.items }
+        requires row { row < height matrix.now }
+        requires one_row { one.now.row < height matrix.now }
+        requires other_row { other.now.row < height matrix.now }
+        requires one_factor { IsSmall one.now.factor }
+        requires other_factor { IsSmall other.now.factor }
+        requires line { line < length self.now.inside.items }
+        ensures yes { result ≡ true → ¬ (AgreesWithSum (row_of matrix.now row) one.now.factor (row_of matrix.now one.now.row) other.now.factor (row_of matrix.now other.now.row) line) }
+        ensures no { result ≡ false → (is_in self.now line ≡ true) ⊎ AgreesWithSum (row_of matrix.now row) one.now.factor (row_of matrix.now one.now.row) other.now.factor (row_of matrix.now other.now.row) line }
+    {
+        if self.inside[line as usize] {
+            return false;
+        }
+        !is_sum_at(matrix, row, one, other, line)
     }
 
     /// Becomes equal to another.
@@ -196,8 +229,8 @@ impl Half {
     {
         self.inside.clear();
         self.inside.extend_from_slice(&other.inside)?;
-        self.outside.clear();
-        self.outside.extend_from_slice(&other.outside)?;
+        self.seen.copy(&other.seen)?;
+        self.left = other.left;
         self.fresh.clear();
         self.fresh.extend_from_slice(&other.fresh)?;
         Ok(())
@@ -218,11 +251,11 @@ impl Half {
         self.fresh.len()
     }
 
-    /// At most so many lines are outside.
+    /// How many lines are outside.
     pub fn left(&self) -> usize
-        ensures { result ≡ length self.now.outside.items }
+        ensures { result ≡ self.now.left }
     {
-        self.outside.len()
+        self.left
     }
 
     /// Whether a line is in the side.
@@ -231,19 +264,5 @@ impl Half {
         ensures { result ≡ is_in self.now line }
     {
         self.inside[line as usize]
-    }
-
-    /// How many lines are outside.
-    pub fn count_outside(&self) -> u32
-        requires { length self.now.inside.items ≤ 1000 }
-        ensures { result ≡ count (λ line. not (is_in self.now line)) (length self.now.inside.items) }
-    {
-        let mut outside = 0;
-        for line in 0..self.inside.len() {
-            if !self.inside[line] {
-                outside += 1;
-            }
-        }
-        outside
     }
 }

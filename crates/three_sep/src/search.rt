@@ -650,7 +650,7 @@ pub fn leaves_second(
     if side.rows.has(corners.k) || side.columns.has(corners.j) {
         return false;
     }
-    side.rows.count_outside() + side.columns.count_outside() >= 4
+    side.rows.left() + side.columns.left() >= 4
 }
 
 /// The separation of a side.

@@ -1,18 +1,10 @@
-use Rattle.std.proofs.Common.{arith, not, length}
-use Rattle.three_sep.specs.Halves.{is_in}
-use Rattle.three_sep.proofs.HalfLemmas.{count_most}
+use Rattle.std.proofs.Common.{arith}
+use Rattle.three_sep.proofs.SideLemmas.{left_few}
 use Rattle.three_sep.proofs.search.leaves_second.Goals as goal
 
 pub overflow_add-result : goal.overflow_add-result
 overflow_add-result c =
-    let rows = c.args.side.now.rows in
-    let columns = c.args.side.now.columns in
-    let a = count_most (λ line. not (is_in rows line)) (length rows.inside.items) in
-    let b = count_most (λ line. not (is_in columns line)) (length columns.inside.items) in
-    let e = c.count_outside.ensures in
-    let f = c.count_outside-2.ensures in
-    let g = c.requires.room.rows.size in
-    let h = c.requires.room.columns.size in
-    let i = c.requires.room.rows.few in
-    let j = c.requires.room.columns.few in
+    let few = left_few c.args.views.now c.args.side.now c.requires.room in
+    let e = c.left.ensures in
+    let f = c.left-2.ensures in
     omega arith

@@ -6,10 +6,10 @@ use Rattle.three_sep.proofs.HalfLemmas.{takes}
 use Rattle.three_sep.proofs.half.Half.next.Goals as goal
 
 cases : (A : Type 0) (B : ℕ → Type 0) (count : ℕ) (before after : Half) (r : Option ℕ) → MatchOption r A B → (A → length before.fresh.items ≡ 0) → IsHalf count before
-    → before.fresh.items ≡ after.fresh.items ++ option_to_list r → after.inside ≡ before.inside → after.outside ≡ before.outside
+    → before.fresh.items ≡ after.fresh.items ++ option_to_list r → after.inside ≡ before.inside → after.seen ≡ before.seen → after.left ≡ before.left
     → MatchOption r (length before.fresh.items ≡ 0) (λ line. HasTaken count line before after)
-cases A B count before after None m f w e i o = f m
-cases A B count before after (Some x) m f w e i o = takes count x before after w e i o
+cases A B count before after None m f w e i o l = f m
+cases A B count before after (Some x) m f w e i o l = takes count x before after w e i o l
 
 pub returns : goal.returns
-returns c = cases _ _ (length c.args.self.now.inside.items) c.args.self.now _ c.pop.result c.pop.ensures.cases (λ e. let k = e.0 in omega arith) c.requires c.pop.ensures.items refl refl
+returns c = cases _ _ (length c.args.self.now.inside.items) c.args.self.now _ c.pop.result c.pop.ensures.cases (λ e. let k = e.0 in omega arith) c.requires c.pop.ensures.items refl refl refl

@@ -1,25 +1,8 @@
-use Rattle.std.proofs.Common.{refl, arith, inl, inr, ◌∙◌, ap}
-use Rattle.cmr_base.proofs.Booleans.{not_both}
-use Rattle.three_sep.proofs.HalfLemmas.{starting_starts, starting_takes, starting_leaves, starting_ends}
+use Rattle.std.proofs.Common.{◌∙◌, length}
+use Rattle.three_sep.proofs.HalfLemmas.{started_as}
 use Rattle.three_sep.proofs.half.Half.start.Goals as goal
-use Rattle.three_sep.proofs.half.Half.start.Goals.{then-is_either+in_ok-push, else-is_either+in_ok-push-2}
-
-pub loop-line-init : goal.loop-line-init
-loop-line-init c = starting_starts _ c.args.one c.args.two _ refl c.clear.ensures.items c.clear-2.ensures.items
-
-pub loop-line-preserved : goal.loop-line-preserved
-loop-line-preserved c =
-    elim c.if-is_either.branch [
-      | then-is_either+in_ok-push w ↦ starting_takes _ c.args.one c.args.two c.loop-line.self c.loop-line.line c.if-is_either.self c.loop-line.invariant
-          (let e = c.len-line-end.ensures in let l = c.loop-line-test.true in omega arith)
-          (c.is_either.ensures.0 w.if-is_either.true)
-          (ap (λ v. v.inside.items) w.self-is) (ap (λ v. v.outside) w.self-is) (ap (λ v. v.fresh.items) w.self-is ∙ w.in_ok-push.ensures.items)
-      | else-is_either+in_ok-push-2 w ↦ starting_leaves _ c.args.one c.args.two c.loop-line.self c.loop-line.line c.if-is_either.self c.loop-line.invariant
-          (let e = c.len-line-end.ensures in let l = c.loop-line-test.true in omega arith)
-          (λ h. not_both c.is_either.result (c.is_either.ensures.1 (inl h)) w.if-is_either.false)
-          (λ h. not_both c.is_either.result (c.is_either.ensures.1 (inr h)) w.if-is_either.false)
-          (ap (λ v. v.inside.items) w.self-is) (ap (λ v. v.outside.items) w.self-is ∙ w.in_ok-push-2.ensures.items) (ap (λ v. v.fresh) w.self-is)
-    ]
 
 pub returns : goal.returns
-returns c = starting_ends _ c.args.one c.args.two c.loop-line.self c.loop-line.line c.loop-line.invariant c.requires.few c.requires.one c.requires.two (let e = c.len-line-end.ensures in let l = c.loop-line-test.false in omega arith)
+returns c =
+    let size = c.clear.ensures.whole.size in
+    started_as (length c.args.self.now.inside.items) _ _ c.args.one c.args.two c.clear.new.self c.add.new.self _ size (c.in_ok-add.ensures.whole.size ∙ size) c.clear.ensures.none c.in_ok-add.ensures c.in_ok-add-2.ensures

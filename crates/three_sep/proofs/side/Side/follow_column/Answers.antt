@@ -1,5 +1,6 @@
 use Rattle.std.proofs.Common.{arith}
 use Rattle.cmr_base.specs.Matrix.{row_of}
+use Rattle.three_sep.proofs.RoomLemmas.{room_kept}
 use Rattle.three_sep.proofs.SideLemmas.{column_step, factor_is, height_turned, turned_entry}
 use Rattle.three_sep.proofs.side.Side.follow_column.Goals as goal
 
@@ -8,6 +9,9 @@ pull-requires-clause-row c = height_turned c.args.views.now c.by_columns.result.
 
 pub pull-requires-clause-model : goal.pull-requires-clause-model
 pull-requires-clause-model c = height_turned c.args.views.now c.by_columns.result.now c.args.corners.now.p c.by_columns.ensures.shape c.by_columns.ensures.matrix c.requires.corners.column_one
+
+pub returns-in_ok-pull-clause-room : goal.returns-in_ok-pull-clause-room
+returns-in_ok-pull-clause-room c = room_kept c.args.views.now _ _ _ c.requires.room.rows.size c.requires.room.columns.size c.in_ok-pull.ensures.whole c.in-Some.ensures.whole
 
 pub returns-in_ok-pull-clause-growing : goal.returns-in_ok-pull-clause-growing
 returns-in_ok-pull-clause-growing c =

@@ -1,7 +1,11 @@
 use Rattle.std.proofs.Common.{ap}
 use Rattle.cmr_base.specs.Matrix.{Matrix, row_of}
+use Rattle.three_sep.proofs.RoomLemmas.{room_kept}
 use Rattle.three_sep.proofs.SideLemmas.{row_step, factor_is}
 use Rattle.three_sep.proofs.side.Side.follow_row.Goals as goal
+
+pub returns-in_ok-pull-clause-room : goal.returns-in_ok-pull-clause-room
+returns-in_ok-pull-clause-room c = room_kept c.args.views.now _ _ _ c.requires.room.rows.size c.requires.room.columns.size c.in-Some.ensures.whole c.in_ok-pull.ensures.whole
 
 pub returns-in_ok-pull-clause-growing : goal.returns-in_ok-pull-clause-growing
 returns-in_ok-pull-clause-growing c =

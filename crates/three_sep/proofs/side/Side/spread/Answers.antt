@@ -1,6 +1,13 @@
 use Rattle.std.proofs.Common.{arith}
-use Rattle.three_sep.proofs.SideLemmas.{least_when_none_waits, few_left}
+use Rattle.three_sep.proofs.SideLemmas.{least_when_none_waits, few_left, left_few}
 use Rattle.three_sep.proofs.side.Side.spread.Goals as goal
+
+pub overflow_add-left : goal.overflow_add-left
+overflow_add-left c =
+    let few = left_few c.args.views.now c.loop-self.self c.loop-self.invariant.0 in
+    let a = c.left.ensures in
+    let b = c.left-in-loop-self.ensures in
+    omega arith
 
 pub returns-then-waiting-eq0-clause-closed : goal.returns-then-waiting-eq0-clause-closed
 returns-then-waiting-eq0-clause-closed c = λ start g. least_when_none_waits c.args.views.now _ _ start c.loop-self.self (c.loop-self.invariant.1 start g)
