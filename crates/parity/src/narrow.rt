@@ -6,7 +6,7 @@ ghost use Rattle.cmr_base.specs.Matrix.{height, IsMatrix};
 ghost use Rattle.cmr_base.specs.LineSets.{AllBelow};
 ghost use Rattle.cmr_base.specs.Violator.{HasNoColumnSet};
 ghost use Rattle.parity.specs.ColumnSets.{HasLeastColumnSet};
-ghost use Rattle.parity.specs.Equations.{IsBasis, IsLowest, reduced};
+ghost use Rattle.parity.specs.Equations.{IsBasis, IsLowest, cleared_by, reduced};
 ghost use Rattle.parity.specs.Planes.{AreSums, equations_of, outside};
 
 use cmr_base::{Matrix, Memory};
@@ -104,11 +104,17 @@ fn reduce(basis: &[Equation], columns: u64) -> u64
 {
     let mut left = columns;
     for equation in basis {
-        if (left >> equation.pivot) & 1 == 1 {
-            left ^= equation.columns;
-        }
+        left = cleared_by(*equation, left);
     }
     left
+}
+
+// The columns with the equation added where its pivot is among them. Whether it is cannot be foretold, so no branch is taken.
+fn cleared_by(equation: Equation, columns: u64) -> u64
+    requires { equation.pivot < 64 }
+    ensures { result ≡ cleared_by equation columns }
+{
+    columns ^ (equation.columns * ((columns >> equation.pivot) & 1))
 }
 
 // The columns that are not among the others.
