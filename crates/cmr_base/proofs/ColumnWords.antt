@@ -28,7 +28,7 @@ place_of block k l = omega arith
 pub column_at : (words : List ℕ) (block k : ℕ) → k < 64 → has_column words (64 * block + k) ≡ has_bit (get_or words block 0) k
 column_at words block k l = ap (λ b. has_bit (get_or words b 0) ((64 * block + k) % 64)) (block_of block k l) ∙ ap (has_bit (get_or words block 0)) (place_of block k l)
 
-no_bit : (k : ℕ) → has_bit 0 k ≡ false
+pub no_bit : (k : ℕ) → has_bit 0 k ≡ false
 no_bit k = ap (λ bit. eqb bit 1) (bit_at-zero k)
 
 -- no column is past the last word

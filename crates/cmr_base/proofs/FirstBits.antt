@@ -14,7 +14,7 @@ no_bit_is : (b : Bool) (n : ℕ) → n ≡ cond b 1 0 → n ≡ 0 → b ≡ fals
 no_bit_is true n e h = absurd (omega arith)
 no_bit_is false n e h = refl
 
-moved : (n k i : ℕ) → bit_at (n / 2 ^ k) i ≡ bit_at n (k + i)
+pub moved : (n k i : ℕ) → bit_at (n / 2 ^ k) i ≡ bit_at n (k + i)
 moved n k i = ap (λ (d : ℕ). d % 2) (div-div-eq-div-mul n (2 ^ k) (2 ^ i) ∙ ap (λ (p : ℕ). n / p) (sym (pow-add 2 k i)))
 
 module _ (test : ℕ → Bool) (column word : ℕ) (fits : word < 2 ^ 64) (tells : (i : ℕ) → i < 64 → bit_at word i ≡ cond (test (64 * (column / 64) + i)) 1 0) where

@@ -32,3 +32,4 @@ pub mod Determinants
 pub mod Cores
 pub mod R10
 pub mod ColumnSets
+pub mod Runs

@@ -22,6 +22,7 @@ mod products;
 mod reproduce;
 mod rooted_tree;
 mod rows_and_columns;
+mod runs;
 mod separation;
 mod set_numbers;
 mod word;

@@ -6,13 +6,18 @@ ghost use Rattle.cmr_base.specs.Matrix.{Matrix, height, row_of, entry, with_entr
 ghost use Rattle.cmr_base.specs.LineSets.{AllBelow, submatrix};
 ghost use Rattle.cmr_base.specs.MatrixLayout.{value_of};
 ghost use Rattle.cmr_base.specs.Planes.{is_minus, word_of, words_for, words_of};
+ghost use Rattle.cmr_base.specs.Runs.{AreRuns};
 
 use crate::planes::{
     Plane, count_bits, has_bit, passes, place_of, planes_of, row_words, with_bit, words_for,
 };
-use crate::{LineSet, MAX_COLUMNS, MAX_ROWS, Memory};
+use crate::runs::{Run, chosen_plane, runs_of};
+use crate::{Indices, LineSet, MAX_COLUMNS, MAX_ROWS, Memory};
 use std::alloc::Global;
 use std::marker::Model;
+
+// A part is made by words where its columns have at most so many runs for each word of a row.
+const RUNS_FOR_A_WORD: usize = 4;
 
 /// A matrix with entries -1, 0 and 1. Contracts see it as the list of its rows and its width, so that a
 /// matrix without rows has a width too. It may be shared between threads.
@@ -168,10 +173,68 @@ impl Matrix {
         requires columns { AllBelow self.now.width lines.now.columns }
         ensures { IfOk result (λ part. part ≡ submatrix self.now lines.now.rows lines.now.columns) }
     {
-        let rows = lines.rows.as_slice();
-        let columns = lines.columns.as_slice();
+        self.part_on(alloc, &lines.rows, &lines.columns)
+    }
+
+    /// The submatrix on some rows and columns, in the matrix's order.
+    pub(crate) fn part_on(
+        &self,
+        alloc: Global,
+        rows: &Indices,
+        columns: &Indices,
+    ) -> Result<Matrix, Memory>
+        requires rows { AllBelow (height self.now) rows.now }
+        requires columns { AllBelow self.now.width columns.now }
+        ensures { IfOk result (λ part. part ≡ submatrix self.now rows.now columns.now) }
+    {
+        let rows = rows.as_slice();
+        let columns = columns.as_slice();
         prove!(rows.len() <= self.rows() as usize);
         prove!(columns.len() <= self.columns() as usize);
+        let runs = runs_of(alloc, columns)?;
+        if runs.len() <= RUNS_FOR_A_WORD * words_for(self.columns) {
+            return self.part_by_runs(alloc, rows, columns, &runs);
+        }
+        self.part_by_nonzeros(alloc, rows, columns)
+    }
+
+    // The same by words, where the columns fall into few runs.
+    fn part_by_runs(
+        &self,
+        alloc: Global,
+        rows: &[u32],
+        columns: &[u32],
+        runs: &[Run],
+    ) -> Result<Matrix, Memory>
+        requires rows { AllBelow (height self.now) rows.now }
+        requires columns { AllBelow self.now.width columns.now }
+        requires few_rows { length rows.now ≤ MAX_ROWS }
+        requires few_columns { length columns.now ≤ MAX_COLUMNS }
+        requires runs { AreRuns columns.now runs.now (length columns.now) }
+        ensures { IfOk result (λ part. part ≡ submatrix self.now rows.now columns.now) }
+    {
+        Ok(Matrix {
+            rows: rows.len() as u32,
+            columns: columns.len() as u32,
+            support: chosen_plane(alloc, &self.support, self.columns, rows, columns, runs)?,
+            minus: chosen_plane(alloc, &self.minus, self.columns, rows, columns, runs)?,
+        })
+    }
+
+    // The same nonzero by nonzero.
+    fn part_by_nonzeros(
+        &self,
+        alloc: Global,
+        rows: &[u32],
+        columns: &[u32],
+    ) -> Result<Matrix, Memory>
+        requires rows { AllBelow (height self.now) rows.now }
+        requires columns { AllBelow self.now.width columns.now }
+        requires rising { IsStrictlyIncreasing columns.now }
+        requires few_rows { length rows.now ≤ MAX_ROWS }
+        requires few_columns { length columns.now ≤ MAX_COLUMNS }
+        ensures { IfOk result (λ part. part ≡ submatrix self.now rows.now columns.now) }
+    {
         let places = places_of(alloc, columns, self.columns())?;
         let mut part = Matrix::zero(alloc, rows.len() as u32, columns.len() as u32)?;
         for place in 0..rows.len() {
