@@ -8,3 +8,4 @@ pub mod LineWords
 pub mod Decimals
 pub mod Spelled
 pub mod EntryWords
+pub mod ReadAgain
