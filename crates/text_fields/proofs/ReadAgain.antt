@@ -1,18 +1,11 @@
 -- Words that were written for a value, read again.
-use Rattle.std.proofs.Common.{◌≡◌, ◌<◌, ◌≤◌, ◌+◌, ◌^◌, ◌∙◌, ℕ, true, false, leb, eqb, List, [], ◌∷◌, ◌++◌, length, Result, Ok, refl, ap, sym, subst, append_assoc, arith}
-use Rattle.std.specs.Fmt.{decimal}
+use Rattle.std.proofs.Common.{◌≡◌, ◌∙◌, ℕ, List, [], ◌∷◌, ◌++◌, length, Result, Ok, refl, ap, sym, subst, append_assoc}
 use Rattle.std.specs.List.{AllByRecursion, flat_map}
-use Rattle.std.proofs.lemmas.Bool.{le-leb}
-use Rattle.std.proofs.lemmas.Bool.Decides.{nat_tests}
 use Rattle.std.proofs.lemmas.List.{append-nil}
-use Rattle.text_fields.specs.declared.error.NumberFault.{NumberFault}
 use Rattle.text_fields.specs.Words.{Text}
-use Rattle.text_fields.specs.Limits.{limited, line_in}
-use Rattle.text_fields.specs.LineNumbers.{number_of_line}
 use Rattle.text_fields.specs.Result.{◌>>=◌}
 use Rattle.text_fields.specs.Reading.{Fault, field, times}
 use Rattle.text_fields.specs.Spelling.{texts_of}
-use Rattle.text_fields.proofs.Decimals.{count_of_decimal}
 use Rattle.text_fields.proofs.LineWords.{split_texts}
 
 -- reading a value off the front of a text
@@ -51,13 +44,3 @@ again_times {K} step write Q each before [] all = subst (λ xs. Again {K = K} (�
 again_times {K} {A} step write Q each before (x ∷ values) all =
     subst (Again (times step (length (x ∷ values)) before) (flat_map write (x ∷ values))) (append_assoc before (x ∷ []) values)
     (again_bind (step before) (λ (next : List A × Text). times step (length values) next.0 next.1) (write x) (flat_map write values) (before ++ x ∷ []) ((before ++ x ∷ []) ++ values) (each before x all.0) (again_times step write Q each (before ++ x ∷ []) values all.1))
-
--- ---- numbers within limits
-
-pub limited_again : {K : Type 0} (name : NumberFault → K) (beyond : K) (most n : ℕ) → n ≤ most → n < 2 ^ 31 → limited name beyond most (decimal n) ≡ Ok n
-limited_again name beyond most n le small = let t : leb n most ≡ true = le-leb n most le in rw (count_of_decimal n small, t) refl
-
-pub line_in_again : {K : Type 0} (name : NumberFault → K) (outside : K) (most line : ℕ) → line < most → most ≤ 1000 → line_in name outside most (number_of_line line) ≡ Ok (line + 1)
-line_in_again name outside most line below small =
-    let t : eqb (line + 1) 0 ≡ false = grind (arith, nat_tests) in
-    rw (limited_again name outside most (line + 1) (omega arith) (omega arith), t) refl
