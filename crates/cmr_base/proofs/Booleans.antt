@@ -41,6 +41,10 @@ pub false_is : (b : Bool) → (b ≡ true → ⊥) → b ≡ false
 false_is true none = absurd (none refl)
 false_is false none = refl
 
+pub true_is : (b : Bool) → (b ≡ false → ⊥) → b ≡ true
+true_is true none = refl
+true_is false none = absurd (none refl)
+
 -- not b is true exactly where b is false, and the other way round
 pub not_is : (b : Bool) → not b ≡ true → b ≡ false
 not_is true e = cc
@@ -86,9 +90,21 @@ pub or_right : (a b : Bool) → b ≡ true → (a || b) ≡ true
 or_right true b e = refl
 or_right false b e = e
 
+pub or_true : (b : Bool) → (b || true) ≡ true
+or_true true = refl
+or_true false = refl
+
 pub or_false : (b : Bool) → (b || false) ≡ b
 or_false true = refl
 or_false false = refl
+
+pub and_false : (b : Bool) → (b && false) ≡ false
+and_false true = refl
+and_false false = refl
+
+pub and_same : (b : Bool) → (b && b) ≡ b
+and_same true = refl
+and_same false = refl
 
 -- the byte of a test
 pub one_or_none : (b : Bool) → bool_byte b ≡ cond b 1 0
@@ -105,6 +121,9 @@ self_eq n = grind arith
 
 pub is_eq : (a b : ℕ) → a ≡ b → nat_eq a b ≡ true
 is_eq a b e = ap (λ (z : ℕ). nat_eq z b) e ∙ self_eq b
+
+pub eq_turned : (a b : ℕ) → nat_eq a b ≡ nat_eq b a
+eq_turned a b = grind (arith, nat_tests)
 
 pub ne_of : (a b : ℕ) → nat_eq a b ≡ false → a ≢ b
 ne_of a b e f = not_both (nat_eq a b) (is_eq a b f) e

@@ -5,18 +5,18 @@ use Rattle.std.specs.Int.Bits.{bit_and, bit_or, and_lt}
 use Rattle.std.proofs.Math.Nat.{div-le_self}
 use Rattle.std.proofs.lemmas.Bool.{cases_lt, true≢false}
 use Rattle.std.proofs.lemmas.List.{get_or-set_same, get_or-set_other, get_or_default, get_or_past, length-set}
-use Rattle.std.proofs.lemmas.Nat.Bits.{bit_at-lt, bit_at-zero, bit_at-trailing_zeros}
+use Rattle.std.proofs.lemmas.Nat.Bits.{bit_at-lt, bit_at-trailing_zeros}
 use Rattle.cmr_base.specs.Matrix.{Matrix, height, row_of, is_nonzero, IsMatrix}
 use Rattle.cmr_base.specs.Planes.{has_bit, words_for, words_of}
 use Rattle.cmr_base.specs.Trees.{support}
-use Rattle.cmr_base.proofs.Booleans.{and_is, and_not}
+use Rattle.cmr_base.proofs.Booleans.{and_is, and_not, or_false}
 use Rattle.cmr_base.proofs.NextNonzeros.{column_in}
 use Rattle.cmr_base.proofs.PlaneWords.{length-words_of, word-words_of}
 use Rattle.cmr_base.proofs.FirstBits.{first_by_bits, none_by_bits}
 use Rattle.cmr_base.proofs.RowLists.{is_eq, is_ne, same_or_not}
 use Rattle.std.specs.Prelude.{◌↔◌}
 use Rattle.cmr_base.specs.ColumnSets.{has_column, Denies, HasCommon, IsApart, IsWithin, IsAdded}
-use Rattle.cmr_base.proofs.WordBits.{has_bit-and, has_bit-not, has_bit-or, bit_at_block}
+use Rattle.cmr_base.proofs.WordBits.{has_bit-and, has_bit-not, has_bit-or, has_bit-zero, bit_at_block}
 
 -- a column by its block and its place there
 pub block_of : (block k : ℕ) → k < 64 → (64 * block + k) / 64 ≡ block
@@ -28,12 +28,9 @@ place_of block k l = omega arith
 pub column_at : (words : List ℕ) (block k : ℕ) → k < 64 → has_column words (64 * block + k) ≡ has_bit (get_or words block 0) k
 column_at words block k l = ap (λ b. has_bit (get_or words b 0) ((64 * block + k) % 64)) (block_of block k l) ∙ ap (has_bit (get_or words block 0)) (place_of block k l)
 
-pub no_bit : (k : ℕ) → has_bit 0 k ≡ false
-no_bit k = ap (λ bit. eqb bit 1) (bit_at-zero k)
-
 -- no column is past the last word
 pub none_past : (words : List ℕ) (column : ℕ) → 64 * length words ≤ column → has_column words column ≡ false
-none_past words column l = ap (λ word. has_bit word (column % 64)) (get_or_past words (column / 64) 0 (omega arith)) ∙ no_bit (column % 64)
+none_past words column l = ap (λ word. has_bit word (column % 64)) (get_or_past words (column / 64) 0 (omega arith)) ∙ has_bit-zero (column % 64)
 
 -- the words of a row of a matrix are the set of its nonzeros
 pub row_columns : (m : Matrix) (row : ℕ) → IsMatrix m → row < height m → (column : ℕ) → has_column (words_of (words_for m.width) is_nonzero (row_of m row)) column ≡ support m row column
@@ -100,11 +97,7 @@ module _ (test : ℕ → Bool) (before : List ℕ) where
     where
       go : (column < 64 * block) ⊎ (64 * block ≤ column) → has_column after column ≡ (has_column before column || test column)
       go (inl k) = a.done column k
-      go (inr k) = a.left column k ∙ sym (ap (λ t. has_column before column || t) (none column (omega arith)) ∙ flat (has_column before column))
-        where
-          flat : (t : Bool) → (t || false) ≡ t
-          flat true = refl
-          flat false = refl
+      go (inr k) = a.left column k ∙ sym (ap (λ t. has_column before column || t) (none column (omega arith)) ∙ or_false (has_column before column))
 
 -- ---- bits of two words
 
@@ -125,7 +118,7 @@ bits_shared a b fa fb n =
     (s.0, s.1, both.0, both.1)
 
 pub no_bits_shared : (a b k : ℕ) → bit_and a b ≡ 0 → has_bit a k ≡ true → has_bit b k ≡ true → ⊥
-no_bits_shared a b k e ha hb = true≢false (sym (has_bit-and a b k ∙ ap₂ (λ s t. s && t) ha hb) ∙ ap (λ n. has_bit n k) e ∙ no_bit k)
+no_bits_shared a b k e ha hb = true≢false (sym (has_bit-and a b k ∙ ap₂ (λ s t. s && t) ha hb) ∙ ap (λ n. has_bit n k) e ∙ has_bit-zero k)
 
 pub nonzero_is : (n : ℕ) → not (eqb n 0) ≡ true → n ≢ 0
 nonzero_is n e z = true≢false (sym e ∙ ap not (is_eq n 0 z))
@@ -142,7 +135,7 @@ zero_is n e = go (same_or_not n 0)
 
 -- a word whose bits are all bits of another
 pub part_bits : (a b : ℕ) → b < 2 ^ 64 → eqb (bit_and a (bit_not w64 b)) 0 ≡ true → (k : ℕ) → k < 64 → has_bit a k ≡ true → has_bit b k ≡ true
-part_bits a b fb e k small h = and_not (has_bit a k) (has_bit b k) (sym (left_out a b fb k small) ∙ ap (λ n. has_bit n k) (zero_is (bit_and a (bit_not w64 b)) e) ∙ no_bit k) h
+part_bits a b fb e k small h = and_not (has_bit a k) (has_bit b k) (sym (left_out a b fb k small) ∙ ap (λ n. has_bit n k) (zero_is (bit_and a (bit_not w64 b)) e) ∙ has_bit-zero k) h
   where
     left_out : (a b : ℕ) → b < 2 ^ 64 → (k : ℕ) → k < 64 → has_bit (bit_and a (bit_not w64 b)) k ≡ (has_bit a k && not (has_bit b k))
     left_out a b fb k small = has_bit-and a (bit_not w64 b) k ∙ ap (λ t. has_bit a k && t) (has_bit-not b k fb small)

@@ -8,6 +8,7 @@ use Rattle.cmr_base.specs.Cuts.{differ, bit, IsCuts}
 use Rattle.cmr_base.specs.GrownTrees.{HungArc, node_of, grown, pair_of, turned, beyond, place, arcs_by, walks_by}
 use Rattle.cmr_base.specs.Trees.{tail, head, IsTree, IsPathOf, IsDirectedPathOf, IsNetworkOf, RealisesSupport, Realises}
 use Rattle.cmr_base.proofs.RowLists.{is_ne, self_eq}
+pub use Rattle.cmr_base.proofs.RowLists.{differ_self}
 use Rattle.cmr_base.proofs.RemovedLines.{in_first_lines, first_lines_in}
 use Rattle.cmr_base.proofs.RisingLists.{rises-range}
 use Rattle.cmr_base.proofs.Members.{rising_distinct}
@@ -88,10 +89,6 @@ grown_are_hung beyond (h ∷ L) o = (
   (λ m. (o.0 h (subst (λ (z : List ℕ). IsIn h z) (rows-grown beyond L) m)).0 refl),
   grown_are_hung beyond L o.1,
 )
-
-pub differ_self : (x : Bool) → differ x x ≡ false
-differ_self true = refl
-differ_self false = refl
 
 pub differ_both : (s a b : Bool) → differ (differ s a) (differ s b) ≡ differ a b
 differ_both true true true = refl

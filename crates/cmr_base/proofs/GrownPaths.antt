@@ -6,7 +6,7 @@ use Rattle.cmr_base.specs.Members.{IsIn, IsDistinct}
 use Rattle.cmr_base.specs.GrownTrees.{HungArc}
 use Rattle.cmr_base.specs.Cuts.{differ, bit}
 use Rattle.cmr_base.specs.Trees.{WalkStep, tail, head, from, to, IsWalk, arcs_of, direction}
-use Rattle.cmr_base.proofs.RowLists.{not_both, same_or_not, is_eq, is_ne}
+use Rattle.cmr_base.proofs.RowLists.{differ_self, same_bit, not_both, same_or_not, is_eq, is_ne}
 use Rattle.cmr_base.proofs.GrownNodes.{beyond_in, rows_of, beyond_in-absent}
 
 in_front : (r : ℕ) (steps : List WalkStep) (s : WalkStep) → IsIn r (arcs_of steps) → IsIn r (arcs_of (steps ++ s ∷ []))
@@ -78,10 +78,6 @@ module _ (arcs : List Pair) (leads_away : ℕ → Bool) where
       go true = refl
       go false = refl
 
-  same_bit : (b : Bool) → pos 0 ≡ bit b -ℤ bit b
-  same_bit true = refl
-  same_bit false = refl
-
   out_bit : (b : Bool) → cond (not b) (pos 1) (negsuc 0) ≡ bit (differ b true) -ℤ bit (differ b false)
   out_bit true = refl
   out_bit false = refl
@@ -111,10 +107,6 @@ module _ (arcs : List Pair) (leads_away : ℕ → Bool) where
     pub has : (r : ℕ) → IsIn r (arcs_of steps) → differ (beyond_in t r a) (beyond_in t r b) ≡ true
     pub all : (r : ℕ) → differ (beyond_in t r a) (beyond_in t r b) ≡ true → IsIn r (arcs_of steps)
     pub sign : (r : ℕ) → direction steps r ≡ bit (differ (leads_away r) (beyond_in t r a)) -ℤ bit (differ (leads_away r) (beyond_in t r b))
-
-  differ_self : (x : Bool) → differ x x ≡ false
-  differ_self true = refl
-  differ_self false = refl
 
   beyond_old : (a : HungArc) (t : List HungArc) (r z : ℕ) → z ≤ length t → beyond_in (a ∷ t) r z ≡ beyond_in t r z
   beyond_old a t r z l = rw (is_ne z (suc (length t)) (λ e. absurd (omega arith))) refl

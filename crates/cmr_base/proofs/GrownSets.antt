@@ -7,6 +7,7 @@ use Rattle.cmr_base.specs.declared.line.Line.{Line}
 use Rattle.cmr_base.specs.declared.line.Line.TheVariants.{Row, Column}
 use Rattle.cmr_base.specs.Separations.{Lines}
 use Rattle.cmr_base.specs.Seeds.{IsLine, IsClosed, HasAll, IsGrown}
+use Rattle.cmr_base.proofs.Booleans.{eq_of}
 use Rattle.cmr_base.proofs.Lists.{all_weaker}
 use Rattle.cmr_base.proofs.ListedLines.{contains_first_lines, first_lines_contain}
 use Rattle.cmr_base.proofs.LineCounts.{outside, count_same, inside_more, same, same_line, line_same}
@@ -27,10 +28,7 @@ below_all P (suc k) d = go (d k) (below_all P k d)
     at_most x p h l = pick (nat_eq x k) refl
       where
         pick : (t : Bool) → nat_eq x k ≡ t → P x
-        pick true e = subst P (sym (line_number x k e)) p
-          where
-            line_number : (x k : ℕ) → nat_eq x k ≡ true → x ≡ k
-            line_number x k e = grind (arith, nat_tests)
+        pick true e = subst P (sym (eq_of x k e)) p
         pick false e = h x (small x k l e)
           where
             small : (x k : ℕ) → x < suc k → nat_eq x k ≡ false → x < k

@@ -1,6 +1,8 @@
 -- What holds of each item of a list, a list with one item more, and the items that pass a test.
-use Rattle.std.proofs.Common.{◌≡◌, ◌<◌, ◌≤◌, ◌+◌, ◌++◌, ◌||◌, ◌∙◌, ℕ, zero, suc, Bool, true, false, cond, filter, ℤ, ◌+ℤ◌, List, [], ◌∷◌, length, get_or, take, map, refl, ap, sym, subst, arith}
+use Rattle.std.proofs.Common.{◌≡◌, ◌<◌, ◌≤◌, ◌+◌, ◌++◌, ◌||◌, ◌∙◌, inl, inr, ℕ, zero, suc, Bool, true, false, cond, filter, ℤ, ◌+ℤ◌, List, [], ◌∷◌, length, get_or, take, map, replicate, refl, ap, sym, subst, arith}
 use Rattle.std.specs.List.{AllByRecursion, Contains}
+use Rattle.std.proofs.lemmas.Bool.{cases_lt}
+use Rattle.std.proofs.lemmas.List.{get_or-replicate, get_or_past, length-replicate}
 use Rattle.cmr_base.specs.Sums.{sum_over}
 use Rattle.cmr_base.proofs.Integers.{sums}
 use Rattle.cmr_base.proofs.SumLaws.{sum_over-append}
@@ -133,6 +135,13 @@ one_more_nil {A = A} x xs h = h.more_is ∙ go h.front h.back h.fewer_is
 pub length-more : {A : Type 0} (xs : List A) (x : A) → length (xs ++ x ∷ []) ≡ suc (length xs)
 length-more [] x = refl
 length-more (y ∷ ys) x = ap suc (length-more ys x)
+
+-- copies of one item, also past the end
+pub get_or-replicated : {A : Type 0} (n k : ℕ) (x : A) → get_or (replicate n x) k x ≡ x
+get_or-replicated n k x = elim (cases_lt k n) [
+  | inl in_range ↦ get_or-replicate n k x x in_range
+  | inr past ↦ get_or_past (replicate n x) k x (omega (arith, length-replicate n x))
+]
 
 pub no_items : {A : Type 0} (xs : List A) → length xs ≡ 0 → xs ≡ []
 no_items [] e = refl

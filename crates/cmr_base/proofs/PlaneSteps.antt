@@ -14,14 +14,9 @@ use Rattle.cmr_base.specs.declared.limits.TheConstants.{MAX_COLUMNS, MAX_ROWS}
 use Rattle.cmr_base.specs.Matrix.{Matrix, height, entry, with_entry, IsMatrix, IsEntry, is_nonzero, nonzeros_of}
 use Rattle.cmr_base.specs.Planes.{bits_of, has_bit, words_for, words_of}
 use Rattle.cmr_base.proofs.Entries.{entry-with_entry_other_column, entry-with_entry_other_row, entry-with_entry_same, height-with_entry}
+use Rattle.cmr_base.proofs.Lists.{get_or-replicated}
 use Rattle.cmr_base.proofs.PlaneWords.{bit_lt, bit-word_of, word-rows, words_from_bits}
 use Rattle.cmr_base.proofs.Views.{length-plane, small_value}
-
-get_or-replicated : {A : Type 0} (n k : ℕ) (x : A) → get_or (replicate n x) k x ≡ x
-get_or-replicated n k x = elim (cases_lt k n) [
-  | inl in_range ↦ get_or-replicate n k x x in_range
-  | inr past ↦ get_or_past (replicate n x) k x (omega (arith, length-replicate n x))
-]
 
 -- entries of rows of zeros
 pub zero_entry : (rows columns row column : ℕ) → row < rows → get_or (get_or (replicate rows (replicate columns (pos 0))) row []) column (pos 0) ≡ pos 0

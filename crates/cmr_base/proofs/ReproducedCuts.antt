@@ -1,12 +1,13 @@
 -- What a tree reproduces has cuts.
-use Rattle.std.proofs.Common.{ℕ, zero, suc, ℤ, pos, negsuc, ◌-ℤ◌, Bool, true, false, not, cond, List, [], ◌∷◌, ◌≡◌, ◌<◌, ◌≤◌, ◌∙◌, sym, ap, refl, arith, ◌⊎◌, inl, inr, nat_eq, ◌↔◌}
+use Rattle.std.proofs.Common.{ℕ, ℤ, pos, negsuc, ◌-ℤ◌, Bool, true, false, not, cond, List, [], ◌∷◌, ◌≡◌, ◌<◌, ◌≤◌, ◌∙◌, sym, ap, refl, arith, ◌⊎◌, inl, inr, nat_eq, ◌↔◌}
 use Rattle.std.proofs.lemmas.Bool.{cases_lt}
 use Rattle.cmr_base.specs.declared.network.Network.{Network}
 use Rattle.cmr_base.specs.Members.{IsIn}
 use Rattle.cmr_base.specs.Matrix.{is_nonzero}
 use Rattle.cmr_base.specs.Cuts.{differ, bit, IsCuts, HasCuts, HasSignedCuts}
 use Rattle.cmr_base.specs.Trees.{WalkStep, tail, head, arcs_of, IsPathOf, direction, RealisesSupport, Realises}
-use Rattle.cmr_base.proofs.RowLists.{not_both, two_cases, eq_of, ne_of}
+use Rattle.cmr_base.proofs.Booleans.{zero_is}
+use Rattle.cmr_base.proofs.RowLists.{same_bit, not_both, two_cases, eq_of, ne_of}
 use Rattle.cmr_base.proofs.TreeCuts.{tail_side, tail_side-walk, tail_side-path, near, direction-path}
 
 -- an arc is used exactly where its direction is not 0
@@ -118,21 +119,12 @@ has_signed_cuts net M m n short N = record {
   signed = λ r c l. by_ends r c l (cases_lt c n);
 }
   where
-    same_bit : (b : Bool) → pos 0 ≡ bit b -ℤ bit b
-    same_bit true = refl
-    same_bit false = refl
-
-    zero_of : (z : ℤ) → is_nonzero z ≡ false → z ≡ pos 0
-    zero_of (pos zero) e = refl
-    zero_of (pos (suc k)) e = absurd (not_both true refl e)
-    zero_of (negsuc k) e = absurd (not_both true refl e)
-
     by_ends : (r c : ℕ) → r < m → (k : (c < n) ⊎ (n ≤ c))
         → M r c ≡ bit (tail_side net.arcs r (end_node net n c k true)) -ℤ bit (tail_side net.arcs r (end_node net n c k false))
     by_ends r c l (inl k) =
         let p = N.paths c k in
         p.exact r l ∙ direction-path net.arcs m N.network.tree r (tail net.walks c) p.steps (head net.walks c) l p.walk p.once
-    by_ends r c l (inr k) = zero_of (M r c) (pick (two_cases (is_nonzero (M r c)))) ∙ same_bit (tail_side net.arcs r 0)
+    by_ends r c l (inr k) = zero_is (M r c) (pick (two_cases (is_nonzero (M r c)))) ∙ same_bit (tail_side net.arcs r 0)
       where
         pick : (is_nonzero (M r c) ≡ true) ⊎ (is_nonzero (M r c) ≡ false) → is_nonzero (M r c) ≡ false
         pick (inl e) = let z = short r c e in absurd (omega arith)

@@ -1,8 +1,8 @@
--- Searches in lists of rows.
-use Rattle.std.proofs.Common.{ℕ, suc, Bool, true, false, not, cond, List, [], ◌∷◌, ◌≡◌, ◌≢◌, ◌<◌, ◌≤◌, ◌∙◌, sym, ap, refl, arith, subst, ◌⊎◌, inl, inr, length}
+-- Searches in lists of rows, and what differs.
+use Rattle.std.proofs.Common.{ℕ, suc, pos, ◌-ℤ◌, Bool, true, false, not, cond, List, [], ◌∷◌, ◌≡◌, ◌≢◌, ◌<◌, ◌≤◌, ◌∙◌, sym, ap, refl, arith, subst, ◌⊎◌, inl, inr, length}
 use Rattle.std.specs.List.{filter}
 use Rattle.cmr_base.specs.Members.{IsIn}
-use Rattle.cmr_base.specs.Cuts.{differ}
+use Rattle.cmr_base.specs.Cuts.{bit, differ}
 pub use Rattle.cmr_base.proofs.Booleans.{eq_of, self_eq, is_eq, ne_of, is_ne, same_or_not, two_cases, bool_same, not_both}
 
 pub no_not : (a : Bool) → a ≡ not a → ⊥
@@ -20,6 +20,14 @@ differ_true true true e = cc
 differ_true true false e = refl
 differ_true false true e = refl
 differ_true false false e = cc
+
+pub differ_self : (x : Bool) → differ x x ≡ false
+differ_self true = refl
+differ_self false = refl
+
+pub same_bit : (b : Bool) → pos 0 ≡ bit b -ℤ bit b
+same_bit true = refl
+same_bit false = refl
 
 pub filter_in : (p : ℕ → Bool) (x : ℕ) (xs : List ℕ) → IsIn x xs → p x ≡ true → IsIn x (filter p xs)
 filter_in p x [] h e = h

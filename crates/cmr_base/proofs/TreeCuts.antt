@@ -5,7 +5,7 @@ use Rattle.cmr_base.specs.declared.network.Pair.{Pair}
 use Rattle.cmr_base.specs.Members.{IsIn, IsDistinct}
 use Rattle.cmr_base.specs.Cuts.{bit}
 use Rattle.cmr_base.specs.Trees.{WalkStep, tail, head, from, to, IsWalk, IsTree, arcs_of, direction}
-use Rattle.cmr_base.proofs.RowLists.{same_or_not, is_eq, is_ne, self_eq}
+use Rattle.cmr_base.proofs.RowLists.{same_bit, same_or_not, is_eq, is_ne, self_eq}
 use Rattle.cmr_base.proofs.ComponentLabels.{labels, labels_join, HasPair}
 use Rattle.cmr_base.proofs.ComponentCounts.{fewer_representatives, representatives-own, one_representative, count_at_most_one}
 
@@ -141,10 +141,6 @@ module _ (arcs : List Pair) (m : ℕ) (T : IsTree arcs m) where
   pub direction-path : (r x : ℕ) (steps : List WalkStep) (y : ℕ) → r < m → IsWalk arcs x steps y → IsDistinct (arcs_of steps)
       → direction steps r ≡ bit (tail_side arcs r x) -ℤ bit (tail_side arcs r y)
   direction-path r x [] y l w o = same_bit (tail_side arcs r y) ∙ ap (λ (z : ℕ). bit (tail_side arcs r z) -ℤ bit (tail_side arcs r y)) (sym w)
-    where
-      same_bit : (b : Bool) → pos 0 ≡ bit b -ℤ bit b
-      same_bit true = refl
-      same_bit false = refl
   direction-path r x (step ∷ steps) y l w o = go (same_or_not r step.arc) (direction-path r (to arcs step) steps y l w.2 o.1)
     where
       at_tail : r ≡ step.arc → true ≡ tail_side arcs r (tail arcs step.arc)

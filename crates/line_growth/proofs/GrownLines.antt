@@ -11,7 +11,7 @@ use Rattle.cmr_base.specs.Seeds.{IsLine, IsClosed, line_number}
 use Rattle.cmr_base.proofs.ListedLines.{contains_first_lines, first_lines_contain}
 use Rattle.cmr_base.proofs.LineCounts.{count, count-filter, outside_is}
 use Rattle.cmr_base.proofs.RowLists.{two_cases}
-use Rattle.cmr_base.proofs.Booleans.{is_not_lt, is_lt}
+use Rattle.cmr_base.proofs.Booleans.{is_not_lt, is_lt, true_is}
 use Rattle.cmr_base.specs.Differences.{differ}
 use Rattle.line_growth.specs.Rules.{pulls}
 use Rattle.line_growth.specs.Reaching.{is_marked, marked_lines, numbered, IsClosedUnder, unmarked}
@@ -64,10 +64,6 @@ module _ (m n : ℕ) (M upper lower : ℕ → ℕ → ℤ) where
   pub numbered_closed : (T : Lines) → IsClosed m n M upper lower T → IsClosedUnder (m + n) (pulls m M upper lower) (numbered m T)
   numbered_closed T closed x y i j e f = go (cases_lt x m) (cases_lt y m)
     where
-      truth : (t : Bool) → (t ≡ false → ⊥) → t ≡ true
-      truth true h = refl
-      truth false h = absurd (h refl)
-
       go : (x < m) ⊎ (m ≤ x) → (y < m) ⊎ (m ≤ y) → numbered m T y ≡ true
       go (inl k) (inl l) = absurd (false≢true (sym same ∙ f))
         where
@@ -77,11 +73,11 @@ module _ (m n : ℕ) (M upper lower : ℕ → ℕ → ℤ) where
         where
           same : pulls m M upper lower x y ≡ false
           same = rw (is_not_lt x m k, is_not_lt y m l) refl
-      go (inl k) (inr l) = numbered_column T y l ∙ truth (T (Column (y - m))) (λ g. false≢true (sym (same_not (M x (y - m)) (upper x (y - m)) (closed.right x (y - m) (contains_first_lines m x k) (contains_first_lines n (y - m) (omega arith)) (sym (numbered_row T x k) ∙ e) g)) ∙ (sym same ∙ f)))
+      go (inl k) (inr l) = numbered_column T y l ∙ true_is (T (Column (y - m))) (λ g. false≢true (sym (same_not (M x (y - m)) (upper x (y - m)) (closed.right x (y - m) (contains_first_lines m x k) (contains_first_lines n (y - m) (omega arith)) (sym (numbered_row T x k) ∙ e) g)) ∙ (sym same ∙ f)))
         where
           same : pulls m M upper lower x y ≡ differ (M x (y - m)) (upper x (y - m))
           same = rw (is_lt x m k, is_not_lt y m l) refl
-      go (inr k) (inl l) = numbered_row T y l ∙ truth (T (Row y)) (λ g. false≢true (sym (same_not (M y (x - m)) (lower y (x - m)) (closed.below y (x - m) (contains_first_lines m y l) (contains_first_lines n (x - m) (omega arith)) g (sym (numbered_column T x k) ∙ e))) ∙ (sym same ∙ f)))
+      go (inr k) (inl l) = numbered_row T y l ∙ true_is (T (Row y)) (λ g. false≢true (sym (same_not (M y (x - m)) (lower y (x - m)) (closed.below y (x - m) (contains_first_lines m y l) (contains_first_lines n (x - m) (omega arith)) g (sym (numbered_column T x k) ∙ e))) ∙ (sym same ∙ f)))
         where
           same : pulls m M upper lower x y ≡ differ (M y (x - m)) (lower y (x - m))
           same = rw (is_not_lt x m k, is_lt y m l) refl

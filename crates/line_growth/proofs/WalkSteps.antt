@@ -1,15 +1,14 @@
 -- The steps of a walk.
 use Rattle.std.proofs.Common.{◌≡◌, ◌<◌, ◌≤◌, ◌+◌, ◌-◌, ◌⊎◌, inl, inr, ◌∙◌, ◌++◌, not, cond, nat_eq, ℕ, zero, suc, Bool, true, false, List, [], ◌∷◌, length, get_or, set, ap, sym, subst, refl, arith}
 use Rattle.std.proofs.lemmas.Bool.{false≢true, cases_eq, cases_lt}
-use Rattle.std.proofs.lemmas.Bool.Decides.{nat_tests}
-use Rattle.std.proofs.lemmas.List.{get_or-set_same, get_or-set_other, length-set}
+use Rattle.std.proofs.lemmas.List.{get_or_append_left, get_or-set_same, get_or-set_other, length-set}
 use Rattle.cmr_base.specs.Differences.{differ}
 use Rattle.cmr_base.specs.Matrix.{Matrix, height, entry}
 use Rattle.cmr_base.specs.Members.{IsIn, IsDistinct}
 use Rattle.cmr_base.proofs.Members.{in-append, in_at, distinct_few}
 use Rattle.cmr_base.proofs.LineCounts.{count, count-filter, count_more, less}
 use Rattle.cmr_base.proofs.Places.{found_at}
-use Rattle.cmr_base.proofs.Booleans.{is_not_lt, is_lt}
+use Rattle.cmr_base.proofs.Booleans.{eq_of, is_not_lt, is_lt}
 use Rattle.cmr_base.proofs.Lists.{length-more}
 use Rattle.line_growth.proofs.Exchanges.{exchanged, length-exchanged, at_other, exchanged_has, has_exchanged, distinct-exchanged}
 use Rattle.line_growth.specs.declared.rule.Rule.{Rule}
@@ -27,11 +26,6 @@ distinct-append (x ∷ xs) y d apart = (
   ]),
   distinct-append xs y d.1 (λ h. apart (inr h)),
 )
-
-get_front : (xs : List ℕ) (y p : ℕ) → p < length xs → get_or (xs ++ y ∷ []) p 0 ≡ get_or xs p 0
-get_front [] y p l = absurd (omega arith)
-get_front (x ∷ xs) y zero l = refl
-get_front (x ∷ xs) y (suc p) l = get_front xs y p (omega arith)
 
 module _ (marks : List Bool) (y : ℕ) (inside : y < length marks) where
   pub marked_here : is_marked (set marks y true) y ≡ true
@@ -135,7 +129,7 @@ module _ (size : ℕ) (leads : ℕ → ℕ → Bool) (starts : List ℕ) where
       record {
         are = meets marks met y r.are l none (λ s has closed. closed (get_or met head 0) y (r.are.below (get_or met head 0) (in_at met head longer)) l (r.are.within s has closed (get_or met head 0) (in_at met head longer)) lead);
         started = λ x h. marked_stays marks y inside x (r.started x h);
-        done = λ p z k i e. marked_stays marks y inside z (r.done p z k i (subst (λ (x : ℕ). leads x z ≡ true) (get_front met y p (let f = r.fits in omega arith)) e));
+        done = λ p z k i e. marked_stays marks y inside z (r.done p z k i (subst (λ (x : ℕ). leads x z ≡ true) (get_or_append_left met (y ∷ []) 0 p (let f = r.fits in omega arith)) e));
         fits = let f = r.fits in let e = length-more met y in omega arith;
       }
 
@@ -145,7 +139,7 @@ module _ (size : ℕ) (leads : ℕ → ℕ → Bool) (starts : List ℕ) where
     meeting_meets marks met next s lead l free = record {
       reaching = reaching_meets marks met head next s.reaching s.longer (subst (λ (x : ℕ). leads x next ≡ true) (sym s.here) lead) l free;
       longer = let k = s.longer in let e = length-more met next in omega arith;
-      here = get_front met next head s.longer ∙ s.here;
+      here = get_or_append_left met (next ∷ []) 0 head s.longer ∙ s.here;
     }
 
     pub meeting_ends : (first width : ℕ) (test : ℕ → Bool) (marks : List Bool) (met : List ℕ) → AreMeeting size leads starts marks met head from → LeadsTo size first width (leads from) test
@@ -184,9 +178,6 @@ module _ (size : ℕ) (leads : ℕ → ℕ → Bool) (starts : List ℕ) where
     ];
   }
     where
-      same_number : (x y : ℕ) → nat_eq x y ≡ true → x ≡ y
-      same_number x y e = grind (arith, nat_tests)
-
       at_least : (xs : List ℕ) (p : ℕ → Bool) → IsDistinct xs → ((x : ℕ) → IsIn x xs → (x < size) × (p x ≡ true)) → length xs ≤ count p size
       at_least [] p d h = omega arith
       at_least (x ∷ xs) p d h =
@@ -195,7 +186,7 @@ module _ (size : ℕ) (leads : ℕ → ℕ → Bool) (starts : List ℕ) where
           omega arith
         where
           other : (y : ℕ) → IsIn y xs → (t : Bool) → nat_eq x y ≡ t → cond t false (p y) ≡ true
-          other y i true e = absurd (d.0 (subst (λ (z : ℕ). IsIn z xs) (sym (same_number x y e)) i))
+          other y i true e = absurd (d.0 (subst (λ (z : ℕ). IsIn z xs) (sym (eq_of x y e)) i))
           other y i false e = (h y (inr i)).1
 
       halves : (p : ℕ → Bool) (k : ℕ) → count p k + count (λ x. not (p x)) k ≡ k

@@ -10,13 +10,15 @@ use Rattle.text_fields.specs.Numbers.{count_in}
 use Rattle.text_fields.specs.Spelling.{texts_of, Spell}
 use Rattle.text_fields.specs.Reading.{field, fields, ended, Gives}
 use Rattle.text_fields.specs.declared.error.FieldError.{FieldError}
+use Rattle.text_fields.proofs.Limits.{limited_again}
 use Rattle.text_fields.proofs.Results.{bind_ok}
 use Rattle.text_fields.proofs.Fields.{fields_ok, fields_again, ended_ok}
 use Rattle.matrix_text.specs.declared.error.TextKind.{TextKind}
 use Rattle.matrix_text.specs.declared.error.TextKind.TheVariants.{Short, Extra, TooManyRows, TooManyColumns}
+use Rattle.matrix_text.specs.Kinds.{text_kind}
 use Rattle.matrix_text.specs.Values.{limited, entry_in}
 use Rattle.matrix_text.specs.Dense.{IsDense, dense}
-use Rattle.matrix_text.proofs.Lines.{size_found, limited_again}
+use Rattle.matrix_text.proofs.Lines.{size_found}
 
 entries_found : (binary : Bool) (height width : ℕ) (text : Text) (m : Matrix) → (fields Short (entry_in binary) (height * width) text >>= λ cells. ended Extra (record { rows = rows_of height width cells.0; width = width }) cells.1) ≡ Ok m
     → (cells : List ℤ) × Spell (entry_in binary) (texts_of text.words) cells × (length cells ≡ height * width) × (m ≡ record { rows = rows_of height width cells; width = width })
@@ -64,8 +66,8 @@ dense_only binary size (h ∷ w ∷ words) m is =
     let hw : h.1 ≡ is.height_word = cc in
     let ww : w.1 ≡ is.width_word = cc in
     let ew : texts_of words ≡ is.entry_words = cc in
-    let height : limited MAX_ROWS TooManyRows h.1 ≡ Ok is.height = limited_again MAX_ROWS TooManyRows h.1 is.height (ap count_in hw ∙ is.height_is) is.height_in in
-    let width : limited MAX_COLUMNS TooManyColumns w.1 ≡ Ok is.width = limited_again MAX_COLUMNS TooManyColumns w.1 is.width (ap count_in ww ∙ is.width_is) is.width_in in
+    let height : limited MAX_ROWS TooManyRows h.1 ≡ Ok is.height = limited_again text_kind TooManyRows MAX_ROWS h.1 is.height (ap count_in hw ∙ is.height_is) is.height_in in
+    let width : limited MAX_COLUMNS TooManyColumns w.1 ≡ Ok is.width = limited_again text_kind TooManyColumns MAX_COLUMNS w.1 is.width (ap count_in ww ∙ is.width_is) is.width_in in
     let spell : Spell (entry_in binary) (texts_of words) is.cells = subst (λ ws. Spell (entry_in binary) ws is.cells) (sym ew) is.entries_are in
     let all : fields Short (entry_in binary) (is.height * is.width) (record { size = size; words = words }) ≡ Ok (is.cells, record { size = size; words = [] }) =
     ap (λ n. fields Short (entry_in binary) n (record { size = size; words = words })) (sym is.count)

@@ -1,7 +1,5 @@
 -- Numbers of lines.
-use Rattle.std.proofs.Common.{◌≡◌, ◌<◌, ◌≤◌, ◌+◌, ◌-◌, ◌*◌, ◌∙◌, ℕ, zero, suc, zero-le, Bool, true, false, cond, leb, eqb, List, ◌∷◌, length, get_or, take, drop, Ok, Err, refl, ap, sym, subst, arith}
-use Rattle.std.proofs.lemmas.Bool.Decides.{nat_tests}
-use Rattle.std.proofs.lemmas.Bool.{leb-true, le-leb}
+use Rattle.std.proofs.Common.{◌≡◌, ◌<◌, ◌≤◌, ◌+◌, ◌-◌, ◌*◌, ◌∙◌, ℕ, zero, suc, zero-le, Bool, false, cond, List, ◌∷◌, length, get_or, take, drop, Ok, Err, ap, sym, subst, arith}
 use Rattle.std.proofs.lemmas.List.{get_or-take, get_or-drop, length-take-le, length-drop}
 use Rattle.std.proofs.Math.Nat.{suc-mul, mul-le-mul_right}
 use Rattle.std.specs.List.Sorted.{IsStrictlyIncreasing}
@@ -9,39 +7,23 @@ use Rattle.text_fields.specs.Words.{Text}
 use Rattle.text_fields.specs.Numbers.{count_in}
 use Rattle.text_fields.specs.Reading.{field}
 use Rattle.text_fields.proofs.Fields.{field_ok, field-same}
-use Rattle.text_fields.proofs.Results.{bind-same, bind_ok, guard_ok, bar_ok, renamed_ok}
+use Rattle.text_fields.proofs.Limits.{limited_ok, line_in_ok}
+use Rattle.text_fields.proofs.Results.{bind-same}
 use Rattle.matrix_text.specs.declared.error.TextKind.{TextKind}
 use Rattle.matrix_text.specs.declared.error.TextKind.TheVariants.{Short, ColumnOutOfRange, TwiceNamed}
 use Rattle.matrix_text.specs.Kinds.{text_kind}
-use Rattle.matrix_text.specs.Values.{count, limited, line_in, free_column_in}
-
-pub limited_ok : (most : ℕ) (beyond : TextKind) (word : List ℕ) (n : ℕ) → limited most beyond word ≡ Ok n → (count word ≡ Ok n) × (n ≤ most)
-limited_ok most beyond word n h =
-    let b = bind_ok (count word) (λ k. cond (leb k most) (Ok k) (Err beyond)) n h in
-    let g = guard_ok (leb b.0 most) b.0 n beyond b.2 in
-    (b.1 ∙ ap Ok g.1, subst (λ k. k ≤ most) g.1 (leb-true b.0 most g.0))
-
-pub limited_again : (most : ℕ) (beyond : TextKind) (word : List ℕ) (n : ℕ) → count_in word ≡ Ok n → n ≤ most → limited most beyond word ≡ Ok n
-limited_again most beyond word n h le = let t : leb n most ≡ true = le-leb n most le in rw (h, t) refl
+use Rattle.matrix_text.specs.Values.{limited, line_in, free_column_in}
 
 -- a count of at most so much that was read
 pub size_found : (most : ℕ) (beyond : TextKind) (text : Text) (n : ℕ × Text) → field Short (limited most beyond) text ≡ Ok n → (word : ℕ × List ℕ) × (text.words ≡ word ∷ (n.1).words) × (count_in word.1 ≡ Ok n.0) × (n.0 ≤ most)
 size_found most beyond text n h =
     let f = field_ok Short (limited most beyond) text n.0 n.1 h in
-    let l = limited_ok most beyond f.word.1 n.0 f.parsed in
-    (f.word, f.words_are, renamed_ok text_kind (count_in f.word.1) n.0 l.0, l.1)
-
-pub line_in_ok : (most : ℕ) (outside : TextKind) (word : List ℕ) (n : ℕ) → line_in most outside word ≡ Ok n → (count word ≡ Ok n) × (0 < n) × (n ≤ most)
-line_in_ok most outside word n h =
-    let b = bind_ok (limited most outside word) (λ k. cond (eqb k 0) (Err outside) (Ok k)) n h in
-    let g = bar_ok (eqb b.0 0) b.0 n outside b.2 in
-    let l = limited_ok most outside word b.0 b.1 in
-    let above : 0 < b.0 = grind (arith, g.0) in
-    (l.0 ∙ ap Ok g.1, omega (arith, g.1), omega (arith, g.1, l.1))
+    let l = limited_ok text_kind beyond most f.word.1 n.0 f.parsed in
+    (f.word, f.words_are, l.0, l.1)
 
 -- only the columns that there are matter
 pub free_column_in-same : (most : ℕ) (f g : ℕ → Bool) → ((n : ℕ) → 0 < n → n ≤ most → f n ≡ g n) → (word : List ℕ) → free_column_in most f word ≡ free_column_in most g word
-free_column_in-same most f g same word = bind-same (line_in most ColumnOutOfRange word) (λ n. cond (f n) (Err TwiceNamed) (Ok n)) (λ n. cond (g n) (Err TwiceNamed) (Ok n)) (λ n is. let ok = line_in_ok most ColumnOutOfRange word n is in ap (λ (t : Bool). cond t (Err TwiceNamed) (Ok n)) (same n ok.1 ok.2))
+free_column_in-same most f g same word = bind-same (line_in most ColumnOutOfRange word) (λ n. cond (f n) (Err TwiceNamed) (Ok n)) (λ n. cond (g n) (Err TwiceNamed) (Ok n)) (λ n is. let ok = line_in_ok text_kind ColumnOutOfRange most word n is in ap (λ (t : Bool). cond t (Err TwiceNamed) (Ok n)) (same n ok.1 ok.2))
 
 -- the columns of a row that are taken, read from the row's part of all places
 pub row_part : (width start : ℕ) (taken : List Bool) → start + width ≤ length taken → (text : Text)
@@ -64,6 +46,3 @@ rising_at lines rising (suc k) h =
     let next : k + 1 ≡ suc k = omega arith in
     let above : get_or lines k 0 < get_or lines (suc k) 0 = subst (λ i. get_or lines k 0 < get_or lines i 0) next (rising k (omega arith)) in
     omega (arith, rising_at lines rising k (omega arith))
-
-pub line_in_again : (most : ℕ) (outside : TextKind) (word : List ℕ) (n : ℕ) → count_in word ≡ Ok n → 0 < n → n ≤ most → line_in most outside word ≡ Ok n
-line_in_again most outside word n h above within = let t : eqb n 0 ≡ false = grind (arith, nat_tests) in rw (limited_again most outside word n h within, t) refl

@@ -10,13 +10,9 @@ use Rattle.std.proofs.lemmas.List.Folds.{list_any-append}
 use Rattle.std.proofs.lemmas.List.FromFn.{length-range_with_len, get_or-map-range_with_len}
 use Rattle.std.proofs.lemmas.Nat.{mul-add-lt, div-mul-add, mod-mul-add}
 use Rattle.cmr_base.proofs.Rows.{length-rows_of, length-row, entry-rows_of}
-use Rattle.cmr_base.proofs.Booleans.{or_false}
+use Rattle.cmr_base.proofs.Booleans.{or_false, or_true}
 use Rattle.cmr_base.specs.Matrix.{Matrix, IsEntry, rows_of}
 use Rattle.matrix_text.specs.Sparse.{Triple, names, is_named, value_at, matrix_of_triples}
-
-or_true : (b : Bool) → (b || true) ≡ true
-or_true true = refl
-or_true false = refl
 
 -- a row and a column by their place
 pub same_place : (width row column r c : ℕ) → column < width → c < width → row * width + column ≡ r * width + c → (row ≡ r) × (column ≡ c)

@@ -1,49 +1,20 @@
 -- Rising lists of lines, read one after another.
-use Rattle.std.proofs.Common.{◌≡◌, ◌<◌, ◌≤◌, ◌+◌, ◌-◌, ◌∙◌, ℕ, zero, suc, true, List, [], ◌∷◌, ◌++◌, length, get_or, cond, ltb, Ok, Err, refl, ap, sym, subst, append_assoc, arith}
-use Rattle.std.specs.List.Sorted.{IsStrictlyIncreasing}
-use Rattle.std.proofs.lemmas.Bool.Decides.{nat_tests}
+use Rattle.std.proofs.Common.{◌≡◌, ◌+◌, ◌-◌, ◌∙◌, ℕ, zero, suc, List, [], ◌∷◌, ◌++◌, length, Ok, refl, ap, sym, subst, append_assoc, arith}
 use Rattle.std.proofs.lemmas.List.{append-nil}
 use Rattle.std.proofs.lemmas.List.Sums.{fold_push}
-use Rattle.cmr_base.specs.LineSets.{AllBelow}
 use Rattle.cmr_base.proofs.RisingLists.{RisesIn}
 use Rattle.text_fields.specs.Words.{Text}
 use Rattle.text_fields.specs.Numbers.{count_in}
 use Rattle.text_fields.specs.Spelling.{texts_of, Spell}
 use Rattle.text_fields.specs.Reading.{field, times}
-use Rattle.text_fields.proofs.Results.{bind_ok, guard_ok, ok_same, renamed_ok}
+use Rattle.text_fields.proofs.Limits.{rising_line_ok, rising_line_again}
+use Rattle.text_fields.proofs.Results.{bind_ok, ok_same}
 use Rattle.text_fields.proofs.Fields.{field_ok}
 use Rattle.matrix_text.specs.declared.error.TextKind.{TextKind}
 use Rattle.matrix_text.specs.declared.error.TextKind.TheVariants.{Short, NotRising}
 use Rattle.matrix_text.specs.Kinds.{text_kind}
-use Rattle.matrix_text.specs.Values.{line_in, rising_line_in}
+use Rattle.matrix_text.specs.Values.{rising_line_in}
 use Rattle.matrix_text.specs.Submatrix.{numbers_of, last_number, another_line}
-use Rattle.matrix_text.proofs.Lines.{line_in_ok, line_in_again}
-
-pub rises_in : (low high : ℕ) (lines : List ℕ) → IsStrictlyIncreasing lines → AllBelow high lines → (0 < length lines → low ≤ get_or lines 0 0) → RisesIn low high lines
-rises_in low high [] rises below from = tt
-rises_in low high (line ∷ lines) rises below from = (
-  from (omega arith),
-  below 0 (omega arith),
-  rises_in (line + 1) high lines (λ k h. let next : suc k + 1 ≡ suc (k + 1) = omega arith in subst (λ n. get_or lines k 0 < get_or (line ∷ lines) n 0) next (rises (suc k) (omega arith))) (λ k h. below (suc k) (omega arith)) (λ h. let up = rises 0 (omega arith) in omega (arith, up)),
-)
-
-pub all_below : (low high : ℕ) (lines : List ℕ) → RisesIn low high lines → AllBelow high lines
-all_below low high [] rises k h = absurd (omega arith)
-all_below low high (line ∷ lines) rises zero h = rises.1
-all_below low high (line ∷ lines) rises (suc k) h = all_below (line + 1) high lines rises.2 k (omega arith)
-
-rising_line_ok : (most : ℕ) (outside : TextKind) (before : ℕ) (word : List ℕ) (n : ℕ) → rising_line_in most outside before word ≡ Ok n → (count_in word ≡ Ok n) × (0 < n) × (n ≤ most) × (before < n)
-rising_line_ok most outside before word n h =
-    let b = bind_ok (line_in most outside word) (λ k. cond (ltb before k) (Ok k) (Err NotRising)) n h in
-    let g = guard_ok (ltb before b.0) b.0 n NotRising b.2 in
-    let l = line_in_ok most outside word b.0 b.1 in
-    let above : before < b.0 = grind (arith, nat_tests, g.0) in
-    (renamed_ok text_kind (count_in word) b.0 l.0 ∙ ap Ok g.1, omega (arith, g.1, l.1), omega (arith, g.1, l.2), omega (arith, g.1))
-
-rising_line_again : (most : ℕ) (outside : TextKind) (before : ℕ) (word : List ℕ) (n : ℕ) → count_in word ≡ Ok n → 0 < n → n ≤ most → before < n → rising_line_in most outside before word ≡ Ok n
-rising_line_again most outside before word n h some within above =
-    let t : ltb before n ≡ true = grind (arith, nat_tests) in
-    rw (line_in_again most outside word n h some within, t) refl
 
 -- so many lines were read, behind those before them
 pub record AreLines (most n : ℕ) (text : Text) (before lines : List ℕ) (rest : Text) : Type 0 where
@@ -78,7 +49,7 @@ lines_ok most outside (suc n) before text lines rest h =
     let b = bind_ok (another_line most outside before text) (λ (next : List ℕ × Text). times (another_line most outside) n next.0 next.1) (lines, rest) h in
     let one = another_line_ok most outside before text b.0 b.1 in
     let first = field_ok Short (rising_line_in most outside (last_number before)) text one.0 b.0.1 one.1 in
-    let ok = rising_line_ok most outside (last_number before) first.word.1 one.0 first.parsed in
+    let ok = rising_line_ok text_kind outside NotRising most (last_number before) first.word.1 one.0 first.parsed in
     let later = lines_ok most outside n b.0.0 b.0.1 lines rest b.2 in
     let number : one.0 ≡ (one.0 - 1) + 1 = omega (arith, ok.1) in
     let last : last_number b.0.0 ≡ (one.0 - 1) + 1 = ap last_number one.2 ∙ fold_push (λ (before line : ℕ). line + 1) 0 before (one.0 - 1) in
@@ -99,7 +70,7 @@ lines_again most outside size [] later before [] spell rises = ap (λ lines. Ok 
 lines_again most outside size [] later before (line ∷ lines) spell rises = absurd spell
 lines_again most outside size (word ∷ words) later before [] spell rises = absurd spell
 lines_again most outside size (word ∷ words) later before (line ∷ lines) spell rises =
-    let one = rising_line_again most outside (last_number before) word.1 (line + 1) spell.0 (omega arith) (omega (arith, rises.1)) (omega (arith, rises.0)) in
+    let one = rising_line_again text_kind outside NotRising most (last_number before) word.1 (line + 1) spell.0 (omega arith) (omega (arith, rises.1)) (omega (arith, rises.0)) in
     let back : line + 1 - 1 ≡ line = omega arith in
     let last = fold_push (λ (before line : ℕ). line + 1) 0 before line in
     rw (one, back) (lines_again most outside size words later (before ++ line ∷ []) lines spell.1 (subst (λ low. RisesIn low most lines) (sym last) rises.2) ∙ ap (λ ls. Ok (ls, record { size = size; words = later })) (append_assoc before (line ∷ []) lines))

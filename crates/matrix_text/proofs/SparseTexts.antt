@@ -2,17 +2,18 @@
 use Rattle.std.proofs.Common.{◌≡◌, ◌∙◌, ℕ, zero, suc, ℤ, Bool, false, eqb, List, [], ◌∷◌, ◌++◌, length, Result, Ok, Err, refl, ap, sym, subst, append_assoc, arith}
 use Rattle.std.specs.Prelude.{IfOk}
 use Rattle.std.specs.List.{AllByRecursion}
-use Rattle.std.proofs.lemmas.Bool.Decides.{nat_tests}
 use Rattle.std.proofs.lemmas.List.{append-nil}
 use Rattle.std.proofs.lemmas.List.Folds.{list_any-append}
 use Rattle.cmr_base.specs.declared.limits.TheConstants.{MAX_COLUMNS, MAX_ROWS}
 use Rattle.cmr_base.specs.Matrix.{Matrix}
+use Rattle.cmr_base.proofs.Booleans.{eq_turned}
 use Rattle.text_fields.specs.Words.{Text}
 use Rattle.text_fields.specs.Result.{◌>>=◌, renamed}
 use Rattle.text_fields.specs.Numbers.{count_in}
 use Rattle.text_fields.specs.Spelling.{texts_of}
 use Rattle.text_fields.specs.Reading.{field, times, ended, Gives}
 use Rattle.text_fields.specs.declared.error.FieldError.{FieldError}
+use Rattle.text_fields.proofs.Limits.{limited_again}
 use Rattle.text_fields.proofs.Results.{bind_ok, ok_same, renamed_ok}
 use Rattle.text_fields.proofs.Fields.{field_ok, ended_ok}
 use Rattle.matrix_text.specs.declared.error.TextKind.{TextKind}
@@ -20,14 +21,11 @@ use Rattle.matrix_text.specs.declared.error.TextKind.TheVariants.{Short, Extra, 
 use Rattle.matrix_text.specs.Kinds.{text_kind}
 use Rattle.matrix_text.specs.Values.{count, limited, entry_in}
 use Rattle.matrix_text.specs.Sparse.{Triple, names, is_named, matrix_of_triples, SpellTriples, IsPlaced, NameOnce, IsSparse, free_place, another_triple, matrix_by_triples, sparse}
-use Rattle.matrix_text.proofs.Lines.{size_found, limited_again}
+use Rattle.matrix_text.proofs.Lines.{size_found}
 use Rattle.matrix_text.proofs.FreePlaces.{free_place_ok, free_place_again}
 
 names_back : (s t : Triple) → names s.row s.column t ≡ false → names t.row t.column s ≡ false
-names_back s t h = let rows : eqb s.row t.row ≡ eqb t.row s.row = eq_back s.row t.row in let columns : eqb s.column t.column ≡ eqb t.column s.column = eq_back s.column t.column in rw (rows, columns) h
-  where
-    eq_back : (a b : ℕ) → eqb a b ≡ eqb b a
-    eq_back a b = grind (arith, nat_tests)
+names_back s t h = let rows : eqb s.row t.row ≡ eqb t.row s.row = eq_turned s.row t.row in let columns : eqb s.column t.column ≡ eqb t.column s.column = eq_turned s.column t.column in rw (rows, columns) h
 
 -- one more triple at a new place
 once_more : (triples : List Triple) (t : Triple) → NameOnce triples → is_named triples t.row t.column ≡ false → NameOnce (triples ++ t ∷ [])
@@ -224,8 +222,8 @@ sparse_only binary size (h ∷ w ∷ n ∷ words) m is =
     let ww : w.1 ≡ is.width_word = cc in
     let nw : n.1 ≡ is.count_word = cc in
     let tw : texts_of words ≡ is.triple_words = cc in
-    let height : limited MAX_ROWS TooManyRows h.1 ≡ Ok is.height = limited_again MAX_ROWS TooManyRows h.1 is.height (ap count_in hw ∙ is.height_is) is.height_in in
-    let width : limited MAX_COLUMNS TooManyColumns w.1 ≡ Ok is.width = limited_again MAX_COLUMNS TooManyColumns w.1 is.width (ap count_in ww ∙ is.width_is) is.width_in in
+    let height : limited MAX_ROWS TooManyRows h.1 ≡ Ok is.height = limited_again text_kind TooManyRows MAX_ROWS h.1 is.height (ap count_in hw ∙ is.height_is) is.height_in in
+    let width : limited MAX_COLUMNS TooManyColumns w.1 ≡ Ok is.width = limited_again text_kind TooManyColumns MAX_COLUMNS w.1 is.width (ap count_in ww ∙ is.width_is) is.width_in in
     let number : count n.1 ≡ Ok (length is.triples) = ap (renamed text_kind) (ap count_in nw ∙ is.count_is) in
     let all : times (another_triple binary is.height is.width) (length is.triples) [] (record { size = size; words = words }) ≡ Ok (is.triples, record { size = size; words = [] }) =
     ap (λ ws. times (another_triple binary is.height is.width) (length is.triples) [] (record { size = size; words = ws })) (sym (append-nil words))

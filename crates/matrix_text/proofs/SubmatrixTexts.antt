@@ -4,13 +4,14 @@ use Rattle.std.specs.Prelude.{IfOk}
 use Rattle.std.proofs.lemmas.List.{append-nil, map-append}
 use Rattle.std.proofs.lemmas.Bool.Decides.{nat_tests}
 use Rattle.cmr_base.specs.declared.line_set.LineSet.{LineSet}
-use Rattle.cmr_base.proofs.RisingLists.{rising_count, RisesIn, rising_increases}
+use Rattle.cmr_base.proofs.RisingLists.{rising_count, RisesIn, rises_in, rising_in_range, rising_increases}
 use Rattle.text_fields.specs.Words.{Text}
 use Rattle.text_fields.specs.Result.{◌>>=◌}
 use Rattle.text_fields.specs.Numbers.{count_in}
 use Rattle.text_fields.specs.Spelling.{texts_of, Spell}
 use Rattle.text_fields.specs.Reading.{Fault, field, ended, Gives}
 use Rattle.text_fields.specs.declared.error.FieldError.{FieldError}
+use Rattle.text_fields.proofs.Limits.{limited_again}
 use Rattle.text_fields.proofs.Results.{bind_ok, guard_ok, renamed_ok}
 use Rattle.text_fields.proofs.Fields.{field_ok, ended_ok}
 use Rattle.text_fields.proofs.LineWords.{split_texts}
@@ -19,8 +20,8 @@ use Rattle.matrix_text.specs.declared.error.TextKind.TheVariants.{Short, Extra, 
 use Rattle.matrix_text.specs.Kinds.{text_kind}
 use Rattle.matrix_text.specs.Values.{count, limited, own_size}
 use Rattle.matrix_text.specs.Submatrix.{IsSubmatrix, numbers_of, rising_lines, submatrix}
-use Rattle.matrix_text.proofs.Lines.{size_found, limited_again}
-use Rattle.matrix_text.proofs.Rising.{rises_in, all_below, lines_ok, lines_again}
+use Rattle.matrix_text.proofs.Lines.{size_found}
+use Rattle.matrix_text.proofs.Rising.{lines_ok, lines_again}
 
 own_size_found : (size : ℕ) (text : Text) (n : ℕ) (rest : Text) → field Short (own_size size) text ≡ Ok (n, rest) → (word : ℕ × List ℕ) × (text.words ≡ word ∷ rest.words) × (count_in word.1 ≡ Ok size)
 own_size_found size text n rest h =
@@ -111,8 +112,8 @@ submatrix_found height width text lines h =
           columns_are = lists.columns_are;
           rows_rise = rising_increases 0 height lines.rows lists.rows_rise;
           columns_rise = rising_increases 0 width lines.columns lists.columns_rise;
-          rows_in = all_below 0 height lines.rows lists.rows_rise;
-          columns_in = all_below 0 width lines.columns lists.columns_rise;
+          rows_in = rising_in_range 0 height lines.rows lists.rows_rise;
+          columns_in = rising_in_range 0 width lines.columns lists.columns_rise;
         }
 
 own_size_again : (size : ℕ) (word : List ℕ) → count_in word ≡ Ok size → own_size size word ≡ Ok size
@@ -145,8 +146,8 @@ submatrix_only height width size (h ∷ w ∷ p ∷ q ∷ words) lines is =
     let lw : texts_of words ≡ is.row_words ++ is.column_words = cc in
     let same_height = own_size_again height h.1 (ap count_in hw ∙ is.height_is) in
     let same_width = own_size_again width w.1 (ap count_in ww ∙ is.width_is) in
-    let row_count = limited_again height RowOutOfRange p.1 (length lines.rows) (ap count_in pw ∙ is.row_count) (rising_count height lines.rows is.rows_rise is.rows_in) in
-    let column_count = limited_again width ColumnOutOfRange q.1 (length lines.columns) (ap count_in qw ∙ is.column_count) (rising_count width lines.columns is.columns_rise is.columns_in) in
+    let row_count = limited_again text_kind RowOutOfRange height p.1 (length lines.rows) (ap count_in pw ∙ is.row_count) (rising_count height lines.rows is.rows_rise is.rows_in) in
+    let column_count = limited_again text_kind ColumnOutOfRange width q.1 (length lines.columns) (ap count_in qw ∙ is.column_count) (rising_count width lines.columns is.columns_rise is.columns_in) in
     rw (same_height, same_width, row_count, column_count) (lists_again height width size words lines (record {
       row_words = is.row_words;
       column_words = is.column_words;

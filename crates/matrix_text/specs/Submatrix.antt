@@ -1,10 +1,11 @@
 -- Submatrix texts: the matrix's sizes, two counts, and then so many rows and so many columns.
-use Rattle.std.specs.Prelude.{◌≡◌, ◌-◌, ◌+◌, ◌++◌, ℕ, List, [], ◌∷◌, length, map, fold, Result, Ok}
+use Rattle.std.specs.Prelude.{◌≡◌, ◌-◌, ◌+◌, ◌++◌, ℕ, List, [], ◌∷◌, length, map, Result, Ok}
 use Rattle.std.specs.List.Sorted.{IsStrictlyIncreasing}
 use Rattle.cmr_base.specs.LineSets.{AllBelow}
 use Rattle.cmr_base.specs.declared.line_set.LineSet.{LineSet}
 use Rattle.text_fields.specs.Words.{Text}
 use Rattle.text_fields.specs.Result.{◌>>=◌}
+pub use Rattle.text_fields.specs.LineNumbers.{last_number}
 use Rattle.text_fields.specs.Numbers.{count_in}
 use Rattle.text_fields.specs.Spelling.{Spell}
 use Rattle.text_fields.specs.Reading.{Fault, field, times, ended}
@@ -35,10 +36,6 @@ pub record IsSubmatrix (height width : ℕ) (words : List (List ℕ)) (lines : L
   pub columns_rise : IsStrictlyIncreasing lines.columns
   pub rows_in : AllBelow height lines.rows
   pub columns_in : AllBelow width lines.columns
-
--- the number of the last line, counted from 1; 0 where there is none
-abbrev pub last_number : List ℕ → ℕ
-last_number lines = fold (λ before line. line + 1) 0 lines
 
 -- one more line, above the one before it
 abbrev pub another_line : ℕ → TextKind → List ℕ → Text → Result (List ℕ × Text) (Fault TextKind)

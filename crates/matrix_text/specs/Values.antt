@@ -1,5 +1,6 @@
 -- What the words of matrix texts stand for.
-use Rattle.std.specs.Prelude.{◌==◌, nat_le, nat_lt, if◌then◌else◌, ℕ, zero, suc, ℤ, pos, negsuc, Bool, List, Result, Ok, Err}
+use Rattle.std.specs.Prelude.{◌==◌, if◌then◌else◌, ℕ, zero, suc, ℤ, pos, negsuc, Bool, List, Result, Ok, Err}
+use Rattle.text_fields.specs.Limits as limits
 use Rattle.text_fields.specs.Result.{◌>>=◌, renamed}
 use Rattle.text_fields.specs.Numbers.{count_in, signed_in}
 use Rattle.matrix_text.specs.declared.error.TextKind.{TextKind}
@@ -12,9 +13,7 @@ count word = renamed text_kind (count_in word)
 
 -- a count of at most so much
 abbrev pub limited : ℕ → TextKind → List ℕ → Result ℕ TextKind
-limited most beyond word = do
-  n ← count word
-  if nat_le n most then Ok n else Err beyond
+limited most beyond word = limits.limited text_kind beyond most word
 
 -- a count that is the matrix's own
 abbrev pub own_size : ℕ → List ℕ → Result ℕ TextKind
@@ -24,15 +23,11 @@ own_size size word = do
 
 -- the number of a line, from 1 to so many
 abbrev pub line_in : ℕ → TextKind → List ℕ → Result ℕ TextKind
-line_in most outside word = do
-  n ← limited most outside word
-  if n == 0 then Err outside else Ok n
+line_in most outside word = limits.line_in text_kind outside most word
 
 -- a line's number above the one before it
 abbrev pub rising_line_in : ℕ → TextKind → ℕ → List ℕ → Result ℕ TextKind
-rising_line_in most outside before word = do
-  n ← line_in most outside word
-  if nat_lt before n then Ok n else Err NotRising
+rising_line_in most outside before word = limits.rising_line_in text_kind outside NotRising most before word
 
 -- a column's number that is not taken
 abbrev pub free_column_in : ℕ → (ℕ → Bool) → List ℕ → Result ℕ TextKind

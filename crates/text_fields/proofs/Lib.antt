@@ -8,3 +8,5 @@ pub mod LineWords
 pub mod Decimals
 pub mod Spelled
 pub mod EntryWords
+pub mod Limits
+pub mod ReadAgain

@@ -63,8 +63,12 @@ words_in_line (word ∷ next ∷ words) rest all =
     ∙ words_in_word word 32 (text_line (next ∷ words) ++ rest) all.0 refl
     ∙ ap (λ ws. word ∷ ws) (words_in_line (next ∷ words) rest all.1)
 
--- the words of lines are those of the text
-pub words_in_lines : (lines : List (List (List ℕ))) → AllByRecursion (AllByRecursion IsWord) lines → words_in (text_of_lines lines) ≡ flat_map (λ line. line) lines
+-- the words of lines, one after another
+abbrev pub words_of_lines : List (List (List ℕ)) → List (List ℕ)
+words_of_lines lines = flat_map (λ line. line) lines
+
+-- they are those of the text
+pub words_in_lines : (lines : List (List (List ℕ))) → AllByRecursion (AllByRecursion IsWord) lines → words_in (text_of_lines lines) ≡ words_of_lines lines
 words_in_lines [] all = refl
 words_in_lines (line ∷ lines) all = words_in_line line (text_of_lines lines) all.0 ∙ ap (λ ws. line ++ ws) (words_in_lines lines all.1)
 

@@ -5,3 +5,4 @@ pub mod Reading
 pub mod Written
 pub mod Spelling
 pub mod LineNumbers
+pub mod Limits

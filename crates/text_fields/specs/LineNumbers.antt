@@ -1,11 +1,15 @@
 -- The words for lines of a matrix.
-use Rattle.std.specs.Prelude.{◌+◌, ◌++◌, ℕ, List, ◌∷◌, length, map}
+use Rattle.std.specs.Prelude.{◌+◌, ◌++◌, ℕ, List, ◌∷◌, fold, length, map}
 use Rattle.std.specs.Fmt.{decimal}
 use Rattle.cmr_base.specs.declared.line_set.LineSet.{LineSet}
 
 -- a line's number, counted from 1
 abbrev pub number_of_line : ℕ → List ℕ
 number_of_line line = decimal (line + 1)
+
+-- the number of the last line, counted from 1; 0 where there is none
+abbrev pub last_number : List ℕ → ℕ
+last_number lines = fold (λ before line. line + 1) 0 lines
 
 -- how many rows and columns there are, the rows, the columns
 abbrev pub set_words : LineSet → List (List ℕ)

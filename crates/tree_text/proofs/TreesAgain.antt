@@ -5,6 +5,7 @@ use Rattle.std.specs.List.{AllByRecursion, flat_map}
 use Rattle.std.specs.List.Sorted.{IsStrictlyIncreasing}
 use Rattle.std.specs.Fmt.{decimal}
 use Rattle.std.proofs.lemmas.List.{append-nil, get_or_default}
+use Rattle.std.proofs.lemmas.List.Concat.{flat_map-append}
 use Rattle.cmr_base.specs.declared.line.Line.{Line}
 use Rattle.cmr_base.specs.declared.line.Line.TheVariants.{Row, Column}
 use Rattle.cmr_base.specs.declared.line_set.LineSet.{LineSet}
@@ -19,16 +20,17 @@ use Rattle.cmr_base.specs.Reductions.{HasLine}
 use Rattle.cmr_base.specs.Separations.{first_is_flat, second_is_flat}
 use Rattle.tree_type.specs.Sides.{HasConnector}
 use Rattle.cmr_base.proofs.Lists.{all_contain, all_weaker, all_of, all-append}
-use Rattle.cmr_base.proofs.RisingLists.{rises_in, rising_short, rising_count}
+use Rattle.cmr_base.proofs.RisingLists.{rises_in, rising_count}
 use Rattle.cmr_base.proofs.Places.{contained_below}
 use Rattle.text_fields.specs.Words.{Text, is_space, text_of, words_from}
 use Rattle.text_fields.specs.Result.{◌>>=◌}
 use Rattle.text_fields.specs.Reading.{field, times, fields, another}
 use Rattle.text_fields.specs.Spelling.{texts_of}
-use Rattle.text_fields.proofs.LineWords.{IsWord, IsSolid, words_in_lines}
+use Rattle.text_fields.proofs.LineWords.{IsWord, IsSolid, words_of_lines, words_in_lines}
 use Rattle.text_fields.proofs.Decimals.{decimal_word}
 use Rattle.tree_type.specs.Trees.{Finding, Empty, Cycle, Reduced, OneSum, Network, Conetwork, R10, TwoSum, ThreeSum, Enumerated, Violator, Undecided, Tree, Trees, Branch, NoTrees, MoreTrees, trees_from, count_trees, lines_of}
 use Rattle.tree_type.specs.Invariant.{AreLinesOf, HasSizes, size_of, Fits, HasChildren, IsTreeWithin, AreTreesWithin, IsTreeFor}
+use Rattle.tree_text.specs.declared.error.TreeKind.{TreeKind}
 use Rattle.tree_text.specs.declared.error.TreeKind.TheVariants.{Short}
 use Rattle.tree_text.specs.declared.kind_word.KindWord.{KindWord}
 use Rattle.tree_text.specs.declared.kind_word.KindWord.TheVariants as kind
@@ -43,7 +45,8 @@ use Rattle.tree_text.specs.Reading.{Reader, rising_lines, line_set, another_pair
 use Rattle.tree_text.specs.Canonical.{number_of_line, line_name, set_words, pair_words, network_words, connector_words, own_words, line_for, front_lines, node_lines, forest_lines, tree_lines, tree_text}
 use Rattle.tree_text.proofs.Nodes.{read_whole}
 use Rattle.tree_text.proofs.TreesRead.{AreSome, IsSome}
-use Rattle.tree_text.proofs.WordsAgain.{Again, again_done, again_field, again_bind, again_wrap, again_times, again_lines, limited_again, line_of_again, step_again}
+use Rattle.text_fields.proofs.ReadAgain.{Again, again_done, again_field, again_bind, again_wrap, again_times}
+use Rattle.tree_text.proofs.WordsAgain.{again_lines, limited_again, line_of_again, step_again}
 
 some_lines : (most : ℕ) (whole : Option (List ℕ)) (lines : List ℕ) → most ≤ 1000 → AreSome most whole lines → Again (rising_lines most whole (length lines)) (map number_of_line lines) lines
 some_lines most whole lines small some = again_lines most whole small [] lines (rises_in 0 most lines some.rise some.below (λ h. zero-le)) some.within
@@ -59,16 +62,16 @@ module _ (sizes : Sizes) (few_rows : sizes.rows ≤ 1000) (few_columns : sizes.c
       let few_q = rising_count sizes.columns lines.columns some.columns.rise some.columns.below in
       let columns = again_wrap (rising_lines sizes.columns whole_columns q) (λ (columns : List ℕ). record { rows = lines.rows; columns = columns }) (map number_of_line lines.columns) lines.columns (some_lines sizes.columns whole_columns lines.columns few_columns some.columns) in
       let rows = again_bind (rising_lines sizes.rows whole_rows p) _ (map number_of_line lines.rows) (map number_of_line lines.columns) lines.rows lines (some_lines sizes.rows whole_rows lines.rows few_rows some.rows) columns in
-      let second = again_bind (field Short (limited sizes.columns)) _ (decimal q ∷ []) (map number_of_line lines.rows ++ map number_of_line lines.columns) q lines (again_field (limited sizes.columns) (decimal q) q (limited_again sizes.columns q few_q (omega (arith, few_columns)))) rows in
-      again_bind (field Short (limited sizes.rows)) _ (decimal p ∷ []) (decimal q ∷ (map number_of_line lines.rows ++ map number_of_line lines.columns)) p lines (again_field (limited sizes.rows) (decimal p) p (limited_again sizes.rows p few_p (omega (arith, few_rows)))) second
+      let second = again_bind (field Short (limited sizes.columns)) _ (decimal q ∷ []) (map number_of_line lines.rows ++ map number_of_line lines.columns) q lines (again_field Short (limited sizes.columns) (decimal q) q (limited_again sizes.columns q few_q (omega (arith, few_columns)))) rows in
+      again_bind (field Short (limited sizes.rows)) _ (decimal p ∷ []) (decimal q ∷ (map number_of_line lines.rows ++ map number_of_line lines.columns)) p lines (again_field Short (limited sizes.rows) (decimal p) p (limited_again sizes.rows p few_p (omega (arith, few_rows)))) second
 
 pairs_again : (last : ℕ) (pairs : List Pair) → last ≤ 1000 → AllByRecursion (λ pair. (pair.tail ≤ last) × (pair.head ≤ last)) pairs → Again (times (another_pair last) (length pairs) []) (flat_map pair_words pairs) pairs
 pairs_again last pairs small all = again_times (another_pair last) pair_words (λ pair. (pair.tail ≤ last) × (pair.head ≤ last)) each [] pairs all
   where
     each : (before : List Pair) (pair : Pair) → (pair.tail ≤ last) × (pair.head ≤ last) → Again (another_pair last before) (pair_words pair) (before ++ pair ∷ [])
     each before pair q =
-        let tail = again_field (limited last) (decimal pair.tail) pair.tail (limited_again last pair.tail q.0 (omega (arith, small))) in
-        let head = again_field (limited last) (decimal pair.head) pair.head (limited_again last pair.head q.1 (omega (arith, small))) in
+        let tail = again_field Short (limited last) (decimal pair.tail) pair.tail (limited_again last pair.tail q.0 (omega (arith, small))) in
+        let head = again_field Short (limited last) (decimal pair.head) pair.head (limited_again last pair.head q.1 (omega (arith, small))) in
         again_bind (field Short (limited last)) _ (decimal pair.tail ∷ []) (decimal pair.head ∷ []) pair.tail (before ++ pair ∷ []) tail (again_wrap (field Short (limited last)) (λ (head : ℕ). before ++ (record { tail = pair.tail; head = head }) ∷ []) (decimal pair.head ∷ []) pair.head head)
 
 network_again : (arcs walks : ℕ) (n : net.Network) → arcs ≤ 1000 → HasSizes arcs walks n → Again (network arcs walks) (network_words n) n
@@ -101,10 +104,10 @@ module _ (sizes : Sizes) (few_rows : sizes.rows ≤ 1000) (few_columns : sizes.c
   part_again part is = set_again sizes few_rows few_columns (Some lines) part (some_from part is)
 
   row_again : (row : ℕ) → Contains lines.rows row → Again (field Short (line_of sizes.rows lines.rows)) (number_of_line row ∷ []) row
-  row_again row is = again_field (line_of sizes.rows lines.rows) (number_of_line row) row (line_of_again sizes.rows lines.rows row (contained_below sizes.rows lines.rows row rows_in is) few_rows is)
+  row_again row is = again_field Short (line_of sizes.rows lines.rows) (number_of_line row) row (line_of_again sizes.rows lines.rows row (contained_below sizes.rows lines.rows row rows_in is) few_rows is)
 
   column_again : (column : ℕ) → Contains lines.columns column → Again (field Short (line_of sizes.columns lines.columns)) (number_of_line column ∷ []) column
-  column_again column is = again_field (line_of sizes.columns lines.columns) (number_of_line column) column (line_of_again sizes.columns lines.columns column (contained_below sizes.columns lines.columns column columns_in is) few_columns is)
+  column_again column is = again_field Short (line_of sizes.columns lines.columns) (number_of_line column) column (line_of_again sizes.columns lines.columns column (contained_below sizes.columns lines.columns column columns_in is) few_columns is)
 
   connector_again : (flat : Bool) (c : Connector) → HasConnector flat lines.rows lines.columns c → Again (connector sizes lines flat) (connector_words c) c
   connector_again true c has =
@@ -136,14 +139,14 @@ module _ (sizes : Sizes) (few_rows : sizes.rows ≤ 1000) (few_columns : sizes.c
       omega (arith, p, q, few_rows, few_columns)
 
   count_again : (n : ℕ) → n ≤ size_of lines → Again (field Short (limited (size_of lines))) (decimal n ∷ []) n
-  count_again n le = again_field (limited (size_of lines)) (decimal n) n (limited_again (size_of lines) n le few_lines)
+  count_again n le = again_field Short (limited (size_of lines)) (decimal n) n (limited_again (size_of lines) n le few_lines)
 
   steps_again : (steps : List Line) → AllByRecursion (HasLine lines.rows lines.columns) steps → Again (fields Short (step_in sizes lines) (length steps)) (map line_name steps) steps
   steps_again steps all = subst (λ ws. Again (fields Short (step_in sizes lines) (length steps)) ws steps) (names_are steps) (again_times (another Short (step_in sizes lines)) (λ line. line_name line ∷ []) (HasLine lines.rows lines.columns) each [] steps all)
     where
       each : (before : List Line) (line : Line) → HasLine lines.rows lines.columns line → Again (another Short (step_in sizes lines) before) (line_name line ∷ []) (before ++ line ∷ [])
       each before line is =
-          again_wrap (field Short (step_in sizes lines)) (λ l. before ++ l ∷ []) (line_name line ∷ []) line (again_field (step_in sizes lines) (line_name line) line (step_again sizes lines line few_rows few_columns (λ row h. contained_below sizes.rows lines.rows row rows_in h) (λ column h. contained_below sizes.columns lines.columns column columns_in h) is))
+          again_wrap (field Short (step_in sizes lines)) (λ l. before ++ l ∷ []) (line_name line ∷ []) line (again_field Short (step_in sizes lines) (line_name line) line (step_again sizes lines line few_rows few_columns (λ row h. contained_below sizes.rows lines.rows row rows_in h) (λ column h. contained_below sizes.columns lines.columns column columns_in h) is))
 
   counted : (read : Reader (Finding × ℕ)) (words : List (List ℕ)) (finding : Finding) (n m : ℕ) → m ≡ n → Again read words (finding, n) → Again read words (finding, m)
   counted read words finding n m e again = subst (λ k. Again read words (finding, k)) (sym e) again
@@ -222,7 +225,7 @@ module _ (sizes : Sizes) (few_rows : sizes.rows ≤ 1000) (few_columns : sizes.c
       let own = again_wrap (own_part sizes lines (kind_of finding)) (λ (own : Finding × ℕ). record { lines = lines; finding = own.0; children = own.1 }) (own_words finding trees) (finding, count_trees trees)
       (own_again sizes few_rows few_columns lines some.rows.rise some.columns.rise some.rows.below some.columns.below finding trees fits children) in
       let set = again_bind (line_set sizes parent) _ (set_words lines) (own_words finding trees) lines head (set_again sizes few_rows few_columns parent lines some) own in
-      again_bind (field Short (kind_in version.Two)) _ (word_of (kind_of finding) ∷ []) (set_words lines ++ own_words finding trees) (kind_of finding) head (again_field (kind_in version.Two) (word_of (kind_of finding)) (kind_of finding) (kind_again (kind_of finding))) set
+      again_bind (field Short (kind_in version.Two)) _ (word_of (kind_of finding) ∷ []) (set_words lines ++ own_words finding trees) (kind_of finding) head (again_field Short (kind_in version.Two) (word_of (kind_of finding)) (kind_of finding) (kind_again (kind_of finding))) set
 
   mutual
     node_again : (levels : ℕ) (parent : Option LineSet) (tree : Tree) (whole : LineSet) → IsSome sizes parent (lines_of tree) → IsTreeWithin whole levels tree → Again (node header levels parent) (node_words tree) tree
@@ -237,7 +240,7 @@ module _ (sizes : Sizes) (few_rows : sizes.rows ≤ 1000) (few_columns : sizes.c
 
     forest_again : (levels : ℕ) (lines : LineSet) (before : List Tree) (trees : Trees) → IsStrictlyIncreasing lines.rows → IsStrictlyIncreasing lines.columns → AllBelow sizes.rows lines.rows → AllBelow sizes.columns lines.columns → AreTreesWithin lines levels trees
         → Again (times (another_tree (node header levels (Some lines))) (count_trees trees) before) (forest_words trees) (before ++ list_of trees)
-    forest_again levels lines before NoTrees rows columns rows_in columns_in within = subst (λ ts. Again (λ text. Ok (before, text)) [] ts) (sym (append-nil before)) (again_done before)
+    forest_again levels lines before NoTrees rows columns rows_in columns_in within = subst (λ ts. Again {K = TreeKind} (λ text. Ok (before, text)) [] ts) (sym (append-nil before)) (again_done before)
     forest_again levels lines before (MoreTrees tree trees) rows columns rows_in columns_in within =
         let read = node header levels (Some lines) in
         let some = some_from sizes few_rows few_columns lines rows columns rows_in columns_in (lines_of tree) (part_of lines levels tree within.0) in
@@ -245,27 +248,19 @@ module _ (sizes : Sizes) (few_rows : sizes.rows ≤ 1000) (few_columns : sizes.c
         subst (Again (times (another_tree read) (suc (count_trees trees)) before) (node_words tree ++ forest_words trees)) (append_assoc before (tree ∷ []) (list_of trees))
         (again_bind (another_tree read before) (λ (next : List Tree × Text). times (another_tree read) (count_trees trees) next.0 next.1) (node_words tree) (forest_words trees) (before ++ tree ∷ []) ((before ++ tree ∷ []) ++ list_of trees) one (forest_again levels lines (before ++ tree ∷ []) trees rows columns rows_in columns_in within.1))
 
--- the words of lines, one after another
-abbrev joined : List (List (List ℕ)) → List (List ℕ)
-joined lines = flat_map (λ line. line) lines
-
-joined-append : (xs ys : List (List (List ℕ))) → joined (xs ++ ys) ≡ joined xs ++ joined ys
-joined-append [] ys = refl
-joined-append (x ∷ xs) ys = ap (λ ws. x ++ ws) (joined-append xs ys) ∙ sym (append_assoc x (joined xs) (joined ys))
-
-own_joined : (words : List (List ℕ)) → joined (line_for words) ≡ words
+own_joined : (words : List (List ℕ)) → words_of_lines (line_for words) ≡ words
 own_joined [] = refl
 own_joined (word ∷ words) = append-nil (word ∷ words)
 
 mutual
-  node_joined : (tree : Tree) → joined (node_lines tree) ≡ node_words tree
+  node_joined : (tree : Tree) → words_of_lines (node_lines tree) ≡ node_words tree
   node_joined (Branch lines finding trees) =
-      joined-append (front_lines (Branch lines finding trees)) (forest_lines trees)
+      flat_map-append (λ line. line) (front_lines (Branch lines finding trees)) (forest_lines trees)
       ∙ ap₂ (λ (xs ys : List (List ℕ)). xs ++ ys) (ap (λ ws. (word_of (kind_of finding) ∷ set_words lines) ++ ws) (own_joined (own_words finding trees))) (forest_joined trees)
 
-  forest_joined : (trees : Trees) → joined (forest_lines trees) ≡ forest_words trees
+  forest_joined : (trees : Trees) → words_of_lines (forest_lines trees) ≡ forest_words trees
   forest_joined NoTrees = refl
-  forest_joined (MoreTrees tree trees) = joined-append (node_lines tree) (forest_lines trees) ∙ ap₂ (λ (xs ys : List (List ℕ)). xs ++ ys) (node_joined tree) (forest_joined trees)
+  forest_joined (MoreTrees tree trees) = flat_map-append (λ line. line) (node_lines tree) (forest_lines trees) ∙ ap₂ (λ (xs ys : List (List ℕ)). xs ++ ys) (node_joined tree) (forest_joined trees)
 
 -- each word of a tree's text is a word
 abbrev AreWords : List (List ℕ) → Type 0

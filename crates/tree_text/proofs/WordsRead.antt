@@ -1,8 +1,7 @@
 -- What the words of a tree text that were read stood for.
-use Rattle.std.proofs.Common.{◌≡◌, ◌<◌, ◌≤◌, ◌+◌, ◌-◌, ◌∙◌, ℕ, zero, suc, Bool, true, false, ◌||◌, cond, leb, eqb, List, [], ◌∷◌, ◌++◌, length, Contains, Option, Some, None, Result, Ok, Err, refl, ap, sym, subst, append_assoc, arith}
+use Rattle.std.proofs.Common.{◌≡◌, ◌<◌, ◌≤◌, ◌+◌, ◌-◌, ◌∙◌, ℕ, zero, suc, Bool, true, false, cond, leb, eqb, List, [], ◌∷◌, ◌++◌, length, Contains, Option, Some, None, Result, Ok, Err, refl, ap, sym, subst, append_assoc, arith}
 use Rattle.std.specs.List.{AllByRecursion}
 use Rattle.std.proofs.lemmas.Bool.{leb-true}
-use Rattle.std.proofs.lemmas.Bool.Decides.{nat_tests}
 use Rattle.std.proofs.lemmas.List.{append-nil}
 use Rattle.std.proofs.lemmas.List.Sums.{fold_push}
 use Rattle.cmr_base.specs.declared.line.Line.{Line}
@@ -11,15 +10,15 @@ use Rattle.cmr_base.specs.declared.line_set.LineSet.{LineSet}
 use Rattle.cmr_base.specs.Reductions.{HasLine}
 use Rattle.tree_type.specs.Sides.{is_among}
 use Rattle.tree_type.proofs.Among.{among_contains}
-use Rattle.cmr_base.proofs.Lists.{contains_first, contains_later}
 use Rattle.cmr_base.proofs.RisingLists.{RisesIn}
 use Rattle.text_fields.specs.Words.{Text}
-use Rattle.text_fields.specs.Numbers.{count_in}
-use Rattle.text_fields.specs.Result.{◌>>=◌, renamed}
+use Rattle.text_fields.specs.Result.{◌>>=◌}
 use Rattle.text_fields.specs.Reading.{field, times}
 use Rattle.text_fields.specs.Spelling.{Spell}
 use Rattle.text_fields.proofs.Fields.{field_ok}
-use Rattle.text_fields.proofs.Results.{bind_ok, ok_same, guard_ok, bar_ok}
+use Rattle.text_fields.specs.Limits as limits
+use Rattle.text_fields.proofs.Limits as numbers
+use Rattle.text_fields.proofs.Results.{bind_ok, ok_same, guard_ok}
 use Rattle.tree_text.specs.declared.error.TreeKind.TheVariants.{Short, NotNumber, OutOfRange, NotRising, NotPart}
 use Rattle.tree_text.specs.declared.value.Sizes.{Sizes}
 use Rattle.tree_text.specs.Faults.{tree_kind}
@@ -43,17 +42,14 @@ spelled_all parse P each (word ∷ words) (x ∷ values) spell = (each word x sp
 
 pub limited_ok : (most : ℕ) (word : List ℕ) (n : ℕ) → limited most word ≡ Ok n → n ≤ most
 limited_ok most word n h =
-    let b = bind_ok (renamed tree_kind (count_in word)) (λ k. cond (leb k most) (Ok k) (Err OutOfRange)) n h in
-    let g = guard_ok (leb b.0 most) b.0 n OutOfRange b.2 in
-    subst (λ k. k ≤ most) g.1 (leb-true b.0 most g.0)
+    (numbers.limited_ok tree_kind OutOfRange most word n h).1
 
 pub line_in_ok : (most : ℕ) (word : List ℕ) (line : ℕ) → line_in most word ≡ Ok line → line < most
 line_in_ok most word line h =
-    let b = bind_ok (limited most word) (λ n. cond (eqb n 0) (Err OutOfRange) (Ok (n - 1))) line h in
-    let g = bar_ok (eqb b.0 0) (b.0 - 1) line OutOfRange b.2 in
-    let some : 0 < b.0 = grind (arith, g.0) in
-    let within = limited_ok most word b.0 b.1 in
-    omega (arith, g.1, within)
+    let b = bind_ok (limits.line_in tree_kind OutOfRange most word) (λ n. Ok (n - 1)) line h in
+    let is = ok_same (b.0 - 1) line b.2 in
+    let number = numbers.line_in_ok tree_kind OutOfRange most word b.0 b.1 in
+    omega (arith, is, number.1, number.2)
 
 -- one of these lines, where there are some to be one of
 abbrev pub IsAmong : Option (List ℕ) → ℕ → Type 0

@@ -1,10 +1,9 @@
 -- The canonical text of a tree, which is of version 2: its lines, each a list of words.
-use Rattle.std.specs.Prelude.{◌+◌, ◌++◌, ℕ, List, [], ◌∷◌, length, map, codes}
+use Rattle.std.specs.Prelude.{◌++◌, ℕ, List, [], ◌∷◌, length, map, codes}
 use Rattle.std.specs.List.{flat_map}
 use Rattle.std.specs.Fmt.{decimal}
 use Rattle.cmr_base.specs.declared.line.Line.{Line}
 use Rattle.cmr_base.specs.declared.line.Line.TheVariants.{Row, Column}
-use Rattle.cmr_base.specs.declared.line_set.LineSet.{LineSet}
 use Rattle.cmr_base.specs.declared.network.Network as net
 use Rattle.cmr_base.specs.declared.network.Pair.{Pair}
 use Rattle.cmr_base.specs.declared.separation.Connector.{Connector}

@@ -1,10 +1,10 @@
-use Rattle.std.proofs.Common.{◌≡◌, ◌<◌, ◌+◌, ◌*◌, ◌%◌, ◌⊎◌, ◌∙◌, inl, inr, ap, sym, subst, eqb, List, Bool, ℕ, true, length, arith, get_or}
-use Rattle.std.proofs.lemmas.Bool.{cases_lt, false≢true}
-use Rattle.std.proofs.lemmas.Nat.Bits.{bit_at-zero}
+use Rattle.std.proofs.Common.{◌≡◌, ◌<◌, ◌+◌, ◌*◌, ◌%◌, ◌⊎◌, ◌∙◌, inl, inr, ap, sym, subst, List, Bool, ℕ, true, length, arith, get_or}
+use Rattle.std.proofs.lemmas.Bool.{cases_lt}
 use Rattle.cmr_base.specs.ColumnSets.{has_column}
 use Rattle.cmr_base.specs.Differences.{differs_at}
 use Rattle.cmr_base.specs.Planes.{has_bit}
 use Rattle.cmr_base.proofs.DifferenceWords.{difference_in}
+use Rattle.cmr_base.proofs.WordBits.{no_bit}
 use Rattle.line_growth.specs.declared.places.Places.{Places}
 use Rattle.line_growth.specs.FoundPlaces.{AreSeen, HaveSize}
 use Rattle.line_growth.specs.Reaching.{AreMeeting, LeadsToBits, is_marked}
@@ -41,9 +41,6 @@ marked_until test marks first block before here k l e = elim (cases_lt k (64 * b
       let at : 64 * block + k % 64 ≡ k = omega arith in
       subst (λ (x : ℕ). is_marked marks (first + x) ≡ true) at (here (k % 64) (omega arith) (ap test at ∙ e))
 ]
-
-no_bit : (word k : ℕ) → word ≡ 0 → has_bit word k ≡ true → ⊥
-no_bit word k z e = false≢true (sym (ap (λ (bit : ℕ). eqb bit 1) (bit_at-zero k)) ∙ ap (λ (w : ℕ). has_bit w k) (sym z) ∙ e)
 
 same_size : (count : ℕ) (old new : Places) → HaveSize count old → length new.seen.items ≡ length old.seen.items → HaveSize count new
 same_size count old new size e = record { few = size.few; seen = e ∙ size.seen }
