@@ -1,6 +1,5 @@
 -- What elimination says of column sets.
 use Rattle.std.proofs.Common.{◌≡◌, ◌<◌, ◌^◌, ◌∙◌, ℕ, List, ap, arith}
-use Rattle.std.specs.List.{AllByRecursion}
 use Rattle.cmr_base.specs.LineSets.{set_numbered}
 use Rattle.cmr_base.specs.Matrix.{Matrix, IsMatrix}
 use Rattle.cmr_base.specs.Violator.{HasNoColumnSet, IsLeastColumnSet}

@@ -1,14 +1,12 @@
 -- Column sums modulo 4, one row after another.
-use Rattle.std.proofs.Common.{◌≡◌, ◌<◌, ◌+◌, ◌/◌, ◌%◌, ◌^◌, ◌∙◌, ℕ, ℤ, pos, neg_ℤ, ◌+ℤ◌, List, [], ◌∷◌, length, take, get_or, ap, ap₂, sym, subst, arith, min}
+use Rattle.std.proofs.Common.{◌≡◌, ◌<◌, ◌+◌, ◌/◌, ◌%◌, ◌^◌, ◌∙◌, ℕ, ℤ, pos, neg_ℤ, ◌+ℤ◌, List, [], length, take, get_or, ap, ap₂, sym, subst, arith, min}
 use Rattle.std.specs.Prelude.{bit_and, bit_xor}
 use Rattle.std.specs.Int.{bit_at}
-use Rattle.std.proofs.lemmas.List.{take_more}
 use Rattle.std.proofs.lemmas.Nat.{and_le_r, xor_lt}
 use Rattle.std.proofs.lemmas.Nat.Bits.{bit_at_and, bit_at_xor, bit_at-lt, bit_at-zero}
 use Rattle.cmr_base.specs.Matrix.{Matrix, height, entry, IsMatrix}
 use Rattle.cmr_base.specs.Sums.{sum_over}
 use Rattle.cmr_base.proofs.Integers.{sums}
-use Rattle.cmr_base.proofs.SumLaws.{sum_over-append}
 use Rattle.cmr_base.proofs.SumSteps.{sum_over-take_more}
 use Rattle.parity.specs.Planes.{AreSums, HasResidue, minus_of, support_of}
 use Rattle.parity.proofs.Systems.{entry_bits, minus_of-lt, support_of-lt}

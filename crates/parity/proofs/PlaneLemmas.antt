@@ -1,8 +1,7 @@
 -- The numbers that the words of a row make.
-use Rattle.std.proofs.Common.{◌≡◌, ◌<◌, ◌≤◌, ◌+◌, ◌*◌, ◌^◌, ◌∙◌, ℕ, zero, suc, Bool, ℤ, List, [], ◌∷◌, length, take, drop, get_or, refl, ap, arith}
-use Rattle.std.specs.List.{flat_map}
+use Rattle.std.proofs.Common.{◌≡◌, ◌<◌, ◌≤◌, ◌+◌, ◌*◌, ◌^◌, ◌∙◌, ℕ, zero, suc, Bool, ℤ, List, [], ◌∷◌, length, take, drop, refl, ap, arith}
 use Rattle.std.proofs.lemmas.List.{length-drop, take_all}
-use Rattle.std.proofs.Math.Nat.{mul-le-mul_right, pow-suc, suc-mul, zero-mul}
+use Rattle.std.proofs.Math.Nat.{pow-suc, zero-mul}
 use Rattle.cmr_base.specs.Matrix.{Matrix, height, row_of, IsMatrix}
 use Rattle.parity.specs.Equations.{number_of}
 use Rattle.cmr_base.specs.Planes.{bits_of, word_of, words_for, words_of}

@@ -1,5 +1,5 @@
 -- Rows as sets of columns, and sums modulo 4 in two planes of bits.
-use Rattle.std.specs.Prelude.{◌≡◌, ◌+◌, ◌*◌, ◌/◌, if◌then◌else◌, ℕ, zero, suc, ℤ, pos, negsuc, ◌+ℤ◌, Bool, true, false, List, [], ◌∷◌, map, take, drop, bit_and, bit_xor}
+use Rattle.std.specs.Prelude.{◌≡◌, ℕ, ℤ, pos, ◌+ℤ◌, List, map, bit_and, bit_xor}
 use Rattle.std.specs.Int.{bit_at}
 use Rattle.cmr_base.specs.Matrix.{Matrix, row_of, entry, is_nonzero}
 use Rattle.cmr_base.specs.Planes.{bits_of, is_minus}

@@ -1,4 +1,4 @@
-use Rattle.std.proofs.Common.{◌≡◌, ◌^◌}
+use Rattle.std.proofs.Common.{◌^◌}
 use Rattle.cmr_base.specs.LineSets.{set_numbered}
 use Rattle.parity.specs.Equations.{solved}
 use Rattle.parity.proofs.ColumnSetSearch.{least_from_free, none_from_cleared}

@@ -5,7 +5,7 @@ use Rattle.cmr_base.proofs.Lists.{all-append}
 use Rattle.parity.specs.declared.narrow.Equation.{Equation}
 use Rattle.parity.specs.Equations.{IsBasis, IsLowest, reduced}
 use Rattle.parity.specs.Planes.{equations_of, outside, support_of}
-use Rattle.parity.proofs.Elimination.{basis_none, basis_push, basis_skip}
+use Rattle.parity.proofs.Elimination.{basis_push, basis_skip}
 use Rattle.parity.proofs.PlaneLemmas.{one_word}
 use Rattle.parity.proofs.Systems.{equations_more, outside_apart, outside_lt, support_of-lt}
 use Rattle.parity.proofs.narrow.eliminate.Goals as goal

@@ -1,4 +1,4 @@
-use Rattle.std.proofs.Common.{◌≡◌, ◌<◌, ◌∙◌, ap, get_or, length, ℕ, List, sym, rules, arith}
+use Rattle.std.proofs.Common.{◌∙◌, ap, get_or, length, ℕ, List, sym, rules, arith}
 use Rattle.std.specs.Prelude.{bit_xor}
 use Rattle.std.proofs.lemmas.Simd.{get_or-zip2, length-zip2}
 use Rattle.parity.proofs.WordLemmas.{AreWords, number_of-xor}
