@@ -1,10 +1,8 @@
 -- A chain text that was written is read again as the same chain.
-use Rattle.std.proofs.Common.{◌≡◌, ◌<◌, ◌≤◌, ◌+◌, ◌-◌, ◌*◌, ◌^◌, ◌∙◌, ℕ, suc, zero-le, true, false, eqb, ltb, leb, List, [], ◌∷◌, ◌++◌, length, map, Result, Ok, refl, ap, sym, subst, append_assoc, arith}
+use Rattle.std.proofs.Common.{◌≡◌, ◌<◌, ◌≤◌, ◌+◌, ◌-◌, ◌*◌, ◌^◌, ◌∙◌, ℕ, suc, zero-le, List, [], ◌∷◌, ◌++◌, length, map, Result, Ok, refl, ap, sym, subst, append_assoc, arith}
 use Rattle.std.specs.Prelude.{codes}
 use Rattle.std.specs.Fmt.{decimal}
-use Rattle.std.specs.List.{AllByRecursion, flat_map}
-use Rattle.std.proofs.lemmas.Bool.{le-leb}
-use Rattle.std.proofs.lemmas.Bool.Decides.{nat_tests}
+use Rattle.std.specs.List.{AllByRecursion}
 use Rattle.std.proofs.lemmas.List.{append-nil}
 use Rattle.std.proofs.lemmas.List.Concat.{flat_map-append}
 use Rattle.std.proofs.lemmas.List.Sums.{fold_push}
@@ -18,55 +16,30 @@ use Rattle.text_fields.specs.Words.{Text, text_of, words_from}
 use Rattle.text_fields.specs.Result.{◌>>=◌}
 use Rattle.text_fields.specs.Reading.{Fault, field, times, ended}
 use Rattle.text_fields.specs.Spelling.{texts_of}
-use Rattle.text_fields.proofs.LineWords.{IsWord, words_in_lines}
+use Rattle.text_fields.proofs.LineWords.{IsWord, split_texts, words_of_lines, words_in_lines}
+use Rattle.text_fields.proofs.Limits.{limited_again, line_in_again, rising_line_again}
+use Rattle.text_fields.proofs.ReadAgain.{Reader, Again, again_bind, again_done, again_field, again_wrap}
 use Rattle.text_fields.proofs.Decimals.{decimal_word, count_of_decimal}
 use Rattle.camion_sign.specs.declared.chain_error.ChainKind.{ChainKind}
-use Rattle.camion_sign.specs.declared.chain_error.ChainKind.TheVariants.{Short, Extra, UnknownStep, WrongVersion}
+use Rattle.camion_sign.specs.declared.chain_error.ChainKind.TheVariants.{Short, Extra, NotRising, OutOfRange, UnknownStep, WrongVersion}
 use Rattle.camion_sign.specs.declared.chain_text.StepName.{StepName}
 use Rattle.camion_sign.specs.declared.chain_text.StepName.TheVariants as names
 use Rattle.camion_sign.specs.declared.step.SignStep.{SignStep}
 use Rattle.camion_sign.specs.declared.step.SignStep.TheVariants.{Free, Forced}
 use Rattle.camion_sign.specs.declared.step.SizedChain.{SizedChain}
+use Rattle.camion_sign.specs.ChainKinds.{chain_kind}
 use Rattle.camion_sign.specs.ChainTexts.{limited, line_in, rising_line_in, word_in, step_name_in, last_number, another_line, rising_lines, line_set, step_of, next_step, another_step, chain, number_of_line, line_set_words, step_words, chain_lines, chain_text, AreLinesIn, IsStepIn, AreRising, IsRisingStep}
 
--- ---- words that are taken as a value, whatever stands behind them
+-- ---- words that are all that is left
 
-abbrev Reader : Type 0 → Type 0
-Reader A = Text → Result (A × Text) (Fault ChainKind)
-
-abbrev Takes : {A : Type 0} → Reader A → List (List ℕ) → A → Type 0
-Takes parse words x = (size : ℕ) (ws : List (ℕ × List ℕ)) (more : List (List ℕ)) → texts_of ws ≡ words ++ more
-    → (rest : List (ℕ × List ℕ)) × (texts_of rest ≡ more) × (parse (record { size = size; words = ws }) ≡ Ok (x, record { size = size; words = rest }))
-
--- the words are all that is left
 abbrev Ends : {A : Type 0} → (Text → Result A (Fault ChainKind)) → List (List ℕ) → A → Type 0
 Ends parse words x = (size : ℕ) (ws : List (ℕ × List ℕ)) → texts_of ws ≡ words → parse (record { size = size; words = ws }) ≡ Ok x
 
-take_then : {A B : Type 0} (p : Reader A) (q : A → Reader B) (front back : List (List ℕ)) (a : A) (b : B) → Takes p front a → Takes (q a) back b → Takes (λ t. p t >>= λ r. q r.0 r.1) (front ++ back) b
-take_then {A} p q front back a b P Q size ws more e =
-    let first = P size ws (back ++ more) (e ∙ append_assoc front back more) in
-    let second = Q size first.0 more first.1 in
-    (second.0, second.1, ap (λ r. r >>= λ (s : A × Text). q s.0 s.1) first.2 ∙ second.2)
-
-end_then : {A B : Type 0} (p : Reader A) (q : A → Text → Result B (Fault ChainKind)) (front back : List (List ℕ)) (a : A) (b : B) → Takes p front a → Ends (q a) back b → Ends (λ t. p t >>= λ r. q r.0 r.1) (front ++ back) b
+end_then : {A B : Type 0} (p : Reader ChainKind A) (q : A → Text → Result B (Fault ChainKind)) (front back : List (List ℕ)) (a : A) (b : B) → Again p front a → Ends (q a) back b → Ends (λ t. p t >>= λ r. q r.0 r.1) (front ++ back) b
 end_then {A} p q front back a b P Q size ws e =
-    let first = P size ws back e in
-    ap (λ r. r >>= λ (s : A × Text). q s.0 s.1) first.2 ∙ Q size first.0 first.1
-
-take_made : {A B : Type 0} (p : Reader A) (f : A → B) (words : List (List ℕ)) (a : A) (b : B) → Takes p words a → f a ≡ b → Takes (λ t. p t >>= λ r. Ok (f r.0, r.1)) words b
-take_made {A} p f words a b P e size ws more h =
-    let first = P size ws more h in
-    (first.0, first.1, ap (λ r. r >>= λ (s : A × Text). Ok (f s.0, s.1)) first.2 ∙ ap (λ x. Ok (x, record { size = size; words = first.0 })) e)
-
-take_done : {A : Type 0} (x y : A) → x ≡ y → Takes (λ t. Ok (x, t)) [] y
-take_done x y e size ws more h = (ws, h, ap (λ v. Ok (v, record { size = size; words = ws })) e)
-
-take_field : {A : Type 0} (parse : List ℕ → Result A ChainKind) (word : List ℕ) (x : A) → parse word ≡ Ok x → Takes (field Short parse) (word ∷ []) x
-take_field parse word x h size [] more e = absurd (cc)
-take_field parse word x h size (w ∷ ws) more e =
-    let head : w.1 ≡ word = cc in
-    let tail : texts_of ws ≡ more = cc in
-    (ws, tail, rw (ap parse head ∙ h) refl)
+    let s = split_texts ws front back e in
+    ap (λ w. p (record { size = size; words = w }) >>= λ (r : A × Text). q r.0 r.1) s.words_are
+    ∙ ap (λ r. r >>= λ (t : A × Text). q t.0 t.1) (P size s.first s.second s.front_is) ∙ Q size s.second s.back_is
 
 end_here : {A : Type 0} (x : A) → Ends (ended Extra x) [] x
 end_here x size [] e = refl
@@ -74,98 +47,84 @@ end_here x size (w ∷ ws) e = absurd (cc)
 
 -- ---- numbers
 
-limited_again : (most n : ℕ) → n < 2 ^ 31 → n ≤ most → limited most (decimal n) ≡ Ok n
-limited_again most n small within =
-    let t : leb n most ≡ true = le-leb n most within in
-    rw (count_of_decimal n small, t) refl
+size_again : (most n : ℕ) → n < 2 ^ 31 → n ≤ most → limited most (decimal n) ≡ Ok n
+size_again most n small within = limited_again chain_kind OutOfRange most (decimal n) n (count_of_decimal n small) within
 
 line_again : (most line : ℕ) → most ≤ 1000 → line < most → line_in most (number_of_line line) ≡ Ok (line + 1)
-line_again most line few h =
-    let t : eqb (line + 1) 0 ≡ false = grind (arith, nat_tests) in
-    rw (limited_again most (line + 1) (omega (arith, few, h)) (omega (arith, h)), t) refl
+line_again most line few h = line_in_again chain_kind OutOfRange most (number_of_line line) (line + 1) (count_of_decimal (line + 1) (omega (arith, few, h))) (omega arith) (omega (arith, h))
 
 rising_again : (most before line : ℕ) → most ≤ 1000 → line < most → before ≤ line → rising_line_in most before (number_of_line line) ≡ Ok (line + 1)
 rising_again most before line few h above =
-    let t : ltb before (line + 1) ≡ true = grind (arith, nat_tests) in
-    rw (line_again most line few h, t) refl
+    rising_line_again chain_kind OutOfRange NotRising most before (number_of_line line) (line + 1) (count_of_decimal (line + 1) (omega (arith, few, h))) (omega arith) (omega (arith, h)) (omega (arith, above))
 
 -- ---- line sets
 
-take_line : (most : ℕ) (before : List ℕ) (line : ℕ) → most ≤ 1000 → line < most → last_number before ≤ line → Takes (another_line most before) (number_of_line line ∷ []) (before ++ line ∷ [])
-take_line most before line few h above =
+again_line : (most : ℕ) (before : List ℕ) (line : ℕ) → most ≤ 1000 → line < most → last_number before ≤ line → Again (another_line most before) (number_of_line line ∷ []) (before ++ line ∷ [])
+again_line most before line few h above =
     let e : line + 1 - 1 ≡ line = omega arith in
-    take_made (field Short (rising_line_in most (last_number before))) (λ number. before ++ (number - 1) ∷ []) (number_of_line line ∷ []) (line + 1) (before ++ line ∷ [])
-    (take_field (rising_line_in most (last_number before)) (number_of_line line) (line + 1) (rising_again most (last_number before) line few h above)) (ap (λ (n : ℕ). before ++ n ∷ []) e)
+    subst (λ (n : ℕ). Again (another_line most before) (number_of_line line ∷ []) (before ++ n ∷ [])) e
+    (again_wrap (field Short (rising_line_in most (last_number before))) (λ (number : ℕ). before ++ (number - 1) ∷ []) (number_of_line line ∷ []) (line + 1)
+    (again_field Short (rising_line_in most (last_number before)) (number_of_line line) (line + 1) (rising_again most (last_number before) line few h above)))
 
-take_lines : (most : ℕ) (before lines : List ℕ) → most ≤ 1000 → RisesIn (last_number before) most lines → Takes (times (another_line most) (length lines) before) (map number_of_line lines) (before ++ lines)
-take_lines most before [] few rises = take_done before (before ++ []) (sym (append-nil before))
-take_lines most before (line ∷ lines) few rises =
+again_lines : (most : ℕ) (before lines : List ℕ) → most ≤ 1000 → RisesIn (last_number before) most lines → Again (times (another_line most) (length lines) before) (map number_of_line lines) (before ++ lines)
+again_lines most before [] few rises = subst (λ xs. Again {K = ChainKind} (λ text. Ok (before, text)) [] xs) (sym (append-nil before)) (again_done before)
+again_lines most before (line ∷ lines) few rises =
     let last : last_number (before ++ line ∷ []) ≡ line + 1 = fold_push (λ (before line : ℕ). line + 1) 0 before line in
-    subst (Takes (times (another_line most) (length (line ∷ lines)) before) (map number_of_line (line ∷ lines))) (append_assoc before (line ∷ []) lines)
-    (take_then (another_line most before) (λ state. times (another_line most) (length lines) state) (number_of_line line ∷ []) (map number_of_line lines) (before ++ line ∷ []) ((before ++ line ∷ []) ++ lines)
-    (take_line most before line few rises.1 rises.0)
-    (take_lines most (before ++ line ∷ []) lines few (subst (λ (low : ℕ). RisesIn low most lines) (sym last) rises.2)))
+    subst (Again (times (another_line most) (length (line ∷ lines)) before) (map number_of_line (line ∷ lines))) (append_assoc before (line ∷ []) lines)
+    (again_bind (another_line most before) _ (number_of_line line ∷ []) (map number_of_line lines) (before ++ line ∷ []) ((before ++ line ∷ []) ++ lines)
+    (again_line most before line few rises.1 rises.0)
+    (again_lines most (before ++ line ∷ []) lines few (subst (λ (low : ℕ). RisesIn low most lines) (sym last) rises.2)))
 
-take_line_set : (height width : ℕ) (lines : LineSet) → height ≤ 1000 → width ≤ 1000 → AreLinesIn height width lines → AreRising lines → Takes (line_set height width) (line_set_words lines) lines
-take_line_set height width lines few_rows few_columns inside rising =
+again_line_set : (height width : ℕ) (lines : LineSet) → height ≤ 1000 → width ≤ 1000 → AreLinesIn height width lines → AreRising lines → Again (line_set height width) (line_set_words lines) lines
+again_line_set height width lines few_rows few_columns inside rising =
     let row_count = length-rising lines.rows height rising.0 inside.0 in
     let column_count = length-rising lines.columns width rising.1 inside.1 in
-    take_then (field Short (limited height))
-    (λ p t. field Short (limited width) t >>= λ q. rising_lines height p q.1 >>= λ rows. rising_lines width q.0 rows.1 >>= λ columns. Ok (record { rows = rows.0; columns = columns.0 }, columns.1))
+    again_bind (field Short (limited height)) _
     (decimal (length lines.rows) ∷ []) (decimal (length lines.columns) ∷ (map number_of_line lines.rows ++ map number_of_line lines.columns)) (length lines.rows) lines
-    (take_field (limited height) (decimal (length lines.rows)) (length lines.rows) (limited_again height (length lines.rows) (omega (arith, few_rows, row_count)) row_count))
-    (take_then (field Short (limited width))
-    (λ q t. rising_lines height (length lines.rows) t >>= λ rows. rising_lines width q rows.1 >>= λ columns. Ok (record { rows = rows.0; columns = columns.0 }, columns.1))
+    (again_field Short (limited height) (decimal (length lines.rows)) (length lines.rows) (size_again height (length lines.rows) (omega (arith, few_rows, row_count)) row_count))
+    (again_bind (field Short (limited width)) _
     (decimal (length lines.columns) ∷ []) (map number_of_line lines.rows ++ map number_of_line lines.columns) (length lines.columns) lines
-    (take_field (limited width) (decimal (length lines.columns)) (length lines.columns) (limited_again width (length lines.columns) (omega (arith, few_columns, column_count)) column_count))
-    (take_then (rising_lines height (length lines.rows))
-    (λ rows t. rising_lines width (length lines.columns) t >>= λ columns. Ok (record { rows = rows; columns = columns.0 }, columns.1))
+    (again_field Short (limited width) (decimal (length lines.columns)) (length lines.columns) (size_again width (length lines.columns) (omega (arith, few_columns, column_count)) column_count))
+    (again_bind (rising_lines height (length lines.rows)) _
     (map number_of_line lines.rows) (map number_of_line lines.columns) lines.rows lines
-    (take_lines height [] lines.rows few_rows (rises_in 0 height lines.rows rising.0 inside.0 (λ h. zero-le)))
-    (take_made (rising_lines width (length lines.columns)) (λ columns. record { rows = lines.rows; columns = columns }) (map number_of_line lines.columns) lines.columns lines
-    (take_lines width [] lines.columns few_columns (rises_in 0 width lines.columns rising.1 inside.1 (λ h. zero-le))) refl)))
+    (again_lines height [] lines.rows few_rows (rises_in 0 height lines.rows rising.0 inside.0 (λ h. zero-le)))
+    (again_wrap (rising_lines width (length lines.columns)) (λ (columns : List ℕ). record { rows = lines.rows; columns = columns }) (map number_of_line lines.columns) lines.columns
+    (again_lines width [] lines.columns few_columns (rises_in 0 width lines.columns rising.1 inside.1 (λ h. zero-le))))))
 
 -- ---- steps
 
 -- the row and the column of a step
-take_place : (height width row column : ℕ) (name : StepName) (word : List ℕ) (behind : List (List ℕ)) (step : SignStep) → height ≤ 1000 → width ≤ 1000 → row < height → column < width
-    → step_name_in word ≡ Ok name → Takes (step_of height width name row column) behind step → Takes (next_step height width) (word ∷ number_of_line row ∷ number_of_line column ∷ behind) step
-take_place height width row column name word behind step few_rows few_columns in_rows in_columns named later =
+again_place : (height width row column : ℕ) (name : StepName) (word : List ℕ) (behind : List (List ℕ)) (step : SignStep) → height ≤ 1000 → width ≤ 1000 → row < height → column < width
+    → step_name_in word ≡ Ok name → Again (step_of height width name row column) behind step → Again (next_step height width) (word ∷ number_of_line row ∷ number_of_line column ∷ behind) step
+again_place height width row column name word behind step few_rows few_columns in_rows in_columns named later =
     let r : row + 1 - 1 ≡ row = omega arith in
     let c : column + 1 - 1 ≡ column = omega arith in
-    take_then (field Short step_name_in)
-    (λ n t. field Short (line_in height) t >>= λ i. field Short (line_in width) i.1 >>= λ j. step_of height width n (i.0 - 1) (j.0 - 1) j.1)
+    again_bind (field Short step_name_in) _
     (word ∷ []) (number_of_line row ∷ number_of_line column ∷ behind) name step
-    (take_field step_name_in word name named)
-    (take_then (field Short (line_in height))
-    (λ i t. field Short (line_in width) t >>= λ j. step_of height width name (i - 1) (j.0 - 1) j.1)
+    (again_field Short step_name_in word name named)
+    (again_bind (field Short (line_in height)) _
     (number_of_line row ∷ []) (number_of_line column ∷ behind) (row + 1) step
-    (take_field (line_in height) (number_of_line row) (row + 1) (line_again height row few_rows in_rows))
-    (take_then (field Short (line_in width))
-    (λ j t. step_of height width name (row + 1 - 1) (j - 1) t)
+    (again_field Short (line_in height) (number_of_line row) (row + 1) (line_again height row few_rows in_rows))
+    (again_bind (field Short (line_in width)) _
     (number_of_line column ∷ []) behind (column + 1) step
-    (take_field (line_in width) (number_of_line column) (column + 1) (line_again width column few_columns in_columns))
-    (subst (λ (i : ℕ). Takes (step_of height width name i (column + 1 - 1)) behind step) (sym r) (subst (λ (j : ℕ). Takes (step_of height width name row j) behind step) (sym c) later))))
+    (again_field Short (line_in width) (number_of_line column) (column + 1) (line_again width column few_columns in_columns))
+    (subst (λ (i : ℕ). Again (step_of height width name i (column + 1 - 1)) behind step) (sym r) (subst (λ (j : ℕ). Again (step_of height width name row j) behind step) (sym c) later))))
 
-take_step : (height width : ℕ) (step : SignStep) → height ≤ 1000 → width ≤ 1000 → IsStepIn height width step → IsRisingStep step → Takes (next_step height width) (step_words step) step
-take_step height width (Free row column) few_rows few_columns inside rising =
-    take_place height width row column names.Free (codes "free") [] (Free row column) few_rows few_columns inside.0 inside.1 refl (take_done (Free row column) (Free row column) refl)
-take_step height width (Forced row column cycle) few_rows few_columns inside rising =
-    take_place height width row column names.Forced (codes "forced") (line_set_words cycle) (Forced row column cycle) few_rows few_columns inside.0 inside.1 refl
-    (take_made (line_set height width) (λ lines. Forced row column lines) (line_set_words cycle) cycle (Forced row column cycle) (take_line_set height width cycle few_rows few_columns inside.2 rising) refl)
+again_step : (height width : ℕ) (step : SignStep) → height ≤ 1000 → width ≤ 1000 → IsStepIn height width step → IsRisingStep step → Again (next_step height width) (step_words step) step
+again_step height width (Free row column) few_rows few_columns inside rising =
+    again_place height width row column names.Free (codes "free") [] (Free row column) few_rows few_columns inside.0 inside.1 refl (again_done (Free row column))
+again_step height width (Forced row column cycle) few_rows few_columns inside rising =
+    again_place height width row column names.Forced (codes "forced") (line_set_words cycle) (Forced row column cycle) few_rows few_columns inside.0 inside.1 refl
+    (again_wrap (line_set height width) (λ (lines : LineSet). Forced row column lines) (line_set_words cycle) cycle (again_line_set height width cycle few_rows few_columns inside.2 rising))
 
--- the words of lines
-abbrev all_words : List (List (List ℕ)) → List (List ℕ)
-all_words lines = flat_map (λ line. line) lines
-
-take_steps : (height width : ℕ) (before steps : List SignStep) → height ≤ 1000 → width ≤ 1000 → AllByRecursion (IsStepIn height width) steps → AllByRecursion IsRisingStep steps
-    → Takes (times (another_step height width) (length steps) before) (all_words (map step_words steps)) (before ++ steps)
-take_steps height width before [] few_rows few_columns inside rising = take_done before (before ++ []) (sym (append-nil before))
-take_steps height width before (step ∷ steps) few_rows few_columns inside rising =
-    subst (Takes (times (another_step height width) (length (step ∷ steps)) before) (all_words (map step_words (step ∷ steps)))) (append_assoc before (step ∷ []) steps)
-    (take_then (another_step height width before) (λ state. times (another_step height width) (length steps) state) (step_words step) (all_words (map step_words steps)) (before ++ step ∷ []) ((before ++ step ∷ []) ++ steps)
-    (take_made (next_step height width) (λ s. before ++ s ∷ []) (step_words step) step (before ++ step ∷ []) (take_step height width step few_rows few_columns inside.0 rising.0) refl)
-    (take_steps height width (before ++ step ∷ []) steps few_rows few_columns inside.1 rising.1))
+again_steps : (height width : ℕ) (before steps : List SignStep) → height ≤ 1000 → width ≤ 1000 → AllByRecursion (IsStepIn height width) steps → AllByRecursion IsRisingStep steps
+    → Again (times (another_step height width) (length steps) before) (words_of_lines (map step_words steps)) (before ++ steps)
+again_steps height width before [] few_rows few_columns inside rising = subst (λ xs. Again {K = ChainKind} (λ text. Ok (before, text)) [] xs) (sym (append-nil before)) (again_done before)
+again_steps height width before (step ∷ steps) few_rows few_columns inside rising =
+    subst (Again (times (another_step height width) (length (step ∷ steps)) before) (words_of_lines (map step_words (step ∷ steps)))) (append_assoc before (step ∷ []) steps)
+    (again_bind (another_step height width before) _ (step_words step) (words_of_lines (map step_words steps)) (before ++ step ∷ []) ((before ++ step ∷ []) ++ steps)
+    (again_wrap (next_step height width) (λ (s : SignStep). before ++ s ∷ []) (step_words step) step (again_step height width step few_rows few_columns inside.0 rising.0))
+    (again_steps height width (before ++ step ∷ []) steps few_rows few_columns inside.1 rising.1))
 
 -- ---- the whole text
 
@@ -179,7 +138,7 @@ pub record IsWritable (sized : SizedChain) : Type 0 where
   pub violator_rises : AreRising sized.chain.violator
 
 abbrev chain_words : SizedChain → List (List ℕ)
-chain_words sized = codes "cmr-chain" ∷ codes "1" ∷ decimal sized.rows ∷ decimal sized.columns ∷ decimal (length sized.chain.steps) ∷ (all_words (map step_words sized.chain.steps) ++ (codes "violator" ∷ (line_set_words sized.chain.violator ++ [])))
+chain_words sized = codes "cmr-chain" ∷ codes "1" ∷ decimal sized.rows ∷ decimal sized.columns ∷ decimal (length sized.chain.steps) ∷ (words_of_lines (map step_words sized.chain.steps) ++ (codes "violator" ∷ (line_set_words sized.chain.violator ++ [])))
 
 few_places : (m n : ℕ) → m ≤ 1000 → n ≤ 1000 → m * n ≤ 1000000
 few_places m n h k = omega (arith, mul-le-mul_left m k, mul-le-mul_right 1000 h)
@@ -198,35 +157,35 @@ read_again sized w =
     (λ _ t. field Short (word_in (codes "1") WrongVersion) t >>= λ version. field Short (limited 1000) version.1 >>= λ height. field Short (limited 1000) height.1 >>= λ width. field Short (limited (height.0 * width.0)) width.1 >>= λ c.
     times (another_step height.0 width.0) c.0 [] c.1 >>= λ made. field Short (word_in (codes "violator") UnknownStep) made.1 >>= λ name. line_set height.0 width.0 name.1 >>= λ violator.
     ended Extra (record { chain = record { steps = made.0; violator = violator.0 }; rows = height.0; columns = width.0 }) violator.1)
-    (codes "cmr-chain" ∷ []) _ tt sized (take_field _ (codes "cmr-chain") tt refl)
+    (codes "cmr-chain" ∷ []) _ tt sized (again_field Short _ (codes "cmr-chain") tt refl)
     (end_then (field Short (word_in (codes "1") WrongVersion))
     (λ _ t. field Short (limited 1000) t >>= λ height. field Short (limited 1000) height.1 >>= λ width. field Short (limited (height.0 * width.0)) width.1 >>= λ c.
     times (another_step height.0 width.0) c.0 [] c.1 >>= λ made. field Short (word_in (codes "violator") UnknownStep) made.1 >>= λ name. line_set height.0 width.0 name.1 >>= λ violator.
     ended Extra (record { chain = record { steps = made.0; violator = violator.0 }; rows = height.0; columns = width.0 }) violator.1)
-    (codes "1" ∷ []) _ tt sized (take_field _ (codes "1") tt refl)
+    (codes "1" ∷ []) _ tt sized (again_field Short _ (codes "1") tt refl)
     (end_then (field Short (limited 1000))
     (λ height t. field Short (limited 1000) t >>= λ width. field Short (limited (height * width.0)) width.1 >>= λ c.
     times (another_step height width.0) c.0 [] c.1 >>= λ made. field Short (word_in (codes "violator") UnknownStep) made.1 >>= λ name. line_set height width.0 name.1 >>= λ violator.
     ended Extra (record { chain = record { steps = made.0; violator = violator.0 }; rows = height; columns = width.0 }) violator.1)
-    (decimal m ∷ []) _ m sized (take_field (limited 1000) (decimal m) m (limited_again 1000 m (omega (arith, few_rows)) few_rows))
+    (decimal m ∷ []) _ m sized (again_field Short (limited 1000) (decimal m) m (size_again 1000 m (omega (arith, few_rows)) few_rows))
     (end_then (field Short (limited 1000))
     (λ width t. field Short (limited (m * width)) t >>= λ c.
     times (another_step m width) c.0 [] c.1 >>= λ made. field Short (word_in (codes "violator") UnknownStep) made.1 >>= λ name. line_set m width name.1 >>= λ violator.
     ended Extra (record { chain = record { steps = made.0; violator = violator.0 }; rows = m; columns = width }) violator.1)
-    (decimal n ∷ []) _ n sized (take_field (limited 1000) (decimal n) n (limited_again 1000 n (omega (arith, few_columns)) few_columns))
+    (decimal n ∷ []) _ n sized (again_field Short (limited 1000) (decimal n) n (size_again 1000 n (omega (arith, few_columns)) few_columns))
     (end_then (field Short (limited (m * n)))
     (λ c t. times (another_step m n) c [] t >>= λ made. field Short (word_in (codes "violator") UnknownStep) made.1 >>= λ name. line_set m n name.1 >>= λ violator.
     ended Extra (record { chain = record { steps = made.0; violator = violator.0 }; rows = m; columns = n }) violator.1)
-    (decimal count ∷ []) _ count sized (take_field (limited (m * n)) (decimal count) count (limited_again (m * n) count (omega (arith, few, places)) few))
+    (decimal count ∷ []) _ count sized (again_field Short (limited (m * n)) (decimal count) count (size_again (m * n) count (omega (arith, few, places)) few))
     (end_then (times (another_step m n) count [])
     (λ made t. field Short (word_in (codes "violator") UnknownStep) t >>= λ name. line_set m n name.1 >>= λ violator.
     ended Extra (record { chain = record { steps = made; violator = violator.0 }; rows = m; columns = n }) violator.1)
-    (all_words (map step_words steps)) _ steps sized (take_steps m n [] steps few_rows few_columns w.steps_in w.steps_rise)
+    (words_of_lines (map step_words steps)) _ steps sized (again_steps m n [] steps few_rows few_columns w.steps_in w.steps_rise)
     (end_then (field Short (word_in (codes "violator") UnknownStep))
     (λ _ t. line_set m n t >>= λ violator. ended Extra (record { chain = record { steps = steps; violator = violator.0 }; rows = m; columns = n }) violator.1)
-    (codes "violator" ∷ []) _ tt sized (take_field _ (codes "violator") tt refl)
+    (codes "violator" ∷ []) _ tt sized (again_field Short _ (codes "violator") tt refl)
     (end_then (line_set m n) (λ violator t. ended Extra (record { chain = record { steps = steps; violator = violator }; rows = m; columns = n }) t)
-    (line_set_words sized.chain.violator) [] sized.chain.violator sized (take_line_set m n sized.chain.violator few_rows few_columns w.violator_in w.violator_rises) (end_here sized))))))))
+    (line_set_words sized.chain.violator) [] sized.chain.violator sized (again_line_set m n sized.chain.violator few_rows few_columns w.violator_in w.violator_rises) (end_here sized))))))))
 
 -- ---- its words are words
 

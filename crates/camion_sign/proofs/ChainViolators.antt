@@ -12,6 +12,7 @@ use Rattle.cmr_base.specs.Supports.{AgreeUpToSigns}
 use Rattle.cmr_base.specs.declared.line.Line.TheVariants.{Row, Column}
 use Rattle.cmr_base.specs.declared.line_set.LineSet.{LineSet}
 use Rattle.cmr_base.proofs.Integers.{sums, products}
+use Rattle.cmr_base.proofs.Lists.{get_or-replicated}
 use Rattle.cmr_base.proofs.Parity.{even-sum_over, even_by_difference}
 use Rattle.cmr_base.proofs.SumLaws.{sum_over-sub}
 use Rattle.cmr_base.proofs.Members.{all_in, all_of_members, rising_distinct}
@@ -239,14 +240,9 @@ module _ (a : Matrix) (is : IsMatrix a) (binary : IsBinary a) (lines : LineSet) 
 pub entry-unsigned : (a : Matrix) (i j : ℕ) → entry (unsigned a) i j ≡ pos 0
 entry-unsigned a i j = rows (height a) i
   where
-    line : (n j : ℕ) → get_or (replicate n (pos 0)) j (pos 0) ≡ pos 0
-    line zero j = refl
-    line (suc n) zero = refl
-    line (suc n) (suc j) = line n j
-
     rows : (n i : ℕ) → get_or (get_or (replicate n (replicate a.width (pos 0))) i []) j (pos 0) ≡ pos 0
     rows zero i = refl
-    rows (suc n) zero = line a.width j
+    rows (suc n) zero = get_or-replicated a.width j (pos 0)
     rows (suc n) (suc i) = rows n i
 
 pub unsigned_signs : (a : Matrix) → IsMatrix a → AreSigns a (unsigned a)

@@ -1,5 +1,4 @@
 pub mod FullSquares
-pub mod Comparisons
 pub mod LineCuts
 pub mod NonzeroLists
 pub mod Trails

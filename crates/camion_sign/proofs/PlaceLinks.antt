@@ -1,11 +1,11 @@
 -- Which pairs of columns make cycle places, as walks find it out.
-use Rattle.std.proofs.Common.{◌≡◌, ◌≢◌, ◌∙◌, ◌<◌, ◌≤◌, ◌+◌, ◌++◌, ℕ, zero, suc, ℤ, pos, Bool, true, false, Some, List, [], ◌∷◌, length, replicate, set, get_or, inl, inr, refl, sym, ap, subst, arith}
-use Rattle.std.proofs.lemmas.Int.{ints}
+use Rattle.std.proofs.Common.{◌≡◌, ◌≢◌, ◌∙◌, ◌<◌, ◌+◌, ◌++◌, ℕ, ℤ, pos, Bool, true, false, Some, List, [], ◌∷◌, length, replicate, set, get_or, inl, inr, refl, sym, ap, subst, arith}
 use Rattle.std.proofs.lemmas.Bool.{cases_eq, cases_lt}
-use Rattle.std.proofs.lemmas.List.{get_or-replicate, get_or-set_other, length-replicate, length-set}
+use Rattle.std.proofs.lemmas.List.{get_or-set_other, length-replicate, length-set}
 use Rattle.cmr_base.specs.Matrix.{Matrix, height, entry, with_entry, IsMatrix, IsEntry}
 use Rattle.cmr_base.specs.CyclePlaces.{IsCyclePlace}
 use Rattle.cmr_base.proofs.Entries.{height-with_entry, entry-with_entry_same, entry-with_entry_other_column, entry-with_entry_other_row, is_matrix-with_entry}
+use Rattle.cmr_base.proofs.PlaneSteps.{is_matrix-zero}
 use Rattle.camion_sign.specs.declared.walk.Walk.{Walk}
 use Rattle.camion_sign.specs.Walks.{HasWalked, step_at, place_in}
 use Rattle.camion_sign.specs.declared.row_places.RowPlaces.{RowPlaces}
@@ -56,27 +56,9 @@ module _ (m links : Matrix) (t c last : ℕ) (square : AreSquare m links) (tells
     pub note_others : (a b : ℕ) → a ≢ c → entry (with_entry links c last z) a b ≡ entry links a b
     note_others a b d = entry-with_entry_other_row links c last z a b d
 
-zeros_matrix : (n k : ℕ) → n ≤ 1000 → k ≤ 1000 → IsMatrix (record { rows = replicate n (replicate k (pos 0)); width = k })
-zeros_matrix n k few_rows few_columns = record {
-  rectangular = λ i h. ap length (get_or-replicate n i (replicate k (pos 0)) [] (omega (arith, h, length-replicate n (replicate k (pos 0))))) ∙ length-replicate k (pos 0);
-  small = λ i j. subst IsEntry (sym (rows n i j)) (record { low = omega (arith, ints); high = omega (arith, ints) });
-  height_in = omega (arith, few_rows, length-replicate n (replicate k (pos 0)));
-  width_in = few_columns;
-}
-  where
-    line : (n j : ℕ) → get_or (replicate n (pos 0)) j (pos 0) ≡ pos 0
-    line zero j = refl
-    line (suc n) zero = refl
-    line (suc n) (suc j) = line n j
-
-    rows : (n i j : ℕ) → get_or (get_or (replicate n (replicate k (pos 0))) i []) j (pos 0) ≡ pos 0
-    rows zero i j = refl
-    rows (suc n) zero j = line k j
-    rows (suc n) (suc i) j = rows n i j
-
 pub zeros_square : (m links : Matrix) → IsMatrix m → links ≡ record { rows = replicate m.width (replicate m.width (pos 0)); width = m.width } → AreSquare m links
 zeros_square m links is e = subst (AreSquare m) (sym e) (record {
-  matrix = zeros_matrix m.width m.width is.width_in is.width_in;
+  matrix = is_matrix-zero m.width m.width (let w = is.width_in in omega (arith, w)) is.width_in;
   links_height = length-replicate m.width (replicate m.width (pos 0));
   links_width = refl;
 })

@@ -1,10 +1,11 @@
 -- The state of a walk, as lists.
 use Rattle.std.proofs.Common.{ℕ, zero, suc, ◌+◌, ◌-◌, Bool, true, false, List, [], ◌∷◌, ◌++◌, ◌≡◌, ◌≢◌, ◌<◌, ◌≤◌, ℤ, pos, ◌+ℤ◌, length, get_or, set, replicate, ◌⊎◌, inl, inr, ◌∙◌, sym, ap, refl, arith, subst, get_or-set_same, get_or-set_other, length-set, add-one}
 use Rattle.std.proofs.lemmas.Bool.{cases_lt, cases_eq}
-use Rattle.std.proofs.lemmas.List.{get_or_append_left}
+use Rattle.std.proofs.lemmas.List.{get_or_append_left, get_or_past, length-replicate}
 use Rattle.std.proofs.Math.Seq.{get_or-append_seam}
 use Rattle.cmr_base.specs.Matrix.{Matrix, height, entry, IsMatrix, row_of}
 use Rattle.cmr_base.specs.CyclePlaces.{IsPath}
+use Rattle.cmr_base.proofs.Lists.{get_or-replicated, length-more}
 use Rattle.camion_sign.specs.declared.walk.Step.{Step}
 use Rattle.camion_sign.specs.declared.walk.Walk.{Walk}
 use Rattle.camion_sign.specs.Nonzeros.{AreNonzeros}
@@ -13,27 +14,17 @@ use Rattle.camion_sign.specs.Walks.{Progress, IsQueue, Goes, IsMet, IsFront, IsS
 use Rattle.camion_sign.proofs.Trails.{path_trail}
 use Rattle.camion_sign.proofs.Walks.{IsOneMore, few, fewer, met_before, next, settles, least, all_met, all_settled, begin, with_key, kept_here, reached, visit}
 
--- entries beside the matrix are 0
-past_row : (xs : List ℤ) (i : ℕ) → length xs ≤ i → get_or xs i (pos 0) ≡ pos 0
-past_row [] i l = refl
-past_row (x ∷ xs) zero l = absurd (omega arith)
-past_row (x ∷ xs) (suc i) l = past_row xs i (omega arith)
-
 pub within : (m : Matrix) (row x : ℕ) → IsMatrix m → row < height m → entry m row x ≢ pos 0 → x < m.width
 within m row x is l h = elim (cases_lt x m.width) [
   | inl lt ↦ lt
-  | inr ge ↦ absurd (h (past_row (row_of m row) x (let e = is.rectangular row l in omega arith)))
+  | inr ge ↦ absurd (h (get_or_past (row_of m row) x (pos 0) (let e = is.rectangular row l in omega arith)))
 ]
-
-push_length : (steps : List Step) (step : Step) → length (steps ++ step ∷ []) ≡ suc (length steps)
-push_length [] step = refl
-push_length (y ∷ ys) step = let e = push_length ys step in omega arith
 
 -- the lists after a column was reached
 one_more : (steps : List Step) (places : List ℕ) (used : List Bool) (x r h : ℕ) (two : Bool) → x < length places
     → IsOneMore (progress steps places used) (progress (steps ++ record { column = x; row = r; before = h; is_two = two } ∷ []) (set places x (length steps)) used) x r h two
 one_more steps places used x r h two l = record {
-  count = push_length steps (record { column = x; row = r; before = h; is_two = two });
+  count = length-more steps (record { column = x; row = r; before = h; is_two = two });
   column = ap (λ v. v.column) last;
   columns = λ j m. ap (λ v. v.column) (before j m);
   row = ap (λ v. v.row) last;
@@ -195,7 +186,7 @@ module _ (m : Matrix) (t c h r : ℕ) (columns : List ℕ) (k : ℕ) (from : Ste
       still q y (inr p) = (inr (p.0, λ i l. p.1 i (omega arith)), inr (p.0, p.1 k (omega arith)))
 
       more : length walk2.steps.items ≡ suc (length walk.steps.items)
-      more = ap length steps2 ∙ push_length walk.steps.items new
+      more = ap length steps2 ∙ length-more walk.steps.items new
 
       kept : (j : ℕ) → j < length walk.steps.items → step_at walk2.steps.items j ≡ step_at walk.steps.items j
       kept j l = ap (λ (steps : List Step). step_at steps j) steps2 ∙ get_or_append_left walk.steps.items (new ∷ []) (record { column = 0; row = 0; before = 0; is_two = false }) j l
@@ -380,35 +371,21 @@ one_more_settled m t c from x places before here d a b n = elim (cases_lt d x) [
 
 -- ---- the whole walk
 
-copies_length : {A : Type 0} (n : ℕ) (v : A) → length (replicate n v) ≡ n
-copies_length zero v = refl
-copies_length (suc n) v = let e = copies_length n v in omega arith
-
-copies_same : (n i v : ℕ) → get_or (replicate n v) i v ≡ v
-copies_same zero i v = refl
-copies_same (suc n) zero v = refl
-copies_same (suc n) (suc i) v = copies_same n i v
-
-copies_false : (n i : ℕ) → get_or (replicate n false) i false ≡ false
-copies_false zero i = refl
-copies_false (suc n) zero = refl
-copies_false (suc n) (suc i) = copies_false n i
-
 pub begin_walk : (m : Matrix) (t c : ℕ) (walk walk2 : Walk) → FitsMatrix m walk → c < m.width → walk2.steps.items ≡ record { column = c; row = 0; before = 0; is_two = false } ∷ []
     → walk2.places.items ≡ set (replicate (length walk.places.items) 4294967295) c 0 → walk2.used.items ≡ replicate (length walk.used.items) false → IsGoing m t c 0 (c + 1) walk2
 begin_walk m t c walk walk2 f l steps2 places2 used2 = record {
   state = inl (record {
     fits = record {
       matrix = f.matrix;
-      places = ap length places2 ∙ length-set (replicate (length walk.places.items) 4294967295) c 0 ∙ copies_length {A = ℕ} (length walk.places.items) 4294967295 ∙ f.places;
-      used = ap length used2 ∙ copies_length (length walk.used.items) false ∙ f.used;
+      places = ap length places2 ∙ length-set (replicate (length walk.places.items) 4294967295) c 0 ∙ length-replicate (length walk.places.items) 4294967295 ∙ f.places;
+      used = ap length used2 ∙ length-replicate (length walk.used.items) false ∙ f.used;
     };
     key = λ j. [];
     front = subst (λ (v : Progress). IsFront (entry m) t c m.width v (λ j. []) 0 (λ r x. 0 ≤ r)) (sym (same_progress walk2 first (set (replicate (length walk.places.items) 4294967295) c 0) (replicate (length walk.used.items) false) steps2 places2 used2))
         (begin (entry m) t c m.width (progress first (set (replicate (length walk.places.items) 4294967295) c 0) (replicate (length walk.used.items) false)) (λ r x. 0 ≤ r) l refl refl refl
-        (get_or-set_same (replicate (length walk.places.items) 4294967295) c 0 4294967295 (let e = copies_length {A = ℕ} (length walk.places.items) 4294967295 in let g = f.places in omega arith))
-        (λ z q. get_or-set_other (replicate (length walk.places.items) 4294967295) c z 0 4294967295 q ∙ copies_same (length walk.places.items) z 4294967295)
-        (λ r. copies_false (length walk.used.items) r));
+        (get_or-set_same (replicate (length walk.places.items) 4294967295) c 0 4294967295 (let e = length-replicate {A = ℕ} (length walk.places.items) 4294967295 in let g = f.places in omega arith))
+        (λ z q. get_or-set_other (replicate (length walk.places.items) 4294967295) c z 0 4294967295 q ∙ get_or-replicated (length walk.places.items) z 4294967295)
+        (λ r. get_or-replicated (length walk.used.items) r false));
   });
   pending_in = omega arith;
   waits = λ d a b. absurd (omega arith);

@@ -1,13 +1,13 @@
 -- Chain texts: a version, the matrix's sizes and a count, then so many steps, and a violator.
-use Rattle.std.specs.Prelude.{◌<◌, ◌-◌, ◌+◌, ◌*◌, ◌++◌, ◌==◌, nat_le, nat_lt, if◌then◌else◌, ℕ, List, [], ◌∷◌, length, map, fold, codes, bytes_eq, Result, Ok, Err}
+use Rattle.std.specs.Prelude.{◌<◌, ◌-◌, ◌*◌, ◌++◌, if◌then◌else◌, ℕ, List, [], ◌∷◌, length, map, codes, bytes_eq, Result, Ok, Err}
 use Rattle.std.specs.Fmt.{decimal}
 use Rattle.std.specs.List.Sorted.{IsStrictlyIncreasing}
 use Rattle.cmr_base.specs.LineSets.{AllBelow}
 use Rattle.cmr_base.specs.declared.line_set.LineSet.{LineSet}
 use Rattle.text_fields.specs.Words.{Text}
-use Rattle.text_fields.specs.Result.{◌>>=◌, renamed}
-pub use Rattle.text_fields.specs.LineNumbers.{number_of_line, set_words as line_set_words}
-use Rattle.text_fields.specs.Numbers.{count_in}
+use Rattle.text_fields.specs.Result.{◌>>=◌}
+use Rattle.text_fields.specs.Limits as limits
+pub use Rattle.text_fields.specs.LineNumbers.{last_number, number_of_line, set_words as line_set_words}
 use Rattle.text_fields.specs.Reading.{Fault, field, times, ended}
 use Rattle.text_fields.specs.Written.{text_of_lines}
 use Rattle.camion_sign.specs.declared.chain_error.ChainKind.{ChainKind}
@@ -21,33 +21,23 @@ use Rattle.camion_sign.specs.ChainKinds.{chain_kind}
 
 -- a count of at most so much
 abbrev pub limited : ℕ → List ℕ → Result ℕ ChainKind
-limited most word = do
-  n ← renamed chain_kind (count_in word)
-  if nat_le n most then Ok n else Err OutOfRange
+limited most word = limits.limited chain_kind OutOfRange most word
 
 -- the number of a line, from 1 to so many
 abbrev pub line_in : ℕ → List ℕ → Result ℕ ChainKind
-line_in most word = do
-  n ← limited most word
-  if n == 0 then Err OutOfRange else Ok n
+line_in most word = limits.line_in chain_kind OutOfRange most word
 
 -- a line's number above the one before it
 abbrev pub rising_line_in : ℕ → ℕ → List ℕ → Result ℕ ChainKind
-rising_line_in most before word = do
-  n ← line_in most word
-  if nat_lt before n then Ok n else Err NotRising
+rising_line_in most before word = limits.rising_line_in chain_kind OutOfRange NotRising most before word
 
 -- this very word
 abbrev pub word_in : List ℕ → ChainKind → List ℕ → Result (Unit {0}) ChainKind
-word_in expected other word = if bytes_eq word expected then Ok tt else Err other
+word_in expected other word = limits.word_in other expected word
 
 -- the word of a step
 abbrev pub step_name_in : List ℕ → Result StepName ChainKind
 step_name_in word = if bytes_eq word (codes "free") then Ok names.Free else (if bytes_eq word (codes "forced") then Ok names.Forced else Err UnknownStep)
-
--- the number of the last line, counted from 1; 0 where there is none
-abbrev pub last_number : List ℕ → ℕ
-last_number lines = fold (λ before line. line + 1) 0 lines
 
 -- one more line, above the one before it
 abbrev pub another_line : ℕ → List ℕ → Text → Result (List ℕ × Text) (Fault ChainKind)

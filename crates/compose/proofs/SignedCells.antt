@@ -1,24 +1,19 @@
 -- The cells of a matrix on signed lines.
-use Rattle.std.proofs.Common.{◌≡◌, ◌<◌, ◌≤◌, ◌*◌, ◌∙◌, ◌*ℤ◌, ℕ, zero, suc, ℤ, pos, List, [], ◌∷◌, map, length, take, get_or, ap, sym, subst}
+use Rattle.std.proofs.Common.{◌≡◌, ◌<◌, ◌≤◌, ◌*◌, ◌∙◌, ◌*ℤ◌, ℕ, ℤ, pos, List, [], ◌∷◌, map, length, take, get_or, ap, sym, subst}
 use Rattle.std.specs.List.{AllByRecursion, flat_map}
 use Rattle.std.proofs.lemmas.List.{take_all, length-map}
 use Rattle.cmr_base.specs.Matrix.{Matrix, height, entry, rows_of, IsEntry, IsMatrix}
 use Rattle.cmr_base.specs.Signing.{IsSign}
 use Rattle.cmr_base.proofs.Lists.{all-append, all-map, all_weaker}
 use Rattle.cmr_base.proofs.Parts.{length-cells, rows_of-flat_map}
-use Rattle.cmr_base.proofs.SignEntries.{sign_is_entry, product_is_entry, zero_is_entry}
+use Rattle.cmr_base.proofs.SignEntries.{sign_is_entry, product_is_entry}
+use Rattle.cmr_base.proofs.SmallEntries.{entry_at}
 use Rattle.compose.specs.declared.signed_line.SignedLine.{SignedLine}
 use Rattle.compose.specs.Arrangements.{signed_entry, signed_submatrix, AreSignedLines}
 
 all_flat : {A : Type 0} (P : ℤ → Type 0) (f : A → List ℤ) (xs : List A) → AllByRecursion (λ x. AllByRecursion P (f x)) xs → AllByRecursion P (flat_map f xs)
 all_flat P f [] h = tt
 all_flat P f (x ∷ xs) h = all-append P (f x) (flat_map f xs) h.0 (all_flat P f xs h.1)
-
--- each cell is an entry, and so is what stands past the end
-each_cell : (cells : List ℤ) → AllByRecursion IsEntry cells → (k : ℕ) → IsEntry (get_or cells k (pos 0))
-each_cell [] h k = zero_is_entry
-each_cell (x ∷ xs) h zero = h.0
-each_cell (x ∷ xs) h (suc k) = each_cell xs h.1 k
 
 pub record AreSignedCells (m : Matrix) (rows columns : List SignedLine) (cells : List ℤ) : Type 0 where
   pub whole : length cells ≡ length rows * length columns
@@ -39,7 +34,7 @@ module _ (m : Matrix) (rows columns : List SignedLine) (is : IsMatrix m) (r : Ar
       let each : (row : SignedLine) → length (row_cells row) ≡ length columns = λ row. length-map columns (signed_entry (entry m) row) in
       record {
         whole = length-cells row_cells (length columns) rows each;
-        small = each_cell (flat_map row_cells rows) (all_flat IsEntry row_cells rows
+        small = entry_at (flat_map row_cells rows) (all_flat IsEntry row_cells rows
             (all_weaker (λ line. (line.line < height m) × IsSign line.sign) (λ row. AllByRecursion IsEntry (row_cells row)) (λ row h. small_row row h.1) rows r.each));
         cut = rows_of-flat_map row_cells (length columns) rows each;
       }

@@ -1,17 +1,16 @@
 -- Cells that are made of whole rows.
-use Rattle.std.proofs.Common.{◌≡◌, ◌<◌, ◌≤◌, ◌+◌, ◌-◌, ◌*◌, ◌∙◌, ◌++◌, ◌*ℤ◌, ℕ, zero, suc, ℤ, pos, negsuc, neg_ℤ, Bool, List, [], ◌∷◌, true, false, map, length, take, drop, get_or, refl, ap, ap₂, sym, subst, arith, inl, inr, length-append, if◌then◌else◌, ◌==◌}
+use Rattle.std.proofs.Common.{◌≡◌, ◌<◌, ◌≤◌, ◌+◌, ◌-◌, ◌*◌, ◌∙◌, ◌++◌, ◌*ℤ◌, ℕ, zero, suc, ℤ, pos, negsuc, neg_ℤ, Bool, List, [], ◌∷◌, true, false, map, length, take, drop, get_or, refl, ap, ap₂, sym, subst, arith, length-append, if◌then◌else◌, ◌==◌}
 use Rattle.std.specs.List.{AllByRecursion}
-use Rattle.std.proofs.lemmas.Bool.{cases_lt}
 use Rattle.std.proofs.lemmas.Int.{ints}
-use Rattle.std.proofs.lemmas.List.{append-nil, append_assoc, length-map, map-append, take_more, take_all, drop_more, drop_all, get_or_past}
+use Rattle.std.proofs.lemmas.List.{append-nil, append_assoc, length-map, map-append, take_more, take_all, drop_more, drop_all}
 use Rattle.std.proofs.Math.Nat.{suc-mul, zero-mul}
 use Rattle.std.proofs.Math.Seq.{take-append_seam, drop-append_seam}
 use Rattle.cmr_base.specs.Matrix.{Matrix, height, entry, row_of, rows_of, IsEntry, IsMatrix}
-use Rattle.cmr_base.proofs.Lists.{all-append, all_by_places, all_at}
+use Rattle.cmr_base.proofs.Lists.{all-append, all_by_places}
 use Rattle.cmr_base.specs.MatrixSums.{four_blocks, two_sum}
 use Rattle.cmr_base.specs.Separations.{zeros}
 use Rattle.cmr_base.proofs.FilledMatrices.{height-filled}
-use Rattle.cmr_base.proofs.SmallEntries.{negative_is_entry, zero_is_entry}
+use Rattle.cmr_base.proofs.SmallEntries.{entry_at, negative_is_entry}
 use Rattle.generate.specs.Generated.{circulant, circulant_sum, negated_rows}
 use Rattle.generate.specs.Signs.{sign_of}
 
@@ -41,13 +40,7 @@ pub record AreRows (height width : ℕ) (cells : List ℤ) (rows : List (List �
   pub small : (k : ℕ) → IsEntry (get_or cells k (pos 0))
   pub cut : rows_of height width cells ≡ rows
 
--- ---- an entry, or 0 past the end
-pub small_at : (xs : List ℤ) → AllByRecursion IsEntry xs → (k : ℕ) → IsEntry (get_or xs k (pos 0))
-small_at xs all k = elim (cases_lt k (length xs)) [
-  | inl inside ↦ all_at IsEntry xs k (pos 0) all inside
-  | inr past ↦ subst IsEntry (sym (get_or_past xs k (pos 0) past)) zero_is_entry
-]
-
+-- ---- what whole rows make
 small_joined : (width : ℕ) (rows : List (List ℤ)) → AllByRecursion (IsRow width) rows → AllByRecursion IsEntry (joined rows)
 small_joined width [] all = all
 small_joined width (row ∷ rows) all = all-append IsEntry row (joined rows) all.0.small (small_joined width rows all.1)
@@ -64,7 +57,7 @@ cut_joined width (row ∷ rows) all =
     rw (front, back) (ap (λ others. row ∷ others) (cut_joined width rows all.1))
 
 pub are_cells : (width : ℕ) (rows : List (List ℤ)) → AllByRecursion (IsRow width) rows → AreCells rows width (joined rows)
-are_cells width rows all = record { whole = whole_joined width rows all; small = small_at (joined rows) (small_joined width rows all); cut = cut_joined width rows all }
+are_cells width rows all = record { whole = whole_joined width rows all; small = entry_at (joined rows) (small_joined width rows all); cut = cut_joined width rows all }
 
 -- ---- rows of a matrix
 pub matrix_rows : (m : Matrix) → IsMatrix m → AllByRecursion (IsRow m.width) m.rows

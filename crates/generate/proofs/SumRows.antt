@@ -13,9 +13,9 @@ use Rattle.cmr_base.specs.Separations.{zeros}
 use Rattle.cmr_base.proofs.Booleans.{is_lt, is_not_lt}
 use Rattle.cmr_base.proofs.FilledMatrices.{line_at}
 use Rattle.cmr_base.proofs.Lists.{all-append, all_at, all_by_places}
-use Rattle.cmr_base.proofs.SmallEntries.{entry_as_byte, negative_is_entry, zero_is_entry}
+use Rattle.cmr_base.proofs.SmallEntries.{entry_as_byte, entry_at, negative_is_entry, zero_is_entry}
 use Rattle.generate.specs.Generated.{circulant, circulant_sum}
-use Rattle.generate.proofs.JoinedRows.{joined, joined-append, times, one_times, small_at, IsRow, AreRows, all_cells, sum_height, sum_width}
+use Rattle.generate.proofs.JoinedRows.{joined, joined-append, times, one_times, IsRow, AreRows, all_cells, sum_height, sum_width}
 
 -- ---- rows given by their entries
 row-filled : (m n : ℕ) (entries : ℕ → ℕ → ℤ) (r : ℕ) → r < m → row_of (filled m n entries) r ≡ map (entries r) (first_lines n)
@@ -167,7 +167,7 @@ is_sum_row (suc n) r h = elim (cases_lt r (4 * (n + 1) + 1)) [
       let before = is_sum_row n r inside in
       let e : suc n + 1 ≡ n + 1 + 1 = omega arith in
       let f : 4 * (n + 1) + 1 + 4 ≡ 4 * (suc n + 1) + 1 = omega arith in
-      let small : IsEntry (entry (circulant_sum (n + 1)) r (4 * (n + 1))) = small_at (row_of (circulant_sum (n + 1)) r) before.small (4 * (n + 1)) in
+      let small : IsEntry (entry (circulant_sum (n + 1)) r (4 * (n + 1))) = entry_at (row_of (circulant_sum (n + 1)) r) before.small (4 * (n + 1)) in
       subst (λ (k : ℕ). IsRow (4 * (suc n + 1) + 1) (row_of (circulant_sum k) r)) (sym e)
       (subst (IsRow (4 * (suc n + 1) + 1)) (sym (row_more (n + 1) r (omega arith) before.long inside))
       (subst (λ (long : ℕ). IsRow long (row_of (circulant_sum (n + 1)) r ++ growth (entry (circulant_sum (n + 1)) r (4 * (n + 1))))) f
@@ -218,7 +218,7 @@ begun old cells new before row last from inside zeros_pushed pushed is =
           ∙ sym (ap (λ (xs : List ℤ). get_or xs (4 * (before + 1)) (pos 0)) first
           ∙ get_or-append_right (replicate (4 * before) (pos 0)) (row_of circulant (row - 4 * before)) (4 * before) (4 * (before + 1)) (pos 0) (length-replicate (4 * before) (pos 0)) (omega arith)
           ∙ ap (λ (k : ℕ). get_or (row_of circulant (row - 4 * before)) k (pos 0)) e);
-      small = subst IsEntry (sym is) (small_at (row_of circulant (row - 4 * before)) circular.small 4);
+      small = subst IsEntry (sym is) (entry_at (row_of circulant (row - 4 * before)) circular.small 4);
     }
 
 -- ---- which circulant brings a row

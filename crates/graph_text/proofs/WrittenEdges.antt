@@ -1,6 +1,6 @@
 -- The words of written edges.
 use Rattle.std.proofs.Common.{◌≡◌, ◌<◌, ◌≤◌, ◌+◌, ◌^◌, ◌∙◌, ℕ, suc, List, [], ◌∷◌, ◌++◌, length, take, get_or, refl, sym, ap, append_assoc, false, arith}
-use Rattle.std.specs.List.{AllByRecursion, flat_map}
+use Rattle.std.specs.List.{AllByRecursion}
 use Rattle.std.specs.Fmt.{decimal}
 use Rattle.std.proofs.lemmas.List.{append-nil, length-take, take_more}
 use Rattle.std.proofs.lemmas.List.Concat.{flat_map-append}
@@ -10,7 +10,7 @@ use Rattle.cmr_base.proofs.Lists.{all-append}
 use Rattle.text_fields.specs.Spelling.{words_in}
 use Rattle.text_fields.specs.Words.{is_space}
 use Rattle.text_fields.specs.Written.{text_line, text_of_lines}
-use Rattle.text_fields.proofs.LineWords.{IsWord, words_in_lines}
+use Rattle.text_fields.proofs.LineWords.{IsWord, words_of_lines, words_in_lines}
 use Rattle.text_fields.proofs.Decimals.{count_of_decimal, decimal_word}
 use Rattle.graph_text.specs.declared.read.SizedNetwork.{SizedNetwork}
 use Rattle.graph_text.specs.GraphTexts.{row_letter, column_letter, line_name, SpellEdges, IsGraphText, edge_words, edge_lines, graph_text}
@@ -66,10 +66,7 @@ edges_words letter line (edge ∷ edges) solid few small =
       edges_words letter (line + 1) edges solid (omega (arith, few)) small.1,
     )
 
-abbrev all_words : List (List (List ℕ)) → List (List ℕ)
-all_words lines = flat_map (λ line. line) lines
-
-edges_spelled : (letter line : ℕ) (edges : List Pair) → AreSmall edges → SpellEdges letter line (all_words (edge_lines letter line edges)) edges
+edges_spelled : (letter line : ℕ) (edges : List Pair) → AreSmall edges → SpellEdges letter line (words_of_lines (edge_lines letter line edges)) edges
 edges_spelled letter line [] small = tt
 edges_spelled letter line (edge ∷ edges) small =
     let t = (small.0).0 in
@@ -89,8 +86,8 @@ written_is_text net few near is =
     let small_arcs = small_pairs net.rows arcs few (λ k l. tree.nodes k (omega (arith, l, row_count))) in
     let small_walks = small_pairs net.rows walks few (λ k l. is.nodes k (omega (arith, l, column_count))) in
     record {
-      row_words = all_words row_lines;
-      column_words = all_words column_lines;
+      row_words = words_of_lines row_lines;
+      column_words = words_of_lines column_lines;
       words_are = words_in_lines (row_lines ++ column_lines)
           (all-append (AllByRecursion IsWord) row_lines column_lines (edges_words row_letter 0 arcs refl (omega (arith, few, row_count)) small_arcs) (edges_words column_letter 0 walks refl (omega (arith, near, column_count)) small_walks))
           ∙ flat_map-append (λ line. line) row_lines column_lines;
