@@ -2,17 +2,18 @@
 use Rattle.std.proofs.Common.{◌≡◌, ◌≢◌, ◌<◌, ◌≤◌, ◌+◌, ◌∙◌, ◌==◌, ◌&&◌, ◌||◌, ◌⊎◌, inl, inr, ap₂, cond, nat_lt, if◌then◌else◌, not, ℕ, Bool, true, false, List, length, get_or, sym, ap, refl, arith, Option, Some, None}
 use Rattle.std.proofs.lemmas.Bool.{cases_lt}
 use Rattle.std.proofs.lemmas.Bool.Decides.{nat_tests}
-use Rattle.std.proofs.lemmas.List.{get_or_read}
+use Rattle.std.proofs.lemmas.List.{get_or_past, get_or_read}
 use Rattle.cmr_base.specs.Cuts.{differ}
 use Rattle.cmr_base.specs.Matrix.{Matrix, height}
-use Rattle.cmr_base.proofs.RowLists.{is_eq, is_ne, same_or_not, two_cases}
+use Rattle.cmr_base.proofs.RowLists.{is_eq, is_ne, not_both, same_or_not, two_cases}
 use Rattle.cmr_base.proofs.Booleans.{or_false}
 use Rattle.graph_realise.specs.Branches.{branch_at}
-use Rattle.graph_realise.specs.Joints.{AreHung, AreOff, FitsJoint, IsArcJoined, IsLineFor, by_part, end_of, hanging_of, hung, is_part, is_used, joined_side, number_at, part_or_first}
+use Rattle.graph_realise.specs.Joints.{AreHung, AreOff, FitsJoint, IsArcJoined, IsClearBeside, IsLineFor, by_part, end_of, hanging_of, hung, is_part, is_used, joined_side, number_at, part_or_first}
 use Rattle.graph_realise.specs.Merging.{column_half, end_off, merged_lies, spot, turned_lies, turned_side}
 use Rattle.graph_realise.specs.SideTables.{side_in, end_in, KeepsRow, AreTablesOf, AreEndsFilled, IsArcChanged}
 use Rattle.graph_realise.specs.Tables.{Grid, cell, IsRowFilled}
 use Rattle.graph_realise.proofs.SideLemmas.{keeps_row_same, keeps_row_trans}
+use Rattle.graph_realise.proofs.TableLemmas.{cell_past}
 use Rattle.graph_realise.specs.declared.arc_sides.ArcSides.{ArcSides}
 use Rattle.graph_realise.specs.declared.joint.Joint.{Joint}
 
@@ -308,7 +309,91 @@ module _ (M : ℕ → ℕ → Bool) (joint : Joint) (r own : ℕ) where
               ∙ by_off true end column (number_at joint.part_with.items column)
               ∙ sym (rw (is_ne r joint.row apart, e) refl)
 
+  -- ---- the arcs beside which nothing lies
+
+  pub part_turned : (old new : ArcSides) (turned : Bool) → turned ≡ true
+      → IsArcChanged (λ other. cell joint.row_marks own other && not (side_in old r other)) (λ end column. cell joint.column_marks own column && not (end_in old end r column)) old new r
+      → IsArcChanged (λ other. cell joint.row_marks own other && differ turned (side_in old r other)) (λ end column. cell joint.column_marks own column && differ turned (end_in old end r column)) old new r
+  part_turned old new turned e k = record {
+    sizes = k.sizes;
+    others = k.others;
+    to_arcs = λ other l. k.to_arcs other l ∙ ap (λ t. cell joint.row_marks own other && t) (turns (side_in old r other));
+    to_ends = λ end column l. k.to_ends end column l ∙ ap (λ t. cell joint.column_marks own column && t) (turns (end_in old end r column));
+  }
+    where
+      turns : (x : Bool) → not x ≡ differ turned x
+      turns x = sym (ap (λ t. differ t x) e ∙ by_true x)
+        where
+          by_true : (x : Bool) → differ true x ≡ not x
+          by_true true = refl
+          by_true false = refl
+
+  pub part_stays : (m : Matrix) (old : ArcSides) (first last : Grid) (turned : Bool) → turned ≡ false → turned ≡ side_in old r joint.row → number_at joint.part_of.items r ≡ Some own → FitsJoint (height m) m.width joint → AreOff M joint → AreTablesOf m old
+      → IsClearBeside M joint old r → IsRowFilled (λ column. cell old.first r column && not (M joint.row column)) old.first first r old.first.width → IsRowFilled (λ column. cell old.last r column && not (M joint.row column)) old.last last r old.last.width
+      → own < length joint.branches.items
+      → IsArcChanged (λ other. cell joint.row_marks own other && differ turned (side_in old r other)) (λ end column. cell joint.column_marks own column && differ turned (end_in old end r column)) old (record { arcs = old.arcs; first = first; last = last }) r
+  part_stays m old first last turned e is_side part fits off tables clear f l inside =
+      changed_by old old.arcs first last r (λ other. cell joint.row_marks own other && differ turned (side_in old r other)) (λ end column. cell joint.column_marks own column && differ turned (end_in old end r column))
+      (filled_same (λ other. cell joint.row_marks own other && differ turned (side_in old r other)) old.arcs r arcs)
+      (filled_as (λ column. cell old.first r column && not (M joint.row column)) (λ column. cell joint.column_marks own column && differ turned (end_in old true r column)) old.first first r (λ column. ends true column) f)
+      (filled_as (λ column. cell old.last r column && not (M joint.row column)) (λ column. cell joint.column_marks own column && differ turned (end_in old false r column)) old.last last r (λ column. ends false column) l)
+      (omega (arith, tables.last_width, tables.first_width))
+    where
+      same : (x : Bool) → differ turned x ≡ x
+      same x = ap (λ t. differ t x) e ∙ by_false x
+        where
+          by_false : (x : Bool) → differ false x ≡ x
+          by_false true = refl
+          by_false false = refl
+
+      other_part : (o : Option ℕ) → is_part own o ≡ false → o ≢ number_at joint.part_of.items r
+      other_part o none q = not_both (is_part own o) (ap (is_part own) (q ∙ part) ∙ is_eq own own refl) none
+
+      arcs : (other : ℕ) → other < old.arcs.width → cell old.arcs r other ≡ (cell joint.row_marks own other && differ turned (side_in old r other))
+      arcs other w = go (two_cases (is_part own (number_at joint.part_of.items other)))
+        where
+          mark : cell joint.row_marks own other ≡ is_part own (number_at joint.part_of.items other)
+          mark = fits.row_marks.exact own other inside (omega (arith, w, tables.arcs_width, fits.rows))
+
+          go : (is_part own (number_at joint.part_of.items other) ≡ true) ⊎ (is_part own (number_at joint.part_of.items other) ≡ false) → cell old.arcs r other ≡ (cell joint.row_marks own other && differ turned (side_in old r other))
+          go (inl q) = sym (ap (λ t. t && differ turned (side_in old r other)) (mark ∙ q) ∙ same (side_in old r other))
+          go (inr q) = at (same_or_not other joint.row) ∙ sym (ap (λ t. t && differ turned (side_in old r other)) (mark ∙ q))
+            where
+              at : (other ≡ joint.row) ⊎ (other ≢ joint.row) → side_in old r other ≡ false
+              at (inl z) = ap (side_in old r) z ∙ sym is_side ∙ e
+              at (inr z) = clear.arcs other z (other_part (number_at joint.part_of.items other) q)
+
+      ends : (end : Bool) (column : ℕ) → (end_in old end r column && not (M joint.row column)) ≡ (cell joint.column_marks own column && differ turned (end_in old end r column))
+      ends end column = by_row (two_cases (M joint.row column)) (cases_lt column (length joint.part_with.items))
+        where
+          o : Option ℕ
+          o = number_at joint.part_with.items column
+
+          mark : (column < length joint.part_with.items) ⊎ (length joint.part_with.items ≤ column) → cell joint.column_marks own column ≡ is_part own o
+          mark (inl k) = fits.column_marks.exact own column inside k
+          mark (inr k) = cell_past joint.column_marks own column (omega (arith, k, fits.column_marks.wide)) ∙ sym (ap (is_part own) (get_or_past joint.part_with.items column None k))
+
+          by_row : (M joint.row column ≡ true) ⊎ (M joint.row column ≡ false) → (column < length joint.part_with.items) ⊎ (length joint.part_with.items ≤ column)
+              → (end_in old end r column && not (M joint.row column)) ≡ (cell joint.column_marks own column && differ turned (end_in old end r column))
+          by_row (inl q) k = ap (λ t. end_in old end r column && not t) q ∙ and_false (end_in old end r column)
+              ∙ sym (ap (λ t. t && differ turned (end_in old end r column)) (mark k ∙ ap (is_part own) (off column q)))
+          by_row (inr q) k = ap (λ t. end_in old end r column && not t) q ∙ and_true (end_in old end r column) ∙ by_mark (two_cases (is_part own o))
+            where
+              and_true : (a : Bool) → (a && true) ≡ a
+              and_true true = refl
+              and_true false = refl
+
+              by_mark : (is_part own o ≡ true) ⊎ (is_part own o ≡ false) → end_in old end r column ≡ (cell joint.column_marks own column && differ turned (end_in old end r column))
+              by_mark (inl z) = sym (ap (λ t. t && differ turned (end_in old end r column)) (mark k ∙ z) ∙ same (end_in old end r column))
+              by_mark (inr z) = clear.ends end column q (other_part o z) ∙ sym (ap (λ t. t && differ turned (end_in old end r column)) (mark k ∙ z))
+
 -- ---- one arc after another
+
+pub clear_stays : (M : ℕ → ℕ → Bool) (joint : Joint) (a b : ArcSides) (r : ℕ) → KeepsRow a b r → IsClearBeside M joint a r → IsClearBeside M joint b r
+clear_stays M joint a b r k h = record {
+  arcs = λ s n o. k.arcs s ∙ h.arcs s n o;
+  ends = λ end c off o. k.ends end c ∙ h.ends end c off o;
+}
 
 pub joined_stays : (M : ℕ → ℕ → Bool) (joint : Joint) (old : ArcSides) (r : ℕ) (a b : ArcSides) → KeepsRow a b r → IsArcJoined M joint old a r → IsArcJoined M joint old b r
 joined_stays M joint old r a b k h = record {

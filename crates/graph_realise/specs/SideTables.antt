@@ -1,5 +1,5 @@
 -- The sides of arcs as tables.
-use Rattle.std.specs.Prelude.{◌≡◌, ◌≢◌, ◌<◌, ◌≤◌, ℕ, Bool, cond, List, slice_index}
+use Rattle.std.specs.Prelude.{◌≡◌, ◌≢◌, ◌<◌, ◌≤◌, ℕ, Bool, false, cond, List, slice_index}
 use Rattle.cmr_base.specs.Matrix.{Matrix, height}
 use Rattle.cmr_base.specs.Members.{IsIn}
 use Rattle.graph_realise.specs.Tables.{cell}
@@ -34,6 +34,11 @@ KeepsOthers old new row = (r : ℕ) → r ≢ row → KeepsRow old new r
 -- and those of all arcs that are not in the list
 abbrev pub KeepsOutside : ArcSides → ArcSides → List ℕ → Type 0
 KeepsOutside old new rows = (r : ℕ) → ¬ (IsIn r rows) → KeepsRow old new r
+
+-- beside the rows of a list and their columns, the arcs of these rows have nothing on their sides `true`
+pub record AreClear (M : ℕ → ℕ → Bool) (S : List ℕ) (sides : ArcSides) : Type 0 where
+  pub arcs : (r s : ℕ) → IsIn r S → ¬ (IsIn s S) → side_in sides r s ≡ false
+  pub ends : (end : Bool) (r c : ℕ) → IsIn r S → ((x : ℕ) → IsIn x S → M x c ≡ false) → end_in sides end r c ≡ false
 
 -- one arc has these ends of the first columns on its sides, so many of them
 pub record AreEndsFilled (ends : Bool → ℕ → Bool) (old new : ArcSides) (row count : ℕ) : Type 0 where

@@ -5,7 +5,7 @@ ghost use Rattle.cmr_base.specs.LineSets.{AllBelow};
 ghost use Rattle.cmr_base.specs.Matrix.{height};
 ghost use Rattle.cmr_base.specs.Members.{IsIn};
 ghost use Rattle.cmr_base.specs.Trees.{support};
-ghost use Rattle.graph_realise.specs.Joints.{AreHung, AreOff, FitsJoint, IsArcJoined, IsLineFor, end_of, hanging_of, is_used, number_at};
+ghost use Rattle.graph_realise.specs.Joints.{AreHung, AreOff, FitsJoint, IsArcJoined, IsClearBeside, IsLineFor, end_of, hanging_of, is_used, number_at};
 ghost use Rattle.graph_realise.specs.Merging.{spot};
 ghost use Rattle.graph_realise.specs.SideTables.{AreTablesOf, IsArcChanged, KeepsOthers, KeepsOutside, side_in, end_in};
 ghost use Rattle.graph_realise.specs.Tables.{cell, IsRowFilled};
@@ -24,6 +24,7 @@ pub fn join(matrix: &Matrix, rows: &Indices, joint: &Joint, sides: &mut ArcSides
     requires numbered { (r : ℕ) → IsIn r rows.now → r ≢ joint.now.row → number_at joint.now.part_of.items r ≢ None }
     requires off { AreOff (support matrix.now) joint.now }
     requires tables { AreTablesOf matrix.now sides.old }
+    requires clear { (r : ℕ) → IsIn r rows.now → r ≢ joint.now.row → IsClearBeside (support matrix.now) joint.now sides.old r }
     ensures tables { AreTablesOf matrix.now sides.new }
     ensures joined { (r : ℕ) → IsIn r rows.now → IsArcJoined (support matrix.now) joint.now sides.old sides.new r }
     ensures others { KeepsOutside sides.old sides.new rows.now }
@@ -90,27 +91,55 @@ fn join_arc(matrix: &Matrix, joint: &Joint, arc: u32, sides: &mut ArcSides)
     requires joint { FitsJoint (height matrix.now) matrix.now.width joint.now }
     requires off { AreOff (support matrix.now) joint.now }
     requires tables { AreTablesOf matrix.now sides.old }
+    requires clear { IsClearBeside (support matrix.now) joint.now sides.old arc }
     ensures tables { AreTablesOf matrix.now sides.new }
     ensures joined { IsArcJoined (support matrix.now) joint.now sides.old sides.new arc }
     ensures others { KeepsOthers sides.old sides.new arc }
 {
     if let Some(own) = joint.part_of[arc as usize] {
         let is_turned = sides.arcs.get(arc, joint.row);
-        keep_part(joint, arc, own, is_turned, sides);
+        keep_part(matrix, joint, arc, own, is_turned, sides);
         add_hung(matrix, joint, arc, own, sides);
         add_used(matrix, joint, arc, own, sides);
     }
 }
 
 // Keeps the sides of an arc for its own part, turned round or not, and clears all others.
-fn keep_part(joint: &Joint, arc: u32, own: usize, is_turned: bool, sides: &mut ArcSides)
-    requires { IsLineFor joint.now sides.old arc own }
+fn keep_part(
+    matrix: &Matrix,
+    joint: &Joint,
+    arc: u32,
+    own: usize,
+    is_turned: bool,
+    sides: &mut ArcSides,
+)
+    requires row { joint.now.row < height matrix.now }
+    requires own { number_at joint.now.part_of.items arc ≡ Some own }
+    requires joint { FitsJoint (height matrix.now) matrix.now.width joint.now }
+    requires off { AreOff (support matrix.now) joint.now }
+    requires tables { AreTablesOf matrix.now sides.old }
+    requires line { IsLineFor joint.now sides.old arc own }
+    requires turned { is_turned ≡ side_in sides.old arc joint.now.row }
+    requires clear { IsClearBeside (support matrix.now) joint.now sides.old arc }
     ensures { IsArcChanged (λ other. cell joint.now.row_marks own other && differ is_turned (side_in sides.old arc other)) (λ end column. cell joint.now.column_marks own column && differ is_turned (end_in sides.old end arc column)) sides.old sides.new arc }
 {
+    if is_turned {
+        turn_part(joint, arc, own, sides);
+    } else {
+        sides.first.take_out(arc, matrix, joint.row);
+        sides.last.take_out(arc, matrix, joint.row);
+    }
+}
+
+// Turns the sides of an arc round for its own part, and clears all others.
+fn turn_part(joint: &Joint, arc: u32, own: usize, sides: &mut ArcSides)
+    requires { IsLineFor joint.now sides.old arc own }
+    ensures { IsArcChanged (λ other. cell joint.now.row_marks own other && not (side_in sides.old arc other)) (λ end column. cell joint.now.column_marks own column && not (end_in sides.old end arc column)) sides.old sides.new arc }
+{
     let line = own as u32;
-    sides.arcs.keep(arc, &joint.row_marks, line, is_turned);
-    sides.first.keep(arc, &joint.column_marks, line, is_turned);
-    sides.last.keep(arc, &joint.column_marks, line, is_turned);
+    sides.arcs.turn(arc, &joint.row_marks, line);
+    sides.first.turn(arc, &joint.column_marks, line);
+    sides.last.turn(arc, &joint.column_marks, line);
 }
 
 // Puts the other parts that hang on the side `true` of an arc there.
