@@ -7,7 +7,7 @@ pub use Rattle.bridge_split.specs.PartNumbers.{number_at, is_number as is_part}
 use Rattle.graph_realise.specs.Branches.{AreBranches, branch_at}
 use Rattle.graph_realise.specs.Merging.{Hanging, heavier, spot, merged_lies, turned_side, turned_lies}
 use Rattle.graph_realise.specs.SideTables.{side_in, end_in, IsArcChanged}
-use Rattle.graph_realise.specs.Tables.{Grid, cell}
+use Rattle.graph_realise.specs.Tables.{AreBlocksOf, Grid, cell}
 use Rattle.graph_realise.specs.declared.arc_sides.ArcSides.{ArcSides}
 use Rattle.graph_realise.specs.declared.joint.Joint.{Joint}
 
@@ -68,6 +68,7 @@ pub record IsJointOf (M : ℕ → ℕ → Bool) (m n i : ℕ) (parts : List (Lis
   pub numbered : AreNumbered parts (length parts) joint.part_of.items
   pub branches : AreBranches M n i parts ends (length parts) joint.branches.items
   pub with_columns : (column : ℕ) → IsNamed M i parts (length parts) column (number_at joint.part_with.items column)
+  pub own_blocks : AreBlocksOf (M i) n joint.row_blocks
   pub row_marks : AreMarks joint.part_of.items (length parts) joint.row_marks
   pub column_marks : AreMarks joint.part_with.items (length parts) joint.column_marks
   pub few : length parts ≤ 1000

@@ -8,7 +8,7 @@ ghost use Rattle.cmr_base.specs.Trees.{support};
 ghost use Rattle.graph_realise.specs.Joints.{AreHung, AreOff, FitsJoint, IsArcJoined, IsClearBeside, IsLineFor, end_of, hanging_of, is_used, number_at};
 ghost use Rattle.graph_realise.specs.Merging.{spot};
 ghost use Rattle.graph_realise.specs.SideTables.{AreTablesOf, IsArcChanged, KeepsOthers, KeepsOutside, side_in, end_in};
-ghost use Rattle.graph_realise.specs.Tables.{cell, IsRowFilled};
+ghost use Rattle.graph_realise.specs.Tables.{cell, AreBlocksOf, IsRowFilled};
 
 use crate::arc_sides::ArcSides;
 use crate::branches::Branch;
@@ -23,6 +23,7 @@ pub fn join(matrix: &Matrix, rows: &Indices, joint: &Joint, sides: &mut ArcSides
     requires joint { FitsJoint (height matrix.now) matrix.now.width joint.now }
     requires numbered { (r : ℕ) → IsIn r rows.now → r ≢ joint.now.row → number_at joint.now.part_of.items r ≢ None }
     requires off { AreOff (support matrix.now) joint.now }
+    requires blocks { AreBlocksOf (support matrix.now joint.now.row) matrix.now.width joint.now.row_blocks }
     requires tables { AreTablesOf matrix.now sides.old }
     requires clear { (r : ℕ) → IsIn r rows.now → r ≢ joint.now.row → IsClearBeside (support matrix.now) joint.now sides.old r }
     ensures tables { AreTablesOf matrix.now sides.new }
@@ -90,6 +91,7 @@ fn join_arc(matrix: &Matrix, joint: &Joint, arc: u32, sides: &mut ArcSides)
     requires part { number_at joint.now.part_of.items arc ≢ None }
     requires joint { FitsJoint (height matrix.now) matrix.now.width joint.now }
     requires off { AreOff (support matrix.now) joint.now }
+    requires blocks { AreBlocksOf (support matrix.now joint.now.row) matrix.now.width joint.now.row_blocks }
     requires tables { AreTablesOf matrix.now sides.old }
     requires clear { IsClearBeside (support matrix.now) joint.now sides.old arc }
     ensures tables { AreTablesOf matrix.now sides.new }
@@ -117,6 +119,7 @@ fn keep_part(
     requires own { number_at joint.now.part_of.items arc ≡ Some own }
     requires joint { FitsJoint (height matrix.now) matrix.now.width joint.now }
     requires off { AreOff (support matrix.now) joint.now }
+    requires blocks { AreBlocksOf (support matrix.now joint.now.row) matrix.now.width joint.now.row_blocks }
     requires tables { AreTablesOf matrix.now sides.old }
     requires line { IsLineFor joint.now sides.old arc own }
     requires turned { is_turned ≡ side_in sides.old arc joint.now.row }
@@ -126,8 +129,9 @@ fn keep_part(
     if is_turned {
         turn_part(joint, arc, own, sides);
     } else {
-        sides.first.take_out(arc, matrix, joint.row);
-        sides.last.take_out(arc, matrix, joint.row);
+        let blocks = joint.row_blocks.as_slice();
+        sides.first.take_out(arc, matrix, joint.row, blocks);
+        sides.last.take_out(arc, matrix, joint.row, blocks);
     }
 }
 
@@ -184,13 +188,15 @@ fn add_used(matrix: &Matrix, joint: &Joint, arc: u32, own: usize, sides: &mut Ar
     requires arc { arc < height matrix.now }
     requires own { own < length joint.now.branches.items }
     requires row { joint.now.row < height matrix.now }
+    requires blocks { AreBlocksOf (support matrix.now joint.now.row) matrix.now.width joint.now.row_blocks }
     requires tables { AreTablesOf matrix.now sides.old }
     ensures { IsArcChanged (λ other. side_in sides.old arc other) (is_used (support matrix.now) joint.now arc own sides.old) sides.old sides.new arc }
 {
+    let blocks = joint.row_blocks.as_slice();
     if joint.branches[own].end {
-        sides.first.add_common(arc, matrix, arc, joint.row);
+        sides.first.add_common(arc, matrix, arc, joint.row, blocks);
     } else {
-        sides.last.add_common(arc, matrix, arc, joint.row);
+        sides.last.add_common(arc, matrix, arc, joint.row, blocks);
     }
 }
 

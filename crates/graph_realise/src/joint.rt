@@ -9,21 +9,24 @@ ghost use Rattle.cmr_base.specs.Trees.{support};
 ghost use Rattle.cmr_base.specs.ColumnSets.{has_column};
 ghost use Rattle.graph_realise.specs.Joints.{AreInRows, AreMarks, AreNumbered, AreOfRows, IsJointOf, IsNamed, number_at};
 ghost use Rattle.graph_realise.specs.Numbers.{AreDisjoint};
+ghost use Rattle.graph_realise.specs.Tables.{AreBlocksOf};
 
 use crate::branches::{Branch, branches_at};
 use crate::table::Table;
 use cmr_base::columns::{add_common, add_outside, clear_set, empty_set, next_column};
-use cmr_base::{Indices, Matrix, Memory, PartList, SideList};
+use cmr_base::{Indices, Matrix, Memory, PartList, SideList, words_for};
 use std::alloc::Global;
 
 /// A row and the parts of the others: the part of each row, the branches that the parts are, and for each column that the
-/// row does not have the part that has it. The tables have a line for each part, which marks its rows and these columns.
+/// row does not have the part that has it. The blocks are those of 64 columns in which the row is not 0. The tables have a
+/// line for each part, which marks its rows and these columns.
 #[derive(Debug, Drop)]
 pub struct Joint {
     pub row: u32,
     pub part_of: Vec<Option<usize>>,
     pub branches: Vec<Branch>,
     pub part_with: Vec<Option<usize>>,
+    pub row_blocks: Indices,
     pub row_marks: Table,
     pub column_marks: Table,
 }
@@ -48,6 +51,7 @@ impl Joint {
         let part_of = parts_of_rows(alloc, matrix, parts)?;
         let part_with = parts_with_columns(alloc, matrix, row, parts)?;
         let branches = branches_at(alloc, matrix, row, parts, ends)?;
+        let row_blocks = blocks_of_row(alloc, matrix, row)?;
         let row_marks = marks_of(alloc, &part_of, parts.len())?;
         let column_marks = marks_of(alloc, &part_with, parts.len())?;
         Ok(Joint {
@@ -55,6 +59,7 @@ impl Joint {
             part_of,
             branches,
             part_with,
+            row_blocks,
             row_marks,
             column_marks,
         })
@@ -134,6 +139,20 @@ fn parts_with_columns(
         number_columns(columns.as_slice(), Some(place), &mut numbers);
     }
     Ok(numbers)
+}
+
+// The blocks of 64 columns in which a row is not 0.
+fn blocks_of_row(alloc: Global, matrix: &Matrix, row: u32) -> Result<Indices, Memory>
+    requires { row < height matrix.now }
+    ensures { IfOk result (AreBlocksOf (support matrix.now row) matrix.now.width) }
+{
+    let mut blocks = Indices::new(alloc);
+    for block in 0..words_for(matrix.columns()) as u32 {
+        if matrix.support_word(row, block) != 0 {
+            blocks.push(block)?;
+        }
+    }
+    Ok(blocks)
 }
 
 // No number for each of so many columns.

@@ -4,7 +4,7 @@ ghost use Rattle.cmr_base.specs.Matrix.{height};
 ghost use Rattle.cmr_base.specs.Planes.{has_bit, words_for};
 ghost use Rattle.cmr_base.specs.Trees.{support};
 ghost use Rattle.cmr_base.specs.ColumnSets.{has_column};
-ghost use Rattle.graph_realise.specs.Tables.{cell, IsCellSet, IsRowFilled, IsWordSet};
+ghost use Rattle.graph_realise.specs.Tables.{cell, AreBlocksOf, IsCellSet, IsRowFilled, IsWordSet};
 
 use cmr_base::columns::outside;
 use cmr_base::{Matrix, Memory, has_bit, with_bit, words_for};
@@ -88,18 +88,17 @@ impl Table {
         }
     }
 
-    /// Clears the values of the row in the columns in which a row of a matrix is not 0.
-    pub fn take_out(&mut self, row: u32, matrix: &Matrix, other: u32)
+    /// Clears the values of the row in the columns in which a row of a matrix is not 0. The blocks have all these columns.
+    pub fn take_out(&mut self, row: u32, matrix: &Matrix, other: u32, blocks: &[u32])
         requires row { row < self.old.height }
         requires other { other < height matrix.now }
         requires width { matrix.now.width ≡ self.old.width }
+        requires blocks { AreBlocksOf (support matrix.now other) matrix.now.width blocks.now }
         ensures { IsRowFilled (λ column. cell self.old row column && not (support matrix.now other column)) self.old self.new row self.old.width }
     {
-        for block in 0..self.blocks() {
-            let gone = matrix.support_word(other, block);
-            if gone != 0 {
-                self.set_word(row, block, outside(self.word(row, block), gone));
-            }
+        for block in blocks {
+            let word = outside(self.word(row, *block), matrix.support_word(other, *block));
+            self.set_word(row, *block, word);
         }
     }
 
@@ -116,19 +115,19 @@ impl Table {
         }
     }
 
-    /// Sets the values of the row in the columns in which two rows of a matrix are not 0.
-    pub fn add_common(&mut self, row: u32, matrix: &Matrix, one: u32, other: u32)
+    /// Sets the values of the row in the columns in which two rows of a matrix are not 0. The blocks have all columns of
+    /// the other row.
+    pub fn add_common(&mut self, row: u32, matrix: &Matrix, one: u32, other: u32, blocks: &[u32])
         requires row { row < self.old.height }
         requires one { one < height matrix.now }
         requires other { other < height matrix.now }
         requires width { matrix.now.width ≡ self.old.width }
+        requires blocks { AreBlocksOf (support matrix.now other) matrix.now.width blocks.now }
         ensures { IsRowFilled (λ column. cell self.old row column || support matrix.now one column && support matrix.now other column) self.old self.new row self.old.width }
     {
-        for block in 0..self.blocks() {
-            let common = matrix.support_word(one, block) & matrix.support_word(other, block);
-            if common != 0 {
-                self.set_word(row, block, self.word(row, block) | common);
-            }
+        for block in blocks {
+            let common = matrix.support_word(one, *block) & matrix.support_word(other, *block);
+            self.set_word(row, *block, self.word(row, *block) | common);
         }
     }
 

@@ -5,6 +5,7 @@ use Rattle.cmr_base.specs.Splits.{HasNoThree, Splits}
 use Rattle.cmr_base.specs.Trees.{support}
 use Rattle.bridge_split.specs.SplitCases.{AreSidesOf}
 use Rattle.graph_realise.specs.Searches.{IsSearch, IsSplit}
+use Rattle.graph_realise.specs.Tables.{AreBlocksOf}
 use Rattle.graph_realise.proofs.NoCuts.{no_odd}
 use Rattle.bridge_split.proofs.SidesOfParts.{parts_few}
 use Rattle.graph_realise.proofs.SearchLemmas.{all_numbered, clear_more, fits, joined_clear, joined_cuts, kept_more, named_off, none_more, others_more, whole_more, parts_disjoint, parts_in_rows, some_three, with_below, with_fewer}
@@ -58,6 +59,12 @@ join_parts-join-requires-clause-off t c =
     let short = nonzero_in_range m c.in_ok-joint.ensures.shape.rectangular in
     named_off (support m) (height m) m.width short c.args.rows.now (members_below (height m) c.args.rows.now c.requires.rows) c.args.split.now.row c.requires.split.here c.args.split.now.parts
     c.requires.split.parts c.args.ends.now c.requires.ends c.in_ok-joint.joint c.in_ok-joint.ensures.joint
+
+pub join_parts-join-requires-clause-blocks : goal.join_parts-join-requires-clause-blocks
+join_parts-join-requires-clause-blocks t c =
+    let m = c.args.matrix.now in
+    let J = c.in_ok-joint.ensures.joint in
+    subst (λ (r : ℕ). AreBlocksOf (support m r) m.width c.in_ok-joint.joint.row_blocks) (sym J.row) J.own_blocks
 
 pub join_parts-rows_with-requires-clause-row : goal.join_parts-rows_with-requires-clause-row
 join_parts-rows_with-requires-clause-row t c =

@@ -27,6 +27,7 @@ returns-clause-joint c = record {
   numbered = c.in_ok-part_of.ensures.numbered;
   branches = c.in_ok-branches.ensures;
   with_columns = c.in_ok-part_with.ensures.parts;
+  own_blocks = c.in_ok-row_blocks.ensures;
   row_marks = marked c.in_ok-part_of.part_of.items c.deref.result.now c.len.result (length c.args.parts.now) c.in_ok-row_marks.row_marks c.deref.ensures.value c.len.ensures c.in_ok-row_marks.ensures;
   column_marks = marked c.in_ok-part_with.part_with.items c.deref-2.result.now c.len-2.result (length c.args.parts.now) c.in_ok-column_marks.column_marks c.deref-2.ensures.value c.len-2.ensures c.in_ok-column_marks.ensures;
   few = omega (arith, c.requires.few, c.in_ok-part_of.ensures.shape.height_in);
