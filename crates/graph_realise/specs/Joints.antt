@@ -111,6 +111,20 @@ abbrev pub end_of : Joint → Option ℕ → Bool
 end_of joint None = false
 end_of joint (Some part) = (branch_at joint.branches.items part).end
 
+-- whether it is one of the first parts for which a test holds
+abbrev pub is_chosen : (ℕ → Bool) → ℕ → Option ℕ → Bool
+is_chosen test count None = false
+is_chosen test count (Some part) = nat_lt part count && test part
+
+-- the first parts for which a test holds are put on the side true of arc r
+abbrev pub AreChosen : Joint → (ℕ → Bool) → ℕ → ℕ → ArcSides → ArcSides → Type 0
+AreChosen joint test r count old new =
+    IsArcChanged (λ other. side_in old r other || is_chosen test count (number_at joint.part_of.items other)) (λ end column. end_in old end r column || is_chosen test count (number_at joint.part_with.items column)) old new r
+
+-- the end of the row's arc where a part is is the first one
+abbrev pub is_at_first : Joint → ℕ → Bool
+is_at_first joint part = (branch_at joint.branches.items part).end
+
 module _ (M : ℕ → ℕ → Bool) (joint : Joint) where
   -- the side of arc r where a part is, which has the value `within` where it is the part of r
   abbrev pub by_part : ℕ → Bool → Option ℕ → Bool
@@ -124,8 +138,7 @@ module _ (M : ℕ → ℕ → Bool) (joint : Joint) where
 
   -- whether one of the first parts but arc r's own hangs on the side true of it
   abbrev pub hung : ℕ → ℕ → ℕ → Option ℕ → Bool
-  hung r own count None = false
-  hung r own count (Some part) = nat_lt part count && (not (part == own) && spot M joint.row (hanging_of joint) r part)
+  hung r own count part = is_chosen (λ p. not (p == own) && spot M joint.row (hanging_of joint) r p) count part
 
   -- the first parts but arc r's own are on the side of it where they hang
   abbrev pub AreHung : ℕ → ℕ → ℕ → ArcSides → ArcSides → Type 0

@@ -47,13 +47,6 @@ impl Table {
         })
     }
 
-    /// How many columns there are.
-    pub fn width(&self) -> u32
-        ensures { result ≡ self.now.width }
-    {
-        self.width
-    }
-
     /// The value in a row and a column.
     pub fn get(&self, row: u32, column: u32) -> bool
         requires row { row < self.now.height }

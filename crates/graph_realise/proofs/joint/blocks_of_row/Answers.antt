@@ -1,4 +1,4 @@
-use Rattle.std.proofs.Common.{◌≡◌, ◌<◌, ◌≤◌, ◌+◌, ◌*◌, ◌∙◌, eqb, ℕ, get_or, sym, ap, arith}
+use Rattle.std.proofs.Common.{◌∙◌, eqb, ℕ, get_or, sym, ap, arith}
 use Rattle.std.proofs.lemmas.Nat.Bits.{bit_at-zero}
 use Rattle.cmr_base.specs.Planes.{has_bit}
 use Rattle.cmr_base.specs.Trees.{support}

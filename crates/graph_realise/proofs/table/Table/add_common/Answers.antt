@@ -1,6 +1,5 @@
-use Rattle.std.proofs.Common.{◌≡◌, ◌<◌, ◌+◌, ◌*◌, ◌/◌, ◌&&◌, ◌||◌, ◌∙◌, ℕ, Bool, true, false, length, get_or, refl, sym, ap, ap₂, arith}
+use Rattle.std.proofs.Common.{◌≡◌, ◌&&◌, ◌||◌, ◌∙◌, ℕ, Bool, true, false, get_or, refl, ap, ap₂, arith}
 use Rattle.std.specs.Int.Bits.{bit_and, bit_or}
-use Rattle.cmr_base.specs.Members.{IsIn}
 use Rattle.cmr_base.specs.Planes.{has_bit}
 use Rattle.cmr_base.specs.Trees.{support}
 use Rattle.cmr_base.proofs.WordBits.{bit_at_block, has_bit-and, has_bit-or}

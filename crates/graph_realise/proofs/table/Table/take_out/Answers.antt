@@ -1,5 +1,4 @@
-use Rattle.std.proofs.Common.{◌≡◌, ◌<◌, ◌+◌, ◌*◌, ◌/◌, ◌&&◌, ◌∙◌, not, ℕ, Bool, true, false, length, get_or, refl, sym, ap, ap₂, arith}
-use Rattle.cmr_base.specs.Members.{IsIn}
+use Rattle.std.proofs.Common.{◌≡◌, ◌&&◌, ◌∙◌, not, ℕ, Bool, true, false, get_or, refl, ap, ap₂, arith}
 use Rattle.cmr_base.specs.Planes.{has_bit}
 use Rattle.cmr_base.specs.Trees.{support}
 use Rattle.cmr_base.proofs.WordBits.{bit_at_block}
