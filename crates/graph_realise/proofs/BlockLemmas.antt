@@ -42,6 +42,23 @@ blocks_more values old now new row blocks place word rising here so s bits = rec
         let wide = so.rows.width in
         subst (λ x. cell new row x ≡ values x) at (s.here (column % 64) (omega arith) (omega arith) ∙ bits (column % 64) (omega arith) (omega arith))
 
+-- a block that has the values already
+pub blocks_same : (values : ℕ → Bool) (old now : Grid) (row : ℕ) (blocks : List ℕ) (place : ℕ) → AreBlocksFilled values old now row blocks place
+    → ((k : ℕ) → k < 64 → 64 * get_or blocks place 0 + k < old.width → cell now row (64 * get_or blocks place 0 + k) ≡ values (64 * get_or blocks place 0 + k)) → AreBlocksFilled values old now row blocks (place + 1)
+blocks_same values old now row blocks place so bits = record {
+  rows = so.rows;
+  done = λ k column l e w. pick k column e w (cases_lt k place) l;
+  left = λ column n. so.left column (λ k l. n k (omega arith));
+}
+  where
+    pick : (k column : ℕ) → column / 64 ≡ get_or blocks k 0 → column < old.width → (k < place) ⊎ (place ≤ k) → k < place + 1 → cell now row column ≡ values column
+    pick k column e w (inl l) m = so.done k column l e w
+    pick k column e w (inr l) m =
+        let same : k ≡ place = omega arith in
+        let block : column / 64 ≡ get_or blocks place 0 = e ∙ ap (λ (z : ℕ). get_or blocks z 0) same in
+        let at : 64 * get_or blocks place 0 + column % 64 ≡ column = omega arith in
+        subst (λ x. cell now row x ≡ values x) at (bits (column % 64) (omega arith) (omega arith))
+
 pub off_blocks : (columns : ℕ → Bool) (width : ℕ) (blocks : List ℕ) (column : ℕ) → AreBlocksOf columns width blocks → ¬ (IsIn (column / 64) blocks) → columns column ≡ false
 off_blocks columns width blocks column so n = go (columns column) refl
   where

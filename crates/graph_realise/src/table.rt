@@ -90,8 +90,11 @@ impl Table {
         ensures { IsRowFilled (λ column. cell self.old row column && not (support matrix.now other column)) self.old self.new row self.old.width }
     {
         for block in blocks {
-            let word = outside(self.word(row, *block), matrix.support_word(other, *block));
-            self.set_word(row, *block, word);
+            let word = self.word(row, *block);
+            let gone = matrix.support_word(other, *block);
+            if word & gone != 0 {
+                self.set_word(row, *block, outside(word, gone));
+            }
         }
     }
 
@@ -120,7 +123,9 @@ impl Table {
     {
         for block in blocks {
             let common = matrix.support_word(one, *block) & matrix.support_word(other, *block);
-            self.set_word(row, *block, self.word(row, *block) | common);
+            if common != 0 {
+                self.set_word(row, *block, self.word(row, *block) | common);
+            }
         }
     }
 

@@ -1,10 +1,13 @@
-use Rattle.std.proofs.Common.{◌≡◌, ◌&&◌, ◌||◌, ◌∙◌, ℕ, Bool, true, false, get_or, refl, ap, ap₂, arith}
+use Rattle.std.proofs.Common.{◌≡◌, ◌<◌, ◌+◌, ◌*◌, ◌&&◌, ◌||◌, ◌∙◌, eqb, ℕ, Bool, true, false, get_or, refl, sym, subst, ap, ap₂, arith}
+use Rattle.std.proofs.lemmas.Nat.Bits.{bit_at-zero}
 use Rattle.std.specs.Int.Bits.{bit_and, bit_or}
 use Rattle.cmr_base.specs.Planes.{has_bit}
 use Rattle.cmr_base.specs.Trees.{support}
+use Rattle.cmr_base.proofs.Booleans.{or_false}
 use Rattle.cmr_base.proofs.WordBits.{bit_at_block, has_bit-and, has_bit-or}
-use Rattle.graph_realise.specs.Tables.{Grid, cell}
-use Rattle.graph_realise.proofs.BlockLemmas.{blocks_none, blocks_more, blocks_row, not_filled, off_blocks}
+use Rattle.graph_realise.specs.Tables.{Grid, cell, AreBlocksFilled}
+use Rattle.graph_realise.proofs.BlockLemmas.{blocks_none, blocks_more, blocks_row, blocks_same, not_filled, off_blocks}
+use Rattle.graph_realise.proofs.table.Table.add_common.Goals.{then-common-ne0, else-common-ne0}
 use Rattle.graph_realise.proofs.table.Table.add_common.Goals as goal
 
 none_added : (t s : Bool) → (t || (s && false)) ≡ t
@@ -19,6 +22,7 @@ pub loop-block-preserved : goal.loop-block-preserved
 loop-block-preserved c =
     let m = c.args.matrix.now in
     let old : Grid = c.args.self.now in
+    let now : Grid = c.loop-block.self in
     let row = c.args.row in
     let blocks = c.args.blocks.now in
     let index = c.loop-block.block-index in
@@ -27,15 +31,24 @@ loop-block-preserved c =
     let one = c.support_word.result in
     let other = c.support_word-in-loop-block.result in
     let values : ℕ → Bool = λ column. cell c.args.self.now c.args.row column || support c.args.matrix.now c.args.one column && support c.args.matrix.now c.args.other column in
-    blocks_more values old c.loop-block.self c.set_word.new.self row blocks index (bit_or c.word.result (bit_and one other)) c.requires.blocks.rising c.loop-block-test.true so c.set_word.ensures
-    (λ k small inside.
-    has_bit-or c.word.result (bit_and one other) k
-    ∙ ap₂ (λ a b. a || b)
-    (c.word.ensures k small (omega (arith, inside, so.rows.width)) ∙ not_filled values old c.loop-block.self row blocks index k c.requires.blocks.rising c.loop-block-test.true so small)
-    (has_bit-and one other k
+    let both : (k : ℕ) → k < 64 → has_bit (bit_and one other) k ≡ (support m c.args.one (64 * block + k) && support m c.args.other (64 * block + k)) = λ k small.
+    has_bit-and one other k
     ∙ ap₂ (λ a b. a && b)
     (ap (λ (n : ℕ). has_bit n k) c.support_word.ensures ∙ bit_at_block m c.args.one block k small)
-    (ap (λ (n : ℕ). has_bit n k) c.support_word-in-loop-block.ensures ∙ bit_at_block m c.args.other block k small)))
+    (ap (λ (n : ℕ). has_bit n k) c.support_word-in-loop-block.ensures ∙ bit_at_block m c.args.other block k small) in
+    let kept : (k : ℕ) → k < 64 → cell now row (64 * block + k) ≡ cell old row (64 * block + k) = λ k small. not_filled values old now row blocks index k c.requires.blocks.rising c.loop-block-test.true so small in
+    elim c.if-common-ne0.branch [
+      | then-common-ne0 w ↦
+          subst (λ (t : Grid). AreBlocksFilled values old t row blocks (index + 1)) (sym w.self-is)
+          (blocks_more values old now w.set_word.new.self row blocks index (bit_or w.word.result (bit_and one other)) c.requires.blocks.rising c.loop-block-test.true so w.set_word.ensures
+          (λ k small inside.
+          has_bit-or w.word.result (bit_and one other) k ∙ ap₂ (λ a b. a || b) (w.word.ensures k small (omega (arith, inside, so.rows.width)) ∙ kept k small) (both k small)))
+      | else-common-ne0 w ↦
+          subst (λ (t : Grid). AreBlocksFilled values old t row blocks (index + 1)) (sym w.self-is)
+          (blocks_same values old now row blocks index so
+          (λ k small inside.
+          kept k small ∙ sym (ap (λ t. cell old row (64 * block + k) || t) (sym (both k small) ∙ ap (λ (n : ℕ). has_bit n k) w.if-common-ne0.false ∙ ap (λ bit. eqb bit 1) (bit_at-zero k)) ∙ or_false (cell old row (64 * block + k)))))
+    ]
 
 pub returns : goal.returns
 returns c =
