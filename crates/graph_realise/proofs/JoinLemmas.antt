@@ -1,27 +1,23 @@
 -- The arcs of the parts' trees in the tree of all rows.
-use Rattle.std.proofs.Common.{◌≡◌, ◌≢◌, ◌<◌, ◌≤◌, ◌+◌, ◌∙◌, ◌==◌, ◌&&◌, ◌||◌, ◌⊎◌, inl, inr, ap₂, cond, nat_lt, if◌then◌else◌, not, ℕ, Bool, true, false, List, length, get_or, sym, ap, refl, arith, Option, Some, None}
+use Rattle.std.proofs.Common.{◌≡◌, ◌≢◌, ◌<◌, ◌≤◌, ◌+◌, ◌∙◌, ◌==◌, ◌&&◌, ◌||◌, ◌⊎◌, inl, inr, ap₂, nat_lt, if◌then◌else◌, not, ℕ, Bool, true, false, length, sym, ap, refl, arith, Option, Some, None}
 use Rattle.std.proofs.lemmas.Bool.{cases_lt}
 use Rattle.std.proofs.lemmas.Bool.Decides.{nat_tests}
-use Rattle.std.proofs.lemmas.List.{get_or_read}
+use Rattle.std.proofs.lemmas.List.{get_or_past}
 use Rattle.cmr_base.specs.Cuts.{differ}
 use Rattle.cmr_base.specs.Matrix.{Matrix, height}
-use Rattle.cmr_base.proofs.RowLists.{is_eq, is_ne, same_or_not, two_cases}
+use Rattle.cmr_base.proofs.RowLists.{is_eq, is_ne, not_both, same_or_not, two_cases}
 use Rattle.cmr_base.proofs.Booleans.{or_false}
 use Rattle.graph_realise.specs.Branches.{branch_at}
-use Rattle.graph_realise.specs.Joints.{AreHung, AreOff, FitsJoint, IsArcJoined, IsLineFor, by_part, end_of, hanging_of, hung, is_part, is_used, joined_side, number_at, part_or_first}
+use Rattle.graph_realise.specs.Joints.{AreHung, AreOff, FitsJoint, IsArcJoined, IsClearBeside, IsLineFor, by_part, AreChosen, end_of, hanging_of, hung, is_at_first, is_chosen, is_part, is_used, joined_side, number_at, part_or_first}
 use Rattle.graph_realise.specs.Merging.{column_half, end_off, merged_lies, spot, turned_lies, turned_side}
-use Rattle.graph_realise.specs.SideTables.{side_in, end_in, KeepsRow, AreTablesOf, AreEndsFilled, IsArcChanged}
+use Rattle.graph_realise.specs.SideTables.{side_in, end_in, KeepsRow, AreTablesOf, IsArcChanged}
 use Rattle.graph_realise.specs.Tables.{Grid, cell, IsRowFilled}
 use Rattle.graph_realise.proofs.SideLemmas.{keeps_row_same, keeps_row_trans}
+use Rattle.graph_realise.proofs.TableLemmas.{cell_past}
 use Rattle.graph_realise.specs.declared.arc_sides.ArcSides.{ArcSides}
 use Rattle.graph_realise.specs.declared.joint.Joint.{Joint}
 
--- the part that is read is in range
-pub part_in_range : (numbers : List (Option ℕ)) (size place : ℕ) (found : Option ℕ) → place < length numbers → found ≡ get_or numbers place found
-    → ((line a : ℕ) → number_at numbers line ≡ Some a → a < size) → (a : ℕ) → found ≡ Some a → a < size
-part_in_range numbers size place found l e range a f = range place a (sym (get_or_read numbers place found l e None) ∙ f)
-
-pub half_is : (M : ℕ → ℕ → Bool) (joint : Joint) (o : Option ℕ) → column_half M joint.row (hanging_of joint) o ≡ end_of joint o
+half_is : (M : ℕ → ℕ → Bool) (joint : Joint) (o : Option ℕ) → column_half M joint.row (hanging_of joint) o ≡ end_of joint o
 half_is M joint None = refl
 half_is M joint (Some q) = refl
 
@@ -38,29 +34,44 @@ lies_at M joint lies lies' end r column e =
 
 -- ---- the arc of the row
 
-abbrev pub row_ends : (ℕ → ℕ → Bool) → Joint → Bool → ℕ → Bool
-row_ends M joint end column = if M joint.row column then end else end_of joint (number_at joint.part_with.items column)
+-- the sides of the row's arc: the parts at its first end are on the side true, and so are the first ends of its columns
+pub row_joined : (M : ℕ → ℕ → Bool) (m : Matrix) (joint : Joint) (old cleared with_parts new : ArcSides) → FitsJoint (height m) m.width joint → AreOff M joint → AreTablesOf m old
+    → IsArcChanged (λ other. false) (λ end column. false) old cleared joint.row → AreChosen joint (is_at_first joint) joint.row (length joint.branches.items) cleared with_parts
+    → IsArcChanged (λ other. side_in with_parts joint.row other) (λ end column. end_in with_parts end joint.row column || (end && M joint.row column)) with_parts new joint.row → IsArcJoined M joint old new joint.row
+row_joined M m joint old cleared with_parts new fits off tables a b d = record { arcs = arcs; ends = ends }
+  where
+    one : AreTablesOf m cleared
+    one = a.sizes m tables
 
-pub row_joined : (M : ℕ → ℕ → Bool) (joint : Joint) (old now new : ArcSides) (n : ℕ) → n ≡ old.first.width
-    → IsRowFilled (λ other. end_of joint (number_at joint.part_of.items other)) old.arcs now.arcs joint.row old.arcs.width → AreEndsFilled (row_ends M joint) now new joint.row n
-    → IsArcJoined M joint old new joint.row
-row_joined M joint old now new n w arcs ends = record {
-  arcs = λ s l. ends.arcs s ∙ arcs.done s l l
-      ∙ sym (ap (λ (t : Bool). if t then end_of joint (number_at joint.part_of.items s) else by_part M joint joint.row (turned_side joint.row (side_in old) joint.row s) (number_at joint.part_of.items s)) (is_eq joint.row joint.row refl));
-  ends = λ end column l. ends.done end column (omega arith)
-      ∙ ap (λ (z : Bool). if M joint.row column then end else z) (sym (half_is M joint (number_at joint.part_with.items column)))
-      ∙ sym (ap (λ (t : Bool). if t then (if M joint.row column then end else column_half M joint.row (hanging_of joint) ((hanging_of joint).touched column))
-      else if M joint.row column then (if differ end ((hanging_of joint).half ((hanging_of joint).part joint.row)) then false else M joint.row column)
-      else end_off M joint.row (hanging_of joint) (turned_lies joint.row (side_in old) (end_in old)) end joint.row column ((hanging_of joint).touched column)) (is_eq joint.row joint.row refl));
-}
+    two : AreTablesOf m with_parts
+    two = b.sizes m one
 
-pub row_used : (M : ℕ → ℕ → Bool) (joint : Joint) (end : Bool) (column : ℕ) → M joint.row column ≡ true → end ≡ row_ends M joint end column
-row_used M joint end column e = sym (ap (λ (t : Bool). if t then end else end_of joint (number_at joint.part_with.items column)) e)
+    chosen : (o : Option ℕ) → ((p : ℕ) → o ≡ Some p → p < length joint.branches.items) → is_chosen (is_at_first joint) (length joint.branches.items) o ≡ end_of joint o
+    chosen None range = refl
+    chosen (Some p) range = let l = range p refl in let e : nat_lt p (length joint.branches.items) ≡ true = grind (arith, nat_tests) in rw e refl
 
-pub row_unused : (M : ℕ → ℕ → Bool) (joint : Joint) (end : Bool) (column : ℕ) (value : Bool) (part : Option ℕ) → M joint.row column ≡ false → part ≡ number_at joint.part_with.items column → value ≡ end_of joint part
-    → value ≡ row_ends M joint end column
-row_unused M joint end column value part e p v =
-    v ∙ ap (end_of joint) p ∙ sym (ap (λ (t : Bool). if t then end else end_of joint (number_at joint.part_with.items column)) e)
+    arcs : (s : ℕ) → s < old.arcs.width → side_in new joint.row s ≡ joined_side M joint old joint.row s
+    arcs s w =
+        d.to_arcs s (omega (arith, w, tables.arcs_width, two.arcs_width)) ∙ b.to_arcs s (omega (arith, w, tables.arcs_width, one.arcs_width))
+        ∙ ap₂ (λ x y. x || y) (a.to_arcs s w) (chosen (number_at joint.part_of.items s) (λ p e. fits.row_parts s p e))
+        ∙ sym (ap (λ (t : Bool). if t then end_of joint (number_at joint.part_of.items s) else by_part M joint joint.row (turned_side joint.row (side_in old) joint.row s) (number_at joint.part_of.items s)) (is_eq joint.row joint.row refl))
+
+    value : (end : Bool) (column : ℕ) (t : Bool) → M joint.row column ≡ t → (end_of joint (number_at joint.part_with.items column) || (end && t)) ≡ (if t then end else column_half M joint.row (hanging_of joint) ((hanging_of joint).touched column))
+    value true column true e = ap (λ (o : Option ℕ). end_of joint o || true) (off column e)
+    value false column true e = ap (λ (o : Option ℕ). end_of joint o || false) (off column e)
+    value true column false e = or_false (end_of joint (number_at joint.part_with.items column)) ∙ sym (half_is M joint (number_at joint.part_with.items column))
+    value false column false e = or_false (end_of joint (number_at joint.part_with.items column)) ∙ sym (half_is M joint (number_at joint.part_with.items column))
+
+    ends : (end : Bool) (column : ℕ) → column < old.first.width → end_in new end joint.row column ≡ merged_lies M joint.row (hanging_of joint) (turned_lies joint.row (side_in old) (end_in old)) end joint.row column
+    ends end column w =
+        d.to_ends end column (omega (arith, w, tables.first_width, two.first_width))
+        ∙ ap (λ (z : Bool). z || (end && M joint.row column))
+        (b.to_ends end column (omega (arith, w, tables.first_width, one.first_width))
+        ∙ ap₂ (λ x y. x || y) (a.to_ends end column w) (chosen (number_at joint.part_with.items column) (λ p e. fits.column_parts column p e)))
+        ∙ value end column (M joint.row column) refl
+        ∙ sym (ap (λ (t : Bool). if t then (if M joint.row column then end else column_half M joint.row (hanging_of joint) ((hanging_of joint).touched column))
+        else if M joint.row column then (if differ end ((hanging_of joint).half ((hanging_of joint).part joint.row)) then false else M joint.row column)
+        else end_off M joint.row (hanging_of joint) (turned_lies joint.row (side_in old) (end_in old)) end joint.row column ((hanging_of joint).touched column)) (is_eq joint.row joint.row refl))
 
 -- ---- an arc of another row
 
@@ -126,47 +137,35 @@ used_end M joint r own old end column e = sym (ap (λ (d : Bool). end_in old end
 pub filled_as : (values values' : ℕ → Bool) (old new : Grid) (row : ℕ) → ((column : ℕ) → values column ≡ values' column) → IsRowFilled values old new row old.width → IsRowFilled values' old new row old.width
 filled_as values values' old new row same f = record { rows = f.rows; done = λ column l w. f.done column l w ∙ same column; left = f.left }
 
-module _ (M : ℕ → ℕ → Bool) (joint : Joint) (r own : ℕ) where
-  -- no part is hung at first
-  hung_none : (o : Option ℕ) → hung M joint r own 0 o ≡ false
-  hung_none None = refl
-  hung_none (Some q) = let e : nat_lt q 0 ≡ false = grind (arith, nat_tests) in rw e refl
+-- the parts for which a test holds are added one after another
+module _ (joint : Joint) (X : ℕ → Bool) (r : ℕ) where
+  -- no part is chosen at first
+  chosen_none : (o : Option ℕ) → is_chosen X 0 o ≡ false
+  chosen_none None = refl
+  chosen_none (Some q) = let e : nat_lt q 0 ≡ false = grind (arith, nat_tests) in rw e refl
 
-  pub none_hung : (sides : ArcSides) → AreHung M joint r own 0 sides sides
-  none_hung sides = record {
+  pub none_chosen : (sides : ArcSides) → AreChosen joint X r 0 sides sides
+  none_chosen sides = record {
     sizes = λ m t. t;
     others = λ s n. keeps_row_same sides s;
-    to_arcs = λ other l. sym (ap (λ z. side_in sides r other || z) (hung_none (number_at joint.part_of.items other)) ∙ or_false (side_in sides r other));
-    to_ends = λ end column l. sym (ap (λ z. end_in sides end r column || z) (hung_none (number_at joint.part_with.items column)) ∙ or_false (end_in sides end r column));
+    to_arcs = λ other l. sym (ap (λ z. side_in sides r other || z) (chosen_none (number_at joint.part_of.items other)) ∙ or_false (side_in sides r other));
+    to_ends = λ end column l. sym (ap (λ z. end_in sides end r column || z) (chosen_none (number_at joint.part_with.items column)) ∙ or_false (end_in sides end r column));
   }
 
-  -- one part more
-  one_more : (below last x b : Bool) → (cond below true last && x) ≡ ((below && x) || (last && x))
-  one_more true true true b = refl
-  one_more true true false b = refl
-  one_more true false true b = refl
-  one_more true false false b = refl
-  one_more false true x b = refl
-  one_more false false x b = refl
-
-  hung_more : (count : ℕ) (o : Option ℕ) → hung M joint r own (count + 1) o ≡ (hung M joint r own count o || ((not (count == own) && spot M joint.row (hanging_of joint) r count) && is_part count o))
-  hung_more count None = sym (and_false (not (count == own) && spot M joint.row (hanging_of joint) r count))
-  hung_more count (Some q) = go (cases_lt q count) (same_or_not q count)
+  chosen_more : (count : ℕ) (o : Option ℕ) → is_chosen X (count + 1) o ≡ (is_chosen X count o || (X count && is_part count o))
+  chosen_more count None = sym (and_false (X count))
+  chosen_more count (Some q) = go (cases_lt q count) (same_or_not q count)
     where
-      X : ℕ → Bool
-      X q = not (q == own) && spot M joint.row (hanging_of joint) r q
-
-      go : (q < count) ⊎ (count ≤ q) → (q ≡ count) ⊎ (q ≢ count) → (nat_lt q (count + 1) && (not (q == own) && spot M joint.row (hanging_of joint) r q))
-          ≡ ((nat_lt q count && (not (q == own) && spot M joint.row (hanging_of joint) r q)) || ((not (count == own) && spot M joint.row (hanging_of joint) r count) && (q == count)))
+      go : (q < count) ⊎ (count ≤ q) → (q ≡ count) ⊎ (q ≢ count) → (nat_lt q (count + 1) && X q) ≡ ((nat_lt q count && X q) || (X count && (q == count)))
       go (inl l) (inl e) = absurd (omega arith)
       go (inl l) (inr n) =
           let a : nat_lt q (count + 1) ≡ true = grind (arith, nat_tests) in
           let b : nat_lt q count ≡ true = grind (arith, nat_tests) in
-          rw (a, b, is_ne q count n, and_false (not (count == own) && spot M joint.row (hanging_of joint) r count)) (sym (or_false (not (q == own) && spot M joint.row (hanging_of joint) r q)))
+          rw (a, b, is_ne q count n, and_false (X count)) (sym (or_false (X q)))
       go (inr l) (inl e) =
           let a : nat_lt q (count + 1) ≡ true = grind (arith, nat_tests) in
           let b : nat_lt q count ≡ false = grind (arith, nat_tests) in
-          rw (a, b, is_eq q count e) (ap (λ (k : ℕ). not (k == own) && spot M joint.row (hanging_of joint) r k) e ∙ sym (and_true (not (count == own) && spot M joint.row (hanging_of joint) r count)))
+          rw (a, b, is_eq q count e) (ap X e ∙ sym (and_true (X count)))
         where
           and_true : (a : Bool) → (a && true) ≡ a
           and_true true = refl
@@ -174,7 +173,7 @@ module _ (M : ℕ → ℕ → Bool) (joint : Joint) (r own : ℕ) where
       go (inr l) (inr n) =
           let a : nat_lt q (count + 1) ≡ false = grind (arith, nat_tests) in
           let b : nat_lt q count ≡ false = grind (arith, nat_tests) in
-          rw (a, b, is_ne q count n, and_false (not (count == own) && spot M joint.row (hanging_of joint) r count)) refl
+          rw (a, b, is_ne q count n, and_false (X count)) refl
 
   or_both : (a b d e x : Bool) → e ≡ (b || (x && d)) → x ≡ true → ((a || b) || d) ≡ (a || e)
   or_both true b d e x f g = refl
@@ -184,39 +183,39 @@ module _ (M : ℕ → ℕ → Bool) (joint : Joint) (r own : ℕ) where
   or_none true b d e x f g = refl
   or_none false b d e x f g = sym (f ∙ ap (λ (z : Bool). b || (z && d)) g ∙ or_false b)
 
-  pub part_hung : (m : Matrix) (count : ℕ) (old now new : ArcSides) → FitsJoint (height m) m.width joint → AreTablesOf m old → AreTablesOf m now → count < length joint.branches.items
-      → (not (count == own) && spot M joint.row (hanging_of joint) r count) ≡ true → AreHung M joint r own count old now
+  pub part_chosen : (m : Matrix) (count : ℕ) (old now new : ArcSides) → FitsJoint (height m) m.width joint → AreTablesOf m old → AreTablesOf m now → count < length joint.branches.items → X count ≡ true → AreChosen joint X r count old now
       → IsArcChanged (λ other. side_in now r other || cell joint.row_marks count other) (λ end column. end_in now end r column || cell joint.column_marks count column) now new r
-      → AreHung M joint r own (count + 1) old new
-  part_hung m count old now new fits tables tables' l hangs so step = record {
+      → AreChosen joint X r (count + 1) old new
+  part_chosen m count old now new fits tables tables' l holds so step = record {
     sizes = λ m t. step.sizes m (so.sizes m t);
     others = λ s n. keeps_row_trans old now new s (so.others s n) (step.others s n);
     to_arcs = λ other h.
         let inside : other < now.arcs.width = omega (arith, h, tables.arcs_width, tables'.arcs_width) in
         let marked : other < length joint.part_of.items = omega (arith, h, tables.arcs_width, fits.rows) in
+        let o = number_at joint.part_of.items other in
         step.to_arcs other inside ∙ ap₂ (λ a b. a || b) (so.to_arcs other h) (fits.row_marks.exact count other l marked)
-        ∙ or_both (side_in old r other) (hung M joint r own count (number_at joint.part_of.items other)) (is_part count (number_at joint.part_of.items other)) (hung M joint r own (count + 1) (number_at joint.part_of.items other))
-        (not (count == own) && spot M joint.row (hanging_of joint) r count) (hung_more count (number_at joint.part_of.items other)) hangs;
+        ∙ or_both (side_in old r other) (is_chosen X count o) (is_part count o) (is_chosen X (count + 1) o) (X count) (chosen_more count o) holds;
     to_ends = λ end column h.
         let inside : column < now.first.width = omega (arith, h, tables.first_width, tables'.first_width) in
         let marked : column < length joint.part_with.items = omega (arith, h, tables.first_width, fits.columns) in
+        let o = number_at joint.part_with.items column in
         step.to_ends end column inside ∙ ap₂ (λ a b. a || b) (so.to_ends end column h) (fits.column_marks.exact count column l marked)
-        ∙ or_both (end_in old end r column) (hung M joint r own count (number_at joint.part_with.items column)) (is_part count (number_at joint.part_with.items column)) (hung M joint r own (count + 1) (number_at joint.part_with.items column))
-        (not (count == own) && spot M joint.row (hanging_of joint) r count) (hung_more count (number_at joint.part_with.items column)) hangs;
+        ∙ or_both (end_in old end r column) (is_chosen X count o) (is_part count o) (is_chosen X (count + 1) o) (X count) (chosen_more count o) holds;
   }
 
-  pub part_off : (count : ℕ) (old now : ArcSides) → (not (count == own) && spot M joint.row (hanging_of joint) r count) ≡ false → AreHung M joint r own count old now → AreHung M joint r own (count + 1) old now
-  part_off count old now off so = record {
+  pub part_passed : (count : ℕ) (old now : ArcSides) → X count ≡ false → AreChosen joint X r count old now → AreChosen joint X r (count + 1) old now
+  part_passed count old now off so = record {
     sizes = so.sizes;
     others = so.others;
-    to_arcs = λ other h. so.to_arcs other h
-        ∙ or_none (side_in old r other) (hung M joint r own count (number_at joint.part_of.items other)) (is_part count (number_at joint.part_of.items other)) (hung M joint r own (count + 1) (number_at joint.part_of.items other))
-        (not (count == own) && spot M joint.row (hanging_of joint) r count) (hung_more count (number_at joint.part_of.items other)) off;
-    to_ends = λ end column h. so.to_ends end column h
-        ∙ or_none (end_in old end r column) (hung M joint r own count (number_at joint.part_with.items column)) (is_part count (number_at joint.part_with.items column)) (hung M joint r own (count + 1) (number_at joint.part_with.items column))
-        (not (count == own) && spot M joint.row (hanging_of joint) r count) (hung_more count (number_at joint.part_with.items column)) off;
+    to_arcs = λ other h.
+        let o = number_at joint.part_of.items other in
+        so.to_arcs other h ∙ or_none (side_in old r other) (is_chosen X count o) (is_part count o) (is_chosen X (count + 1) o) (X count) (chosen_more count o) off;
+    to_ends = λ end column h.
+        let o = number_at joint.part_with.items column in
+        so.to_ends end column h ∙ or_none (end_in old end r column) (is_chosen X count o) (is_part count o) (is_chosen X (count + 1) o) (X count) (chosen_more count o) off;
   }
 
+module _ (M : ℕ → ℕ → Bool) (joint : Joint) (r own : ℕ) where
   -- what is kept and what is hung are all
   kept_or_hung : (same inside within spot : Bool) → inside ≡ true → ((same && within) || (inside && (not same && spot))) ≡ (if same then within else spot)
   kept_or_hung true true true spot e = refl
@@ -308,7 +307,91 @@ module _ (M : ℕ → ℕ → Bool) (joint : Joint) (r own : ℕ) where
               ∙ by_off true end column (number_at joint.part_with.items column)
               ∙ sym (rw (is_ne r joint.row apart, e) refl)
 
+  -- ---- the arcs beside which nothing lies
+
+  pub part_turned : (old new : ArcSides) (turned : Bool) → turned ≡ true
+      → IsArcChanged (λ other. cell joint.row_marks own other && not (side_in old r other)) (λ end column. cell joint.column_marks own column && not (end_in old end r column)) old new r
+      → IsArcChanged (λ other. cell joint.row_marks own other && differ turned (side_in old r other)) (λ end column. cell joint.column_marks own column && differ turned (end_in old end r column)) old new r
+  part_turned old new turned e k = record {
+    sizes = k.sizes;
+    others = k.others;
+    to_arcs = λ other l. k.to_arcs other l ∙ ap (λ t. cell joint.row_marks own other && t) (turns (side_in old r other));
+    to_ends = λ end column l. k.to_ends end column l ∙ ap (λ t. cell joint.column_marks own column && t) (turns (end_in old end r column));
+  }
+    where
+      turns : (x : Bool) → not x ≡ differ turned x
+      turns x = sym (ap (λ t. differ t x) e ∙ by_true x)
+        where
+          by_true : (x : Bool) → differ true x ≡ not x
+          by_true true = refl
+          by_true false = refl
+
+  pub part_stays : (m : Matrix) (old : ArcSides) (first last : Grid) (turned : Bool) → turned ≡ false → turned ≡ side_in old r joint.row → number_at joint.part_of.items r ≡ Some own → FitsJoint (height m) m.width joint → AreOff M joint → AreTablesOf m old
+      → IsClearBeside M joint old r → IsRowFilled (λ column. cell old.first r column && not (M joint.row column)) old.first first r old.first.width → IsRowFilled (λ column. cell old.last r column && not (M joint.row column)) old.last last r old.last.width
+      → own < length joint.branches.items
+      → IsArcChanged (λ other. cell joint.row_marks own other && differ turned (side_in old r other)) (λ end column. cell joint.column_marks own column && differ turned (end_in old end r column)) old (record { arcs = old.arcs; first = first; last = last }) r
+  part_stays m old first last turned e is_side part fits off tables clear f l inside =
+      changed_by old old.arcs first last r (λ other. cell joint.row_marks own other && differ turned (side_in old r other)) (λ end column. cell joint.column_marks own column && differ turned (end_in old end r column))
+      (filled_same (λ other. cell joint.row_marks own other && differ turned (side_in old r other)) old.arcs r arcs)
+      (filled_as (λ column. cell old.first r column && not (M joint.row column)) (λ column. cell joint.column_marks own column && differ turned (end_in old true r column)) old.first first r (λ column. ends true column) f)
+      (filled_as (λ column. cell old.last r column && not (M joint.row column)) (λ column. cell joint.column_marks own column && differ turned (end_in old false r column)) old.last last r (λ column. ends false column) l)
+      (omega (arith, tables.last_width, tables.first_width))
+    where
+      same : (x : Bool) → differ turned x ≡ x
+      same x = ap (λ t. differ t x) e ∙ by_false x
+        where
+          by_false : (x : Bool) → differ false x ≡ x
+          by_false true = refl
+          by_false false = refl
+
+      other_part : (o : Option ℕ) → is_part own o ≡ false → o ≢ number_at joint.part_of.items r
+      other_part o none q = not_both (is_part own o) (ap (is_part own) (q ∙ part) ∙ is_eq own own refl) none
+
+      arcs : (other : ℕ) → other < old.arcs.width → cell old.arcs r other ≡ (cell joint.row_marks own other && differ turned (side_in old r other))
+      arcs other w = go (two_cases (is_part own (number_at joint.part_of.items other)))
+        where
+          mark : cell joint.row_marks own other ≡ is_part own (number_at joint.part_of.items other)
+          mark = fits.row_marks.exact own other inside (omega (arith, w, tables.arcs_width, fits.rows))
+
+          go : (is_part own (number_at joint.part_of.items other) ≡ true) ⊎ (is_part own (number_at joint.part_of.items other) ≡ false) → cell old.arcs r other ≡ (cell joint.row_marks own other && differ turned (side_in old r other))
+          go (inl q) = sym (ap (λ t. t && differ turned (side_in old r other)) (mark ∙ q) ∙ same (side_in old r other))
+          go (inr q) = at (same_or_not other joint.row) ∙ sym (ap (λ t. t && differ turned (side_in old r other)) (mark ∙ q))
+            where
+              at : (other ≡ joint.row) ⊎ (other ≢ joint.row) → side_in old r other ≡ false
+              at (inl z) = ap (side_in old r) z ∙ sym is_side ∙ e
+              at (inr z) = clear.arcs other z (other_part (number_at joint.part_of.items other) q)
+
+      ends : (end : Bool) (column : ℕ) → (end_in old end r column && not (M joint.row column)) ≡ (cell joint.column_marks own column && differ turned (end_in old end r column))
+      ends end column = by_row (two_cases (M joint.row column)) (cases_lt column (length joint.part_with.items))
+        where
+          o : Option ℕ
+          o = number_at joint.part_with.items column
+
+          mark : (column < length joint.part_with.items) ⊎ (length joint.part_with.items ≤ column) → cell joint.column_marks own column ≡ is_part own o
+          mark (inl k) = fits.column_marks.exact own column inside k
+          mark (inr k) = cell_past joint.column_marks own column (omega (arith, k, fits.column_marks.wide)) ∙ sym (ap (is_part own) (get_or_past joint.part_with.items column None k))
+
+          by_row : (M joint.row column ≡ true) ⊎ (M joint.row column ≡ false) → (column < length joint.part_with.items) ⊎ (length joint.part_with.items ≤ column)
+              → (end_in old end r column && not (M joint.row column)) ≡ (cell joint.column_marks own column && differ turned (end_in old end r column))
+          by_row (inl q) k = ap (λ t. end_in old end r column && not t) q ∙ and_false (end_in old end r column)
+              ∙ sym (ap (λ t. t && differ turned (end_in old end r column)) (mark k ∙ ap (is_part own) (off column q)))
+          by_row (inr q) k = ap (λ t. end_in old end r column && not t) q ∙ and_true (end_in old end r column) ∙ by_mark (two_cases (is_part own o))
+            where
+              and_true : (a : Bool) → (a && true) ≡ a
+              and_true true = refl
+              and_true false = refl
+
+              by_mark : (is_part own o ≡ true) ⊎ (is_part own o ≡ false) → end_in old end r column ≡ (cell joint.column_marks own column && differ turned (end_in old end r column))
+              by_mark (inl z) = sym (ap (λ t. t && differ turned (end_in old end r column)) (mark k ∙ z) ∙ same (end_in old end r column))
+              by_mark (inr z) = clear.ends end column q (other_part o z) ∙ sym (ap (λ t. t && differ turned (end_in old end r column)) (mark k ∙ z))
+
 -- ---- one arc after another
+
+pub clear_stays : (M : ℕ → ℕ → Bool) (joint : Joint) (a b : ArcSides) (r : ℕ) → KeepsRow a b r → IsClearBeside M joint a r → IsClearBeside M joint b r
+clear_stays M joint a b r k h = record {
+  arcs = λ s n o. k.arcs s ∙ h.arcs s n o;
+  ends = λ end c off o. k.ends end c ∙ h.ends end c off o;
+}
 
 pub joined_stays : (M : ℕ → ℕ → Bool) (joint : Joint) (old : ArcSides) (r : ℕ) (a b : ArcSides) → KeepsRow a b r → IsArcJoined M joint old a r → IsArcJoined M joint old b r
 joined_stays M joint old r a b k h = record {

@@ -4,13 +4,13 @@ use Rattle.std.specs.Prelude.{slice_index_or}
 use Rattle.std.proofs.lemmas.Bool.{cases_lt}
 use Rattle.std.proofs.lemmas.List.{get_or_append_left, get_or-append-add, get_or_past, get_or-set_same, get_or-set_other}
 use Rattle.cmr_base.specs.Members.{IsIn}
-use Rattle.cmr_base.proofs.Members.{in-append}
+use Rattle.cmr_base.specs.Splits.{AreParts}
+use Rattle.cmr_base.proofs.Members.{in-append, in_at}
 use Rattle.cmr_base.proofs.RowLists.{not_both, in_or_not, is_eq, is_ne, same_or_not}
-use Rattle.graph_realise.specs.Joints.{AreMarks, AreNumbered, IsPartWith, IsPassing, IsTouched, is_part, number_at}
-use Rattle.cmr_base.specs.ColumnSets.{has_column}
+use Rattle.graph_realise.specs.Joints.{AreMarks, AreNumbered, AreOfRows, IsNamed, IsTouched, is_part, number_at}
 use Rattle.graph_realise.specs.Tables.{Grid, cell, IsCellSet}
 use Rattle.graph_realise.specs.Numbers.{AreDisjoint}
-use Rattle.cmr_base.proofs.Places.{all_placed}
+use Rattle.cmr_base.proofs.Places.{found_at}
 
 -- an item appended to a list
 pub appended_before : {A : Type 0} → (xs : List A) (x d : A) (k : ℕ) → k < length xs → get_or (xs ++ x ∷ []) k d ≡ get_or xs k d
@@ -21,73 +21,83 @@ appended_last {A} xs x d k e =
     let w : k ≡ length xs + 0 = omega arith in
     ap (λ (z : ℕ). get_or (xs ++ x ∷ []) z d) w ∙ get_or-append-add xs (x ∷ []) 0 d
 
--- ---- the columns of one row after another
+-- ---- the columns of the rows of a part
 
-module _ (M : ℕ → ℕ → Bool) (n i : ℕ) (rows : List ℕ) (part_of : List (Option ℕ)) where
-  pub passing_starts : (passed : List ℕ) (numbers : List (Option ℕ)) → length numbers ≡ n → ((c : ℕ) → number_at numbers c ≡ None) → ((c : ℕ) → has_column passed c ≡ M i c) → IsPassing M n i rows part_of passed numbers 0
-  passing_starts passed numbers long none own = record {
-    size = long;
-    none = λ c e. none c;
-    some = λ c e. inl (sym (own c) ∙ e, none c);
-    own = λ c e. own c ∙ e;
+module _ (M : ℕ → ℕ → Bool) (i : ℕ) where
+  pub of_no_rows : (rows : List ℕ) (columns : ℕ → Bool) → ((c : ℕ) → columns c ≡ false) → AreOfRows M i rows 0 columns
+  of_no_rows rows columns none = record {
+    into = λ c e. absurd (not_both (columns c) e (none c));
     from = λ p c l. absurd (omega arith);
   }
 
-  pub passing_more : (passed passed' fresh : List ℕ) (numbers numbers' : List (Option ℕ)) (place x : ℕ) → IsPassing M n i rows part_of passed numbers place → IsIn x rows → x ≡ get_or rows place 0
-      → ((c : ℕ) → has_column fresh c ≡ (M x c && not (has_column passed c))) → ((c : ℕ) → has_column passed' c ≡ (has_column passed c || M x c)) → length numbers' ≡ length numbers
-      → ((c : ℕ) → has_column fresh c ≡ true → number_at numbers' c ≡ number_at part_of x) → ((c : ℕ) → has_column fresh c ≡ false → number_at numbers' c ≡ number_at numbers c) → IsPassing M n i rows part_of passed' numbers' (place + 1)
-  passing_more passed passed' fresh numbers numbers' place x w hx at news more long inside outside = record {
-    size = long ∙ w.size;
-    none = λ c e. none c (has_column passed c) (M x c) refl refl (sym (more c) ∙ e);
-    some = λ c e. some c (has_column passed c) (M x c) refl refl (sym (more c) ∙ e);
-    own = λ c e. more c ∙ ap (λ t. t || M x c) (w.own c e);
-    from = λ p c l e. more c ∙ elim (cases_lt p place) [
-      | inl k ↦ ap (λ t. t || M x c) (w.from p c k e)
-      | inr k ↦ let q : p ≡ place = omega arith in ap (λ t. has_column passed c || t) (ap (λ (z : ℕ). M z c) (at ∙ ap (λ (z : ℕ). get_or rows z 0) (sym q)) ∙ e) ∙ right (has_column passed c)
-    ];
+  pub of_rows_more : (rows : List ℕ) (place : ℕ) (columns columns' : ℕ → Bool) → AreOfRows M i rows place columns
+      → ((c : ℕ) → columns' c ≡ (columns c || (M (get_or rows place 0) c && not (M i c)))) → AreOfRows M i rows (place + 1) columns'
+  of_rows_more rows place columns columns' so more = record {
+    into = λ c e. into c (columns c) (M (get_or rows place 0) c) (M i c) refl refl refl (sym (more c) ∙ e);
+    from = λ p c l off on. more c ∙ from p c l off on (cases_lt p place);
   }
     where
+      into : (c : ℕ) (s t u : Bool) → columns c ≡ s → M (get_or rows place 0) c ≡ t → M i c ≡ u → (columns c || (M (get_or rows place 0) c && not (M i c))) ≡ true
+          → (M i c ≡ false) × ((p : ℕ) × (p < place + 1) × (M (get_or rows p 0) c ≡ true))
+      into c true t u e f g h = let q = so.into c e in let l = q.1.1 in (q.0, (q.1.0, omega arith, q.1.2))
+      into c false true false e f g h = (g, (place, omega arith, f))
+      into c false true true e f g h = absurd (not_both (columns c || (M (get_or rows place 0) c && not (M i c))) h (rw (e, f, g) refl))
+      into c false false u e f g h = absurd (not_both (columns c || (M (get_or rows place 0) c && not (M i c))) h (rw (e, f) refl))
+
       right : (t : Bool) → (t || true) ≡ true
       right true = refl
       right false = refl
 
-      fresh_by : (c : ℕ) (s t : Bool) → M x c ≡ s → has_column passed c ≡ t → has_column fresh c ≡ (s && not t)
-      fresh_by c s t e f = news c ∙ ap (λ u. u && not (has_column passed c)) e ∙ ap (λ u. s && not u) f
+      from : (p c : ℕ) → p < place + 1 → M i c ≡ false → M (get_or rows p 0) c ≡ true → (p < place) ⊎ (place ≤ p) → (columns c || (M (get_or rows place 0) c && not (M i c))) ≡ true
+      from p c l off on (inl k) = ap (λ t. t || (M (get_or rows place 0) c && not (M i c))) (so.from p c k off on)
+      from p c l off on (inr k) =
+          let e : p ≡ place = omega arith in
+          ap (λ t. columns c || (t && not (M i c))) (ap (λ (z : ℕ). M (get_or rows z 0) c) (sym e) ∙ on) ∙ ap (λ t. columns c || not t) off ∙ right (columns c)
 
-      none : (c : ℕ) (s t : Bool) → has_column passed c ≡ s → M x c ≡ t → (has_column passed c || M x c) ≡ false → number_at numbers' c ≡ None
-      none c false false e f g = outside c (fresh_by c false false f e) ∙ w.none c e
-      none c false true e f g = absurd (not_both (has_column passed c || M x c) (ap (λ t. t || M x c) e ∙ f) g)
-      none c true t e f g = absurd (not_both (has_column passed c || M x c) (ap (λ t. t || M x c) e) g)
+  -- ---- the parts of columns
 
-      off : (c : ℕ) → has_column passed c ≡ false → (t : Bool) → M i c ≡ t → M i c ≡ false
-      off c e true f = absurd (not_both (has_column passed c) (w.own c f) e)
-      off c e false f = f
+  module _ (parts : List (List ℕ)) where
+    pub named_none : (c : ℕ) (found : Option ℕ) → found ≡ None → IsNamed M i parts 0 c found
+    named_none c found e = inl (λ a r l. absurd (omega arith), e)
 
-      some : (c : ℕ) (s t : Bool) → has_column passed c ≡ s → M x c ≡ t → (has_column passed c || M x c) ≡ true → IsTouched M i rows part_of c (number_at numbers' c)
-      some c true t e f g = subst (IsTouched M i rows part_of c) (sym (outside c (fresh_by c t true f e ∙ left t))) (w.some c e)
-        where
-          left : (t : Bool) → (t && not true) ≡ false
-          left true = refl
-          left false = refl
-      some c false true e f g = inr (off c e (M i c) refl, inr (x, hx, f, inside c (fresh_by c true false f e)))
-      some c false false e f g = absurd (not_both (has_column passed c || M x c) g (ap (λ t. t || M x c) e ∙ f))
+    -- the columns of one part more have its number
+    pub named_more : (count : ℕ) (columns : ℕ → Bool) (c : ℕ) (old new : Option ℕ) → AreOfRows M i (slice_index_or parts count []) (length (slice_index_or parts count [])) columns
+        → IsNamed M i parts count c old → (columns c ≡ true → new ≡ Some count) → (columns c ≡ false → new ≡ old) → IsNamed M i parts (count + 1) c new
+    named_more count columns c old new of so inside outside = go (columns c) refl
+      where
+        part : List ℕ
+        part = slice_index_or parts count []
 
-  pub passing_ends : (passed : List ℕ) (numbers : List (Option ℕ)) (place : ℕ) → IsPassing M n i rows part_of passed numbers place → length rows ≤ place → (c : ℕ) → IsTouched M i rows part_of c (number_at numbers c)
-  passing_ends passed numbers place w l c = go (has_column passed c) refl
-    where
-      out : (b : Bool) → b ≡ true → has_column passed c ≡ false → (b ≡ true → has_column passed c ≡ true) → ⊥
-      out b e f g = not_both (has_column passed c) (g e) f
+        never : (r : ℕ) (t : Bool) → columns c ≡ false → IsIn r part → M i c ≡ false → M r c ≡ t → M r c ≡ false
+        never r true e h off on = let q = found_at part r h in absurd (not_both (columns c) (of.from q.0 c q.1 off (ap (λ (z : ℕ). M z c) q.2 ∙ on)) e)
+        never r false e h off on = on
 
-      never : (b t : Bool) → b ≡ t → (b ≡ true → has_column passed c ≡ true) → has_column passed c ≡ false → b ≡ false
-      never b true e g f = absurd (out b e f g)
-      never b false e g f = e
+        kept : columns c ≡ false → IsNamed M i parts count c old → IsNamed M i parts (count + 1) c new
+        kept e (inl h) = inl (λ a r l hr off. pick a r l hr off (cases_lt a count), outside e ∙ h.1)
+          where
+            pick : (a r : ℕ) → a < count + 1 → IsIn r (slice_index_or parts a []) → M i c ≡ false → (a < count) ⊎ (count ≤ a) → M r c ≡ false
+            pick a r l hr off (inl k) = h.0 a r k hr off
+            pick a r l hr off (inr k) = let q : a ≡ count = omega arith in never r (M r c) e (subst (λ (z : ℕ). IsIn r (slice_index_or parts z [])) q hr) off refl
+        kept e (inr (a, r, l, hr, off, on, f)) = inr (a, r, omega arith, hr, off, on, outside e ∙ f)
 
-      go : (t : Bool) → has_column passed c ≡ t → IsTouched M i rows part_of c (number_at numbers c)
-      go true e = w.some c e
-      go false e = inr (
-        never (M i c) (M i c) refl (w.own c) e,
-        inl (all_placed (λ r. M r c ≡ false) rows place l (λ p k. never (M (get_or rows p 0) c) (M (get_or rows p 0) c) refl (w.from p c k) e), w.none c e),
-      )
+        go : (t : Bool) → columns c ≡ t → IsNamed M i parts (count + 1) c new
+        go true e = let q = of.into c e in let p = q.1 in inr (count, get_or part p.0 0, omega arith, in_at part p.0 p.1, q.0, p.2, inside e)
+        go false e = kept e so
+
+    -- the number of a part is that of its rows
+    pub named_touched : (rows : List ℕ) (part_of : List (Option ℕ)) → AreParts M rows i parts → AreNumbered parts (length parts) part_of → (c : ℕ) (found : Option ℕ)
+        → IsNamed M i parts (length parts) c found → IsTouched M i rows part_of c found
+    named_touched rows part_of all numbered c found so = go (M i c) refl so
+      where
+        go : (t : Bool) → M i c ≡ t → IsNamed M i parts (length parts) c found → IsTouched M i rows part_of c found
+        go true e (inl h) = inl (e, h.1)
+        go true e (inr (a, r, l, hr, off, on, f)) = absurd (not_both (M i c) e off)
+        go false e (inl h) = inr (e, inl (λ r hr. zero_at r hr (same_or_not r i), h.1))
+          where
+            zero_at : (r : ℕ) → IsIn r rows → (r ≡ i) ⊎ (r ≢ i) → M r c ≡ false
+            zero_at r hr (inl q) = ap (λ (z : ℕ). M z c) q ∙ e
+            zero_at r hr (inr n) = let q = all.all r hr n in h.0 q.0 r q.1 q.2 e
+        go false e (inr (a, r, l, hr, off, on, f)) = inr (e, inr (r, (all.only a r l hr).0, on, f ∙ sym (numbered.inside a r l hr)))
 
 some_same : (a b : ℕ) → ◌≡◌ {A = Option ℕ} (Some a) (Some b) → a ≡ b
 some_same a b e = cc
@@ -225,21 +235,12 @@ pub all_marked : (numbers : List (Option ℕ)) (count upto : ℕ) (marks : Grid)
 all_marked numbers count upto marks l so = record { tall = so.tall; wide = so.wide; exact = λ part line m k. so.done part line m (omega arith) }
 
 -- the part of a column is one of the parts
-pub touched_number : (M : ℕ → ℕ → Bool) (i : ℕ) (rows : List ℕ) (parts : List (List ℕ)) (numbers part_with : List (Option ℕ)) (n : ℕ) → length part_with ≡ n → AreNumbered parts (length parts) numbers
-    → ((column : ℕ) → column < n → IsTouched M i rows numbers column (number_at part_with column)) → (column part : ℕ) → number_at part_with column ≡ Some part → part < length parts
-touched_number M i rows parts numbers part_with n long numbered all column part e = go (cases_lt column n)
+pub named_number : (M : ℕ → ℕ → Bool) (i : ℕ) (parts : List (List ℕ)) (count column part : ℕ) (found : Option ℕ) → IsNamed M i parts count column found → found ≡ Some part → part < count
+named_number M i parts count column part found so e = go so
   where
     clash : (a : ℕ) → ◌≡◌ {A = Option ℕ} None (Some a) → ⊥
     clash a e = cc
 
-    by_row : IsPartWith M rows numbers column (number_at part_with column) → part < length parts
-    by_row (inl h) = absurd (clash part (sym h.1 ∙ e))
-    by_row (inr h) = (numbered.only part h.0 (sym h.3 ∙ e)).0
-
-    here : IsTouched M i rows numbers column (number_at part_with column) → part < length parts
-    here (inl off) = absurd (clash part (sym off.1 ∙ e))
-    here (inr on) = by_row on.1
-
-    go : (column < n) ⊎ (n ≤ column) → part < length parts
-    go (inl l) = here (all column l)
-    go (inr l) = absurd (clash part (sym (get_or_past part_with column None (omega (arith, l, long))) ∙ e))
+    go : IsNamed M i parts count column found → part < count
+    go (inl h) = absurd (clash part (sym h.1 ∙ e))
+    go (inr (a, r, l, hr, off, on, f)) = let q : a ≡ part = some_same a part (sym f ∙ e) in omega arith

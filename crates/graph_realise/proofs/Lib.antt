@@ -24,3 +24,4 @@ pub mod JoinLemmas
 pub mod SearchLemmas
 pub mod OrderLemmas
 pub mod AllRows
+pub mod BlockLemmas

@@ -13,16 +13,18 @@ use Rattle.cmr_base.proofs.ListsWithout.{head_below, increasing_distinct, increa
 use Rattle.cmr_base.proofs.Members.{in_at}
 use Rattle.cmr_base.proofs.RowLists.{is_eq, is_ne, not_both, same_or_not}
 use Rattle.graph_realise.specs.Branches.{branch_at}
-use Rattle.graph_realise.specs.Joints.{AreInRows, AreMarks, AreOff, FitsJoint, IsArcJoined, IsJointOf, IsPartWith, by_part, end_of, hanging_of, number_at, part_or_first}
+use Rattle.graph_realise.specs.Joints.{AreInRows, AreMarks, AreOff, FitsJoint, IsArcJoined, IsClearBeside, IsJointOf, IsPartWith, IsTouched, by_part, end_of, hanging_of, number_at, part_or_first}
 use Rattle.graph_realise.specs.Merging.{DescribesParts, Hanging, KeepsCuts, hanging_by, heavier, merged_lies, merged_side, spot, turned_lies, turned_side}
 use Rattle.graph_realise.specs.Numbers.{AreDisjoint}
 use Rattle.graph_realise.specs.Searches.{AreWholeBelow, IsSplit}
-use Rattle.graph_realise.specs.SideTables.{side_in, end_in, KeepsOutside}
+use Rattle.graph_realise.specs.SideTables.{side_in, end_in, AreClear, KeepsOutside}
 use Rattle.graph_realise.specs.declared.arc_sides.ArcSides.{ArcSides}
 use Rattle.graph_realise.specs.declared.joint.Joint.{Joint}
 use Rattle.bridge_split.specs.declared.splitting.SplitRow.{SplitRow}
 use Rattle.graph_realise.proofs.NoCuts.{no_three}
 use Rattle.graph_realise.proofs.CutTables.{has_fewer, is_fewer, is_same}
+use Rattle.graph_realise.proofs.JoinLemmas.{clear_stays}
+use Rattle.graph_realise.proofs.JointLemmas.{named_touched}
 use Rattle.graph_realise.proofs.MergedTables.{keeps_after, keeps_own, merged_kept}
 use Rattle.graph_realise.proofs.SideLemmas.{keeps_row_trans}
 use Rattle.graph_realise.proofs.TableLemmas.{cell_past}
@@ -76,13 +78,17 @@ pub parts_in_rows : (M : ℕ → ℕ → Bool) (S : List ℕ) (i m : ℕ) (parts
 parts_in_rows M S i m parts all below a l k h = below (get_or (slice_index_or parts a []) k 0) (all.only a (get_or (slice_index_or parts a []) k 0) l (in_at (slice_index_or parts a []) k h)).0
 
 module _ (M : ℕ → ℕ → Bool) (m n : ℕ) (short : (r c : ℕ) → M r c ≡ true → c < n) (S : List ℕ) (below : (x : ℕ) → IsIn x S → x < m) (i : ℕ) (here : IsIn i S) (parts : List (List ℕ)) (all : AreParts M S i parts)
-    (ends : List ℕ) (fit : AreSides M i parts ends) (joint : Joint) (J : IsJointOf M m n S i parts ends joint) where
+    (ends : List ℕ) (fit : AreSides M i parts ends) (joint : Joint) (J : IsJointOf M m n i parts ends joint) where
   part : ℕ → ℕ
   part r = part_or_first (number_at joint.part_of.items r)
 
   -- a row but i has the number of its part
   numbered : (r : ℕ) → IsIn r S → r ≢ i → (a : ℕ) × (a < length parts) × IsIn r (slice_index_or parts a []) × (number_at joint.part_of.items r ≡ Some a)
   numbered r hr nr = let q = all.all r hr nr in (q.0, q.1, q.2, J.numbered.inside q.0 r q.1 q.2)
+
+  -- the part that is named for a column
+  touched_at : (c : ℕ) → IsTouched M i S joint.part_of.items c (number_at joint.part_with.items c)
+  touched_at c = named_touched M i parts S joint.part_of.items all J.numbered c (number_at joint.part_with.items c) (J.with_columns c)
 
   pub row_number : number_at joint.part_of.items i ≡ None
   row_number = go (number_at joint.part_of.items i) refl
@@ -112,7 +118,7 @@ module _ (M : ℕ → ℕ → Bool) (m n : ℕ) (short : (r c : ℕ) → M r c �
       touched_in column a e (inr h) = let l = (J.numbered.only a h.0 (sym h.3 ∙ e)).0 in let k = J.branches.many in omega arith
 
       by_column : (column a : ℕ) → number_at joint.part_with.items column ≡ Some a → (column < n) ⊎ (n ≤ column) → a < length joint.branches.items
-      by_column column a e (inl l) = elim (J.with_columns column l) [ inl off ↦ absurd (clash a (sym off.1 ∙ e)) | inr on ↦ touched_in column a e on.1 ]
+      by_column column a e (inl l) = elim (touched_at column) [ inl off ↦ absurd (clash a (sym off.1 ∙ e)) | inr on ↦ touched_in column a e on.1 ]
       by_column column a e (inr l) = absurd (clash a (sym (get_or_past joint.part_with.items column None (let k = J.columns in omega arith)) ∙ e))
 
       common_in : (a column : ℕ) → (branch_at joint.branches.items a).common ≡ Some column → (a < length parts) ⊎ (length parts ≤ a) → column < n
@@ -120,8 +126,8 @@ module _ (M : ℕ → ℕ → Bool) (m n : ℕ) (short : (r c : ℕ) → M r c �
       common_in a column e (inr l) = absurd (clash column (sym (ap (λ b. b.common) (get_or_past joint.branches.items a (record { end = false; weight = 0; common = None }) (let k = J.branches.many in omega arith))) ∙ e))
 
   -- no part is named for the row's own columns
-  pub named_off : ((c : ℕ) → M i c ≡ true → c < n) → AreOff M joint
-  named_off short_row c on = elim (J.with_columns c (short_row c (sym (ap (λ (r : ℕ). M r c) J.row) ∙ on))) [
+  pub named_off : AreOff M joint
+  named_off c on = elim (touched_at c) [
     | inl used ↦ used.1
     | inr with_part ↦ absurd (not_both (M i c) (sym (ap (λ (r : ℕ). M r c) J.row) ∙ on) with_part.0)
   ]
@@ -140,7 +146,7 @@ module _ (M : ℕ → ℕ → Bool) (m n : ℕ) (short : (r c : ℕ) → M r c �
     numbers = λ r hr nr. let q = numbered r hr nr in subst (λ (z : ℕ). (z < length parts) × IsIn r (slice_index_or parts z [])) (sym (ap part_or_first q.3)) (q.1, q.2);
     weights = λ a l. (J.branches.each a l).weight;
     shared = λ a. share a (cases_lt a (length parts));
-    columns = λ r c hr nr off on. elim (J.with_columns c (short r c on)) [ inl used ↦ absurd (not_both (M i c) used.0 off) | inr with_part ↦ column r c hr nr off on with_part.1 ];
+    columns = λ r c hr nr off on. elim (touched_at c) [ inl used ↦ absurd (not_both (M i c) used.0 off) | inr with_part ↦ column r c hr nr off on with_part.1 ];
   }
     where
       share : (a : ℕ) → (a < length parts) ⊎ (length parts ≤ a) → MatchOption (branch_at joint.branches.items a).common ((c : ℕ) → ¬ (IsCommon M i (slice_index_or parts a []) c)) (IsCommon M i (slice_index_or parts a []))
@@ -233,6 +239,42 @@ module _ (M : ℕ → ℕ → Bool) (m n : ℕ) (short : (r c : ℕ) → M r c �
             subst (λ (z : ℕ). KeepsCuts M i (slice_index_or parts z []) (side_in new) (end_in new)) (sym e)
             (keeps_own M i (slice_index_or parts a []) (side_in new) (end_in new) (is_fewer M (λ r. IsIn r T) (λ r. (r ≡ i) ⊎ IsIn r (slice_index_or parts a [])) (side_in new) (end_in new) list_with K))
 
+    -- beside the rows of this part and of earlier ones nothing lies
+    pub clear_more : (old new : ArcSides) → ((b r : ℕ) → b < a → IsIn r (slice_index_or parts b []) → IsClearBeside M joint old r) → KeepsOutside old new T → AreClear M T new
+        → (b r : ℕ) → b < a + 1 → IsIn r (slice_index_or parts b []) → IsClearBeside M joint new r
+    clear_more old new clear others own b r k hr = go (cases_lt b a)
+      where
+        outside : b < a → (r ≡ i) ⊎ IsIn r (slice_index_or parts a []) → ⊥
+        outside w (inl e) = (all.only b r (omega arith) hr).1 e
+        outside w (inr g) = let e = parts_disjoint M S i parts all b a r (omega arith) l hr g in absurd (omega arith)
+
+        in_own : a ≡ b → IsClearBeside M joint new r
+        in_own e = record {
+          arcs = λ s n o. own.arcs r s (list_with r (inr here_too)) (λ h. not_with s n o ((rows s).0 h));
+          ends = λ end c off o. own.ends end r c (list_with r (inr here_too)) (λ x hx. zero c off o x (M x c) refl (with_list x hx));
+        }
+          where
+            here_too : IsIn r (slice_index_or parts a [])
+            here_too = subst (λ (z : ℕ). IsIn r (slice_index_or parts z [])) (sym e) hr
+
+            of_part : (x : ℕ) → IsIn x (slice_index_or parts a []) → number_at joint.part_of.items x ≡ Some a
+            of_part x h = J.numbered.inside a x l h
+
+            not_with : (s : ℕ) → s ≢ joint.row → number_at joint.part_of.items s ≢ number_at joint.part_of.items r → (s ≡ joint.row) ⊎ (number_at joint.part_of.items s ≡ Some a) → ⊥
+            not_with s n o (inl q) = n q
+            not_with s n o (inr q) = o (q ∙ sym (of_part r here_too))
+
+            zero : (c : ℕ) → M joint.row c ≡ false → number_at joint.part_with.items c ≢ number_at joint.part_of.items r → (x : ℕ) (t : Bool) → M x c ≡ t → (x ≡ i) ⊎ IsIn x (slice_index_or parts a []) → M x c ≡ false
+            zero c off o x t f (inl q) = ap (λ (z : ℕ). M z c) (q ∙ sym J.row) ∙ off
+            zero c off o x false f (inr h) = f
+            zero c off o x true f (inr h) =
+                let q = all.only a x l h in
+                absurd (o (describes.columns x c q.0 q.1 (ap (λ (z : ℕ). M z c) (sym J.row) ∙ off) f ∙ ap (λ (z : Option ℕ). Some (part_or_first z)) (of_part x h) ∙ sym (of_part r here_too)))
+
+        go : (b < a) ⊎ (a ≤ b) → IsClearBeside M joint new r
+        go (inl w) = clear_stays M joint old new r (others r (λ g. outside w (with_list r g))) (clear b r w hr)
+        go (inr w) = in_own (omega arith)
+
     pub others_more : (first old new : ArcSides) → KeepsOutside first old S → KeepsOutside old new T → KeepsOutside first new S
     others_more first old new h k r n = keeps_row_trans first old new r (h r n) (k r (λ g. n (with_in_rows r g)))
 
@@ -247,7 +289,7 @@ module _ (M : ℕ → ℕ → Bool) (m n : ℕ) (short : (r c : ℕ) → M r c �
         pick (inl before) = inr (whole row before)
         pick (inr past) = inl (omega (arith, low))
 
-  module _ (old new : ArcSides) (wide : new.first.width ≡ n) (wide_last : new.last.width ≡ n) (old_wide : old.first.width ≡ n) (old_arcs : old.arcs.width ≡ m)
+  module _ (old new : ArcSides) (wide : new.first.width ≡ n) (wide_last : new.last.width ≡ n) (new_arcs : new.arcs.width ≡ m) (old_wide : old.first.width ≡ n) (old_arcs : old.arcs.width ≡ m)
       (K : (a : ℕ) → a < length parts → KeepsCuts M i (slice_index_or parts a []) (side_in old) (end_in old)) (joined : (r : ℕ) → IsIn r S → IsArcJoined M joint old new r) where
     cuts : IsCuts M (λ r. IsIn r S) (merged_side M i (hanging_of joint) (turned_side i (side_in old))) (merged_lies M i (hanging_of joint) (turned_lies i (side_in old) (end_in old)))
     cuts = subst (λ (h : Hanging). IsCuts M (λ r. IsIn r S) (merged_side M i h (turned_side i (side_in old))) (merged_lies M i h (turned_lies i (side_in old) (end_in old)))) hanging_is
@@ -300,6 +342,36 @@ module _ (M : ℕ → ℕ → Bool) (m n : ℕ) (short : (r c : ℕ) → M r c �
 
     pub joined_cuts : IsCuts M (λ r. IsIn r S) (side_in new) (end_in new)
     joined_cuts = is_same M (λ r. IsIn r S) (merged_side M i (hanging_of joint) (turned_side i (side_in old))) (side_in new) (merged_lies M i (hanging_of joint) (turned_lies i (side_in old) (end_in old))) (end_in new) sides tips cuts
+
+    -- beside all rows nothing lies
+    pub joined_clear : AreClear M S new
+    joined_clear = record {
+      arcs = λ r s hr n. beside r s hr n (cases_lt s m);
+      ends = λ end r c hr none. tips end r c hr ∙ away end r c (none i here) (unnamed c none (touched_at c)) (same_or_not r i);
+    }
+      where
+        no_part : (s : ℕ) → ¬ (IsIn s S) → (o : Option ℕ) → number_at joint.part_of.items s ≡ o → number_at joint.part_of.items s ≡ None
+        no_part s n None e = e
+        no_part s n (Some a) e = let q = J.numbered.only a s e in absurd (n (all.only a s q.0 q.1).0)
+
+        in_none : (r : ℕ) (within t : Bool) → (if t then end_of joint None else by_part M joint r within None) ≡ false
+        in_none r within true = refl
+        in_none r within false = refl
+
+        beside : (r s : ℕ) → IsIn r S → ¬ (IsIn s S) → (s < m) ⊎ (m ≤ s) → side_in new r s ≡ false
+        beside r s hr n (inl l) = (joined r hr).arcs s (omega arith)
+            ∙ ap (λ (o : Option ℕ). if r == joint.row then end_of joint o else by_part M joint r (turned_side joint.row (side_in old) r s) o) (no_part s n (number_at joint.part_of.items s) refl)
+            ∙ in_none r (turned_side joint.row (side_in old) r s) (r == joint.row)
+        beside r s hr n (inr l) = cell_past new.arcs r s (omega arith)
+
+        unnamed : (c : ℕ) → ((x : ℕ) → IsIn x S → M x c ≡ false) → IsTouched M i S joint.part_of.items c (number_at joint.part_with.items c) → number_at joint.part_with.items c ≡ None
+        unnamed c none (inl h) = h.1
+        unnamed c none (inr (off, inl h)) = h.1
+        unnamed c none (inr (off, inr (x, hx, on, e))) = absurd (not_both (M x c) on (none x hx))
+
+        away : (end : Bool) (r c : ℕ) → M i c ≡ false → number_at joint.part_with.items c ≡ None → (r ≡ i) ⊎ (r ≢ i) → merged_lies M i (hanging_of joint) (turned_lies i (side_in old) (end_in old)) end r c ≡ false
+        away end r c off none (inl a) = rw (is_eq r i a, off, none) refl
+        away end r c off none (inr a) = rw (is_ne r i a, off, none) refl
 
 -- a column with three nonzeros and no row that splits
 pub some_three : (M : ℕ → ℕ → Bool) (S : List ℕ) → ¬ (HasNoThree M S) → ((row : ℕ) → ¬ (Splits M S row)) → ¬ (HasCuts M (λ r. IsIn r S))

@@ -1,13 +1,12 @@
 -- Loops that write the sides of arcs.
-use Rattle.std.proofs.Common.{◌≡◌, ◌≢◌, ◌<◌, ◌≤◌, ◌+◌, ◌∙◌, ℕ, suc, zero, Bool, true, false, cond, List, length, get_or, sym, ap, refl, subst, arith, ◌⊎◌, inl, inr}
+use Rattle.std.proofs.Common.{◌≡◌, ◌≢◌, ◌<◌, ◌≤◌, ◌+◌, ◌∙◌, ℕ, suc, zero, List, length, get_or, sym, ap, refl, subst, arith, ◌⊎◌, inl, inr}
 use Rattle.std.specs.List.Sorted.{IsStrictlyIncreasing}
 use Rattle.std.proofs.lemmas.Bool.{cases_lt}
 use Rattle.cmr_base.specs.Members.{IsIn}
 use Rattle.cmr_base.proofs.Members.{in_at}
 use Rattle.cmr_base.proofs.RowLists.{same_or_not}
 use Rattle.cmr_base.proofs.Places.{found_at}
-use Rattle.graph_realise.specs.Tables.{Grid, cell, IsRowFilled, KeepsOtherRows}
-use Rattle.graph_realise.specs.SideTables.{end_in, KeepsRow, KeepsOthers, KeepsOutside, AreEndsFilled, AreEndsSet, AreRedrawn}
+use Rattle.graph_realise.specs.SideTables.{KeepsRow, KeepsOthers, KeepsOutside, AreRedrawn}
 use Rattle.graph_realise.specs.declared.arc_sides.ArcSides.{ArcSides}
 
 pub keeps_row_trans : (a b c : ArcSides) (row : ℕ) → KeepsRow a b row → KeepsRow b c row → KeepsRow a c row
@@ -18,39 +17,6 @@ keeps_row_trans a b c row h k = record {
 
 pub keeps_row_same : (a : ArcSides) (row : ℕ) → KeepsRow a a row
 keeps_row_same a row = record { arcs = λ other. refl; ends = λ end column. refl }
-
--- ---- the ends of columns
-
-pub ends_none : (ends : Bool → ℕ → Bool) (sides : ArcSides) (row : ℕ) → AreEndsFilled ends sides sides row 0
-ends_none ends sides row = record {
-  others = λ r n. keeps_row_same sides r;
-  arcs = λ other. refl;
-  done = λ end column l. absurd (omega arith);
-  left = λ end column l. refl;
-}
-
-pub ends_more : (ends : Bool → ℕ → Bool) (old now new : ArcSides) (row column : ℕ) (first last : Bool) → AreEndsFilled ends old now row column → AreEndsSet now new row column first last
-    → first ≡ ends true column → last ≡ ends false column → AreEndsFilled ends old new row (column + 1)
-ends_more ends old now new row column first last so s e f = record {
-  others = λ r n. keeps_row_trans old now new r (so.others r n) (s.others r n);
-  arcs = λ other. s.arcs other ∙ so.arcs other;
-  done = λ end c l. pick end c (cases_lt c column) l;
-  left = λ end c l. s.columns end c (above c l) ∙ so.left end c (omega arith);
-}
-  where
-    above : (c : ℕ) → column + 1 ≤ c → c ≢ column
-    above c l e = omega arith
-
-    before : (c : ℕ) → c < column → c ≢ column
-    before c l e = omega arith
-
-    both : (end : Bool) → cond end first last ≡ ends end column
-    both true = e
-    both false = f
-
-    pick : (end : Bool) (c : ℕ) → (c < column) ⊎ (column ≤ c) → c < column + 1 → end_in new end row c ≡ ends end c
-    pick end c (inl l) k = s.columns end c (before c l) ∙ so.done end c l
-    pick end c (inr l) k = let q : c ≡ column = omega arith in ap (end_in new end row) q ∙ s.here end ∙ both end ∙ ap (ends end) (sym q)
 
 -- ---- the rows of a list
 
@@ -81,14 +47,6 @@ redrawn_all P rows count old new le so r h = let q = found_at rows r h in let l 
 
 pub redrawn_others : (P : ℕ → ArcSides → Type 0) (rows : List ℕ) (count : ℕ) (old new : ArcSides) → count ≤ length rows → AreRedrawn P rows count old new → KeepsOutside old new rows
 redrawn_others P rows count old new le so r h = so.kept r (λ k l e. h (subst (λ (x : ℕ). IsIn x rows) e (in_at rows k (omega arith))))
-
--- the arcs' table changed in one row
-pub arcs_changed : (old : ArcSides) (arcs : Grid) (row : ℕ) → KeepsOtherRows old.arcs arcs row → KeepsOthers old (record { arcs = arcs; first = old.first; last = old.last }) row
-arcs_changed old arcs row k r n = record { arcs = λ other. k.others r other n; ends = λ end column. refl }
-
--- all cells of a filled row
-pub filled_all : (values : ℕ → Bool) (old new : Grid) (row : ℕ) → IsRowFilled values old new row old.width → (column : ℕ) → column < old.width → cell new row column ≡ values column
-filled_all values old new row f column l = f.done column l l
 
 rises : (rows : List ℕ) (count : ℕ) → IsStrictlyIncreasing rows → count < length rows → (k : ℕ) → k < count → get_or rows k 0 < get_or rows count 0
 rises rows zero rising l k m = absurd (omega arith)

@@ -9,7 +9,7 @@ use Rattle.cmr_base.proofs.Members.{in_at}
 use Rattle.cmr_base.proofs.RowLists.{not_both, is_eq, is_ne, same_or_not}
 use Rattle.std.proofs.lemmas.Bool.{cases_lt}
 use Rattle.graph_realise.specs.Tables.{IsRowFilled}
-use Rattle.graph_realise.specs.SideTables.{side_in, end_in, KeepsOthers, KeepsRow}
+use Rattle.graph_realise.specs.SideTables.{side_in, end_in, AreClear, KeepsOthers, KeepsRow}
 use Rattle.graph_realise.proofs.TableLemmas.{cell_past}
 use Rattle.graph_realise.specs.Rays.{is_first, star_end, AreSeen, IsRay, IsRayAfter}
 use Rattle.graph_realise.specs.declared.arc_sides.ArcSides.{ArcSides}
@@ -55,6 +55,12 @@ ray_same M rows r a b k h = record {
 pub rays_cuts : (M : ℕ → ℕ → Bool) (rows : List ℕ) (sides : ArcSides) → HasNoThree M rows → ((r : ℕ) → IsIn r rows → IsRay M rows r sides) → IsCuts M (λ r. IsIn r rows) (side_in sides) (end_in sides)
 rays_cuts M rows sides none rays = is_same M (λ r. IsIn r rows) (λ r s. false) (side_in sides) (star_lies M rows) (end_in sides)
     (λ r s hr hs n. (rays r hr).arcs s) (λ end r c hr. (rays r hr).ends end c ∙ end_is M rows r end c hr) (star_is M rows none)
+
+pub rays_clear : (M : ℕ → ℕ → Bool) (rows : List ℕ) (sides : ArcSides) → ((r : ℕ) → IsIn r rows → IsRay M rows r sides) → AreClear M rows sides
+rays_clear M rows sides rays = record {
+  arcs = λ r s hr n. (rays r hr).arcs s;
+  ends = λ end r c hr none. (rays r hr).ends end c ∙ ap (λ t. t && (if end then is_first M rows r c else not (is_first M rows r c))) (none r hr);
+}
 
 -- ---- the columns that were seen
 

@@ -1,14 +1,13 @@
 -- A row and the parts of the others: what is known of them, and the tree that they make.
-use Rattle.std.specs.Prelude.{◌≡◌, ◌<◌, ◌≤◌, ◌⊎◌, ◌==◌, ◌&&◌, ◌||◌, not, nat_lt, if◌then◌else◌, ℕ, Bool, true, false, List, [], length, slice_index, slice_index_or, Option, Some, None}
+use Rattle.std.specs.Prelude.{◌≡◌, ◌≢◌, ◌<◌, ◌≤◌, ◌⊎◌, ◌==◌, ◌&&◌, ◌||◌, not, nat_lt, if◌then◌else◌, ℕ, Bool, true, false, List, [], length, slice_index, slice_index_or, Option, Some, None}
 use Rattle.cmr_base.specs.Cuts.{differ}
 use Rattle.cmr_base.specs.LineSets.{AllBelow}
 use Rattle.cmr_base.specs.Members.{IsIn}
-use Rattle.cmr_base.specs.ColumnSets.{has_column}
 pub use Rattle.bridge_split.specs.PartNumbers.{number_at, is_number as is_part}
 use Rattle.graph_realise.specs.Branches.{AreBranches, branch_at}
 use Rattle.graph_realise.specs.Merging.{Hanging, heavier, spot, merged_lies, turned_side, turned_lies}
 use Rattle.graph_realise.specs.SideTables.{side_in, end_in, IsArcChanged}
-use Rattle.graph_realise.specs.Tables.{Grid, cell}
+use Rattle.graph_realise.specs.Tables.{AreBlocksOf, Grid, cell}
 use Rattle.graph_realise.specs.declared.arc_sides.ArcSides.{ArcSides}
 use Rattle.graph_realise.specs.declared.joint.Joint.{Joint}
 
@@ -44,13 +43,16 @@ IsPartWith M rows numbers column found =
 abbrev pub IsTouched : (ℕ → ℕ → Bool) → ℕ → List ℕ → List (Option ℕ) → ℕ → Option ℕ → Type 0
 IsTouched M i rows numbers column found = ((M i column ≡ true) × (found ≡ None)) ⊎ ((M i column ≡ false) × IsPartWith M rows numbers column found)
 
--- in the middle of the rows: the columns of row i and of those before a place were passed, and each of them has its part
-pub record IsPassing (M : ℕ → ℕ → Bool) (n i : ℕ) (rows : List ℕ) (part_of : List (Option ℕ)) (passed : List ℕ) (numbers : List (Option ℕ)) (place : ℕ) : Type 0 where
-  pub size : length numbers ≡ n
-  pub none : (column : ℕ) → has_column passed column ≡ false → number_at numbers column ≡ None
-  pub some : (column : ℕ) → has_column passed column ≡ true → IsTouched M i rows part_of column (number_at numbers column)
-  pub own : (column : ℕ) → M i column ≡ true → has_column passed column ≡ true
-  pub from : (p column : ℕ) → p < place → M (slice_index rows p) column ≡ true → has_column passed column ≡ true
+-- the number of some of the first parts with a row that is not 0 in a column in which row i is 0, unless there is none
+abbrev pub IsNamed : (ℕ → ℕ → Bool) → ℕ → List (List ℕ) → ℕ → ℕ → Option ℕ → Type 0
+IsNamed M i parts count column found =
+    (((a r : ℕ) → a < count → IsIn r (slice_index_or parts a []) → M i column ≡ false → M r column ≡ false) × (found ≡ None))
+    ⊎ ((a : ℕ) × (r : ℕ) × (a < count) × IsIn r (slice_index_or parts a []) × (M i column ≡ false) × (M r column ≡ true) × (found ≡ Some a))
+
+-- the columns of the rows before a place in which row i is 0
+pub record AreOfRows (M : ℕ → ℕ → Bool) (i : ℕ) (rows : List ℕ) (place : ℕ) (columns : ℕ → Bool) : Type 0 where
+  pub into : (column : ℕ) → columns column ≡ true → (M i column ≡ false) × ((p : ℕ) × (p < place) × (M (slice_index rows p) column ≡ true))
+  pub from : (p column : ℕ) → p < place → M i column ≡ false → M (slice_index rows p) column ≡ true → columns column ≡ true
 
 -- a table with a line for each part, which marks the lines with its number
 pub record AreMarks (numbers : List (Option ℕ)) (count : ℕ) (marks : Grid) : Type 0 where
@@ -59,13 +61,14 @@ pub record AreMarks (numbers : List (Option ℕ)) (count : ℕ) (marks : Grid) :
   pub exact : (part line : ℕ) → part < count → line < length numbers → cell marks part line ≡ is_part part (number_at numbers line)
 
 -- all of it, for a matrix of these sizes
-pub record IsJointOf (M : ℕ → ℕ → Bool) (m n : ℕ) (S : List ℕ) (i : ℕ) (parts : List (List ℕ)) (ends : List ℕ) (joint : Joint) : Type 0 where
+pub record IsJointOf (M : ℕ → ℕ → Bool) (m n i : ℕ) (parts : List (List ℕ)) (ends : List ℕ) (joint : Joint) : Type 0 where
   pub row : joint.row ≡ i
   pub rows : length joint.part_of.items ≡ m
   pub columns : length joint.part_with.items ≡ n
   pub numbered : AreNumbered parts (length parts) joint.part_of.items
   pub branches : AreBranches M n i parts ends (length parts) joint.branches.items
-  pub with_columns : (column : ℕ) → column < n → IsTouched M i S joint.part_of.items column (number_at joint.part_with.items column)
+  pub with_columns : (column : ℕ) → IsNamed M i parts (length parts) column (number_at joint.part_with.items column)
+  pub own_blocks : AreBlocksOf (M i) n joint.row_blocks
   pub row_marks : AreMarks joint.part_of.items (length parts) joint.row_marks
   pub column_marks : AreMarks joint.part_with.items (length parts) joint.column_marks
   pub few : length parts ≤ 1000
@@ -94,6 +97,11 @@ pub record IsLineFor (joint : Joint) (sides : ArcSides) (arc part : ℕ) : Type 
   pub columns_wide : joint.column_marks.width ≡ sides.first.width
   pub ends_wide : sides.last.width ≡ sides.first.width
 
+-- beside its part and the row, arc r has nothing on its side `true`
+pub record IsClearBeside (M : ℕ → ℕ → Bool) (joint : Joint) (sides : ArcSides) (r : ℕ) : Type 0 where
+  pub arcs : (s : ℕ) → s ≢ joint.row → number_at joint.part_of.items s ≢ number_at joint.part_of.items r → side_in sides r s ≡ false
+  pub ends : (end : Bool) (c : ℕ) → M joint.row c ≡ false → number_at joint.part_with.items c ≢ number_at joint.part_of.items r → end_in sides end r c ≡ false
+
 -- no part is named for a column that the row has
 abbrev pub AreOff : (ℕ → ℕ → Bool) → Joint → Type 0
 AreOff M joint = (column : ℕ) → M joint.row column ≡ true → number_at joint.part_with.items column ≡ None
@@ -102,6 +110,20 @@ AreOff M joint = (column : ℕ) → M joint.row column ≡ true → number_at jo
 abbrev pub end_of : Joint → Option ℕ → Bool
 end_of joint None = false
 end_of joint (Some part) = (branch_at joint.branches.items part).end
+
+-- whether it is one of the first parts for which a test holds
+abbrev pub is_chosen : (ℕ → Bool) → ℕ → Option ℕ → Bool
+is_chosen test count None = false
+is_chosen test count (Some part) = nat_lt part count && test part
+
+-- the first parts for which a test holds are put on the side true of arc r
+abbrev pub AreChosen : Joint → (ℕ → Bool) → ℕ → ℕ → ArcSides → ArcSides → Type 0
+AreChosen joint test r count old new =
+    IsArcChanged (λ other. side_in old r other || is_chosen test count (number_at joint.part_of.items other)) (λ end column. end_in old end r column || is_chosen test count (number_at joint.part_with.items column)) old new r
+
+-- the end of the row's arc where a part is is the first one
+abbrev pub is_at_first : Joint → ℕ → Bool
+is_at_first joint part = (branch_at joint.branches.items part).end
 
 module _ (M : ℕ → ℕ → Bool) (joint : Joint) where
   -- the side of arc r where a part is, which has the value `within` where it is the part of r
@@ -116,8 +138,7 @@ module _ (M : ℕ → ℕ → Bool) (joint : Joint) where
 
   -- whether one of the first parts but arc r's own hangs on the side true of it
   abbrev pub hung : ℕ → ℕ → ℕ → Option ℕ → Bool
-  hung r own count None = false
-  hung r own count (Some part) = nat_lt part count && (not (part == own) && spot M joint.row (hanging_of joint) r part)
+  hung r own count part = is_chosen (λ p. not (p == own) && spot M joint.row (hanging_of joint) r p) count part
 
   -- the first parts but arc r's own are on the side of it where they hang
   abbrev pub AreHung : ℕ → ℕ → ℕ → ArcSides → ArcSides → Type 0

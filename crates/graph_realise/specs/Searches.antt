@@ -4,14 +4,19 @@ use Rattle.cmr_base.specs.Cuts.{IsCuts, HasCuts}
 use Rattle.cmr_base.specs.Members.{IsIn}
 use Rattle.cmr_base.specs.Splits.{AreParts, Splits}
 use Rattle.bridge_split.specs.declared.splitting.SplitRow.{SplitRow}
-use Rattle.graph_realise.specs.SideTables.{side_in, end_in}
+use Rattle.graph_realise.specs.SideTables.{AreClear, side_in, end_in}
 use Rattle.graph_realise.specs.declared.arc_sides.ArcSides.{ArcSides}
 use Rattle.graph_realise.specs.declared.side_search.TreeSearch.{TreeSearch}
 use Rattle.graph_realise.specs.declared.side_search.TreeSearch.TheVariants.{Found, NoTree}
 
+-- the sides of a tree's arcs, with nothing else on their sides `true`
+pub record AreTreeSides (M : ℕ → ℕ → Bool) (S : List ℕ) (sides : ArcSides) : Type 0 where
+  pub cuts : IsCuts M (λ r. IsIn r S) (side_in sides) (end_in sides)
+  pub clear : AreClear M S sides
+
 -- a tree in the tables, or none at all
 abbrev pub IsSearch : (ℕ → ℕ → Bool) → List ℕ → ArcSides → TreeSearch → Type 0
-IsSearch M S sides Found = IsCuts M (λ r. IsIn r S) (side_in sides) (end_in sides)
+IsSearch M S sides Found = AreTreeSides M S sides
 IsSearch M S sides NoTree = ¬ (HasCuts M (λ r. IsIn r S))
 
 -- no row below a number splits the others

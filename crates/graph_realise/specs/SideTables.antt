@@ -1,5 +1,5 @@
 -- The sides of arcs as tables.
-use Rattle.std.specs.Prelude.{◌≡◌, ◌≢◌, ◌<◌, ◌≤◌, ℕ, Bool, cond, List, slice_index}
+use Rattle.std.specs.Prelude.{◌≡◌, ◌≢◌, ◌<◌, ℕ, Bool, false, cond, List, slice_index}
 use Rattle.cmr_base.specs.Matrix.{Matrix, height}
 use Rattle.cmr_base.specs.Members.{IsIn}
 use Rattle.graph_realise.specs.Tables.{cell}
@@ -35,12 +35,10 @@ KeepsOthers old new row = (r : ℕ) → r ≢ row → KeepsRow old new r
 abbrev pub KeepsOutside : ArcSides → ArcSides → List ℕ → Type 0
 KeepsOutside old new rows = (r : ℕ) → ¬ (IsIn r rows) → KeepsRow old new r
 
--- one arc has these ends of the first columns on its sides, so many of them
-pub record AreEndsFilled (ends : Bool → ℕ → Bool) (old new : ArcSides) (row count : ℕ) : Type 0 where
-  pub others : KeepsOthers old new row
-  pub arcs : (other : ℕ) → side_in new row other ≡ side_in old row other
-  pub done : (end : Bool) (column : ℕ) → column < count → end_in new end row column ≡ ends end column
-  pub left : (end : Bool) (column : ℕ) → count ≤ column → end_in new end row column ≡ end_in old end row column
+-- beside the rows of a list and their columns, the arcs of these rows have nothing on their sides `true`
+pub record AreClear (M : ℕ → ℕ → Bool) (S : List ℕ) (sides : ArcSides) : Type 0 where
+  pub arcs : (r s : ℕ) → IsIn r S → ¬ (IsIn s S) → side_in sides r s ≡ false
+  pub ends : (end : Bool) (r c : ℕ) → IsIn r S → ((x : ℕ) → IsIn x S → M x c ≡ false) → end_in sides end r c ≡ false
 
 -- one arc has these sides of the arcs and of the ends of columns
 pub record IsArcChanged (arcs : ℕ → Bool) (ends : Bool → ℕ → Bool) (old new : ArcSides) (row : ℕ) : Type 0 where
@@ -48,14 +46,6 @@ pub record IsArcChanged (arcs : ℕ → Bool) (ends : Bool → ℕ → Bool) (ol
   pub others : KeepsOthers old new row
   pub to_arcs : (other : ℕ) → other < old.arcs.width → side_in new row other ≡ arcs other
   pub to_ends : (end : Bool) (column : ℕ) → column < old.first.width → end_in new end row column ≡ ends end column
-
--- the ends of one column are changed
-pub record AreEndsSet (old new : ArcSides) (row column : ℕ) (first last : Bool) : Type 0 where
-  pub sizes : (m : Matrix) → AreTablesOf m old → AreTablesOf m new
-  pub others : KeepsOthers old new row
-  pub arcs : (other : ℕ) → side_in new row other ≡ side_in old row other
-  pub here : (end : Bool) → end_in new end row column ≡ cond end first last
-  pub columns : (end : Bool) (c : ℕ) → c ≢ column → end_in new end row c ≡ end_in old end row c
 
 -- each of the first rows of a list has a property, so many of them, and the others are the same
 pub record AreRedrawn (P : ℕ → ArcSides → Type 0) (rows : List ℕ) (count : ℕ) (old new : ArcSides) : Type 0 where

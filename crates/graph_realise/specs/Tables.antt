@@ -1,5 +1,7 @@
 -- Tables of truth values, whose rows are words of bits.
-use Rattle.std.specs.Prelude.{◌≡◌, ◌≢◌, ◌<◌, ◌≤◌, ◌+◌, ◌*◌, ◌/◌, ℕ, Bool, false, cond, nat_lt, List}
+use Rattle.std.specs.Prelude.{◌≡◌, ◌≢◌, ◌<◌, ◌≤◌, ◌+◌, ◌*◌, ◌/◌, ℕ, Bool, true, false, cond, nat_lt, List, length, slice_index}
+use Rattle.std.specs.List.Sorted.{IsStrictlyIncreasing}
+use Rattle.cmr_base.specs.Members.{IsIn}
 use Rattle.cmr_base.specs.MatrixLayout.{is_in}
 use Rattle.cmr_base.specs.Planes.{has_bit, words_for}
 
@@ -29,6 +31,18 @@ pub record IsWordSet (old new : Grid) (row block word : ℕ) : Type 0 where
   pub rows : KeepsOtherRows old new row
   pub here : (k : ℕ) → k < 64 → 64 * block + k < old.width → cell new row (64 * block + k) ≡ has_bit word k
   pub others : (c : ℕ) → c / 64 ≢ block → cell new row c ≡ cell old row c
+
+-- a rising list of blocks of columns that has those of all columns of a set
+pub record AreBlocksOf (columns : ℕ → Bool) (width : ℕ) (blocks : List ℕ) : Type 0 where
+  pub rising : IsStrictlyIncreasing blocks
+  pub inside : (k : ℕ) → k < length blocks → 64 * slice_index blocks k < width
+  pub all : (column : ℕ) → columns column ≡ true → IsIn (column / 64) blocks
+
+-- the columns of one row in the first blocks of a list have the values of a function, so many of them
+pub record AreBlocksFilled (values : ℕ → Bool) (old new : Grid) (row : ℕ) (blocks : List ℕ) (count : ℕ) : Type 0 where
+  pub rows : KeepsOtherRows old new row
+  pub done : (k column : ℕ) → k < count → column / 64 ≡ slice_index blocks k → column < old.width → cell new row column ≡ values column
+  pub left : (column : ℕ) → ((k : ℕ) → k < count → column / 64 ≢ slice_index blocks k) → cell new row column ≡ cell old row column
 
 -- the first columns of one row have the values of a function, so many of them
 pub record IsRowFilled (values : ℕ → Bool) (old new : Grid) (row count : ℕ) : Type 0 where

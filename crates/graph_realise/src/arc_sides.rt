@@ -1,6 +1,6 @@
 // The sides of the arcs of a tree.
-ghost use Rattle.std.specs.Prelude.{◌<◌, IfOk};
-ghost use Rattle.graph_realise.specs.SideTables.{AreEndsSet, AreTablesOf};
+ghost use Rattle.std.specs.Prelude.{IfOk};
+ghost use Rattle.graph_realise.specs.SideTables.{AreTablesOf};
 
 use crate::table::Table;
 use cmr_base::{Matrix, Memory};
@@ -26,17 +26,5 @@ impl ArcSides {
             first: Table::new(alloc, rows, columns)?,
             last: Table::new(alloc, rows, columns)?,
         })
-    }
-
-    /// Puts the ends of a column on these sides of an arc.
-    pub fn set_ends(&mut self, row: u32, column: u32, first: bool, last: bool)
-        requires first_row { row < self.old.first.height }
-        requires first_column { column < self.old.first.width }
-        requires last_row { row < self.old.last.height }
-        requires last_column { column < self.old.last.width }
-        ensures { AreEndsSet self.old self.new row column first last }
-    {
-        self.first.set(row, column, first);
-        self.last.set(row, column, last);
     }
 }

@@ -1,19 +1,18 @@
 // The tree that the parts at a row make.
-ghost use Rattle.std.specs.Prelude.{◌≡◌, ◌≢◌, ◌<◌, ◌==◌, ◌&&◌, ◌||◌, not, ltb, ℕ, Some, None, length};
+ghost use Rattle.std.specs.Prelude.{◌≡◌, ◌≢◌, ◌<◌, ◌==◌, ◌&&◌, ◌||◌, not, ltb, ℕ, false, Some, None, length};
 ghost use Rattle.cmr_base.specs.Cuts.{differ};
 ghost use Rattle.cmr_base.specs.LineSets.{AllBelow};
 ghost use Rattle.cmr_base.specs.Matrix.{height};
 ghost use Rattle.cmr_base.specs.Members.{IsIn};
 ghost use Rattle.cmr_base.specs.Trees.{support};
-ghost use Rattle.graph_realise.specs.Joints.{AreHung, AreOff, FitsJoint, IsArcJoined, IsLineFor, end_of, hanging_of, is_used, number_at};
+ghost use Rattle.graph_realise.specs.Joints.{AreChosen, AreHung, AreOff, FitsJoint, IsArcJoined, IsClearBeside, IsLineFor, hanging_of, is_at_first, is_used, number_at};
 ghost use Rattle.graph_realise.specs.Merging.{spot};
 ghost use Rattle.graph_realise.specs.SideTables.{AreTablesOf, IsArcChanged, KeepsOthers, KeepsOutside, side_in, end_in};
-ghost use Rattle.graph_realise.specs.Tables.{cell, IsRowFilled};
+ghost use Rattle.graph_realise.specs.Tables.{cell, AreBlocksOf, IsRowFilled};
 
 use crate::arc_sides::ArcSides;
 use crate::branches::Branch;
 use crate::joint::Joint;
-use crate::table::Table;
 use cmr_base::{Indices, Matrix};
 
 /// Makes one tree of the trees of the row with each part. All arcs of a part are turned so that the row's arc is on their
@@ -23,7 +22,9 @@ pub fn join(matrix: &Matrix, rows: &Indices, joint: &Joint, sides: &mut ArcSides
     requires joint { FitsJoint (height matrix.now) matrix.now.width joint.now }
     requires numbered { (r : ℕ) → IsIn r rows.now → r ≢ joint.now.row → number_at joint.now.part_of.items r ≢ None }
     requires off { AreOff (support matrix.now) joint.now }
+    requires blocks { AreBlocksOf (support matrix.now joint.now.row) matrix.now.width joint.now.row_blocks }
     requires tables { AreTablesOf matrix.now sides.old }
+    requires clear { (r : ℕ) → IsIn r rows.now → r ≢ joint.now.row → IsClearBeside (support matrix.now) joint.now sides.old r }
     ensures tables { AreTablesOf matrix.now sides.new }
     ensures joined { (r : ℕ) → IsIn r rows.now → IsArcJoined (support matrix.now) joint.now sides.old sides.new r }
     ensures others { KeepsOutside sides.old sides.new rows.now }
@@ -37,49 +38,57 @@ pub fn join(matrix: &Matrix, rows: &Indices, joint: &Joint, sides: &mut ArcSides
     }
 }
 
-// The arc of the row itself.
+// The arc of the row itself: the parts at its first end lie on its side `true`, and so do the first ends of its columns.
 fn join_row(matrix: &Matrix, joint: &Joint, sides: &mut ArcSides)
     requires joint { FitsJoint (height matrix.now) matrix.now.width joint.now }
+    requires off { AreOff (support matrix.now) joint.now }
+    requires blocks { AreBlocksOf (support matrix.now joint.now.row) matrix.now.width joint.now.row_blocks }
     requires tables { AreTablesOf matrix.now sides.old }
     ensures tables { AreTablesOf matrix.now sides.new }
     ensures joined { IsArcJoined (support matrix.now) joint.now sides.old sides.new joint.now.row }
     ensures others { KeepsOthers sides.old sides.new joint.now.row }
 {
-    join_row_to_arcs(joint, &mut sides.arcs);
-    for column in 0..matrix.columns() {
-        if matrix.is_nonzero(joint.row, column) {
-            sides.set_ends(joint.row, column, true, false);
-        } else {
-            let end = end_of(joint, joint.part_with[column as usize]);
-            sides.set_ends(joint.row, column, end, end);
+    clear_arc(joint.row, sides);
+    add_parts_at_first(matrix, joint, sides);
+    add_first_ends(matrix, joint, sides);
+}
+
+fn clear_arc(arc: u32, sides: &mut ArcSides)
+    requires arcs { arc < sides.old.arcs.height }
+    requires first { arc < sides.old.first.height }
+    requires last { arc < sides.old.last.height }
+    requires wide { sides.old.last.width ≡ sides.old.first.width }
+    ensures { IsArcChanged (λ other. false) (λ end column. false) sides.old sides.new arc }
+{
+    sides.arcs.clear(arc);
+    sides.first.clear(arc);
+    sides.last.clear(arc);
+}
+
+// Puts the parts at the first end of the row's arc on its side `true`.
+fn add_parts_at_first(matrix: &Matrix, joint: &Joint, sides: &mut ArcSides)
+    requires joint { FitsJoint (height matrix.now) matrix.now.width joint.now }
+    requires tables { AreTablesOf matrix.now sides.old }
+    ensures { AreChosen joint.now (is_at_first joint.now) joint.now.row (length joint.now.branches.items) sides.old sides.new }
+{
+    let _rows = matrix.rows();
+    for part in 0..joint.branches.len() {
+        if joint.branches[part].end {
+            add_part(joint, joint.row, part, sides);
         }
     }
 }
 
-fn join_row_to_arcs(joint: &Joint, arcs: &mut Table)
-    requires rows { length joint.now.part_of.items ≡ arcs.old.width }
-    requires row { joint.now.row < arcs.old.height }
-    requires parts { (row a : ℕ) → number_at joint.now.part_of.items row ≡ Some a → a < length joint.now.branches.items }
-    ensures { IsRowFilled (λ other. end_of joint.now (number_at joint.now.part_of.items other)) arcs.old arcs.new joint.now.row arcs.old.width }
+// Puts the first ends of the row's columns on the side `true` of its arc.
+fn add_first_ends(matrix: &Matrix, joint: &Joint, sides: &mut ArcSides)
+    requires row { joint.now.row < height matrix.now }
+    requires blocks { AreBlocksOf (support matrix.now joint.now.row) matrix.now.width joint.now.row_blocks }
+    requires tables { AreTablesOf matrix.now sides.old }
+    ensures { IsArcChanged (λ other. side_in sides.old joint.now.row other) (λ end column. end_in sides.old end joint.now.row column || (end && support matrix.now joint.now.row column)) sides.old sides.new joint.now.row }
 {
-    for other in 0..arcs.width() {
-        arcs.set(
-            joint.row,
-            other,
-            end_of(joint, joint.part_of[other as usize]),
-        );
-    }
-}
-
-// The end of the row's arc where a part is.
-fn end_of(joint: &Joint, part: Option<usize>) -> bool
-    requires { (a : ℕ) → part ≡ Some a → a < length joint.now.branches.items }
-    ensures { result ≡ end_of joint.now part }
-{
-    match part {
-        Some(part) => joint.branches[part].end,
-        None => false,
-    }
+    let row = joint.row;
+    let blocks = joint.row_blocks.as_slice();
+    sides.first.add_common(row, matrix, row, row, blocks);
 }
 
 // The arc of another row. Its sides are kept within its part, and each other part lies on the side where it hangs.
@@ -89,28 +98,59 @@ fn join_arc(matrix: &Matrix, joint: &Joint, arc: u32, sides: &mut ArcSides)
     requires part { number_at joint.now.part_of.items arc ≢ None }
     requires joint { FitsJoint (height matrix.now) matrix.now.width joint.now }
     requires off { AreOff (support matrix.now) joint.now }
+    requires blocks { AreBlocksOf (support matrix.now joint.now.row) matrix.now.width joint.now.row_blocks }
     requires tables { AreTablesOf matrix.now sides.old }
+    requires clear { IsClearBeside (support matrix.now) joint.now sides.old arc }
     ensures tables { AreTablesOf matrix.now sides.new }
     ensures joined { IsArcJoined (support matrix.now) joint.now sides.old sides.new arc }
     ensures others { KeepsOthers sides.old sides.new arc }
 {
     if let Some(own) = joint.part_of[arc as usize] {
         let is_turned = sides.arcs.get(arc, joint.row);
-        keep_part(joint, arc, own, is_turned, sides);
+        keep_part(matrix, joint, arc, own, is_turned, sides);
         add_hung(matrix, joint, arc, own, sides);
         add_used(matrix, joint, arc, own, sides);
     }
 }
 
 // Keeps the sides of an arc for its own part, turned round or not, and clears all others.
-fn keep_part(joint: &Joint, arc: u32, own: usize, is_turned: bool, sides: &mut ArcSides)
-    requires { IsLineFor joint.now sides.old arc own }
+fn keep_part(
+    matrix: &Matrix,
+    joint: &Joint,
+    arc: u32,
+    own: usize,
+    is_turned: bool,
+    sides: &mut ArcSides,
+)
+    requires row { joint.now.row < height matrix.now }
+    requires own { number_at joint.now.part_of.items arc ≡ Some own }
+    requires joint { FitsJoint (height matrix.now) matrix.now.width joint.now }
+    requires off { AreOff (support matrix.now) joint.now }
+    requires blocks { AreBlocksOf (support matrix.now joint.now.row) matrix.now.width joint.now.row_blocks }
+    requires tables { AreTablesOf matrix.now sides.old }
+    requires line { IsLineFor joint.now sides.old arc own }
+    requires turned { is_turned ≡ side_in sides.old arc joint.now.row }
+    requires clear { IsClearBeside (support matrix.now) joint.now sides.old arc }
     ensures { IsArcChanged (λ other. cell joint.now.row_marks own other && differ is_turned (side_in sides.old arc other)) (λ end column. cell joint.now.column_marks own column && differ is_turned (end_in sides.old end arc column)) sides.old sides.new arc }
 {
+    if is_turned {
+        turn_part(joint, arc, own, sides);
+    } else {
+        let blocks = joint.row_blocks.as_slice();
+        sides.first.take_out(arc, matrix, joint.row, blocks);
+        sides.last.take_out(arc, matrix, joint.row, blocks);
+    }
+}
+
+// Turns the sides of an arc round for its own part, and clears all others.
+fn turn_part(joint: &Joint, arc: u32, own: usize, sides: &mut ArcSides)
+    requires { IsLineFor joint.now sides.old arc own }
+    ensures { IsArcChanged (λ other. cell joint.now.row_marks own other && not (side_in sides.old arc other)) (λ end column. cell joint.now.column_marks own column && not (end_in sides.old end arc column)) sides.old sides.new arc }
+{
     let line = own as u32;
-    sides.arcs.keep(arc, &joint.row_marks, line, is_turned);
-    sides.first.keep(arc, &joint.column_marks, line, is_turned);
-    sides.last.keep(arc, &joint.column_marks, line, is_turned);
+    sides.arcs.turn(arc, &joint.row_marks, line);
+    sides.first.turn(arc, &joint.column_marks, line);
+    sides.last.turn(arc, &joint.column_marks, line);
 }
 
 // Puts the other parts that hang on the side `true` of an arc there.
@@ -155,13 +195,15 @@ fn add_used(matrix: &Matrix, joint: &Joint, arc: u32, own: usize, sides: &mut Ar
     requires arc { arc < height matrix.now }
     requires own { own < length joint.now.branches.items }
     requires row { joint.now.row < height matrix.now }
+    requires blocks { AreBlocksOf (support matrix.now joint.now.row) matrix.now.width joint.now.row_blocks }
     requires tables { AreTablesOf matrix.now sides.old }
     ensures { IsArcChanged (λ other. side_in sides.old arc other) (is_used (support matrix.now) joint.now arc own sides.old) sides.old sides.new arc }
 {
+    let blocks = joint.row_blocks.as_slice();
     if joint.branches[own].end {
-        sides.first.add_common(arc, matrix, arc, joint.row);
+        sides.first.add_common(arc, matrix, arc, joint.row, blocks);
     } else {
-        sides.last.add_common(arc, matrix, arc, joint.row);
+        sides.last.add_common(arc, matrix, arc, joint.row, blocks);
     }
 }
 

@@ -7,23 +7,26 @@ ghost use Rattle.cmr_base.specs.Members.{IsIn};
 ghost use Rattle.cmr_base.specs.Planes.{words_for};
 ghost use Rattle.cmr_base.specs.Trees.{support};
 ghost use Rattle.cmr_base.specs.ColumnSets.{has_column};
-ghost use Rattle.graph_realise.specs.Joints.{AreInRows, AreMarks, AreNumbered, IsJointOf, IsTouched, number_at};
+ghost use Rattle.graph_realise.specs.Joints.{AreInRows, AreMarks, AreNumbered, AreOfRows, IsJointOf, IsNamed, number_at};
 ghost use Rattle.graph_realise.specs.Numbers.{AreDisjoint};
+ghost use Rattle.graph_realise.specs.Tables.{AreBlocksOf};
 
 use crate::branches::{Branch, branches_at};
 use crate::table::Table;
 use cmr_base::columns::{add_common, add_outside, clear_set, empty_set, next_column};
-use cmr_base::{Indices, Matrix, Memory, PartList, SideList};
+use cmr_base::{Indices, Matrix, Memory, PartList, SideList, words_for};
 use std::alloc::Global;
 
 /// A row and the parts of the others: the part of each row, the branches that the parts are, and for each column that the
-/// row does not have the part that has it. The tables have a line for each part, which marks its rows and these columns.
+/// row does not have the part that has it. The blocks are those of 64 columns in which the row is not 0. The tables have a
+/// line for each part, which marks its rows and these columns.
 #[derive(Debug, Drop)]
 pub struct Joint {
     pub row: u32,
     pub part_of: Vec<Option<usize>>,
     pub branches: Vec<Branch>,
     pub part_with: Vec<Option<usize>>,
+    pub row_blocks: Indices,
     pub row_marks: Table,
     pub column_marks: Table,
 }
@@ -33,23 +36,22 @@ impl Joint {
     pub fn new(
         alloc: Global,
         matrix: &Matrix,
-        rows: &Indices,
         row: u32,
         parts: &PartList,
         ends: &SideList,
     ) -> Result<Joint, Memory>
         requires row { row < height matrix.now }
-        requires rows { AllBelow (height matrix.now) rows.now }
         requires parts { AreInRows (height matrix.now) parts.now }
         requires few { length parts.now ≤ height matrix.now }
         requires disjoint { AreDisjoint parts.now }
         requires ends { length ends.now ≡ length parts.now }
         ensures shape { IsMatrix matrix.now }
-        ensures joint { IfOk result (IsJointOf (support matrix.now) (height matrix.now) matrix.now.width rows.now row parts.now ends.now) }
+        ensures joint { IfOk result (IsJointOf (support matrix.now) (height matrix.now) matrix.now.width row parts.now ends.now) }
     {
         let part_of = parts_of_rows(alloc, matrix, parts)?;
-        let part_with = parts_with_columns(alloc, matrix, rows, row, &part_of)?;
+        let part_with = parts_with_columns(alloc, matrix, row, parts)?;
         let branches = branches_at(alloc, matrix, row, parts, ends)?;
+        let row_blocks = blocks_of_row(alloc, matrix, row)?;
         let row_marks = marks_of(alloc, &part_of, parts.len())?;
         let column_marks = marks_of(alloc, &part_with, parts.len())?;
         Ok(Joint {
@@ -57,6 +59,7 @@ impl Joint {
             part_of,
             branches,
             part_with,
+            row_blocks,
             row_marks,
             column_marks,
         })
@@ -117,30 +120,39 @@ fn number_rows(numbers: &mut Vec<Option<usize>>, part: &Indices, number: usize)
     }
 }
 
-// For each column that the row does not have the part of some row that has it.
+// For each column that the row does not have the part with a row that has it.
 fn parts_with_columns(
     alloc: Global,
     matrix: &Matrix,
-    rows: &Indices,
     row: u32,
-    part_of: &[Option<usize>],
+    parts: &PartList,
 ) -> Result<Vec<Option<usize>>, Memory>
-    requires rows { AllBelow (height matrix.now) rows.now }
     requires row { row < height matrix.now }
-    requires each { length part_of.now ≡ height matrix.now }
+    requires parts { AreInRows (height matrix.now) parts.now }
     ensures size { IfOk result (λ numbers. length numbers.items ≡ matrix.now.width) }
-    ensures parts { IfOk result (λ numbers. (column : ℕ) → column < matrix.now.width → IsTouched (support matrix.now) row rows.now part_of.now column (number_at numbers.items column)) }
+    ensures parts { IfOk result (λ numbers. (column : ℕ) → IsNamed (support matrix.now) row parts.now (length parts.now) column (number_at numbers.items column)) }
 {
     let mut numbers = no_numbers(alloc, matrix.columns())?;
-    let mut passed = empty_set(alloc, matrix.columns())?;
-    let mut fresh = empty_set(alloc, matrix.columns())?;
-    add_row(matrix, row, &mut passed);
-    for other in rows.as_slice() {
-        set_fresh(matrix, *other, passed.as_slice(), &mut fresh);
-        number_columns(fresh.as_slice(), part_of[*other as usize], &mut numbers);
-        add_row(matrix, *other, &mut passed);
+    let mut columns = empty_set(alloc, matrix.columns())?;
+    for place in 0..parts.len() {
+        set_columns_of_part(matrix, row, parts.get(place), &mut columns);
+        number_columns(columns.as_slice(), Some(place), &mut numbers);
     }
     Ok(numbers)
+}
+
+// The blocks of 64 columns in which a row is not 0.
+fn blocks_of_row(alloc: Global, matrix: &Matrix, row: u32) -> Result<Indices, Memory>
+    requires { row < height matrix.now }
+    ensures { IfOk result (AreBlocksOf (support matrix.now row) matrix.now.width) }
+{
+    let mut blocks = Indices::new(alloc);
+    for block in 0..words_for(matrix.columns()) as u32 {
+        if matrix.support_word(row, block) != 0 {
+            blocks.push(block)?;
+        }
+    }
+    Ok(blocks)
 }
 
 // No number for each of so many columns.
@@ -162,17 +174,23 @@ pub fn add_row(matrix: &Matrix, row: u32, set: &mut Vec<u64>)
     add_common(set, matrix.support_words(row), matrix.support_words(row));
 }
 
-// Sets the columns of a row that are not among those that were passed.
-fn set_fresh(matrix: &Matrix, row: u32, passed: &[u64], fresh: &mut Vec<u64>)
+// Sets the columns of the rows of a part in which `row` is 0.
+fn set_columns_of_part(matrix: &Matrix, row: u32, part: &Indices, columns: &mut Vec<u64>)
     requires shape { IsMatrix matrix.now }
     requires row { row < height matrix.now }
-    requires passed { length passed.now ≡ words_for matrix.now.width }
-    requires size { length fresh.old.items ≡ words_for matrix.now.width }
-    ensures size { length fresh.new.items ≡ words_for matrix.now.width }
-    ensures columns { (column : ℕ) → has_column fresh.new.items column ≡ (support matrix.now row column && not (has_column passed.now column)) }
+    requires rows { AllBelow (height matrix.now) part.now }
+    requires size { length columns.old.items ≡ words_for matrix.now.width }
+    ensures size { length columns.new.items ≡ words_for matrix.now.width }
+    ensures columns { AreOfRows (support matrix.now) row part.now (length part.now) (has_column columns.new.items) }
 {
-    clear_set(fresh);
-    add_outside(fresh, matrix.support_words(row), passed);
+    clear_set(columns);
+    for other in part.as_slice() {
+        add_outside(
+            columns,
+            matrix.support_words(*other),
+            matrix.support_words(row),
+        );
+    }
 }
 
 // Gives the columns of a set a number.

@@ -70,7 +70,7 @@ fn join_parts(
     ensures found { IfOk result (IsSearch (support matrix.now) rows.now sides.new) }
     ensures others { KeepsOutside sides.old sides.new rows.now }
 {
-    let joint = Joint::new(alloc, matrix, rows, split.row, &split.parts, ends)?;
+    let joint = Joint::new(alloc, matrix, split.row, &split.parts, ends)?;
     for place in 0..split.parts.len() {
         let rows_with = joint.rows_with(alloc, place)?;
         match find_sides(alloc, matrix, &rows_with, split.row + 1, sides)? {

@@ -8,7 +8,7 @@ ghost use Rattle.cmr_base.specs.Planes.{words_for};
 ghost use Rattle.cmr_base.specs.Splits.{HasNoThree};
 ghost use Rattle.cmr_base.specs.Trees.{support};
 ghost use Rattle.cmr_base.specs.ColumnSets.{has_column};
-ghost use Rattle.graph_realise.specs.SideTables.{AreTablesOf, KeepsOthers, KeepsOutside, side_in, end_in};
+ghost use Rattle.graph_realise.specs.SideTables.{AreClear, AreTablesOf, KeepsOthers, KeepsOutside, side_in, end_in};
 ghost use Rattle.graph_realise.specs.Rays.{IsRayAfter};
 
 use crate::arc_sides::ArcSides;
@@ -30,6 +30,7 @@ pub fn draw_star(
     requires tables { AreTablesOf matrix.now sides.old }
     ensures tables { AreTablesOf matrix.now sides.new }
     ensures cuts { OnOk result (IsCuts (support matrix.now) (λ r. IsIn r rows.now) (side_in sides.new) (end_in sides.new)) }
+    ensures clear { OnOk result (AreClear (support matrix.now) rows.now sides.new) }
     ensures others { KeepsOutside sides.old sides.new rows.now }
 {
     let mut seen = empty_set(alloc, matrix.columns())?;

@@ -1,12 +1,12 @@
 // Tables of truth values.
-ghost use Rattle.std.specs.Prelude.{◌≡◌, ◌<◌, ◌≤◌, ◌+◌, ◌*◌, ◌&&◌, ◌||◌, not, ℕ, true, false, length, IfOk};
-ghost use Rattle.cmr_base.specs.Cuts.{differ};
+ghost use Rattle.std.specs.Prelude.{◌≡◌, ◌<◌, ◌≤◌, ◌+◌, ◌*◌, ◌&&◌, ◌||◌, not, ℕ, false, length, IfOk};
 ghost use Rattle.cmr_base.specs.Matrix.{height};
 ghost use Rattle.cmr_base.specs.Planes.{has_bit, words_for};
 ghost use Rattle.cmr_base.specs.Trees.{support};
 ghost use Rattle.cmr_base.specs.ColumnSets.{has_column};
-ghost use Rattle.graph_realise.specs.Tables.{cell, IsCellSet, IsRowFilled, IsWordSet};
+ghost use Rattle.graph_realise.specs.Tables.{cell, AreBlocksOf, IsCellSet, IsRowFilled, IsWordSet};
 
+use cmr_base::columns::outside;
 use cmr_base::{Matrix, Memory, has_bit, with_bit, words_for};
 use std::alloc::Global;
 use std::marker::Model;
@@ -47,13 +47,6 @@ impl Table {
         })
     }
 
-    /// How many columns there are.
-    pub fn width(&self) -> u32
-        ensures { result ≡ self.now.width }
-    {
-        self.width
-    }
-
     /// The value in a row and a column.
     pub fn get(&self, row: u32, column: u32) -> bool
         requires row { row < self.now.height }
@@ -74,19 +67,33 @@ impl Table {
         self.set_word(row, block, word);
     }
 
-    /// Keeps the values in the columns that are marked in a line of another table, each turned into its opposite where
-    /// `is_turned` says so, and clears all others of the row.
-    pub fn keep(&mut self, row: u32, marks: &Table, line: u32, is_turned: bool)
+    /// Turns the values in the columns that are marked in a line of another table into their opposites, and clears all
+    /// others of the row.
+    pub fn turn(&mut self, row: u32, marks: &Table, line: u32)
         requires row { row < self.old.height }
         requires line { line < marks.now.height }
         requires width { marks.now.width ≡ self.old.width }
-        ensures { IsRowFilled (λ column. cell marks.now line column && differ is_turned (cell self.old row column)) self.old self.new row self.old.width }
+        ensures { IsRowFilled (λ column. cell marks.now line column && not (cell self.old row column)) self.old self.new row self.old.width }
     {
         for block in 0..self.blocks() {
-            let word = self.word(row, block);
-            if !stays_clear(word, is_turned) {
-                let kept = marks.word(line, block) & turned(word, is_turned);
-                self.set_word(row, block, kept);
+            let word = outside(marks.word(line, block), self.word(row, block));
+            self.set_word(row, block, word);
+        }
+    }
+
+    /// Clears the values of the row in the columns in which a row of a matrix is not 0. The blocks have all these columns.
+    pub fn take_out(&mut self, row: u32, matrix: &Matrix, other: u32, blocks: &[u32])
+        requires row { row < self.old.height }
+        requires other { other < height matrix.now }
+        requires width { matrix.now.width ≡ self.old.width }
+        requires blocks { AreBlocksOf (support matrix.now other) matrix.now.width blocks.now }
+        ensures { IsRowFilled (λ column. cell self.old row column && not (support matrix.now other column)) self.old self.new row self.old.width }
+    {
+        for block in blocks {
+            let word = self.word(row, *block);
+            let gone = matrix.support_word(other, *block);
+            if word & gone != 0 {
+                self.set_word(row, *block, outside(word, gone));
             }
         }
     }
@@ -104,18 +111,20 @@ impl Table {
         }
     }
 
-    /// Sets the values of the row in the columns in which two rows of a matrix are not 0.
-    pub fn add_common(&mut self, row: u32, matrix: &Matrix, one: u32, other: u32)
+    /// Sets the values of the row in the columns in which two rows of a matrix are not 0. The blocks have all columns of
+    /// the other row.
+    pub fn add_common(&mut self, row: u32, matrix: &Matrix, one: u32, other: u32, blocks: &[u32])
         requires row { row < self.old.height }
         requires one { one < height matrix.now }
         requires other { other < height matrix.now }
         requires width { matrix.now.width ≡ self.old.width }
+        requires blocks { AreBlocksOf (support matrix.now other) matrix.now.width blocks.now }
         ensures { IsRowFilled (λ column. cell self.old row column || support matrix.now one column && support matrix.now other column) self.old self.new row self.old.width }
     {
-        for block in 0..self.blocks() {
-            let common = matrix.support_word(one, block) & matrix.support_word(other, block);
+        for block in blocks {
+            let common = matrix.support_word(one, *block) & matrix.support_word(other, *block);
             if common != 0 {
-                self.set_word(row, block, self.word(row, block) | common);
+                self.set_word(row, *block, self.word(row, *block) | common);
             }
         }
     }
@@ -178,18 +187,4 @@ impl Table {
     {
         self.words[row as usize * words_for(self.width) + block as usize] = word;
     }
-}
-
-// The word, or that with the opposite of each bit.
-fn turned(word: u64, is_turned: bool) -> u64
-    ensures { (k : ℕ) → k < 64 → has_bit result k ≡ differ is_turned (has_bit word k) }
-{
-    if is_turned { !word } else { word }
-}
-
-// Whether no bit is set, and none is where some bits of the word are kept, turned or not.
-fn stays_clear(word: u64, is_turned: bool) -> bool
-    ensures { result ≡ true → (word ≡ 0) × (is_turned ≡ false) }
-{
-    word == 0 && !is_turned
 }

@@ -7,7 +7,7 @@ use Rattle.cmr_base.specs.Matrix.{Matrix, entry, IsEntry}
 use Rattle.cmr_base.specs.LineSets.{first_lines}
 use Rattle.cmr_base.specs.Signing.{IsSign}
 use Rattle.cmr_base.specs.Supports.{AgreeUpToSigns, HaveOneSupport}
-use Rattle.cmr_base.proofs.Integers.{products, sums, mul_assoc, mul_comm, one-mul}
+use Rattle.cmr_base.proofs.Integers.{products, sums, mul_assoc, mul_comm, mul-zero, one-mul}
 use Rattle.cmr_base.proofs.SignEntries.{sign_is_entry}
 use Rattle.ghouila.proofs.Bytes.{kept_entry, product_bytes}
 use Rattle.ghouila.proofs.SignProducts.{sign-mul, sign_square}
@@ -194,12 +194,13 @@ module _ (m n : Matrix) (row first : ℕ) (old_groups : List ℕ) where
   pub none_joined : (signs : List ℤ) → AreSignedGroups m n old_groups signs → IsRowJoinedTo m n row first 0 old_groups old_groups signs
   none_joined signs all = record { all = all; coarser = λ c d lc ld e. e; joined = λ column l. absurd (omega arith) }
 
-  pub zero_joined : (count : ℕ) (groups : List ℕ) (signs : List ℤ) → entry m row count ≡ pos 0 → IsRowJoinedTo m n row first count old_groups groups signs → IsRowJoinedTo m n row first (count + 1) old_groups groups signs
-  zero_joined count groups signs e before = record { all = before.all; coarser = before.coarser; joined = λ column l nonzero. go column l nonzero (cases_eq column count) }
+  pub zeros_joined : (count next : ℕ) (groups : List ℕ) (signs : List ℤ) → IsRowJoinedTo m n row first count old_groups groups signs → ((column : ℕ) → count ≤ column → column < next → entry m row column ≡ pos 0)
+      → IsRowJoinedTo m n row first next old_groups groups signs
+  zeros_joined count next groups signs before zeros = record { all = before.all; coarser = before.coarser; joined = λ column l nonzero. go column l nonzero (cases_lt column count) }
     where
-      go : (column : ℕ) → column < count + 1 → entry m row column ≢ pos 0 → (column ≡ count) ⊎ (column ≢ count) → group_of groups column ≡ group_of groups first
-      go column l nonzero (inl f) = absurd (nonzero (ap (entry m row) f ∙ e))
-      go column l nonzero (inr k) = before.joined column (omega arith) nonzero
+      go : (column : ℕ) → column < next → entry m row column ≢ pos 0 → (column < count) ⊎ (count ≤ column) → group_of groups column ≡ group_of groups first
+      go column l nonzero (inl k) = before.joined column k nonzero
+      go column l nonzero (inr k) = absurd (nonzero (zeros column k l))
 
   pub one_joined : (count : ℕ) (groups new_groups : List ℕ) (signs new_signs : List ℤ) → count < m.width → first < m.width → IsRowJoinedTo m n row first count old_groups groups signs
       → AreSignedGroups m n new_groups new_signs → IsCoarser m.width groups new_groups → group_of new_groups count ≡ group_of new_groups first → IsRowJoinedTo m n row first (count + 1) old_groups new_groups new_signs
@@ -239,9 +240,22 @@ pub turned_bytes : (sign s x p q : ℤ) → IsSign sign → IsEntry s → IsEntr
     → q ≡ to_z w8 (of_z w8 sign) *ℤ to_z w8 (of_z w8 p) → q ≡ sign *ℤ (s *ℤ x)
 turned_bytes sign s x p q is_sign hs hx hp hq e f = product_bytes sign p q (sign_is_entry sign is_sign) hp f ∙ ap (λ z. sign *ℤ z) (product_bytes s x p hs hx e)
 
-pub one_column_more : (P : ℕ → Type 0) (count : ℕ) → P count → ((column : ℕ) → column < count → P column) → (column : ℕ) → column < count + 1 → P column
-one_column_more P count here before column l = go (cases_eq column count)
+-- a column in which both rows are 0
+pub zero_turned : (m n : Matrix) (row column : ℕ) (sign s : ℤ) → HaveOneSupport m n → entry m row column ≡ pos 0 → entry n row column ≡ sign *ℤ (s *ℤ entry m row column)
+zero_turned m n row column sign s same e = (same.zeros_same row column).0 e ∙ sym (ap (λ z. sign *ℤ (s *ℤ z)) e ∙ ap (λ z. sign *ℤ z) (mul-zero s) ∙ mul-zero sign)
+
+-- the columns before a place, those from there to the next one, and that one
+pub columns_to_next : (P : ℕ → Type 0) (place next : ℕ) → ((column : ℕ) → column < place → P column) → ((column : ℕ) → place ≤ column → column < next → P column) → P next → (column : ℕ) → column < next + 1 → P column
+columns_to_next P place next before between here column l = go (cases_lt column place) (cases_eq column next)
   where
-    go : (column ≡ count) ⊎ (column ≢ count) → P column
-    go (inl e) = subst P (sym e) here
-    go (inr k) = before column (omega arith)
+    go : (column < place) ⊎ (place ≤ column) → (column ≡ next) ⊎ (column ≢ next) → P column
+    go (inl k) e = before column k
+    go (inr k) (inl e) = subst P (sym e) here
+    go (inr k) (inr d) = between column k (omega arith)
+
+pub columns_all : (P : ℕ → Type 0) (place : ℕ) → ((column : ℕ) → column < place → P column) → ((column : ℕ) → place ≤ column → P column) → (column : ℕ) → P column
+columns_all P place before past column = go (cases_lt column place)
+  where
+    go : (column < place) ⊎ (place ≤ column) → P column
+    go (inl k) = before column k
+    go (inr k) = past column k

@@ -17,20 +17,20 @@ module _ (m old : Matrix) (row : ℕ) where
   none_marked is = record { is_matrix = is; height_same = refl; width_same = refl; marks = λ column l. absurd (omega arith); others = λ i j h. refl }
 
   module _ (new : Matrix) (count : ℕ) (before : IsRowMarked m old new row count) where
-    pub zero_kept : entry m row count ≡ pos 0 → entry old row count ≡ pos 0 → IsRowMarked m old new row (count + 1)
-    zero_kept e f = record {
+    pub zeros_kept : (next : ℕ) → count ≤ next → ((column : ℕ) → count ≤ column → column < next → entry m row column ≡ pos 0) → ((column : ℕ) → column < next → entry old row column ≡ pos 0) → IsRowMarked m old new row next
+    zeros_kept next up e f = record {
       is_matrix = before.is_matrix;
       height_same = before.height_same;
       width_same = before.width_same;
-      marks = λ column l. go column l (cases_eq column count);
+      marks = λ column l. go column l (cases_lt column count);
       others = λ i j h. before.others i j (less i j h);
     }
       where
-        go : (column : ℕ) → column < count + 1 → (column ≡ count) ⊎ (column ≢ count) → entry new row column ≡ mark (entry m row column)
-        go column l (inl g) = rw g (before.others row count (inr (omega arith)) ∙ f ∙ sym (ap mark e))
-        go column l (inr k) = before.marks column (omega arith)
+        go : (column : ℕ) → column < next → (column < count) ⊎ (count ≤ column) → entry new row column ≡ mark (entry m row column)
+        go column l (inl k) = before.marks column k
+        go column l (inr k) = before.others row column (inr k) ∙ f column l ∙ sym (ap mark (e column k l))
 
-        less : (i j : ℕ) → (i ≢ row) ⊎ (count + 1 ≤ j) → (i ≢ row) ⊎ (count ≤ j)
+        less : (i j : ℕ) → (i ≢ row) ⊎ (next ≤ j) → (i ≢ row) ⊎ (count ≤ j)
         less i j (inl k) = inl k
         less i j (inr l) = inr (omega arith)
 

@@ -57,10 +57,10 @@ impl ColumnGroups {
         let Some(first) = first_nonzero(from, row) else {
             return;
         };
-        for column in 0..from.columns() {
-            if from.entry(row, column) != 0 {
-                self.join(from, to, row, first, column);
-            }
+        let mut place = 0;
+        while let Some(column) = from.next_nonzero(row, place) {
+            self.join(from, to, row, first, column);
+            place = column + 1;
         }
     }
 
@@ -150,11 +150,13 @@ impl ColumnGroups {
         requires sign { IsSign sign }
         ensures { IsTrue result ↔ IsRowTurned from.now to.now self.now.signs.items row sign }
     {
-        for column in 0..from.columns() {
+        let mut place = 0;
+        while let Some(column) = from.next_nonzero(row, place) {
             let turned = product(self.sign_of(column as usize), from.entry(row, column));
             if to.entry(row, column) != product(sign, turned) {
                 return false;
             }
+            place = column + 1;
         }
         true
     }
@@ -165,12 +167,7 @@ fn first_nonzero(matrix: &Matrix, row: u32) -> Option<u32>
     requires { row < height matrix.now }
     ensures { MatchOption result ((column : ℕ) → entry matrix.now row column ≡ pos 0) (λ column. (column < matrix.now.width) × (entry matrix.now row column ≢ pos 0)) }
 {
-    for column in 0..matrix.columns() {
-        if matrix.entry(row, column) != 0 {
-            return Some(column);
-        }
-    }
-    None
+    matrix.next_nonzero(row, 0)
 }
 
 fn product(first: i8, second: i8) -> i8

@@ -26,9 +26,9 @@ fn mark_row(support: &mut Matrix, matrix: &Matrix, row: u32)
     requires zeros { (column : ℕ) → column < matrix.now.width → entry support.old row column ≡ pos 0 }
     ensures { IsRowMarked matrix.now support.old support.new row matrix.now.width }
 {
-    for column in 0..matrix.columns() {
-        if matrix.entry(row, column) != 0 {
-            support.set(row, column, 1);
-        }
+    let mut from = 0;
+    while let Some(column) = matrix.next_nonzero(row, from) {
+        support.set(row, column, 1);
+        from = column + 1;
     }
 }

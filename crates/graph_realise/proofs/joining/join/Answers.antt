@@ -5,7 +5,7 @@ use Rattle.cmr_base.specs.Trees.{support}
 use Rattle.cmr_base.proofs.Members.{in_at}
 use Rattle.graph_realise.specs.Joints.{IsArcJoined}
 use Rattle.graph_realise.specs.SideTables.{KeepsOthers}
-use Rattle.graph_realise.proofs.JoinLemmas.{joined_stays, joined_from}
+use Rattle.graph_realise.proofs.JoinLemmas.{clear_stays, joined_stays, joined_from}
 use Rattle.graph_realise.proofs.SideLemmas.{not_before, redrawn_more, redrawn_all, redrawn_others}
 use Rattle.graph_realise.proofs.joining.join.Goals.{then-arc-joint, else-arc-joint}
 use Rattle.graph_realise.proofs.joining.join.Goals as goal
@@ -17,6 +17,15 @@ join_arc-requires-clause-part c =
     c.requires.numbered (get_or items c.loop-arc.arc-index 0)
     (subst (λ (xs : List ℕ). IsIn (get_or items c.loop-arc.arc-index 0) xs) c.as_slice-arc-items.ensures.items (in_at items c.loop-arc.arc-index (omega arith)))
     c.if-arc-joint.false
+
+pub join_arc-requires-clause-clear : goal.join_arc-requires-clause-clear
+join_arc-requires-clause-clear c =
+    let items = c.as_slice-arc-items.result.now in
+    let index = c.loop-arc.arc-index in
+    let l = c.loop-arc-test.true in
+    let kept = c.loop-arc.invariant.joined.kept (get_or items index 0) (not_before items index (subst IsStrictlyIncreasing (sym c.as_slice-arc-items.ensures.items) c.as_slice-arc-items.ensures.rising) (omega arith)) in
+    clear_stays (support c.args.matrix.now) c.args.joint.now c.args.sides.now c.loop-arc.sides (get_or items index 0) kept
+    (c.requires.clear (get_or items index 0) (subst (λ (xs : List ℕ). IsIn (get_or items index 0) xs) c.as_slice-arc-items.ensures.items (in_at items index (omega arith))) c.if-arc-joint.false)
 
 pub loop-arc-preserved : goal.loop-arc-preserved
 loop-arc-preserved c =

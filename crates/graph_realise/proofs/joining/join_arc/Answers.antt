@@ -5,8 +5,12 @@ use Rattle.graph_realise.proofs.JoinLemmas.{arc_joined, line_for}
 use Rattle.graph_realise.proofs.SideLemmas.{keeps_row_trans}
 use Rattle.graph_realise.proofs.joining.join_arc.Goals as goal
 
-pub keep_part-requires : goal.keep_part-requires
-keep_part-requires c =
+pub keep_part-requires-clause-own : goal.keep_part-requires-clause-own
+keep_part-requires-clause-own c =
+    sym (get_or_read c.args.joint.now.part_of.items c.args.arc c.index.result.now (let l = c.requires.arc in let e = c.requires.joint.rows in omega arith) c.index.ensures None) ∙ c.in-Some.is
+
+pub keep_part-requires-clause-line : goal.keep_part-requires-clause-line
+keep_part-requires-clause-line c =
     let part = sym (get_or_read c.args.joint.now.part_of.items c.args.arc c.index.result.now (let l = c.requires.arc in let e = c.requires.joint.rows in omega arith) c.index.ensures None) ∙ c.in-Some.is in
     line_for c.args.matrix.now c.args.joint.now c.args.sides.now c.args.arc c.in-Some.own c.requires.joint c.requires.tables c.requires.arc (c.requires.joint.row_parts c.args.arc c.in-Some.own part)
 

@@ -1,13 +1,11 @@
-use Rattle.std.proofs.Common.{◌&&◌}
-use Rattle.cmr_base.specs.Cuts.{differ}
-use Rattle.graph_realise.specs.SideTables.{side_in, end_in}
-use Rattle.graph_realise.specs.Tables.{cell}
-use Rattle.graph_realise.proofs.JoinLemmas.{changed_by}
+use Rattle.cmr_base.specs.Trees.{support}
+use Rattle.graph_realise.proofs.JoinLemmas.{part_stays, part_turned}
 use Rattle.graph_realise.proofs.joining.keep_part.Goals as goal
 
-pub returns : goal.returns
-returns c =
-    let joint = c.args.joint.now in
-    let old = c.args.sides.now in
-    changed_by old c.keep.new.self c.keep-2.new.self c.keep-3.new.self c.args.arc (λ other. cell joint.row_marks c.args.own other && differ c.args.is_turned (side_in old c.args.arc other))
-    (λ end column. cell joint.column_marks c.args.own column && differ c.args.is_turned (end_in old end c.args.arc column)) c.keep.ensures c.keep-2.ensures c.keep-3.ensures c.requires.ends_wide
+pub returns-then-is_turned : goal.returns-then-is_turned
+returns-then-is_turned c = part_turned (support c.args.matrix.now) c.args.joint.now c.args.arc c.args.own c.args.sides.now c.turn_part.new.sides c.args.is_turned c.if-is_turned.true c.turn_part.ensures
+
+pub returns-else-is_turned : goal.returns-else-is_turned
+returns-else-is_turned c =
+    part_stays (support c.args.matrix.now) c.args.joint.now c.args.arc c.args.own c.args.matrix.now c.args.sides.now c.take_out.new.self c.take_out-else-is_turned.new.self c.args.is_turned c.if-is_turned.false c.requires.turned
+    c.requires.own c.requires.joint c.requires.off c.requires.tables c.requires.clear c.take_out.ensures c.take_out-else-is_turned.ensures (c.requires.joint.row_parts c.args.arc c.args.own c.requires.own)

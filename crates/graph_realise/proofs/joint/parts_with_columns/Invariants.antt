@@ -1,12 +1,12 @@
-use Rattle.std.proofs.Common.{◌≡◌, length}
+use Rattle.std.proofs.Common.{◌≡◌, ℕ, length}
 use Rattle.cmr_base.specs.Planes.{words_for}
 use Rattle.cmr_base.specs.Trees.{support}
-use Rattle.graph_realise.specs.Joints.{IsPassing}
+use Rattle.graph_realise.specs.Joints.{IsNamed, number_at}
 use Rattle.graph_realise.proofs.joint.parts_with_columns.Given as goal
 
-abbrev pub invariant-loop-other : goal.invariant-loop-other
-invariant-loop-other l = record {
-  passed_long : length l.passed.items ≡ words_for l.matrix.width;
-  fresh_long : length l.fresh.items ≡ words_for l.matrix.width;
-  passing : IsPassing (support l.matrix) l.matrix.width l.row l.rows l.part_of l.passed.items l.numbers.items l.other-index;
+abbrev pub invariant-loop-place : goal.invariant-loop-place
+invariant-loop-place l = record {
+  columns_long : length l.columns.items ≡ words_for l.matrix.width;
+  size : length l.numbers.items ≡ l.matrix.width;
+  named : (column : ℕ) → IsNamed (support l.matrix) l.row l.parts l.place column (number_at l.numbers.items column);
 }

@@ -15,7 +15,7 @@ grow_network-requires-clause-cuts c =
     let m = c.args.matrix.now in
     let rows = c.in_ok-lines.ensures.rows ∙ ap first_lines c.rows.ensures.rows in
     cuts_of_all (support m) (height m) c.find_sides.new.sides
-    (subst (λ (xs : List ℕ). IsSearch (support m) xs c.find_sides.new.sides Found) rows (subst (IsSearch (support m) c.in_ok-lines.lines.rows c.find_sides.new.sides) c.in-Found.is c.in_ok-find_sides.ensures.found))
+    (subst (λ (xs : List ℕ). IsSearch (support m) xs c.find_sides.new.sides Found) rows (subst (IsSearch (support m) c.in_ok-lines.lines.rows c.find_sides.new.sides) c.in-Found.is c.in_ok-find_sides.ensures.found)).cuts
 
 pub returns : goal.returns
 returns c = λ graphic.

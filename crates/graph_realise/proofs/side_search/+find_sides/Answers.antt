@@ -1,13 +1,14 @@
-use Rattle.std.proofs.Common.{◌<◌, ◌+◌, ◌*◌, ℕ, length, subst, arith, MatchOption, Bool}
+use Rattle.std.proofs.Common.{◌<◌, ◌+◌, ◌*◌, ◌∙◌, ℕ, length, subst, sym, arith, MatchOption, Bool}
 use Rattle.cmr_base.specs.Matrix.{height}
 use Rattle.cmr_base.specs.ColumnSets.{Denies}
 use Rattle.cmr_base.specs.Splits.{HasNoThree, Splits}
 use Rattle.cmr_base.specs.Trees.{support}
 use Rattle.bridge_split.specs.SplitCases.{AreSidesOf}
 use Rattle.graph_realise.specs.Searches.{IsSearch, IsSplit}
+use Rattle.graph_realise.specs.Tables.{AreBlocksOf}
 use Rattle.graph_realise.proofs.NoCuts.{no_odd}
 use Rattle.bridge_split.proofs.SidesOfParts.{parts_few}
-use Rattle.graph_realise.proofs.SearchLemmas.{all_numbered, fits, joined_cuts, kept_more, named_off, none_more, others_more, whole_more, parts_disjoint, parts_in_rows, some_three, with_below, with_fewer}
+use Rattle.graph_realise.proofs.SearchLemmas.{all_numbered, clear_more, fits, joined_clear, joined_cuts, kept_more, named_off, none_more, others_more, whole_more, parts_disjoint, parts_in_rows, some_three, with_below, with_fewer}
 use Rattle.graph_realise.proofs.SideLemmas.{keeps_row_trans}
 use Rattle.graph_realise.proofs.side_search.+find_sides.Goals as goal
 use Rattle.cmr_base.proofs.Places.{members_below}
@@ -57,7 +58,13 @@ join_parts-join-requires-clause-off t c =
     let m = c.args.matrix.now in
     let short = nonzero_in_range m c.in_ok-joint.ensures.shape.rectangular in
     named_off (support m) (height m) m.width short c.args.rows.now (members_below (height m) c.args.rows.now c.requires.rows) c.args.split.now.row c.requires.split.here c.args.split.now.parts
-    c.requires.split.parts c.args.ends.now c.requires.ends c.in_ok-joint.joint c.in_ok-joint.ensures.joint (λ column on. short c.args.split.now.row column on)
+    c.requires.split.parts c.args.ends.now c.requires.ends c.in_ok-joint.joint c.in_ok-joint.ensures.joint
+
+pub join_parts-join-requires-clause-blocks : goal.join_parts-join-requires-clause-blocks
+join_parts-join-requires-clause-blocks t c =
+    let m = c.args.matrix.now in
+    let J = c.in_ok-joint.ensures.joint in
+    subst (λ (r : ℕ). AreBlocksOf (support m r) m.width c.in_ok-joint.joint.row_blocks) (sym J.row) J.own_blocks
 
 pub join_parts-rows_with-requires-clause-row : goal.join_parts-rows_with-requires-clause-row
 join_parts-rows_with-requires-clause-row t c =
@@ -139,7 +146,10 @@ join_parts-loop-place-preserved t c =
       tables = c.find_sides.ensures.tables;
       kept = kept_more (support m) (height m) m.width short S low c.args.split.now.row c.requires.split.here parts c.requires.split.parts c.args.ends.now c.requires.ends c.in_ok-joint.joint c.in_ok-joint.ensures.joint
           c.loop-place.place within T c.in_ok-rows_with.ensures.rows c.loop-place.sides c.find_sides.new.sides c.loop-place.invariant.kept c.find_sides.ensures.others
-          (subst (IsSearch (support m) T c.find_sides.new.sides) c.in-Found.is c.in_ok-find_sides.ensures.found);
+          (subst (IsSearch (support m) T c.find_sides.new.sides) c.in-Found.is c.in_ok-find_sides.ensures.found).cuts;
+      clear = clear_more (support m) (height m) m.width short S low c.args.split.now.row c.requires.split.here parts c.requires.split.parts c.args.ends.now c.requires.ends c.in_ok-joint.joint c.in_ok-joint.ensures.joint
+          c.loop-place.place within T c.in_ok-rows_with.ensures.rows c.loop-place.sides c.find_sides.new.sides c.loop-place.invariant.clear c.find_sides.ensures.others
+          (subst (IsSearch (support m) T c.find_sides.new.sides) c.in-Found.is c.in_ok-find_sides.ensures.found).clear;
       others = others_more (support m) (height m) m.width short S low c.args.split.now.row c.requires.split.here parts c.requires.split.parts c.args.ends.now c.requires.ends c.in_ok-joint.joint c.in_ok-joint.ensures.joint
           c.loop-place.place within T c.in_ok-rows_with.ensures.rows c.args.sides.now c.loop-place.sides c.find_sides.new.sides c.loop-place.invariant.others c.find_sides.ensures.others;
     }
@@ -156,14 +166,26 @@ join_parts-join-requires-clause-numbered t c =
     all_numbered (support m) (height m) m.width (nonzero_in_range m c.in_ok-joint.ensures.shape.rectangular) c.args.rows.now (members_below (height m) c.args.rows.now c.requires.rows) c.args.split.now.row c.requires.split.here c.args.split.now.parts
     c.requires.split.parts c.args.ends.now c.requires.ends c.in_ok-joint.joint c.in_ok-joint.ensures.joint
 
+pub join_parts-join-requires-clause-clear : goal.join_parts-join-requires-clause-clear
+join_parts-join-requires-clause-clear t c = λ r hr n.
+    let J = c.in_ok-joint.ensures.joint in
+    let q = c.requires.split.parts.all r hr (λ e. n (e ∙ sym J.row)) in
+    c.loop-place.invariant.clear q.0 r (let e = c.len-place-end.ensures in let k = c.loop-place-test.false in let l = q.1 in omega arith) q.2
+
 pub join_parts-returns-clause-found : goal.join_parts-returns-clause-found
 join_parts-returns-clause-found t c =
     let m = c.args.matrix.now in
+    let short = nonzero_in_range m c.in_ok-joint.ensures.shape.rectangular in
+    let low = members_below (height m) c.args.rows.now c.requires.rows in
     let before = c.loop-place.invariant.tables in
-    let after = c.join.ensures.tables in
-    joined_cuts (support m) (height m) m.width (nonzero_in_range m c.in_ok-joint.ensures.shape.rectangular) c.args.rows.now (members_below (height m) c.args.rows.now c.requires.rows) c.args.split.now.row c.requires.split.here c.args.split.now.parts
-    c.requires.split.parts c.args.ends.now c.requires.ends c.in_ok-joint.joint c.in_ok-joint.ensures.joint c.loop-place.sides c.join.new.sides after.first_width after.last_width before.first_width before.arcs_width
-    (λ a l. c.loop-place.invariant.kept a (let e = c.len-place-end.ensures in let k = c.loop-place-test.false in omega arith)) c.join.ensures.joined
+    let after = c.join.ensures.tables in record {
+      cuts = joined_cuts (support m) (height m) m.width short c.args.rows.now low c.args.split.now.row c.requires.split.here c.args.split.now.parts
+          c.requires.split.parts c.args.ends.now c.requires.ends c.in_ok-joint.joint c.in_ok-joint.ensures.joint c.loop-place.sides c.join.new.sides after.first_width after.last_width after.arcs_width before.first_width before.arcs_width
+          (λ a l. c.loop-place.invariant.kept a (let e = c.len-place-end.ensures in let k = c.loop-place-test.false in omega arith)) c.join.ensures.joined;
+      clear = joined_clear (support m) (height m) m.width short c.args.rows.now low c.args.split.now.row c.requires.split.here c.args.split.now.parts
+          c.requires.split.parts c.args.ends.now c.requires.ends c.in_ok-joint.joint c.in_ok-joint.ensures.joint c.loop-place.sides c.join.new.sides after.first_width after.last_width after.arcs_width before.first_width before.arcs_width
+          (λ a l. c.loop-place.invariant.kept a (let e = c.len-place-end.ensures in let k = c.loop-place-test.false in omega arith)) c.join.ensures.joined;
+    }
 
 pub join_parts-returns-clause-others : goal.join_parts-returns-clause-others
 join_parts-returns-clause-others t c = λ r n. keeps_row_trans c.args.sides.now c.loop-place.sides c.join.new.sides r (c.loop-place.invariant.others r n) (c.join.ensures.others r n)

@@ -5,7 +5,7 @@ use Rattle.cmr_base.specs.Trees.{support}
 use Rattle.graph_realise.specs.Rays.{IsRay, IsRayAfter}
 use Rattle.cmr_base.specs.ColumnSets.{has_column}
 use Rattle.graph_realise.proofs.SideLemmas.{redrawn_more, redrawn_all, redrawn_others}
-use Rattle.graph_realise.proofs.Stars.{ray_after, ray_same, rays_cuts, seen_more, seen_none}
+use Rattle.graph_realise.proofs.Stars.{ray_after, ray_same, rays_clear, rays_cuts, seen_more, seen_none}
 use Rattle.graph_realise.proofs.star.draw_star.Goals as goal
 
 pub loop-row-init : goal.loop-row-init
@@ -41,6 +41,13 @@ pub returns-clause-cuts : goal.returns-clause-cuts
 returns-clause-cuts c =
     let M = support c.args.matrix.now in
     rays_cuts M c.args.rows.now c.loop-row.sides c.requires.few
+    (λ r h. redrawn_all (IsRay M c.args.rows.now) c.as_slice-row-items.result.now c.loop-row.row-index c.args.sides.now c.loop-row.sides (omega arith) c.loop-row.invariant.drawn r
+    (subst (λ (xs : List ℕ). IsIn r xs) (sym c.as_slice-row-items.ensures.items) h))
+
+pub returns-clause-clear : goal.returns-clause-clear
+returns-clause-clear c =
+    let M = support c.args.matrix.now in
+    rays_clear M c.args.rows.now c.loop-row.sides
     (λ r h. redrawn_all (IsRay M c.args.rows.now) c.as_slice-row-items.result.now c.loop-row.row-index c.args.sides.now c.loop-row.sides (omega arith) c.loop-row.invariant.drawn r
     (subst (λ (xs : List ℕ). IsIn r xs) (sym c.as_slice-row-items.ensures.items) h))
 

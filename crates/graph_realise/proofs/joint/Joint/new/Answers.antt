@@ -1,8 +1,8 @@
 use Rattle.std.proofs.Common.{◌≡◌, ◌∙◌, ℕ, List, Option, length, refl, sym, ap, subst, arith}
 use Rattle.cmr_base.specs.Trees.{support}
-use Rattle.graph_realise.specs.Joints.{AreMarks, IsTouched, number_at}
+use Rattle.graph_realise.specs.Joints.{AreMarks, number_at}
 use Rattle.graph_realise.specs.Tables.{Grid}
-use Rattle.graph_realise.proofs.JointLemmas.{touched_number}
+use Rattle.graph_realise.proofs.JointLemmas.{named_number}
 use Rattle.graph_realise.proofs.joint.Joint.new.Goals as goal
 
 marked : (numbers given : List (Option ℕ)) (count many : ℕ) (marks : Grid) → given ≡ numbers → count ≡ many → AreMarks given count marks → AreMarks numbers many marks
@@ -10,16 +10,13 @@ marked numbers given count many marks e f h = subst (λ (xs : List (Option ℕ))
 
 pub marks_of-requires-clause-numbers : goal.marks_of-requires-clause-numbers
 marks_of-requires-clause-numbers c = λ row part e.
-    let l = (c.in_ok-part_of.ensures.numbered.only part row (ap (λ (xs : List (Option ℕ)). number_at xs row) (sym c.deref-2.ensures.value) ∙ e)).0 in
+    let l = (c.in_ok-part_of.ensures.numbered.only part row (ap (λ (xs : List (Option ℕ)). number_at xs row) (sym c.deref.ensures.value) ∙ e)).0 in
     omega (arith, l, c.len.ensures)
 
 pub marks_of-requires-2-clause-numbers : goal.marks_of-requires-2-clause-numbers
 marks_of-requires-2-clause-numbers c = λ column part e.
-    let M = support c.args.matrix.now in
-    let numbers = c.in_ok-part_of.part_of.items in
-    let l = touched_number M c.args.row c.args.rows.now c.args.parts.now numbers c.in_ok-part_with.part_with.items c.args.matrix.now.width c.in_ok-part_with.ensures.size c.in_ok-part_of.ensures.numbered
-    (λ k m. subst (λ (xs : List (Option ℕ)). IsTouched M c.args.row c.args.rows.now xs k (number_at c.in_ok-part_with.part_with.items k)) c.deref.ensures.value (c.in_ok-part_with.ensures.parts k m))
-    column part (ap (λ (xs : List (Option ℕ)). number_at xs column) (sym c.deref-3.ensures.value) ∙ e) in
+    let l = named_number (support c.args.matrix.now) c.args.row c.args.parts.now (length c.args.parts.now) column part _ (c.in_ok-part_with.ensures.parts column)
+    (ap (λ (xs : List (Option ℕ)). number_at xs column) (sym c.deref-2.ensures.value) ∙ e) in
     omega (arith, l, c.len-2.ensures)
 
 pub returns-clause-joint : goal.returns-clause-joint
@@ -29,8 +26,9 @@ returns-clause-joint c = record {
   columns = c.in_ok-part_with.ensures.size;
   numbered = c.in_ok-part_of.ensures.numbered;
   branches = c.in_ok-branches.ensures;
-  with_columns = λ column l. subst (λ (xs : List (Option ℕ)). IsTouched (support c.args.matrix.now) c.args.row c.args.rows.now xs column (number_at c.in_ok-part_with.part_with.items column)) c.deref.ensures.value (c.in_ok-part_with.ensures.parts column l);
-  row_marks = marked c.in_ok-part_of.part_of.items c.deref-2.result.now c.len.result (length c.args.parts.now) c.in_ok-row_marks.row_marks c.deref-2.ensures.value c.len.ensures c.in_ok-row_marks.ensures;
-  column_marks = marked c.in_ok-part_with.part_with.items c.deref-3.result.now c.len-2.result (length c.args.parts.now) c.in_ok-column_marks.column_marks c.deref-3.ensures.value c.len-2.ensures c.in_ok-column_marks.ensures;
+  with_columns = c.in_ok-part_with.ensures.parts;
+  own_blocks = c.in_ok-row_blocks.ensures;
+  row_marks = marked c.in_ok-part_of.part_of.items c.deref.result.now c.len.result (length c.args.parts.now) c.in_ok-row_marks.row_marks c.deref.ensures.value c.len.ensures c.in_ok-row_marks.ensures;
+  column_marks = marked c.in_ok-part_with.part_with.items c.deref-2.result.now c.len-2.result (length c.args.parts.now) c.in_ok-column_marks.column_marks c.deref-2.ensures.value c.len-2.ensures c.in_ok-column_marks.ensures;
   few = omega (arith, c.requires.few, c.in_ok-part_of.ensures.shape.height_in);
 }

@@ -1,7 +1,0 @@
-use Rattle.std.proofs.Common.{◌*◌, ◌&&◌}
-use Rattle.cmr_base.specs.Cuts.{differ}
-use Rattle.graph_realise.specs.Tables.{cell, IsRowFilled}
-use Rattle.graph_realise.proofs.table.Table.keep.Given as goal
-
-abbrev pub invariant-loop-block : goal.invariant-loop-block
-invariant-loop-block l = IsRowFilled (λ column. cell l.marks l.line column && differ l.is_turned (cell l.initial.self l.row column)) l.initial.self l.self l.row (64 * l.block)
