@@ -1,5 +1,6 @@
 -- Good seeds of the concentrated form.
 use Rattle.std.proofs.Common.{ℕ, ℤ, pos, ◌+◌, ◌<◌, ◌≤◌, ◌*ℤ◌, ◌+ℤ◌, ◌-ℤ◌, Bool, true, false, not, set, List, [], ◌∷◌, ◌++◌, ◌≡◌, ◌≢◌, ◌∙◌, sym, ap, refl, arith, subst, ◌⊎◌, inl, inr, length, get_or}
+use Rattle.std.proofs.lemmas.Bool.{cases_lt}
 use Rattle.cmr_base.specs.declared.line.Line.{Line}
 use Rattle.cmr_base.specs.declared.line.Line.TheVariants.{Row, Column}
 use Rattle.cmr_base.specs.declared.separation.Form.TheVariants.{Concentrated}
@@ -20,7 +21,7 @@ use Rattle.three_sep.specs.declared.corners.Corners.{Corners}
 use Rattle.three_sep.specs.declared.connectors.Connectors.{Connectors}
 use Rattle.three_sep.specs.NumberedSeeds.{Among, IsGoodSeed, Seed, connector, inside, seed_key}
 use Rattle.three_sep.specs.Sides.{AreInside, IsClosedBy}
-use Rattle.three_sep.specs.Searches.{BeginsWith, HasNoGood, LeavesSecond, corner_front}
+use Rattle.three_sep.specs.Searches.{BeginsWith, HasNoGood, HasNoneBelow, LeavesSecond, corner_front}
 use Rattle.cmr_base.specs.Trees.{support}
 use Rattle.three_sep.specs.Independent.{AreIndependent, outside_one, outside_two}
 use Rattle.three_sep.specs.Concentrated.{AreCandidates, AreConcentratedCorners, ArePlaced, HasNoLeaving, HasNoneBetween, IsLeastFor, IsNoOtherColumn, IsOtherColumn, IsOtherRow, TellsClosedFor, all_front, first_lines, first_of, second_of, turned}
@@ -228,6 +229,16 @@ module _ (m : Matrix) where
         | inr (inr (ep, eq)) ↦ zero_determinant (entry m c.k c.p) (entry m c.k q) (entry m s.o c.p) (entry m s.o q) ep eq g.connectors.values.tied.determinant
       ]
 
+  -- columns up to p, and columns in which row i is 0
+  pub none_to_first : (c : Corners) → HasNoneBelow m (corner_front Concentrated c) (c.p + 1)
+  none_to_first c b l = no_column c b (inl (omega arith))
+
+  pub none_over_zeros : (c : Corners) (from q : ℕ) → HasNoneBelow m (corner_front Concentrated c) from → ((column : ℕ) → from ≤ column → column < q → support m c.i column ≡ false) → HasNoneBelow m (corner_front Concentrated c) q
+  none_over_zeros c from q before zeros b l = elim (cases_lt b from) [
+    | inl low ↦ before b low
+    | inr high ↦ no_column c b (inr (inl (zero_is (entry m c.i b) (zeros b high l))))
+  ]
+
   pub column_shut : (c : Corners) (q : ℕ) → HasNoneBetween m c.i c.j → HasNoGood m (corner_front Concentrated c ++ q ∷ [])
   column_shut c q none s S h g = none s S (sym (form_is Concentrated s.form h.0)) (sym h.1.0) (sym h.1.1.1.1.0) g
 
@@ -337,7 +348,7 @@ no_other_row m d candidates inside are (inr e) = row_shut m d (are.others d.corn
 module _ (m : Matrix) (d : Connectors) (start : List Line) where
   pub told_few_leaving : (closed : Bool) (S : Lines) → TellsClosedFor m d start closed S → closed ≡ false → HasNoLeaving m d start
   told_few_leaving true S h e = absurd (not_both true refl e)
-  told_few_leaving false S h e = λ T closed has leaves. let few = h T closed has in let l = leaves.enough in absurd (omega arith)
+  told_few_leaving false S h e = h
 
   pub told_least : (closed : Bool) (S : Lines) → TellsClosedFor m d start closed S → closed ≡ true → IsLeastFor m d start S
   told_least true S h e = h

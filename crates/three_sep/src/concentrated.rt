@@ -1,5 +1,5 @@
 // The first good seed of the concentrated form.
-ghost use Rattle.std.specs.Prelude.{◌≡◌, ◌≢◌, ◌<◌, ◌≤◌, ◌+◌, ◌++◌, ◌∷◌, [], ◌↔◌, ◌⊎◌, ℕ, List, length, slice_index_or, pos, true, false, IsTrue, IfOk, OnOk, IfSome, IfNone};
+ghost use Rattle.std.specs.Prelude.{◌≡◌, ◌≢◌, ◌<◌, ◌≤◌, ◌+◌, ◌++◌, ◌∷◌, [], ◌↔◌, ◌⊎◌, ℕ, List, length, slice_index_or, pos, true, false, IsTrue, IfOk, OnOk, IfSome, IfNone, MatchOption};
 ghost use Rattle.cmr_base.specs.declared.line.Line.{Line};
 ghost use Rattle.cmr_base.specs.declared.line.Line.TheVariants.{Row, Column};
 ghost use Rattle.cmr_base.specs.declared.separation.Form.TheVariants.{Concentrated};
@@ -8,6 +8,7 @@ ghost use Rattle.cmr_base.specs.Planes.{words_for};
 ghost use Rattle.cmr_base.specs.Signing.{IsSign};
 ghost use Rattle.cmr_base.specs.Separations.{core_determinant};
 ghost use Rattle.cmr_base.specs.Seeds.{IsLine};
+ghost use Rattle.cmr_base.specs.Trees.{support};
 ghost use Rattle.three_sep.specs.Sides.{AreInside, HasRoom, HasSize, set_of};
 ghost use Rattle.three_sep.specs.Searches.{HasNoGood, IsFirstOf, LeavesSecond, corner_front};
 ghost use Rattle.three_sep.specs.Concentrated.{AreConcentratedCorners, AreCandidates, ArePlaced, HasNoLeaving, HasNoneBetween, IsGrowingFor, IsLeastFor, IsNoOtherColumn, IsOtherColumn, IsOtherRow, all_front, first_lines, first_of, second_of, turned as turned_connectors};
@@ -241,7 +242,7 @@ impl ConcentratedSearch {
         Ok(None)
     }
 
-    // The columns q.
+    // The columns q, of which only those are looked at in which row i is not 0.
     fn first_of_corners(
         &mut self,
         alloc: Global,
@@ -261,12 +262,15 @@ impl ConcentratedSearch {
         ensures first { IfOk result (λ answer. IfSome answer (IsFirstOf views.now (corner_front Concentrated corners.now))) }
         ensures none { IfOk result (λ answer. IfNone answer (HasNoGood views.now (corner_front Concentrated corners.now))) }
     {
-        for q in 0..views.columns() {
+        let _columns = views.columns();
+        let mut from = corners.p + 1;
+        while let Some(q) = next_nonzero(views, corners.i, from) {
             if self.is_other_column(views, corners, q) {
                 if let Some(three) = self.first_of_columns(alloc, views, turned, corners, q)? {
                     return Ok(Some(three));
                 }
             }
+            from = q + 1;
         }
         Ok(None)
     }
@@ -468,6 +472,16 @@ fn may_be_between(
         return false;
     }
     !are_three_independent(views, i, j, left, last)
+}
+
+// The first column from one on in which a row is not 0.
+fn next_nonzero(views: &RowsAndColumns<'_>, row: u32, from: u32) -> Option<u32>
+    requires row { row < height views.now }
+    requires from { from ≤ 1000 }
+    ensures first { MatchOption result ((column : ℕ) → from ≤ column → support views.now row column ≡ false) (λ next. (from ≤ next) × (next < views.now.width) × ((column : ℕ) → from ≤ column → column < next → support views.now row column ≡ false)) }
+    ensures small { IfSome result (λ next. next < 1000) }
+{
+    views.by_rows().next_nonzero(row, from)
 }
 
 // Whether q is right of p, row i not 0 there, and row k not 0 in both columns.

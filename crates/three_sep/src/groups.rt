@@ -184,6 +184,9 @@ const FEWEST_LINES: u32 = 8;
 
 const MORE_LINES: u32 = 4;
 
+/// The part of the lines by which their number grows each time that they are not enough.
+const STEP: u32 = 8;
+
 /// How many lines are looked at beside those that tell the others apart, since a nonzero's own lines are left out while
 /// other lines are joined.
 const SPARE_LINES: u32 = 2;
@@ -205,8 +208,8 @@ fn first_lines(alloc: Global, views: &RowsAndColumns<'_>) -> Result<u32, Memory>
     Ok(lines)
 }
 
-/// Finds groups of lines that no cut parts. Lines are joined by the nonzeros of the first rows and columns, and of twice
-/// as many each time that these are not enough to show that there is no cut.
+/// Finds groups of lines that no cut parts. Lines are joined by the nonzeros of the first rows and columns, and of an
+/// eighth more each time that these are not enough to show that there is no cut.
 pub fn groups_of(
     alloc: Global,
     views: &RowsAndColumns<'_>,
@@ -225,7 +228,7 @@ pub fn groups_of(
         if finder.has_parted(alloc, views)? {
             return Groups::whole(alloc, views);
         }
-        lines *= 2;
+        lines += lines / STEP + 1;
     }
     finder.join_first(alloc, views, side, most)?;
     Ok(finder.groups)
@@ -344,7 +347,7 @@ fn are_together(
         if is_one_side_parted(alloc, views, within)? {
             return Ok(true);
         }
-        lines *= 2;
+        lines += lines / STEP + 1;
     }
     if !join_rows(views, side, within, i, j, most)? {
         return Ok(false);
