@@ -1,5 +1,6 @@
 -- Good seeds of the concentrated form.
 use Rattle.std.proofs.Common.{ℕ, ℤ, pos, ◌+◌, ◌<◌, ◌≤◌, ◌*ℤ◌, ◌+ℤ◌, ◌-ℤ◌, Bool, true, false, not, set, List, [], ◌∷◌, ◌++◌, ◌≡◌, ◌≢◌, ◌∙◌, sym, ap, refl, arith, subst, ◌⊎◌, inl, inr, length, get_or}
+use Rattle.std.proofs.lemmas.Bool.{cases_lt}
 use Rattle.cmr_base.specs.declared.line.Line.{Line}
 use Rattle.cmr_base.specs.declared.line.Line.TheVariants.{Row, Column}
 use Rattle.cmr_base.specs.declared.separation.Form.TheVariants.{Concentrated}
@@ -13,18 +14,22 @@ use Rattle.cmr_base.proofs.Integers.{sums, products}
 use Rattle.cmr_base.proofs.ListedLines.{has_line_from_line}
 use Rattle.cmr_base.proofs.RowLists.{same_or_not, two_cases}
 use Rattle.cmr_base.proofs.SeedLemmas.{good_three_seed, three_separation_of_seed, form_is}
-use Rattle.cmr_base.proofs.Booleans.{not_false, false_is, not_both}
+use Rattle.cmr_base.proofs.Booleans.{and_is, false_is, nonzero_is, not_both, not_is, zero_is}
+use Rattle.cmr_base.proofs.NextNonzeros.{column_in as nonzero_in}
+use Rattle.cmr_base.proofs.SignEntries.{sign_of_entry}
 use Rattle.three_sep.specs.declared.corners.Corners.{Corners}
 use Rattle.three_sep.specs.declared.connectors.Connectors.{Connectors}
 use Rattle.three_sep.specs.NumberedSeeds.{Among, IsGoodSeed, Seed, connector, inside, seed_key}
 use Rattle.three_sep.specs.Sides.{AreInside, IsClosedBy}
-use Rattle.three_sep.specs.Searches.{BeginsWith, HasNoGood, LeavesSecond, corner_front}
+use Rattle.three_sep.specs.Searches.{BeginsWith, HasNoGood, HasNoneBelow, LeavesSecond, corner_front}
+use Rattle.cmr_base.specs.Trees.{support}
+use Rattle.three_sep.specs.Independent.{AreIndependent, outside_one, outside_two}
 use Rattle.three_sep.specs.Concentrated.{AreCandidates, AreConcentratedCorners, ArePlaced, HasNoLeaving, HasNoneBetween, IsLeastFor, IsNoOtherColumn, IsOtherColumn, IsOtherRow, TellsClosedFor, all_front, first_lines, first_of, second_of, turned}
 use Rattle.three_sep.proofs.HalfLemmas.{set_elsewhere, set_there}
 use Rattle.three_sep.proofs.SideLemmas.{not_not_true, outside_less}
 use Rattle.three_sep.proofs.SearchLemmas.{enough_lines, good_inside, lines_of_connector, none_of_connector, seed_at, seed_from_all, seed_from_first, seed_from_second, seed_is}
 use Rattle.three_sep.proofs.SeedForms.{closed_to, good_numbered, good_three, seed_with}
-use Rattle.three_sep.proofs.SpreadLemmas.{spread_parts, spread_same}
+use Rattle.three_sep.proofs.SpreadLemmas.{no_triangle, spread_parts, spread_same}
 use Rattle.three_sep.proofs.TurnedLemmas.{closed_turned, has_turned, leaves_turned, no_turned, turned_side}
 
 -- ---- what a good seed says
@@ -66,6 +71,44 @@ module _ (m : Matrix) (c : Corners) (q o : ℕ) (x : Line) (S : Lines) (g : IsGo
   parts row column lr lc er ec =
       g.side.closed.below row column lr lc er ec
       ∙ spread_parts determinant (entry m c.k c.p) (entry m c.k q) (entry m o c.p) (entry m o q) (entry m row c.p) (entry m row q) (entry m c.k column) (entry m o column)
+
+  -- rows of column j are made by two rows in the columns of row i
+  module _ (is : IsMatrix m) (h : AreIndependent m c.i c.j) where
+    among_first : (column : ℕ) → support m c.i column ≡ true → (column < m.width) × (S (Column column) ≡ true)
+    among_first column e = let l = nonzero_in m c.i column is row_in e in (l, columns_one column l (nonzero_is (entry m c.i column) e))
+
+    among_one : (column : ℕ) → outside_one m c.i h.one column ≡ true → (support m c.i column ≡ true) × (entry m h.one column ≡ pos 0)
+    among_one column e = let (own, out) = and_is _ _ e in (own, zero_is (entry m h.one column) (not_is _ out))
+
+    among_two : (column : ℕ) → outside_two m c.i h.one h.two column ≡ true → (support m c.i column ≡ true) × (entry m h.one column ≡ pos 0) × (entry m h.two column ≡ pos 0)
+    among_two column e = let (before, out) = and_is _ _ e in let (own, zero_one) = among_one column before in (own, zero_one, zero_is (entry m h.two column) (not_is _ out))
+
+    two_of : (row : ℕ) → row < height m → support m row c.j ≡ true → S (Row row) ≡ false
+    two_of row l e = rows_two row l (nonzero_is (entry m row c.j) e)
+
+    sign_at : (row column : ℕ) → support m row column ≡ true → IsSign (entry m row column)
+    sign_at row column e = sign_of_entry (entry m row column) (is.small row column) (nonzero_is (entry m row column) e)
+
+    not_independent : ⊥
+    not_independent =
+        let one = h.first in
+        let two = h.second in
+        let three = h.third in
+        let (lz, iz) = among_first one.column one.among in
+        let (own_y, one_y) = among_one two.column two.among in
+        let (ly, iy) = among_first two.column own_y in
+        let (own_x, one_x, two_x) = among_two three.column three.among in
+        let (lx, ix) = among_first three.column own_x in
+        let o1 = two_of h.one one.row_in one.nonzero in
+        let o2 = two_of h.two two.row_in two.nonzero in
+        let o3 = two_of h.three three.row_in three.nonzero in
+        let zero = no_triangle (entry m h.three c.p) (entry m h.three q) (entry m h.two c.p) (entry m h.two q) (entry m h.one c.p) (entry m h.one q)
+        (of_first three.column) (of_other three.column) (of_first two.column) (of_other two.column) (of_first one.column) (of_other one.column)
+        (sym (parts h.one three.column one.row_in lx o1 ix) ∙ one_x) (sym (parts h.one two.column one.row_in ly o1 iy) ∙ one_y)
+        (subst (λ (z : ℤ). IsSign z) (parts h.one one.column one.row_in lz o1 iz) (sign_at h.one one.column one.here))
+        (sym (parts h.two three.column two.row_in lx o2 ix) ∙ two_x)
+        (subst (λ (z : ℤ). IsSign z) (parts h.two two.column two.row_in ly o2 iy) (sign_at h.two two.column two.here)) in
+        nonzero_is (entry m h.three three.column) three.here (parts h.three three.column three.row_in lx o3 ix ∙ zero)
 
   -- other connectors with row i and column j
   module _ (d : Connectors) (placed : ArePlaced m d) (same_row : d.corners.i ≡ c.i) (same_column : d.corners.j ≡ c.j) (corners : AreConcentratedCorners (entry m) d.corners) (column : IsOtherColumn (entry m) d.corners d.q) (row : IsOtherRow (entry m) d) where
@@ -153,6 +196,11 @@ module _ (m : Matrix) where
       let c : Corners = record { i = i; p = s.p; k = s.k; j = j } in
       n (zero_between m c s.q s.o s.x S (at_seed s S (seed_at Concentrated c s.q s.o s.x) (between_seed s i j ef ei ej) g))
 
+  pub none_at_independent : IsMatrix m → (i j : ℕ) → AreIndependent m i j → HasNoneBetween m i j
+  none_at_independent is i j independent s S ef ei ej g =
+      let c : Corners = record { i = i; p = s.p; k = s.k; j = j } in
+      not_independent m c s.q s.o s.x S (at_seed s S (seed_at Concentrated c s.q s.o s.x) (between_seed s i j ef ei ej) g) is independent
+
   pub no_corner : (i p : ℕ) → entry m i p ≡ pos 0 → HasNoGood m (3 ∷ i ∷ p ∷ [])
   no_corner i p e s S h g = g.connectors.values.first_corner (rw (sym h.1.0, sym h.1.1.0) e)
 
@@ -180,6 +228,16 @@ module _ (m : Matrix) where
         | inr (inl e) ↦ g.connectors.values.tied.first_other e
         | inr (inr (ep, eq)) ↦ zero_determinant (entry m c.k c.p) (entry m c.k q) (entry m s.o c.p) (entry m s.o q) ep eq g.connectors.values.tied.determinant
       ]
+
+  -- columns up to p, and columns in which row i is 0
+  pub none_to_first : (c : Corners) → HasNoneBelow m (corner_front Concentrated c) (c.p + 1)
+  none_to_first c b l = no_column c b (inl (omega arith))
+
+  pub none_over_zeros : (c : Corners) (from q : ℕ) → HasNoneBelow m (corner_front Concentrated c) from → ((column : ℕ) → from ≤ column → column < q → support m c.i column ≡ false) → HasNoneBelow m (corner_front Concentrated c) q
+  none_over_zeros c from q before zeros b l = elim (cases_lt b from) [
+    | inl low ↦ before b low
+    | inr high ↦ no_column c b (inr (inl (zero_is (entry m c.i b) (zeros b high l))))
+  ]
 
   pub column_shut : (c : Corners) (q : ℕ) → HasNoneBetween m c.i c.j → HasNoGood m (corner_front Concentrated c ++ q ∷ [])
   column_shut c q none s S h g = none s S (sym (form_is Concentrated s.form h.0)) (sym h.1.0) (sym h.1.1.1.1.0) g
@@ -261,13 +319,13 @@ one_less m i j before after are none size same = record {
   ];
 }
 
-pub more_looked : (m : Matrix) (i j : ℕ) (before : List Bool) (nonzero : Bool) → j < length before → (nonzero ≡ true → entry m i j ≢ pos 0) → ((k : ℕ) → k < j → get_or before k false ≡ false → HasNoneBetween m i k)
-    → (k : ℕ) → k < j + 1 → get_or (set before j (not nonzero)) k false ≡ false → HasNoneBetween m i k
-more_looked m i j before nonzero l not_zero looked k lk e = elim (same_or_not k j) [
+pub more_looked : (m : Matrix) (i j : ℕ) (before : List Bool) (may : Bool) → j < length before → (may ≡ false → HasNoneBetween m i j) → ((k : ℕ) → k < j → get_or before k false ≡ false → HasNoneBetween m i k)
+    → (k : ℕ) → k < j + 1 → get_or (set before j may) k false ≡ false → HasNoneBetween m i k
+more_looked m i j before may l none looked k lk e = elim (same_or_not k j) [
   | inl is ↦
-      let there : get_or (set before j (not nonzero)) j false ≡ not nonzero = set_there before j (not nonzero) l in
-      subst (λ (z : ℕ). HasNoneBetween m i z) (sym is) (none_at_nonzero m i j (not_zero (not_false nonzero (sym there ∙ ap (λ (z : ℕ). get_or (set before j (not nonzero)) z false) (sym is) ∙ e))))
-  | inr n ↦ looked k (omega (arith, n)) (sym (set_elsewhere before j k (not nonzero) n) ∙ e)
+      let there : get_or (set before j may) j false ≡ may = set_there before j may l in
+      subst (λ (z : ℕ). HasNoneBetween m i z) (sym is) (none (sym there ∙ ap (λ (z : ℕ). get_or (set before j may) z false) (sym is) ∙ e))
+  | inr n ↦ looked k (omega (arith, n)) (sym (set_elsewhere before j k may n) ∙ e)
 ]
 
 -- ---- what a test refuses
@@ -290,7 +348,7 @@ no_other_row m d candidates inside are (inr e) = row_shut m d (are.others d.corn
 module _ (m : Matrix) (d : Connectors) (start : List Line) where
   pub told_few_leaving : (closed : Bool) (S : Lines) → TellsClosedFor m d start closed S → closed ≡ false → HasNoLeaving m d start
   told_few_leaving true S h e = absurd (not_both true refl e)
-  told_few_leaving false S h e = λ T closed has leaves. let few = h T closed has in let l = leaves.enough in absurd (omega arith)
+  told_few_leaving false S h e = h
 
   pub told_least : (closed : Bool) (S : Lines) → TellsClosedFor m d start closed S → closed ≡ true → IsLeastFor m d start S
   told_least true S h e = h

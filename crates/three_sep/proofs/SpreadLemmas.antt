@@ -1,9 +1,9 @@
 -- The block of rank two that two columns and two rows make is also made by any other two columns and rows of its own whose determinant is
 -- 1 or -1.
-use Rattle.std.proofs.Common.{ℤ, ◌≡◌, ◌+ℤ◌, ◌-ℤ◌, ◌*ℤ◌, ◌∙◌, sym, ap, arith}
+use Rattle.std.proofs.Common.{ℤ, pos, negsuc, ◌≡◌, ◌+ℤ◌, ◌-ℤ◌, ◌*ℤ◌, ◌∙◌, sym, ap, arith, inl, inr}
 use Rattle.cmr_base.specs.Signing.{IsSign}
 use Rattle.cmr_base.specs.Separations.{spread}
-use Rattle.cmr_base.proofs.Integers.{sums, products, one-mul}
+use Rattle.cmr_base.proofs.Integers.{sums, products, one-mul, minus_one-mul, mul-zero, mul_comm}
 use Rattle.cmr_base.proofs.SignedProducts.{sign_square}
 
 -- an entry of the block by the two columns
@@ -69,3 +69,29 @@ module _ (u1 u2 x1 x2 y1 y2 a1 a2 b1 b2 e1 e2 : ℤ) where
   spread_same d x y z w row_first row_other column_first column_other value sign ed ex ey ez ew erf ero ecf eco ev =
       let minors : d ≡ rows_minor *ℤ columns_minor = ed ∙ rw (ex, ey, ez, ew) (minor x1 x2 y1 y2 b1 b2 e1 e2) in
       rw (ex, ey, ez, ew, erf, ero, ecf, eco) (ev ∙ sym (spread_elsewhere d sign minors))
+
+-- ---- three rows that two rows make
+
+by_sign : (sign z : ℤ) → IsSign sign → sign *ℤ z ≡ pos 0 → z ≡ pos 0
+by_sign sign z (inl e) h = sym (one-mul z) ∙ ap (λ (s : ℤ). s *ℤ z) (sym e) ∙ h
+by_sign sign z (inr e) h = let k : negsuc 0 *ℤ z ≡ pos 0 = ap (λ (s : ℤ). s *ℤ z) (sym e) ∙ h in let l = minus_one-mul z in omega (arith, sums)
+
+-- The rows a, b and c in the columns x, y and z: where c is 0 in the first two columns and not in the third, and b is 0 in the first and not
+-- in the second, a is 0 in the first.
+pub no_triangle : (a1 a2 b1 b2 e1 e2 x1 x2 y1 y2 z1 z2 : ℤ) → x1 *ℤ e1 +ℤ x2 *ℤ e2 ≡ pos 0 → y1 *ℤ e1 +ℤ y2 *ℤ e2 ≡ pos 0 → IsSign (z1 *ℤ e1 +ℤ z2 *ℤ e2)
+    → x1 *ℤ b1 +ℤ x2 *ℤ b2 ≡ pos 0 → IsSign (y1 *ℤ b1 +ℤ y2 *ℤ b2) → x1 *ℤ a1 +ℤ x2 *ℤ a2 ≡ pos 0
+no_triangle a1 a2 b1 b2 e1 e2 x1 x2 y1 y2 z1 z2 xe ye ze xb yb =
+    let minors : (z1 *ℤ e1 +ℤ z2 *ℤ e2) *ℤ (x1 *ℤ y2 -ℤ x2 *ℤ y1) ≡ pos 0 =
+    sym (three_minors e1 e2 z1 z2 x1 x2 y1 y2) ∙ rw (xe, ye) (simp products (omega (arith, sums))) in
+    let none : x1 *ℤ y2 -ℤ x2 *ℤ y1 ≡ pos 0 = by_sign (z1 *ℤ e1 +ℤ z2 *ℤ e2) (x1 *ℤ y2 -ℤ x2 *ℤ y1) ze minors in
+    let pair : (x1 *ℤ a1 +ℤ x2 *ℤ a2) *ℤ (y1 *ℤ b1 +ℤ y2 *ℤ b2) -ℤ (y1 *ℤ a1 +ℤ y2 *ℤ a2) *ℤ (x1 *ℤ b1 +ℤ x2 *ℤ b2) ≡ (a1 *ℤ b2 -ℤ a2 *ℤ b1) *ℤ (x1 *ℤ y2 -ℤ x2 *ℤ y1) = minor a1 a2 b1 b2 x1 x2 y1 y2 in
+    by_sign (y1 *ℤ b1 +ℤ y2 *ℤ b2) (x1 *ℤ a1 +ℤ x2 *ℤ a2) yb
+    (last_factor (x1 *ℤ a1 +ℤ x2 *ℤ a2) (y1 *ℤ b1 +ℤ y2 *ℤ b2) (y1 *ℤ a1 +ℤ y2 *ℤ a2) (x1 *ℤ b1 +ℤ x2 *ℤ b2) (a1 *ℤ b2 -ℤ a2 *ℤ b1) (x1 *ℤ y2 -ℤ x2 *ℤ y1) pair xb none)
+  where
+    last_factor : (f g h k s t : ℤ) → f *ℤ g -ℤ h *ℤ k ≡ s *ℤ t → k ≡ pos 0 → t ≡ pos 0 → g *ℤ f ≡ pos 0
+    last_factor f g h k s t is ek et =
+        let now : f *ℤ g -ℤ h *ℤ pos 0 ≡ s *ℤ pos 0 = ap (λ (w : ℤ). f *ℤ g -ℤ h *ℤ w) (sym ek) ∙ is ∙ ap (λ (w : ℤ). s *ℤ w) et in
+        let one = mul-zero h in
+        let other = mul-zero s in
+        let turn = mul_comm f g in
+        omega (arith, sums)

@@ -1,13 +1,16 @@
 -- A side that grows by the rules of the concentrated form, step by step.
-use Rattle.std.proofs.Common.{ℕ, ℤ, pos, List, ◌≡◌, ◌∙◌, ◌+ℤ◌, ◌-ℤ◌, ◌*ℤ◌, sym, ap, ap₂, subst, get_or, refl, Result, Ok, Err, OnOk}
+use Rattle.std.proofs.Common.{ℕ, ℤ, pos, List, ◌≡◌, ◌∙◌, ◌+ℤ◌, ◌-ℤ◌, ◌*ℤ◌, sym, ap, ap₂, subst, get_or, refl, inl, inr, arith, Result, Ok, Err, OnOk}
 use Rattle.cmr_base.specs.declared.line.Line.{Line}
+use Rattle.cmr_base.specs.declared.line.Line.TheVariants.{Row, Column}
 use Rattle.cmr_base.specs.Matrix.{Matrix, height, row_of, entry}
 use Rattle.cmr_base.specs.Separations.{zeros, spread_at, core_determinant}
 use Rattle.cmr_base.proofs.Integers.{zero-mul}
 use Rattle.three_sep.specs.declared.side.Side.{Side}
 use Rattle.three_sep.specs.declared.connectors.Connectors.{Connectors}
 use Rattle.three_sep.specs.Halves.{Agrees, AgreesWithSum, HasPulled, HasTaken}
-use Rattle.three_sep.specs.Concentrated.{IsGrowingFor, first_of, second_of}
+use Rattle.three_sep.specs.Sides.{LeavesFewBy}
+use Rattle.three_sep.specs.Concentrated.{HasNoLeaving, HasSecond, IsGrowingFor, first_of, second_of}
+use Rattle.cmr_base.proofs.Booleans.{not_both}
 use Rattle.three_sep.proofs.SideLemmas.{row_followed, column_followed}
 use Rattle.three_sep.proofs.SpreadLemmas.{spread_parts}
 
@@ -39,6 +42,15 @@ module _ (m : Matrix) (d : Connectors) where
       column_followed m zeros (spread_at (entry m) (first_of d) (second_of d)) before after after.columns column (AgreesWithSum entries f one g other)
       (subst (λ (z : ℕ). HasTaken z column before.columns after.columns) ec t) refl (subst (λ (z : ℕ). HasPulled z (AgreesWithSum entries f one g other) before.rows after.rows) er w)
       (λ r h. ee r ∙ h ∙ made r) (λ r h. sym (ee r) ∙ h ∙ sym (made r)) start grows
+
+-- a closed side has what grows within it
+pub second_inside : (m : Matrix) (d : Connectors) (start : List Line) (side : Side) → IsGrowingFor m d start side → HasSecond d side → HasNoLeaving m d start
+second_inside m d start side g (inl e) T closed has leaves = not_both (T (Row d.corners.k)) (g.least T closed has (Row d.corners.k) e) leaves.row
+second_inside m d start side g (inr (inl e)) T closed has leaves = not_both (T (Row d.o)) (g.least T closed has (Row d.o) e) leaves.other
+second_inside m d start side g (inr (inr e)) T closed has leaves = not_both (T (Column d.corners.j)) (g.least T closed has (Column d.corners.j) e) leaves.column
+
+pub few_leaving : (m : Matrix) (d : Connectors) (start : List Line) → LeavesFewBy m zeros (spread_at (entry m) (first_of d) (second_of d)) start → HasNoLeaving m d start
+few_leaving m d start few T closed has leaves = let l = few T closed has in let k = leaves.enough in absurd (omega arith)
 
 pub ok_map : {A E P Q : Type 0} (r : Result A E) → (P → Q) → OnOk r P → OnOk r Q
 ok_map (Ok x) f h = f h

@@ -1,5 +1,5 @@
 -- The concentrated form: its connectors and its rules.
-use Rattle.std.specs.Prelude.{◌≡◌, ◌≢◌, ◌<◌, ◌≤◌, ◌⊎◌, ◌++◌, ℕ, ℤ, pos, Bool, false, List, [], ◌∷◌, length, slice_index_or}
+use Rattle.std.specs.Prelude.{◌≡◌, ◌≢◌, ◌<◌, ◌≤◌, ◌⊎◌, ◌++◌, ℕ, ℤ, pos, Bool, true, false, List, [], ◌∷◌, length, slice_index_or}
 use Rattle.cmr_base.specs.declared.line.Line.{Line}
 use Rattle.cmr_base.specs.declared.line.Line.TheVariants.{Row, Column}
 use Rattle.cmr_base.specs.declared.separation.Connector.{Connector}
@@ -11,7 +11,7 @@ use Rattle.three_sep.specs.declared.corners.Corners.{Corners}
 use Rattle.three_sep.specs.declared.connectors.Connectors.{Connectors}
 use Rattle.three_sep.specs.declared.side.Side.{Side}
 use Rattle.three_sep.specs.NumberedSeeds.{Seed, HasAll, IsGoodSeed}
-use Rattle.three_sep.specs.Sides.{AreInside, IsClosedBy, IsGrowingBy, IsLeastBy, KeepsGrowingBy, TellsClosedBy}
+use Rattle.three_sep.specs.Sides.{AreInside, IsClosedBy, IsGrowingBy, IsLeastBy, KeepsGrowingBy, set_of}
 use Rattle.three_sep.specs.Searches.{LeavesSecond, corner_front}
 
 abbrev pub first_of : Connectors → Connector
@@ -43,9 +43,6 @@ KeepsGrowingFor m c before after = KeepsGrowingBy m zeros (spread_at (entry m) (
 abbrev pub IsLeastFor : Matrix → Connectors → List Line → Lines → Type 0
 IsLeastFor m c start S = IsLeastBy m zeros (spread_at (entry m) (first_of c) (second_of c)) start S
 
-abbrev pub TellsClosedFor : Matrix → Connectors → List Line → Bool → Lines → Type 0
-TellsClosedFor m c start closed S = TellsClosedBy m zeros (spread_at (entry m) (first_of c) (second_of c)) start closed S
-
 -- the first connector grows in every matrix and by all rules
 abbrev pub GrowsFrom : Matrix → List Line → Side → Type 0
 GrowsFrom m start side = (upper lower : ℕ → ℕ → ℤ) → IsGrowingBy m upper lower start side
@@ -75,6 +72,15 @@ all_front c = corner_front Concentrated c.corners ++ c.q ∷ c.o ∷ []
 -- no closed set that has the start leaves the second connector and four lines or more
 abbrev pub HasNoLeaving : Matrix → Connectors → List Line → Type 0
 HasNoLeaving m c start = (T : Lines) → IsClosedBy m zeros (spread_at (entry m) (first_of c) (second_of c)) T → HasAll T start → ¬ (LeavesSecond m c.corners (Row c.o) T)
+
+-- whether the set is the least closed one, or no closed one leaves the second connector and four lines or more
+abbrev pub TellsClosedFor : Matrix → Connectors → List Line → Bool → Lines → Type 0
+TellsClosedFor m c start true S = IsLeastFor m c start S
+TellsClosedFor m c start false S = HasNoLeaving m c start
+
+-- some line of the second connector is in the side
+abbrev pub HasSecond : Connectors → Side → Type 0
+HasSecond c side = (set_of side (Row c.corners.k) ≡ true) ⊎ (set_of side (Row c.o) ≡ true) ⊎ (set_of side (Column c.corners.j) ≡ true)
 
 -- ---- columns that may be in side two
 

@@ -4,6 +4,7 @@ pub mod ThreeSeparations
 pub mod Halves
 pub mod Sides
 pub mod Concentrated
+pub mod Independent
 pub mod Cuts
 pub mod Parted
 pub mod Finders

@@ -1,21 +1,25 @@
 // The first good seed of the concentrated form.
-ghost use Rattle.std.specs.Prelude.{◌≡◌, ◌≢◌, ◌<◌, ◌≤◌, ◌+◌, ◌++◌, ◌∷◌, [], ◌↔◌, ◌⊎◌, ℕ, List, length, slice_index_or, pos, true, false, IsTrue, IfOk, OnOk, IfSome, IfNone};
+ghost use Rattle.std.specs.Prelude.{◌≡◌, ◌≢◌, ◌<◌, ◌≤◌, ◌+◌, ◌++◌, ◌∷◌, [], ◌↔◌, ◌⊎◌, ℕ, List, length, slice_index_or, pos, true, false, IsTrue, IfOk, OnOk, IfSome, IfNone, MatchOption};
 ghost use Rattle.cmr_base.specs.declared.line.Line.{Line};
 ghost use Rattle.cmr_base.specs.declared.line.Line.TheVariants.{Row, Column};
 ghost use Rattle.cmr_base.specs.declared.separation.Form.TheVariants.{Concentrated};
 ghost use Rattle.cmr_base.specs.Matrix.{entry, height, transposed};
+ghost use Rattle.cmr_base.specs.Planes.{words_for};
 ghost use Rattle.cmr_base.specs.Signing.{IsSign};
 ghost use Rattle.cmr_base.specs.Separations.{core_determinant};
 ghost use Rattle.cmr_base.specs.Seeds.{IsLine};
+ghost use Rattle.cmr_base.specs.Trees.{support};
 ghost use Rattle.three_sep.specs.Sides.{AreInside, HasRoom, HasSize, set_of};
 ghost use Rattle.three_sep.specs.Searches.{HasNoGood, IsFirstOf, LeavesSecond, corner_front};
-ghost use Rattle.three_sep.specs.Concentrated.{AreConcentratedCorners, AreCandidates, ArePlaced, HasNoLeaving, IsGrowingFor, IsLeastFor, IsNoOtherColumn, IsOtherColumn, IsOtherRow, all_front, first_lines, first_of, second_of, turned as turned_connectors};
+ghost use Rattle.three_sep.specs.Concentrated.{AreConcentratedCorners, AreCandidates, ArePlaced, HasNoLeaving, HasNoneBetween, IsGrowingFor, IsLeastFor, IsNoOtherColumn, IsOtherColumn, IsOtherRow, all_front, first_lines, first_of, second_of, turned as turned_connectors};
 
 use crate::connectors::Connectors;
 use crate::corners::Corners;
+use crate::independent::are_three_independent;
 use crate::pulled::is_second_pulled;
 use crate::search::{is_beside, leaves_second, line_at, separation_of};
 use crate::side::Side;
+use cmr_base::columns::empty_set;
 use cmr_base::{Form, Line, Memory, RowsAndColumns, Three};
 use std::alloc::Global;
 
@@ -56,7 +60,7 @@ impl ConcentratedSearch {
     {
         let turned = RowsAndColumns::new(alloc, views.by_columns())?;
         for i in 0..views.rows() {
-            self.start_candidates(views, i);
+            self.start_candidates(alloc, views, i)?;
             if let Some(three) = self.first_of_row(alloc, views, &turned, i)? {
                 return Ok(Some(three));
             }
@@ -64,17 +68,25 @@ impl ConcentratedSearch {
         Ok(None)
     }
 
-    // Makes the columns in which row i is 0 candidates.
-    fn start_candidates(&mut self, views: &RowsAndColumns<'_>, i: u32)
+    // Makes the columns in which row i is 0 candidates, but for those that independent rows refuse.
+    fn start_candidates(
+        &mut self,
+        alloc: Global,
+        views: &RowsAndColumns<'_>,
+        i: u32,
+    ) -> Result<(), Memory>
         requires candidates { length self.old.candidates.items ≡ views.now.width }
         requires row { i < height views.now }
         ensures side { self.new.side ≡ self.old.side }
         ensures grown { self.new.grown ≡ self.old.grown }
-        ensures candidates { AreCandidates views.now i self.new.candidates.items }
+        ensures candidates { OnOk result (AreCandidates views.now i self.new.candidates.items) }
     {
+        let mut left = empty_set(alloc, views.columns())?;
+        let mut last = empty_set(alloc, views.columns())?;
         for j in 0..views.columns() {
-            self.candidates[j as usize] = !views.is_nonzero(i, j);
+            self.candidates[j as usize] = may_be_between(views, i, j, &mut left, &mut last);
         }
+        Ok(())
     }
 
     // Whether a column is a candidate.
@@ -230,7 +242,7 @@ impl ConcentratedSearch {
         Ok(None)
     }
 
-    // The columns q.
+    // The columns q, of which only those are looked at in which row i is not 0.
     fn first_of_corners(
         &mut self,
         alloc: Global,
@@ -250,12 +262,15 @@ impl ConcentratedSearch {
         ensures first { IfOk result (λ answer. IfSome answer (IsFirstOf views.now (corner_front Concentrated corners.now))) }
         ensures none { IfOk result (λ answer. IfNone answer (HasNoGood views.now (corner_front Concentrated corners.now))) }
     {
-        for q in 0..views.columns() {
+        let _columns = views.columns();
+        let mut from = corners.p + 1;
+        while let Some(q) = next_nonzero(views, corners.i, from) {
             if self.is_other_column(views, corners, q) {
                 if let Some(three) = self.first_of_columns(alloc, views, turned, corners, q)? {
                     return Ok(Some(three));
                 }
             }
+            from = q + 1;
         }
         Ok(None)
     }
@@ -434,6 +449,39 @@ impl ConcentratedSearch {
             Line::Row(connectors.o),
         ))
     }
+}
+
+// Whether row i may be in side one and column j in side two: row i is 0 there, and no independent rows refuse it.
+fn may_be_between(
+    views: &RowsAndColumns<'_>,
+    i: u32,
+    j: u32,
+    left: &mut Vec<u64>,
+    last: &mut Vec<u64>,
+) -> bool
+    requires row { i < height views.now }
+    requires column { j < views.now.width }
+    requires left { length left.old.items ≡ words_for views.now.width }
+    requires last { length last.old.items ≡ words_for views.now.width }
+    ensures left { length left.new.items ≡ words_for views.now.width }
+    ensures last { length last.new.items ≡ words_for views.now.width }
+    ensures no { result ≡ false → HasNoneBetween views.now i j }
+{
+    let _rows = views.rows();
+    if views.is_nonzero(i, j) {
+        return false;
+    }
+    !are_three_independent(views, i, j, left, last)
+}
+
+// The first column from one on in which a row is not 0.
+fn next_nonzero(views: &RowsAndColumns<'_>, row: u32, from: u32) -> Option<u32>
+    requires row { row < height views.now }
+    requires from { from ≤ 1000 }
+    ensures first { MatchOption result ((column : ℕ) → from ≤ column → support views.now row column ≡ false) (λ next. (from ≤ next) × (next < views.now.width) × ((column : ℕ) → from ≤ column → column < next → support views.now row column ≡ false)) }
+    ensures small { IfSome result (λ next. next < 1000) }
+{
+    views.by_rows().next_nonzero(row, from)
 }
 
 // Whether q is right of p, row i not 0 there, and row k not 0 in both columns.

@@ -85,6 +85,20 @@ impl Groups {
         Ok(Groups { names })
     }
 
+    /// So many rows and columns are one group, which has the first row's name, and each other line is a group.
+    pub fn of_first(alloc: Global, views: &RowsAndColumns<'_>, lines: u32) -> Result<Groups, Memory>
+        ensures { IfOk result (HasNames views.now) }
+    {
+        let mut groups = Groups::new(alloc, views)?;
+        for row in 0..views.rows().min(lines) {
+            groups.join(row, 0);
+        }
+        for column in 0..views.columns().min(lines) {
+            groups.join(views.rows() + column, 0);
+        }
+        Ok(groups)
+    }
+
     /// All lines are one group.
     pub fn whole(alloc: Global, views: &RowsAndColumns<'_>) -> Result<Groups, Memory>
         ensures { IfOk result (HasNames views.now) }
@@ -165,11 +179,37 @@ impl Groups {
     }
 }
 
-/// How many rows and columns are looked at first.
-const FIRST_LINES: u32 = 16;
+/// How many rows and columns are looked at at least, and how many more at a time.
+const FEWEST_LINES: u32 = 8;
 
-/// Finds groups of lines that no cut parts. Lines are joined by the nonzeros of the first rows and columns, and of twice
-/// as many each time that these are not enough to show that there is no cut.
+const MORE_LINES: u32 = 4;
+
+/// The part of the lines by which their number grows each time that they are not enough.
+const STEP: u32 = 8;
+
+/// How many lines are looked at beside those that tell the others apart, since a nonzero's own lines are left out while
+/// other lines are joined.
+const SPARE_LINES: u32 = 2;
+
+// How many of the first rows and columns are looked at first: about as few as tell all other lines apart. Fewer show no
+// group to be parted by every cut, and more cost more tests.
+fn first_lines(alloc: Global, views: &RowsAndColumns<'_>) -> Result<u32, Memory>
+    ensures { IfOk result (λ lines. 1 ≤ lines) }
+{
+    let most = views.rows().max(views.columns());
+    let mut lines = FEWEST_LINES;
+    while lines < most {
+        let groups = Groups::of_first(alloc, views, lines)?;
+        if is_parted_by_cuts(alloc, views, &groups, 0)? {
+            return Ok(lines + SPARE_LINES);
+        }
+        lines += MORE_LINES;
+    }
+    Ok(lines)
+}
+
+/// Finds groups of lines that no cut parts. Lines are joined by the nonzeros of the first rows and columns, and of an
+/// eighth more each time that these are not enough to show that there is no cut.
 pub fn groups_of(
     alloc: Global,
     views: &RowsAndColumns<'_>,
@@ -182,22 +222,23 @@ pub fn groups_of(
 {
     let mut finder = GroupFinder::new(alloc, views)?;
     let most = views.rows().max(views.columns());
-    let mut lines = FIRST_LINES;
+    let mut lines = finder.first;
     while lines < most {
         finder.join_first(alloc, views, side, lines)?;
         if finder.has_parted(alloc, views)? {
             return Groups::whole(alloc, views);
         }
-        lines *= 2;
+        lines += lines / STEP + 1;
     }
     finder.join_first(alloc, views, side, most)?;
     Ok(finder.groups)
 }
 
 // Groups while they are found: those found so far, lines that are linked by nonzeros that were looked at, and room for the
-// groups that are not parted by the cuts that part one nonzero's lines.
+// groups that are not parted by the cuts that part one nonzero's lines. So many rows and columns are looked at first.
 #[derive(Drop)]
 struct GroupFinder {
+    first: u32,
     groups: Groups,
     linked: Groups,
     within: Groups,
@@ -208,6 +249,7 @@ impl GroupFinder {
         ensures { IfOk result (AreFound views.now) }
     {
         Ok(GroupFinder {
+            first: first_lines(alloc, views)?,
             groups: Groups::new(alloc, views)?,
             linked: Groups::new(alloc, views)?,
             within: Groups::new(alloc, views)?,
@@ -265,7 +307,7 @@ impl GroupFinder {
     {
         self.linked.join(i, views.rows() + j);
         self.within.copy(&self.groups)?;
-        if are_together(alloc, views, side, &mut self.within, i, j)? {
+        if are_together(alloc, views, side, &mut self.within, self.first, i, j)? {
             self.groups.join(i, views.rows() + j);
         }
         Ok(())
@@ -274,18 +316,21 @@ impl GroupFinder {
 
 // Whether no cut parts row i from column j. First lines are joined that no cut parts which has row i in side one and
 // column j in side two: a nonzero (k, p) with a 0 in (k, j) or in (i, p) is not in the upper block of such a cut. Then
-// a group must be parted by every cut, or no nonzero be left for the lower block.
+// a group must be parted by every cut, or no nonzero be left for the lower block. The nonzeros of `first` rows and columns
+// are looked at first.
 fn are_together(
     alloc: Global,
     views: &RowsAndColumns<'_>,
     side: &mut Side,
     within: &mut Groups,
+    first: u32,
     i: u32,
     j: u32,
 ) -> Result<bool, Memory>
     requires size { HasSize views.now side.old }
     requires names { HasNames views.now within.old }
     requires together { HoldTogether (IsCut views.now) views.now within.old }
+    requires first { 1 ≤ first }
     requires row { i < height views.now }
     requires column { j < views.now.width }
     requires nonzero { entry views.now i j ≢ pos 0 }
@@ -294,7 +339,7 @@ fn are_together(
     ensures together { IfOk result (λ together. together ≡ true → AreTogether views.now i j) }
 {
     let most = views.rows().max(views.columns());
-    let mut lines = FIRST_LINES;
+    let mut lines = first;
     while lines < most {
         if !join_rows(views, side, within, i, j, lines)? {
             return Ok(false);
@@ -302,7 +347,7 @@ fn are_together(
         if is_one_side_parted(alloc, views, within)? {
             return Ok(true);
         }
-        lines *= 2;
+        lines += lines / STEP + 1;
     }
     if !join_rows(views, side, within, i, j, most)? {
         return Ok(false);

@@ -2,6 +2,7 @@
 ghost use Rattle.std.specs.Prelude.{◌≡◌, ◌<◌, ◌≤◌, ◌+◌, ◌↔◌, ◌⊎◌, IsTrue, ℕ, true, false, length, IfOk, OnOk, MatchOption};
 ghost use Rattle.cmr_base.specs.Planes.{has_bit};
 ghost use Rattle.cmr_base.specs.Matrix.{height, row_of, IsEntry};
+ghost use Rattle.cmr_base.specs.Trees.{support};
 ghost use Rattle.three_sep.specs.Numbers.{IsSmall};
 ghost use Rattle.three_sep.specs.Halves.{Agrees, AgreesWithSum, AreSame, HasAdded, HasGrown, HasPlaces, HasPulled, HasStarted, HasStartedWith, HasTaken, IsBitOf, IsHalf, IsNamed, is_in};
 
@@ -190,10 +191,38 @@ impl Half {
         requires other_factor { IsSmall other.now.factor }
         ensures { OnOk result (HasPulled (length self.old.inside.items) (AgreesWithSum (row_of matrix.now row) one.now.factor (row_of matrix.now one.now.row) other.now.factor (row_of matrix.now other.now.row)) self.old self.new) }
     {
-        for line in 0..self.inside.len() as u32 {
+        self.pull_along(matrix, row, row, one, other)?;
+        self.pull_along(matrix, one.row, row, one, other)?;
+        self.pull_along(matrix, other.row, row, one, other)?;
+        Ok(())
+    }
+
+    // Takes in such lines among those at which the row `along` is not 0. Where all three rows are 0, the sum is right.
+    fn pull_along(
+        &mut self,
+        matrix: &Matrix,
+        along: u32,
+        row: u32,
+        one: &Multiple,
+        other: &Multiple,
+    ) -> Result<(), Memory>
+        requires half { IsHalf (length self.old.inside.items) self.old }
+        requires width { matrix.now.width ≡ length self.old.inside.items }
+        requires along { along < height matrix.now }
+        requires row { row < height matrix.now }
+        requires one_row { one.now.row < height matrix.now }
+        requires other_row { other.now.row < height matrix.now }
+        requires one_factor { IsSmall one.now.factor }
+        requires other_factor { IsSmall other.now.factor }
+        ensures grown { OnOk result (HasGrown (length self.old.inside.items) (λ line. ¬ (AgreesWithSum (row_of matrix.now row) one.now.factor (row_of matrix.now one.now.row) other.now.factor (row_of matrix.now other.now.row) line)) self.old self.new) }
+        ensures agree { OnOk result ((line : ℕ) → support matrix.now along line ≡ true → is_in self.new line ≡ false → AgreesWithSum (row_of matrix.now row) one.now.factor (row_of matrix.now one.now.row) other.now.factor (row_of matrix.now other.now.row) line) }
+    {
+        let mut from = 0;
+        while let Some(line) = matrix.next_nonzero(along, from) {
             if self.is_unlike(matrix, row, one, other, line) {
                 self.add(line)?;
             }
+            from = line + 1;
         }
         Ok(())
     }

@@ -7,6 +7,7 @@ mod connectors;
 mod corners;
 mod groups;
 mod half;
+mod independent;
 mod parted;
 mod pulled;
 mod search;

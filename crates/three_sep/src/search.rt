@@ -40,7 +40,7 @@ pub fn three_separation<R: Threads + Sync>(
 }
 
 /// How many corners are tried before groups are looked for, so that an early find does not pay for them.
-const EARLY: u32 = 200;
+const EARLY: u32 = 100;
 
 /// The search: the side of the first connector, and that side with one more line. Groups of lines that no cut parts are
 /// looked for once some corners were tried in vain; until then each line is a group.

@@ -1,12 +1,12 @@
 // Side one of a seed of the concentrated form, which grows until it is closed.
-ghost use Rattle.std.specs.Prelude.{◌≡◌, ◌<◌, ◌+◌, ◌-ℤ◌, ◌*ℤ◌, List, length, IfOk, OnOk};
+ghost use Rattle.std.specs.Prelude.{◌≡◌, ◌<◌, ◌+◌, true, ◌-ℤ◌, ◌*ℤ◌, List, length, IfOk, OnOk};
 ghost use Rattle.cmr_base.specs.declared.line.Line.{Line};
 ghost use Rattle.cmr_base.specs.Matrix.{entry, height};
 ghost use Rattle.cmr_base.specs.Signing.{IsSign};
 ghost use Rattle.cmr_base.specs.Separations.{core_determinant};
 ghost use Rattle.three_sep.specs.Numbers.{IsSmall};
 ghost use Rattle.three_sep.specs.Sides.{HasRoom, HasSize, set_of, work};
-ghost use Rattle.three_sep.specs.Concentrated.{ArePlaced, GrowsFrom, IsGrowingFor, KeepsGrowingFor, TellsClosedFor, first_lines, first_of, second_of};
+ghost use Rattle.three_sep.specs.Concentrated.{ArePlaced, GrowsFrom, HasSecond, IsGrowingFor, KeepsGrowingFor, TellsClosedFor, first_lines, first_of, second_of};
 
 use crate::connectors::{Connectors, cross, signed};
 use crate::corners::Corners;
@@ -32,7 +32,8 @@ impl Side {
         Ok(())
     }
 
-    /// Grows until it is closed, and says so; or until fewer than four lines are left, and says that.
+    /// Grows until it is closed, and says so; or until a line of the second connector is in it or fewer than four lines are
+    /// left, and says that.
     pub fn spread(
         &mut self,
         views: &RowsAndColumns<'_>,
@@ -46,12 +47,27 @@ impl Side {
         ensures closed { IfOk result (λ closed. (start : List Line) → IsGrowingFor views.now connectors.now start self.old → TellsClosedFor views.now connectors.now start closed (set_of self.new)) }
     {
         while self.rows.left() + self.columns.left() >= 4 {
+            if self.has_second(connectors) {
+                return Ok(false);
+            }
             if self.rows.waiting() + self.columns.waiting() == 0 {
                 return Ok(true);
             }
             self.spread_line(views, connectors)?;
         }
         Ok(false)
+    }
+
+    // Whether a line of the second connector is in the side.
+    fn has_second(&self, connectors: &Connectors) -> bool
+        requires rows { (connectors.now.corners.k < length self.now.rows.inside.items) × (connectors.now.o < length self.now.rows.inside.items) }
+        requires columns { connectors.now.corners.j < length self.now.columns.inside.items }
+        ensures { result ≡ true → HasSecond connectors.now self.now }
+    {
+        if self.rows.has(connectors.corners.k) || self.rows.has(connectors.o) {
+            return true;
+        }
+        self.columns.has(connectors.corners.j)
     }
 
     // Follows the pulls of one line that waits.

@@ -1,3 +1,4 @@
+use Rattle.std.proofs.Common.{◌≤◌, ◌-◌}
 use Rattle.cmr_base.specs.declared.separation.Form.TheVariants.{Concentrated}
 use Rattle.three_sep.specs.Sides.{HasSize}
 use Rattle.three_sep.specs.Searches.{HasNoneBelow, corner_front}
@@ -5,4 +6,7 @@ use Rattle.three_sep.specs.Concentrated.{AreCandidates}
 use Rattle.three_sep.proofs.concentrated.ConcentratedSearch.first_of_corners.Given as goal
 
 abbrev pub invariant-loop-q : goal.invariant-loop-q
-invariant-loop-q l = HasSize l.views l.self.side × HasSize l.views l.self.grown × HasNoneBelow l.views (corner_front Concentrated l.corners) l.q × AreCandidates l.views l.corners.i l.self.candidates.items
+invariant-loop-q l = HasSize l.views l.self.side × HasSize l.views l.self.grown × HasNoneBelow l.views (corner_front Concentrated l.corners) l.from × AreCandidates l.views l.corners.i l.self.candidates.items × (l.from ≤ 1000)
+
+abbrev pub decreases-loop-q : goal.decreases-loop-q
+decreases-loop-q l = 1000 - l.from

@@ -15,4 +15,5 @@ returns-then-branch-clause-found c =
       linked = c.join.ensures.0 ∙ c.requires.found.linked;
       within = c.in_ok-are_together.ensures.names;
       together = step.1;
+      first = c.requires.found.first;
     }

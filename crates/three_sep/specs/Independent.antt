@@ -1,0 +1,29 @@
+-- Three rows that are independent in some columns.
+use Rattle.std.specs.Prelude.{◌≡◌, ◌<◌, ◌&&◌, not, ℕ, Bool, true}
+use Rattle.cmr_base.specs.Matrix.{Matrix, height}
+use Rattle.cmr_base.specs.Trees.{support}
+
+-- a row that is not 0 in column j and in some column of a set
+pub record IsNewRow (m : Matrix) (j : ℕ) (set : ℕ → Bool) (row : ℕ) : Type 0 where
+  pub row_in : row < height m
+  pub nonzero : support m row j ≡ true
+  pub column : ℕ
+  pub among : set column ≡ true
+  pub here : support m row column ≡ true
+
+-- the columns in which row i is not 0 and a row is
+abbrev pub outside_one : Matrix → ℕ → ℕ → ℕ → Bool
+outside_one m i one column = support m i column && not (support m one column)
+
+-- and another row too
+abbrev pub outside_two : Matrix → ℕ → ℕ → ℕ → ℕ → Bool
+outside_two m i one two column = outside_one m i one column && not (support m two column)
+
+-- three rows that are not 0 in column j, each of them not 0 in a column in which row i is not 0 and those before it are
+pub record AreIndependent (m : Matrix) (i j : ℕ) : Type 0 where
+  pub one : ℕ
+  pub two : ℕ
+  pub three : ℕ
+  pub first : IsNewRow m j (support m i) one
+  pub second : IsNewRow m j (outside_one m i one) two
+  pub third : IsNewRow m j (outside_two m i one two) three

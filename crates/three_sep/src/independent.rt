@@ -1,0 +1,82 @@
+// Rows that no two others make, among those that a column is not 0 in.
+ghost use Rattle.std.specs.Prelude.{◌≡◌, ◌<◌, ◌≤◌, ◌&&◌, not, ℕ, true, length, IfSome, MatchOption};
+ghost use Rattle.cmr_base.specs.ColumnSets.{has_column};
+ghost use Rattle.cmr_base.specs.Matrix.{height};
+ghost use Rattle.cmr_base.specs.Planes.{words_for};
+ghost use Rattle.cmr_base.specs.Trees.{support};
+ghost use Rattle.three_sep.specs.Independent.{AreIndependent, IsNewRow};
+
+use cmr_base::RowsAndColumns;
+use cmr_base::columns::{add_outside, clear_set, meets};
+
+/// Whether three rows are shown to be independent that are not 0 in column j, in the columns in which row i is not 0: each
+/// is not 0 in one of them in which those before it are 0. A side with row i and without column j would have these
+/// columns and not these rows, and two rows would make all three. The rows are taken as they come, so that most pairs are
+/// settled by three rows. `left` and `last` are room for columns.
+pub fn are_three_independent(
+    views: &RowsAndColumns<'_>,
+    i: u32,
+    j: u32,
+    left: &mut Vec<u64>,
+    last: &mut Vec<u64>,
+) -> bool
+    requires row { i < height views.now }
+    requires column { j < views.now.width }
+    requires left { length left.old.items ≡ words_for views.now.width }
+    requires last { length last.old.items ≡ words_for views.now.width }
+    ensures left { length left.new.items ≡ words_for views.now.width }
+    ensures last { length last.new.items ≡ words_for views.now.width }
+    ensures independent { result ≡ true → AreIndependent views.now i j }
+{
+    let own = columns_of(views, i);
+    let Some(one) = new_row(views, own, j, 0) else {
+        return false;
+    };
+    put_outside(left, own, columns_of(views, one));
+    let Some(two) = new_row(views, left, j, one + 1) else {
+        return false;
+    };
+    put_outside(last, left, columns_of(views, two));
+    match new_row(views, last, j, two + 1) {
+        Some(_three) => true,
+        None => false,
+    }
+}
+
+// The first row from one on that is not 0 in column j and in some column of a set.
+fn new_row(views: &RowsAndColumns<'_>, set: &[u64], j: u32, from: u32) -> Option<u32>
+    requires column { j < views.now.width }
+    requires set { length set.now ≡ words_for views.now.width }
+    requires from { from ≤ 1000 }
+    ensures new { MatchOption result (Unit {0}) (IsNewRow views.now j (has_column set.now)) }
+    ensures small { IfSome result (λ row. row < 1000) }
+{
+    let mut next = from;
+    while let Some(row) = views.by_columns().next_nonzero(j, next) {
+        if meets(set, columns_of(views, row)) {
+            return Some(row);
+        }
+        next = row + 1;
+    }
+    None
+}
+
+// The columns in which a row is not 0.
+fn columns_of<'b>(views: &'b RowsAndColumns<'_>, row: u32) -> &'b [u64]
+    requires { row < height views.now }
+    ensures size { length result.now ≡ words_for views.now.width }
+    ensures columns { (column : ℕ) → has_column result.now column ≡ support views.now row column }
+{
+    views.by_rows().support_words(row)
+}
+
+// Makes a set of the columns that are in one set and not in another.
+fn put_outside(set: &mut Vec<u64>, one: &[u64], other: &[u64])
+    requires one { length one.now ≡ length set.old.items }
+    requires other { length other.now ≡ length set.old.items }
+    ensures size { length set.new.items ≡ length set.old.items }
+    ensures columns { (column : ℕ) → has_column set.new.items column ≡ (has_column one.now column && not (has_column other.now column)) }
+{
+    clear_set(set);
+    add_outside(set, one, other);
+}
