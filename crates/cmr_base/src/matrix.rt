@@ -10,7 +10,7 @@ ghost use Rattle.cmr_base.specs.Planes.{is_minus, word_of, words_for, words_of};
 use crate::planes::{
     Plane, count_bits, has_bit, passes, place_of, planes_of, row_words, with_bit, words_for,
 };
-use crate::{LineSet, MAX_COLUMNS, MAX_ROWS, Memory};
+use crate::{Indices, LineSet, MAX_COLUMNS, MAX_ROWS, Memory};
 use std::alloc::Global;
 use std::marker::Model;
 
@@ -168,8 +168,22 @@ impl Matrix {
         requires columns { AllBelow self.now.width lines.now.columns }
         ensures { IfOk result (λ part. part ≡ submatrix self.now lines.now.rows lines.now.columns) }
     {
-        let rows = lines.rows.as_slice();
-        let columns = lines.columns.as_slice();
+        self.part_on(alloc, &lines.rows, &lines.columns)
+    }
+
+    /// The submatrix on some rows and columns, in the matrix's order.
+    pub(crate) fn part_on(
+        &self,
+        alloc: Global,
+        rows: &Indices,
+        columns: &Indices,
+    ) -> Result<Matrix, Memory>
+        requires rows { AllBelow (height self.now) rows.now }
+        requires columns { AllBelow self.now.width columns.now }
+        ensures { IfOk result (λ part. part ≡ submatrix self.now rows.now columns.now) }
+    {
+        let rows = rows.as_slice();
+        let columns = columns.as_slice();
         prove!(rows.len() <= self.rows() as usize);
         prove!(columns.len() <= self.columns() as usize);
         let places = places_of(alloc, columns, self.columns())?;

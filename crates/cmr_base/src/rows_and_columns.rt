@@ -1,7 +1,8 @@
 ghost use Rattle.std.specs.Prelude.{◌≡◌, ◌≢◌, ◌<◌, true, false, pos, IfOk};
+ghost use Rattle.cmr_base.specs.LineSets.{AllBelow, submatrix};
 ghost use Rattle.cmr_base.specs.Matrix.{height, entry, transposed, IsMatrix, IsEntry};
 
-use crate::{Matrix, Memory};
+use crate::{LineSet, Matrix, Memory};
 use std::alloc::Global;
 use std::marker::Model;
 
@@ -36,6 +37,41 @@ impl<'a> RowsAndColumns<'a> {
             rows: matrix,
             columns,
         })
+    }
+
+    /// The same where the columns are at hand, so that nothing is transposed.
+    pub fn of_both(rows: &'a Matrix, columns: Matrix) -> RowsAndColumns<'a>
+        requires { columns ≡ transposed rows.now }
+        ensures { result ≡ rows.entry.now }
+    {
+        let _rows = rows.rows();
+        RowsAndColumns { rows, columns }
+    }
+
+    /// The rows and the columns of a part that was made already. Its columns are taken from the columns of the whole
+    /// matrix, so that nothing is transposed.
+    pub fn of_part<'b>(
+        &self,
+        alloc: Global,
+        part: &'b Matrix,
+        lines: &LineSet,
+    ) -> Result<RowsAndColumns<'b>, Memory>
+        requires rows { AllBelow (height self.now) lines.now.rows }
+        requires columns { AllBelow self.now.width lines.now.columns }
+        requires part { part.now ≡ submatrix self.now lines.now.rows lines.now.columns }
+        ensures { IfOk result (λ both. both ≡ part.entry.now) }
+    {
+        let columns = self.columns_of(alloc, lines)?;
+        Ok(RowsAndColumns::of_both(part, columns))
+    }
+
+    // The transposed submatrix on some lines.
+    fn columns_of(&self, alloc: Global, lines: &LineSet) -> Result<Matrix, Memory>
+        requires rows { AllBelow (height self.now) lines.now.rows }
+        requires columns { AllBelow self.now.width lines.now.columns }
+        ensures { IfOk result (λ columns. columns ≡ transposed (submatrix self.now lines.now.rows lines.now.columns)) }
+    {
+        self.columns.part_on(alloc, &lines.columns, &lines.rows)
     }
 
     /// How many rows there are.
