@@ -15,3 +15,4 @@ pub mod StatedOrder
 pub mod Loops
 pub mod PlaceSums
 pub mod TallyLemmas
+pub mod UnlikeRows

@@ -23,7 +23,7 @@ weight_at-same (x ∷ xs) f g same =
     ∙ rw (same x (inl refl), weight_at-same xs f g (λ y h. same y (inr h))) refl
     ∙ sym (sum_by-cons (λ k. cond (is_nonzero (g k)) (weight k) 0) x xs)
 
-nonzero-neg : (z : ℤ) → is_nonzero (neg_ℤ z) ≡ is_nonzero z
+pub nonzero-neg : (z : ℤ) → is_nonzero (neg_ℤ z) ≡ is_nonzero z
 nonzero-neg (pos zero) = refl
 nonzero-neg (pos (suc n)) = refl
 nonzero-neg (negsuc n) = refl

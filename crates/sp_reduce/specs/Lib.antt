@@ -3,3 +3,4 @@ pub mod Kinds
 pub mod Sides
 pub mod Tallies
 pub mod Changes
+pub mod Digests

@@ -1,0 +1,90 @@
+// A first look at the lines of a matrix, by which most matrices without reducible line are known.
+ghost use Rattle.std.specs.Prelude.{◌≡◌, ◌<◌, Bool, true, false, IfOk};
+ghost use Rattle.std.specs.List.Sorted.{IsStrictlyIncreasing};
+ghost use Rattle.cmr_base.specs.Matrix.{height, entry};
+ghost use Rattle.cmr_base.specs.LineSets.{first_lines};
+ghost use Rattle.cmr_base.specs.Reductions.{nonzeros_at};
+ghost use Rattle.sp_reduce.specs.Digests.{mixed, digest_of, AreUnlikeRows, HasNoReducibleLine};
+
+use cmr_base::{Matrix, Memory, RowsAndColumns};
+use std::alloc::Global;
+
+// An odd number whose bits look random.
+const MULTIPLIER: u64 = 11_400_714_819_323_198_485;
+
+/// What a first look at the lines of a matrix tells.
+#[derive(Clone, Copy, Debug, PartialEq, Eq)]
+pub enum FirstLook {
+    /// No line is reducible.
+    Irreducible,
+    /// Some line may be reducible, or none.
+    Unclear,
+}
+
+/// A first look at all lines. Where each has two nonzeros or more, and digests of their supports tell those of one kind
+/// apart, no line is reducible: a copy or a negative has the same support. Equal digests tell nothing. No two lines are
+/// compared: it takes the time of a walk through the words and of two sorts.
+pub fn first_look(alloc: Global, both: &RowsAndColumns<'_>) -> Result<FirstLook, Memory>
+    ensures { IfOk result (λ look. look ≡ FirstLook.Irreducible → (binary : Bool) → HasNoReducibleLine binary both.now) }
+{
+    if has_unlike_rows(alloc, both.by_rows())? && has_unlike_rows(alloc, both.by_columns())? {
+        return Ok(FirstLook::Irreducible);
+    }
+    Ok(FirstLook::Unclear)
+}
+
+// Whether each row has two nonzeros or more, and no two rows have one digest.
+fn has_unlike_rows(alloc: Global, matrix: &Matrix) -> Result<bool, Memory>
+    ensures { IfOk result (λ yes. yes ≡ true → AreUnlikeRows matrix.now) }
+{
+    let mut digests = Vec::with_capacity(alloc, matrix.rows() as usize)?;
+    'rows: for row in 0..matrix.rows() {
+        if has_few_nonzeros(matrix, row) {
+            return Ok(false);
+        }
+        digests.push(digest_of(matrix.support_words(row)))?;
+    }
+    digests.sort_unstable();
+    Ok(are_rising(&digests))
+}
+
+// Whether a row has at most one nonzero.
+fn has_few_nonzeros(matrix: &Matrix, row: u32) -> bool
+    requires { row < height matrix.now }
+    ensures { result ≡ false → 1 < nonzeros_at (first_lines matrix.now.width) (entry matrix.now row) }
+{
+    match matrix.next_nonzero(row, 0) {
+        Some(first) => matrix.next_nonzero(row, first + 1).is_none(),
+        None => true,
+    }
+}
+
+// One number for some words.
+fn digest_of(words: &[u64]) -> u64
+    ensures { result ≡ digest_of words.now }
+{
+    let mut digest = 0;
+    'words: for word in words {
+        digest = mixed(digest, *word);
+    }
+    digest
+}
+
+// A digest with one more word.
+fn mixed(digest: u64, word: u64) -> u64
+    ensures { result ≡ mixed digest word }
+{
+    (digest.rotate_left(32) ^ word).wrapping_mul(MULTIPLIER)
+}
+
+// Whether each number is below the next.
+fn are_rising(numbers: &[u64]) -> bool
+    ensures { result ≡ true → IsStrictlyIncreasing numbers.now }
+{
+    'places: for place in 1..numbers.len() {
+        if numbers[place - 1] >= numbers[place] {
+            return false;
+        }
+    }
+    true
+}
