@@ -1,5 +1,5 @@
 -- What a node says in each case without separation.
-use Rattle.std.proofs.Common.{◌≡◌, ◌≢◌, ◌<◌, ◌≤◌, ◌+◌, ◌∙◌, ◌⊎◌, inl, inr, ℕ, zero, suc, Bool, true, false, min, List, [], ◌∷◌, length, map, get_or, Contains, Result, Ok, Err, IfOk, refl, ap, ap₂, sym, subst, arith}
+use Rattle.std.proofs.Common.{◌≡◌, ◌≢◌, ◌<◌, ◌≤◌, ◌+◌, ◌∙◌, ◌⊎◌, inl, inr, ℕ, zero, suc, Bool, true, false, min, List, [], ◌∷◌, length, map, get_or, Contains, Result, Ok, Err, IfOk, is_some, refl, ap, ap₂, sym, subst, arith}
 use Rattle.std.proofs.lemmas.Bool.{cases_lt, true≢false}
 use Rattle.std.proofs.lemmas.List.{length-map, get_or-map}
 use Rattle.std.proofs.lemmas.List.FromFn.{length-range_with_len}
@@ -26,6 +26,7 @@ use Rattle.cmr_base.proofs.ListsWithout.{contains_from_in, in_from_contains, in-
 use Rattle.cmr_base.proofs.Members.{distinct_few}
 use Rattle.cmr_base.proofs.Parts.{height-transposed, length-rising}
 use Rattle.cmr_base.proofs.ListedLines.{has_line_from_listed, listed_from_has_line}
+use Rattle.sp_reduce.specs.Digests.{HasNoReducibleLine}
 use Rattle.tree_type.specs.Trees.{Finding, Empty, Cycle, Reduced, OneSum, Network, Conetwork, R10, Enumerated, Violator, Undecided, Trees, NoTrees, count_trees}
 use Rattle.tree_type.specs.Invariant.{AreLines, AreLinesOf, HasSizes, size_of, Fits, HasChildren}
 use Rattle.tree_type.specs.Places.{lines_left}
@@ -83,6 +84,10 @@ none_next limit n case before here earlier l other = go (cases_lt (case_number e
     go (inr more) =
         let same : case_number earlier ≡ case_number case = omega (arith, l, more) in
         subst (λ c. ¬ (Applies limit n c)) (sym (sym (numbered_back earlier) ∙ ap case_numbered same ∙ numbered_back case)) here
+
+-- no line is reducible
+pub none_reducible : (limit : ℕ) (n : Matrix) → HasNoReducibleLine false n → ¬ (Applies limit n IsReducible)
+none_reducible limit n none (line, has, some) = true≢false (sym some ∙ ap is_some (none line has))
 
 -- the case of a cycle fault does not count
 pub none_after_fault : (limit : ℕ) (n : Matrix) → HasNoneBefore limit n 2 → HasNoneBefore limit n 3

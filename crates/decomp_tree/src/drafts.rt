@@ -13,7 +13,7 @@ use crate::faults::keeps_free;
 use crate::looking::look;
 use crate::obstructions::Obstruction;
 use crate::seen::Seen;
-use cmr_base::{LineSet, LineSetList, Matrix, Memory};
+use cmr_base::{LineSet, LineSetList, Memory, RowsAndColumns};
 use std::alloc::Global;
 use std::thread::Threads;
 use tree_type::{Finding, copy_of};
@@ -41,7 +41,7 @@ pub struct Draft {
 pub fn draw<R: Threads + Sync>(
     rt: &R,
     alloc: Global,
-    matrix: &Matrix,
+    matrix: &RowsAndColumns<'_>,
     lines: &LineSet,
     obstruction: &Obstruction,
     limit: u32,
@@ -60,7 +60,7 @@ pub fn draw<R: Threads + Sync>(
     let front = front_of(rt, alloc, matrix, lines, obstruction, limit, workers)?;
     let mut children = Vec::new(alloc);
     for child in front.children.as_slice() {
-        let known = obstruction.in_child(alloc, matrix, &front.finding, child)?;
+        let known = obstruction.in_child(alloc, matrix.by_rows(), &front.finding, child)?;
         draw(
             rt,
             alloc,
@@ -80,7 +80,7 @@ pub fn draw<R: Threads + Sync>(
 fn front_of<R: Threads + Sync>(
     rt: &R,
     alloc: Global,
-    matrix: &Matrix,
+    matrix: &RowsAndColumns<'_>,
     lines: &LineSet,
     obstruction: &Obstruction,
     limit: u32,

@@ -11,7 +11,7 @@ ghost use Rattle.decomp_tree.specs.Sketches.{IsDrafted, lines_of_sketch, sketch_
 use crate::drafts::{Draft, draw};
 use crate::obstructions::Obstruction;
 use crate::settling::settle;
-use cmr_base::{LineSet, Matrix, Memory};
+use cmr_base::{LineSet, Matrix, Memory, RowsAndColumns};
 use std::alloc::Global;
 use std::thread::Threads;
 use tree_type::{DecTree, Node};
@@ -81,10 +81,11 @@ fn draft_root<R: Threads + Sync>(
 {
     let mut drafts = Vec::new(alloc);
     let unknown = Obstruction::unknown(matrix);
+    let both = RowsAndColumns::new(alloc, matrix)?;
     draw(
         rt,
         alloc,
-        matrix,
+        &both,
         lines,
         &unknown,
         limit,

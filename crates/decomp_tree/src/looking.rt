@@ -19,7 +19,7 @@ use cmr_base::{LineSet, Matrix, Memory, RowsAndColumns, Three, Two};
 use leaf_enumerate::{Search, least_violator};
 use network_orient::{Orientation, orientation_of};
 use r10_leaf::is_r10;
-use sp_reduce::{Reduction, reduce};
+use sp_reduce::{FirstLook, Reduction, first_look, reduce};
 use std::alloc::Global;
 use std::thread::Threads;
 use three_sep::three_separation;
@@ -31,7 +31,7 @@ use two_sep::{components_of, two_separation_of};
 pub fn look<R: Threads + Sync>(
     rt: &R,
     alloc: Global,
-    matrix: &Matrix,
+    matrix: &RowsAndColumns<'_>,
     lines: &LineSet,
     obstruction: &Obstruction,
     limit: u32,
@@ -45,20 +45,22 @@ pub fn look<R: Threads + Sync>(
     requires known { IsKnown matrix.now obstruction.now }
     ensures { IfOk result (IsSeen limit matrix.now lines.now) }
 {
-    let part = matrix.part(alloc, lines)?;
+    let whole = matrix.by_rows();
+    let part = whole.part(alloc, lines)?;
     if part.rows() == 0 && part.columns() == 0 {
         return Ok(leaf(alloc, Finding::Empty));
     }
-    look_filled(rt, alloc, matrix, lines, &part, obstruction, limit, workers)
+    let inner = matrix.of_part(alloc, &part, lines)?;
+    look_filled(rt, alloc, whole, lines, &inner, obstruction, limit, workers)
 }
 
-// The cases of a matrix with lines.
+// The cases of a matrix with lines. Lines are removed only where a first look does not tell that none is reducible.
 fn look_filled<R: Threads + Sync>(
     rt: &R,
     alloc: Global,
     matrix: &Matrix,
     lines: &LineSet,
-    inner: &Matrix,
+    inner: &RowsAndColumns<'_>,
     obstruction: &Obstruction,
     limit: u32,
     workers: u32,
@@ -73,7 +75,38 @@ fn look_filled<R: Threads + Sync>(
     requires known { IsKnown matrix.now obstruction.now }
     ensures { IfOk result (IsSeen limit matrix.now lines.now) }
 {
-    let reduction = reduce(alloc, inner, false)?;
+    match first_look(alloc, inner)? {
+        FirstLook::Irreducible => {
+            look_irreducible(rt, alloc, matrix, lines, inner, obstruction, limit, workers)
+        }
+        FirstLook::Unclear => {
+            look_unclear(rt, alloc, matrix, lines, inner, obstruction, limit, workers)
+        }
+    }
+}
+
+// The same where some line may be reducible.
+fn look_unclear<R: Threads + Sync>(
+    rt: &R,
+    alloc: Global,
+    matrix: &Matrix,
+    lines: &LineSet,
+    inner: &RowsAndColumns<'_>,
+    obstruction: &Obstruction,
+    limit: u32,
+    workers: u32,
+) -> Result<Seen, Memory>
+    requires limit { limit ≤ 24 }
+    requires workers { (1 ≤ workers) × (workers ≤ 64) }
+    requires shape { IsMatrix matrix.now }
+    requires rows { IsRowSet matrix.now lines.now.rows }
+    requires columns { IsColumnSet matrix.now lines.now.columns }
+    requires inner { inner.now ≡ part matrix.now lines.now }
+    requires none { HasNoneBefore limit (part matrix.now lines.now) 3 }
+    requires known { IsKnown matrix.now obstruction.now }
+    ensures { IfOk result (IsSeen limit matrix.now lines.now) }
+{
+    let reduction = reduce(alloc, inner.by_rows(), false)?;
     if reduction.steps.len() > 0 {
         return seen_reduced(alloc, matrix, lines, &reduction, limit);
     }
@@ -109,7 +142,7 @@ fn look_irreducible<R: Threads + Sync>(
     alloc: Global,
     matrix: &Matrix,
     lines: &LineSet,
-    inner: &Matrix,
+    inner: &RowsAndColumns<'_>,
     obstruction: &Obstruction,
     limit: u32,
     workers: u32,
@@ -124,15 +157,14 @@ fn look_irreducible<R: Threads + Sync>(
     requires known { IsKnown matrix.now obstruction.now }
     ensures { IfOk result (IsSeen limit matrix.now lines.now) }
 {
-    let both = RowsAndColumns::new(alloc, inner)?;
-    let parts = components_of(alloc, &both)?;
+    let parts = components_of(alloc, inner)?;
     if parts.len() >= 2 {
         return Ok(Seen {
             finding: Finding::OneSum,
             children: named_parts(alloc, lines, parts.as_slice())?,
         });
     }
-    look_connected(rt, alloc, matrix, lines, &both, obstruction, limit, workers)
+    look_connected(rt, alloc, matrix, lines, inner, obstruction, limit, workers)
 }
 
 // The cases of a connected matrix without reducible line. Where it has the lines of the obstruction, it is no network

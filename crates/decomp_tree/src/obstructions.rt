@@ -10,7 +10,7 @@ ghost use Rattle.decomp_tree.specs.Obstructions.{IsKnown, IsNoNetwork, IsSomeOf,
 use cmr_base::{Indices, LineSet, Matrix, Memory};
 use network_orient::has_graphic_support;
 use std::alloc::Global;
-use tree_type::{Finding, copy_of, has_line};
+use tree_type::{Finding, copy_of};
 
 // The fewest lines of a submatrix in which an obstruction is sought. Smaller ones are tested themselves.
 const LEAST_LINES: u32 = 40;
@@ -125,16 +125,37 @@ fn has_lines(lines: &LineSet, own: &LineSet) -> bool
     has_all(&lines.rows, own.rows.as_slice()) && has_all(&lines.columns, own.columns.as_slice())
 }
 
-// Whether a set has all these lines.
+// Whether a set has all these lines. Both rise, so it is gone through once.
 fn has_all(set: &Indices, lines: &[u32]) -> bool
     ensures { IsTrue result → AllByRecursion (λ line. is_among set.now line ≡ true) lines.now }
 {
+    let numbers = set.as_slice();
+    let mut place = 0;
     for line in lines {
-        if !has_line(set, *line) {
+        place = place_from(numbers, place, *line);
+        if !stands_at(numbers, place, *line) {
             return false;
         }
     }
     true
+}
+
+fn stands_at(numbers: &[u32], place: usize, line: u32) -> bool
+    ensures { result ≡ true → is_among numbers.now line ≡ true }
+{
+    place < numbers.len() && numbers[place] == line
+}
+
+// The first place from one on whose number is not below a line.
+fn place_from(numbers: &[u32], from: usize, line: u32) -> usize
+    ensures { result ≤ length numbers.now }
+{
+    for place in from..numbers.len() {
+        if numbers[place] >= line {
+            return place;
+        }
+    }
+    numbers.len()
 }
 
 // An obstruction in the middle of some lines, where it is one: it stands in what is left of a chain of sums until much of

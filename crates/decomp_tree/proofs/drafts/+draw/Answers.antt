@@ -1,6 +1,8 @@
 use Rattle.std.proofs.Common.{◌≡◌, ◌+◌, ◌∙◌, List, ℕ, map, take, length, ap, sym, subst, arith}
 use Rattle.std.specs.List.{AllByRecursion}
 use Rattle.cmr_base.specs.declared.line_set.LineSet.{LineSet}
+use Rattle.cmr_base.specs.Matrix.{Matrix}
+use Rattle.cmr_base.specs.LineSets.{IsRowSet, IsColumnSet}
 use Rattle.cmr_base.proofs.Lists.{all_at}
 use Rattle.decomp_tree.specs.declared.drafts.Front.{Front}
 use Rattle.decomp_tree.specs.Seen.{AreFewer}
@@ -15,7 +17,8 @@ in_child-requires-clause-rows g t c =
     let items = c.as_slice-child-items.result.now in
     let same : items ≡ front.children = c.as_slice-child-items.ensures ∙ ap (λ (f : Front). f.children) c.deref.ensures in
     let fewer = all_at (AreFewer c.args.lines.now) items c.loop-child.child-index c.child-item.result (subst (AllByRecursion (AreFewer c.args.lines.now)) (sym same) c.in_ok-front.ensures.said.fewer) c.loop-child-test.true in
-    child_rows c.args.matrix.now c.args.lines.now c.child-item.result (record { rows = c.requires.rows; columns = c.requires.columns }) (subst (AreFewer c.args.lines.now) (sym c.child-item.is) fewer)
+    subst (λ (m : Matrix). IsRowSet m c.child-item.result.rows) (sym c.by_rows.ensures.matrix)
+    (child_rows c.args.matrix.now c.args.lines.now c.child-item.result (record { rows = c.requires.rows; columns = c.requires.columns }) (subst (AreFewer c.args.lines.now) (sym c.child-item.is) fewer))
 
 pub in_child-requires-clause-columns : goal.in_child-requires-clause-columns
 in_child-requires-clause-columns g t c =
@@ -23,7 +26,8 @@ in_child-requires-clause-columns g t c =
     let items = c.as_slice-child-items.result.now in
     let same : items ≡ front.children = c.as_slice-child-items.ensures ∙ ap (λ (f : Front). f.children) c.deref.ensures in
     let fewer = all_at (AreFewer c.args.lines.now) items c.loop-child.child-index c.child-item.result (subst (AllByRecursion (AreFewer c.args.lines.now)) (sym same) c.in_ok-front.ensures.said.fewer) c.loop-child-test.true in
-    child_columns c.args.matrix.now c.args.lines.now c.child-item.result (record { rows = c.requires.rows; columns = c.requires.columns }) (subst (AreFewer c.args.lines.now) (sym c.child-item.is) fewer)
+    subst (λ (m : Matrix). IsColumnSet m c.child-item.result.columns) (sym c.by_rows.ensures.matrix)
+    (child_columns c.args.matrix.now c.args.lines.now c.child-item.result (record { rows = c.requires.rows; columns = c.requires.columns }) (subst (AreFewer c.args.lines.now) (sym c.child-item.is) fewer))
 
 pub draw-requires-clause-rows : goal.draw-requires-clause-rows
 draw-requires-clause-rows g t c =

@@ -1,6 +1,8 @@
-use Rattle.std.proofs.Common.{◌≡◌, ◌∙◌, ap, sym, subst}
-use Rattle.cmr_base.specs.Matrix.{Matrix, height}
+use Rattle.std.proofs.Common.{◌≡◌, ◌∙◌, IfOk, List, ℕ, ap, sym, subst}
+use Rattle.cmr_base.specs.Matrix.{Matrix, height, IsMatrix}
+use Rattle.cmr_base.specs.LineSets.{IsRowSet, IsColumnSet}
 use Rattle.tree_type.specs.Soundness.{part}
+use Rattle.decomp_tree.specs.Obstructions.{IsKnown}
 use Rattle.decomp_tree.specs.Shapes.{HasNoLines}
 use Rattle.decomp_tree.specs.Seen.{IsSeen}
 use Rattle.decomp_tree.proofs.Said.{none_first, none_next, none_after_fault, seen_empty}
@@ -9,14 +11,15 @@ use Rattle.decomp_tree.proofs.looking.look.Goals.{else-rows-eq0-via-then-rows-eq
 
 pub returns-then-columns-eq0 : goal.returns-then-columns-eq0
 returns-then-columns-eq0 g c =
+    let same = c.in_ok-part.ensures ∙ ap (λ (m : Matrix). part m c.args.lines.now) c.by_rows-whole.ensures.matrix in
     subst (IsSeen c.args.limit c.args.matrix.now c.args.lines.now) (sym c.leaf.ensures)
     (seen_empty c.args.limit c.args.matrix.now c.requires.shape c.args.lines.now (record { rows = c.requires.rows; columns = c.requires.columns })
-    (ap height (sym c.in_ok-part.ensures) ∙ sym c.rows.ensures.rows ∙ c.if-rows-eq0.true)
-    (ap (λ (m : Matrix). m.width) (sym c.in_ok-part.ensures) ∙ sym c.columns.ensures.columns ∙ c.if-columns-eq0.true))
+    (ap height (sym same) ∙ sym c.rows.ensures.rows ∙ c.if-rows-eq0.true)
+    (ap (λ (m : Matrix). m.width) (sym same) ∙ sym c.columns.ensures.columns ∙ c.if-columns-eq0.true))
 
 pub look_filled-requires-clause-none : goal.look_filled-requires-clause-none
 look_filled-requires-clause-none g c =
-    let m = c.args.matrix.now in
+    let m = c.by_rows-whole.result.now in
     let lines = c.args.lines.now in
     let same = c.in_ok-part.ensures in
     let no_lines : ¬ ((height (part m lines) ≡ 0) × ((part m lines).width ≡ 0)) = elim c.else-rows-eq0.branch [

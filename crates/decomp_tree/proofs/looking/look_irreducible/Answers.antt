@@ -12,7 +12,7 @@ use Rattle.decomp_tree.proofs.looking.look_irreducible.Goals as goal
 
 pub named_parts-requires : goal.named_parts-requires
 named_parts-requires g c =
-    let apart = subst (λ (n : Matrix). AreComponents n c.in_ok-parts.parts) (c.in_ok-both.ensures ∙ c.requires.inner) c.in_ok-parts.ensures in
+    let apart = subst (λ (n : Matrix). AreComponents n c.in_ok-parts.parts) c.requires.inner c.in_ok-parts.ensures in
     subst (AllByRecursion (IsPlacedSet c.args.lines.now)) (sym c.as_slice.ensures)
     (parts_placed c.args.limit c.args.matrix.now c.requires.shape c.args.lines.now (record { rows = c.requires.rows; columns = c.requires.columns }) c.in_ok-parts.parts apart)
 
@@ -20,7 +20,7 @@ pub returns-then-len-ge2 : goal.returns-then-len-ge2
 returns-then-len-ge2 g c =
     let m = c.args.matrix.now in
     let lines = c.args.lines.now in
-    let apart = subst (λ (n : Matrix). AreComponents n c.in_ok-parts.parts) (c.in_ok-both.ensures ∙ c.requires.inner) c.in_ok-parts.ensures in
+    let apart = subst (λ (n : Matrix). AreComponents n c.in_ok-parts.parts) c.requires.inner c.in_ok-parts.ensures in
     subst (λ (children : List LineSet). IsSeen c.args.limit m lines (record { finding = held.OneSum; children = children })) (sym (c.in_ok-named_parts.ensures ∙ ap (map (set_in lines)) c.as_slice.ensures))
     (seen_parts c.args.limit m c.requires.shape lines (record { rows = c.requires.rows; columns = c.requires.columns }) c.in_ok-parts.parts c.requires.none apart
     (let l = c.if-len-ge2.true in let e = c.len.ensures in omega (arith, l, e)))
@@ -28,6 +28,6 @@ returns-then-len-ge2 g c =
 pub look_connected-requires-clause-none : goal.look_connected-requires-clause-none
 look_connected-requires-clause-none g c =
     let inner = part c.args.matrix.now c.args.lines.now in
-    let apart = subst (λ (n : Matrix). AreComponents n c.in_ok-parts.parts) (c.in_ok-both.ensures ∙ c.requires.inner) c.in_ok-parts.ensures in
+    let apart = subst (λ (n : Matrix). AreComponents n c.in_ok-parts.parts) c.requires.inner c.in_ok-parts.ensures in
     λ κs lives. none_next c.args.limit inner IsApart c.requires.none
     (not_apart inner c.args.limit c.in_ok-parts.parts apart (let l = c.if-len-ge2.false in let e = c.len.ensures in omega (arith, l, e)))
