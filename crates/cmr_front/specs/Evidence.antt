@@ -1,6 +1,9 @@
 -- Tools that read evidence, alone or behind a matrix text.
 use Rattle.std.specs.Prelude.{◌≡◌, ℕ, List, [], ◌∷◌, Ok}
+use Rattle.cmr_base.specs.Matrix.{Matrix}
 use Rattle.text_fields.specs.Words.{text_of}
+use Rattle.tree_type.specs.Soundness.{IsBrokenTree, IsSoundTree}
+use Rattle.tree_type.specs.declared.refusal.Rule.{Rule}
 use Rattle.tree_text.specs.Reading.{PlainTree, tree}
 use Rattle.cmr_front.specs.declared.input.InputKind.TheVariants.{Evidence}
 use Rattle.cmr_front.specs.declared.outcome.FaultKind.TheVariants as faults
@@ -30,6 +33,14 @@ ReportsTree file Decides bytes report = ReportsText faults.Tree file Decides (tr
 -- the text stands for a tree, of which an answer says so
 abbrev pub SaysOfTree : (PlainTree → Answer → Type 0) → List ℕ → Answer → Type 0
 SaysOfTree Says bytes answer = (t : PlainTree) × (tree (text_of bytes) ≡ Ok t) × Says t answer
+
+-- each node of the tree keeps all rules in the matrix
+abbrev pub IsSoundFor : Matrix → PlainTree → Type 0
+IsSoundFor m t = IsSoundTree m t.rows t.columns t.root
+
+-- the node at this path is the first that breaks a rule, and this is the rule
+abbrev pub IsBrokenFor : Matrix → PlainTree → List ℕ → Rule → Type 0
+IsBrokenFor m t path broken = IsBrokenTree m t.rows t.columns t.root path broken
 
 -- the tool that decides on the tree of one file
 abbrev pub tree_tool : List ℕ → (PlainTree → Report → Type 0) → (PlainTree → Answer → Type 0) → Tool

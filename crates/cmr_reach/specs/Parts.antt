@@ -11,14 +11,13 @@ use Rattle.compose.specs.Kinds.{kind_of as sum_kind_of}
 use Rattle.compose.specs.RoundTrips.{IsRoundTrip}
 use Rattle.tree_text.specs.KindWords.{finding_of, kind_of, word_of}
 use Rattle.tree_text.specs.Reading.{PlainTree}
-use Rattle.tree_type.specs.Soundness.{IsBrokenTree, IsSoundTree}
 use Rattle.tree_type.specs.Trees.{Finding, TwoSum, ThreeSum}
 use Rattle.tree_type.specs.declared.refusal.Rule.{Rule}
 use Rattle.cmr_front.specs.declared.matrix_file.MatrixForm.TheVariants.{Dense}
 use Rattle.cmr_front.specs.declared.outcome.FaultKind.TheVariants as faults
 use Rattle.cmr_front.specs.declared.status.Answer.{Answer}
 use Rattle.cmr_front.specs.declared.status.Answer.TheVariants.{Yes, No, Undecided, Refused}
-use Rattle.cmr_front.specs.Evidence.{ReportsTree, SaysOfTree, evidence_tool}
+use Rattle.cmr_front.specs.Evidence.{IsBrokenFor, IsSoundFor, ReportsTree, SaysOfTree, evidence_tool}
 use Rattle.cmr_front.specs.MatrixText.{matrix_in}
 use Rattle.cmr_front.specs.Printed.{line_set}
 use Rattle.cmr_front.specs.Refusals.{refusal_line}
@@ -80,12 +79,6 @@ pub record AreParts (m : Matrix) (finding : Finding) (kind : SumKind) (both : Ar
   pub whole : IsMatrix m
   pub first : IsMatrix both.first
   pub second : IsMatrix both.second
-
-abbrev pub IsSoundFor : Matrix → PlainTree → Type 0
-IsSoundFor m t = IsSoundTree m t.rows t.columns t.root
-
-abbrev pub IsBrokenFor : Matrix → PlainTree → List ℕ → Rule → Type 0
-IsBrokenFor m t path broken = IsBrokenTree m t.rows t.columns t.root path broken
 
 abbrev pub root_of : PlainTree → Finding
 root_of t = finding_of t.root

@@ -35,11 +35,11 @@ use Rattle.cmr_front.specs.Report.{Report}
 use Rattle.cmr_front.specs.Status.{answer_status}
 use Rattle.cmr_front.specs.Tool.{IsLawful}
 use Rattle.cmr_front.proofs.Statuses.{status_of}
-use Rattle.cmr_front.specs.Evidence.{evidence_files}
+use Rattle.cmr_front.specs.Evidence.{IsSoundFor, evidence_files}
 use Rattle.cmr_front.proofs.Texts.{answered, one_of_text, pair_lawful}
 use Rattle.cmr_tools.specs.declared.tools.check.EvidenceKind.{EvidenceKind}
 use Rattle.cmr_tools.specs.declared.tools.check.EvidenceKind.TheVariants as kinds
-use Rattle.cmr_tools.specs.Check.{ChainDecides, ChainMeans, CheckMeans, CheckReports, EvidenceMeans, EvidenceReports, IsSoundFor, ShowsIrregular, TreeDecides, TreeMeans, ViolatorDecides, ViolatorMeans, accepted, refused, accepted_report, check_tool, evidence_kind, is_of_support}
+use Rattle.cmr_tools.specs.Check.{ChainDecides, ChainMeans, CheckMeans, CheckReports, EvidenceMeans, EvidenceReports, ShowsIrregular, TreeDecides, TreeMeans, ViolatorDecides, ViolatorMeans, accepted, refused, accepted_report, check_tool, evidence_kind, is_of_support}
 use Rattle.cmr_tools.specs.Words.Check.{CheckOrder}
 use Rattle.cmr_tools.proofs.UnimodularAnswers.{unimodular, not_unimodular}
 

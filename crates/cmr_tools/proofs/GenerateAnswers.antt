@@ -1,12 +1,12 @@
 -- What the answers of `generate` say of the matrix that is made.
-use Rattle.std.proofs.Common.{◌≡◌, ◌<◌, ◌≤◌, ◌∙◌, ℕ, pos, [], Result, Ok, Err, length, ap₂, sym, subst, arith}
+use Rattle.std.proofs.Common.{◌≡◌, ◌<◌, ◌≤◌, ◌∙◌, ℕ, Result, Ok, Err, sym, subst, arith}
 use Rattle.std.specs.Prelude.{IfOk}
-use Rattle.std.proofs.lemmas.List.{ext_get_or}
 use Rattle.cmr_base.specs.declared.memory.Memory.{Memory}
 use Rattle.cmr_base.specs.declared.network.Network.{Network as Net}
-use Rattle.cmr_base.specs.Matrix.{Matrix, height, entry, row_of, IsMatrix}
+use Rattle.cmr_base.specs.Matrix.{Matrix, height, entry, IsMatrix}
 use Rattle.cmr_base.specs.Trees.{Reproduces, tail, head}
 use Rattle.cmr_base.proofs.TreeCuts.{one_path}
+use Rattle.cmr_base.proofs.WholeMatrices.{same_matrix}
 use Rattle.generate.specs.declared.making.MakeKind.{MakeKind}
 use Rattle.generate.specs.declared.making.MakeKind.TheVariants.{Network, TwoSum}
 use Rattle.generate.specs.Generated.{IsGenerated, generated_network}
@@ -24,15 +24,6 @@ use Rattle.cmr_tools.proofs.OneVerdict.{one_verdict}
 use Rattle.cmr_tools.proofs.UnimodularAnswers.{unimodular_means}
 
 -- ---- one matrix is made
-
-same_matrix : (m n : Matrix) → IsMatrix m → IsMatrix n → height m ≡ height n → m.width ≡ n.width → ((row column : ℕ) → row < height m → column < m.width → entry m row column ≡ entry n row column) → m ≡ n
-same_matrix m n is_m is_n high wide entries = ap₂ (λ rows width. let x : Matrix = record { rows = rows; width = width } in x) rows wide
-  where
-    long : (row : ℕ) → row < height m → length (row_of m row) ≡ length (row_of n row)
-    long row l = is_m.rectangular row l ∙ wide ∙ sym (is_n.rectangular row (omega arith))
-
-    rows : m.rows ≡ n.rows
-    rows = ext_get_or [] m.rows n.rows high (λ row l. ext_get_or (pos 0) (row_of m row) (row_of n row) (long row l) (λ column k. let w = is_m.rectangular row l in entries row column l (omega arith)))
 
 -- a network reproduces one matrix
 same_entry : (net : Net) (m n : Matrix) → Reproduces net m → Reproduces net n → height m ≡ height n → m.width ≡ n.width → (row column : ℕ) → row < height m → column < m.width → entry m row column ≡ entry n row column

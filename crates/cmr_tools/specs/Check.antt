@@ -11,7 +11,6 @@ use Rattle.matrix_text.specs.Submatrix.{submatrix}
 use Rattle.camion_sign.specs.Chains.{IsFirstBroken, IsRegular, IsSoundChain}
 use Rattle.camion_sign.specs.ChainTexts.{chain}
 use Rattle.camion_sign.specs.declared.step.SizedChain.{SizedChain}
-use Rattle.tree_type.specs.Soundness.{IsBrokenTree, IsSoundTree}
 use Rattle.tree_type.specs.Verdicts as verdicts
 use Rattle.tree_type.specs.Verdicts.{Verdict, verdict_of}
 use Rattle.tree_type.specs.declared.refusal.Rule.{Rule}
@@ -21,7 +20,7 @@ use Rattle.cert_check.specs.Laws.{IsRefuted, Tells}
 use Rattle.cmr_front.specs.declared.outcome.FaultKind.TheVariants as faults
 use Rattle.cmr_front.specs.declared.status.Answer.{Answer}
 use Rattle.cmr_front.specs.declared.status.Answer.TheVariants.{Yes, No, Undecided, Refused}
-use Rattle.cmr_front.specs.Evidence.{ReportsTree, SaysOfTree, evidence_tool}
+use Rattle.cmr_front.specs.Evidence.{IsBrokenFor, IsSoundFor, ReportsTree, SaysOfTree, evidence_tool}
 use Rattle.cmr_front.specs.MatrixText.{matrix_in}
 use Rattle.cmr_front.specs.Printed.{open_line, violator_line}
 use Rattle.cmr_front.specs.Refusals.{refusal_line}
@@ -80,12 +79,6 @@ abbrev pub refused_step_report : ℕ → Report
 refused_step_report step = said Refused (codes "refused: step " ++ decimal step ++ codes "\n")
 
 -- ---- what is decided
-
-abbrev pub IsSoundFor : Matrix → PlainTree → Type 0
-IsSoundFor m t = IsSoundTree m t.rows t.columns t.root
-
-abbrev pub IsBrokenFor : Matrix → PlainTree → List ℕ → Rule → Type 0
-IsBrokenFor m t path broken = IsBrokenTree m t.rows t.columns t.root path broken
 
 -- a tree is accepted where each node keeps all rules, and then its verdict is right
 pub data TreeDecides (m : Matrix) (t : PlainTree) (report : Report) : Type 0 where
