@@ -42,7 +42,7 @@ pub fn binary(alloc: Global, text: &str) -> Result<Matrix, Fail>
 }
 
 /// The ones of a matrix, as a 0/1 matrix.
-pub fn ones_of(alloc: Global, entries: &Matrix) -> Result<Matrix, Fail>
+fn ones_of(alloc: Global, entries: &Matrix) -> Result<Matrix, Fail>
     ensures { IfOk result IsBinary }
 {
     let mut ones = zeros(alloc, entries.rows(), entries.columns())?;

@@ -19,8 +19,6 @@ mod leaves;
 #[cfg(test)]
 mod matrices;
 #[cfg(test)]
-mod matroids;
-#[cfg(test)]
 mod networks;
 #[cfg(test)]
 mod r10;
