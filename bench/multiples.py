@@ -12,9 +12,9 @@ directed tree:
     legs    from the middle, legs of two arcs
 
 Arcs and columns are turned round at random and shuffled. `graphic` gets the supports, as they are and with one nonzero more;
-`network` the matrices as they are and with one sign turned. For each row of the table: the multiple at each size, and the
-exponent with which the time grows from the first size to the last. The full matrix of ones, and `graphic -N` at 200 lines with
-one nonzero more, come last. A run that takes longer than --seconds is written as `-`.
+`network`, `camion` (the search for a cycle fault) and `tu` the matrices as they are and with one sign turned. For each row of the
+table: the multiple at each size, and the exponent with which the time grows from the first size to the last. The full matrix of
+ones, and `graphic -N` at 200 lines with one nonzero more, come last. A run that takes longer than --seconds is written as `-`.
 """
 
 import argparse
@@ -78,6 +78,8 @@ def cases(kind, size):
         ("graphic, one nonzero more", ["graphic"], with_entry(support, {0: 1}, draw)),
         ("network, yes", ["network"], entries),
         ("network, one sign turned", ["network"], with_entry(entries, {1: -1, -1: 1}, draw)),
+        ("camion, yes", ["camion"], entries),
+        ("camion, one sign turned", ["camion"], with_entry(entries, {1: -1, -1: 1}, draw)),
         ("tu, yes", ["tu"], entries),
         ("tu, one sign turned", ["tu"], with_entry(entries, {1: -1, -1: 1}, draw)),
     ]
@@ -104,8 +106,9 @@ def measure(timer, sizes, kinds):
         for column in zip(*(cases(kind, size) for size in sizes)):
             times = [timer.time(words, entries) for _, words, entries in column]
             row(f"{kind}: {column[0][0]}", times, reading, sizes)
-    times = [timer.time(["tu"], [[1] * size] * size) for size in sizes]
-    row("ones alone: tu", times, reading, sizes)
+    for tool in ("camion", "tu"):
+        times = [timer.time([tool], [[1] * size] * size) for size in sizes]
+        row(f"ones alone: {tool}", times, reading, sizes)
     draw = random.Random(1)
     entries = with_entry(supports(mixed(recursive(200, draw), 200, draw)), {0: 1}, draw)
     small = timer.time(["series-parallel"], [[0] * 200] * 200)
