@@ -21,8 +21,10 @@ import argparse
 import math
 import pathlib
 import random
+import signal
 import subprocess
 import tempfile
+import threading
 import time
 
 from networks import dense_text, mixed, one_path, path_between, recursive, with_entry
@@ -54,14 +56,17 @@ class Timer:
         return min((self.run([*words, text]) for _ in range(self.runs)), key=lambda it: math.inf if it is None else it)
 
     def run(self, words):
+        """The time of one run, or None where it takes too long."""
         start = time.perf_counter()
-        try:
-            subprocess.run(
-                [self.program, *words], cwd=self.folder, stdout=subprocess.DEVNULL, timeout=self.seconds, check=False
-            )
-        except subprocess.TimeoutExpired:
-            return None
-        return time.perf_counter() - start
+        command = [self.program, *words]
+        process = subprocess.Popen(command, cwd=self.folder, stdout=subprocess.DEVNULL)
+        # A wait with a limit looks only now and then whether the run has ended, so another thread keeps the limit.
+        limit = threading.Timer(self.seconds, process.kill)
+        limit.start()
+        status = process.wait()
+        seconds = time.perf_counter() - start
+        limit.cancel()
+        return None if status == -signal.SIGKILL else seconds
 
 
 def supports(entries):
