@@ -52,6 +52,11 @@ class ScriptTest(unittest.TestCase):
         command = [TOP / "scripts" / script, *words]
         return subprocess.run(command, input=text, capture_output=True, text=True, cwd=self.folder, **settings)
 
+    def run_program(self, *words):
+        """A run of the built program."""
+        command = [TOP / "crates" / "cmr" / "out" / "cmr", *words]
+        return subprocess.run(command, capture_output=True, text=True, cwd=self.folder, check=False)
+
     def output(self, script, *words, text=""):
         """What the script prints where it takes its input."""
         run = self.run_script(script, *words, text=text)

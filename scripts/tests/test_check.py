@@ -1,10 +1,9 @@
 """The rules of `cmr check` on the built program: each is broken by a tree at its root, and by the same tree deep below another root."""
 
-import subprocess
 import unittest
 from pathlib import Path
 
-from tests.support import TOP, ScriptTest, needs_program
+from tests.support import ScriptTest, needs_program
 
 DATA = Path(__file__).with_name("data")
 
@@ -58,10 +57,7 @@ class CheckTest(ScriptTest):
         """The status and the line of a run."""
         self.write("matrix.txt", matrix)
         self.write("tree.txt", tree)
-        program = TOP / "crates" / "cmr" / "out" / "cmr"
-        run = subprocess.run(
-            [program, "check", "matrix.txt", "tree.txt"], capture_output=True, text=True, cwd=self.folder, check=False
-        )
+        run = self.run_program("check", "matrix.txt", "tree.txt")
         self.assertEqual(run.stderr, "")
         return run.returncode, run.stdout
 

@@ -2,9 +2,7 @@
 (Oxley, Matroid Theory; Seymour, Decomposition of Regular Matroids), and their duals, which the transposed matrices represent.
 """
 
-import subprocess
-
-from tests.support import TOP, ScriptTest, needs_program
+from tests.support import ScriptTest, needs_program
 
 # A name, the matrix, and whether the matroid is regular, graphic and cographic.
 MATROIDS = [
@@ -34,8 +32,7 @@ def transposed(text):
 class MatroidsTest(ScriptTest):
     def says_yes(self, *words):
         """Whether a tool says yes to the matrix. Each answer but yes and no is a fault."""
-        program = TOP / "crates" / "cmr" / "out" / "cmr"
-        run = subprocess.run([program, *words, "matrix.txt"], capture_output=True, text=True, cwd=self.folder, check=False)
+        run = self.run_program(*words, "matrix.txt")
         self.assertIn((run.returncode, run.stderr), ((0, ""), (1, "")), words)
         return run.returncode == 0
 

@@ -1,10 +1,9 @@
 """`cmr parts` and `cmr compose` on the built program: each is the way back from the other."""
 
 import random
-import subprocess
 import unittest
 
-from tests.support import TOP, ScriptTest, needs_program
+from tests.support import ScriptTest, needs_program
 from tests.test_check import rows, tree_of
 
 KINDS = ("twosum", "delta", "y", "mixed", "concentrated")
@@ -24,17 +23,16 @@ def drawn(draw, height, width):
 
 @needs_program
 class SumsTest(ScriptTest):
-    def run_program(self, *words):
-        run = subprocess.run(
-            [TOP / "crates" / "cmr" / "out" / "cmr", *words], capture_output=True, text=True, cwd=self.folder, check=False
-        )
+    def answered(self, *words):
+        """What the program prints where it answers with status 0."""
+        run = self.run_program(*words)
         self.assertEqual((run.returncode, run.stderr), (0, ""), words)
         return run.stdout
 
     def composed(self, kind, first, second):
         self.write("first.txt", first)
         self.write("second.txt", second)
-        self.run_program("compose", kind, "first.txt", "second.txt", "-M", "sum.txt")
+        self.answered("compose", kind, "first.txt", "second.txt", "-M", "sum.txt")
         return entries_of(self.read("sum.txt"))
 
     def test_one_sums_and_two_sums(self):
@@ -71,7 +69,7 @@ class SumsTest(ScriptTest):
         text = dense(entries, len(entries[0]))
         self.write("matrix.txt", text)
         self.write("tree.txt", tree_of(text, node))
-        printed = self.run_program("parts", "matrix.txt", "tree.txt", "-A", "first.txt", "-B", "second.txt")
+        printed = self.answered("parts", "matrix.txt", "tree.txt", "-A", "first.txt", "-B", "second.txt")
         order = printed.splitlines()[1].split()
         between = order.index("columns")
         row_order = [int(line) - 1 for line in order[2:between]]
