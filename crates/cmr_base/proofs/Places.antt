@@ -19,13 +19,17 @@ found_at (y ∷ ys) x (inr h) = let r = found_at ys x h in let l = r.1 in (suc r
 pub all_placed : (P : ℕ → Type 0) (xs : List ℕ) (count : ℕ) → length xs ≤ count → ((k : ℕ) → k < count → P (get_or xs k 0)) → (x : ℕ) → IsIn x xs → P x
 all_placed P xs count le so x h = let q = found_at xs x h in let l = q.1 in subst P q.2 (so q.0 (omega arith))
 
+-- what holds at each number below a count, at one number more
+pub each_more : (P : ℕ → Type 0) (count : ℕ) → ((k : ℕ) → k < count → P k) → P count → (k : ℕ) → k < count + 1 → P k
+each_more P count each here k l = pick (cases_lt k count)
+  where
+    pick : (k < count) ⊎ (count ≤ k) → P k
+    pick (inl h) = each k h
+    pick (inr h) = let e : count ≡ k = omega (arith, h, l) in subst P e here
+
 -- at one place more
 pub more_placed : (P : ℕ → Type 0) (xs : List ℕ) (index : ℕ) → ((k : ℕ) → k < index → P (get_or xs k 0)) → P (get_or xs index 0) → (k : ℕ) → k < index + 1 → P (get_or xs k 0)
-more_placed P xs index so here k l = pick (cases_lt k index)
-  where
-    pick : (k < index) ⊎ (index ≤ k) → P (get_or xs k 0)
-    pick (inl m) = so k m
-    pick (inr m) = let e : k ≡ index = omega arith in subst (λ (z : ℕ). P (get_or xs z 0)) (sym e) here
+more_placed P xs index = each_more (λ k. P (get_or xs k 0)) index
 
 -- a number that is not in the list stands at no place
 pub not_placed : (xs : List ℕ) (x : ℕ) → ¬ (IsIn x xs) → (k : ℕ) → k < length xs → get_or xs k 0 ≢ x

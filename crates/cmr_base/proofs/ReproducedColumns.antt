@@ -1,6 +1,5 @@
 -- Columns that are compared with the paths of a tree.
-use Rattle.std.proofs.Common.{◌≡◌, ◌<◌, ◌≤◌, ◌+◌, ◌↔◌, ◌∙◌, ◌⊎◌, inl, inr, ℕ, ℤ, pos, Bool, true, false, List, ◌++◌, length, take, get_or, refl, ap, sym, subst, arith}
-use Rattle.std.proofs.lemmas.Bool.{cases_lt}
+use Rattle.std.proofs.Common.{◌≡◌, ◌<◌, ◌↔◌, ◌∙◌, ℕ, ℤ, pos, Bool, true, false, List, ◌++◌, length, take, get_or, refl, ap, sym, subst, arith}
 use Rattle.std.proofs.Math.Seq.{take-append_seam}
 use Rattle.cmr_base.specs.declared.network.Network.{Network}
 use Rattle.cmr_base.specs.declared.network.Pair.{Pair}
@@ -60,14 +59,6 @@ reproduced_by_slices comparison net m arcs walks e f T count ends =
     subst (λ (a : List Pair). IsReproduced comparison net m ↔ ((column : ℕ) → column < m.width → IsColumnPath comparison a walks m column)) (sym e)
     (subst (λ (w : List Pair). IsReproduced comparison net m ↔ ((column : ℕ) → column < m.width → IsColumnPath comparison net.arcs w m column)) (sym f)
     (reproduced_by_columns comparison net m (subst (λ (a : List Pair). IsTree a (height m)) e T) (sym (ap length f) ∙ count) (subst (λ (w : List Pair). AreEndsInRange w (height m)) f ends)))
-
--- one column more is compared
-pub more_columns : (P : ℕ → Type 0) (column : ℕ) → ((k : ℕ) → k < column → P k) → P column → (k : ℕ) → k < column + 1 → P k
-more_columns P column before here k l = go (cases_lt k column)
-  where
-    go : (k < column) ⊎ (column ≤ k) → P k
-    go (inl h) = before k h
-    go (inr h) = let e : column ≡ k = omega (arith, h, l) in subst P e here
 
 -- a whole slice written back
 pub written_back : (n : ℕ) (items old : List ℤ) → n ≡ length items → take n (items ++ old) ≡ items

@@ -9,7 +9,7 @@ use Rattle.std.proofs.lemmas.Nat.Bits.{bit_at-zero, bit_at_above, bit_at_ones, b
 use Rattle.cmr_base.specs.ColumnSets.{has_column}
 use Rattle.cmr_base.specs.Planes.{has_bit}
 use Rattle.cmr_base.specs.Runs.{IsRunAdded}
-use Rattle.cmr_base.proofs.Booleans.{or_false}
+use Rattle.cmr_base.proofs.Booleans.{and_false, or_false}
 use Rattle.cmr_base.proofs.ColumnWords.{column_at}
 use Rattle.cmr_base.proofs.FirstBits.{moved}
 use Rattle.cmr_base.proofs.WordBits.{has_bit-and, has_bit-or}
@@ -17,10 +17,6 @@ use Rattle.cmr_base.proofs.WordBits.{has_bit-and, has_bit-or}
 and_yes : (b : Bool) → (b && true) ≡ b
 and_yes true = refl
 and_yes false = refl
-
-and_no : (b : Bool) → (b && false) ≡ false
-and_no true = refl
-and_no false = refl
 
 -- ---- the first bits of a word
 
@@ -35,7 +31,7 @@ module _ (word count : ℕ) (few : count ≤ 64) where
   none_after k l =
       has_bit-and word (18446744073709551615 / 2 ^ (64 - count)) k
       ∙ ap (λ n. has_bit word k && eqb n 1) (moved 18446744073709551615 (64 - count) k ∙ bit_at_ones_above 64 (64 - count + k) (omega arith))
-      ∙ and_no (has_bit word k)
+      ∙ and_false (has_bit word k)
 
 -- ---- a word that is shifted up
 

@@ -2,7 +2,8 @@ use Rattle.std.proofs.Common.{arith, refl, ap, sym, subst, ◌∙◌, ◌≡◌,
 use Rattle.std.proofs.lemmas.List.{length-replicate}
 use Rattle.cmr_base.specs.Matrix.{height}
 use Rattle.cmr_base.specs.Comparisons.{IsColumnPath}
-use Rattle.cmr_base.proofs.ReproducedColumns.{ColumnAgrees, column_by_directions, more_columns, written_back}
+use Rattle.cmr_base.proofs.Places.{each_more}
+use Rattle.cmr_base.proofs.ReproducedColumns.{ColumnAgrees, column_by_directions, written_back}
 use Rattle.cmr_base.proofs.reproduce.have_paths.Goals as goal
 
 pub returns-then-not-column_agrees : goal.returns-then-not-column_agrees
@@ -26,5 +27,5 @@ loop-column-preserved c =
     let back = written_back c.loop-column.directions.len c.write_path.new.directions _ (omega (arith, count, c.write_path.ensures.length, c.requires.tree.count)) in
     let agrees = subst (ColumnAgrees c.args.comparison c.args.matrix.now c.loop-column.column) (c.deref.ensures.value ∙ back) (c.if-not-column_agrees.ensures.0 refl) in (
       c.fill.ensures.items (λ y e. e) ∙ ap (λ (n : ℕ). replicate n (pos 0)) count,
-      more_columns (IsColumnPath c.args.comparison c.args.arcs.now c.args.walks.now c.args.matrix.now) c.loop-column.column c.loop-column.invariant.1 (both.1 agrees),
+      each_more (IsColumnPath c.args.comparison c.args.arcs.now c.args.walks.now c.args.matrix.now) c.loop-column.column c.loop-column.invariant.1 (both.1 agrees),
     )
