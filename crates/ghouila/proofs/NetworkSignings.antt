@@ -15,7 +15,7 @@ use Rattle.cmr_base.proofs.SumLaws.{sum_over-add, sum_over-zero, sum_over_same}
 use Rattle.cmr_base.proofs.Members.{all_in, all_of_members, rising_distinct}
 use Rattle.cmr_base.proofs.RisingLists.{row_set_rises}
 use Rattle.cmr_base.proofs.Parts.{is_ternary-transposed}
-use Rattle.cmr_base.proofs.RowLists.{same_or_not, in_or_not, is_eq, is_ne}
+use Rattle.cmr_base.proofs.RowLists.{same_or_not, in_or_not, is_eq, is_ne, same_bit}
 use Rattle.cmr_base.proofs.TransposedLemmas.{none_from_turned}
 use Rattle.cmr_base.proofs.WholeMatrices.{is_ternary}
 use Rattle.cmr_base.specs.Violator.{HasNoViolator}
@@ -45,10 +45,6 @@ one_there (x ∷ rows) f a d o (inr h) = rw (is_ne x a (λ e. o.0 (subst (λ (z 
 
 pub same_at_members : (rows : List ℕ) (f g : ℕ → ℤ) → ((r : ℕ) → IsIn r rows → f r ≡ g r) → sum_over rows f ≡ sum_over rows g
 same_at_members rows f g h = sum_over_same rows f g (all_of_members (λ r. f r ≡ g r) rows h)
-
-no_difference : (b : Bool) → pos 0 ≡ bit b -ℤ bit b
-no_difference true = refl
-no_difference false = refl
 
 -- ---- two colours of the nodes of a tree
 
@@ -110,8 +106,8 @@ module _ (arcs : List Pair) (m : ℕ) (T : IsTree arcs m) where
       plain x y = simp products (omega (arith, sums))
 
   flat_step : (rows : List ℕ) (a : ℕ) (e : Bool) → colour rows (tail arcs a) ≡ colour rows (head arcs a) → pos 0 ≡ bit (colour rows (cond e (head arcs a) (tail arcs a))) -ℤ bit (colour rows (cond e (tail arcs a) (head arcs a)))
-  flat_step rows a true q = no_difference (colour rows (head arcs a)) ∙ ap (λ (z : Bool). bit (colour rows (head arcs a)) -ℤ bit z) (sym q)
-  flat_step rows a false q = no_difference (colour rows (tail arcs a)) ∙ ap (λ (z : Bool). bit (colour rows (tail arcs a)) -ℤ bit z) q
+  flat_step rows a true q = same_bit (colour rows (head arcs a)) ∙ ap (λ (z : Bool). bit (colour rows (head arcs a)) -ℤ bit z) (sym q)
+  flat_step rows a false q = same_bit (colour rows (tail arcs a)) ∙ ap (λ (z : Bool). bit (colour rows (tail arcs a)) -ℤ bit z) q
 
   one_step : (rows : List ℕ) → IsDistinct rows → (a : ℕ) (e : Bool) → a < m → IsIn a rows ⊎ (¬ (IsIn a rows))
       → sum_over rows (λ r. sign rows r *ℤ cond (nat_eq r a) (cond e (pos 1) (negsuc 0)) (pos 0)) ≡ bit (colour rows (cond e (head arcs a) (tail arcs a))) -ℤ bit (colour rows (cond e (tail arcs a) (head arcs a)))
@@ -121,7 +117,7 @@ module _ (arcs : List Pair) (m : ℕ) (T : IsTree arcs m) where
   -- the signed sum along a path is the difference of the colours of its ends
   telescope : (rows : List ℕ) → IsDistinct rows → (x : ℕ) (steps : List WalkStep) (y : ℕ) → IsWalk arcs x steps y → IsDistinct (arcs_of steps)
       → sum_over rows (λ r. sign rows r *ℤ direction steps r) ≡ bit (colour rows y) -ℤ bit (colour rows x)
-  telescope rows d x [] y w o = same_at_members rows (λ r. sign rows r *ℤ pos 0) (λ r. pos 0) (λ r h. mul-zero (sign rows r)) ∙ sum_over-zero rows ∙ no_difference (colour rows y) ∙ ap (λ (z : ℕ). bit (colour rows y) -ℤ bit (colour rows z)) (sym w)
+  telescope rows d x [] y w o = same_at_members rows (λ r. sign rows r *ℤ pos 0) (λ r. pos 0) (λ r h. mul-zero (sign rows r)) ∙ sum_over-zero rows ∙ same_bit (colour rows y) ∙ ap (λ (z : ℕ). bit (colour rows y) -ℤ bit (colour rows z)) (sym w)
   telescope rows d x (s ∷ steps) y w o =
       same_at_members rows (λ r. sign rows r *ℤ direction (s ∷ steps) r) (λ r. sign rows r *ℤ cond (nat_eq r a) (cond e (pos 1) (negsuc 0)) (pos 0) +ℤ sign rows r *ℤ direction steps r) (λ r h. split r)
       ∙ sum_over-add rows (λ r. sign rows r *ℤ cond (nat_eq r a) (cond e (pos 1) (negsuc 0)) (pos 0)) (λ r. sign rows r *ℤ direction steps r)

@@ -143,11 +143,3 @@ two_nonzeros m row first second h g below one other = elim (cases_lt 1 (nonzeros
       (nonzero_is (entry m row first) one) (nonzero_is (entry m row second) other) in
       absurd (omega (arith, same, below))
 ]
-
--- ---- one more row
-
-pub each_more : (P : ℕ → Type 0) (count : ℕ) → ((k : ℕ) → k < count → P k) → P count → (k : ℕ) → k < count + 1 → P k
-each_more P count each here k h = elim (cases_eq k count) [
-  | inl q ↦ subst P (sym q) here
-  | inr d ↦ each k (omega (arith, h, d))
-]

@@ -8,6 +8,7 @@ use Rattle.cmr_base.specs.declared.line.Reason.TheVariants.{Unit as One, Copy, N
 use Rattle.cmr_base.specs.Matrix.{is_nonzero}
 use Rattle.cmr_base.specs.Reductions.{nonzeros_at, equal_at, first_equal, first_reason}
 use Rattle.sp_reduce.specs.Kinds.{is_twin}
+use Rattle.cmr_base.proofs.Booleans.{or_false}
 use Rattle.cmr_base.proofs.ThinLines.{nonzero_found}
 use Rattle.cmr_base.proofs.ReducibleLines.{some_map}
 
@@ -66,10 +67,6 @@ module _ (M : ℕ → ℕ → ℤ) (kind cross : ℕ → Line) (lines places : L
       ∙ any_agree (λ k. not (eqb k line) && equal_at places (M k) (M line)) (is_twin true M places line)
       (λ k. plain (not (eqb k line)) (equal_at places (M k) (M line))) lines
     where
-      or_false : (b : Bool) → (b || false) ≡ b
-      or_false true = refl
-      or_false false = refl
-
       plain : (n a : Bool) → (n && a) ≡ (n && (a || false))
       plain true a = sym (or_false a)
       plain false a = refl

@@ -10,20 +10,11 @@ use Rattle.cmr_base.specs.Separations.{Lines, is_same_line, child_one, child_two
 use Rattle.cmr_base.proofs.ListsWithout.{true_is_false, in_from_contains, contains_from_in}
 use Rattle.cmr_base.proofs.RowLists.{eq_of, is_eq, two_cases, filter_in, in_filter}
 use Rattle.cmr_base.proofs.Lists.{filter_same}
-use Rattle.cmr_base.proofs.Booleans.{not_is, is_not}
+use Rattle.cmr_base.proofs.Booleans.{eq_turned, not_is, is_not}
 use Rattle.tree_type.specs.Sides.{is_among, inside, outside, sides, HaveLines, IsReference, AreTwoBlocks, two_one, two_two, HasConnector, connector_rows, connector_columns, AreConnectors, AreThreeBlocks, three_one, three_two}
 use Rattle.tree_type.specs.SideLaws.{side_one, lines_in}
 
 -- ---- tests
-
-turned : (x y : ℕ) → nat_eq x y ≡ nat_eq y x
-turned x y = elim (two_cases (nat_eq x y)) [
-  | inl e ↦ e ∙ sym (is_eq y x (sym (eq_of x y e)))
-  | inr e ↦ elim (two_cases (nat_eq y x)) [
-    | inl f ↦ true_is_false (sym (is_eq x y (sym (eq_of y x f))) ∙ e)
-    | inr f ↦ e ∙ sym f
-  ]
-]
 
 or_nothing : (b : Bool) → b ≡ (b || false)
 or_nothing true = refl
@@ -31,7 +22,7 @@ or_nothing false = refl
 
 among_is : (set : List ℕ) (x : ℕ) → is_among set x ≡ list_any (λ y. nat_eq y x) set
 among_is [] x = refl
-among_is (y ∷ ys) x = ap₂ (λ a b. a || b) (turned x y) (among_is ys x)
+among_is (y ∷ ys) x = ap₂ (λ a b. a || b) (eq_turned x y) (among_is ys x)
 
 -- ---- the lines of each side, of one kind
 
