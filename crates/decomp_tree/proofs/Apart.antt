@@ -18,7 +18,7 @@ use Rattle.cmr_base.proofs.Members.{all_of_members}
 use Rattle.cmr_base.proofs.ListsWithout.{true_is_false, in_from_contains, contains_from_in, place_of, place_is}
 use Rattle.cmr_base.proofs.ListedLines.{has_line_from_listed, listed_from_has_line, contains_first_lines}
 use Rattle.cmr_base.proofs.RowLists.{two_cases}
-use Rattle.cmr_base.proofs.Booleans.{same_test}
+use Rattle.cmr_base.proofs.Booleans.{same_test, is_and}
 use Rattle.cert_check.proofs.OneSums.{counted}
 use Rattle.tree_type.specs.Invariant.{AreLines, size_of}
 use Rattle.tree_type.specs.Sides.{is_among}
@@ -169,16 +169,13 @@ module _ (m : Matrix) (lines : LineSet) (are : AreLines m lines) (parts : List L
       → list_any (λ child. is_among child.rows (numbered lines.rows i) && is_among child.columns (numbered lines.columns j)) (map (set_in lines) parts) ≡ true
   together i j h k d =
       any_map (set_in lines) (λ child. is_among child.rows (numbered lines.rows i) && is_among child.columns (numbered lines.columns j)) (λ p. set_of p (Row i) && set_of p (Column j)) parts (both_same i j h k parts (row_same i h) (column_same j k))
-      ∙ any_at (λ p. set_of p (Row i) && set_of p (Column j)) parts here.0 here.1 (both (set_of (part_at parts here.0) (Row i)) (set_of (part_at parts here.0) (Column j)) in_row (crossing here.0 here.1 in_row (set_of (part_at parts here.0) (Column j)) refl))
+      ∙ any_at (λ p. set_of p (Row i) && set_of p (Column j)) parts here.0 here.1 (is_and (set_of (part_at parts here.0) (Row i)) (set_of (part_at parts here.0) (Column j)) in_row (crossing here.0 here.1 in_row (set_of (part_at parts here.0) (Column j)) refl))
     where
       here : (a : ℕ) × (a < length parts) × HasLine (part_at parts a).rows (part_at parts a).columns (Row i)
       here = are_parts.all (Row i) (row_line i h)
 
       in_row : set_of (part_at parts here.0) (Row i) ≡ true
       in_row = set_from_has (part_at parts here.0) (Row i) here.2
-
-      both : (s t : Bool) → s ≡ true → t ≡ true → (s && t) ≡ true
-      both s t e f = rw (e, f) refl
 
       crossing : (a : ℕ) → a < length parts → set_of (part_at parts a) (Row i) ≡ true → (b : Bool) → set_of (part_at parts a) (Column j) ≡ b → set_of (part_at parts a) (Column j) ≡ true
       crossing a l e true f = f

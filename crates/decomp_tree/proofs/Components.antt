@@ -8,6 +8,7 @@ use Rattle.cmr_base.specs.Matrix.{Matrix, height, entry}
 use Rattle.cmr_base.specs.Separations.{Lines, listed}
 use Rattle.cmr_base.specs.Seeds.{IsLine}
 use Rattle.cmr_base.specs.Components.{IsApart, IsComponent, HasSome, AreComponents, part_at, first_number}
+use Rattle.cmr_base.proofs.Booleans.{is_and}
 use Rattle.cmr_base.proofs.ListedLines.{listed_from_has_line}
 use Rattle.decomp_tree.proofs.SameSets.{HasAllOf, IsSet, lines_in, same_sets}
 
@@ -32,11 +33,8 @@ module _ (m : Matrix) (some others : Lines) where
 
   shared : IsComponent (height m) m.width (entry m) some → IsComponent (height m) m.width (entry m) others → (line : Line) → IsLine (height m) m.width line → some line ≡ true → others line ≡ true → HasAllOf m some others
   shared a b line is x y = λ other is' h.
-      let both_have = a.least one (both_apart a.apart b.apart) (line, is, two_true (some line) (others line) x y) (λ l k e. (and_parts (some l) (others l) e).0) other is' h in
+      let both_have = a.least one (both_apart a.apart b.apart) (line, is, is_and (some line) (others line) x y) (λ l k e. (and_parts (some l) (others l) e).0) other is' h in
       (and_parts (some other) (others other) both_have).1
-    where
-      two_true : (p q : Bool) → p ≡ true → q ≡ true → (p && q) ≡ true
-      two_true p q e f = rw (e, f) refl
 
 -- lists of parts by rising numbers, each of which is in the other list
 module _ (key : LineSet → ℕ) where

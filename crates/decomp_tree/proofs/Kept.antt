@@ -18,6 +18,7 @@ use Rattle.cmr_base.proofs.ListsWithout.{in_from_contains, contains_from_in, in-
 use Rattle.cmr_base.proofs.RowLists.{in_filter}
 use Rattle.cmr_base.proofs.Lists.{filter_or}
 use Rattle.tree_type.specs.Invariant.{AreLines, AreLinesOf, size_of}
+use Rattle.tree_type.proofs.Among.{inside_alone, outside_alone}
 use Rattle.decomp_tree.specs.Shapes.{numbered, set_in}
 use Rattle.decomp_tree.specs.Seen.{IsPlacedSet, AreFewer}
 use Rattle.decomp_tree.proofs.Numbered.{map_in}
@@ -117,27 +118,11 @@ module _ (lines : LineSet) (rows_rise : IsStrictlyIncreasing lines.rows) (column
         omega (arith, a, b, c, d, l);
   }
 
-  inside_none : (set xs : List ℕ) → inside_with set [] xs ≡ inside set xs
-  inside_none set [] = refl
-  inside_none set (x ∷ xs) = go (is_among set x) (inside_none set xs)
-    where
-      go : (b : Bool) → inside_with set [] xs ≡ inside set xs → cond (b || false) (x ∷ inside_with set [] xs) (inside_with set [] xs) ≡ cond b (x ∷ inside set xs) (inside set xs)
-      go true e = ap (λ ys. x ∷ ys) e
-      go false e = e
-
-  outside_none : (set xs : List ℕ) → outside_with set [] xs ≡ outside set xs
-  outside_none set [] = refl
-  outside_none set (x ∷ xs) = go (is_among set x) (outside_none set xs)
-    where
-      go : (b : Bool) → outside_with set [] xs ≡ outside set xs → cond (not b || false) (x ∷ outside_with set [] xs) (outside_with set [] xs) ≡ cond (not b) (x ∷ outside set xs) (outside set xs)
-      go true e = e
-      go false e = ap (λ ys. x ∷ ys) e
-
   pub children_two : (two : Two) → HaveLines 2 (sides lines two.side) → AreFewer lines (two_one lines two) × AreFewer lines (two_two lines two)
   children_two two enough = (
-    subst (λ columns. AreFewer lines (record { rows = inside_with two.side.rows (two.row ∷ []) lines.rows; columns = columns })) (inside_none two.side.columns lines.columns)
+    subst (λ columns. AreFewer lines (record { rows = inside_with two.side.rows (two.row ∷ []) lines.rows; columns = columns })) (inside_alone two.side.columns lines.columns)
         (one_fewer two.side (two.row ∷ []) [] (let l = enough.two in omega (arith, l))),
-    subst (λ rows. AreFewer lines (record { rows = rows; columns = outside_with two.side.columns (two.column ∷ []) lines.columns })) (outside_none two.side.rows lines.rows)
+    subst (λ rows. AreFewer lines (record { rows = rows; columns = outside_with two.side.columns (two.column ∷ []) lines.columns })) (outside_alone two.side.rows lines.rows)
         (two_fewer two.side [] (two.column ∷ []) (let l = enough.one in omega (arith, l))),
   )
 

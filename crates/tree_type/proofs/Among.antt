@@ -7,7 +7,7 @@ use Rattle.std.proofs.lemmas.List.Sorted.{searched}
 use Rattle.cmr_base.specs.Members.{IsIn}
 use Rattle.cmr_base.proofs.ListsWithout.{true_is_false, in_from_contains, contains_from_in, in-get_or, place_of, place_is}
 use Rattle.cmr_base.proofs.Submatrices.{increasing_places}
-use Rattle.cmr_base.proofs.Booleans.{or_is, or_left, or_right, or_false}
+use Rattle.cmr_base.proofs.Booleans.{false_is, or_is, or_left, or_right, or_false}
 use Rattle.cmr_base.proofs.Lists.{filter_same}
 use Rattle.tree_type.specs.Sides.{is_among, inside, outside, inside_with, outside_with}
 
@@ -30,11 +30,7 @@ pub among_contains : (xs : List ℕ) (x : ℕ) → is_among xs x ≡ true → Co
 among_contains xs x e = contains_from_in xs x (among_in xs x e)
 
 not_in : (xs : List ℕ) (x : ℕ) → (IsIn x xs → ⊥) → is_among xs x ≡ false
-not_in xs x h = go (is_among xs x) refl
-  where
-    go : (b : Bool) → is_among xs x ≡ b → b ≡ false
-    go true e = absurd (h (among_in xs x e))
-    go false e = refl
+not_in xs x h = false_is (is_among xs x) (λ e. h (among_in xs x e))
 
 rises : (xs : List ℕ) → IsStrictlyIncreasing xs → (i j : ℕ) → i ≤ j → j < length xs → get_or xs i 0 ≤ get_or xs j 0
 rises xs up i j le lt = elim (cases_lt i j) [
