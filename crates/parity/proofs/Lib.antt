@@ -8,3 +8,4 @@ pub mod PlaneLemmas
 pub mod ColumnSums
 pub mod RemainderTests
 pub mod ColumnSetSearch
+mod ReducedWords

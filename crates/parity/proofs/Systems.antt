@@ -1,5 +1,5 @@
 -- A column set makes a violator with some rows exactly where its number solves their equations.
-use Rattle.std.proofs.Common.{◌≡◌, ◌<◌, ◌≤◌, ◌+◌, ◌%◌, ◌^◌, ◌∙◌, ◌⊎◌, ℕ, zero, suc, ℤ, pos, negsuc, neg_ℤ, ◌+ℤ◌, cond, List, [], ◌∷◌, ◌++◌, map, take, length, get_or, refl, ap, ap₂, sym, subst, inl, inr, arith, min}
+use Rattle.std.proofs.Common.{◌≡◌, ◌<◌, ◌≤◌, ◌+◌, ◌%◌, ◌^◌, ◌∙◌, ◌⊎◌, ℕ, zero, suc, ℤ, pos, negsuc, neg_ℤ, ◌+ℤ◌, cond, List, [], ◌∷◌, ◌++◌, take, length, get_or, refl, ap, ap₂, sym, subst, inl, inr, arith, min}
 use Rattle.std.specs.Prelude.{bit_and, count_ones}
 use Rattle.std.specs.List.{AllByRecursion}
 use Rattle.std.specs.Int.{bit_at}
@@ -13,7 +13,7 @@ use Rattle.cmr_base.specs.LineSets.{set_number, set_numbered}
 use Rattle.cmr_base.specs.Sums.{sum_over, IsEven, IsTwoModFour}
 use Rattle.cmr_base.specs.Violator.{IsViolator, IsLeastColumnSet, HasNoColumnSet}
 use Rattle.cmr_base.proofs.Integers.{sums}
-use Rattle.cmr_base.proofs.Lists.{all_weaker, all_unmapped}
+use Rattle.cmr_base.proofs.Lists.{all-map, all_weaker, all_unmapped}
 use Rattle.cmr_base.proofs.RisingLists.{column_set_rises}
 use Rattle.cmr_base.proofs.SetNumbers.{set_number-lt, numbered_same, number_of_numbered, column_set-numbered}
 use Rattle.cmr_base.proofs.SumLaws.{sum_over-exchange}
@@ -126,10 +126,6 @@ solution_from_violator m rows ones twos set is are small violator = record {
     apart = same_from_bits (bit_and set ones) 0 (λ column. bit_at_and set ones column ∙ at_bit column (bit_cases set column) ∙ sym (bit_at-zero column))
 
 -- ---- the answer
-all-map : (P : ℕ → Type 0) (f : ℕ → ℕ) (xs : List ℕ) → AllByRecursion (λ x. P (f x)) xs → AllByRecursion P (map f xs)
-all-map P f [] all = tt
-all-map P f (x ∷ xs) all = (all.0, all-map P f xs all.1)
-
 pub outside_apart : (gone number : ℕ) → bit_and (outside gone number) gone ≡ 0
 outside_apart gone number = same_from_bits (bit_and (outside gone number) gone) 0 (λ i.
     bit_at_and (outside gone number) gone i

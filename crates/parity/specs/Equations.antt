@@ -1,6 +1,6 @@
 -- Equations over two values. A set of columns is the number with the bits of its columns, and an equation is the set of columns
 -- of which a solution has an even number.
-use Rattle.std.specs.Prelude.{◌≡◌, ◌<◌, ◌+◌, ◌*◌, ◌%◌, ◌^◌, ◌==◌, if◌then◌else◌, ℕ, List, [], ◌∷◌, bit_and, bit_xor, count_ones}
+use Rattle.std.specs.Prelude.{◌≡◌, ◌<◌, ◌≤◌, ◌⊎◌, ◌+◌, ◌*◌, ◌%◌, ◌^◌, ◌==◌, if◌then◌else◌, ℕ, List, [], ◌∷◌, bit_and, bit_xor, count_ones, length, slice_index_or, take}
 use Rattle.std.specs.List.{AllByRecursion}
 use Rattle.std.specs.Int.{bit_at}
 use Rattle.parity.specs.declared.narrow.Equation.{Equation}
@@ -49,3 +49,22 @@ pub record IsBasis (width gone : ℕ) (rows : List ℕ) (es : List Equation) : T
   pub lowest : AllByRecursion (λ e. IsLowest e.columns e.pivot) es
   pub apart : AllByRecursion (λ e. bit_and e.columns gone ≡ 0) es
   pub small : AllByRecursion (λ e. e.columns < 2 ^ width) es
+
+-- an equation added to the words behind a place, and no other word changed
+pub record IsAddedBehind (e : Equation) (place : ℕ) (before after : List ℕ) : Type 0 where
+  pub front : (at : ℕ) → at ≤ place → slice_index_or after at 0 ≡ slice_index_or before at 0
+  pub behind : (at : ℕ) → place < at → at < length before → slice_index_or after at 0 ≡ cleared_by e (slice_index_or before at 0)
+
+-- the word at a place, an equation with its least column as the pivot, added behind the place; nothing changed where the word is 0
+abbrev pub AreCleared : ℕ → List ℕ → List ℕ → Type 0
+AreCleared place before after = ((slice_index_or before place 0 ≡ 0) × (after ≡ before))
+    ⊎ ((pivot : ℕ) × IsLowest (slice_index_or before place 0) pivot × IsAddedBehind (record { pivot = pivot; columns = slice_index_or before place 0 }) place before after)
+
+-- the words from a place on are reduced by a basis of those before it
+pub record IsReducedBy (width gone place : ℕ) (before after : List ℕ) : Type 0 where
+  pub equations : List Equation
+  pub basis : IsBasis width gone (take place before) equations
+  pub rest : (at : ℕ) → place ≤ at → at < length before → slice_index_or after at 0 ≡ reduced equations (slice_index_or before at 0)
+
+abbrev pub AreReduced : ℕ → List ℕ → List ℕ → Type 0
+AreReduced place before after = (width gone : ℕ) → AllByRecursion (λ word. (bit_and word gone ≡ 0) × (word < 2 ^ width)) before → IsReducedBy width gone place before after

@@ -8,7 +8,7 @@ ghost use Rattle.cmr_base.specs.Planes.{words_for};
 ghost use Rattle.parity.specs.Planes.{AreSums, equations_of, outside};
 
 use crate::basis::Basis;
-use crate::narrow::{Equation, has_column_set};
+use crate::narrow::has_column_set;
 use crate::sums::Sums;
 use crate::words::{clear, empty_set, is_set, lowest, toggle};
 use cmr_base::{Indices, Matrix, Memory, words_for};
@@ -37,7 +37,7 @@ pub struct ColumnSearch<'a> {
     sums: Sums,
     basis: Basis,
     equation: Vec<u64>,
-    narrow: Vec<Equation>,
+    narrow: Vec<u64>,
 }
 
 impl<'a> Model for ColumnSearch<'a> {
@@ -63,7 +63,7 @@ impl<'a> ColumnSearch<'a> {
             sums: Sums::new(alloc, words)?,
             basis: Basis::new(alloc, words, matrix.rows() as usize)?,
             equation: empty_set(alloc, words)?,
-            narrow: Vec::with_capacity(alloc, matrix.rows() as usize)?,
+            narrow: Vec::with_capacity(alloc, matrix.rows() as usize + 1)?,
         })
     }
 

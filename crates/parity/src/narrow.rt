@@ -1,12 +1,11 @@
 //! The search for column sets in a matrix of at most 64 columns: a row is one word.
 
-ghost use Rattle.std.specs.Prelude.{◌≡◌, ◌<◌, ◌≤◌, ◌^◌, true, false, IfOk, IfSome, IfNone, OnOk, bit_and, bit_xor};
-ghost use Rattle.std.specs.List.{AllByRecursion};
+ghost use Rattle.std.specs.Prelude.{◌≡◌, ◌<◌, ◌≤◌, ◌^◌, true, false, IfOk, IfSome, IfNone, OnOk, length, slice_index_or, bit_and, bit_xor};
 ghost use Rattle.cmr_base.specs.Matrix.{height, IsMatrix};
 ghost use Rattle.cmr_base.specs.LineSets.{AllBelow};
 ghost use Rattle.cmr_base.specs.Violator.{HasNoColumnSet};
 ghost use Rattle.parity.specs.ColumnSets.{HasLeastColumnSet};
-ghost use Rattle.parity.specs.Equations.{IsBasis, IsLowest, cleared_by, reduced};
+ghost use Rattle.parity.specs.Equations.{AreCleared, AreReduced, IsLowest, cleared_by};
 ghost use Rattle.parity.specs.Planes.{AreSums, equations_of, outside};
 
 use cmr_base::{Matrix, Memory};
@@ -25,12 +24,8 @@ struct Residues {
     twos: u64,
 }
 
-/// Whether some column set makes a violator with exactly these rows.
-pub fn has_column_set(
-    matrix: &Matrix,
-    rows: &[u32],
-    basis: &mut Vec<Equation>,
-) -> Result<bool, Memory>
+/// Whether some column set makes a violator with exactly these rows. The words are room for the search.
+pub fn has_column_set(matrix: &Matrix, rows: &[u32], words: &mut Vec<u64>) -> Result<bool, Memory>
     requires rows { AllBelow (height matrix.now) rows.now }
     requires columns { 0 < matrix.now.width }
     requires narrow { matrix.now.width ≤ 64 }
@@ -43,8 +38,9 @@ pub fn has_column_set(
     if halves == 0 {
         return Ok(false);
     }
-    eliminate(matrix, rows, sums.ones, basis)?;
-    match lowest(reduce(basis, halves)) {
+    write_equations(matrix, rows, sums.ones, words)?;
+    words.push(halves)?;
+    match lowest(eliminate(words, rows.len())) {
         Some(_free) => Ok(true),
         None => Ok(false),
     }
@@ -69,44 +65,53 @@ fn sum_rows(matrix: &Matrix, rows: &[u32]) -> Residues
     Residues { ones, twos }
 }
 
-// Writes one equation for each row that does not follow from those before it: the chosen columns, none of which has an
-// odd sum, have an even number of the row's nonzeros.
-fn eliminate(
+// Writes the equation of each row: the chosen columns, none of which has an odd sum, have an even number of the row's
+// nonzeros.
+fn write_equations(
     matrix: &Matrix,
     rows: &[u32],
     ones: u64,
-    basis: &mut Vec<Equation>,
+    words: &mut Vec<u64>,
 ) -> Result<(), Memory>
     requires rows { AllBelow (height matrix.now) rows.now }
     requires columns { 0 < matrix.now.width }
     requires narrow { matrix.now.width ≤ 64 }
     requires shape { IsMatrix matrix.now }
-    ensures basis { OnOk result (IsBasis matrix.now.width ones (equations_of matrix.now ones rows.now) basis.new.items) }
-    ensures pivots { OnOk result (AllByRecursion (λ equation. equation.pivot < 64) basis.new.items) }
+    ensures { OnOk result (words.new.items ≡ equations_of matrix.now ones rows.now) }
 {
-    basis.clear();
+    words.clear();
     for row in rows {
-        let left = reduce(basis, without(matrix.support_word(*row, 0), ones));
-        if let Some(pivot) = lowest(left) {
-            basis.push(Equation {
-                pivot,
-                columns: left,
-            })?;
-        }
+        words.push(without(matrix.support_word(*row, 0), ones))?;
     }
     Ok(())
 }
 
-// The columns with the equations added in their order, each where its pivot is among the columns then.
-fn reduce(basis: &[Equation], columns: u64) -> u64
-    requires { AllByRecursion (λ equation. equation.pivot < 64) basis.now }
-    ensures { result ≡ reduced basis.now columns }
+// Reduces the words behind the first ones by a basis of these, and answers what is left of the next one.
+fn eliminate(words: &mut [u64], count: usize) -> u64
+    requires { count < length words.old }
+    ensures reduced { AreReduced count words.old words.new }
+    ensures next { result ≡ slice_index_or words.new count 0 }
 {
-    let mut left = columns;
-    for equation in basis {
-        left = cleared_by(*equation, left);
+    for place in 0..count {
+        clear_behind(words, place);
     }
-    left
+    words[count]
+}
+
+// Adds a word to the words behind it that have its least column.
+fn clear_behind(words: &mut [u64], place: usize)
+    requires { place < length words.old }
+    ensures len { length words.new ≡ length words.old }
+    ensures cleared { AreCleared place words.old words.new }
+{
+    let columns = words[place];
+    let Some(pivot) = lowest(columns) else {
+        return;
+    };
+    let equation = Equation { pivot, columns };
+    for behind in place + 1..words.len() {
+        words[behind] = cleared_by(equation, words[behind]);
+    }
 }
 
 // The columns with the equation added where its pivot is among them. Whether it is cannot be foretold, so no branch is taken.

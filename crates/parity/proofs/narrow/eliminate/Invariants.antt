@@ -1,12 +1,9 @@
-use Rattle.std.proofs.Common.{◌<◌, take}
-use Rattle.std.specs.List.{AllByRecursion}
-use Rattle.parity.specs.declared.narrow.Equation.{Equation}
-use Rattle.parity.specs.Equations.{IsBasis}
-use Rattle.parity.specs.Planes.{equations_of}
+use Rattle.std.proofs.Common.{◌≡◌, length}
+use Rattle.parity.specs.Equations.{AreReduced}
 use Rattle.parity.proofs.narrow.eliminate.Given as goal
 
-abbrev pub invariant-loop-row : goal.invariant-loop-row
-invariant-loop-row l = record {
-  so_far : IsBasis l.matrix.width l.ones (equations_of l.matrix l.ones (take l.row-index l.rows)) l.basis.items;
-  pivots : AllByRecursion (λ (e : Equation). e.pivot < 64) l.basis.items;
+abbrev pub invariant-loop-place : goal.invariant-loop-place
+invariant-loop-place l = record {
+  len : length l.words ≡ length l.initial.words;
+  so_far : AreReduced l.place l.initial.words l.words;
 }
