@@ -6,15 +6,12 @@ use Rattle.std.proofs.lemmas.Bool.{cases_lt}
 use Rattle.std.proofs.lemmas.List.{take_all}
 use Rattle.std.proofs.lemmas.List.Sums.{length-filter, count_by_more_no, count_by_more_yes}
 use Rattle.cmr_base.specs.Matrix.{Matrix}
-use Rattle.cmr_base.specs.LineSets.{AllBelow}
 use Rattle.cmr_base.specs.Members.{IsIn, IsDistinct}
 use Rattle.cmr_base.specs.Splits.{HasNoThree}
 use Rattle.cmr_base.specs.Trees.{support}
-use Rattle.cmr_base.proofs.Lists.{all_by_places}
 use Rattle.cmr_base.proofs.ListsWithout.{increasing_distinct}
-use Rattle.cmr_base.proofs.Members.{all_in}
 use Rattle.cmr_base.proofs.RowLists.{not_both}
-use Rattle.cmr_base.proofs.Booleans.{is_not_lt, is_lt, lt_of}
+use Rattle.cmr_base.proofs.Booleans.{false_is, and_is, and_false, and_same, or_true, or_false, is_not_lt, is_lt, lt_of}
 use Rattle.cmr_base.specs.ColumnSets.{has_column, HasCommon}
 use Rattle.bridge_split.specs.Counting.{AreMore, HaveNoThird}
 use Rattle.bridge_split.specs.SplitCases.{HasThree, IsFirstWithThree}
@@ -104,10 +101,6 @@ module _ (M : ℕ → ℕ → Bool) where
 pub not_star : (M : ℕ → ℕ → Bool) (S : List ℕ) (column : ℕ) → HasThree M S column → ¬ (HasNoThree M S)
 not_star M S column h none = none column h.one h.two h.three h.one_in h.two_in h.three_in h.nonzero.0 h.nonzero.1 h.nonzero.2 h.apart.0 h.apart.1 h.apart.2
 
--- a row of the list is below the bound
-pub below_in : (x bound : ℕ) (S : List ℕ) → AllBelow bound S → IsIn x S → x < bound
-below_in x bound S below h = all_in (λ y. y < bound) S (all_by_places (λ y. y < bound) S 0 below) x h
-
 -- ---- counts up to three
 
 -- one more, where that is counted
@@ -116,28 +109,11 @@ more_than k n true = elim (cases_lt k n) [
   | inl l ↦ is_lt (suc k) (n + 1) (omega arith) ∙ sym (ap (λ t. nat_lt (suc k) n || (t && true)) (is_lt k n l) ∙ or_true (nat_lt (suc k) n))
   | inr l ↦ is_not_lt (suc k) (n + 1) (omega arith) ∙ sym (ap₂ (λ s t. s || (t && true)) (is_not_lt (suc k) n (omega arith)) (is_not_lt k n l))
 ]
-  where
-    or_true : (t : Bool) → (t || true) ≡ true
-    or_true true = refl
-    or_true false = refl
-more_than k n false = ap (nat_lt (suc k)) (let e : n + 0 ≡ n = omega arith in e) ∙ sym (none (nat_lt (suc k) n) (nat_lt k n))
-  where
-    none : (s t : Bool) → (s || (t && false)) ≡ s
-    none true t = refl
-    none false true = refl
-    none false false = refl
+more_than k n false = ap (nat_lt (suc k)) (let e : n + 0 ≡ n = omega arith in e) ∙ sym (ap (λ t. nat_lt (suc k) n || t) (and_false (nat_lt k n)) ∙ or_false (nat_lt (suc k) n))
 
 pub more_than_none : (n : ℕ) (b : Bool) → nat_lt 0 (n + cond b 1 0) ≡ (nat_lt 0 n || (b && b))
-more_than_none n true = is_lt 0 (n + 1) (omega arith) ∙ sym (one (nat_lt 0 n))
-  where
-    one : (t : Bool) → (t || true) ≡ true
-    one true = refl
-    one false = refl
-more_than_none n false = ap (nat_lt 0) (let e : n + 0 ≡ n = omega arith in e) ∙ sym (none (nat_lt 0 n))
-  where
-    none : (t : Bool) → (t || false) ≡ t
-    none true = refl
-    none false = refl
+more_than_none n true = is_lt 0 (n + 1) (omega arith) ∙ sym (or_true (nat_lt 0 n))
+more_than_none n false = ap (nat_lt 0) (let e : n + 0 ≡ n = omega arith in e) ∙ sym (or_false (nat_lt 0 n))
 
 -- a list one longer
 pub count_more : (p : ℕ → Bool) (S : List ℕ) (k : ℕ) → k < length S → count_by p (take (k + 1) S) ≡ count_by p (take k S) + cond (p (get_or S k 0)) 1 0
@@ -175,15 +151,6 @@ front_filtered p (suc k) (x ∷ S) = go (p x) (front_filtered p k S)
     go true l = omega arith
     go false l = l
 
-both_same : (t : Bool) → (t && t) ≡ t
-both_same true = refl
-both_same false = refl
-
-never_both : (s t : Bool) → (s ≡ true → t ≡ true → ⊥) → (s && t) ≡ false
-never_both true true h = absurd (h refl refl)
-never_both true false h = refl
-never_both false t h = refl
-
 -- a row that is not 0 in a column with two nonzeros before it
 pub third_found : (m : Matrix) (S : List ℕ) (k column : ℕ) → IsStrictlyIncreasing S → k < length S
     → nat_lt 1 (count_by (λ row. support m row column) (take k S)) ≡ true → support m (get_or S k 0) column ≡ true → ¬ (HasNoThree (support m) S)
@@ -212,13 +179,13 @@ no_third_more m S k ones twos more_ones more_twos row so low ones_size twos_size
       twos_long = twos_size ∙ so.twos_long;
       once = λ column.
           added column ∙ ap₂ (λ s t. s || t) (so.once column) (row_is column)
-          ∙ sym (ap (nat_lt 0) (more column) ∙ more_than_none (n column) (support m x column) ∙ ap (λ t. nat_lt 0 (n column) || t) (both_same (support m x column)));
+          ∙ sym (ap (nat_lt 0) (more column) ∙ more_than_none (n column) (support m x column) ∙ ap (λ t. nat_lt 0 (n column) || t) (and_same (support m x column)));
       twice = λ column.
           doubled column ∙ ap₂ (λ s t. s || t) (so.twice column) (ap₂ (λ s t. s && t) (so.once column) (row_is column))
           ∙ sym (ap (nat_lt 1) (more column) ∙ more_than 0 (n column) (support m x column));
       few = λ column.
           ap (nat_lt 2) (more column) ∙ more_than 1 (n column) (support m x column)
-          ∙ ap₂ (λ s t. s || t) (so.few column) (never_both (nat_lt 1 (n column)) (support m x column) (λ two here. none (column, so.twice column ∙ two, row_is column ∙ here)));
+          ∙ ap₂ (λ s t. s || t) (so.few column) (false_is (nat_lt 1 (n column) && support m x column) (λ e. let h = and_is (nat_lt 1 (n column)) (support m x column) e in none (column, so.twice column ∙ h.0, row_is column ∙ h.1)));
     }
 
 -- all rows, without a third nonzero
