@@ -1,10 +1,10 @@
 -- Columns with three nonzeros, by their counts.
-use Rattle.std.proofs.Common.{ℕ, zero, suc, ◌+◌, ◌&&◌, ◌||◌, nat_lt, take, ap₂, Bool, true, false, cond, List, [], ◌∷◌, ◌≡◌, ◌≢◌, ◌<◌, ◌≤◌, ◌∙◌, sym, ap, refl, arith, subst, ◌⊎◌, inl, inr, length, get_or, Option, Some, None, MatchOption}
+use Rattle.std.proofs.Common.{ℕ, suc, ◌+◌, ◌&&◌, ◌||◌, nat_lt, take, ap₂, Bool, true, false, cond, List, [], ◌∷◌, ◌≡◌, ◌≢◌, ◌<◌, ◌≤◌, ◌∙◌, sym, ap, refl, arith, subst, ◌⊎◌, inl, inr, length, get_or, Option, Some, None, MatchOption}
 use Rattle.std.specs.List.{count_by, filter}
 use Rattle.std.specs.List.Sorted.{IsStrictlyIncreasing}
 use Rattle.std.proofs.lemmas.Bool.{cases_lt}
 use Rattle.std.proofs.lemmas.List.{take_all}
-use Rattle.std.proofs.lemmas.List.Sums.{length-filter, count_by_more_no, count_by_more_yes}
+use Rattle.std.proofs.lemmas.List.Sums.{length-filter, count_by_more_yes, sum_by_more, sum_by-take-le}
 use Rattle.cmr_base.specs.Matrix.{Matrix}
 use Rattle.cmr_base.specs.Members.{IsIn, IsDistinct}
 use Rattle.cmr_base.specs.Splits.{HasNoThree}
@@ -115,14 +115,6 @@ pub more_than_none : (n : ℕ) (b : Bool) → nat_lt 0 (n + cond b 1 0) ≡ (nat
 more_than_none n true = is_lt 0 (n + 1) (omega arith) ∙ sym (or_true (nat_lt 0 n))
 more_than_none n false = ap (nat_lt 0) (let e : n + 0 ≡ n = omega arith in e) ∙ sym (or_false (nat_lt 0 n))
 
--- a list one longer
-pub count_more : (p : ℕ → Bool) (S : List ℕ) (k : ℕ) → k < length S → count_by p (take (k + 1) S) ≡ count_by p (take k S) + cond (p (get_or S k 0)) 1 0
-count_more p S k l = go (p (get_or S k 0)) refl
-  where
-    go : (t : Bool) → p (get_or S k 0) ≡ t → count_by p (take (k + 1) S) ≡ count_by p (take k S) + cond t 1 0
-    go true e = count_by_more_yes p S k 0 l e
-    go false e = count_by_more_no p S k 0 l e ∙ (let z : count_by p (take k S) ≡ count_by p (take k S) + 0 = omega arith in z)
-
 -- what the first column with three nonzeros is
 pub first_is : (m : Matrix) (S set : List ℕ) (found : Option ℕ) → IsStrictlyIncreasing S → AreMore m S 2 set
     → MatchOption found ((column : ℕ) → has_column set column ≡ false) (λ first. (has_column set first ≡ true) × ((column : ℕ) → column < first → has_column set column ≡ false))
@@ -142,15 +134,6 @@ first_is m S set (Some first) rises counted h = record {
 
 -- ---- the first rows, up to a third nonzero of a column
 
-front_filtered : (p : ℕ → Bool) (k : ℕ) (S : List ℕ) → length (filter p (take k S)) ≤ length (filter p S)
-front_filtered p zero S = omega arith
-front_filtered p (suc k) [] = omega arith
-front_filtered p (suc k) (x ∷ S) = go (p x) (front_filtered p k S)
-  where
-    go : (t : Bool) → length (filter p (take k S)) ≤ length (filter p S) → length (cond t (x ∷ filter p (take k S)) (filter p (take k S))) ≤ length (cond t (x ∷ filter p S) (filter p S))
-    go true l = omega arith
-    go false l = l
-
 -- a row that is not 0 in a column with two nonzeros before it
 pub third_found : (m : Matrix) (S : List ℕ) (k column : ℕ) → IsStrictlyIncreasing S → k < length S
     → nat_lt 1 (count_by (λ row. support m row column) (take k S)) ≡ true → support m (get_or S k 0) column ≡ true → ¬ (HasNoThree (support m) S)
@@ -158,8 +141,8 @@ third_found m S k column rises low two here =
     let p : ℕ → Bool = λ row. support m row column in
     let more = count_by_more_yes p S k 0 low here in
     let l = lt_of 1 (count_by p (take k S)) two in
-    let f = length-filter p (take (k + 1) S) in
-    let g = front_filtered p (k + 1) S in
+    let f = length-filter p S in
+    let g : count_by p (take (k + 1) S) ≤ count_by p S = sum_by-take-le (λ row. cond (p row) 1 0) S (k + 1) in
     not_star (support m) S column (three_here (support m) column S (increasing_distinct S rises) (omega arith))
 
 -- one row more, without a third nonzero
@@ -172,7 +155,7 @@ pub no_third_more : (m : Matrix) (S : List ℕ) (k : ℕ) (ones twos more_ones m
 no_third_more m S k ones twos more_ones more_twos row so low ones_size twos_size row_is doubled added none =
     let x = get_or S k 0 in
     let n : ℕ → ℕ = λ column. count_by (λ r. support m r column) (take k S) in
-    let more : (column : ℕ) → count_by (λ r. support m r column) (take (k + 1) S) ≡ n column + cond (support m x column) 1 0 = λ column. count_more (λ r. support m r column) S k low in
+    let more : (column : ℕ) → count_by (λ r. support m r column) (take (k + 1) S) ≡ n column + cond (support m x column) 1 0 = λ column. sum_by_more (λ r. cond (support m r column) 1 0) S k 0 low in
     record {
       matrix = so.matrix;
       ones_long = ones_size ∙ so.ones_long;
