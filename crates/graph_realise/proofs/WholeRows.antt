@@ -1,10 +1,10 @@
 -- A row that does not split the rows S does not split row i with a part of the others either, nor does i: so each row is tested once.
-use Rattle.std.proofs.Common.{ℕ, Bool, true, List, [], ◌∷◌, ◌≡◌, ◌≢◌, ◌<◌, ◌∙◌, sym, ap, refl, subst, ◌⊎◌, inl, inr, slice_index_or, length}
+use Rattle.std.proofs.Common.{ℕ, Bool, true, List, [], ◌∷◌, ◌≡◌, ◌<◌, sym, refl, subst, ◌⊎◌, inl, inr, slice_index_or, length}
 use Rattle.cmr_base.specs.Members.{IsIn}
 use Rattle.cmr_base.specs.Splits.{AreJoined, LeadsTo, AreLinked, Splits, AreParts}
-use Rattle.bridge_split.proofs.Links.{linked_on}
+use Rattle.bridge_split.proofs.Links.{joined_off, linked_on}
 use Rattle.cmr_base.proofs.Booleans.{true_is}
-use Rattle.cmr_base.proofs.RowLists.{not_both, in_or_not}
+use Rattle.cmr_base.proofs.RowLists.{in_or_not}
 use Rattle.graph_realise.proofs.PartLists.{IsWholePart, whole_part}
 
 -- the rows T are row i and the part P
@@ -13,10 +13,7 @@ module _ (M : ℕ → ℕ → Bool) (S : List ℕ) (i : ℕ) (P : List ℕ) (W :
   within : (j x k : ℕ) (rows : List ℕ) → IsIn j P → AreLinked M S i j x → LeadsTo M S i x rows k → LeadsTo M T i x rows k
   within j x k [] hj l e = e
   within j x k (y ∷ rows) hj l (hy, (c, off, a, b), e) = let m = linked_on M S i j x y l hy (c, off, a, b) in
-      (to y (inr (W.closed j y hj hy (apart e) m)), (c, off, a, b), within j y k rows hj m e)
-    where
-      apart : LeadsTo M S i y rows k → y ≢ i
-      apart e z = not_both (M y c) b (ap (λ (r : ℕ). M r c) z ∙ off)
+      (to y (inr (W.closed j y hj hy (joined_off M S i x y (c, off, a, b)) m)), (c, off, a, b), within j y k rows hj m e)
 
   pub part_stays : ¬ (Splits M T i)
   part_stays s = s.apart (go (from s.one s.one_in) (from s.two s.two_in))
