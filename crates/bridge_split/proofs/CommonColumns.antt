@@ -1,5 +1,5 @@
 -- The columns that a row has in common with some rows, word by word.
-use Rattle.std.proofs.Common.{ℕ, ◌+◌, ◌*◌, ◌/◌, ◌%◌, Bool, true, false, List, ◌≡◌, ◌<◌, ◌≤◌, ◌∙◌, sym, refl, arith, subst, ◌⊎◌, inl, inr, length, get_or, set, ap, ap₂, ◌&&◌, ◌||◌}
+use Rattle.std.proofs.Common.{ℕ, ◌+◌, ◌*◌, ◌/◌, ◌%◌, Bool, true, false, List, ◌≡◌, ◌<◌, ◌≤◌, ◌∙◌, sym, arith, subst, ◌⊎◌, inl, inr, length, get_or, set, ap, ap₂, ◌&&◌, ◌||◌}
 use Rattle.std.specs.Prelude.{◌↔◌}
 use Rattle.std.proofs.lemmas.Bool.{cases_lt}
 use Rattle.std.proofs.lemmas.List.{get_or-set_same, get_or-set_other, length-set}
@@ -8,6 +8,7 @@ use Rattle.cmr_base.specs.Matrix.{Matrix, IsRectangular}
 use Rattle.cmr_base.specs.Planes.{has_bit}
 use Rattle.cmr_base.specs.Splits.{IsCommon}
 use Rattle.cmr_base.specs.Trees.{support}
+use Rattle.cmr_base.proofs.Booleans.{and_is, or_is, or_true}
 use Rattle.cmr_base.proofs.ColumnWords.{column_at, none_past}
 use Rattle.cmr_base.proofs.GraphicMatrices.{nonzero_in_range}
 use Rattle.cmr_base.proofs.Members.{in_at}
@@ -25,25 +26,17 @@ module _ (M : ℕ → ℕ → Bool) (i : ℕ) (P : List ℕ) (block : ℕ) where
   pub word_more : (word word' place : ℕ) → IsCollectingWord M i P block word place → place < length P
       → ((k : ℕ) → k < 64 → has_bit word' k ≡ (has_bit word k || (M i (64 * block + k) && M (get_or P place 0) (64 * block + k)))) → IsCollectingWord M i P block word' (place + 1)
   word_more word word' place w l more = record {
-    into = λ k s e. pick k s (has_bit word k) (M i (64 * block + k)) (M (get_or P place 0) (64 * block + k)) refl refl refl (sym (more k s) ∙ e);
+    into = λ k s e. elim (or_is (has_bit word k) (M i (64 * block + k) && M (get_or P place 0) (64 * block + k)) (sym (more k s) ∙ e)) [
+      | inl f ↦ w.into k s f
+      | inr f ↦ let g = and_is (M i (64 * block + k)) (M (get_or P place 0) (64 * block + k)) f in (g.0, (get_or P place 0, in_at P place l, g.1))
+    ];
     from = λ p k h s mi mp. more k s ∙ elim (cases_lt p place) [
       | inl g ↦ ap (λ t. t || (M i (64 * block + k) && M (get_or P place 0) (64 * block + k))) (w.from p k g s mi mp)
       | inr g ↦
           let q : p ≡ place = omega arith in
-          ap₂ (λ s t. has_bit word k || (s && t)) mi (ap (λ (z : ℕ). M (get_or P z 0) (64 * block + k)) (sym q) ∙ mp) ∙ right (has_bit word k)
+          ap₂ (λ s t. has_bit word k || (s && t)) mi (ap (λ (z : ℕ). M (get_or P z 0) (64 * block + k)) (sym q) ∙ mp) ∙ or_true (has_bit word k)
     ];
   }
-    where
-      right : (t : Bool) → (t || (true && true)) ≡ true
-      right true = refl
-      right false = refl
-
-      pick : (k : ℕ) → k < 64 → (a b d : Bool) → has_bit word k ≡ a → M i (64 * block + k) ≡ b → M (get_or P place 0) (64 * block + k) ≡ d → (has_bit word k || (M i (64 * block + k) && M (get_or P place 0) (64 * block + k))) ≡ true
-          → IsCommon M i P (64 * block + k)
-      pick k s true b d ea eb ed e = w.into k s ea
-      pick k s false true true ea eb ed e = (eb, (get_or P place 0, in_at P place l, ed))
-      pick k s false true false ea eb ed e = absurd (not_both (has_bit word k || (M i (64 * block + k) && M (get_or P place 0) (64 * block + k))) e (ap₂ (λ s t. s || t) ea (ap₂ (λ s t. s && t) eb ed)))
-      pick k s false false d ea eb ed e = absurd (not_both (has_bit word k || (M i (64 * block + k) && M (get_or P place 0) (64 * block + k))) e (ap₂ (λ s t. s || t) ea (ap (λ t. t && M (get_or P place 0) (64 * block + k)) eb)))
 
   -- all rows were gone through
   pub word_ends : (word place : ℕ) → IsCollectingWord M i P block word place → length P ≤ place → IsCommonWord M i P block word

@@ -1,15 +1,15 @@
 -- What the tests of cuts say, and the table of them.
-use Rattle.std.proofs.Common.{ℕ, suc, ◌+◌, ◌*◌, Bool, true, false, List, [], ◌∷◌, ◌++◌, ◌≡◌, ◌<◌, ◌≤◌, ◌∙◌, sym, refl, arith, subst, ◌⊎◌, inl, inr, length, get_or, ap, ap₂, ◌&&◌, ◌||◌}
+use Rattle.std.proofs.Common.{ℕ, ◌+◌, ◌*◌, Bool, true, false, List, [], ◌∷◌, ◌++◌, ◌≡◌, ◌<◌, ◌∙◌, sym, refl, arith, subst, ◌⊎◌, inl, inr, length, get_or, ◌&&◌}
 use Rattle.std.specs.Prelude.{◌↔◌}
 use Rattle.std.proofs.lemmas.Bool.{cases_lt}
 use Rattle.std.proofs.lemmas.List.{get_or_append_left}
 use Rattle.std.proofs.lemmas.Nat.{mul-add-lt}
 use Rattle.std.proofs.Math.Seq.{get_or-append_seam}
 use Rattle.cmr_base.specs.Splits.{IsCommon, IsUncut, IsUncutBy, Agree}
-use Rattle.cmr_base.proofs.Members.{in_at}
+use Rattle.cmr_base.proofs.Booleans.{and_is, is_and}
+use Rattle.cmr_base.proofs.Lists.{length-more}
 use Rattle.cmr_base.specs.ColumnSets.{has_column, Denies, IsApart, IsWithin}
 use Rattle.bridge_split.specs.Cutting.{IsUncutIn, AreUncutIn, part_at, IsCutTable, HasLine, disagree}
-use Rattle.cmr_base.proofs.Places.{found_at}
 
 module _ (M : ℕ → ℕ → Bool) where
   -- the columns of a row as a set
@@ -29,7 +29,7 @@ module _ (M : ℕ → ℕ → Bool) where
   pub line_more : (columns : ℕ → Bool) (parts : List (List ℕ)) (upto : ℕ) (before cuts cuts' : List Bool) (b : Bool) → HasLine M columns parts upto before cuts → cuts' ≡ cuts ++ b ∷ []
       → Denies b (AreUncutIn M columns (part_at parts upto)) → HasLine M columns parts (upto + 1) before cuts'
   line_more columns parts upto before cuts cuts' b w e here = rw e (record {
-    size = let s = w.size in let l = push_size cuts b in omega arith;
+    size = let s = w.size in let l = length-more cuts b in omega arith;
     same = λ k l. get_or_append_left cuts (b ∷ []) false k (let s = w.size in omega arith) ∙ w.same k l;
     right = λ a l. elim (cases_lt a upto) [
       | inl lt ↦ subst (λ (t : Bool). Denies t (AreUncutIn M columns (part_at parts a))) (sym (get_or_append_left cuts (b ∷ []) false (length before + a) (let s = w.size in omega arith))) (w.right a lt)
@@ -40,23 +40,19 @@ module _ (M : ℕ → ℕ → Bool) where
           (subst (λ (z : ℕ). Denies b (AreUncutIn M columns (part_at parts z))) (sym q) here))
     ];
   })
-    where
-      push_size : (xs : List Bool) (x : Bool) → length (xs ++ x ∷ []) ≡ suc (length xs)
-      push_size [] x = refl
-      push_size (y ∷ ys) x = let k = push_size ys x in omega arith
 
   pub denied : (t : Bool) (P Q : Type 0) → (P → Q) → (Q → P) → Denies t P → Denies t Q
   denied true P Q f g n = λ q. n (g q)
   denied false P Q f g p = f p
 
-  uncut_by : (i : ℕ) (Q P : List ℕ) (columns : ℕ → Bool) → ((column : ℕ) → (columns column ≡ true) ↔ IsCommon M i Q column) → AreUncutIn M columns P → IsUncutBy M i Q P
+  pub uncut_by : (i : ℕ) (Q P : List ℕ) (columns : ℕ → Bool) → ((column : ℕ) → (columns column ≡ true) ↔ IsCommon M i Q column) → AreUncutIn M columns P → IsUncutBy M i Q P
   uncut_by i Q P columns same all j h = go (all j h)
     where
       go : IsUncutIn M columns j → IsUncut M i Q j
       go (inl f) = inl (λ column c. f column ((same column).1 c))
       go (inr f) = inr (λ column c. f column ((same column).1 c))
 
-  by_uncut : (i : ℕ) (Q P : List ℕ) (columns : ℕ → Bool) → ((column : ℕ) → (columns column ≡ true) ↔ IsCommon M i Q column) → IsUncutBy M i Q P → AreUncutIn M columns P
+  pub by_uncut : (i : ℕ) (Q P : List ℕ) (columns : ℕ → Bool) → ((column : ℕ) → (columns column ≡ true) ↔ IsCommon M i Q column) → IsUncutBy M i Q P → AreUncutIn M columns P
   by_uncut i Q P columns same all j h = go (all j h)
     where
       go : IsUncut M i Q j → IsUncutIn M columns j
@@ -105,9 +101,6 @@ module _ (M : ℕ → ℕ → Bool) where
 
 -- disagreement goes both ways
 pub disagree_back : (cuts : List Bool) (count a b : ℕ) → disagree cuts count a b ≡ true → disagree cuts count b a ≡ true
-disagree_back cuts count a b e = go (get_or cuts (a * count + b) false) (get_or cuts (b * count + a) false) e
-  where
-    go : (s t : Bool) → (s && t) ≡ true → (t && s) ≡ true
-    go true true e = refl
-    go true false e = cc
-    go false t e = cc
+disagree_back cuts count a b e =
+    let both = and_is (get_or cuts (a * count + b) false) (get_or cuts (b * count + a) false) e in
+    is_and (get_or cuts (b * count + a) false) (get_or cuts (a * count + b) false) both.1 both.0

@@ -1,28 +1,25 @@
 -- The first row that splits the others.
-use Rattle.std.proofs.Common.{ℕ, zero, suc, ◌+◌, Bool, List, [], ◌∷◌, ◌++◌, ◌≡◌, ◌<◌, ◌≤◌, sym, ap, refl, arith, subst, inl, inr, length, get_or, take, drop, Option, Some, ◌∙◌}
+use Rattle.std.proofs.Common.{ℕ, suc, ◌+◌, Bool, List, ◌∷◌, ◌++◌, ◌≡◌, ◌<◌, ◌≤◌, sym, ap, arith, subst, length, get_or, take, drop, length-take, get_or-take, take-append-drop, drop-cons, Option, Some, ◌∙◌}
 use Rattle.std.specs.List.Sorted.{IsStrictlyIncreasing}
-use Rattle.std.proofs.lemmas.Bool.{cases_lt}
 use Rattle.cmr_base.specs.Matrix.{Matrix}
 use Rattle.cmr_base.specs.Members.{IsIn}
 use Rattle.cmr_base.specs.Splits.{Splits, IsFirstSplit}
 use Rattle.cmr_base.specs.Trees.{support}
 use Rattle.cmr_base.proofs.ListsWithout.{place_of, IsPlaceOf, place_is}
+use Rattle.cmr_base.proofs.Places.{each_more, found_at}
 use Rattle.bridge_split.specs.PartNumbers.{number_at, AreNumbered, HasRoom, IsSearching}
 use Rattle.bridge_split.proofs.NumberedParts.{linked_number}
 use Rattle.bridge_split.proofs.PartWalks.{same_number}
 
 -- a list at a place
 cut_at : (xs : List ℕ) (p : ℕ) → p < length xs → xs ≡ take p xs ++ get_or xs p 0 ∷ drop (suc p) xs
-cut_at [] p l = absurd (omega arith)
-cut_at (x ∷ xs) zero l = refl
-cut_at (x ∷ xs) (suc p) l = ap (λ (ys : List ℕ). x ∷ ys) (cut_at xs p (omega arith))
+cut_at xs p l = sym (take-append-drop p xs) ∙ ap (λ (ys : List ℕ). take p xs ++ ys) (drop-cons xs p 0 l)
 
 before_place : (xs : List ℕ) (p x : ℕ) → IsIn x (take p xs) → (q : ℕ) × (q < p) × (get_or xs q 0 ≡ x)
-before_place [] zero x h = absurd h
-before_place [] (suc p) x h = absurd h
-before_place (y ∷ xs) zero x h = absurd h
-before_place (y ∷ xs) (suc p) x (inl e) = (0, omega arith, sym e)
-before_place (y ∷ xs) (suc p) x (inr h) = let r = before_place xs p x h in (suc r.0, (let l = r.1 in omega arith), r.2)
+before_place xs p x h =
+    let q = found_at (take p xs) x h in
+    let low : q.0 < p = let l = q.1 in let k = length-take p xs in omega arith in
+    (q.0, low, sym (get_or-take p xs q.0 0 low) ∙ q.2)
 
 module _ (M : ℕ → ℕ → Bool) (S : List ℕ) (rises : IsStrictlyIncreasing S) where
   -- a row with two parts or more splits
@@ -68,18 +65,12 @@ module _ (m : Matrix) (S : List ℕ) (rises : IsStrictlyIncreasing S) where
       → IsSearching m S (p + 1) part' seen'
   searching_on p count part part' seen seen' w l room n few = record {
     room = room;
-    none = λ q k. elim (cases_lt q p) [
-      | inl lt ↦ w.none q lt
-      | inr ge ↦ let e : p ≡ q = omega arith in subst (λ (z : ℕ). ¬ (Splits (support m) S (get_or S z 0))) e (splits_none (support m) S rises (get_or S p 0) part' count n few)
-    ];
+    none = each_more (λ (q : ℕ). ¬ (Splits (support m) S (get_or S q 0))) p w.none (splits_none (support m) S rises (get_or S p 0) part' count n few);
   }
 
   -- a row that is known not to split
   pub searching_past : (p : ℕ) (part : List (Option ℕ)) (seen : List ℕ) → IsSearching m S p part seen → ¬ (Splits (support m) S (get_or S p 0)) → IsSearching m S (p + 1) part seen
   searching_past p part seen w whole = record {
     room = w.room;
-    none = λ q k. elim (cases_lt q p) [
-      | inl lt ↦ w.none q lt
-      | inr ge ↦ let e : p ≡ q = omega arith in subst (λ (z : ℕ). ¬ (Splits (support m) S (get_or S z 0))) e whole
-    ];
+    none = each_more (λ (q : ℕ). ¬ (Splits (support m) S (get_or S q 0))) p w.none whole;
   }

@@ -1,9 +1,9 @@
 -- Breadth-first trees over the parts of a table, as lists.
 use Rattle.std.proofs.Common.{ℕ, suc, ◌+◌, ◌%◌, true, false, List, [], ◌∷◌, ◌++◌, ◌≡◌, ◌≢◌, ◌<◌, ◌≤◌, ◌∙◌, sym, ap, refl, arith, subst, ◌⊎◌, inl, inr, length, get_or, set, get_or-set_same, get_or-set_other, length-set, add-one}
-use Rattle.std.proofs.lemmas.Bool.{cases_lt}
 use Rattle.std.proofs.lemmas.List.{get_or_append_left, get_or_default}
 use Rattle.cmr_base.specs.Members.{IsIn}
 use Rattle.cmr_base.proofs.Members.{in-append, in_at}
+use Rattle.cmr_base.proofs.Places.{each_more}
 use Rattle.bridge_split.specs.declared.cuts.CutTable.{CutTable}
 use Rattle.bridge_split.specs.Forests.{depth_at, parent_at, joins, IsSquare, HasTreeRoom, IsSettled, IsGrowing, IsGrown, IsConflict, IsTwoColoured, IsReachingFrom, IsGrowingFrom, IsGrownTo}
 use Rattle.bridge_split.specs.Forests.{Extends}
@@ -149,12 +149,9 @@ module _ (table : CutTable) where
     grown_skips depths' parents' reached' far inside f some p q r = rw (p, q, r) (record {
       room = w.room;
       grown = w.grown;
-      passed = λ x l. elim (cases_lt x place) [
-        | inl lt ↦ w.passed x lt
-        | inr ge ↦ let e : place ≡ x = omega arith in
-            subst (λ (v : ℕ). IsIn v reached) e (was_reached (joins table) table.count (depth_at depths) (parent_at parents) reached place w.grown.are
-            (λ n. some (f ∙ get_or_default depths place far 4294967295 (let r = w.room.depths_are in omega arith) ∙ n)))
-      ];
+      passed = each_more (λ (x : ℕ). IsIn x reached) place w.passed
+          (was_reached (joins table) table.count (depth_at depths) (parent_at parents) reached place w.grown.are
+          (λ n. some (f ∙ get_or_default depths place far 4294967295 (let r = w.room.depths_are in omega arith) ∙ n)));
     })
 
     pub grown_more : (depths' parents' reached' : List ℕ) → HasTreeRoom table.count depths' parents' → Extends reached reached' → IsIn place reached' → IsGrown (joins table) table.count (depth_at depths') (parent_at parents') reached'
@@ -162,10 +159,7 @@ module _ (table : CutTable) where
     grown_more depths' parents' reached' room extends here grown = record {
       room = room;
       grown = grown;
-      passed = λ x l. elim (cases_lt x place) [
-        | inl lt ↦ in_longer reached reached' x extends (w.passed x lt)
-        | inr ge ↦ let e : place ≡ x = omega arith in subst (λ (v : ℕ). IsIn v reached') e here
-      ];
+      passed = each_more (λ (x : ℕ). IsIn x reached') place (λ x l. in_longer reached reached' x extends (w.passed x l)) here;
     }
 
     pub grown_ends : table.count ≤ place → IsTwoColoured (joins table) table.count (depth_at depths)

@@ -3,7 +3,7 @@ use Rattle.std.proofs.Common.{ℕ, suc, ◌%◌, Bool, true, false, cond, nat_eq
 use Rattle.std.proofs.lemmas.Bool.{cases_lt}
 use Rattle.std.proofs.lemmas.List.{get_or_append_left}
 use Rattle.std.proofs.Math.Seq.{get_or-append_seam}
-use Rattle.cmr_base.specs.Members.{IsIn, IsDistinct}
+use Rattle.cmr_base.specs.Members.{IsIn}
 use Rattle.cmr_base.proofs.ListsWithout.{place_of, IsPlaceOf, place_is}
 use Rattle.cmr_base.proofs.Members.{distinct_few, in-append, in_at}
 use Rattle.cmr_base.proofs.RowLists.{in_or_not, not_both, is_eq, is_ne}
@@ -11,14 +11,10 @@ use Rattle.cmr_base.proofs.Lists.{length-more}
 use Rattle.bridge_split.specs.Forests.{AreReached, IsSettled, AreSettled, IsGrowing, IsGrown, IsReaching, IsConflict, IsTwoColoured}
 use Rattle.bridge_split.proofs.GrowingLists.{once-append}
 
-distinct_of : (xs : List ℕ) → IsDistinct xs → IsDistinct xs
-distinct_of [] h = tt
-distinct_of (x ∷ xs) h = (h.0, distinct_of xs h.1)
-
 module _ (D : ℕ → ℕ → Bool) (count : ℕ) where
   -- no more are reached than there are
   pub few_reached : (depth parent : ℕ → ℕ) (reached : List ℕ) → AreReached D count depth parent reached → length reached ≤ count
-  few_reached depth parent reached are = distinct_few count reached (distinct_of reached are.once) are.inside
+  few_reached depth parent reached are = distinct_few count reached are.once are.inside
 
   -- what was not reached, and what was
   pub not_reached : (depth parent : ℕ → ℕ) (reached : List ℕ) (x : ℕ) → AreReached D count depth parent reached → depth x ≡ 4294967295 → ¬ (IsIn x reached)

@@ -1,11 +1,16 @@
 -- Being linked is an equivalence.
-use Rattle.std.proofs.Common.{ℕ, Bool, List, [], ◌∷◌, sym, refl, subst}
+use Rattle.std.proofs.Common.{ℕ, Bool, List, [], ◌∷◌, ◌≢◌, ◌∙◌, sym, ap, refl, subst}
 use Rattle.cmr_base.specs.Members.{IsIn}
 use Rattle.cmr_base.specs.Splits.{AreJoined, LeadsTo, AreLinked}
+use Rattle.cmr_base.proofs.RowLists.{not_both}
 
 module _ (M : ℕ → ℕ → Bool) (S : List ℕ) (i : ℕ) where
   pub joined_back : (j k : ℕ) → AreJoined M i j k → AreJoined M i k j
   joined_back j k (column, off, a, b) = (column, off, b, a)
+
+  -- a row that is joined to another one is not row i
+  pub joined_off : (j k : ℕ) → AreJoined M i j k → k ≢ i
+  joined_off j k (column, off, a, b) e = not_both (M k column) b (ap (λ (z : ℕ). M z column) e ∙ off)
 
   -- one more row at the end
   leads_on : (j k x : ℕ) (rows : List ℕ) → LeadsTo M S i j rows k → IsIn x S → AreJoined M i k x → AreLinked M S i j x

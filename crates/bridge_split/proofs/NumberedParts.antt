@@ -5,12 +5,13 @@ use Rattle.std.proofs.lemmas.Bool.{cases_eq}
 use Rattle.std.proofs.lemmas.List.FromFn.{length-map-range_with_len, get_or-map-range_with_len}
 use Rattle.std.proofs.lemmas.List.Kept.{IsStrictlyIncreasing-filter}
 use Rattle.cmr_base.specs.Members.{IsIn}
-use Rattle.cmr_base.specs.Splits.{AreJoined, LeadsTo, AreLinked, AreParts}
+use Rattle.cmr_base.specs.Splits.{LeadsTo, AreLinked, AreParts}
 use Rattle.cmr_base.proofs.ListsWithout.{place_of, IsPlaceOf, place_is}
 use Rattle.cmr_base.proofs.Members.{in_at}
 use Rattle.cmr_base.proofs.Submatrices.{increasing_places}
-use Rattle.cmr_base.proofs.RowLists.{is_eq, filter_in, in_filter, not_both}
+use Rattle.cmr_base.proofs.RowLists.{is_eq, filter_in, in_filter}
 use Rattle.bridge_split.specs.PartNumbers.{is_number, number_at, numbered_rows, numbered_parts, AreNumbered}
+use Rattle.bridge_split.proofs.Links.{joined_off}
 use Rattle.bridge_split.proofs.PartWalks.{same_number, no_number}
 
 number_is : (a : ℕ) (o : Option ℕ) → o ≡ Some a → is_number a o ≡ true
@@ -42,10 +43,7 @@ module _ (M : ℕ → ℕ → Bool) (S : List ℕ) (i : ℕ) (rises : IsStrictly
     where
       go : (j : ℕ) (rows : List ℕ) → IsIn j S → j ≢ i → LeadsTo M S i j rows k → number_at numbers j ≡ number_at numbers k
       go j [] hj nj e = ap (number_at numbers) e
-      go j (x ∷ rows) hj nj (hx, join, e) = n.joined j x hj hx nj (off x join) join ∙ go x rows hx (off x join) e
-        where
-          off : (x : ℕ) → AreJoined M i j x → x ≢ i
-          off x (column, none, a, b) q = not_both (M i column) (subst (λ (v : ℕ). M v column ≡ true) q b) none
+      go j (x ∷ rows) hj nj (hx, join, e) = n.joined j x hj hx nj (joined_off M S i j x join) join ∙ go x rows hx (joined_off M S i j x join) e
 
   at_number : (a : ℕ) → a < count → get_or (numbered_parts numbers S count) a [] ≡ numbered_rows numbers S a
   at_number a l = get_or-map-range_with_len (numbered_rows numbers S) 0 count a a [] l (omega arith)

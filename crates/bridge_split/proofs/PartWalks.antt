@@ -8,7 +8,7 @@ use Rattle.cmr_base.specs.Splits.{AreJoined, AreLinked}
 use Rattle.cmr_base.proofs.Places.{found_at}
 use Rattle.cmr_base.proofs.RowLists.{not_both}
 use Rattle.cmr_base.proofs.Submatrices.{increasing_places}
-use Rattle.cmr_base.proofs.Booleans.{or_is, or_left, or_right}
+use Rattle.cmr_base.proofs.Booleans.{and_is, is_and, is_not, not_is, or_is, or_left, or_right}
 use Rattle.bridge_split.specs.PartNumbers.{is_none, left_in, Keeps, IsPast, AreNumbered, AreMet, AreClosed, IsWalking, IsBetween, ArePassed, IsTouched}
 use Rattle.bridge_split.proofs.Links.{joined_back, linked_on, linked_from}
 
@@ -27,16 +27,6 @@ no_number o a e f = true≢false (ap is_none (sym e ∙ f))
 pub some_or_none : (o : Option ℕ) → (o ≡ None) ⊎ ((a : ℕ) × (o ≡ Some a))
 some_or_none None = inl refl
 some_or_none (Some a) = inr (a, refl)
-
-and_not_true : (s t : Bool) → (s && not t) ≡ true → (s ≡ true) × (t ≡ false)
-and_not_true true true e = cc
-and_not_true true false e = (refl, refl)
-and_not_true false t e = cc
-
-true_and_not : (s t : Bool) → s ≡ true → t ≡ false → (s && not t) ≡ true
-true_and_not true true e f = cc
-true_and_not true false e f = refl
-true_and_not false t e f = cc
 
 -- ---- rows that are left grow fewer
 
@@ -130,11 +120,11 @@ module _ (M : ℕ → ℕ → Bool) (S : List ℕ) (i : ℕ) where
       closed = closed' (suc number) w.are (omega arith) w.closed;
       into = λ c e. elim (or_is (reached c) (M x c && not (M i c)) (sym (more c) ∙ e)) [
         | inl f ↦ let k = w.into c f in (k.0, kept k.0 number k.1, k.2, k.3)
-        | inr f ↦ let g = and_not_true (M x c) (M i c) f in (x, now, g.0, g.1)
+        | inr f ↦ let g = and_is (M x c) (not (M i c)) f in (x, now, g.0, not_is (M i c) g.1)
       ];
       from = λ k c e mk mi. more c ∙ elim (was k number e) [
         | inl f ↦ or_left (reached c) (M x c && not (M i c)) (w.from k c f mk mi)
-        | inr p ↦ or_right (reached c) (M x c && not (M i c)) (true_and_not (M x c) (M i c) (ap (λ (v : ℕ). M v c) (sym p.0) ∙ mk) mi)
+        | inr p ↦ or_right (reached c) (M x c && not (M i c)) (is_and (M x c) (not (M i c)) (ap (λ (v : ℕ). M v c) (sym p.0) ∙ mk) (is_not (M i c) mi))
       ];
     }
       where
@@ -165,10 +155,10 @@ module _ (M : ℕ → ℕ → Bool) (S : List ℕ) (i : ℕ) where
         few = omega arith;
       };
       closed = closed' number b.are (omega arith) b.closed;
-      into = λ c e. let g = and_not_true (M x c) (M i c) (sym (more c) ∙ e) in (x, now, g.0, g.1);
+      into = λ c e. let g = and_is (M x c) (not (M i c)) (sym (more c) ∙ e) in (x, now, g.0, not_is (M i c) g.1);
       from = λ k c e mk mi. more c ∙ elim (was k number e) [
         | inl f ↦ absurd (let l = (b.are.others k number f).2 in omega arith)
-        | inr p ↦ true_and_not (M x c) (M i c) (ap (λ (v : ℕ). M v c) (sym p.0) ∙ mk) mi
+        | inr p ↦ is_and (M x c) (not (M i c)) (ap (λ (v : ℕ). M v c) (sym p.0) ∙ mk) (is_not (M i c) mi)
       ];
     }
       where

@@ -1,24 +1,16 @@
 -- Sides of parts by the depths in their trees, and odd closed lists by routes.
 use Rattle.std.proofs.Common.{ℕ, zero, suc, ◌+◌, ◌%◌, ◌/◌, Bool, true, List, [], ◌∷◌, ◌≡◌, ◌≢◌, ◌<◌, ◌≤◌, ◌∙◌, sym, ap, refl, arith, subst, inl, inr, length, get_or, map}
+use Rattle.std.proofs.lemmas.List.{get_or-map, length-map}
 use Rattle.cmr_base.specs.LineSets.{AllBelow}
 use Rattle.cmr_base.specs.Members.{IsIn}
 use Rattle.cmr_base.specs.Splits.{Agree, AreParts, AreSides, IsOddClosed}
 use Rattle.cmr_base.proofs.Members.{in_at}
+use Rattle.cmr_base.proofs.Places.{members_below}
 use Rattle.cmr_base.proofs.RowLists.{two_cases}
 use Rattle.bridge_split.specs.declared.cuts.CutTable.{CutTable}
 use Rattle.bridge_split.specs.Cutting.{part_at, disagree, IsCutTable}
 use Rattle.bridge_split.specs.Forests.{depth_at, joins, IsRoute, IsConflict, IsTwoColoured, HasRoute}
 use Rattle.bridge_split.proofs.CutTables.{disagree_true, disagree_false, disagree_back}
-use Rattle.bridge_split.proofs.ThreeNonzeros.{below_in}
-
-map_at : {A B : Type 0} (f : A → B) (xs : List A) (k : ℕ) (d : A) (e : B) → k < length xs → get_or (map f xs) k e ≡ f (get_or xs k d)
-map_at f [] k d e l = absurd (omega arith)
-map_at f (x ∷ xs) zero d e l = refl
-map_at f (x ∷ xs) (suc k) d e l = map_at f xs k d e (omega arith)
-
-length-map : {A B : Type 0} (f : A → B) (xs : List A) → length (map f xs) ≡ length xs
-length-map f [] = refl
-length-map f (x ∷ xs) = ap suc (length-map f xs)
 
 -- ---- places of a route
 
@@ -68,10 +60,10 @@ module _ (M : ℕ → ℕ → Bool) (S : List ℕ) (i : ℕ) (parts : List (List
           let l : n < length parts = omega arith in
           let least = get_or (part_at parts n) 0 0 in
           let k = least_rises n l in
-          let m = below_in least height S below (P.only n least l (in_at (part_at parts n) 0 (P.filled n l))).0 in omega arith
+          let m = members_below height S below least (P.only n least l (in_at (part_at parts n) 0 (P.filled n l))).0 in omega arith
 
   pub parts_below : (height : ℕ) → AllBelow height S → (a : ℕ) → a < length parts → AllBelow height (part_at parts a)
-  parts_below height below a l k m = below_in (get_or (part_at parts a) k 0) height S below (P.only a (get_or (part_at parts a) k 0) l (in_at (part_at parts a) k m)).0
+  parts_below height below a l k m = members_below height S below (get_or (part_at parts a) k 0) (P.only a (get_or (part_at parts a) k 0) l (in_at (part_at parts a) k m)).0
 
   parts_apart : (a b : ℕ) → a < length parts → b < length parts → a ≢ b → part_at parts a ≢ part_at parts b
   parts_apart a b la lb n e =
@@ -89,8 +81,8 @@ module _ (M : ℕ → ℕ → Bool) (S : List ℕ) (i : ℕ) (parts : List (List
     -- parts whose depths are of one parity agree
     pub sides_are : (depths : List ℕ) → length depths ≡ length parts → IsTwoColoured (joins table) table.count (depth_at depths) → AreSides M i parts (map (λ depth. depth % 2) depths)
     sides_are depths size coloured = record {
-      count = length-map (λ (depth : ℕ). depth % 2) depths ∙ size;
-      two = λ a l. let e = at a (let k = length-map (λ (depth : ℕ). depth % 2) depths in omega arith) in small (depth_at depths a) (get_or (map (λ depth. depth % 2) depths) a 0) e;
+      count = length-map depths (λ (depth : ℕ). depth % 2) ∙ size;
+      two = λ a l. let e = at a (let k = length-map depths (λ (depth : ℕ). depth % 2) in omega arith) in small (depth_at depths a) (get_or (map (λ depth. depth % 2) depths) a 0) e;
       agree = λ a b la lb n e. elim (two_cases (joins table a b)) [
         | inl j ↦ absurd (coloured.parity a b (omega arith) (omega arith) n j (sym (at b lb) ∙ sym e ∙ at a la))
         | inr j ↦ disagree_false M i parts table.cuts.items cuts a b la lb (sym (joins_here a b) ∙ j)
@@ -98,7 +90,7 @@ module _ (M : ℕ → ℕ → Bool) (S : List ℕ) (i : ℕ) (parts : List (List
     }
       where
         at : (a : ℕ) → a < length parts → get_or (map (λ depth. depth % 2) depths) a 0 ≡ depth_at depths a % 2
-        at a l = map_at (λ (depth : ℕ). depth % 2) depths a 4294967295 0 (omega arith)
+        at a l = get_or-map (λ (depth : ℕ). depth % 2) depths a 4294967295 0 (omega arith)
 
         small : (d s : ℕ) → s ≡ d % 2 → s ≤ 1
         small d s e = omega arith
@@ -136,7 +128,7 @@ module _ (M : ℕ → ℕ → Bool) (S : List ℕ) (i : ℕ) (parts : List (List
         route = subst (λ (v : List ℕ). IsRoute (joins table) table.count x v y) (sym h.appended) h.route
 
         size : length (map (part_at parts) path) ≡ length path
-        size = length-map (part_at parts) path
+        size = length-map path (part_at parts)
 
         two_or_more : 2 ≤ length path
         two_or_more = route_two (joins table) table.count x y path route c.other
@@ -157,7 +149,7 @@ module _ (M : ℕ → ℕ → Bool) (S : List ℕ) (i : ℕ) (parts : List (List
         low a l = let m = route_low (joins table) table.count x y path a route l in omega arith
 
         at : (a : ℕ) → a < length path → get_or (map (part_at parts) path) a [] ≡ part_at parts (get_or path a 0)
-        at a l = map_at (part_at parts) path a 0 [] l
+        at a l = get_or-map (part_at parts) path a 0 [] l
 
         apart : (p q : ℕ) (A B : List ℕ) → p < length parts → q < length parts → A ≡ part_at parts p → B ≡ part_at parts q → p ≢ q → joins table p q ≡ true → (A ≢ B) × (¬ Agree M i A B)
         apart p q A B lp lq e f n j = (

@@ -1,20 +1,17 @@
 -- Columns with three nonzeros, by their counts.
-use Rattle.std.proofs.Common.{ℕ, zero, suc, ◌+◌, ◌&&◌, ◌||◌, nat_lt, take, ap₂, Bool, true, false, cond, List, [], ◌∷◌, ◌≡◌, ◌≢◌, ◌<◌, ◌≤◌, ◌∙◌, sym, ap, refl, arith, subst, ◌⊎◌, inl, inr, length, get_or, Option, Some, None, MatchOption}
+use Rattle.std.proofs.Common.{ℕ, suc, ◌+◌, ◌&&◌, ◌||◌, nat_lt, take, ap₂, Bool, true, false, cond, List, [], ◌∷◌, ◌≡◌, ◌≢◌, ◌<◌, ◌≤◌, ◌∙◌, sym, ap, refl, arith, subst, ◌⊎◌, inl, inr, length, get_or, Option, Some, None, MatchOption}
 use Rattle.std.specs.List.{count_by, filter}
 use Rattle.std.specs.List.Sorted.{IsStrictlyIncreasing}
 use Rattle.std.proofs.lemmas.Bool.{cases_lt}
 use Rattle.std.proofs.lemmas.List.{take_all}
-use Rattle.std.proofs.lemmas.List.Sums.{length-filter, count_by_more_no, count_by_more_yes}
+use Rattle.std.proofs.lemmas.List.Sums.{length-filter, count_by_more_yes, sum_by_more, sum_by-take-le}
 use Rattle.cmr_base.specs.Matrix.{Matrix}
-use Rattle.cmr_base.specs.LineSets.{AllBelow}
 use Rattle.cmr_base.specs.Members.{IsIn, IsDistinct}
 use Rattle.cmr_base.specs.Splits.{HasNoThree}
 use Rattle.cmr_base.specs.Trees.{support}
-use Rattle.cmr_base.proofs.Lists.{all_by_places}
 use Rattle.cmr_base.proofs.ListsWithout.{increasing_distinct}
-use Rattle.cmr_base.proofs.Members.{all_in}
 use Rattle.cmr_base.proofs.RowLists.{not_both}
-use Rattle.cmr_base.proofs.Booleans.{is_not_lt, is_lt, lt_of}
+use Rattle.cmr_base.proofs.Booleans.{false_is, and_is, and_false, and_same, or_true, or_false, is_not_lt, is_lt, lt_of}
 use Rattle.cmr_base.specs.ColumnSets.{has_column, HasCommon}
 use Rattle.bridge_split.specs.Counting.{AreMore, HaveNoThird}
 use Rattle.bridge_split.specs.SplitCases.{HasThree, IsFirstWithThree}
@@ -104,10 +101,6 @@ module _ (M : ℕ → ℕ → Bool) where
 pub not_star : (M : ℕ → ℕ → Bool) (S : List ℕ) (column : ℕ) → HasThree M S column → ¬ (HasNoThree M S)
 not_star M S column h none = none column h.one h.two h.three h.one_in h.two_in h.three_in h.nonzero.0 h.nonzero.1 h.nonzero.2 h.apart.0 h.apart.1 h.apart.2
 
--- a row of the list is below the bound
-pub below_in : (x bound : ℕ) (S : List ℕ) → AllBelow bound S → IsIn x S → x < bound
-below_in x bound S below h = all_in (λ y. y < bound) S (all_by_places (λ y. y < bound) S 0 below) x h
-
 -- ---- counts up to three
 
 -- one more, where that is counted
@@ -116,36 +109,11 @@ more_than k n true = elim (cases_lt k n) [
   | inl l ↦ is_lt (suc k) (n + 1) (omega arith) ∙ sym (ap (λ t. nat_lt (suc k) n || (t && true)) (is_lt k n l) ∙ or_true (nat_lt (suc k) n))
   | inr l ↦ is_not_lt (suc k) (n + 1) (omega arith) ∙ sym (ap₂ (λ s t. s || (t && true)) (is_not_lt (suc k) n (omega arith)) (is_not_lt k n l))
 ]
-  where
-    or_true : (t : Bool) → (t || true) ≡ true
-    or_true true = refl
-    or_true false = refl
-more_than k n false = ap (nat_lt (suc k)) (let e : n + 0 ≡ n = omega arith in e) ∙ sym (none (nat_lt (suc k) n) (nat_lt k n))
-  where
-    none : (s t : Bool) → (s || (t && false)) ≡ s
-    none true t = refl
-    none false true = refl
-    none false false = refl
+more_than k n false = ap (nat_lt (suc k)) (let e : n + 0 ≡ n = omega arith in e) ∙ sym (ap (λ t. nat_lt (suc k) n || t) (and_false (nat_lt k n)) ∙ or_false (nat_lt (suc k) n))
 
 pub more_than_none : (n : ℕ) (b : Bool) → nat_lt 0 (n + cond b 1 0) ≡ (nat_lt 0 n || (b && b))
-more_than_none n true = is_lt 0 (n + 1) (omega arith) ∙ sym (one (nat_lt 0 n))
-  where
-    one : (t : Bool) → (t || true) ≡ true
-    one true = refl
-    one false = refl
-more_than_none n false = ap (nat_lt 0) (let e : n + 0 ≡ n = omega arith in e) ∙ sym (none (nat_lt 0 n))
-  where
-    none : (t : Bool) → (t || false) ≡ t
-    none true = refl
-    none false = refl
-
--- a list one longer
-pub count_more : (p : ℕ → Bool) (S : List ℕ) (k : ℕ) → k < length S → count_by p (take (k + 1) S) ≡ count_by p (take k S) + cond (p (get_or S k 0)) 1 0
-count_more p S k l = go (p (get_or S k 0)) refl
-  where
-    go : (t : Bool) → p (get_or S k 0) ≡ t → count_by p (take (k + 1) S) ≡ count_by p (take k S) + cond t 1 0
-    go true e = count_by_more_yes p S k 0 l e
-    go false e = count_by_more_no p S k 0 l e ∙ (let z : count_by p (take k S) ≡ count_by p (take k S) + 0 = omega arith in z)
+more_than_none n true = is_lt 0 (n + 1) (omega arith) ∙ sym (or_true (nat_lt 0 n))
+more_than_none n false = ap (nat_lt 0) (let e : n + 0 ≡ n = omega arith in e) ∙ sym (or_false (nat_lt 0 n))
 
 -- what the first column with three nonzeros is
 pub first_is : (m : Matrix) (S set : List ℕ) (found : Option ℕ) → IsStrictlyIncreasing S → AreMore m S 2 set
@@ -166,24 +134,6 @@ first_is m S set (Some first) rises counted h = record {
 
 -- ---- the first rows, up to a third nonzero of a column
 
-front_filtered : (p : ℕ → Bool) (k : ℕ) (S : List ℕ) → length (filter p (take k S)) ≤ length (filter p S)
-front_filtered p zero S = omega arith
-front_filtered p (suc k) [] = omega arith
-front_filtered p (suc k) (x ∷ S) = go (p x) (front_filtered p k S)
-  where
-    go : (t : Bool) → length (filter p (take k S)) ≤ length (filter p S) → length (cond t (x ∷ filter p (take k S)) (filter p (take k S))) ≤ length (cond t (x ∷ filter p S) (filter p S))
-    go true l = omega arith
-    go false l = l
-
-both_same : (t : Bool) → (t && t) ≡ t
-both_same true = refl
-both_same false = refl
-
-never_both : (s t : Bool) → (s ≡ true → t ≡ true → ⊥) → (s && t) ≡ false
-never_both true true h = absurd (h refl refl)
-never_both true false h = refl
-never_both false t h = refl
-
 -- a row that is not 0 in a column with two nonzeros before it
 pub third_found : (m : Matrix) (S : List ℕ) (k column : ℕ) → IsStrictlyIncreasing S → k < length S
     → nat_lt 1 (count_by (λ row. support m row column) (take k S)) ≡ true → support m (get_or S k 0) column ≡ true → ¬ (HasNoThree (support m) S)
@@ -191,8 +141,8 @@ third_found m S k column rises low two here =
     let p : ℕ → Bool = λ row. support m row column in
     let more = count_by_more_yes p S k 0 low here in
     let l = lt_of 1 (count_by p (take k S)) two in
-    let f = length-filter p (take (k + 1) S) in
-    let g = front_filtered p (k + 1) S in
+    let f = length-filter p S in
+    let g : count_by p (take (k + 1) S) ≤ count_by p S = sum_by-take-le (λ row. cond (p row) 1 0) S (k + 1) in
     not_star (support m) S column (three_here (support m) column S (increasing_distinct S rises) (omega arith))
 
 -- one row more, without a third nonzero
@@ -205,20 +155,20 @@ pub no_third_more : (m : Matrix) (S : List ℕ) (k : ℕ) (ones twos more_ones m
 no_third_more m S k ones twos more_ones more_twos row so low ones_size twos_size row_is doubled added none =
     let x = get_or S k 0 in
     let n : ℕ → ℕ = λ column. count_by (λ r. support m r column) (take k S) in
-    let more : (column : ℕ) → count_by (λ r. support m r column) (take (k + 1) S) ≡ n column + cond (support m x column) 1 0 = λ column. count_more (λ r. support m r column) S k low in
+    let more : (column : ℕ) → count_by (λ r. support m r column) (take (k + 1) S) ≡ n column + cond (support m x column) 1 0 = λ column. sum_by_more (λ r. cond (support m r column) 1 0) S k 0 low in
     record {
       matrix = so.matrix;
       ones_long = ones_size ∙ so.ones_long;
       twos_long = twos_size ∙ so.twos_long;
       once = λ column.
           added column ∙ ap₂ (λ s t. s || t) (so.once column) (row_is column)
-          ∙ sym (ap (nat_lt 0) (more column) ∙ more_than_none (n column) (support m x column) ∙ ap (λ t. nat_lt 0 (n column) || t) (both_same (support m x column)));
+          ∙ sym (ap (nat_lt 0) (more column) ∙ more_than_none (n column) (support m x column) ∙ ap (λ t. nat_lt 0 (n column) || t) (and_same (support m x column)));
       twice = λ column.
           doubled column ∙ ap₂ (λ s t. s || t) (so.twice column) (ap₂ (λ s t. s && t) (so.once column) (row_is column))
           ∙ sym (ap (nat_lt 1) (more column) ∙ more_than 0 (n column) (support m x column));
       few = λ column.
           ap (nat_lt 2) (more column) ∙ more_than 1 (n column) (support m x column)
-          ∙ ap₂ (λ s t. s || t) (so.few column) (never_both (nat_lt 1 (n column)) (support m x column) (λ two here. none (column, so.twice column ∙ two, row_is column ∙ here)));
+          ∙ ap₂ (λ s t. s || t) (so.few column) (false_is (nat_lt 1 (n column) && support m x column) (λ e. let h = and_is (nat_lt 1 (n column)) (support m x column) e in none (column, so.twice column ∙ h.0, row_is column ∙ h.1)));
     }
 
 -- all rows, without a third nonzero

@@ -3,7 +3,8 @@ use Rattle.std.proofs.Common.{ℕ, Bool, true, false, not, List, [], ◌∷◌, 
 use Rattle.cmr_base.specs.Members.{IsIn}
 use Rattle.cmr_base.specs.Splits.{LeadsTo, AreLinked, IsCommon, IsUncut, IsUncutBy, Agree}
 use Rattle.cmr_base.specs.Cuts.{differ, HasCuts}
-use Rattle.cmr_base.proofs.RowLists.{no_not, differ_true, bool_same, two_cases, search_rows}
+use Rattle.cmr_base.proofs.Booleans.{false_is}
+use Rattle.cmr_base.proofs.RowLists.{no_not, differ_true, bool_same, search_rows}
 use Rattle.graph_realise.proofs.MiddleArcs.{joined_side}
 use Rattle.graph_realise.proofs.Booleans.{differ_swap, other_of, swap}
 
@@ -12,12 +13,8 @@ module _ (M : ℕ → ℕ → Bool) (S : List ℕ) (K : HasCuts M (λ r. IsIn r 
   pub across : (i j k k' : ℕ) (rest : List ℕ) → IsIn j S → IsIn k S → LeadsTo M S i k rest k' → ¬ (AreLinked M S i k j) → K.side j k ≡ K.side j k'
   across i j k k' [] hj hk l none = ap (K.side j) l
   across i j k k' (x ∷ rest) hj hk (hx, (c, off, a, b), l) none =
-      joined_side M S K j k x hj hk hx (c, missing (two_cases (M j c)), a, b)
+      joined_side M S K j k x hj hk hx (c, false_is (M j c) (λ e. none (j ∷ [], (hj, (c, off, a, e), refl))), a, b)
       ∙ across i j x k' rest hj hx l (λ m. none (x ∷ m.0, (hx, (c, off, a, b), m.1)))
-    where
-      missing : (M j c ≡ true) ⊎ (M j c ≡ false) → M j c ≡ false
-      missing (inl e) = absurd (none (j ∷ [], (hj, (c, off, a, e), refl)))
-      missing (inr e) = e
 
   -- of a column that uses arc i, the end on side y of i
   near_end : (i c : ℕ) (y : Bool) → IsIn i S → M i c ≡ true

@@ -4,6 +4,7 @@ use Rattle.std.specs.List.Sorted.{IsStrictlyIncreasing}
 use Rattle.std.proofs.lemmas.Bool.{cases_lt}
 use Rattle.cmr_base.specs.Members.{IsIn}
 use Rattle.cmr_base.specs.Planes.{has_bit}
+use Rattle.cmr_base.proofs.Booleans.{false_is}
 use Rattle.cmr_base.proofs.ColumnWords.{block_of}
 use Rattle.cmr_base.proofs.Members.{in_at, in-append, increasing-append}
 use Rattle.cmr_base.proofs.Places.{found_at}
@@ -60,11 +61,7 @@ blocks_same values old now row blocks place so bits = record {
         subst (λ x. cell now row x ≡ values x) at (bits (column % 64) (omega arith) (omega arith))
 
 pub off_blocks : (columns : ℕ → Bool) (width : ℕ) (blocks : List ℕ) (column : ℕ) → AreBlocksOf columns width blocks → ¬ (IsIn (column / 64) blocks) → columns column ≡ false
-off_blocks columns width blocks column so n = go (columns column) refl
-  where
-    go : (t : Bool) → columns column ≡ t → columns column ≡ false
-    go true e = absurd (n (so.all column e))
-    go false e = e
+off_blocks columns width blocks column so n = false_is (columns column) (λ e. n (so.all column e))
 
 -- the values stay in all other blocks
 pub blocks_row : (values : ℕ → Bool) (old new : Grid) (row : ℕ) (blocks : List ℕ) (count : ℕ) → count ≡ length blocks → AreBlocksFilled values old new row blocks count

@@ -1,7 +1,9 @@
 -- Booleans that differ, and equations put in place of others.
-use Rattle.std.proofs.Common.{Bool, true, false, not, ◌≡◌, ◌∙◌, sym, ap, refl, ◌⊎◌, inl, inr}
+use Rattle.std.proofs.Common.{Bool, true, false, not, ◌≡◌, ◌∙◌, sym, ap, refl, ◌⊎◌, inl, inr, ◌&&◌}
 use Rattle.cmr_base.specs.Cuts.{differ}
+use Rattle.cmr_base.proofs.Booleans.{not_not}
 use Rattle.cmr_base.proofs.CutTrees.{differ_self}
+use Rattle.cmr_base.proofs.RowLists.{differ_true}
 
 pub differ_swap : (a b : Bool) → differ a b ≡ differ b a
 differ_swap true true = refl
@@ -19,16 +21,14 @@ differ_other false true e = refl
 differ_other false false e = cc
 
 pub other_of : (a b : Bool) → true ≡ differ a b → a ≡ not b
-other_of true true e = cc
-other_of true false e = refl
-other_of false true e = refl
-other_of false false e = cc
+other_of a b e = differ_true b a (e ∙ differ_swap a b)
 
 pub not_swap : (a b : Bool) → a ≡ not b → b ≡ not a
-not_swap true true e = cc
-not_swap true false e = refl
-not_swap false true e = refl
-not_swap false false e = cc
+not_swap a b e = sym (not_not b) ∙ ap not (sym e)
+
+pub and_true : (b : Bool) → (b && true) ≡ b
+and_true true = refl
+and_true false = refl
 
 pub swap : {A B : Type 0} → A ⊎ B → B ⊎ A
 swap (inl a) = inr a

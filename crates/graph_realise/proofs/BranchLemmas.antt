@@ -1,13 +1,14 @@
 -- The common columns of a part, and what they say of it.
-use Rattle.std.proofs.Common.{◌≡◌, ◌<◌, ◌≤◌, ◌+◌, ◌*◌, ◌↔◌, ◌∙◌, ◌++◌, ◌==◌, ℕ, Bool, true, false, not, cond, count_by, List, [], ◌∷◌, length, get_or, sym, ap, refl, arith, subst, length-append, ◌⊎◌, inl, inr, MatchOption, Option, Some, None}
-use Rattle.std.proofs.lemmas.Bool.{cases_lt}
-use Rattle.std.proofs.lemmas.List.{get_or_append_left, get_or-append-add}
+use Rattle.std.proofs.Common.{◌≡◌, ◌<◌, ◌≤◌, ◌+◌, ◌*◌, ◌↔◌, ◌∙◌, ◌++◌, ◌==◌, ℕ, Bool, true, false, not, cond, count_by, List, [], ◌∷◌, length, sym, ap, refl, arith, subst, length-append, MatchOption, Option, Some, None}
+use Rattle.std.proofs.lemmas.List.{get_or_append_left, get_or_at}
 use Rattle.std.specs.Prelude.{slice_index_or}
 use Rattle.cmr_base.specs.LineSets.{first_lines}
-use Rattle.cmr_base.specs.Splits.{IsCommon, IsUncut, IsUncutBy}
+use Rattle.cmr_base.specs.Splits.{IsCommon, IsUncutBy}
+use Rattle.cmr_base.proofs.Places.{each_more}
 use Rattle.cmr_base.proofs.RowLists.{not_both}
 use Rattle.cmr_base.specs.ColumnSets.{has_column, Denies}
-use Rattle.bridge_split.specs.Cutting.{AreUncutIn, IsUncutIn}
+use Rattle.bridge_split.specs.Cutting.{AreUncutIn}
+use Rattle.bridge_split.proofs.CutTables.{by_uncut, uncut_by}
 use Rattle.graph_realise.specs.Branches.{AreBranches, IsBranch, branch_at}
 use Rattle.graph_realise.specs.Merging.{IsWeight}
 use Rattle.graph_realise.specs.declared.branches.Branch.{Branch}
@@ -18,16 +19,8 @@ module _ (M : ℕ → ℕ → Bool) (n : ℕ) (short : (r c : ℕ) → M r c ≡
   common_below column e = short i column ((exact column).0 e).0
 
   uncut : (cut : Bool) → Denies cut (AreUncutIn M (has_column set) P) → (not cut ≡ true) ↔ IsUncutBy M i P P
-  uncut true d = ((λ e. cc), (λ u. absurd (d (λ j h. given j (u j h)))))
-    where
-      given : (j : ℕ) → IsUncut M i P j → IsUncutIn M (has_column set) j
-      given j (inl f) = inl (λ column e. f column ((exact column).0 e))
-      given j (inr f) = inr (λ column e. f column ((exact column).0 e))
-  uncut false d = ((λ e j h. taken j (d j h)), (λ u. refl))
-    where
-      taken : (j : ℕ) → IsUncutIn M (has_column set) j → IsUncut M i P j
-      taken j (inl f) = inl (λ column k. f column ((exact column).1 k))
-      taken j (inr f) = inr (λ column k. f column ((exact column).1 k))
+  uncut true d = ((λ e. cc), (λ u. absurd (d (by_uncut M i P P (has_column set) exact u))))
+  uncut false d = ((λ e. uncut_by M i P P (has_column set) exact d), (λ u. refl))
 
   pub weight_by_set : (count : ℕ) (cut : Bool) (weight : ℕ) → count ≡ count_by (has_column set) (first_lines n) → Denies cut (AreUncutIn M (has_column set) P) → weight ≡ 2 * count + cond (not cut) 1 0 → IsWeight M n i P weight
   weight_by_set count cut weight e d w = record {
@@ -50,17 +43,10 @@ pub branches_more : (M : ℕ → ℕ → Bool) (n i : ℕ) (parts : List (List �
     → IsBranch M n i (slice_index_or parts place []) (slice_index_or ends place 0 == 1) branch → AreBranches M n i parts ends (place + 1) (branches ++ branch ∷ [])
 branches_more M n i parts ends place branches branch so here = record {
   many = length-append branches (branch ∷ []) ∙ ap (λ (z : ℕ). z + 1) so.many;
-  each = λ a l. pick a (cases_lt a place) l;
+  each = each_more (λ a. IsBranch M n i (slice_index_or parts a []) (slice_index_or ends a 0 == 1) (branch_at (branches ++ branch ∷ []) a)) place
+      (λ a l. subst (IsBranch M n i (slice_index_or parts a []) (slice_index_or ends a 0 == 1)) (sym (get_or_append_left branches (branch ∷ []) none a (let k = so.many in omega arith))) (so.each a l))
+      (subst (IsBranch M n i (slice_index_or parts place []) (slice_index_or ends place 0 == 1)) (sym (get_or_at branches branch [] none place so.many)) here);
 }
   where
     none : Branch
     none = record { end = false; weight = 0; common = None }
-
-    pick : (a : ℕ) → (a < place) ⊎ (place ≤ a) → a < place + 1 → IsBranch M n i (slice_index_or parts a []) (slice_index_or ends a 0 == 1) (branch_at (branches ++ branch ∷ []) a)
-    pick a (inl l) m = let k = so.many in
-        subst (IsBranch M n i (slice_index_or parts a []) (slice_index_or ends a 0 == 1)) (sym (get_or_append_left branches (branch ∷ []) none a (omega arith))) (so.each a l)
-    pick a (inr l) m =
-        let q : a ≡ place = omega arith in
-        let w : place ≡ length branches + 0 = let k = so.many in omega arith in
-        subst (λ (z : ℕ). IsBranch M n i (slice_index_or parts z []) (slice_index_or ends z 0 == 1) (branch_at (branches ++ branch ∷ []) z)) (sym q)
-        (subst (IsBranch M n i (slice_index_or parts place []) (slice_index_or ends place 0 == 1)) (sym (ap (λ (z : ℕ). get_or (branches ++ branch ∷ []) z none) w ∙ get_or-append-add branches (branch ∷ []) 0 none)) here)

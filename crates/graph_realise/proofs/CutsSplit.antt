@@ -3,13 +3,13 @@ use Rattle.std.proofs.Common.{ℕ, zero, suc, Bool, true, List, [], ◌∷◌, �
 use Rattle.cmr_base.specs.Members.{IsIn}
 use Rattle.cmr_base.specs.Splits.{Agree, Splits, HasNoThree, IsNaming, IsFirstSplit, part_rows, with_row, HasSplit, SplitsGraphically}
 use Rattle.cmr_base.specs.Cuts.{HasCuts}
+use Rattle.cmr_base.proofs.PartNames.{rows_have_names}
 use Rattle.cmr_base.proofs.RowLists.{same_or_not, search_rows, in_or_not, fewer}
 use Rattle.graph_realise.proofs.CutTables.{has_fewer}
 use Rattle.graph_realise.proofs.PartRows.{in_part, part_in, in_with, left_out}
 use Rattle.graph_realise.proofs.NoCuts.{no_three}
 use Rattle.graph_realise.proofs.MiddleArcs.{linked_side}
 use Rattle.graph_realise.proofs.AgreeingParts.{across, Pair, pair_agrees}
-use Rattle.graph_realise.proofs.Labels.{names_of}
 
 -- the first of a list for which P holds
 first_of_rows : (P : ℕ → Type 0) → ((x : ℕ) → P x ⊎ (¬ (P x))) → (xs : List ℕ)
@@ -40,7 +40,7 @@ module _ (M : ℕ → ℕ → Bool) (n : ℕ) (short : (r c : ℕ) → M r c ≡
       outer S)
     where
       ps : (part : ℕ → ℕ) × IsNaming M S i part
-      ps = names_of M S i n short
+      ps = rows_have_names M S i n short
 
       inner : (j k : ℕ) → ((k ≢ i) × (ps.0 j ≢ ps.0 k)) ⊎ (k ≢ i → ps.0 j ≡ ps.0 k)
       inner j k = pick (same_or_not k i) (same_or_not (ps.0 j) (ps.0 k))
@@ -144,5 +144,5 @@ module _ (M : ℕ → ℕ → Bool) (n : ℕ) (short : (r c : ℕ) → M r c ≡
           → ((T : List ℕ) → length T ≤ m → HasCuts M (λ r. IsIn r T) → SplitsGraphically M m T) → HasNoThree M S ⊎ HasSplit M (SplitsGraphically M m) S
       go (inr none) more = inl (no_three M S K (λ i h. none i h.here h))
       go (inl (i, before, after, place, splits, none)) more =
-          let ps = names_of M S i n short in
+          let ps = rows_have_names M S i n short in
           inr (has_split M S K i (record { before = before; after = after; place = place; splits = splits; none = none }) ps.0 ps.1 (SplitsGraphically M m) (λ T k. more T (omega arith)))

@@ -5,7 +5,8 @@ use Rattle.std.proofs.lemmas.Bool.Decides.{nat_tests}
 use Rattle.std.proofs.lemmas.List.{get_or_past}
 use Rattle.cmr_base.specs.Members.{IsIn}
 use Rattle.cmr_base.specs.Splits.{IsCommon, IsUncut, Agree, AreParts, AreSides, part_rows}
-use Rattle.cmr_base.proofs.RowLists.{not_both, two_cases, eq_of, is_eq}
+use Rattle.cmr_base.proofs.Booleans.{false_is, lt_of, is_lt}
+use Rattle.cmr_base.proofs.RowLists.{not_both, eq_of, is_eq}
 use Rattle.graph_realise.specs.Merging.{IsWeight, DescribesParts, heavier, hanging_by}
 use Rattle.graph_realise.proofs.PartRows.{in_part, part_in}
 use Rattle.graph_realise.proofs.PartLists.{uncut_same, to_list, from_list, sides_agree}
@@ -19,12 +20,6 @@ abbrev IsLess : (ℕ → ℕ) → ℕ → ℕ → Type 0
 IsLess weight q p = (weight q < weight p) ⊎ ((weight q ≡ weight p) × (q < p))
 
 module _ (weight : ℕ → ℕ) where
-  lt_of : (a b : ℕ) → nat_lt a b ≡ true → a < b
-  lt_of a b e = grind (arith, nat_tests)
-
-  is_lt : (a b : ℕ) → a < b → nat_lt a b ≡ true
-  is_lt a b l = grind (arith, nat_tests)
-
   heavier_less : (p q : ℕ) → heavier weight p q ≡ true → IsLess weight q p
   heavier_less p q e = go (nat_lt (weight q) (weight p)) (nat_eq (weight q) (weight p)) refl refl e
     where
@@ -64,11 +59,7 @@ module _ (weight : ℕ → ℕ) where
   heavier_one p q n = go (one_less p q n)
     where
       lighter : (p q : ℕ) → IsLess weight q p → heavier weight q p ≡ false
-      lighter p q h = pick (two_cases (heavier weight q p))
-        where
-          pick : (heavier weight q p ≡ true) ⊎ (heavier weight q p ≡ false) → heavier weight q p ≡ false
-          pick (inl e) = absurd (not_less p q h (heavier_less q p e))
-          pick (inr e) = e
+      lighter p q h = false_is (heavier weight q p) (λ e. not_less p q h (heavier_less q p e))
 
       go : IsLess weight q p ⊎ IsLess weight p q → heavier weight p q ≡ not (heavier weight q p)
       go (inl h) = less_heavier p q h ∙ ap not (sym (lighter p q h))
@@ -163,8 +154,4 @@ module _ (M : ℕ → ℕ → Bool) (n : ℕ) (short : (r c : ℕ) → M r c ≡
       no_column touched D.columns
     where
       no_column : (s c : ℕ) → IsIn s S → s ≢ i → common (part s) ≡ None → M i c ≡ true → M s c ≡ false
-      no_column s c hs ns e w = go (two_cases (M s c))
-        where
-          go : (M s c ≡ true) ⊎ (M s c ≡ false) → M s c ≡ false
-          go (inl u) = absurd (shared_none (part s) c e (w, (s, (D.numbers s hs ns).1, u)))
-          go (inr u) = u
+      no_column s c hs ns e w = false_is (M s c) (λ u. shared_none (part s) c e (w, (s, (D.numbers s hs ns).1, u)))

@@ -6,12 +6,13 @@ use Rattle.std.proofs.lemmas.List.{get_or_past}
 use Rattle.cmr_base.specs.Cuts.{differ}
 use Rattle.cmr_base.specs.Matrix.{Matrix, height}
 use Rattle.cmr_base.proofs.RowLists.{is_eq, is_ne, not_both, same_or_not, two_cases}
-use Rattle.cmr_base.proofs.Booleans.{or_false}
+use Rattle.cmr_base.proofs.Booleans.{and_false, or_false, is_lt, is_not_lt}
 use Rattle.graph_realise.specs.Branches.{branch_at}
 use Rattle.graph_realise.specs.Joints.{AreHung, AreOff, FitsJoint, IsArcJoined, IsClearBeside, IsLineFor, by_part, AreChosen, end_of, hanging_of, hung, is_at_first, is_chosen, is_part, is_used, joined_side, number_at, part_or_first}
 use Rattle.graph_realise.specs.Merging.{column_half, end_off, merged_lies, spot, turned_lies, turned_side}
 use Rattle.graph_realise.specs.SideTables.{side_in, end_in, KeepsRow, AreTablesOf, IsArcChanged}
 use Rattle.graph_realise.specs.Tables.{Grid, cell, IsRowFilled}
+use Rattle.graph_realise.proofs.Booleans.{and_true}
 use Rattle.graph_realise.proofs.SideLemmas.{keeps_row_same, keeps_row_trans}
 use Rattle.graph_realise.proofs.TableLemmas.{cell_past}
 use Rattle.graph_realise.specs.declared.arc_sides.ArcSides.{ArcSides}
@@ -48,7 +49,7 @@ row_joined M m joint old cleared with_parts new fits off tables a b d = record {
 
     chosen : (o : Option ℕ) → ((p : ℕ) → o ≡ Some p → p < length joint.branches.items) → is_chosen (is_at_first joint) (length joint.branches.items) o ≡ end_of joint o
     chosen None range = refl
-    chosen (Some p) range = let l = range p refl in let e : nat_lt p (length joint.branches.items) ≡ true = grind (arith, nat_tests) in rw e refl
+    chosen (Some p) range = rw (is_lt p (length joint.branches.items) (range p refl)) refl
 
     arcs : (s : ℕ) → s < old.arcs.width → side_in new joint.row s ≡ joined_side M joint old joint.row s
     arcs s w =
@@ -74,10 +75,6 @@ row_joined M m joint old cleared with_parts new fits off tables a b d = record {
         else end_off M joint.row (hanging_of joint) (turned_lies joint.row (side_in old) (end_in old)) end joint.row column ((hanging_of joint).touched column)) (is_eq joint.row joint.row refl))
 
 -- ---- an arc of another row
-
-and_false : (a : Bool) → (a && false) ≡ false
-and_false true = refl
-and_false false = refl
 
 -- the tables of the marks have the sizes of those of the sides
 pub line_for : (m : Matrix) (joint : Joint) (sides : ArcSides) (arc part : ℕ) → FitsJoint (height m) m.width joint → AreTablesOf m sides → arc < height m → part < length joint.branches.items → IsLineFor joint sides arc part
@@ -142,7 +139,7 @@ module _ (joint : Joint) (X : ℕ → Bool) (r : ℕ) where
   -- no part is chosen at first
   chosen_none : (o : Option ℕ) → is_chosen X 0 o ≡ false
   chosen_none None = refl
-  chosen_none (Some q) = let e : nat_lt q 0 ≡ false = grind (arith, nat_tests) in rw e refl
+  chosen_none (Some q) = rw (is_not_lt q 0 (omega arith)) refl
 
   pub none_chosen : (sides : ArcSides) → AreChosen joint X r 0 sides sides
   none_chosen sides = record {
@@ -159,20 +156,16 @@ module _ (joint : Joint) (X : ℕ → Bool) (r : ℕ) where
       go : (q < count) ⊎ (count ≤ q) → (q ≡ count) ⊎ (q ≢ count) → (nat_lt q (count + 1) && X q) ≡ ((nat_lt q count && X q) || (X count && (q == count)))
       go (inl l) (inl e) = absurd (omega arith)
       go (inl l) (inr n) =
-          let a : nat_lt q (count + 1) ≡ true = grind (arith, nat_tests) in
-          let b : nat_lt q count ≡ true = grind (arith, nat_tests) in
+          let a = is_lt q (count + 1) (omega arith) in
+          let b = is_lt q count l in
           rw (a, b, is_ne q count n, and_false (X count)) (sym (or_false (X q)))
       go (inr l) (inl e) =
-          let a : nat_lt q (count + 1) ≡ true = grind (arith, nat_tests) in
-          let b : nat_lt q count ≡ false = grind (arith, nat_tests) in
+          let a = is_lt q (count + 1) (omega arith) in
+          let b = is_not_lt q count l in
           rw (a, b, is_eq q count e) (ap X e ∙ sym (and_true (X count)))
-        where
-          and_true : (a : Bool) → (a && true) ≡ a
-          and_true true = refl
-          and_true false = refl
       go (inr l) (inr n) =
           let a : nat_lt q (count + 1) ≡ false = grind (arith, nat_tests) in
-          let b : nat_lt q count ≡ false = grind (arith, nat_tests) in
+          let b = is_not_lt q count l in
           rw (a, b, is_ne q count n, and_false (X count)) refl
 
   or_both : (a b d e x : Bool) → e ≡ (b || (x && d)) → x ≡ true → ((a || b) || d) ≡ (a || e)
@@ -226,9 +219,7 @@ module _ (M : ℕ → ℕ → Bool) (joint : Joint) (r own : ℕ) where
   all_sides : (count : ℕ) (within : Bool) (o : Option ℕ) → number_at joint.part_of.items r ≡ Some own → ((a : ℕ) → o ≡ Some a → a < count) → ((is_part own o && within) || hung M joint r own count o) ≡ by_part M joint r within o
   all_sides count within None part range = refl
   all_sides count within (Some q) part range =
-      let l = range q refl in
-      let e : nat_lt q count ≡ true = grind (arith, nat_tests) in
-      kept_or_hung (q == own) (nat_lt q count) within (spot M joint.row (hanging_of joint) r q) e
+      kept_or_hung (q == own) (nat_lt q count) within (spot M joint.row (hanging_of joint) r q) (is_lt q count (range q refl))
       ∙ ap (λ (b : Bool). if b then within else spot M joint.row (hanging_of joint) r q) (turned q)
     where
       turned : (q : ℕ) → (q == own) ≡ (part_or_first (number_at joint.part_of.items r) == q)
@@ -320,11 +311,7 @@ module _ (M : ℕ → ℕ → Bool) (joint : Joint) (r own : ℕ) where
   }
     where
       turns : (x : Bool) → not x ≡ differ turned x
-      turns x = sym (ap (λ t. differ t x) e ∙ by_true x)
-        where
-          by_true : (x : Bool) → differ true x ≡ not x
-          by_true true = refl
-          by_true false = refl
+      turns x = sym (ap (λ t. differ t x) e)
 
   pub part_stays : (m : Matrix) (old : ArcSides) (first last : Grid) (turned : Bool) → turned ≡ false → turned ≡ side_in old r joint.row → number_at joint.part_of.items r ≡ Some own → FitsJoint (height m) m.width joint → AreOff M joint → AreTablesOf m old
       → IsClearBeside M joint old r → IsRowFilled (λ column. cell old.first r column && not (M joint.row column)) old.first first r old.first.width → IsRowFilled (λ column. cell old.last r column && not (M joint.row column)) old.last last r old.last.width
@@ -338,11 +325,7 @@ module _ (M : ℕ → ℕ → Bool) (joint : Joint) (r own : ℕ) where
       (omega (arith, tables.last_width, tables.first_width))
     where
       same : (x : Bool) → differ turned x ≡ x
-      same x = ap (λ t. differ t x) e ∙ by_false x
-        where
-          by_false : (x : Bool) → differ false x ≡ x
-          by_false true = refl
-          by_false false = refl
+      same x = ap (λ t. differ t x) e
 
       other_part : (o : Option ℕ) → is_part own o ≡ false → o ≢ number_at joint.part_of.items r
       other_part o none q = not_both (is_part own o) (ap (is_part own) (q ∙ part) ∙ is_eq own own refl) none
@@ -377,10 +360,6 @@ module _ (M : ℕ → ℕ → Bool) (joint : Joint) (r own : ℕ) where
               ∙ sym (ap (λ t. t && differ turned (end_in old end r column)) (mark k ∙ ap (is_part own) (off column q)))
           by_row (inr q) k = ap (λ t. end_in old end r column && not t) q ∙ and_true (end_in old end r column) ∙ by_mark (two_cases (is_part own o))
             where
-              and_true : (a : Bool) → (a && true) ≡ a
-              and_true true = refl
-              and_true false = refl
-
               by_mark : (is_part own o ≡ true) ⊎ (is_part own o ≡ false) → end_in old end r column ≡ (cell joint.column_marks own column && differ turned (end_in old end r column))
               by_mark (inl z) = sym (ap (λ t. t && differ turned (end_in old end r column)) (mark k ∙ z) ∙ same (end_in old end r column))
               by_mark (inr z) = clear.ends end column q (other_part o z) ∙ sym (ap (λ t. t && differ turned (end_in old end r column)) (mark k ∙ z))

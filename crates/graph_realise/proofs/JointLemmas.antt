@@ -2,24 +2,17 @@
 use Rattle.std.proofs.Common.{true, ◌≡◌, ◌≢◌, ◌<◌, ◌≤◌, ◌+◌, ◌++◌, ◌∙◌, ◌↔◌, ℕ, ◌&&◌, ◌||◌, not, refl, Bool, false, List, [], ◌∷◌, length, get_or, set, sym, ap, subst, arith, ◌⊎◌, inl, inr, Option, Some, None}
 use Rattle.std.specs.Prelude.{slice_index_or}
 use Rattle.std.proofs.lemmas.Bool.{cases_lt}
-use Rattle.std.proofs.lemmas.List.{get_or_append_left, get_or-append-add, get_or_past, get_or-set_same, get_or-set_other}
+use Rattle.std.proofs.lemmas.List.{get_or_past, get_or-set_same, get_or-set_other}
 use Rattle.cmr_base.specs.Members.{IsIn}
 use Rattle.cmr_base.specs.Splits.{AreParts}
+use Rattle.bridge_split.proofs.PartWalks.{no_number, same_number}
+use Rattle.cmr_base.proofs.Booleans.{and_is, not_is, or_is, or_true}
 use Rattle.cmr_base.proofs.Members.{in-append, in_at}
 use Rattle.cmr_base.proofs.RowLists.{not_both, in_or_not, is_eq, is_ne, same_or_not}
 use Rattle.graph_realise.specs.Joints.{AreMarks, AreNumbered, AreOfRows, IsNamed, IsTouched, is_part, number_at}
 use Rattle.graph_realise.specs.Tables.{Grid, cell, IsCellSet}
 use Rattle.graph_realise.specs.Numbers.{AreDisjoint}
 use Rattle.cmr_base.proofs.Places.{found_at}
-
--- an item appended to a list
-pub appended_before : {A : Type 0} → (xs : List A) (x d : A) (k : ℕ) → k < length xs → get_or (xs ++ x ∷ []) k d ≡ get_or xs k d
-appended_before xs x d k l = get_or_append_left xs (x ∷ []) d k l
-
-pub appended_last : {A : Type 0} → (xs : List A) (x d : A) (k : ℕ) → k ≡ length xs → get_or (xs ++ x ∷ []) k d ≡ x
-appended_last {A} xs x d k e =
-    let w : k ≡ length xs + 0 = omega arith in
-    ap (λ (z : ℕ). get_or (xs ++ x ∷ []) z d) w ∙ get_or-append-add xs (x ∷ []) 0 d
 
 -- ---- the columns of the rows of a part
 
@@ -33,26 +26,18 @@ module _ (M : ℕ → ℕ → Bool) (i : ℕ) where
   pub of_rows_more : (rows : List ℕ) (place : ℕ) (columns columns' : ℕ → Bool) → AreOfRows M i rows place columns
       → ((c : ℕ) → columns' c ≡ (columns c || (M (get_or rows place 0) c && not (M i c)))) → AreOfRows M i rows (place + 1) columns'
   of_rows_more rows place columns columns' so more = record {
-    into = λ c e. into c (columns c) (M (get_or rows place 0) c) (M i c) refl refl refl (sym (more c) ∙ e);
+    into = λ c e. elim (or_is (columns c) (M (get_or rows place 0) c && not (M i c)) (sym (more c) ∙ e)) [
+      | inl f ↦ let q = so.into c f in let l = q.1.1 in (q.0, (q.1.0, omega arith, q.1.2))
+      | inr f ↦ let g = and_is (M (get_or rows place 0) c) (not (M i c)) f in (not_is (M i c) g.1, (place, omega arith, g.0))
+    ];
     from = λ p c l off on. more c ∙ from p c l off on (cases_lt p place);
   }
     where
-      into : (c : ℕ) (s t u : Bool) → columns c ≡ s → M (get_or rows place 0) c ≡ t → M i c ≡ u → (columns c || (M (get_or rows place 0) c && not (M i c))) ≡ true
-          → (M i c ≡ false) × ((p : ℕ) × (p < place + 1) × (M (get_or rows p 0) c ≡ true))
-      into c true t u e f g h = let q = so.into c e in let l = q.1.1 in (q.0, (q.1.0, omega arith, q.1.2))
-      into c false true false e f g h = (g, (place, omega arith, f))
-      into c false true true e f g h = absurd (not_both (columns c || (M (get_or rows place 0) c && not (M i c))) h (rw (e, f, g) refl))
-      into c false false u e f g h = absurd (not_both (columns c || (M (get_or rows place 0) c && not (M i c))) h (rw (e, f) refl))
-
-      right : (t : Bool) → (t || true) ≡ true
-      right true = refl
-      right false = refl
-
       from : (p c : ℕ) → p < place + 1 → M i c ≡ false → M (get_or rows p 0) c ≡ true → (p < place) ⊎ (place ≤ p) → (columns c || (M (get_or rows place 0) c && not (M i c))) ≡ true
       from p c l off on (inl k) = ap (λ t. t || (M (get_or rows place 0) c && not (M i c))) (so.from p c k off on)
       from p c l off on (inr k) =
           let e : p ≡ place = omega arith in
-          ap (λ t. columns c || (t && not (M i c))) (ap (λ (z : ℕ). M (get_or rows z 0) c) (sym e) ∙ on) ∙ ap (λ t. columns c || not t) off ∙ right (columns c)
+          ap (λ t. columns c || (t && not (M i c))) (ap (λ (z : ℕ). M (get_or rows z 0) c) (sym e) ∙ on) ∙ ap (λ t. columns c || not t) off ∙ or_true (columns c)
 
   -- ---- the parts of columns
 
@@ -99,9 +84,6 @@ module _ (M : ℕ → ℕ → Bool) (i : ℕ) where
             zero_at r hr (inr n) = let q = all.all r hr n in h.0 q.0 r q.1 q.2 e
         go false e (inr (a, r, l, hr, off, on, f)) = inr (e, inr (r, (all.only a r l hr).0, on, f ∙ sym (numbered.inside a r l hr)))
 
-some_same : (a b : ℕ) → ◌≡◌ {A = Option ℕ} (Some a) (Some b) → a ≡ b
-some_same a b e = cc
-
 -- one part more
 pub numbered_more : (parts : List (List ℕ)) (count : ℕ) (old new : List (Option ℕ)) → AreDisjoint parts → count < length parts → AreNumbered parts count old
     → ((row : ℕ) → IsIn row (slice_index_or parts count []) → number_at new row ≡ Some count) → ((row : ℕ) → ¬ (IsIn row (slice_index_or parts count [])) → number_at new row ≡ number_at old row)
@@ -122,18 +104,9 @@ numbered_more parts count old new disjoint l so inside outside = record {
 
     from : (a row : ℕ) → number_at new row ≡ Some a → IsIn row (slice_index_or parts count []) ⊎ (¬ (IsIn row (slice_index_or parts count []))) → (a < count + 1) × IsIn row (slice_index_or parts a [])
     from a row e (inl h) =
-        let q : count ≡ a = some_same count a (sym (inside row h) ∙ e) in
+        let q = same_number (number_at new row) count a (inside row h) e in
         (omega arith, subst (λ (z : ℕ). IsIn row (slice_index_or parts z [])) q h)
     from a row e (inr n) = let k = so.only a row (sym (outside row n) ∙ e) in let m = k.0 in (omega arith, k.1)
-
-pub numbered_none : (parts : List (List ℕ)) (numbers : List (Option ℕ)) → ((row : ℕ) → number_at numbers row ≡ None) → AreNumbered parts 0 numbers
-numbered_none parts numbers none = record {
-  inside = λ a row m h. absurd (omega arith);
-  only = λ a row e. absurd (clash a (sym (none row) ∙ e));
-}
-  where
-    clash : (a : ℕ) → ◌≡◌ {A = Option ℕ} None (Some a) → ⊥
-    clash a e = cc
 
 -- one row more of the row with a part
 pub rows_more : (In : ℕ → Type 0) (row : ℕ) (rows : List ℕ) → ((x : ℕ) → IsIn x rows ↔ ((x < row) × In x)) → In row → (x : ℕ) → IsIn x (rows ++ row ∷ []) ↔ ((x < row + 1) × In x)
@@ -177,12 +150,9 @@ pub numbered_row : (i size : ℕ) (numbers : List (Option ℕ)) (part count x : 
 numbered_row i size numbers part count x l s e (inl h) = omega arith
 numbered_row i size numbers part count x l s e (inr h) = go (cases_lt x count)
   where
-    clash : (a : ℕ) → ◌≡◌ {A = Option ℕ} None (Some a) → ⊥
-    clash a e = cc
-
     go : (x < count) ⊎ (count ≤ x) → x < count
     go (inl m) = m
-    go (inr m) = absurd (clash part (sym (get_or_past numbers x None (omega arith)) ∙ h))
+    go (inr m) = absurd (no_number (number_at numbers x) part (get_or_past numbers x None (omega arith)) h)
 
 -- ---- marks of lines by their numbers
 
@@ -238,9 +208,6 @@ all_marked numbers count upto marks l so = record { tall = so.tall; wide = so.wi
 pub named_number : (M : ℕ → ℕ → Bool) (i : ℕ) (parts : List (List ℕ)) (count column part : ℕ) (found : Option ℕ) → IsNamed M i parts count column found → found ≡ Some part → part < count
 named_number M i parts count column part found so e = go so
   where
-    clash : (a : ℕ) → ◌≡◌ {A = Option ℕ} None (Some a) → ⊥
-    clash a e = cc
-
     go : IsNamed M i parts count column found → part < count
-    go (inl h) = absurd (clash part (sym h.1 ∙ e))
-    go (inr (a, r, l, hr, off, on, f)) = let q : a ≡ part = some_same a part (sym f ∙ e) in omega arith
+    go (inl h) = absurd (no_number found part h.1 e)
+    go (inr (a, r, l, hr, off, on, f)) = let q = same_number found a part f e in omega arith

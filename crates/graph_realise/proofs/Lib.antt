@@ -1,7 +1,6 @@
 pub mod Booleans
 pub mod MiddleArcs
 pub mod AgreeingParts
-pub mod Labels
 pub mod StarCuts
 pub mod HungCuts
 pub mod CutTables

@@ -3,6 +3,7 @@ use Rattle.std.proofs.Common.{ℕ, Bool, true, false, not, cond, ◌≡◌, ◌�
 use Rattle.graph_realise.specs.Merging as formula
 use Rattle.graph_realise.specs.Merging.{Hanging}
 use Rattle.cmr_base.specs.Cuts.{differ, IsCuts}
+use Rattle.cmr_base.proofs.Booleans.{and_false}
 use Rattle.cmr_base.proofs.RowLists.{not_both, bool_same, two_cases, same_or_not, is_eq, is_ne}
 use Rattle.graph_realise.proofs.Booleans.{differ_same, differ_other, not_swap, swap, either, either_sym}
 use Rattle.graph_realise.proofs.HungCuts.{IsHung}
@@ -90,11 +91,7 @@ module _ (M : ℕ → ℕ → Bool) (i : ℕ) (R : ℕ → Type 0) (hanging : Ha
       go false u = refl
 
   spot_none : (r q : ℕ) → has q ≡ false → spot r q ≡ false
-  spot_none r q e = rw (none_of (hanging.common q) e) (go (not (differ (half (part r)) (half q)) && above (part r) q))
-    where
-      go : (t : Bool) → (t && false) ≡ false
-      go true = refl
-      go false = refl
+  spot_none r q e = rw (none_of (hanging.common q) e) (and_false (not (differ (half (part r)) (half q)) && above (part r) q))
 
   spot_is : (r q : ℕ) → half (part r) ≡ half q → above (part r) q ≡ true → has q ≡ true → spot r q ≡ M r (col q)
   spot_is r q e a h = rw (differ_same (half (part r)) (half q) e, a) (go (hanging.common q) h)

@@ -4,7 +4,8 @@ use Rattle.std.proofs.lemmas.Bool.{cases_lt}
 use Rattle.cmr_base.specs.Members.{IsIn}
 use Rattle.cmr_base.specs.Splits.{AreJoined, LeadsTo, IsNaming, AreParts, AreSides, with_row}
 use Rattle.cmr_base.specs.Cuts.{differ, IsCuts}
-use Rattle.cmr_base.proofs.RowLists.{not_both, two_cases, same_or_not, is_eq, is_ne}
+use Rattle.bridge_split.proofs.Links.{joined_off}
+use Rattle.cmr_base.proofs.RowLists.{two_cases, same_or_not, is_eq, is_ne}
 use Rattle.graph_realise.specs.Merging as formula
 use Rattle.graph_realise.specs.Merging.{Hanging, DescribesParts, KeepsCuts, hanging_by, turned_side, turned_lies}
 use Rattle.graph_realise.proofs.CutTables.{is_fewer, is_same}
@@ -27,10 +28,7 @@ module _ (M : ℕ → ℕ → Bool) (S : List ℕ) (i : ℕ) (here : IsIn i S) (
   part = hanging.part
 
   one_part : (j k : ℕ) → IsIn j S → IsIn k S → AreJoined M i j k → part j ≡ part k
-  one_part j k hj hk (c, off, a, b) = (named j k hj hk (λ e. apart j c off a e) (λ e. apart k c off b e)).1 (k ∷ [], (hk, (c, off, a, b), refl))
-    where
-      apart : (j c : ℕ) → M i c ≡ false → M j c ≡ true → j ≡ i → ⊥
-      apart j c off a e = not_both (M j c) a (ap (λ (z : ℕ). M z c) e ∙ off)
+  one_part j k hj hk (c, off, a, b) = (named j k hj hk (joined_off M S i k j (c, off, b, a)) (joined_off M S i j k (c, off, a, b))).1 (k ∷ [], (hk, (c, off, a, b), refl))
 
   -- a part lies on one side of arc i in its tree
   on_side : (x j k : ℕ) (path : List ℕ) → IsIn x S → x ≢ i → IsIn j S → part j ≡ part x → LeadsTo M S i j path k → ss (part x) i j ≡ ss (part x) i k

@@ -1,5 +1,5 @@
 -- Arcs put into an order, and what is grown by it.
-use Rattle.std.proofs.Common.{◌≡◌, ◌≢◌, ◌<◌, ◌≤◌, ◌+◌, ◌-◌, ◌++◌, ◌∙◌, ℕ, zero, suc, Bool, true, false, cond, List, [], ◌∷◌, length, map, get_or, take, drop, sym, ap, refl, subst, arith, ◌⊎◌, inl, inr}
+use Rattle.std.proofs.Common.{◌≡◌, ◌≢◌, ◌<◌, ◌≤◌, ◌+◌, ◌-◌, ◌++◌, ◌∙◌, ℕ, zero, suc, Bool, true, false, cond, List, [], ◌∷◌, length, map, get_or, take, drop, drop-cons, sym, ap, refl, subst, arith, ◌⊎◌, inl, inr}
 use Rattle.std.specs.List.{insert}
 use Rattle.std.proofs.lemmas.Bool.{cases_lt}
 use Rattle.std.proofs.lemmas.List.{length-drop}
@@ -13,7 +13,7 @@ use Rattle.cmr_base.specs.declared.network.Pair.{Pair}
 use Rattle.cmr_base.proofs.GrownNodes.{IsOrderOf, length-grown}
 use Rattle.cmr_base.proofs.GrownNodes as grown_nodes
 use Rattle.cmr_base.proofs.Members.{in_at}
-use Rattle.cmr_base.proofs.RowLists.{not_both, two_cases, is_eq}
+use Rattle.cmr_base.proofs.RowLists.{not_both, is_eq}
 use Rattle.graph_realise.specs.Orders.{IsOrder, IsOrdered}
 use Rattle.cmr_base.proofs.Places.{found_at}
 use Rattle.cmr_base.proofs.CutTrees.{differ_self}
@@ -35,16 +35,12 @@ module _ (M : ℕ → ℕ → Bool) (m : ℕ) (side : ℕ → ℕ → Bool) (lie
 
   -- where y lies beyond x and not beyond h, x does not lie beyond h
   clear : (h x y : ℕ) → h < m → x < m → y < m → h ≢ x → x ≢ y → h ≢ y → beyond side lies x y ≡ true → beyond side lies h y ≡ false → beyond side lies h x ≡ false
-  clear h x y lh lx ly hx xy hy e f = pick (two_cases (beyond side lies h x))
+  clear h x y lh lx ly hx xy hy e f = through (three h x y lh lx ly hx hy xy) (root h x lh lx hx)
     where
       through : (beyond side lies h y ≡ beyond side lies h x) ⊎ (beyond side lies x y ≡ beyond side lies x h) → (beyond side lies h x ≡ false) ⊎ (beyond side lies x h ≡ false) → beyond side lies h x ≡ false
       through (inl a) q = sym a ∙ f
       through (inr a) (inl b) = b
       through (inr a) (inr b) = absurd (not_both (beyond side lies x y) e (a ∙ b))
-
-      pick : (beyond side lies h x ≡ true) ⊎ (beyond side lies h x ≡ false) → beyond side lies h x ≡ false
-      pick (inr a) = a
-      pick (inl a) = through (three h x y lh lx ly hx hy xy) (root h x lh lx hx)
 
   in_inserted : (ys : List ℕ) (p x z : ℕ) → IsIn z (take p ys ++ x ∷ drop p ys) → (z ≡ x) ⊎ IsIn z ys
   in_inserted ys zero x z h = h
@@ -136,16 +132,11 @@ order_of beyond' m order so = record {
 
 -- ---- nodes by places
 
-drop_at : (xs : List ℕ) (k : ℕ) → k < length xs → drop k xs ≡ get_or xs k 0 ∷ drop (suc k) xs
-drop_at [] k l = absurd (omega arith)
-drop_at (x ∷ xs) zero l = refl
-drop_at (x ∷ xs) (suc k) l = drop_at xs k (omega arith)
-
 module _ (is_beyond : ℕ → ℕ → Bool) where
   pub node_here : (order : List ℕ) (is_in : ℕ → Bool) (place : ℕ) → place < length order → node_of (grown is_beyond (drop place order)) is_in ≡ node_of (grown is_beyond order) is_in
       → is_in (get_or order place 0) ≡ true → length order - place ≡ node_of (grown is_beyond order) is_in
   node_here order is_in place l so e =
-      let cut = drop_at order place l in
+      let cut = drop-cons order place 0 l in
       let long = length-drop (suc place) order in
       count ∙ sym (ap (λ (t : Bool). cond t (suc (length (grown is_beyond (drop (suc place) order)))) (node_of (grown is_beyond (drop (suc place) order)) is_in)) e)
       ∙ sym (ap (λ (xs : List ℕ). node_of (grown is_beyond xs) is_in) cut) ∙ so
@@ -156,7 +147,7 @@ module _ (is_beyond : ℕ → ℕ → Bool) where
   pub node_later : (order : List ℕ) (is_in : ℕ → Bool) (place : ℕ) → place < length order → node_of (grown is_beyond (drop place order)) is_in ≡ node_of (grown is_beyond order) is_in
       → is_in (get_or order place 0) ≡ false → node_of (grown is_beyond (drop (place + 1) order)) is_in ≡ node_of (grown is_beyond order) is_in
   node_later order is_in place l so e =
-      let cut = drop_at order place l in
+      let cut = drop-cons order place 0 l in
       let next : place + 1 ≡ suc place = omega arith in
       ap (λ (z : ℕ). node_of (grown is_beyond (drop z order)) is_in) next
       ∙ sym (ap (λ (t : Bool). cond t (suc (length (grown is_beyond (drop (suc place) order)))) (node_of (grown is_beyond (drop (suc place) order)) is_in)) e)
@@ -166,7 +157,7 @@ module _ (is_beyond : ℕ → ℕ → Bool) where
       → get_or order place 0 ≡ row → inner ≡ node_of (grown is_beyond (drop (place + 1) order)) (λ r. is_beyond r row)
       → record { tail = inner; head = length order - place } ≡ pair_of (grown is_beyond order) row
   pair_here order row place inner l so e f =
-      let cut = drop_at order place l in
+      let cut = drop-cons order place 0 l in
       let next : place + 1 ≡ suc place = omega arith in
       ap (λ (z : ℕ). record { tail = z; head = length order - place }) (f ∙ ap (λ (z : ℕ). node_of (grown is_beyond (drop z order)) (λ r. is_beyond r row)) next
       ∙ ap (λ (z : ℕ). node_of (grown is_beyond (drop (suc place) order)) (λ r. is_beyond r z)) (sym e))

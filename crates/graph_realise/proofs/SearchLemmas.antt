@@ -30,6 +30,8 @@ use Rattle.graph_realise.proofs.SideLemmas.{keeps_row_trans}
 use Rattle.graph_realise.proofs.TableLemmas.{cell_past}
 use Rattle.graph_realise.proofs.WholeRows.{stays_whole}
 use Rattle.cmr_base.proofs.Places.{fewer_distinct}
+use Rattle.cmr_base.proofs.Booleans.{false_is}
+use Rattle.bridge_split.proofs.PartWalks.{no_number}
 
 -- ---- lists of rows
 
@@ -110,20 +112,17 @@ module _ (M : ℕ → ℕ → Bool) (m n : ℕ) (short : (r c : ℕ) → M r c �
     few = omega (arith, J.few, J.branches.many);
   }
     where
-      clash : (a : ℕ) → ◌≡◌ {A = Option ℕ} None (Some a) → ⊥
-      clash a e = cc
-
       touched_in : (column a : ℕ) → number_at joint.part_with.items column ≡ Some a → IsPartWith M S joint.part_of.items column (number_at joint.part_with.items column) → a < length joint.branches.items
-      touched_in column a e (inl h) = absurd (clash a (sym h.1 ∙ e))
+      touched_in column a e (inl h) = absurd (no_number (number_at joint.part_with.items column) a h.1 e)
       touched_in column a e (inr h) = let l = (J.numbered.only a h.0 (sym h.3 ∙ e)).0 in let k = J.branches.many in omega arith
 
       by_column : (column a : ℕ) → number_at joint.part_with.items column ≡ Some a → (column < n) ⊎ (n ≤ column) → a < length joint.branches.items
-      by_column column a e (inl l) = elim (touched_at column) [ inl off ↦ absurd (clash a (sym off.1 ∙ e)) | inr on ↦ touched_in column a e on.1 ]
-      by_column column a e (inr l) = absurd (clash a (sym (get_or_past joint.part_with.items column None (let k = J.columns in omega arith)) ∙ e))
+      by_column column a e (inl l) = elim (touched_at column) [ inl off ↦ absurd (no_number (number_at joint.part_with.items column) a off.1 e) | inr on ↦ touched_in column a e on.1 ]
+      by_column column a e (inr l) = absurd (no_number (number_at joint.part_with.items column) a (get_or_past joint.part_with.items column None (let k = J.columns in omega arith)) e)
 
       common_in : (a column : ℕ) → (branch_at joint.branches.items a).common ≡ Some column → (a < length parts) ⊎ (length parts ≤ a) → column < n
       common_in a column e (inl l) = short i column (subst (λ (o : Option ℕ). MatchOption o ((c : ℕ) → ¬ (IsCommon M i (slice_index_or parts a []) c)) (IsCommon M i (slice_index_or parts a []))) e (J.branches.each a l).common).0
-      common_in a column e (inr l) = absurd (clash column (sym (ap (λ b. b.common) (get_or_past joint.branches.items a (record { end = false; weight = 0; common = None }) (let k = J.branches.many in omega arith))) ∙ e))
+      common_in a column e (inr l) = absurd (no_number (branch_at joint.branches.items a).common column (ap (λ b. b.common) (get_or_past joint.branches.items a (record { end = false; weight = 0; common = None }) (let k = J.branches.many in omega arith))) e)
 
   -- no part is named for the row's own columns
   pub named_off : AreOff M joint
@@ -133,13 +132,10 @@ module _ (M : ℕ → ℕ → Bool) (m n : ℕ) (short : (r c : ℕ) → M r c �
   ]
 
   pub all_numbered : (r : ℕ) → IsIn r S → r ≢ joint.row → number_at joint.part_of.items r ≢ None
-  all_numbered r hr nr e = clash q.0 (sym e ∙ q.3)
+  all_numbered r hr nr e = no_number (number_at joint.part_of.items r) q.0 e q.3
     where
       q : (a : ℕ) × (a < length parts) × IsIn r (slice_index_or parts a []) × (number_at joint.part_of.items r ≡ Some a)
       q = numbered r hr (λ z. nr (z ∙ sym J.row))
-
-      clash : (a : ℕ) → ◌≡◌ {A = Option ℕ} None (Some a) → ⊥
-      clash a e = cc
 
   describes : DescribesParts M n S i parts (λ r. part_or_first (number_at joint.part_of.items r)) (λ p. (branch_at joint.branches.items p).weight) (λ p. (branch_at joint.branches.items p).common) (number_at joint.part_with.items)
   describes = record {
@@ -320,11 +316,7 @@ module _ (M : ℕ → ℕ → Bool) (m n : ℕ) (short : (r c : ℕ) → M r c �
         outside false = cell_past new.last r c (omega arith)
 
         off : M i c ≡ false
-        off = pick (M i c) refl
-          where
-            pick : (t : Bool) → M i c ≡ t → M i c ≡ false
-            pick true e = let k = short i c e in absurd (omega arith)
-            pick false e = e
+        off = false_is (M i c) (λ e. let k = short i c e in omega arith)
 
         none : number_at joint.part_with.items c ≡ None
         none = get_or_past joint.part_with.items c None (let k = J.columns in omega arith)

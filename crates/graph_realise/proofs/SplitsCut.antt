@@ -7,6 +7,9 @@ use Rattle.cmr_base.specs.Members.{IsIn}
 use Rattle.cmr_base.specs.Trees.{support}
 use Rattle.cmr_base.specs.Splits.{IsCommon, Agree, IsNaming, part_rows, with_row, SplitsGraphically, IsGraphicBySplitting}
 use Rattle.cmr_base.specs.Cuts.{HasCuts, IsCuts}
+use Rattle.bridge_split.proofs.PartWalks.{no_number}
+use Rattle.cmr_base.proofs.Booleans.{false_is}
+use Rattle.cmr_base.proofs.Options.{some_same}
 use Rattle.cmr_base.proofs.RemovedLines.{in_first_lines, first_lines_in}
 use Rattle.cmr_base.proofs.RowLists.{not_both, two_cases, same_or_not, search_rows}
 use Rattle.graph_realise.specs.Merging as formula
@@ -76,25 +79,12 @@ module _ (M : ℕ → ℕ → Bool) (n : ℕ) (short : (r c : ℕ) → M r c ≡
   column : (p c : ℕ) (f : Column p) → common_by p f ≡ Some c → IsCommon M i (part_rows part i p S) c
   unfolding common_by
   column p c (inl (d, u)) e = subst (IsCommon M i (part_rows part i p S)) (some_same d c e) u
-    where
-      some_same : (d c : ℕ) → Some d ≡ Some c → d ≡ c
-      some_same d c e = cc
-  column p c (inr none) e = absurd (clash e)
-    where
-      clash : None ≡ Some c → ⊥
-      clash e = cc
+  column p c (inr none) e = absurd (no_number None c refl e)
 
   no_column : (s c : ℕ) → IsIn s S → s ≢ i → (f : Column (part s)) → common_by (part s) f ≡ None → M i c ≡ true → M s c ≡ false
   unfolding common_by
-  no_column s c hs ns (inl (d, u)) h w = absurd (clash h)
-    where
-      clash : Some d ≡ None → ⊥
-      clash e = cc
-  no_column s c hs ns (inr none) h w = go (two_cases (M s c))
-    where
-      go : (M s c ≡ true) ⊎ (M s c ≡ false) → M s c ≡ false
-      go (inl e) = absurd (none c (w, (s, part_in part i (part s) s S hs ns refl, e)))
-      go (inr e) = e
+  no_column s c hs ns (inl (d, u)) h w = absurd (no_number (Some d) d h refl)
+  no_column s c hs ns (inr none) h w = false_is (M s c) (λ e. none c (w, (s, part_in part i (part s) s S hs ns refl, e)))
 
   -- a row but i with a nonzero in the column, or there is none
   abbrev Touch : ℕ → Type 0

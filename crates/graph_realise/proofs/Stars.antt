@@ -1,12 +1,13 @@
 -- The star that is drawn is the star of the rows.
-use Rattle.std.proofs.Common.{◌≡◌, ◌≢◌, ◌<◌, ◌≤◌, ◌∙◌, ◌&&◌, ◌||◌, ◌+◌, ◌==◌, if◌then◌else◌, not, nat_eq, zero, suc, length, get_or, cond, ℕ, Bool, true, false, List, [], ◌∷◌, sym, ap, refl, arith, ◌⊎◌, inl, inr}
+use Rattle.std.proofs.Common.{◌≡◌, ◌<◌, ◌≤◌, ◌∙◌, ◌&&◌, ◌||◌, ◌+◌, ◌==◌, if◌then◌else◌, not, nat_eq, zero, suc, length, get_or, cond, ℕ, Bool, true, false, List, [], ◌∷◌, sym, ap, refl, arith, ◌⊎◌, inl, inr}
 use Rattle.cmr_base.specs.Cuts.{differ, IsCuts}
 use Rattle.cmr_base.specs.Members.{IsIn}
 use Rattle.cmr_base.specs.Splits.{HasNoThree}
 use Rattle.std.specs.List.Sorted.{IsStrictlyIncreasing}
 use Rattle.cmr_base.proofs.ListsWithout.{head_below, increasing_tail}
 use Rattle.cmr_base.proofs.Members.{in_at}
-use Rattle.cmr_base.proofs.RowLists.{not_both, is_eq, is_ne, same_or_not}
+use Rattle.cmr_base.proofs.Booleans.{eq_turned, not_not}
+use Rattle.cmr_base.proofs.RowLists.{not_both, is_eq, is_ne}
 use Rattle.std.proofs.lemmas.Bool.{cases_lt}
 use Rattle.graph_realise.specs.Tables.{IsRowFilled}
 use Rattle.graph_realise.specs.SideTables.{side_in, end_in, AreClear, KeepsOthers, KeepsRow}
@@ -21,16 +22,9 @@ first_is : (M : ℕ → ℕ → Bool) (rows : List ℕ) (row column : ℕ) → I
 first_is M [] row column h e = absurd h
 first_is M (r ∷ rows) row column h e = go (M r column) refl h (λ q. first_is M rows row column q e)
   where
-    turned : (a b : ℕ) → nat_eq a b ≡ nat_eq b a
-    turned a b = pick (same_or_not a b)
-      where
-        pick : (a ≡ b) ⊎ (a ≢ b) → nat_eq a b ≡ nat_eq b a
-        pick (inl q) = is_eq a b q ∙ sym (is_eq b a (sym q))
-        pick (inr n) = is_ne a b n ∙ sym (is_ne b a (λ q. n (sym q)))
-
     go : (t : Bool) → M r column ≡ t → (row ≡ r) ⊎ IsIn row rows → (IsIn row rows → is_first M rows row column ≡ nat_eq row (lead M rows column))
         → (if t then r == row else is_first M rows row column) ≡ nat_eq row (cond t r (lead M rows column))
-    go true f h rest = turned r row
+    go true f h rest = eq_turned r row
     go false f (inl q) rest = absurd (not_both (M row column) e (ap (λ (z : ℕ). M z column) q ∙ f))
     go false f (inr q) rest = rest q
 
@@ -38,11 +32,7 @@ end_is : (M : ℕ → ℕ → Bool) (rows : List ℕ) (row : ℕ) (end : Bool) (
 end_is M rows row end column h = go (M row column) refl end
   where
     go : (t : Bool) → M row column ≡ t → (end : Bool) → (t && (if end then is_first M rows row column else not (is_first M rows row column))) ≡ cond t (not (differ end (nat_eq row (lead M rows column)))) false
-    go true e true = first_is M rows row column h e ∙ twice (nat_eq row (lead M rows column))
-      where
-        twice : (t : Bool) → t ≡ not (not t)
-        twice true = refl
-        twice false = refl
+    go true e true = first_is M rows row column h e ∙ sym (not_not (nat_eq row (lead M rows column)))
     go true e false = ap not (first_is M rows row column h e)
     go false e end = refl
 

@@ -4,6 +4,7 @@ use Rattle.std.proofs.lemmas.List.Sums.{sum_by-cons}
 use Rattle.cmr_base.specs.Members.{IsIn}
 use Rattle.cmr_base.specs.LineSets.{first_lines}
 use Rattle.cmr_base.specs.Splits.{IsCommon, IsUncut, IsUncutBy, Agree}
+use Rattle.cmr_base.proofs.Booleans.{false_is}
 use Rattle.cmr_base.proofs.RemovedLines.{in_first_lines, first_lines_in}
 use Rattle.cmr_base.proofs.RowLists.{not_both, two_cases, bool_same, search_rows, search_in}
 use Rattle.graph_realise.specs.Merging.{IsWeight}
@@ -61,11 +62,7 @@ module _ (M : ℕ → ℕ → Bool) (n : ℕ) (short : (r c : ℕ) → M r c ≡
       go (inr none) = λ j hj. inr (empty j hj)
         where
           empty : (j : ℕ) → IsIn j P → (c : ℕ) → IsCommon M i Q c → M j c ≡ false
-          empty j hj c (a, (k, hk, e)) = pick (two_cases (M j c))
-            where
-              pick : (M j c ≡ true) ⊎ (M j c ≡ false) → M j c ≡ false
-              pick (inl d) = absurd (not_both (M k c) e (none k hk c (a, (j, hj, d))))
-              pick (inr d) = d
+          empty j hj c (a, (k, hk, e)) = false_is (M j c) (λ d. not_both (M k c) e (none k hk c (a, (j, hj, d))))
       go (inl (k, hk, all)) = pick (two_cases p.whole) (two_cases q.whole)
         where
           inside : (c : ℕ) → IsCommon M i P c → IsCommon M i Q c

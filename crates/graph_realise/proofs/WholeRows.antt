@@ -1,8 +1,10 @@
 -- A row that does not split the rows S does not split row i with a part of the others either, nor does i: so each row is tested once.
-use Rattle.std.proofs.Common.{ℕ, Bool, true, false, List, [], ◌∷◌, ◌≡◌, ◌≢◌, ◌<◌, ◌∙◌, sym, ap, refl, subst, ◌⊎◌, inl, inr, slice_index_or, length}
+use Rattle.std.proofs.Common.{ℕ, Bool, true, List, [], ◌∷◌, ◌≡◌, ◌<◌, sym, refl, subst, ◌⊎◌, inl, inr, slice_index_or, length}
 use Rattle.cmr_base.specs.Members.{IsIn}
 use Rattle.cmr_base.specs.Splits.{AreJoined, LeadsTo, AreLinked, Splits, AreParts}
-use Rattle.cmr_base.proofs.RowLists.{not_both, two_cases, in_or_not}
+use Rattle.bridge_split.proofs.Links.{joined_off, linked_on}
+use Rattle.cmr_base.proofs.Booleans.{true_is}
+use Rattle.cmr_base.proofs.RowLists.{in_or_not}
 use Rattle.graph_realise.proofs.PartLists.{IsWholePart, whole_part}
 
 -- the rows T are row i and the part P
@@ -10,15 +12,8 @@ module _ (M : ℕ → ℕ → Bool) (S : List ℕ) (i : ℕ) (P : List ℕ) (W :
   -- links of the part stay within it
   within : (j x k : ℕ) (rows : List ℕ) → IsIn j P → AreLinked M S i j x → LeadsTo M S i x rows k → LeadsTo M T i x rows k
   within j x k [] hj l e = e
-  within j x k (y ∷ rows) hj l (hy, (c, off, a, b), e) = let m = further l.0 j l.1 in
-      (to y (inr (W.closed j y hj hy (apart e) m)), (c, off, a, b), within j y k rows hj m e)
-    where
-      apart : LeadsTo M S i y rows k → y ≢ i
-      apart e z = not_both (M y c) b (ap (λ (r : ℕ). M r c) z ∙ off)
-
-      further : (path : List ℕ) (j : ℕ) → LeadsTo M S i j path x → AreLinked M S i j y
-      further [] j e = (y ∷ [], (hy, (c, off, subst (λ (r : ℕ). M r c ≡ true) (sym e) a, b), refl))
-      further (z ∷ path) j (hz, join, e) = let q = further path z e in (z ∷ q.0, (hz, join, q.1))
+  within j x k (y ∷ rows) hj l (hy, (c, off, a, b), e) = let m = linked_on M S i j x y l hy (c, off, a, b) in
+      (to y (inr (W.closed j y hj hy (joined_off M S i x y (c, off, a, b)) m)), (c, off, a, b), within j y k rows hj m e)
 
   pub part_stays : ¬ (Splits M T i)
   part_stays s = s.apart (go (from s.one s.one_in) (from s.two s.two_in))
@@ -40,11 +35,7 @@ module _ (M : ℕ → ℕ → Bool) (S : List ℕ) (i : ℕ) (P : List ℕ) (W :
 
   -- a column that a row of the part has in common with a row outside uses row i
   crossing : (r s c : ℕ) → IsIn r P → IsIn s S → ¬ (IsIn s T) → M r c ≡ true → M s c ≡ true → M i c ≡ true
-  crossing r s c hr hs out a b = go (two_cases (M i c))
-    where
-      go : (M i c ≡ true) ⊎ (M i c ≡ false) → M i c ≡ true
-      go (inl e) = e
-      go (inr off) = absurd (out (to s (inr (W.closed r s hr hs (λ z. out (to s (inl z))) (s ∷ [], (hs, (c, off, a, b), refl))))))
+  crossing r s c hr hs out a b = true_is (M i c) (λ off. out (to s (inr (W.closed r s hr hs (λ z. out (to s (inl z))) (s ∷ [], (hs, (c, off, a, b), refl))))))
 
   -- a step over a column without j stays a step, or is none
   step : (j r s : ℕ) → IsIn r S → IsIn s S → (d : IsIn r T ⊎ (¬ (IsIn r T))) → (e : IsIn s T ⊎ (¬ (IsIn s T))) → AreJoined M j r s → (kept r d ≡ kept s e) ⊎ AreJoined M j (kept r d) (kept s e)

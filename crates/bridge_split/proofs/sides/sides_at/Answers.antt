@@ -4,14 +4,14 @@ use Rattle.cmr_base.specs.LineSets.{AllBelow}
 use Rattle.cmr_base.specs.Matrix.{height}
 use Rattle.cmr_base.specs.Splits.{AreSides, IsOddClosed}
 use Rattle.cmr_base.specs.Trees.{support}
+use Rattle.cmr_base.proofs.Places.{members_below}
 use Rattle.bridge_split.specs.Cutting.{part_at, IsCutTable}
 use Rattle.bridge_split.specs.Forests.{depth_at, parent_at, joins, HasRoute, IsTwoColoured}
 use Rattle.bridge_split.proofs.SidesOfParts.{parts_few, parts_below, sides_are, path_low, odd_closed}
-use Rattle.bridge_split.proofs.ThreeNonzeros.{below_in}
 use Rattle.bridge_split.proofs.sides.sides_at.Goals as goal
 
 pub new-requires-clause-row : goal.new-requires-clause-row
-new-requires-clause-row c = below_in c.args.row (height c.args.matrix.now) c.args.rows.now c.requires.rows c.requires.row
+new-requires-clause-row c = members_below (height c.args.matrix.now) c.args.rows.now c.requires.rows c.args.row c.requires.row
 
 pub new-requires-clause-few : goal.new-requires-clause-few
 new-requires-clause-few c =

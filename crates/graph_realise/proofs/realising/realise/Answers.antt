@@ -2,13 +2,14 @@ use Rattle.std.proofs.Common.{List, ℕ, subst, ap, ◌∙◌}
 use Rattle.cmr_base.specs.LineSets.{first_lines}
 use Rattle.cmr_base.specs.Matrix.{height}
 use Rattle.cmr_base.specs.Trees.{support}
+use Rattle.cmr_base.proofs.LineSetLemmas.{first_below}
 use Rattle.graph_realise.specs.Searches.{IsSearch}
 use Rattle.graph_realise.specs.declared.side_search.TreeSearch.TheVariants.{Found, NoTree}
-use Rattle.graph_realise.proofs.AllRows.{all_below, cuts_of_all, none_of_all}
+use Rattle.graph_realise.proofs.AllRows.{cuts_of_all, none_of_all}
 use Rattle.graph_realise.proofs.realising.realise.Goals as goal
 
 pub find_sides-requires-clause-rows : goal.find_sides-requires-clause-rows
-find_sides-requires-clause-rows c = rw (c.in_ok-lines.ensures.rows, c.rows.ensures.rows) (all_below (height c.args.matrix.now))
+find_sides-requires-clause-rows c = rw (c.in_ok-lines.ensures.rows, c.rows.ensures.rows) (first_below (height c.args.matrix.now))
 
 pub grow_network-requires-clause-cuts : goal.grow_network-requires-clause-cuts
 grow_network-requires-clause-cuts c =

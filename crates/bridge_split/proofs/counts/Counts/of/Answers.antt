@@ -1,8 +1,9 @@
 use Rattle.std.proofs.Common.{◌≡◌, ◌+◌, cond, ◌&&◌, ◌||◌, ◌∙◌, nat_lt, ℕ, sym, ap, ap₂, take, get_or}
 use Rattle.std.specs.List.{count_by}
+use Rattle.std.proofs.lemmas.List.Sums.{sum_by_more}
 use Rattle.cmr_base.specs.Trees.{support}
 use Rattle.cmr_base.proofs.ColumnWords.{words_long, words_columns}
-use Rattle.bridge_split.proofs.ThreeNonzeros.{count_more, more_than, more_than_none}
+use Rattle.bridge_split.proofs.ThreeNonzeros.{more_than, more_than_none}
 use Rattle.bridge_split.proofs.counts.Counts.of.Goals as goal
 
 pub add-requires-clause-once : goal.add-requires-clause-once
@@ -26,7 +27,7 @@ loop-row-preserved c =
     let so = c.loop-row.invariant in
     let row = words_columns m x c.support_words.result.now c.support_words.ensures so.matrix (c.requires k c.loop-row-test.true) in
     let n : ℕ → ℕ = λ column. count_by (λ r. support m r column) (take k S) in
-    let more : (column : ℕ) → count_by (λ r. support m r column) (take (k + 1) S) ≡ n column + cond (support m x column) 1 0 = λ column. count_more (λ r. support m r column) S k c.loop-row-test.true in
+    let more : (column : ℕ) → count_by (λ r. support m r column) (take (k + 1) S) ≡ n column + cond (support m x column) 1 0 = λ column. sum_by_more (λ r. cond (support m r column) 1 0) S k 0 c.loop-row-test.true in
     record {
       matrix = so.matrix;
       words = record {

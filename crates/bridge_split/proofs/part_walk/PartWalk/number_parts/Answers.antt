@@ -3,16 +3,16 @@ use Rattle.std.proofs.lemmas.Bool.{cases_eq}
 use Rattle.cmr_base.specs.Matrix.{height}
 use Rattle.cmr_base.specs.Trees.{support}
 use Rattle.cmr_base.proofs.Parts.{length-rising}
+use Rattle.cmr_base.proofs.Places.{members_below}
 use Rattle.bridge_split.specs.PartNumbers.{number_at, IsNumbering}
 use Rattle.bridge_split.specs.declared.part_walk.PartWalk.{PartWalk}
 use Rattle.bridge_split.proofs.PartWalks.{all_numbered, some_or_none}
 use Rattle.bridge_split.proofs.NumberSteps.{passed_more}
-use Rattle.bridge_split.proofs.ThreeNonzeros.{below_in}
 use Rattle.bridge_split.proofs.part_walk.PartWalk.number_parts.Goals as goal
 use Rattle.bridge_split.proofs.part_walk.PartWalk.number_parts.Goals.{then-is_left, else-is_left}
 
 pub walk_from-requires-clause-row : goal.walk_from-requires-clause-row
-walk_from-requires-clause-row c = below_in c.args.row (height c.args.matrix.now) c.args.rows.now c.requires.rows c.requires.row
+walk_from-requires-clause-row c = members_below (height c.args.matrix.now) c.args.rows.now c.requires.rows c.args.row c.requires.row
 
 pub walk_from-requires-clause-few : goal.walk_from-requires-clause-few
 walk_from-requires-clause-few c =

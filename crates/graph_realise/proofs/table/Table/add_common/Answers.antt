@@ -1,19 +1,14 @@
-use Rattle.std.proofs.Common.{◌≡◌, ◌<◌, ◌+◌, ◌*◌, ◌&&◌, ◌||◌, ◌∙◌, eqb, ℕ, Bool, true, false, get_or, refl, sym, subst, ap, ap₂, arith}
+use Rattle.std.proofs.Common.{◌≡◌, ◌<◌, ◌+◌, ◌*◌, ◌&&◌, ◌||◌, ◌∙◌, eqb, ℕ, Bool, get_or, sym, subst, ap, ap₂, arith}
 use Rattle.std.proofs.lemmas.Nat.Bits.{bit_at-zero}
 use Rattle.std.specs.Int.Bits.{bit_and, bit_or}
 use Rattle.cmr_base.specs.Planes.{has_bit}
 use Rattle.cmr_base.specs.Trees.{support}
-use Rattle.cmr_base.proofs.Booleans.{or_false}
+use Rattle.cmr_base.proofs.Booleans.{and_false, or_false}
 use Rattle.cmr_base.proofs.WordBits.{bit_at_block, has_bit-and, has_bit-or}
 use Rattle.graph_realise.specs.Tables.{Grid, cell, AreBlocksFilled}
 use Rattle.graph_realise.proofs.BlockLemmas.{blocks_none, blocks_more, blocks_row, blocks_same, not_filled, off_blocks}
 use Rattle.graph_realise.proofs.table.Table.add_common.Goals.{then-common-ne0, else-common-ne0}
 use Rattle.graph_realise.proofs.table.Table.add_common.Goals as goal
-
-none_added : (t s : Bool) → (t || (s && false)) ≡ t
-none_added true s = refl
-none_added false true = refl
-none_added false false = refl
 
 pub loop-block-init : goal.loop-block-init
 loop-block-init c = blocks_none (λ column. cell c.args.self.now c.args.row column || support c.args.matrix.now c.args.one column && support c.args.matrix.now c.args.other column) c.args.self.now c.args.row c.args.blocks.now
@@ -57,5 +52,7 @@ returns c =
     let b = c.loop-block.auto.block-index-end in
     blocks_row values c.args.self.now c.loop-block.self c.args.row c.args.blocks.now c.loop-block.block-index (omega arith) c.loop-block.invariant
     (λ column n.
-    ap (λ t. cell c.args.self.now c.args.row column || (support c.args.matrix.now c.args.one column && t)) (off_blocks (support c.args.matrix.now c.args.other) c.args.matrix.now.width c.args.blocks.now column c.requires.blocks n)
-    ∙ none_added (cell c.args.self.now c.args.row column) (support c.args.matrix.now c.args.one column))
+    ap (λ t. cell c.args.self.now c.args.row column || t)
+    (ap (λ t. support c.args.matrix.now c.args.one column && t) (off_blocks (support c.args.matrix.now c.args.other) c.args.matrix.now.width c.args.blocks.now column c.requires.blocks n)
+    ∙ and_false (support c.args.matrix.now c.args.one column))
+    ∙ or_false (cell c.args.self.now c.args.row column))

@@ -4,13 +4,10 @@ use Rattle.cmr_base.specs.Planes.{has_bit}
 use Rattle.cmr_base.specs.Trees.{support}
 use Rattle.cmr_base.proofs.WordBits.{bit_at_block, has_bit-and}
 use Rattle.graph_realise.specs.Tables.{Grid, cell, AreBlocksFilled}
+use Rattle.graph_realise.proofs.Booleans.{and_true}
 use Rattle.graph_realise.proofs.BlockLemmas.{blocks_none, blocks_more, blocks_row, blocks_same, not_filled, off_blocks}
 use Rattle.graph_realise.proofs.table.Table.take_out.Goals.{then-word-gone-ne0, else-word-gone-ne0}
 use Rattle.graph_realise.proofs.table.Table.take_out.Goals as goal
-
-none_gone : (t : Bool) → (t && not false) ≡ t
-none_gone true = refl
-none_gone false = refl
 
 pub loop-block-init : goal.loop-block-init
 loop-block-init c = blocks_none (λ column. cell c.args.self.now c.args.row column && not (support c.args.matrix.now c.args.other column)) c.args.self.now c.args.row c.args.blocks.now
@@ -56,4 +53,4 @@ returns c =
     let l = c.loop-block-test.false in
     let b = c.loop-block.auto.block-index-end in
     blocks_row values c.args.self.now c.loop-block.self c.args.row c.args.blocks.now c.loop-block.block-index (omega arith) c.loop-block.invariant
-    (λ column n. ap (λ t. cell c.args.self.now c.args.row column && not t) (off_blocks (support c.args.matrix.now c.args.other) c.args.matrix.now.width c.args.blocks.now column c.requires.blocks n) ∙ none_gone (cell c.args.self.now c.args.row column))
+    (λ column n. ap (λ t. cell c.args.self.now c.args.row column && not t) (off_blocks (support c.args.matrix.now c.args.other) c.args.matrix.now.width c.args.blocks.now column c.requires.blocks n) ∙ and_true (cell c.args.self.now c.args.row column))
