@@ -5,14 +5,14 @@ use Rattle.cmr_base.specs.declared.network.Pair.{Pair}
 use Rattle.cmr_base.specs.Members.{IsIn, IsDistinct}
 use Rattle.cmr_base.specs.LineSets.{first_lines}
 use Rattle.cmr_base.specs.Cuts.{differ, bit, IsCuts}
-use Rattle.cmr_base.specs.GrownTrees.{HungArc, node_of, grown, pair_of, turned, beyond, place, arcs_by, walks_by}
+use Rattle.cmr_base.specs.GrownTrees.{IsOrdered, HungArc, node_of, grown, pair_of, turned, beyond, place, arcs_by, walks_by}
 use Rattle.cmr_base.specs.Trees.{tail, head, IsTree, IsPathOf, IsDirectedPathOf, IsNetworkOf, RealisesSupport, Realises}
 use Rattle.cmr_base.proofs.RowLists.{is_ne, self_eq}
 pub use Rattle.cmr_base.proofs.RowLists.{differ_self}
 use Rattle.cmr_base.proofs.RemovedLines.{in_first_lines, first_lines_in}
 use Rattle.cmr_base.proofs.RisingLists.{rises-range}
 use Rattle.cmr_base.proofs.Members.{rising_distinct}
-use Rattle.cmr_base.proofs.GrownNodes.{beyond_in, node_of_in_range, rows_of, rows-grown, length-grown, IsOrdered, IsOrderOf, beyond_in-node_of, has_order}
+use Rattle.cmr_base.proofs.GrownNodes.{beyond_in, node_of_in_range, rows_of, rows-grown, length-grown, IsOrderOf, beyond_in-node_of, has_order}
 use Rattle.cmr_base.proofs.GrownPaths.{AreLaid, HasPath, grown_path}
 
 -- each arc hangs at a node of those before it, and no row stands twice
@@ -106,15 +106,16 @@ first_lines_distinct : (count : ℕ) → IsDistinct (first_lines count)
 first_lines_distinct count = rising_distinct 0 count (first_lines count) (rises-range 0 count count (omega arith))
 
 module _ (M : ℕ → ℕ → Bool) (m : ℕ) (side : ℕ → ℕ → Bool) (lies : Bool → ℕ → ℕ → Bool) (K : IsCuts M (λ r. r < m) side lies) where
-  three : (r s t : ℕ) → r < m → s < m → t < m → r ≢ s → r ≢ t → s ≢ t → (beyond side lies r t ≡ beyond side lies r s) ⊎ (beyond side lies s t ≡ beyond side lies s r)
-  three r s t hr hs ht rs rt st = go (K.three r s t hr hs ht rs rt st)
+  -- of three arcs two say the same, and of two one does not lie beyond the other
+  pub three_beyond : (r s t : ℕ) → r < m → s < m → t < m → r ≢ s → r ≢ t → s ≢ t → (beyond side lies r t ≡ beyond side lies r s) ⊎ (beyond side lies s t ≡ beyond side lies s r)
+  three_beyond r s t hr hs ht rs rt st = go (K.three r s t hr hs ht rs rt st)
     where
       go : (side r t ≡ side r s) ⊎ (side s t ≡ side s r) → (beyond side lies r t ≡ beyond side lies r s) ⊎ (beyond side lies s t ≡ beyond side lies s r)
       go (inl a) = inl (ap (differ (lies true r 0)) a)
       go (inr a) = inr (ap (differ (lies true s 0)) a)
 
-  root : (r s : ℕ) → r < m → s < m → r ≢ s → (beyond side lies r s ≡ false) ⊎ (beyond side lies s r ≡ false)
-  root r s hr hs n = go (K.meet true r s 0 hr hs n)
+  pub root_beyond : (r s : ℕ) → r < m → s < m → r ≢ s → (beyond side lies r s ≡ false) ⊎ (beyond side lies s r ≡ false)
+  root_beyond r s hr hs n = go (K.meet true r s 0 hr hs n)
     where
       go : (lies true r 0 ≡ side r s) ⊎ (lies true s 0 ≡ side s r) → (beyond side lies r s ≡ false) ⊎ (beyond side lies s r ≡ false)
       go (inl a) = inl (ap (differ (lies true r 0)) (sym a) ∙ differ_self (lies true r 0))
@@ -129,7 +130,7 @@ module _ (M : ℕ → ℕ → Bool) (m : ℕ) (side : ℕ → ℕ → Bool) (lie
 
   -- the rows have an order in which they grow
   pub cuts_order : (list : List ℕ) × IsOrderOf (beyond side lies) (first_lines m) list
-  cuts_order = has_order (beyond side lies) (λ r. r < m) three root (first_lines m) (first_lines_distinct m) (first_lines_in m)
+  cuts_order = has_order (beyond side lies) (λ r. r < m) three_beyond root_beyond (first_lines m) (first_lines_distinct m) (first_lines_in m)
 
   module _ (order : List ℕ) (o : IsOrderOf (beyond side lies) (first_lines m) order) where
     abbrev hung : List HungArc
@@ -182,7 +183,7 @@ module _ (M : ℕ → ℕ → Bool) (m : ℕ) (side : ℕ → ℕ → Bool) (lie
     }
 
     beyond_in-node : (end : Bool) (c r : ℕ) → r < m → beyond_in hung r (node end c) ≡ place side lies end c r
-    beyond_in-node end c r l = beyond_in-node_of (beyond side lies) (λ r. r < m) three root order o.order row_in_range (place side lies end c)
+    beyond_in-node end c r l = beyond_in-node_of (beyond side lies) (λ r. r < m) three_beyond root_beyond order o.order row_in_range (place side lies end c)
         (λ r s hr hs n. is_node end c r s (row_in_range r hr) (row_in_range s hs) n) r (o.all r (in_first_lines m r l))
 
     node_in_range : (end : Bool) (c : ℕ) → node end c ≤ m

@@ -1,7 +1,7 @@
 -- Trees grown by their arcs, in an order in which none lies beyond a later one: where their nodes lie.
 use Rattle.std.proofs.Common.{ℕ, suc, Bool, true, false, cond, List, [], ◌∷◌, ◌≡◌, ◌≢◌, ◌≤◌, ◌∙◌, sym, ap, refl, arith, subst, ◌⊎◌, inl, inr, nat_eq, length}
 use Rattle.cmr_base.specs.Members.{IsIn, IsDistinct}
-use Rattle.cmr_base.specs.GrownTrees.{HungArc, node_of, grown}
+use Rattle.cmr_base.specs.GrownTrees.{IsOrdered, HungArc, node_of, grown}
 use Rattle.cmr_base.proofs.RowLists.{not_both, two_cases, search_rows, is_eq, is_ne, self_eq}
 
 -- whether node z lies beyond arc j, seen from node 0
@@ -40,14 +40,9 @@ module _ (beyond : ℕ → ℕ → Bool) where
   length-grown [] = refl
   length-grown (h ∷ L) = ap (λ (z : ℕ). suc z) (length-grown L)
 
-  -- no row stands twice, and no arc lies beyond that of a row which stands before it
-  abbrev pub IsOrdered : List ℕ → Type 0
-  IsOrdered [] = Unit {0}
-  IsOrdered (h ∷ L) = ((y : ℕ) → IsIn y L → (h ≢ y) × (beyond h y ≡ false)) × IsOrdered L
-
   -- the same rows in such an order
   pub record IsOrderOf (rows list : List ℕ) : Type 0 where
-    pub order : IsOrdered list
+    pub order : IsOrdered beyond list
     pub all : (x : ℕ) → IsIn x rows → IsIn x list
     pub only : (x : ℕ) → IsIn x list → IsIn x rows
     pub count : length list ≡ length rows
@@ -60,7 +55,7 @@ module _ (beyond : ℕ → ℕ → Bool) where
       (three : (r s t : ℕ) → R r → R s → R t → r ≢ s → r ≢ t → s ≢ t → (beyond r t ≡ beyond r s) ⊎ (beyond s t ≡ beyond s r))
       (root : (r s : ℕ) → R r → R s → r ≢ s → (beyond r s ≡ false) ⊎ (beyond s r ≡ false)) where
     -- the node of given arcs lies beyond them and no others
-    pub beyond_in-node_of : (L : List ℕ) → IsOrdered L → ((y : ℕ) → IsIn y L → R y) → (x : ℕ → Bool) → IsNode (λ r. IsIn r L) x → (j : ℕ) → IsIn j L
+    pub beyond_in-node_of : (L : List ℕ) → IsOrdered beyond L → ((y : ℕ) → IsIn y L → R y) → (x : ℕ → Bool) → IsNode (λ r. IsIn r L) x → (j : ℕ) → IsIn j L
         → beyond_in (grown beyond L) j (node_of (grown beyond L) x) ≡ x j
     beyond_in-node_of [] o sub x n j h = absurd h
     beyond_in-node_of (h ∷ L) o sub x n j k = go (x h) refl k
@@ -100,9 +95,9 @@ module _ (beyond : ℕ → ℕ → Bool) where
 
     -- a row more
     HasInserted : ℕ → List ℕ → Type 0
-    HasInserted x ys = (zs : List ℕ) × IsOrdered zs × ((z : ℕ) → (z ≡ x) ⊎ IsIn z ys → IsIn z zs) × ((z : ℕ) → IsIn z zs → (z ≡ x) ⊎ IsIn z ys) × (length zs ≡ suc (length ys))
+    HasInserted x ys = (zs : List ℕ) × IsOrdered beyond zs × ((z : ℕ) → (z ≡ x) ⊎ IsIn z ys → IsIn z zs) × ((z : ℕ) → IsIn z zs → (z ≡ x) ⊎ IsIn z ys) × (length zs ≡ suc (length ys))
 
-    inserted : (x : ℕ) (ys : List ℕ) → R x → ((y : ℕ) → IsIn y ys → R y) → (¬ (IsIn x ys)) → IsOrdered ys → HasInserted x ys
+    inserted : (x : ℕ) (ys : List ℕ) → R x → ((y : ℕ) → IsIn y ys → R y) → (¬ (IsIn x ys)) → IsOrdered beyond ys → HasInserted x ys
     unfolding HasInserted
     inserted x [] hx sub new o = (x ∷ [], ((λ y k. absurd k), tt), λ z k. k, λ z k. k, refl)
     inserted x (h ∷ L) hx sub new o = go (search_rows (λ y. beyond x y ≡ true) (λ y. beyond x y ≡ false) (λ y. two_cases (beyond x y)) (h ∷ L)) (inserted x L hx (λ y m. sub y (inr m)) (λ m. new (inr m)) o.1)

@@ -1,5 +1,5 @@
 -- Words with a run of the bits of other words.
-use Rattle.std.proofs.Common.{◌≡◌, ◌<◌, ◌≤◌, ◌+◌, ◌-◌, ◌*◌, ◌/◌, ◌%◌, ◌^◌, ◌&&◌, ◌||◌, ◌∙◌, ◌⊎◌, ℕ, Bool, true, false, eqb, List, length, get_or, set, refl, ap, ap₂, sym, subst, inl, inr, arith}
+use Rattle.std.proofs.Common.{◌≡◌, ◌<◌, ◌≤◌, ◌+◌, ◌-◌, ◌*◌, ◌/◌, ◌%◌, ◌^◌, ◌&&◌, ◌||◌, ◌∙◌, ◌⊎◌, ℕ, false, eqb, List, length, get_or, set, ap, ap₂, sym, subst, inl, inr, arith}
 use Rattle.std.specs.Int.{bit_at}
 use Rattle.std.specs.Int.Bits.{bit_and, bit_or}
 use Rattle.std.proofs.lemmas.Bool.{cases_lt, cases_eq}
@@ -9,14 +9,10 @@ use Rattle.std.proofs.lemmas.Nat.Bits.{bit_at-zero, bit_at_above, bit_at_ones, b
 use Rattle.cmr_base.specs.ColumnSets.{has_column}
 use Rattle.cmr_base.specs.Planes.{has_bit}
 use Rattle.cmr_base.specs.Runs.{IsRunAdded}
-use Rattle.cmr_base.proofs.Booleans.{and_false, or_false}
+use Rattle.cmr_base.proofs.Booleans.{and_false, and_true, or_false}
 use Rattle.cmr_base.proofs.ColumnWords.{column_at}
 use Rattle.cmr_base.proofs.FirstBits.{moved}
 use Rattle.cmr_base.proofs.WordBits.{has_bit-and, has_bit-or}
-
-and_yes : (b : Bool) → (b && true) ≡ b
-and_yes true = refl
-and_yes false = refl
 
 -- ---- the first bits of a word
 
@@ -25,7 +21,7 @@ module _ (word count : ℕ) (few : count ≤ 64) where
   first_inside k l =
       has_bit-and word (18446744073709551615 / 2 ^ (64 - count)) k
       ∙ ap (λ n. has_bit word k && eqb n 1) (moved 18446744073709551615 (64 - count) k ∙ bit_at_ones 64 (64 - count + k) (omega arith))
-      ∙ and_yes (has_bit word k)
+      ∙ and_true (has_bit word k)
 
   pub none_after : (k : ℕ) → count ≤ k → has_bit (bit_and word (18446744073709551615 / 2 ^ (64 - count))) k ≡ false
   none_after k l =

@@ -1,8 +1,9 @@
 -- The tree and the walks of given sides: arcs hung one after another, each at the node where the sides say.
-use Rattle.std.specs.Prelude.{ℕ, suc, Bool, true, false, List, [], ◌∷◌, cond, map, nat_eq, length}
+use Rattle.std.specs.Prelude.{◌≡◌, ◌≢◌, ℕ, suc, Bool, true, false, List, [], ◌∷◌, cond, map, nat_eq, length}
 use Rattle.cmr_base.specs.declared.network.Pair.{Pair}
 use Rattle.cmr_base.specs.Cuts.{differ}
 use Rattle.cmr_base.specs.LineSets.{first_lines}
+use Rattle.cmr_base.specs.Members.{IsIn}
 
 -- the arc of a row, which hangs at a node
 pub record HungArc : Type 0 where
@@ -14,6 +15,11 @@ pub record HungArc : Type 0 where
 abbrev pub node_of : List HungArc → (ℕ → Bool) → ℕ
 node_of [] is_in = 0
 node_of (arc ∷ arcs) is_in = cond (is_in arc.row) (suc (length arcs)) (node_of arcs is_in)
+
+-- no row stands twice, and no arc lies beyond that of a row which stands before it
+abbrev pub IsOrdered : (ℕ → ℕ → Bool) → List ℕ → Type 0
+IsOrdered beyond [] = Unit {0}
+IsOrdered beyond (row ∷ rows) = ((other : ℕ) → IsIn other rows → (row ≢ other) × (beyond row other ≡ false)) × IsOrdered beyond rows
 
 -- the arcs of some rows, the last one first, where `beyond r s` says that arc s lies beyond arc r
 abbrev pub grown : (ℕ → ℕ → Bool) → List ℕ → List HungArc

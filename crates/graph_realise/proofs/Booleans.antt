@@ -1,5 +1,5 @@
 -- Booleans that differ, and equations put in place of others.
-use Rattle.std.proofs.Common.{Bool, true, false, not, ◌≡◌, ◌∙◌, sym, ap, refl, ◌⊎◌, inl, inr, ◌&&◌}
+use Rattle.std.proofs.Common.{Bool, true, false, not, ◌≡◌, ◌∙◌, sym, ap, refl, ◌⊎◌, inl, inr}
 use Rattle.cmr_base.specs.Cuts.{differ}
 use Rattle.cmr_base.proofs.Booleans.{not_not}
 use Rattle.cmr_base.proofs.CutTrees.{differ_self}
@@ -25,10 +25,6 @@ other_of a b e = differ_true b a (e ∙ differ_swap a b)
 
 pub not_swap : (a b : Bool) → a ≡ not b → b ≡ not a
 not_swap a b e = sym (not_not b) ∙ ap not (sym e)
-
-pub and_true : (b : Bool) → (b && true) ≡ b
-and_true true = refl
-and_true false = refl
 
 pub swap : {A B : Type 0} → A ⊎ B → B ⊎ A
 swap (inl a) = inr a

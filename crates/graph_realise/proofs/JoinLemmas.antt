@@ -6,13 +6,12 @@ use Rattle.std.proofs.lemmas.List.{get_or_past}
 use Rattle.cmr_base.specs.Cuts.{differ}
 use Rattle.cmr_base.specs.Matrix.{Matrix, height}
 use Rattle.cmr_base.proofs.RowLists.{is_eq, is_ne, not_both, same_or_not, two_cases}
-use Rattle.cmr_base.proofs.Booleans.{and_false, or_false, is_lt, is_not_lt}
+use Rattle.cmr_base.proofs.Booleans.{and_true, and_false, or_false, is_lt, is_not_lt}
 use Rattle.graph_realise.specs.Branches.{branch_at}
 use Rattle.graph_realise.specs.Joints.{AreHung, AreOff, FitsJoint, IsArcJoined, IsClearBeside, IsLineFor, by_part, AreChosen, end_of, hanging_of, hung, is_at_first, is_chosen, is_part, is_used, joined_side, number_at, part_or_first}
 use Rattle.graph_realise.specs.Merging.{column_half, end_off, merged_lies, spot, turned_lies, turned_side}
 use Rattle.graph_realise.specs.SideTables.{side_in, end_in, KeepsRow, AreTablesOf, IsArcChanged}
 use Rattle.graph_realise.specs.Tables.{Grid, cell, IsRowFilled}
-use Rattle.graph_realise.proofs.Booleans.{and_true}
 use Rattle.graph_realise.proofs.SideLemmas.{keeps_row_same, keeps_row_trans}
 use Rattle.graph_realise.proofs.TableLemmas.{cell_past}
 use Rattle.graph_realise.specs.declared.arc_sides.ArcSides.{ArcSides}

@@ -5,37 +5,22 @@ use Rattle.std.proofs.lemmas.Bool.{cases_lt}
 use Rattle.std.proofs.lemmas.List.{length-drop}
 use Rattle.std.proofs.lemmas.List.FromFn.{length-range_with_len, map-range_with_len_more}
 use Rattle.cmr_base.proofs.RemovedLines.{first_lines_in, in_first_lines}
-use Rattle.cmr_base.specs.Cuts.{differ, IsCuts}
-use Rattle.cmr_base.specs.GrownTrees.{arcs_by, beyond, grown, node_of, pair_of, place, turned, walks_by}
+use Rattle.cmr_base.specs.Cuts.{IsCuts}
+use Rattle.cmr_base.specs.GrownTrees.{IsOrdered, arcs_by, beyond, grown, node_of, pair_of, place, turned, walks_by}
 use Rattle.cmr_base.specs.LineSets.{first_lines}
 use Rattle.cmr_base.specs.Members.{IsIn}
 use Rattle.cmr_base.specs.declared.network.Pair.{Pair}
 use Rattle.cmr_base.proofs.GrownNodes.{IsOrderOf, length-grown}
-use Rattle.cmr_base.proofs.GrownNodes as grown_nodes
 use Rattle.cmr_base.proofs.Members.{in_at}
 use Rattle.cmr_base.proofs.RowLists.{not_both, is_eq}
-use Rattle.graph_realise.specs.Orders.{IsOrder, IsOrdered}
+use Rattle.graph_realise.specs.Orders.{IsOrder}
 use Rattle.cmr_base.proofs.Places.{found_at}
-use Rattle.cmr_base.proofs.CutTrees.{differ_self}
+use Rattle.cmr_base.proofs.CutTrees.{root_beyond, three_beyond}
 
 module _ (M : ℕ → ℕ → Bool) (m : ℕ) (side : ℕ → ℕ → Bool) (lies : Bool → ℕ → ℕ → Bool) (K : IsCuts M (λ r. r < m) side lies) where
-  three : (r s t : ℕ) → r < m → s < m → t < m → r ≢ s → r ≢ t → s ≢ t → (beyond side lies r t ≡ beyond side lies r s) ⊎ (beyond side lies s t ≡ beyond side lies s r)
-  three r s t hr hs ht rs rt st = go (K.three r s t hr hs ht rs rt st)
-    where
-      go : (side r t ≡ side r s) ⊎ (side s t ≡ side s r) → (beyond side lies r t ≡ beyond side lies r s) ⊎ (beyond side lies s t ≡ beyond side lies s r)
-      go (inl a) = inl (ap (differ (lies true r 0)) a)
-      go (inr a) = inr (ap (differ (lies true s 0)) a)
-
-  root : (r s : ℕ) → r < m → s < m → r ≢ s → (beyond side lies r s ≡ false) ⊎ (beyond side lies s r ≡ false)
-  root r s hr hs n = go (K.meet true r s 0 hr hs n)
-    where
-      go : (lies true r 0 ≡ side r s) ⊎ (lies true s 0 ≡ side s r) → (beyond side lies r s ≡ false) ⊎ (beyond side lies s r ≡ false)
-      go (inl a) = inl (ap (differ (lies true r 0)) (sym a) ∙ differ_self (lies true r 0))
-      go (inr a) = inr (ap (differ (lies true s 0)) (sym a) ∙ differ_self (lies true s 0))
-
   -- where y lies beyond x and not beyond h, x does not lie beyond h
   clear : (h x y : ℕ) → h < m → x < m → y < m → h ≢ x → x ≢ y → h ≢ y → beyond side lies x y ≡ true → beyond side lies h y ≡ false → beyond side lies h x ≡ false
-  clear h x y lh lx ly hx xy hy e f = through (three h x y lh lx ly hx hy xy) (root h x lh lx hx)
+  clear h x y lh lx ly hx xy hy e f = through (three_beyond M m side lies K h x y lh lx ly hx hy xy) (root_beyond M m side lies K h x lh lx hx)
     where
       through : (beyond side lies h y ≡ beyond side lies h x) ⊎ (beyond side lies x y ≡ beyond side lies x h) → (beyond side lies h x ≡ false) ⊎ (beyond side lies x h ≡ false) → beyond side lies h x ≡ false
       through (inl a) q = sym a ∙ f
@@ -82,7 +67,7 @@ module _ (M : ℕ → ℕ → Bool) (m : ℕ) (side : ℕ → ℕ → Bool) (lie
               let y = get_or L (p - 1) 0 in
               let k = in_at L (p - 1) (omega arith) in
               clear h x y (below h (inl refl)) lx (below y (inr k)) n (λ e. new (inr (subst (λ (z : ℕ). IsIn z L) (sym e) k))) (o.0 y k).0 (later (p - 1) (omega arith)) (o.0 y k).1
-          go (inr l) = first (root h x (below h (inl refl)) lx n)
+          go (inr l) = first (root_beyond M m side lies K h x (below h (inl refl)) lx n)
             where
               here : beyond side lies x h ≡ true
               here = last 0 (omega arith)
@@ -120,15 +105,11 @@ module _ (M : ℕ → ℕ → Bool) (m : ℕ) (side : ℕ → ℕ → Bool) (lie
 -- the order as it is asked for by the tree
 pub order_of : (beyond' : ℕ → ℕ → Bool) (m : ℕ) (order : List ℕ) → IsOrder beyond' m order → IsOrderOf beyond' (first_lines m) order
 order_of beyond' m order so = record {
-  order = same order so.ordered;
+  order = so.ordered;
   all = λ x h. so.all x (first_lines_in m x h);
   only = λ x h. in_first_lines m x (so.only x h);
   count = so.many ∙ sym (length-range_with_len 0 m);
 }
-  where
-    same : (xs : List ℕ) → IsOrdered beyond' xs → grown_nodes.IsOrdered beyond' xs
-    same [] o = tt
-    same (x ∷ xs) o = (o.0, same xs o.1)
 
 -- ---- nodes by places
 

@@ -2,9 +2,9 @@ use Rattle.std.proofs.Common.{◌≡◌, ◌<◌, ◌+◌, ◌*◌, ◌&&◌, �
 use Rattle.std.proofs.lemmas.Nat.Bits.{bit_at-zero}
 use Rattle.cmr_base.specs.Planes.{has_bit}
 use Rattle.cmr_base.specs.Trees.{support}
+use Rattle.cmr_base.proofs.Booleans.{and_true}
 use Rattle.cmr_base.proofs.WordBits.{bit_at_block, has_bit-and}
 use Rattle.graph_realise.specs.Tables.{Grid, cell, AreBlocksFilled}
-use Rattle.graph_realise.proofs.Booleans.{and_true}
 use Rattle.graph_realise.proofs.BlockLemmas.{blocks_none, blocks_more, blocks_row, blocks_same, not_filled, off_blocks}
 use Rattle.graph_realise.proofs.table.Table.take_out.Goals.{then-word-gone-ne0, else-word-gone-ne0}
 use Rattle.graph_realise.proofs.table.Table.take_out.Goals as goal
