@@ -1,4 +1,4 @@
-use Rattle.std.proofs.Common.{◌∙◌, ap}
+use Rattle.std.proofs.Common.{ap}
 use Rattle.cmr_base.specs.LineSets.{set_numbered}
 use Rattle.leaf_enumerate.proofs.RowSets.{row_set_of}
 use Rattle.leaf_enumerate.proofs.row_probe.RowProbe.rows_at.Goals as goal

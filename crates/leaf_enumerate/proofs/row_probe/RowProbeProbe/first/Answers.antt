@@ -1,4 +1,4 @@
-use Rattle.std.proofs.Common.{◌≡◌, ◌∙◌, ℕ, List, ap, sym, subst, arith}
+use Rattle.std.proofs.Common.{◌≡◌, ◌∙◌, ap, sym, subst, arith}
 use Rattle.cmr_base.specs.Matrix.{Matrix, height}
 use Rattle.cmr_base.specs.LineSets.{AllBelow, set_numbered}
 use Rattle.cmr_base.specs.Violator.{HasNoColumnSet}
