@@ -1,13 +1,8 @@
 -- A submatrix has no more lines than the matrix.
-use Rattle.std.proofs.Common.{◌≤◌, ◌+◌, ℕ, List, length, map, arith}
-use Rattle.std.specs.List.Sorted.{IsStrictlyIncreasing}
+use Rattle.std.proofs.Common.{◌≤◌, ◌+◌, ℕ, map, arith}
 use Rattle.std.proofs.lemmas.List.{length-map}
 use Rattle.cmr_base.specs.Matrix.{height, entry}
-use Rattle.cmr_base.specs.LineSets.{AllBelow}
 use Rattle.cmr_base.specs.GreedySets.{IsHereditary}
-use Rattle.cmr_base.proofs.ListsWithout.{increasing_distinct}
-use Rattle.cmr_base.proofs.Members.{distinct_few}
-use Rattle.cmr_base.proofs.Places.{members_below}
 use Rattle.cmr_base.proofs.Parts.{length-rising}
 
 pub few_lines_hereditary : (most : ℕ) → IsHereditary (λ m. height m + m.width ≤ most)

@@ -1,16 +1,13 @@
 -- A pass over the lines of a matrix, in which some are left out.
-use Rattle.std.proofs.Common.{Less, Equal, Greater, ◌<◌, ◌≤◌, ◌-◌, nat_lt, eqb, true, false, cond, arith, ◌≡◌, ◌+◌, ◌∙◌, ℕ, pos, Bool, List, [], length, map, refl, ap, ap₂, sym, subst}
+use Rattle.std.proofs.Common.{Less, Equal, Greater, ◌<◌, ◌≤◌, ◌-◌, nat_lt, eqb, true, false, cond, arith, ◌≡◌, ◌+◌, ℕ, Bool, List, refl, sym, subst}
 use Rattle.std.specs.Ordering.{ord_min, nat_cmp, is_lt}
 use Rattle.std.proofs.lemmas.Bool.Decides.{nat_tests}
-use Rattle.std.proofs.lemmas.List.FromFn.{fill_by_all, length-range_with_len}
 use Rattle.cmr_base.specs.declared.line.Line.{Line}
-use Rattle.cmr_base.specs.Matrix.{Matrix, height, row_of, entry, IsMatrix}
-use Rattle.cmr_base.specs.LineSets.{AllBelow, IsRowSet, IsColumnSet, first_lines, submatrix}
-use Rattle.cmr_base.specs.Members.{IsIn}
+use Rattle.cmr_base.specs.Matrix.{Matrix, height}
+use Rattle.cmr_base.specs.LineSets.{IsRowSet, IsColumnSet, first_lines, submatrix}
 use Rattle.cmr_base.specs.Reductions.{lines_of}
 use Rattle.cmr_base.specs.GreedySets.{IsGreedyFrom, IsGreedySet}
 use Rattle.cmr_base.proofs.GreedyLemmas.{IsInherited}
-use Rattle.cmr_base.proofs.ListsWithout.{place_of, place_is}
 use Rattle.cmr_base.proofs.RemovedLines.{first_lines_increase, in_first_lines, row_set_from_within, column_set_from_within}
 use Rattle.minimal_sets.specs.Runs.{line_numbered, lines_between, rows_left, columns_left}
 use Rattle.minimal_sets.proofs.RunLemmas.{lines_between-append, all_lines}

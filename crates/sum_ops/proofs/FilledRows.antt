@@ -1,5 +1,5 @@
 -- The entries of a matrix of four blocks.
-use Rattle.std.proofs.Common.{◌≡◌, ◌<◌, ◌≤◌, ◌+◌, ◌-◌, ◌*◌, ◌∙◌, ◌*ℤ◌, ℕ, ℤ, pos, Bool, true, false, cond, nat_lt, ap, ap₂, sym, subst, refl, inl, inr, arith}
+use Rattle.std.proofs.Common.{◌≡◌, ◌<◌, ◌≤◌, ◌+◌, ◌-◌, ◌∙◌, ◌*ℤ◌, ℕ, ℤ, pos, Bool, true, false, cond, nat_lt, ap₂, sym, subst, refl, inl, inr, arith}
 use Rattle.std.proofs.lemmas.Bool.{cases_lt}
 use Rattle.cmr_base.specs.Matrix.{Matrix, height, entry, IsEntry, IsMatrix}
 use Rattle.cmr_base.specs.Separations.{spread}

@@ -1,5 +1,5 @@
 -- Lines that are among some lines.
-use Rattle.std.proofs.Common.{◌≡◌, ◌<◌, ◌≤◌, ◌||◌, inl, inr, ℕ, Bool, true, false, not, eqb, List, [], ◌∷◌, length, get_or, Contains, Result, Ok, Err, is_ok, refl, ap, sym, subst, arith, eqb-true}
+use Rattle.std.proofs.Common.{◌≡◌, ◌<◌, ◌≤◌, ◌||◌, inl, inr, ℕ, true, false, not, eqb, List, [], ◌∷◌, length, get_or, Contains, Result, Ok, Err, is_ok, ap, sym, subst, arith, eqb-true}
 use Rattle.std.proofs.lemmas.Bool.{eq-eqb, cases_lt}
 use Rattle.std.specs.List.Sorted.{IsStrictlyIncreasing, IsBinarySearchResult}
 use Rattle.std.specs.Ordering.{nat_cmp}

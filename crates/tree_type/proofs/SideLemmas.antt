@@ -1,5 +1,5 @@
 -- The rules on the sides of a sum say that its lines have a separation.
-use Rattle.std.proofs.Common.{◌≡◌, ◌≤◌, ◌+◌, ◌∙◌, ◌||◌, ◌↔◌, ℕ, ℤ, Bool, true, false, not, nat_eq, filter, List, [], ◌∷◌, length, Contains, ap, ap₂, sym, subst, refl, inl, inr}
+use Rattle.std.proofs.Common.{◌≡◌, ◌≤◌, ◌+◌, ◌∙◌, ◌||◌, ◌↔◌, ℕ, ℤ, Bool, true, false, not, nat_eq, filter, List, [], ◌∷◌, length, Contains, ap, ap₂, sym, subst, refl}
 use Rattle.std.specs.List.{list_any}
 use Rattle.cmr_base.specs.declared.line.Line.TheVariants.{Row, Column}
 use Rattle.cmr_base.specs.declared.line_set.LineSet.{LineSet}
@@ -7,8 +7,8 @@ use Rattle.cmr_base.specs.declared.separation.Connector.{Connector}
 use Rattle.cmr_base.specs.declared.separation.Two.{Two}
 use Rattle.cmr_base.specs.declared.separation.Three.{Three}
 use Rattle.cmr_base.specs.Separations.{Lines, is_same_line, child_one, child_two, AreEnough, AreOn, connector_lines, first_is_flat, second_is_flat, IsTwoSeparation, IsThreeSeparation}
-use Rattle.cmr_base.proofs.ListsWithout.{true_is_false, in_from_contains, contains_from_in}
-use Rattle.cmr_base.proofs.RowLists.{eq_of, is_eq, two_cases, filter_in, in_filter}
+use Rattle.cmr_base.proofs.ListsWithout.{in_from_contains, contains_from_in}
+use Rattle.cmr_base.proofs.RowLists.{filter_in, in_filter}
 use Rattle.cmr_base.proofs.Lists.{filter_same}
 use Rattle.cmr_base.proofs.Booleans.{eq_turned, not_is, is_not}
 use Rattle.tree_type.specs.Sides.{is_among, inside, outside, sides, HaveLines, IsReference, AreTwoBlocks, two_one, two_two, HasConnector, connector_rows, connector_columns, AreConnectors, AreThreeBlocks, three_one, three_two}
