@@ -1,11 +1,9 @@
 -- Blocks of seeds, which several workers go through.
 use Rattle.std.specs.Prelude.{ℕ, List, [], ◌∷◌}
-use Rattle.cmr_base.specs.Matrix.{Matrix, height, entry}
+use Rattle.cmr_base.specs.Matrix.{Matrix}
 use Rattle.cmr_base.specs.declared.separation.Form.{Form}
-use Rattle.cmr_base.specs.Separations.{Lines}
 use Rattle.cmr_base.specs.Seeds.{form_number}
-use Rattle.three_sep.specs.NumberedSeeds.{Seed, IsGoodSeed, seed_key}
-use Rattle.three_sep.specs.Searches.{BeginsWith}
+use Rattle.three_sep.specs.Searches.{HasGood}
 
 -- the seeds of a matrix with one form, one first corner (i, p) and one second row k
 pub record SeedBlock : Type 0 where
@@ -19,8 +17,9 @@ abbrev pub block_front : SeedBlock → List ℕ
 block_front b = form_number b.form ∷ b.i ∷ b.p ∷ b.k ∷ []
 
 -- a seed of the block with the second column j is good
-pub record HasGoodColumn (b : SeedBlock) (j : ℕ) : Type 0 where
-  pub seed : Seed
-  pub side : Lines
-  pub begins : BeginsWith (form_number b.form ∷ b.i ∷ b.p ∷ b.k ∷ j ∷ []) (seed_key (height b.matrix) seed)
-  pub good : IsGoodSeed (height b.matrix) b.matrix.width (entry b.matrix) seed side
+abbrev pub HasGoodColumn : SeedBlock → ℕ → Type 0
+HasGoodColumn b j = HasGood b.matrix (form_number b.form ∷ b.i ∷ b.p ∷ b.k ∷ j ∷ [])
+
+-- a seed of the concentrated form with the row i is good
+abbrev pub HasGoodRow : Matrix → ℕ → Type 0
+HasGoodRow m i = HasGood m (3 ∷ i ∷ [])

@@ -3,6 +3,7 @@
 
 mod block;
 mod concentrated;
+mod concentrated_rows;
 mod connectors;
 mod corners;
 mod groups;

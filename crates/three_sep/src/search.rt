@@ -124,7 +124,7 @@ impl Search {
         if let Some(three) = self.first_of_form(rt, alloc, workers, views, Form::Mixed)? {
             return Ok(Some(three));
         }
-        ConcentratedSearch::new(alloc, views)?.first(alloc, views)
+        ConcentratedSearch::new(alloc, views)?.first(rt, alloc, workers, views)
     }
 
     // The rows i.
