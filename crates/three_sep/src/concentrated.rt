@@ -17,8 +17,9 @@ use crate::concentrated_rows::first_row;
 use crate::connectors::Connectors;
 use crate::corners::Corners;
 use crate::independent::are_three_independent;
+use crate::others::{is_beside, line_at};
 use crate::pulled::is_second_pulled;
-use crate::search::{is_beside, leaves_second, line_at, separation_of};
+use crate::search::{leaves_second, separation_of};
 use crate::side::Side;
 use cmr_base::columns::empty_set;
 use cmr_base::{Form, Line, Memory, RowsAndColumns, Three};
@@ -482,7 +483,7 @@ impl ConcentratedSearch {
 }
 
 /// How many entries there are sooner than other workers are started.
-const FEW_ENTRIES: u32 = 1000;
+const FEW_ENTRIES: u32 = 20000;
 
 // Whether there is enough to do for several workers.
 fn is_large(views: &RowsAndColumns<'_>) -> bool {

@@ -9,11 +9,13 @@ mod corners;
 mod groups;
 mod half;
 mod independent;
+mod others;
 mod parted;
 mod pulled;
 mod search;
 mod side;
 mod spread_side;
+mod triple;
 
 pub use cmr_base::{Connector, Form, Three};
 pub use search::three_separation;
