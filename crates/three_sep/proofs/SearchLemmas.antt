@@ -24,7 +24,7 @@ use Rattle.three_sep.specs.NumberedSeeds.{Seed, Among, HasAll, HasNone, count, i
 use Rattle.three_sep.specs.Halves.{is_in, IsHalf, AreSame}
 use Rattle.three_sep.specs.Sides.{set_of, HasRoom, AreInside, IsGrowingBy, IsLeast, start_lines}
 use Rattle.three_sep.specs.Cuts.{IsCutAt, HasNoCutAt, IsCut, HasNames, HoldTogether}
-use Rattle.three_sep.specs.Searches.{BeginsWith, HasNoGood, IsFirstOf, HasNoneBelow, corner_front, other_line, LeavesSecond, IsNoSecondRow, IsNoSecondColumn}
+use Rattle.three_sep.specs.Searches.{BeginsWith, HasNoGood, IsFirstOf, HasNoneBelow, corner_front, line_count, other_line, LeavesSecond, IsNoSecondRow, IsNoSecondColumn}
 use Rattle.three_sep.proofs.CrossingLemmas.{IsGoodCrossing, as_crossing, as_good}
 use Rattle.three_sep.proofs.SideLemmas.{outside_less}
 
@@ -462,27 +462,25 @@ first_of_last_form m r before h = map_first (IsFirstOf m (3 ∷ [])) (IsFirstOf 
 
 -- ---- other lines
 
-line_below : (m n : ℕ) (flat : Bool) (b count : ℕ) → IsLine m n (other_line flat b) → (flat ≡ true → count ≡ n) → (flat ≡ false → count ≡ m) → b < count
-line_below m n true b count l columns rows = let e = columns refl in omega arith
-line_below m n false b count l columns rows = let e = rows refl in omega arith
+line_below : (m : Matrix) (flat : Bool) (b : ℕ) → IsLine (height m) m.width (other_line flat b) → b < line_count m flat
+line_below m true b l = l
+line_below m false b l = l
 
-pub below_line : (m n : ℕ) (flat : Bool) (b count : ℕ) → b < count → (flat ≡ true → count ≡ n) → (flat ≡ false → count ≡ m) → IsLine m n (other_line flat b)
-below_line m n true b count l columns rows = let e = columns refl in omega arith
-below_line m n false b count l columns rows = let e = rows refl in omega arith
+pub below_line : (m : Matrix) (flat : Bool) (b : ℕ) → b < line_count m flat → IsLine (height m) m.width (other_line flat b)
+below_line m true b l = l
+below_line m false b l = l
 
-pub first_below : (m : Matrix) (form : Form) (c : Corners) (flat : Bool) (count : ℕ) → flat ≡ first_is_flat form → (flat ≡ true → count ≡ m.width) → (flat ≡ false → count ≡ height m)
-    → (s : Seed) (S : Lines) (b : ℕ) → IsGoodSeed (height m) m.width (entry m) s S → BeginsWith (corner_front form c ++ b ∷ []) (seed_key (height m) s) → b < count
-first_below m form c flat count e columns rows s S b g0 h =
+pub first_below : (m : Matrix) (form : Form) (c : Corners) (s : Seed) (S : Lines) (b : ℕ) → IsGoodSeed (height m) m.width (entry m) s S → BeginsWith (corner_front form c ++ b ∷ []) (seed_key (height m) s)
+    → b < line_count m (first_is_flat form)
+first_below m form c s S b g0 h =
     let g = subst (λ (z : Seed). IsGoodSeed (height m) m.width (entry m) z S) (seed_from_first m form c b s h) g0 in
-    let l = g.connectors.first_lines (other_line (first_is_flat form) b) (corner_other (first_is_flat form) c.i c.p b) in
-    line_below (height m) m.width flat b count (subst (λ (z : Bool). IsLine (height m) m.width (other_line z b)) (sym e) l) columns rows
+    line_below m (first_is_flat form) b (g.connectors.first_lines (other_line (first_is_flat form) b) (corner_other (first_is_flat form) c.i c.p b))
 
-pub second_below : (m : Matrix) (form : Form) (c : Corners) (q : ℕ) (flat : Bool) (count : ℕ) → flat ≡ second_is_flat form → (flat ≡ true → count ≡ m.width) → (flat ≡ false → count ≡ height m)
-    → (s : Seed) (S : Lines) (b : ℕ) → IsGoodSeed (height m) m.width (entry m) s S → BeginsWith (corner_front form c ++ q ∷ b ∷ []) (seed_key (height m) s) → b < count
-second_below m form c q flat count e columns rows s S b g0 h =
+pub second_below : (m : Matrix) (form : Form) (c : Corners) (q : ℕ) (s : Seed) (S : Lines) (b : ℕ) → IsGoodSeed (height m) m.width (entry m) s S → BeginsWith (corner_front form c ++ q ∷ b ∷ []) (seed_key (height m) s)
+    → b < line_count m (second_is_flat form)
+second_below m form c q s S b g0 h =
     let g = subst (λ (z : Seed). IsGoodSeed (height m) m.width (entry m) z S) (seed_from_second m form c q b s h) g0 in
-    let l = g.connectors.second_lines (other_line (second_is_flat form) b) (corner_other (second_is_flat form) c.k c.j b) in
-    line_below (height m) m.width flat b count (subst (λ (z : Bool). IsLine (height m) m.width (other_line z b)) (sym e) l) columns rows
+    line_below m (second_is_flat form) b (g.connectors.second_lines (other_line (second_is_flat form) b) (corner_other (second_is_flat form) c.k c.j b))
 
 pub place_below : (m : Matrix) (kind : Form) (c : Corners) (q o rows columns : ℕ) → rows ≡ height m → columns ≡ m.width
     → (s : Seed) (S : Lines) (b : ℕ) → IsGoodSeed (height m) m.width (entry m) s S → BeginsWith (corner_front kind c ++ q ∷ o ∷ b ∷ []) (seed_key (height m) s) → b < rows + columns

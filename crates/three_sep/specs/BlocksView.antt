@@ -2,16 +2,14 @@ use Rattle.std.specs.Prelude.{◌≢◌, ◌<◌, pos}
 use Rattle.cmr_base.specs.Matrix.{height, entry}
 use Rattle.three_sep.specs.declared.block.Block.TheInside.{Inside}
 use Rattle.three_sep.specs.NumberedSeeds.{IsCrossing}
-use Rattle.three_sep.specs.Cuts.{HasNames, HoldTogether, IsCut}
-use Rattle.three_sep.specs.Blocks.{SeedBlock}
+use Rattle.three_sep.specs.Blocks.{SeedBlock, AreOpen}
 
 abbrev pub block_of : Inside → SeedBlock
 block_of a = record { matrix = a.views.now; form = a.form; i = a.i; p = a.p; k = a.k }
 
 pub record IsBlock (a : Inside) : Type 0 where
   pub crossing : IsCrossing a.form
-  pub names : HasNames a.views.now a.groups.now
-  pub together : HoldTogether (IsCut a.views.now) a.views.now a.groups.now
+  pub columns : AreOpen (block_of a) a.columns.items
   pub row : a.i < height a.views.now
   pub column : a.p < a.views.now.width
   pub second_row : a.k < height a.views.now

@@ -11,3 +11,4 @@ pub mod Finders
 pub mod Searches
 pub mod Blocks
 pub mod BlocksView
+pub mod ConcentratedRowsView

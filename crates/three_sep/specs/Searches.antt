@@ -7,10 +7,12 @@ use Rattle.cmr_base.specs.declared.separation.Form.{Form}
 use Rattle.cmr_base.specs.declared.separation.Three.{Three}
 use Rattle.three_sep.specs.declared.corners.Corners.{Corners}
 use Rattle.three_sep.specs.declared.groups.Groups.{Groups}
+use Rattle.three_sep.specs.declared.side.Side.{Side}
 use Rattle.three_sep.specs.Cuts.{name_of}
 use Rattle.cmr_base.specs.Separations.{Lines, first_is_flat, second_is_flat}
 use Rattle.cmr_base.specs.Seeds.{IsLine, IsBefore, form_number}
-use Rattle.three_sep.specs.NumberedSeeds.{Seed, IsGoodSeed, HasLines, Among, connector, seed_key, seed_of, outside}
+use Rattle.three_sep.specs.Sides.{HasRoom, IsGrowing, IsLeast, set_of}
+use Rattle.three_sep.specs.NumberedSeeds.{Seed, IsGoodSeed, IsFirstOther, HasLines, Among, connector, seed_key, seed_of, outside}
 
 -- the list begins with these numbers
 abbrev pub BeginsWith : List ℕ → List ℕ → Type 0
@@ -21,6 +23,13 @@ BeginsWith (x ∷ xs) (y ∷ ys) = (x ≡ y) × BeginsWith xs ys
 -- no seed that begins so is good
 abbrev pub HasNoGood : Matrix → List ℕ → Type 0
 HasNoGood m front = (s : Seed) (S : Lines) → BeginsWith front (seed_key (height m) s) → ¬ (IsGoodSeed (height m) m.width (entry m) s S)
+
+-- a seed that begins so is good
+pub record HasGood (m : Matrix) (front : List ℕ) : Type 0 where
+  pub seed : Seed
+  pub side : Lines
+  pub begins : BeginsWith front (seed_key (height m) seed)
+  pub good : IsGoodSeed (height m) m.width (entry m) seed side
 
 -- the separation of the first good one of the seeds that begin so
 pub record IsFirstOf (m : Matrix) (front : List ℕ) (three : Three) : Type 0 where
@@ -42,6 +51,18 @@ corner_front form c = form_number form ∷ c.i ∷ c.p ∷ c.k ∷ c.j ∷ []
 abbrev pub other_line : Bool → ℕ → Line
 other_line true other = Column other
 other_line false other = Row other
+
+-- how many columns, or rows
+abbrev pub line_count : Matrix → Bool → ℕ
+line_count m true = m.width
+line_count m false = height m
+
+-- the side is the closed one of the first connector with the other line q
+pub record HoldsFirst (m : Matrix) (form : Form) (c : Corners) (q : ℕ) (side : Side) : Type 0 where
+  pub room : HasRoom m side
+  pub other : IsFirstOther (first_is_flat form) (entry m) c.i c.p c.k c.j q
+  pub growing : IsGrowing m c (connector (first_is_flat form) c.i c.p q) side
+  pub least : IsLeast m c (connector (first_is_flat form) c.i c.p q) (set_of side)
 
 -- none of the second connector is in the set, and four lines or more are outside
 pub record LeavesSecond (m : Matrix) (c : Corners) (second : Line) (S : Lines) : Type 0 where

@@ -13,15 +13,18 @@ ghost use Rattle.three_sep.specs.Sides.{AreInside, HasRoom, HasSize, set_of};
 ghost use Rattle.three_sep.specs.Searches.{HasNoGood, IsFirstOf, LeavesSecond, corner_front};
 ghost use Rattle.three_sep.specs.Concentrated.{AreConcentratedCorners, AreCandidates, ArePlaced, HasNoLeaving, HasNoneBetween, IsGrowingFor, IsLeastFor, IsNoOtherColumn, IsOtherColumn, IsOtherRow, all_front, first_lines, first_of, second_of, turned as turned_connectors};
 
+use crate::concentrated_rows::first_row;
 use crate::connectors::Connectors;
 use crate::corners::Corners;
 use crate::independent::are_three_independent;
+use crate::others::{is_beside, line_at};
 use crate::pulled::is_second_pulled;
-use crate::search::{is_beside, leaves_second, line_at, separation_of};
+use crate::search::{leaves_second, separation_of};
 use crate::side::Side;
 use cmr_base::columns::empty_set;
 use cmr_base::{Form, Line, Memory, RowsAndColumns, Three};
 use std::alloc::Global;
+use std::thread::Threads;
 
 /// The search: the side of the first connector, and that side with one more line. A column j is a candidate as long as
 /// a good seed may have it and the row i that is looked at.
@@ -46,12 +49,15 @@ impl ConcentratedSearch {
         })
     }
 
-    /// The separation of the first good seed of the form: the rows i.
-    pub fn first(
+    /// The separation of the first good seed of the form.
+    pub fn first<R: Threads + Sync>(
         &mut self,
+        rt: &R,
         alloc: Global,
+        workers: u32,
         views: &RowsAndColumns<'_>,
     ) -> Result<Option<Three>, Memory>
+        requires workers { (1 ≤ workers) × (workers ≤ 64) }
         requires side { HasSize views.now self.old.side }
         requires grown { HasSize views.now self.old.grown }
         requires candidates { length self.old.candidates.items ≡ views.now.width }
@@ -59,9 +65,33 @@ impl ConcentratedSearch {
         ensures none { IfOk result (λ answer. IfNone answer (HasNoGood views.now (3 ∷ []))) }
     {
         let turned = RowsAndColumns::new(alloc, views.by_columns())?;
+        if workers == 1 || !is_large(views) {
+            return self.first_of_rows(alloc, views, &turned);
+        }
+        let found = first_row(rt, alloc, workers, views, &turned)?;
+        let _rows = views.rows();
+        match found {
+            Some(row) => self.first_of_row(alloc, views, &turned, row as u32),
+            None => Ok(None),
+        }
+    }
+
+    // The rows i.
+    fn first_of_rows(
+        &mut self,
+        alloc: Global,
+        views: &RowsAndColumns<'_>,
+        turned: &RowsAndColumns<'_>,
+    ) -> Result<Option<Three>, Memory>
+        requires turned { turned.now ≡ transposed views.now }
+        requires side { HasSize views.now self.old.side }
+        requires grown { HasSize views.now self.old.grown }
+        requires candidates { length self.old.candidates.items ≡ views.now.width }
+        ensures first { IfOk result (λ answer. IfSome answer (IsFirstOf views.now (3 ∷ []))) }
+        ensures none { IfOk result (λ answer. IfNone answer (HasNoGood views.now (3 ∷ []))) }
+    {
         for i in 0..views.rows() {
-            self.start_candidates(alloc, views, i)?;
-            if let Some(three) = self.first_of_row(alloc, views, &turned, i)? {
+            if let Some(three) = self.first_of_row(alloc, views, turned, i)? {
                 return Ok(Some(three));
             }
         }
@@ -138,8 +168,8 @@ impl ConcentratedSearch {
         is_lower_row(views, connectors)
     }
 
-    // The columns p.
-    fn first_of_row(
+    /// The separation of the first good seed with row i: the columns p.
+    pub fn first_of_row(
         &mut self,
         alloc: Global,
         views: &RowsAndColumns<'_>,
@@ -149,14 +179,15 @@ impl ConcentratedSearch {
         requires turned { turned.now ≡ transposed views.now }
         requires side { HasSize views.now self.old.side }
         requires grown { HasSize views.now self.old.grown }
-        requires candidates { AreCandidates views.now i self.old.candidates.items }
+        requires candidates { length self.old.candidates.items ≡ views.now.width }
         requires row { i < height views.now }
         ensures side { OnOk result (HasSize views.now self.new.side) }
         ensures grown { OnOk result (HasSize views.now self.new.grown) }
-        ensures candidates { OnOk result (AreCandidates views.now i self.new.candidates.items) }
+        ensures candidates { OnOk result (length self.new.candidates.items ≡ views.now.width) }
         ensures first { IfOk result (λ answer. IfSome answer (IsFirstOf views.now (3 ∷ i ∷ []))) }
         ensures none { IfOk result (λ answer. IfNone answer (HasNoGood views.now (3 ∷ i ∷ []))) }
     {
+        self.start_candidates(alloc, views, i)?;
         for p in 0..views.columns() {
             if views.is_nonzero(i, p) {
                 if let Some(three) = self.first_of_corner(alloc, views, turned, i, p)? {
@@ -449,6 +480,14 @@ impl ConcentratedSearch {
             Line::Row(connectors.o),
         ))
     }
+}
+
+/// How many entries there are sooner than other workers are started.
+const FEW_ENTRIES: u32 = 20000;
+
+// Whether there is enough to do for several workers.
+fn is_large(views: &RowsAndColumns<'_>) -> bool {
+    views.rows() * views.columns() >= FEW_ENTRIES
 }
 
 // Whether row i may be in side one and column j in side two: row i is 0 there, and no independent rows refuse it.

@@ -3,16 +3,19 @@
 
 mod block;
 mod concentrated;
+mod concentrated_rows;
 mod connectors;
 mod corners;
 mod groups;
 mod half;
 mod independent;
+mod others;
 mod parted;
 mod pulled;
 mod search;
 mod side;
 mod spread_side;
+mod triple;
 
 pub use cmr_base::{Connector, Form, Three};
 pub use search::three_separation;

@@ -12,13 +12,14 @@ ghost use Rattle.three_sep.specs.NumberedSeeds.{Among, AreCorners, HasLines, IsC
 ghost use Rattle.three_sep.specs.ThreeSeparations.{HasNoThreeSeparation, IsFirstThreeSeparation};
 ghost use Rattle.three_sep.specs.Sides.{AreInside, HasRoom, HasSize, IsGrowing, IsLeast, set_of, start_lines};
 ghost use Rattle.three_sep.specs.Cuts.{HasNames, HoldTogether, IsCut};
-ghost use Rattle.three_sep.specs.Searches.{IsNoSecondRow, IsNoSecondColumn, HasNoGood, HasNoneBelow, IsBeside, IsFirstOf, LeavesSecond, corner_front, other_line};
+ghost use Rattle.three_sep.specs.Searches.{IsNoSecondRow, IsNoSecondColumn, HasNoGood, HasNoneBelow, HoldsFirst, IsFirstOf, LeavesSecond, corner_front, other_line};
 
-use crate::block::first_column;
+use crate::block::{Block, open_columns};
 use crate::concentrated::ConcentratedSearch;
 use crate::corners::Corners;
 use crate::groups::{Groups, groups_of, may_cut};
 use crate::half::Half;
+use crate::others::{count_of, is_beside, is_first_other, is_second_other, line_at, line_of};
 use crate::side::Side;
 use cmr_base::{Connector, Form, Indices, Line, LineSet, Matrix, Memory, RowsAndColumns, Three};
 use std::alloc::Global;
@@ -124,7 +125,7 @@ impl Search {
         if let Some(three) = self.first_of_form(rt, alloc, workers, views, Form::Mixed)? {
             return Ok(Some(three));
         }
-        ConcentratedSearch::new(alloc, views)?.first(alloc, views)
+        ConcentratedSearch::new(alloc, views)?.first(rt, alloc, workers, views)
     }
 
     // The rows i.
@@ -282,7 +283,7 @@ impl Search {
         Ok(None)
     }
 
-    // The first column j by several workers, and the first seed with it by one.
+    // The first triple of a good seed by several workers, and the first seed with it by one.
     fn first_of_block<R: Threads + Sync>(
         &mut self,
         rt: &R,
@@ -311,12 +312,20 @@ impl Search {
         ensures first { IfOk result (λ answer. IfSome answer (IsFirstOf views.now (form_number form ∷ i ∷ p ∷ k ∷ []))) }
         ensures none { IfOk result (λ answer. IfNone answer (HasNoGood views.now (form_number form ∷ i ∷ p ∷ k ∷ []))) }
     {
-        let found = first_column(rt, alloc, workers, views, &self.groups, form, i, p, k)?;
-        let _columns = views.columns();
+        let columns = open_columns(alloc, views, &mut self.side, &self.groups, i, p, k)?;
+        let block = Block::new(views, columns, form, i, p, k);
+        let found = block.first_triple(rt, alloc, workers)?;
         match found {
-            Some(column) => {
-                let j = column as u32;
-                self.first_of_corners(alloc, views, form, &Corners { i, p, k, j })
+            Some(triple) => {
+                let j = triple.j;
+                self.first_of_triple(
+                    alloc,
+                    views,
+                    form,
+                    &Corners { i, p, k, j },
+                    triple.q,
+                    triple.o,
+                )
             }
             None => {
                 self.count_try();
@@ -325,8 +334,37 @@ impl Search {
         }
     }
 
-    /// The separation of the first good seed with these corners.
-    pub fn first_of_corners(
+    // The separation of the first good seed with these corners and other lines.
+    fn first_of_triple(
+        &mut self,
+        alloc: Global,
+        views: &RowsAndColumns<'_>,
+        form: Form,
+        corners: &Corners,
+        q: u32,
+        o: u32,
+    ) -> Result<Option<Three>, Memory>
+        requires crossing { IsCrossing form }
+        requires side { HasSize views.now self.old.side }
+        requires grown { HasSize views.now self.old.grown }
+        requires inside { AreInside views.now corners.now }
+        requires corners { AreCorners (entry views.now) corners.now.i corners.now.p corners.now.k corners.now.j }
+        requires first_line { IsLine (height views.now) views.now.width (other_line (first_is_flat form) q) }
+        requires second_line { IsLine (height views.now) views.now.width (other_line (second_is_flat form) o) }
+        ensures side { OnOk result (HasSize views.now self.new.side) }
+        ensures grown { OnOk result (HasSize views.now self.new.grown) }
+        ensures groups { self.new.groups ≡ self.old.groups }
+        ensures first { IfOk result (λ answer. IfSome answer (IsFirstOf views.now (corner_front form corners.now ++ q ∷ o ∷ []))) }
+        ensures none { IfOk result (λ answer. IfNone answer (HasNoGood views.now (corner_front form corners.now ++ q ∷ o ∷ []))) }
+    {
+        if !self.hold_first(views, form, corners, q)? {
+            return Ok(None);
+        }
+        self.first_of_other(alloc, views, form, corners, q, o)
+    }
+
+    // The lines q.
+    fn first_of_corners(
         &mut self,
         alloc: Global,
         views: &RowsAndColumns<'_>,
@@ -349,16 +387,39 @@ impl Search {
             return Ok(None);
         }
         for q in 0..count_of(views, form.first_is_flat()) {
-            if is_first_other(views, form, corners, q) {
-                self.side
-                    .start(views, corners, line_of(form.first_is_flat(), q))?;
-                self.side.close_all(views, corners)?;
+            if self.hold_first(views, form, corners, q)? {
                 if let Some(three) = self.first_of_connector(alloc, views, form, corners, q)? {
                     return Ok(Some(three));
                 }
             }
         }
         Ok(None)
+    }
+
+    /// Closes the side of the first connector with the other line q, where it can be that.
+    pub fn hold_first(
+        &mut self,
+        views: &RowsAndColumns<'_>,
+        form: Form,
+        corners: &Corners,
+        q: u32,
+    ) -> Result<bool, Memory>
+        requires side { HasSize views.now self.old.side }
+        requires inside { AreInside views.now corners.now }
+        requires line { IsLine (height views.now) views.now.width (other_line (first_is_flat form) q) }
+        ensures grown { self.new.grown ≡ self.old.grown }
+        ensures groups { self.new.groups ≡ self.old.groups }
+        ensures side { OnOk result (HasSize views.now self.new.side) }
+        ensures held { IfOk result (λ held. held ≡ true → HoldsFirst views.now form corners.now q self.new.side) }
+        ensures no { IfOk result (λ held. held ≡ false → ¬ (IsFirstOther (first_is_flat form) (entry views.now) corners.now.i corners.now.p corners.now.k corners.now.j q)) }
+    {
+        if !is_first_other(views, form, corners, q) {
+            return Ok(false);
+        }
+        self.side
+            .start(views, corners, line_of(form.first_is_flat(), q))?;
+        self.side.close_all(views, corners)?;
+        Ok(true)
     }
 
     // The lines o.
@@ -371,13 +432,10 @@ impl Search {
         q: u32,
     ) -> Result<Option<Three>, Memory>
         requires crossing { IsCrossing form }
-        requires room { HasRoom views.now self.old.side }
-        requires growing { IsGrowing views.now corners.now (connector (first_is_flat form) corners.now.i corners.now.p q) self.old.side }
-        requires least { IsLeast views.now corners.now (connector (first_is_flat form) corners.now.i corners.now.p q) (set_of self.old.side) }
+        requires held { HoldsFirst views.now form corners.now q self.old.side }
         requires grown { HasSize views.now self.old.grown }
         requires inside { AreInside views.now corners.now }
         requires corners { AreCorners (entry views.now) corners.now.i corners.now.p corners.now.k corners.now.j }
-        requires other { IsFirstOther (first_is_flat form) (entry views.now) corners.now.i corners.now.p corners.now.k corners.now.j q }
         requires line { IsLine (height views.now) views.now.width (other_line (first_is_flat form) q) }
         ensures side { OnOk result (HasSize views.now self.new.side) }
         ensures grown { OnOk result (HasSize views.now self.new.grown) }
@@ -386,15 +444,43 @@ impl Search {
         ensures none { IfOk result (λ answer. IfNone answer (HasNoGood views.now (corner_front form corners.now ++ q ∷ []))) }
     {
         for o in 0..count_of(views, form.second_is_flat()) {
-            if is_second_other(views, form, corners, o)
-                && !self.side.has(views, line_of(form.second_is_flat(), o))
-            {
-                if let Some(three) = self.first_of_connectors(alloc, views, form, corners, q, o)? {
-                    return Ok(Some(three));
-                }
+            if let Some(three) = self.first_of_other(alloc, views, form, corners, q, o)? {
+                return Ok(Some(three));
             }
         }
         Ok(None)
+    }
+
+    /// The separation of the first good seed with these corners and other lines, by the closed side of the first connector.
+    pub fn first_of_other(
+        &mut self,
+        alloc: Global,
+        views: &RowsAndColumns<'_>,
+        form: Form,
+        corners: &Corners,
+        q: u32,
+        o: u32,
+    ) -> Result<Option<Three>, Memory>
+        requires crossing { IsCrossing form }
+        requires held { HoldsFirst views.now form corners.now q self.old.side }
+        requires grown { HasSize views.now self.old.grown }
+        requires inside { AreInside views.now corners.now }
+        requires corners { AreCorners (entry views.now) corners.now.i corners.now.p corners.now.k corners.now.j }
+        requires first_line { IsLine (height views.now) views.now.width (other_line (first_is_flat form) q) }
+        requires second_line { IsLine (height views.now) views.now.width (other_line (second_is_flat form) o) }
+        ensures side { self.new.side ≡ self.old.side }
+        ensures grown { OnOk result (HasSize views.now self.new.grown) }
+        ensures groups { self.new.groups ≡ self.old.groups }
+        ensures first { IfOk result (λ answer. IfSome answer (IsFirstOf views.now (corner_front form corners.now ++ q ∷ o ∷ []))) }
+        ensures none { IfOk result (λ answer. IfNone answer (HasNoGood views.now (corner_front form corners.now ++ q ∷ o ∷ []))) }
+    {
+        if !is_second_other(views, form, corners, o) {
+            return Ok(None);
+        }
+        if self.side.has(views, line_of(form.second_is_flat(), o)) {
+            return Ok(None);
+        }
+        self.first_of_connectors(alloc, views, form, corners, q, o)
     }
 
     // The lines x: the rows, then the columns.
@@ -459,9 +545,9 @@ impl Search {
     }
 }
 
-/// How many lines are gone over, once for each column j that may be in a second corner, sooner than other workers are
-/// started.
-const FEW_LINES: u32 = 20000;
+/// How many pairs of lines are gone over, once for each column j that may be in a second corner, sooner than other workers
+/// are started.
+const FEW_PAIRS: u32 = 1000000;
 
 // Whether a block is large enough for several workers.
 fn is_large(views: &RowsAndColumns<'_>, groups: &Groups, i: u32, p: u32, k: u32) -> bool
@@ -471,13 +557,14 @@ fn is_large(views: &RowsAndColumns<'_>, groups: &Groups, i: u32, p: u32, k: u32)
     requires second_row { k < height views.now }
 {
     let lines = views.rows() + views.columns();
-    let mut left = FEW_LINES;
+    let pairs = lines * lines;
+    let mut left = FEW_PAIRS;
     for j in 0..views.columns() {
         if is_second_column(views, groups, i, p, k, j) {
-            if left <= lines {
+            if left <= pairs {
                 return true;
             }
-            left -= lines;
+            left -= pairs;
         }
     }
     false
@@ -520,116 +607,6 @@ pub fn is_second_column(
         return false;
     }
     !groups.are_one(i, views.rows() + j) && !groups.are_one(views.rows() + p, views.rows() + j)
-}
-
-// How many columns, or rows.
-fn count_of(views: &RowsAndColumns<'_>, flat: bool) -> u32
-    ensures columns { flat ≡ true → result ≡ views.now.width }
-    ensures rows { flat ≡ false → result ≡ height views.now }
-{
-    if flat { views.columns() } else { views.rows() }
-}
-
-// The column, or row, of a number.
-fn line_of(flat: bool, other: u32) -> Line
-    ensures { result ≡ other_line flat other }
-{
-    if flat {
-        Line::Column(other)
-    } else {
-        Line::Row(other)
-    }
-}
-
-/// The line at a place, the rows first.
-pub fn line_at(views: &RowsAndColumns<'_>, place: u32) -> Line
-    requires { place < height views.now + views.now.width }
-    ensures line { IsLine (height views.now) views.now.width result }
-    ensures number { line_number (height views.now) result ≡ place }
-{
-    if place < views.rows() {
-        Line::Row(place)
-    } else {
-        Line::Column(place - views.rows())
-    }
-}
-
-// Whether q can be the first connector's other line.
-fn is_first_other(views: &RowsAndColumns<'_>, form: Form, corners: &Corners, q: u32) -> bool
-    requires inside { AreInside views.now corners.now }
-    requires line { IsLine (height views.now) views.now.width (other_line (first_is_flat form) q) }
-    ensures yes { result ≡ true → IsFirstOther (first_is_flat form) (entry views.now) corners.now.i corners.now.p corners.now.k corners.now.j q }
-    ensures no { result ≡ false → ¬ (IsFirstOther (first_is_flat form) (entry views.now) corners.now.i corners.now.p corners.now.k corners.now.j q) }
-{
-    if form.first_is_flat() {
-        is_flat_other(views, corners.i, corners.k, q)
-    } else {
-        is_tall_other(views, corners.p, corners.j, q)
-    }
-}
-
-// Whether o can be the second connector's other line.
-fn is_second_other(views: &RowsAndColumns<'_>, form: Form, corners: &Corners, o: u32) -> bool
-    requires inside { AreInside views.now corners.now }
-    requires line { IsLine (height views.now) views.now.width (other_line (second_is_flat form) o) }
-    ensures yes { result ≡ true → IsSecondOther (second_is_flat form) (entry views.now) corners.now.i corners.now.p corners.now.k corners.now.j o }
-    ensures no { result ≡ false → ¬ (IsSecondOther (second_is_flat form) (entry views.now) corners.now.i corners.now.p corners.now.k corners.now.j o) }
-{
-    if form.second_is_flat() {
-        is_flat_other(views, corners.k, corners.i, o)
-    } else {
-        is_tall_other(views, corners.j, corners.p, o)
-    }
-}
-
-// Whether a column is 0 in one row and not in another.
-fn is_flat_other(views: &RowsAndColumns<'_>, own: u32, across: u32, other: u32) -> bool
-    requires own { own < height views.now }
-    requires across { across < height views.now }
-    requires other { other < views.now.width }
-    ensures yes { result ≡ true → (entry views.now own other ≡ pos 0) × (entry views.now across other ≢ pos 0) }
-    ensures no { result ≡ false → ¬ ((entry views.now own other ≡ pos 0) × (entry views.now across other ≢ pos 0)) }
-{
-    if views.is_nonzero(own, other) {
-        return false;
-    }
-    views.is_nonzero(across, other)
-}
-
-// Whether a row is 0 in one column and not in another.
-fn is_tall_other(views: &RowsAndColumns<'_>, own: u32, across: u32, other: u32) -> bool
-    requires own { own < views.now.width }
-    requires across { across < views.now.width }
-    requires other { other < height views.now }
-    ensures yes { result ≡ true → (entry views.now other own ≡ pos 0) × (entry views.now other across ≢ pos 0) }
-    ensures no { result ≡ false → ¬ ((entry views.now other own ≡ pos 0) × (entry views.now other across ≢ pos 0)) }
-{
-    if views.is_nonzero(other, own) {
-        return false;
-    }
-    views.is_nonzero(other, across)
-}
-
-/// Whether a line is in neither connector.
-pub fn is_beside(form: Form, corners: &Corners, q: u32, o: u32, line: Line) -> bool
-    ensures first { result ≡ true → ¬ (Among (connector (first_is_flat form) corners.now.i corners.now.p q) line) }
-    ensures second { result ≡ true → ¬ (Among (connector (second_is_flat form) corners.now.k corners.now.j o) line) }
-    ensures no { result ≡ false → Among (connector (first_is_flat form) corners.now.i corners.now.p q) line ⊎ Among (connector (second_is_flat form) corners.now.k corners.now.j o) line }
-{
-    if is_in_connector(form.first_is_flat(), corners.i, corners.p, q, line) {
-        return false;
-    }
-    !is_in_connector(form.second_is_flat(), corners.k, corners.j, o, line)
-}
-
-fn is_in_connector(flat: bool, row: u32, column: u32, other: u32, line: Line) -> bool
-    ensures yes { result ≡ true → Among (connector flat row column other) line }
-    ensures no { result ≡ false → ¬ (Among (connector flat row column other) line) }
-{
-    match line {
-        Line::Row(number) => number == row || (!flat && number == other),
-        Line::Column(number) => number == column || (flat && number == other),
-    }
 }
 
 /// Whether a side leaves the second connector and four lines or more.

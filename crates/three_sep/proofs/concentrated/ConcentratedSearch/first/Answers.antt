@@ -1,13 +1,17 @@
 use Rattle.std.proofs.Common.{[], ◌∷◌, arith}
-use Rattle.three_sep.proofs.SearchLemmas.{found_some, none_more, level_ends, good_inside}
+use Rattle.cmr_base.specs.Matrix.{height}
+use Rattle.three_sep.proofs.BlockLemmas.{found_by_number, good_by_number, none_in_rows}
 use Rattle.three_sep.proofs.concentrated.ConcentratedSearch.first.Goals as goal
 
 pub returns-in-Some-clause-first : goal.returns-in-Some-clause-first
-returns-in-Some-clause-first c = found_some c.args.views.now (3 ∷ []) c.loop-i.i c.in_ok-three.field-0 c.in-Some.three (omega arith) c.loop-i.invariant.2 c.in-Some.is c.in_ok-three.ensures.first
+returns-in-Some-clause-first g c =
+    let m = c.args.views.now in
+    found_by_number m (3 ∷ []) (height m) c.in-Some.row c.first_of_row.result (omega arith) (rw c.in-Some.is at c.in_ok-found.ensures) c.first_of_row.ensures.first
 
-pub loop-i-preserved : goal.loop-i-preserved
-loop-i-preserved c = (c.in_ok-three.ensures.side, c.in_ok-three.ensures.grown, none_more c.args.views.now (3 ∷ []) c.loop-i.i c.in_ok-three.field-0 c.loop-i.invariant.2 c.in_default.is c.in_ok-three.ensures.none, c.in_ok-three.ensures.candidates.size)
+pub returns-in-Some-clause-none : goal.returns-in-Some-clause-none
+returns-in-Some-clause-none g c =
+    let m = c.args.views.now in
+    good_by_number m (3 ∷ []) (height m) c.in-Some.row c.first_of_row.result (rw c.in-Some.is at c.in_ok-found.ensures) c.first_of_row.ensures.none
 
 pub returns-clause-none : goal.returns-clause-none
-returns-clause-none c = level_ends c.args.views.now (3 ∷ []) c.loop-i.i (omega arith) c.loop-i.invariant.2
-    (λ s S b g h. let k = (good_inside c.args.views.now s S g).row_one in let e = h.1.0 in let l = c.loop-i-test.false in let r = c.rows-i-end.ensures.rows in omega arith)
+returns-clause-none g c = none_in_rows c.args.views.now (rw c.in-None.is at c.in_ok-found.ensures)

@@ -1,7 +1,6 @@
-use Rattle.std.proofs.Common.{[], ◌∷◌, ◌++◌, refl, true, false, sym, arith, subst}
+use Rattle.std.proofs.Common.{[], ◌∷◌, ◌++◌, sym, arith, subst}
 use Rattle.three_sep.specs.declared.concentrated.ConcentratedSearch.{ConcentratedSearch}
 use Rattle.cmr_base.specs.declared.separation.Form.TheVariants.{Concentrated}
-use Rattle.cmr_base.proofs.Booleans.{not_both}
 use Rattle.three_sep.specs.Searches.{corner_front}
 use Rattle.three_sep.proofs.SearchLemmas.{found_some, none_more, level_ends, none_below_more, second_below}
 use Rattle.three_sep.proofs.ConcentratedLemmas.{no_other_row}
@@ -33,4 +32,4 @@ loop-o-preserved c =
 
 pub returns-clause-none : goal.returns-clause-none
 returns-clause-none c = level_ends c.args.views.now (corner_front Concentrated c.args.corners.now ++ c.args.q ∷ []) c.loop-o.o (omega arith) c.loop-o.invariant.2
-    (λ s S b g h. let k = second_below c.args.views.now Concentrated c.args.corners.now c.args.q false c.rows-o-end.result refl (λ e. absurd (not_both true refl (sym e))) (λ e. c.rows-o-end.ensures.rows) s S b g h in let l = c.loop-o-test.false in omega arith)
+    (λ s S b g h. let k = second_below c.args.views.now Concentrated c.args.corners.now c.args.q s S b g h in let l = c.loop-o-test.false in let r = c.rows-o-end.ensures.rows in omega arith)

@@ -1,7 +1,6 @@
-use Rattle.std.proofs.Common.{◌≤◌, ◌+◌, refl, true, sym, arith, subst}
+use Rattle.std.proofs.Common.{◌≤◌, ◌+◌, sym, arith, subst}
 use Rattle.three_sep.specs.declared.concentrated.ConcentratedSearch.{ConcentratedSearch}
 use Rattle.cmr_base.specs.declared.separation.Form.TheVariants.{Concentrated}
-use Rattle.cmr_base.proofs.Booleans.{not_both}
 use Rattle.three_sep.specs.Searches.{corner_front}
 use Rattle.three_sep.proofs.SearchLemmas.{found_some, none_more, level_ends, none_below_more, first_below}
 use Rattle.three_sep.proofs.ConcentratedLemmas.{no_other_column, none_over_zeros, none_to_first}
@@ -44,4 +43,4 @@ pub returns-clause-none : goal.returns-clause-none
 returns-clause-none c =
     let m = c.args.views.now in
     level_ends m (corner_front Concentrated c.args.corners.now) m.width (omega arith) (none_over_zeros m c.args.corners.now c.loop-q.from m.width c.loop-q.invariant.2 (λ column a l. c.in_default.ensures.first column a))
-    (first_below m Concentrated c.args.corners.now true m.width refl (λ e. refl) (λ e. absurd (not_both true refl e)))
+    (first_below m Concentrated c.args.corners.now)

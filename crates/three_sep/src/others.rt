@@ -1,0 +1,121 @@
+// The lines of connectors.
+ghost use Rattle.std.specs.Prelude.{◌≡◌, ◌≢◌, ◌<◌, ◌+◌, ◌⊎◌, pos, true, false};
+ghost use Rattle.cmr_base.specs.Matrix.{height, entry, IsMatrix};
+ghost use Rattle.cmr_base.specs.Separations.{first_is_flat, second_is_flat};
+ghost use Rattle.cmr_base.specs.Seeds.{line_number, IsLine};
+ghost use Rattle.three_sep.specs.NumberedSeeds.{Among, IsFirstOther, IsSecondOther, connector};
+ghost use Rattle.three_sep.specs.Sides.{AreInside};
+ghost use Rattle.three_sep.specs.Searches.{line_count, other_line};
+
+use crate::corners::Corners;
+use cmr_base::{Form, Line, RowsAndColumns};
+
+/// How many columns, or rows.
+pub fn count_of(views: &RowsAndColumns<'_>, flat: bool) -> u32
+    ensures count { result ≡ line_count views.now flat }
+    ensures shape { IsMatrix views.now }
+{
+    if flat { views.columns() } else { views.rows() }
+}
+
+/// The column, or row, of a number.
+pub fn line_of(flat: bool, other: u32) -> Line
+    ensures { result ≡ other_line flat other }
+{
+    if flat {
+        Line::Column(other)
+    } else {
+        Line::Row(other)
+    }
+}
+
+/// The line at a place, the rows first.
+pub fn line_at(views: &RowsAndColumns<'_>, place: u32) -> Line
+    requires { place < height views.now + views.now.width }
+    ensures line { IsLine (height views.now) views.now.width result }
+    ensures number { line_number (height views.now) result ≡ place }
+{
+    if place < views.rows() {
+        Line::Row(place)
+    } else {
+        Line::Column(place - views.rows())
+    }
+}
+
+/// Whether q can be the first connector's other line.
+pub fn is_first_other(views: &RowsAndColumns<'_>, form: Form, corners: &Corners, q: u32) -> bool
+    requires inside { AreInside views.now corners.now }
+    requires line { IsLine (height views.now) views.now.width (other_line (first_is_flat form) q) }
+    ensures yes { result ≡ true → IsFirstOther (first_is_flat form) (entry views.now) corners.now.i corners.now.p corners.now.k corners.now.j q }
+    ensures no { result ≡ false → ¬ (IsFirstOther (first_is_flat form) (entry views.now) corners.now.i corners.now.p corners.now.k corners.now.j q) }
+{
+    if form.first_is_flat() {
+        is_flat_other(views, corners.i, corners.k, q)
+    } else {
+        is_tall_other(views, corners.p, corners.j, q)
+    }
+}
+
+/// Whether o can be the second connector's other line.
+pub fn is_second_other(views: &RowsAndColumns<'_>, form: Form, corners: &Corners, o: u32) -> bool
+    requires inside { AreInside views.now corners.now }
+    requires line { IsLine (height views.now) views.now.width (other_line (second_is_flat form) o) }
+    ensures yes { result ≡ true → IsSecondOther (second_is_flat form) (entry views.now) corners.now.i corners.now.p corners.now.k corners.now.j o }
+    ensures no { result ≡ false → ¬ (IsSecondOther (second_is_flat form) (entry views.now) corners.now.i corners.now.p corners.now.k corners.now.j o) }
+{
+    if form.second_is_flat() {
+        is_flat_other(views, corners.k, corners.i, o)
+    } else {
+        is_tall_other(views, corners.j, corners.p, o)
+    }
+}
+
+// Whether a column is 0 in one row and not in another.
+fn is_flat_other(views: &RowsAndColumns<'_>, own: u32, across: u32, other: u32) -> bool
+    requires own { own < height views.now }
+    requires across { across < height views.now }
+    requires other { other < views.now.width }
+    ensures yes { result ≡ true → (entry views.now own other ≡ pos 0) × (entry views.now across other ≢ pos 0) }
+    ensures no { result ≡ false → ¬ ((entry views.now own other ≡ pos 0) × (entry views.now across other ≢ pos 0)) }
+{
+    if views.is_nonzero(own, other) {
+        return false;
+    }
+    views.is_nonzero(across, other)
+}
+
+// Whether a row is 0 in one column and not in another.
+fn is_tall_other(views: &RowsAndColumns<'_>, own: u32, across: u32, other: u32) -> bool
+    requires own { own < views.now.width }
+    requires across { across < views.now.width }
+    requires other { other < height views.now }
+    ensures yes { result ≡ true → (entry views.now other own ≡ pos 0) × (entry views.now other across ≢ pos 0) }
+    ensures no { result ≡ false → ¬ ((entry views.now other own ≡ pos 0) × (entry views.now other across ≢ pos 0)) }
+{
+    if views.is_nonzero(other, own) {
+        return false;
+    }
+    views.is_nonzero(other, across)
+}
+
+/// Whether a line is in neither connector.
+pub fn is_beside(form: Form, corners: &Corners, q: u32, o: u32, line: Line) -> bool
+    ensures first { result ≡ true → ¬ (Among (connector (first_is_flat form) corners.now.i corners.now.p q) line) }
+    ensures second { result ≡ true → ¬ (Among (connector (second_is_flat form) corners.now.k corners.now.j o) line) }
+    ensures no { result ≡ false → Among (connector (first_is_flat form) corners.now.i corners.now.p q) line ⊎ Among (connector (second_is_flat form) corners.now.k corners.now.j o) line }
+{
+    if is_in_connector(form.first_is_flat(), corners.i, corners.p, q, line) {
+        return false;
+    }
+    !is_in_connector(form.second_is_flat(), corners.k, corners.j, o, line)
+}
+
+fn is_in_connector(flat: bool, row: u32, column: u32, other: u32, line: Line) -> bool
+    ensures yes { result ≡ true → Among (connector flat row column other) line }
+    ensures no { result ≡ false → ¬ (Among (connector flat row column other) line) }
+{
+    match line {
+        Line::Row(number) => number == row || (!flat && number == other),
+        Line::Column(number) => number == column || (flat && number == other),
+    }
+}
