@@ -15,12 +15,13 @@ use Rattle.cmr_base.specs.Separations.{Lines}
 use Rattle.cmr_base.specs.Seeds.{IsLine}
 use Rattle.cmr_base.specs.Signing.{IsSign}
 use Rattle.cmr_base.specs.Trees.{support}
-use Rattle.cmr_base.proofs.Booleans.{nonzero_is, zero_is, not_both, not_is}
+use Rattle.cmr_base.proofs.Booleans.{is_zero, nonzero_is, zero_is, not_both, not_is}
 use Rattle.cmr_base.proofs.SignEntries.{sign_of_entry}
 use Rattle.cmr_base.proofs.ColumnWords.{bits_shared, column_at, nonzero_is as word_nonzero}
 use Rattle.cmr_base.proofs.Integers.{sums, products}
 use Rattle.cmr_base.proofs.Parts.{entry-turned, height-transposed}
 use Rattle.cmr_base.proofs.RowLists.{two_cases, same_or_not}
+use Rattle.cmr_base.proofs.WordBits.{zero_or_one}
 use Rattle.three_sep.specs.declared.groups.Groups.{Groups}
 use Rattle.three_sep.specs.Cuts.{IsCut, name_of}
 use Rattle.three_sep.specs.NumberedSeeds.{count}
@@ -28,11 +29,6 @@ use Rattle.three_sep.specs.Parted.{AreToldApart, DifferWithin, HaveName, IsAlway
 use Rattle.three_sep.proofs.CutLemmas.{other_side, other_is_cut}
 
 -- ---- words
-
-zero_or_one : (n : ℕ) → n < 2 → (n ≡ 0) ⊎ (n ≡ 1)
-zero_or_one zero h = inl refl
-zero_or_one (suc zero) h = inr refl
-zero_or_one (suc (suc n)) h = absurd (omega arith)
 
 same_bits : (a b : ℕ) → (a ≡ 0) ⊎ (a ≡ 1) → (b ≡ 0) ⊎ (b ≡ 1) → eqb ((a + b) % 2) 1 ≡ true → eqb a 1 ≢ eqb b 1
 same_bits a b (inl e) (inl f) h = absurd (not_both (eqb ((a + b) % 2) 1) h (rw (e, f) refl))
@@ -99,19 +95,16 @@ first_zero a b e z = rw z (simp products (omega (arith, sums)))
 second_zero : (a b e : ℤ) → b ≡ pos 0 → a *ℤ (b *ℤ e) ≡ pos 0
 second_zero a b e z = rw z (simp products (omega (arith, sums)))
 
-zero_test : (z : ℤ) → z ≡ pos 0 → is_nonzero z ≡ false
-zero_test z e = rw e refl
-
 as_second : (v a b e : ℤ) → IsEntry a → IsEntry b → IsEntry e → a ≢ pos 0 → e ≢ pos 0 → v ≡ a *ℤ (b *ℤ e) → is_nonzero v ≡ is_nonzero b
 as_second v a b e sa sb se na ne is = elim (two_cases (is_nonzero b)) [
   | inl t ↦ ap is_nonzero is ∙ times_sign a b e (sign_of_entry a sa na) (sign_of_entry b sb (nonzero_is b t)) (sign_of_entry e se ne) ∙ sym t
-  | inr f ↦ zero_test v (is ∙ second_zero a b e (zero_is b f)) ∙ sym f
+  | inr f ↦ is_zero v (is ∙ second_zero a b e (zero_is b f)) ∙ sym f
 ]
 
 as_first : (v a b e : ℤ) → IsEntry a → IsEntry b → IsEntry e → b ≢ pos 0 → e ≢ pos 0 → v ≡ a *ℤ (b *ℤ e) → is_nonzero v ≡ is_nonzero a
 as_first v a b e sa sb se nb ne is = elim (two_cases (is_nonzero a)) [
   | inl t ↦ ap is_nonzero is ∙ times_sign a b e (sign_of_entry a sa (nonzero_is a t)) (sign_of_entry b sb nb) (sign_of_entry e se ne) ∙ sym t
-  | inr f ↦ zero_test v (is ∙ first_zero a b e (zero_is a f)) ∙ sym f
+  | inr f ↦ is_zero v (is ∙ first_zero a b e (zero_is a f)) ∙ sym f
 ]
 
 -- ---- one line at most
