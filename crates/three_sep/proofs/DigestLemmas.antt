@@ -1,11 +1,11 @@
 -- Rows with different digests among the columns of a set differ in one of them.
-use Rattle.std.proofs.Common.{ℕ, zero, suc, ◌+◌, ◌*◌, ◌/◌, ◌%◌, ◌^◌, ◌&&◌, ◌++◌, Bool, true, false, not, eqb, List, [], ◌∷◌, ◌≡◌, ◌≢◌, ◌<◌, ◌≤◌, ◌∙◌, sym, ap, refl, arith, subst, ◌⊎◌, inl, inr, length, get_or, length-append, eq-eqb, ne_eqb}
+use Rattle.std.proofs.Common.{ℕ, zero, suc, ◌+◌, ◌^◌, ◌&&◌, ◌++◌, Bool, true, false, not, eqb, List, [], ◌∷◌, ◌≡◌, ◌≢◌, ◌<◌, ◌∙◌, sym, ap, refl, arith, subst, ◌⊎◌, inl, inr, length, get_or, length-append, eq-eqb, ne_eqb}
 use Rattle.std.specs.Int.{bit_at}
 use Rattle.std.specs.Int.Bits.{bit_and}
 use Rattle.std.specs.Prelude.{IsPermutation}
 use Rattle.std.specs.List.{IsDistinct}
 use Rattle.std.specs.List.Sorted.{IsStrictlyIncreasing}
-use Rattle.std.proofs.lemmas.Bool.{cases_eq, cases_lt, eqb-false}
+use Rattle.std.proofs.lemmas.Bool.{cases_eq, eqb-false}
 use Rattle.std.proofs.lemmas.List.{get_or_append_left}
 use Rattle.std.proofs.lemmas.List.Kept.{AllPairs-from_increasing}
 use Rattle.std.proofs.lemmas.List.Sorted.{IsPermutation-sym}
@@ -22,7 +22,7 @@ use Rattle.cmr_base.proofs.Booleans.{and_false, is_not, not_both, two_cases}
 use Rattle.cmr_base.proofs.ColumnWords.{row_columns}
 use Rattle.cmr_base.proofs.PlaneWords.{length-words_of, word-words_of, word_of-lt}
 use Rattle.cmr_base.proofs.WordBits.{has_bit-and, zero_or_one}
-use Rattle.three_sep.specs.Digests.{AreDigested, digest_at, digest_from, digest_of, mixed}
+use Rattle.three_sep.specs.Digests.{AreDigested, digest_at, digest_from, mixed}
 use Rattle.three_sep.specs.Parted.{AreToldApart, DifferWithin}
 use Rattle.three_sep.proofs.PartedLemmas.{column_differs, support_differs}
 

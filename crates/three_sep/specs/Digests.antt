@@ -1,5 +1,5 @@
 -- Numbers that tell sets of columns apart, mostly, by what they have in common with one set.
-use Rattle.std.specs.Prelude.{◌≡◌, ◌<◌, ◌*◌, ◌%◌, ◌^◌, ℕ, Bool, true, false, not, List, [], ◌∷◌, length, slice_index_or}
+use Rattle.std.specs.Prelude.{◌≡◌, ◌<◌, ◌*◌, ◌%◌, ◌^◌, ℕ, true, false, not, List, [], ◌∷◌, length, slice_index_or}
 use Rattle.std.specs.Int.{w64, rotate_left}
 use Rattle.std.specs.Int.Bits.{bit_and, bit_xor}
 use Rattle.cmr_base.specs.ColumnSets.{has_column}

@@ -1,5 +1,5 @@
 // Groups of lines that no cut parts.
-ghost use Rattle.std.specs.Prelude.{◌≡◌, ◌≢◌, ◌<◌, ◌≤◌, ◌+◌, ◌⊎◌, ◌↔◌, ℕ, pos, length, slice_index_or, Bool, true, false, IsTrue, nat_eq, ◌==◌, count_by, IfOk, OnOk};
+ghost use Rattle.std.specs.Prelude.{◌≡◌, ◌≢◌, ◌<◌, ◌≤◌, ◌+◌, ◌⊎◌, ◌↔◌, ℕ, pos, length, slice_index_or, All, Bool, true, false, IsTrue, nat_eq, ◌==◌, count_by, IfOk, OnOk};
 ghost use Rattle.cmr_base.specs.declared.line.Line.{Line};
 ghost use Rattle.cmr_base.specs.declared.line.Line.TheVariants.{Row, Column};
 ghost use Rattle.cmr_base.specs.Matrix.{height, entry, IsMatrix};
@@ -7,7 +7,7 @@ ghost use Rattle.cmr_base.specs.Separations.{Lines};
 ghost use Rattle.cmr_base.specs.Seeds.{IsLine};
 ghost use Rattle.three_sep.specs.Sides.{AreInside, HasSize};
 ghost use Rattle.three_sep.specs.Cuts.{AreTogether, HasNames, HasNoCutAt, HoldTogether, IsCut, IsCutAt, IsCutBetween, Respects, IsJoined, IsNotBelow, name_of};
-ghost use Rattle.three_sep.specs.Finders.{AreFound};
+ghost use Rattle.three_sep.specs.Finders.{AreAnswers, AreFound, IsAnswer, IsLink};
 ghost use Rattle.three_sep.specs.Parted.{IsAlwaysParted};
 
 use crate::corners::Corners;
@@ -15,6 +15,7 @@ use crate::parted::is_parted_by_cuts;
 use crate::side::Side;
 use cmr_base::{Line, Memory, RowsAndColumns};
 use std::alloc::Global;
+use std::thread::{Threads, map_indices};
 
 /// Whether a cut may have the first corner in side one and the second in side two. Some rows are tried: where a row
 /// can be on neither side, there is none.
@@ -191,9 +192,13 @@ const STEP: u32 = 8;
 /// other lines are joined.
 const SPARE_LINES: u32 = 2;
 
+/// How many rows and columns a matrix has at least where the nonzeros are asked about by several workers: below, a question
+/// takes less time than a thread to start.
+const SHARED_LINES: u32 = 200;
+
 // How many of the first rows and columns are looked at first: about as few as tell all other lines apart. Fewer show no
 // group to be parted by every cut, and more cost more tests.
-fn first_lines(alloc: Global, views: &RowsAndColumns<'_>) -> Result<u32, Memory>
+fn first_count(alloc: Global, views: &RowsAndColumns<'_>) -> Result<u32, Memory>
     ensures { IfOk result (λ lines. 1 ≤ lines) }
 {
     let most = views.rows().max(views.columns());
@@ -209,12 +214,16 @@ fn first_lines(alloc: Global, views: &RowsAndColumns<'_>) -> Result<u32, Memory>
 }
 
 /// Finds groups of lines that no cut parts. Lines are joined by the nonzeros of the first rows and columns, and of an
-/// eighth more each time that these are not enough to show that there is no cut.
-pub fn groups_of(
+/// eighth more each time that these are not enough to show that there is no cut. Which lines are joined may depend on the
+/// number of workers.
+pub fn groups_of<R: Threads + Sync>(
+    rt: &R,
     alloc: Global,
+    workers: u32,
     views: &RowsAndColumns<'_>,
     side: &mut Side,
 ) -> Result<Groups, Memory>
+    requires workers { (1 ≤ workers) × (workers ≤ 64) }
     requires size { HasSize views.now side.old }
     ensures size { OnOk result (HasSize views.now side.new) }
     ensures names { IfOk result (HasNames views.now) }
@@ -224,14 +233,21 @@ pub fn groups_of(
     let most = views.rows().max(views.columns());
     let mut lines = finder.first;
     while lines < most {
-        finder.join_first(alloc, views, side, lines)?;
+        finder.join_first(rt, alloc, workers, views, side, lines)?;
         if finder.has_parted(alloc, views)? {
             return Groups::whole(alloc, views);
         }
         lines += lines / STEP + 1;
     }
-    finder.join_first(alloc, views, side, most)?;
+    finder.join_first(rt, alloc, workers, views, side, most)?;
     Ok(finder.groups)
+}
+
+// A nonzero whose row and column it links.
+#[derive(Clone, Copy)]
+struct Link {
+    row: u32,
+    column: u32,
 }
 
 // Groups while they are found: those found so far, lines that are linked by nonzeros that were looked at, and room for the
@@ -249,7 +265,7 @@ impl GroupFinder {
         ensures { IfOk result (AreFound views.now) }
     {
         Ok(GroupFinder {
-            first: first_lines(alloc, views)?,
+            first: first_count(alloc, views)?,
             groups: Groups::new(alloc, views)?,
             linked: Groups::new(alloc, views)?,
             within: Groups::new(alloc, views)?,
@@ -266,52 +282,176 @@ impl GroupFinder {
     }
 
     // Goes over the nonzeros of so many rows and columns.
-    fn join_first(
+    fn join_first<R: Threads + Sync>(
         &mut self,
+        rt: &R,
         alloc: Global,
+        workers: u32,
         views: &RowsAndColumns<'_>,
         side: &mut Side,
         lines: u32,
     ) -> Result<(), Memory>
+        requires workers { (1 ≤ workers) × (workers ≤ 64) }
         requires size { HasSize views.now side.old }
         requires found { AreFound views.now self.old }
         ensures size { OnOk result (HasSize views.now side.new) }
         ensures found { OnOk result (AreFound views.now self.new) }
     {
-        for i in 0..views.rows().min(lines) {
-            for j in 0..views.columns().min(lines) {
-                if views.is_nonzero(i, j) && !self.linked.are_one(i, views.rows() + j) {
-                    self.link(alloc, views, side, i, j)?;
+        let links = self.new_links(alloc, views, lines)?;
+        if workers == 1 || views.rows() + views.columns() < SHARED_LINES {
+            self.join_each(alloc, views, side, &links)
+        } else {
+            self.join_shared(rt, alloc, workers, views, &links)
+        }
+    }
+
+    // The nonzeros of so many rows and columns that link lines which were not linked before, each of which is noted.
+    fn new_links(
+        &mut self,
+        alloc: Global,
+        views: &RowsAndColumns<'_>,
+        lines: u32,
+    ) -> Result<Vec<Link>, Memory>
+        requires found { AreFound views.now self.old }
+        ensures found { OnOk result (AreFound views.now self.new) }
+        ensures links { IfOk result (λ links. All (IsLink views.now) links.items) }
+    {
+        let mut links = Vec::new(alloc);
+        for row in 0..views.rows().min(lines) {
+            for column in 0..views.columns().min(lines) {
+                let other = views.rows() + column;
+                if views.is_nonzero(row, column) && !self.linked.are_one(row, other) {
+                    self.linked.join(row, other);
+                    links.push(Link { row, column })?;
                 }
+            }
+        }
+        Ok(links)
+    }
+
+    // Joins the lines of each nonzero where no cut parts them.
+    fn join_each(
+        &mut self,
+        alloc: Global,
+        views: &RowsAndColumns<'_>,
+        side: &mut Side,
+        links: &[Link],
+    ) -> Result<(), Memory>
+        requires size { HasSize views.now side.old }
+        requires found { AreFound views.now self.old }
+        requires links { All (IsLink views.now) links.now }
+        ensures size { OnOk result (HasSize views.now side.new) }
+        ensures found { OnOk result (AreFound views.now self.new) }
+    {
+        for link in links {
+            self.within.copy(&self.groups)?;
+            if are_together(alloc, views, side, &mut self.within, self.first, *link)? {
+                self.join(views, *link);
             }
         }
         Ok(())
     }
 
-    // Links the lines of a nonzero, and joins them where no cut parts them.
-    fn link(
+    // The same by several workers: each is asked about one nonzero at a time, and what they find is joined before the next
+    // ones.
+    fn join_shared<R: Threads + Sync>(
         &mut self,
+        rt: &R,
         alloc: Global,
+        workers: u32,
         views: &RowsAndColumns<'_>,
-        side: &mut Side,
-        i: u32,
-        j: u32,
+        links: &[Link],
     ) -> Result<(), Memory>
-        requires size { HasSize views.now side.old }
+        requires workers { (1 ≤ workers) × (workers ≤ 64) }
         requires found { AreFound views.now self.old }
-        requires row { i < height views.now }
-        requires column { j < views.now.width }
-        requires nonzero { entry views.now i j ≢ pos 0 }
-        ensures size { OnOk result (HasSize views.now side.new) }
-        ensures found { OnOk result (AreFound views.now self.new) }
+        requires links { All (IsLink views.now) links.now }
+        ensures { OnOk result (AreFound views.now self.new) }
     {
-        self.linked.join(i, views.rows() + j);
-        self.within.copy(&self.groups)?;
-        if are_together(alloc, views, side, &mut self.within, self.first, i, j)? {
-            self.groups.join(i, views.rows() + j);
+        let mut from = 0;
+        while from < links.len() {
+            let to = links.len().min(from + workers as usize);
+            self.join_round(rt, alloc, views, &links[from..to])?;
+            from = to;
         }
         Ok(())
     }
+
+    // Asks about each nonzero in a thread of its own, and joins the lines of those that no cut parts.
+    fn join_round<R: Threads + Sync>(
+        &mut self,
+        rt: &R,
+        alloc: Global,
+        views: &RowsAndColumns<'_>,
+        links: &[Link],
+    ) -> Result<(), Memory>
+        requires found { AreFound views.now self.old }
+        requires links { All (IsLink views.now) links.now }
+        ensures { OnOk result (AreFound views.now self.new) }
+    {
+        let answers = are_each_together(rt, alloc, views, &self.groups, self.first, links)?;
+        for place in 0..links.len() {
+            if answers[place]? {
+                self.join(views, links[place]);
+            }
+        }
+        Ok(())
+    }
+
+    // Joins the lines of a nonzero that no cut parts.
+    fn join(&mut self, views: &RowsAndColumns<'_>, link: Link)
+        requires found { AreFound views.now self.old }
+        requires link { IsLink views.now link }
+        requires together { AreTogether views.now link.row link.column }
+        ensures { AreFound views.now self.new }
+    {
+        self.groups.join(link.row, views.rows() + link.column);
+    }
+}
+
+// Whether no cut parts the lines of each nonzero, each asked in a thread of its own.
+fn are_each_together<R: Threads + Sync>(
+    rt: &R,
+    alloc: Global,
+    views: &RowsAndColumns<'_>,
+    groups: &Groups,
+    first: u32,
+    links: &[Link],
+) -> Result<Vec<Result<bool, Memory>>, Memory>
+    requires names { HasNames views.now groups.now }
+    requires together { HoldTogether (IsCut views.now) views.now groups.now }
+    requires first { 1 ≤ first }
+    requires links { All (IsLink views.now) links.now }
+    ensures { IfOk result (λ answers. AreAnswers views.now links.now answers.items) }
+{
+    let answer = move |place: usize| -> Result<bool, Memory>
+        requires names { HasNames views.now groups.now }
+        requires together { HoldTogether (IsCut views.now) views.now groups.now }
+        requires first { 1 ≤ first }
+        requires links { All (IsLink views.now) links.now }
+        requires place { place < length links.now }
+        ensures { IfOk result (λ together. IsAnswer views.entry.now links.entry.now place together) }
+    { are_alone_together(alloc, views, groups, first, links[place]) };
+    Ok(map_indices(rt, alloc, links.len(), &answer)?)
+}
+
+// The same for one nonzero, with room of its own.
+fn are_alone_together(
+    alloc: Global,
+    views: &RowsAndColumns<'_>,
+    groups: &Groups,
+    first: u32,
+    link: Link,
+) -> Result<bool, Memory>
+    requires names { HasNames views.now groups.now }
+    requires together { HoldTogether (IsCut views.now) views.now groups.now }
+    requires first { 1 ≤ first }
+    requires link { IsLink views.now link }
+    ensures { IfOk result (λ together. together ≡ true → AreTogether views.now link.row link.column) }
+{
+    let mut side = Side::new(alloc, views)?;
+    let mut within = Groups::new(alloc, views)?;
+    within.copy(groups)?;
+    are_together(alloc, views, &mut side, &mut within, first, link)
 }
 
 // Whether no cut parts row i from column j. First lines are joined that no cut parts which has row i in side one and
@@ -324,20 +464,19 @@ fn are_together(
     side: &mut Side,
     within: &mut Groups,
     first: u32,
-    i: u32,
-    j: u32,
+    link: Link,
 ) -> Result<bool, Memory>
     requires size { HasSize views.now side.old }
     requires names { HasNames views.now within.old }
     requires together { HoldTogether (IsCut views.now) views.now within.old }
     requires first { 1 ≤ first }
-    requires row { i < height views.now }
-    requires column { j < views.now.width }
-    requires nonzero { entry views.now i j ≢ pos 0 }
+    requires link { IsLink views.now link }
     ensures size { OnOk result (HasSize views.now side.new) }
     ensures names { OnOk result (HasNames views.now within.new) }
-    ensures together { IfOk result (λ together. together ≡ true → AreTogether views.now i j) }
+    ensures together { IfOk result (λ together. together ≡ true → AreTogether views.now link.row link.column) }
 {
+    let i = link.row;
+    let j = link.column;
     let most = views.rows().max(views.columns());
     let mut lines = first;
     while lines < most {

@@ -6,8 +6,8 @@ ghost use Rattle.cmr_base.specs.Planes.{words_for};
 ghost use Rattle.cmr_base.specs.Trees.{support};
 ghost use Rattle.three_sep.specs.Independent.{AreIndependent, IsNewRow};
 
-use cmr_base::{MAX_ROWS, RowsAndColumns};
 use cmr_base::columns::{add_outside, clear_set, meets};
+use cmr_base::{MAX_ROWS, RowsAndColumns};
 
 /// Whether three rows are shown to be independent that are not 0 in column j, in the columns in which row i is not 0: each
 /// is not 0 in one of them in which those before it are 0. A side with row i and without column j would have these

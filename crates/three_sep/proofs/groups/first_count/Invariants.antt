@@ -1,5 +1,5 @@
 use Rattle.std.proofs.Common.{◌≤◌, ◌-◌}
-use Rattle.three_sep.proofs.groups.first_lines.Given as goal
+use Rattle.three_sep.proofs.groups.first_count.Given as goal
 
 abbrev pub invariant-loop-lines : goal.invariant-loop-lines
 invariant-loop-lines l = 8 ≤ l.lines
