@@ -2,8 +2,8 @@
 use Rattle.std.specs.Prelude.{◌≡◌, ◌≢◌, ◌<◌, ◌≤◌, ℕ, pos, Bool, true, List, length, slice_index_or, Result, IfOk}
 use Rattle.cmr_base.specs.declared.memory.Memory.{Memory}
 use Rattle.cmr_base.specs.Matrix.{Matrix, height, entry}
-use Rattle.three_sep.specs.declared.groups.GroupFinder.{GroupFinder}
-use Rattle.three_sep.specs.declared.groups.Link.{Link}
+use Rattle.three_sep.specs.declared.finder.GroupFinder.{GroupFinder}
+use Rattle.three_sep.specs.declared.together.Link.{Link}
 use Rattle.three_sep.specs.Cuts.{AreTogether, HasNames, HoldTogether, IsCut}
 
 pub record AreFound (m : Matrix) (finder : GroupFinder) : Type 0 where

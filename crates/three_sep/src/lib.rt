@@ -5,6 +5,7 @@ mod block;
 mod concentrated;
 mod connectors;
 mod corners;
+mod finder;
 mod groups;
 mod half;
 mod independent;
@@ -13,6 +14,7 @@ mod pulled;
 mod search;
 mod side;
 mod spread_side;
+mod together;
 
 pub use cmr_base::{Connector, Form, Three};
 pub use search::three_separation;

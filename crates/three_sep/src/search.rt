@@ -17,7 +17,8 @@ ghost use Rattle.three_sep.specs.Searches.{IsNoSecondRow, IsNoSecondColumn, HasN
 use crate::block::first_column;
 use crate::concentrated::ConcentratedSearch;
 use crate::corners::Corners;
-use crate::groups::{Groups, groups_of, may_cut};
+use crate::finder::groups_of;
+use crate::groups::{Groups, may_cut};
 use crate::half::Half;
 use crate::side::Side;
 use cmr_base::{Connector, Form, Indices, Line, LineSet, Matrix, Memory, RowsAndColumns, Three};
