@@ -23,9 +23,9 @@ const MORE_LINES: u32 = 4;
 /// other lines are joined.
 const SPARE_LINES: u32 = 2;
 
-/// How many rows and columns a matrix has at least where the nonzeros are asked about by several workers: below, a question
-/// takes less time than a thread to start.
-const SHARED_LINES: u32 = 200;
+/// How much work questions are at least that several workers share. It is counted as nonzeros that are asked about, times lines
+/// that are looked at for each, times lines of the matrix; less is done before threads would help.
+const SHARED_WORK: u64 = 1_000_000;
 
 // How many of the first rows and columns are looked at first: about as few as tell all other lines apart. Fewer show no
 // group to be parted by every cut, and more cost more tests.
@@ -122,11 +122,18 @@ impl GroupFinder {
         ensures found { OnOk result (AreFound views.now self.new) }
     {
         let links = self.new_links(alloc, views, lines)?;
-        if workers == 1 || views.rows() + views.columns() < SHARED_LINES {
-            self.join_each(alloc, views, side, &links)
-        } else {
+        if workers > 1 && self.are_many(views, links.len()) {
             self.join_shared(rt, alloc, workers, views, &links)
+        } else {
+            self.join_each(alloc, views, side, &links)
         }
+    }
+
+    // Whether so many nonzeros are enough for several workers.
+    fn are_many(&self, views: &RowsAndColumns<'_>, links: usize) -> bool {
+        let lines = u64::from(views.rows() + views.columns());
+        let tests = (links as u64).saturating_mul(u64::from(self.first));
+        tests.saturating_mul(lines) >= SHARED_WORK
     }
 
     // The nonzeros of so many rows and columns that link lines which were not linked before, each of which is noted.
