@@ -14,7 +14,7 @@ use Rattle.cmr_base.proofs.Integers.{sums, products}
 use Rattle.cmr_base.proofs.ListedLines.{has_line_from_line}
 use Rattle.cmr_base.proofs.RowLists.{same_or_not, two_cases}
 use Rattle.cmr_base.proofs.SeedLemmas.{good_three_seed, three_separation_of_seed, form_is}
-use Rattle.cmr_base.proofs.Booleans.{and_is, false_is, nonzero_is, not_both, not_is, zero_is}
+use Rattle.cmr_base.proofs.Booleans.{and_is, false_is, nonzero_is, not_both, not_is, true_is, zero_is}
 use Rattle.cmr_base.proofs.NextNonzeros.{column_in as nonzero_in}
 use Rattle.cmr_base.proofs.SignEntries.{sign_of_entry}
 use Rattle.three_sep.specs.declared.corners.Corners.{Corners}
@@ -26,7 +26,7 @@ use Rattle.cmr_base.specs.Trees.{support}
 use Rattle.three_sep.specs.Independent.{AreIndependent, outside_one, outside_two}
 use Rattle.three_sep.specs.Concentrated.{AreCandidates, AreConcentratedCorners, ArePlaced, HasNoLeaving, HasNoneBetween, IsLeastFor, IsNoOtherColumn, IsOtherColumn, IsOtherRow, TellsClosedFor, all_front, first_lines, first_of, second_of, turned}
 use Rattle.three_sep.proofs.HalfLemmas.{set_elsewhere, set_there}
-use Rattle.three_sep.proofs.SideLemmas.{not_not_true, outside_less}
+use Rattle.three_sep.proofs.SideLemmas.{outside_less}
 use Rattle.three_sep.proofs.SearchLemmas.{enough_lines, good_inside, lines_of_connector, none_of_connector, seed_at, seed_from_all, seed_from_first, seed_from_second, seed_is}
 use Rattle.three_sep.proofs.SeedForms.{closed_to, good_numbered, good_three, seed_with}
 use Rattle.three_sep.proofs.SpreadLemmas.{no_triangle, spread_parts, spread_same}
@@ -49,7 +49,7 @@ module _ (m : Matrix) (c : Corners) (q o : ℕ) (x : Line) (S : Lines) (g : IsGo
 
   -- the columns of row i are in side one, and the rows of column j in side two
   columns_one : (column : ℕ) → column < m.width → entry m c.i column ≢ pos 0 → S (Column column) ≡ true
-  columns_one column l n = not_not_true (S (Column column)) (λ out. n (g.side.closed.right c.i column row_in l row_one out))
+  columns_one column l n = true_is (S (Column column)) (λ out. n (g.side.closed.right c.i column row_in l row_one out))
 
   rows_two : (row : ℕ) → row < height m → entry m row c.j ≢ pos 0 → S (Row row) ≡ false
   rows_two row l n = false_is (S (Row row)) (λ inside. n (g.side.closed.right row c.j l column_in inside column_two))

@@ -7,6 +7,7 @@ use Rattle.cmr_base.specs.Differences.{differs_at}
 use Rattle.cmr_base.specs.Matrix.{Matrix, entry, row_of}
 use Rattle.cmr_base.specs.Members.{IsIn}
 use Rattle.cmr_base.specs.Planes.{has_bit}
+use Rattle.cmr_base.proofs.Lists.{get_or-replicated}
 use Rattle.cmr_base.proofs.LineCounts.{count_more, count_same, less}
 use Rattle.cmr_base.proofs.Members.{in-append}
 use Rattle.cmr_base.proofs.RowLists.{two_cases}
@@ -260,15 +261,10 @@ past_false [] x e = absurd (not_both false e refl)
 past_false (b ∷ xs) zero e = omega arith
 past_false (b ∷ xs) (suc x) e = let k = past_false xs x e in omega arith
 
-replicated : (n x : ℕ) → get_or (replicate n false) x false ≡ false
-replicated zero x = refl
-replicated (suc n) zero = refl
-replicated (suc n) (suc x) = replicated n x
-
 pub cleared : (count n : ℕ) (after : Half) → count ≤ 1000 → after.inside.items ≡ replicate n false → length after.inside.items ≡ count → HaveSize count after.seen
     → ((x : ℕ) → has_column after.seen.seen.items x ≡ false) → after.left ≡ length after.inside.items → after.fresh.items ≡ [] → IsHalf count after
 cleared count n after few inside size words none left fresh =
-    let is : (x : ℕ) → is_in after x ≡ false = λ x. ap (λ (v : List Bool). get_or v x false) inside ∙ replicated n x in
+    let is : (x : ℕ) → is_in after x ≡ false = λ x. ap (λ (v : List Bool). get_or v x false) inside ∙ get_or-replicated n x false in
     let nothing : (x : ℕ) → ¬ (IsIn x after.fresh.items) = λ x h. subst (λ (v : List ℕ). IsIn x v) fresh h in
     record {
       size = size;

@@ -4,6 +4,7 @@ pub mod RoomLemmas
 pub mod StartLemmas
 pub mod CutLemmas
 pub mod PartedLemmas
+pub mod DigestLemmas
 pub mod CrossingLemmas
 pub mod SpreadLemmas
 pub mod NumberLemmas

@@ -1,10 +1,7 @@
 -- Groups that every cut parts.
-use Rattle.std.proofs.Common.{ℕ, zero, suc, ◌+◌, ◌*◌, ◌/◌, ◌%◌, ◌^◌, Bool, true, false, not, eqb, List, ◌≡◌, ◌≢◌, ◌<◌, ◌≤◌, ◌∙◌, sym, ap, refl, arith, subst, ◌⊎◌, inl, inr, length, get_or, set, ℤ, pos, ◌*ℤ◌, Result, Ok, Err, IfOk}
+use Rattle.std.proofs.Common.{ℕ, zero, suc, ◌+◌, ◌*◌, ◌/◌, ◌%◌, Bool, true, false, not, eqb, List, ◌≡◌, ◌≢◌, ◌<◌, ◌≤◌, ◌∙◌, sym, ap, refl, arith, subst, ◌⊎◌, inl, inr, length, get_or, set, ℤ, pos, ◌*ℤ◌, Result, Ok, Err, IfOk}
 use Rattle.std.specs.Int.{bit_at}
-use Rattle.std.specs.Int.Bits.{bit_and, bit_xor}
 use Rattle.std.proofs.lemmas.Bool.{cases_lt}
-use Rattle.std.proofs.lemmas.Nat.{xor_lt}
-use Rattle.std.proofs.lemmas.Nat.Bits.{bit_at-lt, bit_at_xor}
 use Rattle.std.proofs.lemmas.List.{get_or-set_same, get_or-set_other}
 use Rattle.cmr_base.specs.declared.line.Line.{Line}
 use Rattle.cmr_base.specs.declared.line.Line.TheVariants.{Row, Column}
@@ -15,9 +12,9 @@ use Rattle.cmr_base.specs.Separations.{Lines}
 use Rattle.cmr_base.specs.Seeds.{IsLine}
 use Rattle.cmr_base.specs.Signing.{IsSign}
 use Rattle.cmr_base.specs.Trees.{support}
-use Rattle.cmr_base.proofs.Booleans.{nonzero_is, zero_is, not_both, not_is}
+use Rattle.cmr_base.proofs.Booleans.{is_zero, nonzero_is, zero_is, not_both, not_is}
 use Rattle.cmr_base.proofs.SignEntries.{sign_of_entry}
-use Rattle.cmr_base.proofs.ColumnWords.{bits_shared, column_at, nonzero_is as word_nonzero}
+use Rattle.cmr_base.proofs.ColumnWords.{column_at}
 use Rattle.cmr_base.proofs.Integers.{sums, products}
 use Rattle.cmr_base.proofs.Parts.{entry-turned, height-transposed}
 use Rattle.cmr_base.proofs.RowLists.{two_cases, same_or_not}
@@ -28,25 +25,6 @@ use Rattle.three_sep.specs.Parted.{AreToldApart, DifferWithin, HaveName, IsAlway
 use Rattle.three_sep.proofs.CutLemmas.{other_side, other_is_cut}
 
 -- ---- words
-
-zero_or_one : (n : ℕ) → n < 2 → (n ≡ 0) ⊎ (n ≡ 1)
-zero_or_one zero h = inl refl
-zero_or_one (suc zero) h = inr refl
-zero_or_one (suc (suc n)) h = absurd (omega arith)
-
-same_bits : (a b : ℕ) → (a ≡ 0) ⊎ (a ≡ 1) → (b ≡ 0) ⊎ (b ≡ 1) → eqb ((a + b) % 2) 1 ≡ true → eqb a 1 ≢ eqb b 1
-same_bits a b (inl e) (inl f) h = absurd (not_both (eqb ((a + b) % 2) 1) h (rw (e, f) refl))
-same_bits a b (inl e) (inr f) h = λ s. not_both (eqb b 1) (rw f refl) (sym s ∙ rw e refl)
-same_bits a b (inr e) (inl f) h = λ s. not_both (eqb a 1) (rw e refl) (s ∙ rw f refl)
-same_bits a b (inr e) (inr f) h = absurd (not_both (eqb ((a + b) % 2) 1) h (rw (e, f) refl))
-
-pub differ_in_xor : (a b k : ℕ) → has_bit (bit_xor a b) k ≡ true → has_bit a k ≢ has_bit b k
-differ_in_xor a b k h = same_bits (bit_at a k) (bit_at b k) (zero_or_one (bit_at a k) (bit_at-lt a k)) (zero_or_one (bit_at b k) (bit_at-lt b k)) (sym (ap (λ n. eqb n 1) (bit_at_xor a b k)) ∙ h)
-
-pub words_differ : (a b within : ℕ) → a < 2 ^ 64 → b < 2 ^ 64 → within < 2 ^ 64 → not (eqb (bit_and (bit_xor a b) within) 0) ≡ true → DifferWithin a b within
-words_differ a b within la lb lw e =
-    let (k, l, in_xor, in_within) = bits_shared (bit_xor a b) within (xor_lt 64 a b la lb) lw (word_nonzero (bit_and (bit_xor a b) within) e) in
-    (k, l, in_within, differ_in_xor a b k in_xor)
 
 pub column_differs : (one two within : List ℕ) (block : ℕ) → DifferWithin (get_or one block 0) (get_or two block 0) (get_or within block 0)
     → (c : ℕ) × (has_column within c ≡ true) × (has_column one c ≢ has_column two c)
@@ -99,19 +77,16 @@ first_zero a b e z = rw z (simp products (omega (arith, sums)))
 second_zero : (a b e : ℤ) → b ≡ pos 0 → a *ℤ (b *ℤ e) ≡ pos 0
 second_zero a b e z = rw z (simp products (omega (arith, sums)))
 
-zero_test : (z : ℤ) → z ≡ pos 0 → is_nonzero z ≡ false
-zero_test z e = rw e refl
-
 as_second : (v a b e : ℤ) → IsEntry a → IsEntry b → IsEntry e → a ≢ pos 0 → e ≢ pos 0 → v ≡ a *ℤ (b *ℤ e) → is_nonzero v ≡ is_nonzero b
 as_second v a b e sa sb se na ne is = elim (two_cases (is_nonzero b)) [
   | inl t ↦ ap is_nonzero is ∙ times_sign a b e (sign_of_entry a sa na) (sign_of_entry b sb (nonzero_is b t)) (sign_of_entry e se ne) ∙ sym t
-  | inr f ↦ zero_test v (is ∙ second_zero a b e (zero_is b f)) ∙ sym f
+  | inr f ↦ is_zero v (is ∙ second_zero a b e (zero_is b f)) ∙ sym f
 ]
 
 as_first : (v a b e : ℤ) → IsEntry a → IsEntry b → IsEntry e → b ≢ pos 0 → e ≢ pos 0 → v ≡ a *ℤ (b *ℤ e) → is_nonzero v ≡ is_nonzero a
 as_first v a b e sa sb se nb ne is = elim (two_cases (is_nonzero a)) [
   | inl t ↦ ap is_nonzero is ∙ times_sign a b e (sign_of_entry a sa (nonzero_is a t)) (sign_of_entry b sb nb) (sign_of_entry e se ne) ∙ sym t
-  | inr f ↦ zero_test v (is ∙ first_zero a b e (zero_is a f)) ∙ sym f
+  | inr f ↦ is_zero v (is ∙ first_zero a b e (zero_is a f)) ∙ sym f
 ]
 
 -- ---- one line at most
@@ -271,14 +246,6 @@ named_as names names' lines lines' from from' count count' name en el ef ec h =
 pub told_as : (m m' : Matrix) (own own' crossing crossing' : List ℕ) → m ≡ m' → own ≡ own' → crossing ≡ crossing' → AreToldApart m own crossing → AreToldApart m' own' crossing'
 told_as m m' own own' crossing crossing' em eo ec h =
     subst (λ (z : Matrix). AreToldApart z own' crossing') em (subst (λ (v : List ℕ). AreToldApart m v crossing') eo (subst (λ (v : List ℕ). AreToldApart m own v) ec h))
-
--- ---- the loops
-
-pub lines_more : (P : ℕ → Type 0) (own : List ℕ) (here : ℕ) → ((s : ℕ) → s < here → has_column own s ≡ false → P s) → (has_column own here ≡ false → P here) → (s : ℕ) → s < here + 1 → has_column own s ≡ false → P s
-lines_more P own here before now s l e = elim (same_or_not s here) [
-  | inl same ↦ subst P (sym same) (now (sym (ap (has_column own) same) ∙ e))
-  | inr n ↦ before s (omega (arith, l, n)) e
-]
 
 pub if_ok_map : {A E : Type 0} (P Q : A → Type 0) (r : Result A E) → ((x : A) → P x → Q x) → IfOk r P → IfOk r Q
 if_ok_map P Q (Ok x) f h = f x h

@@ -7,7 +7,7 @@ use Rattle.cmr_base.proofs.Parts.{entry-transposed, height-transposed}
 use Rattle.cmr_base.specs.Matrix.{transposed, IsMatrix, Matrix, height, row_of, entry, IsEntry}
 use Rattle.cmr_base.specs.Members.{IsIn}
 use Rattle.cmr_base.proofs.Integers.{mul_assoc, mul_comm}
-use Rattle.cmr_base.proofs.Booleans.{false_is, not_both}
+use Rattle.cmr_base.proofs.Booleans.{false_is, not_both, true_is}
 use Rattle.cmr_base.proofs.EntryBytes.{kept_entry}
 use Rattle.cmr_base.proofs.SeedLemmas.{count_grows}
 use Rattle.three_sep.specs.declared.half.Half.{Half}
@@ -21,10 +21,6 @@ use Rattle.three_sep.proofs.HalfLemmas.{count_most}
 use Rattle.three_sep.specs.Sides.{set_of, HasRoom, IsClosedBy, IsGrowingBy, IsGrowing, IsLeastBy, LeavesFewBy, HasNamedStart, name_in}
 
 -- ---- counts
-
-pub not_not_true : (b : Bool) → (b ≡ false → ⊥) → b ≡ true
-not_not_true true h = refl
-not_not_true false h = absurd (h refl)
 
 -- what is not in the greater set is not in the smaller one
 pub not_grows : (a b : Bool) → (a ≡ true → b ≡ true) → not b ≡ true → not a ≡ true
@@ -85,7 +81,7 @@ module _ (m : Matrix) (upper lower : ℕ → ℕ → ℤ) (before after : Side) 
   row_least T closed has (Row r) e = g.least T closed has (Row r) (sym (row_same r) ∙ e)
   row_least T closed has (Column k) e = elim (w.only k e) [
     | inl h ↦ g.least T closed has (Column k) h
-    | inr h ↦ not_not_true (T (Column k)) (λ out. h.1 (agrees_of k (closed.right row k t.line_in h.0 (g.least T closed has (Row row) t.line_inside) out)))
+    | inr h ↦ true_is (T (Column k)) (λ out. h.1 (agrees_of k (closed.right row k t.line_in h.0 (g.least T closed has (Row row) t.line_inside) out)))
   ]
 
   row_right : (r k : ℕ) → r < height m → k < m.width → set_of after (Row r) ≡ true → set_of after (Column k) ≡ false → IsIn r after.rows.fresh.items ⊎ (entry m r k ≡ upper r k)
@@ -124,7 +120,7 @@ module _ (m : Matrix) (upper lower : ℕ → ℕ → ℤ) (before after : Side) 
   column_least T closed has (Column k) e = g.least T closed has (Column k) (sym (column_same k) ∙ e)
   column_least T closed has (Row r) e = elim (w.only r e) [
     | inl h ↦ g.least T closed has (Row r) h
-    | inr h ↦ not_not_true (T (Row r)) (λ out. h.1 (agrees_of r (closed.below r column h.0 t.line_in out (g.least T closed has (Column column) t.line_inside))))
+    | inr h ↦ true_is (T (Row r)) (λ out. h.1 (agrees_of r (closed.below r column h.0 t.line_in out (g.least T closed has (Column column) t.line_inside))))
   ]
 
   column_right : (r k : ℕ) → r < height m → k < m.width → set_of after (Row r) ≡ true → set_of after (Column k) ≡ false → IsIn r after.rows.fresh.items ⊎ (entry m r k ≡ upper r k)

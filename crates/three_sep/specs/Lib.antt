@@ -7,6 +7,7 @@ pub mod Concentrated
 pub mod Independent
 pub mod Cuts
 pub mod Parted
+pub mod Digests
 pub mod Finders
 pub mod Searches
 pub mod Blocks

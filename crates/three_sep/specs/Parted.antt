@@ -27,8 +27,3 @@ IsAlwaysParted m groups name = (T : Lines) → IsCut m T
 -- two words differ at a bit that a third has
 abbrev pub DifferWithin : (one two within : ℕ) → Type 0
 DifferWithin one two within = (k : ℕ) × (k < 64) × (has_bit within k ≡ true) × (has_bit one k ≢ has_bit two k)
-
--- the same so far: for the rows before one
-pub record AreToldApartBefore (m : Matrix) (own crossing : List ℕ) (before : ℕ) : Type 0 where
-  pub met : (r : ℕ) → r < before → has_column own r ≡ false → (c : ℕ) × (has_column crossing c ≡ true) × (support m r c ≡ true)
-  pub apart : (r s : ℕ) → r < before → s < r → has_column own r ≡ false → has_column own s ≡ false → (c : ℕ) × (has_column crossing c ≡ true) × (support m r c ≢ support m s c)

@@ -6,8 +6,8 @@ ghost use Rattle.cmr_base.specs.Planes.{words_for};
 ghost use Rattle.cmr_base.specs.Trees.{support};
 ghost use Rattle.three_sep.specs.Independent.{AreIndependent, IsNewRow};
 
-use cmr_base::RowsAndColumns;
 use cmr_base::columns::{add_outside, clear_set, meets};
+use cmr_base::{MAX_ROWS, RowsAndColumns};
 
 /// Whether three rows are shown to be independent that are not 0 in column j, in the columns in which row i is not 0: each
 /// is not 0 in one of them in which those before it are 0. A side with row i and without column j would have these
@@ -47,9 +47,9 @@ pub fn are_three_independent(
 fn new_row(views: &RowsAndColumns<'_>, set: &[u64], j: u32, from: u32) -> Option<u32>
     requires column { j < views.now.width }
     requires set { length set.now ≡ words_for views.now.width }
-    requires from { from ≤ 1000 }
+    requires from { from ≤ MAX_ROWS }
     ensures new { MatchOption result (Unit {0}) (IsNewRow views.now j (has_column set.now)) }
-    ensures small { IfSome result (λ row. row < 1000) }
+    ensures small { IfSome result (λ row. row < MAX_ROWS) }
 {
     let mut next = from;
     while let Some(row) = views.by_columns().next_nonzero(j, next) {

@@ -6,6 +6,7 @@ mod concentrated;
 mod concentrated_rows;
 mod connectors;
 mod corners;
+mod finder;
 mod groups;
 mod half;
 mod independent;
@@ -15,6 +16,7 @@ mod pulled;
 mod search;
 mod side;
 mod spread_side;
+mod together;
 mod triple;
 
 pub use cmr_base::{Connector, Form, Three};

@@ -1,11 +1,13 @@
 // Groups that every cut parts, since they tell all other lines apart.
-ghost use Rattle.std.specs.Prelude.{◌≡◌, ◌≢◌, ◌<◌, ◌≤◌, ◌+◌, ◌/◌, ◌⊎◌, ℕ, true, false, length, IfOk};
+ghost use Rattle.std.specs.Prelude.{◌≡◌, ◌<◌, ◌≤◌, ◌+◌, ◌/◌, ◌⊎◌, ℕ, true, false, length, IfOk};
 ghost use Rattle.cmr_base.specs.ColumnSets.{has_column};
 ghost use Rattle.cmr_base.specs.Matrix.{height, IsMatrix, is_nonzero, row_of};
 ghost use Rattle.cmr_base.specs.Planes.{words_for, words_of};
 ghost use Rattle.three_sep.specs.Cuts.{HasNames};
 ghost use Rattle.cmr_base.specs.Trees.{support};
-ghost use Rattle.three_sep.specs.Parted.{AreToldApart, DifferWithin, HaveName, IsAlwaysParted};
+ghost use Rattle.std.specs.List.Sorted.{IsStrictlyIncreasing};
+ghost use Rattle.three_sep.specs.Digests.{digest_of, mixed};
+ghost use Rattle.three_sep.specs.Parted.{AreToldApart, HaveName, IsAlwaysParted};
 
 use crate::groups::Groups;
 use cmr_base::columns::{empty_set, meets};
@@ -32,10 +34,10 @@ pub fn is_parted_by_cuts(
         views.columns(),
         name,
     )?;
-    if !are_told_apart(views.by_rows(), &rows, &columns) {
+    if !are_told_apart(alloc, views.by_rows(), &rows, &columns)? {
         return Ok(false);
     }
-    Ok(are_told_apart(views.by_columns(), &columns, &rows))
+    are_told_apart(alloc, views.by_columns(), &columns, &rows)
 }
 
 // Lines of a name among so many, the first of which has the name at a place.
@@ -77,57 +79,62 @@ fn has_line(lines: &[u64], line: u32) -> bool
     has_bit(lines[line as usize / 64], line % 64)
 }
 
-// Whether the rows that are not among `own` are told apart by the columns `crossing`.
-fn are_told_apart(matrix: &Matrix, own: &[u64], crossing: &[u64]) -> bool
+// An odd number whose bits look random.
+const MULTIPLIER: u64 = 11_400_714_819_323_198_485;
+
+// Whether the rows that are not among `own` are shown to be told apart by the columns `crossing`: no two have one digest
+// of their words there.
+fn are_told_apart(
+    alloc: Global,
+    matrix: &Matrix,
+    own: &[u64],
+    crossing: &[u64],
+) -> Result<bool, Memory>
     requires own { length own.now ≡ words_for (height matrix.now) }
     requires crossing { length crossing.now ≡ words_for matrix.now.width }
-    ensures { result ≡ true → AreToldApart matrix.now own.now crossing.now }
+    ensures { IfOk result (λ told. told ≡ true → AreToldApart matrix.now own.now crossing.now) }
 {
+    let mut digests = Vec::with_capacity(alloc, matrix.rows() as usize)?;
     for row in 0..matrix.rows() {
-        if !has_line(own, row) && !is_told_apart(matrix, own, crossing, row) {
+        if !has_line(own, row) {
+            let words = matrix.support_words(row);
+            if !meets(words, crossing) {
+                return Ok(false);
+            }
+            digests.push(digest_of(words, crossing))?;
+        }
+    }
+    digests.sort_unstable();
+    Ok(are_rising(&digests))
+}
+
+// One number for what some words have in common with others.
+fn digest_of(words: &[u64], within: &[u64]) -> u64
+    requires { length within.now ≡ length words.now }
+    ensures { result ≡ digest_of words.now within.now }
+{
+    let mut digest = 0;
+    for block in 0..words.len() {
+        digest = mixed(digest, words[block] & within[block]);
+    }
+    digest
+}
+
+// A digest with one more word.
+fn mixed(digest: u64, word: u64) -> u64
+    ensures { result ≡ mixed digest word }
+{
+    (digest.rotate_left(32) ^ word).wrapping_mul(MULTIPLIER)
+}
+
+// Whether each number is below the next.
+fn are_rising(numbers: &[u64]) -> bool
+    ensures { result ≡ true → IsStrictlyIncreasing numbers.now }
+{
+    for place in 1..numbers.len() {
+        if numbers[place - 1] >= numbers[place] {
             return false;
         }
     }
     true
-}
-
-// Whether a row is not 0 in some column of a set, and differs there from each earlier row that is not among `own`.
-fn is_told_apart(matrix: &Matrix, own: &[u64], crossing: &[u64], row: u32) -> bool
-    requires own { length own.now ≡ words_for (height matrix.now) }
-    requires crossing { length crossing.now ≡ words_for matrix.now.width }
-    requires row { row < height matrix.now }
-    ensures met { result ≡ true → (c : ℕ) × (has_column crossing.now c ≡ true) × (support matrix.now row c ≡ true) }
-    ensures apart { result ≡ true → (s : ℕ) → s < row → has_column own.now s ≡ false → (c : ℕ) × (has_column crossing.now c ≡ true) × (support matrix.now row c ≢ support matrix.now s c) }
-{
-    let _rows = matrix.rows();
-    let words = matrix.support_words(row);
-    if !meets(words, crossing) {
-        return false;
-    }
-    for other in 0..row {
-        if !has_line(own, other) && !differ_within(words, matrix.support_words(other), crossing) {
-            return false;
-        }
-    }
-    true
-}
-
-// Whether just one of two sets has some column of a third.
-fn differ_within(one: &[u64], two: &[u64], within: &[u64]) -> bool
-    requires two { length two.now ≡ length one.now }
-    requires within { length within.now ≡ length one.now }
-    ensures { result ≡ true → (c : ℕ) × (has_column within.now c ≡ true) × (has_column one.now c ≢ has_column two.now c) }
-{
-    for block in 0..one.len() {
-        if words_differ_within(one[block], two[block], within[block]) {
-            return true;
-        }
-    }
-    false
-}
-
-fn words_differ_within(one: u64, two: u64, within: u64) -> bool
-    ensures { result ≡ true → DifferWithin one two within }
-{
-    (one ^ two) & within != 0
 }

@@ -17,7 +17,8 @@ ghost use Rattle.three_sep.specs.Searches.{IsNoSecondRow, IsNoSecondColumn, HasN
 use crate::block::{Block, open_columns};
 use crate::concentrated::ConcentratedSearch;
 use crate::corners::Corners;
-use crate::groups::{Groups, groups_of, may_cut};
+use crate::finder::groups_of;
+use crate::groups::{Groups, may_cut};
 use crate::half::Half;
 use crate::others::{count_of, is_beside, is_first_other, is_second_other, line_at, line_of};
 use crate::side::Side;
@@ -83,7 +84,14 @@ impl Search {
     }
 
     // Looks for groups where it is time.
-    fn ask(&mut self, alloc: Global, views: &RowsAndColumns<'_>) -> Result<(), Memory>
+    fn ask<R: Threads + Sync>(
+        &mut self,
+        rt: &R,
+        alloc: Global,
+        workers: u32,
+        views: &RowsAndColumns<'_>,
+    ) -> Result<(), Memory>
+        requires workers { (1 ≤ workers) × (workers ≤ 64) }
         requires side { HasSize views.now self.old.side }
         requires names { HasNames views.now self.old.groups }
         requires together { HoldTogether (IsCut views.now) views.now self.old.groups }
@@ -95,7 +103,7 @@ impl Search {
         if self.asked || self.tries < EARLY {
             return Ok(());
         }
-        self.groups = groups_of(alloc, views, &mut self.side)?;
+        self.groups = groups_of(rt, alloc, workers, views, &mut self.side)?;
         self.asked = true;
         Ok(())
     }
@@ -264,7 +272,7 @@ impl Search {
         ensures first { IfOk result (λ answer. IfSome answer (IsFirstOf views.now (form_number form ∷ i ∷ p ∷ k ∷ []))) }
         ensures none { IfOk result (λ answer. IfNone answer (HasNoGood views.now (form_number form ∷ i ∷ p ∷ k ∷ []))) }
     {
-        self.ask(alloc, views)?;
+        self.ask(rt, alloc, workers, views)?;
         if workers > 1 && is_large(views, &self.groups, i, p, k) {
             return self.first_of_block(rt, alloc, workers, views, form, i, p, k);
         }

@@ -1,10 +1,16 @@
-use Rattle.std.proofs.Common.{◌≡◌, ◌≢◌, ◌<◌, ◌∙◌, ℕ, true, false, sym}
-use Rattle.std.proofs.lemmas.Bool.{true≢false}
-use Rattle.cmr_base.specs.ColumnSets.{has_column}
-use Rattle.cmr_base.specs.Trees.{support}
-use Rattle.three_sep.proofs.PartedLemmas.{lines_more}
+use Rattle.std.proofs.Common.{ℕ, List, ◌+◌, ◌∙◌, sym, ap, subst, arith}
+use Rattle.std.specs.List.Sorted.{IsStrictlyIncreasing}
+use Rattle.cmr_base.proofs.ColumnWords.{words_columns, words_long}
+use Rattle.three_sep.specs.Digests.{AreDigested, digest_of}
+use Rattle.three_sep.proofs.DigestLemmas.{digested_more, digested_own, told_by_digests}
 use Rattle.three_sep.proofs.parted.are_told_apart.Goals as goal
-use Rattle.three_sep.proofs.parted.are_told_apart.Goals.{else-not-has_line-via-then-not-has_line+else-not-is_told_apart, else-not-has_line-via-else-not-has_line}
+use Rattle.three_sep.proofs.parted.are_told_apart.Goals.{then-not-has_line+else-not-meets+in_ok-push, else-not-has_line}
+
+pub meets-requires : goal.meets-requires
+meets-requires c = words_long c.args.matrix.now c.loop-row.row c.support_words-words.result.now c.support_words-words.ensures ∙ sym c.requires.crossing
+
+pub digest_of-requires : goal.digest_of-requires
+digest_of-requires c = c.requires.crossing ∙ sym (words_long c.args.matrix.now c.loop-row.row c.support_words-words.result.now c.support_words-words.ensures)
 
 pub loop-row-preserved : goal.loop-row-preserved
 loop-row-preserved c =
@@ -12,14 +18,21 @@ loop-row-preserved c =
     let own = c.args.own.now in
     let crossing = c.args.crossing.now in
     let row = c.loop-row.row in
-    record {
-      met = lines_more (λ (r : ℕ). (x : ℕ) × (has_column crossing x ≡ true) × (support m r x ≡ true)) own row c.loop-row.invariant.met (λ out. elim c.else-not-has_line.branch [
-        | else-not-has_line-via-then-not-has_line+else-not-is_told_apart w ↦ w.is_told_apart.ensures.met w.if-not-is_told_apart.false
-        | else-not-has_line-via-else-not-has_line w ↦ absurd (true≢false (sym w.if-not-has_line.false ∙ c.has_line.ensures ∙ out))
-      ]);
-      apart = λ r s l ls er es. lines_more (λ (r : ℕ). (s : ℕ) → s < r → has_column own s ≡ false → (x : ℕ) × (has_column crossing x ≡ true) × (support m r x ≢ support m s x)) own row
-          (λ q lq eq t lt et. c.loop-row.invariant.apart q t lq lt eq et) (λ out. elim c.else-not-has_line.branch [
-            | else-not-has_line-via-then-not-has_line+else-not-is_told_apart w ↦ w.is_told_apart.ensures.apart w.if-not-is_told_apart.false
-            | else-not-has_line-via-else-not-has_line w ↦ absurd (true≢false (sym w.if-not-has_line.false ∙ c.has_line.ensures ∙ out))
-          ]) r l er s ls es;
-    }
+    let digests = c.loop-row.digests.items in
+    elim c.if-not-has_line.branch [
+      | then-not-has_line+else-not-meets+in_ok-push w ↦
+          let words = w.support_words-words.result.now in
+          let (column, in_row, in_crossing) = w.meets.ensures.0 w.if-not-meets.false in
+          subst (λ (v : List ℕ). AreDigested m own crossing (row + 1) v) (sym (ap (λ (v : _). v.items) w.digests-is))
+          (digested_more m own crossing digests row c.loop-row.invariant w.push.new.self.items w.digest_of.result (sym c.has_line.ensures ∙ w.if-not-has_line.true) w.in_ok-push.ensures.items
+          (w.digest_of.ensures ∙ ap (λ (v : List ℕ). digest_of v crossing) w.support_words-words.ensures)
+          (column, in_crossing, sym (words_columns m row words w.support_words-words.ensures c.rows.ensures.shape (let l = c.loop-row-test.true in let e = c.rows-row-end.ensures.rows in omega arith) column) ∙ in_row))
+      | else-not-has_line w ↦
+          subst (λ (v : List ℕ). AreDigested m own crossing (row + 1) v) (sym (ap (λ (v : _). v.items) w.digests-is)) (digested_own m own crossing digests row c.loop-row.invariant (sym c.has_line.ensures ∙ w.if-not-has_line.false))
+    ]
+
+pub returns : goal.returns
+returns c e =
+    told_by_digests c.args.matrix.now c.args.own.now c.args.crossing.now c.loop-row.digests.items c.sort_unstable.new.self.items c.loop-row.row c.rows.ensures.shape
+    (let l = c.loop-row-test.false in let b = c.loop-row.auto.row-end in let n = c.rows-row-end.ensures.rows in omega arith) c.loop-row.invariant
+    c.sort_unstable.ensures.permutation (subst IsStrictlyIncreasing c.deref.ensures.value (c.are_rising.ensures e))

@@ -1,21 +1,17 @@
-use Rattle.std.proofs.Common.{◌≡◌, ◌<◌, ◌+◌, ◌*◌, ◌∙◌, ◌&&◌, not, ℕ, ℤ, w8, to_z, of_z, true, false, eqb, length, refl, subst, sym, ap, arith}
-use Rattle.std.proofs.lemmas.Bool.{false≢true}
-use Rattle.std.proofs.lemmas.Nat.Bits.{bit_at-zero}
+use Rattle.std.proofs.Common.{◌≡◌, ◌<◌, ◌+◌, ◌*◌, ◌∙◌, ◌&&◌, not, ℕ, ℤ, w8, to_z, of_z, true, false, length, refl, subst, sym, ap, arith}
 use Rattle.cmr_base.specs.ColumnSets.{has_column}
 use Rattle.cmr_base.specs.Differences.{differs_at}
 use Rattle.cmr_base.specs.Matrix.{row_of}
 use Rattle.cmr_base.specs.Planes.{has_bit}
 use Rattle.cmr_base.proofs.DifferenceWords.{difference_in}
 use Rattle.cmr_base.proofs.EntryBytes.{kept_entry}
+use Rattle.cmr_base.proofs.WordBits.{no_bit}
 use Rattle.line_growth.proofs.FoundLemmas.{found_passes}
 use Rattle.three_sep.specs.declared.half.Half.{Half}
 use Rattle.three_sep.specs.Halves.{Agrees, HasGrown, HasPulled, IsBitOf, IsHalf, is_in}
 use Rattle.three_sep.proofs.HalfLemmas.{differing, grown_joined, grown_seen, pulled, pulled_until, seen_more}
 use Rattle.three_sep.proofs.half.Half.pull.Goals as goal
 use Rattle.three_sep.proofs.half.Half.pull.Goals.{then-word-ne0+in_ok-add_word, else-word-ne0}
-
-no_bit : (word k : ℕ) → word ≡ 0 → has_bit word k ≡ true → ⊥
-no_bit word k z e = false≢true (sym (ap (λ (bit : ℕ). eqb bit 1) (bit_at-zero k)) ∙ ap (λ (w : ℕ). has_bit w k) (sym z) ∙ e)
 
 pub add_word-requires-clause-half : goal.add_word-requires-clause-half
 add_word-requires-clause-half c = let w = c.loop-block.invariant.grown.whole in subst (λ (n : ℕ). IsHalf n c.loop-block.self) (sym w.size) w
