@@ -1,15 +1,9 @@
 -- Rows with different digests: none is a copy or the negative of another.
-use Rattle.std.proofs.Common.{◌≡◌, ◌≢◌, ◌<◌, ◌*◌, ◌+◌, ◌&&◌, ◌||◌, ◌∙◌, inl, inr, ℕ, zero, suc, Bool, true, false, true≢false, cond, not, eqb, Option, Some, is_some, MatchOption, ℤ, pos, neg_ℤ, List, [], ◌∷◌, length, map, take, drop, get_or, None, eq-eqb, ne_eqb, refl, ap, ap₂, sym, subst, arith}
-use Rattle.std.specs.Prelude.{IsPermutation}
-use Rattle.std.specs.List.{IsDistinct}
-use Rattle.std.specs.List.Sorted.{IsStrictlyIncreasing}
-use Rattle.std.proofs.lemmas.Bool.{cases_eq, cases_lt, eqb-false}
+use Rattle.std.proofs.Common.{◌≡◌, ◌<◌, ◌*◌, ◌+◌, ◌&&◌, ◌||◌, ◌∙◌, inl, inr, ℕ, zero, suc, Bool, true, false, true≢false, cond, not, eqb, Option, Some, is_some, MatchOption, ℤ, pos, neg_ℤ, List, [], ◌∷◌, length, map, take, drop, get_or, None, refl, ap, ap₂, sym, subst, arith}
+use Rattle.std.proofs.lemmas.Bool.{cases_lt, eqb-false}
 use Rattle.std.proofs.lemmas.List.{take-map, drop-map}
 use Rattle.std.proofs.lemmas.List.Folds.{list_any_none}
 use Rattle.std.proofs.lemmas.List.FromFn.{length-range_with_len, get_or-range_with_len}
-use Rattle.std.proofs.lemmas.List.Kept.{AllPairs-from_increasing}
-use Rattle.std.proofs.lemmas.List.Sorted.{IsPermutation-sym}
-use Rattle.std.proofs.lemmas.Map.Keys.{apart_from_distinct, IsDistinct-from_apart, IsDistinct-IsPermutation}
 use Rattle.cmr_base.specs.declared.line.Line.{Line}
 use Rattle.cmr_base.specs.declared.line.Line.TheVariants.{Row, Column}
 use Rattle.cmr_base.specs.Matrix.{Matrix, height, row_of, entry, is_nonzero, transposed, IsMatrix, IsRectangular}
@@ -23,6 +17,7 @@ use Rattle.cmr_base.proofs.RemovedLines.{in_first_lines}
 use Rattle.cmr_base.proofs.ThinLines.{and_is, not_is, false_is, equal_is, nonzero_is, thin_from_count}
 use Rattle.cmr_base.proofs.TransposedLemmas.{entries-transposed}
 use Rattle.sp_reduce.specs.Kinds.{is_twin}
+use Rattle.digests.specs.Digests.{AreDifferent}
 use Rattle.sp_reduce.specs.Digests.{digest_of, digest_at, AreUnlikeRows, HasNoReducibleLine}
 use Rattle.sp_reduce.proofs.SideLemmas.{none_is}
 use Rattle.sp_reduce.proofs.Views.{reason_of_twin}
@@ -106,27 +101,17 @@ none_reducible m is rows columns binary (Column column) h =
     (subst (λ (n : ℕ). first_reason binary (entry (transposed m)) Column Row (first_lines n) (first_lines (height m)) column ≡ None) (height-transposed m)
     (no_reason (transposed m) (is_matrix-transposed m is).rectangular columns binary column inside Column Row))
 
--- ---- digests that rise when they are sorted are different
+-- ---- rows with different digests are unlike
 
-pub unlike_rows : (m : Matrix) (digests sorted : List ℕ) → length digests ≡ height m → ((k : ℕ) → k < height m → get_or digests k 0 ≡ digest_at m k)
-    → ((k : ℕ) → k < height m → 1 < nonzeros_at (first_lines m.width) (entry m k)) → IsPermutation digests sorted → IsStrictlyIncreasing sorted → AreUnlikeRows m
-unlike_rows m digests sorted long are many permuted rises = record {
+pub unlike_rows : (m : Matrix) (digests : List ℕ) → length digests ≡ height m → ((k : ℕ) → k < height m → get_or digests k 0 ≡ digest_at m k)
+    → ((k : ℕ) → k < height m → 1 < nonzeros_at (first_lines m.width) (entry m k)) → AreDifferent digests → AreUnlikeRows m
+unlike_rows m digests long are many apart = record {
   many = many;
   unlike = λ row other h g d e. elim (cases_lt row other) [
     | inl below ↦ apart row other below (omega (arith, g, long)) (are row h ∙ e ∙ sym (are other g))
     | inr above ↦ apart other row (omega (arith, above, d)) (omega (arith, h, long)) (are other g ∙ sym e ∙ sym (are row h))
   ];
 }
-  where
-    flips : (x y : ℕ) → eqb x y ≡ eqb y x
-    flips x y = elim (cases_eq x y) [ inl e ↦ eq-eqb x y e ∙ sym (eq-eqb y x (sym e)) | inr d ↦ ne_eqb x y d ∙ sym (ne_eqb y x (λ e. d (sym e))) ]
-
-    distinct : IsDistinct eqb digests
-    distinct = IsDistinct-IsPermutation eqb flips sorted digests (IsPermutation-sym digests sorted permuted)
-        (IsDistinct-from_apart eqb sorted (λ i j d a b. ne_eqb (get_or sorted i d) (get_or sorted j d) (λ e. let below = AllPairs-from_increasing sorted rises i j d a b in omega (arith, below, e))))
-
-    apart : (i j : ℕ) → i < j → j < length digests → get_or digests i 0 ≢ get_or digests j 0
-    apart i j below inside = eqb-false (get_or digests i 0) (get_or digests j 0) (apart_from_distinct eqb digests i j 0 distinct below inside)
 
 -- ---- a row with two nonzeros has no fewer
 

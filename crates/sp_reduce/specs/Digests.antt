@@ -1,16 +1,11 @@
 -- Numbers that tell the supports of rows apart, mostly, and matrices without reducible line.
-use Rattle.std.specs.Prelude.{◌≡◌, ◌≢◌, ◌<◌, ◌*◌, ◌%◌, ◌^◌, Bool, ℕ, List, [], ◌∷◌, None}
-use Rattle.std.specs.Int.{w64, rotate_left}
-use Rattle.std.specs.Int.Bits.{bit_xor}
+use Rattle.std.specs.Prelude.{◌≡◌, ◌≢◌, ◌<◌, Bool, ℕ, List, [], ◌∷◌, None}
 use Rattle.cmr_base.specs.declared.line.Line.{Line}
 use Rattle.cmr_base.specs.Matrix.{Matrix, height, row_of, entry, is_nonzero}
 use Rattle.cmr_base.specs.LineSets.{first_lines}
 use Rattle.cmr_base.specs.Planes.{words_for, words_of}
+use Rattle.digests.specs.Digests.{mixed}
 use Rattle.cmr_base.specs.Reductions.{nonzeros_at, line_reason, HasLine}
-
--- a digest with one more word
-abbrev pub mixed : ℕ → ℕ → ℕ
-mixed digest word = (bit_xor (rotate_left w64 digest 32) word * 11400714819323198485) % 2 ^ 64
 
 -- a digest with more words
 abbrev pub digest_from : ℕ → List ℕ → ℕ

@@ -1,16 +1,13 @@
 // A first look at the lines of a matrix, by which most matrices without reducible line are known.
 ghost use Rattle.std.specs.Prelude.{◌≡◌, ◌<◌, Bool, true, false, IfOk};
-ghost use Rattle.std.specs.List.Sorted.{IsStrictlyIncreasing};
 ghost use Rattle.cmr_base.specs.Matrix.{height, entry};
 ghost use Rattle.cmr_base.specs.LineSets.{first_lines};
 ghost use Rattle.cmr_base.specs.Reductions.{nonzeros_at};
-ghost use Rattle.sp_reduce.specs.Digests.{mixed, digest_of, AreUnlikeRows, HasNoReducibleLine};
+ghost use Rattle.sp_reduce.specs.Digests.{digest_of, AreUnlikeRows, HasNoReducibleLine};
 
 use cmr_base::{Matrix, Memory, RowsAndColumns};
+use digests::{are_different, mixed};
 use std::alloc::Global;
-
-// An odd number whose bits look random.
-const MULTIPLIER: u64 = 11_400_714_819_323_198_485;
 
 /// What a first look at the lines of a matrix tells.
 #[derive(Clone, Copy, Debug, PartialEq, Eq)]
@@ -44,8 +41,7 @@ fn has_unlike_rows(alloc: Global, matrix: &Matrix) -> Result<bool, Memory>
         }
         digests.push(digest_of(matrix.support_words(row)))?;
     }
-    digests.sort_unstable();
-    Ok(are_rising(&digests))
+    Ok(are_different(&mut digests))
 }
 
 // Whether a row has at most one nonzero.
@@ -68,23 +64,4 @@ fn digest_of(words: &[u64]) -> u64
         digest = mixed(digest, *word);
     }
     digest
-}
-
-// A digest with one more word.
-fn mixed(digest: u64, word: u64) -> u64
-    ensures { result ≡ mixed digest word }
-{
-    (digest.rotate_left(32) ^ word).wrapping_mul(MULTIPLIER)
-}
-
-// Whether each number is below the next.
-fn are_rising(numbers: &[u64]) -> bool
-    ensures { result ≡ true → IsStrictlyIncreasing numbers.now }
-{
-    'places: for place in 1..numbers.len() {
-        if numbers[place - 1] >= numbers[place] {
-            return false;
-        }
-    }
-    true
 }

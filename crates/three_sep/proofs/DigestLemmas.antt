@@ -22,7 +22,8 @@ use Rattle.cmr_base.proofs.Booleans.{and_false, is_not, not_both, two_cases}
 use Rattle.cmr_base.proofs.ColumnWords.{row_columns}
 use Rattle.cmr_base.proofs.PlaneWords.{length-words_of, word-words_of, word_of-lt}
 use Rattle.cmr_base.proofs.WordBits.{has_bit-and, zero_or_one}
-use Rattle.three_sep.specs.Digests.{AreDigested, digest_at, digest_from, mixed}
+use Rattle.digests.specs.Digests.{AreDifferent, mixed}
+use Rattle.three_sep.specs.Digests.{AreDigested, digest_at, digest_from}
 use Rattle.three_sep.specs.Parted.{AreToldApart, DifferWithin}
 use Rattle.three_sep.proofs.PartedLemmas.{column_differs, support_differs}
 
@@ -91,19 +92,6 @@ rows_unlike m crossing r s is lr ls n =
     small : (row block : ℕ) → block < words_for m.width → get_or (words row) block 0 < 2 ^ 64
     small row block low = let e = word-words_of (words_for m.width) is_nonzero (row_of m row) block low in let t = word_of-lt is_nonzero (row_of m row) block in omega (arith, e, t)
 
--- ---- numbers that rise when they are sorted are different
-
-apart_when_rising : (numbers sorted : List ℕ) → IsPermutation numbers sorted → IsStrictlyIncreasing sorted → (i j : ℕ) → i < j → j < length numbers → get_or numbers i 0 ≢ get_or numbers j 0
-apart_when_rising numbers sorted permuted rises i j below inside =
-    eqb-false (get_or numbers i 0) (get_or numbers j 0) (apart_from_distinct eqb numbers i j 0 distinct below inside)
-  where
-    flips : (x y : ℕ) → eqb x y ≡ eqb y x
-    flips x y = elim (cases_eq x y) [ inl e ↦ eq-eqb x y e ∙ sym (eq-eqb y x (sym e)) | inr d ↦ ne_eqb x y d ∙ sym (ne_eqb y x (λ e. d (sym e))) ]
-
-    distinct : IsDistinct eqb numbers
-    distinct = IsDistinct-IsPermutation eqb flips sorted numbers (IsPermutation-sym numbers sorted permuted)
-        (IsDistinct-from_apart eqb sorted (λ i j d a b. ne_eqb (get_or sorted i d) (get_or sorted j d) (λ e. let below = AllPairs-from_increasing sorted rises i j d a b in omega (arith, below, e))))
-
 -- ---- the digests of the rows beside some
 
 beside : List ℕ → ℕ → Bool
@@ -123,9 +111,9 @@ count_less test one (suc other) l e = elim (cases_eq one other) [
       ]
 ]
 
-pub told_by_digests : (m : Matrix) (own crossing digests sorted : List ℕ) (before : ℕ) → IsMatrix m → before ≡ height m → AreDigested m own crossing before digests → IsPermutation digests sorted → IsStrictlyIncreasing sorted
+pub told_by_digests : (m : Matrix) (own crossing digests : List ℕ) (before : ℕ) → IsMatrix m → before ≡ height m → AreDigested m own crossing before digests → AreDifferent digests
     → AreToldApart m own crossing
-told_by_digests m own crossing digests sorted before is end so permuted rises = record {
+told_by_digests m own crossing digests before is end so apart = record {
   met = λ r l. so.met r (omega (arith, l, end));
   apart = λ r s l below er es.
       let lr : r < before = omega (arith, l, end) in
@@ -133,7 +121,7 @@ told_by_digests m own crossing digests sorted before is end so permuted rises = 
       let less = count_less (λ row. not (has_column own row)) s r below (is_not (has_column own s) es) in
       let inside = count_less (λ row. not (has_column own row)) r before lr (is_not (has_column own r) er) in
       rows_unlike m crossing r s is l (omega (arith, l, below))
-      (λ e. apart_when_rising digests sorted permuted rises (count (λ row. not (has_column own row)) s) (count (λ row. not (has_column own row)) r) less (let k = so.size in omega (arith, inside, k)) (so.values s ls es ∙ sym e ∙ sym (so.values r lr er)));
+      (λ e. apart (count (λ row. not (has_column own row)) s) (count (λ row. not (has_column own row)) r) less (let k = so.size in omega (arith, inside, k)) (so.values s ls es ∙ sym e ∙ sym (so.values r lr er)));
 }
 
 module _ (m : Matrix) (own crossing digests : List ℕ) (row : ℕ) (so : AreDigested m own crossing row digests) where

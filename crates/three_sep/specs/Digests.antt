@@ -2,15 +2,12 @@
 use Rattle.std.specs.Prelude.{◌≡◌, ◌<◌, ◌*◌, ◌%◌, ◌^◌, ℕ, true, false, not, List, [], ◌∷◌, length, slice_index_or}
 use Rattle.std.specs.Int.{w64, rotate_left}
 use Rattle.std.specs.Int.Bits.{bit_and, bit_xor}
+use Rattle.digests.specs.Digests.{mixed}
 use Rattle.cmr_base.specs.ColumnSets.{has_column}
 use Rattle.cmr_base.specs.Matrix.{Matrix, row_of, is_nonzero}
 use Rattle.cmr_base.specs.Planes.{words_for, words_of}
 use Rattle.cmr_base.specs.Seeds.{count}
 use Rattle.cmr_base.specs.Trees.{support}
-
--- a digest with one more word
-abbrev pub mixed : ℕ → ℕ → ℕ
-mixed digest word = (bit_xor (rotate_left w64 digest 32) word * 11400714819323198485) % 2 ^ 64
 
 -- a digest with more words, of which the bits of others count
 abbrev pub digest_from : ℕ → List ℕ → List ℕ → ℕ

@@ -5,13 +5,13 @@ ghost use Rattle.cmr_base.specs.Matrix.{height, IsMatrix, is_nonzero, row_of};
 ghost use Rattle.cmr_base.specs.Planes.{words_for, words_of};
 ghost use Rattle.three_sep.specs.Cuts.{HasNames};
 ghost use Rattle.cmr_base.specs.Trees.{support};
-ghost use Rattle.std.specs.List.Sorted.{IsStrictlyIncreasing};
-ghost use Rattle.three_sep.specs.Digests.{digest_of, mixed};
+ghost use Rattle.three_sep.specs.Digests.{digest_of};
 ghost use Rattle.three_sep.specs.Parted.{AreToldApart, HaveName, IsAlwaysParted};
 
 use crate::groups::Groups;
 use cmr_base::columns::{empty_set, meets};
 use cmr_base::{Matrix, Memory, RowsAndColumns, has_bit, with_bit};
+use digests::{are_different, mixed};
 use std::alloc::Global;
 
 /// Whether every cut is shown to part the lines of a name. On the other side of a cut that has them all on one side,
@@ -79,9 +79,6 @@ fn has_line(lines: &[u64], line: u32) -> bool
     has_bit(lines[line as usize / 64], line % 64)
 }
 
-// An odd number whose bits look random.
-const MULTIPLIER: u64 = 11_400_714_819_323_198_485;
-
 // Whether the rows that are not among `own` are shown to be told apart by the columns `crossing`: no two have one digest
 // of their words there.
 fn are_told_apart(
@@ -104,8 +101,7 @@ fn are_told_apart(
             digests.push(digest_of(words, crossing))?;
         }
     }
-    digests.sort_unstable();
-    Ok(are_rising(&digests))
+    Ok(are_different(&mut digests))
 }
 
 // One number for what some words have in common with others.
@@ -118,23 +114,4 @@ fn digest_of(words: &[u64], within: &[u64]) -> u64
         digest = mixed(digest, words[block] & within[block]);
     }
     digest
-}
-
-// A digest with one more word.
-fn mixed(digest: u64, word: u64) -> u64
-    ensures { result ≡ mixed digest word }
-{
-    (digest.rotate_left(32) ^ word).wrapping_mul(MULTIPLIER)
-}
-
-// Whether each number is below the next.
-fn are_rising(numbers: &[u64]) -> bool
-    ensures { result ≡ true → IsStrictlyIncreasing numbers.now }
-{
-    for place in 1..numbers.len() {
-        if numbers[place - 1] >= numbers[place] {
-            return false;
-        }
-    }
-    true
 }

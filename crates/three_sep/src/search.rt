@@ -273,7 +273,7 @@ impl Search {
         ensures none { IfOk result (λ answer. IfNone answer (HasNoGood views.now (form_number form ∷ i ∷ p ∷ k ∷ []))) }
     {
         self.ask(rt, alloc, workers, views)?;
-        if workers > 1 && is_large(views, &self.groups, i, p, k) {
+        if workers > 1 && self.asked && is_large(views, &self.groups, i, p, k) {
             return self.first_of_block(rt, alloc, workers, views, form, i, p, k);
         }
         for j in 0..views.columns() {

@@ -1,10 +1,10 @@
 use Rattle.std.proofs.Common.{◌<◌, ◌∙◌, ap, subst, arith}
 use Rattle.std.proofs.lemmas.Grind.{common_steps}
-use Rattle.std.specs.List.Sorted.{IsStrictlyIncreasing}
 use Rattle.cmr_base.specs.Matrix.{entry}
 use Rattle.cmr_base.specs.LineSets.{first_lines}
 use Rattle.cmr_base.specs.Reductions.{nonzeros_at}
 use Rattle.cmr_base.proofs.Places.{each_more}
+use Rattle.digests.specs.Digests.{AreDifferent}
 use Rattle.sp_reduce.specs.Digests.{digest_of, digest_at}
 use Rattle.sp_reduce.proofs.Loops.{pushed_each}
 use Rattle.sp_reduce.proofs.UnlikeRows.{unlike_rows}
@@ -28,5 +28,5 @@ returns c e =
     let shape = c.rows-2.ensures.shape in
     let all = c.rows-test.false in
     let end = c.rows-row-end.ensures.rows in
-    unlike_rows m c.rows.digests.items c.sort_unstable.new.self.items (omega (arith, is.long, all, end)) (λ k h. is.digests k (omega (arith, h, all, end))) (λ k h. is.many k (omega (arith, h, all, end)))
-    c.sort_unstable.ensures.permutation (subst IsStrictlyIncreasing c.deref.ensures.value (c.are_rising.ensures e))
+    unlike_rows m c.rows.digests.items (omega (arith, is.long, all, end)) (λ k h. is.digests k (omega (arith, h, all, end))) (λ k h. is.many k (omega (arith, h, all, end)))
+    (subst AreDifferent c.deref_mut.ensures.value (c.are_different.ensures e))

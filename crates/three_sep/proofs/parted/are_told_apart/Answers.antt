@@ -1,6 +1,6 @@
 use Rattle.std.proofs.Common.{ℕ, List, ◌+◌, ◌∙◌, sym, ap, subst, arith}
-use Rattle.std.specs.List.Sorted.{IsStrictlyIncreasing}
 use Rattle.cmr_base.proofs.ColumnWords.{words_columns, words_long}
+use Rattle.digests.specs.Digests.{AreDifferent}
 use Rattle.three_sep.specs.Digests.{AreDigested, digest_of}
 use Rattle.three_sep.proofs.DigestLemmas.{digested_more, digested_own, told_by_digests}
 use Rattle.three_sep.proofs.parted.are_told_apart.Goals as goal
@@ -33,6 +33,6 @@ loop-row-preserved c =
 
 pub returns : goal.returns
 returns c e =
-    told_by_digests c.args.matrix.now c.args.own.now c.args.crossing.now c.loop-row.digests.items c.sort_unstable.new.self.items c.loop-row.row c.rows.ensures.shape
+    told_by_digests c.args.matrix.now c.args.own.now c.args.crossing.now c.loop-row.digests.items c.loop-row.row c.rows.ensures.shape
     (let l = c.loop-row-test.false in let b = c.loop-row.auto.row-end in let n = c.rows-row-end.ensures.rows in omega arith) c.loop-row.invariant
-    c.sort_unstable.ensures.permutation (subst IsStrictlyIncreasing c.deref.ensures.value (c.are_rising.ensures e))
+    (subst AreDifferent c.deref_mut.ensures.value (c.are_different.ensures e))
