@@ -1,7 +1,6 @@
 -- Numbers that tell sets of columns apart, mostly, by what they have in common with one set.
-use Rattle.std.specs.Prelude.{◌≡◌, ◌<◌, ◌*◌, ◌%◌, ◌^◌, ℕ, true, false, not, List, [], ◌∷◌, length, slice_index_or}
-use Rattle.std.specs.Int.{w64, rotate_left}
-use Rattle.std.specs.Int.Bits.{bit_and, bit_xor}
+use Rattle.std.specs.Prelude.{◌≡◌, ◌<◌, ℕ, true, false, not, List, [], ◌∷◌, length, slice_index_or}
+use Rattle.std.specs.Int.Bits.{bit_and}
 use Rattle.digests.specs.Digests.{mixed}
 use Rattle.cmr_base.specs.ColumnSets.{has_column}
 use Rattle.cmr_base.specs.Matrix.{Matrix, row_of, is_nonzero}
