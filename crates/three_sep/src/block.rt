@@ -102,8 +102,8 @@ impl<'a, 'b> Block<'a, 'b> {
         is_marked(&self.columns, j)
     }
 
-    // How many columns are open.
-    fn open_columns(&self) -> u64
+    /// How many columns are open.
+    pub fn open_columns(&self) -> u64
         ensures few { result ≤ 1000 }
         ensures none { result ≡ 0 → HasNoGood self.now.matrix (block_front self.now) }
     {

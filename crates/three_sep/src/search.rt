@@ -72,15 +72,13 @@ impl Search {
         })
     }
 
-    // Counts a try in vain.
-    fn count_try(&mut self)
+    // Counts corners that no cut has.
+    fn count_tries(&mut self, count: u32)
         ensures side { self.new.side ≡ self.old.side }
         ensures grown { self.new.grown ≡ self.old.grown }
         ensures groups { self.new.groups ≡ self.old.groups }
     {
-        if self.tries < EARLY {
-            self.tries += 1;
-        }
+        self.tries = self.tries.saturating_add(count).min(EARLY);
     }
 
     // Looks for groups where it is time.
@@ -273,7 +271,7 @@ impl Search {
         ensures none { IfOk result (λ answer. IfNone answer (HasNoGood views.now (form_number form ∷ i ∷ p ∷ k ∷ []))) }
     {
         self.ask(rt, alloc, workers, views)?;
-        if workers > 1 && self.asked && is_large(views, &self.groups, i, p, k) {
+        if workers > 1 && is_large(views, &self.groups, i, p, k) {
             return self.first_of_block(rt, alloc, workers, views, form, i, p, k);
         }
         for j in 0..views.columns() {
@@ -336,7 +334,8 @@ impl Search {
                 )
             }
             None => {
-                self.count_try();
+                let tried = count_second_columns(views, &self.groups, i, p, k);
+                self.count_tries(tried.saturating_sub(block.open_columns() as u32));
                 Ok(None)
             }
         }
@@ -391,7 +390,7 @@ impl Search {
         ensures none { IfOk result (λ answer. IfNone answer (HasNoGood views.now (corner_front form corners.now))) }
     {
         if !may_cut(views, &mut self.side, corners)? {
-            self.count_try();
+            self.count_tries(1);
             return Ok(None);
         }
         for q in 0..count_of(views, form.first_is_flat()) {
@@ -555,7 +554,7 @@ impl Search {
 
 /// How many pairs of lines are gone over, once for each column j that may be in a second corner, sooner than other workers
 /// are started.
-const FEW_PAIRS: u32 = 1000000;
+const FEW_PAIRS: u64 = 1_000_000;
 
 // Whether a block is large enough for several workers.
 fn is_large(views: &RowsAndColumns<'_>, groups: &Groups, i: u32, p: u32, k: u32) -> bool
@@ -564,18 +563,26 @@ fn is_large(views: &RowsAndColumns<'_>, groups: &Groups, i: u32, p: u32, k: u32)
     requires column { p < views.now.width }
     requires second_row { k < height views.now }
 {
-    let lines = views.rows() + views.columns();
-    let pairs = lines * lines;
-    let mut left = FEW_PAIRS;
+    let lines = u64::from(views.rows() + views.columns());
+    let columns = u64::from(count_second_columns(views, groups, i, p, k));
+    columns * lines * lines >= FEW_PAIRS
+}
+
+// How many columns can be in the second corner with row k.
+fn count_second_columns(views: &RowsAndColumns<'_>, groups: &Groups, i: u32, p: u32, k: u32) -> u32
+    requires names { HasNames views.now groups.now }
+    requires row { i < height views.now }
+    requires column { p < views.now.width }
+    requires second_row { k < height views.now }
+    ensures { result ≤ 1000 }
+{
+    let mut count = 0;
     for j in 0..views.columns() {
         if is_second_column(views, groups, i, p, k, j) {
-            if left <= pairs {
-                return true;
-            }
-            left -= pairs;
+            count += 1;
         }
     }
-    false
+    count
 }
 
 // Whether row k can be in the second corner, beside the first one (i, p).
