@@ -4,7 +4,7 @@ ghost use Rattle.cmr_base.specs.Matrix.{height};
 ghost use Rattle.cmr_base.specs.Separations.{Lines};
 ghost use Rattle.three_sep.specs.Sides.{HasSize};
 ghost use Rattle.three_sep.specs.Cuts.{AreTogether, HasNames, HoldTogether, IsCut};
-ghost use Rattle.three_sep.specs.Finders.{AreAnswers, AreFound, IsAnswer, IsLink};
+ghost use Rattle.three_sep.specs.Finders.{AreFound, IsLink, IsTogether};
 
 use crate::groups::Groups;
 use crate::parted::is_parted_by_cuts;
@@ -26,6 +26,9 @@ const SPARE_LINES: u32 = 2;
 /// How much work questions are at least that several workers share. It is counted as nonzeros that are asked about, times lines
 /// that are looked at for each, times lines of the matrix; less is done before threads would help.
 const SHARED_WORK: u64 = 1_000_000;
+
+/// How many nonzeros a worker is asked about at most before what all found is joined: some, since they differ much in work.
+const SHARE: usize = 16;
 
 // How many of the first rows and columns are looked at first: about as few as tell all other lines apart. Fewer show no
 // group to be parted by every cut, and more cost more tests.
@@ -183,8 +186,7 @@ impl GroupFinder {
         Ok(())
     }
 
-    // The same by several workers: each is asked about one nonzero at a time, and what they find is joined before the next
-    // ones.
+    // The same by several workers: each is asked about some nonzeros, and what they find is joined before the next ones.
     fn join_shared<R: Threads + Sync>(
         &mut self,
         rt: &R,
@@ -200,87 +202,140 @@ impl GroupFinder {
     {
         let mut from = 0;
         while from < links.len() {
-            let to = links.len().min(from + workers as usize);
-            self.join_round(rt, alloc, views, &links[from..to])?;
+            let to = links.len().min(from + workers as usize * SHARE);
+            self.join_round(rt, alloc, workers, views, &links[from..to])?;
             from = to;
         }
         Ok(())
     }
 
-    // Asks about each nonzero in a thread of its own, and joins the lines of those that no cut parts.
+    // Asks each worker about its share of some nonzeros, and joins the lines of those that no cut parts.
     fn join_round<R: Threads + Sync>(
         &mut self,
         rt: &R,
         alloc: Global,
+        workers: u32,
         views: &RowsAndColumns<'_>,
         links: &[Link],
     ) -> Result<(), Memory>
+        requires workers { (1 ≤ workers) × (workers ≤ 64) }
+        requires few { length links.now ≤ 1024 }
         requires found { AreFound views.now self.old }
         requires links { All (IsLink views.now) links.now }
         ensures { OnOk result (AreFound views.now self.new) }
     {
-        let answers = are_each_together(rt, alloc, views, &self.groups, self.first, links)?;
-        for place in 0..links.len() {
-            if answers[place]? {
-                self.join(views, links[place]);
+        let answers = found_by_each(rt, alloc, workers, views, &self.groups, self.first, links)?;
+        for place in 0..answers.len() {
+            match &answers[place] {
+                Ok(found) => self.join_all(views, found),
+                Err(error) => return Err(*error),
             }
         }
         Ok(())
     }
 
+    // Joins the lines of nonzeros that no cut parts.
+    fn join_all(&mut self, views: &RowsAndColumns<'_>, links: &[Link])
+        requires found { AreFound views.now self.old }
+        requires together { All (IsTogether views.now) links.now }
+        ensures { AreFound views.now self.new }
+    {
+        for link in links {
+            self.join(views, *link);
+        }
+    }
+
     // Joins the lines of a nonzero that no cut parts.
     fn join(&mut self, views: &RowsAndColumns<'_>, link: Link)
         requires found { AreFound views.now self.old }
-        requires link { IsLink views.now link }
-        requires together { AreTogether views.now link.row link.column }
+        requires link { IsTogether views.now link }
         ensures { AreFound views.now self.new }
     {
         self.groups.join(link.row, views.rows() + link.column);
     }
 }
 
-// Whether no cut parts the lines of each nonzero, each asked in a thread of its own.
-fn are_each_together<R: Threads + Sync>(
+// Those of some nonzeros whose lines no cut parts, in a list by each worker, which is asked about its share of them.
+fn found_by_each<R: Threads + Sync>(
     rt: &R,
+    alloc: Global,
+    workers: u32,
+    views: &RowsAndColumns<'_>,
+    groups: &Groups,
+    first: u32,
+    links: &[Link],
+) -> Result<Vec<Result<Vec<Link>, Memory>>, Memory>
+    requires workers { (1 ≤ workers) × (workers ≤ 64) }
+    requires few { length links.now ≤ 1024 }
+    requires names { HasNames views.now groups.now }
+    requires together { HoldTogether (IsCut views.now) views.now groups.now }
+    requires first { 1 ≤ first }
+    requires links { All (IsLink views.now) links.now }
+    ensures { IfOk result (λ answers. All (λ answer. IfOk answer (λ found. All (IsTogether views.now) found.items)) answers.items) }
+{
+    let answer = move |worker: usize| -> Result<Vec<Link>, Memory>
+        requires workers { 1 ≤ workers }
+        requires few { length links.now ≤ 1024 }
+        requires names { HasNames views.now groups.now }
+        requires together { HoldTogether (IsCut views.now) views.now groups.now }
+        requires first { 1 ≤ first }
+        requires links { All (IsLink views.now) links.now }
+        requires worker { worker < 64 }
+        ensures { IfOk result (λ found. All (IsTogether views.entry.now) found.items) }
+    { found_by(alloc, views, groups, first, links, workers, worker) };
+    Ok(map_indices(rt, alloc, workers as usize, &answer)?)
+}
+
+// The same by one worker, which is asked about its share.
+fn found_by(
     alloc: Global,
     views: &RowsAndColumns<'_>,
     groups: &Groups,
     first: u32,
     links: &[Link],
-) -> Result<Vec<Result<bool, Memory>>, Memory>
+    workers: u32,
+    worker: usize,
+) -> Result<Vec<Link>, Memory>
+    requires workers { 1 ≤ workers }
+    requires few { length links.now ≤ 1024 }
     requires names { HasNames views.now groups.now }
     requires together { HoldTogether (IsCut views.now) views.now groups.now }
     requires first { 1 ≤ first }
     requires links { All (IsLink views.now) links.now }
-    ensures { IfOk result (λ answers. AreAnswers views.now links.now answers.items) }
+    requires worker { worker < 64 }
+    ensures { IfOk result (λ found. All (IsTogether views.now) found.items) }
 {
-    let answer = move |place: usize| -> Result<bool, Memory>
-        requires names { HasNames views.now groups.now }
-        requires together { HoldTogether (IsCut views.now) views.now groups.now }
-        requires first { 1 ≤ first }
-        requires links { All (IsLink views.now) links.now }
-        requires place { place < length links.now }
-        ensures { IfOk result (λ together. IsAnswer views.entry.now links.entry.now place together) }
-    { are_alone_together(alloc, views, groups, first, links[place]) };
-    Ok(map_indices(rt, alloc, links.len(), &answer)?)
+    let share = links.len() / workers as usize + 1;
+    let from = links.len().min(worker * share);
+    let to = links.len().min(from + share);
+    together_among(alloc, views, groups, first, &links[from..to])
 }
 
-// The same for one nonzero, with room of its own.
-fn are_alone_together(
+// Those of some nonzeros whose lines no cut parts. What is found is joined at once, in groups of its own.
+fn together_among(
     alloc: Global,
     views: &RowsAndColumns<'_>,
     groups: &Groups,
     first: u32,
-    link: Link,
-) -> Result<bool, Memory>
+    links: &[Link],
+) -> Result<Vec<Link>, Memory>
     requires names { HasNames views.now groups.now }
     requires together { HoldTogether (IsCut views.now) views.now groups.now }
     requires first { 1 ≤ first }
-    requires link { IsLink views.now link }
-    ensures { IfOk result (λ together. together ≡ true → AreTogether views.now link.row link.column) }
+    requires links { All (IsLink views.now) links.now }
+    ensures { IfOk result (λ found. All (IsTogether views.now) found.items) }
 {
     let mut side = Side::new(alloc, views)?;
+    let mut joined = Groups::new(alloc, views)?;
     let mut within = Groups::new(alloc, views)?;
-    within.copy(groups)?;
-    are_together(alloc, views, &mut side, &mut within, first, link)
+    let mut found = Vec::new(alloc);
+    joined.copy(groups)?;
+    for link in links {
+        within.copy(&joined)?;
+        if are_together(alloc, views, &mut side, &mut within, first, *link)? {
+            joined.join(link.row, views.rows() + link.column);
+            found.push(*link)?;
+        }
+    }
+    Ok(found)
 }

@@ -8,8 +8,8 @@ use Rattle.three_sep.proofs.finder.GroupFinder.join_each.Goals.{then-branch, els
 pub are_together-requires-clause-together : goal.are_together-requires-clause-together
 are_together-requires-clause-together c = hold_copied (IsCut c.args.views.now) c.args.views.now c.loop-link.self.groups c.copy.new.self c.in_ok-copy.ensures c.loop-link.invariant.1.together
 
-pub join-requires-clause-together : goal.join-requires-clause-together
-join-requires-clause-together c = c.in_ok-are_together.ensures.together c.if-branch.true
+pub join-requires-clause-link : goal.join-requires-clause-link
+join-requires-clause-link c = record { nonzero = c.requires.links c.loop-link.link-index (record { row = 0; column = 0 }) c.loop-link-test.true; together = c.in_ok-are_together.ensures.together c.if-branch.true }
 
 pub loop-link-preserved : goal.loop-link-preserved
 loop-link-preserved c =
