@@ -1,23 +1,30 @@
 -- Blocks of seeds.
-use Rattle.std.proofs.Common.{ℕ, Bool, ◌+◌, ◌-◌, ◌*◌, ◌/◌, ◌%◌, min, ◌≡◌, ◌≢◌, ◌<◌, ◌≤◌, ◌↔◌, ◌∙◌, List, [], ◌∷◌, ◌++◌, length, get_or, set, pos, true, false, inl, inr, Option, Some, None, Result, Ok, Err, IfOk, OnOk, IfSome, IfNone, refl, sym, ap, arith, subst}
+use Rattle.std.proofs.Common.{ℕ, Bool, ◌+◌, ◌-◌, ◌*◌, ◌/◌, ◌%◌, min, ◌≡◌, ◌≢◌, ◌<◌, ◌≤◌, ◌↔◌, ◌⊎◌, ◌∙◌, List, [], ◌∷◌, ◌++◌, length, get_or, pos, true, false, inl, inr, Option, Some, None, Result, Ok, Err, IfOk, OnOk, IfSome, IfNone, refl, sym, ap, arith, subst}
+use Rattle.std.specs.List.Sorted.{IsStrictlyIncreasing}
 use Rattle.std.proofs.lemmas.Bool.{cases_lt}
 use Rattle.std.proofs.lemmas.Nat.{div-add-mod'}
 use Rattle.std.proofs.Math.Nat.{mul-le-mul_left, mul_comm, mod-lt, lt-div-mul-add, div-lt_iff_lt-mul, div-mul-le_self}
 use Rattle.cmr_base.specs.Matrix.{Matrix, entry, height}
+use Rattle.cmr_base.specs.Members.{IsIn}
+use Rattle.cmr_base.specs.declared.separation.Form.{Form}
 use Rattle.cmr_base.specs.Separations.{Lines, first_is_flat, second_is_flat}
 use Rattle.cmr_base.specs.Seeds.{IsLine}
 use Rattle.cmr_base.specs.declared.separation.Three.{Three}
 use Rattle.cmr_base.proofs.Places.{each_more}
+use Rattle.cmr_base.proofs.ListsWithout.{place_is, place_of}
+use Rattle.cmr_base.proofs.Members.{in-append, in_at, increasing-append}
+use Rattle.cmr_base.proofs.Parts.{length-rising}
 use Rattle.cmr_base.proofs.SeedLemmas.{form_is}
+use Rattle.cmr_base.proofs.Submatrices.{increasing_places}
 use Rattle.first_hit.specs.First.{IsFirst, NoneBetween}
+use Rattle.three_sep.specs.declared.corners.Corners.{Corners}
 use Rattle.three_sep.specs.declared.groups.Groups.{Groups}
 use Rattle.three_sep.specs.declared.triple.Triple.{Triple}
 use Rattle.three_sep.specs.NumberedSeeds.{Seed, AreCorners, IsCrossing, IsGoodSeed, seed_key, seed_of}
 use Rattle.three_sep.specs.Cuts.{HasNoCutAt, HoldTogether, IsCut}
 use Rattle.three_sep.specs.Searches.{BeginsWith, HasGood, HasNoGood, HasNoneBelow, IsFirstOf, IsNoSecondColumn, corner_front, other_line}
-use Rattle.three_sep.specs.Blocks.{SeedBlock, AreOpen, HasGoodRow, HasGoodTriple, IsFirstTriple, TellsOpen, block_front, corners_with, firsts, seconds, triple_front, triple_number}
+use Rattle.three_sep.specs.Blocks.{SeedBlock, AreOpen, AreOpenBelow, HasGoodRow, HasGoodTriple, HasNumber, IsFirstTriple, TellsOpen, block_front, column_at, corners_with, firsts, number_count, seconds, triple_front}
 use Rattle.three_sep.proofs.CrossingLemmas.{as_crossing}
-use Rattle.three_sep.proofs.HalfLemmas.{set_elsewhere, set_there}
 use Rattle.three_sep.proofs.SearchLemmas.{begins_shorter, below_line, first_below, good_inside, level_ends, level_found, map_first, map_none, no_good_corners, no_good_second_column, second_below}
 
 none_has : (m : Matrix) (front : List ℕ) → HasNoGood m front → ¬ (HasGood m front)
@@ -74,8 +81,8 @@ less_parts a c r s size less lr =
     let next : a + 1 ≤ c = omega arith in
     omega (arith, mul-le-mul_left size next, mul_comm size (a + 1), mul_comm size c)
 
-pub column_bounds : (n firsts seconds : ℕ) → 0 < firsts → 0 < seconds → (n / seconds / firsts * firsts * seconds ≤ n) × (n < (n / seconds / firsts * firsts + firsts) * seconds)
-column_bounds n firsts seconds some_first some_second =
+pub place_bounds : (n firsts seconds : ℕ) → 0 < firsts → 0 < seconds → (n / seconds / firsts * firsts * seconds ≤ n) × (n < (n / seconds / firsts * firsts + firsts) * seconds)
+place_bounds n firsts seconds some_first some_second =
     let pair = n / seconds in
     let low : pair / firsts * firsts ≤ pair = div-mul-le_self pair firsts in
     let high : pair + 1 ≤ pair / firsts * firsts + firsts = let h : pair < pair / firsts * firsts + firsts = lt-div-mul-add some_first in omega (arith, h) in
@@ -85,10 +92,10 @@ column_bounds n firsts seconds some_first some_second =
       omega (arith, ends, mul-le-mul_left seconds high, mul_comm seconds (pair + 1), mul_comm seconds (pair / firsts * firsts + firsts)),
     )
 
-pub column_below : (n width firsts seconds : ℕ) → 0 < firsts → 0 < seconds → n < width * firsts * seconds → n / seconds / firsts < width
-column_below n width firsts seconds some_first some_second less =
-    let pairs : (n / seconds < width * firsts) ↔ (n < width * firsts * seconds) = div-lt_iff_lt-mul some_second in
-    let columns : (n / seconds / firsts < width) ↔ (n / seconds < width * firsts) = div-lt_iff_lt-mul some_first in
+pub place_below : (n places firsts seconds : ℕ) → 0 < firsts → 0 < seconds → n < places * firsts * seconds → n / seconds / firsts < places
+place_below n places firsts seconds some_first some_second less =
+    let pairs : (n / seconds < places * firsts) ↔ (n < places * firsts * seconds) = div-lt_iff_lt-mul some_second in
+    let columns : (n / seconds / firsts < places) ↔ (n / seconds < places * firsts) = div-lt_iff_lt-mul some_first in
     columns.1 (pairs.1 less)
 
 -- the pair of a number that is in column j
@@ -123,9 +130,6 @@ other_bounds n j firsts seconds some_first some_second low high =
 pub at_sizes : (P : ℕ → ℕ → Type 0) (f s g t : ℕ) → f ≡ g → s ≡ t → P f s → P g t
 at_sizes P f s g t e h p = subst (λ (z : ℕ). P z t) e (subst (λ (z : ℕ). P f z) h p)
 
-pub hit_some : (holds : ℕ → Type 0) (index found : ℕ) → IsFirst holds index (index + 1) (Some found) → holds index
-hit_some holds index found f = let same : found ≡ index = omega (arith, f.0, f.1) in subst holds same f.2
-
 pub map_ok : {A E : Type 0} (P Q : A → Type 0) (r : Result A E) → ((x : A) → P x → Q x) → IfOk r P → IfOk r Q
 map_ok P Q (Ok x) f h = f x h
 map_ok P Q (Err e) f h = h
@@ -133,11 +137,83 @@ map_ok P Q (Err e) f h = h
 pub good_some : (m : Matrix) (front : List ℕ) (found : Option Three) (three : Three) → found ≡ Some three → IfSome found (IsFirstOf m front) → HasGood m front
 good_some m front found three e first = let f = subst (λ (z : Option Three). IfSome z (IsFirstOf m front)) e first in record { seed = seed_of three f.x; side = f.side; begins = f.begins; good = f.good }
 
+-- ---- places in rising lists
+
+lesser_place : (xs : List ℕ) (a b : ℕ) → IsStrictlyIncreasing xs → a < length xs → get_or xs a 0 < get_or xs b 0 → a < b
+lesser_place xs a b rises l less = elim (cases_lt a b) [
+  | inl h ↦ h
+  | inr h ↦ absurd (elim (cases_lt b a) [
+    | inl h2 ↦ omega (arith, less, increasing_places xs b a rises h2 l)
+    | inr h2 ↦ let same : a ≡ b = omega (arith, h, h2) in omega (arith, less, ap (λ (z : ℕ). get_or xs z 0) same)
+  ])
+]
+
+same_place : (xs : List ℕ) (a b : ℕ) → IsStrictlyIncreasing xs → a < length xs → b < length xs → get_or xs a 0 ≡ get_or xs b 0 → a ≡ b
+same_place xs a b rises la lb e = elim (cases_lt a b) [
+  | inl h ↦ absurd (omega (arith, e, increasing_places xs a b rises h lb))
+  | inr h ↦ elim (cases_lt b a) [
+    | inl h2 ↦ absurd (omega (arith, e, increasing_places xs b a rises h2 la))
+    | inr h2 ↦ omega (arith, h, h2)
+  ]
+]
+
 -- ---- triples of a block
 
 module _ (b : SeedBlock) where
-  with_corners : (t : Triple) → HasGood b.matrix (triple_front b t) → (t.j < b.matrix.width) × (t.q < firsts b) × (t.o < seconds b)
-  with_corners t has =
+  -- a number is that of one triple
+  same_triple : (t u : Triple) (number : ℕ) → HasNumber b t number → HasNumber b u number → (t.j ≡ u.j) × (t.q ≡ u.q) × (t.o ≡ u.o)
+  same_triple t u number x y =
+      let pair = same_parts (x.place * firsts b + t.q) (y.place * firsts b + u.q) t.o u.o (seconds b) x.second y.second (sym x.number_is ∙ y.number_is) in
+      let column = same_parts x.place y.place t.q u.q (firsts b) x.first y.first pair.0 in
+      (x.column ∙ ap (λ (z : ℕ). column_at b z) column.0 ∙ sym y.column, column.1, pair.1)
+
+  good_at : (t : Triple) (number : ℕ) → HasNumber b t number → HasGoodTriple b number → HasGood b.matrix (triple_front b t)
+  good_at t number is has =
+      let u = has.triple in
+      let same = same_triple u t number has.numbered is in
+      subst (λ (z : ℕ). HasGood b.matrix (triple_front b (record { j = z; q = t.q; o = t.o }))) same.0
+      (subst (λ (z : ℕ). HasGood b.matrix (triple_front b (record { j = u.j; q = z; o = t.o }))) same.1
+      (subst (λ (z : ℕ). HasGood b.matrix (triple_front b (record { j = u.j; q = u.q; o = z }))) same.2 has.good))
+
+  pub no_pair : (place q from to : ℕ) → HasNoGood b.matrix (block_front b ++ column_at b place ∷ q ∷ []) → q < firsts b → (place * firsts b + q) * seconds b ≤ from → to ≤ (place * firsts b + (q + 1)) * seconds b
+      → NoneBetween (HasGoodTriple b) from to
+  no_pair place q from to none lq low high number l less has =
+      let t = has.triple in
+      let x = has.numbered in
+      let is = x.number_is in
+      let pairs = in_range (x.place * firsts b + t.q) (place * firsts b + q) (place * firsts b + (q + 1)) t.o (seconds b) x.second (omega (arith, low, l, is)) (omega (arith, high, less, is)) in
+      let same : x.place * firsts b + t.q ≡ place * firsts b + q = omega (arith, pairs.0, pairs.1) in
+      let parts = same_parts x.place place t.q q (firsts b) x.first lq same in
+      let column : column_at b place ≡ t.j = ap (λ (z : ℕ). column_at b z) (sym parts.0) ∙ sym x.column in
+      let h = has.good.begins in
+      none has.good.seed has.good.side (h.0, (h.1.0, (h.1.1.0, (h.1.1.1.0, (column ∙ h.1.1.1.1.0, (sym parts.1 ∙ h.1.1.1.1.1.0, tt)))))) has.good.good
+
+  pub none_past : (number : ℕ) → number_count b ≤ number → ¬ (HasGoodTriple b number)
+  none_past number past has =
+      let t = has.triple in
+      let x = has.numbered in
+      let pairs = less_parts x.place (length b.columns) t.q 0 (firsts b) x.within x.first in
+      let numbers = less_parts (x.place * firsts b + t.q) (length b.columns * firsts b) t.o 0 (seconds b) (omega (arith, pairs)) x.second in
+      let is = x.number_is in
+      omega (arith, numbers, past, is)
+
+  pub none_till : (from next last to : ℕ) → NoneBetween (HasGoodTriple b) from next → last ≤ next → last ≡ min to (number_count b) → NoneBetween (HasGoodTriple b) from to
+  none_till from next last to none ends is number l less = elim (cases_lt number (number_count b)) [
+    | inl h ↦ none number l (omega (arith, is, ends, less, h))
+    | inr past ↦ none_past number past
+  ]
+
+  pub more_others : (t : Triple) (from number : ℕ) → NoneBetween (HasGoodTriple b) from number → HasNoGood b.matrix (triple_front b t) → HasNumber b t number → NoneBetween (HasGoodTriple b) from (number + 1)
+  more_others t from number before none is = one_more (HasGoodTriple b) from number before (λ has. none_has b.matrix (triple_front b t) none (good_at t number is has))
+
+  abbrev triple_of_seed : Seed → Triple
+  triple_of_seed s = record { j = s.j; q = s.q; o = s.o }
+
+  has_seed : (s : Seed) (S : Lines) → BeginsWith (block_front b) (seed_key (height b.matrix) s) → IsGoodSeed (height b.matrix) b.matrix.width (entry b.matrix) s S → HasGood b.matrix (triple_front b (triple_of_seed s))
+  has_seed s S h good = record { seed = s; side = S; begins = (h.0, (h.1.0, (h.1.1.0, (h.1.1.1.0, (refl, (refl, (refl, tt))))))); good = good }
+
+  within_lines : (t : Triple) → HasGood b.matrix (triple_front b t) → (t.j < b.matrix.width) × (t.q < firsts b) × (t.o < seconds b)
+  within_lines t has =
       let column = (good_inside b.matrix has.seed has.side has.good).column_two in
       let e = has.begins.1.1.1.1.0 in (
         omega arith,
@@ -146,120 +222,72 @@ module _ (b : SeedBlock) where
         second_below b.matrix b.form (corners_with b t.j) t.q has.seed has.side t.o has.good has.begins,
       )
 
-  -- two triples of one number are the same
-  same_triple : (t u : Triple) → HasGood b.matrix (triple_front b u) → t.q < firsts b → t.o < seconds b → triple_number b u ≡ triple_number b t → HasGood b.matrix (triple_front b t)
-  same_triple t u has lq lo e =
-      let within = with_corners u has in
-      let pair = same_parts (u.j * firsts b + u.q) (t.j * firsts b + t.q) u.o t.o (seconds b) within.2 lo e in
-      let column = same_parts u.j t.j u.q t.q (firsts b) within.1 lq pair.0 in
-      subst (λ (z : ℕ). HasGood b.matrix (triple_front b (record { j = z; q = t.q; o = t.o }))) column.0
-      (subst (λ (z : ℕ). HasGood b.matrix (triple_front b (record { j = u.j; q = z; o = t.o }))) column.1
-      (subst (λ (z : ℕ). HasGood b.matrix (triple_front b (record { j = u.j; q = u.q; o = z }))) pair.1 has))
+  module _ (are : AreOpen b) where
+    -- a good seed of the block has an open column, and so a number
+    numbered : (s : Seed) (S : Lines) → BeginsWith (block_front b) (seed_key (height b.matrix) s) → IsGoodSeed (height b.matrix) b.matrix.width (entry b.matrix) s S → (number : ℕ) × HasNumber b (triple_of_seed s) number
+    numbered s S h good =
+        let within = within_lines (triple_of_seed s) (has_seed s S h good) in
+        elim (are.others s.j within.0) [
+          | inl member ↦
+              let at = place_is s.j b.columns member in
+              let place = place_of s.j b.columns in
+              ((place * firsts b + s.q) * seconds b + s.o, record { place = place; within = at.in_range; column = sym at.there; first = within.1; second = within.2; number_is = refl })
+          | inr none ↦ absurd (none s S (h.0, (h.1.0, (h.1.1.0, (h.1.1.1.0, (refl, tt))))) good)
+        ]
 
-  pub good_at : (t : Triple) (number : ℕ) → number ≡ triple_number b t → t.q < firsts b → t.o < seconds b → HasGoodTriple b number → HasGood b.matrix (triple_front b t)
-  good_at t number e lq lo has = same_triple t has.triple has.good lq lo (sym has.numbered ∙ e)
+    pub none_of_triples : IsFirst (HasGoodTriple b) 0 (number_count b) None → HasNoGood b.matrix (block_front b)
+    none_of_triples none s S h good =
+        let n = numbered s S h good in
+        let has : HasGoodTriple b n.0 = record { triple = triple_of_seed s; numbered = n.1; good = has_seed s S h good } in
+        elim (cases_lt n.0 (number_count b)) [
+          | inl l ↦ none n.0 (omega arith) l has
+          | inr past ↦ none_past n.0 past has
+        ]
 
-  pub no_column : (j from to : ℕ) → HasNoGood b.matrix (block_front b ++ j ∷ []) → j * firsts b * seconds b ≤ from → to ≤ (j * firsts b + firsts b) * seconds b → NoneBetween (HasGoodTriple b) from to
-  no_column j from to none low high number l less has =
-      let t = has.triple in
-      let within = with_corners t has.good in
-      let is = has.numbered in
-      let pairs = in_range (t.j * firsts b + t.q) (j * firsts b) (j * firsts b + firsts b) t.o (seconds b) within.2 (omega (arith, low, l, is)) (omega (arith, high, less, is)) in
-      let columns = in_range t.j j (j + 1) t.q (firsts b) within.1 pairs.0 (omega (arith, pairs.1)) in
-      let e : j ≡ t.j = omega (arith, columns.0, columns.1) in
-      let h = has.good.begins in
-      none has.good.seed has.good.side (h.0, (h.1.0, (h.1.1.0, (h.1.1.1.0, (e ∙ h.1.1.1.1.0, tt))))) has.good.good
+    pub first_triple : (t : Triple) (number bound : ℕ) → HasNumber b t number → IsFirst (HasGoodTriple b) 0 bound (Some number) → IsFirstTriple b t
+    first_triple t number bound x found = record {
+      good = good_at t number x found.2;
+      columns = λ j less s S h good. earlier s S (begins_shorter (block_front b) (seed_key (height b.matrix) s) j h) good
+          (λ n y.
+          let is = h.1.1.1.1.0 in
+          let place = lesser_place b.columns y.place x.place are.rising y.within (omega (arith, y.column, x.column, less, is)) in
+          let pairs = less_parts y.place x.place s.q t.q (firsts b) place y.first in
+          omega (arith, less_parts (y.place * firsts b + s.q) (x.place * firsts b + t.q) s.o t.o (seconds b) pairs y.second, x.number_is, y.number_is));
+      first_others = λ q less s S h good. earlier s S (begins_shorter (block_front b) (seed_key (height b.matrix) s) t.j (begins_shorter (block_front b ++ t.j ∷ []) (seed_key (height b.matrix) s) q h)) good
+          (λ n y.
+          let is = h.1.1.1.1.1.0 in
+          let column = at_column s n y h.1.1.1.1.0 in
+          let pairs : y.place * firsts b + s.q < x.place * firsts b + t.q = omega (arith, ap (λ (z : ℕ). z * firsts b) column) in
+          omega (arith, less_parts (y.place * firsts b + s.q) (x.place * firsts b + t.q) s.o t.o (seconds b) pairs y.second, x.number_is, y.number_is));
+      second_others = λ o less s S h good.
+          let key = seed_key (height b.matrix) s in
+          earlier s S (begins_shorter (block_front b) key t.j (begins_shorter (block_front b ++ t.j ∷ []) key t.q (begins_shorter (block_front b ++ t.j ∷ t.q ∷ []) key o h))) good
+          (λ n y.
+          let is = h.1.1.1.1.1.1.0 in
+          let column : x.place * firsts b ≡ y.place * firsts b = ap (λ (z : ℕ). z * firsts b) (sym (at_column s n y h.1.1.1.1.0)) in
+          let pair : x.place * firsts b + t.q ≡ y.place * firsts b + s.q = omega (arith, column, h.1.1.1.1.1.0) in
+          omega (arith, ap (λ (z : ℕ). z * seconds b) pair, x.number_is, y.number_is));
+    }
+      where
+        earlier : (s : Seed) (S : Lines) → BeginsWith (block_front b) (seed_key (height b.matrix) s) → IsGoodSeed (height b.matrix) b.matrix.width (entry b.matrix) s S → ((n : ℕ) → HasNumber b (triple_of_seed s) n → n < number) → ⊥
+        earlier s S h good less =
+            let n = numbered s S h good in
+            found.3 n.0 (omega arith) (less n.0 n.1) (record { triple = triple_of_seed s; numbered = n.1; good = has_seed s S h good })
 
-  pub no_pair : (j q from to : ℕ) → HasNoGood b.matrix (block_front b ++ j ∷ q ∷ []) → q < firsts b → (j * firsts b + q) * seconds b ≤ from → to ≤ (j * firsts b + (q + 1)) * seconds b
-      → NoneBetween (HasGoodTriple b) from to
-  no_pair j q from to none lq low high number l less has =
-      let t = has.triple in
-      let within = with_corners t has.good in
-      let is = has.numbered in
-      let pairs = in_range (t.j * firsts b + t.q) (j * firsts b + q) (j * firsts b + (q + 1)) t.o (seconds b) within.2 (omega (arith, low, l, is)) (omega (arith, high, less, is)) in
-      let same : t.j * firsts b + t.q ≡ j * firsts b + q = omega (arith, pairs.0, pairs.1) in
-      let parts = same_parts t.j j t.q q (firsts b) within.1 lq same in
-      let h = has.good.begins in
-      none has.good.seed has.good.side (h.0, (h.1.0, (h.1.1.0, (h.1.1.1.0, (sym parts.0 ∙ h.1.1.1.1.0, (sym parts.1 ∙ h.1.1.1.1.1.0, tt)))))) has.good.good
-
-  pub none_past : (number : ℕ) → b.matrix.width * firsts b * seconds b ≤ number → ¬ (HasGoodTriple b number)
-  none_past number past has =
-      let t = has.triple in
-      let within = with_corners t has.good in
-      let pairs = less_parts t.j b.matrix.width t.q 0 (firsts b) within.0 within.1 in
-      let numbers = less_parts (t.j * firsts b + t.q) (b.matrix.width * firsts b) t.o 0 (seconds b) (omega (arith, pairs)) within.2 in
-      let is = has.numbered in
-      omega (arith, numbers, past, is)
-
-  pub none_till : (from next last to : ℕ) → NoneBetween (HasGoodTriple b) from next → last ≤ next → last ≡ min to (b.matrix.width * firsts b * seconds b) → NoneBetween (HasGoodTriple b) from to
-  none_till from next last to none ends is number l less = elim (cases_lt number (b.matrix.width * firsts b * seconds b)) [
-    | inl h ↦ none number l (omega (arith, is, ends, less, h))
-    | inr past ↦ none_past number past
-  ]
-
-  no_other : (t : Triple) (number : ℕ) → HasNoGood b.matrix (triple_front b t) → number ≡ triple_number b t → t.q < firsts b → t.o < seconds b → ¬ (HasGoodTriple b number)
-  no_other t number none e lq lo has = none_has b.matrix (triple_front b t) none (good_at t number e lq lo has)
-
-  pub more_others : (t : Triple) (from number : ℕ) → NoneBetween (HasGoodTriple b) from number → HasNoGood b.matrix (triple_front b t) → number ≡ triple_number b t → t.q < firsts b → t.o < seconds b
-      → NoneBetween (HasGoodTriple b) from (number + 1)
-  more_others t from number before none e lq lo = one_more (HasGoodTriple b) from number before (no_other t number none e lq lo)
-
-  abbrev triple_of_seed : Seed → Triple
-  triple_of_seed s = record { j = s.j; q = s.q; o = s.o }
-
-  has_seed : (s : Seed) (S : Lines) → BeginsWith (block_front b) (seed_key (height b.matrix) s) → IsGoodSeed (height b.matrix) b.matrix.width (entry b.matrix) s S → HasGood b.matrix (triple_front b (triple_of_seed s))
-  has_seed s S h good = record { seed = s; side = S; begins = (h.0, (h.1.0, (h.1.1.0, (h.1.1.1.0, (refl, (refl, (refl, tt))))))); good = good }
-
-  has_number : (s : Seed) (S : Lines) → BeginsWith (block_front b) (seed_key (height b.matrix) s) → IsGoodSeed (height b.matrix) b.matrix.width (entry b.matrix) s S → HasGoodTriple b (triple_number b (triple_of_seed s))
-  has_number s S h good = record { triple = triple_of_seed s; numbered = refl; good = has_seed s S h good }
-
-  pub none_of_triples : IsFirst (HasGoodTriple b) 0 (b.matrix.width * firsts b * seconds b) None → HasNoGood b.matrix (block_front b)
-  none_of_triples none s S h good =
-      let has = has_number s S h good in
-      let number = triple_number b (triple_of_seed s) in
-      elim (cases_lt number (b.matrix.width * firsts b * seconds b)) [
-        | inl l ↦ none number (omega arith) l has
-        | inr past ↦ none_past number past has
-      ]
-
-  pub first_triple : (t : Triple) (number bound : ℕ) → number ≡ triple_number b t → t.q < firsts b → t.o < seconds b → IsFirst (HasGoodTriple b) 0 bound (Some number) → IsFirstTriple b t
-  first_triple t number bound e lq lo found = record {
-    good = good_at t number e lq lo found.2;
-    columns = λ j less s S h good.
-        let begins = begins_shorter (block_front b) (seed_key (height b.matrix) s) j h in
-        let within = with_corners (triple_of_seed s) (has_seed s S begins good) in
-        let is = h.1.1.1.1.0 in
-        let pairs = less_parts s.j t.j s.q t.q (firsts b) (omega arith) within.1 in
-        earlier s S begins good (less_parts (s.j * firsts b + s.q) (t.j * firsts b + t.q) s.o t.o (seconds b) pairs within.2);
-    first_others = λ q less s S h good.
-        let begins = begins_shorter (block_front b) (seed_key (height b.matrix) s) t.j (begins_shorter (block_front b ++ t.j ∷ []) (seed_key (height b.matrix) s) q h) in
-        let within = with_corners (triple_of_seed s) (has_seed s S begins good) in
-        let is = h.1.1.1.1.1.0 in
-        let pairs : s.j * firsts b + s.q < t.j * firsts b + t.q = omega (arith, ap (λ (z : ℕ). z * firsts b) h.1.1.1.1.0) in
-        earlier s S begins good (less_parts (s.j * firsts b + s.q) (t.j * firsts b + t.q) s.o t.o (seconds b) pairs within.2);
-    second_others = λ o less s S h good.
-        let key = seed_key (height b.matrix) s in
-        let begins = begins_shorter (block_front b) key t.j (begins_shorter (block_front b ++ t.j ∷ []) key t.q (begins_shorter (block_front b ++ t.j ∷ t.q ∷ []) key o h)) in
-        let is = h.1.1.1.1.1.1.0 in
-        let column : t.j * firsts b ≡ s.j * firsts b = ap (λ (z : ℕ). z * firsts b) h.1.1.1.1.0 in
-        let pair : t.j * firsts b + t.q ≡ s.j * firsts b + s.q = omega (arith, column, h.1.1.1.1.1.0) in
-        earlier s S begins good (omega (arith, ap (λ (z : ℕ). z * seconds b) pair));
-  }
-    where
-      earlier : (s : Seed) (S : Lines) → BeginsWith (block_front b) (seed_key (height b.matrix) s) → IsGoodSeed (height b.matrix) b.matrix.width (entry b.matrix) s S → triple_number b (triple_of_seed s) < triple_number b t → ⊥
-      earlier s S h good less = found.3 (triple_number b (triple_of_seed s)) (omega arith) (omega arith) (has_number s S h good)
+        at_column : (s : Seed) (n : ℕ) (y : HasNumber b (triple_of_seed s) n) → t.j ≡ s.j → y.place ≡ x.place
+        at_column s n y e = same_place b.columns y.place x.place are.rising y.within x.within (sym y.column ∙ sym e ∙ x.column)
 
   -- ---- the seeds with the first triple
 
   module _ (t : Triple) (is : IsFirstTriple b t) where
     pub inside_of : t.j < b.matrix.width
-    inside_of = (with_corners t is.good).0
+    inside_of = (within_lines t is.good).0
 
     pub first_line_of : IsLine (height b.matrix) b.matrix.width (other_line (first_is_flat b.form) t.q)
-    first_line_of = below_line b.matrix (first_is_flat b.form) t.q (with_corners t is.good).1
+    first_line_of = below_line b.matrix (first_is_flat b.form) t.q (within_lines t is.good).1
 
     pub second_line_of : IsLine (height b.matrix) b.matrix.width (other_line (second_is_flat b.form) t.o)
-    second_line_of = below_line b.matrix (second_is_flat b.form) t.o (with_corners t is.good).2
+    second_line_of = below_line b.matrix (second_is_flat b.form) t.o (within_lines t is.good).2
 
     pub corners_of : IsCrossing b.form → AreCorners (entry b.matrix) b.i b.p b.k t.j
     corners_of crossing =
@@ -276,22 +304,48 @@ module _ (b : SeedBlock) where
 
 -- ---- open columns
 
-pub not_second : (b : SeedBlock) (groups : Groups) (j : ℕ) → IsCrossing b.form → HoldTogether (IsCut b.matrix) b.matrix groups → IsNoSecondColumn b.matrix groups b.i b.p b.k j → TellsOpen b j false
-not_second b groups j crossing hold refused = no_good_second_column b.matrix b.form crossing groups b.i b.p b.k j hold refused
+pub not_second : (m : Matrix) (form : Form) (groups : Groups) (c : Corners) → IsCrossing form → HoldTogether (IsCut m) m groups → IsNoSecondColumn m groups c.i c.p c.k c.j → TellsOpen m form c false
+not_second m form groups c crossing hold refused = no_good_second_column m form crossing groups c.i c.p c.k c.j hold refused
 
-pub may_be_open : (b : SeedBlock) (j : ℕ) (may : Bool) → IsCrossing b.form → entry b.matrix b.i j ≢ pos 0 → entry b.matrix b.k j ≢ pos 0 → (may ≡ false → HasNoCutAt b.matrix (corners_with b j)) → TellsOpen b j may
-may_be_open b j true crossing right corner none = (right, corner)
-may_be_open b j false crossing right corner none = no_good_corners b.matrix b.form crossing (corners_with b j) (none refl)
+pub may_be_open : (m : Matrix) (form : Form) (c : Corners) (may : Bool) → IsCrossing form → entry m c.i c.j ≢ pos 0 → entry m c.k c.j ≢ pos 0 → (may ≡ false → HasNoCutAt m c) → TellsOpen m form c may
+may_be_open m kind c true crossing right corner none = (right, corner)
+may_be_open m kind c false crossing right corner none = no_good_corners m kind crossing c (none refl)
 
-pub more_told : (b : SeedBlock) (before : List Bool) (j : ℕ) (answer : Bool) → j < length before → TellsOpen b j answer → ((k : ℕ) → k < j → TellsOpen b k (get_or before k false))
-    → (k : ℕ) → k < j + 1 → TellsOpen b k (get_or (set before j answer) k false)
-more_told b before j answer l here told = each_more (λ k. TellsOpen b k (get_or (set before j answer) k false)) j (λ k lk. subst (TellsOpen b k) (sym (set_elsewhere before j k answer (omega arith))) (told k lk))
-    (subst (TellsOpen b j) (sym (set_there before j answer l)) here)
+abbrev with_columns : SeedBlock → List ℕ → SeedBlock
+with_columns b columns = record { matrix = b.matrix; form = b.form; i = b.i; p = b.p; k = b.k; columns = columns }
 
-pub none_open : (b : SeedBlock) (columns : List Bool) → AreOpen b columns → ((j : ℕ) → j < length columns → get_or columns j false ≡ false) → HasNoGood b.matrix (block_front b)
-none_open b columns are none = level_ends b.matrix (block_front b) b.matrix.width (omega arith)
-    (λ j l. subst (TellsOpen b j) (none j (let e = are.size in omega arith)) (are.told j l))
-    (λ s S l good h. let k = (good_inside b.matrix s S good).column_two in let e = h.1.1.1.1.0 in omega arith)
+pub one_more_open : (b : SeedBlock) (columns : List ℕ) (bound : ℕ) → AreOpenBelow b bound → TellsOpen b.matrix b.form (corners_with b bound) true → columns ≡ b.columns ++ bound ∷ [] → AreOpenBelow (with_columns b columns) (bound + 1)
+one_more_open b columns bound are here e = subst (λ (columns : List ℕ). AreOpenBelow (with_columns b columns) (bound + 1)) (sym e) (record {
+  rising = increasing-append b.columns bound are.rising are.below;
+  below = λ j member. elim ((in-append b.columns bound j).0 member) [
+    | inl before ↦ let l = are.below j before in omega (arith, l)
+    | inr is ↦ omega (arith, is)
+  ];
+  nonzero = λ j member. elim ((in-append b.columns bound j).0 member) [
+    | inl before ↦ are.nonzero j before
+    | inr is ↦ subst (λ (z : ℕ). TellsOpen b.matrix b.form (corners_with b z) true) (sym is) here
+  ];
+  others = each_more (λ j. IsIn j (b.columns ++ bound ∷ []) ⊎ TellsOpen b.matrix b.form (corners_with b j) false) bound
+      (λ j l. elim (are.others j l) [
+        | inl before ↦ inl ((in-append b.columns bound j).1 (inl before))
+        | inr none ↦ inr none
+      ])
+      (inl ((in-append b.columns bound bound).1 (inr refl)));
+})
+
+pub none_more_open : (b : SeedBlock) (columns : List ℕ) (bound : ℕ) → AreOpenBelow b bound → TellsOpen b.matrix b.form (corners_with b bound) false → columns ≡ b.columns → AreOpenBelow (with_columns b columns) (bound + 1)
+none_more_open b columns bound are here e = subst (λ (columns : List ℕ). AreOpenBelow (with_columns b columns) (bound + 1)) (sym e) (record {
+  rising = are.rising;
+  below = λ j member. let l = are.below j member in omega (arith, l);
+  nonzero = are.nonzero;
+  others = each_more (λ j. IsIn j b.columns ⊎ TellsOpen b.matrix b.form (corners_with b j) false) bound are.others (inr here);
+})
+
+pub open_few : (b : SeedBlock) → AreOpen b → length b.columns ≤ b.matrix.width
+open_few b are = length-rising b.columns b.matrix.width are.rising (λ k l. are.below (get_or b.columns k 0) (in_at b.columns k l))
+
+pub open_at : (b : SeedBlock) → AreOpen b → (place : ℕ) → place < length b.columns → (column_at b place < b.matrix.width) × TellsOpen b.matrix b.form (corners_with b (column_at b place)) true
+open_at b are place l = let member = in_at b.columns place l in (are.below (column_at b place) member, are.nonzero (column_at b place) member)
 
 -- ---- rows of the concentrated form
 

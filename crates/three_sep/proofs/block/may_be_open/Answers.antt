@@ -8,15 +8,12 @@ use Rattle.three_sep.proofs.block.may_be_open.Goals as goal
 
 pub returns-then-not-is_second_column-clause-open : goal.returns-then-not-is_second_column-clause-open
 returns-then-not-is_second_column-clause-open c =
-    let d = c.args.corners.now in
-    λ form crossing. not_second (record { matrix = c.args.views.now; form = form; i = d.i; p = d.p; k = d.k }) c.args.groups.now d.j crossing c.requires.together (c.is_second_column.ensures.no c.if-not-is_second_column.true)
+    λ form crossing. not_second c.args.views.now form c.args.groups.now c.args.corners.now crossing c.requires.together (c.is_second_column.ensures.no c.if-not-is_second_column.true)
 
 pub returns-clause-open : goal.returns-clause-open
 returns-clause-open c =
     let m = c.args.views.now in
     let d = c.args.corners.now in
-    map_ok (λ (yes : Bool). yes ≡ false → HasNoCutAt m d)
-    (λ (yes : Bool). (form : Form) → IsCrossing form → TellsOpen (record { matrix = m; form = form; i = d.i; p = d.p; k = d.k }) d.j yes)
-    c.may_cut.result
-    (λ yes none form crossing. may_be_open (record { matrix = m; form = form; i = d.i; p = d.p; k = d.k }) d.j yes crossing (c.is_second_column.ensures.right c.if-not-is_second_column.false) (c.is_second_column.ensures.corner c.if-not-is_second_column.false) none)
+    map_ok (λ (yes : Bool). yes ≡ false → HasNoCutAt m d) (λ (yes : Bool). (form : Form) → IsCrossing form → TellsOpen m form d yes) c.may_cut.result
+    (λ yes none form crossing. may_be_open m form d yes crossing (c.is_second_column.ensures.right c.if-not-is_second_column.false) (c.is_second_column.ensures.corner c.if-not-is_second_column.false) none)
     c.may_cut.ensures.none

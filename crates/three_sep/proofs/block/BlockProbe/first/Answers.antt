@@ -1,6 +1,6 @@
-use Rattle.std.proofs.Common.{ℕ, ◌≡◌, ◌+◌, ◌*◌, subst, arith}
+use Rattle.std.proofs.Common.{arith}
 use Rattle.first_hit.proofs.RunLemmas.{none_longer}
-use Rattle.three_sep.specs.Blocks.{HasGoodTriple, firsts, seconds}
+use Rattle.three_sep.specs.Blocks.{HasGoodTriple}
 use Rattle.three_sep.proofs.BlockLemmas.{none_till}
 use Rattle.three_sep.proofs.block.BlockProbe.first.Goals as goal
 
@@ -15,15 +15,13 @@ returns-in-Some c =
 
 pub loop-next-preserved : goal.loop-next-preserved
 loop-next-preserved c =
-    let b = c.args.self.now in
     let more = rw c.in_default.is at c.in_ok-index.ensures.first in
-    let start : c.start_of.result ≡ (c.column_at-j.result * firsts b + firsts b) * seconds b = subst (λ (z : ℕ). c.start_of.result ≡ (c.column_at-j.result * firsts b + z) * seconds b) c.firsts.ensures.value c.start_of.ensures in
     record {
-      after = omega (arith, c.loop-next.invariant.after, start, c.column_at-j.ensures.high, c.min-end.ensures, c.loop-next-test.true);
+      after = omega (arith, c.loop-next.invariant.after, c.start_of.ensures, c.first_other_at-q.ensures.high, c.min-end.ensures, c.loop-next-test.true);
       side = c.in_ok-index.ensures.side;
       grown = c.in_ok-index.ensures.grown;
       none = none_longer (HasGoodTriple c.args.self.now) c.args.from c.loop-next.next c.min-end.result c.loop-next.invariant.none more;
     }
 
 pub returns : goal.returns
-returns c = none_till c.args.self.now c.args.from c.loop-next.next c.min-last.result c.args.to c.loop-next.invariant.none (omega (arith, c.loop-next-test.false)) (omega (arith, c.min-last.ensures, c.total.ensures))
+returns c = none_till c.args.self.now c.args.from c.loop-next.next c.min-last.result c.args.to c.loop-next.invariant.none (omega (arith, c.loop-next-test.false)) (omega (arith, c.min-last.ensures, c.total.ensures.count))
