@@ -1,4 +1,4 @@
-use Rattle.std.proofs.Common.{ℕ, ◌<◌, ◌≡◌, length, true, sym, subst}
+use Rattle.std.proofs.Common.{ℕ, ◌<◌, length, true, sym, subst}
 use Rattle.three_sep.specs.Blocks.{SeedBlock, TellsOpen, corners_with}
 use Rattle.three_sep.specs.BlocksView.{block_of}
 use Rattle.three_sep.proofs.BlockLemmas.{open_at}

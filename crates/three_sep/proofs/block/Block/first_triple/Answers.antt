@@ -1,6 +1,6 @@
 use Rattle.std.proofs.Common.{ℕ, None, subst}
 use Rattle.first_hit.specs.First.{IsFirst}
-use Rattle.three_sep.specs.Blocks.{AreOpen, HasGoodTriple}
+use Rattle.three_sep.specs.Blocks.{HasGoodTriple}
 use Rattle.three_sep.proofs.BlockLemmas.{first_triple, none_of_triples}
 use Rattle.three_sep.proofs.block.Block.first_triple.Goals as goal
 

@@ -1,5 +1,5 @@
-use Rattle.std.proofs.Common.{◌≤◌, length, subst, arith}
-use Rattle.three_sep.specs.Blocks.{SeedBlock, AreOpen}
+use Rattle.std.proofs.Common.{subst, arith}
+use Rattle.three_sep.specs.Blocks.{AreOpen}
 use Rattle.three_sep.specs.BlocksView.{block_of}
 use Rattle.three_sep.proofs.BlockLemmas.{open_few}
 use Rattle.three_sep.proofs.block.Block.open_columns.Goals as goal
