@@ -21,8 +21,8 @@ use std::alloc::Global;
 use std::marker::Model;
 use std::thread::Threads;
 
-/// The question whether a seed of a block with the triple of a number is good. Only triples with an open column, which a
-/// good seed may have, have numbers. Contracts see the block.
+/// The question whether a seed of a block with the triple of a number is good. The triples with open columns have numbers:
+/// no good seed has another column. Contracts see the block.
 #[derive(Drop)]
 pub struct Block<'a, 'b> {
     views: &'b RowsAndColumns<'a>,
@@ -269,15 +269,16 @@ impl<'a, 'b> Probe for Block<'a, 'b> {
         Ok(None)
     }
 
-    // Whole pairs of a column and a line q, so that each side is closed by one worker.
+    // Whole pairs of a column and a line q, so that each side is closed by one worker, and no more than one column, so that
+    // a find in front is not long waited for.
     fn run(&self) -> u64 {
-        let pairs = self.open_columns() * self.firsts() / MOST_RUNS + 1;
-        pairs * self.seconds()
+        let pairs = self.open_columns() * self.firsts() / RUNS + 1;
+        pairs.min(self.firsts()) * self.seconds()
     }
 }
 
-/// In how many runs the numbers of a block fall at most.
-const MOST_RUNS: u64 = 60;
+/// In how many runs the numbers of a block fall at most where few columns are open.
+const RUNS: u64 = 60;
 
 /// The columns with which a block may have a good seed.
 pub fn open_columns(
