@@ -305,7 +305,7 @@ fn found_by(
     requires worker { worker < 64 }
     ensures { IfOk result (λ found. All (IsTogether views.now) found.items) }
 {
-    let share = links.len() / workers as usize + 1;
+    let share = links.len().div_ceil(workers as usize);
     let from = links.len().min(worker * share);
     let to = links.len().min(from + share);
     together_among(alloc, views, groups, first, &links[from..to])
