@@ -4,5 +4,6 @@ pub mod EmptyTree
 pub mod NodeTrees
 pub mod PlacedLines
 pub mod OneRefusal
+mod SoundOrBroken
 pub mod SideLemmas
 pub mod Among

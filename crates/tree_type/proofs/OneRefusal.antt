@@ -49,13 +49,16 @@ rule_back rule.BadBlock = refl
 rule_back rule.TooMany = refl
 rule_back rule.NotClean = refl
 
+pub same_rule : (r s : Rule) → rule_number r ≡ rule_number s → r ≡ s
+same_rule r s e = sym (rule_back r) ∙ ap rule_at e ∙ rule_back s
+
 one_rule : (m : Matrix) (place : Place) (r s : Rule) → BreaksFirst m place r → BreaksFirst m place s → r ≡ s
 one_rule m place r s a b = go (cases_lt (rule_number r) (rule_number s)) (cases_lt (rule_number s) (rule_number r))
   where
     go : (rule_number r < rule_number s) ⊎ (rule_number s ≤ rule_number r) → (rule_number s < rule_number r) ⊎ (rule_number r ≤ rule_number s) → r ≡ s
     go (inl l) k = absurd (a.breaks (b.keeps r l))
     go (inr l) (inl k) = absurd (b.breaks (a.keeps s k))
-    go (inr l) (inr k) = sym (rule_back r) ∙ ap rule_at (omega (arith, l, k)) ∙ rule_back s
+    go (inr l) (inr k) = same_rule r s (omega (arith, l, k))
 
 pub one_refusal : (m : Matrix) (nodes : List Place) (path path' : List ℕ) (broken broken' : Rule) → IsFirstBroken m nodes path broken → IsFirstBroken m nodes path' broken' → (path ≡ path') × (broken ≡ broken')
 one_refusal m nodes path path' broken broken' a b =

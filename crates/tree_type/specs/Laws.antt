@@ -12,3 +12,7 @@ SoundIsUnbroken = (m : Matrix) (tree : SizedTree) (refusal : Refusal) → IsSoun
 -- there is one first node that breaks a rule, and one first rule
 abbrev pub OneRefusal : Type 0
 OneRefusal = (m : Matrix) (tree : SizedTree) (one other : Refusal) → IsBroken m tree one → IsBroken m tree other → (one.path ≡ other.path) × (one.rule ≡ other.rule)
+
+-- a tree that breaks no rule at any node is not unsound: the two together leave out no tree
+abbrev pub SoundOrBroken : Type 0
+SoundOrBroken = (m : Matrix) (tree : SizedTree) → ((refusal : Refusal) → ¬ (IsBroken m tree refusal)) → ¬ (¬ (IsSound m tree))
