@@ -1,9 +1,15 @@
 -- Laws of tree texts.
 use Rattle.std.specs.Prelude.{◌≡◌, ℕ, List, ◌∷◌, Ok}
+use Rattle.cmr_base.specs.Matrix.{Matrix}
 use Rattle.text_fields.specs.Words.{Text, text_of}
+use Rattle.tree_type.specs.Invariant.{IsDecTree}
+use Rattle.tree_type.specs.Soundness.{IsSound, IsBroken}
+use Rattle.tree_type.specs.Trees.{SizedTree, tree_of}
+use Rattle.tree_type.specs.Verdicts.{verdict_of}
+use Rattle.tree_type.specs.declared.refusal.Refusal.{Refusal}
 use Rattle.tree_text.specs.Canonical.{tree_text}
 use Rattle.tree_text.specs.declared.header.Version.TheVariants.{One, Two}
-use Rattle.tree_text.specs.Reading.{PlainTree, tree}
+use Rattle.tree_text.specs.Reading.{PlainTree, plain, tree}
 use Rattle.tree_text.specs.Versions.{version_word}
 
 -- the canonical text of a tree that was read, in either version, stands for the same tree
@@ -15,3 +21,15 @@ abbrev pub VersionTwoReadsAll : Type 0
 VersionTwoReadsAll = (size : ℕ) (name first second : ℕ × List ℕ) (words : List (ℕ × List ℕ)) (t : PlainTree)
     → first.1 ≡ version_word One → second.1 ≡ version_word Two
     → tree (record { size = size; words = name ∷ first ∷ words }) ≡ Ok t → tree (record { size = size; words = name ∷ second ∷ words }) ≡ Ok t
+
+-- A tree that was read is accepted as one that was written: it keeps all rules, breaks none, and has the same verdict.
+pub record IsAcceptedAs (m : Matrix) (written read : SizedTree) : Type 0 where
+  pub sound : IsSound m read
+  pub unbroken : (refusal : Refusal) → ¬ (IsBroken m read refusal)
+  pub verdict : verdict_of (tree_of read.root) ≡ verdict_of (tree_of written.root)
+
+-- the canonical text of a sound tree stands for it, and each tree that the text stands for is accepted as that tree
+abbrev pub SoundTreesReadBack : Type 0
+SoundTreesReadBack = (m : Matrix) (written : SizedTree) → IsDecTree written → IsSound m written
+    → (tree (text_of (tree_text written.rows written.columns (tree_of written.root))) ≡ Ok (plain written))
+    × ((read : SizedTree) → tree (text_of (tree_text written.rows written.columns (tree_of written.root))) ≡ Ok (plain read) → IsAcceptedAs m written read)
