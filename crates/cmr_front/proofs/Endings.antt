@@ -1,5 +1,5 @@
 -- How a run ends, from what was decided and how that was carried out.
-use Rattle.std.proofs.Common.{◌≡◌, ◌≤◌, ◌⊎◌, ◌∙◌, ℕ, Bool, IsTrue, List, Result, Ok, Err, sym, subst, inl, inr, arith, refl}
+use Rattle.std.proofs.Common.{◌≡◌, ◌≤◌, ◌⊎◌, ◌∙◌, ℕ, Bool, IsTrue, List, length, Result, Ok, Err, sym, subst, inl, inr, arith, refl}
 use Rattle.std.specs.Prelude.{IfErr}
 use Rattle.cmr_io.specs.Causes.{Rose}
 use Rattle.cmr_front.specs.declared.outcome.Outcome.{Outcome}
@@ -11,7 +11,7 @@ use Rattle.cmr_front.specs.Ending.{Devices, Standing, Telling, devices, telling_
 use Rattle.cmr_front.specs.Inputs.{Given, given, not_there, too_much, texts}
 use Rattle.cmr_front.specs.Outcome.{ended_report, outcome_report, bad_words, too_long, bad_text, stop_report}
 use Rattle.cmr_front.specs.Report.{Held, Report}
-use Rattle.cmr_front.specs.Run.{Ordered, nothing, work, IsNothing, Reports, ReportsGiven, Means, HasEnded, reported, unread, no_memory, Ends, Runs}
+use Rattle.cmr_front.specs.Run.{Ordered, nothing, work, IsNothing, Reports, ReportsGiven, Means, gives_answer, names_fault, names_too_long, IsMissing, HasEnded, reported, unread, no_memory, Ends, Runs}
 use Rattle.cmr_front.specs.Status.{IsStatus, answer_status, failure_status}
 use Rattle.cmr_front.specs.Tool.{IsDecision, IsLawful, Tool}
 use Rattle.cmr_front.specs.Stopped.{StopsInputs}
@@ -55,12 +55,12 @@ has_ended : (ordered : Ordered) (standing : Standing) (ended : Result Outcome St
     → Ends ordered before.held standing.shelf_tells standing.shelf_is_calm ended → CarriesOut ended (telling_of standing) before after status
     → ((ended_report ended).status ≡ failure_status failures.Device → Rose before.shelf_faults after.shelf_faults)
     → HasEnded ordered standing before after status
-has_ended ordered standing (Ok outcome) before after status ends done cause = reported (outcome_report outcome) ends done
-has_ended nothing standing (Err stops.BadWords) before after status ends done cause = reported bad_words (λ told. refl) (delivered done.0 done.1)
+has_ended ordered standing (Ok outcome) before after status ends done cause = reported (outcome_report outcome) ends.0 ends.1 done
+has_ended nothing standing (Err stops.BadWords) before after status ends done cause = reported bad_words refl (λ told. refl) (delivered done.0 done.1)
 has_ended (work tool) standing (Err stops.BadWords) before after status ends done cause = absurd ends
-has_ended ordered standing (Err (stops.TooLong name)) before after status ends done cause = reported (too_long name.now) ends (delivered done.0 done.1)
-has_ended ordered standing (Err (stops.BadText name kind place)) before after status ends done cause = reported (bad_text name.now kind place) ends (delivered done.0 done.1)
-has_ended ordered standing (Err (stops.CannotRead name)) before after status ends done cause = unread name.now ends.0 (cause refl) done.0 done.1
+has_ended ordered standing (Err (stops.TooLong name)) before after status ends done cause = reported (too_long name.now) ends.0 ends.1 (delivered done.0 done.1)
+has_ended ordered standing (Err (stops.BadText name kind place)) before after status ends done cause = reported (bad_text name.now kind place) ends.0 ends.1 (delivered done.0 done.1)
+has_ended ordered standing (Err (stops.CannotRead name)) before after status ends done cause = unread name.now ends.0 ends.1 (cause refl) done.0 done.1
 has_ended ordered standing (Err stops.Memory) before after status ends done cause = no_memory done.0 done.1
 
 -- seen from before a read, which changes nothing that the names hold
@@ -106,15 +106,20 @@ record IsReported (ordered : Ordered) (held : Held) (ended report : Report) : Ty
 is_reported : (ordered : Ordered) → IsLawfulOrder ordered → (held : Held) (ended report : Report) → Reports ordered held ended → Reports ordered held report → IsReported ordered held ended report
 is_reported ordered law held ended report a b = record { reports = a; status = one_status ordered law held ended report a b }
 
+-- on a file that is missing there is none
+none_of_missing : (ordered : Ordered) (held : Held) (name : List ℕ) → IsMissing ordered held name → (report : Report) → ¬ (Reports ordered held report)
+none_of_missing nothing held name missing report is = missing
+none_of_missing (work tool) held name missing report is = subst (λ g. ReportsGiven tool g report) missing is
+
 -- or there is none to be had
 the_status : (ordered : Ordered) → IsLawfulOrder ordered → (held : Held) (tells calm : Bool) (ended : Result Outcome Stop) → Ends ordered held tells calm ended → IsTrue tells → (report : Report) → Reports ordered held report
     → IsReported ordered held (ended_report ended) report ⊎ (((ended_report ended).status ≡ failure_status failures.Device) × (IsTrue calm → ⊥)) ⊎ (ended ≡ Err stops.Memory)
-the_status ordered law held tells calm (Ok outcome) ends told report is = inl (is_reported ordered law held _ report (ends told) is)
+the_status ordered law held tells calm (Ok outcome) ends told report is = inl (is_reported ordered law held _ report (ends.1 told) is)
 the_status nothing law held tells calm (Err stops.BadWords) ends told report is = inl (is_reported nothing law held _ report refl is)
 the_status (work tool) law held tells calm (Err stops.BadWords) ends told report is = absurd ends
-the_status ordered law held tells calm (Err (stops.TooLong name)) ends told report is = inl (is_reported ordered law held _ report (ends told) is)
-the_status ordered law held tells calm (Err (stops.BadText name kind place)) ends told report is = inl (is_reported ordered law held _ report (ends told) is)
-the_status ordered law held tells calm (Err (stops.CannotRead name)) ends told report is = inr (inl (refl, λ is_calm. ends.1 told is_calm report is))
+the_status ordered law held tells calm (Err (stops.TooLong name)) ends told report is = inl (is_reported ordered law held _ report (ends.1 told) is)
+the_status ordered law held tells calm (Err (stops.BadText name kind place)) ends told report is = inl (is_reported ordered law held _ report (ends.1 told) is)
+the_status ordered law held tells calm (Err (stops.CannotRead name)) ends told report is = inr (inl (refl, λ is_calm. none_of_missing ordered held name.now (ends.1 told is_calm) report is))
 the_status ordered law held tells calm (Err stops.Memory) ends told report is = inr (inr refl)
 
 -- a stop ends with its own status
@@ -186,7 +191,7 @@ means_given tool law held (texts bytes) e r answer a is = (bytes, e, law.means b
 
 means_ended : (tool : Tool) → IsLawful tool → (held : Held) (tells calm : Bool) (ended : Result Outcome Stop) → Ends (work tool) held tells calm ended → IsTrue tells → (answer : Answer)
     → (ended_report ended).status ≡ answer_status answer → Means tool held answer
-means_ended tool law held tells calm (Ok outcome) ends told answer is = means_given tool law held (given held tool.inputs) refl (outcome_report outcome) answer (ends told) is
+means_ended tool law held tells calm (Ok outcome) ends told answer is = means_given tool law held (given held tool.inputs) refl (outcome_report outcome) answer (ends.1 told) is
 means_ended tool law held tells calm (Err stops.BadWords) ends told answer is = absurd (answered_or_failed _ answer failures.Words is refl)
 means_ended tool law held tells calm (Err (stops.TooLong name)) ends told answer is = absurd (answered_or_failed _ answer failures.Text is refl)
 means_ended tool law held tells calm (Err (stops.BadText name kind place)) ends told answer is = absurd (answered_or_failed _ answer failures.Text is refl)
@@ -201,20 +206,22 @@ means tool law standing held ended mid after status ends (inr cut) told answer i
 
 -- ---- what is decided on what was read
 
-pub decided_ends : (tool : Tool) (held : Held) (tells calm : Bool) (bytes : List (List ℕ)) (ended : Result Outcome Stop) → (IsTrue tells → given held tool.inputs ≡ texts bytes)
-    → IsDecision (tool.Reports bytes) ended → Ends (work tool) held tells calm ended
-decided_ends tool held tells calm bytes (Ok outcome) read d = λ told. subst (λ g. ReportsGiven tool g (outcome_report outcome)) (sym (read told)) d
-decided_ends tool held tells calm bytes (Err stops.BadWords) read d = absurd d
-decided_ends tool held tells calm bytes (Err (stops.TooLong name)) read d = absurd d
-decided_ends tool held tells calm bytes (Err (stops.BadText name kind place)) read d = λ told. subst (λ g. ReportsGiven tool g (bad_text name.now kind place)) (sym (read told)) d
-decided_ends tool held tells calm bytes (Err (stops.CannotRead name)) read d = absurd d
-decided_ends tool held tells calm bytes (Err stops.Memory) read d = tt
+pub decided_ends : (tool : Tool) (held : Held) (tells calm : Bool) (bytes : List (List ℕ)) (ended : Result Outcome Stop) → length bytes ≡ length tool.inputs
+    → (IsTrue tells → given held tool.inputs ≡ texts bytes) → IsDecision (tool.Reports bytes) ended → Ends (work tool) held tells calm ended
+decided_ends tool held tells calm bytes (Ok outcome) count read d =
+    (gives_answer outcome.answer refl refl bytes count d, λ told. subst (λ g. ReportsGiven tool g (outcome_report outcome)) (sym (read told)) d)
+decided_ends tool held tells calm bytes (Err stops.BadWords) count read d = absurd d
+decided_ends tool held tells calm bytes (Err (stops.TooLong name)) count read d = absurd d
+decided_ends tool held tells calm bytes (Err (stops.BadText name kind place)) count read d =
+    (names_fault name.now kind place refl bytes count d, λ told. subst (λ g. ReportsGiven tool g (bad_text name.now kind place)) (sym (read told)) d)
+decided_ends tool held tells calm bytes (Err (stops.CannotRead name)) count read d = absurd d
+decided_ends tool held tells calm bytes (Err stops.Memory) count read d = tt
 
 pub stopped_ends : (tool : Tool) (held : Held) (tells calm : Bool) (stop : Stop) → StopsInputs tool.inputs held tells calm stop → Ends (work tool) held tells calm (Err stop)
 stopped_ends tool held tells calm stops.BadWords h = absurd h
-stopped_ends tool held tells calm (stops.TooLong name) h = λ told. subst (λ g. ReportsGiven tool g (too_long name.now)) (sym (h told)) refl
+stopped_ends tool held tells calm (stops.TooLong name) h = (names_too_long name.now h.0 refl, λ told. subst (λ g. ReportsGiven tool g (too_long name.now)) (sym (h.1 told)) refl)
 stopped_ends tool held tells calm (stops.BadText name kind place) h = absurd h
-stopped_ends tool held tells calm (stops.CannotRead name) h = (h.0, λ told is_calm report r. subst (λ g. ReportsGiven tool g report) (h.1 told is_calm) r)
+stopped_ends tool held tells calm (stops.CannotRead name) h = h
 stopped_ends tool held tells calm stops.Memory h = tt
 
 -- an end with the status of a device comes from a stop

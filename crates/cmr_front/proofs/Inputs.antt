@@ -102,7 +102,10 @@ stopped_at held mid tells tells' calm calm' inputs k before (stops.CannotRead na
   (λ t c.
       stops_unread held inputs k before h (read t) (same_reading held mid same (file_at inputs k) ∙ stopped.1 (told t) (is_calm c)) ∙ ap not_there (sym stopped.0)),
 )
-stopped_at held mid tells tells' calm calm' inputs k before (stops.TooLong name) h same told is_calm read stopped = λ t.
-    stops_above held inputs k before h (read t) (same_reading held mid same (file_at inputs k) ∙ stopped.1 (told t)) ∙ ap too_much (sym stopped.0)
+stopped_at held mid tells tells' calm calm' inputs k before (stops.TooLong name) h same told is_calm read stopped = (
+  subst (Contains (map (λ (file : InputFile). file.name) (map input_file inputs))) (sym stopped.0) (named inputs k h),
+  (λ t.
+      stops_above held inputs k before h (read t) (same_reading held mid same (file_at inputs k) ∙ stopped.1 (told t)) ∙ ap too_much (sym stopped.0)),
+)
 stopped_at held mid tells tells' calm calm' inputs k before (stops.BadText name kind place) h same told is_calm read stopped = stopped
 stopped_at held mid tells tells' calm calm' inputs k before stops.Memory h same told is_calm read stopped = tt

@@ -1,6 +1,7 @@
 -- What a run reports, how it ends, and what its answer means.
-use Rattle.std.specs.Prelude.{◌≡◌, ◌⊎◌, ℕ, Bool, IsTrue, List, Result, Ok, Err, map, Contains}
+use Rattle.std.specs.Prelude.{◌≡◌, ◌⊎◌, ℕ, Bool, IsTrue, List, [], length, Result, Ok, Err, map, Contains}
 use Rattle.cmr_io.specs.Causes.{Rose}
+use Rattle.cmr_front.specs.declared.outcome.FaultKind.{FaultKind}
 use Rattle.cmr_front.specs.declared.outcome.Outcome.{Outcome}
 use Rattle.cmr_front.specs.declared.outcome.Stop.{Stop}
 use Rattle.cmr_front.specs.declared.outcome.Stop.TheVariants as stops
@@ -10,7 +11,7 @@ use Rattle.cmr_front.specs.Inputs.{Given, given, not_there, too_much, texts}
 use Rattle.cmr_front.specs.Report.{Held, Report}
 use Rattle.cmr_front.specs.Outcome.{bad_text, bad_words, cannot_read, out_of_memory, outcome_report, too_long}
 use Rattle.cmr_front.specs.Ending.{Devices, Standing, IsDelivered, IsReadyFor, IsCarriedOut, telling_of}
-use Rattle.cmr_front.specs.Status.{IsStatus, failure_status}
+use Rattle.cmr_front.specs.Status.{IsStatus, answer_status, failure_status}
 use Rattle.cmr_front.specs.Tool.{Tool}
 
 -- what the words order: nothing where they are refused, or a tool with its options
@@ -46,12 +47,30 @@ abbrev pub IsInput : Ordered → List ℕ → Type 0
 IsInput nothing name = ⊥
 IsInput (work tool) name = Contains (map (λ file. file.name) tool.inputs) name
 
+-- it is the first of the files that is not there, and those before it are there and within their limits
+abbrev pub IsMissing : Ordered → Held → List ℕ → Type 0
+IsMissing nothing held name = ⊥
+IsMissing (work tool) held name = given held tool.inputs ≡ not_there name
+
+-- What a tool reports whatever the shelf tells: an answer without a line of standard error or a fault, on some texts, one
+-- for each file; or that one of its files is too long.
+pub data IsReportOf (tool : Tool) (report : Report) : Type 0 where
+  gives_answer : (answer : Answer) → report.status ≡ answer_status answer → report.error ≡ [] → (bytes : List (List ℕ)) → length bytes ≡ length tool.inputs → tool.Reports bytes report → IsReportOf tool report
+  names_fault : (name : List ℕ) (kind : FaultKind) (place : ℕ) → report ≡ bad_text name kind place → (bytes : List (List ℕ)) → length bytes ≡ length tool.inputs → tool.Reports bytes report → IsReportOf tool report
+  names_too_long : (name : List ℕ) → IsInput (work tool) name → report ≡ too_long name → IsReportOf tool report
+
+-- what is reported whatever the shelf tells
+abbrev pub ReportsSome : Ordered → Report → Type 0
+ReportsSome nothing report = report ≡ bad_words
+ReportsSome (work tool) report = IsReportOf tool report
+
 -- How a run ends: a report is carried out, or a file cannot be read, or memory is refused, and then nothing
--- is written but the line of standard error. The report is one of what is ordered where the shelf tells its bytes.
+-- is written but the line of standard error. Where the shelf tells its bytes the report is the one on what the names
+-- hold, and a file that cannot be read is the first that is not there where the shelf is calm.
 pub data HasEnded (ordered : Ordered) (standing : Standing) (before after : Devices) (status : ℕ) : Type 0 where
-  reported : (report : Report) → (IsTrue standing.shelf_tells → Reports ordered before.held report) → IsCarriedOut report (telling_of standing) before after status → HasEnded ordered standing before after status
-  unread : (name : List ℕ) → IsInput ordered name → Rose before.shelf_faults after.shelf_faults → status ≡ failure_status failures.Device → IsDelivered (cannot_read name) (telling_of standing) before after
-      → HasEnded ordered standing before after status
+  reported : (report : Report) → ReportsSome ordered report → (IsTrue standing.shelf_tells → Reports ordered before.held report) → IsCarriedOut report (telling_of standing) before after status → HasEnded ordered standing before after status
+  unread : (name : List ℕ) → IsInput ordered name → (IsTrue standing.shelf_tells → IsTrue standing.shelf_is_calm → IsMissing ordered before.held name) → Rose before.shelf_faults after.shelf_faults
+      → status ≡ failure_status failures.Device → IsDelivered (cannot_read name) (telling_of standing) before after → HasEnded ordered standing before after status
   no_memory : status ≡ failure_status failures.Memory → IsDelivered out_of_memory (telling_of standing) before after → HasEnded ordered standing before after status
 
 -- What is promised of a run, whatever is ordered.
@@ -72,11 +91,11 @@ pub record Runs (ordered : Ordered) (standing : Standing) (before after : Device
   pub statuses : IsStatus status
 
 -- What an outcome or a stop says for what is ordered, before anything is written: it is a report, but for a file that
--- cannot be read, of which a calm shelf says that there is no report, and for want of memory.
+-- cannot be read, which is missing where the shelf is calm, and for want of memory.
 abbrev pub Ends : Ordered → Held → Bool → Bool → Result Outcome Stop → Type 0
-Ends ordered held tells calm (Ok outcome) = IsTrue tells → Reports ordered held (outcome_report outcome)
+Ends ordered held tells calm (Ok outcome) = ReportsSome ordered (outcome_report outcome) × (IsTrue tells → Reports ordered held (outcome_report outcome))
 Ends ordered held tells calm (Err stops.BadWords) = IsNothing ordered
-Ends ordered held tells calm (Err (stops.CannotRead name)) = IsInput ordered name.now × (IsTrue tells → IsTrue calm → (report : Report) → ¬ (Reports ordered held report))
-Ends ordered held tells calm (Err (stops.TooLong name)) = IsTrue tells → Reports ordered held (too_long name.now)
-Ends ordered held tells calm (Err (stops.BadText name kind place)) = IsTrue tells → Reports ordered held (bad_text name.now kind place)
+Ends ordered held tells calm (Err (stops.CannotRead name)) = IsInput ordered name.now × (IsTrue tells → IsTrue calm → IsMissing ordered held name.now)
+Ends ordered held tells calm (Err (stops.TooLong name)) = ReportsSome ordered (too_long name.now) × (IsTrue tells → Reports ordered held (too_long name.now))
+Ends ordered held tells calm (Err (stops.BadText name kind place)) = ReportsSome ordered (bad_text name.now kind place) × (IsTrue tells → Reports ordered held (bad_text name.now kind place))
 Ends ordered held tells calm (Err stops.Memory) = Unit {0}

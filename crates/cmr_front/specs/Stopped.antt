@@ -19,7 +19,7 @@ StopsReading file held tells calm stops.Memory = Unit {0}
 abbrev pub StopsInputs : List InputFile → Held → Bool → Bool → Stop → Type 0
 StopsInputs files held tells calm stops.BadWords = ⊥
 StopsInputs files held tells calm (stops.CannotRead name) = Contains (map (λ file. file.name) files) name.now × (IsTrue tells → IsTrue calm → given held files ≡ not_there name.now)
-StopsInputs files held tells calm (stops.TooLong name) = IsTrue tells → given held files ≡ too_much name.now
+StopsInputs files held tells calm (stops.TooLong name) = Contains (map (λ file. file.name) files) name.now × (IsTrue tells → given held files ≡ too_much name.now)
 StopsInputs files held tells calm (stops.BadText name kind place) = ⊥
 StopsInputs files held tells calm stops.Memory = Unit {0}
 

@@ -1,0 +1,35 @@
+use Rattle.std.proofs.Common.{◌≡◌, ◌∙◌, List, ap, length, map, subst, sym}
+use Rattle.std.proofs.lemmas.List.{length-map}
+use Rattle.cmr_front.specs.declared.input.Input.{Input}
+use Rattle.cmr_front.specs.declared.input.Text.{Text}
+use Rattle.cmr_front.specs.Inputs.{InputFile, bytes_of, given, input_file, texts}
+use Rattle.cmr_front.specs.Stopped.{StopsInputs}
+use Rattle.cmr_front.proofs.Endings.{decided_ends, stopped_ends}
+use Rattle.cmr_front.proofs.tool.examine.Goals as goal
+
+one_for_each : (read : List Text) (inputs : List Input) (files : List InputFile) → length read ≡ length inputs → map input_file inputs ≡ files → length (map bytes_of read) ≡ length files
+one_for_each read inputs files count same = length-map read bytes_of ∙ count ∙ sym (length-map inputs input_file) ∙ ap length same
+
+pub returns-in-Ok-read_inputs-clause-ends : goal.returns-in-Ok-read_inputs-clause-ends
+returns-in-Ok-read_inputs-clause-ends g c =
+    let S = g.S.Shelf in
+    let shelf = c.args.shelf.now in
+    let tool = g.T.Tool.tool c.args.tool.now in
+    let inputs = c.deref.result.now in
+    let read = c.deref-in-Ok-read_inputs.result.now in
+    let same : map input_file inputs ≡ tool.inputs = ap (map input_file) c.deref.ensures.value ∙ c.in-Ok.ensures in
+    decided_ends tool (S.content shelf) (S.tells shelf) (S.is_calm shelf) (map bytes_of read) c.decide.result
+    (one_for_each read inputs tool.inputs (ap length c.deref-in-Ok-read_inputs.ensures.value ∙ c.in-Ok-read_inputs.ensures.count) same)
+    (λ told.
+    subst (λ (files : List InputFile). given (S.content shelf) files ≡ texts (map bytes_of read)) same
+    (c.in-Ok-read_inputs.ensures.given told ∙ ap (λ (ts : List Text). texts (map bytes_of ts)) (sym c.deref-in-Ok-read_inputs.ensures.value)))
+    c.decide.ensures
+
+pub returns-clause-ends : goal.returns-clause-ends
+returns-clause-ends g c =
+    let S = g.S.Shelf in
+    let shelf = c.args.shelf.now in
+    let tool = g.T.Tool.tool c.args.tool.now in
+    let same : map input_file c.deref.result.now ≡ tool.inputs = ap (map input_file) c.deref.ensures.value ∙ c.in-Ok.ensures in
+    stopped_ends tool (S.content shelf) (S.tells shelf) (S.is_calm shelf) c.in-Err-read_inputs.stop
+    (subst (λ (files : List InputFile). StopsInputs files (S.content shelf) (S.tells shelf) (S.is_calm shelf) c.in-Err-read_inputs.stop) same c.in-Err-read_inputs.ensures.stopped)
