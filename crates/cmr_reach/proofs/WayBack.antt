@@ -30,7 +30,7 @@ use Rattle.cmr_reach.proofs.TextLengths.{dense_text_within}
 
 -- ---- what the names hold once two files were written
 
-same_name : (x : List ℕ) → bytes_eq x x ≡ true
+pub same_name : (x : List ℕ) → bytes_eq x x ≡ true
 same_name x = (bytes_eq-Decides x x).1 refl
 
 other_name : (x y : List ℕ) → x ≢ y → bytes_eq x y ≡ false
@@ -47,7 +47,7 @@ module _ (held : Held) (f g : File) where
   second_held : with_files held (f ∷ g ∷ []) g.name ≡ Some g.bytes
   second_held = ap (λ (a : Bool). if a then Some g.bytes else (if bytes_eq g.name f.name then Some f.bytes else held g.name)) (same_name g.name)
 
-read_whole : (held : Held) (name bytes : List ℕ) → held name ≡ Some bytes → length bytes ≤ 16777216 → reading held (matrix_file name) ≡ whole bytes
+pub read_whole : (held : Held) (name bytes : List ℕ) → held name ≡ Some bytes → length bytes ≤ 16777216 → reading held (matrix_file name) ≡ whole bytes
 read_whole held name bytes e few = ap (reading_of 16777216) e ∙ ap (λ (b : Bool). if b then above_limit else whole bytes) (is_not_lt 16777216 (length bytes) few)
 
 both_read : (held : Held) (f g : File) → f.name ≢ g.name → length f.bytes ≤ 16777216 → length g.bytes ≤ 16777216

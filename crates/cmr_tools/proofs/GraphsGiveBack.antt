@@ -1,5 +1,6 @@
 -- A graph that `graphic` or `network` wrote gives the matrix back.
-use Rattle.std.proofs.Common.{◌≡◌, ◌∙◌, ℕ, Bool, List, [], ◌∷◌, Option, Some, Ok, length, refl, ap, subst, arith}
+use Rattle.std.proofs.Common.{◌≡◌, ◌≤◌, ◌∙◌, ℕ, Bool, List, [], ◌∷◌, Option, Some, Ok, false, length, refl, ap, sym, subst, arith}
+use Rattle.std.specs.Prelude.{if◌then◌else◌}
 use Rattle.cmr_base.specs.Matrix.{Matrix, height, IsMatrix}
 use Rattle.cmr_base.specs.declared.network.Network.{Network as Net}
 use Rattle.text_fields.specs.Words.{text_of, words_from}
@@ -7,13 +8,21 @@ use Rattle.graph_text.specs.declared.read.SizedNetwork.{SizedNetwork}
 use Rattle.graph_text.specs.GraphTexts.{graph_text}
 use Rattle.graph_text.specs.Reading.{IsGraph}
 use Rattle.graph_text.proofs.ReadAgain.{graph_again}
+use Rattle.graph_text.proofs.TextLengths.{graph_text_within}
 use Rattle.graph_text.proofs.WrittenEdges.{written_is_text}
-use Rattle.cmr_front.specs.Report.{Report, asked_file}
+use Rattle.cmr_front.specs.Inputs.{Given, and_then, given, texts}
+use Rattle.cmr_front.specs.MatrixText.{matrix_file}
+use Rattle.cmr_front.specs.Report.{File, Held, Report, asked_file, with_files}
+use Rattle.cmr_front.specs.Run.{ReportsGiven}
 use Rattle.cmr_front.proofs.Statuses.{status_of}
+use Rattle.cmr_reach.proofs.WayBack.{read_whole, same_name}
 use Rattle.cmr_tools.specs.declared.options.Property.{Property}
-use Rattle.cmr_tools.specs.GraphicNetwork.{IsTestable, Shows, yes, no, tested_matrix, written_graph}
+use Rattle.cmr_front.specs.declared.status.Answer.TheVariants.{Yes}
+use Rattle.cmr_front.specs.Status.{answer_status}
+use Rattle.cmr_tools.specs.GraphicNetwork.{IsTestable, Shows, TestDecides, yes, no, tested_matrix, written_graph}
+use Rattle.cmr_tools.specs.Words.GraphicNetwork.{TestOrder}
 use Rattle.cmr_tools.specs.GraphMatrix.{IsMatrixOf, graph_matrix_report, graph_matrix_tool}
-use Rattle.cmr_tools.specs.Laws.{GivesMatrix, GraphsGiveBack}
+use Rattle.cmr_tools.specs.Laws.{FileGivesMatrix, GivesMatrix, GraphFilesGiveBack, GraphsGiveBack}
 use Rattle.cmr_tools.proofs.GraphicNetworkAnswers.{shown_network}
 use Rattle.cmr_tools.proofs.GraphMatrixAnswers.{one_graph_matrix}
 
@@ -26,9 +35,42 @@ gives_matrix p net m is testable shows file =
     let reports : (graph_matrix_tool p file).Reports (text ∷ []) (graph_matrix_report m) = (Ok sized, read, (m, of_net, refl)) in
     (reports, λ other h. one_graph_matrix p file (text ∷ []) other (graph_matrix_report m) h reports)
 
+-- the file of a yes, and its network, which shows the property of the matrix
+record IsWritten (p : Property) (m : Matrix) (report : Report) (name : List ℕ) : Type 0 where
+  net : Net
+  files : report.files ≡ record { name = name; bytes = graph_text net } ∷ []
+  shows : Shows p net m
+
+is_written : (p : Property) (o : TestOrder) (m : Matrix) (report : Report) (name : List ℕ) → o.transposed ≡ false → o.graph ≡ Some name → TestDecides p o m report → report.status ≡ answer_status Yes → IsWritten p m report name
+is_written p o m report name plain asked (yes net shown e) status = record {
+  net = net;
+  files = ap (λ (r : Report). r.files) e ∙ ap (λ (g : Option (List ℕ)). asked_file g (written_graph o.transposed net)) asked ∙ ap (λ (t : Bool). asked_file (Some name) (written_graph t net)) plain;
+  shows = subst (λ (t : Bool). Shows p net (tested_matrix t m)) plain shown.shows;
+}
+is_written p o m report name plain asked (no minimal lacks e) status = let s = status_of report _ e in absurd (omega arith)
+
 pub graphs_give_back : GraphsGiveBack
-graphs_give_back p o m report name is testable plain asked (yes net shown e) status =
-    let files : report.files ≡ record { name = name; bytes = graph_text net } ∷ [] =
-    ap (λ (r : Report). r.files) e ∙ ap (λ (g : Option (List ℕ)). asked_file g (written_graph o.transposed net)) asked ∙ ap (λ (t : Bool). asked_file (Some name) (written_graph t net)) plain in
-    (graph_text net, files, gives_matrix p net m is testable (subst (λ (t : Bool). Shows p net (tested_matrix t m)) plain shown.shows))
-graphs_give_back p o m report name is testable plain asked (no minimal lacks e) status = let s = status_of report _ e in absurd (omega arith)
+graphs_give_back p o m report name is testable plain asked decides status =
+    let written = is_written p o m report name plain asked decides status in
+    (graph_text written.net, written.files, gives_matrix p written.net m is testable written.shows)
+
+-- ---- once the text stands in its file
+
+one_read : (held : Held) (file : File) → length file.bytes ≤ 16777216 → given (with_files held (file ∷ [])) (matrix_file file.name ∷ []) ≡ texts (file.bytes ∷ [])
+one_read held file few =
+    let written = with_files held (file ∷ []) in
+    let here : written file.name ≡ Some file.bytes = ap (λ (b : Bool). if b then Some file.bytes else held file.name) (same_name file.name) in
+    ap (λ x. and_then file.name x (texts [])) (read_whole written file.name file.bytes here few)
+
+file_gives : (p : Property) (net : Net) (m : Matrix) (name : List ℕ) (held : Held) → IsMatrix m → IsTestable p m → Shows p net m → FileGivesMatrix p name (with_files held (record { name = name; bytes = graph_text net } ∷ [])) m
+file_gives p net m name held is testable shows =
+    let sized : SizedNetwork = record { net = net; rows = height m; columns = m.width } in
+    let gives = gives_matrix p net m is testable shows name in
+    let read = one_read held (record { name = name; bytes = graph_text net }) (graph_text_within sized is.height_in is.width_in (shown_network p net m shows)) in
+    let tool = graph_matrix_tool p name in
+    (subst (λ (g : Given). ReportsGiven tool g (graph_matrix_report m)) (sym read) gives.0, λ other h. gives.1 other (subst (λ (g : Given). ReportsGiven tool g other) read h))
+
+pub graph_files_give_back : GraphFilesGiveBack
+graph_files_give_back p o m report name held is testable plain asked decides status =
+    let written = is_written p o m report name plain asked decides status in
+    subst (λ (files : List File). FileGivesMatrix p name (with_files held files) m) (sym written.files) (file_gives p written.net m name held is testable written.shows)

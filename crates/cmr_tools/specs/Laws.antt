@@ -1,12 +1,19 @@
 -- Laws on what the tools report.
-use Rattle.std.specs.Prelude.{◌≡◌, ℕ, false, List, [], ◌∷◌, Some}
+use Rattle.std.specs.Prelude.{◌≡◌, ℕ, false, List, [], ◌∷◌, Some, Contains, map}
 use Rattle.cmr_base.specs.Matrix.{Matrix, IsMatrix}
+use Rattle.cmr_front.specs.declared.outcome.FaultKind.{FaultKind}
 use Rattle.cmr_front.specs.declared.status.Answer.TheVariants.{Yes}
-use Rattle.cmr_front.specs.Report.{Report}
-use Rattle.cmr_front.specs.Status.{answer_status}
+use Rattle.cmr_front.specs.declared.status.Failure.TheVariants.{Text}
+use Rattle.cmr_front.specs.Inputs.{InputFile}
+use Rattle.cmr_front.specs.Outcome.{bad_text}
+use Rattle.cmr_front.specs.Report.{Held, Report, with_files}
+use Rattle.cmr_front.specs.Run.{ReportsHeld}
+use Rattle.cmr_front.specs.Status.{answer_status, failure_status}
 use Rattle.cmr_tools.specs.declared.options.Property.{Property}
 use Rattle.cmr_tools.specs.GraphMatrix.{graph_matrix_report, graph_matrix_tool}
 use Rattle.cmr_tools.specs.GraphicNetwork.{IsTestable, TestDecides}
+use Rattle.cmr_tools.specs.Tools.{tool_of}
+use Rattle.cmr_tools.specs.Words.{Order}
 use Rattle.cmr_tools.specs.Words.GraphicNetwork.{TestOrder}
 
 -- With `-c` a text gives the matrix, and no other report.
@@ -19,3 +26,25 @@ abbrev pub GraphsGiveBack : Type 0
 GraphsGiveBack = (p : Property) (o : TestOrder) (m : Matrix) (report : Report) (name : List ℕ) → IsMatrix m → IsTestable p m → o.transposed ≡ false → o.graph ≡ Some name
     → TestDecides p o m report → report.status ≡ answer_status Yes
     → (bytes : List ℕ) × (report.files ≡ record { name = name; bytes = bytes } ∷ []) × GivesMatrix p bytes m
+
+-- With `-c` the file of this name gives the matrix, and no other report.
+abbrev pub FileGivesMatrix : Property → List ℕ → Held → Matrix → Type 0
+FileGivesMatrix p name held m = ReportsHeld (graph_matrix_tool p name) held (graph_matrix_report m)
+    × ((other : Report) → ReportsHeld (graph_matrix_tool p name) held other → other ≡ graph_matrix_report m)
+
+-- the same of the names that hold the files, once the graph stands in its own
+abbrev pub GraphFilesGiveBack : Type 0
+GraphFilesGiveBack = (p : Property) (o : TestOrder) (m : Matrix) (report : Report) (name : List ℕ) (held : Held) → IsMatrix m → IsTestable p m → o.transposed ≡ false → o.graph ≡ Some name
+    → TestDecides p o m report → report.status ≡ answer_status Yes → FileGivesMatrix p name (with_files held report.files) m
+
+-- the line on the text of one of these files
+pub record IsFaultOfFile (files : List InputFile) (report : Report) : Type 0 where
+  pub name : List ℕ
+  pub kind : FaultKind
+  pub place : ℕ
+  pub is_read : Contains (map (λ file. file.name) files) name
+  pub report_is : report ≡ bad_text name kind place
+
+-- whatever texts a tool decides on, a report with the status of a text at fault is the line on a file that the tool reads
+abbrev pub FaultsAreOfFiles : Type 0
+FaultsAreOfFiles = (order : Order) (bytes : List (List ℕ)) (report : Report) → (tool_of order).Reports bytes report → report.status ≡ failure_status Text → IsFaultOfFile (tool_of order).inputs report

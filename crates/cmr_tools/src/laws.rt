@@ -1,8 +1,15 @@
 //! Laws over the definitions alone. Each is a function that does nothing: its contract is the law.
-ghost use Rattle.cmr_tools.specs.Laws.{GraphsGiveBack};
+ghost use Rattle.cmr_tools.specs.Laws.{FaultsAreOfFiles, GraphFilesGiveBack, GraphsGiveBack};
 
 /// Where `graphic` or `network` says yes of a matrix and writes a graph, but not with `-t`, the same tool with `-c` writes
-/// from that graph the canonical dense text of the matrix, and can report nothing else.
+/// from that graph the canonical dense text of the matrix, and can report nothing else. It does so from the text, and from
+/// the file once the text stands in it.
 pub fn graphs_give_back()
-    ensures { GraphsGiveBack }
+    ensures texts { GraphsGiveBack }
+    ensures files { GraphFilesGiveBack }
+{}
+
+/// Whatever texts a tool decides on, a report with the status of a text at fault is the line on a file that the tool reads.
+pub fn faults_are_of_files()
+    ensures { FaultsAreOfFiles }
 {}

@@ -4,4 +4,5 @@ pub mod OneMatrix
 pub mod OneReading
 pub mod ReadAgain
 pub mod SupportCells
+pub mod TextLengths
 pub mod WrittenEdges

@@ -40,10 +40,10 @@ edge_pushed letter line edges edge old now new inside is before pushed =
 -- ---- the words
 
 -- the nodes can be read
-abbrev AreSmall : List Pair → Type 0
+abbrev pub AreSmall : List Pair → Type 0
 AreSmall edges = AllByRecursion (λ (edge : Pair). (edge.tail ≤ 1000) × (edge.head ≤ 1000)) edges
 
-small_pairs : (last : ℕ) (edges : List Pair) → last ≤ 1000 → ((k : ℕ) → k < length edges → (tail edges k ≤ last) × (head edges k ≤ last)) → AreSmall edges
+pub small_pairs : (last : ℕ) (edges : List Pair) → last ≤ 1000 → ((k : ℕ) → k < length edges → (tail edges k ≤ last) × (head edges k ≤ last)) → AreSmall edges
 small_pairs last [] few each = tt
 small_pairs last (edge ∷ edges) few each =
     let here = each 0 (omega arith) in

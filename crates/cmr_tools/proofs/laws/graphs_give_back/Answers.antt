@@ -1,5 +1,8 @@
 use Rattle.cmr_tools.proofs.GraphsGiveBack as back
 use Rattle.cmr_tools.proofs.laws.graphs_give_back.Goals as goal
 
-pub returns : goal.returns
-returns c = back.graphs_give_back
+pub returns-clause-texts : goal.returns-clause-texts
+returns-clause-texts c = back.graphs_give_back
+
+pub returns-clause-files : goal.returns-clause-files
+returns-clause-files c = back.graph_files_give_back
