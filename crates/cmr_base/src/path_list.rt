@@ -1,0 +1,63 @@
+ghost use Rattle.std.specs.Prelude.{◌≡◌, ◌<◌, ◌++◌, [], ◌∷◌, length, slice_get, Some, OnOk, OnErr};
+
+use crate::Memory;
+use smallvec::SmallVec;
+use std::alloc::Global;
+use std::marker::Model;
+
+/// The child numbers that lead from the root of a tree to one of its nodes, counted from 0. Up to 8 of them stand in the
+/// list itself, more in an allocation. Contracts see the list of the numbers.
+#[derive(Debug, Drop)]
+pub struct PathList {
+    numbers: SmallVec<u32, 8>,
+}
+
+impl Model for PathList {
+    ghost use Rattle.std.specs.Prelude.{List, ℕ};
+
+    ghost Value = { List ℕ };
+
+    ghost view = { λ a. a.numbers.items };
+}
+
+impl PathList {
+    /// The path of the root.
+    pub fn new(alloc: Global) -> Self
+        ensures { result ≡ [] }
+    {
+        PathList {
+            numbers: SmallVec::new(alloc),
+        }
+    }
+
+    /// Appends a child number.
+    pub fn push(&mut self, number: u32) -> Result<(), Memory>
+        ensures ok { OnOk result (self.new ≡ self.old ++ number ∷ []) }
+        ensures err { OnErr result (self.new ≡ self.old) }
+    {
+        self.numbers.push(number)?;
+        Ok(())
+    }
+
+    /// How many child numbers there are, which is the depth of the node.
+    pub fn len(&self) -> usize
+        ensures { result ≡ length self.now }
+    {
+        self.numbers.len()
+    }
+
+    /// The child number at a place, counted from 0.
+    pub fn get(&self, index: usize) -> &u32
+        requires { index < length self.now }
+        ensures { slice_get self.now index ≡ Some result.now }
+    {
+        &self.numbers[index]
+    }
+
+    /// All child numbers.
+    pub fn as_slice(&self) -> &[u32]
+        ensures { result.now ≡ self.now }
+    {
+        self.numbers.as_slice()
+    }
+}
