@@ -1,4 +1,4 @@
-ghost use Rattle.std.specs.Prelude.{◌≡◌, ◌<◌, ◌++◌, [], ◌∷◌, length, slice_get, Some, OnOk, OnErr};
+ghost use Rattle.std.specs.Prelude.{◌≡◌, ◌<◌, ◌++◌, [], ◌∷◌, length, slice_get, Some, IfOk, OnOk, OnErr};
 
 use crate::Memory;
 use smallvec::SmallVec;
@@ -37,6 +37,17 @@ impl PathList {
     {
         self.numbers.push(number)?;
         Ok(())
+    }
+
+    /// The path of a child of the node, which has this number.
+    pub fn child(&self, number: u32) -> Result<PathList, Memory>
+        ensures { IfOk result (λ longer. longer ≡ self.now ++ number ∷ []) }
+    {
+        let path = self.as_slice();
+        let mut numbers = SmallVec::with_capacity(*self.numbers.allocator(), path.len() + 1)?;
+        numbers.extend_from_slice(path)?;
+        numbers.push(number)?;
+        Ok(PathList { numbers })
     }
 
     /// How many child numbers there are, which is the depth of the node.
