@@ -5,8 +5,9 @@ use smallvec::SmallVec;
 use std::alloc::Global;
 use std::marker::Model;
 
-/// The child numbers that lead from the root of a tree to one of its nodes, counted from 0. Up to 8 of them stand in the
-/// list itself, more in an allocation. Contracts see the list of the numbers.
+/// The nodes along a path in a tree, by their numbers: the child numbers, counted from 0, that lead from the root of a
+/// decomposition tree to one of its nodes, or the nodes between two of one tree. Most paths are short: up to 8 numbers stand
+/// in the list itself, more in an allocation. Contracts see the list of the numbers.
 #[derive(Debug, Drop)]
 pub struct PathList {
     numbers: SmallVec<u32, 8>,
@@ -21,7 +22,7 @@ impl Model for PathList {
 }
 
 impl PathList {
-    /// The path of the root.
+    /// The empty path, which is that of the root.
     pub fn new(alloc: Global) -> Self
         ensures { result ≡ [] }
     {
@@ -30,7 +31,7 @@ impl PathList {
         }
     }
 
-    /// Appends a child number.
+    /// Appends a number.
     pub fn push(&mut self, number: u32) -> Result<(), Memory>
         ensures ok { OnOk result (self.new ≡ self.old ++ number ∷ []) }
         ensures err { OnErr result (self.new ≡ self.old) }
@@ -39,7 +40,7 @@ impl PathList {
         Ok(())
     }
 
-    /// The path of a child of the node, which has this number.
+    /// The path of a child, which has this number at the node of this path.
     pub fn child(&self, number: u32) -> Result<PathList, Memory>
         ensures { IfOk result (λ longer. longer ≡ self.now ++ number ∷ []) }
     {
@@ -50,14 +51,14 @@ impl PathList {
         Ok(PathList { numbers })
     }
 
-    /// How many child numbers there are, which is the depth of the node.
+    /// How many numbers there are.
     pub fn len(&self) -> usize
         ensures { result ≡ length self.now }
     {
         self.numbers.len()
     }
 
-    /// The child number at a place, counted from 0.
+    /// The number at a place, counted from 0.
     pub fn get(&self, index: usize) -> &u32
         requires { index < length self.now }
         ensures { slice_get self.now index ≡ Some result.now }
@@ -65,7 +66,7 @@ impl PathList {
         &self.numbers[index]
     }
 
-    /// All child numbers.
+    /// All numbers.
     pub fn as_slice(&self) -> &[u32]
         ensures { result.now ≡ self.now }
     {
