@@ -4,7 +4,7 @@ ghost use Rattle.cmr_base.specs.Members.{IsIn};
 ghost use Rattle.bridge_split.specs.Forests.{AreInOneTree, Extends, HasRoute, HasTreeRoom, IsConflict, IsGrowing, IsGrown, IsSquare, IsTwoColoured, depth_at, joins, parent_at};
 
 use crate::cuts::CutTable;
-use cmr_base::Memory;
+use cmr_base::{Memory, PathList};
 use std::alloc::Global;
 
 /// The depth of a part that was not reached.
@@ -126,13 +126,13 @@ impl Forest {
     pub fn push_path(
         &self,
         table: &CutTable,
-        path: &mut Vec<u32>,
+        path: &mut PathList,
         one: u32,
         two: u32,
     ) -> Result<(), Memory>
         requires room { HasTreeRoom table.now.count self.now.depth.items self.now.parent.items }
         requires tree { AreInOneTree (joins table.now) table.now.count (depth_at self.now.depth.items) (parent_at self.now.parent.items) self.now.reached.items one two }
-        ensures { OnOk result (HasRoute (joins table.now) table.now.count (depth_at self.now.depth.items) path.old.items path.new.items one two) }
+        ensures { OnOk result (HasRoute (joins table.now) table.now.count (depth_at self.now.depth.items) path.old path.new one two) }
     {
         if one == two {
             path.push(one)?;

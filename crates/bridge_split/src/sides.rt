@@ -10,7 +10,7 @@ ghost use Rattle.bridge_split.specs.SplitCases.{AreSidesOf};
 
 use crate::cuts::CutTable;
 use crate::forest::Forest;
-use cmr_base::{Indices, Matrix, Memory, PartList, SideList};
+use cmr_base::{Indices, Matrix, Memory, PartList, PathList, SideList};
 use std::alloc::Global;
 
 /// Sides for parts, or why there are none.
@@ -41,9 +41,9 @@ pub fn sides_at(
     match forest.grow(&table)? {
         None => Ok(Sides::Found(sides_by_depth(alloc, &forest.depth)?)),
         Some(conflict) => {
-            let mut path = Vec::new(alloc);
+            let mut path = PathList::new(alloc);
             forest.push_path(&table, &mut path, conflict.one, conflict.two)?;
-            Ok(Sides::OddCycle(parts_at_places(alloc, parts, &path)?))
+            Ok(Sides::OddCycle(parts_at_places(alloc, parts, path.as_slice())?))
         }
     }
 }

@@ -113,7 +113,7 @@ fn check_child(
     requires { Stands matrix.now (tree_of child.now) }
     ensures { IfOk result (AnswersOn matrix.now (places_from (path.now ++ number ∷ []) (due_child_of (tree_of parent.now) number) (tree_of child.now))) }
 {
-    let longer = child_path(alloc, path, number)?;
+    let longer = path.child(number)?;
     match rule_of(alloc, matrix, child, parent, number)? {
         Some(rule) => Ok(Some(Refusal { path: longer, rule })),
         None => check_below(alloc, matrix, &longer, child),
@@ -160,16 +160,4 @@ fn has_lines(due: &Option<LineSet>, child: &Node) -> bool
         Some(lines) => same_lines(&child.lines, lines),
         None => true,
     }
-}
-
-/// The path of a child.
-fn child_path(alloc: Global, path: &PathList, number: u32) -> Result<PathList, Memory>
-    ensures { IfOk result (λ longer. longer ≡ path.now ++ number ∷ []) }
-{
-    let mut longer = PathList::new(alloc);
-    for step in path.as_slice() {
-        longer.push(*step)?;
-    }
-    longer.push(number)?;
-    Ok(longer)
 }

@@ -19,9 +19,6 @@ pub type PartList = ItemList<Indices>;
 /// Sides, 0 or 1, one for each of some parts.
 pub type SideList = ItemList<u8>;
 
-/// The child numbers that lead from the root of a tree to one of its nodes, counted from 0.
-pub type PathList = ItemList<u32>;
-
 /// The words of a command line.
 pub type WordList = ItemList<Word>;
 

@@ -44,10 +44,10 @@ parts_at_places-requires c =
     let two = c.in-Some.conflict.two in
     let count = c.in_ok-table.ensures.count ∙ ap length c.as_slice-parts.ensures in
     let cuts = subst (λ (ps : List (List ℕ)). IsCutTable M c.args.row ps (length ps) table.cuts.items) c.as_slice-parts.ensures c.in_ok-table.ensures.cuts in
-    let route = subst (λ (before : List ℕ). HasRoute (joins table) table.count (depth_at c.grow.new.self.depth.items) before c.push_path.new.path.items one two) c.new-path.ensures.items c.in_ok-push_path-in-Some.ensures in
-    subst (AllBelow (length c.as_slice-parts.result.now)) (sym c.deref-in-Some.ensures.value)
-    (subst (λ (ps : List (List ℕ)). AllBelow (length ps) c.push_path.new.path.items) (sym c.as_slice-parts.ensures)
-    (path_low M c.args.rows.now c.args.row parts c.requires.parts table count cuts (depth_at c.grow.new.self.depth.items) c.push_path.new.path.items one two route))
+    let route = subst (λ (before : List ℕ). HasRoute (joins table) table.count (depth_at c.grow.new.self.depth.items) before c.push_path.new.path one two) c.new-path.ensures c.in_ok-push_path-in-Some.ensures in
+    subst (AllBelow (length c.as_slice-parts.result.now)) (sym c.as_slice.ensures)
+    (subst (λ (ps : List (List ℕ)). AllBelow (length ps) c.push_path.new.path) (sym c.as_slice-parts.ensures)
+    (path_low M c.args.rows.now c.args.row parts c.requires.parts table count cuts (depth_at c.grow.new.self.depth.items) c.push_path.new.path one two route))
 
 pub returns : goal.returns
 returns c =
@@ -59,8 +59,8 @@ returns c =
     let two = c.in-Some.conflict.two in
     let count = c.in_ok-table.ensures.count ∙ ap length c.as_slice-parts.ensures in
     let cuts = subst (λ (ps : List (List ℕ)). IsCutTable M c.args.row ps (length ps) table.cuts.items) c.as_slice-parts.ensures c.in_ok-table.ensures.cuts in
-    let route = subst (λ (before : List ℕ). HasRoute (joins table) table.count (depth_at forest.depth.items) before c.push_path.new.path.items one two) c.new-path.ensures.items c.in_ok-push_path-in-Some.ensures in
+    let route = subst (λ (before : List ℕ). HasRoute (joins table) table.count (depth_at forest.depth.items) before c.push_path.new.path one two) c.new-path.ensures c.in_ok-push_path-in-Some.ensures in
     subst (IsOddClosed M c.args.rows.now c.args.row)
-    (sym (c.in_ok-parts_at_places-in-Some.ensures ∙ ap₂ (λ (ps : List (List ℕ)) (path : List ℕ). map (part_at ps) path) c.as_slice-parts.ensures c.deref-in-Some.ensures.value))
-    (odd_closed M c.args.rows.now c.args.row parts c.requires.parts table count cuts (depth_at forest.depth.items) (parent_at forest.parent.items) forest.reached.items c.push_path.new.path.items one two
+    (sym (c.in_ok-parts_at_places-in-Some.ensures ∙ ap₂ (λ (ps : List (List ℕ)) (path : List ℕ). map (part_at ps) path) c.as_slice-parts.ensures c.as_slice.ensures))
+    (odd_closed M c.args.rows.now c.args.row parts c.requires.parts table count cuts (depth_at forest.depth.items) (parent_at forest.parent.items) forest.reached.items c.push_path.new.path one two
     (MatchOption-at_some _ _ c.in-Some.conflict c.in-Some.is c.in_ok-grow.ensures.found) route)

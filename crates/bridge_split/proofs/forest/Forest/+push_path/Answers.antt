@@ -50,16 +50,16 @@ push_path-requires-else-index t c =
 
 pub returns-in_ok-push : goal.returns-in_ok-push
 returns-in_ok-push t c =
-    route_one (joins c.args.table.now) c.args.table.now.count (depth_at c.args.self.now.depth.items) c.args.path.now.items c.push.new.self.items c.args.one c.args.two
-    (c.requires.tree.are.inside c.args.one c.requires.tree.one_in) (sym c.if-one-two.true) c.in_ok-push.ensures.items
+    route_one (joins c.args.table.now) c.args.table.now.count (depth_at c.args.self.now.depth.items) c.args.path.now c.push.new.self c.args.one c.args.two
+    (c.requires.tree.are.inside c.args.one c.requires.tree.one_in) (sym c.if-one-two.true) c.in_ok-push.ensures.ok
 
 pub returns-in_ok-push_path : goal.returns-in_ok-push_path
 returns-in_ok-push_path t c =
     let s = c.args.self.now in
     let u = up_here c.args.table.now s.depth.items s.parent.items s.reached.items c.requires.room c.args.one c.args.two c.index-then-index.result.now c.index.result.now c.index-else-one-two.result.now
     c.requires.tree c.if-one-two.false c.index.ensures c.index-else-one-two.ensures c.if-index.true c.index-then-index.ensures in
-    route_front (joins c.args.table.now) c.args.table.now.count (depth_at s.depth.items) c.args.path.now.items c.push-then-index.new.self.items c.push_path.new.path.items
-    c.args.one c.index-then-index.result.now c.args.two c.in_ok-push-2.ensures.items c.in_ok-push_path.ensures u.1 u.2 u.3
+    route_front (joins c.args.table.now) c.args.table.now.count (depth_at s.depth.items) c.args.path.now c.push-then-index.new.self c.push_path.new.path
+    c.args.one c.index-then-index.result.now c.args.two c.in_ok-push-2.ensures.ok c.in_ok-push_path.ensures u.1 u.2 u.3
 
 pub returns-in_ok-push-3 : goal.returns-in_ok-push-3
 returns-in_ok-push-3 t c =
@@ -69,6 +69,6 @@ returns-in_ok-push-3 t c =
     let u = up_here c.args.table.now s.depth.items s.parent.items s.reached.items c.requires.room c.args.two c.args.one c.index-else-index.result.now c.index-else-one-two.result.now c.index.result.now
     (turned D n (depth_at s.depth.items) (parent_at s.parent.items) s.reached.items c.args.one c.args.two c.requires.tree) (λ e. c.if-one-two.false (sym e))
     c.index-else-one-two.ensures c.index.ensures (let l = c.if-index.false in omega arith) c.index-else-index.ensures in
-    route_back D n (depth_at s.depth.items) c.args.path.now.items c.push_path-else-index.new.path.items c.push-else-index.new.self.items
-    c.args.one c.index-else-index.result.now c.args.two c.in_ok-push-3.ensures.items c.in_ok-push_path-2.ensures u.1
+    route_back D n (depth_at s.depth.items) c.args.path.now c.push_path-else-index.new.path c.push-else-index.new.self
+    c.args.one c.index-else-index.result.now c.args.two c.in_ok-push-3.ensures.ok c.in_ok-push_path-2.ensures u.1
     (disagree_back c.args.table.now.cuts.items n c.args.two c.index-else-index.result.now u.2) u.3
