@@ -1,5 +1,4 @@
 pub mod Laws
 pub mod SignedGroups
-pub mod SupportMatrices
 pub mod FirstRows
 pub mod Orientations

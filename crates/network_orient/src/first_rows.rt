@@ -6,7 +6,6 @@ ghost use Rattle.cmr_base.specs.Trees.{IsNetworkMatrix};
 ghost use Rattle.network_orient.specs.FirstRows.{HasNoFaultBefore};
 
 use crate::column_groups::ColumnGroups;
-use crate::supports::support_of;
 use cmr_base::{Matrix, Memory};
 use graph_realise::realise;
 use std::alloc::Global;
@@ -17,8 +16,7 @@ use std::alloc::Global;
 pub fn rows_without_fault(alloc: Global, matrix: &Matrix) -> Result<u32, Memory>
     ensures { IfOk result (HasNoFaultBefore matrix.now) }
 {
-    let support = support_of(alloc, matrix)?;
-    let Some(net) = realise(alloc, &support)? else {
+    let Some(net) = realise(alloc, matrix)? else {
         return Ok(0);
     };
     let reproduced = net.matrix(alloc, matrix.rows(), matrix.columns())?;

@@ -7,7 +7,6 @@ pub mod laws;
 mod line_signs;
 mod minimal;
 mod orienting;
-mod supports;
 mod turning;
 
 pub use first_rows::rows_without_fault;

@@ -4,7 +4,6 @@ ghost use Rattle.cmr_base.specs.Trees.{HasGraphicSupport, IsNetworkMatrix, Repro
 ghost use Rattle.network_orient.specs.Orientations.{IsOrientation};
 
 use crate::line_signs::signs_between;
-use crate::supports::support_of;
 use crate::turning::turned_network;
 use cmr_base::{Matrix, Memory, Network};
 use graph_realise::realise;
@@ -25,8 +24,7 @@ pub enum Orientation {
 pub fn orientation_of(alloc: Global, matrix: &Matrix) -> Result<Orientation, Memory>
     ensures { IfOk result (IsOrientation matrix.now) }
 {
-    let support = support_of(alloc, matrix)?;
-    let Some(net) = realise(alloc, &support)? else {
+    let Some(net) = realise(alloc, matrix)? else {
         return Ok(Orientation::NoTree);
     };
     let reproduced = net.matrix(alloc, matrix.rows(), matrix.columns())?;
@@ -52,9 +50,5 @@ pub fn orient(alloc: Global, matrix: &Matrix) -> Result<Option<Network>, Memory>
 pub fn has_graphic_support(alloc: Global, matrix: &Matrix) -> Result<bool, Memory>
     ensures { IfOk result (λ yes. IsTrue yes ↔ HasGraphicSupport matrix.now) }
 {
-    let support = support_of(alloc, matrix)?;
-    match realise(alloc, &support)? {
-        Some(_net) => Ok(true),
-        None => Ok(false),
-    }
+    Ok(realise(alloc, matrix)?.is_some())
 }
