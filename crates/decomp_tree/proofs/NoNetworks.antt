@@ -30,7 +30,7 @@ use Rattle.tree_type.proofs.Among.{among_in}
 -- a matrix without directed tree
 pub not_directed : (m : Matrix) (found : Orientation) → IsOrientation m found → ((net : Network) → found ≡ Directed net → ⊥) → ¬ (IsNetworkMatrix m)
 not_directed m (Directed net) is none = absurd (none net refl)
-not_directed m WrongSigns is none = is.0
+not_directed m (WrongSigns row) is none = is.0
 not_directed m NoTree is none = is.0
 
 graphic_as : (a b : Matrix) → height a ≡ height b → a.width ≡ b.width → ((r c : ℕ) → r < height a → c < a.width → entry a r c ≡ entry b r c) → HasGraphicSupport a → HasGraphicSupport b

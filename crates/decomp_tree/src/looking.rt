@@ -11,7 +11,7 @@ ghost use Rattle.three_sep.specs.ThreeSeparations.{IsFirstThreeSeparation};
 ghost use Rattle.decomp_tree.specs.Obstructions.{IsKnown};
 ghost use Rattle.decomp_tree.specs.Seen.{HasNoneBefore, IsSeen};
 
-use crate::faults::{certain_fault, fault_of};
+use crate::faults::{certain_fault, certain_fault_transposed, fault_from};
 use crate::naming::{named_parts, named_set, named_steps, named_three, named_two};
 use crate::obstructions::Obstruction;
 use crate::seen::{Seen, above_one, above_two, leaf};
@@ -244,7 +244,8 @@ fn look_transposed<R: Threads + Sync>(
     ensures { IfOk result (IsSeen limit matrix.now lines.now) }
 {
     let of_columns = orientation_of(alloc, inner.by_columns())?;
-    if let Some(fault) = certain_fault(alloc, matrix, lines, inner.by_rows(), &of_columns)? {
+    let fault = certain_fault_transposed(alloc, matrix, lines, inner.by_rows(), &of_columns)?;
+    if let Some(fault) = fault {
         return Ok(leaf(alloc, Finding::Cycle(fault)));
     }
     if let Orientation::Directed(net) = of_columns {
@@ -294,7 +295,7 @@ fn look_r10(
     requires r10 { IsR10 (part matrix.now lines.now) }
     ensures { IfOk result (IsSeen _limit matrix.now lines.now) }
 {
-    if let Some(fault) = fault_of(alloc, matrix, lines, inner)? {
+    if let Some(fault) = fault_from(alloc, matrix, lines, inner, 0)? {
         return Ok(leaf(alloc, Finding::Cycle(fault)));
     }
     Ok(leaf(alloc, Finding::R10))
@@ -322,7 +323,7 @@ fn look_separated<R: Threads + Sync>(
     if let Some(two) = two_separation_of(alloc, inner)? {
         return seen_two(alloc, matrix, lines, &two, limit);
     }
-    if let Some(fault) = fault_of(alloc, matrix, lines, inner.by_rows())? {
+    if let Some(fault) = fault_from(alloc, matrix, lines, inner.by_rows(), 0)? {
         return Ok(leaf(alloc, Finding::Cycle(fault)));
     }
     look_faultless(rt, alloc, matrix, lines, inner.by_rows(), limit, workers)

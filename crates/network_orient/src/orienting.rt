@@ -3,7 +3,7 @@ ghost use Rattle.std.specs.Prelude.{◌↔◌, IfOk, IsTrue, MatchOption};
 ghost use Rattle.cmr_base.specs.Trees.{HasGraphicSupport, IsNetworkMatrix, Reproduces};
 ghost use Rattle.network_orient.specs.Orientations.{IsOrientation};
 
-use crate::line_signs::signs_between;
+use crate::line_signs::{SignsBetween, signs_between};
 use crate::turning::turned_network;
 use cmr_base::{Matrix, Memory, Network};
 use graph_realise::realise;
@@ -14,8 +14,9 @@ use std::alloc::Global;
 pub enum Orientation {
     /// A directed tree, and for each column a path that uses the arcs as its entries say, +1 forwards and -1 backwards.
     Directed(Network),
-    /// The supports of the columns are the paths of some tree, but the signs are not those of a directed one.
-    WrongSigns,
+    /// The supports of the columns are the paths of some tree, but the signs are not those of a directed one. The rows
+    /// before this one have no cycle fault.
+    WrongSigns(u32),
     /// The supports of the columns are not the paths of a tree.
     NoTree,
 }
@@ -28,10 +29,12 @@ pub fn orientation_of(alloc: Global, matrix: &Matrix) -> Result<Orientation, Mem
         return Ok(Orientation::NoTree);
     };
     let reproduced = net.matrix(alloc, matrix.rows(), matrix.columns())?;
-    let Some(signs) = signs_between(alloc, &reproduced, matrix)? else {
-        return Ok(Orientation::WrongSigns);
-    };
-    Ok(Orientation::Directed(turned_network(alloc, &net, &signs)?))
+    match signs_between(alloc, &reproduced, matrix)? {
+        SignsBetween::Found(signs) => {
+            Ok(Orientation::Directed(turned_network(alloc, &net, &signs)?))
+        }
+        SignsBetween::WrongRow(row) => Ok(Orientation::WrongSigns(row)),
+    }
 }
 
 /// A directed tree whose arcs are the rows, and for each column a path that uses the arcs as its entries say, +1
@@ -41,7 +44,7 @@ pub fn orient(alloc: Global, matrix: &Matrix) -> Result<Option<Network>, Memory>
 {
     match orientation_of(alloc, matrix)? {
         Orientation::Directed(net) => Ok(Some(net)),
-        Orientation::WrongSigns => Ok(None),
+        Orientation::WrongSigns(_) => Ok(None),
         Orientation::NoTree => Ok(None),
     }
 }
