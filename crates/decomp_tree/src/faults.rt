@@ -1,6 +1,6 @@
 // Cycle faults, which are not looked for where there can be none.
 ghost use Rattle.std.specs.Prelude.{◌≡◌, true, MatchOption, IfOk, IfSome, IsTrue};
-ghost use Rattle.cmr_base.specs.Matrix.{entry, IsMatrix};
+ghost use Rattle.cmr_base.specs.Matrix.{entry, transposed, IsMatrix};
 ghost use Rattle.cmr_base.specs.CyclePlaces.{HasNoCycleFault};
 ghost use Rattle.cmr_base.specs.LineSets.{IsRowSet, IsColumnSet};
 ghost use Rattle.tree_type.specs.Soundness.{part};
@@ -13,7 +13,7 @@ ghost use Rattle.network_orient.specs.Orientations.{IsOrientation};
 use crate::naming::named_set;
 use camion_sign::{cycle_fault, cycle_fault_from};
 use cmr_base::{LineSet, Matrix, Memory};
-use network_orient::Orientation;
+use network_orient::{Orientation, rows_of_transposed};
 use std::alloc::Global;
 use tree_type::Finding;
 
@@ -57,13 +57,12 @@ pub fn certain_fault(
     ensures { IfOk result (λ found. IfSome found (IsNamedFault matrix.now lines.now)) }
 {
     match of_rows {
-        Orientation::WrongSigns(row) => fault_from(alloc, matrix, lines, inner, *row),
+        Orientation::WrongSigns { row, .. } => fault_from(alloc, matrix, lines, inner, *row),
         Orientation::Directed(_) | Orientation::NoTree => Ok(None),
     }
 }
 
-/// The same where a tree has the supports of the rows as paths. What its signs tell of columns says nothing of the first
-/// rows.
+/// The same where a tree has the supports of the rows as paths.
 pub fn certain_fault_transposed(
     alloc: Global,
     matrix: &Matrix,
@@ -75,10 +74,14 @@ pub fn certain_fault_transposed(
     requires rows { IsRowSet matrix.now lines.now.rows }
     requires columns { IsColumnSet matrix.now lines.now.columns }
     requires inner { inner.now ≡ part matrix.now lines.now }
+    requires of_columns { IsOrientation (transposed inner.now) of_columns.now }
     ensures { IfOk result (λ found. IfSome found (IsNamedFault matrix.now lines.now)) }
 {
     match of_columns {
-        Orientation::WrongSigns(_) => fault_from(alloc, matrix, lines, inner, 0),
+        Orientation::WrongSigns { net, .. } => {
+            let row = rows_of_transposed(alloc, net, inner)?;
+            fault_from(alloc, matrix, lines, inner, row)
+        }
         Orientation::Directed(_) | Orientation::NoTree => Ok(None),
     }
 }

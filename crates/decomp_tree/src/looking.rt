@@ -17,7 +17,7 @@ use crate::obstructions::Obstruction;
 use crate::seen::{Seen, above_one, above_two, leaf};
 use cmr_base::{LineSet, Matrix, Memory, RowsAndColumns, Three, Two};
 use leaf_enumerate::{Search, least_violator};
-use network_orient::{Orientation, orientation_of};
+use network_orient::orientation_of;
 use r10_leaf::is_r10;
 use sp_reduce::{FirstLook, Reduction, first_look, reduce};
 use std::alloc::Global;
@@ -218,7 +218,7 @@ fn look_tested<R: Threads + Sync>(
     if let Some(fault) = certain_fault(alloc, matrix, lines, inner.by_rows(), &of_rows)? {
         return Ok(leaf(alloc, Finding::Cycle(fault)));
     }
-    if let Orientation::Directed(net) = of_rows {
+    if let Some(net) = of_rows.directed() {
         return Ok(leaf(alloc, Finding::Network(net)));
     }
     look_transposed(rt, alloc, matrix, lines, inner, limit, workers)
@@ -248,7 +248,7 @@ fn look_transposed<R: Threads + Sync>(
     if let Some(fault) = fault {
         return Ok(leaf(alloc, Finding::Cycle(fault)));
     }
-    if let Orientation::Directed(net) = of_columns {
+    if let Some(net) = of_columns.directed() {
         return Ok(leaf(alloc, Finding::Conetwork(net)));
     }
     look_no_network(rt, alloc, matrix, lines, inner, limit, workers)

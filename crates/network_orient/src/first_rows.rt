@@ -1,9 +1,12 @@
-// Rows that are those of a network matrix, and so have no cycle fault.
+// Rows that are those of a network matrix or of a transposed one, and so have no cycle fault.
 ghost use Rattle.std.specs.Prelude.{IfOk};
+ghost use Rattle.cmr_base.specs.Matrix.{transposed};
+ghost use Rattle.cmr_base.specs.Trees.{ReproducesSupport};
 ghost use Rattle.network_orient.specs.FirstRows.{HasNoFaultBefore};
 
+use crate::line_signs::{SignsBetween, signs_between};
 use crate::orienting::{Orientation, orientation_of};
-use cmr_base::{Matrix, Memory};
+use cmr_base::{Matrix, Memory, Network};
 use std::alloc::Global;
 
 /// How many of the first rows are shown to have no cycle fault by a network matrix: where the support is graphic, those
@@ -14,7 +17,21 @@ pub fn rows_without_fault(alloc: Global, matrix: &Matrix) -> Result<u32, Memory>
 {
     match orientation_of(alloc, matrix)? {
         Orientation::Directed(_) => Ok(matrix.rows()),
-        Orientation::WrongSigns(row) => Ok(row),
+        Orientation::WrongSigns { row, .. } => Ok(row),
         Orientation::NoTree => Ok(0),
+    }
+}
+
+/// The same by a tree that has the supports of the rows as paths: those before the first row whose signs are not the
+/// transposed network's, however lines are multiplied by -1.
+pub fn rows_of_transposed(alloc: Global, net: &Network, matrix: &Matrix) -> Result<u32, Memory>
+    requires { ReproducesSupport net.now (transposed matrix.now) }
+    ensures { IfOk result (HasNoFaultBefore matrix.now) }
+{
+    let reproduced = net.matrix(alloc, matrix.columns(), matrix.rows())?;
+    let turned = reproduced.transposed(alloc)?;
+    match signs_between(alloc, &turned, matrix)? {
+        SignsBetween::Found(_) => Ok(matrix.rows()),
+        SignsBetween::WrongRow(row) => Ok(row),
     }
 }

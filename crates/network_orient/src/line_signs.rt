@@ -19,7 +19,7 @@ pub struct LineSigns {
 pub enum SignsBetween {
     /// Signs that do.
     Found(LineSigns),
-    /// No signs do: none turn the rows up to this one. Where the first matrix is a network matrix, the rows of the second
+    /// No signs do: none turn the rows up to this one. Where the first matrix has no violator, the rows of the second
     /// before this one have no cycle fault.
     WrongRow(u32),
 }

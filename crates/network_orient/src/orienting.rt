@@ -1,7 +1,7 @@
 // A directed tree in which the columns are paths.
-ghost use Rattle.std.specs.Prelude.{◌↔◌, IfOk, IsTrue, MatchOption};
+ghost use Rattle.std.specs.Prelude.{◌≡◌, ◌↔◌, IfOk, IsTrue, MatchOption};
 ghost use Rattle.cmr_base.specs.Trees.{HasGraphicSupport, IsNetworkMatrix, Reproduces};
-ghost use Rattle.network_orient.specs.Orientations.{IsOrientation};
+ghost use Rattle.network_orient.specs.Orientations.{IsOrientation, directed};
 
 use crate::line_signs::{SignsBetween, signs_between};
 use crate::turning::turned_network;
@@ -14,11 +14,27 @@ use std::alloc::Global;
 pub enum Orientation {
     /// A directed tree, and for each column a path that uses the arcs as its entries say, +1 forwards and -1 backwards.
     Directed(Network),
-    /// The supports of the columns are the paths of some tree, but the signs are not those of a directed one. The rows
+    /// The supports of the columns are the paths of this tree, but the signs are not those of a directed one. The rows
     /// before this one have no cycle fault.
-    WrongSigns(u32),
+    WrongSigns { row: u32, net: Network },
     /// The supports of the columns are not the paths of a tree.
     NoTree,
+}
+
+impl Orientation {
+    /// The directed tree and its paths, where they are found.
+    pub fn directed(self) -> Option<Network>
+        ensures { result ≡ directed self }
+    {
+        match self {
+            Orientation::Directed(net) => Some(net),
+            Orientation::WrongSigns {
+                row: _row,
+                net: _net,
+            } => None,
+            Orientation::NoTree => None,
+        }
+    }
 }
 
 /// How the columns are paths of a tree, told by one tree for their supports.
@@ -33,7 +49,7 @@ pub fn orientation_of(alloc: Global, matrix: &Matrix) -> Result<Orientation, Mem
         SignsBetween::Found(signs) => {
             Ok(Orientation::Directed(turned_network(alloc, &net, &signs)?))
         }
-        SignsBetween::WrongRow(row) => Ok(Orientation::WrongSigns(row)),
+        SignsBetween::WrongRow(row) => Ok(Orientation::WrongSigns { row, net }),
     }
 }
 
@@ -44,7 +60,7 @@ pub fn orient(alloc: Global, matrix: &Matrix) -> Result<Option<Network>, Memory>
 {
     match orientation_of(alloc, matrix)? {
         Orientation::Directed(net) => Ok(Some(net)),
-        Orientation::WrongSigns(_) => Ok(None),
+        Orientation::WrongSigns { .. } => Ok(None),
         Orientation::NoTree => Ok(None),
     }
 }

@@ -1,20 +1,14 @@
-use Rattle.std.proofs.Common.{IfOk, sym, subst, arith}
+use Rattle.std.proofs.Common.{subst}
 use Rattle.cmr_base.proofs.WholeMatrices.{is_ternary}
-use Rattle.network_orient.specs.FirstRows.{HasNoFaultBefore}
 use Rattle.network_orient.specs.Orientations.{IsOrientation}
 use Rattle.network_orient.proofs.SignedSupports.{signed_graphic}
 use Rattle.network_orient.proofs.first_rows.rows_without_fault.Goals as goal
-use Rattle.network_orient.proofs.first_rows.rows_without_fault.Goals.{in-Directed, in-WrongSigns, in-NoTree}
 
-pub returns : goal.returns
-returns c =
+pub returns-in-Directed : goal.returns-in-Directed
+returns-in-Directed c =
     let m = c.args.matrix.now in
-    let told = c.in_ok-row.ensures in
-    elim c.match-branch-2.branch [
-      | in-Directed w ↦
-          let reproduced = subst (IsOrientation m) w.in-Directed.is told in
-          subst (λ r. IfOk r (HasNoFaultBefore m)) (sym w.result-is)
-          (λ t first last path l. ((signed_graphic m (is_ternary m w.rows.ensures.shape)).0 (w.in-Directed.field-0, reproduced)).1 t first last path)
-      | in-WrongSigns w ↦ subst (λ r. IfOk r (HasNoFaultBefore m)) (sym w.result-is) (subst (IsOrientation m) w.in-WrongSigns.is told).2
-      | in-NoTree w ↦ subst (λ r. IfOk r (HasNoFaultBefore m)) (sym w.result-is) (λ t first last path l. absurd (omega arith))
-    ]
+    let reproduced = subst (IsOrientation m) c.in-Directed.is c.in_ok-orientation_of.ensures in
+    λ t first last path l. ((signed_graphic m (is_ternary m c.rows.ensures.shape)).0 (c.in-Directed.field-0, reproduced)).1 t first last path
+
+pub returns-in-WrongSigns : goal.returns-in-WrongSigns
+returns-in-WrongSigns c = (subst (IsOrientation c.args.matrix.now) c.in-WrongSigns.is c.in_ok-orientation_of.ensures).2

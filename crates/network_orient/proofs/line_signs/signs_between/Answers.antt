@@ -35,7 +35,7 @@ returns-then-not-is_row_turned c =
     record {
       none = none_agrees m n groups columns row c.row_sign-sign.result c.requires c.in_ok-groups.ensures.groups (c.in_ok-groups.ensures.joined row low) c.row_sign-sign.ensures.value
           (λ column. c.rows.ensures.shape.small row column) (λ turned. false≢true (c.if-not-is_row_turned.ensures.1 (subst (IsRowTurned m n columns row) (sym kept) turned)));
-      passed = λ network. first_rows_free m n c.rows.ensures.shape c.columns-columns.ensures.shape c.requires.height_same c.requires.width_same network
+      passed = λ free. first_rows_free m n c.rows.ensures.shape c.columns-columns.ensures.shape c.requires.height_same c.requires.width_same free
           groups row c.loop-row.rows.items columns c.in_ok-groups.ensures.groups c.loop-row.invariant (omega (arith, low));
     }
 
@@ -49,4 +49,6 @@ returns c =
       row_each = turned.row_each;
       column_each = c.in_ok-groups.ensures.groups.sign_each;
       multiplied = all_rows_turned m n c.in_ok-groups.groups.groups.items c.loop-row.rows.items c.in_ok-groups.groups.signs.items c.in_ok-groups.ensures.groups turned;
+      passed = λ free. first_rows_free m n c.rows.ensures.shape c.columns-columns.ensures.shape c.requires.height_same c.requires.width_same free
+          c.in_ok-groups.groups.groups.items (height m) c.loop-row.rows.items c.in_ok-groups.groups.signs.items c.in_ok-groups.ensures.groups turned (omega arith);
     }

@@ -5,6 +5,7 @@ use Rattle.cmr_base.specs.Matrix.{entry, height}
 use Rattle.cmr_base.specs.Trees.{Reproduces}
 use Rattle.cmr_base.proofs.ReproducedCuts.{support_realised}
 use Rattle.cmr_base.proofs.WholeMatrices.{is_ternary}
+use Rattle.ghouila.proofs.NetworkSignings.{networks_are_unimodular}
 use Rattle.network_orient.specs.SignsBetween.{AreSignsBetween}
 use Rattle.network_orient.proofs.Orientations.{one_support, agrees_where_network, turned_reproduces}
 use Rattle.network_orient.proofs.orienting.orientation_of.Goals as goal
@@ -22,20 +23,20 @@ signs_between-requires c =
     one_support c.in-Some.net reproduced.reproduced m reproduced.ensures.shape.rectangular c.rows.ensures.shape.rectangular (reproduced.ensures.rows ∙ c.rows.ensures.rows) (reproduced.ensures.columns ∙ c.columns.ensures.columns)
     reproduced.ensures.reproduced (MatchOption-at_some _ _ c.in-Some.net c.in-Some.is c.in_ok-net.ensures)
 
-pub returns : goal.returns
-returns c =
+pub returns-in-WrongRow : goal.returns-in-WrongRow
+returns-in-WrongRow c =
     let m = c.args.matrix.now in
     let reproduced = c.in_ok-reproduced in
     let realised = MatchOption-at_some _ _ c.in-Some.net c.in-Some.is c.in_ok-net.ensures in
     let wrong = subst (AreSignsBetween reproduced.reproduced m) c.in-WrongRow.is c.in_ok-signs.ensures in (
       (λ network. wrong.none (agrees_where_network c.in-Some.net reproduced.reproduced m (is_ternary reproduced.reproduced reproduced.ensures.shape) (is_ternary m c.rows.ensures.shape) (reproduced.ensures.rows ∙ c.rows.ensures.rows) (reproduced.ensures.columns ∙ c.columns.ensures.columns)
           reproduced.ensures.reproduced realised network)),
-      (c.in-Some.net, realised),
-      wrong.passed (c.in-Some.net, reproduced.ensures.reproduced),
+      realised,
+      wrong.passed (networks_are_unimodular reproduced.reproduced (is_ternary reproduced.reproduced reproduced.ensures.shape) (c.in-Some.net, reproduced.ensures.reproduced)).1,
     )
 
-pub returns-in-Found : goal.returns-in-Found
-returns-in-Found c =
+pub returns-in_ok-turned_network-in-Found : goal.returns-in_ok-turned_network-in-Found
+returns-in_ok-turned_network-in-Found c =
     let m = c.args.matrix.now in
     let reproduced = c.in_ok-reproduced in
     let signs = c.in-Found.signs in
