@@ -1,5 +1,5 @@
-//! Rows that a row of a 0/1 matrix splits: the step by which graphic matrices are recognised (Tutte; Schrijver,
-//! Theory of Linear and Integer Programming, chapter 20).
+//! Rows that a row of a matrix splits, by the places of its nonzeros alone: the step by which graphic matrices are
+//! recognised (Tutte; Schrijver, Theory of Linear and Integer Programming, chapter 20).
 #![tactic(auto)]
 
 mod counts;

@@ -4,7 +4,7 @@ ghost use Rattle.std.specs.List.Sorted.{IsStrictlyIncreasing};
 ghost use Rattle.cmr_base.specs.LineSets.{AllBelow, first_lines};
 ghost use Rattle.cmr_base.specs.Matrix.{height};
 ghost use Rattle.cmr_base.specs.Splits.{AreParts, HasNoThree, IsFirstSplit, Splits};
-ghost use Rattle.cmr_base.specs.Trees.{IsBinary, support};
+ghost use Rattle.cmr_base.specs.Trees.{support};
 ghost use Rattle.bridge_split.specs.SplitCases.{IsFirstWithThree, IsSplitCase};
 
 use crate::counts::Counts;
@@ -14,12 +14,12 @@ use crate::sides::{Sides, sides_at};
 use cmr_base::{Indices, LineSet, Matrix, Memory, PartList, SideList};
 use std::alloc::Global;
 
-/// How a 0/1 matrix splits.
+/// How the support of a matrix splits.
 #[derive(Debug, Drop)]
 pub enum SplitCase {
     /// No column has three nonzeros.
     Star,
-    /// This column is the first with three nonzeros or more, and no row splits the others: the matrix is not graphic.
+    /// This column is the first with three nonzeros or more, and no row splits the others: the support is not graphic.
     AllConnected(u32),
     /// The first row that splits, the parts of the other rows by their least rows, and a side, 0 or 1, for each part,
     /// so that parts of one side agree.
@@ -29,16 +29,15 @@ pub enum SplitCase {
         sides: SideList,
     },
     /// The first row that splits, and an odd closed list of parts, each of which is another one than the next and
-    /// disagrees with it: the matrix is not graphic.
+    /// disagrees with it: the support is not graphic.
     OddCycle {
         row: u32,
         parts: PartList,
     },
 }
 
-/// How the matrix splits.
+/// How the support of the matrix splits.
 pub fn split(alloc: Global, matrix: &Matrix) -> Result<SplitCase, Memory>
-    requires { IsBinary matrix.now }
     ensures { IfOk result (IsSplitCase (support matrix.now) (first_lines (height matrix.now))) }
 {
     let lines = LineSet::all(alloc, matrix.rows(), 0)?;

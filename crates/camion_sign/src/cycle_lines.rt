@@ -5,8 +5,9 @@ ghost use Rattle.cmr_base.specs.Members.{IsIn};
 ghost use Rattle.cmr_base.specs.CyclePlaces.{HasNoCycleFault, IsCycleFault, path_rows, path_columns, cycle_rows, cycle_columns};
 ghost use Rattle.cmr_base.specs.Violator.{IsViolator};
 ghost use Rattle.camion_sign.specs.Faults.{IsBuilt, IsLeastFrom, within};
+ghost use Rattle.network_orient.specs.FirstRows.{HasNoFaultBefore};
 
-use crate::fault::first_fault;
+use crate::fault::{first_fault, passed_rows};
 use cmr_base::{Indices, LineSet, Matrix, Memory};
 use std::alloc::Global;
 
@@ -18,7 +19,21 @@ pub fn cycle_fault(alloc: Global, matrix: &Matrix) -> Result<Option<LineSet>, Me
     ensures fault { IfOk result (λ found. MatchOption found (HasNoCycleFault (entry matrix.now)) (λ lines. IsCycleFault matrix.now lines.rows lines.columns)) }
     ensures violator { IfOk result (λ found. IfSome found (λ lines. IsViolator (entry matrix.now) lines.rows lines.columns)) }
 {
-    match first_fault(alloc, matrix)? {
+    let first = passed_rows(alloc, matrix)?;
+    cycle_fault_from(alloc, matrix, first)
+}
+
+/// The same where the rows before one are known to have no fault, as those that were found to agree with a network.
+pub fn cycle_fault_from(
+    alloc: Global,
+    matrix: &Matrix,
+    first: u32,
+) -> Result<Option<LineSet>, Memory>
+    requires passed { HasNoFaultBefore matrix.now first }
+    ensures fault { IfOk result (λ found. MatchOption found (HasNoCycleFault (entry matrix.now)) (λ lines. IsCycleFault matrix.now lines.rows lines.columns)) }
+    ensures violator { IfOk result (λ found. IfSome found (λ lines. IsViolator (entry matrix.now) lines.rows lines.columns)) }
+{
+    match first_fault(alloc, matrix, first)? {
         Some(fault) => {
             let rows = rows_of_cycle(alloc, fault.row, &fault.lines, matrix.rows())?;
             let columns = columns_of_cycle(

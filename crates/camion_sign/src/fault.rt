@@ -22,12 +22,12 @@ pub struct Fault {
     pub lines: Vec<u32>,
 }
 
-/// The first fault in the order of places.
-pub fn first_fault(alloc: Global, matrix: &Matrix) -> Result<Option<Fault>, Memory>
+/// The first fault in the order of places, where the rows before one have none.
+pub fn first_fault(alloc: Global, matrix: &Matrix, first: u32) -> Result<Option<Fault>, Memory>
+    requires passed { HasNoFaultBefore matrix.now first }
     ensures { IfOk result (λ found. MatchOption found (HasNoCycleFault (entry matrix.now)) (λ f. IsFirstFault matrix.now f.row f.first f.last f.lines.items)) }
 {
-    let first = passed_rows(alloc, matrix)?;
-    if first == matrix.rows() {
+    if first >= matrix.rows() {
         return Ok(None);
     }
     let support = Support::new(alloc, matrix)?;
@@ -38,8 +38,8 @@ pub fn first_fault(alloc: Global, matrix: &Matrix) -> Result<Option<Fault>, Memo
 // How many nonzeros a column has on average in matrices in which walks alone find the first fault sooner.
 const FEW: u32 = 8;
 
-// How many of the first rows are passed over, since they have no fault.
-fn passed_rows(alloc: Global, matrix: &Matrix) -> Result<u32, Memory>
+/// How many of the first rows are passed over, since they have no fault.
+pub fn passed_rows(alloc: Global, matrix: &Matrix) -> Result<u32, Memory>
     ensures { IfOk result (HasNoFaultBefore matrix.now) }
 {
     if matrix.nonzeros() / FEW <= matrix.columns() {

@@ -20,6 +20,6 @@ pub use chain_error::{ChainError, ChainKind};
 pub use chain_text::read_chain;
 pub use chain_writer::write_chain;
 pub use chains::{chain_signs, check_chain};
-pub use cycle_lines::cycle_fault;
+pub use cycle_lines::{cycle_fault, cycle_fault_from};
 pub use signing::sign;
 pub use step::{Chain, SignStep, SignStepList, SizedChain};

@@ -6,7 +6,7 @@ use Rattle.cmr_base.specs.declared.memory.Memory.{Memory}
 use Rattle.cmr_base.specs.declared.network.Network.{Network as Net}
 use Rattle.cmr_base.specs.Matrix.{Matrix, height, transposed}
 use Rattle.cmr_base.specs.LineSets.{AllBelow}
-use Rattle.cmr_base.specs.Trees.{IsNetworkOf}
+use Rattle.cmr_base.specs.Trees.{HasGraphicSupport, IsGraphic, IsNetworkOf, ReproducesSupport}
 use Rattle.cmr_base.specs.GreedySets.{IsGreedySet, IsMinimalWithout}
 use Rattle.cmr_base.proofs.Parts.{height-transposed}
 use Rattle.cmr_tools.specs.declared.options.Property.{Property}
@@ -34,6 +34,11 @@ tested_testable Network transposed m testable = tt
 pub has_shown : (p : Property) (m : Matrix) (net : Net) → IsTestable p m → Shows p net m → Has p m
 has_shown Graphic m net binary shows = (binary, (net, shows))
 has_shown Network m net testable shows = (net, shows)
+
+-- a matrix whose support no tree has is not graphic
+pub graphic_found : (m : Matrix) (found : Option Net) → MatchOption found (¬ (HasGraphicSupport m)) (λ net. ReproducesSupport net m) → MatchOption found (¬ (IsGraphic m)) (λ net. ReproducesSupport net m)
+graphic_found m None none = λ graphic. none graphic.1
+graphic_found m (Some net) shows = shows
 
 -- what shows a property of a matrix is a network of its sizes
 pub shown_network : (p : Property) (net : Net) (m : Matrix) → Shows p net m → IsNetworkOf net (height m) m.width

@@ -1,5 +1,6 @@
 -- Submatrices that have no graphic support, and larger ones.
 use Rattle.std.proofs.Common.{◌≡◌, ◌≢◌, ◌<◌, ◌≤◌, ◌+◌, ◌∙◌, ℕ, zero, suc, ℤ, List, [], ◌∷◌, Bool, true, length, map, get_or, take, drop, Contains, refl, ap, ap₂, sym, subst, arith, inl, inr}
+use Rattle.std.specs.Prelude.{MatchOption}
 use Rattle.std.specs.List.{AllByRecursion}
 use Rattle.std.specs.List.Sorted.{IsStrictlyIncreasing}
 use Rattle.std.proofs.lemmas.List.{length-map, get_or-take, length-take}
@@ -9,7 +10,7 @@ use Rattle.cmr_base.specs.LineSets.{IsRowSet, IsColumnSet, submatrix}
 use Rattle.cmr_base.specs.GreedySets.{IsHereditary}
 use Rattle.cmr_base.specs.Members.{IsIn}
 use Rattle.cmr_base.specs.declared.network.Network.{Network}
-use Rattle.cmr_base.specs.Trees.{HasGraphicSupport, IsNetworkMatrix, RealisesSupport, support}
+use Rattle.cmr_base.specs.Trees.{HasGraphicSupport, IsNetworkMatrix, RealisesSupport, Reproduces, support}
 use Rattle.cmr_base.proofs.GraphicMatrices.{support_same, submatrix_has_graphic_support, graphic_support_hereditary}
 use Rattle.cmr_base.proofs.ListsWithout.{in_from_contains, contains_from_in, increasing_tail}
 use Rattle.cmr_base.proofs.Members.{IsWithin}
@@ -18,7 +19,7 @@ use Rattle.cmr_base.proofs.Submatrices.{inherited_from_hereditary}
 use Rattle.cmr_base.proofs.TransposedLemmas.{row_set-transposed, column_set-transposed}
 use Rattle.network_orient.specs.declared.orienting.Orientation.{Orientation}
 use Rattle.network_orient.specs.declared.orienting.Orientation.TheVariants.{Directed, WrongSigns, NoTree}
-use Rattle.network_orient.specs.Orientations.{IsOrientation}
+use Rattle.network_orient.specs.Orientations.{IsOrientation, directed}
 use Rattle.network_orient.proofs.SignedSupports.{signed_graphic}
 use Rattle.tree_type.specs.Invariant.{AreLines}
 use Rattle.tree_type.specs.Sides.{is_among}
@@ -27,11 +28,11 @@ use Rattle.tree_type.proofs.PlacedLines.{lines_within}
 use Rattle.decomp_tree.specs.Obstructions.{IsObstruction, IsNoNetwork, IsSomeOf}
 use Rattle.tree_type.proofs.Among.{among_in}
 
--- a matrix without directed tree
-pub not_directed : (m : Matrix) (found : Orientation) → IsOrientation m found → ((net : Network) → found ≡ Directed net → ⊥) → ¬ (IsNetworkMatrix m)
-not_directed m (Directed net) is none = absurd (none net refl)
-not_directed m WrongSigns is none = is.0
-not_directed m NoTree is none = is.0
+-- a directed tree, or that there is none
+pub directed_decides : (m : Matrix) (found : Orientation) → IsOrientation m found → MatchOption (directed found) (¬ (IsNetworkMatrix m)) (λ net. Reproduces net m)
+directed_decides m (Directed net) is = is
+directed_decides m (WrongSigns row net) is = is.0
+directed_decides m NoTree is = is.0
 
 graphic_as : (a b : Matrix) → height a ≡ height b → a.width ≡ b.width → ((r c : ℕ) → r < height a → c < a.width → entry a r c ≡ entry b r c) → HasGraphicSupport a → HasGraphicSupport b
 graphic_as a b h w same (net, G) = (

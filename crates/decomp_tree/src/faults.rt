@@ -1,57 +1,87 @@
 // Cycle faults, which are not looked for where there can be none.
 ghost use Rattle.std.specs.Prelude.{◌≡◌, true, MatchOption, IfOk, IfSome, IsTrue};
-ghost use Rattle.cmr_base.specs.Matrix.{entry, IsMatrix};
+ghost use Rattle.cmr_base.specs.Matrix.{entry, transposed, IsMatrix};
 ghost use Rattle.cmr_base.specs.CyclePlaces.{HasNoCycleFault};
 ghost use Rattle.cmr_base.specs.LineSets.{IsRowSet, IsColumnSet};
 ghost use Rattle.tree_type.specs.Soundness.{part};
 ghost use Rattle.tree_type.specs.Findings.{finding_shown};
 ghost use Rattle.decomp_tree.specs.Seen.{HasNoneAmong, IsNamedFault, is_unsearched, keeps_free};
 ghost use Rattle.decomp_tree.specs.Sketches.{HasNoLateFault};
+ghost use Rattle.network_orient.specs.FirstRows.{HasNoFaultBefore};
+ghost use Rattle.network_orient.specs.Orientations.{IsOrientation};
 
 use crate::naming::named_set;
-use camion_sign::cycle_fault;
+use camion_sign::{cycle_fault, cycle_fault_from};
 use cmr_base::{LineSet, Matrix, Memory};
-use network_orient::Orientation;
+use network_orient::{Orientation, rows_of_transposed};
 use std::alloc::Global;
 use tree_type::Finding;
 
-/// The cycle fault of the submatrix on these lines, by its numbers in the whole matrix.
-pub fn fault_of(
+/// The cycle fault of the submatrix on these lines, by its numbers in the whole matrix, where the rows of the submatrix
+/// before one have none.
+pub fn fault_from(
     alloc: Global,
     _matrix: &Matrix,
     lines: &LineSet,
     inner: &Matrix,
+    first: u32,
 ) -> Result<Option<LineSet>, Memory>
     requires shape { IsMatrix _matrix.now }
     requires rows { IsRowSet _matrix.now lines.now.rows }
     requires columns { IsColumnSet _matrix.now lines.now.columns }
     requires inner { inner.now ≡ part _matrix.now lines.now }
+    requires passed { HasNoFaultBefore inner.now first }
     ensures { IfOk result (λ found. MatchOption found (HasNoCycleFault (entry (part _matrix.now lines.now))) (IsNamedFault _matrix.now lines.now)) }
 {
-    match cycle_fault(alloc, inner)? {
+    match cycle_fault_from(alloc, inner, first)? {
         Some(found) => Ok(Some(named_set(alloc, lines, &found)?)),
         None => Ok(None),
     }
 }
 
 /// The cycle fault of the submatrix on these lines, looked for only where there must be one: where a tree has the supports
-/// of the columns as paths, or those of the transposed matrix, but no directed tree has the signs. The signs of a matrix
-/// without cycle fault are those of a network, but for lines that are negated.
+/// of the columns as paths, but no directed tree has the signs. The signs of a matrix without cycle fault are those of a
+/// network, but for lines that are negated; the first rows, whose signs are, are passed over.
 pub fn certain_fault(
     alloc: Global,
     matrix: &Matrix,
     lines: &LineSet,
     inner: &Matrix,
-    orientation: &Orientation,
+    of_rows: &Orientation,
 ) -> Result<Option<LineSet>, Memory>
     requires shape { IsMatrix matrix.now }
     requires rows { IsRowSet matrix.now lines.now.rows }
     requires columns { IsColumnSet matrix.now lines.now.columns }
     requires inner { inner.now ≡ part matrix.now lines.now }
+    requires of_rows { IsOrientation inner.now of_rows.now }
     ensures { IfOk result (λ found. IfSome found (IsNamedFault matrix.now lines.now)) }
 {
-    match orientation {
-        Orientation::WrongSigns => fault_of(alloc, matrix, lines, inner),
+    match of_rows {
+        Orientation::WrongSigns { row, .. } => fault_from(alloc, matrix, lines, inner, *row),
+        Orientation::Directed(_) | Orientation::NoTree => Ok(None),
+    }
+}
+
+/// The same where a tree has the supports of the rows as paths.
+pub fn certain_fault_transposed(
+    alloc: Global,
+    matrix: &Matrix,
+    lines: &LineSet,
+    inner: &Matrix,
+    of_columns: &Orientation,
+) -> Result<Option<LineSet>, Memory>
+    requires shape { IsMatrix matrix.now }
+    requires rows { IsRowSet matrix.now lines.now.rows }
+    requires columns { IsColumnSet matrix.now lines.now.columns }
+    requires inner { inner.now ≡ part matrix.now lines.now }
+    requires of_columns { IsOrientation (transposed inner.now) of_columns.now }
+    ensures { IfOk result (λ found. IfSome found (IsNamedFault matrix.now lines.now)) }
+{
+    match of_columns {
+        Orientation::WrongSigns { net, .. } => {
+            let row = rows_of_transposed(alloc, net, inner)?;
+            fault_from(alloc, matrix, lines, inner, row)
+        }
         Orientation::Directed(_) | Orientation::NoTree => Ok(None),
     }
 }
@@ -76,6 +106,25 @@ pub fn late_fault(
     }
     let part = matrix.part(alloc, lines)?;
     fault_of(alloc, matrix, lines, &part)
+}
+
+// The cycle fault of the submatrix on these lines, by its numbers in the whole matrix.
+fn fault_of(
+    alloc: Global,
+    _matrix: &Matrix,
+    lines: &LineSet,
+    inner: &Matrix,
+) -> Result<Option<LineSet>, Memory>
+    requires shape { IsMatrix _matrix.now }
+    requires rows { IsRowSet _matrix.now lines.now.rows }
+    requires columns { IsColumnSet _matrix.now lines.now.columns }
+    requires inner { inner.now ≡ part _matrix.now lines.now }
+    ensures { IfOk result (λ found. MatchOption found (HasNoCycleFault (entry (part _matrix.now lines.now))) (IsNamedFault _matrix.now lines.now)) }
+{
+    match cycle_fault(alloc, inner)? {
+        Some(found) => Ok(Some(named_set(alloc, lines, &found)?)),
+        None => Ok(None),
+    }
 }
 
 // Whether no cycle fault is looked for when a node that says this is drawn.

@@ -11,13 +11,13 @@ ghost use Rattle.three_sep.specs.ThreeSeparations.{IsFirstThreeSeparation};
 ghost use Rattle.decomp_tree.specs.Obstructions.{IsKnown};
 ghost use Rattle.decomp_tree.specs.Seen.{HasNoneBefore, IsSeen};
 
-use crate::faults::{certain_fault, fault_of};
+use crate::faults::{certain_fault, certain_fault_transposed, fault_from};
 use crate::naming::{named_parts, named_set, named_steps, named_three, named_two};
 use crate::obstructions::Obstruction;
 use crate::seen::{Seen, above_one, above_two, leaf};
 use cmr_base::{LineSet, Matrix, Memory, RowsAndColumns, Three, Two};
 use leaf_enumerate::{Search, least_violator};
-use network_orient::{Orientation, orientation_of};
+use network_orient::orientation_of;
 use r10_leaf::is_r10;
 use sp_reduce::{FirstLook, Reduction, first_look, reduce};
 use std::alloc::Global;
@@ -218,7 +218,7 @@ fn look_tested<R: Threads + Sync>(
     if let Some(fault) = certain_fault(alloc, matrix, lines, inner.by_rows(), &of_rows)? {
         return Ok(leaf(alloc, Finding::Cycle(fault)));
     }
-    if let Orientation::Directed(net) = of_rows {
+    if let Some(net) = of_rows.directed() {
         return Ok(leaf(alloc, Finding::Network(net)));
     }
     look_transposed(rt, alloc, matrix, lines, inner, limit, workers)
@@ -244,10 +244,11 @@ fn look_transposed<R: Threads + Sync>(
     ensures { IfOk result (IsSeen limit matrix.now lines.now) }
 {
     let of_columns = orientation_of(alloc, inner.by_columns())?;
-    if let Some(fault) = certain_fault(alloc, matrix, lines, inner.by_rows(), &of_columns)? {
+    let fault = certain_fault_transposed(alloc, matrix, lines, inner.by_rows(), &of_columns)?;
+    if let Some(fault) = fault {
         return Ok(leaf(alloc, Finding::Cycle(fault)));
     }
-    if let Orientation::Directed(net) = of_columns {
+    if let Some(net) = of_columns.directed() {
         return Ok(leaf(alloc, Finding::Conetwork(net)));
     }
     look_no_network(rt, alloc, matrix, lines, inner, limit, workers)
@@ -294,7 +295,7 @@ fn look_r10(
     requires r10 { IsR10 (part matrix.now lines.now) }
     ensures { IfOk result (IsSeen _limit matrix.now lines.now) }
 {
-    if let Some(fault) = fault_of(alloc, matrix, lines, inner)? {
+    if let Some(fault) = fault_from(alloc, matrix, lines, inner, 0)? {
         return Ok(leaf(alloc, Finding::Cycle(fault)));
     }
     Ok(leaf(alloc, Finding::R10))
@@ -322,7 +323,7 @@ fn look_separated<R: Threads + Sync>(
     if let Some(two) = two_separation_of(alloc, inner)? {
         return seen_two(alloc, matrix, lines, &two, limit);
     }
-    if let Some(fault) = fault_of(alloc, matrix, lines, inner.by_rows())? {
+    if let Some(fault) = fault_from(alloc, matrix, lines, inner.by_rows(), 0)? {
         return Ok(leaf(alloc, Finding::Cycle(fault)));
     }
     look_faultless(rt, alloc, matrix, lines, inner.by_rows(), limit, workers)

@@ -1,4 +1,4 @@
-//! Trees for 0/1 matrices whose columns are the paths of a tree.
+//! Trees for matrices in which the supports of the columns are the paths of a tree.
 #![tactic(auto)]
 
 mod arc_sides;

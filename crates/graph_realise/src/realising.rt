@@ -1,6 +1,6 @@
-// A tree in which the columns are paths.
+// A tree in which the supports of the columns are paths.
 ghost use Rattle.std.specs.Prelude.{IfOk, MatchOption};
-ghost use Rattle.cmr_base.specs.Trees.{IsBinary, IsGraphic, ReproducesSupport};
+ghost use Rattle.cmr_base.specs.Trees.{HasGraphicSupport, ReproducesSupport};
 
 use crate::arc_sides::ArcSides;
 use crate::growing::grow_network;
@@ -9,10 +9,9 @@ use cmr_base::{LineSet, Matrix, Memory, Network};
 use std::alloc::Global;
 
 /// A tree whose arcs are the rows, and for each column the path whose arcs are the column's support; `None` exactly
-/// where there is none, that is where the matrix is not graphic.
+/// where there is none. Of a 0/1 matrix this says that it is not graphic; the signs of another one do not count.
 pub fn realise(alloc: Global, matrix: &Matrix) -> Result<Option<Network>, Memory>
-    requires { IsBinary matrix.now }
-    ensures { IfOk result (λ found. MatchOption found (¬ (IsGraphic matrix.now)) (λ net. ReproducesSupport net matrix.now)) }
+    ensures { IfOk result (λ found. MatchOption found (¬ (HasGraphicSupport matrix.now)) (λ net. ReproducesSupport net matrix.now)) }
 {
     let mut sides = ArcSides::new(alloc, matrix)?;
     let lines = LineSet::all(alloc, matrix.rows(), 0)?;

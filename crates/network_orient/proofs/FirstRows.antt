@@ -1,23 +1,29 @@
--- Rows that are those of a network matrix have no cycle fault.
-use Rattle.std.proofs.Common.{zero, suc, [], ◌∷◌, refl, ◌≡◌, ◌≢◌, ◌<◌, ◌≤◌, inl, inr, ◌∙◌, ℕ, ℤ, pos, ◌*ℤ◌, List, get_or, sym, subst, arith}
+-- Rows that are those of a matrix without violator have no cycle fault.
+use Rattle.std.proofs.Common.{zero, suc, [], ◌∷◌, refl, ◌≡◌, ◌≢◌, ◌<◌, ◌≤◌, ◌⊎◌, inl, inr, ◌∙◌, ℕ, ℤ, pos, ◌*ℤ◌, List, get_or, ap, sym, subst, arith}
 use Rattle.std.specs.List.{AllByRecursion}
 use Rattle.std.proofs.lemmas.Bool.{cases_lt}
 use Rattle.std.proofs.lemmas.List.{get_or_past}
+use Rattle.cmr_base.specs.declared.network.Network.{Network}
 use Rattle.cmr_base.specs.CyclePlaces.{HasNoCycleFault, IsFaultAt, IsPath, cycle_columns, cycle_rows, path_rows}
-use Rattle.cmr_base.specs.Matrix.{Matrix, height, entry, row_of, IsMatrix, IsRectangular, IsTernary}
+use Rattle.cmr_base.specs.Matrix.{Matrix, height, entry, row_of, transposed, IsMatrix, IsRectangular, IsTernary}
 use Rattle.cmr_base.specs.MatrixSums.{filled}
 use Rattle.cmr_base.specs.Signing.{IsSign}
 use Rattle.cmr_base.specs.Sums.{IsTwoModFour, sum_over}
-use Rattle.cmr_base.specs.Trees.{IsNetworkMatrix}
-use Rattle.cmr_base.specs.TurnedNetworks.{turned_network}
+use Rattle.cmr_base.specs.Supports.{AgreeUpToSigns}
+use Rattle.cmr_base.specs.Trees.{Reproduces}
+use Rattle.cmr_base.specs.Violator.{HasNoViolator}
 use Rattle.cmr_base.proofs.FilledMatrices.{height-filled, entry-filled}
-use Rattle.cmr_base.proofs.Lists.{all_of, all_by_places}
+use Rattle.cmr_base.proofs.Integers.{mul_left_comm, mul-zero}
+use Rattle.cmr_base.proofs.Lists.{all_of}
 use Rattle.cmr_base.proofs.SumLaws.{sum_over_same}
-use Rattle.ghouila.proofs.Minors.{entry_by_sign}
+use Rattle.cmr_base.proofs.TransposedLemmas.{column_set_from_transposed, row_set_from_transposed, violator_from_transposed}
+use Rattle.ghouila.proofs.Minors.{entry_by_sign, sign_twice}
+use Rattle.ghouila.proofs.NetworkSignings.{network_matrices}
+use Rattle.ghouila.proofs.SignsUnique.{no_violator_no_fault, violator_up_to_signs}
 use Rattle.network_orient.specs.FirstRows.{HasNoFaultBefore}
 use Rattle.network_orient.specs.SignedGroups.{AreSignedGroups, sign_of}
-use Rattle.network_orient.proofs.Orientations.{turned_reproduces}
-use Rattle.network_orient.proofs.SignedSupports.{filled_is_ternary, signed_graphic}
+use Rattle.network_orient.proofs.Orientations.{beyond_sizes}
+use Rattle.network_orient.proofs.SignedSupports.{filled_is_ternary}
 use Rattle.network_orient.proofs.TurnedRows.{AreRowsTurned}
 
 -- ---- a place looks at the rows up to its own alone
@@ -59,7 +65,7 @@ fault_on M N count agree t c d path l f =
           f.two_mod_four;
     }
 
--- ---- the network matrix whose first rows these are
+-- ---- the matrix without violator whose first rows these are
 
 sign_at : (signs : List ℤ) → AllByRecursion IsSign signs → (k : ℕ) → IsSign (get_or signs k (pos 1))
 sign_at [] all k = inl refl
@@ -69,7 +75,13 @@ sign_at (s ∷ signs) (here, all) (suc k) = sign_at signs all k
 past_width : (m : Matrix) → IsRectangular m → (row column : ℕ) → row < height m → m.width ≤ column → entry m row column ≡ pos 0
 past_width m is row column l past = get_or_past (row_of m row) column (pos 0) (let e = is row l in omega (arith, e, past))
 
-module _ (m n : Matrix) (is_m : IsMatrix m) (is_n : IsMatrix n) (height_same : height m ≡ height n) (width_same : m.width ≡ n.width) (network : IsNetworkMatrix m) where
+signed_twice : (s t z : ℤ) → IsSign s → IsSign t → z ≡ s *ℤ (t *ℤ (s *ℤ (t *ℤ z)))
+signed_twice s t z u v = sym (ap (λ (x : ℤ). s *ℤ x) (mul_left_comm t s (t *ℤ z)) ∙ sign_twice s (t *ℤ (t *ℤ z)) u ∙ sign_twice t z v)
+
+signed_zero : (s t x y : ℤ) → x ≡ pos 0 → y ≡ pos 0 → x ≡ s *ℤ (t *ℤ y)
+signed_zero s t x y e f = e ∙ sym (ap (λ (z : ℤ). s *ℤ (t *ℤ z)) f ∙ ap (λ (z : ℤ). s *ℤ z) (mul-zero t) ∙ mul-zero s)
+
+module _ (m n : Matrix) (is_m : IsMatrix m) (is_n : IsMatrix n) (height_same : height m ≡ height n) (width_same : m.width ≡ n.width) (no_violator : HasNoViolator m) where
   pub first_rows_free : (groups : List ℕ) (count : ℕ) (rows columns : List ℤ) → AreSignedGroups m n groups columns → AreRowsTurned m n count rows columns → count ≤ height m → HasNoFaultBefore n count
   first_rows_free groups count rows columns signed turned fits t c d path l fault = free t c d path (fault_on (entry n) (entry whole) count agree t c d path l fault)
     where
@@ -85,21 +97,35 @@ module _ (m n : Matrix) (is_m : IsMatrix m) (is_n : IsMatrix n) (height_same : h
       is_whole : IsTernary whole
       is_whole = filled_is_ternary (height m) m.width entries (λ row column. entry_by_sign (sign_of rows row) (sign_of columns column *ℤ entry m row column) (sign_at rows turned.row_signs row) (entry_by_sign (sign_of columns column) (entry m row column) (signed.each_sign column) (is_m.small row column)))
 
-      net : IsNetworkMatrix whole
-      net = (
-        turned_network network.0 rows columns,
-        turned_reproduces network.0 m whole rows columns (sym same) refl network.1 (record {
-          rows = turned.row_signs;
-          columns = all_by_places IsSign columns (pos 1) (λ column k. signed.each_sign column);
-          entries = λ row column low near. entry-filled (height m) m.width entries row column low near;
-        }),
-      )
+      turned_back : (row column : ℕ) → (row < height m) ⊎ (height m ≤ row) → (column < m.width) ⊎ (m.width ≤ column) → entry m row column ≡ sign_of rows row *ℤ (sign_of columns column *ℤ entry whole row column)
+      turned_back row column (inl low) (inl near) =
+          signed_twice (sign_of rows row) (sign_of columns column) (entry m row column) (sign_at rows turned.row_signs row) (signed.each_sign column)
+          ∙ ap (λ (z : ℤ). sign_of rows row *ℤ (sign_of columns column *ℤ z)) (sym (entry-filled (height m) m.width entries row column low near))
+      turned_back row column (inr high) far =
+          signed_zero (sign_of rows row) (sign_of columns column) (entry m row column) (entry whole row column) (beyond_sizes m is_m.rectangular row column (inl high)) (beyond_sizes whole is_whole.rectangular row column (inl (omega (arith, high, same))))
+      turned_back row column low (inr far) =
+          signed_zero (sign_of rows row) (sign_of columns column) (entry m row column) (entry whole row column) (beyond_sizes m is_m.rectangular row column (inr far)) (beyond_sizes whole is_whole.rectangular row column (inr far))
+
+      agreement : AgreeUpToSigns (entry whole) (entry m)
+      agreement = record {
+        row_sign = sign_of rows;
+        column_sign = sign_of columns;
+        row_signs = sign_at rows turned.row_signs;
+        column_signs = signed.each_sign;
+        entries = λ row column. turned_back row column (cases_lt row (height m)) (cases_lt column m.width);
+      }
 
       free : HasNoCycleFault (entry whole)
-      free = ((signed_graphic whole is_whole).0 net).1
+      free = no_violator_no_fault whole is_whole.rectangular is_whole.small
+          (λ R C row_set column_set violator. no_violator R C (record { rising = row_set.rising; in_range = λ k h. let low = row_set.in_range k h in omega (arith, low, same) }) (record { rising = column_set.rising; in_range = column_set.in_range }) (violator_up_to_signs (entry whole) (entry m) R C agreement violator))
 
       agree : (r x : ℕ) → r < count → entry n r x ≡ entry whole r x
       agree r x k = elim (cases_lt x m.width) [
         | inl near ↦ turned.turned r k x near ∙ sym (entry-filled (height m) m.width entries r x (omega arith) near)
         | inr past ↦ past_width n is_n.rectangular r x (omega arith) (omega arith) ∙ sym (past_width whole is_whole.rectangular r x (omega (arith, same, k, fits)) past)
       ]
+
+-- the transposed matrix of what a network reproduces has no violator
+pub none_in_turned : (net : Network) (m turned : Matrix) → IsMatrix m → Reproduces net m → turned ≡ transposed m → HasNoViolator turned
+none_in_turned net m turned is reproduced e = subst HasNoViolator (sym e) (λ rows columns row_set column_set violator.
+    (network_matrices m is (net, reproduced)).1 columns rows (row_set_from_transposed m columns column_set) (column_set_from_transposed m rows row_set) (violator_from_transposed m columns rows is violator))

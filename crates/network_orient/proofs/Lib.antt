@@ -2,7 +2,6 @@ pub mod Orientations
 pub mod Merging
 pub mod ForcedSigns
 pub mod TurnedRows
-pub mod SupportMarks
 pub mod TurnedPairs
 pub mod SignedSupports
 pub mod FirstRows

@@ -3,10 +3,11 @@ use Rattle.std.proofs.Common.{◌≡◌, ◌<◌, ◌≤◌, ◌↔◌, ◌⊎�
 use Rattle.std.proofs.lemmas.Bool.{cases_lt}
 use Rattle.std.proofs.lemmas.List.{get_or_past}
 use Rattle.cmr_base.specs.declared.network.Network.{Network}
-use Rattle.cmr_base.specs.Matrix.{Matrix, height, entry, IsRectangular, IsTernary, is_nonzero}
+use Rattle.cmr_base.specs.Matrix.{Matrix, height, entry, transposed, IsRectangular, IsTernary, is_nonzero}
 use Rattle.cmr_base.specs.Supports.{HaveOneSupport, AgreeUpToSigns}
 use Rattle.cmr_base.specs.TurnedNetworks.{turned_network, IsMultiplied}
 use Rattle.cmr_base.specs.Trees.{tail, head, Realises, Reproduces, ReproducesSupport, IsNetworkMatrix}
+use Rattle.cmr_base.proofs.Parts.{entry-turned, height-transposed}
 use Rattle.cmr_base.proofs.ThinLines.{zero_is}
 use Rattle.cmr_base.proofs.TreeTests.{path_by_walk}
 use Rattle.cmr_base.proofs.ReproducedCuts.{nonzero_direction}
@@ -61,3 +62,15 @@ pub turned_reproduces : (net : Network) (m n : Matrix) (rows columns : List ℤ)
 turned_reproduces net m n rows columns height_same width_same directed multiplied =
     subst (λ h. Realises (turned_network net rows columns) (entry n) h n.width) height_same (subst (λ w. Realises (turned_network net rows columns) (entry n) (height m) w) width_same
     (turned_realises net (entry m) (entry n) (height m) m.width rows columns multiplied directed))
+
+-- a matrix whose transposed has the support of another one has the support of the other's transposed
+pub one_support_turned : (m n : Matrix) → IsRectangular m → IsRectangular n → HaveOneSupport m (transposed n) → HaveOneSupport (transposed m) n
+one_support_turned m n is_m is_n one = record {
+  height_same = height-transposed m ∙ one.width_same;
+  width_same = one.height_same ∙ height-transposed n;
+  zeros_same = λ row column.
+      let e = entry-turned m column row is_m in
+      let f = entry-turned n row column is_n in
+      let same = one.zeros_same column row in
+      ((λ zero. sym f ∙ same.0 (sym e ∙ zero)), (λ zero. e ∙ same.1 (f ∙ zero)));
+}

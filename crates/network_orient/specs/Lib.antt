@@ -1,5 +1,5 @@
 pub mod Laws
 pub mod SignedGroups
-pub mod SupportMatrices
 pub mod FirstRows
+pub mod SignsBetween
 pub mod Orientations

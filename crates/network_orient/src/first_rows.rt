@@ -1,14 +1,12 @@
-// Rows that are those of a network matrix, and so have no cycle fault.
-ghost use Rattle.std.specs.Prelude.{◌≡◌, IfOk};
-ghost use Rattle.cmr_base.specs.Matrix.{height, entry};
-ghost use Rattle.cmr_base.specs.Supports.{HaveOneSupport};
-ghost use Rattle.cmr_base.specs.Trees.{IsNetworkMatrix};
+// Rows that are those of a network matrix or of a transposed one, and so have no cycle fault.
+ghost use Rattle.std.specs.Prelude.{IfOk};
+ghost use Rattle.cmr_base.specs.Matrix.{transposed};
+ghost use Rattle.cmr_base.specs.Trees.{ReproducesSupport};
 ghost use Rattle.network_orient.specs.FirstRows.{HasNoFaultBefore};
 
-use crate::column_groups::ColumnGroups;
-use crate::supports::support_of;
-use cmr_base::{Matrix, Memory};
-use graph_realise::realise;
+use crate::line_signs::{SignsBetween, signs_between};
+use crate::orienting::{Orientation, orientation_of};
+use cmr_base::{Matrix, Memory, Network};
 use std::alloc::Global;
 
 /// How many of the first rows are shown to have no cycle fault by a network matrix: where the support is graphic, those
@@ -17,27 +15,23 @@ use std::alloc::Global;
 pub fn rows_without_fault(alloc: Global, matrix: &Matrix) -> Result<u32, Memory>
     ensures { IfOk result (HasNoFaultBefore matrix.now) }
 {
-    let support = support_of(alloc, matrix)?;
-    let Some(net) = realise(alloc, &support)? else {
-        return Ok(0);
-    };
-    let reproduced = net.matrix(alloc, matrix.rows(), matrix.columns())?;
-    rows_of_network(alloc, &reproduced, matrix)
+    match orientation_of(alloc, matrix)? {
+        Orientation::Directed(_) => Ok(matrix.rows()),
+        Orientation::WrongSigns { row, .. } => Ok(row),
+        Orientation::NoTree => Ok(0),
+    }
 }
 
-// How many of the first rows of a matrix are those of a network matrix, up to lines that are multiplied by -1.
-fn rows_of_network(alloc: Global, network: &Matrix, matrix: &Matrix) -> Result<u32, Memory>
-    requires support { HaveOneSupport network.now matrix.now }
-    requires network { IsNetworkMatrix network.now }
+/// The same by a tree that has the supports of the rows as paths: those before the first row whose signs are not the
+/// transposed network's, however lines are multiplied by -1.
+pub fn rows_of_transposed(alloc: Global, net: &Network, matrix: &Matrix) -> Result<u32, Memory>
+    requires { ReproducesSupport net.now (transposed matrix.now) }
     ensures { IfOk result (HasNoFaultBefore matrix.now) }
 {
-    let groups = ColumnGroups::of(alloc, network, matrix)?;
-    let _columns = matrix.columns();
-    for row in 0..network.rows() {
-        let sign = groups.row_sign(network, matrix, row);
-        if !groups.is_row_turned(network, matrix, row, sign) {
-            return Ok(row);
-        }
+    let reproduced = net.matrix(alloc, matrix.columns(), matrix.rows())?;
+    let turned = reproduced.transposed(alloc)?;
+    match signs_between(alloc, &turned, matrix)? {
+        SignsBetween::Found(_) => Ok(matrix.rows()),
+        SignsBetween::WrongRow(row) => Ok(row),
     }
-    Ok(network.rows())
 }

@@ -7,9 +7,8 @@ pub mod laws;
 mod line_signs;
 mod minimal;
 mod orienting;
-mod supports;
 mod turning;
 
-pub use first_rows::rows_without_fault;
+pub use first_rows::{rows_of_transposed, rows_without_fault};
 pub use minimal::minimal_not_network;
 pub use orienting::{Orientation, has_graphic_support, orient, orientation_of};

@@ -1,8 +1,7 @@
 // Signs of lines that turn one matrix into another one.
-ghost use Rattle.std.specs.Prelude.{◌≡◌, length, IfOk, IfSome, MatchOption};
-ghost use Rattle.cmr_base.specs.Matrix.{height, entry};
-ghost use Rattle.cmr_base.specs.Supports.{AgreeUpToSigns, HaveOneSupport};
-ghost use Rattle.cmr_base.specs.TurnedNetworks.{IsMultiplied};
+ghost use Rattle.std.specs.Prelude.{IfOk};
+ghost use Rattle.cmr_base.specs.Supports.{HaveOneSupport};
+ghost use Rattle.network_orient.specs.SignsBetween.{AreSignsBetween};
 
 use crate::column_groups::ColumnGroups;
 use cmr_base::{Matrix, Memory};
@@ -15,26 +14,32 @@ pub struct LineSigns {
     pub columns: Vec<i8>,
 }
 
-/// Signs of the lines by which one matrix is multiplied to give another one of its support; `None` exactly where there
-/// are none.
-pub fn signs_between(alloc: Global, from: &Matrix, to: &Matrix) -> Result<Option<LineSigns>, Memory>
+/// Whether signs of the lines turn one matrix into another one.
+#[derive(Debug, Drop)]
+pub enum SignsBetween {
+    /// Signs that do.
+    Found(LineSigns),
+    /// No signs do: none turn the rows up to this one. Where the first matrix has no violator, the rows of the second
+    /// before this one have no cycle fault.
+    WrongRow(u32),
+}
+
+/// The signs of the lines by which one matrix is multiplied to give another one of its support.
+pub fn signs_between(alloc: Global, from: &Matrix, to: &Matrix) -> Result<SignsBetween, Memory>
     requires { HaveOneSupport from.now to.now }
-    ensures signs { IfOk result (λ found. MatchOption found
-        (¬ (AgreeUpToSigns (entry from.now) (entry to.now)))
-        (λ signs. IsMultiplied (entry from.now) (entry to.now) (height from.now) from.now.width signs.rows.items signs.columns.items)) }
-    ensures row_each { IfOk result (λ found. IfSome found (λ signs. length signs.rows.items ≡ height from.now)) }
-    ensures column_each { IfOk result (λ found. IfSome found (λ signs. length signs.columns.items ≡ from.now.width)) }
+    ensures { IfOk result (AreSignsBetween from.now to.now) }
 {
     let groups = ColumnGroups::of(alloc, from, to)?;
+    let _columns = to.columns();
     let mut rows = Vec::with_capacity(alloc, from.rows() as usize)?;
     for row in 0..from.rows() {
         let sign = groups.row_sign(from, to, row);
         if !groups.is_row_turned(from, to, row, sign) {
-            return Ok(None);
+            return Ok(SignsBetween::WrongRow(row));
         }
         rows.push(sign)?;
     }
-    Ok(Some(LineSigns {
+    Ok(SignsBetween::Found(LineSigns {
         rows,
         columns: groups.signs,
     }))

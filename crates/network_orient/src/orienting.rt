@@ -1,10 +1,9 @@
 // A directed tree in which the columns are paths.
-ghost use Rattle.std.specs.Prelude.{◌↔◌, IfOk, IsTrue, MatchOption};
+ghost use Rattle.std.specs.Prelude.{◌≡◌, ◌↔◌, IfOk, IsTrue, MatchOption};
 ghost use Rattle.cmr_base.specs.Trees.{HasGraphicSupport, IsNetworkMatrix, Reproduces};
-ghost use Rattle.network_orient.specs.Orientations.{IsOrientation};
+ghost use Rattle.network_orient.specs.Orientations.{IsOrientation, directed};
 
-use crate::line_signs::signs_between;
-use crate::supports::support_of;
+use crate::line_signs::{SignsBetween, signs_between};
 use crate::turning::turned_network;
 use cmr_base::{Matrix, Memory, Network};
 use graph_realise::realise;
@@ -15,25 +14,43 @@ use std::alloc::Global;
 pub enum Orientation {
     /// A directed tree, and for each column a path that uses the arcs as its entries say, +1 forwards and -1 backwards.
     Directed(Network),
-    /// The supports of the columns are the paths of some tree, but the signs are not those of a directed one.
-    WrongSigns,
+    /// The supports of the columns are the paths of this tree, but the signs are not those of a directed one. The rows
+    /// before this one have no cycle fault.
+    WrongSigns { row: u32, net: Network },
     /// The supports of the columns are not the paths of a tree.
     NoTree,
+}
+
+impl Orientation {
+    /// The directed tree and its paths, where they are found.
+    pub fn directed(self) -> Option<Network>
+        ensures { result ≡ directed self }
+    {
+        match self {
+            Orientation::Directed(net) => Some(net),
+            Orientation::WrongSigns {
+                row: _row,
+                net: _net,
+            } => None,
+            Orientation::NoTree => None,
+        }
+    }
 }
 
 /// How the columns are paths of a tree, told by one tree for their supports.
 pub fn orientation_of(alloc: Global, matrix: &Matrix) -> Result<Orientation, Memory>
     ensures { IfOk result (IsOrientation matrix.now) }
 {
-    let support = support_of(alloc, matrix)?;
-    let Some(net) = realise(alloc, &support)? else {
+    let Some(net) = realise(alloc, matrix)? else {
         return Ok(Orientation::NoTree);
     };
     let reproduced = net.matrix(alloc, matrix.rows(), matrix.columns())?;
-    let Some(signs) = signs_between(alloc, &reproduced, matrix)? else {
-        return Ok(Orientation::WrongSigns);
-    };
-    Ok(Orientation::Directed(turned_network(alloc, &net, &signs)?))
+    match signs_between(alloc, &reproduced, matrix)? {
+        SignsBetween::Found(signs) => {
+            Ok(Orientation::Directed(turned_network(alloc, &net, &signs)?))
+        }
+        SignsBetween::WrongRow(row) => Ok(Orientation::WrongSigns { row, net }),
+    }
 }
 
 /// A directed tree whose arcs are the rows, and for each column a path that uses the arcs as its entries say, +1
@@ -43,7 +60,7 @@ pub fn orient(alloc: Global, matrix: &Matrix) -> Result<Option<Network>, Memory>
 {
     match orientation_of(alloc, matrix)? {
         Orientation::Directed(net) => Ok(Some(net)),
-        Orientation::WrongSigns => Ok(None),
+        Orientation::WrongSigns { .. } => Ok(None),
         Orientation::NoTree => Ok(None),
     }
 }
@@ -52,9 +69,5 @@ pub fn orient(alloc: Global, matrix: &Matrix) -> Result<Option<Network>, Memory>
 pub fn has_graphic_support(alloc: Global, matrix: &Matrix) -> Result<bool, Memory>
     ensures { IfOk result (λ yes. IsTrue yes ↔ HasGraphicSupport matrix.now) }
 {
-    let support = support_of(alloc, matrix)?;
-    match realise(alloc, &support)? {
-        Some(_net) => Ok(true),
-        None => Ok(false),
-    }
+    Ok(realise(alloc, matrix)?.is_some())
 }

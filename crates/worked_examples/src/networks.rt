@@ -10,9 +10,7 @@ use std::alloc::Global;
 use std::test::Fail;
 
 // Whether there is a tree, whose paths are then the supports.
-fn is_graphic(alloc: Global, matrix: &Matrix) -> Result<bool, Fail>
-    requires { IsBinary matrix.now }
-{
+fn is_graphic(alloc: Global, matrix: &Matrix) -> Result<bool, Fail> {
     match realise(alloc, matrix)? {
         Some(net) => Ok(reproduces_support(alloc, &net, matrix)?),
         None => Ok(false),
@@ -59,6 +57,19 @@ fn graphic(rt: HostRuntime) -> Result<(), Fail> {
         let matrix = binary(rt.alloc(), text)?;
         is(&rt, is_graphic(rt.alloc(), &matrix)?, yes);
         is_text(&rt, &least_not_graphic(rt.alloc(), &matrix)?, minimal)?;
+    }
+    Ok(())
+}
+
+// Signs do not count.
+#[test]
+fn graphic_support(rt: HostRuntime) -> Result<(), Fail> {
+    for (text, yes) in [
+        ("2 2/1 1/1 -1/", true),
+        ("3 4/0 -1 1 1/1 0 1 -1/1 1 0 1/", false),
+    ] {
+        let matrix = matrix(rt.alloc(), text)?;
+        is(&rt, is_graphic(rt.alloc(), &matrix)?, yes);
     }
     Ok(())
 }

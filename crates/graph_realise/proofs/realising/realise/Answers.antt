@@ -23,4 +23,4 @@ returns c = λ graphic.
     let m = c.args.matrix.now in
     let rows = c.in_ok-lines.ensures.rows ∙ ap first_lines c.rows.ensures.rows in
     none_of_all m c.rows.ensures.shape
-    (subst (λ (xs : List ℕ). IsSearch (support m) xs c.find_sides.new.sides NoTree) rows (subst (IsSearch (support m) c.in_ok-lines.lines.rows c.find_sides.new.sides) c.in-NoTree.is c.in_ok-find_sides.ensures.found)) graphic.1
+    (subst (λ (xs : List ℕ). IsSearch (support m) xs c.find_sides.new.sides NoTree) rows (subst (IsSearch (support m) c.in_ok-lines.lines.rows c.find_sides.new.sides) c.in-NoTree.is c.in_ok-find_sides.ensures.found)) graphic

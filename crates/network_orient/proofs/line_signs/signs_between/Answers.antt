@@ -1,9 +1,10 @@
-use Rattle.std.proofs.Common.{◌≡◌, refl, ◌∙◌, ◌+◌, ◌++◌, ◌∷◌, [], ℕ, ℤ, List, arith, sym, subst, ap, w8, to_z, of_z}
+use Rattle.std.proofs.Common.{◌≡◌, ◌<◌, refl, ◌∙◌, ◌+◌, ◌++◌, ◌∷◌, [], ℕ, ℤ, List, arith, sym, subst, ap, w8, to_z, of_z}
 use Rattle.std.proofs.lemmas.Bool.{false≢true}
 use Rattle.cmr_base.specs.Matrix.{height}
 use Rattle.cmr_base.proofs.SignEntries.{sign_is_entry}
 use Rattle.ghouila.proofs.Bytes.{kept_entry}
 use Rattle.network_orient.specs.SignedGroups.{IsRowTurned}
+use Rattle.network_orient.proofs.FirstRows.{first_rows_free}
 use Rattle.network_orient.proofs.TurnedRows.{AreRowsTurned, no_row_turned, one_row_turned, all_rows_turned, none_agrees}
 use Rattle.network_orient.proofs.line_signs.signs_between.Goals as goal
 
@@ -22,17 +23,32 @@ loop-row-preserved c =
     subst (λ (rows : List ℤ). AreRowsTurned m n (c.loop-row.row + 1) rows columns) (ap (λ (z : ℤ). c.loop-row.rows.items ++ z ∷ []) (sym kept) ∙ sym c.in_ok-push.ensures.items)
     (one_row_turned m n c.loop-row.row c.loop-row.rows.items columns sign c.row_sign-sign.ensures.sign (subst (IsRowTurned m n columns c.loop-row.row) kept (c.if-not-is_row_turned.ensures.0 refl)) c.loop-row.invariant)
 
-pub returns-then-not-is_row_turned-clause-signs : goal.returns-then-not-is_row_turned-clause-signs
-returns-then-not-is_row_turned-clause-signs c =
+pub returns-then-not-is_row_turned : goal.returns-then-not-is_row_turned
+returns-then-not-is_row_turned c =
+    let m = c.args.from.now in
+    let n = c.args.to.now in
+    let row = c.loop-row.row in
+    let groups = c.in_ok-groups.groups.groups.items in
+    let columns = c.in_ok-groups.groups.signs.items in
+    let low : row < height m = omega (arith, c.loop-row-test.true, c.rows-row-end.ensures.rows) in
     let kept = kept_entry c.row_sign-sign.result (sign_is_entry c.row_sign-sign.result c.row_sign-sign.ensures.sign) in
-    none_agrees c.args.from.now c.args.to.now c.in_ok-groups.groups.groups.items c.in_ok-groups.groups.signs.items c.loop-row.row c.row_sign-sign.result c.requires c.in_ok-groups.ensures.groups
-    (c.in_ok-groups.ensures.joined c.loop-row.row (omega (arith, c.loop-row-test.true, c.rows-row-end.ensures.rows))) c.row_sign-sign.ensures.value
-    (λ column. c.rows.ensures.shape.small c.loop-row.row column) (λ turned. false≢true (c.if-not-is_row_turned.ensures.1 (subst (IsRowTurned c.args.from.now c.args.to.now c.in_ok-groups.groups.signs.items c.loop-row.row) (sym kept) turned)))
+    record {
+      none = none_agrees m n groups columns row c.row_sign-sign.result c.requires c.in_ok-groups.ensures.groups (c.in_ok-groups.ensures.joined row low) c.row_sign-sign.ensures.value
+          (λ column. c.rows.ensures.shape.small row column) (λ turned. false≢true (c.if-not-is_row_turned.ensures.1 (subst (IsRowTurned m n columns row) (sym kept) turned)));
+      passed = λ free. first_rows_free m n c.rows.ensures.shape c.columns-columns.ensures.shape c.requires.height_same c.requires.width_same free
+          groups row c.loop-row.rows.items columns c.in_ok-groups.ensures.groups c.loop-row.invariant (omega (arith, low));
+    }
 
-pub returns-clause-signs : goal.returns-clause-signs
-returns-clause-signs c =
+pub returns : goal.returns
+returns c =
     let m = c.args.from.now in
     let n = c.args.to.now in
     let whole : c.loop-row.row ≡ height m = omega (arith, c.loop-row-test.false, c.loop-row.auto.row-end, c.rows-row-end.ensures.rows) in
-    all_rows_turned m n c.in_ok-groups.groups.groups.items c.loop-row.rows.items c.in_ok-groups.groups.signs.items c.in_ok-groups.ensures.groups
-    (subst (λ (count : ℕ). AreRowsTurned m n count c.loop-row.rows.items c.in_ok-groups.groups.signs.items) whole c.loop-row.invariant)
+    let turned = subst (λ (count : ℕ). AreRowsTurned m n count c.loop-row.rows.items c.in_ok-groups.groups.signs.items) whole c.loop-row.invariant in
+    record {
+      row_each = turned.row_each;
+      column_each = c.in_ok-groups.ensures.groups.sign_each;
+      multiplied = all_rows_turned m n c.in_ok-groups.groups.groups.items c.loop-row.rows.items c.in_ok-groups.groups.signs.items c.in_ok-groups.ensures.groups turned;
+      passed = λ free. first_rows_free m n c.rows.ensures.shape c.columns-columns.ensures.shape c.requires.height_same c.requires.width_same free
+          c.in_ok-groups.groups.groups.items (height m) c.loop-row.rows.items c.in_ok-groups.groups.signs.items c.in_ok-groups.ensures.groups turned (omega arith);
+    }

@@ -8,5 +8,5 @@ returns-in-Directed c = subst (IsOrientation c.args.matrix.now) c.in-Directed.is
 pub returns-in-WrongSigns : goal.returns-in-WrongSigns
 returns-in-WrongSigns c = (subst (IsOrientation c.args.matrix.now) c.in-WrongSigns.is c.in_ok-net.ensures).0
 
-pub returns-in-NoTree : goal.returns-in-NoTree
-returns-in-NoTree c = (subst (IsOrientation c.args.matrix.now) c.in-NoTree.is c.in_ok-net.ensures).0
+pub returns : goal.returns
+returns c = (subst (IsOrientation c.args.matrix.now) c.in-NoTree.is c.in_ok-net.ensures).0

@@ -1,54 +1,46 @@
-use Rattle.std.proofs.Common.{◌∙◌, Option, MatchOption, sym, subst}
+use Rattle.std.proofs.Common.{◌∙◌, sym, subst}
+use Rattle.std.proofs.lemmas.Option.{MatchOption-at_none, MatchOption-at_some}
 use Rattle.cmr_base.specs.declared.network.Network.{Network}
 use Rattle.cmr_base.specs.Matrix.{entry, height}
-use Rattle.cmr_base.specs.Supports.{AgreeUpToSigns}
-use Rattle.cmr_base.specs.Trees.{IsGraphic, Reproduces, ReproducesSupport}
-use Rattle.cmr_base.specs.TurnedNetworks.{IsMultiplied}
-use Rattle.network_orient.specs.declared.line_signs.LineSigns.{LineSigns}
+use Rattle.cmr_base.specs.Trees.{Reproduces}
+use Rattle.cmr_base.proofs.ReproducedCuts.{support_realised}
 use Rattle.cmr_base.proofs.WholeMatrices.{is_ternary}
+use Rattle.ghouila.proofs.NetworkSignings.{networks_are_unimodular}
+use Rattle.network_orient.specs.SignsBetween.{AreSignsBetween}
 use Rattle.network_orient.proofs.Orientations.{one_support, agrees_where_network, turned_reproduces}
-use Rattle.network_orient.proofs.SupportMarks.{marks_are_binary, marks_by_support, support_by_marks, network_has_graphic_marks}
 use Rattle.network_orient.proofs.orienting.orientation_of.Goals as goal
 
 pub returns-in_default : goal.returns-in_default
 returns-in_default c =
     let m = c.args.matrix.now in
-    let support = c.in_ok-support.support in
-    let none = subst (λ (found : Option Network). MatchOption found (¬ (IsGraphic support)) (λ net. ReproducesSupport net support)) c.in_default.is c.in_ok-net.ensures in (
-      (λ network. none (network_has_graphic_marks m support c.in_ok-support.ensures network)),
-      (λ has. none (marks_are_binary m support c.in_ok-support.ensures, (has.0, marks_by_support m support c.in_ok-support.ensures has.0 has.1))),
-    )
+    let none = MatchOption-at_none _ _ c.in_default.is c.in_ok-net.ensures in
+    ((λ (net, network). none (net, support_realised net (entry m) (height m) m.width network)), none)
 
 pub signs_between-requires : goal.signs_between-requires
 signs_between-requires c =
     let m = c.args.matrix.now in
-    let support = c.in_ok-support.support in
     let reproduced = c.in_ok-reproduced in
-    let some = subst (λ (found : Option Network). MatchOption found (¬ (IsGraphic support)) (λ net. ReproducesSupport net support)) c.in-Some.is c.in_ok-net.ensures in
     one_support c.in-Some.net reproduced.reproduced m reproduced.ensures.shape.rectangular c.rows.ensures.shape.rectangular (reproduced.ensures.rows ∙ c.rows.ensures.rows) (reproduced.ensures.columns ∙ c.columns.ensures.columns)
-    reproduced.ensures.reproduced (support_by_marks m support c.in_ok-support.ensures c.in-Some.net some)
+    reproduced.ensures.reproduced (MatchOption-at_some _ _ c.in-Some.net c.in-Some.is c.in_ok-net.ensures)
 
-pub returns-in_default-2 : goal.returns-in_default-2
-returns-in_default-2 c =
+pub returns-in-WrongRow : goal.returns-in-WrongRow
+returns-in-WrongRow c =
     let m = c.args.matrix.now in
-    let support = c.in_ok-support.support in
     let reproduced = c.in_ok-reproduced in
-    let some = subst (λ (found : Option Network). MatchOption found (¬ (IsGraphic support)) (λ net. ReproducesSupport net support)) c.in-Some.is c.in_ok-net.ensures in
-    let realised = support_by_marks m support c.in_ok-support.ensures c.in-Some.net some in
-    let none = subst (λ (found : Option LineSigns). MatchOption found (¬ (AgreeUpToSigns (entry reproduced.reproduced) (entry m)))
-    (λ signs. IsMultiplied (entry reproduced.reproduced) (entry m) (height reproduced.reproduced) reproduced.reproduced.width signs.rows.items signs.columns.items)) c.in_default-2.is c.in_ok-signs.ensures.signs in (
-      (λ network. none (agrees_where_network c.in-Some.net reproduced.reproduced m (is_ternary reproduced.reproduced reproduced.ensures.shape) (is_ternary m c.rows.ensures.shape) (reproduced.ensures.rows ∙ c.rows.ensures.rows) (reproduced.ensures.columns ∙ c.columns.ensures.columns)
+    let realised = MatchOption-at_some _ _ c.in-Some.net c.in-Some.is c.in_ok-net.ensures in
+    let wrong = subst (AreSignsBetween reproduced.reproduced m) c.in-WrongRow.is c.in_ok-signs.ensures in (
+      (λ network. wrong.none (agrees_where_network c.in-Some.net reproduced.reproduced m (is_ternary reproduced.reproduced reproduced.ensures.shape) (is_ternary m c.rows.ensures.shape) (reproduced.ensures.rows ∙ c.rows.ensures.rows) (reproduced.ensures.columns ∙ c.columns.ensures.columns)
           reproduced.ensures.reproduced realised network)),
-      (c.in-Some.net, realised),
+      realised,
+      wrong.passed (networks_are_unimodular reproduced.reproduced (is_ternary reproduced.reproduced reproduced.ensures.shape) (c.in-Some.net, reproduced.ensures.reproduced)).1,
     )
 
-pub returns : goal.returns
-returns c =
+pub returns-in_ok-turned_network-in-Found : goal.returns-in_ok-turned_network-in-Found
+returns-in_ok-turned_network-in-Found c =
     let m = c.args.matrix.now in
     let reproduced = c.in_ok-reproduced in
-    let signs = c.in-Some-2.signs in
-    let multiplied = subst (λ (found : Option LineSigns). MatchOption found (¬ (AgreeUpToSigns (entry reproduced.reproduced) (entry m)))
-    (λ signs. IsMultiplied (entry reproduced.reproduced) (entry m) (height reproduced.reproduced) reproduced.reproduced.width signs.rows.items signs.columns.items)) c.in-Some-2.is c.in_ok-signs.ensures.signs in
-    subst (λ (net : Network). Reproduces net m) (sym c.in_ok-turned_network.ensures)
+    let signs = c.in-Found.signs in
+    let are = subst (AreSignsBetween reproduced.reproduced m) c.in-Found.is c.in_ok-signs.ensures in
+    subst (λ (net : Network). Reproduces net m) (sym c.in_ok-turned_network-in-Found.ensures)
     (turned_reproduces c.in-Some.net reproduced.reproduced m signs.rows.items signs.columns.items (reproduced.ensures.rows ∙ c.rows.ensures.rows) (reproduced.ensures.columns ∙ c.columns.ensures.columns)
-    reproduced.ensures.reproduced multiplied)
+    reproduced.ensures.reproduced are.multiplied)

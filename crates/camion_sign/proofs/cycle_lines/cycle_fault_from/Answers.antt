@@ -1,6 +1,6 @@
 use Rattle.camion_sign.proofs.FaultViolator.{cycle_fault_violator}
 use Rattle.camion_sign.proofs.LineLists.{fault_lines}
-use Rattle.camion_sign.proofs.cycle_lines.cycle_fault.Goals as goal
+use Rattle.camion_sign.proofs.cycle_lines.cycle_fault_from.Goals as goal
 
 pub returns-in_ok-columns-in-Some : goal.returns-in_ok-columns-in-Some
 returns-in_ok-columns-in-Some c =
