@@ -1,0 +1,3 @@
+pub mod ChosenLines
+pub mod RemainderTests
+pub mod LinesBefore
