@@ -6,7 +6,7 @@ use Rattle.std.specs.List.Sorted.{IsStrictlyIncreasing}
 use Rattle.std.proofs.lemmas.List.{get_or-map, get_or_past, length-map}
 use Rattle.std.proofs.lemmas.List.FromFn.{fill_by_all, length-range_with_len}
 use Rattle.std.proofs.lemmas.Bool.{cases_eq, cases_lt, eqb-false}
-use Rattle.cmr_base.specs.Matrix.{Matrix, height, row_of, entry, IsEntry, HasTernaryEntries}
+use Rattle.cmr_base.specs.Matrix.{Matrix, height, row_of, entry, IsEntry, HasTernaryEntries, IsRectangular}
 use Rattle.cmr_base.specs.LineSets.{first_lines, without}
 use Rattle.cmr_base.specs.Members.{IsIn, IsDistinct}
 use Rattle.cmr_base.specs.MatrixSums.{filled}
@@ -149,14 +149,18 @@ pivots_keep_violators m r c place = (forth, back)
 
 -- ---- the matrix again
 
+-- a matrix with these entries
+pub filled_again : (x : Matrix) (h w : ℕ) (entries : ℕ → ℕ → ℤ) → IsRectangular x → height x ≡ h → x.width ≡ w → ((i j : ℕ) → i < h → j < w → entry x i j ≡ entries i j) → x ≡ filled h w entries
+filled_again x h w entries rectangular high wide same = ap₂ (λ rows width. let made : Matrix = record { rows = rows; width = width } in made) rows_again wide
+  where
+    rows_again : x.rows ≡ map (λ i. map (entries i) (first_lines w)) (first_lines h)
+    rows_again = fill_by_all (λ i. map (entries i) (first_lines w)) x.rows h [] high
+        (λ i hi. fill_by_all (entries i) (row_of x i) w (pos 0) (rectangular i (omega arith) ∙ wide) (λ j hj. same i j hi hj))
+
 pub pivots_undo_themselves : PivotsUndoThemselves
 pivots_undo_themselves m r c rectangular place =
-    ap (λ n. record { rows = map (λ i. map (pivot_entry (entry (pivot_at m r c)) r c i) (first_lines m.width)) (first_lines n); width = m.width }) (same_height m r c place)
-    ∙ ap (λ rows. record { rows = rows; width = m.width }) (sym rows_again)
-  where
-    rows_again : m.rows ≡ map (λ i. map (pivot_entry (entry (pivot_at m r c)) r c i) (first_lines m.width)) (first_lines (height m))
-    rows_again = fill_by_all (λ i. map (pivot_entry (entry (pivot_at m r c)) r c i) (first_lines m.width)) m.rows (height m) [] refl
-        (λ i hi. fill_by_all (pivot_entry (entry (pivot_at m r c)) r c i) (row_of m i) m.width (pos 0) (rectangular i hi) (λ j hj. sym (entry_twice m r c place i j hi hj)))
+    sym (filled_again m (height (pivot_at m r c)) m.width (pivot_entry (entry (pivot_at m r c)) r c) rectangular (sym (same_height m r c place)) refl
+    (λ i j hi hj. sym (entry_twice m r c place i j (let e = same_height m r c place in omega arith) hj)))
 
 -- ---- the entries after it
 

@@ -2,5 +2,7 @@
 #![tactic(auto)]
 
 mod back;
+mod matrix_pivot;
 
 pub use back::violator_before;
+pub use matrix_pivot::{Pivoted, pivot};
