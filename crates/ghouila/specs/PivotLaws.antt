@@ -1,5 +1,5 @@
--- The pivot of a whole matrix, and what it keeps. It exchanges a row with a column as the step of the simplex method does in its tableau:
--- where y = M x, the row's y and the column's x change places.
+-- The pivot of a whole matrix, and what it keeps: the step of the simplex method in the tableau of `M x + y = b`, in which the row's y and
+-- the column's x change places.
 use Rattle.std.specs.Prelude.{◌≡◌, ◌≢◌, ◌<◌, ◌↔◌, ℕ, ℤ, ◌*ℤ◌, ◌==◌, if◌then◌else◌, List}
 use Rattle.cmr_base.specs.Matrix.{Matrix, height, entry, HasTernaryEntries, IsRectangular, IsTernary}
 use Rattle.cmr_base.specs.LineSets.{IsRowSet, IsColumnSet}
