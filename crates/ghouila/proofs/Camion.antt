@@ -110,7 +110,7 @@ module _ (height width : ℕ) (M : ℕ → ℕ → ℤ) (r c : ℕ) (u : IsSign 
           at : (row_in column_in : Bool) (R' C' : List ℕ) → HasParity row_in (sum_over (odd_times v.rows) (λ i. M i c)) → HasParity column_in (sum_over s.others (M r) +ℤ bit s.there)
               → IsJoined row_in r (odd_times v.rows) R' → IsJoined column_in c s.others C' → IsViolator M R' C'
           at row_in column_in R' C' e f join join' =
-              violator_before M r c u (odd_times v.rows) s.others s.there row_in column_in R' C' e f join join'
+              violator_before M r c u (odd_times v.rows) s.others (sum_over (odd_times v.rows) (λ i. M i c)) (sum_over s.others (M r) +ℤ bit s.there) row_in column_in R' C' e f join join'
               (violator_after M r c s.there (odd_times v.rows) s.others (odd_times v.columns) u s.joined s.apart (violator-odd_times (pivoted M r c) v.rows v.columns v.violator))
 
           choose : IsEven (sum_over (odd_times v.rows) (λ i. M i c)) ⊎ IsOdd (sum_over (odd_times v.rows) (λ i. M i c))

@@ -127,7 +127,8 @@ module _ (before after : Matrix) (row column : ℕ) (left : List ℕ) (row_in : 
   column_sum j h = sum_over_same (marked rows) (λ r. entry after r j) (λ r. pivoted (entry before) row column r j)
       (all_weaker (λ r. (j : ℕ) → j < before.width → entry after r j ≡ pivoted (entry before) row column r j) (λ r. entry after r j ≡ pivoted (entry before) row column r j) (λ r is. is j h) (marked rows) rows_pivoted)
 
-  after_pivot : IsViolatorAfter (entry before) row column (marked rows) (marked (set columns column false)) (get_or columns column false)
+  after_pivot : IsViolatorAfter (entry before) row column (marked rows) (marked (set columns column false)) (sum_over (marked rows) (λ r. entry before r column))
+      (sum_over (marked (set columns column false)) (entry before row) +ℤ bit (get_or columns column false))
   after_pivot = violator_after (entry before) row column (get_or columns column false) (marked rows) (marked (set columns column false)) (marked columns) u
       (subst (λ marks. IsJoined (get_or columns column false) column (marked (set columns column false)) (marked marks)) (set_same_mark columns column) (joined (get_or columns column false) columns column (let w = v.column_each in omega arith)))
       (unmarked_apart 0 columns column column (omega arith))
@@ -145,7 +146,8 @@ module _ (before after : Matrix) (row column : ℕ) (left : List ℕ) (row_in : 
       (subst (HasParity g_odd) (column_sum column column_in ∙ sum_over_pivot_column (entry before) row column (marked rows)) (v.parity column (omega arith)))
 
   violator_there : IsViolator (entry before) (marked (set rows row g_odd)) (marked columns')
-  violator_there = violator_before (entry before) row column u (marked rows) (marked (set columns column false)) (get_or columns column false) g_odd anew.mark (marked (set rows row g_odd)) (marked columns')
+  violator_there = violator_before (entry before) row column u (marked rows) (marked (set columns column false)) (sum_over (marked rows) (λ r. entry before r column))
+      (sum_over (marked (set columns column false)) (entry before row) +ℤ bit (get_or columns column false)) g_odd anew.mark (marked (set rows row g_odd)) (marked columns')
       g_parity anew.parity row_joined
       (subst (λ marks. IsJoined anew.mark column (marked (set columns column false)) (marked marks)) (sym anew.new_is) (joined anew.mark columns column (let w = v.column_each in omega arith))) after_pivot
 

@@ -1,5 +1,6 @@
 -- From a violator after a pivot to one before it.
 use Rattle.std.proofs.Common.{◌≡◌, ◌≢◌, ◌⊎◌, inl, inr, ◌∙◌, ℕ, Bool, true, false, ℤ, pos, negsuc, neg_ℤ, ◌+ℤ◌, ◌*ℤ◌, ◌-ℤ◌, List, [], ◌∷◌, refl, ap, sym, subst, arith}
+use mathlib.Core.Path.{ap₂}
 use Rattle.std.specs.List.{AllByRecursion}
 use Rattle.cmr_base.specs.Sums.{sum_over, IsEven, IsOdd, IsTwoModFour}
 use Rattle.cmr_base.specs.Signing.{IsSign}
@@ -13,12 +14,14 @@ use Rattle.ghouila.specs.Found.{HasParity, bit}
 use Rattle.ghouila.proofs.PivotSums.{pivoted_at, sum_over_row, sum_over_column, sum_over_pivot_column}
 use Rattle.cmr_base.proofs.SignEntries.{sign_square}
 
--- a violator on R and C after the pivot at r and c, with the column c counted apart: t where it was there
-pub record IsViolatorAfter (M : ℕ → ℕ → ℤ) (r c : ℕ) (R C : List ℕ) (t : Bool) : Type 0 where
-  pub rows : AllByRecursion (λ i. IsEven (sum_over C (M i) -ℤ M r c *ℤ (M i c *ℤ (sum_over C (M r) +ℤ bit t)))) R
-  pub columns : AllByRecursion (λ j. IsEven (sum_over R (λ i. M i j) -ℤ M r c *ℤ (sum_over R (λ i. M i c) *ℤ M r j))) C
-  pub last : (t ≡ false) ⊎ IsEven (sum_over R (λ i. M i c))
-  pub total : IsTwoModFour (sum_over R (λ i. sum_over C (M i)) -ℤ M r c *ℤ (sum_over R (λ i. M i c) *ℤ (sum_over C (M r) +ℤ bit t)))
+-- A violator on R and C after the pivot at r and c, which are counted apart: the rows have g times row r added or taken away, the
+-- columns h times column c. Where g is odd, h is the sum of row r in C, and where h is odd, g is that of column c in R.
+pub record IsViolatorAfter (M : ℕ → ℕ → ℤ) (r c : ℕ) (R C : List ℕ) (g h : ℤ) : Type 0 where
+  pub rows : AllByRecursion (λ i. IsEven (sum_over C (M i) -ℤ M r c *ℤ (M i c *ℤ h))) R
+  pub columns : AllByRecursion (λ j. IsEven (sum_over R (λ i. M i j) -ℤ M r c *ℤ (g *ℤ M r j))) C
+  pub row_sum : (sum_over C (M r) ≡ h) ⊎ IsEven g
+  pub column_sum : (sum_over R (λ i. M i c) ≡ g) ⊎ IsEven h
+  pub total : IsTwoModFour (sum_over R (λ i. sum_over C (M i)) -ℤ M r c *ℤ (g *ℤ h))
 
 -- ---- arithmetic
 
@@ -72,15 +75,12 @@ total_odd_odd a g h x u e f two = subst IsTwoModFour (back a g h x (sign_square 
 
 -- ---- the four cases
 
-module _ (M : ℕ → ℕ → ℤ) (r c : ℕ) (u : IsSign (M r c)) (R C : List ℕ) where
-  abbrev g : ℤ
-  g = sum_over R (λ i. M i c)
+module _ (M : ℕ → ℕ → ℤ) (r c : ℕ) (u : IsSign (M r c)) (R C : List ℕ) (g h : ℤ) where
+  rows_same : IsEven h → (Q : List ℕ) → AllByRecursion (λ i. IsEven (sum_over C (M i) -ℤ M r c *ℤ (M i c *ℤ h))) Q → AllByRecursion (λ i. IsEven (sum_over C (M i))) Q
+  rows_same e Q after = all_weaker (λ i. IsEven (sum_over C (M i) -ℤ M r c *ℤ (M i c *ℤ h))) (λ i. IsEven (sum_over C (M i))) (λ i. line_even (M r c) (M i c) h (sum_over C (M i)) e) Q after
 
-  rows_same : (h : ℤ) → IsEven h → (Q : List ℕ) → AllByRecursion (λ i. IsEven (sum_over C (M i) -ℤ M r c *ℤ (M i c *ℤ h))) Q → AllByRecursion (λ i. IsEven (sum_over C (M i))) Q
-  rows_same h e Q after = all_weaker (λ i. IsEven (sum_over C (M i) -ℤ M r c *ℤ (M i c *ℤ h))) (λ i. IsEven (sum_over C (M i))) (λ i. line_even (M r c) (M i c) h (sum_over C (M i)) e) Q after
-
-  rows_with : (C' : List ℕ) → HasOneMore c C C' → (h : ℤ) → IsEven (M r c *ℤ h +ℤ pos 1) → (Q : List ℕ) → AllByRecursion (λ i. IsEven (sum_over C (M i) -ℤ M r c *ℤ (M i c *ℤ h))) Q → AllByRecursion (λ i. IsEven (sum_over C' (M i))) Q
-  rows_with C' more h e Q after = all_weaker (λ i. IsEven (sum_over C (M i) -ℤ M r c *ℤ (M i c *ℤ h))) (λ i. IsEven (sum_over C' (M i)))
+  rows_with : (C' : List ℕ) → HasOneMore c C C' → IsEven (M r c *ℤ h +ℤ pos 1) → (Q : List ℕ) → AllByRecursion (λ i. IsEven (sum_over C (M i) -ℤ M r c *ℤ (M i c *ℤ h))) Q → AllByRecursion (λ i. IsEven (sum_over C' (M i))) Q
+  rows_with C' more e Q after = all_weaker (λ i. IsEven (sum_over C (M i) -ℤ M r c *ℤ (M i c *ℤ h))) (λ i. IsEven (sum_over C' (M i)))
       (λ i even. subst IsEven (sym (sum_over-one_more c C C' (M i) more)) (line_odd (M r c) (M i c) h (sum_over C (M i)) e even)) Q after
 
   turned : (a g q x : ℤ) → x -ℤ a *ℤ (g *ℤ q) ≡ x -ℤ a *ℤ (q *ℤ g)
@@ -100,72 +100,66 @@ module _ (M : ℕ → ℕ → ℤ) (r c : ℕ) (u : IsSign (M r c)) (R C : List 
       sum_over_same Q (λ i. sum_over C' (M i)) (λ i. M i c +ℤ sum_over C (M i)) (all_of (λ i. sum_over C' (M i) ≡ M i c +ℤ sum_over C (M i)) (λ i. sum_over-one_more c C C' (M i) more) Q)
       ∙ sum_over-add Q (λ i. M i c) (λ i. sum_over C (M i))
 
-  even_even : (t : Bool) → IsEven g → IsEven (sum_over C (M r) +ℤ bit t) → IsViolatorAfter M r c R C t → IsViolator M R C
-  even_even t e f v = record {
-    even_rows = rows_same (sum_over C (M r) +ℤ bit t) f R v.rows;
+  certain : {P : Type 0} (z : ℤ) → IsOdd z → P ⊎ IsEven z → P
+  certain z odd (inl p) = p
+  certain z odd (inr even) = absurd (even_not_odd z even odd)
+
+  even_even : IsEven g → IsEven h → IsViolatorAfter M r c R C g h → IsViolator M R C
+  even_even e f v = record {
+    even_rows = rows_same f R v.rows;
     even_columns = columns_same e v.columns;
-    two_mod_four = total_even_even (M r c) g (sum_over C (M r) +ℤ bit t) (sum_over R (λ i. sum_over C (M i))) e f v.total;
+    two_mod_four = total_even_even (M r c) g h (sum_over R (λ i. sum_over C (M i))) e f v.total;
   }
 
-  even_odd : (t : Bool) (C' : List ℕ) → HasOneMore c C C' → IsEven g → IsOdd (sum_over C (M r) +ℤ bit t) → IsViolatorAfter M r c R C t → IsViolator M R C'
-  even_odd t C' more e f v =
-      let h = sum_over C (M r) +ℤ bit t in
+  even_odd : (C' : List ℕ) → HasOneMore c C C' → IsEven g → IsOdd h → IsViolatorAfter M r c R C g h → IsViolator M R C'
+  even_odd C' more e f v =
       let odd : IsEven (M r c *ℤ h +ℤ pos 1) = odd_by_sign (M r c) h u f in
+      let column : sum_over R (λ i. M i c) ≡ g = certain h f v.column_sum in
       record {
-        even_rows = rows_with C' more h odd R v.rows;
-        even_columns = all-one_more (λ j. IsEven (sum_over R (λ i. M i j))) c C C' more e (columns_same e v.columns);
-        two_mod_four = subst IsTwoModFour (sym (total_with C' more R)) (total_even_odd (M r c) g h (sum_over R (λ i. sum_over C (M i))) e odd v.total);
+        even_rows = rows_with C' more odd R v.rows;
+        even_columns = all-one_more (λ j. IsEven (sum_over R (λ i. M i j))) c C C' more (subst IsEven (sym column) e) (columns_same e v.columns);
+        two_mod_four = subst IsTwoModFour (ap (λ z. z +ℤ sum_over R (λ i. sum_over C (M i))) (sym column) ∙ sym (total_with C' more R))
+            (total_even_odd (M r c) g h (sum_over R (λ i. sum_over C (M i))) e odd v.total);
       }
 
-  -- where g is odd, the column c was not there
-  not_there : (t : Bool) → t ≡ false → sum_over C (M r) +ℤ bit t ≡ sum_over C (M r)
-  not_there t e = ap (λ b. sum_over C (M r) +ℤ bit b) e ∙ zero (sum_over C (M r))
-    where
-      zero : (z : ℤ) → z +ℤ pos 0 ≡ z
-      zero z = omega (arith, sums)
-
-  odd_even : (t : Bool) (R' : List ℕ) → t ≡ false → HasOneMore r R R' → IsOdd g → IsEven (sum_over C (M r) +ℤ bit t) → IsViolatorAfter M r c R C t → IsViolator M R' C
-  odd_even t R' none more e f v =
-      let h = sum_over C (M r) +ℤ bit t in
+  odd_even : (R' : List ℕ) → HasOneMore r R R' → IsOdd g → IsEven h → IsViolatorAfter M r c R C g h → IsViolator M R' C
+  odd_even R' more e f v =
       let odd : IsEven (M r c *ℤ g +ℤ pos 1) = odd_by_sign (M r c) g u e in
-      let total : IsTwoModFour (h +ℤ sum_over R (λ i. sum_over C (M i))) = total_odd_even (M r c) g h (sum_over R (λ i. sum_over C (M i))) odd f v.total in
+      let row : sum_over C (M r) ≡ h = certain g e v.row_sum in
       record {
-        even_rows = all-one_more (λ i. IsEven (sum_over C (M i))) r R R' more (subst IsEven (not_there t none) f) (rows_same h f R v.rows);
+        even_rows = all-one_more (λ i. IsEven (sum_over C (M i))) r R R' more (subst IsEven (sym row) f) (rows_same f R v.rows);
         even_columns = columns_with R' more odd v.columns;
-        two_mod_four = subst IsTwoModFour (ap (λ z. z +ℤ sum_over R (λ i. sum_over C (M i))) (not_there t none) ∙ sym (sum_over-one_more r R R' (λ i. sum_over C (M i)) more)) total;
+        two_mod_four = subst IsTwoModFour (ap (λ z. z +ℤ sum_over R (λ i. sum_over C (M i))) (sym row) ∙ sym (sum_over-one_more r R R' (λ i. sum_over C (M i)) more))
+            (total_odd_even (M r c) g h (sum_over R (λ i. sum_over C (M i))) odd f v.total);
       }
 
-  odd_odd : (t : Bool) (R' C' : List ℕ) → t ≡ false → HasOneMore r R R' → HasOneMore c C C' → IsOdd g → IsOdd (sum_over C (M r) +ℤ bit t) → IsViolatorAfter M r c R C t → IsViolator M R' C'
-  odd_odd t R' C' none more more' e f v =
-      let h = sum_over C (M r) +ℤ bit t in
+  odd_odd : (R' C' : List ℕ) → HasOneMore r R R' → HasOneMore c C C' → IsOdd g → IsOdd h → IsViolatorAfter M r c R C g h → IsViolator M R' C'
+  odd_odd R' C' more more' e f v =
       let odd : IsEven (M r c *ℤ g +ℤ pos 1) = odd_by_sign (M r c) g u e in
       let odd' : IsEven (M r c *ℤ h +ℤ pos 1) = odd_by_sign (M r c) h u f in
-      let total : IsTwoModFour ((M r c +ℤ h) +ℤ (g +ℤ sum_over R (λ i. sum_over C (M i)))) = total_odd_odd (M r c) g h (sum_over R (λ i. sum_over C (M i))) u odd odd' v.total in
-      let head : IsEven (M r c +ℤ sum_over C (M r)) = sign_and_odd (M r c) (sum_over C (M r)) u (subst IsOdd (not_there t none) f) in
+      let row : sum_over C (M r) ≡ h = certain g e v.row_sum in
+      let column : sum_over R (λ i. M i c) ≡ g = certain h f v.column_sum in
+      let head : IsEven (M r c +ℤ sum_over C (M r)) = sign_and_odd (M r c) (sum_over C (M r)) u (subst IsOdd (sym row) f) in
+      let side : IsEven (M r c +ℤ sum_over R (λ i. M i c)) = sign_and_odd (M r c) (sum_over R (λ i. M i c)) u (subst IsOdd (sym column) e) in
       record {
-        even_rows = all-one_more (λ i. IsEven (sum_over C' (M i))) r R R' more (subst IsEven (sym (sum_over-one_more c C C' (M r) more')) head) (rows_with C' more' h odd' R v.rows);
-        even_columns = all-one_more (λ j. IsEven (sum_over R' (λ i. M i j))) c C C' more' (subst IsEven (sym (sum_over-one_more r R R' (λ i. M i c) more)) (sign_and_odd (M r c) g u e)) (columns_with R' more odd v.columns);
+        even_rows = all-one_more (λ i. IsEven (sum_over C' (M i))) r R R' more (subst IsEven (sym (sum_over-one_more c C C' (M r) more')) head) (rows_with C' more' odd' R v.rows);
+        even_columns = all-one_more (λ j. IsEven (sum_over R' (λ i. M i j))) c C C' more' (subst IsEven (sym (sum_over-one_more r R R' (λ i. M i c) more)) side) (columns_with R' more odd v.columns);
         two_mod_four = subst IsTwoModFour
-            (ap (λ z. (M r c +ℤ z) +ℤ (g +ℤ sum_over R (λ i. sum_over C (M i)))) (not_there t none)
+            (ap₂ (λ (y z : ℤ). (M r c +ℤ y) +ℤ (z +ℤ sum_over R (λ i. sum_over C (M i)))) (sym row) (sym column)
             ∙ sym (sum_over-one_more r R R' (λ i. sum_over C' (M i)) more ∙ ap (λ z. z +ℤ sum_over R (λ i. sum_over C' (M i))) (sum_over-one_more c C C' (M r) more')
             ∙ ap (λ z. (M r c +ℤ sum_over C (M r)) +ℤ z) (total_with C' more' R)))
-            total;
+            (total_odd_odd (M r c) g h (sum_over R (λ i. sum_over C (M i))) u odd odd' v.total);
       }
 
-  absent : (t : Bool) → IsOdd g → (t ≡ false) ⊎ IsEven g → t ≡ false
-  absent t odd (inl e) = e
-  absent t odd (inr even) = absurd (even_not_odd g even odd)
-
   -- the row goes in where g is odd, the column where h is odd
-  pub violator_before : (t row_in column_in : Bool) (R' C' : List ℕ) → HasParity row_in (sum_over R (λ i. M i c)) → HasParity column_in (sum_over C (M r) +ℤ bit t)
-      → IsJoined row_in r R R' → IsJoined column_in c C C' → IsViolatorAfter M r c R C t → IsViolator M R' C'
-  violator_before t false false R' C' e f join join' v = subst (λ Q. IsViolator M Q C') (sym join) (subst (λ D. IsViolator M R D) (sym join') (even_even t e f v))
-  violator_before t false true R' C' e f join join' v = subst (λ Q. IsViolator M Q C') (sym join) (even_odd t C' join' e f v)
-  violator_before t true false R' C' e f join join' v = subst (λ D. IsViolator M R' D) (sym join') (odd_even t R' (absent t e v.last) join e f v)
-  violator_before t true true R' C' e f join join' v = odd_odd t R' C' (absent t e v.last) join join' e f v
+  pub violator_before : (row_in column_in : Bool) (R' C' : List ℕ) → HasParity row_in g → HasParity column_in h → IsJoined row_in r R R' → IsJoined column_in c C C' → IsViolatorAfter M r c R C g h → IsViolator M R' C'
+  violator_before false false R' C' e f join join' v = subst (λ Q. IsViolator M Q C') (sym join) (subst (λ D. IsViolator M R D) (sym join') (even_even e f v))
+  violator_before false true R' C' e f join join' v = subst (λ Q. IsViolator M Q C') (sym join) (even_odd C' join' e f v)
+  violator_before true false R' C' e f join join' v = subst (λ D. IsViolator M R' D) (sym join') (odd_even R' join e f v)
+  violator_before true true R' C' e f join join' v = odd_odd R' C' join join' e f v
 
 module _ (M : ℕ → ℕ → ℤ) (r c : ℕ) where
-  even_back : (a g : ℤ) → IsSign a → IsEven (neg_ℤ (a *ℤ g)) → IsEven g
+  pub even_back : (a g : ℤ) → IsSign a → IsEven (neg_ℤ (a *ℤ g)) → IsEven g
   even_back a g (inl e) (k, f) = (neg_ℤ k, flipped g k (ap (λ x. neg_ℤ (x *ℤ g)) (sym e) ∙ f))
     where
       flipped : (g k : ℤ) → neg_ℤ (pos 1 *ℤ g) ≡ k +ℤ k → g ≡ neg_ℤ k +ℤ neg_ℤ k
@@ -175,7 +169,7 @@ module _ (M : ℕ → ℕ → ℤ) (r c : ℕ) where
       kept : (g k : ℤ) → neg_ℤ (negsuc 0 *ℤ g) ≡ k +ℤ k → g ≡ k +ℤ k
       kept g k f = let one : negsuc 0 *ℤ g ≡ neg_ℤ g = simp products in omega (arith, sums)
 
-  row_after : (t : Bool) (i : ℕ) (C D : List ℕ) → IsJoined t c C D → AllByRecursion (λ j. j ≢ c) C → sum_over D (pivoted M r c i) ≡ sum_over C (M i) -ℤ M r c *ℤ (M i c *ℤ (sum_over C (M r) +ℤ bit t))
+  pub row_after : (t : Bool) (i : ℕ) (C D : List ℕ) → IsJoined t c C D → AllByRecursion (λ j. j ≢ c) C → sum_over D (pivoted M r c i) ≡ sum_over C (M i) -ℤ M r c *ℤ (M i c *ℤ (sum_over C (M r) +ℤ bit t))
   row_after false i C D e others = ap (λ xs. sum_over xs (pivoted M r c i)) e ∙ sum_over_row M r c i C others ∙ plain (sum_over C (M i)) (M r c) (M i c) (sum_over C (M r))
     where
       plain : (x a p h : ℤ) → x -ℤ a *ℤ (p *ℤ h) ≡ x -ℤ a *ℤ (p *ℤ (h +ℤ pos 0))
@@ -187,7 +181,7 @@ module _ (M : ℕ → ℕ → ℤ) (r c : ℕ) where
       plain : (x a p h : ℤ) → neg_ℤ (a *ℤ p) +ℤ (x -ℤ a *ℤ (p *ℤ h)) ≡ x -ℤ a *ℤ (p *ℤ (h +ℤ pos 1))
       plain x a p h = simp products (omega (arith, sums))
 
-  total_after : (t : Bool) (R C D : List ℕ) → IsJoined t c C D → AllByRecursion (λ j. j ≢ c) C
+  pub total_after : (t : Bool) (R C D : List ℕ) → IsJoined t c C D → AllByRecursion (λ j. j ≢ c) C
       → sum_over R (λ i. sum_over D (pivoted M r c i)) ≡ sum_over R (λ i. sum_over C (M i)) -ℤ M r c *ℤ (sum_over R (λ i. M i c) *ℤ (sum_over C (M r) +ℤ bit t))
   total_after t [] C D join others = zero (M r c) (sum_over C (M r) +ℤ bit t)
     where
@@ -205,12 +199,14 @@ module _ (M : ℕ → ℕ → ℤ) (r c : ℕ) where
       (λ j other e. subst IsEven (sum_over_column M r c j R other) e) C others even
 
   -- the pivot's own column is counted apart
-  pub violator_after : (t : Bool) (R C D : List ℕ) → IsSign (M r c) → IsJoined t c C D → AllByRecursion (λ j. j ≢ c) C → IsViolator (pivoted M r c) R D → IsViolatorAfter M r c R C t
+  pub violator_after : (t : Bool) (R C D : List ℕ) → IsSign (M r c) → IsJoined t c C D → AllByRecursion (λ j. j ≢ c) C → IsViolator (pivoted M r c) R D
+      → IsViolatorAfter M r c R C (sum_over R (λ i. M i c)) (sum_over C (M r) +ℤ bit t)
   violator_after t R C D u join others v = record {
     rows = all_weaker (λ i. IsEven (sum_over D (pivoted M r c i))) (λ i. IsEven (sum_over C (M i) -ℤ M r c *ℤ (M i c *ℤ (sum_over C (M r) +ℤ bit t))))
         (λ i e. subst IsEven (row_after t i C D join others) e) R v.even_rows;
     columns = columns_after R C others (fewer t join v.even_columns);
-    last = last t join v.even_columns;
+    row_sum = at_row t join v.even_columns;
+    column_sum = inl refl;
     total = subst IsTwoModFour (total_after t R C D join others) v.two_mod_four;
   }
     where
@@ -218,7 +214,10 @@ module _ (M : ℕ → ℕ → ℤ) (r c : ℕ) where
       fewer false e all = subst (AllByRecursion (λ j. IsEven (sum_over R (λ i. pivoted M r c i j)))) e all
       fewer true more all = all_without (λ j. IsEven (sum_over R (λ i. pivoted M r c i j))) c C D more all
 
-      last : (s : Bool) → IsJoined s c C D → AllByRecursion (λ j. IsEven (sum_over R (λ i. pivoted M r c i j))) D → (s ≡ false) ⊎ IsEven (sum_over R (λ i. M i c))
-      last false e all = inl refl
-      last true more all = inr (even_back (M r c) (sum_over R (λ i. M i c)) u
+      zero : (z : ℤ) → z ≡ z +ℤ pos 0
+      zero z = omega (arith, sums)
+
+      at_row : (s : Bool) → IsJoined s c C D → AllByRecursion (λ j. IsEven (sum_over R (λ i. pivoted M r c i j))) D → (sum_over C (M r) ≡ sum_over C (M r) +ℤ bit s) ⊎ IsEven (sum_over R (λ i. M i c))
+      at_row false e all = inl (zero (sum_over C (M r)))
+      at_row true more all = inr (even_back (M r c) (sum_over R (λ i. M i c)) u
           (subst IsEven (sum_over_pivot_column M r c R) (item_of_one_more (λ j. IsEven (sum_over R (λ i. pivoted M r c i j))) c C D more all)))

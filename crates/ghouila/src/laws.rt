@@ -3,6 +3,7 @@ ghost use Rattle.ghouila.specs.Laws.{CamionEquivalence, ViolatorsHaveNoSigning};
 ghost use Rattle.ghouila.specs.DeterminantLaws.{GhouilaHouriEquivalence};
 ghost use Rattle.ghouila.specs.IntegralLaws.{BasicSolutionsAreIntegral, HoffmanKruskalEquivalence};
 ghost use Rattle.ghouila.specs.NetworkLaws.{NetworkMatricesAreUnimodular, ConetworkMatricesAreUnimodular};
+ghost use Rattle.ghouila.specs.PivotLaws.{PivotsUndoThemselves, PivotsTakeViolatorsBack, PivotsKeepViolators, PivotsDecide};
 ghost use Rattle.ghouila.specs.SignLaws.{SignsAreUnique, FaultFreeHasNoViolator};
 ghost use Rattle.ghouila.specs.SumLaws.{ReductionsKeepViolators, ComponentsDecide, PartsDecide, OneSumsHaveNone, TwoSeparationsDecide, TwoSumsHaveNone, ThreeSeparationsDecide, CornersDecide, ThreeSumsHaveNone};
 
@@ -57,6 +58,16 @@ pub fn three_sum_free()
     ensures separation { ThreeSeparationsDecide }
     ensures corners { CornersDecide }
     ensures sum { ThreeSumsHaveNone }
+{}
+
+/// A matrix is totally unimodular exactly where its pivot at a nonzero has entries -1, 0 and 1 alone and is (Schrijver,
+/// chapter 19; Truemper, Matroid Decomposition). A violator of the pivot is one of the matrix on the same lines, but perhaps
+/// the pivot's row and column, and the same pivot twice gives the matrix again.
+pub fn pivot_free()
+    ensures undo { PivotsUndoThemselves }
+    ensures lines { PivotsTakeViolatorsBack }
+    ensures violators { PivotsKeepViolators }
+    ensures unimodular { PivotsDecide }
 {}
 
 /// Ghouila-Houri's theorem (Schrijver, chapter 19): each set of rows has a signing exactly where each square

@@ -21,6 +21,8 @@ mod matrices;
 #[cfg(test)]
 mod networks;
 #[cfg(test)]
+mod pivoted;
+#[cfg(test)]
 mod r10;
 #[cfg(test)]
 mod reductions;

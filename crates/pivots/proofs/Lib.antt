@@ -1,0 +1,5 @@
+pub mod ChosenLines
+pub mod RemainderTests
+pub mod LinesBefore
+pub mod MultipliedRows
+pub mod MadePivots

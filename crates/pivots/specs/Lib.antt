@@ -1,0 +1,2 @@
+pub mod ChosenLines
+pub mod Pivoted

@@ -1,0 +1,97 @@
+ghost use Rattle.std.specs.Prelude.{◌≡◌, ◌≢◌, ◌<◌, ◌≤◌, ◌++◌, ◌↔◌, [], ◌∷◌, if◌then◌else◌, IfOk, IsTrue, OnOk, pos, filter, nat_lt, length, ℕ};
+ghost use Rattle.std.specs.List.Sorted.{IsStrictlyIncreasing};
+ghost use Rattle.cmr_base.specs.Indices.{IsAbove};
+ghost use Rattle.cmr_base.specs.LineSets.{AllBelow, IsRowSet, IsColumnSet};
+ghost use Rattle.cmr_base.specs.Matrix.{height, entry};
+ghost use Rattle.cmr_base.specs.Members.{IsIn};
+ghost use Rattle.cmr_base.specs.Sums.{IsOdd};
+ghost use Rattle.cmr_base.specs.Violator.{IsViolator};
+ghost use Rattle.ghouila.specs.PivotLaws.{pivot_at, AreLinesBefore};
+ghost use Rattle.pivots.specs.ChosenLines.{with_line};
+
+use cmr_base::{Indices, LineSet, MAX_COLUMNS, MAX_ROWS, Matrix, Memory};
+use std::alloc::Global;
+
+/// From a violator of the pivot at a nonzero one of the matrix, on the same lines but perhaps the pivot's. Its row is there
+/// where the violator's rows have an odd sum in its column, and its column where the violator's columns have one in its row.
+pub fn violator_before(
+    alloc: Global,
+    matrix: &Matrix,
+    row: u32,
+    column: u32,
+    lines: &LineSet,
+) -> Result<LineSet, Memory>
+    requires row { row < height matrix.now }
+    requires column { column < matrix.now.width }
+    requires nonzero { entry matrix.now row column ≢ pos 0 }
+    requires rows { AllBelow (height matrix.now) lines.now.rows }
+    requires columns { AllBelow matrix.now.width lines.now.columns }
+    ensures lines { IfOk result (λ before. AreLinesBefore matrix.now row column lines.now.rows lines.now.columns before.rows before.columns) }
+    ensures row_set { IfOk result (λ before. IsRowSet matrix.now before.rows) }
+    ensures column_set { IfOk result (λ before. IsColumnSet matrix.now before.columns) }
+    ensures violator { IsViolator (entry (pivot_at matrix.now row column)) lines.now.rows lines.now.columns → IfOk result (λ before. IsViolator (entry matrix.now) before.rows before.columns) }
+{
+    let rows = lines.rows.as_slice();
+    let columns = lines.columns.as_slice();
+    prove!(rows.len() <= matrix.rows() as usize);
+    prove!(columns.len() <= matrix.columns() as usize);
+    let has_row = is_odd(matrix.column_sum(rows, column));
+    let has_column = is_odd(matrix.row_sum(row, columns));
+    Ok(LineSet {
+        rows: with_line(alloc, &lines.rows, row, has_row)?,
+        columns: with_line(alloc, &lines.columns, column, has_column)?,
+    })
+}
+
+fn is_odd(sum: i32) -> bool
+    ensures { IsTrue result ↔ IsOdd sum }
+{
+    sum.rem_euclid(2) == 1
+}
+
+// The set with a line, or without it.
+fn with_line(alloc: Global, lines: &Indices, line: u32, has: bool) -> Result<Indices, Memory>
+    ensures lines { IfOk result (λ made. made ≡ with_line lines.now line has) }
+    ensures rising { IfOk result IsStrictlyIncreasing }
+{
+    let mut made = lines_up_to(alloc, lines, line, has)?;
+    push_above(&mut made, lines, line)?;
+    let _count = made.len();
+    Ok(made)
+}
+
+// The lines below a line, and that line or not.
+fn lines_up_to(alloc: Global, lines: &Indices, line: u32, has: bool) -> Result<Indices, Memory>
+    ensures { IfOk result (λ made. made ≡ filter (λ other. nat_lt other line) lines.now ++ (if has then line ∷ [] else [])) }
+{
+    let mut made = lines_below(alloc, lines, line)?;
+    if has {
+        made.push(line)?;
+    }
+    Ok(made)
+}
+
+fn lines_below(alloc: Global, lines: &Indices, bound: u32) -> Result<Indices, Memory>
+    ensures { IfOk result (λ made. made ≡ filter (λ line. nat_lt line bound) lines.now) }
+{
+    let mut made = Indices::new(alloc);
+    for line in lines.as_slice() {
+        if *line < bound {
+            made.push(*line)?;
+        }
+    }
+    Ok(made)
+}
+
+// Adds the lines above a bound to lines up to it.
+fn push_above(made: &mut Indices, lines: &Indices, bound: u32) -> Result<(), Memory>
+    requires { (line : ℕ) → IsIn line made.old → line ≤ bound }
+    ensures { OnOk result (made.new ≡ made.old ++ filter (λ line. nat_lt bound line) lines.now) }
+{
+    for line in lines.as_slice() {
+        if *line > bound {
+            made.push(*line)?;
+        }
+    }
+    Ok(())
+}

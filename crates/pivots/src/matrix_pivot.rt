@@ -1,0 +1,87 @@
+ghost use Rattle.std.specs.Prelude.{◌≡◌, ◌≢◌, ◌<◌, ◌≤◌, [], ◌∷◌, IfOk, pos, ℕ};
+ghost use Rattle.std.specs.List.Sorted.{IsStrictlyIncreasing};
+ghost use Rattle.std.specs.List.{AllByRecursion};
+ghost use Rattle.cmr_base.specs.LineSets.{AllBelow, IsRowSet, first_lines, without};
+ghost use Rattle.cmr_base.specs.Matrix.{height, entry, IsMatrix};
+ghost use Rattle.cmr_base.specs.Signing.{IsSign};
+ghost use Rattle.ghouila.specs.Pivot.{reduced, IsTernaryRow, KeepsOthers};
+ghost use Rattle.ghouila.specs.PivotLaws.{pivot_entry, pivot_at};
+ghost use Rattle.pivots.specs.ChosenLines.{two_lines};
+ghost use Rattle.pivots.specs.Pivoted.{IsPivoted};
+
+use cmr_base::{Indices, LineSet, Matrix, Memory, product};
+use ghouila::{first_square_violator, make_pivot};
+use std::alloc::Global;
+
+/// What the pivot at a nonzero of a matrix is.
+#[derive(Debug, Drop)]
+pub enum Pivoted {
+    /// The pivot, where its entries are -1, 0 and 1.
+    Ternary(Matrix),
+    /// A violator of the matrix where the pivot has a 2 or a -2: the pivot's row and column with those of the first one, row by row.
+    Violated(LineSet),
+}
+
+/// The pivot of a matrix at a nonzero, or a violator of two rows and two columns. It takes time for each nonzero of the
+/// row in each row with a nonzero in the column, and a copy of the matrix.
+pub fn pivot(alloc: Global, matrix: &Matrix, row: u32, column: u32) -> Result<Pivoted, Memory>
+    requires row { row < height matrix.now }
+    requires column { column < matrix.now.width }
+    requires nonzero { entry matrix.now row column ≢ pos 0 }
+    ensures { IfOk result (IsPivoted matrix.now row column) }
+{
+    let others = other_rows(alloc, matrix, row)?;
+    let left = others.as_slice();
+    if let Some(two) = first_square_violator(matrix, left, row, column) {
+        return Ok(Pivoted::Violated(LineSet {
+            rows: two_lines(alloc, row, two.row)?,
+            columns: two_lines(alloc, column, two.column)?,
+        }));
+    }
+    let mut work = copy_of(alloc, matrix)?;
+    make_pivot(&mut work, left, row, column);
+    multiply_row(&mut work, row, column);
+    Ok(Pivoted::Ternary(work))
+}
+
+fn other_rows(alloc: Global, matrix: &Matrix, row: u32) -> Result<Indices, Memory>
+    ensures others { IfOk result (λ others. others ≡ without (first_lines (height matrix.now)) row) }
+    ensures shape { IsMatrix matrix.now }
+{
+    let lines = LineSet::all(alloc, matrix.rows(), 0)?;
+    Ok(lines.without_row(alloc, row)?.rows)
+}
+
+fn copy_of(alloc: Global, matrix: &Matrix) -> Result<Matrix, Memory>
+    ensures { IfOk result (λ work. work ≡ matrix.now) }
+{
+    let lines = LineSet::all(alloc, matrix.rows(), matrix.columns())?;
+    matrix.part(alloc, &lines)
+}
+
+// Multiplies the other entries of a row by one of them.
+fn multiply_row(work: &mut Matrix, row: u32, column: u32)
+    requires row { row < height work.old }
+    requires column { column < work.old.width }
+    ensures row { (j : ℕ) → j < work.old.width → entry work.new row j ≡ pivot_entry (entry work.old) row column row j }
+    ensures others { KeepsOthers work.old work.new (row ∷ []) }
+    ensures shape { IsMatrix work.new }
+{
+    let factor = work.entry(row, column);
+    for other in 0..work.columns() {
+        if other != column {
+            let multiple = product(factor, work.entry(row, other));
+            work.set(row, other, multiple);
+        }
+    }
+}
+
+fn two_lines(alloc: Global, one: u32, other: u32) -> Result<Indices, Memory>
+    requires { one ≢ other }
+    ensures { IfOk result (λ lines. lines ≡ two_lines one other) }
+{
+    let mut lines = Indices::new(alloc);
+    lines.push(one.min(other))?;
+    lines.push(one.max(other))?;
+    Ok(lines)
+}
