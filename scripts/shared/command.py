@@ -6,6 +6,8 @@ Texts are UTF-8, and a name in another encoding passes with its bytes as they ar
 from __future__ import annotations
 
 import os
+import shutil
+import signal
 import sys
 from collections.abc import Callable
 from pathlib import Path
@@ -28,6 +30,36 @@ def end(work: Callable[[], None]) -> int:
         os.dup2(os.open(os.devnull, os.O_WRONLY), sys.stdout.fileno())
         return 1
     return 0
+
+
+def end_on_signals() -> None:
+    """Has the signals that end a work leave it as an exception does, so that what it began is taken back."""
+
+    def leave(number: int, _: object) -> None:
+        sys.exit(128 + number)
+
+    signal.signal(signal.SIGINT, leave)
+    signal.signal(signal.SIGTERM, leave)
+    # A work under nohup goes on.
+    if signal.getsignal(signal.SIGHUP) is not signal.SIG_IGN:
+        signal.signal(signal.SIGHUP, leave)
+
+
+def ignore_signals() -> None:
+    """What is done from here on is done whole."""
+    for it in (signal.SIGHUP, signal.SIGINT, signal.SIGTERM):
+        signal.signal(it, signal.SIG_IGN)
+
+
+def words_of(fault: OSError) -> str:
+    """What the system refused, in one line."""
+    if isinstance(fault, shutil.Error) and isinstance(fault.args[0], list):
+        _, path, why = fault.args[0][0]
+        return f"{path}: {why}"
+    if fault.filename == "rt":
+        return "there is no rt on the PATH: the kit of Rattle has it"
+    path = fault.filename2 or fault.filename
+    return f"{path}: {fault.strerror}" if path else str(fault.strerror or fault)
 
 
 def read_text(name: str) -> str:

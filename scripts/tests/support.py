@@ -7,7 +7,8 @@ import tempfile
 import unittest
 from pathlib import Path
 
-TOP = Path(__file__).resolve().parents[2]
+from building.clone import BUILT, TOP, is_fresh
+
 PYTHON = "/usr/bin/python3"
 
 
@@ -15,16 +16,6 @@ def _has_swiglpk():
     return (
         shutil.which(PYTHON) and subprocess.run([PYTHON, "-c", "import swiglpk"], capture_output=True).returncode == 0
     )
-
-
-def _is_built():
-    """Whether the program is there and no source is newer, so that ./cmr runs it as it is."""
-    program = TOP / "crates" / "cmr" / "out" / "cmr"
-    if not program.exists():
-        return False
-    built = program.stat().st_mtime
-    sources = (it for it in (TOP / "crates").rglob("*.rt") if "out" not in it.parts)
-    return all(it.stat().st_mtime <= built for it in sources)
 
 
 def _needs(tool, found):
@@ -36,8 +27,11 @@ def _needs(tool, found):
 needs_python = _needs(PYTHON, shutil.which(PYTHON))
 needs_swiglpk = _needs("python3-swiglpk", _has_swiglpk())
 needs_glpsol = _needs("glpsol", shutil.which("glpsol"))
+needs_mandoc = _needs("mandoc", shutil.which("mandoc"))
+needs_man = _needs("man", shutil.which("man"))
+needs_zsh = _needs("zsh", shutil.which("zsh"))
 needs_dot = _needs("dot", shutil.which("dot"))
-needs_program = _needs("the program cmr, built of these sources,", _is_built())
+needs_program = _needs("the program cmr, built of these sources,", is_fresh(BUILT))
 
 
 class ScriptTest(unittest.TestCase):
@@ -54,7 +48,7 @@ class ScriptTest(unittest.TestCase):
 
     def run_program(self, *words):
         """A run of the built program."""
-        command = [TOP / "crates" / "cmr" / "out" / "cmr", *words]
+        command = [BUILT, *words]
         return subprocess.run(command, capture_output=True, text=True, cwd=self.folder, check=False)
 
     def output(self, script, *words, text=""):

@@ -1,0 +1,209 @@
+"""What an installation puts below its prefix, all of it or nothing, and how it is taken away."""
+
+from __future__ import annotations
+
+import hashlib
+import os
+import shutil
+from collections.abc import Callable, Iterator
+from contextlib import suppress
+from dataclasses import dataclass, field
+from pathlib import Path
+
+from building.clone import BUILT, TOP
+from shared.command import BadInput, ignore_signals
+
+FOLDER = "lib/cmr"
+LIST = f"{FOLDER}/installed"
+# Where files are written before they are put in their places.
+NEW = f"{FOLDER}/.new"
+FIRST_LINE = "cmr-installed 1"
+
+SCRIPTS = {
+    "cmr-from-model": "model_to_matrix",
+    "cmr-names": "name_lines",
+    "cmr-graph-to-dot": "graph_to_dot",
+    "cmr-tree-to-dot": "tree_to_dot",
+}
+
+
+@dataclass(frozen=True)
+class Item:
+    """A file below the prefix, with the file that it is a copy of, or a link with the place where it leads."""
+
+    path: str
+    source: Path | None = None
+    leads_to: str = ""
+
+    def write(self, target: Path) -> None:
+        if self.source is None:
+            target.symlink_to(self.leads_to)
+        else:
+            shutil.copyfile(self.source, target)
+            target.chmod(0o755 if os.access(self.source, os.X_OK) else 0o644)
+
+
+def items() -> list[Item]:
+    """All that is put."""
+    scripts = TOP / "scripts"
+    shared = sorted((scripts / "shared").glob("*.py"))
+    return [
+        Item("bin/cmr", BUILT),
+        *(Item(f"bin/{name}", leads_to=f"../{FOLDER}/{script}") for name, script in SCRIPTS.items()),
+        *(Item(f"{FOLDER}/{it}", scripts / it) for it in SCRIPTS.values()),
+        *(Item(f"{FOLDER}/shared/{it.name}", it) for it in shared),
+        Item("share/man/man1/cmr.1", TOP / "docs" / "cmr.1"),
+        Item("share/bash-completion/completions/cmr", scripts / "completions" / "cmr.bash"),
+        Item("share/zsh/site-functions/_cmr", scripts / "completions" / "_cmr"),
+    ]
+
+
+def sum_of(path: Path) -> str:
+    """What tells two files or links apart."""
+    if path.is_symlink():
+        return f"link:{os.readlink(path)}"
+    return hashlib.sha256(path.read_bytes()).hexdigest() if path.is_file() else "folder"
+
+
+@dataclass
+class Listed:
+    """The files that were put, each with the sums that it may have, and the folders that were made for them."""
+
+    sums: dict[str, set[str]] = field(default_factory=dict)
+    folders: list[str] = field(default_factory=list)
+
+    def add(self, other: Listed) -> Listed:
+        paths = {**self.sums, **other.sums}
+        sums = {it: self.sums.get(it, set()) | other.sums.get(it, set()) for it in paths}
+        return Listed(sums, list(dict.fromkeys([*self.folders, *other.folders])))
+
+    def is_ours(self, prefix: Path, path: str) -> bool:
+        return os.path.lexists(prefix / path) and sum_of(prefix / path) in self.sums.get(path, ())
+
+    def write(self, file: Path) -> None:
+        lines = [f"{it} {path}" for path, sums in self.sums.items() for it in sorted(sums)]
+        lines += [f"made {it}" for it in self.folders]
+        file.write_text("\n".join([FIRST_LINE, *lines, ""]), encoding="utf-8")
+
+
+def read_list(prefix: Path) -> Listed | None:
+    """What is installed below a prefix, or nothing."""
+    try:
+        first, *lines = (prefix / LIST).read_text(encoding="utf-8").splitlines() or [""]
+    except (FileNotFoundError, NotADirectoryError):
+        return None
+    if first != FIRST_LINE:
+        raise BadInput(f"{prefix / LIST} is there already, and is not of cmr")
+    found = Listed()
+    for line in lines:
+        word, _, path = line.partition(" ")
+        if word == "made":
+            found.folders.append(path)
+        else:
+            found.sums.setdefault(path, set()).add(word)
+    return found
+
+
+def refuse_what_is_there(prefix: Path) -> None:
+    """Refuses a prefix below which not all can be put."""
+    listed = read_list(prefix) or Listed()
+    for it in items():
+        target = prefix / it.path
+        _refuse_folder(target.parent)
+        if os.path.lexists(target) and not listed.is_ours(prefix, it.path):
+            raise BadInput(f"{target} is there already, and was not put there by this script")
+
+
+def _refuse_folder(folder: Path) -> None:
+    """Refuses a folder that cannot be made, or in which nothing can be made."""
+    while not os.path.lexists(folder):
+        folder = folder.parent
+    if not folder.is_dir():
+        raise BadInput(f"{folder} is no folder")
+    if not os.access(folder, os.W_OK | os.X_OK):
+        raise BadInput(f"cannot write in {folder}")
+
+
+class Installation:
+    """One installation. What it has done is undone where it fails."""
+
+    def __init__(self, prefix: Path) -> None:
+        self._prefix = prefix
+        self._new = prefix / NEW
+        self._undo: list[Callable[[], object]] = []
+
+    def put(self) -> None:
+        try:
+            self._put()
+        except BaseException:
+            ignore_signals()
+            for it in reversed(self._undo):
+                it()
+            raise
+        shutil.rmtree(self._new)
+
+    def _put(self) -> None:
+        before = read_list(self._prefix) or Listed()
+        made = [it for file in items() for it in self._make_folders((self._prefix / file.path).parent)]
+        shutil.rmtree(self._new, ignore_errors=True)
+        self._undo.append(lambda: shutil.rmtree(self._new, ignore_errors=True))
+        self._new.mkdir()
+        written = {it.path: self._new / str(number) for number, it in enumerate(items())}
+        for item in items():
+            item.write(written[item.path])
+        now = Listed({path: {sum_of(file)} for path, file in written.items()}, before.folders + made)
+        before.add(now).write(self._new / "all")
+        now.write(self._new / "list")
+        ignore_signals()
+        # The list of all comes first, so that what is put can be told from other files wherever this ends.
+        self._replace(self._new / "all", LIST)
+        for path, file in written.items():
+            self._replace(file, path)
+        for path in before.sums.keys() - now.sums.keys():
+            if before.is_ours(self._prefix, path):
+                self._set_aside(path)
+        self._replace(self._new / "list", LIST)
+
+    def _make_folders(self, folder: Path) -> Iterator[str]:
+        """Makes a folder with those above it that are lacking, and gives them, as they lie from the prefix."""
+        if folder.is_dir():
+            return
+        yield from self._make_folders(folder.parent)
+        folder.mkdir()
+        self._undo.append(folder.rmdir)
+        yield os.path.relpath(folder, self._prefix)
+
+    def _replace(self, new: Path, path: str) -> None:
+        target = self._prefix / path
+        self._set_aside(path)
+        new.rename(target)
+        self._undo.append(target.unlink)
+
+    def _set_aside(self, path: str) -> None:
+        target = self._prefix / path
+        if os.path.lexists(target):
+            aside = self._new / f"old-{len(self._undo)}"
+            target.rename(aside)
+            self._undo.append(lambda: aside.rename(target))
+
+
+def take_away(prefix: Path) -> None:
+    """Takes away what was put, and the folders that were made for it where nothing else is in them."""
+    listed = read_list(prefix)
+    if listed is None:
+        raise BadInput(f"cmr is not installed in {prefix}")
+    there = [it for it in listed.sums if os.path.lexists(prefix / it)]
+    for path in there:
+        if not listed.is_ours(prefix, path):
+            raise BadInput(f"{prefix / path} was changed since it was put there, so nothing is taken away")
+        _refuse_folder((prefix / path).parent)
+    ignore_signals()
+    for path in there:
+        (prefix / path).unlink()
+    shutil.rmtree(prefix / NEW, ignore_errors=True)
+    # What Python keeps of the scripts that were run.
+    shutil.rmtree(prefix / FOLDER / "shared" / "__pycache__", ignore_errors=True)
+    (prefix / LIST).unlink()
+    for folder in sorted(listed.folders, key=lambda it: -len((prefix / it).resolve().parts)):
+        with suppress(OSError):
+            (prefix / folder).resolve().rmdir()

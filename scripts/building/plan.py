@@ -1,0 +1,79 @@
+"""In which order crates are built side by side, with how many processors each, and how long that takes."""
+
+from __future__ import annotations
+
+from collections.abc import Collection, Iterator, Mapping
+from dataclasses import dataclass
+from pathlib import Path
+
+SECONDS = Path(__file__).with_name("seconds.txt")
+UNKNOWN = 60.0
+# More jobs than these hardly shorten a proof.
+MOST_JOBS = 4
+# The share of a proof that several jobs divide.
+DIVIDED = 0.85
+
+
+def read_seconds(file: Path = SECONDS) -> dict[str, float]:
+    """The processor seconds of the crates' proofs, as a file keeps them."""
+    lines = (it.split() for it in file.read_text(encoding="utf-8").splitlines() if not it.startswith("#"))
+    return {name: float(seconds) for name, seconds in lines}
+
+
+def time_with(seconds: float, jobs: int) -> float:
+    """How long a proof takes that takes so many seconds of one processor."""
+    return seconds * (1 - DIVIDED + DIVIDED / jobs)
+
+
+@dataclass
+class Running:
+    """A crate that is being built: its jobs, and the seconds since it began."""
+
+    jobs: int
+    gone: float = 0.0
+
+
+class Plan:
+    """Crates with those that each uses, and the processor seconds of each."""
+
+    def __init__(self, uses: Mapping[str, Collection[str]], seconds: Mapping[str, float]) -> None:
+        self.uses = uses
+        self.seconds = {it: seconds.get(it, UNKNOWN) for it in uses}
+        self._ways: dict[str, float] = {}
+        for name in uses:
+            self._find_way(name)
+
+    def _find_way(self, name: str) -> float:
+        """The seconds of the longest chain of crates, each used by the next, that begins with this one."""
+        if name not in self._ways:
+            above = [other for other, used in self.uses.items() if name in used]
+            self._ways[name] = self.seconds[name] + max(map(self._find_way, above), default=0.0)
+        return self._ways[name]
+
+    def next(self, built: Collection[str], running: Collection[str], free: int) -> Iterator[tuple[str, int]]:
+        """The crates to begin with so many free processors, and the jobs of each.
+
+        Those with the longest ways come first. Each gets one processor, and the first of them those that the others leave.
+        """
+        done = set(built)
+        ready = [it for it in self.uses if it not in done and it not in running and done.issuperset(self.uses[it])]
+        ready.sort(key=lambda it: -self._ways[it])
+        while ready and free > 0:
+            jobs = min(MOST_JOBS, max(1, free - len(ready) + 1))
+            yield ready.pop(0), jobs
+            free -= jobs
+
+    def time_left(self, built: Collection[str], running: Mapping[str, Running], processors: int) -> float:
+        """The seconds until all is built, where each proof takes as long as it is said to."""
+        done, now = set(built), 0.0
+        ends = {it: max(time_with(self.seconds[it], how.jobs) - how.gone, 0.0) for it, how in running.items()}
+        jobs = {it: how.jobs for it, how in running.items()}
+        while len(done) < len(self.uses):
+            for name, given in list(self.next(done, ends, processors - sum(jobs[it] for it in ends))):
+                ends[name], jobs[name] = now + time_with(self.seconds[name], given), given
+            if not ends:
+                break
+            first = min(ends, key=lambda it: ends[it])
+            now = ends.pop(first)
+            done.add(first)
+        return now

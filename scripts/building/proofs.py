@@ -1,0 +1,155 @@
+"""Proves and builds the crates of a plan side by side."""
+
+from __future__ import annotations
+
+import math
+import os
+import re
+import subprocess
+import time
+from dataclasses import dataclass
+from pathlib import Path
+from typing import BinaryIO
+
+from building.clone import BUILT, PROGRAM, crates_below
+from building.plan import Plan, Running, read_seconds, time_with
+from building.progress import Progress
+from building.work_folders import Busy, WorkFolders
+
+LAST_LINES = 20
+# What a proof with one job may take.
+MEMORY_OF_JOB = 3 * 1024**3
+# A crate that took less was built before.
+QUICK_SECONDS = 5.0
+# A crate that took a smaller share of its time had parts of its proof from before.
+LEAST_PACE = 0.4
+
+
+class NotBuilt(Exception):
+    """A crate did not pass. The text names it, with the last lines that it said."""
+
+
+@dataclass
+class Proof:
+    """A run of `rt` on a crate."""
+
+    process: subprocess.Popen[bytes]
+    said: BinaryIO
+    jobs: int
+    began: float
+
+    def gone(self) -> float:
+        return time.monotonic() - self.began
+
+
+def processors() -> int:
+    """The processors to use: those that there are, and no more than have memory for a job."""
+    found = re.search(r"MemAvailable:\s+(\d+) kB", Path("/proc/meminfo").read_text(encoding="ascii"))
+    memory = int(found[1]) * 1024 if found else MEMORY_OF_JOB
+    return max(1, min(len(os.sched_getaffinity(0)), memory // MEMORY_OF_JOB))
+
+
+class Build:
+    """A build of all crates of a plan."""
+
+    def __init__(self, plan: Plan, folders: WorkFolders, progress: Progress) -> None:
+        self._plan = plan
+        self._folders = folders
+        self._progress = progress
+        self._processors = processors()
+        self._built: list[str] = []
+        self._running: dict[str, Proof] = {}
+        self._began = time.monotonic()
+        self._waits: str | None = None
+        # The time that proofs took, and that the plan says of them.
+        self._taken, self._planned = 0.0, 0.0
+
+    def build_all(self) -> None:
+        try:
+            while len(self._built) < len(self._plan.uses):
+                self._show(self._begin_ready())
+                time.sleep(0.1)
+                self._end_finished()
+        finally:
+            for name, proof in self._running.items():
+                proof.process.terminate()
+                proof.process.wait()
+                self._folders.give_back(name)
+
+    def _below(self, name: str) -> set[str]:
+        used = self._plan.uses[name]
+        return set(used).union(*map(self._below, used))
+
+    def _begin_ready(self) -> str | None:
+        """Begins what is ready. Gives the folder of which another `rt` has to go first, where there is one."""
+        free = self._processors - sum(it.jobs for it in self._running.values())
+        try:
+            for name, jobs in list(self._plan.next(self._built, self._running, free)):
+                self._folders.fill(name, self._below(name))
+                try:
+                    self._begin(name, jobs)
+                except BaseException:
+                    self._folders.give_back(name)
+                    raise
+        except Busy as fault:
+            return str(fault)
+        return None
+
+    def _begin(self, name: str, jobs: int) -> None:
+        folder = self._folders.crate(name)
+        said = (folder.parent.parent / "said").open("w+b")
+        command = ["rt", "run" if name == PROGRAM else "lib", "--jobs", str(jobs)]
+        process = subprocess.Popen(
+            command, cwd=folder, stdin=subprocess.DEVNULL, stdout=said, stderr=subprocess.STDOUT
+        )
+        self._running[name] = Proof(process, said, jobs, time.monotonic())
+
+    def _end_finished(self) -> None:
+        for name, proof in list(self._running.items()):
+            pid, status, used = os.wait4(proof.process.pid, os.WNOHANG)
+            if pid:
+                proof.process.returncode = os.waitstatus_to_exitcode(status)
+                del self._running[name]
+                self._end(name, proof, used.ru_utime + used.ru_stime)
+
+    def _end(self, name: str, proof: Proof, seconds: float) -> None:
+        self._folders.give_back(name)
+        # A program that is built is run too, and its status is then its own.
+        if not (BUILT.exists() if name == PROGRAM else proof.process.returncode == 0):
+            proof.said.seek(0)
+            said = proof.said.read().decode(errors="replace").splitlines()
+            raise NotBuilt("\n".join([f"{name} was not built", *said[-LAST_LINES:]]))
+        proof.said.close()
+        self._built.append(name)
+        if proof.gone() > QUICK_SECONDS:
+            self._taken += proof.gone()
+            self._planned += time_with(self._plan.seconds[name], proof.jobs)
+        if not self._progress.is_drawn:
+            self._progress.say(f"{self._state()}: {name} is proved ({seconds:.0f} processor seconds)")
+
+    def _state(self) -> str:
+        """How many crates are built, and the minutes gone and left."""
+        pace = max(self._taken / self._planned, LEAST_PACE) if self._planned else 1.0
+        running = {name: Running(it.jobs, it.gone() / pace) for name, it in self._running.items()}
+        left = self._plan.time_left(self._built, running, self._processors) * pace
+        gone = time.monotonic() - self._began
+        crates = f"{len(self._built)} of {len(self._plan.uses)} crates"
+        return f"{crates}, {gone // 60:.0f} min gone, about {math.ceil(left / 60)} min left"
+
+    def _show(self, waits_for: str | None) -> None:
+        waits = f"waiting for another rt in {waits_for}" if waits_for else None
+        if self._progress.is_drawn:
+            self._progress.show(f"{self._state()}: {', '.join([*self._running, *filter(None, [waits])])}")
+        elif waits and waits != self._waits:
+            self._progress.say(waits)
+        self._waits = waits
+
+
+def build(progress: Progress) -> None:
+    """Builds the program. Raises `NotBuilt`, or `OSError` where the system refuses something."""
+    folders = WorkFolders()
+    plan = Plan(crates_below(PROGRAM), read_seconds())
+    progress.show("waiting for another build of this clone")
+    with folders.opened():
+        BUILT.unlink(missing_ok=True)
+        Build(plan, folders, progress).build_all()

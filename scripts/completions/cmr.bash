@@ -1,0 +1,49 @@
+# Completions of cmr for bash: the tools, the options of each that do not stand there yet, and what stands behind an option.
+# Where nothing is offered, names of files are.
+
+_cmr_options()
+{
+    case $1 in
+        tu) printf '%s\n' -i --lines -w -D -E ;;
+        regular) printf '%s\n' -i --lines -w -D -E -M -C ;;
+        series-parallel) printf '%s\n' -i -b -N -S -R ;;
+        graphic | network) printf '%s\n' -i -t -N -G -c ;;
+        generate) printf '%s\n' --lines -w -M ;;
+        check | sign) printf '%s\n' -i ;;
+        upgrade) printf '%s\n' -D ;;
+        camion) printf '%s\n' -i -E ;;
+        balanced) printf '%s\n' -i --lines -w -E ;;
+        parts) printf '%s\n' -i -A -B ;;
+        compose) printf '%s\n' -i -M ;;
+    esac
+}
+
+_cmr_words()
+{
+    local word=${COMP_WORDS[COMP_CWORD]} before=${COMP_WORDS[COMP_CWORD - 1]} it
+    case "$COMP_CWORD $before" in
+        "1 "*) echo tu regular series-parallel graphic network generate check upgrade camion sign balanced parts compose ;;
+        *" -i") echo dense sparse ;;
+        *" --lines") echo {0..24} ;;
+        *" -w") echo {1..64} ;;
+        *" -"[ABCDEGMNRS]) ;;
+        *)
+            if [[ $word == -* ]]; then
+                for it in $(_cmr_options "${COMP_WORDS[1]}"); do
+                    [[ " ${COMP_WORDS[*]:1:COMP_CWORD-1} " == *" $it "* ]] || printf '%s\n' "$it"
+                done
+            elif [[ "$COMP_CWORD $before" == "2 generate" ]]; then
+                echo network twosum
+            elif [[ "$COMP_CWORD $before" == "2 compose" ]]; then
+                echo one two delta y mixed concentrated
+            fi
+            ;;
+    esac
+}
+
+_cmr()
+{
+    mapfile -t COMPREPLY < <(compgen -W "$(_cmr_words)" -- "${COMP_WORDS[COMP_CWORD]}")
+}
+
+complete -o bashdefault -o default -F _cmr cmr

@@ -1,0 +1,36 @@
+"""The tools with their words, as docs/FORMATS.md has them."""
+
+import re
+
+from tests.support import TOP
+
+FORMATS = (TOP / "docs" / "FORMATS.md").read_text(encoding="utf-8")
+SECTION = FORMATS.partition("## The command line")[2].partition("\n## ")[0]
+
+
+def _rows():
+    for tools, words in re.findall(r"^\| (`.*?`) \| (`.*?)\s*\|$", SECTION, re.M):
+        yield re.findall(r"`([\w-]+)`", tools), words.replace("\\|", "|")
+
+
+def _options(words):
+    """Each option with what stands behind it, or nothing."""
+    return dict(re.findall(r"(?<![\w-])(--?[A-Za-z]+)(?: ([\w|]+))?", words))
+
+
+# For each tool its options, with what stands behind each of them.
+OPTIONS = {tool: _options(words) for tools, words in _rows() for tool in tools}
+
+# The words that a tool takes in one place: KIND of `generate` and SUM of `compose`.
+KINDS = re.findall(r"`(\w+)`", re.search(r"KIND is (.*?),", SECTION)[1])
+SUMS = re.findall(r"`(\w+)`", re.search(r"SUM is (.*?)\.", SECTION, re.S)[1])
+
+# The ranges of the numbers, in the words of the text.
+RANGES = {
+    "--lines": ("0 to 24", "14 where it is left out"),
+    "-w": ("1 to 64", "1 where it is left out"),
+    "SIZE": ("1 to 1000", "at most 249"),
+    "NUMBER": ("0 to 2147483647",),
+}
+
+STATUSES = sorted({int(it) for it in re.findall(r"\| (\d) \|$|^\| (\d) \|", FORMATS, re.M) for it in it if it})

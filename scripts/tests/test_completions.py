@@ -1,0 +1,103 @@
+"""The completions know the words of docs/FORMATS.md, in the shells themselves."""
+
+import re
+import subprocess
+
+from tests.command_line import KINDS, OPTIONS, SUMS
+from tests.support import TOP, ScriptTest, needs_zsh
+from tests.terminal import Terminal
+
+BASH = TOP / "scripts" / "completions" / "cmr.bash"
+ZSH = TOP / "scripts" / "completions" / "_cmr"
+
+# Offers what bash offers for the words of the command.
+OFFER = 'source "$0"; COMP_WORDS=(cmr "$@"); COMP_CWORD=$#; COMPREPLY=(); _cmr; printf "%s\\n" "${COMPREPLY[@]}"'
+
+# Prints what the completions of zsh hand to the shell for the words of the command.
+HAND_OVER = """_arguments() { print -l -- "$@" }; _describe() { print -l -- "${(@P)2}" }
+file=$1; shift; words=(cmr "$@"); CURRENT=$#words; source $file"""
+OF_ZSH = re.compile(r"^(?:\(.*?\))?(--?\w+)\[.*?\](?::\w+:(.*))?$")
+
+
+class BashTest(ScriptTest):
+    def offered(self, *words):
+        run = subprocess.run(["bash", "-c", OFFER, BASH, *words], capture_output=True, text=True, check=False)
+        self.assertEqual(run.stderr, "")
+        return run.stdout.split()
+
+    def test_tools(self):
+        self.assertEqual(self.offered(""), list(OPTIONS))
+        self.assertEqual(self.offered("s"), ["series-parallel", "sign"])
+
+    def test_options_of_each_tool(self):
+        for tool, options in OPTIONS.items():
+            with self.subTest(tool=tool):
+                self.assertEqual(sorted(self.offered(tool, "-")), sorted(options))
+
+    def test_what_stands_there_is_not_offered_again(self):
+        self.assertEqual(self.offered("regular", "-D", "tree", "--lines", "3", "-"), ["-i", "-w", "-E", "-M", "-C"])
+
+    def test_many_words(self):
+        words = ["regular", "-i", "sparse", "--lines", "3", "-w", "2", "-D", "tree", "-E", "fault"]
+        self.assertEqual(self.offered(*words, "-"), ["-M", "-C"])
+        self.assertEqual(self.offered(*words, "-M", ""), [])
+
+    def test_what_stands_behind_an_option(self):
+        for tool, options in OPTIONS.items():
+            for option, value in options.items():
+                with self.subTest(tool=tool, option=option):
+                    offered = self.offered(tool, option, "")
+                    if value in ("", "FILE"):
+                        self.assertEqual(offered, [])
+                    elif option == "--lines":
+                        self.assertEqual(offered, [str(it) for it in range(25)])
+                    elif option == "-w":
+                        self.assertEqual(offered, [str(it) for it in range(1, 65)])
+                    else:
+                        self.assertEqual(offered, value.split("|"))
+
+    def test_kinds_and_sums(self):
+        self.assertEqual(self.offered("generate", ""), KINDS)
+        self.assertEqual(self.offered("compose", ""), SUMS)
+        self.assertEqual(self.offered("check", ""), [])
+
+    def test_at_a_terminal(self):
+        self.write("a_matrix.txt", "")
+        shell = Terminal(["bash", "--norc", "--noprofile", "-i"], self.folder)
+        self.addCleanup(shell.close)
+        shell.type(f"source '{BASH}'; echo rea''dy\n")
+        shell.waits_for("ready")
+        shell.type("echo it is; cmr ser\t-S a_m\tgen\t")
+        shell.waits_for("cmr series-parallel -S a_matrix.txt gen")
+
+
+@needs_zsh
+class ZshTest(ScriptTest):
+    def handed(self, *words):
+        run = subprocess.run(["zsh", "-fc", HAND_OVER, "zsh", ZSH, *words], capture_output=True, text=True, check=False)
+        self.assertEqual(run.stderr, "")
+        return run.stdout.splitlines()
+
+    def test_tools(self):
+        self.assertEqual([it.partition(":")[0] for it in self.handed("")], list(OPTIONS))
+
+    def test_options_of_each_tool(self):
+        values = {"FILE": "_files", "L": "({0..24})", "N": "({1..64})", "dense|sparse": "(dense sparse)", "": ""}
+        for tool, options in OPTIONS.items():
+            with self.subTest(tool=tool):
+                found = [OF_ZSH.match(it) for it in self.handed(tool, "")]
+                found = {it[1]: it[2] or "" for it in found if it}
+                self.assertEqual(found, {option: values[value] for option, value in options.items()})
+
+    def test_kinds_and_sums(self):
+        self.assertIn(f":kind:({' '.join(KINDS)})", self.handed("generate", ""))
+        self.assertIn(f":sum:({' '.join(SUMS)})", self.handed("compose", ""))
+
+    def test_at_a_terminal(self):
+        self.write("a_matrix.txt", "")
+        shell = Terminal(["zsh", "-f", "-i"], self.folder)
+        self.addCleanup(shell.close)
+        shell.type(f"fpath=('{ZSH.parent}' $fpath); autoload -Uz compinit; compinit -u -D; echo rea''dy\n")
+        shell.waits_for("ready\r\n")
+        shell.type("cmr ser\t-S a_m\t")
+        shell.waits_for("a_matrix.txt")

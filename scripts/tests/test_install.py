@@ -1,0 +1,227 @@
+"""Tests of `scripts/install` over a stand-in for `rt`."""
+
+import os
+import resource
+import shutil
+import signal
+import subprocess
+import tempfile
+import time
+import unittest
+from pathlib import Path
+
+from building.clone import BUILT
+from tests.stand_in import SmallClone
+from tests.support import TOP, needs_man, needs_program, needs_python
+
+FILES = [
+    "bin/cmr",
+    "bin/cmr-from-model",
+    "bin/cmr-graph-to-dot",
+    "bin/cmr-names",
+    "bin/cmr-tree-to-dot",
+    "lib/cmr/graph_to_dot",
+    "lib/cmr/installed",
+    "lib/cmr/model_to_matrix",
+    "lib/cmr/name_lines",
+    *sorted(f"lib/cmr/shared/{it.name}" for it in (TOP / "scripts" / "shared").glob("*.py")),
+    "lib/cmr/tree_to_dot",
+    "share/bash-completion/completions/cmr",
+    "share/man/man1/cmr.1",
+    "share/zsh/site-functions/_cmr",
+]
+
+
+class InstallTest(unittest.TestCase):
+    def setUp(self):
+        folder = tempfile.TemporaryDirectory()
+        self.addCleanup(folder.cleanup)
+        self.clone = SmallClone(folder.name, {"low": ([], 1), "cmr": (["low"], 1)})
+        self.prefix = Path(folder.name) / "prefix"
+        self.prefix.mkdir()
+
+    def run_install(self, *words, **settings):
+        return self.clone.run("scripts/install", "--prefix", self.prefix, *words, **settings)
+
+    def install(self, *words):
+        run = self.run_install(*words)
+        self.assertEqual(run.returncode, 0, run.stderr)
+        return run
+
+    def refused(self, *words, **settings):
+        """The one line of what is refused, behind the lines of a build."""
+        run = self.run_install(*words, **settings)
+        self.assertEqual((run.returncode, run.stdout), (1, ""), run.stderr)
+        *building, last = run.stderr.splitlines()
+        for line in building:
+            self.assertRegex(line, "proving and building|processor seconds")
+        return last
+
+    def files(self):
+        return sorted(os.path.relpath(Path(at, it), self.prefix) for at, _, names in os.walk(self.prefix) for it in names)
+
+    def is_empty(self):
+        self.assertEqual(list(self.prefix.iterdir()), [])
+
+    def test_puts_all_and_takes_all_away(self):
+        run = self.install()
+        self.assertEqual(self.files(), sorted(FILES))
+        hint = f'to find it: export PATH="{self.prefix}/bin:$PATH"\n'
+        self.assertEqual(run.stdout, f"cmr is installed in {self.prefix}\n{hint}")
+        program = subprocess.run([self.prefix / "bin" / "cmr"], capture_output=True, text=True, check=False)
+        self.assertEqual((program.returncode, program.stdout), (2, "proved\n"))
+        again = self.install("--uninstall")
+        self.assertEqual((again.stdout, again.stderr), ("", ""))
+        self.is_empty()
+
+    def test_a_prefix_that_is_made_goes_again(self):
+        self.prefix = self.prefix / "new" / "prefix"
+        self.install()
+        self.install("--uninstall")
+        self.prefix = self.prefix.parents[1]
+        self.is_empty()
+
+    def test_what_others_put_there_stays(self):
+        for it in ("bin/other", "lib/cmr/other"):
+            (self.prefix / it).parent.mkdir(parents=True)
+            (self.prefix / it).touch()
+        self.install()
+        self.install("--uninstall")
+        self.assertEqual(self.files(), ["bin/other", "lib/cmr/other"])
+
+    @needs_python
+    def test_the_scripts_run_by_their_names(self):
+        self.install()
+        for name in ("cmr-from-model", "cmr-names", "cmr-graph-to-dot", "cmr-tree-to-dot"):
+            run = subprocess.run([self.prefix / "bin" / name, "--help"], capture_output=True, text=True, check=False)
+            self.assertEqual((run.returncode, run.stderr), (0, ""))
+            self.assertIn(f"usage: {name} ", run.stdout)
+        words = [self.prefix / "bin" / "cmr-names", "nothing"]
+        run = subprocess.run(words, capture_output=True, text=True, check=False)
+        self.assertEqual((run.returncode, run.stderr), (1, "cmr-names: cannot read nothing: No such file or directory\n"))
+        self.install("--uninstall")
+        self.is_empty()
+
+    @needs_man
+    def test_man_finds_the_page(self):
+        self.install()
+        words = ["man", "-M", self.prefix / "share" / "man", "-w", "cmr"]
+        run = subprocess.run(words, capture_output=True, text=True, check=False)
+        self.assertEqual(run.stdout, f"{self.prefix}/share/man/man1/cmr.1\n")
+
+    def test_a_later_version_takes_the_place_of_an_earlier_one(self):
+        self.install()
+        (self.clone.top / "docs" / "cmr.1").write_text("later", encoding="utf-8")
+        (self.clone.top / "scripts" / "shared" / "dot.py").unlink()
+        self.install()
+        self.assertEqual((self.prefix / "share" / "man" / "man1" / "cmr.1").read_text(encoding="utf-8"), "later")
+        self.assertEqual(self.files(), sorted({*FILES} - {"lib/cmr/shared/dot.py"}))
+        self.install("--uninstall")
+        self.is_empty()
+
+    def test_files_of_others_are_not_overwritten(self):
+        for path in ("bin/cmr", "share/zsh/site-functions/_cmr"):
+            with self.subTest(path=path):
+                target = self.prefix / path
+                target.parent.mkdir(parents=True)
+                target.write_text("other", encoding="utf-8")
+                line = f"install: {target} is there already, and was not put there by this script"
+                self.assertEqual(self.refused(), line)
+                self.assertEqual((self.files(), target.read_text(encoding="utf-8")), ([path], "other"))
+                shutil.rmtree(self.prefix / path.partition("/")[0])
+        self.assertFalse(self.clone.log.exists())
+
+    def test_what_was_changed_is_not_taken_away(self):
+        self.install()
+        target = self.prefix / "share" / "man" / "man1" / "cmr.1"
+        target.write_text("other", encoding="utf-8")
+        line = f"install: {target} was changed since it was put there, so nothing is taken away"
+        self.assertEqual(self.refused("--uninstall"), line)
+        self.assertEqual(self.files(), sorted(FILES))
+        target.unlink()
+        self.install("--uninstall")
+        self.is_empty()
+
+    def test_what_is_not_installed_is_not_taken_away(self):
+        self.assertEqual(self.refused("--uninstall"), f"install: cmr is not installed in {self.prefix}")
+        (self.prefix / "lib" / "cmr").mkdir(parents=True)
+        (self.prefix / "lib" / "cmr" / "installed").write_text("yes\n", encoding="utf-8")
+        line = f"install: {self.prefix}/lib/cmr/installed is there already, and is not of cmr"
+        self.assertEqual(self.refused("--uninstall"), line)
+        self.assertEqual(self.refused(), line)
+
+    def test_a_file_in_place_of_a_folder(self):
+        (self.prefix / "bin").touch()
+        self.assertEqual(self.refused(), f"install: {self.prefix}/bin is no folder")
+        self.prefix = self.prefix / "bin"
+        self.assertEqual(self.refused(), f"install: {self.prefix} is no folder")
+        self.assertEqual(self.refused("--uninstall"), f"install: cmr is not installed in {self.prefix}")
+        self.assertFalse(self.clone.log.exists())
+
+    @unittest.skipIf(os.geteuid() == 0, "root may write everywhere")
+    def test_without_the_right_to_write(self):
+        self.prefix.chmod(0o500)
+        self.assertEqual(self.refused(), f"install: cannot write in {self.prefix}")
+
+    def test_without_space_nothing_is_put(self):
+        self.clone.run("scripts/build")
+
+        def limited():
+            resource.setrlimit(resource.RLIMIT_FSIZE, (4000, 4000))
+
+        self.assertRegex(self.refused(preexec_fn=limited), r"^install: .*File too large$")
+        self.is_empty()
+
+    def test_an_upgrade_without_space_leaves_the_earlier_version(self):
+        self.install()
+        before = {it: (self.prefix / it).read_bytes() for it in self.files()}
+        (self.clone.top / "docs" / "cmr.1").write_text("x" * 100_000, encoding="utf-8")
+
+        def limited():
+            resource.setrlimit(resource.RLIMIT_FSIZE, (50_000, 50_000))
+
+        self.assertRegex(self.refused(preexec_fn=limited), r"^install: .*File too large$")
+        self.assertEqual({it: (self.prefix / it).read_bytes() for it in self.files()}, before)
+
+    def test_a_crate_that_fails(self):
+        (self.clone.crate("low") / "fails").touch()
+        run = self.run_install()
+        self.assertEqual(run.returncode, 1)
+        said = ["install: low was not built", "checking low", "error: low is not proved"]
+        self.assertEqual(run.stderr.splitlines()[-3:], said)
+        self.is_empty()
+
+    def test_an_interrupted_build(self):
+        build = self.clone.begin("scripts/install", "--prefix", self.prefix, sleep=20)
+        while not self.clone.logged():
+            time.sleep(0.05)
+        build.send_signal(signal.SIGINT)
+        said = build.communicate()[1].splitlines()
+        self.assertEqual((build.returncode, said[-1]), (1, "install: interrupted: nothing was changed"))
+        self.is_empty()
+
+
+@needs_program
+class OtherMachineTest(unittest.TestCase):
+    """What the program needs on a machine without the kit."""
+
+    NEEDS = {"libc.so.6": "/lib/x86_64-linux-gnu/libc.so.6", "ld-linux-x86-64.so.2": "/lib64/ld-linux-x86-64.so.2"}
+
+    def test_what_it_is_linked_with(self):
+        run = subprocess.run(["ldd", BUILT], capture_output=True, text=True, check=True)
+        names = {Path(line.split()[0]).name for line in run.stdout.splitlines()}
+        self.assertEqual(names - {"linux-vdso.so.1"}, set(self.NEEDS))
+
+    def test_in_a_root_with_nothing_else(self):
+        with tempfile.TemporaryDirectory() as name:
+            root = Path(name)
+            shutil.copy(BUILT, root / "cmr")
+            for it in self.NEEDS.values():
+                (root / it[1:]).parent.mkdir(parents=True, exist_ok=True)
+                shutil.copy(it, root / it[1:])
+            words = ["unshare", "--user", "--map-root-user", "--root", root]
+            if subprocess.run([*words, "/cmr"], capture_output=True, check=False).returncode != 2:
+                self.skipTest("this user may make no root")
+            run = subprocess.run([*words, "/cmr", "tu"], input="1 1\n1\n", capture_output=True, text=True, check=False)
+            printed = "totally unimodular: yes\n0 reduced 1x1\n1 empty 0x0\n"
+            self.assertEqual((run.returncode, run.stdout, run.stderr), (0, printed, ""))
