@@ -5,16 +5,18 @@ from __future__ import annotations
 import re
 from collections.abc import Iterator
 
-from .command import BadInput
-from .names import LineSet, Names
-from .trees import LEAVES, Node, Tree, parse_tree
+from .errors import BadInput
+from .lines import Line, Names
+from .nodes import LEAVES, Node
+from .printed import LINE_SET, line_set_of
+from .reductions import REDUCTION
+from .submatrices import Submatrix
+from .trees import Tree
+
+__all__ = ["named_text"]
 
 NUMBER = "[0-9]{1,9}"
-LINE = f"[rc]{NUMBER}"
-LIST = f"(?: {NUMBER})*"
-LINE_SET = re.compile(f"(?P<what>[a-z]+) rows(?P<rows>{LIST}) columns(?P<columns>{LIST})(?P<rest> sum -?{NUMBER})?")
-STEP = re.compile(f"({LINE}) (zero|unit|copy|negative)(?: ({LINE}))?")
-EDGE = re.compile(f"({NUMBER} {NUMBER}) ({LINE})")
+EDGE = re.compile(f"({NUMBER} {NUMBER}) ([rc]{NUMBER})")
 OUTLINE = re.compile(f"{NUMBER} [a-z0-9]+ {NUMBER}x{NUMBER}")
 NUMBERS = re.compile(rf"\s*{NUMBER}(?:\s+{NUMBER})*\s*")
 
@@ -26,22 +28,21 @@ def named_text(text: str, names: Names, tree: Tree | None) -> str:
     are changed, and those of an outline where the tree is given; the others stay.
     """
     if text.split(maxsplit=1)[:1] == ["cmr-tree"]:
-        return "".join(f"{line}\n" for line in _outline(parse_tree(text), names))
+        return "".join(f"{line}\n" for line in _outline(Tree.from_text(text), names))
     if NUMBERS.fullmatch(text):
-        return names.line_set(_submatrix(_numbers(text), names)) + "\n"
+        return names.line_set(_submatrix(text, names).lines) + "\n"
     outline = _outline(tree, names) if tree else None
     return "".join(f"{_named_line(line, names, outline)}\n" for line in text.splitlines())
 
 
 def _named_line(line: str, names: Names, outline: Iterator[str] | None) -> str:
     if found := LINE_SET.fullmatch(line):
-        lines = LineSet(_numbers(found["rows"]), _numbers(found["columns"]))
-        return f"{found['what']} {names.line_set(lines)}{found['rest'] or ''}"
-    if found := STEP.fullmatch(line):
-        other = f" {names.line(found[3])}" if found[3] else ""
-        return f"{names.line(found[1])} {found[2]}{other}"
+        return f"{found['what']} {names.line_set(line_set_of(found))}{found['rest'] or ''}"
+    if found := REDUCTION.fullmatch(line):
+        other = f" {names.line(Line.of_word(found['other']))}" if found["other"] else ""
+        return f"{names.line(Line.of_word(found['line']))} {found['reason']}{other}"
     if found := EDGE.fullmatch(line):
-        return f"{found[1]} {names.line(found[2])}"
+        return f"{found[1]} {names.line(Line.of_word(found[2]))}"
     if outline is not None and OUTLINE.fullmatch(line):
         return _same_node(line, next(outline, ""))
     return line
@@ -54,8 +55,8 @@ def _same_node(line: str, node: str) -> str:
 
 
 def _outline(tree: Tree, names: Names) -> Iterator[str]:
-    names.must_fit(tree.rows, tree.columns)
-    for depth, node in tree.preorder():
+    names.must_fit(*tree.shape)
+    for depth, node in tree.walk():
         yield " ".join(filter(None, (str(depth), node.outline, _named_node(node, names))))
 
 
@@ -64,22 +65,16 @@ def _named_node(node: Node, names: Names) -> str:
     if node.fault is not None:
         return f"fault {names.line_set(node.fault)}"
     if node.removed:
-        return f"without {_lines(node.removed, names)}"
-    if node.joint:
-        return f"at {_lines(node.joint, names)}"
+        return f"without {names.line_list(node.removed)}"
+    if node.connectors:
+        return f"at {names.line_list(node.connectors)}"
     return names.line_set(node.lines) if node.kind in LEAVES else ""
 
 
-def _lines(words: tuple[str, ...], names: Names) -> str:
-    return " ".join(names.line(word) for word in words)
-
-
-def _numbers(text: str) -> tuple[int, ...]:
-    return tuple(int(word) for word in text.split())
-
-
-def _submatrix(numbers: tuple[int, ...], names: Names) -> LineSet:
+def _submatrix(text: str, names: Names) -> Submatrix:
+    """Numbers alone are a submatrix text, whose counts come first and have to fit."""
+    numbers = [int(word) for word in text.split()]
     if len(numbers) < 4 or len(numbers) != 4 + numbers[2] + numbers[3]:
         raise BadInput("numbers alone, but no submatrix: the counts and the lists do not fit")
     names.must_fit(numbers[0], numbers[1])
-    return LineSet(numbers[4 : 4 + numbers[2]], numbers[4 + numbers[2] :])
+    return Submatrix.from_text(text, names)
