@@ -10,6 +10,7 @@ from 1 in the program's texts.
 
 from .answers import Answer, Checked, Parts
 from .chains import Chain, ChainStep
+from .constraints import Scaling
 from .errors import (
     BadCommandLine,
     BadEntry,
@@ -28,6 +29,7 @@ from .errors import (
 from .graphs import Edge, Graph
 from .lines import Line, LineSet, Names
 from .matrix import Matrix
+from .modellers import from_linopy, from_model, from_model_scaled, from_pulp, from_pyomo, from_scipy
 from .nodes import Node
 from .program import find_program
 from .questions import (
@@ -75,6 +77,7 @@ __all__ = [
     "Reduction",
     "Reductions",
     "Refused",
+    "Scaling",
     "Signing",
     "SigningStep",
     "Submatrix",
@@ -84,6 +87,12 @@ __all__ = [
     "check",
     "compose",
     "find_program",
+    "from_linopy",
+    "from_model",
+    "from_model_scaled",
+    "from_pulp",
+    "from_pyomo",
+    "from_scipy",
     "generate",
     "has_no_cycle_fault",
     "is_balanced",

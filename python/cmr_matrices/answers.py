@@ -63,7 +63,10 @@ class Answer:
 
     def __str__(self) -> str:
         named = (("violator", self.violator), ("open", self.open), ("rest", self.rest), ("minimal", self.minimal))
-        lines = [f"{self.property_name}: {self.verdict}", *(f"{what} {lines}" for what, lines in named if lines is not None)]
+        lines = [
+            f"{self.property_name}: {self.verdict}",
+            *(f"{what} {lines}" for what, lines in named if lines is not None),
+        ]
         return "\n".join([*lines, *([] if self.tree is None else [str(self.tree)])])
 
     def _repr_svg_(self) -> str | None:

@@ -13,11 +13,11 @@ from .matrix import Matrix
 from .models import Coefficient, Model
 from .words import LIMIT
 
-__all__ = ["Constraints", "Scaling", "constraint_matrix", "only_rows", "scaled", "whole_constraints"]
+__all__ = ["Scaling", "matrix_of_model"]
 
 
 @dataclass(frozen=True)
-class Constraints:
+class _Constraints:
     """Whole numbers at places counted from 0, row by row, and the names of all lines."""
 
     names: Names
@@ -33,7 +33,22 @@ class Scaling:
     factor: int
 
 
-def only_rows(model: Model, pattern: re.Pattern[str]) -> Model:
+def matrix_of_model(
+    model: Model, rows: re.Pattern[str] | None = None, *, scale: bool = False
+) -> tuple[Matrix, tuple[Scaling, ...]]:
+    """The constraint matrix of a model, and the lines that were divided where it is scaled.
+
+    `rows` takes the rows whose names have a match, and the columns that are in them. Raises `BadInput` where it is no matrix with
+    entries -1, 0 and 1, with the names of the row and the column at fault.
+    """
+    constraints = _whole(_only_rows(model, rows) if rows else model)
+    if not scale:
+        return _matrix(constraints, "coefficient"), ()
+    divided, scalings = _scaled(constraints)
+    return _matrix(divided, "divided coefficient"), tuple(scalings)
+
+
+def _only_rows(model: Model, pattern: re.Pattern[str]) -> Model:
     """The rows whose names the pattern fits somewhere, and the columns that have a coefficient in them."""
     rows = [row for row, name in enumerate(model.rows) if pattern.search(name)]
     row_places = {row: place for place, row in enumerate(rows)}
@@ -47,7 +62,7 @@ def only_rows(model: Model, pattern: re.Pattern[str]) -> Model:
     )
 
 
-def whole_constraints(model: Model) -> Constraints:
+def _whole(model: Model) -> _Constraints:
     """The coefficients of a model's constraints, which must have rows, not too many lines, and whole coefficients."""
     if not model.rows:
         raise BadInput("there are no rows")
@@ -59,20 +74,20 @@ def whole_constraints(model: Model) -> Constraints:
             place = _place(model.rows[at.row], model.columns[at.column])
             raise BadInput(f"{place}: the coefficient {at.value:.12g} is no whole number")
     entries = {(at.row, at.column): int(at.value) for at in model.coefficients if at.value}
-    return Constraints(Names(model.rows, model.columns), entries)
+    return _Constraints(Names(model.rows, model.columns), entries)
 
 
-def scaled(matrix: Constraints) -> tuple[Constraints, list[Scaling]]:
+def _scaled(matrix: _Constraints) -> tuple[_Constraints, list[Scaling]]:
     """Divides each row by the common factor of its entries, and then each column, and tells the lines that it changes."""
     names = matrix.names
     by_rows, row_factors = _divided(matrix.entries, lambda place: place[0])
     by_columns, column_factors = _divided(by_rows, lambda place: place[1])
     rows = [Scaling("row", names.rows[line], factor) for line, factor in row_factors.items()]
     columns = [Scaling("column", names.columns[line], factor) for line, factor in column_factors.items()]
-    return Constraints(names, by_columns), rows + columns
+    return _Constraints(names, by_columns), rows + columns
 
 
-def constraint_matrix(constraints: Constraints, entry_name: str = "coefficient") -> Matrix:
+def _matrix(constraints: _Constraints, entry_name: str) -> Matrix:
     """The matrix of constraints. Where an entry is none of -1, 0 and 1, `BadInput` tells the first and the number of the others."""
     large = [(place, entry) for place, entry in constraints.entries.items() if abs(entry) > 1]
     if large:

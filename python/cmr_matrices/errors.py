@@ -93,7 +93,11 @@ class ProgramFault(CmrError):
     def __str__(self) -> str:
         if self.line:
             return self.line
-        return f"the program was ended by signal {-self.status}" if self.status < 0 else f"the program has status {self.status}"
+        return (
+            f"the program was ended by signal {-self.status}"
+            if self.status < 0
+            else f"the program has status {self.status}"
+        )
 
 
 class BadCommandLine(ProgramFault, ValueError):

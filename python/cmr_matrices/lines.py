@@ -60,7 +60,12 @@ class LineSet:
     @property
     def words(self) -> str:
         """The two counts and the two lists as they stand in texts."""
-        numbers = (len(self.rows), len(self.columns), *(row + 1 for row in self.rows), *(column + 1 for column in self.columns))
+        numbers = (
+            len(self.rows),
+            len(self.columns),
+            *(row + 1 for row in self.rows),
+            *(column + 1 for column in self.columns),
+        )
         return " ".join(map(str, numbers))
 
 

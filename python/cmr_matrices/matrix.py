@@ -39,7 +39,9 @@ class Matrix:
         for row, column, value in self.nonzeros:
             place = row * columns + column
             if not (0 <= column < columns and last < place < rows * columns):
-                raise BadInput(f"row {row}, column {column}: the places of nonzeros do not rise, or are outside of {rows}x{columns}")
+                raise BadInput(
+                    f"row {row}, column {column}: the places of nonzeros do not rise, or are outside of {rows}x{columns}"
+                )
             if value not in (1, -1):
                 raise BadEntry(row, column, value, "-1 and 1, as a nonzero has to be")
             last = place
@@ -81,7 +83,9 @@ class Matrix:
         entries: dict[tuple[int, int], int] = {}
         for row, column, value in triples:
             if not (0 <= row < rows and 0 <= column < columns):
-                raise BadInput(f"row {row}, column {column}: there is no such place in a matrix of size {rows}x{columns}")
+                raise BadInput(
+                    f"row {row}, column {column}: there is no such place in a matrix of size {rows}x{columns}"
+                )
             if (row, column) in entries:
                 raise BadInput(f"row {row}, column {column}: the place is named twice")
             entries[row, column] = _entry(row, column, value)
@@ -180,7 +184,9 @@ class Matrix:
             raise BadInput("no matrix: the counts and the entries do not fit")
         if sparse:
             words = iter(numbers[3:])
-            return cls.from_triples(((row - 1, column - 1, value) for row, column, value in zip(words, words, words)), (rows, columns))
+            return cls.from_triples(
+                ((row - 1, column - 1, value) for row, column, value in zip(words, words, words)), (rows, columns)
+            )
         entries = numbers[2:]
         triples = ((place // columns, place % columns, value) for place, value in enumerate(entries) if value)
         return cls.from_triples(triples, (rows, columns))

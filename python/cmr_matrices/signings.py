@@ -46,7 +46,8 @@ class Signing:
         """The lines that the program prints, with lines counted from 1."""
         signs = [f"row {row + 1} {'+' if sign > 0 else '-'}\n" for row, sign in self.signs]
         steps = [
-            f"aside {step.row + 1}\n" if step.column is None else f"pivot {step.row + 1} {step.column + 1}\n" for step in self.steps
+            f"aside {step.row + 1}\n" if step.column is None else f"pivot {step.row + 1} {step.column + 1}\n"
+            for step in self.steps
         ]
         return "".join(signs + steps)
 

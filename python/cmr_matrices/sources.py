@@ -17,7 +17,8 @@ __all__ = ["Entries", "MatrixLike", "SageLike", "ScipyLike", "ArrayLike", "entri
 class ArrayLike(Protocol):
     """An array of numpy, or what becomes one: also a pandas frame."""
 
-    def __array__(self) -> Any: ...
+    def __array__(self) -> Any:
+        ...
 
 
 class ScipyLike(Protocol):
@@ -38,7 +39,8 @@ class SageLike(Protocol):
     def ncols(self) -> int:
         """The number of columns."""
 
-    def __getitem__(self, place: Any) -> Any: ...
+    def __getitem__(self, place: Any) -> Any:
+        ...
 
 
 MatrixLike = Union[ArrayLike, ScipyLike, SageLike, Sequence[Sequence[Any]]]

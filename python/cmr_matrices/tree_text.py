@@ -64,7 +64,14 @@ class _Found:
 
     def node(self) -> Node:
         return Node(
-            self.kind, self.lines, tuple(self.children), self.fault, self.graph, self.removed, self.connectors, self.side
+            self.kind,
+            self.lines,
+            tuple(self.children),
+            self.fault,
+            self.graph,
+            self.removed,
+            self.connectors,
+            self.side,
         )
 
 

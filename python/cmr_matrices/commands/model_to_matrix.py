@@ -9,9 +9,9 @@ from __future__ import annotations
 import argparse
 import re
 
-from ..constraints import constraint_matrix, only_rows, scaled, whole_constraints
-from ..errors import BadInput
-from ..models import format_of, read_model
+from ..lines import Names
+from ..modellers import matrix_of_file
+from ..models import format_of
 from .command import end, write_text
 
 
@@ -57,15 +57,10 @@ def arguments() -> argparse.Namespace:
 
 
 def _work(chosen: argparse.Namespace) -> None:
-    model = read_model(chosen.model, chosen.format, chosen.data)
-    try:
-        constraints = whole_constraints(only_rows(model, chosen.rows) if chosen.rows else model)
-        constraints, divided = scaled(constraints) if chosen.scale else (constraints, [])
-        matrix = constraint_matrix(constraints, "divided coefficient" if chosen.scale else "coefficient")
-    except BadInput as fault:
-        raise BadInput(f"{chosen.model}: {fault}") from fault
+    matrix, divided = matrix_of_file(chosen.model, chosen.format, chosen.rows, chosen.data, scale=chosen.scale)
+    names = matrix.names or Names.numbered(*matrix.shape)
     write_text(chosen.matrix, matrix.to_text())
-    write_text(chosen.names, constraints.names.to_text())
+    write_text(chosen.names, names.to_text())
     write_text("-", "".join(f"{scaling.kind} {scaling.name} divided by {scaling.factor}\n" for scaling in divided))
 
 
