@@ -43,8 +43,8 @@ class SageLike(Protocol):
         ...
 
 
-MatrixLike = Union[ArrayLike, ScipyLike, SageLike, Sequence[Sequence[Any]]]
-"""What the package takes for a matrix."""
+MatrixLike = Union[ArrayLike, ScipyLike, SageLike, Sequence[Any]]
+"""What the package takes for a matrix. A sequence is one of rows, each a sequence of entries."""
 
 
 @dataclass(frozen=True)

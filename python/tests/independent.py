@@ -41,7 +41,7 @@ def is_unimodular(rows: Rows) -> bool:
 def is_violator(rows: Rows) -> bool:
     """Whether all rows and columns have even sums and the sum of all entries is 2 modulo 4."""
     lines = [*rows, *zip(*rows)]
-    return all(sum(line) % 2 == 0 for line in lines) and sum(map(sum, rows)) % 4 == 2
+    return all(sum(line) % 2 == 0 for line in lines) and sum(sum(row) for row in rows) % 4 == 2
 
 
 def is_balanced(rows: Rows) -> bool:
@@ -50,7 +50,7 @@ def is_balanced(rows: Rows) -> bool:
         for chosen in combinations(rows, size):
             columns = [column for column in zip(*chosen) if sum(map(abs, column)) == 2]
             for kept in combinations(columns, size):
-                if all(sum(map(abs, row)) == 2 for row in zip(*kept)) and sum(map(sum, kept)) % 4 == 2:
+                if all(sum(map(abs, row)) == 2 for row in zip(*kept)) and sum(sum(row) for row in kept) % 4 == 2:
                     return False
     return True
 
@@ -106,7 +106,7 @@ def is_reducible(rows: Rows, line: Line, left: LineSet, binary: bool = False) ->
         vectors = {Line("column", column): tuple(rows[row][column] for row in left.rows) for column in left.columns}
     vector = vectors[line]
     same = {vector} if binary else {vector, tuple(-entry for entry in vector)}
-    return sum(map(abs, vector)) <= 1 or any(other in same for at, other in vectors.items() if at != line)
+    return sum(abs(entry) for entry in vector) <= 1 or any(other in same for at, other in vectors.items() if at != line)
 
 
 def reduces(rows: Rows, reductions: Reductions, rest: LineSet | None, *, binary: bool = False) -> bool:
@@ -201,6 +201,6 @@ def _is_two_sum(rows: Rows, node: Node) -> bool:
     )
     if set(first) != {*one, Line("row", i)} or set(second) != {*two, Line("column", j)}:
         return False
-    return not any(map(any, part(rows, LineSet(one.rows, two.columns)))) and all(
+    return not any(any(row) for row in part(rows, LineSet(one.rows, two.columns))) and all(
         rows[row][column] == rows[row][j] * rows[i][column] * rows[i][j] for row in two.rows for column in one.columns
     )

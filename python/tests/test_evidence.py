@@ -36,7 +36,7 @@ def deep_tree(depth: int) -> str:
 
 class Texts(unittest.TestCase):
     def test_texts_are_read_and_written(self) -> None:
-        for kind, text in [
+        readings: list[tuple[Any, str]] = [
             (Tree, TREE),
             (Graph, GRAPH),
             (Graph, TURNED),
@@ -47,16 +47,17 @@ class Texts(unittest.TestCase):
             (Signing, SIGNING),
             (Submatrix, "3 4 2 1\n1 3\n4\n"),
             (Submatrix, "0 0 0 0\n\n\n"),
-        ]:
+        ]
+        for kind, text in readings:
             with self.subTest(kind=kind, text=text):
-                value: Any = kind.from_text(text)
+                value = kind.from_text(text)
                 self.assertEqual(value.to_text(), text)
                 self.assertEqual(kind.from_text(value.to_text()), value)
                 self.assertEqual(hash(kind.from_text(text)), hash(value))
                 self.assertEqual(pickle.loads(pickle.dumps(value)), value)
 
     def test_texts_that_are_refused(self) -> None:
-        for kind, text, line in [
+        readings: list[tuple[Any, str, str]] = [
             (Submatrix, "3 4 2 1\n1 3\n", "no submatrix: the text ends too early"),
             (Submatrix, "3 4 2 1\n3 1\n4", "no submatrix: the numbers of a list do not rise (at character 10)"),
             (Submatrix, "3 4 2 1\n1 4\n4", "no submatrix: 4 is above 3 (at character 10)"),
@@ -70,9 +71,10 @@ class Texts(unittest.TestCase):
             (Signing, "row 1 *", "no signing: 'row 1 *' is no line of one"),
             (Tree, "cmr-tree 2", "no decomposition tree: the text ends too early"),
             (Graph, "0 1", "no graph, line 1 is not `TAIL HEAD rI` or `TAIL HEAD cJ`"),
-        ]:
+        ]
+        for kind, text, line in readings:
             with self.subTest(text=text), self.assertRaises(BadInput) as refused:
-                kind.from_text(text)  # type: ignore[attr-defined]
+                kind.from_text(text)
             self.assertEqual(str(refused.exception), line)
 
 
@@ -152,7 +154,8 @@ class Graphs(unittest.TestCase):
 
 class Pictures(unittest.TestCase):
     def test_notebooks_draw_them(self) -> None:
-        for value in (Tree.from_text(TREE), Graph.from_text(GRAPH)):
+        drawn_values: tuple[Tree | Graph, ...] = (Tree.from_text(TREE), Graph.from_text(GRAPH))
+        for value in drawn_values:
             drawn = value._repr_svg_()
             if drawn is None:
                 self.skipTest("dot is not there")

@@ -46,7 +46,7 @@ class Residue:
 class Sources(unittest.TestCase):
     def test_lists(self) -> None:
         self.assertEqual(Matrix.of(ROWS), MATRIX)
-        self.assertEqual(Matrix.of(tuple(map(tuple, ROWS))), MATRIX)
+        self.assertEqual(Matrix.of(tuple(tuple(row) for row in ROWS)), MATRIX)
         self.assertIs(Matrix.of(MATRIX), MATRIX)
 
     def test_whole_numbers_of_all_types(self) -> None:

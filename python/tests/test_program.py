@@ -11,10 +11,12 @@ import tempfile
 import textwrap
 import time
 import unittest
+from collections.abc import Callable
 from pathlib import Path
 from unittest import mock
 
 from cmr_matrices import (
+    Answer,
     BadCommandLine,
     BadInput,
     BadText,
@@ -43,9 +45,8 @@ class Folder(unittest.TestCase):
         self.folder = Path(folder.name)
         self.temporary = self.folder / "temporary"
         self.temporary.mkdir()
-        for patch in (mock.patch.object(tempfile, "tempdir", str(self.temporary)), mock.patch.dict(os.environ)):
-            patch.start()
-            self.addCleanup(patch.stop)
+        self.enterContext(mock.patch.object(tempfile, "tempdir", str(self.temporary)))
+        self.enterContext(mock.patch.dict(os.environ))
 
     def script(self, text: str) -> Path:
         """A stand-in for the program, in the language of the shell."""
@@ -152,12 +153,13 @@ class Statuses(Folder):
         self.assertEqual(self.left(), [])
 
     def test_options_out_of_their_ranges(self) -> None:
+        questions: tuple[Callable[..., Answer], ...] = (is_totally_unimodular, is_balanced)
         for options, line in [
             ({"lines": 25}, "lines is a number from 0 to 24, and here it is 25"),
             ({"lines": -1}, "lines is a number from 0 to 24, and here it is -1"),
             ({"workers": 0}, "workers is a number from 1 to 64, and here it is 0"),
         ]:
-            for question in (is_totally_unimodular, is_balanced):
+            for question in questions:
                 with self.assertRaises(BadInput) as refused:
                     question(FANO, **options)
                 self.assertEqual(str(refused.exception), line)
