@@ -1,7 +1,7 @@
 """Constraints of linear models, and models in files, read by GLPK through Debian's `python3-swiglpk`.
 
-GLPK reads fixed and free MPS and keeps the names, without their blanks. Models in GNU MathProg and in the LP format of CPLEX are turned into free
-MPS by `glpsol` of Debian's `glpk-utils`.
+GLPK reads fixed and free MPS and keeps the names, without their blanks. Models in GNU MathProg and in the LP format of CPLEX
+are turned into free MPS by `glpsol` of Debian's `glpk-utils`.
 """
 
 from __future__ import annotations

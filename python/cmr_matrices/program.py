@@ -60,7 +60,9 @@ def find_program(program: StrPath | None = None) -> Path:
     built = _CLONE / "crates" / "cmr" / "out" / "cmr"
     if os.access(built, os.X_OK):
         return built
-    raise ProgramMissing(["CMR_PROGRAM, which is not set", "PATH", f"the clone, {built}"])
+    is_clone = (_CLONE / "crates.txt").exists()
+    clone = f"the clone, {built}" if is_clone else "the clone, but the package stands in none"
+    raise ProgramMissing(["CMR_PROGRAM, which is not set", "PATH", clone])
 
 
 def run(

@@ -10,7 +10,7 @@ from typing import Literal, cast
 from .errors import BadInput
 from .lines import Line, Names
 
-__all__ = ["REDUCTION", "Reason", "Reduction", "Reductions"]
+__all__ = ["REDUCTION", "Reason", "Reduction", "Reductions", "reduction_of"]
 
 Reason = Literal["zero", "unit", "copy", "negative"]
 
@@ -26,6 +26,11 @@ class Reduction:
     reason: Reason
     other: Line | None = None
 
+    def named(self, names: Names) -> str:
+        """The reduction with names for its lines, such as `ann unit mon`."""
+        other = f" {names.line(self.other)}" if self.other else ""
+        return f"{names.line(self.line)} {self.reason}{other}"
+
 
 @dataclass(frozen=True)
 class Reductions:
@@ -40,6 +45,14 @@ class Reductions:
     def __iter__(self) -> Iterator[Reduction]:
         return iter(self.steps)
 
+    def __str__(self) -> str:
+        lines = {line for step in self.steps for line in (step.line, step.other) if line}
+        sizes = [
+            1 + max((line.number for line in lines if line.kind == kind), default=-1) for kind in ("row", "column")
+        ]
+        names = self.names or Names.numbered(*sizes)
+        return "\n".join(step.named(names) for step in self.steps)
+
     def to_text(self) -> str:
         """The list of reductions as the program writes it, with lines counted from 1."""
         return "".join(f"{_words(step)}\n" for step in self.steps)
@@ -52,9 +65,17 @@ class Reductions:
             found = REDUCTION.fullmatch(line)
             if not found or (found["other"] is None) != (found["reason"] == "zero"):
                 raise BadInput(f"no list of reductions: line {place} is no reduction")
-            other = Line.of_word(found["other"]) if found["other"] else None
-            steps.append(Reduction(Line.of_word(found["line"]), cast(Reason, found["reason"]), other))
+            steps.append(reduction_of(line))
         return cls(tuple(steps), names)
+
+
+def reduction_of(line: str) -> Reduction:
+    """The reduction that a line which `REDUCTION` matches says."""
+    found = REDUCTION.fullmatch(line)
+    if not found:
+        raise BadInput("it is no reduction")
+    other = Line.of_word(found["other"]) if found["other"] else None
+    return Reduction(Line.of_word(found["line"]), cast(Reason, found["reason"]), other)
 
 
 def _words(step: Reduction) -> str:

@@ -12,11 +12,11 @@ from typing import Any, Literal
 
 from .dot import svg
 from .lines import Names
-from .nodes import Node
+from .nodes import LEAVES, Node
 from .tree_picture import Style, tree_picture
 from .tree_text import read_tree, tree_text
 
-__all__ = ["Tree"]
+__all__ = ["Tree", "outline_lines"]
 
 
 @dataclass(frozen=True, eq=False)
@@ -38,6 +38,10 @@ class Tree:
         if kinds & {"cycle", "violator"}:
             return "no"
         return "undecided" if "undecided" in kinds else "yes"
+
+    def outline(self, names: Names | None = None) -> str:
+        """The tree as text: a line for each node with its depth, its kind and size, and the names of the lines that it speaks of."""
+        return "\n".join(outline_lines(self, names or self.names or Names.numbered(*self.shape)))
 
     def to_networkx(self) -> Any:
         """A `DiGraph` of networkx from parents to children: the nodes in preorder are 0, 1, .., with their `Node` as `node`."""
@@ -82,3 +86,21 @@ class Tree:
 
     def __str__(self) -> str:
         return "\n".join(f"{depth} {node.outline}" for depth, node in self.walk())
+
+
+def outline_lines(tree: Tree, names: Names) -> Iterator[str]:
+    """The lines of the outline, one after another. Raises `BadInput` where the names are those of another matrix."""
+    names.must_fit(*tree.shape)
+    for depth, node in tree.walk():
+        yield " ".join(filter(None, (str(depth), node.outline, _named_node(node, names))))
+
+
+def _named_node(node: Node, names: Names) -> str:
+    """The lines of a fault or a leaf, what a reduction takes away, and where the children of a sum are joined."""
+    if node.fault is not None:
+        return f"fault {names.line_set(node.fault)}"
+    if node.removed:
+        return f"without {names.line_list(node.removed)}"
+    if node.connectors:
+        return f"at {names.line_list(node.connectors)}"
+    return names.line_set(node.lines) if node.kind in LEAVES else ""

@@ -3,6 +3,7 @@
 from __future__ import annotations
 
 import importlib.util
+import shutil
 import sys
 import unittest
 from collections.abc import Callable
@@ -39,6 +40,11 @@ def _needs(tool: str, found: bool) -> Callable[[_Test], _Test]:
 def needs_module(name: str) -> Callable[[_Test], _Test]:
     """Passes a test over by name where Python has no such module."""
     return _needs(name, importlib.util.find_spec(name) is not None)
+
+
+def needs_command(name: str) -> Callable[[_Test], _Test]:
+    """Passes a test over by name where the system has no such command."""
+    return _needs(name, shutil.which(name) is not None)
 
 
 needs_program = _needs("the program cmr", _is_built())

@@ -1,4 +1,4 @@
-"""The screens of the README, and those of docstrings, are run."""
+"""The screens of the README, of docs/FROM_A_MODEL.md and of docstrings are run."""
 
 from __future__ import annotations
 
@@ -6,9 +6,10 @@ import doctest
 import importlib
 import pkgutil
 import unittest
+from contextlib import chdir
 
 import cmr_matrices
-from tests.support import TOP, needs_module, needs_program
+from tests.support import TOP, needs_command, needs_module, needs_program
 
 
 def screens() -> list[str]:
@@ -26,6 +27,13 @@ class Screens(unittest.TestCase):
             title = screen.splitlines()[0]
             with self.subTest(screen=title):
                 self.runs(doctest.DocTestParser().get_doctest(screen, {}, title, "README.md", 0))
+
+    @needs_module("swiglpk")
+    @needs_command("glpsol")
+    def test_the_way_from_a_model(self) -> None:
+        text = (TOP / "docs" / "FROM_A_MODEL.md").read_text(encoding="utf-8")
+        with chdir(TOP):
+            self.runs(doctest.DocTestParser().get_doctest(text, {}, "FROM_A_MODEL", "FROM_A_MODEL.md", 0))
 
     def test_docstrings(self) -> None:
         names = [module.name for module in pkgutil.walk_packages(cmr_matrices.__path__, "cmr_matrices.")]
