@@ -3,6 +3,7 @@
 from __future__ import annotations
 
 import re
+from itertools import islice
 
 from .errors import BadInput
 from .lines import Line, LineSet
@@ -14,22 +15,24 @@ LIMIT = 1000
 
 _WORD = re.compile(r"[^\t-\r ]+")
 _COUNT = re.compile(r"\+?[0-9]+")
+# The numbers of nearly all words. Others have signs or zeros in front, are above the limit, or are none.
+_PLAIN = {str(number): number for number in range(LIMIT + 1)}
 
 
 class Words:
     """Reads the words of a text. Every fault is a `BadInput` that names the character, counted from 0."""
 
     def __init__(self, text: str) -> None:
-        self._words = _WORD.finditer(text)
-        self._place = 0
+        self._text = text
+        self._words: list[str] = _WORD.findall(text)
+        self._next = 0
 
     def word(self) -> str:
         """The next word."""
-        found = next(self._words, None)
-        if found is None:
+        if self._next == len(self._words):
             raise BadInput("the text ends too early")
-        self._place = found.start()
-        return found.group()
+        self._next += 1
+        return self._words[self._next - 1]
 
     def count(self, limit: int) -> int:
         """The next word as a number from 0 to a limit."""
@@ -63,12 +66,13 @@ class Words:
 
     def end(self, what: str) -> None:
         """Refuses a further word."""
-        if next(self._words, None):
+        if self._next < len(self._words):
             raise BadInput(what)
 
     def fault(self, what: str) -> BadInput:
         """A fault at the last word."""
-        return BadInput(f"{what} (at character {self._place})")
+        last = next(islice(_WORD.finditer(self._text), self._next - 1, None))
+        return BadInput(f"{what} (at character {last.start()})")
 
     def unknown(self, word: str, what: str) -> BadInput:
         """The fault that the last word is not what is due."""
@@ -89,6 +93,9 @@ class Words:
         return number - 1
 
     def _value(self, word: str, limit: int) -> int:
+        plain = _PLAIN.get(word)
+        if plain is not None and plain <= limit:
+            return plain
         if not _COUNT.fullmatch(word):
             raise self.fault(f"{_short(word)} is no number")
         digits = word.lstrip("+0") or "0"

@@ -20,6 +20,8 @@ K5 = [[1, 1, 1, 0, 0, 0], [1, 0, 0, 1, 1, 0], [0, 1, 0, 1, 0, 1], [0, 0, 1, 0, 1
 R10 = [[1, 1, 0, 0, 1], [1, 1, 1, 0, 0], [0, 1, 1, 1, 0], [0, 0, 1, 1, 1], [1, 0, 0, 1, 1]]
 TRIANGLE = [[1, 1, 0], [0, 1, 1], [1, 0, 1]]
 
+_TOLD: set[str] = set()
+
 _Test = TypeVar("_Test", bound=Callable[..., Any])
 
 
@@ -32,8 +34,9 @@ def _is_built() -> bool:
 
 
 def _needs(tool: str, found: bool) -> Callable[[_Test], _Test]:
-    if not found:
+    if not found and tool not in _TOLD:
         print(f"{tool} is not there: what needs it is passed over", file=sys.stderr)
+        _TOLD.add(tool)
     return unittest.skipUnless(found, f"{tool} is not there")
 
 
