@@ -16,6 +16,8 @@ from .lines import Kind, Line, Names
 
 __all__ = ["Edge", "Graph"]
 
+# Graphviz takes long for graphs with more edges, and nothing is seen in them.
+_DRAWN = 200
 _EDGE = re.compile(r"([0-9]{1,4}) ([0-9]{1,4}) ([rc][1-9][0-9]{0,3})")
 
 
@@ -86,7 +88,7 @@ class Graph:
         return document(kind, "network", _DEFAULTS + nodes + arcs + walks)
 
     def _repr_svg_(self) -> str | None:
-        return svg(self.to_dot())
+        return svg(self.to_dot()) if len(self.edges) <= _DRAWN else None
 
     def to_text(self) -> str:
         """The graph text, with lines counted from 1."""

@@ -5,7 +5,9 @@ from __future__ import annotations
 import re
 from bisect import bisect_left
 from collections.abc import Iterable, Sequence
+from contextlib import suppress
 from dataclasses import dataclass, field, replace
+from operator import index
 from typing import Any, cast
 
 from .errors import BadEntry, BadInput
@@ -81,7 +83,8 @@ class Matrix:
         """
         rows, columns = shape
         entries: dict[tuple[int, int], int] = {}
-        for row, column, value in triples:
+        for given_row, given_column, value in triples:
+            row, column = index(given_row), index(given_column)
             if not (0 <= row < rows and 0 <= column < columns):
                 raise BadInput(
                     f"row {row}, column {column}: there is no such place in a matrix of size {rows}x{columns}"
@@ -109,10 +112,13 @@ class Matrix:
         return found[2] if found[:2] == (row, column) else 0
 
     def submatrix(self, rows: Iterable[int], columns: Iterable[int]) -> Matrix:
-        """The submatrix on some rows and columns in the given order, with their names."""
+        """The submatrix on some rows and columns in the given order, with their names.
+
+        Raises `BadInput` where a line is given twice, or is none of the matrix.
+        """
         rows, columns = tuple(rows), tuple(columns)
-        row_places = {row: place for place, row in enumerate(rows)}
-        column_places = {column: place for place, column in enumerate(columns)}
+        row_places = _places(rows, self.shape[0], "row")
+        column_places = _places(columns, self.shape[1], "column")
         nonzeros = sorted(
             (row_places[row], column_places[column], value)
             for row, column, value in self.nonzeros
@@ -142,23 +148,22 @@ class Matrix:
         """A numpy array of the same shape, of type int8."""
         import numpy  # pylint: disable=import-outside-toplevel
 
+        triples = numpy.array(self.nonzeros, dtype=numpy.int64).reshape(-1, 3)
         array = numpy.zeros(self.shape, dtype=numpy.int8)
-        for row, column, value in self.nonzeros:
-            array[row, column] = value
+        array[triples[:, 0], triples[:, 1]] = triples[:, 2]
         return array
 
-    def __array__(self, dtype: Any = None) -> Any:
+    def __array__(self, dtype: Any = None, copy: bool | None = None) -> Any:
+        if copy is False:
+            raise ValueError("a matrix becomes an array by a copy alone")
         array = self.to_numpy()
         return array if dtype is None else array.astype(dtype)
 
     def to_scipy(self) -> Any:
         """A sparse array of scipy in the format csr, of type int8."""
-        import numpy  # pylint: disable=import-outside-toplevel
         from scipy import sparse  # pylint: disable=import-outside-toplevel
 
-        triples = numpy.array(self.nonzeros, dtype=numpy.int64).reshape(-1, 3)
-        values = triples[:, 2].astype(numpy.int8)
-        return sparse.coo_array((values, (triples[:, 0], triples[:, 1])), shape=self.shape).tocsr()
+        return sparse.csr_array(self.to_numpy())
 
     def to_text(self) -> str:
         """The canonical sparse text, with lines counted from 1."""
@@ -203,9 +208,21 @@ class Matrix:
         return replace(self, names=Names(rows, columns))
 
 
+def _places(lines: tuple[int, ...], count: int, kind: str) -> dict[int, int]:
+    """The place of each line in a list."""
+    places = {line: place for place, line in enumerate(lines)}
+    if len(places) < len(lines):
+        raise BadInput(f"a {kind} is given twice")
+    for line in lines:
+        if not 0 <= line < count:
+            raise BadInput(f"there is no {kind} {line} in a matrix with {count} {kind}s")
+    return places
+
+
 def _entry(row: int, column: int, value: Any) -> int:
     """The entry as a whole number. 1 comes before -1, since the two are one where two is zero."""
-    for entry in (0, 1, -1):
-        if bool(value == entry):
-            return entry
+    with suppress(TypeError, ValueError):
+        for entry in (0, 1, -1):
+            if bool(value == entry):
+                return entry
     raise BadEntry(row, column, cast(object, value))

@@ -31,6 +31,14 @@ class SageMatrix:
         return Residue(self._rows[place[0]][place[1]], self._modulus)
 
 
+class SparseSageMatrix(SageMatrix):
+    """The same with the nonzeros as Sage gives them."""
+
+    def dict(self) -> dict[tuple[int, int], Residue]:
+        places = ((row, column) for row in range(self.nrows()) for column in range(self.ncols()))
+        return {place: self[place] for place in places if self[place] != 0}
+
+
 class Residue:
     """An element of a ring, which equals whole numbers but is none."""
 
@@ -76,6 +84,7 @@ class Sources(unittest.TestCase):
         self.assertEqual(Matrix.of(SageMatrix(ROWS, 7)), MATRIX)
         self.assertEqual(Matrix.of(SageMatrix([[1, 0, 2], [0, 0, 1]], 3)), MATRIX)
         self.assertEqual(Matrix.of(SageMatrix([[3, 0], [1, 2]], 2)), Matrix.of([[1, 0], [1, 0]]))
+        self.assertEqual(Matrix.of(SparseSageMatrix(ROWS, 7)), MATRIX)
 
     @needs_module("numpy")
     def test_numpy(self) -> None:
@@ -169,6 +178,14 @@ class Values(unittest.TestCase):
 
     def test_submatrices_are_in_the_given_order(self) -> None:
         self.assertEqual(MATRIX.submatrix([1, 0], [2, 0]).to_lists(), [[1, 0], [-1, 1]])
+        for rows, line in [
+            ([0, 0], "a row is given twice"),
+            ([2], "there is no row 2 in a matrix with 2 rows"),
+            ([-1], "there is no row -1 in a matrix with 2 rows"),
+        ]:
+            with self.subTest(rows=rows), self.assertRaises(BadInput) as refused:
+                MATRIX.submatrix(rows, [0])
+            self.assertEqual(str(refused.exception), line)
 
     @needs_module("scipy")
     def test_arrays(self) -> None:
@@ -176,6 +193,7 @@ class Values(unittest.TestCase):
 
         self.assertEqual(MATRIX.to_numpy().tolist(), ROWS)
         self.assertEqual(numpy.asarray(MATRIX).tolist(), ROWS)
+        self.assertEqual(numpy.asarray(MATRIX, dtype=float).dtype, float)
         self.assertEqual(MATRIX.to_scipy().toarray().tolist(), ROWS)
         self.assertEqual(Matrix((0, 2), ()).to_scipy().shape, (0, 2))
 

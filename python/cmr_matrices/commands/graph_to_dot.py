@@ -1,7 +1,7 @@
 """Writes a graph of `cmr graphic -G` or `cmr network -G` as a picture in DOT, for example for `dot -Tsvg`.
 
-The edges of the tree are drawn in full and the edges that join the ends of paths are dashed. Each has the number or the
-name of the row or column for which it stands.
+The edges of the tree are drawn in full and the edges that join the ends of paths are dashed. Each has the number or the name of
+the row or column for which it stands.
 """
 
 from __future__ import annotations

@@ -1,7 +1,7 @@
 """Puts the names of a model in place of the numbers of rows and columns in what cmr printed or wrote.
 
-It takes what cmr prints, and the files of its options: submatrices, lists of reductions, graphs, and decomposition trees,
-which become outlines. With --tree the lines of a printed outline get what their nodes name.
+It takes what cmr prints, and the files of its options: submatrices, lists of reductions, graphs, and decomposition trees, which
+become outlines. With --tree the lines of a printed outline get what their nodes name.
 """
 
 from __future__ import annotations

@@ -1,7 +1,7 @@
 """Writes a decomposition tree of cmr as a picture in DOT, for example for `dot -Tsvg`.
 
-A box shows the kind of a node, its rows and columns by number, and where there are few of them by name. Leaves with a yes
-are green, faults red and undecided leaves yellow. In a tree with many nodes like ones are counted together.
+A box shows the kind of a node, its rows and columns by number, and where there are few of them by name. Leaves with a yes are
+green, faults red and undecided leaves yellow. In a tree with many nodes like ones are counted together.
 """
 
 from __future__ import annotations
