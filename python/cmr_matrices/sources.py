@@ -7,7 +7,7 @@ from __future__ import annotations
 
 from collections.abc import Iterable, Iterator, Mapping, Sequence
 from dataclasses import dataclass
-from typing import Any, Protocol, Union
+from typing import Any, Protocol
 
 from .errors import BadInput
 
@@ -43,7 +43,7 @@ class SageLike(Protocol):
         ...
 
 
-MatrixLike = Union[ArrayLike, ScipyLike, SageLike, Sequence[Any]]
+MatrixLike = ArrayLike | ScipyLike | SageLike | Sequence[Any]
 """What the package takes for a matrix. A sequence is one of rows, each a sequence of entries."""
 
 
