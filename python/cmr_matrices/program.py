@@ -42,6 +42,20 @@ class Ran:
     lines: tuple[str, ...]
     files: Mapping[str, str]
 
+    def said(self, *words: str) -> str:
+        """What the first line says behind one of some words and a colon. Raises `ProgramFault` where it is no such line."""
+        line = self.lines[0] if self.lines else ""
+        word, colon, said = line.partition(": ")
+        if not colon or word not in words:
+            raise ProgramFault(self.status, f"the program is not cmr: its first line is {line!r}")
+        return said
+
+    def file(self, name: str) -> str:
+        """The text of a file that is written for every answer. Raises `ProgramFault` where it was not written."""
+        if name not in self.files:
+            raise ProgramFault(self.status, f"the program is not cmr: it did not write the file {name}")
+        return self.files[name]
+
 
 def find_program(program: StrPath | None = None) -> Path:
     """The program: what is given, or else what `CMR_PROGRAM` names, or is on the `PATH`, or is built in this clone.

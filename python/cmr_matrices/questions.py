@@ -18,9 +18,8 @@ from collections.abc import Mapping, Sequence
 
 from .answers import Answer, Verdict
 from .chains import Chain
-from .errors import BadInput
+from .errors import BadInput, ProgramFault
 from .graphs import Graph
-from .lines import LineSet
 from .matrix import Matrix
 from .printed import line_sets
 from .program import NO, YES, Ran, StrPath, run
@@ -39,6 +38,7 @@ __all__ = [
     "is_regular",
     "is_series_parallel",
     "is_totally_unimodular",
+    "printed_part",
     "read_answer",
 ]
 
@@ -171,31 +171,37 @@ def has_no_cycle_fault(
     return _answer(Matrix.of(matrix), "without cycle fault", ["camion"], {}, program, time_limit)
 
 
-def read_answer(ran: Ran, matrix: Matrix, property_name: str, *, directed: bool = True) -> Answer:
-    """The answer that a run on a matrix has printed and written, with all its evidence."""
-    found = line_sets(ran.lines)
-    names = matrix.names
+def read_answer(ran: Ran, matrix: Matrix, property_name: str, *, word: str = "", directed: bool = True) -> Answer:
+    """The answer that a run on a matrix has printed and written, with all its evidence.
 
-    def part(*words: str) -> Submatrix | None:
-        lines: LineSet | None = next((found[word] for word in words if word in found), None)
-        return None if lines is None else Submatrix(matrix.shape, lines.rows, lines.columns, names)
-
-    texts = ran.files
+    `word` is the program's own for the property, where that is another. Raises `ProgramFault` where the first line is not that of
+    the answer, as it is where another program was run.
+    """
     verdict: Verdict = "yes" if ran.status == YES else "no" if ran.status == NO else "undecided"
+    if ran.said(word or property_name) != verdict:
+        raise ProgramFault(ran.status, f"the program is not cmr: it says {ran.lines[0]!r}")
+    names = matrix.names
+    texts = ran.files
     signed = Matrix.from_text(texts["signed"]) if "signed" in texts else None
     return Answer(
         property_name=property_name,
         verdict=verdict,
-        violator=part("violator", "fault"),
-        open=part("open"),
-        minimal=part("minimal"),
-        rest=part("rest"),
+        violator=printed_part(ran, matrix, "violator") or printed_part(ran, matrix, "fault"),
+        open=printed_part(ran, matrix, "open"),
+        minimal=printed_part(ran, matrix, "minimal"),
+        rest=printed_part(ran, matrix, "rest"),
         tree=Tree.from_text(texts["tree"], names) if "tree" in texts else None,
         graph=Graph.from_text(texts["graph"], directed=directed, names=names) if "graph" in texts else None,
         reductions=Reductions.from_text(texts["reductions"], names) if "reductions" in texts else None,
         signed=None if signed is None else Matrix(signed.shape, signed.nonzeros, names),
         chain=Chain.from_text(texts["chain"], names) if "chain" in texts else None,
     )
+
+
+def printed_part(ran: Ran, matrix: Matrix, word: str) -> Submatrix | None:
+    """The submatrix that a run has printed behind a word, or None where it has printed none."""
+    lines = line_sets(ran.lines).get(word)
+    return None if lines is None else Submatrix(matrix.shape, lines.rows, lines.columns, matrix.names)
 
 
 def _answer(
@@ -215,7 +221,8 @@ def _answer(
         program=program,
         time_limit=time_limit,
     )
-    return read_answer(ran, matrix, property_name, directed=words[0] == "network")
+    word = "camion" if words[0] == "camion" else property_name
+    return read_answer(ran, matrix, property_name, word=word, directed=words[0] == "network")
 
 
 def _binary(matrix: MatrixLike) -> Matrix:

@@ -16,7 +16,7 @@ from .graphs import Edge, Graph
 from .matrix import Matrix
 from .printed import line_sets
 from .program import REFUSED, YES, StrPath, run
-from .questions import read_answer
+from .questions import printed_part, read_answer
 from .signings import Signing
 from .sources import MatrixLike
 from .submatrices import Submatrix
@@ -66,12 +66,12 @@ def check(
         taken.must_be_binary()
     inputs = {"matrix": taken.to_text(), "evidence": text}
     ran = run(["check", "-i", "sparse", "matrix", "evidence"], inputs=inputs, program=program, time_limit=time_limit)
-    said = ran.lines[0].partition(": ")[2]
     if ran.status == REFUSED:
-        return _refusal(said)
-    found = read_answer(ran, taken, "")
-    says = cast(Literal["yes", "no", "undecided", "not regular"], said)
-    return Checked(accepted=True, says=says, violator=found.violator, open=found.open)
+        return _refusal(ran.said("refused"))
+    says = cast(Literal["yes", "no", "undecided", "not regular"], ran.said("accepted"))
+    return Checked(
+        accepted=True, says=says, violator=printed_part(ran, taken, "violator"), open=printed_part(ran, taken, "open")
+    )
 
 
 def parts(
@@ -85,12 +85,12 @@ def parts(
     inputs = {"matrix": taken.to_text(), "tree": tree if isinstance(tree, str) else tree.to_text()}
     words = ["parts", "-i", "sparse", "matrix", "tree", "-A", "first", "-B", "second"]
     ran = run(words, inputs=inputs, outputs=("first", "second"), program=program, time_limit=time_limit)
-    said = ran.lines[0].partition(": ")[2]
     if ran.status == REFUSED:
-        raise Refused(said)
+        raise Refused(ran.said("refused"))
+    said = ran.said("parts")
     order = line_sets(ran.lines)["order"]
     kind = cast(Literal["two", "delta", "y", "mixed", "concentrated"], "two" if said == "twosum" else said)
-    first, second = Matrix.from_text(ran.files["first"]), Matrix.from_text(ran.files["second"])
+    first, second = Matrix.from_text(ran.file("first")), Matrix.from_text(ran.file("second"))
     return Parts(kind, first, second, order.rows, order.columns)
 
 
@@ -110,8 +110,8 @@ def compose(
     words = ["compose", "-i", "sparse", kind, "first", "second", "-M", "sum"]
     ran = run(words, inputs=inputs, outputs=("sum",), program=program, time_limit=time_limit)
     if ran.status == REFUSED:
-        raise Refused(ran.lines[0].partition(": ")[2])
-    return Matrix.from_text(ran.files["sum"])
+        raise Refused(ran.said("refused"))
+    return Matrix.from_text(ran.file("sum"))
 
 
 def generate(
@@ -128,7 +128,7 @@ def generate(
     definition. Raises `BadCommandLine` where one is out of its range.
     """
     words = ["generate", kind, str(int(size)), str(int(number)), "--lines", "0", "-M", "matrix"]
-    return Matrix.from_text(run(words, outputs=("matrix",), program=program, time_limit=time_limit).files["matrix"])
+    return Matrix.from_text(run(words, outputs=("matrix",), program=program, time_limit=time_limit).file("matrix"))
 
 
 def matrix_of(graph: Graph | str, *, time_limit: float | None = None, program: StrPath | None = None) -> Matrix:

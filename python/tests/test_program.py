@@ -133,6 +133,17 @@ class Statuses(Folder):
         assert isinstance(fault, BadText)
         self.assertEqual((fault.kind, fault.byte), ("TooLong", None))
 
+    def test_another_program_is_not_taken_for_it(self) -> None:
+        for status, printed in [(0, ""), (0, "all is well"), (0, "totally unimodular: no"), (1, "regular: no")]:
+            script = self.script(f"cat > /dev/null; echo '{printed}'; exit {status}")
+            with self.subTest(printed=printed), self.assertRaises(ProgramFault) as fault:
+                is_totally_unimodular(FANO, program=script)
+            self.assertTrue(str(fault.exception).startswith("the program is not cmr: "), fault.exception)
+        with self.assertRaises(ProgramFault):
+            generate("network", 3, 1, program=self.script("exit 0"))
+        with self.assertRaises(ProgramFault):
+            check(FANO, "3 4 0 0", program=self.script("exit 0"))
+
     def test_a_signal(self) -> None:
         with self.assertRaises(ProgramFault) as fault:
             is_totally_unimodular(FANO, program=self.script("kill -9 $$"))

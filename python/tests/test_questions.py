@@ -28,6 +28,17 @@ class Answers(unittest.TestCase):
             bool(answer)
         self.assertTrue(cmr.is_balanced(example("committees.txt"), lines=24, workers=2))
 
+    def test_an_undecided_answer_names_the_open_part(self) -> None:
+        rows = [[1, 1, 0, 1], [1, 0, 1, 0], [1, 0, 1, 1], [0, 0, 1, 1]]
+        answer = cmr.is_regular(rows, lines=0, certificate=True)
+        assert answer.signed is not None and answer.tree is not None
+        self.assertEqual((answer.verdict, answer.tree.verdict), ("undecided", "undecided"))
+        self.assertEqual(answer.open, Submatrix((4, 4), (0, 1, 2, 3), (0, 2, 3)))
+        self.assertEqual((answer.violator, answer.chain), (None, None))
+        checked = cmr.check(answer.signed, answer.tree)
+        self.assertEqual((bool(checked), checked.says, checked.open), (True, "undecided", answer.open))
+        self.assertEqual(cmr.is_regular(rows).verdict, "no")
+
     def test_evidence_is_given_where_it_is_asked_for(self) -> None:
         plain = cmr.is_totally_unimodular(TRIANGLE)
         self.assertIsNone(plain.tree)
