@@ -20,6 +20,7 @@ from .answers import Answer, Verdict
 from .chains import Chain
 from .errors import BadInput, ProgramFault
 from .graphs import Graph
+from .lines import LineSet
 from .matrix import Matrix
 from .printed import line_sets
 from .program import NO, YES, Ran, StrPath, run
@@ -180,16 +181,17 @@ def read_answer(ran: Ran, matrix: Matrix, property_name: str, *, word: str = "",
     verdict: Verdict = "yes" if ran.status == YES else "no" if ran.status == NO else "undecided"
     if ran.said(word or property_name) != verdict:
         raise ProgramFault(ran.status, f"the program is not cmr: it says {ran.lines[0]!r}")
+    found = line_sets(ran.lines)
     names = matrix.names
     texts = ran.files
     signed = Matrix.from_text(texts["signed"]) if "signed" in texts else None
     return Answer(
         property_name=property_name,
         verdict=verdict,
-        violator=printed_part(ran, matrix, "violator") or printed_part(ran, matrix, "fault"),
-        open=printed_part(ran, matrix, "open"),
-        minimal=printed_part(ran, matrix, "minimal"),
-        rest=printed_part(ran, matrix, "rest"),
+        violator=printed_part(found, matrix, "violator") or printed_part(found, matrix, "fault"),
+        open=printed_part(found, matrix, "open"),
+        minimal=printed_part(found, matrix, "minimal"),
+        rest=printed_part(found, matrix, "rest"),
         tree=Tree.from_text(texts["tree"], names) if "tree" in texts else None,
         graph=Graph.from_text(texts["graph"], directed=directed, names=names) if "graph" in texts else None,
         reductions=Reductions.from_text(texts["reductions"], names) if "reductions" in texts else None,
@@ -198,9 +200,9 @@ def read_answer(ran: Ran, matrix: Matrix, property_name: str, *, word: str = "",
     )
 
 
-def printed_part(ran: Ran, matrix: Matrix, word: str) -> Submatrix | None:
-    """The submatrix that a run has printed behind a word, or None where it has printed none."""
-    lines = line_sets(ran.lines).get(word)
+def printed_part(found: Mapping[str, LineSet], matrix: Matrix, word: str) -> Submatrix | None:
+    """The submatrix that stands behind a word in what was printed, or None where there is none."""
+    lines = found.get(word)
     return None if lines is None else Submatrix(matrix.shape, lines.rows, lines.columns, matrix.names)
 
 

@@ -69,9 +69,9 @@ def check(
     if ran.status == REFUSED:
         return _refusal(ran.said("refused"))
     says = cast(Literal["yes", "no", "undecided", "not regular"], ran.said("accepted"))
-    return Checked(
-        accepted=True, says=says, violator=printed_part(ran, taken, "violator"), open=printed_part(ran, taken, "open")
-    )
+    found = line_sets(ran.lines)
+    violator, left = printed_part(found, taken, "violator"), printed_part(found, taken, "open")
+    return Checked(accepted=True, says=says, violator=violator, open=left)
 
 
 def parts(
