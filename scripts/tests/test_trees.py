@@ -3,8 +3,7 @@
 import re
 import subprocess
 
-from shared.command import BadInput
-from shared.trees import parse_tree
+from cmr_matrices import BadInput, Tree
 from tests.support import ScriptTest, needs_dot, needs_python
 from tests.trees import EACH_KIND, chain, first_lines
 
@@ -25,14 +24,14 @@ NAMES = "r1 ann\nr2 bob\nr3 cat\nr4 dan\nc1 mon\nc2 tue\nc3 wed\nc4 thu\n"
 
 class Reading(ScriptTest):
     def test_each_kind_of_node(self):
-        tree = parse_tree(EACH_KIND)
-        outline = " ".join(f"{depth}{node.kind}" for depth, node in tree.preorder())
+        tree = Tree.from_text(EACH_KIND)
+        outline = " ".join(f"{depth}{node.kind}" for depth, node in tree.walk())
         self.assertEqual(
             outline,
             "0onesum 1reduced 2empty 1conetwork 1twosum 2network 2enumerated 1delta 2r10 2undecided 1y 2r10 2r10 "
             "1mixed 2r10 2r10 1concentrated 2r10 2r10 1cycle 1violator",
         )
-        joints = [node.joint for _, node in tree.preorder() if node.joint]
+        joints = [tuple(line.word for line in node.connectors) for _, node in tree.walk() if node.connectors]
         self.assertEqual(joints[0], ("r6", "c5"))
         self.assertEqual(
             joints[1:],
@@ -44,11 +43,11 @@ class Reading(ScriptTest):
 
     def test_both_versions(self):
         first = SHIFTS.replace("cmr-tree 2", "cmr-tree 1")
-        self.assertEqual(parse_tree(first), parse_tree(SHIFTS))
+        self.assertEqual(Tree.from_text(first), Tree.from_text(SHIFTS))
 
     def test_depths_that_the_format_allows(self):
-        tree = parse_tree(chain(*["twosum", "reduced"] * 1000))
-        self.assertEqual(max(depth for depth, _ in tree.preorder()), 2000)
+        tree = Tree.from_text(chain(*["twosum", "reduced"] * 1000))
+        self.assertEqual(max(depth for depth, _ in tree.walk()), 2000)
 
     def test_texts_that_are_no_trees(self):
         for text, fault in [
@@ -71,7 +70,7 @@ class Reading(ScriptTest):
             ("cmr-tree 1 2 2\nempty 0 0\nempty", "words follow the last node"),
         ]:
             with self.subTest(text=text[:60]), self.assertRaises(BadInput) as refused:
-                parse_tree(text)
+                Tree.from_text(text)
             self.assertEqual(str(refused.exception), f"no decomposition tree: {fault}")
 
 

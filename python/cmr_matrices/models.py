@@ -1,7 +1,7 @@
-"""Linear models, read by GLPK through Debian's `python3-swiglpk`.
+"""Constraints of linear models, and models in files, read by GLPK through Debian's `python3-swiglpk`.
 
-GLPK reads fixed and free MPS and keeps the names, without their blanks. Models in GNU MathProg and in the LP format of CPLEX are turned into free
-MPS by `glpsol` of Debian's `glpk-utils`.
+GLPK reads fixed and free MPS and keeps the names, without their blanks. Models in GNU MathProg and in the LP format of CPLEX
+are turned into free MPS by `glpsol` of Debian's `glpk-utils`.
 """
 
 from __future__ import annotations
@@ -16,7 +16,9 @@ from dataclasses import dataclass
 from pathlib import Path
 from typing import Any
 
-from .command import BadInput
+from .errors import BadInput
+
+__all__ = ["Coefficient", "Model", "format_of", "read_model"]
 
 TRANSLATIONS = {"lp": "--lp", "mathprog": "--math"}
 FORMATS = {".lp": "lp", ".mod": "mathprog"}
@@ -111,7 +113,7 @@ def _numbers(count: int) -> range:
 
 def _glpk() -> Any:
     try:
-        import swiglpk  # type: ignore[import] # pylint: disable=import-outside-toplevel
+        import swiglpk  # pylint: disable=import-outside-toplevel
     except ImportError as fault:
         raise BadInput("reading a model needs Debian's python3-swiglpk") from fault
     return swiglpk

@@ -1,4 +1,4 @@
-"""How the scripts read, write and end.
+"""How the commands read, write and end.
 
 Texts are UTF-8, and a name in another encoding passes with its bytes as they are.
 """
@@ -11,10 +11,13 @@ import signal
 import sys
 from collections.abc import Callable
 from pathlib import Path
+from typing import TypeVar
 
+from ..errors import BadInput
 
-class BadInput(Exception):
-    """An input that a script refuses. Its text is the line for standard error."""
+__all__ = ["end", "read_as", "read_text", "write_text"]
+
+_Value = TypeVar("_Value")
 
 
 def end(work: Callable[[], None]) -> int:
@@ -69,6 +72,15 @@ def read_text(name: str) -> str:
     except OSError as fault:
         raise BadInput(f"cannot read {name}: {fault.strerror}") from fault
     return data.decode("utf-8", "surrogateescape")
+
+
+def read_as(name: str, reader: Callable[[str], _Value]) -> _Value:
+    """What a reader makes of the text of a file; where it refuses the text, the file is named."""
+    text = read_text(name)
+    try:
+        return reader(text)
+    except BadInput as fault:
+        raise BadInput(f"{name}: {fault}") from fault
 
 
 def write_text(name: str, text: str) -> None:

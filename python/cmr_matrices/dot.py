@@ -1,8 +1,12 @@
-"""Graphs in DOT, the language of Graphviz."""
+"""Graphs in DOT, the language of Graphviz, and their pictures."""
 
 from __future__ import annotations
 
+import shutil
+import subprocess
 from collections.abc import Iterable, Mapping
+
+__all__ = ["Attributes", "document", "quoted", "statement", "svg"]
 
 Attributes = Mapping[str, str]
 
@@ -22,3 +26,12 @@ def statement(subject: str, attributes: Attributes) -> str:
 def document(kind: str, name: str, statements: Iterable[str]) -> str:
     """A whole graph of the kind `graph` or `digraph`."""
     return f"{kind} {name} {{\n{''.join(statements)}}}\n"
+
+
+def svg(dot: str) -> str | None:
+    """The picture of a graph as SVG, or None where Graphviz is not there."""
+    program = shutil.which("dot")
+    if program is None:
+        return None
+    ran = subprocess.run([program, "-Tsvg"], input=dot, capture_output=True, text=True, encoding="utf-8", check=False)
+    return ran.stdout if ran.returncode == 0 else None

@@ -13,8 +13,10 @@ from collections.abc import Iterable, Iterator, Sequence
 from dataclasses import dataclass, field
 
 from .dot import document, statement
-from .names import LineSet, Names
-from .trees import JOINTS, LEAVES, Node, Tree
+from .lines import LineSet, Names
+from .nodes import CONNECTORS, LEAVES, Node, NodeKind
+
+__all__ = ["Style", "tree_picture"]
 
 ALIKE = 3
 WIDE = 12
@@ -41,11 +43,11 @@ class Style:
     small: int
 
 
-def tree_picture(tree: Tree, style: Style, limit: int) -> str:
+def tree_picture(root_node: Node, style: Style, limit: int) -> str:
     """The tree in DOT, with about as many boxes as the limit says."""
-    root = _boxes(tree.root, gather=False, limit=None)
+    root = _boxes(root_node, gather=False, limit=None)
     if sum(1 for _ in _all_boxes(root)) > limit:
-        root = _boxes(tree.root, gather=True, limit=limit)
+        root = _boxes(root_node, gather=True, limit=limit)
     numbers = {id(box): f"n{number}" for number, box in enumerate(_all_boxes(root))}
     defaults = [
         statement("graph", {"rankdir": "TB", "nodesep": "0.25", "ranksep": "0.35"}),
@@ -82,7 +84,7 @@ def _children(box: Box, gather: bool) -> list[Box]:
     shown = {id(node) for node in box.nodes}
     below = [child for node in box.nodes for child in node.children if id(child) not in shown]
     counts = Counter(node.kind for node in below)
-    boxes: dict[str | int, Box] = {}
+    boxes: dict[NodeKind | int, Box] = {}
     for node in below:
         if counts[node.kind] > (ALIKE if node.kind in LEAVES else WIDE):
             boxes.setdefault(node.kind, Box([], whole=node.kind not in LEAVES)).nodes.append(node)
@@ -95,7 +97,7 @@ def _gathered(node: Node) -> Box:
     """A node, and for a sum all sums of its kind that hang together with it, with the reductions between them."""
     nodes = [node]
     for one in nodes:
-        if one.kind in JOINTS:
+        if one.kind in CONNECTORS:
             nodes.extend(_joined(one))
     return Box(nodes)
 
@@ -139,11 +141,11 @@ def _label(box: Box, nodes: Sequence[Node], style: Style) -> list[str]:
 
 def _node_label(node: Node, style: Style) -> list[str]:
     label = [node.outline]
-    if node.joint:
-        label += _wrapped("at", _line_names(node.joint, style))
+    if node.connectors:
+        label += _wrapped("at", style.names.line_list(node.connectors))
     if node.removed:
         few = len(node.removed) <= style.small
-        label += _wrapped("without", _line_names(node.removed, style) if few else f"{len(node.removed)} lines")
+        label += _wrapped("without", style.names.line_list(node.removed) if few else f"{len(node.removed)} lines")
     if node.fault is not None and node.fault != node.lines:
         return label + _listed(node.fault, style)
     return label + _listed(node.lines, style)
@@ -155,10 +157,6 @@ def _listed(lines: LineSet, style: Style) -> list[str]:
     return _wrapped("rows", style.names.row_list(lines.rows)) + _wrapped(
         "columns", style.names.column_list(lines.columns)
     )
-
-
-def _line_names(words: Iterable[str], style: Style) -> str:
-    return " ".join(style.names.line(word) for word in words)
 
 
 def _wrapped(what: str, names: str) -> list[str]:

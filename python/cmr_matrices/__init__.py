@@ -1,0 +1,109 @@
+"""Total unimodularity and its relatives, with proved answers: matrices in, evidence out.
+
+The proved program `cmr` decides; this package runs it and reads what it wrote. Rows and columns are counted from 0 here, and
+from 1 in the program's texts.
+
+    >>> from cmr_matrices import is_totally_unimodular
+    >>> bool(is_totally_unimodular([[1, 1, 0], [0, 1, 1]]))
+    True
+"""
+
+from .answers import Answer, Checked, Parts
+from .chains import Chain, ChainStep
+from .constraints import Scaling
+from .errors import (
+    BadCommandLine,
+    BadEntry,
+    BadInput,
+    BadText,
+    CannotRead,
+    CannotWrite,
+    CmrError,
+    OutOfMemory,
+    ProgramFault,
+    ProgramMissing,
+    Refused,
+    TimeLimitReached,
+    Undecided,
+)
+from .graphs import Edge, Graph
+from .lines import Line, LineSet, Names
+from .matrix import Matrix
+from .modellers import from_linopy, from_model, from_model_scaled, from_pulp, from_pyomo, from_scipy
+from .nodes import Node
+from .program import find_program
+from .questions import (
+    has_no_cycle_fault,
+    is_balanced,
+    is_cographic,
+    is_conetwork,
+    is_graphic,
+    is_network,
+    is_regular,
+    is_series_parallel,
+    is_totally_unimodular,
+)
+from .reductions import Reduction, Reductions
+from .signings import Signing, SigningStep
+from .sources import MatrixLike
+from .submatrices import Submatrix
+from .tools import check, compose, generate, matrix_of, parts, sign
+from .trees import Tree
+
+__all__ = [
+    "Answer",
+    "BadCommandLine",
+    "BadEntry",
+    "BadInput",
+    "BadText",
+    "CannotRead",
+    "CannotWrite",
+    "Chain",
+    "ChainStep",
+    "Checked",
+    "CmrError",
+    "Edge",
+    "Graph",
+    "Line",
+    "LineSet",
+    "Matrix",
+    "MatrixLike",
+    "Names",
+    "Node",
+    "OutOfMemory",
+    "Parts",
+    "ProgramFault",
+    "ProgramMissing",
+    "Reduction",
+    "Reductions",
+    "Refused",
+    "Scaling",
+    "Signing",
+    "SigningStep",
+    "Submatrix",
+    "TimeLimitReached",
+    "Tree",
+    "Undecided",
+    "check",
+    "compose",
+    "find_program",
+    "from_linopy",
+    "from_model",
+    "from_model_scaled",
+    "from_pulp",
+    "from_pyomo",
+    "from_scipy",
+    "generate",
+    "has_no_cycle_fault",
+    "is_balanced",
+    "is_cographic",
+    "is_conetwork",
+    "is_graphic",
+    "is_network",
+    "is_regular",
+    "is_series_parallel",
+    "is_totally_unimodular",
+    "matrix_of",
+    "parts",
+    "sign",
+]

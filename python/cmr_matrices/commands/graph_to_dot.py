@@ -1,0 +1,39 @@
+"""Writes a graph of `cmr graphic -G` or `cmr network -G` as a picture in DOT, for example for `dot -Tsvg`.
+
+The edges of the tree are drawn in full and the edges that join the ends of paths are dashed. Each has the number or the name of
+the row or column for which it stands.
+"""
+
+from __future__ import annotations
+
+import argparse
+
+from ..graphs import Graph
+from ..lines import Names
+from .command import end, read_as, write_text
+
+
+def arguments() -> argparse.Namespace:
+    """What the words of the command line say."""
+    parser = argparse.ArgumentParser(description=__doc__, formatter_class=argparse.RawDescriptionHelpFormatter)
+    parser.add_argument(
+        "graph", metavar="GRAPH", nargs="?", default="-", help="the graph text; standard input where it is left out"
+    )
+    parser.add_argument(
+        "--names", metavar="NAMES", help="the names of model_to_matrix, to stand for the numbers of rows and columns"
+    )
+    parser.add_argument("--undirected", action="store_true", help="draw no arrows, as it fits a graph of `cmr graphic`")
+    return parser.parse_args()
+
+
+def _work(chosen: argparse.Namespace) -> None:
+    graph = read_as(chosen.graph, Graph.from_text)
+    names = read_as(chosen.names, Names.from_text) if chosen.names else Names.numbered(*graph.shape, first=1)
+    names.must_fit(*graph.shape)
+    write_text("-", graph.to_dot(names, directed=not chosen.undirected))
+
+
+def main() -> int:
+    """Runs the command, and gives its status."""
+    chosen = arguments()
+    return end(lambda: _work(chosen))

@@ -1,0 +1,37 @@
+"""Puts the names of a model in place of the numbers of rows and columns in what cmr printed or wrote.
+
+It takes what cmr prints, and the files of its options: submatrices, lists of reductions, graphs, and decomposition trees, which
+become outlines. With --tree the lines of a printed outline get what their nodes name.
+"""
+
+from __future__ import annotations
+
+import argparse
+
+from ..lines import Names
+from ..named_text import named_text
+from ..trees import Tree
+from .command import end, read_as, write_text
+
+
+def arguments() -> argparse.Namespace:
+    """What the words of the command line say."""
+    parser = argparse.ArgumentParser(description=__doc__, formatter_class=argparse.RawDescriptionHelpFormatter)
+    parser.add_argument("names", metavar="NAMES", help="the names that model_to_matrix wrote")
+    parser.add_argument(
+        "text", metavar="TEXT", nargs="?", default="-", help="what cmr made; standard input where it is left out"
+    )
+    parser.add_argument("--tree", metavar="TREE", help="the tree text of the printed outline")
+    return parser.parse_args()
+
+
+def _work(chosen: argparse.Namespace) -> None:
+    names = read_as(chosen.names, Names.from_text)
+    tree = read_as(chosen.tree, Tree.from_text) if chosen.tree else None
+    write_text("-", read_as(chosen.text, lambda text: named_text(text, names, tree)))
+
+
+def main() -> int:
+    """Runs the command, and gives its status."""
+    chosen = arguments()
+    return end(lambda: _work(chosen))

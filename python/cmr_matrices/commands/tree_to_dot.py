@@ -1,0 +1,42 @@
+"""Writes a decomposition tree of cmr as a picture in DOT, for example for `dot -Tsvg`.
+
+A box shows the kind of a node, its rows and columns by number, and where there are few of them by name. Leaves with a yes are
+green, faults red and undecided leaves yellow. In a tree with many nodes like ones are counted together.
+"""
+
+from __future__ import annotations
+
+import argparse
+
+from ..lines import Names
+from ..trees import Tree
+from .command import end, read_as, write_text
+
+
+def arguments() -> argparse.Namespace:
+    """What the words of the command line say."""
+    parser = argparse.ArgumentParser(description=__doc__, formatter_class=argparse.RawDescriptionHelpFormatter)
+    parser.add_argument(
+        "tree", metavar="TREE", nargs="?", default="-", help="the tree text; standard input where it is left out"
+    )
+    parser.add_argument(
+        "--names", metavar="NAMES", help="the names of model_to_matrix, to stand for the numbers of rows and columns"
+    )
+    parser.add_argument(
+        "--small", metavar="N", type=int, default=10, help="list the lines of nodes with at most N lines (10)"
+    )
+    parser.add_argument("--limit", metavar="N", type=int, default=40, help="draw about N boxes at most (40)")
+    return parser.parse_args()
+
+
+def _work(chosen: argparse.Namespace) -> None:
+    tree = read_as(chosen.tree, Tree.from_text)
+    names = read_as(chosen.names, Names.from_text) if chosen.names else Names.numbered(*tree.shape, first=1)
+    names.must_fit(*tree.shape)
+    write_text("-", tree.to_dot(names, small=chosen.small, limit=chosen.limit))
+
+
+def main() -> int:
+    """Runs the command, and gives its status."""
+    chosen = arguments()
+    return end(lambda: _work(chosen))

@@ -1,0 +1,126 @@
+"""What the package raises: inputs that are refused, and ends of the program that are no answers.
+
+Every exception here is a `CmrError`, and those with a builtin counterpart are that too: a refused input is a `ValueError`, a
+program that is missing a `FileNotFoundError`, a time limit a `TimeoutError`.
+"""
+
+from __future__ import annotations
+
+from collections.abc import Sequence
+
+__all__ = [
+    "BadCommandLine",
+    "BadEntry",
+    "BadInput",
+    "BadText",
+    "CannotRead",
+    "CannotWrite",
+    "CmrError",
+    "OutOfMemory",
+    "ProgramFault",
+    "ProgramMissing",
+    "Refused",
+    "TimeLimitReached",
+    "Undecided",
+]
+
+
+class CmrError(Exception):
+    """All that this package raises of its own."""
+
+
+class BadInput(CmrError, ValueError):
+    """An input that is refused: a matrix, a text, a name or a model. Its text is one line."""
+
+
+class BadEntry(BadInput):
+    """An entry that the matrix may not have, with its place counted from 0."""
+
+    def __init__(self, row: int, column: int, entry: object, allowed: str = "-1, 0 and 1") -> None:
+        super().__init__(row, column, entry, allowed)
+        self.row = row
+        self.column = column
+        self.entry = entry
+        self.allowed = allowed
+
+    def __str__(self) -> str:
+        return f"row {self.row}, column {self.column}: the entry {self.entry!r} is none of {self.allowed}"
+
+
+class Undecided(CmrError):
+    """The truth value of an answer that is undecided."""
+
+
+class Refused(CmrError):
+    """A sum that is none, or a tree that has no two parts. `cause` is the word, or the words, of the program."""
+
+    def __init__(self, cause: str) -> None:
+        super().__init__(cause)
+        self.cause = cause
+
+
+class TimeLimitReached(CmrError, TimeoutError):
+    """The program was ended, because it ran longer than its limit in seconds."""
+
+    def __init__(self, seconds: float) -> None:
+        super().__init__(seconds)
+        self.seconds = seconds
+
+    def __str__(self) -> str:
+        return f"no answer within {self.seconds:g} seconds"
+
+
+class ProgramMissing(CmrError, FileNotFoundError):
+    """There is no program at any of the places that were looked at."""
+
+    def __init__(self, places: Sequence[str]) -> None:
+        super().__init__(tuple(places))
+        self.places = tuple(places)
+
+    def __str__(self) -> str:
+        looked = "; ".join(self.places)
+        return f"the program cmr is not there (looked at: {looked}). In a clone of the repository `./cmr` proves and builds it"
+
+
+class ProgramFault(CmrError):
+    """The program ended without an answer: its status, negative for a signal, and its own line."""
+
+    def __init__(self, status: int, line: str) -> None:
+        super().__init__(status, line)
+        self.status = status
+        self.line = line
+
+    def __str__(self) -> str:
+        if self.line:
+            return self.line
+        return (
+            f"the program was ended by signal {-self.status}"
+            if self.status < 0
+            else f"the program has status {self.status}"
+        )
+
+
+class BadCommandLine(ProgramFault, ValueError):
+    """The program refuses its words (status 2): an option is out of its range."""
+
+
+class BadText(ProgramFault, BadInput):
+    """A text has a fault (status 3): its kind, and the byte before which all is in order, or None where it is too long."""
+
+    def __init__(self, status: int, line: str, kind: str, byte: int | None) -> None:
+        super().__init__(status, line)
+        self.args = (status, line, kind, byte)
+        self.kind = kind
+        self.byte = byte
+
+
+class CannotRead(ProgramFault, OSError):
+    """The program cannot read a file or its standard input (status 4)."""
+
+
+class CannotWrite(ProgramFault, OSError):
+    """The program cannot write a file or its standard output (status 4)."""
+
+
+class OutOfMemory(ProgramFault, MemoryError):
+    """Memory was refused to the program (status 5)."""

@@ -1,0 +1,160 @@
+"""Graphs that show that a matrix is graphic or a network matrix, their texts and their pictures.
+
+docs/FORMATS.md has the format, and docs/DEFINITIONS.md says when a graph shows the property.
+"""
+
+from __future__ import annotations
+
+import re
+from collections.abc import Iterator, Sequence
+from dataclasses import dataclass, field
+from typing import Any
+
+from .dot import document, statement, svg
+from .errors import BadInput
+from .lines import Kind, Line, Names
+
+__all__ = ["Edge", "Graph"]
+
+# Graphviz takes long for graphs with more edges, and nothing is seen in them.
+_DRAWN = 200
+_EDGE = re.compile(r"([0-9]{1,4}) ([0-9]{1,4}) ([rc][1-9][0-9]{0,3})")
+
+
+@dataclass(frozen=True, slots=True)
+class Edge:
+    """An edge with the row or column for which it stands."""
+
+    tail: int
+    head: int
+    line: Line
+
+
+@dataclass(frozen=True)
+class Graph:
+    """A tree on the nodes 0, 1, .., n with n arcs, and beside it a walk in this tree for each line of the other kind.
+
+    The arcs stand for the rows and the walks for the columns; where the transposed matrix was tested it is the other way
+    round. A line has a nonzero exactly at the arcs of its walk. In a directed graph the entry is 1 where the walk takes the
+    arc from its tail to its head, and -1 where it takes it backwards.
+    """
+
+    arcs: tuple[Edge, ...]
+    walks: tuple[Edge, ...]
+    directed: bool = True
+    names: Names | None = field(default=None, compare=False, repr=False)
+
+    @property
+    def edges(self) -> tuple[Edge, ...]:
+        """The arcs and then the walks."""
+        return self.arcs + self.walks
+
+    @property
+    def arc_kind(self) -> Kind:
+        """Whether the arcs stand for rows or for columns; for rows where there are no lines."""
+        if self.arcs:
+            return self.arcs[0].line.kind
+        return "row" if not self.walks or self.walks[0].line.kind == "column" else "column"
+
+    @property
+    def shape(self) -> tuple[int, int]:
+        """The numbers of rows and columns."""
+        counts = len(self.arcs), len(self.walks)
+        return counts if self.arc_kind == "row" else counts[::-1]
+
+    def to_networkx(self) -> Any:
+        """A multigraph of networkx, a `MultiDiGraph` where this graph is directed and else a `MultiGraph`.
+
+        Each edge has its `Line` as key and as attribute `line`, the line's name as `name`, and whether it is an arc of the
+        tree as `in_tree`.
+        """
+        import networkx  # pylint: disable=import-outside-toplevel
+
+        graph = networkx.MultiDiGraph() if self.directed else networkx.MultiGraph()
+        graph.add_nodes_from(range(len(self.arcs) + 1))
+        for edges, in_tree in ((self.arcs, True), (self.walks, False)):
+            for edge in edges:
+                name = self._names.line(edge.line)
+                graph.add_edge(edge.tail, edge.head, key=edge.line, line=edge.line, name=name, in_tree=in_tree)
+        return graph
+
+    def to_dot(self, names: Names | None = None, *, directed: bool | None = None) -> str:
+        """The graph in DOT: the edges of the tree are drawn in full, and the edges of walks are dashed."""
+        names = names or self._names
+        kind, join = ("digraph", "->") if (self.directed if directed is None else directed) else ("graph", "--")
+        nodes = [statement(str(node), {}) for node in range(len(self.arcs) + 1)]
+        arcs = [_drawn(edge, join, names, {"penwidth": "2"}) for edge in self.arcs]
+        walks = [_drawn(edge, join, names, _WALK) for edge in self.walks]
+        return document(kind, "network", _DEFAULTS + nodes + arcs + walks)
+
+    def _repr_svg_(self) -> str | None:
+        return svg(self.to_dot()) if len(self.edges) <= _DRAWN else None
+
+    def to_text(self) -> str:
+        """The graph text, with lines counted from 1."""
+        return "".join(f"{edge.tail} {edge.head} {edge.line.word}\n" for edge in self.edges)
+
+    @classmethod
+    def from_text(cls, text: str, *, directed: bool = True, names: Names | None = None) -> Graph:
+        """The graph that a text has. Raises `BadInput` where it is none."""
+        edges = []
+        for place, line in enumerate(text.splitlines(), 1):
+            found = _EDGE.fullmatch(line)
+            if not found:
+                raise BadInput(f"no graph, line {place} is not `TAIL HEAD rI` or `TAIL HEAD cJ`")
+            edges.append(Edge(int(found[1]), int(found[2]), Line.of_word(found[3])))
+        arcs, walks = _split(edges)
+        return cls(arcs, walks, directed, names)
+
+    @property
+    def _names(self) -> Names:
+        return self.names or Names.numbered(*(1 + max(numbers, default=-1) for numbers in _numbers(self.edges)))
+
+
+_DEFAULTS = [
+    statement("graph", {"nodesep": "0.4", "ranksep": "0.5"}),
+    statement(
+        "node", {"shape": "circle", "width": "0.3", "fixedsize": "true", "fontname": "Helvetica", "fontsize": "11"}
+    ),
+    statement("edge", {"fontname": "Helvetica", "fontsize": "10", "arrowsize": "0.6"}),
+]
+_WALK = {"style": "dashed", "color": "#3060a0", "fontcolor": "#3060a0"}
+
+
+def _drawn(edge: Edge, join: str, names: Names, look: dict[str, str]) -> str:
+    return statement(f"{edge.tail} {join} {edge.head}", {"label": names.line(edge.line)} | look)
+
+
+def _numbers(edges: Sequence[Edge]) -> Iterator[list[int]]:
+    for kind in ("row", "column"):
+        yield [edge.line.number for edge in edges if edge.line.kind == kind]
+
+
+def _split(edges: list[Edge]) -> tuple[tuple[Edge, ...], tuple[Edge, ...]]:
+    """The tree's edges come first, and all stand for lines of one kind; where all edges are loops at 0 there are none."""
+    kinds = [edge.line.kind for edge in edges]
+    size = kinds.count(kinds[0]) if any(edge.tail or edge.head for edge in edges) else 0
+    arcs, walks = tuple(edges[:size]), tuple(edges[size:])
+    for part in (arcs, walks):
+        if [edge.line for edge in part] != [Line(part[0].line.kind, number) for number in range(len(part))]:
+            raise BadInput("no graph, its edges do not stand for all rows and columns in their order")
+    if not _is_tree(arcs):
+        raise BadInput(f"no graph, its first edges are no tree on the nodes 0 to {size}")
+    if any(max(edge.tail, edge.head) > size for edge in walks):
+        raise BadInput("no graph, a path ends outside of the tree")
+    return arcs, walks
+
+
+def _is_tree(edges: tuple[Edge, ...]) -> bool:
+    parts = list(range(len(edges) + 1))
+
+    def part(node: int) -> int:
+        while parts[node] != node:
+            node = parts[node]
+        return node
+
+    for edge in edges:
+        if max(edge.tail, edge.head) > len(edges) or part(edge.tail) == part(edge.head):
+            return False
+        parts[part(edge.tail)] = part(edge.head)
+    return True

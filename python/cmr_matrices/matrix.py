@@ -1,0 +1,228 @@
+"""Matrices with entries -1, 0 and 1, and what they are made from."""
+
+from __future__ import annotations
+
+import re
+from bisect import bisect_left
+from collections.abc import Iterable, Sequence
+from contextlib import suppress
+from dataclasses import dataclass, field, replace
+from operator import index
+from typing import Any, cast
+
+from .errors import BadEntry, BadInput
+from .lines import Names
+from .sources import MatrixLike, entries_of
+from .words import LIMIT
+
+__all__ = ["Matrix"]
+
+_NUMBERS = re.compile(r"[0-9+\-\t-\r ]*")
+
+
+@dataclass(frozen=True)
+class Matrix:
+    """A matrix with entries -1, 0 and 1 and at most 1,000 rows and 1,000 columns, counted from 0.
+
+    `nonzeros` has a triple (row, column, value) for each nonzero, row by row. `names` may name all rows and columns, and evidence
+    then shows them; two matrices are equal where their shapes and nonzeros are.
+    """
+
+    shape: tuple[int, int]
+    nonzeros: tuple[tuple[int, int, int], ...] = field(repr=False)
+    names: Names | None = field(default=None, compare=False, repr=False)
+
+    def __post_init__(self) -> None:
+        rows, columns = self.shape
+        for count, kind in ((rows, "rows"), (columns, "columns")):
+            if not 0 <= count <= LIMIT:
+                raise BadInput(f"there are {count} {kind}, and a matrix may have at most {LIMIT}")
+        last = -1
+        for row, column, value in self.nonzeros:
+            place = row * columns + column
+            if not (0 <= column < columns and last < place < rows * columns):
+                raise BadInput(
+                    f"row {row}, column {column}: the places of nonzeros do not rise, or are outside of {rows}x{columns}"
+                )
+            if value not in (1, -1):
+                raise BadEntry(row, column, value, "-1 and 1, as a nonzero has to be")
+            last = place
+        if self.names is not None:
+            self.names.must_fit(rows, columns)
+
+    @classmethod
+    def of(
+        cls,
+        source: MatrixLike,
+        *,
+        row_names: Iterable[object] | None = None,
+        column_names: Iterable[object] | None = None,
+    ) -> Matrix:
+        """The matrix that another object stands for.
+
+        Taken are lists of lists, numpy arrays of two dimensions, sparse arrays and matrices of scipy of every format, pandas
+        frames, whose labels become names, and Sage matrices. An entry is taken where it equals -1, 0 or 1, so whole floats are,
+        and so are elements of finite fields.
+
+        Raises `BadEntry` at the first other entry, and `BadInput` where the shape is none.
+        """
+        if isinstance(source, Matrix):
+            matrix = source
+        else:
+            found = entries_of(source)
+            matrix = cls.from_triples(found.entries, found.shape)
+            row_names = found.row_names if row_names is None else row_names
+            column_names = found.column_names if column_names is None else column_names
+        return matrix._named(row_names, column_names)
+
+    @classmethod
+    def from_triples(cls, triples: Iterable[Sequence[Any]], shape: tuple[int, int]) -> Matrix:
+        """The matrix with a value at each (row, column, value), counted from 0, and 0 at all other places.
+
+        Raises `BadInput` where a place is named twice or is outside of the shape, and `BadEntry` for a value other than -1, 0, 1.
+        """
+        rows, columns = shape
+        entries: dict[tuple[int, int], int] = {}
+        for given_row, given_column, value in triples:
+            row, column = index(given_row), index(given_column)
+            if not (0 <= row < rows and 0 <= column < columns):
+                raise BadInput(
+                    f"row {row}, column {column}: there is no such place in a matrix of size {rows}x{columns}"
+                )
+            if (row, column) in entries:
+                raise BadInput(f"row {row}, column {column}: the place is named twice")
+            entries[row, column] = _entry(row, column, value)
+        nonzeros = tuple((row, column, value) for (row, column), value in sorted(entries.items()) if value)
+        return cls((rows, columns), nonzeros)
+
+    @property
+    def T(self) -> Matrix:  # noqa: N802 # pylint: disable=invalid-name
+        """The transposed matrix, with its names."""
+        rows, columns = self.shape
+        nonzeros = tuple(sorted((column, row, value) for row, column, value in self.nonzeros))
+        return Matrix((columns, rows), nonzeros, self.names and self.names.transposed())
+
+    def __getitem__(self, place: tuple[int, int]) -> int:
+        row, column = place
+        rows, columns = self.shape
+        if not (0 <= row < rows and 0 <= column < columns):
+            raise IndexError(f"there is no place {row}, {column} in a matrix of size {rows}x{columns}")
+        at = bisect_left(self.nonzeros, (row, column))
+        found = self.nonzeros[at] if at < len(self.nonzeros) else (rows, 0, 0)
+        return found[2] if found[:2] == (row, column) else 0
+
+    def submatrix(self, rows: Iterable[int], columns: Iterable[int]) -> Matrix:
+        """The submatrix on some rows and columns in the given order, with their names.
+
+        Raises `BadInput` where a line is given twice, or is none of the matrix.
+        """
+        rows, columns = tuple(rows), tuple(columns)
+        row_places = _places(rows, self.shape[0], "row")
+        column_places = _places(columns, self.shape[1], "column")
+        nonzeros = sorted(
+            (row_places[row], column_places[column], value)
+            for row, column, value in self.nonzeros
+            if row in row_places and column in column_places
+        )
+        return Matrix((len(rows), len(columns)), tuple(nonzeros), self.names and self.names.part(rows, columns))
+
+    def sum(self) -> int:
+        """The sum of all entries."""
+        return sum(value for _, _, value in self.nonzeros)
+
+    def must_be_binary(self) -> None:
+        """Raises `BadEntry` at the first entry -1."""
+        for row, column, value in self.nonzeros:
+            if value < 0:
+                raise BadEntry(row, column, value, "0 and 1")
+
+    def to_lists(self) -> list[list[int]]:
+        """The rows as lists of numbers."""
+        rows, columns = self.shape
+        lists = [[0] * columns for _ in range(rows)]
+        for row, column, value in self.nonzeros:
+            lists[row][column] = value
+        return lists
+
+    def to_numpy(self) -> Any:
+        """A numpy array of the same shape, of type int8."""
+        import numpy  # pylint: disable=import-outside-toplevel
+
+        triples = numpy.array(self.nonzeros, dtype=numpy.int64).reshape(-1, 3)
+        array = numpy.zeros(self.shape, dtype=numpy.int8)
+        array[triples[:, 0], triples[:, 1]] = triples[:, 2]
+        return array
+
+    def __array__(self, dtype: Any = None, copy: bool | None = None) -> Any:
+        if copy is False:
+            raise ValueError("a matrix becomes an array by a copy alone")
+        array = self.to_numpy()
+        return array if dtype is None else array.astype(dtype)
+
+    def to_scipy(self) -> Any:
+        """A sparse array of scipy in the format csr, of type int8."""
+        from scipy import sparse  # pylint: disable=import-outside-toplevel
+
+        return sparse.csr_array(self.to_numpy())
+
+    def to_text(self) -> str:
+        """The canonical sparse text, with lines counted from 1."""
+        rows, columns = self.shape
+        triples = [f"{row + 1} {column + 1} {value}\n" for row, column, value in self.nonzeros]
+        return "".join([f"{rows} {columns} {len(triples)}\n", *triples])
+
+    @classmethod
+    def from_text(cls, text: str, *, sparse: bool = False) -> Matrix:
+        """The matrix that a dense or a sparse text stands for. Raises `BadInput` or `BadEntry` where it is none."""
+        if not _NUMBERS.fullmatch(text):
+            raise BadInput("no matrix: the text has other words than numbers")
+        try:
+            numbers = [int(word) for word in text.split()]
+        except ValueError as fault:
+            raise BadInput(f"no matrix: {fault}") from fault
+        head = 3 if sparse else 2
+        if len(numbers) < head:
+            raise BadInput("no matrix: the text ends too early")
+        rows, columns = numbers[:2]
+        places = 3 * numbers[2] if sparse else rows * columns
+        if min(numbers[:head]) < 0 or len(numbers) != head + places:
+            raise BadInput("no matrix: the counts and the entries do not fit")
+        if sparse:
+            words = iter(numbers[3:])
+            return cls.from_triples(
+                ((row - 1, column - 1, value) for row, column, value in zip(words, words, words)), (rows, columns)
+            )
+        entries = numbers[2:]
+        triples = ((place // columns, place % columns, value) for place, value in enumerate(entries) if value)
+        return cls.from_triples(triples, (rows, columns))
+
+    def __str__(self) -> str:
+        return "\n".join(" ".join(f"{value:2d}" for value in row) for row in self.to_lists())
+
+    def _named(self, row_names: Iterable[object] | None, column_names: Iterable[object] | None) -> Matrix:
+        if row_names is None and column_names is None:
+            return self
+        plain = self.names or Names.numbered(*self.shape)
+        rows = plain.rows if row_names is None else tuple(str(name) for name in row_names)
+        columns = plain.columns if column_names is None else tuple(str(name) for name in column_names)
+        return replace(self, names=Names(rows, columns))
+
+
+def _places(lines: tuple[int, ...], count: int, kind: str) -> dict[int, int]:
+    """The place of each line in a list."""
+    places = {line: place for place, line in enumerate(lines)}
+    if len(places) < len(lines):
+        raise BadInput(f"a {kind} is given twice")
+    for line in lines:
+        if not 0 <= line < count:
+            raise BadInput(f"there is no {kind} {line} in a matrix with {count} {kind}s")
+    return places
+
+
+def _entry(row: int, column: int, value: Any) -> int:
+    """The entry as a whole number. 1 comes before -1, since the two are one where two is zero."""
+    with suppress(TypeError, ValueError):
+        for entry in (0, 1, -1):
+            if bool(value == entry):
+                return entry
+    raise BadEntry(row, column, cast(object, value))

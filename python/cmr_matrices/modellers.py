@@ -1,0 +1,149 @@
+"""Constraint matrices of linear models: of files, and of what PuLP, Pyomo, linopy and scipy keep in memory.
+
+The matrix has a row for each constraint and a column for each variable, with their names. The objective, right-hand sides and
+bounds do not occur in it. docs/FROM_A_MODEL.md says what a verdict on it says of the model.
+
+All raise `BadInput` where there are no rows, or more than 1,000 rows or columns, or where a coefficient is none of -1, 0 and 1,
+with the names of its row and its column.
+"""
+
+from __future__ import annotations
+
+import os
+import re
+from collections.abc import Iterable, Iterator, Sequence
+from typing import Any, Literal
+
+from .constraints import Scaling, matrix_of_model
+from .errors import BadInput
+from .matrix import Matrix
+from .models import Coefficient, Model, format_of, read_model
+from .program import StrPath
+from .sources import MatrixLike, entries_of
+
+__all__ = ["from_linopy", "from_model", "from_model_scaled", "from_pulp", "from_pyomo", "from_scipy", "matrix_of_file"]
+
+Format = Literal["mps", "lp", "mathprog"]
+
+
+def from_model(
+    path: StrPath,
+    *,
+    form: Format | None = None,
+    rows: str | re.Pattern[str] | None = None,
+    data: StrPath | None = None,
+) -> Matrix:
+    """The matrix of a model in a file: fixed or free MPS, the LP format of CPLEX, or GNU MathProg, which may have its `data` apart.
+
+    The suffix tells the format where `form` is left out: `.lp`, `.mod`, and all else is MPS. With `rows` the matrix has the rows
+    whose names have a match, and the columns that are in them. GLPK reads the files, so Debian's python3-swiglpk has to be there.
+    """
+    return matrix_of_file(path, form, rows, data)[0]
+
+
+def from_model_scaled(
+    path: StrPath,
+    *,
+    form: Format | None = None,
+    rows: str | re.Pattern[str] | None = None,
+    data: StrPath | None = None,
+) -> tuple[Matrix, tuple[Scaling, ...]]:
+    """The same where each row, and then each column, is divided by the common factor of its coefficients first.
+
+    Beside the matrix stand the lines that were divided: their right-hand sides have to be integral after the division.
+    """
+    return matrix_of_file(path, form, rows, data, scale=True)
+
+
+def matrix_of_file(
+    path: StrPath,
+    form: Format | None,
+    rows: str | re.Pattern[str] | None,
+    data: StrPath | None,
+    *,
+    scale: bool = False,
+) -> tuple[Matrix, tuple[Scaling, ...]]:
+    """The matrix of a model in a file, and the lines that were divided where it is scaled. Every fault names the file."""
+    name = os.fspath(path)
+    model = read_model(name, form or format_of(name), None if data is None else os.fspath(data))
+    try:
+        return matrix_of_model(model, re.compile(rows) if isinstance(rows, str) else rows, scale=scale)
+    except BadInput as fault:
+        raise BadInput(f"{name}: {fault}") from fault
+
+
+def from_pulp(problem: Any) -> Matrix:
+    """The matrix of a `pulp.LpProblem`: its constraints in their order, and its variables in the order of `variables()`."""
+    columns = tuple(variable.name for variable in problem.variables())
+    places = {name: place for place, name in enumerate(columns)}
+    found = (
+        (row, places[variable.name], value)
+        for row, constraint in enumerate(problem.constraints.values())
+        for variable, value in constraint.items()
+    )
+    return _matrix(tuple(problem.constraints), columns, found)
+
+
+def from_pyomo(model: Any) -> Matrix:
+    """The matrix of a model of Pyomo: its active constraints, and its variables that are not fixed.
+
+    Raises `BadInput` at a constraint that is not linear.
+    """
+    from pyomo.environ import Constraint, Var  # pylint: disable=import-outside-toplevel,import-error
+    from pyomo.repn import generate_standard_repn  # pylint: disable=import-outside-toplevel,import-error
+
+    variables = [variable for variable in model.component_data_objects(Var) if not variable.fixed]
+    constraints = list(model.component_data_objects(Constraint, active=True))
+    places = {id(variable): place for place, variable in enumerate(variables)}
+    found = []
+    for row, constraint in enumerate(constraints):
+        terms = generate_standard_repn(constraint.body)
+        if not terms.is_linear():
+            raise BadInput(f"row {constraint.name}: the constraint is not linear")
+        for variable, value in zip(terms.linear_vars, terms.linear_coefs):
+            found.append((row, places[id(variable)], value))
+    return _matrix(_names(constraints), _names(variables), found)
+
+
+def from_linopy(model: Any) -> Matrix:
+    """The matrix of a `linopy.Model`. Its lines have the labels of linopy as names, `con0`, `con1`, .., `var0`, `var1`, .."""
+    kept = model.matrices
+    entries = entries_of(kept.A)
+    rows = tuple(f"con{label}" for label in kept.clabels)
+    return _matrix(rows, tuple(f"var{label}" for label in kept.vlabels), entries.entries)
+
+
+def from_scipy(
+    A_ub: MatrixLike | None = None,  # noqa: N803 # pylint: disable=invalid-name
+    A_eq: MatrixLike | None = None,  # noqa: N803 # pylint: disable=invalid-name
+) -> Matrix:
+    """The matrix of the arguments of `scipy.optimize.linprog`: the rows of `A_ub`, and below them those of `A_eq`.
+
+    The rows are named `ub0`, `ub1`, .., `eq0`, `eq1`, .., and the columns `x0`, `x1`, ..
+    """
+    names: list[str] = []
+    found: list[tuple[int, int, Any]] = []
+    widths: set[int] = set()
+    for kind, source in (("ub", A_ub), ("eq", A_eq)):
+        if source is not None:
+            entries = entries_of(source)
+            found += ((row + len(names), column, value) for row, column, value in entries.entries)
+            names += (f"{kind}{row}" for row in range(entries.shape[0]))
+            widths.add(entries.shape[1])
+    if len(widths) > 1:
+        raise BadInput(f"A_ub and A_eq have {' and '.join(map(str, sorted(widths)))} columns")
+    columns = tuple(f"x{column}" for column in range(max(widths, default=0)))
+    return _matrix(tuple(names), columns, found)
+
+
+def _matrix(rows: Sequence[str], columns: Sequence[str], found: Iterable[tuple[int, int, Any]]) -> Matrix:
+    return matrix_of_model(Model(tuple(rows), tuple(columns), tuple(_coefficients(found))))[0]
+
+
+def _coefficients(found: Iterable[tuple[int, int, Any]]) -> Iterator[Coefficient]:
+    for row, column, value in found:
+        yield Coefficient(row, column, float(value))
+
+
+def _names(components: Iterable[Any]) -> tuple[str, ...]:
+    return tuple(str(component.name) for component in components)

@@ -1,0 +1,98 @@
+"""The nodes of decomposition trees and their kinds. docs/FORMATS.md has the kinds with their rules."""
+
+from __future__ import annotations
+
+from collections.abc import Iterator
+from dataclasses import dataclass, field
+from typing import Literal, get_args
+
+from .graphs import Graph
+from .lines import Line, LineSet
+
+__all__ = ["CONNECTORS", "KINDS_OF_VERSION", "LEAVES", "Node", "NodeKind"]
+
+NodeKind = Literal[
+    "empty",
+    "cycle",
+    "network",
+    "conetwork",
+    "r10",
+    "violator",
+    "enumerated",
+    "undecided",
+    "reduced",
+    "onesum",
+    "twosum",
+    "delta",
+    "y",
+    "mixed",
+    "concentrated",
+]
+
+LEAVES: frozenset[NodeKind] = frozenset(
+    {"empty", "cycle", "network", "conetwork", "r10", "violator", "enumerated", "undecided"}
+)
+
+CONNECTORS: dict[NodeKind, str] = {
+    "twosum": "rc",
+    "delta": "rccrcc",
+    "y": "rcrrcr",
+    "mixed": "rccrcr",
+    "concentrated": "rccrcr",
+}
+"""The lines at which the two children of a sum are joined, as rows and columns."""
+
+_KINDS: tuple[NodeKind, ...] = get_args(NodeKind)
+
+KINDS_OF_VERSION: dict[str, dict[str, NodeKind]] = {
+    "1": {kind: kind for kind in _KINDS if kind != "concentrated"},
+    "2": {kind: kind for kind in _KINDS},
+}
+"""The kinds of nodes for which a text of each version has words."""
+
+
+@dataclass(frozen=True, eq=False)
+class Node:
+    """A node with its lines, what it says of them, and its children. Lines are those of the whole matrix, counted from 0.
+
+    `fault` are the lines of a fault (`cycle` and `violator`); `graph` shows a `network`, and of a `conetwork` the transposed
+    matrix; `removed` are the lines that a `reduced` node takes away, one after another. A sum of two matrices has its `connectors`,
+    row and column of a `twosum` and (i, p, q) and (k, j, o) of a three-sum, and `side`, the lines of side one.
+    """
+
+    kind: NodeKind
+    lines: LineSet
+    children: tuple[Node, ...] = field(default=(), repr=False)
+    fault: LineSet | None = None
+    graph: Graph | None = field(default=None, repr=False)
+    removed: tuple[Line, ...] = ()
+    connectors: tuple[Line, ...] = ()
+    side: LineSet | None = field(default=None, repr=False)
+
+    @property
+    def rows(self) -> tuple[int, ...]:
+        """The rows of the node's submatrix."""
+        return self.lines.rows
+
+    @property
+    def columns(self) -> tuple[int, ...]:
+        """The columns of the node's submatrix."""
+        return self.lines.columns
+
+    @property
+    def is_leaf(self) -> bool:
+        """Whether nodes of this kind have no children."""
+        return self.kind in LEAVES
+
+    @property
+    def outline(self) -> str:
+        """The kind and the size, as the program prints them."""
+        return f"{self.kind} {self.lines.size}"
+
+    def walk(self) -> Iterator[tuple[int, Node]]:
+        """This node and each node below it in preorder, with its depth below this one."""
+        pending = [(0, self)]
+        while pending:
+            depth, node = pending.pop()
+            yield depth, node
+            pending.extend((depth + 1, child) for child in reversed(node.children))

@@ -1,0 +1,139 @@
+"""The proved program: where it is, and a run of it."""
+
+from __future__ import annotations
+
+import os
+import re
+import shutil
+import subprocess
+import tempfile
+from collections.abc import Mapping, Sequence
+from contextlib import ExitStack
+from dataclasses import dataclass
+from pathlib import Path
+
+from .errors import (
+    BadCommandLine,
+    BadText,
+    CannotRead,
+    CannotWrite,
+    CmrError,
+    OutOfMemory,
+    ProgramFault,
+    ProgramMissing,
+    TimeLimitReached,
+)
+
+__all__ = ["NO", "REFUSED", "UNDECIDED", "YES", "Ran", "StrPath", "find_program", "run"]
+
+StrPath = str | os.PathLike[str]
+
+YES, NO, UNDECIDED, REFUSED = 0, 1, 6, 7
+
+_CLONE = Path(__file__).resolve().parents[2]
+_TEXT_FAULT = re.compile(r"cmr: .*: (?:(?P<kind>[A-Za-z]+) at byte (?P<byte>[0-9]+)|TooLong)", re.DOTALL)
+
+
+@dataclass(frozen=True)
+class Ran:
+    """A run that has answered: its status, the lines that it printed, and the texts of the files that it wrote, by name."""
+
+    status: int
+    lines: tuple[str, ...]
+    files: Mapping[str, str]
+
+    def said(self, *words: str) -> str:
+        """What the first line says behind one of some words and a colon. Raises `ProgramFault` where it is no such line."""
+        line = self.lines[0] if self.lines else ""
+        word, colon, said = line.partition(": ")
+        if not colon or word not in words:
+            raise ProgramFault(self.status, f"the program is not cmr: its first line is {line!r}")
+        return said
+
+    def file(self, name: str) -> str:
+        """The text of a file that is written for every answer. Raises `ProgramFault` where it was not written."""
+        if name not in self.files:
+            raise ProgramFault(self.status, f"the program is not cmr: it did not write the file {name}")
+        return self.files[name]
+
+
+def find_program(program: StrPath | None = None) -> Path:
+    """The program: what is given, or else what `CMR_PROGRAM` names, or is on the `PATH`, or is built in this clone.
+
+    Raises `ProgramMissing` with the places that were looked at. A place that is named is the only one.
+    """
+    named = program if program is not None else os.environ.get("CMR_PROGRAM")
+    if named is not None:
+        path = Path(named).absolute()
+        if not os.access(path, os.X_OK) or path.is_dir():
+            raise ProgramMissing([f"{'the argument' if program is not None else 'CMR_PROGRAM'} {named}"])
+        return path
+    found = shutil.which("cmr")
+    if found is not None:
+        return Path(found).absolute()
+    built = _CLONE / "crates" / "cmr" / "out" / "cmr"
+    if os.access(built, os.X_OK):
+        return built
+    is_clone = (_CLONE / "crates.txt").exists()
+    clone = f"the clone, {built}" if is_clone else "the clone, but the package stands in none"
+    raise ProgramMissing(["CMR_PROGRAM, which is not set", "PATH", clone])
+
+
+def run(
+    words: Sequence[str],
+    *,
+    text: str = "",
+    inputs: Mapping[str, str] | None = None,
+    outputs: Sequence[str] = (),
+    program: StrPath | None = None,
+    time_limit: float | None = None,
+) -> Ran:
+    """A run of the program on standard input and on files, in a folder that is gone once it ends.
+
+    `inputs` are the texts of the files that it reads, and `outputs` the names of those that it may write; its words name them as
+    they stand here. `time_limit` is in seconds. Whatever ends the call also ends the program.
+
+    Raises `ProgramMissing`, `TimeLimitReached` or, where the program does not answer, the `ProgramFault` of its status.
+    """
+    command = [str(find_program(program)), *words]
+    with ExitStack() as stack:
+        has_files = bool(inputs or outputs)
+        folder = stack.enter_context(tempfile.TemporaryDirectory(prefix="cmr-")) if has_files else None
+        for name, content in (inputs or {}).items():
+            _write(Path(folder or "", name), content)
+        try:
+            ran = subprocess.run(
+                command, input=_encoded(text), capture_output=True, cwd=folder, timeout=time_limit, check=False
+            )
+        except subprocess.TimeoutExpired as fault:
+            raise TimeLimitReached(fault.timeout) from None
+        except FileNotFoundError:
+            raise ProgramMissing([command[0]]) from None
+        if ran.returncode not in (YES, NO, UNDECIDED, REFUSED):
+            raise _fault(ran.returncode, ran.stderr.decode("utf-8", "surrogateescape").rstrip("\n"))
+        files = {name: path.read_text("ascii") for name in outputs if (path := Path(folder or "", name)).exists()}
+    return Ran(ran.returncode, tuple(ran.stdout.decode("ascii").splitlines()), files)
+
+
+def _write(path: Path, content: str) -> None:
+    path.write_bytes(_encoded(content))
+
+
+def _encoded(text: str) -> bytes:
+    return text.encode("utf-8", "surrogateescape")
+
+
+def _fault(status: int, line: str) -> CmrError:
+    match status:
+        case 2:
+            return BadCommandLine(status, line)
+        case 3:
+            found = _TEXT_FAULT.fullmatch(line)
+            if found and found["kind"]:
+                return BadText(status, line, found["kind"], int(found["byte"]))
+            return BadText(status, line, "TooLong", None)
+        case 4:
+            return (CannotWrite if line.startswith("cmr: cannot write") else CannotRead)(status, line)
+        case 5:
+            return OutOfMemory(status, line)
+    return ProgramFault(status, line)

@@ -1,0 +1,147 @@
+"""The texts of decomposition trees: version 2 is written, and 1 is read too. docs/FORMATS.md has the format."""
+
+from __future__ import annotations
+
+from dataclasses import dataclass, field
+
+from .errors import BadInput
+from .graphs import Edge, Graph
+from .lines import Line, LineSet
+from .nodes import CONNECTORS, KINDS_OF_VERSION, Node, NodeKind
+from .words import Words
+
+__all__ = ["read_tree", "tree_text"]
+
+
+def read_tree(text: str) -> tuple[tuple[int, int], Node]:
+    """The shape of the matrix and the root of the tree that a text has. Raises `BadInput` where it is none."""
+    try:
+        return _TreeReader(text).tree()
+    except BadInput as fault:
+        raise BadInput(f"no decomposition tree: {fault}") from fault
+
+
+def tree_text(shape: tuple[int, int], root: Node) -> str:
+    """The canonical text of a tree, of version 2."""
+    lines = ["cmr-tree 2", f"{shape[0]} {shape[1]}"]
+    for _, node in root.walk():
+        lines.append(f"{node.kind} {node.lines.words}")
+        own = _own_part(node)
+        if own:
+            lines.append(own)
+    return "\n".join([*lines, ""])
+
+
+def _own_part(node: Node) -> str:
+    match node.kind:
+        case "cycle" | "violator":
+            return "" if node.fault is None else node.fault.words
+        case "reduced":
+            return " ".join([str(len(node.removed)), *(line.word for line in node.removed)])
+        case "onesum":
+            return str(len(node.children))
+        case "network" | "conetwork":
+            return "" if node.graph is None else " ".join(f"{edge.tail} {edge.head}" for edge in node.graph.edges)
+        case kind if kind in CONNECTORS:
+            numbers = " ".join(str(line.number + 1) for line in node.connectors)
+            return f"{numbers} {node.side.words}" if node.side else numbers
+    return ""
+
+
+@dataclass
+class _Found:
+    """A node that is read, with the number of its children."""
+
+    kind: NodeKind
+    lines: LineSet
+    due: int = 0
+    fault: LineSet | None = None
+    graph: Graph | None = None
+    removed: tuple[Line, ...] = ()
+    connectors: tuple[Line, ...] = ()
+    side: LineSet | None = None
+    children: list[Node] = field(default_factory=list)
+
+    def node(self) -> Node:
+        return Node(
+            self.kind,
+            self.lines,
+            tuple(self.children),
+            self.fault,
+            self.graph,
+            self.removed,
+            self.connectors,
+            self.side,
+        )
+
+
+class _TreeReader:
+    """Reads a tree without recursion, since a tree may have a depth of 2,000."""
+
+    def __init__(self, text: str) -> None:
+        self._words = Words(text)
+        self._kinds = KINDS_OF_VERSION["2"]
+        self._shape = (0, 0)
+
+    def tree(self) -> tuple[tuple[int, int], Node]:
+        name, version = self._words.word(), self._words.word()
+        if name != "cmr-tree" or version not in KINDS_OF_VERSION:
+            raise BadInput("it does not begin with the words `cmr-tree 1` or `cmr-tree 2`")
+        self._kinds = KINDS_OF_VERSION[version]
+        self._shape = self._words.shape()
+        pending = [self._node()]
+        while True:
+            if pending[-1].due:
+                pending[-1].due -= 1
+                pending.append(self._node())
+                continue
+            node = pending.pop().node()
+            if not pending:
+                self._words.end("words follow the last node")
+                return self._shape, node
+            pending[-1].children.append(node)
+
+    def _node(self) -> _Found:
+        """The next node, without its children."""
+        word = self._words.word()
+        if word not in self._kinds:
+            raise self._words.unknown(word, "no kind of node")
+        found = _Found(self._kinds[word], self._line_set())
+        self._own_part(found)
+        return found
+
+    def _own_part(self, found: _Found) -> None:
+        """Reads what stands between the lines of a node and its children."""
+        lines = found.lines
+        match found.kind:
+            case "cycle" | "violator":
+                found.fault = self._line_set()
+            case "network":
+                found.graph = self._graph(_as_lines("row", lines), _as_lines("column", lines))
+            case "conetwork":
+                found.graph = self._graph(_as_lines("column", lines), _as_lines("row", lines))
+            case "reduced":
+                found.removed = tuple(self._words.line(self._shape) for _ in range(self._words.count(len(lines))))
+                found.due = 1
+            case "onesum":
+                found.due = self._words.count(len(lines))
+            case kind if kind in CONNECTORS:
+                found.connectors = tuple(self._connector(letter) for letter in CONNECTORS[kind])
+                found.side = self._line_set()
+                found.due = 2
+
+    def _connector(self, letter: str) -> Line:
+        return self._words.row(self._shape) if letter == "r" else self._words.column(self._shape)
+
+    def _graph(self, arcs: list[Line], walks: list[Line]) -> Graph:
+        return Graph(self._edges(arcs, len(arcs)), self._edges(walks, len(arcs)))
+
+    def _edges(self, lines: list[Line], last: int) -> tuple[Edge, ...]:
+        return tuple(Edge(self._words.count(last), self._words.count(last), line) for line in lines)
+
+    def _line_set(self) -> LineSet:
+        return self._words.line_set(self._shape)
+
+
+def _as_lines(kind: str, lines: LineSet) -> list[Line]:
+    return [line for line in lines if line.kind == kind]

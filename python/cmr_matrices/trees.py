@@ -1,0 +1,106 @@
+"""Decomposition trees, which say why a matrix is totally unimodular or where it fails to be.
+
+docs/FORMATS.md has the kinds of nodes with their rules, and docs/DEFINITIONS.md says why a tree that keeps them tells right.
+Source: Seymour's decomposition of regular matroids; Truemper, *Matroid Decomposition*.
+"""
+
+from __future__ import annotations
+
+from collections.abc import Iterator
+from dataclasses import dataclass, field
+from typing import Any, Literal
+
+from .dot import svg
+from .lines import Names
+from .nodes import LEAVES, Node
+from .tree_picture import Style, tree_picture
+from .tree_text import read_tree, tree_text
+
+__all__ = ["Tree", "outline_lines"]
+
+
+@dataclass(frozen=True, eq=False)
+class Tree:
+    """A decomposition tree of a matrix with the given shape. Two trees are equal where their texts are."""
+
+    shape: tuple[int, int]
+    root: Node = field(repr=False)
+    names: Names | None = field(default=None, repr=False)
+
+    def walk(self) -> Iterator[tuple[int, Node]]:
+        """Each node in preorder, with its depth: 0 for the root."""
+        return self.root.walk()
+
+    @property
+    def verdict(self) -> Literal["yes", "no", "undecided"]:
+        """What the tree says: no where a node has a fault, else undecided where one is left open, else yes."""
+        kinds = {node.kind for _, node in self.walk()}
+        if kinds & {"cycle", "violator"}:
+            return "no"
+        return "undecided" if "undecided" in kinds else "yes"
+
+    def outline(self, names: Names | None = None) -> str:
+        """The tree as text: a line for each node with its depth, its kind and size, and the names of the lines that it speaks of."""
+        return "\n".join(outline_lines(self, names or self.names or Names.numbered(*self.shape)))
+
+    def to_networkx(self) -> Any:
+        """A `DiGraph` of networkx from parents to children: the nodes in preorder are 0, 1, .., with their `Node` as `node`."""
+        import networkx  # pylint: disable=import-outside-toplevel
+
+        graph = networkx.DiGraph()
+        parents: list[int] = []
+        for number, (depth, node) in enumerate(self.walk()):
+            graph.add_node(number, node=node, kind=node.kind, rows=node.rows, columns=node.columns)
+            parents[depth:] = [number]
+            if depth:
+                graph.add_edge(parents[depth - 1], number)
+        return graph
+
+    def to_dot(self, names: Names | None = None, *, small: int = 10, limit: int = 40) -> str:
+        """The tree in DOT, with about `limit` boxes at most. Nodes with at most `small` lines show them."""
+        shown = names or self.names or Names.numbered(*self.shape)
+        return tree_picture(self.root, Style(shown, small), limit)
+
+    def _repr_svg_(self) -> str | None:
+        return svg(self.to_dot())
+
+    def to_text(self) -> str:
+        """The canonical tree text of version 2, with lines counted from 1."""
+        return tree_text(self.shape, self.root)
+
+    @classmethod
+    def from_text(cls, text: str, names: Names | None = None) -> Tree:
+        """The tree that a text of version 1 or 2 has. Raises `BadInput` where it is none."""
+        shape, root = read_tree(text)
+        return cls(shape, root, names)
+
+    def __eq__(self, other: object) -> bool:
+        return isinstance(other, Tree) and self.to_text() == other.to_text()
+
+    def __hash__(self) -> int:
+        return hash(self.to_text())
+
+    def __reduce__(self) -> tuple[Any, ...]:
+        # A tree may be deeper than what pickle takes.
+        return Tree.from_text, (self.to_text(), self.names)
+
+    def __str__(self) -> str:
+        return "\n".join(f"{depth} {node.outline}" for depth, node in self.walk())
+
+
+def outline_lines(tree: Tree, names: Names) -> Iterator[str]:
+    """The lines of the outline, one after another. Raises `BadInput` where the names are those of another matrix."""
+    names.must_fit(*tree.shape)
+    for depth, node in tree.walk():
+        yield " ".join(filter(None, (str(depth), node.outline, _named_node(node, names))))
+
+
+def _named_node(node: Node, names: Names) -> str:
+    """The lines of a fault or a leaf, what a reduction takes away, and where the children of a sum are joined."""
+    if node.fault is not None:
+        return f"fault {names.line_set(node.fault)}"
+    if node.removed:
+        return f"without {names.line_list(node.removed)}"
+    if node.connectors:
+        return f"at {names.line_list(node.connectors)}"
+    return names.line_set(node.lines) if node.kind in LEAVES else ""

@@ -1,0 +1,53 @@
+"""What the tests share, and what they pass over where something is not there."""
+
+from __future__ import annotations
+
+import importlib.util
+import shutil
+import sys
+import unittest
+from collections.abc import Callable
+from pathlib import Path
+from typing import Any, TypeVar
+
+from cmr_matrices import ProgramMissing, find_program
+
+TOP = Path(__file__).resolve().parents[2]
+EXAMPLES = TOP / "examples"
+
+FANO = [[1, 1, 0, 1], [1, 0, 1, 1], [0, 1, 1, 1]]
+K5 = [[1, 1, 1, 0, 0, 0], [1, 0, 0, 1, 1, 0], [0, 1, 0, 1, 0, 1], [0, 0, 1, 0, 1, 1]]
+R10 = [[1, 1, 0, 0, 1], [1, 1, 1, 0, 0], [0, 1, 1, 1, 0], [0, 0, 1, 1, 1], [1, 0, 0, 1, 1]]
+TRIANGLE = [[1, 1, 0], [0, 1, 1], [1, 0, 1]]
+
+_TOLD: set[str] = set()
+
+_Test = TypeVar("_Test", bound=Callable[..., Any])
+
+
+def _is_built() -> bool:
+    try:
+        find_program()
+    except ProgramMissing:
+        return False
+    return True
+
+
+def _needs(tool: str, found: bool) -> Callable[[_Test], _Test]:
+    if not found and tool not in _TOLD:
+        print(f"{tool} is not there: what needs it is passed over", file=sys.stderr)
+        _TOLD.add(tool)
+    return unittest.skipUnless(found, f"{tool} is not there")
+
+
+def needs_module(name: str) -> Callable[[_Test], _Test]:
+    """Passes a test over by name where Python has no such module."""
+    return _needs(name, importlib.util.find_spec(name) is not None)
+
+
+def needs_command(name: str) -> Callable[[_Test], _Test]:
+    """Passes a test over by name where the system has no such command."""
+    return _needs(name, shutil.which(name) is not None)
+
+
+needs_program = _needs("the program cmr", _is_built())

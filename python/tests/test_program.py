@@ -1,0 +1,232 @@
+"""How the program is found and run: statuses are exceptions, and no call leaves a process or a file."""
+
+from __future__ import annotations
+
+import os
+import pickle
+import signal
+import subprocess
+import sys
+import tempfile
+import textwrap
+import time
+import unittest
+from collections.abc import Callable
+from pathlib import Path
+from unittest import mock
+
+from cmr_matrices import (
+    Answer,
+    BadCommandLine,
+    BadInput,
+    BadText,
+    CannotRead,
+    CannotWrite,
+    OutOfMemory,
+    ProgramFault,
+    ProgramMissing,
+    TimeLimitReached,
+    check,
+    find_program,
+    generate,
+    is_balanced,
+    is_totally_unimodular,
+)
+from cmr_matrices.program import run
+from tests.support import FANO, TOP, needs_program
+
+
+class Folder(unittest.TestCase):
+    """A test with a folder, which is also that of temporary files."""
+
+    def setUp(self) -> None:
+        folder = tempfile.TemporaryDirectory()
+        self.addCleanup(folder.cleanup)
+        self.folder = Path(folder.name)
+        self.temporary = self.folder / "temporary"
+        self.temporary.mkdir()
+        self.enterContext(mock.patch.object(tempfile, "tempdir", str(self.temporary)))
+        self.enterContext(mock.patch.dict(os.environ))
+
+    def script(self, text: str) -> Path:
+        """A stand-in for the program, in the language of the shell."""
+        path = self.folder / "program"
+        path.write_text(f"#!/bin/sh\n{text}\n", encoding="ascii")
+        path.chmod(0o755)
+        return path
+
+    def left(self) -> list[str]:
+        return os.listdir(self.temporary)
+
+
+class Finding(Folder):
+    def test_the_argument_comes_first(self) -> None:
+        script = self.script("exit 0")
+        os.environ["CMR_PROGRAM"] = "/none"
+        self.assertEqual(find_program(script), script)
+
+    def test_the_variable_and_the_path(self) -> None:
+        script = self.script("exit 0")
+        os.environ["CMR_PROGRAM"] = str(script)
+        self.assertEqual(find_program(), script)
+        del os.environ["CMR_PROGRAM"]
+        script.rename(self.folder / "cmr")
+        os.environ["PATH"] = str(self.folder)
+        self.assertEqual(find_program(), self.folder / "cmr")
+
+    @needs_program
+    def test_the_clone_comes_last(self) -> None:
+        os.environ.pop("CMR_PROGRAM", None)
+        os.environ["PATH"] = ""
+        self.assertEqual(find_program(), TOP / "crates" / "cmr" / "out" / "cmr")
+
+    def test_a_program_that_is_missing(self) -> None:
+        with self.assertRaises(ProgramMissing) as missing:
+            find_program("/none/cmr")
+        self.assertEqual(missing.exception.places, ("the argument /none/cmr",))
+        self.assertIn("`./cmr` proves and builds it", str(missing.exception))
+        self.assertIsInstance(missing.exception, FileNotFoundError)
+        os.environ["CMR_PROGRAM"] = str(self.folder)
+        with self.assertRaises(ProgramMissing) as missing:
+            is_totally_unimodular(FANO)
+        self.assertEqual(missing.exception.places, (f"CMR_PROGRAM {self.folder}",))
+        del os.environ["CMR_PROGRAM"]
+        os.environ["PATH"] = ""
+        with mock.patch("cmr_matrices.program._CLONE", self.folder), self.assertRaises(ProgramMissing) as missing:
+            find_program()
+        self.assertEqual(len(missing.exception.places), 3)
+
+
+class Statuses(Folder):
+    def fault(self, status: int, line: str) -> ProgramFault:
+        script = self.script(f"cat > /dev/null; echo '{line}' >&2; exit {status}")
+        with self.assertRaises(ProgramFault) as fault:
+            is_totally_unimodular(FANO, certificate=True, program=script)
+        self.assertEqual((fault.exception.status, str(fault.exception)), (status, line))
+        self.assertEqual(self.left(), [])
+        return fault.exception
+
+    def test_each_status_has_its_exception(self) -> None:
+        for status, line, kind, builtin in [
+            (2, "cmr: bad command line", BadCommandLine, ValueError),
+            (3, "cmr: -: Short at byte 12", BadText, ValueError),
+            (3, "cmr: -: TooLong", BadText, ValueError),
+            (4, "cmr: cannot read -", CannotRead, OSError),
+            (4, "cmr: cannot read the command line", CannotRead, OSError),
+            (4, "cmr: cannot write tree", CannotWrite, OSError),
+            (5, "cmr: out of memory", OutOfMemory, MemoryError),
+            (70, "cmr was not built", ProgramFault, Exception),
+        ]:
+            with self.subTest(line=line):
+                fault = self.fault(status, line)
+                self.assertIs(type(fault), kind)
+                self.assertIsInstance(fault, builtin)
+                copy = pickle.loads(pickle.dumps(fault))
+                self.assertEqual((type(copy), str(copy), copy.status), (kind, line, status))
+
+    def test_the_kind_and_the_byte_of_a_text(self) -> None:
+        fault = self.fault(3, "cmr: a: b: Short at byte 12")
+        self.assertIsInstance(fault, BadText)
+        assert isinstance(fault, BadText)
+        self.assertEqual((fault.kind, fault.byte), ("Short", 12))
+        fault = self.fault(3, "cmr: -: TooLong")
+        assert isinstance(fault, BadText)
+        self.assertEqual((fault.kind, fault.byte), ("TooLong", None))
+
+    def test_another_program_is_not_taken_for_it(self) -> None:
+        for status, printed in [(0, ""), (0, "all is well"), (0, "totally unimodular: no"), (1, "regular: no")]:
+            script = self.script(f"cat > /dev/null; echo '{printed}'; exit {status}")
+            with self.subTest(printed=printed), self.assertRaises(ProgramFault) as fault:
+                is_totally_unimodular(FANO, program=script)
+            self.assertTrue(str(fault.exception).startswith("the program is not cmr: "), fault.exception)
+        with self.assertRaises(ProgramFault):
+            generate("network", 3, 1, program=self.script("exit 0"))
+        with self.assertRaises(ProgramFault):
+            check(FANO, "3 4 0 0", program=self.script("exit 0"))
+
+    def test_a_signal(self) -> None:
+        with self.assertRaises(ProgramFault) as fault:
+            is_totally_unimodular(FANO, program=self.script("kill -9 $$"))
+        self.assertEqual((fault.exception.status, str(fault.exception)), (-9, "the program was ended by signal 9"))
+
+    @needs_program
+    def test_faults_of_the_program_itself(self) -> None:
+        with self.assertRaises(BadText) as fault:
+            check(FANO, "cmr-tree 3\n")
+        self.assertEqual((fault.exception.kind, fault.exception.byte), ("WrongVersion", 9))
+        self.assertEqual(str(fault.exception), "cmr: evidence: WrongVersion at byte 9")
+        with self.assertRaises(BadCommandLine):
+            generate("twosum", 250, 1)
+        with self.assertRaises(CannotRead):
+            run(["tu", "none"])
+        with self.assertRaises(CannotWrite):
+            run(["tu", "-D", "none/tree"], text="0 0", outputs=("tree",))
+        self.assertEqual(self.left(), [])
+
+    def test_options_out_of_their_ranges(self) -> None:
+        questions: tuple[Callable[..., Answer], ...] = (is_totally_unimodular, is_balanced)
+        for options, line in [
+            ({"lines": 25}, "lines is a number from 0 to 24, and here it is 25"),
+            ({"lines": -1}, "lines is a number from 0 to 24, and here it is -1"),
+            ({"workers": 0}, "workers is a number from 1 to 64, and here it is 0"),
+        ]:
+            for question in questions:
+                with self.assertRaises(BadInput) as refused:
+                    question(FANO, **options)
+                self.assertEqual(str(refused.exception), line)
+
+
+class Ends(Folder):
+    """Whatever ends a call leaves no process and no file."""
+
+    def is_gone(self, number: Path) -> None:
+        process = int(number.read_text(encoding="ascii"))
+        for _ in range(100):
+            try:
+                os.kill(process, 0)
+            except ProcessLookupError:
+                return
+            time.sleep(0.02)
+        self.fail("the program still runs")
+
+    def sleeping(self) -> Path:
+        return self.script(
+            f"echo $$ > {self.folder}/number.new; mv {self.folder}/number.new {self.folder}/number; exec sleep 60"
+        )
+
+    def test_a_time_limit(self) -> None:
+        with self.assertRaises(TimeLimitReached) as limit:
+            is_totally_unimodular(FANO, certificate=True, program=self.sleeping(), time_limit=0.5)
+        self.assertEqual((str(limit.exception), limit.exception.seconds), ("no answer within 0.5 seconds", 0.5))
+        self.assertIsInstance(limit.exception, TimeoutError)
+        self.is_gone(self.folder / "number")
+        self.assertEqual(self.left(), [])
+
+    def test_an_interrupt(self) -> None:
+        code = f"""
+            import sys, tempfile
+            sys.path.insert(0, {str(TOP / "python")!r})
+            tempfile.tempdir = {str(self.temporary)!r}
+            from cmr_matrices import is_totally_unimodular
+            is_totally_unimodular([[1]], certificate=True, program={str(self.sleeping())!r})
+        """
+        with subprocess.Popen([sys.executable, "-c", textwrap.dedent(code)], stderr=subprocess.PIPE) as caller:
+            for _ in range(500):
+                if (self.folder / "number").exists():
+                    break
+                time.sleep(0.02)
+            self.assertEqual(len(self.left()), 1)
+            caller.send_signal(signal.SIGINT)
+            _, said = caller.communicate(timeout=20)
+        self.assertIn(b"KeyboardInterrupt", said)
+        self.is_gone(self.folder / "number")
+        self.assertEqual(self.left(), [])
+
+    @needs_program
+    def test_an_answer(self) -> None:
+        self.assertFalse(is_totally_unimodular(FANO, certificate=True, time_limit=60))
+        self.assertEqual(self.left(), [])
+
+
+if __name__ == "__main__":
+    unittest.main()
