@@ -11,7 +11,7 @@ from dataclasses import dataclass, field
 from pathlib import Path
 
 from building.clone import BUILT, TOP
-from shared.command import BadInput, ignore_signals
+from cmr_matrices.commands.command import BadInput, ignore_signals
 
 FOLDER = "lib/cmr"
 LIST = f"{FOLDER}/installed"
