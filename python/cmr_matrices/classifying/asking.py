@@ -1,0 +1,92 @@
+"""A run of the program at the least cost: it is started without Python's `subprocess`, on a file, and gives its first line."""
+
+from __future__ import annotations
+
+import os
+import re
+import select
+import signal
+import time
+from collections.abc import Sequence
+from typing import Any
+
+from ..errors import BadText, CmrError, ProgramFault, TimeLimitReached
+from ..program import NO, UNDECIDED, YES, fault_of
+
+__all__ = ["ask", "end_with_the_program", "fault_words"]
+
+_VERDICTS = {YES: "yes", NO: "no", UNDECIDED: "undecided"}
+_running: list[int] = []
+
+
+def ask(program: str, words: Sequence[str], said: str, time_limit: float | None = None) -> str:
+    """The verdict of a run. Raises what `run` of the package raises.
+
+    The program hears no interrupt, so that a run is either finished or ended with the process that asks.
+    """
+    reading, writing = os.pipe()
+    try:
+        process = os.posix_spawn(
+            program,
+            [program, *words],
+            os.environ,
+            file_actions=[
+                (os.POSIX_SPAWN_OPEN, 0, os.devnull, os.O_RDONLY, 0),
+                (os.POSIX_SPAWN_DUP2, writing, 1),
+                (os.POSIX_SPAWN_DUP2, writing, 2),
+            ],
+        )
+    except BaseException:
+        os.close(reading)
+        raise
+    finally:
+        os.close(writing)
+    _running.append(process)
+    try:
+        printed = _printed(reading, process, time_limit)
+    except BaseException:
+        os.kill(process, signal.SIGKILL)
+        os.waitpid(process, 0)
+        raise
+    finally:
+        os.close(reading)
+        _running.clear()
+    return _verdict(*printed, said)
+
+
+def end_with_the_program(_number: int, _frame: Any) -> None:
+    """Ends this process at once, and the run that it waits for."""
+    for process in _running:
+        os.kill(process, signal.SIGKILL)
+    os._exit(128 + signal.SIGTERM)
+
+
+def _printed(reading: int, process: int, time_limit: float | None) -> tuple[int, str]:
+    """The status, and the front of what was printed."""
+    deadline = None if time_limit is None else time.monotonic() + time_limit
+    front = b""
+    while True:
+        if deadline is not None and not select.select([reading], [], [], max(deadline - time.monotonic(), 0))[0]:
+            raise TimeLimitReached(time_limit or 0)
+        piece = os.read(reading, 65536)
+        if not piece:
+            break
+        front = (front + piece)[:4096]
+    return os.waitstatus_to_exitcode(os.waitpid(process, 0)[1]), front.decode("utf-8", "surrogateescape")
+
+
+def _verdict(status: int, printed: str, said: str) -> str:
+    line = printed.split("\n", 1)[0]
+    if status not in _VERDICTS:
+        raise fault_of(status, line)
+    verdict = _VERDICTS[status]
+    if line != f"{said}: {verdict}":
+        raise ProgramFault(status, f"the program is not cmr: its first line is {line!r}")
+    return verdict
+
+
+def fault_words(fault: CmrError) -> tuple[str, int | None]:
+    """The kind of a fault, and its byte where it has one."""
+    if isinstance(fault, BadText):
+        return fault.kind, fault.byte
+    return type(fault).__name__, None
