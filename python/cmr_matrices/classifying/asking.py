@@ -1,29 +1,49 @@
-"""A run of the program at the least cost: it is started without Python's `subprocess`, on a file, and gives its first line."""
+"""A run of the program at the least cost: it is started without Python's `subprocess`, and gives its first line."""
 
 from __future__ import annotations
 
 import os
-import re
 import select
 import signal
+import tempfile
 import time
-from collections.abc import Sequence
+from collections.abc import Iterator, Sequence
+from contextlib import contextmanager
 from typing import Any
 
 from ..errors import BadText, CmrError, ProgramFault, TimeLimitReached
 from ..program import NO, UNDECIDED, YES, fault_of
 
-__all__ = ["ask", "end_with_the_program", "fault_words"]
+__all__ = ["ask", "end_with_the_program", "fault_words", "held_text"]
 
 _VERDICTS = {YES: "yes", NO: "no", UNDECIDED: "undecided"}
 _running: list[int] = []
 
 
-def ask(program: str, words: Sequence[str], said: str, time_limit: float | None = None) -> str:
-    """The verdict of a run. Raises what `run` of the package raises.
+@contextmanager
+def held_text(text: bytes) -> Iterator[int]:
+    """A file with a text, as a number that runs read from, which has no name and is gone at the end."""
+    if hasattr(os, "memfd_create"):
+        file = os.memfd_create("matrix")
+        try:
+            with open(file, "wb", closefd=False) as stream:
+                stream.write(text)
+            yield file
+        finally:
+            os.close(file)
+    else:
+        with tempfile.TemporaryFile() as stream:
+            stream.write(text)
+            stream.flush()
+            yield stream.fileno()
+
+
+def ask(program: str, words: Sequence[str], text: int, said: str, time_limit: float | None = None) -> str:
+    """The verdict of a run on a held text. Raises what `run` of the package raises.
 
     The program hears no interrupt, so that a run is either finished or ended with the process that asks.
     """
+    os.lseek(text, 0, os.SEEK_SET)
     reading, writing = os.pipe()
     try:
         process = os.posix_spawn(
@@ -31,7 +51,7 @@ def ask(program: str, words: Sequence[str], said: str, time_limit: float | None 
             [program, *words],
             os.environ,
             file_actions=[
-                (os.POSIX_SPAWN_OPEN, 0, os.devnull, os.O_RDONLY, 0),
+                (os.POSIX_SPAWN_DUP2, text, 0),
                 (os.POSIX_SPAWN_DUP2, writing, 1),
                 (os.POSIX_SPAWN_DUP2, writing, 2),
             ],

@@ -7,7 +7,17 @@ from dataclasses import dataclass
 
 from ..errors import BadInput
 
-__all__ = ["CLASSES", "CLASS_NAMES", "INCLUSIONS", "Inclusion", "MatrixClass", "chosen_classes", "contradictions", "settle"]
+__all__ = [
+    "CLASSES",
+    "CLASS_NAMES",
+    "INCLUSIONS",
+    "Inclusion",
+    "MatrixClass",
+    "asking_order",
+    "chosen_classes",
+    "contradictions",
+    "settle",
+]
 
 
 @dataclass(frozen=True)
@@ -107,9 +117,13 @@ def settle(verdicts: dict[str, str], names: Sequence[str]) -> None:
                 changed = True
 
 
-def asking_order(classes: Iterable[MatrixClass]) -> list[MatrixClass]:
-    """The order in which classes are asked where answers settle others."""
-    rank = {name: place for place, name in enumerate(_ASKED_FIRST)}
+def asking_order(classes: Iterable[MatrixClass], is_sparse: bool) -> list[MatrixClass]:
+    """The order in which classes are asked where answers settle others.
+
+    A series-parallel 0/1 matrix is in all classes, so where there are few nonzeros that is asked first.
+    """
+    order = ("series-parallel", *_ASKED_FIRST) if is_sparse else _ASKED_FIRST
+    rank = {name: place for place, name in enumerate(order)}
     return sorted(classes, key=lambda kind: rank.get(kind.name, len(rank)))
 
 

@@ -37,8 +37,9 @@ class Cluster:
         except ImportError as fault:
             raise BadInput("--dask needs Debian's python3-distributed") from fault
         self._dask: Any = distributed
+        self._client: Any
         try:
-            self._client = distributed.Client(address, set_as_default=False)
+            self._client = self._dask.Client(address, set_as_default=False)
         except (OSError, ValueError) as fault:
             raise BadInput(f"there is no Dask scheduler at {address}: {fault}") from fault
         self._settings = replace(settings, program=program or _PROGRAM)
@@ -75,8 +76,8 @@ class Cluster:
         """Gives blocks until each thread of the cluster has two."""
         threads = sum(worker["nthreads"] for worker in self._client.scheduler_info()["workers"].values())
         while len(running) < max(2 * threads, 2):
-            block = again.popleft() if again else next(blocks, None)
-            if block is None:
+            block = again.popleft() if again else next(blocks, [])
+            if not block:
                 return
             taken = [with_texts(item) for item in block]
             future = self._client.submit(on_worker, taken, self._settings, pure=False)

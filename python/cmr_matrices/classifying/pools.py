@@ -11,7 +11,7 @@ import signal
 from collections import deque
 from collections.abc import Iterator
 from multiprocessing.connection import Connection, wait
-from typing import Any
+from typing import Any, cast
 
 from .asking import end_with_the_program
 from .streams import Item
@@ -58,8 +58,8 @@ class Processes:
         for connection in list(self._workers):
             self._give(connection, blocks)
         while self._given:
-            for connection in wait(list(self._given)):
-                assert isinstance(connection, Connection)
+            for ready in wait(list(self._given)):
+                connection = cast(Connection, ready)
                 try:
                     row: Row = connection.recv()
                 except (EOFError, OSError):
@@ -90,8 +90,8 @@ class Processes:
         return ours
 
     def _give(self, connection: Connection, blocks: Iterator[Block]) -> None:
-        block = self._again.popleft() if self._again else next(blocks, None)
-        if block is None:
+        block = self._again.popleft() if self._again else next(blocks, [])
+        if not block:
             return
         self._given[connection] = deque(block)
         try:

@@ -229,7 +229,9 @@ def _values(row: Row, classes: Sequence[str]) -> dict[str, Any]:
 
 
 def _lines_of(path: Path) -> Lines:
-    return _JsonLines() if path.suffix in (".jsonl", ".ndjson", ".json") else _Csv()
+    if path.suffix in (".jsonl", ".ndjson"):
+        return _JsonLines()
+    return _Csv()
 
 
 def _csv_line(words: Sequence[Any]) -> bytes:

@@ -2,18 +2,17 @@
 
 from __future__ import annotations
 
-import os
-import stat
 import tempfile
 import time
 from collections.abc import Mapping, Sequence
+from contextlib import ExitStack
 from dataclasses import dataclass, field, replace
 from pathlib import Path
 
 from ..errors import BadInput, BadText, CmrError, ProgramFault
 from ..matrix import Matrix
 from ..modellers import from_model
-from .asking import ask, fault_words
+from .asking import ask, fault_words, held_text
 from .classes import CLASSES, MatrixClass, asking_order, contradictions, settle
 from .streams import Format, Item
 
@@ -21,7 +20,8 @@ __all__ = ["CONTRADICTION", "Row", "Settings", "classify", "classify_block", "wi
 
 CONTRADICTION = "Contradiction"
 
-_CAMION = CLASSES[-1]
+_CAMION = next(kind for kind in CLASSES if kind.name == "camion")
+_REGULAR = next(kind for kind in CLASSES if kind.name == "regular")
 
 
 @dataclass(frozen=True)
@@ -98,19 +98,20 @@ def _read_and_asked(item: Item, settings: Settings) -> Row:
     if item.fault is not None:
         return _faulty(item, *item.fault)
     text = _model_text(item) if item.text is None else item.text
-    with tempfile.TemporaryDirectory(prefix="cmr-", dir=_memory_folder()) as folder:
-        file = Path(folder, "matrix")
-        file.write_bytes(text)
-        asked = _Asked(settings, file, item.form)
+    with ExitStack() as stack:
+        file = stack.enter_context(held_text(text))
+        folder = stack.enter_context(tempfile.TemporaryDirectory(prefix="cmr-")) if settings.evidence else None
+        asked = _Asked(settings, file, item.form, None if folder is None else Path(folder))
         shape = _shape_of(text, item.form)
         if shape is None:
             asked.must_be_read()
             raise ProgramFault(0, "the program reads a text whose counts and entries do not fit")
-        return _row(item, shape, asked, text)
+        row = _row(item, shape, asked, text)
+    return row
 
 
 def _row(item: Item, shape: _Shape, asked: _Asked, text: bytes) -> Row:
-    asked.all_classes(shape.is_binary)
+    asked.all_classes(shape)
     fault, message = asked.fault
     broken = [] if asked.settings.infers else [str(one) for one in contradictions(asked.verdicts)]
     if not asked.settings.infers and not shape.is_binary and not asked.support_fits(text):
@@ -134,20 +135,23 @@ def _row(item: Item, shape: _Shape, asked: _Asked, text: bytes) -> Row:
 class _Asked:
     """What the program says of the matrix in a file."""
 
-    def __init__(self, settings: Settings, file: Path, form: Format) -> None:
+    def __init__(self, settings: Settings, text: int, form: Format, folder: Path | None) -> None:
         self.settings = settings
         self.verdicts: dict[str, str] = {}
         self.evidence: dict[str, bytes] = {}
         self.fault: tuple[str | None, str | None] = (None, None)
-        self._file = file
+        self._text = text
         self._form = form
+        self._folder = folder
 
-    def all_classes(self, is_binary: bool) -> None:
+    def all_classes(self, shape: _Shape) -> None:
+        """Asks for each class that the matrix has a verdict on, but for those that are settled where that is wanted."""
         classes = self.settings.classes
-        names = [kind.name for kind in classes if is_binary or not kind.is_binary]
+        names = [kind.name for kind in classes if shape.is_binary or not kind.is_binary]
         if not names:
             self.must_be_read()
-        for kind in asking_order(classes) if self.settings.infers else classes:
+        is_sparse = shape.nonzeros <= shape.rows + shape.columns
+        for kind in asking_order(classes, is_sparse) if self.settings.infers else classes:
             if kind.name not in names:
                 self.verdicts[kind.name] = "-"
             elif kind.name not in self.verdicts:
@@ -157,24 +161,7 @@ class _Asked:
 
     def must_be_read(self) -> None:
         """Raises the fault that the text has, where no class is asked that would find it."""
-        self.verdict(_CAMION, self._file)
-
-    def verdict(self, kind: MatrixClass, file: Path | None = None, form: Format | None = None) -> str:
-        words = [*kind.words, "-i", form or self._form]
-        if kind.has_budget and self.settings.lines is not None:
-            words += ["--lines", str(self.settings.lines)]
-        if not self.settings.evidence or file is not None:
-            return ask(self.settings.program, [*words, str(file or self._file)], kind.said, self.settings.time_limit)
-        written = {ending: self._file.with_name(ending) for _, ending in kind.evidence}
-        for option, ending in kind.evidence:
-            words += [option, str(written[ending])]
-        try:
-            return ask(self.settings.program, [*words, str(self._file)], kind.said, self.settings.time_limit)
-        finally:
-            for ending, path in written.items():
-                if path.exists():
-                    self.evidence[f"{kind.name}/{ending}"] = path.read_bytes()
-                    path.unlink()
+        self._verdict(_CAMION, self._text, self._form, [])
 
     def support_fits(self, text: bytes) -> bool:
         """Whether the support of a totally unimodular matrix with signs is regular, where both classes are asked."""
@@ -182,14 +169,31 @@ class _Asked:
             return True
         matrix = Matrix.from_text(text.decode("ascii"), sparse=self._form == "sparse")
         support = Matrix(matrix.shape, tuple((row, column, 1) for row, column, _ in matrix.nonzeros))
-        file = self._file.with_name("support")
-        file.write_text(support.to_text(), encoding="ascii")
-        return self.verdict(CLASSES[1], file, "sparse") != "no"
+        with held_text(support.to_text().encode("ascii")) as file:
+            return self._verdict(_REGULAR, file, "sparse", []) != "no"
+
+    def _verdict(self, kind: MatrixClass, text: int, form: Format, options: Sequence[str]) -> str:
+        budget = ["--lines", str(self.settings.lines)] if kind.has_budget and self.settings.lines is not None else []
+        words = [*kind.words, "-i", form, *budget, *options]
+        return ask(self.settings.program, words, text, kind.said, self.settings.time_limit)
+
+    def _with_evidence(self, kind: MatrixClass) -> str:
+        if self._folder is None:
+            return self._verdict(kind, self._text, self._form, [])
+        paths = {ending: self._folder / ending for _, ending in kind.evidence}
+        options = [word for option, ending in kind.evidence for word in (option, str(paths[ending]))]
+        try:
+            return self._verdict(kind, self._text, self._form, options)
+        finally:
+            for ending, path in paths.items():
+                if path.exists():
+                    self.evidence[f"{kind.name}/{ending}"] = path.read_bytes()
+                    path.unlink()
 
     def _ask(self, kind: MatrixClass) -> None:
         """Asks for a class. A run that was ended by the limit of time leaves the class undecided, and the others are asked."""
         try:
-            self.verdicts[kind.name] = self.verdict(kind)
+            self.verdicts[kind.name] = self._with_evidence(kind)
         except TimeoutError as fault:
             self.verdicts[kind.name] = "undecided"
             self.fault = type(fault).__name__, f"{kind.name}: {fault}"
@@ -222,12 +226,3 @@ def _faulty(item: Item, kind: str, message: str | None, byte: int | None = None)
 
 def _kind(fault: Exception) -> str:
     return type(fault).__name__
-
-
-def _memory_folder() -> str | None:
-    """A folder in memory, where there is one."""
-    try:
-        is_there = stat.S_ISDIR(os.stat("/dev/shm").st_mode) and os.access("/dev/shm", os.W_OK)
-    except OSError:
-        is_there = False
-    return "/dev/shm" if is_there else None
