@@ -39,14 +39,14 @@ class Cluster:
         self._dask: Any = distributed
         self._client: Any
         try:
-            self._client = self._dask.Client(address, set_as_default=False)
+            self._client = self._dask.Client(address)
         except (OSError, ValueError) as fault:
             raise BadInput(f"there is no Dask scheduler at {address}: {fault}") from fault
         self._settings = replace(settings, program=program or _PROGRAM)
         with tempfile.TemporaryDirectory() as folder:
             self._client.upload_file(_zipped(Path(folder, "cmr_matrices.zip")))
             if program is None:
-                self._client.upload_file(shutil.copy(settings.program, Path(folder, _PROGRAM)))
+                self._client.upload_file(shutil.copy(settings.program, os.path.join(folder, _PROGRAM)))
 
     def rows(self, blocks: Iterator[Block]) -> Iterator[Row]:
         """The rows of all blocks, a block after the other as they are done."""
