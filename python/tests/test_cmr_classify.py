@@ -63,7 +63,6 @@ class CommandTest(unittest.TestCase):
         path.write_text(text, encoding="ascii")
         return path
 
-
     def waits_for(self, run: subprocess.Popen[bytes], table: Path, lines: int) -> None:
         """Waits until a run has written so many lines of its table."""
         while run.poll() is None and (not table.exists() or table.read_bytes().count(b"\n") < lines):
@@ -75,13 +74,18 @@ class Tables(CommandTest):
         self.runs("-", "--output", "table.csv", text=stream(20))
         self.runs("-", "--output", "table.jsonl", text=stream(20), *["--jobs", "2"])
         found, other = rows_of(self.folder / "table.csv"), rows_of(self.folder / "table.jsonl")
-        self.assertEqual(found, [{name: "" if value is None else str(value) for name, value in row.items()} for row in other])
+        self.assertEqual(
+            found, [{name: "" if value is None else str(value) for name, value in row.items()} for row in other]
+        )
         self.assertEqual([row["number"] for row in other], list(range(1, 21)))
 
     def test_standard_output(self) -> None:
         ran = self.runs("--classes", "graphic,tu", "-", text="1 1 1 1 1 -1")
         lines = list(csv.reader(ran.stdout.splitlines()))
-        self.assertEqual([line[:7] for line in lines[1:]], [["-", "1", "1", "1", "1", "yes", "yes"], ["-", "2", "1", "1", "1", "yes", "-"]])
+        self.assertEqual(
+            [line[:7] for line in lines[1:]],
+            [["-", "1", "1", "1", "1", "yes", "yes"], ["-", "2", "1", "1", "1", "yes", "-"]],
+        )
         self.assertIn("matrices   tu  graphic\n", ran.stderr)
 
     def test_names_of_files(self) -> None:
@@ -108,7 +112,9 @@ class Tables(CommandTest):
         self.file("a.txt", "1 1 7 1 1 1")
         ran = self.runs("a.txt", "missing", str(EXAMPLES / "triangle.txt"), "--output", "table.csv", status=3)
         found = [(row["number"], row["fault"], row["byte"]) for row in rows_of(self.folder / "table.csv")]
-        self.assertEqual(sorted(found), sorted([("1", "BadEntry", "4"), ("2", "", ""), ("1", "", ""), ("1", "CannotRead", "")]))
+        self.assertEqual(
+            sorted(found), sorted([("1", "BadEntry", "4"), ("2", "", ""), ("1", "", ""), ("1", "CannotRead", "")])
+        )
         self.assertTrue(ran.stdout.endswith("at fault: 1 BadEntry, 1 CannotRead\n"))
 
     def test_a_table_is_not_written_over(self) -> None:
@@ -120,7 +126,14 @@ class Tables(CommandTest):
         self.assertIn("no table", self.runs("-", "--output", "other.csv", "--resume", status=1).stderr)
 
     def test_words_that_are_refused(self) -> None:
-        for words in (["--part", "3/2"], ["--part", "0/2"], ["--jobs", "0"], ["--classes", "tu,x"], ["--resume"], ["--lines", "25"]):
+        for words in (
+            ["--part", "3/2"],
+            ["--part", "0/2"],
+            ["--jobs", "0"],
+            ["--classes", "tu,x"],
+            ["--resume"],
+            ["--lines", "25"],
+        ):
             self.runs("-", *words, status=2)
 
 
@@ -145,7 +158,9 @@ class Resumed(CommandTest):
         table = self.folder / "table.csv"
         words = ["stream", "--output", "table.csv", "--resume", "--jobs", "3", "--classes", "tu,regular,camion"]
         for place, kind in enumerate((signal.SIGKILL, signal.SIGINT, signal.SIGTERM, signal.SIGKILL), 1):
-            with subprocess.Popen([*COMMAND, *words], cwd=self.folder, stdout=subprocess.PIPE, stderr=subprocess.PIPE) as run:
+            with subprocess.Popen(
+                [*COMMAND, *words], cwd=self.folder, stdout=subprocess.PIPE, stderr=subprocess.PIPE
+            ) as run:
                 self.waits_for(run, table, 200 * place)
                 run.send_signal(kind)
                 run.wait()
@@ -190,7 +205,8 @@ class Lost(CommandTest):
         """A worker that its program kills is replaced; the matrix on which it dies twice has that fault, and no other."""
         program = self.folder / "cmr"
         program.write_text(
-            '#!/bin/sh\nread rows columns\nif [ "$rows" = 7 ]; then kill -9 $PPID; fi\necho "camion: yes"\n', encoding="ascii"
+            '#!/bin/sh\nread rows columns\nif [ "$rows" = 7 ]; then kill -9 $PPID; fi\necho "camion: yes"\n',
+            encoding="ascii",
         )
         program.chmod(0o755)
         text = ("1 1\n1\n" * 20) + "7 1\n1 1 1 1 1 1 1\n" + ("1 1\n1\n" * 20)
@@ -235,7 +251,9 @@ class OnDask(CommandTest):
         self.runs("stream", *classes, "--output", "here.csv")
         with self.cluster() as (address, workers):
             words = ["stream", *classes, "--dask", address, "--output", "table.csv", "--block", "10"]
-            with subprocess.Popen([*COMMAND, *words], cwd=self.folder, stdout=subprocess.PIPE, stderr=subprocess.PIPE) as run:
+            with subprocess.Popen(
+                [*COMMAND, *words], cwd=self.folder, stdout=subprocess.PIPE, stderr=subprocess.PIPE
+            ) as run:
                 table = self.folder / "table.csv"
                 self.waits_for(run, table, 200)
                 self.assertIsNone(run.poll(), run.poll() is not None and run.communicate()[1])

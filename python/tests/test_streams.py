@@ -100,20 +100,31 @@ class Faults(unittest.TestCase):
     def test_kinds_and_bytes(self) -> None:
         rows = self.rows(b"1 1 1\n 1 1 2\n1 1 x 2000 1 " + b"1 " * 2000 + b"1 1 -1 1 2 3")
         found = [(row.number, row.fault, row.byte) for row in rows]
-        self.assertEqual(found[:4], [(1, None, None), (2, "BadEntry", 11), (3, "NotNumber", 17), (4, "TooManyRows", 19)])
-        self.assertEqual([(row.fault, row.verdicts.get("graphic")) for row in rows[4:]], [(None, "-"), ("BadEntry", None)])
+        self.assertEqual(
+            found[:4], [(1, None, None), (2, "BadEntry", 11), (3, "NotNumber", 17), (4, "TooManyRows", 19)]
+        )
+        self.assertEqual(
+            [(row.fault, row.verdicts.get("graphic")) for row in rows[4:]], [(None, "-"), ("BadEntry", None)]
+        )
 
     def test_what_follows_a_count_that_is_none(self) -> None:
         rows = self.rows(b"1 1 1 1 what 1 1 1")
         self.assertEqual([row.message for row in rows], [None, "what follows is not read"])
 
     def test_a_single_text_has_the_fault_of_the_program(self) -> None:
-        for text, form in ((b" 1 1 ", "dense"), (b"1 2 1\n\n", "dense"), (b"1 1 1 2 1 1", "sparse"), (b"2 2 2 1 1 1 1 1 1 ", "sparse")):
+        for text, form in (
+            (b" 1 1 ", "dense"),
+            (b"1 2 1\n\n", "dense"),
+            (b"1 1 1 2 1 1", "sparse"),
+            (b"2 2 2 1 1 1 1 1 1 ", "sparse"),
+        ):
             ran = subprocess.run(
                 [find_program(), "network", "-i", form], input=text, capture_output=True, check=False, text=False
             )
             row = self.rows(text, "dense" if form == "dense" else "sparse")[0]
-            self.assertEqual(f"cmr: <stdin>: {row.fault} at byte {row.byte}\n", ran.stderr.decode().replace("-:", "<stdin>:"))
+            self.assertEqual(
+                f"cmr: <stdin>: {row.fault} at byte {row.byte}\n", ran.stderr.decode().replace("-:", "<stdin>:")
+            )
 
     def test_faults_where_no_class_is_asked(self) -> None:
         row = self.rows(b"2 2 2 1 1 -1 3 1 1", "sparse", "graphic,regular")[0]

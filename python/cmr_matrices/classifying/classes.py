@@ -45,7 +45,9 @@ CLASSES = (
     MatrixClass("network", ("network",), "network", evidence=_GRAPH),
     MatrixClass("conetwork", ("network", "-t"), "conetwork", evidence=_GRAPH),
     MatrixClass("series-parallel", ("series-parallel",), "series-parallel", evidence=_REDUCTIONS),
-    MatrixClass("binary-series-parallel", ("series-parallel", "-b"), "binary series-parallel", True, evidence=_REDUCTIONS),
+    MatrixClass(
+        "binary-series-parallel", ("series-parallel", "-b"), "binary series-parallel", True, evidence=_REDUCTIONS
+    ),
     MatrixClass("balanced", ("balanced",), "balanced", has_budget=True, evidence=(("-E", "violator"),)),
     MatrixClass("camion", ("camion",), "camion", evidence=(("-E", "violator"),)),
 )

@@ -86,11 +86,7 @@ def items_of(sources: Iterable[Source], form: Format) -> Iterator[Item]:
         number = 0
         try:
             with ExitStack() as stack:
-                stream = (
-                    sys.stdin.buffer
-                    if source.name == "-"
-                    else stack.enter_context(open(source.name, "rb"))
-                )
+                stream = sys.stdin.buffer if source.name == "-" else stack.enter_context(open(source.name, "rb"))
                 for number, (start, text, is_last) in enumerate(texts_of(stream, form), 1):
                     yield Item(source.name, number, text, form, start, len(text), is_last=is_last)
         except OSError as fault:

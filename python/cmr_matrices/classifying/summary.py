@@ -80,7 +80,10 @@ class Summary:
         length = max(round(_BAR * count / most), 1)
         places = [top + _CELL * place + _CELL // 2 for place in range(len(words))]
         within = [place for place, word in zip(places, words) if word == "yes"]
-        parts = [_box(middle - 7, top - 10 - length, 14, length, "#334455"), _text(middle, top - 14 - length, str(count))]
+        parts = [
+            _box(middle - 7, top - 10 - length, 14, length, "#334455"),
+            _text(middle, top - 14 - length, str(count)),
+        ]
         if len(within) > 1:
             parts.append(
                 f'<line x1="{middle}" y1="{within[0]}" x2="{middle}" y2="{within[-1]}" stroke="#334455" stroke-width="2"/>'

@@ -63,16 +63,37 @@ def arguments() -> argparse.Namespace:
     parser = argparse.ArgumentParser(description=__doc__, formatter_class=argparse.RawDescriptionHelpFormatter)
     add = parser.add_argument
     add("inputs", metavar="INPUT", nargs="+", help="a file, a folder, or - for standard input")
-    add("--classes", metavar="LIST", type=classes, default=",".join(CLASS_NAMES), help="some of %(default)s; all where left out")
+    add(
+        "--classes",
+        metavar="LIST",
+        type=classes,
+        default=",".join(CLASS_NAMES),
+        help="some of %(default)s; all where left out",
+    )
     add("--format", choices=("dense", "sparse"), default="dense", help="the format of texts (dense)")
-    add("--jobs", metavar="N", type=number(1, 1024), default=os.cpu_count() or 1, help="how many processes (one a processor)")
-    add("--output", metavar="TABLE", default="-", help="CSV, or by its ending .jsonl or .parquet; standard output where left out")
+    add(
+        "--jobs",
+        metavar="N",
+        type=number(1, 1024),
+        default=os.cpu_count() or 1,
+        help="how many processes (one a processor)",
+    )
+    add(
+        "--output",
+        metavar="TABLE",
+        default="-",
+        help="CSV, or by its ending .jsonl or .parquet; standard output where left out",
+    )
     add("--resume", action="store_true", help="go on with a table: what has a row there is not done again")
     add("--part", metavar="K/N", type=part, default=(1, 1), help="take every N-th matrix from the K-th on")
     add("--evidence", metavar="DIR", help="keep evidence in DIR/CLASS/FILE/NUMBER.KIND")
     add("--lines", metavar="L", type=number(0, 24), help="the budget of the searches (14)")
     add("--time-limit", metavar="S", type=number(1, 10**8), help="leave a class undecided after so many seconds")
-    add("--infer", action="store_true", help="do not ask what the known inclusions settle; consistency is then not looked at")
+    add(
+        "--infer",
+        action="store_true",
+        help="do not ask what the known inclusions settle; consistency is then not looked at",
+    )
     add("--picture", metavar="SVG", help="draw how many matrices are in which classes")
     add("--tables", action="store_true", help="INPUT are tables, such as those of parts: only sum them up")
     add("--dask", metavar="ADDRESS", help="send blocks to a Dask cluster, with the package and the program")
@@ -167,7 +188,13 @@ class _Run:
         progress.step(row)
 
     def _count(
-        self, file: str, place: int, verdicts: Any, fault: str | None, say: Callable[[str], None], message: str | None = None
+        self,
+        file: str,
+        place: int,
+        verdicts: Any,
+        fault: str | None,
+        say: Callable[[str], None],
+        message: str | None = None,
     ) -> None:
         broken = self.summary.add(verdicts, fault)
         if broken or fault == CONTRADICTION:
@@ -181,7 +208,9 @@ def print_lines(text: str) -> None:
 def _keep(folder: Path, row: Row, name: str, text: bytes) -> None:
     """Writes a text of evidence to a place that the names of the class and of the file tell."""
     kind, ending = name.split("/")
-    words = ["%2F" if part == "/" else part.replace("..", "%2E%2E") if part == ".." else part for part in _parts(row.file)]
+    words = [
+        "%2F" if part == "/" else part.replace("..", "%2E%2E") if part == ".." else part for part in _parts(row.file)
+    ]
     path = folder.joinpath(kind, *words, f"{row.number}.{ending}")
     try:
         path.parent.mkdir(parents=True, exist_ok=True)
