@@ -261,7 +261,17 @@ class OnDask(CommandTest):
                 self.assertLess(table.read_bytes().count(b"\n"), count)
                 said = run.communicate()[1]
             self.assertEqual(run.returncode, 0, said)
-        self.assertEqual(rows_of(table), rows_of(self.folder / "here.csv"))
+            self.assertEqual(rows_of(table), rows_of(self.folder / "here.csv"))
+            self.keeps_evidence(address)
+
+    def keeps_evidence(self, address: str) -> None:
+        """Evidence comes from the worker, a fault stands in its row, and a program that no worker has is told."""
+        words = ["-", "--dask", address, "--classes", "tu,network"]
+        self.runs(*words, "--evidence", "kept", "--output", "kept.csv", text="1 1 1 1 1 2", status=3)
+        self.assertEqual([row["fault"] for row in rows_of(self.folder / "kept.csv")], ["", "BadEntry"])
+        self.assertEqual((self.folder / "kept" / "network" / "-" / "1.graph").read_text(encoding="ascii").split()[2], "r1")
+        ran = self.runs(*words, "--worker-program", "/nowhere/cmr", text="1 1 1", status=1)
+        self.assertIn("on a worker the program cmr is not there", ran.stderr)
 
 
 if __name__ == "__main__":

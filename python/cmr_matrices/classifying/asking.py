@@ -70,7 +70,7 @@ def ask(program: str, words: Sequence[str], text: int, said: str, time_limit: fl
         raise
     finally:
         os.close(reading)
-        _running.clear()
+        _running.remove(process)
     return _verdict(*printed, said)
 
 

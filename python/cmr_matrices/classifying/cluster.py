@@ -16,7 +16,8 @@ from dataclasses import replace
 from pathlib import Path
 from typing import Any
 
-from ..errors import BadInput
+from ..errors import BadInput, ProgramMissing
+from ..program import find_program
 from .pools import Block, died
 from .streams import Item
 from .work import Row, Settings, classify_block, with_texts
@@ -63,7 +64,9 @@ class Cluster:
                 if len(block) == 1:
                     rows = [died(block[0], "several workers died on it")]
                 again.extend([item] for item in block if len(block) > 1)
-            except self._dask.CancelledError as fault:
+            except ProgramMissing as fault:
+                raise BadInput(f"on a worker {fault}") from fault
+            except (OSError, self._dask.CancelledError) as fault:
                 raise BadInput("the Dask scheduler is lost: --resume goes on with the table") from fault
             yield from rows
             self._fill(finished, running, again, blocks)
@@ -74,7 +77,7 @@ class Cluster:
 
     def _fill(self, finished: Any, running: dict[Any, Block], again: deque[Block], blocks: Iterator[Block]) -> None:
         """Gives blocks until each thread of the cluster has two."""
-        threads = sum(worker["nthreads"] for worker in self._client.scheduler_info()["workers"].values())
+        threads = sum(self._client.nthreads().values())
         while len(running) < max(2 * threads, 2):
             block = again.popleft() if again else next(blocks, [])
             if not block:
@@ -88,6 +91,7 @@ class Cluster:
 def on_worker(items: Sequence[Item], settings: Settings) -> list[Row]:
     """The rows of a block, on a worker. The program that was sent lies in the worker's own folder."""
     if settings.program != _PROGRAM:
+        find_program(settings.program)
         return classify_block(items, settings)
     from distributed import get_worker  # pylint: disable=import-outside-toplevel
 

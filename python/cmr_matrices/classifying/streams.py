@@ -215,11 +215,14 @@ def _cut(read: bytes) -> int:
 
 
 def _files_in(folder: str, left_out: set[str]) -> Iterator[str]:
-    for path, folders, files in os.walk(folder):
+    """The files in a folder, and the folders in it that cannot be read, which as files cannot be read either."""
+    unread: list[OSError] = []
+    for path, folders, files in os.walk(folder, onerror=unread.append):
         folders[:] = sorted(name for name in folders if not name.startswith(".") and _stays(path, name, left_out))
         for name in sorted(files):
-            if not name.startswith(".") and _stays(path, name, left_out):
+            if not name.startswith(".") and _stays(path, name, left_out) and os.path.isfile(os.path.join(path, name)):
                 yield os.path.join(path, name)
+    yield from (os.fsdecode(fault.filename) for fault in unread)
 
 
 def _stays(path: str, name: str, left_out: set[str]) -> bool:

@@ -20,7 +20,7 @@ from ..errors import BadInput
 from .classes import CLASS_NAMES
 from .work import Row
 
-__all__ = ["Done", "Lines", "Table", "columns_of", "open_table", "read_table"]
+__all__ = ["Done", "Lines", "Table", "columns_of", "files_of", "open_table", "read_table"]
 
 _BEFORE = ("file", "number", "rows", "columns", "nonzeros")
 _BEHIND = ("milliseconds", "fault", "byte", "message")
@@ -167,6 +167,11 @@ def open_table(name: str, classes: Sequence[str], *, resumes: bool) -> tuple[Tab
         raise BadInput(f"cannot write {name}: {fault.strerror}") from fault
     table = Table(stream, _lines_of(path), classes, finished)
     return table, _standing(table, stream, name, classes)
+
+
+def files_of(name: str) -> list[str]:
+    """The files that a table may have, also while it is written."""
+    return [] if name == "-" else [name, str(_working(Path(name)))]
 
 
 def read_table(name: str) -> Iterator[dict[str, Any]]:

@@ -18,7 +18,6 @@ from collections.abc import Callable, Iterator
 from contextlib import closing
 from pathlib import Path
 from typing import Any
-from urllib.parse import quote
 
 from ..classifying.classes import CLASS_NAMES, MatrixClass, chosen_classes
 from ..classifying.cluster import Cluster
@@ -26,13 +25,16 @@ from ..classifying.pools import Processes, blocks_of
 from ..classifying.progress import Progress
 from ..classifying.streams import Item, items_of, part_of, sources_of
 from ..classifying.summary import Summary
-from ..classifying.tables import Done, Table, open_table, read_table
+from ..classifying.tables import Done, Table, files_of, open_table, read_table
 from ..classifying.work import CONTRADICTION, Row, Settings
 from ..errors import BadInput, ProgramMissing
 from ..program import find_program
 from .command import end, write_text
 
 FAULTS, CONTRADICTIONS, INTERRUPTED = 3, 8, 130
+
+_WORDS = {"/": "%2F", "..": "%2E%2E"}
+"""What stands for a part of a path that would lead out of the folder of evidence."""
 
 
 def part(text: str) -> tuple[int, int]:
@@ -126,7 +128,9 @@ class _Run:
             for values in standing:
                 self.done.add(values["file"], values["number"])
                 self._count(values["file"], values["number"], values, values["fault"], print_lines)
-            sources = sources_of(chosen.inputs, [chosen.output, *([chosen.evidence] if chosen.evidence else [])])
+            sources = sources_of(
+                chosen.inputs, [*files_of(chosen.output), *([chosen.evidence] if chosen.evidence else [])]
+            )
             progress = Progress(sources, chosen.part[1])
             with closing(progress):
                 items = self._left(part_of(items_of(sources, chosen.format), *chosen.part), progress)
@@ -208,19 +212,13 @@ def print_lines(text: str) -> None:
 def _keep(folder: Path, row: Row, name: str, text: bytes) -> None:
     """Writes a text of evidence to a place that the names of the class and of the file tell."""
     kind, ending = name.split("/")
-    words = [
-        "%2F" if part == "/" else part.replace("..", "%2E%2E") if part == ".." else part for part in _parts(row.file)
-    ]
+    words = [_WORDS.get(word, word.replace("%", "%25")) for word in Path(row.file).parts]
     path = folder.joinpath(kind, *words, f"{row.number}.{ending}")
     try:
         path.parent.mkdir(parents=True, exist_ok=True)
         path.write_bytes(text)
     except OSError as fault:
         raise BadInput(f"cannot write {path}: {fault.strerror}") from fault
-
-
-def _parts(file: str) -> list[str]:
-    return [word if word == "/" else quote(os.fsencode(word), safe=" ") for word in Path(file).parts]
 
 
 def main() -> int:
