@@ -17,6 +17,7 @@ from contextlib import ExitStack, contextmanager
 from pathlib import Path
 from typing import Any
 
+from cmr_matrices import find_program
 from tests.support import EXAMPLES, TOP, needs_module, needs_program
 
 COMMAND = [sys.executable, str(TOP / "scripts" / "cmr-classify")]
@@ -125,6 +126,22 @@ class Tables(CommandTest):
         self.file("other.csv", "a,b\n1,2\n")
         self.assertIn("no table", self.runs("-", "--output", "other.csv", "--resume", status=1).stderr)
 
+    def test_a_damaged_table(self) -> None:
+        self.runs("-", "--output", "table.csv", text=stream(9))
+        lines = (self.folder / "table.csv").read_text(encoding="ascii").splitlines(keepends=True)
+        damaged = self.file("table.csv", "".join([*lines[:4], "-,4,1\n", *lines[5:]]))
+        for words in (["-", "--output", "table.csv", "--resume"], ["--tables", "table.csv"]):
+            self.assertIn("there is no row at byte", self.runs(*words, text=stream(9), status=1).stderr)
+        self.assertIn(b"-,4,1\n", damaged.read_bytes())
+
+    @needs_module("pyarrow")
+    def test_parquet(self) -> None:
+        self.runs("-", "--output", "table.parquet", text=stream(9))
+        self.assertEqual(sorted(os.listdir(self.folder)), ["table.parquet"])
+        self.runs("-", "--output", "table.parquet", "--resume", text=stream(12))
+        ran = self.runs("-", "--output", "table.csv", text=stream(12))
+        self.assertEqual(self.runs("--tables", "table.parquet").stdout, ran.stdout)
+
     def test_words_that_are_refused(self) -> None:
         for words in (
             ["--part", "3/2"],
@@ -190,6 +207,31 @@ class Resumed(CommandTest):
         found = [row for part in parts for row in rows_of(self.folder / part)]
         self.assertEqual(sorted(found, key=lambda row: int(row["number"])), rows_of(self.folder / "whole.csv"))
         self.assertIn("two rows", self.runs("--tables", "part1.csv", "part1.csv", status=1).stderr)
+
+
+class Interrupted(CommandTest):
+    def test_no_process_is_left(self) -> None:
+        program = self.folder / "cmr"
+        program.write_text("#!/bin/sh\necho $$ > began\nmv began process\nexec sleep 100\n", encoding="ascii")
+        program.chmod(0o755)
+        words = ["-", "--program", "./cmr", "--output", "table.csv"]
+        for kind in (signal.SIGINT, signal.SIGTERM):
+            with subprocess.Popen(
+                [*COMMAND, *words, "--resume"], cwd=self.folder, stdin=subprocess.PIPE, stderr=subprocess.PIPE
+            ) as run:
+                assert run.stdin is not None
+                run.stdin.write(b"1 1 1")
+                run.stdin.close()
+                run.stdin = None
+                while not (self.folder / "process").exists():
+                    time.sleep(0.01)
+                run.send_signal(kind)
+                said = run.communicate()[1]
+            self.assertEqual((run.returncode, said.count(b"\n")), (130, 1), said)
+            with self.assertRaises(ProcessLookupError):
+                os.kill(int((self.folder / "process").read_text(encoding="ascii")), 0)
+            (self.folder / "process").unlink()
+        self.assertEqual(rows_of(self.folder / "table.csv"), [])
 
 
 class Contradicted(CommandTest):
@@ -269,7 +311,10 @@ class OnDask(CommandTest):
         words = ["-", "--dask", address, "--classes", "tu,network"]
         self.runs(*words, "--evidence", "kept", "--output", "kept.csv", text="1 1 1 1 1 2", status=3)
         self.assertEqual([row["fault"] for row in rows_of(self.folder / "kept.csv")], ["", "BadEntry"])
-        self.assertEqual((self.folder / "kept" / "network" / "-" / "1.graph").read_text(encoding="ascii").split()[2], "r1")
+        self.assertEqual(
+            (self.folder / "kept" / "network" / "-" / "1.graph").read_text(encoding="ascii").split()[2], "r1"
+        )
+        self.runs(*words, "--worker-program", str(find_program()), text="1 1 1")
         ran = self.runs(*words, "--worker-program", "/nowhere/cmr", text="1 1 1", status=1)
         self.assertIn("on a worker the program cmr is not there", ran.stderr)
 

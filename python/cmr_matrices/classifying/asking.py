@@ -9,15 +9,13 @@ import tempfile
 import time
 from collections.abc import Iterator, Sequence
 from contextlib import contextmanager
-from typing import Any
 
 from ..errors import BadText, CmrError, ProgramFault, TimeLimitReached
 from ..program import NO, UNDECIDED, YES, fault_of
 
-__all__ = ["ask", "end_with_the_program", "fault_words", "held_text"]
+__all__ = ["ask", "fault_words", "held_text"]
 
 _VERDICTS = {YES: "yes", NO: "no", UNDECIDED: "undecided"}
-_running: list[int] = []
 
 
 @contextmanager
@@ -41,7 +39,7 @@ def held_text(text: bytes) -> Iterator[int]:
 def ask(program: str, words: Sequence[str], text: int, said: str, time_limit: float | None = None) -> str:
     """The verdict of a run on a held text. Raises what `run` of the package raises.
 
-    The program hears no interrupt, so that a run is either finished or ended with the process that asks.
+    Whatever ends the call also ends the program.
     """
     os.lseek(text, 0, os.SEEK_SET)
     reading, writing = os.pipe()
@@ -61,7 +59,6 @@ def ask(program: str, words: Sequence[str], text: int, said: str, time_limit: fl
         raise
     finally:
         os.close(writing)
-    _running.append(process)
     try:
         printed = _printed(reading, process, time_limit)
     except BaseException:
@@ -70,15 +67,7 @@ def ask(program: str, words: Sequence[str], text: int, said: str, time_limit: fl
         raise
     finally:
         os.close(reading)
-        _running.remove(process)
     return _verdict(*printed, said)
-
-
-def end_with_the_program(_number: int, _frame: Any) -> None:
-    """Ends this process at once, and the run that it waits for."""
-    for process in _running:
-        os.kill(process, signal.SIGKILL)
-    os._exit(128 + signal.SIGTERM)
 
 
 def _printed(reading: int, process: int, time_limit: float | None) -> tuple[int, str]:

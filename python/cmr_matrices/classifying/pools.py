@@ -13,13 +13,15 @@ from collections.abc import Iterator
 from multiprocessing.connection import Connection, wait
 from typing import Any, cast
 
-from .asking import end_with_the_program
 from .streams import Item
 from .work import Row, Settings, classify
 
 __all__ = ["Block", "Processes", "blocks_of", "died"]
 
 Block = list[Item]
+
+_SECONDS = 5.0
+"""How long a worker has to leave, which a library that reads a model may keep from it."""
 
 
 def blocks_of(items: Iterator[Item], size: int) -> Iterator[Block]:
@@ -78,6 +80,8 @@ class Processes:
                 process.terminate()
             connection.close()
         for process in self._workers.values():
+            process.join(_SECONDS)
+            process.kill()
             process.join()
         self._workers.clear()
 
@@ -121,10 +125,15 @@ def _serve(connection: Connection, others: Connection, settings: Settings) -> No
     """A worker: it hears no interrupt, and ends where the process that began it does."""
     others.close()
     signal.signal(signal.SIGINT, signal.SIG_IGN)
-    signal.signal(signal.SIGTERM, end_with_the_program)
+    signal.signal(signal.SIGTERM, _leave)
     try:
         while True:
             for item in connection.recv():
                 connection.send(classify(item, settings))
     except (EOFError, OSError):
         return
+
+
+def _leave(_number: int, _frame: Any) -> None:
+    """Ends a worker, its run of the program, and the files of this run."""
+    raise SystemExit(128 + signal.SIGTERM)

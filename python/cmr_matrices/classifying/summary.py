@@ -59,9 +59,10 @@ class Summary:
     def to_svg(self) -> str:
         """An UpSet plot: a column for each combination, with its count above, and a row for each class, with its total beside."""
         combinations = self.ordered()
-        left, top = 270, _BAR + 40
-        width, height = left + _CELL * len(combinations) + 20, top + _CELL * len(self.classes) + 20
         most = max((count for _, count in combinations), default=1)
+        step = max(_CELL, 7 * len(str(most)) + 8)
+        left, top = 234 + 7 * len(str(self.combinations.total())) + step // 2, _BAR + 40
+        width, height = left + step * len(combinations) + 20, top + _CELL * len(self.classes) + 20
         totals = [self._total(place) for place in range(len(self.classes))]
         parts = [_svg_head(width, height)]
         for place, (name, total) in enumerate(zip(self.classes, totals)):
@@ -73,7 +74,7 @@ class Summary:
             parts.append(_text(214, middle + 4, str(total), "start"))
             parts.append(_text(4, middle + 4, name, "start"))
         for place, (words, count) in enumerate(combinations):
-            parts += self._column(left + _CELL * place + _CELL // 2, top, words, count, most)
+            parts += self._column(left + step * place + step // 2, top, words, count, most)
         return "\n".join([*parts, "</svg>"]) + "\n"
 
     def _column(self, middle: int, top: int, words: tuple[str, ...], count: int, most: int) -> list[str]:

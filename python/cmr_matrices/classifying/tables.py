@@ -87,6 +87,8 @@ class _Csv:
         columns: list[str] = []
         for words in csv.reader(lines()):
             if not last.endswith(b"\n") or (columns and len(words) < len(columns)):
+                if stream.read(1):
+                    raise ValueError(f"there are {len(words)} columns of {len(columns)}")
                 return
             if not columns:
                 columns = words
