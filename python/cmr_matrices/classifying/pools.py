@@ -8,6 +8,7 @@ from __future__ import annotations
 
 import multiprocessing
 import signal
+import time
 from collections import deque
 from collections.abc import Iterator
 from multiprocessing.connection import Connection, wait
@@ -20,20 +21,23 @@ __all__ = ["Block", "Processes", "blocks_of", "died"]
 
 Block = list[Item]
 
+_BYTES = 2**20
+_PATIENCE = 0.5
 _SECONDS = 5.0
 """How long a worker has to leave, which a library that reads a model may keep from it."""
 
 
 def blocks_of(items: Iterator[Item], size: int) -> Iterator[Block]:
-    """The matrices in blocks of a size, of which none has more than a piece of the texts' bytes."""
+    """The matrices in blocks of a size. A block is smaller where texts are large, or where they come slowly."""
     block: Block = []
     held = 0
+    begun = time.monotonic()
     for item in items:
         block.append(item)
         held += item.size
-        if len(block) == size or held > 2**20:
+        if len(block) == size or held > _BYTES or time.monotonic() - begun > _PATIENCE:
             yield block
-            block, held = [], 0
+            block, held, begun = [], 0, time.monotonic()
     if block:
         yield block
 
