@@ -24,7 +24,7 @@ from .errors import (
     TimeLimitReached,
 )
 
-__all__ = ["NO", "REFUSED", "UNDECIDED", "YES", "Ran", "StrPath", "find_program", "run"]
+__all__ = ["NO", "REFUSED", "UNDECIDED", "YES", "Ran", "StrPath", "fault_of", "find_program", "run"]
 
 StrPath = str | os.PathLike[str]
 
@@ -110,7 +110,7 @@ def run(
         except FileNotFoundError:
             raise ProgramMissing([command[0]]) from None
         if ran.returncode not in (YES, NO, UNDECIDED, REFUSED):
-            raise _fault(ran.returncode, ran.stderr.decode("utf-8", "surrogateescape").rstrip("\n"))
+            raise fault_of(ran.returncode, ran.stderr.decode("utf-8", "surrogateescape").rstrip("\n"))
         files = {name: path.read_text("ascii") for name in outputs if (path := Path(folder or "", name)).exists()}
     return Ran(ran.returncode, tuple(ran.stdout.decode("ascii").splitlines()), files)
 
@@ -123,7 +123,8 @@ def _encoded(text: str) -> bytes:
     return text.encode("utf-8", "surrogateescape")
 
 
-def _fault(status: int, line: str) -> CmrError:
+def fault_of(status: int, line: str) -> CmrError:
+    """The exception of a status that is no answer."""
     match status:
         case 2:
             return BadCommandLine(status, line)

@@ -1,7 +1,7 @@
-"""The lines of docs/FROM_A_MODEL.md are those of runs."""
+"""The lines of docs/FROM_A_MODEL.md and docs/CLASSIFYING.md are those of runs, and so is the picture of the latter."""
 
 from tests.support import ScriptTest, needs_dot, needs_glpsol, needs_program, needs_python, needs_swiglpk
-from tests.walk import DOCUMENT, walked
+from tests.walk import CLASSIFYING, DOCUMENT, PICTURES, walked
 
 
 @needs_python
@@ -15,3 +15,9 @@ class Walk(ScriptTest):
     def test_each_line_is_that_of_a_run(self):
         text = DOCUMENT.read_text(encoding="utf-8")
         self.assertEqual(text.splitlines(), walked(text, self.folder).splitlines())
+
+    def test_each_line_on_classifying_is_that_of_a_run(self):
+        text = CLASSIFYING.read_text(encoding="utf-8")
+        self.assertEqual(text.splitlines(), walked(text, self.folder).splitlines())
+        for picture in PICTURES[CLASSIFYING]:
+            self.assertEqual((CLASSIFYING.parent / picture).read_bytes(), (self.folder / "out" / picture).read_bytes())

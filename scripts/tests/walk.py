@@ -1,7 +1,7 @@
-"""The walk of docs/FROM_A_MODEL.md, whose lines are those of runs.
+"""The walks of docs/FROM_A_MODEL.md and docs/CLASSIFYING.md, whose lines are those of runs.
 
-In the folder scripts, `python3 -m tests.walk` runs it, writes the lines of the runs into the document, and puts the pictures that
-the runs draw beside it.
+In the folder scripts, `python3 -m tests.walk` runs them, writes the lines of the runs into the documents, and puts the pictures that
+the runs draw beside them.
 """
 
 import re
@@ -13,7 +13,8 @@ from pathlib import Path
 from tests.support import TOP
 
 DOCUMENT = TOP / "docs" / "FROM_A_MODEL.md"
-PICTURES = ("maxflow.svg", "shifts.svg")
+CLASSIFYING = TOP / "docs" / "CLASSIFYING.md"
+PICTURES = {DOCUMENT: ("maxflow.svg", "shifts.svg"), CLASSIFYING: ("classes.svg",)}
 
 
 def walked(text, folder):
@@ -35,11 +36,12 @@ def _printed(command, folder):
 
 
 def main():
-    with tempfile.TemporaryDirectory() as name:
-        text = walked(DOCUMENT.read_text(encoding="utf-8"), Path(name))
-        DOCUMENT.write_text(text, encoding="utf-8")
-        for picture in PICTURES:
-            shutil.copy(Path(name, "out", picture), DOCUMENT.parent / picture)
+    for document, pictures in PICTURES.items():
+        with tempfile.TemporaryDirectory() as name:
+            text = walked(document.read_text(encoding="utf-8"), Path(name))
+            document.write_text(text, encoding="utf-8")
+            for picture in pictures:
+                shutil.copy(Path(name, "out", picture), document.parent / picture)
 
 
 if __name__ == "__main__":

@@ -1,0 +1,65 @@
+#!/usr/bin/python3
+"""Writes a standard representation of each binary matroid with so many elements, up to isomorphism, one dense text after another.
+
+    examples/binary_matroids.py ELEMENTS
+
+A matrix A of R rows and C columns represents, beside the identity, a binary matroid of rank R with R + C elements. Two of a size
+represent isomorphic matroids where one becomes the other by permuting lines and by pivots. Of each class the least matrix is
+written; where R is above C it is the transposed one of the dual matroid.
+"""
+
+import itertools
+import sys
+
+sys.dont_write_bytecode = True
+
+from binary_matrices import dense, least, matrices  # noqa: E402
+
+
+def canonical(columns):
+    """The least rising list of columns that a permutation of the rows gives."""
+    return min(least(columns, order) for order in itertools.permutations(range(len(columns[0]) if columns else 0)))
+
+
+def pivots(columns):
+    """The matrices that a pivot at a one makes, over the field with two elements."""
+    for place, pivot in enumerate(columns):
+        for row, one in enumerate(pivot):
+            if one:
+                yield tuple(
+                    column
+                    if other == place or not column[row]
+                    else tuple(entry ^ (pivot[at] if at != row else 0) for at, entry in enumerate(column))
+                    for other, column in enumerate(columns)
+                )
+
+
+def representations(rows, columns):
+    """The least matrix of each class under permuting lines and pivots."""
+    if rows > columns:
+        return [tuple(zip(*found)) if columns else () for found in representations(columns, rows)]
+    if rows == 0:
+        return [((),) * columns]
+    found, seen = [], set()
+    for matrix in matrices(rows, columns):
+        if matrix not in seen:
+            found.append(matrix)
+            seen.add(matrix)
+            waiting = [matrix]
+            while waiting:
+                for other in map(canonical, pivots(waiting.pop())):
+                    if other not in seen:
+                        seen.add(other)
+                        waiting.append(other)
+    return found
+
+
+def main():
+    elements = int(sys.argv[1])
+    for rows in range(elements + 1):
+        for found in representations(rows, elements - rows):
+            sys.stdout.write(dense(rows, found))
+
+
+if __name__ == "__main__":
+    main()

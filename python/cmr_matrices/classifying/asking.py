@@ -1,0 +1,101 @@
+"""A run of the program at the least cost: it is started without Python's `subprocess`, and gives its first line."""
+
+from __future__ import annotations
+
+import os
+import select
+import signal
+import tempfile
+import time
+from collections.abc import Iterator, Sequence
+from contextlib import contextmanager
+
+from ..errors import BadText, CmrError, ProgramFault, TimeLimitReached
+from ..program import NO, UNDECIDED, YES, fault_of
+
+__all__ = ["ask", "fault_words", "held_text"]
+
+_VERDICTS = {YES: "yes", NO: "no", UNDECIDED: "undecided"}
+
+
+@contextmanager
+def held_text(text: bytes) -> Iterator[int]:
+    """A file with a text, as a number that runs read from, which has no name and is gone at the end."""
+    if hasattr(os, "memfd_create"):
+        file = os.memfd_create("matrix")
+        try:
+            with open(file, "wb", closefd=False) as stream:
+                stream.write(text)
+            yield file
+        finally:
+            os.close(file)
+    else:
+        with tempfile.TemporaryFile() as stream:
+            stream.write(text)
+            stream.flush()
+            yield stream.fileno()
+
+
+def ask(program: str, words: Sequence[str], text: int, said: str, time_limit: float | None = None) -> str:
+    """The verdict of a run on a held text. Raises what `run` of the package raises.
+
+    Whatever ends the call also ends the program.
+    """
+    os.lseek(text, 0, os.SEEK_SET)
+    reading, writing = os.pipe()
+    try:
+        process = os.posix_spawn(
+            program,
+            [program, *words],
+            os.environ,
+            file_actions=[
+                (os.POSIX_SPAWN_DUP2, text, 0),
+                (os.POSIX_SPAWN_DUP2, writing, 1),
+                (os.POSIX_SPAWN_DUP2, writing, 2),
+            ],
+        )
+    except BaseException:
+        os.close(reading)
+        raise
+    finally:
+        os.close(writing)
+    try:
+        printed = _printed(reading, process, time_limit)
+    except BaseException:
+        os.kill(process, signal.SIGKILL)
+        os.waitpid(process, 0)
+        raise
+    finally:
+        os.close(reading)
+    return _verdict(*printed, said)
+
+
+def _printed(reading: int, process: int, time_limit: float | None) -> tuple[int, str]:
+    """The status, and the front of what was printed."""
+    deadline = None if time_limit is None else time.monotonic() + time_limit
+    front = b""
+    while True:
+        if deadline is not None and not select.select([reading], [], [], max(deadline - time.monotonic(), 0))[0]:
+            raise TimeLimitReached(time_limit or 0)
+        piece = os.read(reading, 65536)
+        if not piece:
+            break
+        front = (front + piece)[:4096]
+    return os.waitstatus_to_exitcode(os.waitpid(process, 0)[1]), front.decode("utf-8", "surrogateescape")
+
+
+def _verdict(status: int, printed: str, said: str) -> str:
+    line = printed.split("\n", 1)[0]
+    if status not in _VERDICTS:
+        raise fault_of(status, line)
+    verdict = _VERDICTS[status]
+    if line != f"{said}: {verdict}":
+        raise ProgramFault(status, f"the program is not cmr: its first line is {line!r}")
+    return verdict
+
+
+def fault_words(fault: CmrError) -> tuple[str, int | None]:
+    """The kind of a fault, and its byte where it has one."""
+    if isinstance(fault, BadText):
+        return fault.kind, fault.byte
+    return type(fault).__name__, None

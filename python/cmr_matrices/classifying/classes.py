@@ -1,0 +1,138 @@
+"""The classes that are asked of each matrix, and the inclusions that are known of them."""
+
+from __future__ import annotations
+
+from collections.abc import Iterable, Iterator, Mapping, Sequence
+from dataclasses import dataclass
+
+from ..errors import BadInput
+
+__all__ = [
+    "CLASSES",
+    "CLASS_NAMES",
+    "INCLUSIONS",
+    "Inclusion",
+    "MatrixClass",
+    "asking_order",
+    "chosen_classes",
+    "contradictions",
+    "settle",
+]
+
+
+@dataclass(frozen=True)
+class MatrixClass:
+    """A class: its name in tables, the words that ask the program, the word of its answer, and the evidence that it may write."""
+
+    name: str
+    words: tuple[str, ...]
+    said: str
+    is_binary: bool = False
+    has_budget: bool = False
+    evidence: tuple[tuple[str, str], ...] = ()
+    """Options of the program, each with the ending of the file that it writes."""
+
+
+_GRAPH = (("-G", "graph"), ("-N", "minimal"))
+_REDUCTIONS = (("-S", "reductions"), ("-R", "rest"), ("-N", "minimal"))
+_TREE = (("-D", "tree"), ("-E", "violator"))
+
+CLASSES = (
+    MatrixClass("tu", ("tu",), "totally unimodular", has_budget=True, evidence=_TREE),
+    MatrixClass("regular", ("regular",), "regular", True, True, (*_TREE, ("-M", "signed"), ("-C", "chain"))),
+    MatrixClass("graphic", ("graphic",), "graphic", True, evidence=_GRAPH),
+    MatrixClass("cographic", ("graphic", "-t"), "cographic", True, evidence=_GRAPH),
+    MatrixClass("network", ("network",), "network", evidence=_GRAPH),
+    MatrixClass("conetwork", ("network", "-t"), "conetwork", evidence=_GRAPH),
+    MatrixClass("series-parallel", ("series-parallel",), "series-parallel", evidence=_REDUCTIONS),
+    MatrixClass(
+        "binary-series-parallel", ("series-parallel", "-b"), "binary series-parallel", True, evidence=_REDUCTIONS
+    ),
+    MatrixClass("balanced", ("balanced",), "balanced", has_budget=True, evidence=(("-E", "violator"),)),
+    MatrixClass("camion", ("camion",), "camion", evidence=(("-E", "violator"),)),
+)
+CLASS_NAMES = tuple(kind.name for kind in CLASSES)
+
+_ASKED_FIRST = ("camion", "regular", "network", "graphic", "conetwork", "cographic")
+"""Where answers settle others: those first of which a no settles many at the least cost."""
+
+
+@dataclass(frozen=True)
+class Inclusion:
+    """What is in all classes of `within` is in the class `holds`. Where it is binary, it is one of 0/1 matrices alone."""
+
+    within: tuple[str, ...]
+    holds: str
+
+    def __str__(self) -> str:
+        return f"{' and '.join(self.within)} in {self.holds}"
+
+
+INCLUSIONS = (
+    Inclusion(("network",), "tu"),
+    Inclusion(("conetwork",), "tu"),
+    Inclusion(("tu",), "balanced"),
+    Inclusion(("balanced",), "camion"),
+    Inclusion(("tu",), "camion"),
+    Inclusion(("series-parallel",), "network"),
+    Inclusion(("series-parallel",), "conetwork"),
+    Inclusion(("tu",), "regular"),
+    Inclusion(("regular", "camion"), "tu"),
+    Inclusion(("graphic",), "regular"),
+    Inclusion(("cographic",), "regular"),
+    Inclusion(("binary-series-parallel",), "graphic"),
+    Inclusion(("binary-series-parallel",), "cographic"),
+    Inclusion(("network",), "graphic"),
+    Inclusion(("conetwork",), "cographic"),
+    Inclusion(("graphic", "camion"), "network"),
+    Inclusion(("cographic", "camion"), "conetwork"),
+    Inclusion(("series-parallel",), "binary-series-parallel"),
+    Inclusion(("binary-series-parallel",), "series-parallel"),
+)
+"""Those with a class of 0/1 matrices are asked of these alone, since the others have no verdict there."""
+
+
+def chosen_classes(names: str) -> tuple[MatrixClass, ...]:
+    """The classes of a list with commas between, in the order of tables. Raises `BadInput` at a name that is none."""
+    chosen = names.split(",")
+    for name in chosen:
+        if name not in CLASS_NAMES:
+            raise BadInput(f"{name or 'an empty name'} is no class; the classes are {','.join(CLASS_NAMES)}")
+    return tuple(kind for kind in CLASSES if kind.name in chosen)
+
+
+def contradictions(verdicts: Mapping[str, str]) -> Iterator[Inclusion]:
+    """The inclusions that a row breaks: all that is within is yes, and what then holds is no."""
+    for inclusion in INCLUSIONS:
+        if verdicts.get(inclusion.holds) == "no" and all(verdicts.get(name) == "yes" for name in inclusion.within):
+            yield inclusion
+
+
+def settle(verdicts: dict[str, str], names: Sequence[str]) -> None:
+    """Adds the verdicts on some classes that follow from those that are there."""
+    changed = True
+    while changed:
+        changed = False
+        for name, verdict in _following(verdicts):
+            if name in names and name not in verdicts:
+                verdicts[name] = verdict
+                changed = True
+
+
+def asking_order(classes: Iterable[MatrixClass], is_sparse: bool) -> list[MatrixClass]:
+    """The order in which classes are asked where answers settle others.
+
+    A series-parallel 0/1 matrix is in all classes, so where there are few nonzeros that is asked first.
+    """
+    order = ("series-parallel", *_ASKED_FIRST) if is_sparse else _ASKED_FIRST
+    rank = {name: place for place, name in enumerate(order)}
+    return sorted(classes, key=lambda kind: rank.get(kind.name, len(rank)))
+
+
+def _following(verdicts: Mapping[str, str]) -> Iterator[tuple[str, str]]:
+    for inclusion in INCLUSIONS:
+        others = [name for name in inclusion.within if verdicts.get(name) != "yes"]
+        if not others:
+            yield inclusion.holds, "yes"
+        elif len(others) == 1 and verdicts.get(inclusion.holds) == "no":
+            yield others[0], "no"

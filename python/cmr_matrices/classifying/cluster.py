@@ -1,0 +1,109 @@
+"""Blocks of matrices on a Dask cluster, by Debian's python3-distributed.
+
+The package and the program are sent along, so that all rows come from the same ones, also on workers that join later; the program may
+instead be named where each worker has it. Files are read here. A block of a worker that is lost is given to another by Dask.
+"""
+
+from __future__ import annotations
+
+import os
+import shutil
+import tempfile
+import zipfile
+from collections import deque
+from collections.abc import Iterator, Sequence
+from dataclasses import replace
+from pathlib import Path
+from typing import Any
+
+from ..errors import BadInput, ProgramMissing
+from ..program import find_program
+from .pools import Block, died
+from .streams import Item
+from .work import Row, Settings, classify_block, with_texts
+
+__all__ = ["Cluster"]
+
+_PACKAGE = Path(__file__).resolve().parents[1]
+_PROGRAM = "cmr-sent"
+
+
+class Cluster:
+    """The workers of a Dask scheduler at an address such as `tcp://host:8786`."""
+
+    def __init__(self, address: str, settings: Settings, program: str | None) -> None:
+        """`program` is its path on each worker, where it is not sent along."""
+        try:
+            import distributed  # pylint: disable=import-outside-toplevel
+        except ImportError as fault:
+            raise BadInput("--dask needs Debian's python3-distributed") from fault
+        self._dask: Any = distributed
+        self._client: Any
+        try:
+            self._client = self._dask.Client(address)
+        except (OSError, ValueError) as fault:
+            raise BadInput(f"there is no Dask scheduler at {address}: {fault}") from fault
+        self._settings = replace(settings, program=program or _PROGRAM)
+        with tempfile.TemporaryDirectory() as folder:
+            self._client.upload_file(_zipped(Path(folder, "cmr_matrices.zip")))
+            if program is None:
+                self._client.upload_file(shutil.copy(settings.program, os.path.join(folder, _PROGRAM)))
+
+    def rows(self, blocks: Iterator[Block]) -> Iterator[Row]:
+        """The rows of all blocks, a block after the other as they are done."""
+        running: dict[Any, Block] = {}
+        again: deque[Block] = deque()
+        finished = self._dask.as_completed()
+        self._fill(finished, running, again, blocks)
+        for future in finished:
+            block = running.pop(future)
+            try:
+                rows: Sequence[Row] = future.result()
+            except self._dask.KilledWorker:
+                rows = []
+                if len(block) == 1:
+                    rows = [died(block[0], "several workers died on it")]
+                again.extend([item] for item in block if len(block) > 1)
+            except ProgramMissing as fault:
+                raise BadInput(f"on a worker {fault}") from fault
+            except (OSError, self._dask.CancelledError) as fault:
+                raise BadInput("the Dask scheduler is lost: --resume goes on with the table") from fault
+            yield from rows
+            self._fill(finished, running, again, blocks)
+
+    def close(self) -> None:
+        """Lets go of the cluster, which stays."""
+        self._client.close()
+
+    def _fill(self, finished: Any, running: dict[Any, Block], again: deque[Block], blocks: Iterator[Block]) -> None:
+        """Gives blocks until each thread of the cluster has two."""
+        threads = sum(self._client.nthreads().values())
+        while len(running) < max(2 * threads, 2):
+            block = again.popleft() if again else next(blocks, [])
+            if not block:
+                return
+            taken = [with_texts(item) for item in block]
+            future = self._client.submit(on_worker, taken, self._settings, pure=False)
+            running[future] = block
+            finished.add(future)
+
+
+def on_worker(items: Sequence[Item], settings: Settings) -> list[Row]:
+    """The rows of a block, on a worker. The program that was sent lies in the worker's own folder."""
+    if settings.program != _PROGRAM:
+        find_program(settings.program)
+        return classify_block(items, settings)
+    from distributed import get_worker  # pylint: disable=import-outside-toplevel
+
+    program = os.path.join(get_worker().local_directory, _PROGRAM)
+    if not os.access(program, os.X_OK):
+        os.chmod(program, 0o755)
+    return classify_block(items, replace(settings, program=program))
+
+
+def _zipped(path: Path) -> str:
+    """The package as an archive that Python imports."""
+    with zipfile.ZipFile(path, "w", zipfile.ZIP_DEFLATED) as archive:
+        for file in sorted(_PACKAGE.rglob("*.py")):
+            archive.write(file, file.relative_to(_PACKAGE.parent))
+    return str(path)

@@ -1,0 +1,143 @@
+"""Who classifies: processes on this machine, or the workers of a Dask cluster.
+
+Both take blocks of matrices one after another, hold no more of them than they have workers for, and give each row once. Where a
+worker dies, its block is done again; a matrix on which one dies twice gets a row with that fault.
+"""
+
+from __future__ import annotations
+
+import multiprocessing
+import signal
+import time
+from collections import deque
+from collections.abc import Iterator
+from multiprocessing.connection import Connection, wait
+from typing import Any, cast
+
+from .streams import Item
+from .work import Row, Settings, classify
+
+__all__ = ["Block", "Processes", "blocks_of", "died"]
+
+Block = list[Item]
+
+_BYTES = 2**20
+_PATIENCE = 0.5
+_SECONDS = 5.0
+"""How long a worker has to leave, which a library that reads a model may keep from it."""
+
+
+def blocks_of(items: Iterator[Item], size: int) -> Iterator[Block]:
+    """The matrices in blocks of a size. A block is smaller where texts are large, or where they come slowly."""
+    block: Block = []
+    held = 0
+    begun = time.monotonic()
+    for item in items:
+        block.append(item)
+        held += item.size
+        if len(block) == size or held > _BYTES or time.monotonic() - begun > _PATIENCE:
+            yield block
+            block, held, begun = [], 0, time.monotonic()
+    if block:
+        yield block
+
+
+def died(item: Item, what: str = "the worker that classified it died twice") -> Row:
+    """The row of a matrix on which workers die."""
+    return Row(item.file, item.number, None, None, None, {}, fault="WorkerDied", message=what, size=item.size)
+
+
+class Processes:
+    """Processes of this machine, each with a pipe: a block goes in, and its rows come out one by one."""
+
+    def __init__(self, jobs: int, settings: Settings) -> None:
+        self._settings = settings
+        self._workers: dict[Connection, Any] = {}
+        self._given: dict[Connection, deque[Item]] = {}
+        self._again: deque[Block] = deque()
+        self._suspects: set[tuple[str, int]] = set()
+        for _ in range(jobs):
+            self._start()
+
+    def rows(self, blocks: Iterator[Block]) -> Iterator[Row]:
+        """The rows of all blocks, as they are found."""
+        for connection in list(self._workers):
+            self._give(connection, blocks)
+        while self._given:
+            for ready in wait(list(self._given)):
+                connection = cast(Connection, ready)
+                try:
+                    row: Row = connection.recv()
+                except (EOFError, OSError):
+                    yield from self._lost(connection, blocks)
+                    continue
+                yield row
+                self._given[connection].popleft()
+                if not self._given[connection]:
+                    del self._given[connection]
+                    self._give(connection, blocks)
+
+    def close(self) -> None:
+        """Ends the processes, and the runs for which they wait."""
+        for connection, process in self._workers.items():
+            if connection in self._given:
+                process.terminate()
+            connection.close()
+        for process in self._workers.values():
+            process.join(_SECONDS)
+            process.kill()
+            process.join()
+        self._workers.clear()
+
+    def _start(self) -> Connection:
+        ours, theirs = multiprocessing.Pipe()
+        process = multiprocessing.Process(target=_serve, args=(theirs, ours, self._settings), daemon=True)
+        process.start()
+        theirs.close()
+        self._workers[ours] = process
+        return ours
+
+    def _give(self, connection: Connection, blocks: Iterator[Block]) -> None:
+        block = self._again.popleft() if self._again else next(blocks, [])
+        if not block:
+            return
+        self._given[connection] = deque(block)
+        try:
+            connection.send(block)
+        except OSError:
+            pass  # its end is seen where its rows are read
+
+    def _lost(self, connection: Connection, blocks: Iterator[Block]) -> Iterator[Row]:
+        """Puts another worker in the place of one that died, and its matrices back, the one that it was at by itself."""
+        left = list(self._given.pop(connection))
+        process = self._workers.pop(connection)
+        connection.close()
+        process.join()
+        first = left.pop(0)
+        key = first.file, first.number
+        if key in self._suspects:
+            yield died(first)
+        else:
+            self._suspects.add(key)
+            self._again.append([first])
+        if left:
+            self._again.append(left)
+        self._give(self._start(), blocks)
+
+
+def _serve(connection: Connection, others: Connection, settings: Settings) -> None:
+    """A worker: it hears no interrupt, and ends where the process that began it does."""
+    others.close()
+    signal.signal(signal.SIGINT, signal.SIG_IGN)
+    signal.signal(signal.SIGTERM, _leave)
+    try:
+        while True:
+            for item in connection.recv():
+                connection.send(classify(item, settings))
+    except (EOFError, OSError):
+        return
+
+
+def _leave(_number: int, _frame: Any) -> None:
+    """Ends a worker, its run of the program, and the files of this run."""
+    raise SystemExit(128 + signal.SIGTERM)

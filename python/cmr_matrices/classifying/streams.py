@@ -1,0 +1,239 @@
+"""Where matrices come from: files and folders, streams of many texts, and models.
+
+A text of either format tells its own length, so a stream may hold many, one after another. They are found by counting words; the
+program alone says which fault a text has. A text whose counts are none has no known end, and what follows it is not read.
+"""
+
+from __future__ import annotations
+
+import os
+import re
+import sys
+from collections.abc import Iterable, Iterator
+from contextlib import ExitStack
+from dataclasses import dataclass
+from pathlib import Path
+from typing import BinaryIO, Literal
+
+from ..models import FORMATS
+
+__all__ = ["Format", "Item", "Source", "items_of", "part_of", "sources_of", "texts_of"]
+
+Format = Literal["dense", "sparse"]
+
+TEXT_LIMIT = 16 * 2**20
+"""How many bytes a text may have. Of a longer one no more than one byte beyond is kept, by which the program sees it."""
+
+_COUNT = re.compile(rb"\+?0*([0-9]{1,10})")
+_WORD = re.compile(rb"[^\t-\r ]+")
+_PIECE = 2**16
+_LINES = 1000
+_MODELS = {".mps", *FORMATS}
+
+
+@dataclass(frozen=True)
+class Source:
+    """A file with texts or a model, or standard input, which is `-`. `size` is its bytes where it is a file."""
+
+    name: str
+    is_model: bool
+    size: int | None
+
+
+@dataclass(frozen=True)
+class Item:
+    """A matrix to be classified: the file and its number there, counted from 1, and its text, which begins at the byte `start`.
+
+    A model has no text. Where `fault` is there, a kind and a message, nothing could be read.
+    """
+
+    file: str
+    number: int
+    text: bytes | None
+    form: Format = "dense"
+    start: int = 0
+    size: int = 0
+    fault: tuple[str, str] | None = None
+    is_last: bool = False
+    """Whether the end of the text is not known, so that what follows it is not read."""
+
+    @property
+    def name(self) -> str:
+        """The matrix in messages."""
+        return f"{self.file} {self.number}"
+
+
+def sources_of(names: Iterable[str], leave_out: Iterable[str] = ()) -> list[Source]:
+    """The files that are named, and those in folders that are named, in the order of their names and without hidden ones.
+
+    A file is taken once, at its first place. Files and folders of `leave_out` are none of them.
+    """
+    found: dict[str, Source] = {}
+    left_out = {os.path.realpath(name) for name in leave_out}
+    for name in names:
+        for file in [name] if name == "-" or not os.path.isdir(name) else _files_in(name, left_out):
+            if file not in found:
+                found[file] = _source(file)
+    return list(found.values())
+
+
+def items_of(sources: Iterable[Source], form: Format) -> Iterator[Item]:
+    """The matrices of all sources in their order. A file that cannot be read is one item, with its fault."""
+    for source in sources:
+        if source.is_model:
+            yield Item(source.name, 1, None, "sparse", size=source.size or 0)
+            continue
+        number = 0
+        try:
+            with ExitStack() as stack:
+                stream = sys.stdin.buffer if source.name == "-" else stack.enter_context(open(source.name, "rb"))
+                for number, (start, text, is_last) in enumerate(texts_of(stream, form), 1):
+                    yield Item(source.name, number, text, form, start, len(text), is_last=is_last)
+        except OSError as fault:
+            yield Item(source.name, number + 1, b"", form, fault=("CannotRead", fault.strerror or str(fault)))
+
+
+def part_of(items: Iterable[Item], part: int, parts: int) -> Iterator[Item]:
+    """Every matrix whose place among all is that of the part, counted from 1, so that each is in one part."""
+    for place, item in enumerate(items):
+        if place % parts == part - 1:
+            yield item
+
+
+def texts_of(stream: BinaryIO, form: Format) -> Iterator[tuple[int, bytes, bool]]:
+    """The texts of a stream, each with the place of its first byte, and whether its end is not known and nothing is read behind it."""
+    words = _Words(stream)
+    head = 3 if form == "sparse" else 2
+    while words.next() is not None:
+        words.begin()
+        start = words.start
+        counts = _head(words, head)
+        if counts is None:
+            yield start, words.text(words.has_ended), not words.has_ended
+            return
+        rows, columns = counts[:2]
+        if max(rows, columns) > _LINES:
+            yield start, words.text(False), False
+            words.begin()
+        entries = 3 * counts[2] if form == "sparse" else rows * columns
+        is_short = any(words.next() is None or words.is_cut for _ in range(entries))
+        if max(rows, columns) <= _LINES:
+            yield start, words.text(is_short), words.is_cut
+        if words.is_cut:
+            return
+
+
+def _head(words: _Words, length: int) -> list[int] | None:
+    """The counts with which a text begins, whose first word was taken, or None where they are none."""
+    counts: list[int] = []
+    while True:
+        found = _COUNT.fullmatch(words.word)
+        if found is None or int(found[1]) >= 2**31:
+            return None
+        counts.append(int(found[1]))
+        if len(counts) == length:
+            return counts
+        if words.next() is None:
+            return None
+
+
+class _Words:
+    """The words of a stream, and the bytes from the beginning of a text to the last word that was taken."""
+
+    def __init__(self, stream: BinaryIO) -> None:
+        self._stream = stream
+        self._piece = b""
+        """It ends at white space, or where the stream does."""
+        self._base = 0
+        self._rest = b""
+        self._places: Iterator[re.Match[bytes]] = iter(())
+        self._kept: list[bytes] = []
+        self._kept_size = 0
+        self._from = 0
+        self.word = b""
+        self.start = self.end = 0
+        self.has_ended = False
+        """Whether a word was asked for and there was none."""
+        self.is_cut = False
+        """Whether a word was longer than any text may be."""
+
+    def next(self) -> bytes | None:
+        """The next word, or None at the end."""
+        while (found := next(self._places, None)) is None:
+            if not self._read():
+                self.has_ended = True
+                return None
+        self.start, self.end = self._base + found.start(), self._base + found.end()
+        self.word = found[0]
+        return self.word
+
+    def begin(self) -> None:
+        """Lets a text begin at the last word."""
+        self._kept.clear()
+        self._kept_size = 0
+        self._from = self.start - self._base
+
+    def text(self, to_the_end: bool) -> bytes:
+        """The text up to the last word, or up to the end of the stream."""
+        end = len(self._piece) if to_the_end else self.end - self._base
+        return b"".join([*self._kept, self._piece[self._from : max(end, self._from)]])[: TEXT_LIMIT + 1]
+
+    def _read(self) -> bool:
+        """Takes the next piece, and says whether there was one."""
+        pieces = [self._rest]
+        size = len(self._rest)
+        while True:
+            read = self._stream.read1(_PIECE) if hasattr(self._stream, "read1") else self._stream.read(_PIECE)
+            cut = _cut(read)
+            pieces.append(read[:cut] if cut else read)
+            size += len(read)
+            self.is_cut = not cut and size > TEXT_LIMIT
+            if cut or not read or self.is_cut:
+                break
+        piece = b"".join(pieces)
+        if not piece:
+            return False
+        self._keep(self._piece[self._from :])
+        self._base += len(self._piece)
+        self._rest = read[cut:] if cut else b""
+        self._piece, self._from = piece, 0
+        self._places = _WORD.finditer(piece)
+        return True
+
+    def _keep(self, piece: bytes) -> None:
+        if self._kept_size <= TEXT_LIMIT:
+            self._kept.append(piece)
+            self._kept_size += len(piece)
+
+
+def _cut(read: bytes) -> int:
+    """Behind the last white space of what was read, or 0 where there is none."""
+    for place in range(len(read) - 1, -1, -1):
+        if read[place] in b"\t\n\v\f\r ":
+            return place + 1
+    return 0
+
+
+def _files_in(folder: str, left_out: set[str]) -> Iterator[str]:
+    """The files in a folder, and the folders in it that cannot be read, which as files cannot be read either."""
+    unread: list[OSError] = []
+    for path, folders, files in os.walk(folder, onerror=unread.append):
+        folders[:] = sorted(name for name in folders if not name.startswith(".") and _stays(path, name, left_out))
+        for name in sorted(files):
+            if not name.startswith(".") and _stays(path, name, left_out) and os.path.isfile(os.path.join(path, name)):
+                yield os.path.join(path, name)
+    yield from (os.fsdecode(fault.filename) for fault in unread)
+
+
+def _stays(path: str, name: str, left_out: set[str]) -> bool:
+    return os.path.realpath(os.path.join(path, name)) not in left_out
+
+
+def _source(name: str) -> Source:
+    if name == "-":
+        return Source(name, False, None)
+    try:
+        size = os.stat(name).st_size if os.path.isfile(name) else None
+    except OSError:
+        size = None
+    return Source(name, Path(name).suffix.lower() in _MODELS, size)

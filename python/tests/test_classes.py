@@ -1,0 +1,106 @@
+"""The inclusions: they hold on random matrices, settle what the program says too, and see what contradicts them."""
+
+from __future__ import annotations
+
+import itertools
+import os
+import random
+import stat
+import tempfile
+import unittest
+from dataclasses import replace
+from pathlib import Path
+
+from cmr_matrices import Matrix, find_program
+from cmr_matrices.classifying.classes import CLASS_NAMES, CLASSES, INCLUSIONS, contradictions, settle
+from cmr_matrices.classifying.streams import Item
+from cmr_matrices.classifying.work import CONTRADICTION, Settings, classify
+from tests.support import R10, TRIANGLE, needs_program
+from tests.test_random import drawn
+
+
+def item(rows: list[list[int]], number: int = 1) -> Item:
+    return Item("rows", number, Matrix.of(rows).to_text().encode(), "sparse")
+
+
+class Inclusions(unittest.TestCase):
+    def test_each_is_seen(self) -> None:
+        for inclusion in INCLUSIONS:
+            verdicts = {**dict.fromkeys(inclusion.within, "yes"), inclusion.holds: "no"}
+            self.assertIn(inclusion, list(contradictions(verdicts)))
+            for name, other in itertools.product(verdicts, ("undecided", "-", "")):
+                self.assertNotIn(inclusion, list(contradictions({**verdicts, name: other})))
+
+    def test_what_settles_what(self) -> None:
+        verdicts = {"binary-series-parallel": "yes"}
+        settle(verdicts, CLASS_NAMES)
+        self.assertEqual(verdicts, dict.fromkeys(CLASS_NAMES, "yes"))
+        verdicts = {"camion": "no", "regular": "no"}
+        settle(verdicts, CLASS_NAMES)
+        self.assertEqual(verdicts, dict.fromkeys(CLASS_NAMES, "no"))
+        verdicts = {"network": "yes"}
+        settle(verdicts, ["tu", "network"])
+        self.assertEqual(verdicts, {"network": "yes", "tu": "yes"})
+
+
+@needs_program
+class Classified(unittest.TestCase):
+    def setUp(self) -> None:
+        self.settings = Settings(CLASSES, str(find_program()))
+
+    def test_random_matrices(self) -> None:
+        draw = random.Random(5)
+        for number in range(150):
+            matrix = item(drawn(draw), number)
+            row = classify(matrix, self.settings)
+            self.assertIsNone(row.fault, matrix)
+            self.assertEqual(classify(matrix, replace(self.settings, infers=True)).verdicts, row.verdicts, matrix)
+
+    def test_known_matrices(self) -> None:
+        row = classify(item(R10), self.settings)
+        self.assertEqual({name for name, verdict in row.verdicts.items() if verdict == "yes"}, {"regular"})
+        row = classify(item(TRIANGLE), self.settings)
+        self.assertEqual(
+            {name for name, verdict in row.verdicts.items() if verdict == "yes"}, {"regular", "graphic", "cographic"}
+        )
+
+    def test_evidence(self) -> None:
+        row = classify(item(TRIANGLE), replace(self.settings, evidence=True))
+        self.assertLessEqual({"tu/tree", "tu/violator", "graphic/graph", "network/minimal"}, set(row.evidence))
+        self.assertNotIn("regular/chain", row.evidence)
+
+    def test_undecided(self) -> None:
+        rows = [[1, 1, 0, 1], [1, 0, 1, 0], [1, 0, 1, 1], [0, 0, 1, 1]]
+        for infers in (False, True):
+            row = classify(item(rows), replace(self.settings, lines=0, infers=infers))
+            self.assertEqual((row.verdicts["regular"], row.verdicts["graphic"], row.fault), ("undecided", "no", None))
+
+    def test_contradictions(self) -> None:
+        """A program that says no to one tool alone: the row has the fault, with and without signs."""
+        for tool, rows in (("tu", [[1, 1], [0, 1]]), ("regular", [[1, -1], [0, 1]])):
+            with tempfile.TemporaryDirectory() as folder:
+                program = Path(folder, "cmr")
+                said = {"tu": "totally unimodular", "regular": "regular"}[tool]
+                program.write_text(
+                    f'#!/bin/sh\nif [ "$1" = {tool} ]; then echo "{said}: no"; exit 1; fi\nexec {find_program()} "$@"\n',
+                    encoding="ascii",
+                )
+                os.chmod(program, stat.S_IRWXU)
+                row = classify(item(rows), replace(self.settings, program=str(program)))
+                self.assertEqual(row.fault, CONTRADICTION)
+                self.assertIn("in tu" if tool == "tu" else "the support of tu in regular", row.message or "")
+
+    def test_a_limit_of_time(self) -> None:
+        with tempfile.TemporaryDirectory() as folder:
+            program = Path(folder, "cmr")
+            program.write_text(
+                f'#!/bin/sh\nif [ "$1" = tu ]; then exec sleep 60; fi\nexec {find_program()} "$@"\n', encoding="ascii"
+            )
+            os.chmod(program, stat.S_IRWXU)
+            row = classify(item(TRIANGLE), replace(self.settings, program=str(program), time_limit=1))
+            self.assertEqual((row.verdicts["tu"], row.verdicts["graphic"]), ("undecided", "yes"))
+            self.assertEqual(row.fault, "TimeLimitReached")
+
+
+if __name__ == "__main__":
+    unittest.main()
