@@ -20,9 +20,6 @@ two_or x y (k, e) (l, f) = elim (even_or_odd l) [
   | inr p ↦ inl (p.0 -ℤ pos 1, let q = p.1 in omega (arith, sums))
 ]
 
-even_back : (y x a : ℤ) → IsEven (y +ℤ x) → x ≡ a → IsEven (a +ℤ y)
-even_back y x a (k, e) f = (k, omega (arith, sums))
-
 swap_even : (x y : ℤ) → IsEven (x +ℤ y) → IsEven (y +ℤ x)
 swap_even x y (k, e) = (k, omega (arith, sums))
 

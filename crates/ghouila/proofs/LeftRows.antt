@@ -1,5 +1,5 @@
 -- The rows that are left when one is taken away.
-use Rattle.std.proofs.Common.{◌≡◌, ◌≢◌, ◌<◌, ◌+◌, ◌++◌, ◌∙◌, ◌⊎◌, inl, inr, ℕ, zero, suc, ℤ, pos, ◌+ℤ◌, ◌-ℤ◌, List, [], ◌∷◌, length, take, drop, get_or, refl, ap, sym, subst, arith}
+use Rattle.std.proofs.Common.{◌≡◌, ◌<◌, ◌+◌, ◌++◌, ◌∙◌, ◌⊎◌, inl, inr, ℕ, zero, suc, ℤ, pos, ◌+ℤ◌, ◌-ℤ◌, List, [], ◌∷◌, length, take, drop, get_or, refl, ap, sym, subst, arith}
 use Rattle.std.specs.List.{remove}
 use Rattle.std.proofs.lemmas.List.{take-append-drop}
 use Rattle.std.proofs.Math.Seq.{drop-cons}
@@ -8,9 +8,9 @@ use Rattle.cmr_base.specs.LineSets.{IsRowSet}
 use Rattle.cmr_base.specs.Signing.{IsSign}
 use Rattle.cmr_base.specs.Sums.{sum_over, IsEven, IsOdd}
 use Rattle.cmr_base.proofs.Integers.{sums}
-use Rattle.cmr_base.proofs.Lists.{HasOneMore, sum_over-one_more, item_of_one_more, all_without}
+use Rattle.cmr_base.proofs.Lists.{HasOneMore, sum_over-one_more, item_of_one_more}
 use Rattle.cmr_base.proofs.RisingLists.{RisesIn, rises_from_lower, rising_apart, rising_at_least, row_set_rises, rising_row_set}
-use Rattle.ghouila.specs.Pivot.{IsOutside, HasNoPivot, KeepsOthers}
+use Rattle.ghouila.specs.Pivot.{IsOutside, HasNoPivot}
 use Rattle.ghouila.proofs.SignedSums.{zero_or_sign}
 
 pub one_more-remove : (xs : List ℕ) (k : ℕ) → k < length xs → HasOneMore (get_or xs k 0) (remove xs k) xs
@@ -57,10 +57,3 @@ aside_quiet m rows left row column more small (inr odd) = go (entry m row column
     go a z (inl e) odd = inl e
     go a z (inr (inl e)) (k, f) = inr (k -ℤ pos 1, omega (arith, sums))
     go a z (inr (inr e)) (k, f) = inr (k, omega (arith, sums))
-
-pub keeps_wider : (before after : Matrix) (row : ℕ) (left rows : List ℕ) → HasOneMore row left rows → KeepsOthers before after left → KeepsOthers before after rows
-keeps_wider before after row left rows more keeps = record {
-  same_height = keeps.same_height;
-  same_width = keeps.same_width;
-  others = λ i j out. keeps.others i j (all_without (λ r. r ≢ i) row left rows more out);
-}

@@ -10,17 +10,12 @@ use Rattle.cmr_base.proofs.Lists.{all-map}
 use Rattle.cmr_base.proofs.RisingLists.{rising_row_set, rising_column_set}
 use Rattle.ghouila.specs.declared.by_pivots.Outcome.{Outcome}
 use Rattle.ghouila.specs.declared.by_pivots.Outcome.TheVariants.{Signed, Violated}
-use Rattle.ghouila.specs.declared.by_pivots.Pivot.{Pivot}
 use Rattle.ghouila.specs.declared.by_pivots.Signing.{Signing}
 use Rattle.ghouila.specs.declared.by_pivots.Signing.TheVariants as signings
 use Rattle.ghouila.specs.Found.{marked}
-use Rattle.ghouila.specs.Outcome.{IsOutcome, EndsRun, IsNamed, HasSizes}
-use Rattle.ghouila.specs.Answer.{SignsOrViolates, IsAnswerOfRun}
+use Rattle.ghouila.specs.Outcome.{IsOutcome, IsNamed}
+use Rattle.ghouila.specs.Answer.{SignsOrViolates}
 use Rattle.ghouila.proofs.Marks.{all_marked, marked_rises}
-
-pub sizes_of : (m : Matrix) (rows : List ℕ) (outcome : Outcome) → IsOutcome m rows outcome → HasSizes m outcome
-sizes_of m rows (Signed s) is = is.one_each
-sizes_of m rows (Violated v) is = (is.row_each, is.column_each)
 
 signed_sum-map : (m : Matrix) (rows : List ℕ) (sign : ℕ → ℤ) (column : ℕ) → sum_over rows (λ row. sign row *ℤ entry m row column) ≡ signed_sum m rows (map sign rows) column
 signed_sum-map m [] sign column = refl
@@ -40,9 +35,3 @@ named_right m rows (Violated v) (signings.Violated lines) is e = rw (e.0, e.1) (
   among = All-from_recursion (Contains rows) (marked v.rows.items) (all_marked (Contains rows) 0 v.rows.items (λ k n same mark. is.among n (subst (λ i. get_or v.rows.items i false ≡ true) (let i : k ≡ n = omega arith in i) mark)));
   violator = is.violator;
 })
-
-pub named_run : (m : Matrix) (rows : List ℕ) (steps : List Pivot) (outcome : Outcome) (signing : Signing) → EndsRun m rows steps outcome → IsNamed rows outcome signing → IsAnswerOfRun m rows steps signing
-named_run m rows steps (Signed s) (signings.Signed signs) run e = (λ row. get_or s.signs.items row (pos 0), e, run)
-named_run m rows steps (Signed s) (signings.Violated lines) run e = absurd e
-named_run m rows steps (Violated v) (signings.Signed signs) run e = absurd e
-named_run m rows steps (Violated v) (signings.Violated lines) run e = rw (e.0, e.1) run

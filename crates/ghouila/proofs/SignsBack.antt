@@ -1,8 +1,8 @@
 -- Signs of some rows, with one row more.
-use Rattle.std.proofs.Common.{◌≡◌, ◌≢◌, ◌<◌, ◌∙◌, ◌⊎◌, inl, inr, ℕ, ℤ, pos, ◌+ℤ◌, ◌*ℤ◌, List, [], ◌∷◌, length, get_or, set, replicate, refl, ap, sym, subst, arith}
+use Rattle.std.proofs.Common.{◌≡◌, ◌≢◌, ◌<◌, ◌∙◌, ◌⊎◌, inl, inr, ℕ, ℤ, pos, ◌+ℤ◌, ◌*ℤ◌, List, ◌∷◌, length, get_or, set, refl, ap, sym, subst, arith}
 use Rattle.std.specs.List.{AllByRecursion}
 use Rattle.std.proofs.lemmas.Bool.{cases_eq}
-use Rattle.std.proofs.lemmas.List.{get_or-set_same, get_or-set_other, length-set, get_or-replicate, length-replicate}
+use Rattle.std.proofs.lemmas.List.{get_or-set_same, get_or-set_other, length-set}
 use Rattle.cmr_base.specs.Matrix.{Matrix, height, entry, IsEntry}
 use Rattle.cmr_base.specs.Signing.{IsSign}
 use Rattle.cmr_base.specs.Sums.{sum_over, IsEven, IsOdd}
@@ -12,18 +12,6 @@ use Rattle.cmr_base.proofs.Lists.{HasOneMore, all_weaker, all_both, all-one_more
 use Rattle.ghouila.specs.Pivot.{IsOutside, pivoted, IsTernaryRow, PivotsRows}
 use Rattle.ghouila.specs.Found.{SignsRows}
 use Rattle.ghouila.proofs.SignedSums.{signed, entry_zero, pivot_sign, pivot_column_vanishes, column_keeps_sum, aside_entry}
-
-pub signs_none : (m : Matrix) (signs sums : List ℤ) → signs ≡ replicate (height m) (pos 0) → sums ≡ replicate m.width (pos 0) → SignsRows m [] signs sums
-signs_none m signs sums e f = record {
-  one_each = ap length e ∙ length-replicate (height m) (pos 0);
-  sum_each = ap length f ∙ length-replicate m.width (pos 0);
-  each = tt;
-  sums_are = λ j h. zero j h;
-  entries = λ j h. subst IsEntry (sym (zero j h)) entry_zero;
-}
-  where
-    zero : (j : ℕ) → j < m.width → get_or sums j (pos 0) ≡ pos 0
-    zero j h = ap (λ xs. get_or xs j (pos 0)) f ∙ get_or-replicate m.width j (pos 0) (pos 0) h
 
 -- the same rows in another order
 pub signs_reordered : (m : Matrix) (row : ℕ) (left rows : List ℕ) (signs sums : List ℤ) → HasOneMore row left rows → SignsRows m (row ∷ left) signs sums → SignsRows m rows signs sums

@@ -16,10 +16,6 @@ pub sublist_none : (R : List ℕ) → IsSublist [] R
 sublist_none [] = refl
 sublist_none (x ∷ R) = inl (sublist_none R)
 
-pub sublist_all : (R : List ℕ) → IsSublist R R
-sublist_all [] = refl
-sublist_all (x ∷ R) = inr (R, refl, sublist_all R)
-
 -- each item alone
 pub sublist_each : (R : List ℕ) → AllByRecursion (λ x. IsSublist (x ∷ []) R) R
 sublist_each [] = tt

@@ -1,17 +1,11 @@
 -- What is found for some rows of a matrix, on the way back through the pivots.
-use Rattle.std.specs.Prelude.{◌≡◌, ◌<◌, ◌+◌, ◌*ℤ◌, ◌+ℤ◌, ℕ, ℤ, pos, Bool, true, false, if◌then◌else◌, List, [], ◌∷◌, length, slice_index, slice_index_or, slice_set}
+use Rattle.std.specs.Prelude.{◌≡◌, ◌<◌, ◌+◌, ◌*ℤ◌, ◌+ℤ◌, ℕ, ℤ, pos, Bool, true, false, if◌then◌else◌, List, [], ◌∷◌, length, slice_index_or, slice_set}
 use Rattle.std.specs.List.{AllByRecursion, Contains}
 use Rattle.cmr_base.specs.Matrix.{Matrix, height, entry}
 use Rattle.cmr_base.specs.Signing.{IsSign}
 use Rattle.cmr_base.specs.Sums.{sum_over, IsEven, IsOdd}
 use Rattle.cmr_base.specs.Violator.{IsViolator}
 use Rattle.ghouila.specs.Pivot.{IsTernaryRow}
-
--- the matrix on these rows, in their order
-pub record IsOnRows (m work : Matrix) (rows : List ℕ) : Type 0 where
-  pub same_height : height work ≡ length rows
-  pub same_width : work.width ≡ m.width
-  pub entries : (place column : ℕ) → place < length rows → column < m.width → entry work place column ≡ entry m (slice_index rows place) column
 
 -- yes where the number is odd
 abbrev pub HasParity : Bool → ℤ → Type 0
