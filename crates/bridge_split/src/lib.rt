@@ -12,7 +12,6 @@ mod splitting;
 mod stars;
 
 pub use cuts::{part_cuts, set_common};
-pub use parts::parts_at;
 pub use sides::{Sides, sides_at};
-pub use splitting::{SplitCase, SplitRow, first_column_with_three, first_splitting_row, split};
+pub use splitting::{SplitCase, SplitRow, first_splitting_row, split};
 pub use stars::has_column_with_three;

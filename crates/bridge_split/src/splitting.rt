@@ -36,7 +36,8 @@ pub enum SplitCase {
     },
 }
 
-/// How the support of the matrix splits.
+/// Which case holds of the support of the matrix, over all its rows: that of a column with three nonzeros is asked first, and
+/// then that of a row that splits the others.
 pub fn split(alloc: Global, matrix: &Matrix) -> Result<SplitCase, Memory>
     ensures { IfOk result (IsSplitCase (support matrix.now) (first_lines (height matrix.now))) }
 {
@@ -112,7 +113,7 @@ fn with_sides(
 }
 
 /// The first column with three nonzeros or more in these rows.
-pub fn first_column_with_three(
+fn first_column_with_three(
     alloc: Global,
     matrix: &Matrix,
     rows: &Indices,
