@@ -1,12 +1,14 @@
 //! The files of the system and standard input: the edge, of whose bytes nothing is claimed.
 
-ghost use Rattle.std.specs.Prelude.{◌≡◌, ◌≤◌, ◌<◌, [], false, true, None, IsTrue, IfOk, is_ok, length};
-ghost use Rattle.cmr_io.specs.Causes.{HasCause};
-ghost use Rattle.cmr_io.specs.Calls.{counted};
+ghost use Rattle.std.specs.Prelude.{◌≡◌, ◌≤◌, ◌<◌, [], false, true, None, IsTrue, IfOk, OnErr, is_err, is_ok, length};
+ghost use Rattle.cmr_io.specs.Causes.{HasCause, Rose};
+ghost use Rattle.cmr_io.specs.Calls.{counted, next_number};
+ghost use Rattle.cmr_io.specs.Reads.{after_piece};
 ghost use Rattle.cmr_io.specs.FileShelf.{new_shelf};
 
 use crate::device::{Failed, Shelf};
 use crate::fault_count::FaultCount;
+use crate::read_count::ReadCount;
 use crate::retry::{read_counted, write_counted};
 use std::fs;
 use std::marker::Model;
@@ -22,11 +24,13 @@ pub enum Open<F, I> {
 }
 
 /// The files of the system. The name `-`, where it is read, is standard input. Contracts see whether a
-/// read or a write is begun, and the count of faults.
+/// read or a write is begun, how much all reads have given, whether the last call failed, and the count of faults.
 #[derive(Drop)]
 pub struct RealShelf<'a, R: Files + Input> {
     rt: &'a R,
     opened: Open<R::File, R::Reader>,
+    reads: ReadCount,
+    failed: bool,
     faults: FaultCount,
 }
 
@@ -36,7 +40,7 @@ impl<'a, R: Files + Input> Model for RealShelf<'a, R> {
 
     ghost Value = { FileShelf };
 
-    ghost view = { λ shelf. record { reading = is_reading shelf.opened; writing = is_writing shelf.opened; faults = shelf.faults } };
+    ghost view = { λ shelf. record { reading = is_reading shelf.opened; writing = is_writing shelf.opened; reads = shelf.reads; failed = shelf.failed; faults = shelf.faults } };
 }
 
 impl<'a, R: Files + Input> RealShelf<'a, R> {
@@ -47,8 +51,21 @@ impl<'a, R: Files + Input> RealShelf<'a, R> {
         RealShelf {
             rt,
             opened: Open::Nothing,
+            reads: ReadCount::new(),
+            failed: false,
             faults: FaultCount::new(),
         }
+    }
+
+    // A failure, which is counted.
+    fn fault(&mut self) -> Failed
+        ensures after { self.new
+            ≡ record self.old { failed = true; faults = next_number self.old.faults } }
+        ensures cause { Rose self.old.faults self.new.faults }
+        ensures later { self.old.faults ≤ self.new.faults }
+    {
+        self.failed = true;
+        self.faults.fault()
     }
 }
 
@@ -67,7 +84,9 @@ impl<R: Files + Input> Shelf for RealShelf<'_, R> {
 
     ghost got = { λ _. [] };
 
-    ghost read = { λ _. 0 };
+    ghost reads = { λ shelf. shelf.reads };
+
+    ghost failed = { λ shelf. shelf.failed };
 
     ghost faults = { λ shelf. shelf.faults };
 
@@ -81,8 +100,11 @@ impl<R: Files + Input> Shelf for RealShelf<'_, R> {
         ensures count { self.new.faults ≡ counted result self.old.faults }
         ensures begun { self.new.reading ≡ is_ok result }
         ensures ended { self.new.writing ≡ false }
+        ensures reads { self.new.reads ≡ self.old.reads }
+        ensures failed { self.new.failed ≡ is_err result }
         ensures cause { HasCause self.old.faults self.new.faults result }
     {
+        self.failed = false;
         if name == "-" {
             self.opened = Open::Input(self.rt.reader());
             return Ok(());
@@ -93,7 +115,7 @@ impl<R: Files + Input> Shelf for RealShelf<'_, R> {
                 self.opened = Open::Read(file);
                 Ok(())
             }
-            Err(_) => Err(self.faults.fault()),
+            Err(_) => Err(self.fault()),
         }
     }
 
@@ -103,28 +125,40 @@ impl<R: Files + Input> Shelf for RealShelf<'_, R> {
         ensures within { IfOk result (λ count. count ≤ length into.new) }
         ensures begun { self.new.reading ≡ true }
         ensures writing { self.new.writing ≡ self.old.writing }
+        ensures reads { IfOk result (λ count. self.new.reads
+            ≡ after_piece self.old.reads (length into.new) count) }
+        ensures reads_stay { OnErr result (self.new.reads ≡ self.old.reads) }
+        ensures failed { self.new.failed ≡ is_err result }
         ensures cause { HasCause self.old.faults self.new.faults result }
     {
-        match &mut self.opened {
+        let result = match &mut self.opened {
             Open::Read(file) => read_counted(file, into, &mut self.faults),
             Open::Input(input) => read_counted(input, into, &mut self.faults),
             Open::Nothing | Open::Write(_) => unreachable!(),
+        };
+        self.failed = result.is_err();
+        if let Ok(count) = result {
+            self.reads.add(into.len(), count);
         }
+        result
     }
 
     fn begin_write(&mut self, name: &str) -> Result<(), Failed>
         ensures count { self.new.faults ≡ counted result self.old.faults }
         ensures begun { self.new.writing ≡ is_ok result }
         ensures ended { self.new.reading ≡ false }
+        ensures reads { self.new.reads ≡ self.old.reads }
+        ensures failed { self.new.failed ≡ is_err result }
         ensures cause { HasCause self.old.faults self.new.faults result }
     {
         self.opened = Open::Nothing;
+        self.failed = false;
         match fs::create(self.rt, name) {
             Ok(file) => {
                 self.opened = Open::Write(file);
                 Ok(())
             }
-            Err(_) => Err(self.faults.fault()),
+            Err(_) => Err(self.fault()),
         }
     }
 
@@ -135,11 +169,15 @@ impl<R: Files + Input> Shelf for RealShelf<'_, R> {
         ensures some { IfOk result (λ count. 0 < length piece.now → 0 < count) }
         ensures begun { self.new.writing ≡ true }
         ensures reading { self.new.reading ≡ self.old.reading }
+        ensures reads { self.new.reads ≡ self.old.reads }
+        ensures failed { self.new.failed ≡ is_err result }
         ensures cause { HasCause self.old.faults self.new.faults result }
     {
         let Open::Write(file) = &mut self.opened else {
             unreachable!()
         };
-        write_counted(file, piece, &mut self.faults)
+        let result = write_counted(file, piece, &mut self.faults);
+        self.failed = result.is_err();
+        result
     }
 }

@@ -26,6 +26,7 @@ rest-preserved g c =
           ∙ ap Some (got told);
       others = λ told other ne. put.others other (λ e. ne (e ∙ before.target told)) ∙ before.others told other ne;
       rooms = λ other. put.rooms other ∙ before.rooms other;
+      reads = put.reads ∙ before.reads;
       tells = put.tells ∙ before.tells;
       calm = λ calm. put.calm (before.calm calm);
       later = omega (arith, put.cause.later, before.later);

@@ -13,6 +13,7 @@ invariant-rest g l =
       holds : IsTrue (S.tells l.fn.shelf) → S.content l.shelf l.name ≡ Some (take l.done l.bytes);
       others : IsTrue (S.tells l.fn.shelf) → (n : List ℕ) → n ≢ l.name → S.content l.shelf n ≡ S.content l.fn.shelf n;
       rooms : (n : List ℕ) → S.room l.shelf n ≡ S.room l.fn.shelf n;
+      reads : S.reads l.shelf ≡ S.reads l.fn.shelf;
       tells : S.tells l.shelf ≡ S.tells l.fn.shelf;
       calm : IsTrue (S.is_calm l.fn.shelf) → IsTrue (S.is_calm l.shelf);
       later : S.faults l.fn.shelf ≤ S.faults l.shelf;
