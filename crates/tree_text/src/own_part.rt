@@ -177,11 +177,7 @@ fn read_three(
     })
 }
 
-fn read_place(
-    words: &mut Words<'_>,
-    sizes: Sizes,
-    lines: &LineSet,
-) -> Result<PivotPlace, TreeError>
+fn read_place(words: &mut Words<'_>, sizes: Sizes, lines: &LineSet) -> Result<PivotPlace, TreeError>
     ensures { Reads (λ x. x) words.new result (pivot_place sizes lines.now words.old) }
 {
     let row = field::line_of(words, sizes.rows, &lines.rows)?;
