@@ -20,6 +20,8 @@ rule_name rule.CornerSign = codes "CornerSign"
 rule_name rule.BadBlock = codes "BadBlock"
 rule_name rule.TooMany = codes "TooMany"
 rule_name rule.NotClean = codes "NotClean"
+rule_name rule.NotPivot = codes "NotPivot"
+rule_name rule.BelowPivot = codes "BelowPivot"
 
 -- numbers of children, counted from 1, each after a dot
 abbrev pub dotted : List ℕ → List ℕ

@@ -72,5 +72,7 @@ fn rule_name(rule: Rule) -> &'static [u8]
         Rule::BadBlock => b"BadBlock",
         Rule::TooMany => b"TooMany",
         Rule::NotClean => b"NotClean",
+        Rule::NotPivot => b"NotPivot",
+        Rule::BelowPivot => b"BelowPivot",
     }
 }

@@ -32,7 +32,7 @@ told budget m is tree d = go (verdict_in tree) refl (tells m is tree.rows tree.c
     go (verdicts.Open lines) e right =
         let root = tree_of tree.root in
         let for = tree_for budget m tree d in
-        open_tree budget m [] (AllLines (height m) m.width) (lines_of root) 2001 root lines (root_lines m root for) for.nodes d.shape (open_from (first_in fault_at root) (first_in open_at root) lines e)
+        open_tree budget m [] [] (AllLines (height m) m.width) (lines_of root) 2001 root lines (root_lines m root for) for.nodes d.shape (open_from (first_in fault_at root) (first_in open_at root) lines e)
 
 root_rows : (budget : ℕ) (m : Matrix) (tree : Tree) → IsShape budget m tree → (lines_of tree).rows ≡ first_lines (height m)
 root_rows budget m (Branch lines finding trees) shape = shape.0.lines.0

@@ -43,6 +43,7 @@ fn push_node(text: &mut Vec<u8>, node: &Node, depth: u32) -> Result<(), Memory>
             push_node(text, one_child, depth + 1)?;
             push_node(text, two_child, depth + 1)
         }
+        Kind::Pivoted { child, .. } => push_node(text, child, depth + 1),
         Kind::Empty
         | Kind::Cycle { .. }
         | Kind::Network { .. }

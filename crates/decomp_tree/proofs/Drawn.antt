@@ -10,13 +10,13 @@ use Rattle.cmr_base.proofs.Parts.{length-rising}
 use Rattle.cmr_base.proofs.RemovedLines.{first_lines_increase}
 use Rattle.tree_type.specs.Trees.{Finding, Tree, Trees, Branch, NoTrees, MoreTrees, trees_from, count_trees, lines_of}
 use Rattle.tree_type.specs.Invariant.{AreLines, AreLinesOf, size_of, Fits, HasChildren, IsTreeWithin, AreTreesWithin, IsTreeFor}
-use Rattle.tree_type.specs.Places.{Due, AllLines, places_from, places_below, due_child, lines_of_each}
+use Rattle.tree_type.specs.Places.{Due, AllLines, places_from, places_below, pivots_below, due_child, lines_of_each}
 use Rattle.tree_type.specs.Soundness.{part, HasItsLines, IsSoundTree}
 use Rattle.tree_type.proofs.PlacedLines.{lines_within}
 use Rattle.decomp_tree.specs.Shapes.{case_number, IsShapedAt, IsShape, HasParts, set_in}
 use Rattle.decomp_tree.specs.Seen.{AreDue, AreFewer, IsSaid, IsDrawn, AreDrawn}
 use Rattle.decomp_tree.proofs.Said.{first_case}
-use Rattle.decomp_tree.proofs.ShapeSound.{shapes_are_sound}
+use Rattle.decomp_tree.proofs.ShapeSound.{no_pivot, shapes_are_sound}
 
 module _ (limit : ℕ) (m : Matrix) where
   lines_drawn : (children : List LineSet) (trees : List Tree) → AreDrawn limit m children trees → lines_of_each (trees_from trees) ≡ children
@@ -32,12 +32,12 @@ module _ (limit : ℕ) (m : Matrix) where
   count_drawn (child ∷ children) (tree ∷ trees) d = ap suc (count_drawn children trees d.1)
 
   shaped_below : (path : List ℕ) (lines : LineSet) (finding : Finding) (k : ℕ) (children : List LineSet) (trees : List Tree) → AreDrawn limit m children trees → AreDue lines finding k children
-      → AllByRecursion (IsShapedAt limit m) (places_below path lines finding k (trees_from trees))
+      → AllByRecursion (IsShapedAt limit m) (places_below path [] lines finding k (trees_from trees))
   shaped_below path lines finding k [] [] d due = tt
   shaped_below path lines finding k [] (tree ∷ trees) d due = absurd d
   shaped_below path lines finding k (child ∷ children) [] d due = absurd d
   shaped_below path lines finding k (child ∷ children) (tree ∷ trees) d due =
-      all-append (IsShapedAt limit m) (places_from (path ++ k ∷ []) (due_child lines finding k) tree) (places_below path lines finding (suc k) (trees_from trees))
+      all-append (IsShapedAt limit m) (places_from (path ++ k ∷ []) [] (due_child lines finding k) tree) (places_below path [] lines finding (suc k) (trees_from trees))
       (d.0.shaped (path ++ k ∷ []) (due_child lines finding k) due.0)
       (shaped_below path lines finding (suc k) children trees d.1 due.1)
 
@@ -56,6 +56,7 @@ module _ (limit : ℕ) (m : Matrix) where
     shaped = λ path due has. (
       record {
         lines = has;
+        unpivoted = refl;
         case = said.case;
         first = first_case limit (part m lines) said.case said.applies said.others no_fault;
         found = said.found;
@@ -64,7 +65,8 @@ module _ (limit : ℕ) (m : Matrix) where
         finding = said.finding_is;
         children = subst (λ c. HasParts finding c (map (set_in lines) said.parts)) (sym (lines_drawn children trees d)) said.parts_are;
       },
-      shaped_below path lines finding 0 children trees d said.due,
+      subst (λ pivots. AllByRecursion (IsShapedAt limit m) (places_below path pivots lines finding 0 (trees_from trees))) (sym (no_pivot limit (part m lines) said.case said.found said.parts lines finding said.says said.finding_is))
+          (shaped_below path lines finding 0 children trees d said.due),
     );
     within = λ parent levels among l. (
       omega (arith, l),

@@ -5,9 +5,9 @@ use Rattle.cmr_base.specs.declared.line_set.LineSet.{LineSet}
 use Rattle.cmr_base.specs.Matrix.{Matrix, height}
 use Rattle.cmr_base.proofs.Lists.{all_front, all_back}
 use Rattle.cmr_base.proofs.Booleans.{neither}
-use Rattle.tree_type.specs.Trees.{Finding, Empty, Cycle, Reduced, OneSum, Network, Conetwork, R10, TwoSum, ThreeSum, Enumerated, Violator, Undecided, Tree, Trees, Branch, NoTrees, MoreTrees, count_trees, lines_of}
+use Rattle.tree_type.specs.Trees.{Finding, Empty, Cycle, Reduced, OneSum, Network, Conetwork, R10, TwoSum, ThreeSum, Enumerated, Violator, Undecided, Pivoted, Tree, Trees, Branch, NoTrees, MoreTrees, count_trees, lines_of}
 use Rattle.tree_type.specs.Invariant.{HasChildren, IsTreeWithin, AreTreesWithin, IsTreeFor}
-use Rattle.tree_type.specs.Places.{Due, AllLines, These, Unnamed, due_child, lines_of_each, places_from, places_below}
+use Rattle.tree_type.specs.Places.{Due, AllLines, These, Unnamed, MadePivot, pivots_below, due_child, lines_of_each, places_from, places_below}
 use Rattle.tree_type.specs.Soundness.{part, HasItsLines}
 use Rattle.decomp_tree.specs.Shapes.{Case, HasNoLines, HasFault, IsReducible, IsApart, IsNetwork, IsConetwork, IsR10Matrix, IsTwoSum, IsThreeSum, IsShort, IsLeft, case_number, IsFirstCase, Says, finding_in, set_in, HasParts, IsShapedAt, IsShape}
 use Rattle.decomp_tree.specs.PlainTrees.{plain, plain_tree, plain_trees}
@@ -102,6 +102,7 @@ plain_in lines (ThreeSum three) = refl
 plain_in lines Enumerated = refl
 plain_in lines (Violator f) = refl
 plain_in lines Undecided = refl
+plain_in lines (Pivoted place) = refl
 
 -- the children of a one-sum have the lines of its parts
 parts_same : (lines : LineSet) (finding found : Finding) (children others parts parts' : List LineSet) → finding ≡ finding_in lines found → HasParts found parts parts'
@@ -124,6 +125,7 @@ parts_same lines finding found children others parts parts' is same a b e = go f
     go Enumerated is same = let z : OneSum ≡ Enumerated = sym e ∙ is in cc
     go (Violator x) is same = let z : OneSum ≡ Violator (set_in lines x) = sym e ∙ is in cc
     go Undecided is same = let z : OneSum ≡ Undecided = sym e ∙ is in cc
+    go (Pivoted x) is same = let z : OneSum ≡ Pivoted x = sym e ∙ is in cc
 
 -- ---- the lines of the children
 
@@ -140,6 +142,7 @@ children_plain (ThreeSum three) count h = h
 children_plain Enumerated count h = h
 children_plain (Violator f) count h = h
 children_plain Undecided count h = h
+children_plain (Pivoted place) count h = h
 
 due_plain : (lines : LineSet) (f : Finding) (k : ℕ) → due_child lines f k ≡ due_child lines (plain f) k
 due_plain lines Empty k = refl
@@ -154,6 +157,7 @@ due_plain lines (ThreeSum three) k = refl
 due_plain lines Enumerated k = refl
 due_plain lines (Violator f) k = refl
 due_plain lines Undecided k = refl
+due_plain lines (Pivoted place) k = refl
 
 all_due_plain : (lines : LineSet) (f : Finding) (k : ℕ) (children : List LineSet) → AreDue lines f k children → AreDue lines (plain f) k children
 all_due_plain lines f k [] h = tt
@@ -193,22 +197,23 @@ children_same lines (ThreeSum three) xs ys x y a b one = named_same lines (Three
 children_same lines Enumerated xs ys x y a b one = none_same xs ys x y
 children_same lines (Violator f) xs ys x y a b one = none_same xs ys x y
 children_same lines Undecided xs ys x y a b one = none_same xs ys x y
+children_same lines (Pivoted place) xs ys x y a b one = named_same lines (Pivoted place) 0 xs ys (x ∙ sym y) (λ k e. cc) a b
 
 count_is : (trees : Trees) → length (lines_of_each trees) ≡ count_trees trees
 count_is NoTrees = refl
 count_is (MoreTrees tree trees) = ap suc (count_is trees)
 
 module _ (limit : ℕ) (m : Matrix) where
-  due_here : (path : List ℕ) (due : Due) (tree : Tree) → AllByRecursion (IsShapedAt limit m) (places_from path due tree) → HasItsLines due (lines_of tree)
-  due_here path due (Branch lines finding trees) shaped = shaped.0.lines
+  due_here : (path : List ℕ) (pivots : List MadePivot) (due : Due) (tree : Tree) → AllByRecursion (IsShapedAt limit m) (places_from path pivots due tree) → HasItsLines due (lines_of tree)
+  due_here path pivots due (Branch lines finding trees) shaped = shaped.0.lines
 
-  due_each : (path : List ℕ) (lines : LineSet) (finding : Finding) (k : ℕ) (trees : Trees) → AllByRecursion (IsShapedAt limit m) (places_below path lines finding k trees) → AreDue lines finding k (lines_of_each trees)
-  due_each path lines finding k NoTrees shaped = tt
-  due_each path lines finding k (MoreTrees tree trees) shaped =
-      let first = places_from (path ++ k ∷ []) (due_child lines finding k) tree in
-      let rest = places_below path lines finding (suc k) trees in (
-        due_here (path ++ k ∷ []) (due_child lines finding k) tree (all_front (IsShapedAt limit m) first rest shaped),
-        due_each path lines finding (suc k) trees (all_back (IsShapedAt limit m) first rest shaped),
+  due_each : (path : List ℕ) (pivots : List MadePivot) (lines : LineSet) (finding : Finding) (k : ℕ) (trees : Trees) → AllByRecursion (IsShapedAt limit m) (places_below path pivots lines finding k trees) → AreDue lines finding k (lines_of_each trees)
+  due_each path pivots lines finding k NoTrees shaped = tt
+  due_each path pivots lines finding k (MoreTrees tree trees) shaped =
+      let first = places_from (path ++ k ∷ []) pivots (due_child lines finding k) tree in
+      let rest = places_below path pivots lines finding (suc k) trees in (
+        due_here (path ++ k ∷ []) pivots (due_child lines finding k) tree (all_front (IsShapedAt limit m) first rest shaped),
+        due_each path pivots lines finding (suc k) trees (all_back (IsShapedAt limit m) first rest shaped),
       )
 
   record IsSameNode (finding finding' : Finding) (trees trees' : Trees) : Type 0 where
@@ -216,12 +221,12 @@ module _ (limit : ℕ) (m : Matrix) where
     children : lines_of_each trees ≡ lines_of_each trees'
 
   -- two nodes on the same lines
-  same_node : (path path' : List ℕ) (due due' : Due) (lines : LineSet) (finding finding' : Finding) (trees trees' : Trees) → HasChildren finding (count_trees trees) → HasChildren finding' (count_trees trees')
-      → IsShapedAt limit m (record { path = path; due = due; lines = lines; finding = finding; children = lines_of_each trees })
-      → IsShapedAt limit m (record { path = path'; due = due'; lines = lines; finding = finding'; children = lines_of_each trees' })
-      → AllByRecursion (IsShapedAt limit m) (places_below path lines finding 0 trees) → AllByRecursion (IsShapedAt limit m) (places_below path' lines finding' 0 trees')
+  same_node : (path path' : List ℕ) (pivots pivots' : List MadePivot) (due due' : Due) (lines : LineSet) (finding finding' : Finding) (trees trees' : Trees) → HasChildren finding (count_trees trees) → HasChildren finding' (count_trees trees')
+      → IsShapedAt limit m (record { path = path; pivots = pivots; due = due; lines = lines; finding = finding; children = lines_of_each trees })
+      → IsShapedAt limit m (record { path = path'; pivots = pivots'; due = due'; lines = lines; finding = finding'; children = lines_of_each trees' })
+      → AllByRecursion (IsShapedAt limit m) (places_below path (pivots_below lines finding pivots) lines finding 0 trees) → AllByRecursion (IsShapedAt limit m) (places_below path' (pivots_below lines finding' pivots') lines finding' 0 trees')
       → IsSameNode finding finding' trees trees'
-  same_node path path' due due' lines finding finding' trees trees' count count' x y below below' =
+  same_node path path' pivots pivots' due due' lines finding finding' trees trees' count count' x y below below' =
       let case : x.case ≡ y.case = one_case limit (part m lines) x.case y.case x.first y.first in
       let same = says_same (part m lines) y.case x.found y.found x.parts y.parts (subst (λ c. Says c (part m lines) x.found x.parts) case x.says) y.says in
       let said : plain finding ≡ plain finding' = ap plain x.finding ∙ plain_in lines x.found ∙ ap (finding_in lines) same.0 ∙ sym (plain_in lines y.found) ∙ sym (ap plain y.finding) in
@@ -230,8 +235,8 @@ module _ (limit : ℕ) (m : Matrix) where
         children = children_same lines (plain finding') (lines_of_each trees) (lines_of_each trees')
             (subst (λ f. HasChildren f (length (lines_of_each trees))) said (children_plain finding (length (lines_of_each trees)) (subst (HasChildren finding) (sym (count_is trees)) count)))
             (children_plain finding' (length (lines_of_each trees')) (subst (HasChildren finding') (sym (count_is trees')) count'))
-            (subst (λ f. AreDue lines f 0 (lines_of_each trees)) said (all_due_plain lines finding 0 (lines_of_each trees) (due_each path lines finding 0 trees below)))
-            (all_due_plain lines finding' 0 (lines_of_each trees') (due_each path' lines finding' 0 trees' below'))
+            (subst (λ f. AreDue lines f 0 (lines_of_each trees)) said (all_due_plain lines finding 0 (lines_of_each trees) (due_each path (pivots_below lines finding pivots) lines finding 0 trees below)))
+            (all_due_plain lines finding' 0 (lines_of_each trees') (due_each path' (pivots_below lines finding' pivots') lines finding' 0 trees' below'))
             (λ e. one_sum lines finding finding' said e x.found x.parts y.parts (lines_of_each trees) (lines_of_each trees') x.finding same.1 x.children y.children);
       }
     where
@@ -253,39 +258,40 @@ module _ (limit : ℕ) (m : Matrix) where
           only_one_sum Enumerated e = cc
           only_one_sum (Violator f) e = cc
           only_one_sum Undecided e = cc
+          only_one_sum (Pivoted place) e = cc
 
   mutual
-    one_tree : (path path' : List ℕ) (due due' : Due) (parent parent' : LineSet) (levels levels' : ℕ) (tree tree' : Tree) → lines_of tree ≡ lines_of tree' → IsTreeWithin parent levels tree → IsTreeWithin parent' levels' tree'
-        → AllByRecursion (IsShapedAt limit m) (places_from path due tree) → AllByRecursion (IsShapedAt limit m) (places_from path' due' tree') → plain_tree tree ≡ plain_tree tree'
-    one_tree path path' due due' parent parent' levels levels' (Branch lines finding trees) (Branch lines' finding' trees') same fits fits' shaped shaped' =
-        let node' = subst (λ l. IsShapedAt limit m (record { path = path'; due = due'; lines = l; finding = finding'; children = lines_of_each trees' })) (sym same) shaped'.0 in
-        let below' = subst (λ l. AllByRecursion (IsShapedAt limit m) (places_below path' l finding' 0 trees')) (sym same) shaped'.1 in
-        let is = same_node path path' due due' lines finding finding' trees trees' fits.3 fits'.3 shaped.0 node' shaped.1 below' in
+    one_tree : (path path' : List ℕ) (pivots pivots' : List MadePivot) (due due' : Due) (parent parent' : LineSet) (levels levels' : ℕ) (tree tree' : Tree) → lines_of tree ≡ lines_of tree' → IsTreeWithin parent levels tree → IsTreeWithin parent' levels' tree'
+        → AllByRecursion (IsShapedAt limit m) (places_from path pivots due tree) → AllByRecursion (IsShapedAt limit m) (places_from path' pivots' due' tree') → plain_tree tree ≡ plain_tree tree'
+    one_tree path path' pivots pivots' due due' parent parent' levels levels' (Branch lines finding trees) (Branch lines' finding' trees') same fits fits' shaped shaped' =
+        let node' = subst (λ l. IsShapedAt limit m (record { path = path'; pivots = pivots'; due = due'; lines = l; finding = finding'; children = lines_of_each trees' })) (sym same) shaped'.0 in
+        let below' = subst (λ l. AllByRecursion (IsShapedAt limit m) (places_below path' (pivots_below l finding' pivots') l finding' 0 trees')) (sym same) shaped'.1 in
+        let is = same_node path path' pivots pivots' due due' lines finding finding' trees trees' fits.3 fits'.3 shaped.0 node' shaped.1 below' in
         ap (λ (l : LineSet). Branch l (plain finding) (plain_trees trees)) same
         ∙ ap₂ (λ (f : Finding) (ts : Trees). Branch lines' f ts) is.said
-        (one_trees path path' lines lines' finding finding' (levels - 1) (levels' - 1) 0 0 trees trees' is.children fits.4 fits'.4 shaped.1 shaped'.1)
+        (one_trees path path' (pivots_below lines finding pivots) (pivots_below lines' finding' pivots') lines lines' finding finding' (levels - 1) (levels' - 1) 0 0 trees trees' is.children fits.4 fits'.4 shaped.1 shaped'.1)
 
-    one_trees : (path path' : List ℕ) (lines lines' : LineSet) (finding finding' : Finding) (levels levels' k k' : ℕ) (trees trees' : Trees) → lines_of_each trees ≡ lines_of_each trees'
+    one_trees : (path path' : List ℕ) (pivots pivots' : List MadePivot) (lines lines' : LineSet) (finding finding' : Finding) (levels levels' k k' : ℕ) (trees trees' : Trees) → lines_of_each trees ≡ lines_of_each trees'
         → AreTreesWithin lines levels trees → AreTreesWithin lines' levels' trees'
-        → AllByRecursion (IsShapedAt limit m) (places_below path lines finding k trees) → AllByRecursion (IsShapedAt limit m) (places_below path' lines' finding' k' trees') → plain_trees trees ≡ plain_trees trees'
-    one_trees path path' lines lines' finding finding' levels levels' k k' NoTrees NoTrees same fits fits' shaped shaped' = refl
-    one_trees path path' lines lines' finding finding' levels levels' k k' NoTrees (MoreTrees tree trees) same fits fits' shaped shaped' = cc
-    one_trees path path' lines lines' finding finding' levels levels' k k' (MoreTrees tree trees) NoTrees same fits fits' shaped shaped' = cc
-    one_trees path path' lines lines' finding finding' levels levels' k k' (MoreTrees tree trees) (MoreTrees tree' trees') same fits fits' shaped shaped' =
-        let first = places_from (path ++ k ∷ []) (due_child lines finding k) tree in
-        let rest = places_below path lines finding (suc k) trees in
-        let first' = places_from (path' ++ k' ∷ []) (due_child lines' finding' k') tree' in
-        let rest' = places_below path' lines' finding' (suc k') trees' in
+        → AllByRecursion (IsShapedAt limit m) (places_below path pivots lines finding k trees) → AllByRecursion (IsShapedAt limit m) (places_below path' pivots' lines' finding' k' trees') → plain_trees trees ≡ plain_trees trees'
+    one_trees path path' pivots pivots' lines lines' finding finding' levels levels' k k' NoTrees NoTrees same fits fits' shaped shaped' = refl
+    one_trees path path' pivots pivots' lines lines' finding finding' levels levels' k k' NoTrees (MoreTrees tree trees) same fits fits' shaped shaped' = cc
+    one_trees path path' pivots pivots' lines lines' finding finding' levels levels' k k' (MoreTrees tree trees) NoTrees same fits fits' shaped shaped' = cc
+    one_trees path path' pivots pivots' lines lines' finding finding' levels levels' k k' (MoreTrees tree trees) (MoreTrees tree' trees') same fits fits' shaped shaped' =
+        let first = places_from (path ++ k ∷ []) pivots (due_child lines finding k) tree in
+        let rest = places_below path pivots lines finding (suc k) trees in
+        let first' = places_from (path' ++ k' ∷ []) pivots' (due_child lines' finding' k') tree' in
+        let rest' = places_below path' pivots' lines' finding' (suc k') trees' in
         let head : lines_of tree ≡ lines_of tree' = cc in
         let tail : lines_of_each trees ≡ lines_of_each trees' = cc in
         ap₂ (λ (t : Tree) (ts : Trees). MoreTrees t ts)
-        (one_tree (path ++ k ∷ []) (path' ++ k' ∷ []) (due_child lines finding k) (due_child lines' finding' k') lines lines' levels levels' tree tree' head fits.0 fits'.0
+        (one_tree (path ++ k ∷ []) (path' ++ k' ∷ []) pivots pivots' (due_child lines finding k) (due_child lines' finding' k') lines lines' levels levels' tree tree' head fits.0 fits'.0
         (all_front (IsShapedAt limit m) first rest shaped) (all_front (IsShapedAt limit m) first' rest' shaped'))
-        (one_trees path path' lines lines' finding finding' levels levels' (suc k) (suc k') trees trees' tail fits.1 fits'.1
+        (one_trees path path' pivots pivots' lines lines' finding finding' levels levels' (suc k) (suc k') trees trees' tail fits.1 fits'.1
         (all_back (IsShapedAt limit m) first rest shaped) (all_back (IsShapedAt limit m) first' rest' shaped'))
 
 pub one_shape : OneShape
 one_shape limit m tree other is is' shaped shaped' =
     let all = AllLines (height m) m.width in
-    one_tree limit m [] [] all all (lines_of tree) (lines_of other) 2001 2001 tree other
-    (due_same all (lines_of tree) (lines_of other) (λ e. cc) (due_here limit m [] all tree shaped) (due_here limit m [] all other shaped')) is.nodes is'.nodes shaped shaped'
+    one_tree limit m [] [] [] [] all all (lines_of tree) (lines_of other) 2001 2001 tree other
+    (due_same all (lines_of tree) (lines_of other) (λ e. cc) (due_here limit m [] [] all tree shaped) (due_here limit m [] [] all other shaped')) is.nodes is'.nodes shaped shaped'

@@ -4,7 +4,7 @@ use Rattle.std.specs.Option.{option_or}
 use Rattle.cmr_base.specs.declared.line_set.LineSet.{LineSet}
 use Rattle.cmr_base.specs.Matrix.{Matrix, height}
 use Rattle.tree_type.specs.Invariant.{IsTreeFor}
-use Rattle.tree_type.specs.Trees.{Finding, Empty, Cycle, Reduced, OneSum, Network, Conetwork, R10, TwoSum, ThreeSum, Enumerated, Violator, Undecided, Tree, Trees, Branch, NoTrees, MoreTrees}
+use Rattle.tree_type.specs.Trees.{Finding, Empty, Cycle, Reduced, OneSum, Network, Conetwork, R10, TwoSum, ThreeSum, Enumerated, Violator, Undecided, Pivoted, Tree, Trees, Branch, NoTrees, MoreTrees}
 use Rattle.tree_type.specs.Verdicts.{first_in, first_among, fault_at, open_at, verdict_from, verdict_of}
 use Rattle.decomp_tree.specs.PlainTrees.{plain, plain_tree, plain_trees}
 use Rattle.decomp_tree.specs.Shapes.{IsShape}
@@ -23,6 +23,7 @@ fault_plain lines (ThreeSum three) = refl
 fault_plain lines Enumerated = refl
 fault_plain lines (Violator f) = refl
 fault_plain lines Undecided = refl
+fault_plain lines (Pivoted place) = refl
 
 open_plain : (lines : LineSet) (f : Finding) → open_at lines f ≡ open_at lines (plain f)
 open_plain lines Empty = refl
@@ -37,6 +38,7 @@ open_plain lines (ThreeSum three) = refl
 open_plain lines Enumerated = refl
 open_plain lines (Violator f) = refl
 open_plain lines Undecided = refl
+open_plain lines (Pivoted place) = refl
 
 module _ (told : LineSet → Finding → Option LineSet) (same : (lines : LineSet) (f : Finding) → told lines f ≡ told lines (plain f)) where
   mutual

@@ -1,26 +1,34 @@
 -- A decomposition keeps all rules.
-use Rattle.std.proofs.Common.{◌≤◌, ◌-◌, ℕ, zero, suc, List, [], ◌∷◌, ◌++◌, map, refl, sym, subst}
+use Rattle.std.proofs.Common.{◌≡◌, ◌≤◌, ◌-◌, ℕ, zero, suc, List, [], ◌∷◌, ◌++◌, map, refl, sym, subst}
 use Rattle.std.specs.List.{AllByRecursion}
 use Rattle.cmr_base.specs.declared.line_set.LineSet.{LineSet}
 use Rattle.cmr_base.specs.Matrix.{Matrix, height, IsMatrix}
 use Rattle.cmr_base.proofs.Lists.{all-append, all_front, all_back}
 use Rattle.tree_type.specs.declared.refusal.Rule.{Rule}
 use Rattle.tree_type.specs.declared.refusal.Rule.TheVariants as rule
-use Rattle.tree_type.specs.Trees.{Finding, Empty, Cycle, Reduced, OneSum, Network, Conetwork, R10, TwoSum, ThreeSum, Enumerated, Violator, Undecided, Tree, Trees, Branch, NoTrees, MoreTrees, lines_of}
+use Rattle.tree_type.specs.Trees.{Finding, Empty, Cycle, Reduced, OneSum, Network, Conetwork, R10, TwoSum, ThreeSum, Enumerated, Violator, Undecided, Pivoted, Tree, Trees, Branch, NoTrees, MoreTrees, lines_of}
 use Rattle.tree_type.specs.Invariant.{AreLines, IsTreeWithin, AreTreesWithin, IsTreeFor}
-use Rattle.tree_type.specs.Places.{Due, AllLines, Place, places_from, places_below, due_child, lines_of_each}
-use Rattle.tree_type.specs.Soundness.{HasItsSizes, Demands, KeepsAll}
+use Rattle.tree_type.specs.Places.{Due, AllLines, MadePivot, Place, matrix_after, places_from, places_below, pivots_below, due_child, lines_of_each}
+use Rattle.tree_type.specs.Soundness.{HasItsSizes, Demands, MayStand, KeepsAll}
 use Rattle.tree_type.proofs.PlacedLines.{lines_within}
 use Rattle.decomp_tree.specs.Laws.{ShapesAreSound}
-use Rattle.decomp_tree.specs.Shapes.{IsShapedAt, HasParts, set_in}
+use Rattle.decomp_tree.specs.Shapes.{Case, HasNoLines, HasFault, IsReducible, IsApart, IsNetwork, IsConetwork, IsR10Matrix, IsTwoSum, IsThreeSum, IsShort, IsLeft, Says, finding_in, IsShapedAt, HasParts, set_in}
+use Rattle.tree_type.specs.Soundness.{part}
 use Rattle.decomp_tree.proofs.ShapeRules.{keeps}
 
 module _ (limit : ℕ) (few : limit ≤ 24) (m : Matrix) (is : IsMatrix m) where
+  -- no pivot stands above a node
+  unpivoted : (pivots : List MadePivot) (finding : Finding) → pivots ≡ [] → MayStand pivots finding
+  unpivoted pivots finding e = subst (λ ps. MayStand ps finding) (sym e) tt
+
   here : (place : Place) → AreLines m place.lines → HasItsSizes m place.due → IsShapedAt limit m place → KeepsAll m place
   here place are sizes shaped = all
     where
-      demands : (broken : Rule) → Demands broken m place.lines place.finding place.children
-      demands broken = subst (λ f. Demands broken m place.lines f place.children) (sym shaped.finding)
+      demands : (broken : Rule) → Demands broken (matrix_after m place.pivots) place.lines place.finding place.children
+      demands broken = subst (λ ps. Demands broken (matrix_after m ps) place.lines place.finding place.children) (sym shaped.unpivoted) (plainly broken)
+
+      plainly : (broken : Rule) → Demands broken m place.lines place.finding place.children
+      plainly broken = subst (λ f. Demands broken m place.lines f place.children) (sym shaped.finding)
           (keeps limit few m is place.lines are shaped.case shaped.found shaped.parts place.children shaped.first shaped.says
           (subst (λ f. HasParts f place.children (map (set_in place.lines) shaped.parts)) shaped.finding shaped.children) broken)
 
@@ -40,6 +48,8 @@ module _ (limit : ℕ) (few : limit ≤ 24) (m : Matrix) (is : IsMatrix m) where
       all rule.BadBlock = demands rule.BadBlock
       all rule.TooMany = demands rule.TooMany
       all rule.NotClean = demands rule.NotClean
+      all rule.NotPivot = demands rule.NotPivot
+      all rule.BelowPivot = unpivoted place.pivots place.finding shaped.unpivoted
 
   -- a child is no root
   sizes_child : (lines : LineSet) (finding : Finding) (k : ℕ) → HasItsSizes m (due_child lines finding k)
@@ -57,25 +67,55 @@ module _ (limit : ℕ) (few : limit ≤ 24) (m : Matrix) (is : IsMatrix m) where
   sizes_child lines Enumerated k = tt
   sizes_child lines (Violator fault) k = tt
   sizes_child lines Undecided k = tt
+  sizes_child lines (Pivoted place) k = tt
 
   mutual
-    sound_tree : (path : List ℕ) (due : Due) (parent : LineSet) (levels : ℕ) (tree : Tree) → AreLines m parent → HasItsSizes m due → IsTreeWithin parent levels tree
-        → AllByRecursion (IsShapedAt limit m) (places_from path due tree) → AllByRecursion (KeepsAll m) (places_from path due tree)
-    sound_tree path due parent levels (Branch lines finding trees) are sizes fits shaped =
+    sound_tree : (path : List ℕ) (pivots : List MadePivot) (due : Due) (parent : LineSet) (levels : ℕ) (tree : Tree) → AreLines m parent → HasItsSizes m due → IsTreeWithin parent levels tree
+        → AllByRecursion (IsShapedAt limit m) (places_from path pivots due tree) → AllByRecursion (KeepsAll m) (places_from path pivots due tree)
+    sound_tree path pivots due parent levels (Branch lines finding trees) are sizes fits shaped =
         let are_here = lines_within m lines parent fits.1 are in (
-          here (record { path = path; due = due; lines = lines; finding = finding; children = lines_of_each trees }) are_here sizes shaped.0,
-          sound_trees path lines finding (levels - 1) 0 trees are_here fits.4 shaped.1,
+          here (record { path = path; pivots = pivots; due = due; lines = lines; finding = finding; children = lines_of_each trees }) are_here sizes shaped.0,
+          sound_trees path (pivots_below lines finding pivots) lines finding (levels - 1) 0 trees are_here fits.4 shaped.1,
         )
 
-    sound_trees : (path : List ℕ) (lines : LineSet) (finding : Finding) (levels k : ℕ) (trees : Trees) → AreLines m lines → AreTreesWithin lines levels trees
-        → AllByRecursion (IsShapedAt limit m) (places_below path lines finding k trees) → AllByRecursion (KeepsAll m) (places_below path lines finding k trees)
-    sound_trees path lines finding levels k NoTrees are fits shaped = tt
-    sound_trees path lines finding levels k (MoreTrees tree trees) are fits shaped =
-        all-append (KeepsAll m) (places_from (path ++ k ∷ []) (due_child lines finding k) tree) (places_below path lines finding (suc k) trees)
-        (sound_tree (path ++ k ∷ []) (due_child lines finding k) lines levels tree are (sizes_child lines finding k) fits.0
-        (all_front (IsShapedAt limit m) (places_from (path ++ k ∷ []) (due_child lines finding k) tree) (places_below path lines finding (suc k) trees) shaped))
-        (sound_trees path lines finding levels (suc k) trees are fits.1
-        (all_back (IsShapedAt limit m) (places_from (path ++ k ∷ []) (due_child lines finding k) tree) (places_below path lines finding (suc k) trees) shaped))
+    sound_trees : (path : List ℕ) (pivots : List MadePivot) (lines : LineSet) (finding : Finding) (levels k : ℕ) (trees : Trees) → AreLines m lines → AreTreesWithin lines levels trees
+        → AllByRecursion (IsShapedAt limit m) (places_below path pivots lines finding k trees) → AllByRecursion (KeepsAll m) (places_below path pivots lines finding k trees)
+    sound_trees path pivots lines finding levels k NoTrees are fits shaped = tt
+    sound_trees path pivots lines finding levels k (MoreTrees tree trees) are fits shaped =
+        all-append (KeepsAll m) (places_from (path ++ k ∷ []) pivots (due_child lines finding k) tree) (places_below path pivots lines finding (suc k) trees)
+        (sound_tree (path ++ k ∷ []) pivots (due_child lines finding k) lines levels tree are (sizes_child lines finding k) fits.0
+        (all_front (IsShapedAt limit m) (places_from (path ++ k ∷ []) pivots (due_child lines finding k) tree) (places_below path pivots lines finding (suc k) trees) shaped))
+        (sound_trees path pivots lines finding levels (suc k) trees are fits.1
+        (all_back (IsShapedAt limit m) (places_from (path ++ k ∷ []) pivots (due_child lines finding k) tree) (places_below path pivots lines finding (suc k) trees) shaped))
+
+-- no node of a decomposition makes a pivot
+pub no_pivot : (limit : ℕ) (n : Matrix) (case : Case) (found : Finding) (parts : List LineSet) (lines : LineSet) (finding : Finding) → Says case n found parts → finding ≡ finding_in lines found → pivots_below lines finding [] ≡ []
+no_pivot limit n case found parts lines finding says e = subst (λ f. pivots_below lines f [] ≡ []) (sym e) (go case found says)
+  where
+    go : (case : Case) (found : Finding) → Says case n found parts → pivots_below lines (finding_in lines found) [] ≡ []
+    go case Empty says = refl
+    go case (Cycle fault) says = refl
+    go case (Reduced steps) says = refl
+    go case OneSum says = refl
+    go case (Network net) says = refl
+    go case (Conetwork net) says = refl
+    go case R10 says = refl
+    go case (TwoSum two) says = refl
+    go case (ThreeSum three) says = refl
+    go case Enumerated says = refl
+    go case (Violator fault) says = refl
+    go case Undecided says = refl
+    go HasNoLines (Pivoted place) says = absurd says
+    go HasFault (Pivoted place) says = absurd says
+    go IsReducible (Pivoted place) says = absurd says
+    go IsApart (Pivoted place) says = absurd says
+    go IsNetwork (Pivoted place) says = absurd says
+    go IsConetwork (Pivoted place) says = absurd says
+    go IsR10Matrix (Pivoted place) says = absurd says
+    go IsTwoSum (Pivoted place) says = absurd says
+    go IsThreeSum (Pivoted place) says = absurd says
+    go IsShort (Pivoted place) says = absurd says
+    go IsLeft (Pivoted place) says = absurd says
 
 pub root_lines : (m : Matrix) (tree : Tree) → IsTreeFor (height m) m.width tree → AreLines m (lines_of tree)
 root_lines m (Branch lines finding trees) within = record {
@@ -85,4 +125,4 @@ root_lines m (Branch lines finding trees) within = record {
 
 pub shapes_are_sound : ShapesAreSound
 shapes_are_sound limit few m is tree within shaped =
-    sound_tree limit few m is [] (AllLines (height m) m.width) (lines_of tree) 2001 tree (root_lines m tree within) (refl, refl) within.nodes shaped
+    sound_tree limit few m is [] [] (AllLines (height m) m.width) (lines_of tree) 2001 tree (root_lines m tree within) (refl, refl) within.nodes shaped

@@ -98,7 +98,7 @@ IsSeen limit m lines seen = IsSaid limit m lines (finding_shown seen.finding) se
 -- the tree is the shape of the submatrix on these lines, with at most as many levels as lines and one more
 pub record IsDrawn (limit : ℕ) (m : Matrix) (lines : LineSet) (tree : Tree) : Type 0 where
   pub lines_are : lines_of tree ≡ lines
-  pub shaped : (path : List ℕ) (due : Due) → HasItsLines due lines → AllByRecursion (IsShapedAt limit m) (places_from path due tree)
+  pub shaped : (path : List ℕ) (due : Due) → HasItsLines due lines → AllByRecursion (IsShapedAt limit m) (places_from path [] due tree)
   pub within : (parent : LineSet) (levels : ℕ) → AreLinesOf lines parent → size_of lines < levels → IsTreeWithin parent levels tree
 
 -- the trees of some sets of lines

@@ -1,5 +1,5 @@
 -- The shape of a decomposition: at each node the first case that applies.
-use Rattle.std.specs.Prelude.{◌≡◌, ◌≤◌, ◌<◌, Bool, false, cond, ℕ, List, length, map, min, slice_index_or, IsSome}
+use Rattle.std.specs.Prelude.{◌≡◌, ◌≤◌, ◌<◌, Bool, false, cond, ℕ, List, [], length, map, min, slice_index_or, IsSome}
 use Rattle.std.specs.List.{AllByRecursion}
 use Rattle.cmr_base.specs.declared.line.Line.{Line}
 use Rattle.cmr_base.specs.declared.line.Line.TheVariants.{Row, Column}
@@ -127,9 +127,10 @@ abbrev pub HasParts : Finding → List LineSet → List LineSet → Type 0
 HasParts OneSum children parts = children ≡ parts
 HasParts finding children parts = Unit {0}
 
--- a node has the lines that it is to have, and says what the first case that applies to its submatrix has it say
+-- a node has the lines that it is to have, stands below no pivot, and says what the first case that applies to its submatrix has it say
 pub record IsShapedAt (limit : ℕ) (m : Matrix) (place : Place) : Type 0 where
   pub lines : HasItsLines place.due place.lines
+  pub unpivoted : place.pivots ≡ []
   pub case : Case
   pub first : IsFirstCase limit (part m place.lines) case
   pub found : Finding

@@ -143,7 +143,8 @@ fn is_unsearched(finding: &Finding) -> bool
         | Finding::ThreeSum(_)
         | Finding::Enumerated
         | Finding::Violator(_)
-        | Finding::Undecided => false,
+        | Finding::Undecided
+        | Finding::Pivoted(_) => false,
     }
 }
 
@@ -161,6 +162,7 @@ pub fn keeps_free(finding: &Finding) -> bool
         | Finding::R10
         | Finding::TwoSum(_)
         | Finding::ThreeSum(_)
-        | Finding::Enumerated => true,
+        | Finding::Enumerated
+        | Finding::Pivoted(_) => true,
     }
 }

@@ -1,2 +1,3 @@
 pub mod ChosenLines
 pub mod Pivoted
+pub mod PivotedParts

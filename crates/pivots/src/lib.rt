@@ -3,6 +3,8 @@
 
 mod back;
 mod matrix_pivot;
+mod place;
 
 pub use back::violator_before;
 pub use matrix_pivot::{Pivoted, pivot};
+pub use place::PivotPlace;

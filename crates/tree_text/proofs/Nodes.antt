@@ -14,10 +14,11 @@ use Rattle.tree_type.specs.Trees.{Tree, Branch, tree_of, trees_from}
 use Rattle.tree_text.specs.declared.error.TreeKind.{TreeKind}
 use Rattle.tree_text.specs.declared.error.TreeKind.TheVariants.{Short, Extra}
 use Rattle.tree_text.specs.declared.header.Header.{Header}
+use Rattle.tree_text.specs.declared.header.Title.{Title}
 use Rattle.tree_text.specs.declared.header.Version.{Version}
 use Rattle.std.specs.Prelude.{codes}
-use Rattle.tree_text.specs.Values.{exactly, limited}
-use Rattle.tree_text.specs.Versions.{version_in}
+use Rattle.tree_text.specs.Values.{limited}
+use Rattle.tree_text.specs.Versions.{title_in, version_in}
 use Rattle.tree_text.specs.Findings.{NodeFront}
 use Rattle.tree_text.specs.Reading.{Reader, PlainTree, another_tree, front, node, tree}
 
@@ -84,24 +85,24 @@ not_none read text nodes rest made none = let more = one_node_more read [] nodes
 -- the words in front of the root, with some way to read the root
 abbrev pub read_whole : (Header → Reader Tree) → Text → Result PlainTree (Fault TreeKind)
 read_whole read text = do
-  name ← field Short (exactly (codes "cmr-tree")) text
-  version ← field Short version_in name.1
+  title ← field Short title_in text
+  version ← field Short (version_in title.0) title.1
   rows ← field Short (limited 1000) version.1
   columns ← field Short (limited 1000) rows.1
   root ← read (record { version = version.0; sizes = record { rows = rows.0; columns = columns.0 } }) columns.1
   ended Extra (record { rows = rows.0; columns = columns.0; root = root.0 }) root.1
 
-whole_fails : (read : Header → Reader Tree) (text name version_text rows_text columns_text : Text) (version : Version) (rows columns : ℕ) (e : FieldError TreeKind)
-    → field Short (exactly (codes "cmr-tree")) text ≡ Ok (tt, name) → field Short version_in name ≡ Ok (version, version_text)
+whole_fails : (read : Header → Reader Tree) (text title_text version_text rows_text columns_text : Text) (title : Title) (version : Version) (rows columns : ℕ) (e : FieldError TreeKind)
+    → field Short title_in text ≡ Ok (title, title_text) → field Short (version_in title) title_text ≡ Ok (version, version_text)
     → field Short (limited 1000) version_text ≡ Ok (rows, rows_text) → field Short (limited 1000) rows_text ≡ Ok (columns, columns_text)
     → Fails e (read (record { version = version; sizes = record { rows = rows; columns = columns } }) columns_text) → Fails e (read_whole read text)
-whole_fails read text name version_text rows_text columns_text version rows columns e named versioned row_count column_count fails =
+whole_fails read text title_text version_text rows_text columns_text title version rows columns e named versioned row_count column_count fails =
     rw (named, versioned, row_count, column_count)
     (bind_fails e (read (record { version = version; sizes = record { rows = rows; columns = columns } }) columns_text) (λ (root : Tree × Text). ended Extra (record { rows = rows; columns = columns; root = root.0 }) root.1) fails)
 
 -- what fails at the root fails as a whole
-pub root_fails : (text name version_text rows_text columns_text : Text) (version : Version) (rows columns : ℕ) (e : FieldError TreeKind)
-    → field Short (exactly (codes "cmr-tree")) text ≡ Ok (tt, name) → field Short version_in name ≡ Ok (version, version_text)
+pub root_fails : (text title_text version_text rows_text columns_text : Text) (title : Title) (version : Version) (rows columns : ℕ) (e : FieldError TreeKind)
+    → field Short title_in text ≡ Ok (title, title_text) → field Short (version_in title) title_text ≡ Ok (version, version_text)
     → field Short (limited 1000) version_text ≡ Ok (rows, rows_text) → field Short (limited 1000) rows_text ≡ Ok (columns, columns_text)
     → Fails e (node (record { version = version; sizes = record { rows = rows; columns = columns } }) 2001 None columns_text) → Fails e (tree text)
-root_fails text name version_text rows_text columns_text version rows columns e = whole_fails (λ header. node header 2001 None) text name version_text rows_text columns_text version rows columns e
+root_fails text title_text version_text rows_text columns_text title version rows columns e = whole_fails (λ header. node header 2001 None) text title_text version_text rows_text columns_text title version rows columns e

@@ -8,8 +8,8 @@ use Rattle.tree_type.specs.Invariant.{IsTreeFor}
 use Rattle.tree_text.specs.declared.error.TreeKind.TheVariants.{Short, Extra}
 use Rattle.tree_text.specs.Canonical.{tree_text}
 use Rattle.tree_text.specs.Reading.{PlainTree, node, tree}
-use Rattle.tree_text.specs.Values.{exactly, limited}
-use Rattle.tree_text.specs.Versions.{version_in}
+use Rattle.tree_text.specs.Values.{limited}
+use Rattle.tree_text.specs.Versions.{title_in, version_in}
 use Rattle.tree_text.proofs.TreesAgain.{tree_again}
 use Rattle.tree_text.proofs.TreesRead.{field_value, root_ok}
 use Rattle.tree_text.proofs.WordsRead.{limited_ok}
@@ -20,8 +20,8 @@ ended_same (word ∷ words) x y h = absurd (cc)
 
 pub read_for : (text : Text) (t : PlainTree) → tree text ≡ Ok t → IsTreeFor t.rows t.columns t.root
 read_for text t h =
-    let name = bind_ok (field Short (exactly (codes "cmr-tree")) text) _ t h in
-    let version = bind_ok (field Short version_in name.0.1) _ t name.2 in
+    let title = bind_ok (field Short title_in text) _ t h in
+    let version = bind_ok (field Short (version_in title.0.0) title.0.1) _ t title.2 in
     let rows = bind_ok (field Short (limited 1000) version.0.1) _ t version.2 in
     let columns = bind_ok (field Short (limited 1000) rows.0.1) _ t rows.2 in
     let root = bind_ok (node (record { version = version.0.0; sizes = record { rows = rows.0.0; columns = columns.0.0 } }) 2001 None columns.0.1) _ t columns.2 in

@@ -1,6 +1,7 @@
 -- A tree's text is read again as the same tree.
-use Rattle.std.proofs.Common.{◌≡◌, ◌<◌, ◌≤◌, ◌+◌, ◌-◌, ◌∙◌, ℕ, suc, Bool, true, false, List, [], ◌∷◌, ◌++◌, length, map, get_or, Contains, Option, Some, None, Ok, refl, ap, ap₂, sym, subst, append_assoc, zero-le, arith}
-use Rattle.std.specs.Prelude.{option_map, codes}
+use Rattle.std.proofs.Common.{◌≡◌, ◌<◌, ◌≤◌, ◌+◌, ◌-◌, ◌∙◌, ℕ, suc, Bool, true, false, List, [], ◌∷◌, ◌++◌, ◌||◌, length, map, get_or, Contains, Option, Some, None, Ok, refl, ap, ap₂, sym, subst, append_assoc, zero-le, arith}
+use Rattle.std.specs.Prelude.{option_map}
+use Rattle.std.proofs.lemmas.Bool.{true≢false}
 use Rattle.std.specs.List.{AllByRecursion, flat_map}
 use Rattle.std.specs.List.Sorted.{IsStrictlyIncreasing}
 use Rattle.std.specs.Fmt.{decimal}
@@ -14,6 +15,7 @@ use Rattle.cmr_base.specs.declared.network.Pair.{Pair}
 use Rattle.cmr_base.specs.declared.separation.Connector.{Connector}
 use Rattle.cmr_base.specs.declared.separation.Two.{Two}
 use Rattle.cmr_base.specs.declared.separation.Three.{Three}
+use Rattle.pivots.specs.declared.place.PivotPlace.{PivotPlace}
 use Rattle.cmr_base.specs.declared.separation.Form.TheVariants.{Delta, YForm, Mixed, Concentrated}
 use Rattle.cmr_base.specs.LineSets.{AllBelow}
 use Rattle.cmr_base.specs.Reductions.{HasLine}
@@ -28,7 +30,7 @@ use Rattle.text_fields.specs.Reading.{field, times, fields, another}
 use Rattle.text_fields.specs.Spelling.{texts_of}
 use Rattle.text_fields.proofs.LineWords.{IsWord, IsSolid, words_of_lines, words_in_lines}
 use Rattle.text_fields.proofs.Decimals.{decimal_word}
-use Rattle.tree_type.specs.Trees.{Finding, Empty, Cycle, Reduced, OneSum, Network, Conetwork, R10, TwoSum, ThreeSum, Enumerated, Violator, Undecided, Tree, Trees, Branch, NoTrees, MoreTrees, trees_from, count_trees, lines_of}
+use Rattle.tree_type.specs.Trees.{Finding, Empty, Cycle, Reduced, OneSum, Network, Conetwork, R10, TwoSum, ThreeSum, Enumerated, Violator, Undecided, Pivoted, Tree, Trees, Branch, NoTrees, MoreTrees, trees_from, count_trees, lines_of}
 use Rattle.tree_type.specs.Invariant.{AreLinesOf, HasSizes, size_of, Fits, HasChildren, IsTreeWithin, AreTreesWithin, IsTreeFor}
 use Rattle.tree_text.specs.declared.error.TreeKind.{TreeKind}
 use Rattle.tree_text.specs.declared.error.TreeKind.TheVariants.{Short}
@@ -36,13 +38,14 @@ use Rattle.tree_text.specs.declared.kind_word.KindWord.{KindWord}
 use Rattle.tree_text.specs.declared.kind_word.KindWord.TheVariants as kind
 use Rattle.tree_text.specs.declared.value.Sizes.{Sizes}
 use Rattle.tree_text.specs.declared.header.Header.{Header}
+use Rattle.tree_text.specs.declared.header.Version.{Version}
 use Rattle.tree_text.specs.declared.header.Version.TheVariants as version
 use Rattle.tree_text.specs.Findings.{NodeFront}
-use Rattle.tree_text.specs.Versions.{version_word, version_in}
-use Rattle.tree_text.specs.KindWords.{word_of, kind_in, kind_of}
-use Rattle.tree_text.specs.Values.{exactly, limited, line_of, step_in}
-use Rattle.tree_text.specs.Reading.{Reader, rising_lines, line_set, another_pair, network, connector, two, three, own_part, front, another_tree, node, tree}
-use Rattle.tree_text.specs.Canonical.{number_of_line, line_name, set_words, pair_words, network_words, connector_words, own_words, line_for, front_lines, node_lines, forest_lines, tree_lines, tree_text}
+use Rattle.tree_text.specs.Versions.{title_word, title_in, title_of, version_word, version_in}
+use Rattle.tree_text.specs.KindWords.{word_of, kind_words, kind_among, has_word, kind_in, kind_of}
+use Rattle.tree_text.specs.Values.{limited, line_of, step_in}
+use Rattle.tree_text.specs.Reading.{Reader, rising_lines, line_set, another_pair, network, connector, two, three, pivot_place, own_part, front, another_tree, node, tree}
+use Rattle.tree_text.specs.Canonical.{number_of_line, line_name, set_words, pair_words, network_words, connector_words, own_words, line_for, front_lines, node_lines, forest_lines, is_pivot, has_pivot, have_pivot, version_of, tree_lines, tree_text}
 use Rattle.tree_text.proofs.Nodes.{read_whole}
 use Rattle.tree_text.proofs.TreesRead.{AreSome, IsSome}
 use Rattle.text_fields.proofs.ReadAgain.{Again, again_done, again_field, again_bind, again_wrap, again_times}
@@ -125,6 +128,11 @@ module _ (sizes : Sizes) (few_rows : sizes.rows ≤ 1000) (few_columns : sizes.c
       let second = again_bind (field Short (line_of sizes.columns lines.columns)) _ (number_of_line t.column ∷ []) (set_words t.side) t.column t (column_again t.column column) last in
       again_bind (field Short (line_of sizes.rows lines.rows)) _ (number_of_line t.row ∷ []) (number_of_line t.column ∷ set_words t.side) t.row t (row_again t.row row) second
 
+  place_again : (place : PivotPlace) → Contains lines.rows place.row → Contains lines.columns place.column → Again (pivot_place sizes lines) (number_of_line place.row ∷ number_of_line place.column ∷ []) place
+  place_again place row column =
+      let last = again_wrap (field Short (line_of sizes.columns lines.columns)) (λ (column : ℕ). record { row = place.row; column = column }) (number_of_line place.column ∷ []) place.column (column_again place.column column) in
+      again_bind (field Short (line_of sizes.rows lines.rows)) _ (number_of_line place.row ∷ []) (number_of_line place.column ∷ []) place.row place (row_again place.row row) last
+
   three_again : (t : Three) → AreLinesOf t.side lines → HasConnector (first_is_flat t.form) lines.rows lines.columns t.first → HasConnector (second_is_flat t.form) lines.rows lines.columns t.second
       → Again (three sizes lines t.form) (connector_words t.first ++ connector_words t.second ++ set_words t.side) t
   three_again t side first second =
@@ -172,24 +180,102 @@ module _ (sizes : Sizes) (few_rows : sizes.rows ≤ 1000) (few_columns : sizes.c
   own_again Enumerated trees fits e = counted (own_part sizes lines kind.Enumerated) [] Enumerated 0 (count_trees trees) e (again_done (Enumerated, 0))
   own_again (Violator fault) trees fits e = counted (own_part sizes lines kind.Violator) (set_words fault) (Violator fault) 0 (count_trees trees) e (again_wrap (line_set sizes (Some lines)) (λ (f : LineSet). (Violator f, 0)) (set_words fault) fault (part_again fault fits))
   own_again Undecided trees fits e = counted (own_part sizes lines kind.Undecided) [] Undecided 0 (count_trees trees) e (again_done (Undecided, 0))
+  own_again (Pivoted place) trees fits e =
+      counted (own_part sizes lines kind.Pivoted) (own_words (Pivoted place) trees) (Pivoted place) 1 (count_trees trees) e (again_wrap (pivot_place sizes lines) (λ (p : PivotPlace). (Pivoted p, 1)) (own_words (Pivoted place) trees) place (place_again place fits.0 fits.1))
 
--- version 2 has a word for each kind
-kind_again : (k : KindWord) → kind_in version.Two (word_of k) ≡ Ok k
-kind_again kind.Empty = refl
-kind_again kind.Cycle = refl
-kind_again kind.Reduced = refl
-kind_again kind.OneSum = refl
-kind_again kind.Network = refl
-kind_again kind.Conetwork = refl
-kind_again kind.R10 = refl
-kind_again kind.TwoSum = refl
-kind_again (kind.ThreeSum Delta) = refl
-kind_again (kind.ThreeSum YForm) = refl
-kind_again (kind.ThreeSum Mixed) = refl
-kind_again (kind.ThreeSum Concentrated) = refl
-kind_again kind.Enumerated = refl
-kind_again kind.Violator = refl
-kind_again kind.Undecided = refl
+-- each kind has a word
+word_among : (k : KindWord) → kind_among kind_words (word_of k) ≡ Ok k
+word_among kind.Empty = refl
+word_among kind.Cycle = refl
+word_among kind.Reduced = refl
+word_among kind.OneSum = refl
+word_among kind.Network = refl
+word_among kind.Conetwork = refl
+word_among kind.R10 = refl
+word_among kind.TwoSum = refl
+word_among (kind.ThreeSum Delta) = refl
+word_among (kind.ThreeSum YForm) = refl
+word_among (kind.ThreeSum Mixed) = refl
+word_among (kind.ThreeSum Concentrated) = refl
+word_among kind.Enumerated = refl
+word_among kind.Violator = refl
+word_among kind.Undecided = refl
+word_among kind.Pivoted = refl
+
+-- a version reads the words that it has
+kind_again : (v : Version) (k : KindWord) → has_word v k ≡ true → kind_in v (word_of k) ≡ Ok k
+kind_again v k has = rw (word_among k, has) refl
+
+abbrev mutual
+  -- the version has a word for each node of the tree
+  IsKnown : Version → Tree → Type 0
+  IsKnown v (Branch lines finding trees) = (has_word v (kind_of finding) ≡ true) × AreKnown v trees
+
+  AreKnown : Version → Trees → Type 0
+  AreKnown v NoTrees = Unit {0}
+  AreKnown v (MoreTrees tree trees) = IsKnown v tree × AreKnown v trees
+
+-- texts of pivots have a word for each kind
+all_words : (finding : Finding) → has_word version.Pivoted (kind_of finding) ≡ true
+all_words Empty = refl
+all_words (Cycle fault) = refl
+all_words (Reduced steps) = refl
+all_words OneSum = refl
+all_words (Network n) = refl
+all_words (Conetwork n) = refl
+all_words R10 = refl
+all_words (TwoSum two) = refl
+all_words (ThreeSum three) = refl
+all_words Enumerated = refl
+all_words (Violator fault) = refl
+all_words Undecided = refl
+all_words (Pivoted place) = refl
+
+-- version 2 has a word for each kind but that of pivoted nodes
+most_words : (finding : Finding) → is_pivot finding ≡ false → has_word version.Two (kind_of finding) ≡ true
+most_words Empty none = refl
+most_words (Cycle fault) none = refl
+most_words (Reduced steps) none = refl
+most_words OneSum none = refl
+most_words (Network n) none = refl
+most_words (Conetwork n) none = refl
+most_words R10 none = refl
+most_words (TwoSum two) none = refl
+most_words (ThreeSum three) none = refl
+most_words Enumerated none = refl
+most_words (Violator fault) none = refl
+most_words Undecided none = refl
+most_words (Pivoted place) none = absurd (true≢false none)
+
+mutual
+  known_with_pivots : (tree : Tree) → IsKnown version.Pivoted tree
+  known_with_pivots (Branch lines finding trees) = (all_words finding, all_known_with_pivots trees)
+
+  all_known_with_pivots : (trees : Trees) → AreKnown version.Pivoted trees
+  all_known_with_pivots NoTrees = tt
+  all_known_with_pivots (MoreTrees tree trees) = (known_with_pivots tree, all_known_with_pivots trees)
+
+neither : (a b : Bool) → (a || b) ≡ false → (a ≡ false) × (b ≡ false)
+neither true b e = absurd (true≢false e)
+neither false b e = (refl, e)
+
+mutual
+  known_without : (tree : Tree) → has_pivot tree ≡ false → IsKnown version.Two tree
+  known_without (Branch lines finding trees) none =
+      let each = neither (is_pivot finding) (have_pivot trees) none in (most_words finding each.0, all_known_without trees each.1)
+
+  all_known_without : (trees : Trees) → have_pivot trees ≡ false → AreKnown version.Two trees
+  all_known_without NoTrees none = tt
+  all_known_without (MoreTrees tree trees) none =
+      let each = neither (has_pivot tree) (have_pivot trees) none in (known_without tree each.0, all_known_without trees each.1)
+
+-- a tree is written in a version that has a word for each of its nodes
+known : (tree : Tree) → IsKnown (version_of tree) tree
+known tree = go (has_pivot tree) refl
+  where
+    go : (b : Bool) → has_pivot tree ≡ b → IsKnown (version_of tree) tree
+    go true e = rw e (known_with_pivots tree)
+    go false e = rw e (known_without tree e)
 
 -- the words of a node and of those below it
 abbrev front_words : LineSet → Finding → Trees → List (List ℕ)
@@ -214,39 +300,39 @@ trees_back (MoreTrees tree trees) = ap (λ ts. MoreTrees tree ts) (trees_back tr
 part_of : (whole : LineSet) (levels : ℕ) (tree : Tree) → IsTreeWithin whole levels tree → AreLinesOf (lines_of tree) whole
 part_of whole levels (Branch lines finding trees) within = within.1
 
-module _ (sizes : Sizes) (few_rows : sizes.rows ≤ 1000) (few_columns : sizes.columns ≤ 1000) where
+module _ (v : Version) (sizes : Sizes) (few_rows : sizes.rows ≤ 1000) (few_columns : sizes.columns ≤ 1000) where
   abbrev header : Header
-  header = record { version = version.Two; sizes = sizes }
+  header = record { version = v; sizes = sizes }
 
-  front_again : (parent : Option LineSet) (lines : LineSet) (finding : Finding) (trees : Trees) → IsSome sizes parent lines → Fits lines finding trees → HasChildren finding (count_trees trees)
+  front_again : (parent : Option LineSet) (lines : LineSet) (finding : Finding) (trees : Trees) → has_word v (kind_of finding) ≡ true → IsSome sizes parent lines → Fits lines finding trees → HasChildren finding (count_trees trees)
       → Again (front header parent) (front_words lines finding trees) (record { lines = lines; finding = finding; children = count_trees trees })
-  front_again parent lines finding trees some fits children =
+  front_again parent lines finding trees has some fits children =
       let head : NodeFront = record { lines = lines; finding = finding; children = count_trees trees } in
       let own = again_wrap (own_part sizes lines (kind_of finding)) (λ (own : Finding × ℕ). record { lines = lines; finding = own.0; children = own.1 }) (own_words finding trees) (finding, count_trees trees)
       (own_again sizes few_rows few_columns lines some.rows.rise some.columns.rise some.rows.below some.columns.below finding trees fits children) in
       let set = again_bind (line_set sizes parent) _ (set_words lines) (own_words finding trees) lines head (set_again sizes few_rows few_columns parent lines some) own in
-      again_bind (field Short (kind_in version.Two)) _ (word_of (kind_of finding) ∷ []) (set_words lines ++ own_words finding trees) (kind_of finding) head (again_field Short (kind_in version.Two) (word_of (kind_of finding)) (kind_of finding) (kind_again (kind_of finding))) set
+      again_bind (field Short (kind_in v)) _ (word_of (kind_of finding) ∷ []) (set_words lines ++ own_words finding trees) (kind_of finding) head (again_field Short (kind_in v) (word_of (kind_of finding)) (kind_of finding) (kind_again v (kind_of finding) has)) set
 
   mutual
-    node_again : (levels : ℕ) (parent : Option LineSet) (tree : Tree) (whole : LineSet) → IsSome sizes parent (lines_of tree) → IsTreeWithin whole levels tree → Again (node header levels parent) (node_words tree) tree
-    node_again levels parent (Branch lines finding trees) whole some (l, part, fits, children, below) =
+    node_again : (levels : ℕ) (parent : Option LineSet) (tree : Tree) (whole : LineSet) → IsKnown v tree → IsSome sizes parent (lines_of tree) → IsTreeWithin whole levels tree → Again (node header levels parent) (node_words tree) tree
+    node_again levels parent (Branch lines finding trees) whole known some (l, part, fits, children, below) =
         let more : levels ≡ suc (levels - 1) = omega (arith, l) in
         let head : NodeFront = record { lines = lines; finding = finding; children = count_trees trees } in
-        let forest = again_wrap (times (another_tree (node header (levels - 1) (Some lines))) (count_trees trees) []) (λ (ts : List Tree). Branch lines finding (trees_from ts)) (forest_words trees) (list_of trees) (forest_again (levels - 1) lines [] trees some.rows.rise some.columns.rise some.rows.below some.columns.below below) in
+        let forest = again_wrap (times (another_tree (node header (levels - 1) (Some lines))) (count_trees trees) []) (λ (ts : List Tree). Branch lines finding (trees_from ts)) (forest_words trees) (list_of trees) (forest_again (levels - 1) lines [] trees known.1 some.rows.rise some.columns.rise some.rows.below some.columns.below below) in
         let back = ap (Branch lines finding) (trees_back trees) in
         subst (λ k. Again (node header k parent) (front_words lines finding trees ++ forest_words trees) (Branch lines finding trees)) (sym more)
-        (again_bind (front header parent) (λ (h : NodeFront × Text). times (another_tree (node header (levels - 1) (Some (h.0).lines))) (h.0).children [] h.1 >>= λ (children : List Tree × Text). Ok (Branch (h.0).lines (h.0).finding (trees_from children.0), children.1)) (front_words lines finding trees) (forest_words trees) head (Branch lines finding trees) (front_again parent lines finding trees some fits children)
+        (again_bind (front header parent) (λ (h : NodeFront × Text). times (another_tree (node header (levels - 1) (Some (h.0).lines))) (h.0).children [] h.1 >>= λ (children : List Tree × Text). Ok (Branch (h.0).lines (h.0).finding (trees_from children.0), children.1)) (front_words lines finding trees) (forest_words trees) head (Branch lines finding trees) (front_again parent lines finding trees known.0 some fits children)
         (subst (λ tree. Again (λ text. times (another_tree (node header (levels - 1) (Some lines))) (count_trees trees) [] text >>= λ (children : List Tree × Text). Ok (Branch lines finding (trees_from children.0), children.1)) (forest_words trees) tree) back forest))
 
-    forest_again : (levels : ℕ) (lines : LineSet) (before : List Tree) (trees : Trees) → IsStrictlyIncreasing lines.rows → IsStrictlyIncreasing lines.columns → AllBelow sizes.rows lines.rows → AllBelow sizes.columns lines.columns → AreTreesWithin lines levels trees
+    forest_again : (levels : ℕ) (lines : LineSet) (before : List Tree) (trees : Trees) → AreKnown v trees → IsStrictlyIncreasing lines.rows → IsStrictlyIncreasing lines.columns → AllBelow sizes.rows lines.rows → AllBelow sizes.columns lines.columns → AreTreesWithin lines levels trees
         → Again (times (another_tree (node header levels (Some lines))) (count_trees trees) before) (forest_words trees) (before ++ list_of trees)
-    forest_again levels lines before NoTrees rows columns rows_in columns_in within = subst (λ ts. Again {K = TreeKind} (λ text. Ok (before, text)) [] ts) (sym (append-nil before)) (again_done before)
-    forest_again levels lines before (MoreTrees tree trees) rows columns rows_in columns_in within =
+    forest_again levels lines before NoTrees known rows columns rows_in columns_in within = subst (λ ts. Again {K = TreeKind} (λ text. Ok (before, text)) [] ts) (sym (append-nil before)) (again_done before)
+    forest_again levels lines before (MoreTrees tree trees) known rows columns rows_in columns_in within =
         let read = node header levels (Some lines) in
         let some = some_from sizes few_rows few_columns lines rows columns rows_in columns_in (lines_of tree) (part_of lines levels tree within.0) in
-        let one = again_wrap read (λ t. before ++ t ∷ []) (node_words tree) tree (node_again levels (Some lines) tree lines some within.0) in
+        let one = again_wrap read (λ t. before ++ t ∷ []) (node_words tree) tree (node_again levels (Some lines) tree lines known.0 some within.0) in
         subst (Again (times (another_tree read) (suc (count_trees trees)) before) (node_words tree ++ forest_words trees)) (append_assoc before (tree ∷ []) (list_of trees))
-        (again_bind (another_tree read before) (λ (next : List Tree × Text). times (another_tree read) (count_trees trees) next.0 next.1) (node_words tree) (forest_words trees) (before ++ tree ∷ []) ((before ++ tree ∷ []) ++ list_of trees) one (forest_again levels lines (before ++ tree ∷ []) trees rows columns rows_in columns_in within.1))
+        (again_bind (another_tree read before) (λ (next : List Tree × Text). times (another_tree read) (count_trees trees) next.0 next.1) (node_words tree) (forest_words trees) (before ++ tree ∷ []) ((before ++ tree ∷ []) ++ list_of trees) one (forest_again levels lines (before ++ tree ∷ []) trees known.1 rows columns rows_in columns_in within.1))
 
 own_joined : (words : List (List ℕ)) → words_of_lines (line_for words) ≡ words
 own_joined [] = refl
@@ -285,6 +371,7 @@ kind_word (kind.ThreeSum Concentrated) = plain_word _ _ (refl, (refl, (refl, (re
 kind_word kind.Enumerated = plain_word _ _ (refl, (refl, (refl, (refl, (refl, (refl, (refl, (refl, (refl, (refl, tt))))))))))
 kind_word kind.Violator = plain_word _ _ (refl, (refl, (refl, (refl, (refl, (refl, (refl, (refl, tt))))))))
 kind_word kind.Undecided = plain_word _ _ (refl, (refl, (refl, (refl, (refl, (refl, (refl, (refl, (refl, tt)))))))))
+kind_word kind.Pivoted = plain_word _ _ (refl, (refl, (refl, (refl, (refl, (refl, (refl, tt)))))))
 
 line_word : (line : ℕ) → line < 1000 → IsWord (number_of_line line)
 line_word line below = decimal_word (line + 1) (omega arith)
@@ -363,6 +450,7 @@ module _ (sizes : Sizes) (few_rows : sizes.rows ≤ 1000) (few_columns : sizes.c
       go Enumerated fits = tt
       go (Violator fault) fits = part fault fits
       go Undecided fits = tt
+      go (Pivoted place) fits = (line_word place.row (row place.row fits.0), (line_word place.column (column place.column fits.1), tt))
 
   mutual
     node_all : (levels : ℕ) (parent : Option LineSet) (tree : Tree) (whole : LineSet) → IsSome sizes parent (lines_of tree) → IsTreeWithin whole levels tree → AllByRecursion AreWords (node_lines tree)
@@ -378,25 +466,45 @@ module _ (sizes : Sizes) (few_rows : sizes.rows ≤ 1000) (few_columns : sizes.c
         all-append AreWords (node_lines tree) (forest_lines trees) (node_all levels (Some lines) tree lines some within.0) (forest_all levels lines trees rows columns rows_in columns_in within.1)
 
 -- the words in front of the root, and some way to read the root back
-whole_again : (read : Header → Reader Tree) (rows columns : ℕ) (root : Tree) (words : List (List ℕ)) → rows ≤ 1000 → columns ≤ 1000 → Again (read (record { version = version.Two; sizes = record { rows = rows; columns = columns } })) words root → (size : ℕ) (front : List (ℕ × List ℕ))
-    → texts_of front ≡ codes "cmr-tree" ∷ version_word version.Two ∷ decimal rows ∷ decimal columns ∷ words → read_whole read (record { size = size; words = front }) ≡ Ok (record { rows = rows; columns = columns; root = root })
-whole_again read rows columns root words few_rows few_columns again size [] e = absurd (cc)
-whole_again read rows columns root words few_rows few_columns again size (a ∷ []) e = absurd (cc)
-whole_again read rows columns root words few_rows few_columns again size (a ∷ b ∷ []) e = absurd (cc)
-whole_again read rows columns root words few_rows few_columns again size (a ∷ b ∷ p ∷ []) e = absurd (cc)
-whole_again read rows columns root words few_rows few_columns again size (a ∷ b ∷ p ∷ q ∷ rest) e =
-    let ae : a.1 ≡ codes "cmr-tree" = cc in
-    let be : b.1 ≡ version_word version.Two = cc in
+titled_again : (v : Version) → title_in (title_word (title_of v)) ≡ Ok (title_of v)
+titled_again version.One = refl
+titled_again version.Two = refl
+titled_again version.Pivoted = refl
+
+versioned_again : (v : Version) → version_in (title_of v) (version_word v) ≡ Ok v
+versioned_again version.One = refl
+versioned_again version.Two = refl
+versioned_again version.Pivoted = refl
+
+whole_again : (read : Header → Reader Tree) (v : Version) (rows columns : ℕ) (root : Tree) (words : List (List ℕ)) → rows ≤ 1000 → columns ≤ 1000 → Again (read (record { version = v; sizes = record { rows = rows; columns = columns } })) words root → (size : ℕ) (front : List (ℕ × List ℕ))
+    → texts_of front ≡ title_word (title_of v) ∷ version_word v ∷ decimal rows ∷ decimal columns ∷ words → read_whole read (record { size = size; words = front }) ≡ Ok (record { rows = rows; columns = columns; root = root })
+whole_again read v rows columns root words few_rows few_columns again size [] e = absurd (cc)
+whole_again read v rows columns root words few_rows few_columns again size (a ∷ []) e = absurd (cc)
+whole_again read v rows columns root words few_rows few_columns again size (a ∷ b ∷ []) e = absurd (cc)
+whole_again read v rows columns root words few_rows few_columns again size (a ∷ b ∷ p ∷ []) e = absurd (cc)
+whole_again read v rows columns root words few_rows few_columns again size (a ∷ b ∷ p ∷ q ∷ rest) e =
+    let ae : a.1 ≡ title_word (title_of v) = cc in
+    let be : b.1 ≡ version_word v = cc in
     let pe : p.1 ≡ decimal rows = cc in
     let qe : q.1 ≡ decimal columns = cc in
     let re : texts_of rest ≡ words = cc in
-    let named : exactly (codes "cmr-tree") a.1 ≡ Ok tt = ap (exactly (codes "cmr-tree")) ae in
-    let versioned : version_in b.1 ≡ Ok version.Two = ap version_in be in
+    let titled : title_in a.1 ≡ Ok (title_of v) = ap title_in ae ∙ titled_again v in
+    let versioned : version_in (title_of v) b.1 ≡ Ok v = ap (version_in (title_of v)) be ∙ versioned_again v in
     let row_count : limited 1000 p.1 ≡ Ok rows = ap (limited 1000) pe ∙ limited_again 1000 rows few_rows (omega arith) in
     let column_count : limited 1000 q.1 ≡ Ok columns = ap (limited 1000) qe ∙ limited_again 1000 columns few_columns (omega arith) in
-    let here : read (record { version = version.Two; sizes = record { rows = rows; columns = columns } }) (record { size = size; words = rest }) ≡ Ok (root, record { size = size; words = [] }) =
-    ap (λ ws. read (record { version = version.Two; sizes = record { rows = rows; columns = columns } }) (record { size = size; words = ws })) (sym (append-nil rest)) ∙ again size rest [] re in
-    rw (named, versioned, row_count, column_count, here) refl
+    let here : read (record { version = v; sizes = record { rows = rows; columns = columns } }) (record { size = size; words = rest }) ≡ Ok (root, record { size = size; words = [] }) =
+    ap (λ ws. read (record { version = v; sizes = record { rows = rows; columns = columns } }) (record { size = size; words = ws })) (sym (append-nil rest)) ∙ again size rest [] re in
+    rw (titled, versioned, row_count, column_count, here) refl
+
+title_is_word : (v : Version) → IsWord (title_word (title_of v))
+title_is_word version.One = plain_word _ _ (refl, (refl, (refl, (refl, (refl, (refl, (refl, (refl, tt))))))))
+title_is_word version.Two = plain_word _ _ (refl, (refl, (refl, (refl, (refl, (refl, (refl, (refl, tt))))))))
+title_is_word version.Pivoted = plain_word _ _ (refl, (refl, (refl, (refl, (refl, (refl, (refl, (refl, (refl, (refl, tt))))))))))
+
+version_is_word : (v : Version) → IsWord (version_word v)
+version_is_word version.One = plain_word _ _ (refl, tt)
+version_is_word version.Two = plain_word _ _ (refl, tt)
+version_is_word version.Pivoted = plain_word _ _ (refl, tt)
 
 pub tree_again : (rows columns : ℕ) (root : Tree) → IsTreeFor rows columns root → tree (text_of (tree_text rows columns root)) ≡ Ok (record { rows = rows; columns = columns; root = root })
 tree_again rows columns root is =
@@ -407,11 +515,11 @@ tree_again rows columns root is =
       columns = record { rise = part.columns_rise; below = is.root_columns; within = all_of (λ x. Unit {0}) (λ x. tt) (lines_of root).columns };
     } in
     let all : AllByRecursion AreWords (tree_lines rows columns root) = (
-      (plain_word _ _ (refl, (refl, (refl, (refl, (refl, (refl, (refl, (refl, tt)))))))), (plain_word _ _ (refl, tt), tt)),
+      (title_is_word (version_of root), (version_is_word (version_of root), tt)),
       (
         (decimal_word rows (let h = is.rows_in in omega (arith, h)), (decimal_word columns (let h = is.columns_in in omega (arith, h)), tt)),
         node_all sizes is.rows_in is.columns_in 2001 None root (lines_of root) some is.nodes,
       ),
     ) in
-    let words = words_in_lines (tree_lines rows columns root) all ∙ ap (λ ws. codes "cmr-tree" ∷ version_word version.Two ∷ decimal rows ∷ decimal columns ∷ ws) (node_joined root) in
-    whole_again (λ header. node header 2001 None) rows columns root (node_words root) is.rows_in is.columns_in (node_again sizes is.rows_in is.columns_in 2001 None root (lines_of root) some is.nodes) (length (tree_text rows columns root)) (words_from 0 (tree_text rows columns root)) words
+    let words = words_in_lines (tree_lines rows columns root) all ∙ ap (λ ws. title_word (title_of (version_of root)) ∷ version_word (version_of root) ∷ decimal rows ∷ decimal columns ∷ ws) (node_joined root) in
+    whole_again (λ header. node header 2001 None) (version_of root) rows columns root (node_words root) is.rows_in is.columns_in (node_again (version_of root) sizes is.rows_in is.columns_in 2001 None root (lines_of root) (known root) some is.nodes) (length (tree_text rows columns root)) (words_from 0 (tree_text rows columns root)) words

@@ -11,6 +11,7 @@ use Rattle.cmr_base.specs.declared.network.Pair.{Pair}
 use Rattle.cmr_base.specs.declared.separation.Connector.{Connector}
 use Rattle.cmr_base.specs.declared.separation.Two.{Two}
 use Rattle.cmr_base.specs.declared.separation.Three.{Three}
+use Rattle.pivots.specs.declared.place.PivotPlace.{PivotPlace}
 use Rattle.cmr_base.specs.declared.separation.Form.{Form}
 use Rattle.cmr_base.specs.LineSets.{AllBelow}
 use Rattle.cmr_base.specs.Reductions.{HasLine}
@@ -24,7 +25,7 @@ use Rattle.text_fields.specs.Reading.{Fault, field, times, fields}
 use Rattle.text_fields.proofs.Fields.{field_ok, fields_ok}
 use Rattle.text_fields.proofs.Results.{bind_ok, ok_same}
 use Rattle.text_fields.specs.Spelling.{texts_of}
-use Rattle.tree_type.specs.Trees.{Finding, Empty, Cycle, Reduced, OneSum, Network, Conetwork, R10, TwoSum, ThreeSum, Enumerated, Violator, Undecided, Tree, Trees, Branch, trees_from, count_trees, lines_of}
+use Rattle.tree_type.specs.Trees.{Finding, Empty, Cycle, Reduced, OneSum, Network, Conetwork, R10, TwoSum, ThreeSum, Enumerated, Violator, Undecided, Pivoted, Tree, Trees, Branch, trees_from, count_trees, lines_of}
 use Rattle.tree_type.specs.Invariant.{AreLinesOf, HasSizes, size_of, Fits, HasChildren, IsTreeWithin, AreTreesWithin, IsTreeFor}
 use Rattle.tree_text.specs.declared.error.TreeKind.{TreeKind}
 use Rattle.tree_text.specs.declared.error.TreeKind.TheVariants.{Short}
@@ -36,7 +37,7 @@ use Rattle.tree_text.specs.declared.header.Version.{Version}
 use Rattle.tree_text.specs.Findings.{NodeFront}
 use Rattle.tree_text.specs.KindWords.{kind_in}
 use Rattle.tree_text.specs.Values.{limited, line_of, step_in}
-use Rattle.tree_text.specs.Reading.{rising_lines, line_set, another_pair, network, connector, two, three, own_part, front, another_tree, too_deep, node}
+use Rattle.tree_text.specs.Reading.{rising_lines, line_set, another_pair, network, connector, two, three, pivot_place, own_part, front, another_tree, too_deep, node}
 use Rattle.tree_text.proofs.WordsRead.{times_keep, spelled_all, limited_ok, IsAmong, line_of_ok, step_ok, lines_ok}
 
 -- a value that was read by a field
@@ -150,6 +151,14 @@ module _ (sizes : Sizes) (lines : LineSet) where
       let e = ap (λ (p : Two × Text). p.0) (ok_same (made, side.0.1) found side.2) in
       subst (λ two. Fits lines (TwoSum two) trees) e (set_ok column.0.1 side.0 side.1, row_ok text row.0 row.1, column_ok row.0.1 column.0 column.1)
 
+  place_ok : (text : Text) (found : PivotPlace × Text) → pivot_place sizes lines text ≡ Ok found → Contains lines.rows found.0.row × Contains lines.columns found.0.column
+  place_ok text found h =
+      let row = bind_ok (field Short (line_of sizes.rows lines.rows) text) (λ (row : ℕ × Text). field Short (line_of sizes.columns lines.columns) row.1 >>= λ (column : ℕ × Text). Ok (record { row = row.0; column = column.0 }, column.1)) found h in
+      let column = bind_ok (field Short (line_of sizes.columns lines.columns) row.0.1) (λ (column : ℕ × Text). Ok (record { row = row.0.0; column = column.0 }, column.1)) found row.2 in
+      let made : PivotPlace = record { row = row.0.0; column = column.0.0 } in
+      let e = ap (λ (p : PivotPlace × Text). p.0) (ok_same (made, column.0.1) found column.2) in
+      subst (λ (place : PivotPlace). Contains lines.rows place.row × Contains lines.columns place.column) e (row_ok text row.0 row.1, column_ok row.0.1 column.0 column.1)
+
   three_ok : (form : Form) (text : Text) (found : Three × Text) → three sizes lines form text ≡ Ok found → (trees : Trees) → Fits lines (ThreeSum found.0) trees
   three_ok form text found h trees =
       let first = bind_ok (connector sizes lines (first_is_flat form) text) (λ (first : Connector × Text). connector sizes lines (second_is_flat form) first.1 >>= λ (second : Connector × Text). line_set sizes (Some lines) second.1 >>= λ (side : LineSet × Text). Ok (record { form = form; side = side.0; first = first.0; second = second.0 }, side.1)) found h in
@@ -203,6 +212,9 @@ module _ (sizes : Sizes) (lines : LineSet) where
       let fault = bind_ok (line_set sizes (Some lines) text) (λ (fault : LineSet × Text). Ok ((Violator fault.0, 0), fault.1)) found h in
       fitting_from (Violator fault.0.0, 0) fault.0.1 found fault.2 (λ trees e. (set_ok text fault.0 fault.1, e))
   own_part_ok kind.Undecided text found h = fitting_from (Undecided, 0) text found h (λ trees e. (tt, e))
+  own_part_ok kind.Pivoted text found h =
+      let place = bind_ok (pivot_place sizes lines text) (λ (found : PivotPlace × Text). Ok ((Pivoted found.0, 1), found.1)) found h in
+      fitting_from (Pivoted place.0.0, 1) place.0.1 found place.2 (λ trees e. (place_ok text place.0 place.1, e))
 
 -- the front of a node that was read
 record IsFront (sizes : Sizes) (parent : Option LineSet) (head : NodeFront) : Type 0 where

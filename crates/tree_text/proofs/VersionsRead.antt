@@ -1,5 +1,5 @@
 -- What stands for a tree in version 1 stands for it in version 2.
-use Rattle.std.proofs.Common.{◌≡◌, ℕ, zero, suc, List, [], ◌∷◌, ◌++◌, cond, Option, Some, None, Result, Ok, Err, refl, ap, sym, subst}
+use Rattle.std.proofs.Common.{◌≡◌, ℕ, zero, suc, true, List, [], ◌∷◌, ◌++◌, cond, Option, Some, None, Result, Ok, Err, refl, ap, sym, subst}
 use Rattle.std.specs.Prelude.{codes}
 use Rattle.cmr_base.specs.declared.line_set.LineSet.{LineSet}
 use Rattle.text_fields.specs.Words.{Text}
@@ -11,23 +11,42 @@ use Rattle.tree_type.specs.Trees.{Finding, Tree, Branch, trees_from}
 use Rattle.tree_text.specs.declared.error.TreeKind.{TreeKind}
 use Rattle.tree_text.specs.declared.error.TreeKind.TheVariants.{Short, Extra, UnknownKind}
 use Rattle.tree_text.specs.declared.header.Header.{Header}
+use Rattle.tree_text.specs.declared.header.Title.{Title}
+use Rattle.tree_text.specs.declared.header.Title.TheVariants as title
 use Rattle.tree_text.specs.declared.header.Version.{Version}
 use Rattle.tree_text.specs.declared.header.Version.TheVariants.{One, Two}
 use Rattle.tree_text.specs.declared.kind_word.KindWord.{KindWord}
+use Rattle.tree_text.specs.declared.kind_word.KindWord.TheVariants as kinds
 use Rattle.tree_text.specs.declared.value.Sizes.{Sizes}
 use Rattle.tree_text.specs.Findings.{NodeFront}
 use Rattle.tree_text.specs.KindWords.{has_word, kind_among, kind_in, kind_words}
 use Rattle.tree_text.specs.Reading.{PlainTree, Reader, another_tree, front, line_set, node, own_part, tree}
-use Rattle.tree_text.specs.Values.{exactly, limited}
-use Rattle.tree_text.specs.Versions.{version_in, version_word}
+use Rattle.tree_text.specs.Values.{limited}
+use Rattle.tree_text.specs.Versions.{title_word, title_in, version_in, version_word}
 use Rattle.tree_text.proofs.Nodes.{read_whole}
+
+-- version 2 has each word of version 1
+more_words : (kind : KindWord) → has_word One kind ≡ true → has_word Two kind ≡ true
+more_words kinds.Empty has = refl
+more_words kinds.Cycle has = refl
+more_words kinds.Reduced has = refl
+more_words kinds.OneSum has = refl
+more_words kinds.Network has = refl
+more_words kinds.Conetwork has = refl
+more_words kinds.R10 has = refl
+more_words kinds.TwoSum has = refl
+more_words (kinds.ThreeSum form) has = refl
+more_words kinds.Enumerated has = refl
+more_words kinds.Violator has = refl
+more_words kinds.Undecided has = refl
+more_words kinds.Pivoted has = has
 
 -- a word of version 1 for a kind is one of version 2
 kind_kept : (word : List ℕ) (kind : KindWord) → kind_in One word ≡ Ok kind → kind_in Two word ≡ Ok kind
 kind_kept word kind h =
     let found = bind_ok (kind_among kind_words word) (λ k. cond (has_word One k) (Ok k) (Err UnknownKind)) kind h in
     let same = guard_ok (has_word One found.0) found.0 kind UnknownKind found.2 in
-    rw found.1 (ap Ok same.1)
+    rw (found.1, more_words found.0 same.0) (ap Ok same.1)
 
 field_kept : {A : Type 0} (first second : List ℕ → Result A TreeKind) → ((word : List ℕ) (x : A) → first word ≡ Ok x → second word ≡ Ok x)
     → (text : Text) (x : A × Text) → field Short first text ≡ Ok x → field Short second text ≡ Ok x
@@ -84,30 +103,31 @@ module _ (read : Header → Reader Tree) (kept : (sizes : Sizes) (text : Text) (
       let root = bind_ok (read (in_version sizes One) columns.0.1) _ t columns.2 in
       rw (rows.1, columns.1, kept sizes columns.0.1 root.0 root.1) root.2
 
-  versioned : (version : Version) (size : ℕ) (word : ℕ × List ℕ) (words : List (ℕ × List ℕ)) → word.1 ≡ version_word version → version_in (version_word version) ≡ Ok version
-      → field Short version_in (record { size = size; words = word ∷ words }) ≡ Ok (version, record { size = size; words = words })
+  versioned : (version : Version) (size : ℕ) (word : ℕ × List ℕ) (words : List (ℕ × List ℕ)) → word.1 ≡ version_word version → version_in title.Tree (version_word version) ≡ Ok version
+      → field Short (version_in title.Tree) (record { size = size; words = word ∷ words }) ≡ Ok (version, record { size = size; words = words })
   versioned version size word words is known = rw (is, known) refl
 
   module _ (size : ℕ) (name : ℕ × List ℕ) (words : List (ℕ × List ℕ)) where
-    abbrev text_from : (ℕ × List ℕ) → Unit {0} → Result (Unit {0} × Text) (Fault TreeKind)
-    text_from word named = Ok (named, record { size = size; words = word ∷ words })
+    abbrev text_from : (ℕ × List ℕ) → Title → Result (Title × Text) (Fault TreeKind)
+    text_from word titled = Ok (titled, record { size = size; words = word ∷ words })
 
     abbrev after_version : Result (Version × Text) (Fault TreeKind) → Result PlainTree (Fault TreeKind)
     after_version read_version = read_version >>= λ version. behind version.0 version.1
 
-    abbrev after_name : (ℕ × List ℕ) → Result (Unit {0}) TreeKind → Result PlainTree (Fault TreeKind)
-    after_name word named = (placed name.0 named >>= text_from word) >>= λ found. after_version (field Short version_in found.1)
+    abbrev after_title : (ℕ × List ℕ) → Result Title TreeKind → Result PlainTree (Fault TreeKind)
+    after_title word titled = (placed name.0 titled >>= text_from word) >>= λ found. after_version (field Short (version_in found.0) found.1)
 
-    named_kept : (first second : ℕ × List ℕ) (t : PlainTree) → first.1 ≡ version_word One → second.1 ≡ version_word Two → (named : Result (Unit {0}) TreeKind) → after_name first named ≡ Ok t → after_name second named ≡ Ok t
-    named_kept first second t one two (Err kind) h = absurd (cc)
-    named_kept first second t one two (Ok named) h =
+    titled_kept : (first second : ℕ × List ℕ) (t : PlainTree) → first.1 ≡ version_word One → second.1 ≡ version_word Two → after_title first (Ok title.Tree) ≡ Ok t → after_title second (Ok title.Tree) ≡ Ok t
+    titled_kept first second t one two h =
         let begun = subst (λ r. after_version r ≡ Ok t) (versioned One size first words one refl) h in
         subst (λ r. after_version r ≡ Ok t) (sym (versioned Two size second words two refl)) (behind_kept (record { size = size; words = words }) t begun)
 
-  whole_kept : (size : ℕ) (name first second : ℕ × List ℕ) (words : List (ℕ × List ℕ)) (t : PlainTree) → first.1 ≡ version_word One → second.1 ≡ version_word Two
+  whole_kept : (size : ℕ) (name first second : ℕ × List ℕ) (words : List (ℕ × List ℕ)) (t : PlainTree) → name.1 ≡ title_word title.Tree → first.1 ≡ version_word One → second.1 ≡ version_word Two
       → read_whole read (record { size = size; words = name ∷ first ∷ words }) ≡ Ok t → read_whole read (record { size = size; words = name ∷ second ∷ words }) ≡ Ok t
-  whole_kept size name first second words t one two = named_kept size name words first second t one two (exactly (codes "cmr-tree") name.1)
+  whole_kept size name first second words t titled one two h =
+      let is : title_in name.1 ≡ Ok title.Tree = ap title_in titled in
+      subst (λ r. after_title size name words second r ≡ Ok t) (sym is) (titled_kept size name words first second t one two (subst (λ r. after_title size name words first r ≡ Ok t) is h))
 
-pub read_in_version_two : (size : ℕ) (name first second : ℕ × List ℕ) (words : List (ℕ × List ℕ)) (t : PlainTree) → first.1 ≡ version_word One → second.1 ≡ version_word Two
+pub read_in_version_two : (size : ℕ) (name first second : ℕ × List ℕ) (words : List (ℕ × List ℕ)) (t : PlainTree) → name.1 ≡ title_word title.Tree → first.1 ≡ version_word One → second.1 ≡ version_word Two
     → tree (record { size = size; words = name ∷ first ∷ words }) ≡ Ok t → tree (record { size = size; words = name ∷ second ∷ words }) ≡ Ok t
 read_in_version_two = whole_kept (λ header. node header 2001 None) (λ sizes. node_kept sizes 2001 None)

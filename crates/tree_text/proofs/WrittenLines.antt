@@ -15,9 +15,8 @@ use Rattle.tree_type.specs.declared.tree.Kind.TheVariants as kind
 use Rattle.tree_type.specs.Trees.{Finding, Tree, Trees, Branch, tree_of, trees_from, nodes_in}
 use Rattle.tree_type.proofs.Forests.{count_is}
 use Rattle.tree_type.proofs.NodeTrees.{said, tree_is, said_one_sum}
-use Rattle.tree_text.specs.declared.header.Version.TheVariants.{Two}
-use Rattle.tree_text.specs.Versions.{version_word}
-use Rattle.tree_text.specs.Canonical.{pair_words, network_words, line_for, own_line, node_lines, forest_lines, tree_text}
+use Rattle.tree_text.specs.Versions.{title_word, title_of, version_word}
+use Rattle.tree_text.specs.Canonical.{pair_words, network_words, line_for, own_line, node_lines, forest_lines, tree_text, version_of}
 
 -- a line whose words were written
 pub ended_as : (text start : Draft) (words : List (List ℕ)) → text ≡ fold with_word start words → start.is_begun ≡ false → with_end text ≡ with_line start words
@@ -72,8 +71,8 @@ child_written start nodes i after total node within is written whole =
 
 -- the version, the sizes and the nodes
 pub whole_written : (rows columns : ℕ) (tree : Tree) (text : Draft)
-    → text ≡ fold with_line (with_line (with_end (with_word (with_word (record { bytes = []; is_begun = false }) (codes "cmr-tree")) (version_word Two))) (decimal rows ∷ decimal columns ∷ [])) (node_lines tree) → text.bytes ≡ tree_text rows columns tree
+    → text ≡ fold with_line (with_line (with_end (with_word (with_word (record { bytes = []; is_begun = false }) (title_word (title_of (version_of tree)))) (version_word (version_of tree)))) (decimal rows ∷ decimal columns ∷ [])) (node_lines tree) → text.bytes ≡ tree_text rows columns tree
 whole_written rows columns tree text written =
-    let version = with_end (with_word (with_word (record { bytes = []; is_begun = false }) (codes "cmr-tree")) (version_word Two)) in
+    let version = with_end (with_word (with_word (record { bytes = []; is_begun = false }) (title_word (title_of (version_of tree)))) (version_word (version_of tree))) in
     let sizes = text_line (decimal rows ∷ decimal columns ∷ []) in
-    ap (λ (d : Draft). d.bytes) written ∙ lines_written (with_line version (decimal rows ∷ decimal columns ∷ [])) (node_lines tree) ∙ append_assoc (text_line (codes "cmr-tree" ∷ version_word Two ∷ [])) sizes (text_of_lines (node_lines tree))
+    ap (λ (d : Draft). d.bytes) written ∙ lines_written (with_line version (decimal rows ∷ decimal columns ∷ [])) (node_lines tree) ∙ append_assoc (text_line (title_word (title_of (version_of tree)) ∷ version_word (version_of tree) ∷ [])) sizes (text_of_lines (node_lines tree))

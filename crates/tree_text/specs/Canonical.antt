@@ -1,5 +1,5 @@
--- The canonical text of a tree, which is of version 2: its lines, each a list of words.
-use Rattle.std.specs.Prelude.{◌++◌, ℕ, List, [], ◌∷◌, length, map, codes}
+-- The canonical text of a tree, which is of version 2, or a text of pivots where a node is pivoted: its lines, each a list of words.
+use Rattle.std.specs.Prelude.{◌++◌, ◌||◌, if◌then◌else◌, Bool, true, false, ℕ, List, [], ◌∷◌, length, map}
 use Rattle.std.specs.List.{flat_map}
 use Rattle.std.specs.Fmt.{decimal}
 use Rattle.cmr_base.specs.declared.line.Line.{Line}
@@ -9,9 +9,10 @@ use Rattle.cmr_base.specs.declared.network.Pair.{Pair}
 use Rattle.cmr_base.specs.declared.separation.Connector.{Connector}
 pub use Rattle.text_fields.specs.LineNumbers.{number_of_line, set_words}
 use Rattle.text_fields.specs.Written.{text_of_lines}
-use Rattle.tree_type.specs.Trees.{Finding, Cycle, Reduced, OneSum, Network, Conetwork, TwoSum, ThreeSum, Violator, Tree, Trees, Branch, NoTrees, MoreTrees, count_trees}
-use Rattle.tree_text.specs.declared.header.Version.TheVariants.{Two}
-use Rattle.tree_text.specs.Versions.{version_word}
+use Rattle.tree_type.specs.Trees.{Finding, Cycle, Reduced, OneSum, Network, Conetwork, TwoSum, ThreeSum, Violator, Pivoted, Tree, Trees, Branch, NoTrees, MoreTrees, count_trees}
+use Rattle.tree_text.specs.declared.header.Version.{Version}
+use Rattle.tree_text.specs.declared.header.Version.TheVariants as version
+use Rattle.tree_text.specs.Versions.{title_word, title_of, version_word}
 use Rattle.tree_text.specs.KindWords.{word_of, kind_of}
 
 -- r or c, and the line's number
@@ -38,6 +39,7 @@ own_words (Conetwork n) trees = network_words n
 own_words (TwoSum two) trees = number_of_line two.row ∷ number_of_line two.column ∷ set_words two.side
 own_words (ThreeSum three) trees = connector_words three.first ++ connector_words three.second ++ set_words three.side
 own_words (Violator fault) trees = set_words fault
+own_words (Pivoted place) trees = number_of_line place.row ∷ number_of_line place.column ∷ []
 own_words finding trees = []
 
 -- a line for some words, where there are any
@@ -61,10 +63,27 @@ abbrev mutual
   forest_lines NoTrees = []
   forest_lines (MoreTrees tree trees) = node_lines tree ++ forest_lines trees
 
--- the version, the sizes of the matrix, and the nodes in preorder
+abbrev pub is_pivot : Finding → Bool
+is_pivot (Pivoted place) = true
+is_pivot finding = false
+
+abbrev mutual
+  -- some node of the tree is pivoted
+  pub has_pivot : Tree → Bool
+  has_pivot (Branch lines finding trees) = is_pivot finding || have_pivot trees
+
+  pub have_pivot : Trees → Bool
+  have_pivot NoTrees = false
+  have_pivot (MoreTrees tree trees) = has_pivot tree || have_pivot trees
+
+-- the version in which a tree is written
+abbrev pub version_of : Tree → Version
+version_of root = if has_pivot root then version.Pivoted else version.Two
+
+-- the title and the version, the sizes of the matrix, and the nodes in preorder
 abbrev pub tree_lines : ℕ → ℕ → Tree → List (List (List ℕ))
 tree_lines rows columns root =
-    (codes "cmr-tree" ∷ version_word Two ∷ []) ∷ (decimal rows ∷ decimal columns ∷ []) ∷ node_lines root
+    (title_word (title_of (version_of root)) ∷ version_word (version_of root) ∷ []) ∷ (decimal rows ∷ decimal columns ∷ []) ∷ node_lines root
 
 abbrev pub tree_text : ℕ → ℕ → Tree → List ℕ
 tree_text rows columns root = text_of_lines (tree_lines rows columns root)

@@ -6,9 +6,9 @@ use Rattle.tree_type.specs.Trees as said
 use Rattle.tree_text.specs.declared.error.TreeKind.{TreeKind}
 use Rattle.tree_text.specs.declared.error.TreeKind.TheVariants.{UnknownKind}
 use Rattle.tree_text.specs.declared.kind_word.KindWord.{KindWord}
-use Rattle.tree_text.specs.declared.kind_word.KindWord.TheVariants.{Empty, Cycle, Reduced, OneSum, Network, Conetwork, R10, TwoSum, ThreeSum, Enumerated, Violator, Undecided}
+use Rattle.tree_text.specs.declared.kind_word.KindWord.TheVariants.{Empty, Cycle, Reduced, OneSum, Network, Conetwork, R10, TwoSum, ThreeSum, Enumerated, Violator, Undecided, Pivoted}
 use Rattle.tree_text.specs.declared.header.Version.{Version}
-use Rattle.tree_text.specs.declared.header.Version.TheVariants.{One}
+use Rattle.tree_text.specs.declared.header.Version.TheVariants as version
 
 abbrev pub word_of : KindWord → List ℕ
 word_of Empty = codes "empty"
@@ -26,20 +26,23 @@ word_of (ThreeSum Concentrated) = codes "concentrated"
 word_of Enumerated = codes "enumerated"
 word_of Violator = codes "violator"
 word_of Undecided = codes "undecided"
+word_of Pivoted = codes "pivoted"
 
 abbrev pub kind_words : List KindWord
 kind_words =
     Empty ∷ Cycle ∷ Reduced ∷ OneSum ∷ Network ∷ Conetwork ∷ R10 ∷ TwoSum ∷ ThreeSum Delta ∷ ThreeSum YForm ∷ ThreeSum Mixed
-    ∷ ThreeSum Concentrated ∷ Enumerated ∷ Violator ∷ Undecided ∷ []
+    ∷ ThreeSum Concentrated ∷ Enumerated ∷ Violator ∷ Undecided ∷ Pivoted ∷ []
 
 -- the first of some kinds whose word it is
 abbrev pub kind_among : List KindWord → List ℕ → Result KindWord TreeKind
 kind_among [] word = Err UnknownKind
 kind_among (kind ∷ kinds) word = if bytes_eq word (word_of kind) then Ok kind else kind_among kinds word
 
--- version 1 has no word for concentrated three-sums
+-- version 1 has no word for concentrated three-sums, and only texts of pivots have one for pivoted nodes
 abbrev pub has_word : Version → KindWord → Bool
-has_word One (ThreeSum Concentrated) = false
+has_word version.One (ThreeSum Concentrated) = false
+has_word version.One Pivoted = false
+has_word version.Two Pivoted = false
 has_word version kind = true
 
 -- the kind whose word it is in texts of a version
@@ -62,6 +65,7 @@ kind_of (said.ThreeSum three) = ThreeSum three.form
 kind_of said.Enumerated = Enumerated
 kind_of (said.Violator fault) = Violator
 kind_of said.Undecided = Undecided
+kind_of (said.Pivoted place) = Pivoted
 
 abbrev pub finding_of : said.Tree → said.Finding
 finding_of (said.Branch lines finding trees) = finding

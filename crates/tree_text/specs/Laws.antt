@@ -8,9 +8,10 @@ use Rattle.tree_type.specs.Trees.{SizedTree, tree_of}
 use Rattle.tree_type.specs.Verdicts.{verdict_of}
 use Rattle.tree_type.specs.declared.refusal.Refusal.{Refusal}
 use Rattle.tree_text.specs.Canonical.{tree_text}
+use Rattle.tree_text.specs.declared.header.Title.TheVariants as title
 use Rattle.tree_text.specs.declared.header.Version.TheVariants.{One, Two}
 use Rattle.tree_text.specs.Reading.{PlainTree, plain, tree}
-use Rattle.tree_text.specs.Versions.{version_word}
+use Rattle.tree_text.specs.Versions.{title_word, version_word}
 
 -- the canonical text of a tree that was read, in either version, stands for the same tree
 abbrev pub RewritingKeepsTrees : Type 0
@@ -19,7 +20,7 @@ RewritingKeepsTrees = (text : Text) (t : PlainTree) → tree text ≡ Ok t → t
 -- words that stand for a tree in version 1 stand for the same tree with the word of version 2 in place of that of version 1
 abbrev pub VersionTwoReadsAll : Type 0
 VersionTwoReadsAll = (size : ℕ) (name first second : ℕ × List ℕ) (words : List (ℕ × List ℕ)) (t : PlainTree)
-    → first.1 ≡ version_word One → second.1 ≡ version_word Two
+    → name.1 ≡ title_word title.Tree → first.1 ≡ version_word One → second.1 ≡ version_word Two
     → tree (record { size = size; words = name ∷ first ∷ words }) ≡ Ok t → tree (record { size = size; words = name ∷ second ∷ words }) ≡ Ok t
 
 -- A tree that was read is accepted as one that was written: it keeps all rules, breaks none, and has the same verdict.

@@ -1,5 +1,5 @@
 -- Reading a tree text: the tree that it stands for, or its first fault.
-use Rattle.std.specs.Prelude.{◌++◌, if◌then◌else◌, ℕ, zero, suc, Bool, List, [], ◌∷◌, length, Option, Some, None, option_map, Result, Ok, Err, codes}
+use Rattle.std.specs.Prelude.{◌++◌, if◌then◌else◌, ℕ, zero, suc, Bool, List, [], ◌∷◌, length, Option, Some, None, option_map, Result, Ok, Err}
 use Rattle.cmr_base.specs.declared.line_set.LineSet.{LineSet}
 use Rattle.cmr_base.specs.declared.network.Network as net
 use Rattle.cmr_base.specs.declared.network.Pair.{Pair}
@@ -7,11 +7,12 @@ use Rattle.cmr_base.specs.declared.separation.Connector.{Connector}
 use Rattle.cmr_base.specs.declared.separation.Two.{Two}
 use Rattle.cmr_base.specs.declared.separation.Three.{Three}
 use Rattle.cmr_base.specs.declared.separation.Form.{Form}
+use Rattle.pivots.specs.declared.place.PivotPlace.{PivotPlace}
 use Rattle.cmr_base.specs.Separations.{first_is_flat, second_is_flat}
 use Rattle.text_fields.specs.Words.{Text}
 use Rattle.text_fields.specs.Result.{◌>>=◌}
 use Rattle.text_fields.specs.Reading.{Fault, field, times, fields, ended}
-use Rattle.tree_type.specs.Trees.{Finding, Empty, Cycle, Reduced, OneSum, Network, Conetwork, R10, TwoSum, ThreeSum, Enumerated, Violator, Undecided, Tree, Branch, SizedTree, trees_from, tree_of}
+use Rattle.tree_type.specs.Trees.{Finding, Empty, Cycle, Reduced, OneSum, Network, Conetwork, R10, TwoSum, ThreeSum, Enumerated, Violator, Undecided, Pivoted, Tree, Branch, SizedTree, trees_from, tree_of}
 use Rattle.tree_type.specs.Invariant.{size_of}
 use Rattle.tree_text.specs.declared.error.TreeKind.{TreeKind}
 use Rattle.tree_text.specs.declared.error.TreeKind.TheVariants.{Short, Extra, TooDeep}
@@ -20,9 +21,9 @@ use Rattle.tree_text.specs.declared.kind_word.KindWord.TheVariants as kind
 use Rattle.tree_text.specs.declared.value.Sizes.{Sizes}
 use Rattle.tree_text.specs.declared.header.Header.{Header}
 use Rattle.tree_text.specs.Findings.{NodeFront}
-use Rattle.tree_text.specs.Versions.{version_in}
+use Rattle.tree_text.specs.Versions.{title_in, version_in}
 use Rattle.tree_text.specs.KindWords.{kind_in}
-use Rattle.tree_text.specs.Values.{exactly, limited, line_of, last_number, next_line, step_in}
+use Rattle.tree_text.specs.Values.{limited, line_of, last_number, next_line, step_in}
 
 -- reading a value off the front of a text
 abbrev pub Reader : Type 0 → Type 0
@@ -81,6 +82,13 @@ three sizes lines form text = do
   side ← line_set sizes (Some lines) second.1
   Ok (record { form = form; side = side.0; first = first.0; second = second.0 }, side.1)
 
+-- a row and a column of a node
+abbrev pub pivot_place : Sizes → LineSet → Reader PivotPlace
+pivot_place sizes lines text = do
+  row ← field Short (line_of sizes.rows lines.rows) text
+  column ← field Short (line_of sizes.columns lines.columns) row.1
+  Ok (record { row = row.0; column = column.0 }, column.1)
+
 -- what a node says of its lines, and how many children it has
 abbrev pub own_part : Sizes → LineSet → KindWord → Reader (Finding × ℕ)
 own_part sizes lines kind.Empty text = Ok ((Empty, 0), text)
@@ -112,6 +120,9 @@ own_part sizes lines kind.Violator text = do
   fault ← line_set sizes (Some lines) text
   Ok ((Violator fault.0, 0), fault.1)
 own_part sizes lines kind.Undecided text = Ok ((Undecided, 0), text)
+own_part sizes lines kind.Pivoted text = do
+  place ← pivot_place sizes lines text
+  Ok ((Pivoted place.0, 1), place.1)
 
 -- the front of a node: its kind word, its lines and its own part
 abbrev pub front : Header → Option LineSet → Reader NodeFront
@@ -148,11 +159,11 @@ pub record PlainTree : Type 0 where
 abbrev pub plain : SizedTree → PlainTree
 plain tree = record { rows = tree.rows; columns = tree.columns; root = tree_of tree.root }
 
--- the version, the sizes of the matrix, and the root
+-- the title and the version, the sizes of the matrix, and the root
 abbrev pub tree : Text → Result PlainTree (Fault TreeKind)
 tree text = do
-  name ← field Short (exactly (codes "cmr-tree")) text
-  version ← field Short version_in name.1
+  title ← field Short title_in text
+  version ← field Short (version_in title.0) title.1
   rows ← field Short (limited 1000) version.1
   columns ← field Short (limited 1000) rows.1
   root ← node (record { version = version.0; sizes = record { rows = rows.0; columns = columns.0 } }) 2001 None columns.1

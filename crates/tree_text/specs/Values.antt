@@ -8,13 +8,9 @@ use Rattle.text_fields.specs.Limits as limits
 pub use Rattle.text_fields.specs.LineNumbers.{last_number}
 use Rattle.text_fields.specs.Result.{◌>>=◌}
 use Rattle.tree_text.specs.declared.error.TreeKind.{TreeKind}
-use Rattle.tree_text.specs.declared.error.TreeKind.TheVariants.{NotNumber, OutOfRange, NotRising, NotPart, WrongVersion}
+use Rattle.tree_text.specs.declared.error.TreeKind.TheVariants.{NotNumber, OutOfRange, NotRising, NotPart}
 use Rattle.tree_text.specs.declared.value.Sizes.{Sizes}
 use Rattle.tree_text.specs.Faults.{tree_kind}
-
--- this very word
-abbrev pub exactly : List ℕ → List ℕ → Result Unit TreeKind
-exactly due word = limits.word_in WrongVersion due word
 
 -- a count of at most so much
 abbrev pub limited : ℕ → List ℕ → Result ℕ TreeKind

@@ -3,28 +3,28 @@ ghost use Rattle.std.specs.Prelude.{◌≤◌, ◌<◌, IfOk, option_copied};
 ghost use Rattle.text_fields.specs.Reading.{field, Reads};
 ghost use Rattle.tree_text.specs.declared.error.TreeKind.TheVariants.{Short};
 ghost use Rattle.tree_text.specs.KindWords.{kind_in};
-ghost use Rattle.tree_text.specs.Versions.{version_in};
-ghost use Rattle.tree_text.specs.Values.{exactly, limited, line_of, next_line, step_in};
+ghost use Rattle.tree_text.specs.Versions.{title_in, version_in};
+ghost use Rattle.tree_text.specs.Values.{limited, line_of, next_line, step_in};
 
-use crate::header::{Version, version_in};
+use crate::header::{Title, Version, title_in, version_in};
 use crate::kind_word::{KindWord, kind_in};
 use crate::value::{self, Sizes};
 use crate::{TreeError, TreeKind};
 use cmr_base::{Indices, Line, LineSet};
 use text_fields::{Words, at_place};
 
-pub fn exactly(words: &mut Words<'_>, due: &[u8]) -> Result<(), TreeError>
-    ensures { Reads (λ x. x) words.new result (field Short (exactly due.now) words.old) }
+pub fn title(words: &mut Words<'_>) -> Result<Title, TreeError>
+    ensures { Reads (λ x. x) words.new result (field Short title_in words.old) }
 {
     let (place, word) = words.due(TreeKind::Short)?;
-    at_place(place, value::exactly(word, due))
+    at_place(place, title_in(word))
 }
 
-pub fn version(words: &mut Words<'_>) -> Result<Version, TreeError>
-    ensures { Reads (λ x. x) words.new result (field Short version_in words.old) }
+pub fn version(words: &mut Words<'_>, title: Title) -> Result<Version, TreeError>
+    ensures { Reads (λ x. x) words.new result (field Short (version_in title) words.old) }
 {
     let (place, word) = words.due(TreeKind::Short)?;
-    at_place(place, version_in(word))
+    at_place(place, version_in(title, word))
 }
 
 pub fn kind(words: &mut Words<'_>, version: Version) -> Result<KindWord, TreeError>

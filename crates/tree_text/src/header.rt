@@ -1,17 +1,31 @@
-// What a tree text says before its root: its version and the sizes of its matrix.
+// What a tree text says before its root: its title, its version and the sizes of its matrix.
 ghost use Rattle.std.specs.Prelude.{◌≡◌};
-ghost use Rattle.tree_text.specs.Versions.{version_word, version_in};
+ghost use Rattle.tree_type.specs.Trees.{tree_of};
+ghost use Rattle.tree_text.specs.Versions.{title_word, title_in, title_of, version_word, version_in};
+ghost use Rattle.tree_text.specs.Canonical.{has_pivot, version_of};
 
 use crate::TreeKind;
 use crate::value::Sizes;
+use tree_type::{Kind, Node};
+
+/// The first word of a tree text.
+#[derive(Clone, Copy, Debug, PartialEq, Eq)]
+pub enum Title {
+    /// A decomposition tree of one matrix.
+    Tree,
+    /// A decomposition tree with pivots.
+    Pivots,
+}
 
 /// A version of tree texts.
 #[derive(Clone, Copy, Debug, PartialEq, Eq)]
 pub enum Version {
     /// It has no word for concentrated three-sums.
     One,
-    /// It has a word for each kind of node, and it is the version that is written.
+    /// It has a word for each kind of node but pivoted ones, and trees without these are written in it.
     Two,
+    /// It has a word for each kind of node, and trees with pivoted nodes are written in it.
+    Pivoted,
 }
 
 /// The version of a text, and the sizes of the matrix that its tree is for.
@@ -21,25 +35,104 @@ pub struct Header {
     pub sizes: Sizes,
 }
 
+/// The title's word.
+pub fn title_word(title: Title) -> &'static [u8]
+    ensures { result.now ≡ title_word title }
+{
+    match title {
+        Title::Tree => b"cmr-tree",
+        Title::Pivots => b"cmr-pivots",
+    }
+}
+
+/// The title whose word it is.
+pub fn title_in(word: &[u8]) -> Result<Title, TreeKind>
+    ensures { result ≡ title_in word.now }
+{
+    if word == title_word(Title::Tree) {
+        Ok(Title::Tree)
+    } else if word == title_word(Title::Pivots) {
+        Ok(Title::Pivots)
+    } else {
+        Err(TreeKind::WrongVersion)
+    }
+}
+
+/// The title of the texts of a version.
+pub fn title_of(version: Version) -> Title
+    ensures { result ≡ title_of version }
+{
+    match version {
+        Version::One | Version::Two => Title::Tree,
+        Version::Pivoted => Title::Pivots,
+    }
+}
+
 /// The version's word.
 pub fn version_word(version: Version) -> &'static [u8]
     ensures { result.now ≡ version_word version }
 {
     match version {
-        Version::One => b"1",
+        Version::One | Version::Pivoted => b"1",
         Version::Two => b"2",
     }
 }
 
-/// The version whose word it is.
-pub fn version_in(word: &[u8]) -> Result<Version, TreeKind>
-    ensures { result ≡ version_in word.now }
+/// The version whose word it is behind a title.
+pub fn version_in(title: Title, word: &[u8]) -> Result<Version, TreeKind>
+    ensures { result ≡ version_in title word.now }
 {
-    if word == version_word(Version::One) {
-        Ok(Version::One)
-    } else if word == version_word(Version::Two) {
-        Ok(Version::Two)
+    match title {
+        Title::Tree if word == version_word(Version::One) => Ok(Version::One),
+        Title::Tree if word == version_word(Version::Two) => Ok(Version::Two),
+        Title::Pivots if word == version_word(Version::Pivoted) => Ok(Version::Pivoted),
+        _ => Err(TreeKind::WrongVersion),
+    }
+}
+
+/// The version in which a tree is written.
+pub fn version_of(root: &Node) -> Version
+    ensures { result ≡ version_of (tree_of root.now) }
+{
+    if has_pivot(root) {
+        Version::Pivoted
     } else {
-        Err(TreeKind::WrongVersion)
+        Version::Two
+    }
+}
+
+// Whether some node of the tree is pivoted.
+fn has_pivot(node: &Node) -> bool
+    ensures { result ≡ has_pivot (tree_of node.now) }
+{
+    match &node.kind {
+        Kind::Pivoted { .. } => true,
+        Kind::Reduced { child, .. } => has_pivot(child),
+        Kind::OneSum { children } => {
+            for child in children.as_slice() {
+                if has_pivot(child) {
+                    return true;
+                }
+            }
+            false
+        }
+        Kind::TwoSum {
+            one_child,
+            two_child,
+            ..
+        }
+        | Kind::ThreeSum {
+            one_child,
+            two_child,
+            ..
+        } => has_pivot(one_child) || has_pivot(two_child),
+        Kind::Empty
+        | Kind::Cycle { .. }
+        | Kind::Network { .. }
+        | Kind::Conetwork { .. }
+        | Kind::R10
+        | Kind::Enumerated
+        | Kind::Violator { .. }
+        | Kind::Undecided => false,
     }
 }

@@ -23,10 +23,11 @@ pub enum KindWord {
     Enumerated,
     Violator,
     Undecided,
+    Pivoted,
 }
 
 /// All of them.
-const KIND_WORDS: [KindWord; 15] = [
+const KIND_WORDS: [KindWord; 16] = [
     KindWord::Empty,
     KindWord::Cycle,
     KindWord::Reduced,
@@ -42,6 +43,7 @@ const KIND_WORDS: [KindWord; 15] = [
     KindWord::Enumerated,
     KindWord::Violator,
     KindWord::Undecided,
+    KindWord::Pivoted,
 ];
 
 /// The kind's word.
@@ -64,6 +66,7 @@ pub fn word_of(kind: KindWord) -> &'static [u8]
         KindWord::Enumerated => b"enumerated",
         KindWord::Violator => b"violator",
         KindWord::Undecided => b"undecided",
+        KindWord::Pivoted => b"pivoted",
     }
 }
 
@@ -79,12 +82,13 @@ pub fn kind_in(version: Version, word: &[u8]) -> Result<KindWord, TreeKind>
     }
 }
 
-// Version 1 has no word for concentrated three-sums.
+// Version 1 has no word for concentrated three-sums, and only texts of pivots have one for pivoted nodes.
 fn has_word(version: Version, kind: KindWord) -> bool
     ensures { result ≡ has_word version kind }
 {
     match (version, kind) {
         (Version::One, KindWord::ThreeSum(Form::Concentrated)) => false,
+        (Version::One | Version::Two, KindWord::Pivoted) => false,
         _ => true,
     }
 }
@@ -117,5 +121,6 @@ pub fn kind_of(node: &Node) -> KindWord
         Kind::Enumerated => KindWord::Enumerated,
         Kind::Violator { .. } => KindWord::Violator,
         Kind::Undecided => KindWord::Undecided,
+        Kind::Pivoted { .. } => KindWord::Pivoted,
     }
 }

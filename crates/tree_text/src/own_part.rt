@@ -7,7 +7,7 @@ ghost use Rattle.tree_text.specs.declared.error.TreeKind.TheVariants.{Short};
 ghost use Rattle.tree_text.specs.Values.{step_in};
 ghost use Rattle.tree_type.specs.Findings.{finding_shown};
 ghost use Rattle.tree_text.specs.Findings.{own_shown, front_shown};
-ghost use Rattle.tree_text.specs.Reading.{rising_lines, line_set, another_pair, network, connector, two, three, own_part, front};
+ghost use Rattle.tree_text.specs.Reading.{rising_lines, line_set, another_pair, network, connector, two, three, pivot_place, own_part, front};
 
 use crate::header::Header;
 use crate::kind_word::KindWord;
@@ -18,7 +18,7 @@ use cmr_base::{
 };
 use std::alloc::Global;
 use text_fields::Words;
-use tree_type::Finding;
+use tree_type::{Finding, PivotPlace};
 
 /// What a node says, and how many children it has.
 #[derive(Debug, Drop)]
@@ -177,6 +177,14 @@ fn read_three(
     })
 }
 
+fn read_place(words: &mut Words<'_>, sizes: Sizes, lines: &LineSet) -> Result<PivotPlace, TreeError>
+    ensures { Reads (λ x. x) words.new result (pivot_place sizes lines.now words.old) }
+{
+    let row = field::line_of(words, sizes.rows, &lines.rows)?;
+    let column = field::line_of(words, sizes.columns, &lines.columns)?;
+    Ok(PivotPlace { row, column })
+}
+
 /// What a node of this kind says of its lines, and how many children it has.
 pub fn read_own_part(
     alloc: Global,
@@ -224,6 +232,7 @@ pub fn read_own_part(
             0,
         ),
         KindWord::Undecided => (Finding::Undecided, 0),
+        KindWord::Pivoted => (Finding::Pivoted(read_place(words, sizes, lines)?), 1),
     };
     Ok(OwnPart { finding, children })
 }

@@ -22,8 +22,8 @@ pub fn read_tree(alloc: Global, bytes: &[u8]) -> Result<DecTree, TreeError>
     ensures { Gives plain result (tree (text_of bytes.now)) }
 {
     let mut words = Words::new(bytes);
-    field::exactly(&mut words, b"cmr-tree")?;
-    let version = field::version(&mut words)?;
+    let title = field::title(&mut words)?;
+    let version = field::version(&mut words, title)?;
     let rows = field::limited(&mut words, MAX_ROWS)?;
     let columns = field::limited(&mut words, MAX_COLUMNS)?;
     let header = Header {

@@ -1,6 +1,6 @@
 // What a word of a tree text stands for.
 ghost use Rattle.std.specs.Prelude.{◌≡◌, ◌≤◌, ◌<◌, IfOk, option_copied};
-ghost use Rattle.tree_text.specs.Values.{exactly, limited, line_in, among, line_of, next_line, step_in};
+ghost use Rattle.tree_text.specs.Values.{limited, line_in, among, line_of, next_line, step_in};
 
 use crate::TreeKind;
 use cmr_base::{Indices, Line, LineSet};
@@ -12,17 +12,6 @@ use tree_type::has_line;
 pub struct Sizes {
     pub rows: u32,
     pub columns: u32,
-}
-
-/// This very word.
-pub fn exactly(word: &[u8], due: &[u8]) -> Result<(), TreeKind>
-    ensures { result ≡ exactly due.now word.now }
-{
-    if word == due {
-        Ok(())
-    } else {
-        Err(TreeKind::WrongVersion)
-    }
 }
 
 /// A count of at most `most`.

@@ -10,15 +10,15 @@ ghost use Rattle.tree_text.specs.KindWords.{word_of, kind_of, finding_of};
 ghost use Rattle.tree_text.specs.Reading as reading;
 ghost use Rattle.tree_text.specs.Canonical.{number_of_line, line_name, set_words, pair_words, network_words, connector_words, line_for, own_line, front_lines, node_lines, tree_text};
 
-use crate::header::{Version, version_word};
+use crate::header::{title_of, title_word, version_of, version_word};
 use crate::kind_word::{kind_of, word_of};
 use cmr_base::{Connector, Line, LineSet, Memory, Network, Pair, Three, Two};
 use itoa::Buffer;
 use std::alloc::Global;
 use text_fields::Writer;
-use tree_type::{DecTree, Kind, Node};
+use tree_type::{DecTree, Kind, Node, PivotPlace};
 
-/// The canonical text of a tree, in version 2.
+/// The canonical text of a tree: in version 2, or a text of pivots where a node is pivoted.
 pub fn write_tree(alloc: Global, tree: &DecTree) -> Result<Vec<u8>, Memory>
     ensures text { IfOk result (λ v. v.items ≡ tree_text tree.now.rows tree.now.columns (tree_of tree.now.root)) }
     // It is read again as the same tree.
@@ -27,8 +27,9 @@ pub fn write_tree(alloc: Global, tree: &DecTree) -> Result<Vec<u8>, Memory>
     ensures nodes { IfOk result (λ v. node_count (tree_of tree.now.root) ≤ length v.items) }
 {
     let mut text = Writer::new(alloc);
-    text.word(b"cmr-tree")?;
-    text.word(version_word(Version::Two))?;
+    let version = version_of(tree.root());
+    text.word(title_word(title_of(version)))?;
+    text.word(version_word(version))?;
     text.end_line()?;
     text.numbers(&[tree.rows(), tree.columns()])?;
     write_node(alloc, &mut text, tree.root())?;
@@ -63,6 +64,7 @@ fn write_node(alloc: Global, text: &mut Writer, node: &Node) -> Result<(), Memor
             write_node(alloc, text, one_child)?;
             write_node(alloc, text, two_child)
         }
+        Kind::Pivoted { child, .. } => write_node(alloc, text, child),
         Kind::Empty
         | Kind::Cycle { .. }
         | Kind::Network { .. }
@@ -104,6 +106,7 @@ fn write_own_line(alloc: Global, text: &mut Writer, node: &Node) -> Result<(), M
         Kind::Network { net } | Kind::Conetwork { net } => write_network(text, net),
         Kind::TwoSum { two, .. } => write_two(text, two),
         Kind::ThreeSum { three, .. } => write_three(text, three),
+        Kind::Pivoted { place, .. } => write_place(text, *place),
         Kind::Empty | Kind::R10 | Kind::Enumerated | Kind::Undecided => Ok(()),
     }
 }
@@ -152,6 +155,15 @@ fn write_two(text: &mut Writer, two: &Two) -> Result<(), Memory>
     write_line(text, two.row)?;
     write_line(text, two.column)?;
     write_set(text, &two.side)?;
+    text.end_line()
+}
+
+fn write_place(text: &mut Writer, place: PivotPlace) -> Result<(), Memory>
+    requires { text.old.is_begun ≡ false }
+    ensures { OnOk result (text.new ≡ with_line text.old (number_of_line place.row ∷ number_of_line place.column ∷ [])) }
+{
+    write_line(text, place.row)?;
+    write_line(text, place.column)?;
     text.end_line()
 }
 

@@ -44,13 +44,13 @@ reductions = (first_of 0 (1 ∷ []), refl, (first_of 1 [], refl, (first_of 0 (1 
 reduced_sound : IsSoundTree unit_matrix 2 2 reduced
 reduced_sound = (root, (child, tt))
   where
-    root : KeepsAll unit_matrix (record { path = []; due = AllLines 2 2; lines = both; finding = Reduced (Row 0 ∷ Row 1 ∷ Column 0 ∷ Column 1 ∷ []); children = lines [] [] ∷ [] })
+    root : KeepsAll unit_matrix (record { path = []; pivots = []; due = AllLines 2 2; lines = both; finding = Reduced (Row 0 ∷ Row 1 ∷ Column 0 ∷ Column 1 ∷ []); children = lines [] [] ∷ [] })
     root rule.Size = (refl, refl)
     root rule.Lines = (refl, refl)
     root rule.NotReducible = (omega arith, reductions)
     root _ = tt
 
-    child : KeepsAll unit_matrix (record { path = 0 ∷ []; due = These (lines [] []); lines = lines [] []; finding = Empty; children = [] })
+    child : KeepsAll unit_matrix (record { path = 0 ∷ []; pivots = []; due = These (lines [] []); lines = lines [] []; finding = Empty; children = [] })
     child rule.Lines = (refl, refl)
     child rule.NotEmpty = refl
     child _ = tt
@@ -59,15 +59,15 @@ reduced_sound = (root, (child, tt))
 reduced_broken : IsBrokenTree ones 2 2 reduced [] rule.NotReducible
 reduced_broken = record {
   before = [];
-  place = record { path = []; due = AllLines 2 2; lines = both; finding = Reduced (Row 0 ∷ Row 1 ∷ Column 0 ∷ Column 1 ∷ []); children = lines [] [] ∷ [] };
-  after = record { path = 0 ∷ []; due = These (lines [] []); lines = lines [] []; finding = Empty; children = [] } ∷ [];
+  place = record { path = []; pivots = []; due = AllLines 2 2; lines = both; finding = Reduced (Row 0 ∷ Row 1 ∷ Column 0 ∷ Column 1 ∷ []); children = lines [] [] ∷ [] };
+  after = record { path = 0 ∷ []; pivots = []; due = These (lines [] []); lines = lines [] []; finding = Empty; children = [] } ∷ [];
   order = refl;
   sound = tt;
   breaks = record { breaks = λ h. true≢false (sym h.1.2.1); keeps = kept };
   path_is = refl;
 }
   where
-    kept : (earlier : Rule) → rule_number earlier < 4 → Keeps ones (record { path = []; due = AllLines 2 2; lines = both; finding = Reduced (Row 0 ∷ Row 1 ∷ Column 0 ∷ Column 1 ∷ []); children = lines [] [] ∷ [] }) earlier
+    kept : (earlier : Rule) → rule_number earlier < 4 → Keeps ones (record { path = []; pivots = []; due = AllLines 2 2; lines = both; finding = Reduced (Row 0 ∷ Row 1 ∷ Column 0 ∷ Column 1 ∷ []); children = lines [] [] ∷ [] }) earlier
     kept rule.Size l = (refl, refl)
     kept rule.Lines l = (refl, refl)
     kept rule.NotReducible l = absurd (omega (arith, l))
@@ -97,7 +97,7 @@ only_one : (x : ℕ) → Contains (1 ∷ []) x → x ≡ 1
 only_one x (zero, l, e) = sym e
 only_one x (suc k, l, e) = absurd (omega (arith, l))
 
-joined_root : (children : List LineSet) → KeepsAll lower (record { path = []; due = AllLines 2 2; lines = both; finding = TwoSum two; children = children })
+joined_root : (children : List LineSet) → KeepsAll lower (record { path = []; pivots = []; due = AllLines 2 2; lines = both; finding = TwoSum two; children = children })
 joined_root children rule.Size = (refl, refl)
 joined_root children rule.Lines = (refl, refl)
 joined_root children rule.TooShort = record { one = omega arith; two = omega arith }
@@ -111,20 +111,20 @@ joined_root children _ = tt
 joined_sound : IsSoundTree lower 2 2 (joined (0 ∷ 1 ∷ []))
 joined_sound = (joined_root (lines (0 ∷ 1 ∷ []) (0 ∷ []) ∷ lines (1 ∷ []) (0 ∷ 1 ∷ []) ∷ []), (first, (second, tt)))
   where
-    first : KeepsAll lower (record { path = 0 ∷ []; due = These (lines (0 ∷ 1 ∷ []) (0 ∷ [])); lines = lines (0 ∷ 1 ∷ []) (0 ∷ []); finding = Undecided; children = [] })
+    first : KeepsAll lower (record { path = 0 ∷ []; pivots = []; due = These (lines (0 ∷ 1 ∷ []) (0 ∷ [])); lines = lines (0 ∷ 1 ∷ []) (0 ∷ []); finding = Undecided; children = [] })
     first rule.Lines = (refl, refl)
     first _ = tt
 
-    second : KeepsAll lower (record { path = 1 ∷ []; due = These (lines (1 ∷ []) (0 ∷ 1 ∷ [])); lines = lines (1 ∷ []) (0 ∷ 1 ∷ []); finding = Undecided; children = [] })
+    second : KeepsAll lower (record { path = 1 ∷ []; pivots = []; due = These (lines (1 ∷ []) (0 ∷ 1 ∷ [])); lines = lines (1 ∷ []) (0 ∷ 1 ∷ []); finding = Undecided; children = [] })
     second rule.Lines = (refl, refl)
     second _ = tt
 
 -- a child that lacks the row of the reference
 joined_broken : IsBrokenTree lower 2 2 (joined (0 ∷ [])) (0 ∷ []) rule.Lines
 joined_broken = record {
-  before = record { path = []; due = AllLines 2 2; lines = both; finding = TwoSum two; children = lines (0 ∷ []) (0 ∷ []) ∷ lines (1 ∷ []) (0 ∷ 1 ∷ []) ∷ [] } ∷ [];
-  place = record { path = 0 ∷ []; due = These (lines (0 ∷ 1 ∷ []) (0 ∷ [])); lines = lines (0 ∷ []) (0 ∷ []); finding = Undecided; children = [] };
-  after = record { path = 1 ∷ []; due = These (lines (1 ∷ []) (0 ∷ 1 ∷ [])); lines = lines (1 ∷ []) (0 ∷ 1 ∷ []); finding = Undecided; children = [] } ∷ [];
+  before = record { path = []; pivots = []; due = AllLines 2 2; lines = both; finding = TwoSum two; children = lines (0 ∷ []) (0 ∷ []) ∷ lines (1 ∷ []) (0 ∷ 1 ∷ []) ∷ [] } ∷ [];
+  place = record { path = 0 ∷ []; pivots = []; due = These (lines (0 ∷ 1 ∷ []) (0 ∷ [])); lines = lines (0 ∷ []) (0 ∷ []); finding = Undecided; children = [] };
+  after = record { path = 1 ∷ []; pivots = []; due = These (lines (1 ∷ []) (0 ∷ 1 ∷ [])); lines = lines (1 ∷ []) (0 ∷ 1 ∷ []); finding = Undecided; children = [] } ∷ [];
   order = refl;
   sound = (joined_root (lines (0 ∷ []) (0 ∷ []) ∷ lines (1 ∷ []) (0 ∷ 1 ∷ []) ∷ []), tt);
   breaks = record { breaks = λ h. shorter (ap length h.0); keeps = kept };
@@ -134,7 +134,7 @@ joined_broken = record {
     shorter : length {A = ℕ} (0 ∷ []) ≡ length {A = ℕ} (0 ∷ 1 ∷ []) → ⊥
     shorter e = omega (arith, e)
 
-    kept : (earlier : Rule) → rule_number earlier < 1 → Keeps lower (record { path = 0 ∷ []; due = These (lines (0 ∷ 1 ∷ []) (0 ∷ [])); lines = lines (0 ∷ []) (0 ∷ []); finding = Undecided; children = [] }) earlier
+    kept : (earlier : Rule) → rule_number earlier < 1 → Keeps lower (record { path = 0 ∷ []; pivots = []; due = These (lines (0 ∷ 1 ∷ []) (0 ∷ [])); lines = lines (0 ∷ []) (0 ∷ []); finding = Undecided; children = [] }) earlier
     kept rule.Size l = tt
     kept rule.Lines l = absurd (omega (arith, l))
     kept _ l = tt
@@ -143,15 +143,15 @@ joined_broken = record {
 lone_broken : (m : Matrix) → m ≡ record { rows = [] ∷ []; width = 0 } → IsBrokenTree m 1 0 (Branch (lines (0 ∷ []) []) OneSum (one_tree (Branch (lines [] []) Empty NoTrees))) [] rule.NotApart
 lone_broken m e = record {
   before = [];
-  place = record { path = []; due = AllLines 1 0; lines = lines (0 ∷ []) []; finding = OneSum; children = lines [] [] ∷ [] };
-  after = record { path = 0 ∷ []; due = Unnamed; lines = lines [] []; finding = Empty; children = [] } ∷ [];
+  place = record { path = []; pivots = []; due = AllLines 1 0; lines = lines (0 ∷ []) []; finding = OneSum; children = lines [] [] ∷ [] };
+  after = record { path = 0 ∷ []; pivots = []; due = Unnamed; lines = lines [] []; finding = Empty; children = [] } ∷ [];
   order = refl;
   sound = tt;
   breaks = record { breaks = λ h. let l = h.two in omega (arith, l); keeps = kept };
   path_is = refl;
 }
   where
-    kept : (earlier : Rule) → rule_number earlier < 5 → Keeps m (record { path = []; due = AllLines 1 0; lines = lines (0 ∷ []) []; finding = OneSum; children = lines [] [] ∷ [] }) earlier
+    kept : (earlier : Rule) → rule_number earlier < 5 → Keeps m (record { path = []; pivots = []; due = AllLines 1 0; lines = lines (0 ∷ []) []; finding = OneSum; children = lines [] [] ∷ [] }) earlier
     kept rule.Size l = rw e (refl, refl)
     kept rule.Lines l = (refl, refl)
     kept rule.NotApart l = absurd (omega (arith, l))

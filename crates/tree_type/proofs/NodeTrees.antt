@@ -8,13 +8,14 @@ use Rattle.cmr_base.specs.declared.line_set.LineSet.{LineSet}
 use Rattle.cmr_base.specs.declared.network.Network as net
 use Rattle.cmr_base.specs.declared.separation.Two.{Two}
 use Rattle.cmr_base.specs.declared.separation.Three.{Three}
+use Rattle.pivots.specs.declared.place.PivotPlace.{PivotPlace}
 use Rattle.tree_type.specs.declared.tree.Node.{Node, fold_out-Node}
 use Rattle.tree_type.specs.declared.tree.NodeList.{NodeList}
 use Rattle.tree_type.specs.declared.tree.Kind.{Kind}
 use Rattle.tree_type.specs.declared.tree.Kind.TheFolds.{fold-Kind, fold-roll-Kind}
 use Rattle.tree_type.specs.declared.tree.Kind.TheOpen as open'
 use Rattle.tree_type.specs.declared.tree.Kind.TheVariants as kind
-use Rattle.tree_type.specs.Trees.{Finding, Empty, Cycle, Reduced, OneSum, Network, Conetwork, R10, TwoSum, ThreeSum, Enumerated, Violator, Undecided, Tree, Trees, Branch, NoTrees, one_tree, two_trees, kind_step, node_step, list_step, tree_of, trees_of}
+use Rattle.tree_type.specs.Trees.{Finding, Empty, Cycle, Reduced, OneSum, Network, Conetwork, R10, TwoSum, ThreeSum, Enumerated, Violator, Undecided, Pivoted, Tree, Trees, Branch, NoTrees, one_tree, two_trees, kind_step, node_step, list_step, tree_of, trees_of}
 
 -- what a kind says, and the trees of the children
 abbrev pub said : Kind → Finding × Trees
@@ -49,6 +50,9 @@ said_conetwork found = ap said (sym (kind.rolls-Conetwork found)) ∙ fold-roll-
 
 pub said_reduced : (steps : ItemList Line) (child : Box Node Global) → said (kind.Reduced steps child) ≡ (Reduced steps, one_tree (tree_of child.value))
 said_reduced steps child = ap said (sym (kind.rolls-Reduced steps child)) ∙ fold-roll-Kind (Finding × Trees) Tree Trees kind_step node_step list_step (open'.Reduced steps child)
+
+pub said_pivoted : (place : PivotPlace) (child : Box Node Global) → said (kind.Pivoted place child) ≡ (Pivoted place, one_tree (tree_of child.value))
+said_pivoted place child = ap said (sym (kind.rolls-Pivoted place child)) ∙ fold-roll-Kind (Finding × Trees) Tree Trees kind_step node_step list_step (open'.Pivoted place child)
 
 pub said_one_sum : (children : NodeList) → said (kind.OneSum children) ≡ (OneSum, trees_of children)
 said_one_sum children = ap said (sym (kind.rolls-OneSum children)) ∙ fold-roll-Kind (Finding × Trees) Tree Trees kind_step node_step list_step (open'.OneSum children)

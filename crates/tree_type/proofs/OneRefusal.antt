@@ -27,7 +27,7 @@ one_place m (x ∷ before) (y ∷ before') after after' place place' broken brok
 abbrev rules : List Rule
 rules =
     rule.Size ∷ rule.Lines ∷ rule.NotEmpty ∷ rule.NotViolator ∷ rule.NotReducible ∷ rule.NotApart ∷ rule.NotNetwork ∷ rule.NotR10 ∷ rule.CycleFault
-    ∷ rule.TooShort ∷ rule.BadConnector ∷ rule.CornerSign ∷ rule.BadBlock ∷ rule.TooMany ∷ rule.NotClean ∷ []
+    ∷ rule.TooShort ∷ rule.BadConnector ∷ rule.CornerSign ∷ rule.BadBlock ∷ rule.TooMany ∷ rule.NotClean ∷ rule.NotPivot ∷ rule.BelowPivot ∷ []
 
 abbrev rule_at : ℕ → Rule
 rule_at n = get_or rules n rule.Size
@@ -48,6 +48,8 @@ rule_back rule.CornerSign = refl
 rule_back rule.BadBlock = refl
 rule_back rule.TooMany = refl
 rule_back rule.NotClean = refl
+rule_back rule.NotPivot = refl
+rule_back rule.BelowPivot = refl
 
 pub same_rule : (r s : Rule) → rule_number r ≡ rule_number s → r ≡ s
 same_rule r s e = sym (rule_back r) ∙ ap rule_at e ∙ rule_back s

@@ -24,7 +24,7 @@ module _ (m : Matrix) (place : Place) (none : (broken : Rule) → ¬ (BreaksFirs
         keeps = before;
       })
 
-  below_all : (r : Rule) → rule_number r < 15
+  below_all : (r : Rule) → rule_number r < 17
   below_all rule.Size = omega arith
   below_all rule.Lines = omega arith
   below_all rule.NotEmpty = omega arith
@@ -40,6 +40,8 @@ module _ (m : Matrix) (place : Place) (none : (broken : Rule) → ¬ (BreaksFirs
   below_all rule.BadBlock = omega arith
   below_all rule.TooMany = omega arith
   below_all rule.NotClean = omega arith
+  below_all rule.NotPivot = omega arith
+  below_all rule.BelowPivot = omega arith
 
   keeps_all : ¬ (¬ (KeepsAll m place))
   keeps_all not_all =
@@ -47,8 +49,8 @@ module _ (m : Matrix) (place : Place) (none : (broken : Rule) → ¬ (BreaksFirs
       one_rule_more rule.NotViolator violator (λ reducible. one_rule_more rule.NotReducible reducible (λ apart. one_rule_more rule.NotApart apart (λ network.
       one_rule_more rule.NotNetwork network (λ r10. one_rule_more rule.NotR10 r10 (λ cycle. one_rule_more rule.CycleFault cycle (λ short.
       one_rule_more rule.TooShort short (λ connector. one_rule_more rule.BadConnector connector (λ corner. one_rule_more rule.CornerSign corner (λ block.
-      one_rule_more rule.BadBlock block (λ many. one_rule_more rule.TooMany many (λ clean. one_rule_more rule.NotClean clean (λ all.
-      not_all (λ r. all r (below_all r)))))))))))))))))
+      one_rule_more rule.BadBlock block (λ many. one_rule_more rule.TooMany many (λ clean. one_rule_more rule.NotClean clean (λ pivot. one_rule_more rule.NotPivot pivot (λ below.
+      one_rule_more rule.BelowPivot below (λ all. not_all (λ r. all r (below_all r)))))))))))))))))))
 
 pub sound_or_broken : (m : Matrix) (nodes : List Place) → ((path : List ℕ) (broken : Rule) → ¬ (IsFirstBroken m nodes path broken)) → ¬ (¬ (AllByRecursion (KeepsAll m) nodes))
 sound_or_broken m [] none not_all = not_all tt

@@ -1,5 +1,5 @@
 -- What a node says, as the code holds it and as a plain value.
-use Rattle.tree_type.specs.Trees.{Finding, Empty, Cycle, Reduced, OneSum, Network, Conetwork, R10, TwoSum, ThreeSum, Enumerated, Violator, Undecided}
+use Rattle.tree_type.specs.Trees.{Finding, Empty, Cycle, Reduced, OneSum, Network, Conetwork, R10, TwoSum, ThreeSum, Enumerated, Violator, Undecided, Pivoted}
 use Rattle.tree_type.specs.declared.finding.Finding.{Finding as Held}
 use Rattle.tree_type.specs.declared.finding.Finding.TheVariants as held
 
@@ -16,3 +16,4 @@ finding_shown (held.ThreeSum three) = ThreeSum three
 finding_shown held.Enumerated = Enumerated
 finding_shown (held.Violator fault) = Violator fault
 finding_shown held.Undecided = Undecided
+finding_shown (held.Pivoted place) = Pivoted place

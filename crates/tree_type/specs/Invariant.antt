@@ -9,7 +9,7 @@ use Rattle.cmr_base.specs.LineSets.{AllBelow, IsRowSet, IsColumnSet}
 use Rattle.cmr_base.specs.Reductions.{HasLine}
 use Rattle.cmr_base.specs.Separations.{first_is_flat, second_is_flat}
 use Rattle.tree_type.specs.Sides.{HasConnector}
-use Rattle.tree_type.specs.Trees.{Finding, Cycle, Reduced, OneSum, Network, Conetwork, TwoSum, ThreeSum, Violator, Tree, Trees, Branch, NoTrees, MoreTrees, SizedTree, count_trees, lines_of, tree_of}
+use Rattle.tree_type.specs.Trees.{Finding, Cycle, Reduced, OneSum, Network, Conetwork, TwoSum, ThreeSum, Violator, Pivoted, Tree, Trees, Branch, NoTrees, MoreTrees, SizedTree, count_trees, lines_of, tree_of}
 
 -- lines of the matrix
 pub record AreLines (m : Matrix) (lines : LineSet) : Type 0 where
@@ -45,6 +45,7 @@ Fits lines (TwoSum two) trees = AreLinesOf two.side lines × Contains lines.rows
 Fits lines (ThreeSum three) trees = AreLinesOf three.side lines
     × HasConnector (first_is_flat three.form) lines.rows lines.columns three.first
     × HasConnector (second_is_flat three.form) lines.rows lines.columns three.second
+Fits lines (Pivoted place) trees = Contains lines.rows place.row × Contains lines.columns place.column
 Fits lines finding trees = Unit {0}
 
 -- how many children a node has
@@ -53,6 +54,7 @@ HasChildren (Reduced steps) count = count ≡ 1
 HasChildren OneSum count = Unit {0}
 HasChildren (TwoSum two) count = count ≡ 2
 HasChildren (ThreeSum three) count = count ≡ 2
+HasChildren (Pivoted place) count = count ≡ 1
 HasChildren finding count = count ≡ 0
 
 abbrev mutual

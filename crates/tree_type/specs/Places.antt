@@ -1,10 +1,13 @@
--- The nodes of a tree in preorder, each with its path and with the lines that it is to have.
+-- The nodes of a tree in preorder, each with its path, with the lines that it is to have, and with the pivots above it.
 use Rattle.std.specs.Prelude.{ℕ, zero, suc, List, [], ◌∷◌, ◌++◌}
 use Rattle.cmr_base.specs.declared.line.Line.{Line}
 use Rattle.cmr_base.specs.declared.line_set.LineSet.{LineSet}
+use Rattle.cmr_base.specs.Matrix.{Matrix}
 use Rattle.cmr_base.specs.Reductions.{rows_without, columns_without}
+use Rattle.pivots.specs.declared.place.PivotPlace.{PivotPlace}
+use Rattle.pivots.specs.PivotedParts.{pivoted_part}
 use Rattle.tree_type.specs.Sides.{two_one, two_two, three_one, three_two}
-use Rattle.tree_type.specs.Trees.{Finding, Reduced, TwoSum, ThreeSum, Tree, Trees, Branch, NoTrees, MoreTrees, lines_of}
+use Rattle.tree_type.specs.Trees.{Finding, Reduced, TwoSum, ThreeSum, Pivoted, Tree, Trees, Branch, NoTrees, MoreTrees, lines_of}
 
 -- the lines that a node is to have: the root all lines of a matrix of these sizes, a child those that its parent gives it, and a
 -- child of a one-sum none that are named here
@@ -13,8 +16,19 @@ pub data Due : Type 0 where
   These : LineSet → Due
   Unnamed : Due
 
+-- a pivot of the submatrix on some lines
+pub record MadePivot : Type 0 where
+  pub lines : LineSet
+  pub place : PivotPlace
+
+-- the matrix after some pivots, of which the last one stands first
+abbrev pub matrix_after : Matrix → List MadePivot → Matrix
+matrix_after m [] = m
+matrix_after m (last ∷ pivots) = pivoted_part (matrix_after m pivots) last.lines last.place
+
 pub record Place : Type 0 where
   pub path : List ℕ
+  pub pivots : List MadePivot
   pub due : Due
   pub lines : LineSet
   pub finding : Finding
@@ -32,7 +46,13 @@ due_child lines (TwoSum two) zero = These (two_one lines two)
 due_child lines (TwoSum two) (suc k) = These (two_two lines two)
 due_child lines (ThreeSum three) zero = These (three_one lines three)
 due_child lines (ThreeSum three) (suc k) = These (three_two lines three)
+due_child lines (Pivoted place) k = These lines
 due_child lines finding k = Unnamed
+
+-- the pivots above the children of a node: those above it, and its own
+abbrev pub pivots_below : LineSet → Finding → List MadePivot → List MadePivot
+pivots_below lines (Pivoted place) pivots = record { lines = lines; place = place } ∷ pivots
+pivots_below lines finding pivots = pivots
 
 abbrev pub lines_of_each : Trees → List LineSet
 lines_of_each NoTrees = []
@@ -40,16 +60,17 @@ lines_of_each (MoreTrees tree trees) = lines_of tree ∷ lines_of_each trees
 
 abbrev mutual
   -- a node, and behind it the nodes below it
-  pub places_from : List ℕ → Due → Tree → List Place
-  places_from path due (Branch lines finding trees) =
-      record { path = path; due = due; lines = lines; finding = finding; children = lines_of_each trees } ∷ places_below path lines finding 0 trees
+  pub places_from : List ℕ → List MadePivot → Due → Tree → List Place
+  places_from path pivots due (Branch lines finding trees) =
+      record { path = path; pivots = pivots; due = due; lines = lines; finding = finding; children = lines_of_each trees }
+      ∷ places_below path (pivots_below lines finding pivots) lines finding 0 trees
 
-  -- the nodes in the trees of a node's children, from child k on
-  pub places_below : List ℕ → LineSet → Finding → ℕ → Trees → List Place
-  places_below path lines finding k NoTrees = []
-  places_below path lines finding k (MoreTrees tree trees) =
-      places_from (path ++ k ∷ []) (due_child lines finding k) tree ++ places_below path lines finding (suc k) trees
+  -- the nodes in the trees of a node's children, from child k on, below these pivots
+  pub places_below : List ℕ → List MadePivot → LineSet → Finding → ℕ → Trees → List Place
+  places_below path pivots lines finding k NoTrees = []
+  places_below path pivots lines finding k (MoreTrees tree trees) =
+      places_from (path ++ k ∷ []) pivots (due_child lines finding k) tree ++ places_below path pivots lines finding (suc k) trees
 
 -- all nodes in preorder of a tree for a matrix of these sizes
 abbrev pub places : ℕ → ℕ → Tree → List Place
-places rows columns tree = places_from [] (AllLines rows columns) tree
+places rows columns tree = places_from [] [] (AllLines rows columns) tree

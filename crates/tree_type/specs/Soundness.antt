@@ -10,13 +10,14 @@ use Rattle.cmr_base.specs.Reductions.{HasLine, line_reason, rows_without, column
 use Rattle.cmr_base.specs.CyclePlaces.{HasNoCycleFault}
 use Rattle.cmr_base.specs.Trees.{Reproduces}
 use Rattle.cmr_base.specs.R10.{IsR10}
+use Rattle.pivots.specs.PivotedParts.{IsTernaryPivot}
 use Rattle.tree_type.specs.Sides.{is_among, sides, HaveLines, IsReference, AreTwoBlocks, AreConnectors, HasCornerSign, AreThreeBlocks}
 use Rattle.tree_type.specs.declared.refusal.Refusal.{Refusal}
 use Rattle.tree_type.specs.declared.refusal.Rule.{Rule}
 use Rattle.tree_type.specs.declared.refusal.Rule.TheVariants as rule
-use Rattle.tree_type.specs.Trees.{Finding, Empty, Cycle, Reduced, OneSum, Network, Conetwork, R10, TwoSum, ThreeSum, Enumerated, Violator, Tree, SizedTree, tree_of}
+use Rattle.tree_type.specs.Trees.{Finding, Empty, Cycle, Reduced, OneSum, Network, Conetwork, R10, TwoSum, ThreeSum, Enumerated, Violator, Undecided, Pivoted, Tree, SizedTree, tree_of}
 use Rattle.tree_type.specs.Invariant.{size_of}
-use Rattle.tree_type.specs.Places.{Due, AllLines, These, Unnamed, Place, places}
+use Rattle.tree_type.specs.Places.{Due, AllLines, These, Unnamed, MadePivot, matrix_after, Place, places}
 
 -- the submatrix on some lines
 abbrev pub part : Matrix → LineSet → Matrix
@@ -70,13 +71,23 @@ Demands rule.BadBlock m lines (TwoSum two) children = AreTwoBlocks (entry m) (si
 Demands rule.BadBlock m lines (ThreeSum three) children = AreThreeBlocks (entry m) (sides lines three.side) three
 Demands rule.TooMany m lines Enumerated children = min (length lines.rows) (length lines.columns) ≤ 24
 Demands rule.NotClean m lines Enumerated children = HasNoViolator (part m lines)
+Demands rule.NotPivot m lines (Pivoted place) children = (entry m place.row place.column ≢ pos 0) × IsTernaryPivot m lines place
 Demands other m lines finding children = Unit {0}
 
--- a node keeps a rule
+-- Below a pivot no node names a fault or leaves its lines open: a fault would be one of the pivoted matrix.
+abbrev pub MayStand : List MadePivot → Finding → Type 0
+MayStand [] finding = Unit {0}
+MayStand pivots (Cycle fault) = ⊥
+MayStand pivots (Violator fault) = ⊥
+MayStand pivots Undecided = ⊥
+MayStand pivots finding = Unit {0}
+
+-- a node keeps a rule, of the matrix after the pivots above it
 abbrev pub Keeps : Matrix → Place → Rule → Type 0
 Keeps m place rule.Size = HasItsSizes m place.due
 Keeps m place rule.Lines = HasItsLines place.due place.lines
-Keeps m place other = Demands other m place.lines place.finding place.children
+Keeps m place rule.BelowPivot = MayStand place.pivots place.finding
+Keeps m place other = Demands other (matrix_after m place.pivots) place.lines place.finding place.children
 
 abbrev pub KeepsAll : Matrix → Place → Type 0
 KeepsAll m place = (rule : Rule) → Keeps m place rule
@@ -102,6 +113,8 @@ rule_number rule.CornerSign = 11
 rule_number rule.BadBlock = 12
 rule_number rule.TooMany = 13
 rule_number rule.NotClean = 14
+rule_number rule.NotPivot = 15
+rule_number rule.BelowPivot = 16
 
 -- the first rule that a node breaks
 pub record BreaksFirst (m : Matrix) (place : Place) (broken : Rule) : Type 0 where

@@ -5,6 +5,7 @@ use Rattle.cmr_base.specs.declared.line_set.LineSet.{LineSet}
 use Rattle.cmr_base.specs.declared.network.Network as net
 use Rattle.cmr_base.specs.declared.separation.Two.{Two}
 use Rattle.cmr_base.specs.declared.separation.Three.{Three}
+use Rattle.pivots.specs.declared.place.PivotPlace.{PivotPlace}
 use Rattle.tree_type.specs.declared.tree.Node.{Node}
 use Rattle.tree_type.specs.declared.tree.Kind.TheOpen as open'
 use Rattle.tree_type.specs.declared.tree.Kind.TheFolds.{fold-Node, fold-NodeList}
@@ -24,6 +25,7 @@ pub data Finding : Type 0 where
   Enumerated : Finding
   Violator : LineSet → Finding
   Undecided : Finding
+  Pivoted : PivotPlace → Finding
 
 mutual
   -- a node: its lines, what it says of them, and its children
@@ -64,6 +66,7 @@ kind_step (open'.ThreeSum three one_child two_child) = (ThreeSum three, two_tree
 kind_step open'.Enumerated = (Enumerated, NoTrees)
 kind_step (open'.Violator fault) = (Violator fault, NoTrees)
 kind_step open'.Undecided = (Undecided, NoTrees)
+kind_step (open'.Pivoted place child) = (Pivoted place, one_tree child.value)
 
 abbrev pub node_step : open'.Node-F (Finding × Trees) Tree Trees → Tree
 node_step node = Branch node.lines node.kind.0 node.kind.1

@@ -6,6 +6,7 @@ ghost use Rattle.tree_type.specs.Findings.{finding_shown};
 
 use crate::{Kind, Node, NodeList};
 use cmr_base::{LineList, LineSet, Memory, Network, Three, Two};
+use pivots::PivotPlace;
 use std::alloc::Global;
 
 /// What a node says of the submatrix on its lines.
@@ -23,6 +24,7 @@ pub enum Finding {
     Enumerated,
     Violator(LineSet),
     Undecided,
+    Pivoted(PivotPlace),
 }
 
 /// The node that says this of these lines, over these children, which are as many as it is to have.
@@ -69,6 +71,10 @@ pub fn join_node(
         Finding::Enumerated => Kind::Enumerated,
         Finding::Violator(fault) => Kind::Violator { fault },
         Finding::Undecided => Kind::Undecided,
+        Finding::Pivoted(place) => Kind::Pivoted {
+            place,
+            child: last_child(alloc, &mut children)?,
+        },
     };
     Ok(Node { lines, kind })
 }

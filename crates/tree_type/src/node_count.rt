@@ -19,7 +19,7 @@ fn count_from(node: &Node) -> u64
     ensures { result ≡ node_count (tree_of node.now) }
 {
     match &node.kind {
-        Kind::Reduced { child, .. } => 1 + count_from(child),
+        Kind::Reduced { child, .. } | Kind::Pivoted { child, .. } => 1 + count_from(child),
         Kind::OneSum { children } => {
             let mut count = 1;
             for child in children.as_slice() {

@@ -19,6 +19,8 @@ pub enum Rule {
     BadBlock,
     TooMany,
     NotClean,
+    NotPivot,
+    BelowPivot,
 }
 
 /// A node, by the child numbers that lead to it from the root, and a rule that it breaks.

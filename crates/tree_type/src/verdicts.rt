@@ -35,7 +35,7 @@ pub(crate) fn first_fault(node: &Node) -> Option<&LineSet>
 {
     match &node.kind {
         Kind::Cycle { fault } | Kind::Violator { fault } => Some(fault),
-        Kind::Reduced { child, .. } => first_fault(child),
+        Kind::Reduced { child, .. } | Kind::Pivoted { child, .. } => first_fault(child),
         Kind::OneSum { children } => {
             for child in children.as_slice() {
                 if let Some(fault) = first_fault(child) {
@@ -71,7 +71,7 @@ pub(crate) fn first_undecided(node: &Node) -> Option<&LineSet>
 {
     match &node.kind {
         Kind::Undecided => Some(&node.lines),
-        Kind::Reduced { child, .. } => first_undecided(child),
+        Kind::Reduced { child, .. } | Kind::Pivoted { child, .. } => first_undecided(child),
         Kind::OneSum { children } => {
             for child in children.as_slice() {
                 if let Some(lines) = first_undecided(child) {

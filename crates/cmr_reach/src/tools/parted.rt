@@ -160,7 +160,8 @@ fn arrange_root(alloc: Global, matrix: &Matrix, tree: &DecTree) -> Result<Option
         | Kind::R10
         | Kind::Enumerated
         | Kind::Violator { .. }
-        | Kind::Undecided => Ok(None),
+        | Kind::Undecided
+        | Kind::Pivoted { .. } => Ok(None),
     }
 }
 

@@ -62,7 +62,7 @@ pub fn check<R: Threads + Sync, S: Shelf, O: Sink, E: Sink>(
 /// What evidence is, by its first word.
 #[derive(Clone, Copy, Debug, PartialEq, Eq)]
 pub enum EvidenceKind {
-    /// A decomposition tree.
+    /// A decomposition tree, with pivots or without.
     Tree,
     /// A chain of signs.
     Chain,
@@ -117,7 +117,7 @@ fn evidence_kind(evidence: &[u8]) -> EvidenceKind
 fn kind_named(word: &[u8]) -> EvidenceKind
     ensures { result ≡ kind_named word.now }
 {
-    if word == b"cmr-tree".as_slice() {
+    if word == b"cmr-tree".as_slice() || word == b"cmr-pivots".as_slice() {
         EvidenceKind::Tree
     } else if word == b"cmr-chain".as_slice() {
         EvidenceKind::Chain

@@ -14,7 +14,7 @@ returns c =
     let sized = c.args.tree.now in
     let text : c.into_bytes.result.items ≡ tree_text sized.rows sized.columns (tree_of sized.root) =
     c.into_bytes.ensures ∙ whole_written sized.rows sized.columns (tree_of sized.root) c.write_node.new.text
-    (rw (c.in_ok-write_node.ensures.lines, c.in_ok-numbers.ensures, c.in_ok-end_line.ensures, c.in_ok-word-2.ensures, c.version_word.ensures, c.in_ok-word.ensures, c.new-text.ensures, c.rows.ensures, c.columns.ensures, c.root.ensures.root) refl) in
+    (rw (c.in_ok-write_node.ensures.lines, c.in_ok-numbers.ensures, c.in_ok-end_line.ensures, c.in_ok-word-2.ensures, c.version_word.ensures, c.in_ok-word.ensures, c.title_word.ensures, c.title_of.ensures, c.version_of-version.ensures, c.new-text.ensures, c.rows.ensures, c.columns.ensures, c.root.ensures.root, c.root-2.ensures.root) refl) in
     record {
       text = text;
       again = ap (λ bytes. tree (text_of bytes)) text ∙ tree_again sized.rows sized.columns (tree_of sized.root) c.root.ensures.tree;
