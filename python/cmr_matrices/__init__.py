@@ -12,6 +12,7 @@ from .answers import Answer, Checked, Parts
 from .chains import Chain, ChainStep
 from .constraints import Scaling
 from .errors import (
+    BadCoefficients,
     BadCommandLine,
     BadEntry,
     BadInput,
@@ -19,6 +20,7 @@ from .errors import (
     CannotRead,
     CannotWrite,
     CmrError,
+    Family,
     OutOfMemory,
     ProgramFault,
     ProgramMissing,
@@ -29,7 +31,7 @@ from .errors import (
 from .graphs import Edge, Graph
 from .lines import Line, LineSet, Names
 from .matrix import Matrix
-from .modellers import from_linopy, from_model, from_model_scaled, from_pulp, from_pyomo, from_scipy
+from .modellers import from_linopy, from_model, from_model_scaled, from_pulp, from_pyomo, from_scipy, reduced_parts
 from .nodes import Node
 from .program import find_program
 from .questions import (
@@ -52,6 +54,7 @@ from .trees import Tree
 
 __all__ = [
     "Answer",
+    "BadCoefficients",
     "BadCommandLine",
     "BadEntry",
     "BadInput",
@@ -63,6 +66,7 @@ __all__ = [
     "Checked",
     "CmrError",
     "Edge",
+    "Family",
     "Graph",
     "Line",
     "LineSet",
@@ -105,5 +109,6 @@ __all__ = [
     "is_totally_unimodular",
     "matrix_of",
     "parts",
+    "reduced_parts",
     "sign",
 ]
