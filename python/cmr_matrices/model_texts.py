@@ -26,9 +26,8 @@ _LP_LAZY = re.compile(r"\s*(lazy\s+constraints?|user\s+cuts?)\s*", re.I)
 _LP_ROWS = re.compile(r"\s*(subject\s+to|such\s+that|st|s\.t\.|st\.)\b", re.I)
 _LP_BEHIND = re.compile(r"\s*(bounds?|generals?|gen|integers?|int|binar(y|ies)|bin|semi\S*|semis?|end)\s*", re.I)
 _NUMBER = r"[+-]?\s*(?:[0-9]+\.?[0-9]*(?:e[+-]?[0-9]+)?|\.[0-9]+(?:e[+-]?[0-9]+)?|inf(?:inity)?)"
-_RANGE = re.compile(
-    rf"((?:[^\s:<>=]+\s*:)?\s*)({_NUMBER}\s*(?:<=|=<|<|>=|=>|>))(\s*[^<>=:]*?\s(?:<=|=<|<|>=|=>|>)\s*{_NUMBER})", re.I
-)
+_SIGN = r"(?:<=|=<|<|>=|=>|>)"
+_RANGE = re.compile(rf"(?<![^\s:])({_NUMBER}\s*{_SIGN})([^<>=:]*?{_SIGN}\s*{_NUMBER})", re.I)
 _QUADRATIC = re.compile(r"[+-]?\s*\[[^]]*\]\s*(?:/\s*2)?", re.S)
 
 
@@ -89,7 +88,7 @@ def _lp(text: str) -> str:
             raise BadInput(f"no linear model, line {place}: constraints of this section are no rows of a matrix")
     objective = _blank(_QUADRATIC, "\n".join(lines[:first]))
     rows = "\n".join("" if _LP_LAZY.fullmatch(line) else line for line in lines[first:last])
-    rows = _RANGE.sub(lambda found: found[1] + _line_feeds(found[2]) + found[3], rows)
+    rows = _RANGE.sub(lambda found: _line_feeds(found[1]) + found[2], rows)
     return "\n".join([objective] * (first > 0) + [rows] * (last > first) + lines[last:])
 
 

@@ -194,6 +194,14 @@ class Models(ScriptTest):
                 matrix, names, _ = self.convert(self.write(name, rows))
                 self.assertEqual(self.entries(matrix, names), self.entries(*plain[:2]))
 
+    @needs_glpsol
+    def test_ranges_in_lp(self):
+        """Of a range the left side goes; numbers in names, rows without names and rows that are no ranges stay."""
+        rows = "-1<=x2-y<=1\n x2 <= 3\n y >= 1\n 0 <= x2\n + y <= 4\n c4: x2 - y >= -1e3\n -inf < y + z < 2.5\n"
+        matrix, names, _ = self.convert(self.write("ranges.lp", f"min\n x2 + z\nst\n {rows}end\n"))
+        self.assertEqual(matrix.split("\n", 1)[0], "6 3 10")
+        self.assertIn("r5 c4\n", names)
+
     def entries(self, matrix, names):
         """The entries by names, so that the order of the lines does not count."""
         named = dict(line.split(" ") for line in names.splitlines())
