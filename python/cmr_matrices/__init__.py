@@ -11,6 +11,7 @@ from 1 in the program's texts.
 from .answers import Answer, Checked, Parts
 from .chains import Chain, ChainStep
 from .constraints import Scaling
+from .edge_lists import graph_of_edges, graph_of_networkx
 from .errors import (
     BadCoefficients,
     BadCommandLine,
@@ -31,6 +32,7 @@ from .errors import (
 from .graphs import Edge, Graph
 from .lines import Line, LineSet, Names
 from .matrix import Matrix
+from .matroids import named
 from .modellers import from_linopy, from_model, from_model_scaled, from_pulp, from_pyomo, from_scipy, reduced_parts
 from .nodes import Node
 from .program import find_program
@@ -98,6 +100,8 @@ __all__ = [
     "from_pyomo",
     "from_scipy",
     "generate",
+    "graph_of_edges",
+    "graph_of_networkx",
     "has_no_cycle_fault",
     "is_balanced",
     "is_cographic",
@@ -108,6 +112,7 @@ __all__ = [
     "is_series_parallel",
     "is_totally_unimodular",
     "matrix_of",
+    "named",
     "parts",
     "reduced_parts",
     "sign",

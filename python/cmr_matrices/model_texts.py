@@ -16,8 +16,9 @@ __all__ = ["format_of", "plain_text"]
 _FORMATS = {".lp": "lp", ".mod": "mathprog", ".mps": "mps"}
 _MARK = b"\xef\xbb\xbf"
 # Sections of MPS that say nothing of rows and columns, and those with constraints that are no rows of a matrix.
-_BESIDE = ("OBJSENSE", "OBJSENSEMAX", "OBJNAME", "OBJECT", "BRANCH", "QUADOBJ", "QMATRIX", "QSECTION", "START", "SETS")
+_BESIDE = ("OBJSENSE", "OBJNAME", "OBJECT", "BRANCH", "QUADOBJ", "QMATRIX", "QSECTION", "START", "SETS")
 _OTHER = ("QCMATRIX", "CSECTION", "INDICATORS", "SOS", "SOS1", "SOS2", "GENCONS", "PWLOBJ")
+_SENSES = ("MAX", "MIN", "MAXIMIZE", "MINIMIZE")
 _LAZY = ("LAZYCONS", "USERCUTS")
 _LP_OTHER = re.compile(
     r"\s*(general\s+constraints?|gen\s+cons|gencons|sos[12]?|pwlobj|scenarios?|multi-?objectives?)\s*:?\s*", re.I
@@ -61,19 +62,17 @@ def _unpacked(data: bytes) -> bytes:
 
 def _mps_lines(lines: list[str]) -> Iterator[str]:
     """The lines of MPS, where those of sections that GLPK does not know become comments."""
-    is_beside = False
+    section = ""
     for place, line in enumerate(lines, 1):
-        if line[:1] not in ("", " ", "\t", "*"):
-            section = line.split()[0].upper()
-            is_beside = section in _BESIDE
-            if section in _OTHER:
-                raise BadInput(
-                    f"no linear model, line {place}: constraints of the section {section} are no rows of a matrix"
-                )
-            if section in _LAZY:
-                raise BadInput(f"no model, line {place}: rows of the section {section} have to stand in ROWS")
-        semicontinuous = re.match(r"\s+SC\s", line) is not None
-        yield f"*{line}" if is_beside or semicontinuous else line
+        first = line.split()[0].upper() if line[:1] not in ("", " ", "\t", "*") else ""
+        if first and not (section == "OBJSENSE" and first in _SENSES):
+            section = first
+        if first in _OTHER:
+            raise BadInput(f"no linear model, line {place}: constraints of the section {first} are no rows of a matrix")
+        if first in _LAZY:
+            raise BadInput(f"no model, line {place}: rows of the section {first} have to stand in ROWS")
+        is_semicontinuous = section == "BOUNDS" and re.match(r"\s+S[CI]\s", line)
+        yield f"*{line}" if section in _BESIDE or is_semicontinuous else line
 
 
 def _lp(text: str) -> str:

@@ -15,6 +15,7 @@ from typing import TYPE_CHECKING
 from .dot import document, statement
 from .families import families_of, family_of
 from .lines import Line, Names
+from .walks import Taken, arcs_of_walks
 
 if TYPE_CHECKING:
     from .graphs import Edge, Graph
@@ -53,7 +54,7 @@ def picture(graph: Graph, names: Names, *, directed: bool, limit: int = DRAWN, t
 
     `tree` draws the tree in any case. The layout is chosen by the number of edges, and any program of Graphviz then uses it.
     """
-    taken = None if tree else _two_at_most(graph)
+    taken = None if tree else arcs_of_walks(graph, 2)
     count = len(graph.edges) if taken is None else len(graph.walks)
     if count > limit:
         return _summary(graph, names, taken, directed=directed)
@@ -62,48 +63,7 @@ def picture(graph: Graph, names: Names, *, directed: bool, limit: int = DRAWN, t
     return _rows_as_nodes(graph, names, taken, directed=directed)
 
 
-_Taken = dict[Line, list[tuple[Line, int]]]
-
-
-def _two_at_most(graph: Graph) -> _Taken | None:
-    """The arcs that each walk takes, with 1 where it is forwards and else -1; None where one takes more than two."""
-    near: list[list[tuple[int, Edge]]] = [[] for _ in range(len(graph.arcs) + 1)]
-    for arc in graph.arcs:
-        near[arc.tail].append((arc.head, arc))
-        near[arc.head].append((arc.tail, arc))
-    above: dict[int, tuple[int, Edge] | None] = {0: None}
-    depth = {0: 0}
-    queue = [0]
-    for node in queue:
-        for other, arc in near[node]:
-            if other not in depth:
-                above[other], depth[other] = (node, arc), depth[node] + 1
-                queue.append(other)
-    return _short_walks(graph.walks, above, depth)
-
-
-def _short_walks(
-    walks: Iterable[Edge], above: dict[int, tuple[int, Edge] | None], depth: dict[int, int]
-) -> _Taken | None:
-    taken: _Taken = {}
-    for walk in walks:
-        first, last = walk.tail, walk.head
-        arcs: list[tuple[Line, int]] = []
-        while first != last:
-            if len(arcs) == 2:
-                return None
-            up = depth[first] >= depth[last]
-            step = above[first if up else last]
-            assert step is not None
-            node, arc = step
-            forwards = arc.tail == first if up else arc.head == last
-            arcs.append((arc.line, 1 if forwards else -1))
-            first, last = (node, last) if up else (first, node)
-        taken[walk.line] = arcs
-    return taken
-
-
-def _signs(graph: Graph, taken: _Taken, names: Names) -> dict[Line, int]:
+def _signs(graph: Graph, taken: Taken, names: Names) -> dict[Line, int]:
     """A sign for each arc such that walks with two arcs have one 1 and one -1 once the arcs have their signs.
 
     All signs of a connected part can be turned, and its edges with them. What names tell decides: `flow[a,b]` leads from `node[a]` to
@@ -148,7 +108,7 @@ def _place(words: list[str], part: list[str]) -> int | None:
     return next(found, None)
 
 
-def _rows_as_nodes(graph: Graph, names: Names, taken: _Taken, *, directed: bool) -> str:
+def _rows_as_nodes(graph: Graph, names: Names, taken: Taken, *, directed: bool) -> str:
     lines = [arc.line for arc in graph.arcs]
     signs = _signs(graph, taken, names)
     nodes = {line.word: names.line(line) for line in lines}
@@ -216,7 +176,7 @@ def _defaults(count: int, look: dict[str, str]) -> Iterator[str]:
     yield statement("edge", _FONT | {"fontsize": edge_size, "arrowsize": arrow} | length | thin)
 
 
-def _summary(graph: Graph, names: Names, taken: _Taken | None, *, directed: bool) -> str:
+def _summary(graph: Graph, names: Names, taken: Taken | None, *, directed: bool) -> str:
     """The families of the lines: where rows are nodes as a graph of their own, and else as a list."""
     if taken is None:
         arcs = families_of(names.line(arc.line) for arc in graph.arcs)

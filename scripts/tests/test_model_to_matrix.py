@@ -152,6 +152,7 @@ class Models(ScriptTest):
         for front in (
             "OBJSENSE\n    MAX\n",
             "OBJSENSE MAX\n",
+            "OBJSENSE\nMAX\n",
             "OBJSENSE MAXIMIZE\nOBJNAME\n    cost\n",
             "* SCIP STATISTICS\n*   Variables\n",
         ):
@@ -167,6 +168,12 @@ class Models(ScriptTest):
                         self.assertEqual(self.convert("model.mps"), plain)
         (self.folder / "model.mps.gz").write_bytes(gzip.compress(small_mps((1, 0), (1, -1)).encode()))
         self.assertEqual(self.convert("model.mps.gz"), plain)
+
+    def test_a_column_with_the_name_of_a_kind_of_bound(self):
+        plain = self.convert(self.write("plain.mps", small_mps((1, 0), (1, -1))))[0]
+        self.assertEqual(
+            self.convert(self.write("named.mps", small_mps((1, 0), (1, -1)).replace("x1", "SC")))[0], plain
+        )
 
     @needs_glpsol
     def test_what_solvers_write_in_lp(self):
