@@ -31,6 +31,61 @@ BOUNDS
 ENDATA
 """
 
+# One model as solvers write it in the LP format.
+SOLVERS = {
+    "gurobi.lp": """Maximize
+  o: x + z + [ x ^2 + 2 x * z ] / 2
+Subject To
+ a: x - y <= 1
+ b: x + z >= 1
+Lazy Constraints
+ c: y + z <= 3
+Bounds
+ x free
+Generals
+ z
+End
+""",
+    "cplex.lp": """\\ENCODING=ISO-8859-1
+\\Problem name: p
+
+Maximize
+ o: x + z
+Subject To
+ a: -1 <= x - y <= 1
+ b: x + z >= 1
+ c: 0 <= y +
+ z <= 3
+Bounds
+ 0 <= x <= 4
+Binaries
+ z
+End
+""",
+    "scip.lp": """\\ SCIP STATISTICS
+\\   Problem name     : p
+Maximize
+ o: +1 x +1 z
+Subject to
+ a: +1 x -1 y <= +1
+ b: +1 x +1 z >= +1
+ c: +1 y +1 z <= +3
+Bounds
+ 0 <= x <= 1
+End
+""",
+    "highs.lp": """\\ File written by HiGHS .lp file handler
+max
+ o: +1 x +1 z
+st
+ a: +1 x -1 y <= +1
+ b: +1 x +1 z >= +1
+ c: -inf <= +1 y +1 z <= +3
+bounds
+end
+""",
+}
+
 
 def free_mps(rows, columns):
     """A model in free MPS with so many rows and columns, and a coefficient 1 for each column."""
@@ -179,26 +234,9 @@ class Models(ScriptTest):
     def test_what_solvers_write_in_lp(self):
         self.write("plain.lp", "maximize\n o: x + z\nsubject to\n a: x - y <= 1\n b: x + z >= 1\n c: y + z <= 3\nend\n")
         plain = self.convert("plain.lp")
-        for name, rows in [
-            (
-                "gurobi.lp",
-                "Maximize\n o: x + z + [ x ^2 + 2 x * z ] / 2\nSubject To\n a: x - y <= 1\n b: x + z >= 1\nLazy Constraints\n c: y + z <= 3\nBounds\n x free\nGenerals\n z\nEnd\n",
-            ),
-            (
-                "cplex.lp",
-                "\\ENCODING=ISO-8859-1\n\\Problem name: p\n\nMaximize\n o: x + z\nSubject To\n a: -1 <= x - y <= 1\n b: x + z >= 1\n c: 0 <= y +\n z <= 3\nBounds\n 0 <= x <= 4\nBinaries\n z\nEnd\n",
-            ),
-            (
-                "scip.lp",
-                "\\ SCIP STATISTICS\n\\   Problem name     : p\nMaximize\n o: +1 x +1 z\nSubject to\n a: +1 x -1 y <= +1\n b: +1 x +1 z >= +1\n c: +1 y +1 z <= +3\nBounds\n 0 <= x <= 1\nEnd\n",
-            ),
-            (
-                "highs.lp",
-                "\\ File written by HiGHS .lp file handler\nmax\n o: +1 x +1 z\nst\n a: +1 x -1 y <= +1\n b: +1 x +1 z >= +1\n c: -inf <= +1 y +1 z <= +3\nbounds\nend\n",
-            ),
-        ]:
+        for name, text in SOLVERS.items():
             with self.subTest(name=name):
-                matrix, names, _ = self.convert(self.write(name, rows))
+                matrix, names, _ = self.convert(self.write(name, text))
                 self.assertEqual(self.entries(matrix, names), self.entries(*plain[:2]))
 
     @needs_glpsol

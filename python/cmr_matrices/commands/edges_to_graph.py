@@ -1,7 +1,7 @@
 """Writes a list of edges as a graph text for `cmr graphic -c` and `cmr network -c`, which print its matrix.
 
-The list has a line `TAIL HEAD` or `TAIL HEAD NAME` for each edge, with any words for nodes, or it is GraphML, which networkx reads. The first
-edges that close no cycle are the spanning tree, whose arcs are the rows; all others are the columns.
+The list has a line `TAIL HEAD` or `TAIL HEAD NAME` for each edge, with any words for nodes, or it is GraphML, which networkx
+reads. The first edges that close no cycle are the spanning tree, whose arcs are the rows; all others are the columns.
 """
 
 from __future__ import annotations

@@ -47,6 +47,24 @@ def arguments() -> argparse.Namespace:
         choices=("mps", "mathprog", "lp"),
         help="the model's format; where it is left out, .mod is mathprog, .lp is lp, .mps is mps, and else the content tells",
     )
+    _add_choices(parser)
+    parser.add_argument(
+        "--reduce",
+        metavar="LIST",
+        help="take away lines that are zero, have one nonzero, or are copies or negatives, and list them in this file",
+    )
+    parser.add_argument(
+        "--parts",
+        metavar="DIR",
+        help="a folder that gets a matrix and names for each connected part of what is left; then MATRIX and NAMES "
+        "are written only where they have no more lines than a matrix may have",
+    )
+    parser.add_argument("--data", metavar="DATA", help="the file with the data of a MathProg model, where it has one")
+    return parser.parse_args()
+
+
+def _add_choices(parser: argparse.ArgumentParser) -> None:
+    """The options that choose rows and scale them."""
     parser.add_argument(
         "--rows",
         metavar="REGEX",
@@ -69,19 +87,6 @@ def arguments() -> argparse.Namespace:
         action="store_true",
         help="divide each row, then each column, by the common factor of its coefficients, and print what was divided",
     )
-    parser.add_argument(
-        "--reduce",
-        metavar="LIST",
-        help="take away lines that are zero, have one nonzero, or are copies or negatives, and list them in this file",
-    )
-    parser.add_argument(
-        "--parts",
-        metavar="DIR",
-        help="a folder that gets a matrix and names for each connected part of what is left; then MATRIX and NAMES "
-        "are written only where they have no more lines than a matrix may have",
-    )
-    parser.add_argument("--data", metavar="DATA", help="the file with the data of a MathProg model, where it has one")
-    return parser.parse_args()
 
 
 def _work(chosen: argparse.Namespace) -> None:

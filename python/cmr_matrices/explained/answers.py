@@ -5,7 +5,6 @@ from __future__ import annotations
 from collections.abc import Iterator, Sequence
 
 from ..printed import line_sets
-from .texts import guess
 from .words import Order
 
 __all__ = ["refused", "undecided"]
@@ -30,7 +29,6 @@ def undecided(order: Order, lines: Sequence[str]) -> Iterator[str]:
 def refused(order: Order, line: str, texts: dict[str, bytes]) -> Iterator[str]:
     """What a refusal of `check`, `parts` or `compose` is about."""
     rule = line.split()[-1]
-    named = {kind: guess(texts.get(file, b"?")) for kind, file in order.inputs.items()}
     if order.tool.name == "compose":
         yield _COMPOSE.get(rule, "docs/FORMATS.md has the causes")
     elif line.startswith("refused: root is "):
@@ -42,11 +40,19 @@ def refused(order: Order, line: str, texts: dict[str, bytes]) -> Iterator[str]:
         yield "the evidence is that of a matrix of another size"
     else:
         yield "the evidence does not fit to the matrix, if both are whole: docs/DEFINITIONS.md has the rules by name"
-    for kind in ("MATRIX", "EVIDENCE", "TREE"):
-        if kind in named and order.tool.name != "compose":
-            size = _size(order, texts.get(order.inputs[kind], b""), kind)
-            if size:
-                yield f"{order.inputs[kind]} is for a matrix of size {size}" if kind != "MATRIX" else f"{order.inputs[kind]} has size {size}"
+    if order.tool.name != "compose":
+        yield from _sizes(order, texts)
+
+
+def _sizes(order: Order, texts: dict[str, bytes]) -> Iterator[str]:
+    """The sizes of the matrix and of that for which the evidence is."""
+    for kind, name in order.inputs.items():
+        words = texts.get(name, b"")[:200].split()
+        if words[:1] in ([b"cmr-tree"], [b"cmr-chain"]):
+            words = words[2:]
+        if len(words) > 1:
+            size = "x".join(word.decode("ascii", "replace") for word in words[:2])
+            yield f"{name} has size {size}" if kind == "MATRIX" else f"{name} is for a matrix of size {size}"
 
 
 _COMPOSE = {
@@ -55,11 +61,3 @@ _COMPOSE = {
     "BadConnector": "the two matrices have not the connecting lines of this sum: docs/DEFINITIONS.md says which they are",
     "BadEntry": "an entry of the sum would be none of -1, 0 and 1",
 }
-
-
-def _size(order: Order, data: bytes, kind: str) -> str:
-    words = data[:200].split()
-    if words[:1] in ([b"cmr-tree"], [b"cmr-chain"]):
-        words = words[2:]
-    front = [word.decode("ascii", "replace") for word in words[:2]]
-    return "x".join(front) if len(front) == 2 else ""
