@@ -28,6 +28,8 @@ DRAWN = 1000
 # Up to so many edges the layers of dot can be followed, and up to so many labels can be read.
 _LAYERED = 40
 _LABELLED = 250
+# Up to so many edges between rows are bent around nodes. With more, or in trees, Graphviz takes long for it, or fails.
+_BENT = 150
 # The words of a name, of which those behind the first are its index.
 _INDEX = re.compile(r"[^][(){},;_ ]+")
 _FONT = {"fontname": "Helvetica"}
@@ -163,7 +165,8 @@ def _defaults(count: int, look: dict[str, str]) -> Iterator[str]:
         sizes = "11", "10", "0.6"
     elif count <= _LABELLED:
         length = {"len": "2.2"}
-        room = {"overlap": "false", "splines": "true", "sep": "+16", "size": "14.5,10.3"}
+        bent = "true" if look is _BOX and count <= _BENT else "line"
+        room = {"overlap": "false", "splines": bent, "sep": "+16", "size": "14.5,10.3"}
         yield statement("graph", {"layout": "neato", "start": "1"} | room)
         sizes = "11", "8", "0.5"
     else:

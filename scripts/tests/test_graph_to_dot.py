@@ -115,6 +115,16 @@ class GraphPictures(ScriptTest):
             self.assertEqual(run.stdout.count('class="edge"'), edges)
 
     @needs_dot
+    def test_trees_with_many_paths_are_drawn(self):
+        """Graphviz ends with a fault where it is to bend the edges of such a graph."""
+        number = random.Random(7)
+        lines = [f"{number.randrange(arc)} {arc} r{arc}\n" for arc in range(1, 101)]
+        lines += [f"{number.randrange(101)} {number.randrange(101)} c{path}\n" for path in range(1, 101)]
+        dot = self.output("graph_to_dot", text="".join(lines))
+        run = subprocess.run(["dot", "-Tsvg"], input=dot, capture_output=True, text=True, timeout=10)
+        self.assertEqual((run.returncode, run.stderr, run.stdout.count('class="edge"')), (0, "", 200))
+
+    @needs_dot
     def test_a_hundred_arcs_fit_on_a_screen_and_a_thousand_are_drawn(self):
         for nodes, arcs, widest, highest in [(30, 100, 1400, 1000), (300, 1000, 3000, 3000)]:
             text, names = flow(nodes, arcs)
