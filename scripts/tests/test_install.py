@@ -11,21 +11,17 @@ import unittest
 from pathlib import Path
 
 from building.clone import BUILT
+from building.installed import SCRIPTS
 from tests.stand_in import SmallClone
 from tests.support import TOP, needs_man, needs_program, needs_python
 
 FILES = [
     "bin/cmr",
-    "bin/cmr-from-model",
-    "bin/cmr-graph-to-dot",
-    "bin/cmr-names",
-    "bin/cmr-tree-to-dot",
-    "lib/cmr/graph_to_dot",
+    *(f"bin/{it}" for it in SCRIPTS),
     "lib/cmr/installed",
-    "lib/cmr/model_to_matrix",
-    "lib/cmr/name_lines",
-    *sorted(f"lib/cmr/shared/{it.name}" for it in (TOP / "scripts" / "shared").glob("*.py")),
-    "lib/cmr/tree_to_dot",
+    *(f"lib/cmr/scripts/{it}" for it in SCRIPTS.values()),
+    *(f"lib/cmr/python/{it.relative_to(TOP / 'python')}" for it in (TOP / "python" / "cmr_matrices").rglob("*.py")),
+    "lib/cmr/python/cmr_matrices/py.typed",
     "share/bash-completion/completions/cmr",
     "share/man/man1/cmr.1",
     "share/zsh/site-functions/_cmr",
@@ -112,10 +108,10 @@ class InstallTest(unittest.TestCase):
     def test_a_later_version_takes_the_place_of_an_earlier_one(self):
         self.install()
         (self.clone.top / "docs" / "cmr.1").write_text("later", encoding="utf-8")
-        (self.clone.top / "scripts" / "shared" / "dot.py").unlink()
+        (self.clone.top / "python" / "cmr_matrices" / "dot.py").unlink()
         self.install()
         self.assertEqual((self.prefix / "share" / "man" / "man1" / "cmr.1").read_text(encoding="utf-8"), "later")
-        self.assertEqual(self.files(), sorted({*FILES} - {"lib/cmr/shared/dot.py"}))
+        self.assertEqual(self.files(), sorted({*FILES} - {"lib/cmr/python/cmr_matrices/dot.py"}))
         self.install("--uninstall")
         self.is_empty()
 
@@ -193,8 +189,7 @@ class InstallTest(unittest.TestCase):
 
     def test_an_interrupted_build(self):
         build = self.clone.begin("scripts/install", "--prefix", self.prefix, sleep=20)
-        while not self.clone.logged():
-            time.sleep(0.05)
+        self.clone.waits_for("begin", "low")
         build.send_signal(signal.SIGINT)
         said = build.communicate()[1].splitlines()
         self.assertEqual((build.returncode, said[-1]), (1, "install: interrupted: nothing was changed"))
