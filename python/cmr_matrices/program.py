@@ -31,6 +31,8 @@ StrPath = str | os.PathLike[str]
 YES, NO, UNDECIDED, REFUSED = 0, 1, 6, 7
 
 _CLONE = Path(__file__).resolve().parents[2]
+# Where the package is installed below a prefix, as scripts/install does it.
+_BESIDE = _CLONE.parents[1] / "bin" / "cmr"
 _TEXT_FAULT = re.compile(r"cmr: .*: (?:(?P<kind>[A-Za-z]+) at byte (?P<byte>[0-9]+)|TooLong)", re.DOTALL)
 
 
@@ -58,7 +60,7 @@ class Ran:
 
 
 def find_program(program: StrPath | None = None) -> Path:
-    """The program: what is given, or else what `CMR_PROGRAM` names, or is on the `PATH`, or is built in this clone.
+    """The program: what is given, or else what `CMR_PROGRAM` names, is on the `PATH`, is built in this clone, or is installed beside.
 
     Raises `ProgramMissing` with the places that were looked at. A place that is named is the only one.
     """
@@ -72,8 +74,9 @@ def find_program(program: StrPath | None = None) -> Path:
     if found is not None:
         return Path(found).absolute()
     built = _CLONE / "crates" / "cmr" / "out" / "cmr"
-    if os.access(built, os.X_OK):
-        return built
+    for path in (built, _BESIDE):
+        if os.access(path, os.X_OK):
+            return path
     is_clone = (_CLONE / "crates.txt").exists()
     clone = f"the clone, {built}" if is_clone else "the clone, but the package stands in none"
     raise ProgramMissing(["CMR_PROGRAM, which is not set", "PATH", clone])

@@ -1,14 +1,19 @@
-"""What the repository has: its crates, and whether a program is as new as their sources."""
+"""What the repository has: its crates, and whether a program is made of their sources."""
 
 from __future__ import annotations
 
+import hashlib
 import os
+import time
+from collections.abc import Iterator
+from contextlib import suppress
+from dataclasses import dataclass
 from pathlib import Path
 
 TOP = Path(__file__).resolve().parents[2]
-CRATES = TOP / "crates"
 PROGRAM = "cmr"
-BUILT = CRATES / PROGRAM / "out" / PROGRAM
+BUILT = TOP / "crates" / PROGRAM / "out" / PROGRAM
+UNPROVED = TOP / "out" / "unproved" / PROGRAM
 
 
 def crates_below(program: str, top: Path = TOP) -> dict[str, list[str]]:
@@ -28,14 +33,57 @@ def crates_below(program: str, top: Path = TOP) -> dict[str, list[str]]:
     return below
 
 
+def source_files(crate: str, top: Path = TOP) -> Iterator[Path]:
+    """The files from which a crate is compiled. Its definitions and proofs change no program."""
+    yield from sorted((top / "crates" / crate / "src").rglob("*.rt"))
+
+
+def _sum_of(file: Path) -> str:
+    return hashlib.sha256(file.read_bytes()).hexdigest()
+
+
+@dataclass(frozen=True)
+class Sources:
+    """The sources of the program, as they stood at a time."""
+
+    read: float
+    digest: str
+
+    @classmethod
+    def now(cls) -> Sources:
+        read, digest = time.time(), hashlib.sha256()
+        for name, uses in sorted(crates_below(PROGRAM).items()):
+            files = [(str(it.relative_to(TOP)), _sum_of(it)) for it in source_files(name)]
+            digest.update(repr((name, uses, files)).encode())
+        return cls(read, digest.hexdigest())
+
+    def made(self, program: Path) -> None:
+        """Keeps beside a program that it is made of these. It then counts as old as they are, since they may have changed meanwhile."""
+        _beside(program).write_text(f"{self.digest} {_sum_of(program)}\n", encoding="ascii")
+        os.utime(program, (self.read, self.read))
+
+    def have_made(self, program: Path) -> bool:
+        with suppress(FileNotFoundError):
+            return _beside(program).read_text(encoding="ascii").split() == [self.digest, _sum_of(program)]
+        return False
+
+
+def _beside(program: Path) -> Path:
+    return program.with_name(f"{program.name}.sources")
+
+
 def is_fresh(program: Path) -> bool:
-    """Whether the program is there and no source is newer."""
+    """Whether the program is there and is made of the sources as they stand: no source is newer, or their digests are those of the program."""
     if not os.access(program, os.X_OK):
         return False
-    made = program.stat().st_mtime
-    for folder, folders, names in os.walk(CRATES):
-        folders[:] = [it for it in folders if it != "out"]
-        sources = (os.path.join(folder, it) for it in names if it.endswith(".rt"))
-        if any(os.stat(it).st_mtime > made for it in sources):
-            return False
+    files = [TOP / "crates.txt", *(file for crate in crates_below(PROGRAM) for file in source_files(crate))]
+    made = program.stat().st_mtime_ns
+    if all(it.stat().st_mtime_ns <= made for it in files):
+        return True
+    sources = Sources.now()
+    if not sources.have_made(program):
+        return False
+    # So that the next call, which goes by the times, need not come here.
+    with suppress(OSError):
+        os.utime(program, (sources.read, sources.read))
     return True

@@ -11,7 +11,8 @@ from dataclasses import dataclass, field
 from pathlib import Path
 
 from building.clone import BUILT, TOP
-from cmr_matrices.commands.command import BadInput, ignore_signals
+from cmr_matrices.commands.command import ignore_signals
+from cmr_matrices.errors import BadInput
 
 FOLDER = "lib/cmr"
 LIST = f"{FOLDER}/installed"
@@ -19,7 +20,9 @@ LIST = f"{FOLDER}/installed"
 NEW = f"{FOLDER}/.new"
 FIRST_LINE = "cmr-installed 1"
 
+# The commands of the package, by the names that they have where they are installed.
 SCRIPTS = {
+    "cmr-classify": "cmr-classify",
     "cmr-from-model": "model_to_matrix",
     "cmr-names": "name_lines",
     "cmr-graph-to-dot": "graph_to_dot",
@@ -44,14 +47,14 @@ class Item:
 
 
 def items() -> list[Item]:
-    """All that is put."""
-    scripts = TOP / "scripts"
-    shared = sorted((scripts / "shared").glob("*.py"))
+    """All that is put. Scripts and package lie to each other as in the repository, so that the scripts find it."""
+    scripts, python = TOP / "scripts", TOP / "python"
+    package = sorted(it for it in (python / "cmr_matrices").rglob("*") if it.suffix == ".py" or it.name == "py.typed")
     return [
         Item("bin/cmr", BUILT),
-        *(Item(f"bin/{name}", leads_to=f"../{FOLDER}/{script}") for name, script in SCRIPTS.items()),
-        *(Item(f"{FOLDER}/{it}", scripts / it) for it in SCRIPTS.values()),
-        *(Item(f"{FOLDER}/shared/{it.name}", it) for it in shared),
+        *(Item(f"bin/{name}", leads_to=f"../{FOLDER}/scripts/{script}") for name, script in SCRIPTS.items()),
+        *(Item(f"{FOLDER}/scripts/{it}", scripts / it) for it in SCRIPTS.values()),
+        *(Item(f"{FOLDER}/python/{it.relative_to(python)}", it) for it in package),
         Item("share/man/man1/cmr.1", TOP / "docs" / "cmr.1"),
         Item("share/bash-completion/completions/cmr", scripts / "completions" / "cmr.bash"),
         Item("share/zsh/site-functions/_cmr", scripts / "completions" / "_cmr"),
@@ -201,8 +204,10 @@ def take_away(prefix: Path) -> None:
     for path in there:
         (prefix / path).unlink()
     shutil.rmtree(prefix / NEW, ignore_errors=True)
-    # What Python keeps of the scripts that were run.
-    shutil.rmtree(prefix / FOLDER / "shared" / "__pycache__", ignore_errors=True)
+    # What Python keeps of the modules that were run.
+    for made in listed.folders:
+        if made.startswith(f"{FOLDER}/python/"):
+            shutil.rmtree(prefix / made / "__pycache__", ignore_errors=True)
     (prefix / LIST).unlink()
     for folder in sorted(listed.folders, key=lambda it: -len((prefix / it).resolve().parts)):
         with suppress(OSError):

@@ -5,18 +5,23 @@ from __future__ import annotations
 import math
 import os
 import re
+import shutil
 import subprocess
 import time
 from dataclasses import dataclass
 from pathlib import Path
 from typing import BinaryIO
 
-from building.clone import BUILT, PROGRAM, crates_below
+from building.clone import BUILT, PROGRAM, Sources, crates_below, is_fresh
 from building.plan import Plan, Running, read_seconds, time_with
 from building.progress import Progress
 from building.work_folders import Busy, WorkFolders
+from cmr_matrices.commands.command import ignore_signals
 
+NO_KIT = 'the program is not built, and there is no rt on the PATH to build it: README.md says at "Run it" what has it'
+FIRST = "proving and building the program, an hour of processor time the first time (./try-cmr runs it at once, unproved)"
 LAST_LINES = 20
+SECONDS_TO_END = 20.0
 # What a proof with one job may take.
 MEMORY_OF_JOB = 3 * 1024**3
 # A crate that took less was built before.
@@ -40,6 +45,14 @@ class Proof:
 
     def gone(self) -> float:
         return time.monotonic() - self.began
+
+    def end(self) -> None:
+        """Waits until it has ended, as it was told to."""
+        try:
+            self.process.wait(SECONDS_TO_END)
+        except subprocess.TimeoutExpired:
+            self.process.kill()
+            self.process.wait()
 
 
 def processors() -> int:
@@ -70,11 +83,17 @@ class Build:
                 self._show(self._begin_ready())
                 time.sleep(0.1)
                 self._end_finished()
-        finally:
-            for name, proof in self._running.items():
-                proof.process.terminate()
-                proof.process.wait()
-                self._folders.give_back(name)
+        except BaseException:
+            ignore_signals()
+            self._end_all()
+            raise
+
+    def _end_all(self) -> None:
+        for proof in self._running.values():
+            proof.process.terminate()
+        for name, proof in self._running.items():
+            proof.end()
+            self._folders.give_back(name)
 
     def _below(self, name: str) -> set[str]:
         used = self._plan.uses[name]
@@ -113,9 +132,10 @@ class Build:
                 self._end(name, proof, used.ru_utime + used.ru_stime)
 
     def _end(self, name: str, proof: Proof, seconds: float) -> None:
-        self._folders.give_back(name)
         # A program that is built is run too, and its status is then its own.
-        if not (BUILT.exists() if name == PROGRAM else proof.process.returncode == 0):
+        is_built = self._folders.program(name).exists() if name == PROGRAM else proof.process.returncode == 0
+        self._folders.give_back(name, is_built=is_built)
+        if not is_built:
             proof.said.seek(0)
             said = proof.said.read().decode(errors="replace").splitlines()
             raise NotBuilt("\n".join([f"{name} was not built", *said[-LAST_LINES:]]))
@@ -145,11 +165,22 @@ class Build:
         self._waits = waits
 
 
-def build(progress: Progress) -> None:
-    """Builds the program. Raises `NotBuilt`, or `OSError` where the system refuses something."""
-    folders = WorkFolders()
+def build(progress: Progress, *, anew: bool = True) -> None:
+    """Builds the program; where not `anew`, only if it is not made of the sources as they stand.
+
+    Raises `NotBuilt`, or `OSError` where the system refuses something.
+    """
+    if not anew and is_fresh(BUILT):
+        return
+    if shutil.which("rt") is None:
+        raise NotBuilt(NO_KIT)
+    if not anew:
+        progress.say(FIRST)
+    folders = WorkFolders(progress.say)
     plan = Plan(crates_below(PROGRAM), read_seconds())
-    progress.show("waiting for another build of this clone")
     with folders.opened():
-        BUILT.unlink(missing_ok=True)
-        Build(plan, folders, progress).build_all()
+        # Another build may have made it meanwhile.
+        if anew or not is_fresh(BUILT):
+            sources = Sources.now()
+            Build(plan, folders, progress).build_all()
+            sources.made(BUILT)

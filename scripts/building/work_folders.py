@@ -2,6 +2,7 @@
 
 `rt` has a crate and all below it to itself while it works, so in one clone it builds one crate at a time. Here each crate is built
 in a folder of its own, which has the crate and its `out` alone, and links to all that is below. When it is built, its `out` goes back.
+The program stays where it is until the next one stands.
 """
 
 from __future__ import annotations
@@ -9,11 +10,11 @@ from __future__ import annotations
 import fcntl
 import os
 import shutil
-from collections.abc import Iterable, Iterator
+from collections.abc import Callable, Iterable, Iterator
 from contextlib import contextmanager, suppress
 from pathlib import Path
 
-from building.clone import TOP
+from building.clone import PROGRAM, TOP
 
 
 class Busy(Exception):
@@ -28,11 +29,11 @@ def _linked(source: str, target: str) -> None:
         shutil.copy2(source, target)
 
 
-def _held(folder: Path, waits: bool) -> int:
+def _held(folder: Path) -> int:
     """The folder, opened and locked as `rt` locks it."""
     opened = os.open(folder, os.O_RDONLY)
     try:
-        fcntl.flock(opened, fcntl.LOCK_EX | (0 if waits else fcntl.LOCK_NB))
+        fcntl.flock(opened, fcntl.LOCK_EX | fcntl.LOCK_NB)
     except BlockingIOError as fault:
         os.close(opened)
         raise Busy(str(folder)) from fault
@@ -42,22 +43,48 @@ def _held(folder: Path, waits: bool) -> int:
     return opened
 
 
+def _move(source: Path, target: Path) -> None:
+    """Moves what is in a folder to another one, but for a program, and for what is there too."""
+    with suppress(FileNotFoundError):
+        found = [it for it in source.iterdir() if it.name != PROGRAM]
+        target.mkdir(exist_ok=True)
+        for it in found:
+            if not (target / it.name).exists():
+                it.rename(target / it.name)
+
+
 @contextmanager
-def locked(folders: Iterable[Path], waits: bool) -> Iterator[None]:
+def locked(folders: Iterable[Path]) -> Iterator[None]:
     """No other `rt` works in the folders meanwhile."""
     held: list[int] = []
     try:
-        held.extend(_held(it, waits) for it in sorted(folders))
+        held.extend(_held(it) for it in sorted(folders))
         yield
     finally:
         for it in held:
             os.close(it)
 
 
-class WorkFolders:
-    """The folders of one build. They are made and emptied under a lock, so one build of a clone waits for another."""
+@contextmanager
+def locked_at_last(folder: Path, tell: Callable[[], object]) -> Iterator[None]:
+    """The folder is locked meanwhile, once no other has it. Where that is to be waited for, it is told."""
+    try:
+        held = _held(folder)
+    except Busy:
+        tell()
+        held = os.open(folder, os.O_RDONLY)
+        fcntl.flock(held, fcntl.LOCK_EX)
+    try:
+        yield
+    finally:
+        os.close(held)
 
-    def __init__(self, top: Path = TOP) -> None:
+
+class WorkFolders:
+    """The folders of one build. They are made and emptied under a lock, so one build of a clone waits for another, and says so."""
+
+    def __init__(self, say: Callable[[str], object], top: Path = TOP) -> None:
+        self._say = say
         self._top = top
         git = top / ".git"
         # `rt ci` wants no other crate among the files of a repository.
@@ -67,7 +94,7 @@ class WorkFolders:
     @contextmanager
     def opened(self) -> Iterator[None]:
         self._at.mkdir(parents=True, exist_ok=True)
-        with locked([self._at], waits=True):
+        with locked_at_last(self._at, lambda: self._say("waiting for another build of this clone")):
             for it in list(self._at.iterdir()):
                 self._take_back(it.name)
             yield
@@ -82,9 +109,9 @@ class WorkFolders:
     def fill(self, name: str, below: Iterable[str]) -> None:
         """Makes a crate's folder, of which all crates below are built. Where another `rt` works in one of them it is `Busy`."""
         below = list(below)
-        held = _held(self._crate(name), waits=False)
+        held = _held(self._crate(name))
         try:
-            with locked(map(self._crate, below), waits=False):
+            with locked(map(self._crate, below)):
                 self._write_list(name, below)
                 for it in (name, *below):
                     shutil.copytree(
@@ -97,8 +124,7 @@ class WorkFolders:
                     built = self.crate(name).with_name(it) / "out" / "rlib"
                     with suppress(FileNotFoundError):
                         shutil.copytree(self._crate(it) / "out" / "rlib", built, copy_function=_linked)
-            with suppress(FileNotFoundError):
-                (self._crate(name) / "out").rename(self.crate(name) / "out")
+            _move(self._crate(name) / "out", self.crate(name) / "out")
         except BaseException:
             self._take_back(name)
             os.close(held)
@@ -112,8 +138,16 @@ class WorkFolders:
         kept = [it for it in lines if it.partition(":")[0].split()[:1] in [[name], *([it] for it in below)]]
         (self._at / name / "crates.txt").write_text("".join(kept), encoding="utf-8")
 
-    def give_back(self, name: str) -> None:
-        """Gives the crate what its build made, and removes its folder."""
+    def program(self, name: str) -> Path:
+        """Where the build of a program puts it."""
+        return self.crate(name) / "out" / name
+
+    def give_back(self, name: str, *, is_built: bool = False) -> None:
+        """Gives the crate what its build made, with the program where it is built, and removes its folder."""
+        if is_built and name == PROGRAM:
+            out = self._crate(name) / "out"
+            out.mkdir(exist_ok=True)
+            self.program(name).replace(out / name)
         self._take_back(name)
         with suppress(KeyError):
             os.close(self._held.pop(name))
@@ -121,8 +155,7 @@ class WorkFolders:
     def _take_back(self, name: str) -> None:
         made, of = self.crate(name), self._crate(name)
         if made.is_dir():
-            # An `rt` that an earlier build began may still be at work there.
-            with locked([made], waits=True):
-                if (made / "out").is_dir() and of.is_dir() and not (of / "out").exists():
-                    (made / "out").rename(of / "out")
+            with locked_at_last(made, lambda: self._say(f"waiting for the rt on {name} of an earlier build")):
+                if of.is_dir():
+                    _move(made / "out", of / "out")
         shutil.rmtree(self._at / name, ignore_errors=True)

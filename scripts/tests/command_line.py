@@ -25,12 +25,24 @@ OPTIONS = {tool: _options(words) for tools, words in _rows() for tool in tools}
 KINDS = re.findall(r"`(\w+)`", re.search(r"KIND is (.*?),", SECTION)[1])
 SUMS = re.findall(r"`(\w+)`", re.search(r"SUM is (.*?)\.", SECTION, re.S)[1])
 
-# The ranges of the numbers, in the words of the text.
-RANGES = {
-    "--lines": ("0 to 24", "14 where it is left out"),
-    "-w": ("1 to 64", "1 where it is left out"),
-    "SIZE": ("1 to 1000", "at most 249"),
-    "NUMBER": ("0 to 2147483647",),
+
+def _range(option):
+    """The least and the greatest number behind an option, and the one where it is left out."""
+    found = re.search(rf"`{option}` is [^.]*?(\d+)\s+to\s+(\d+), and (\d+) where it is left out", SECTION)
+    assert found, f"docs/FORMATS.md has no range of {option} in the words: is .., 0 to 9, and 1 where it is left out"
+    return tuple(map(int, found.groups()))
+
+
+# For each option with a number, which has a single letter in the table: the least, the greatest, and the one where it is left out.
+NUMBERS = {
+    option: _range(option)
+    for options in OPTIONS.values()
+    for option, value in options.items()
+    if re.fullmatch("[A-Z]", value)
 }
+
+# The ranges of the numbers, in the words of the text.
+RANGES = {option: (f"{least} to {most}", f"{usual} where it is left out") for option, (least, most, usual) in NUMBERS.items()}
+RANGES |= {"SIZE": ("1 to 1000", "at most 249"), "NUMBER": ("0 to 2147483647",)}
 
 STATUSES = sorted({int(it) for it in re.findall(r"\| (\d) \|$|^\| (\d) \|", FORMATS, re.M) for it in it if it})

@@ -3,14 +3,18 @@
 import fcntl
 import os
 import pty
+import shutil
 import signal
+import subprocess
 import tempfile
 import time
 import unittest
+from pathlib import Path
 
-from building.clone import PROGRAM, crates_below
+from building.clone import PROGRAM, crates_below, source_files
 from building.plan import Plan, Running, read_seconds, time_with
 from tests.stand_in import SmallClone
+from tests.support import TOP
 
 CRATES = {
     "base": ([], 1),
@@ -60,14 +64,6 @@ class BuildTest(unittest.TestCase):
     def built(self):
         return sorted(it for it in CRATES if (self.clone.crate(it) / "out" / "rlib" / "stamp").exists())
 
-    def waits_for(self, event, name):
-        """Waits until the stand-in has begun or ended a crate."""
-        for _ in range(200):
-            if [event, name] in [line[:2] for line in self.clone.logged()]:
-                return
-            time.sleep(0.05)
-        self.fail(f"no {event} {name}")
-
     def is_clean(self):
         self.assertEqual(list(self.work.iterdir()), [])
 
@@ -114,7 +110,7 @@ class BuildTest(unittest.TestCase):
             with self.subTest(signal=number):
                 self.clone.log.unlink(missing_ok=True)
                 build = self.clone.begin("scripts/build", sleep=0.5)
-                self.waits_for("begin", "left")
+                self.clone.waits_for("begin", "left")
                 build.send_signal(number)
                 said = build.communicate()[1].splitlines()
                 self.assertEqual(build.returncode, 70)
@@ -125,7 +121,7 @@ class BuildTest(unittest.TestCase):
 
     def test_a_killed_build_keeps_what_it_has(self):
         build = self.clone.begin("scripts/build", sleep=0.3)
-        self.waits_for("begin", "left")
+        self.clone.waits_for("begin", "left")
         (self.clone.crate("left") / "out").mkdir()
         build.kill()
         build.communicate()
@@ -154,9 +150,11 @@ class BuildTest(unittest.TestCase):
         self.assertEqual(set(order[-10:]), set(CRATES))
 
     def test_without_rt(self):
-        run = self.clone.run("scripts/build", has_rt=False)
-        self.assertEqual((run.returncode, run.stderr), (70, "build: there is no rt on the PATH: the kit of Rattle has it\n"))
-        self.is_clean()
+        line = 'the program is not built, and there is no rt on the PATH to build it: README.md says at "Run it" what has it\n'
+        for script, name in (("scripts/build", "build"), ("cmr", "cmr")):
+            run = self.clone.run(script, has_rt=False)
+            self.assertEqual((run.returncode, run.stdout, run.stderr), (70, "", f"{name}: {line}"))
+        self.assertIn("## Run it", (TOP / "README.md").read_text(encoding="utf-8"))
 
     @unittest.skipIf(os.geteuid() == 0, "root may write everywhere")
     def test_without_the_right_to_write(self):
@@ -182,16 +180,161 @@ class BuildTest(unittest.TestCase):
             pass
         os.close(seen)
         drawn = text.decode().split("\r\x1b[K")
-        self.assertIn("build: 1 of 5 crates, 0 min gone, about 3 min left: right, left", drawn)
+        self.assertRegex("\n".join(drawn), r"(?m)^build: 1 of 5 crates, 0 min gone, about \d min left: right, left$")
         self.assertEqual((build.returncode, drawn[-1], "\n" in text.decode()), (0, "", False))
 
-    def test_the_program_is_run_once_it_is_built(self):
-        run = self.clone.run("cmr", "words")
-        self.assertEqual((run.returncode, run.stdout), (2, "proved\n"), run.stderr)
-        self.assertRegex(run.stderr.splitlines()[0], r"^cmr: proving and building the program")
-        again = self.clone.run("cmr", "words")
-        self.assertEqual((again.returncode, again.stdout, again.stderr), (2, "proved\n", ""))
-        (self.clone.crate("left") / "fails").touch()
-        later = time.time() + 10
-        os.utime(self.clone.crate("left") / "src" / "lib.rt", (later, later))
-        self.assertEqual(self.clone.run("cmr", "words").returncode, 70)
+
+
+class CmrTest(unittest.TestCase):
+    """Tests of `cmr`, which builds the program where it is not made of the sources."""
+
+    FIRST = "cmr: proving and building the program, an hour of processor time the first time (./try-cmr runs it at once, unproved)"
+    PROVED = (2, "proved\n", "")
+
+    def setUp(self):
+        folder = tempfile.TemporaryDirectory()
+        self.addCleanup(folder.cleanup)
+        self.folder = Path(folder.name)
+        self.clone = SmallClone(folder.name, CRATES)
+        self.built = self.clone.crate("cmr") / "out" / "cmr"
+        self.source = self.clone.crate("left") / "src" / "lib.rt"
+
+    def build(self):
+        self.assertEqual(self.clone.run("cmr").returncode, 2)
+        self.clone.log.unlink()
+
+    def touch(self, seconds=10):
+        later = time.time() + seconds
+        os.utime(self.source, (later, later))
+
+    def run_at(self, command, *words, has_rt=False):
+        run = self.clone.run(command, *words, has_rt=has_rt)
+        return run.returncode, run.stdout, run.stderr
+
+    def test_the_program_is_built_once(self):
+        first = self.clone.run("cmr", "words")
+        self.assertEqual((first.returncode, first.stdout), (2, "proved\n"), first.stderr)
+        self.assertEqual(first.stderr.splitlines()[0], self.FIRST)
+        self.assertEqual(self.run_at("cmr", "words"), self.PROVED)
+
+    def test_a_source_that_is_touched_builds_nothing(self):
+        self.build()
+        self.touch(-1)
+        self.assertEqual(self.run_at("cmr"), self.PROVED)
+        self.assertGreater(self.built.stat().st_mtime, self.source.stat().st_mtime)
+
+    def test_a_copy_of_a_clone_builds_nothing(self):
+        self.build()
+        copied = self.folder / "a copy"
+        shutil.copytree(self.clone.top, copied, copy_function=shutil.copy)
+        self.touch(-5)
+        os.utime(copied / "crates" / "cmr" / "out" / "cmr", (1, 1))
+        self.assertEqual(self.run_at(copied / "cmr"), self.PROVED)
+
+    def test_a_copy_that_may_not_be_written_builds_nothing(self):
+        self.build()
+        self.touch()
+        self.built.parent.chmod(0o500)
+        self.assertEqual(self.run_at("cmr"), self.PROVED)
+        self.built.parent.chmod(0o700)
+
+    def test_a_changed_source_is_built(self):
+        self.build()
+        self.source.write_text("//! other", encoding="utf-8")
+        self.assertIn("5 of 5 crates", self.run_at("cmr", has_rt=True)[2])
+        self.assertEqual(self.run_at("cmr"), self.PROVED)
+
+    def test_a_crate_that_uses_another_one_is_built(self):
+        self.build()
+        file = self.clone.top / "crates.txt"
+        file.write_text(file.read_text(encoding="utf-8").replace("right: base", "right: left base"), encoding="utf-8")
+        self.assertIn("5 of 5 crates", self.run_at("cmr", has_rt=True)[2])
+
+    def test_a_program_of_other_sources_is_built(self):
+        """It was made by `rt` itself, and then the sources came back to those of the build before."""
+        self.build()
+        self.built.write_text("#!/bin/sh\necho other\n", encoding="utf-8")
+        self.touch()
+        self.assertEqual(self.run_at("cmr", has_rt=True)[:2], (2, "proved\n"))
+
+    def test_a_source_that_changes_meanwhile_is_built(self):
+        build = self.clone.begin("cmr", sleep=0.3)
+        self.clone.waits_for("begin", "high")
+        self.source.write_text("//! other", encoding="utf-8")
+        build.communicate()
+        self.assertEqual(self.run_at("cmr")[0], 70)
+
+    def test_the_program_stays_where_the_next_one_does_not_pass(self):
+        self.build()
+        self.source.write_text("//! other", encoding="utf-8")
+        fails = self.clone.crate("cmr") / "fails"
+        fails.touch()
+        status, said, line = self.run_at("cmr", has_rt=True)
+        self.assertEqual((status, said, line.splitlines()[-1]), (70, "", "error: cmr is not proved"))
+        self.assertTrue(os.access(self.built, os.X_OK))
+        fails.unlink()
+        self.source.write_text("//! left\n", encoding="utf-8")
+        self.assertEqual(self.run_at("cmr"), self.PROVED)
+
+    def test_the_program_stays_while_the_next_one_is_built(self):
+        self.build()
+        build = self.clone.begin("scripts/build", sleep=0.1)
+        while build.poll() is None:
+            self.assertTrue(os.access(self.built, os.X_OK))
+            time.sleep(0.002)
+        build.communicate()
+        self.assertEqual(build.returncode, 0)
+
+    def test_killed_at_many_moments(self):
+        self.build()
+        self.source.write_text("//! other", encoding="utf-8")
+        for number in range(12):
+            with self.subTest(number=number):
+                build = self.clone.begin("scripts/build", sleep=0.02, start_new_session=True)
+                time.sleep(0.1 + 0.1 * number)
+                os.killpg(build.pid, signal.SIGKILL)
+                build.communicate()
+                self.assertTrue(os.access(self.built, os.X_OK))
+        self.assertEqual(self.clone.run("scripts/build").returncode, 0)
+        self.assertEqual(self.run_at("cmr"), self.PROVED)
+
+    def test_a_signal_ends_the_build(self):
+        for number in (signal.SIGINT, signal.SIGTERM):
+            with self.subTest(signal=number):
+                self.clone.log.unlink(missing_ok=True)
+                run = self.clone.begin("cmr", "tu", sleep=60)
+                self.clone.waits_for("begin", "base")
+                run.send_signal(number)
+                said = run.communicate()[1].splitlines()
+                line = "cmr: interrupted: what is proved is kept, and the next build goes on from there"
+                self.assertEqual((run.returncode, said[-1]), (70, line))
+
+    def test_words_and_signals_reach_the_program(self):
+        """Also where it is built first: the words as they are, and a closed pipe as it is to the program itself."""
+        words = ["tu", "--lines", "3", "--", "--help", "a b", "", "-h"]
+        first = self.clone.run("cmr", *words).stdout
+        self.assertTrue(first.startswith("proved\n(tu)(--lines)(3)(--)(--help)(a b)()(-h)SigIgn:"), first)
+        self.assertEqual(first, self.clone.run("cmr", *words).stdout)
+
+    def test_links_to_it(self):
+        self.build()
+        links = [self.folder / "one", self.folder / "two", self.folder / "three"]
+        links[0].symlink_to(self.clone.top / "cmr")
+        links[1].symlink_to("one")
+        links[2].symlink_to(self.clone.top)
+        for it in (links[0], links[1], links[2] / "cmr"):
+            self.assertEqual(self.run_at(it), self.PROVED)
+        for words in (["sh", "cmr"], ["./cmr"]):
+            run = subprocess.run(words, cwd=self.clone.top, capture_output=True, text=True, check=False)
+            self.assertEqual((run.returncode, run.stdout, run.stderr), self.PROVED)
+        (self.folder / "cmr").symlink_to("two")
+        run = subprocess.run(["cmr"], env={"PATH": f"{self.folder}:/usr/bin:/bin"}, capture_output=True, text=True, check=False)
+        self.assertEqual((run.returncode, run.stdout, run.stderr), self.PROVED)
+
+
+class SourcesTest(unittest.TestCase):
+    def test_the_shell_sees_all_sources(self):
+        """`fresh.sh` looks at the files of a crate's src and of the folders in it."""
+        for crate in crates_below(PROGRAM):
+            for it in source_files(crate):
+                self.assertIn(len(it.relative_to(TOP / "crates" / crate).parts), (2, 3), it)

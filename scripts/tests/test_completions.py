@@ -3,7 +3,7 @@
 import re
 import subprocess
 
-from tests.command_line import KINDS, OPTIONS, SUMS
+from tests.command_line import KINDS, NUMBERS, OPTIONS, SUMS
 from tests.support import TOP, ScriptTest, needs_zsh
 from tests.terminal import Terminal
 
@@ -49,10 +49,9 @@ class BashTest(ScriptTest):
                     offered = self.offered(tool, option, "")
                     if value in ("", "FILE"):
                         self.assertEqual(offered, [])
-                    elif option == "--lines":
-                        self.assertEqual(offered, [str(it) for it in range(25)])
-                    elif option == "-w":
-                        self.assertEqual(offered, [str(it) for it in range(1, 65)])
+                    elif option in NUMBERS:
+                        least, most, _ = NUMBERS[option]
+                        self.assertEqual(offered, [str(it) for it in range(least, most + 1)])
                     else:
                         self.assertEqual(offered, value.split("|"))
 
@@ -82,12 +81,13 @@ class ZshTest(ScriptTest):
         self.assertEqual([it.partition(":")[0] for it in self.handed("")], list(OPTIONS))
 
     def test_options_of_each_tool(self):
-        values = {"FILE": "_files", "L": "({0..24})", "N": "({1..64})", "dense|sparse": "(dense sparse)", "": ""}
+        values = {"FILE": "_files", "dense|sparse": "(dense sparse)", "": ""}
+        numbers = {option: f"({{{least}..{most}}})" for option, (least, most, _) in NUMBERS.items()}
         for tool, options in OPTIONS.items():
             with self.subTest(tool=tool):
                 found = [OF_ZSH.match(it) for it in self.handed(tool, "")]
                 found = {it[1]: it[2] or "" for it in found if it}
-                self.assertEqual(found, {option: values[value] for option, value in options.items()})
+                self.assertEqual(found, {it: numbers.get(it) or values[value] for it, value in options.items()})
 
     def test_kinds_and_sums(self):
         self.assertIn(f":kind:({' '.join(KINDS)})", self.handed("generate", ""))

@@ -11,21 +11,17 @@ import unittest
 from pathlib import Path
 
 from building.clone import BUILT
+from building.installed import SCRIPTS
 from tests.stand_in import SmallClone
 from tests.support import TOP, needs_man, needs_program, needs_python
 
 FILES = [
     "bin/cmr",
-    "bin/cmr-from-model",
-    "bin/cmr-graph-to-dot",
-    "bin/cmr-names",
-    "bin/cmr-tree-to-dot",
-    "lib/cmr/graph_to_dot",
+    *(f"bin/{it}" for it in SCRIPTS),
     "lib/cmr/installed",
-    "lib/cmr/model_to_matrix",
-    "lib/cmr/name_lines",
-    *sorted(f"lib/cmr/shared/{it.name}" for it in (TOP / "scripts" / "shared").glob("*.py")),
-    "lib/cmr/tree_to_dot",
+    *(f"lib/cmr/scripts/{it}" for it in SCRIPTS.values()),
+    *(f"lib/cmr/python/{it.relative_to(TOP / 'python')}" for it in (TOP / "python" / "cmr_matrices").rglob("*.py")),
+    "lib/cmr/python/cmr_matrices/py.typed",
     "share/bash-completion/completions/cmr",
     "share/man/man1/cmr.1",
     "share/zsh/site-functions/_cmr",
@@ -92,15 +88,37 @@ class InstallTest(unittest.TestCase):
     @needs_python
     def test_the_scripts_run_by_their_names(self):
         self.install()
-        for name in ("cmr-from-model", "cmr-names", "cmr-graph-to-dot", "cmr-tree-to-dot"):
-            run = subprocess.run([self.prefix / "bin" / name, "--help"], capture_output=True, text=True, check=False)
-            self.assertEqual((run.returncode, run.stderr), (0, ""))
-            self.assertIn(f"usage: {name} ", run.stdout)
-        words = [self.prefix / "bin" / "cmr-names", "nothing"]
-        run = subprocess.run(words, capture_output=True, text=True, check=False)
+        for name in SCRIPTS:
+            with self.subTest(name=name):
+                run = self.run_installed(name, "--help")
+                self.assertEqual((run.returncode, run.stderr), (0, ""))
+                self.assertIn(f"usage: {name} ", run.stdout)
+        run = self.run_installed("cmr-names", "nothing")
         self.assertEqual((run.returncode, run.stderr), (1, "cmr-names: cannot read nothing: No such file or directory\n"))
+        self.assertTrue(list(self.prefix.rglob("__pycache__")))
         self.install("--uninstall")
         self.is_empty()
+
+    def run_installed(self, name, *words, **settings):
+        """A run of an installed script in an environment that knows nothing of the clone, nor of the prefix."""
+        command = [self.prefix / "bin" / name, *words]
+        return subprocess.run(command, env={"PATH": "/usr/bin:/bin"}, capture_output=True, text=True, check=False, **settings)
+
+    @needs_python
+    def test_the_scripts_find_the_program(self):
+        self.install()
+        (self.prefix / "matrices").mkdir()
+        (self.prefix / "matrices" / "one.txt").write_text("1 1\n1\n", encoding="utf-8")
+        run = self.run_installed("cmr-classify", "matrices", cwd=self.prefix)
+        # The stand-in refuses all words.
+        self.assertIn("BadCommandLine", run.stdout)
+
+    def test_each_command_of_the_package_is_installed(self):
+        modules = {it.stem for it in (TOP / "python" / "cmr_matrices" / "commands").glob("*.py")} - {"__init__", "command"}
+        self.assertEqual({it.replace("-", "_") for it in SCRIPTS.values()}, modules)
+        for file in ("INSTALLING.md", "cmr.1"):
+            text = (TOP / "docs" / file).read_text(encoding="utf-8").replace("\\-", "-")
+            self.assertEqual([it for it in SCRIPTS if it not in text], [], file)
 
     @needs_man
     def test_man_finds_the_page(self):
@@ -110,12 +128,15 @@ class InstallTest(unittest.TestCase):
         self.assertEqual(run.stdout, f"{self.prefix}/share/man/man1/cmr.1\n")
 
     def test_a_later_version_takes_the_place_of_an_earlier_one(self):
+        earlier = self.clone.top / "python" / "cmr_matrices" / "earlier.py"
+        earlier.touch()
         self.install()
+        self.assertEqual(self.files(), sorted([*FILES, "lib/cmr/python/cmr_matrices/earlier.py"]))
         (self.clone.top / "docs" / "cmr.1").write_text("later", encoding="utf-8")
-        (self.clone.top / "scripts" / "shared" / "dot.py").unlink()
+        earlier.unlink()
         self.install()
         self.assertEqual((self.prefix / "share" / "man" / "man1" / "cmr.1").read_text(encoding="utf-8"), "later")
-        self.assertEqual(self.files(), sorted({*FILES} - {"lib/cmr/shared/dot.py"}))
+        self.assertEqual(self.files(), sorted(FILES))
         self.install("--uninstall")
         self.is_empty()
 
@@ -193,8 +214,7 @@ class InstallTest(unittest.TestCase):
 
     def test_an_interrupted_build(self):
         build = self.clone.begin("scripts/install", "--prefix", self.prefix, sleep=20)
-        while not self.clone.logged():
-            time.sleep(0.05)
+        self.clone.waits_for("begin", "low")
         build.send_signal(signal.SIGINT)
         said = build.communicate()[1].splitlines()
         self.assertEqual((build.returncode, said[-1]), (1, "install: interrupted: nothing was changed"))

@@ -4,7 +4,7 @@ import re
 import subprocess
 
 from building.clone import BUILT
-from tests.command_line import KINDS, OPTIONS, RANGES, SECTION, STATUSES, SUMS
+from tests.command_line import KINDS, NUMBERS, OPTIONS, RANGES, SECTION, STATUSES, SUMS
 from tests.support import TOP, ScriptTest, needs_man, needs_mandoc, needs_program
 
 FILE = TOP / "docs" / "cmr.1"
@@ -43,7 +43,7 @@ class ManualTest(ScriptTest):
 
     def test_ranges(self):
         tools, options = items("DESCRIPTION", "Cm"), items("DESCRIPTION", "Fl")
-        texts = {"--lines": options["-lines Ar L"], "-w": options["w Ar N"]}
+        texts = {option: options[f"{option[1:]} Ar {OPTIONS['tu'][option]}"] for option in NUMBERS}
         texts.update(dict.fromkeys(("SIZE", "NUMBER"), tools["generate"]))
         for name, ranges in RANGES.items():
             for it in ranges:

@@ -1,6 +1,8 @@
 """Tests of `try-cmr` over a stand-in for `rt`."""
 
+import fcntl
 import os
+import signal
 import tempfile
 import time
 import unittest
@@ -30,32 +32,83 @@ class TryTest(unittest.TestCase):
         later = self.run_here()
         self.assertEqual((later.returncode, later.stdout, later.stderr), (6, "\n", NOTE))
         self.assertEqual(os.listdir(self.here), ["made"])
-        self.assertEqual(os.listdir(self.kept.parent), ["cmr"])
+        self.holds_the_program_alone()
 
-    def test_newer_sources_are_compiled_again(self):
+    def holds_the_program_alone(self):
+        self.assertEqual(sorted(os.listdir(self.kept.parent)), ["cmr", "cmr.sources"])
+
+    def test_changed_sources_are_compiled_again(self):
+        self.run_here()
+        (self.clone.crate("cmr") / "src" / "lib.rt").write_text("//! other", encoding="utf-8")
+        self.assertEqual(self.run_here().stderr, NOTE + COMPILING)
+        self.assertEqual(self.run_here().stderr, NOTE)
+
+    def test_sources_that_are_touched_are_not(self):
         self.run_here()
         later = time.time() + 10
         os.utime(self.clone.crate("cmr") / "src" / "lib.rt", (later, later))
-        self.assertEqual(self.run_here().stderr, NOTE + COMPILING)
+        self.assertEqual(self.run_here(has_rt=False).stderr, NOTE)
 
     def test_sources_that_change_meanwhile_are_newer(self):
         self.run_here()
         self.assertLess(self.kept.stat().st_mtime, self.kept.stat().st_ctime)
 
     def test_sources_that_do_not_compile(self):
+        self.run_here()
         (self.clone.crate("cmr") / "fails").touch()
+        (self.clone.crate("cmr") / "src" / "lib.rt").write_text("//! other", encoding="utf-8")
         run = self.run_here()
         self.assertEqual((run.returncode, run.stdout), (70, ""))
         self.assertEqual(run.stderr, f"{NOTE}{COMPILING}try-cmr: the program was not compiled\nerror: src/main.rt: no\n")
-        self.assertFalse(self.kept.exists())
+        self.holds_the_program_alone()
 
     def test_without_rt(self):
         run = self.run_here(has_rt=False)
         self.assertEqual((run.returncode, run.stdout), (70, ""))
-        self.assertEqual(run.stderr, f"{NOTE}{COMPILING}try-cmr: there is no rt on the PATH: the kit of Rattle has it\n")
+        line = 'there is no rt on the PATH to compile the program: README.md says at "Run it" what has it'
+        self.assertEqual(run.stderr, f"{NOTE}try-cmr: {line}\n")
+        self.assertFalse(self.kept.parent.exists())
 
-    def test_without_a_folder_for_temporary_files(self):
+    def test_where_it_cannot_be_kept(self):
         (self.clone.top / "out").touch()
         run = self.run_here()
-        self.assertEqual(run.returncode, 70)
-        self.assertEqual(run.stderr, f"{NOTE}{COMPILING}try-cmr: {self.kept.parent}: Not a directory\n")
+        self.assertEqual((run.returncode, run.stderr), (70, f"{NOTE}try-cmr: {self.kept.parent}: Not a directory\n"))
+
+    def test_by_a_link(self):
+        self.run_here()
+        (self.here / "link").symlink_to(self.clone.top / "try-cmr")
+        self.assertEqual(self.clone.run(self.here / "link", "words", "more", "most", has_rt=False).stdout, "words more most\n")
+
+    def test_interrupted(self):
+        for number in (signal.SIGINT, signal.SIGTERM, signal.SIGHUP):
+            with self.subTest(signal=number):
+                run = self.begin_slowly()
+                run.send_signal(number)
+                said = run.communicate()[1]
+                self.assertEqual((run.returncode, said), (70, f"{NOTE}{COMPILING}try-cmr: interrupted\n"))
+                self.assertEqual(os.listdir(self.kept.parent), [])
+
+    def test_killed(self):
+        run = self.begin_slowly()
+        os.killpg(run.pid, signal.SIGKILL)
+        run.communicate()
+        self.assertNotEqual(os.listdir(self.kept.parent), [])
+        self.assertEqual(self.run_here().stderr, NOTE + COMPILING)
+        self.holds_the_program_alone()
+
+    def test_another_run_that_compiles_is_waited_for(self):
+        self.kept.parent.mkdir(parents=True)
+        held = os.open(self.kept.parent, os.O_RDONLY)
+        fcntl.flock(held, fcntl.LOCK_EX)
+        run = self.clone.begin("try-cmr", "some", "more", "words", cwd=self.here)
+        lines = [run.stderr.readline() for _ in range(2)]
+        self.assertEqual("".join(lines), f"{NOTE}try-cmr: waiting for another run that compiles it\n")
+        os.close(held)
+        self.assertEqual(run.communicate(), ("some more words\n", COMPILING))
+
+    def begin_slowly(self):
+        """A run that is compiling."""
+        self.clone.log.unlink(missing_ok=True)
+        run = self.clone.begin("try-cmr", sleep=60, cwd=self.here, start_new_session=True)
+        self.clone.waits_for("try", "cmr")
+        return run

@@ -59,8 +59,6 @@ def words_of(fault: OSError) -> str:
     if isinstance(fault, shutil.Error) and isinstance(fault.args[0], list):
         _, path, why = fault.args[0][0]
         return f"{path}: {why}"
-    if fault.filename == "rt":
-        return "there is no rt on the PATH: the kit of Rattle has it"
     path = fault.filename2 or fault.filename
     return f"{path}: {fault.strerror}" if path else str(fault.strerror or fault)
 
