@@ -1,3 +1,5 @@
 pub mod ChosenLines
+pub mod PartLaws
 pub mod Pivoted
 pub mod PivotedParts
+pub mod PivotedRows
