@@ -1,6 +1,7 @@
 pub mod ChosenLines
 pub mod RemainderTests
 pub mod LinesBefore
+pub mod DrawnPlaces
 pub mod MultipliedRows
 pub mod MadePivots
 pub mod PivotEntries
