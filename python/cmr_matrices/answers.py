@@ -50,6 +50,8 @@ class Answer:
     """Of a no on regularity: the steps which show that no signs do."""
     signing: Signing | None = field(default=None, repr=False)
     """Of a yes of `sign`: the signs of the rows."""
+    tries: int = field(default=0, repr=False)
+    """In how many other orders of the lines the question was asked again."""
 
     @property
     def is_undecided(self) -> bool:
@@ -58,7 +60,10 @@ class Answer:
 
     def __bool__(self) -> bool:
         if self.is_undecided:
-            raise Undecided(f"{self.property_name}: undecided, the open part is larger than the budget (`lines`)")
+            raise Undecided(
+                f"{self.property_name}: undecided, the open part is larger than the budget; "
+                "`tries=20` asks again in other orders of the lines, and `lines` up to 24 is a larger budget"
+            )
         return self.verdict == "yes"
 
     def __str__(self) -> str:

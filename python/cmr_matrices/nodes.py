@@ -2,7 +2,7 @@
 
 from __future__ import annotations
 
-from collections.abc import Iterator
+from collections.abc import Callable, Iterator
 from dataclasses import dataclass, field
 from typing import Literal, get_args
 
@@ -96,3 +96,10 @@ class Node:
             depth, node = pending.pop()
             yield depth, node
             pending.extend((depth + 1, child) for child in reversed(node.children))
+
+    def rebuilt(self, change: Callable[[Node, tuple[Node, ...]], Node]) -> Node:
+        """The tree below this node made anew from the leaves up: each node of what it was and of its new children."""
+        done: list[Node] = []
+        for _, node in reversed(list(self.walk())):
+            done.append(change(node, tuple(done.pop() for _ in node.children)))
+        return done.pop()

@@ -5,7 +5,11 @@ All take whatever `Matrix.of` takes, and these keywords:
 * `certificate`: whether evidence is computed that costs more than the answer;
 * `lines`: the budget of the search through row sets, 0 to 24, and 14 where it is left out;
 * `workers`: how many threads share the searches, 1 to 64; it changes no answer;
-* `time_limit`: seconds after which the program is ended;
+* `pivots`: how many pivots may be made on the way to a part that nothing else decides, 0 to 100, where the program has them;
+* `tries`: where the program leaves the matrix undecided, in how many other orders of the lines it is asked again, 0 to 1000, with
+  orders that `seed` draws. What decides it is evidence on the matrix itself: see `Answer.tries`;
+* `time_limit`: seconds after which the program is ended, and the call, tries and all; an undecided answer is given without the rest
+  of its tries;
 * `program`: the program's path, where it is not to be looked for.
 
 All raise `BadEntry` and `BadInput` for what is no matrix of theirs or out of a range, `ProgramMissing`, `TimeLimitReached`, and
@@ -14,20 +18,15 @@ All raise `BadEntry` and `BadInput` for what is no matrix of theirs or out of a 
 
 from __future__ import annotations
 
-from collections.abc import Mapping, Sequence
+from dataclasses import replace
 
-from .answers import Answer, Verdict
-from .chains import Chain
-from .errors import BadInput, ProgramFault
-from .graphs import Graph
-from .lines import LineSet
+from .answers import Answer
 from .matrix import Matrix
-from .printed import line_sets
-from .program import NO, YES, Ran, StrPath, run
-from .reductions import Reductions
+from .options import budget_words, whole
+from .program import StrPath
+from .reading import Question
 from .sources import MatrixLike
-from .submatrices import Submatrix
-from .trees import Tree
+from .tries import Clock, Tries
 
 __all__ = [
     "has_no_cycle_fault",
@@ -39,8 +38,6 @@ __all__ = [
     "is_regular",
     "is_series_parallel",
     "is_totally_unimodular",
-    "printed_part",
-    "read_answer",
 ]
 
 
@@ -50,6 +47,9 @@ def is_totally_unimodular(
     certificate: bool = False,
     lines: int | None = None,
     workers: int | None = None,
+    pivots: int = 0,
+    tries: int = 0,
+    seed: int = 0,
     time_limit: float | None = None,
     program: StrPath | None = None,
 ) -> Answer:
@@ -59,9 +59,9 @@ def is_totally_unimodular(
 
     Source: Ghouila-Houri 1962; Hoffman and Kruskal 1956; Seymour 1980.
     """
-    words = ["tu", *_budget(lines, workers)]
-    files = {"-D": "tree"} if certificate else {}
-    return _answer(Matrix.of(matrix), "totally unimodular", words, files, program, time_limit)
+    words = ("tu", *budget_words(lines, workers, pivots))
+    question = Question("totally unimodular", words, {"-D": "tree"})
+    return _tried(question, Matrix.of(matrix), certificate, tries, seed, time_limit, program)
 
 
 def is_regular(
@@ -70,6 +70,9 @@ def is_regular(
     certificate: bool = False,
     lines: int | None = None,
     workers: int | None = None,
+    pivots: int = 0,
+    tries: int = 0,
+    seed: int = 0,
     time_limit: float | None = None,
     program: StrPath | None = None,
 ) -> Answer:
@@ -80,8 +83,9 @@ def is_regular(
 
     Source: Camion 1965; Seymour 1980; Truemper, *Matroid Decomposition*.
     """
-    files = {"-D": "tree", "-M": "signed", "-C": "chain"} if certificate else {}
-    return _answer(_binary(matrix), "regular", ["regular", *_budget(lines, workers)], files, program, time_limit)
+    words = ("regular", *budget_words(lines, workers, pivots))
+    question = Question("regular", words, {"-D": "tree", "-M": "signed", "-C": "chain"})
+    return _tried(question, _binary(matrix), certificate, tries, seed, time_limit, program)
 
 
 def is_graphic(
@@ -93,14 +97,16 @@ def is_graphic(
 
     Source: Tutte 1960; Schrijver, *Theory of Linear and Integer Programming*, chapter 20.
     """
-    return _answer(_binary(matrix), "graphic", ["graphic"], _graph_files(certificate), program, time_limit)
+    question = Question("graphic", ("graphic",), _graph_files(certificate))
+    return question.ask(_binary(matrix), program, time_limit)
 
 
 def is_cographic(
     matrix: MatrixLike, *, certificate: bool = False, time_limit: float | None = None, program: StrPath | None = None
 ) -> Answer:
     """Whether the transpose of a 0/1 matrix is graphic. The arcs of the `graph` stand for the columns, else as `is_graphic`."""
-    return _answer(_binary(matrix), "cographic", ["graphic", "-t"], _graph_files(certificate), program, time_limit)
+    question = Question("cographic", ("graphic", "-t"), _graph_files(certificate))
+    return question.ask(_binary(matrix), program, time_limit)
 
 
 def is_network(
@@ -112,14 +118,16 @@ def is_network(
 
     Source: Tutte 1965; Schrijver, *Theory of Linear and Integer Programming*, chapters 19 and 20.
     """
-    return _answer(Matrix.of(matrix), "network", ["network"], _graph_files(certificate), program, time_limit)
+    question = Question("network", ("network",), _graph_files(certificate))
+    return question.ask(Matrix.of(matrix), program, time_limit)
 
 
 def is_conetwork(
     matrix: MatrixLike, *, certificate: bool = False, time_limit: float | None = None, program: StrPath | None = None
 ) -> Answer:
     """Whether the transposed matrix is a network matrix. The arcs of the `graph` stand for the columns, else as `is_network`."""
-    return _answer(Matrix.of(matrix), "conetwork", ["network", "-t"], _graph_files(certificate), program, time_limit)
+    question = Question("conetwork", ("network", "-t"), _graph_files(certificate))
+    return question.ask(Matrix.of(matrix), program, time_limit)
 
 
 def is_series_parallel(
@@ -140,7 +148,7 @@ def is_series_parallel(
     taken = _binary(matrix) if binary else Matrix.of(matrix)
     name = "binary series-parallel" if binary else "series-parallel"
     files = {"-N": "minimal", "-S": "reductions"} if certificate else {}
-    return _answer(taken, name, ["series-parallel", *(["-b"] if binary else [])], files, program, time_limit)
+    return Question(name, ("series-parallel", *(["-b"] if binary else [])), files).ask(taken, program, time_limit)
 
 
 def is_balanced(
@@ -148,16 +156,21 @@ def is_balanced(
     *,
     lines: int | None = None,
     workers: int | None = None,
+    pivots: int = 0,
+    tries: int = 0,
+    seed: int = 0,
     time_limit: float | None = None,
     program: StrPath | None = None,
 ) -> Answer:
     """Whether no submatrix with exactly two nonzeros in each line has a sum of 2 modulo 4.
 
-    A no has such a submatrix as its `violator`, and an undecided answer has all lines as `open`.
+    A no has such a submatrix as its `violator`, and an undecided answer has all lines as `open`. A yes that other orders have found
+    has the `tree` of the totally unimodular matrix.
 
     Source: Berge 1970; Truemper, *Matroid Decomposition*.
     """
-    return _answer(Matrix.of(matrix), "balanced", ["balanced", *_budget(lines, workers)], {}, program, time_limit)
+    question = Question("balanced", ("balanced", *budget_words(lines, workers, pivots)))
+    return _tried(question, Matrix.of(matrix), True, tries, seed, time_limit, program)
 
 
 def has_no_cycle_fault(
@@ -169,62 +182,27 @@ def has_no_cycle_fault(
 
     Source: Camion 1965; docs/DEFINITIONS.md.
     """
-    return _answer(Matrix.of(matrix), "without cycle fault", ["camion"], {}, program, time_limit)
+    question = Question("without cycle fault", ("camion",), said="camion")
+    return question.ask(Matrix.of(matrix), program, time_limit)
 
 
-def read_answer(ran: Ran, matrix: Matrix, property_name: str, *, word: str = "", directed: bool = True) -> Answer:
-    """The answer that a run on a matrix has printed and written, with all its evidence.
-
-    `word` is the program's own for the property, where that is another. Raises `ProgramFault` where the first line is not that of
-    the answer, as it is where another program was run.
-    """
-    verdict: Verdict = "yes" if ran.status == YES else "no" if ran.status == NO else "undecided"
-    if ran.said(word or property_name) != verdict:
-        raise ProgramFault(ran.status, f"the program is not cmr: it says {ran.lines[0]!r}")
-    found = line_sets(ran.lines)
-    names = matrix.names
-    texts = ran.files
-    signed = Matrix.from_text(texts["signed"]) if "signed" in texts else None
-    return Answer(
-        property_name=property_name,
-        verdict=verdict,
-        violator=printed_part(found, matrix, "violator") or printed_part(found, matrix, "fault"),
-        open=printed_part(found, matrix, "open"),
-        minimal=printed_part(found, matrix, "minimal"),
-        rest=printed_part(found, matrix, "rest"),
-        tree=Tree.from_text(texts["tree"], names) if "tree" in texts else None,
-        graph=Graph.from_text(texts["graph"], directed=directed, names=names) if "graph" in texts else None,
-        reductions=Reductions.from_text(texts["reductions"], names) if "reductions" in texts else None,
-        signed=None if signed is None else Matrix(signed.shape, signed.nonzeros, names),
-        chain=Chain.from_text(texts["chain"], names) if "chain" in texts else None,
-    )
-
-
-def printed_part(found: Mapping[str, LineSet], matrix: Matrix, word: str) -> Submatrix | None:
-    """The submatrix that stands behind a word in what was printed, or None where there is none."""
-    lines = found.get(word)
-    return None if lines is None else Submatrix(matrix.shape, lines.rows, lines.columns, matrix.names)
-
-
-def _answer(
+def _tried(
+    question: Question,
     matrix: Matrix,
-    property_name: str,
-    words: Sequence[str],
-    files: Mapping[str, str],
-    program: StrPath | None,
+    certificate: bool,
+    tries: int,
+    seed: int,
     time_limit: float | None,
+    program: StrPath | None,
 ) -> Answer:
-    """Asks a tool with the options that name files."""
-    options = [word for option in files.items() for word in option]
-    ran = run(
-        [*words, "-i", "sparse", *options],
-        text=matrix.to_text(),
-        outputs=tuple(files.values()),
-        program=program,
-        time_limit=time_limit,
-    )
-    word = "camion" if words[0] == "camion" else property_name
-    return read_answer(ran, matrix, property_name, word=word, directed=words[0] == "network")
+    """Asks, and asks again in other orders where the answer is undecided. Evidence that is not asked for is left out."""
+    count = whole("tries", tries, 0, 1000)
+    clock = Clock(time_limit)
+    asked = question if certificate or count else replace(question, files={})
+    answer = asked.ask(matrix, program, time_limit)
+    if answer.is_undecided and count:
+        answer = Tries(count, seed, clock, program).decided(asked, matrix, answer)
+    return answer if certificate else replace(answer, tree=None, signed=None, chain=None)
 
 
 def _binary(matrix: MatrixLike) -> Matrix:
@@ -235,16 +213,3 @@ def _binary(matrix: MatrixLike) -> Matrix:
 
 def _graph_files(certificate: bool) -> dict[str, str]:
     return {"-N": "minimal", "-G": "graph"} if certificate else {}
-
-
-def _budget(lines: int | None, workers: int | None) -> list[str]:
-    return [*_number("--lines", lines, 0, 24), *_number("-w", workers, 1, 64)]
-
-
-def _number(option: str, value: int | None, least: int, greatest: int) -> list[str]:
-    if value is None:
-        return []
-    if not least <= value <= greatest:
-        name = "workers" if option == "-w" else "lines"
-        raise BadInput(f"{name} is a number from {least} to {greatest}, and here it is {value}")
-    return [option, str(int(value))]

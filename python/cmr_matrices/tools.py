@@ -7,6 +7,7 @@ from __future__ import annotations
 
 from collections.abc import Iterable
 from dataclasses import replace
+from operator import index
 from typing import Literal, cast
 
 from .answers import Answer, Checked, Parts
@@ -16,7 +17,7 @@ from .graphs import Edge, Graph
 from .matrix import Matrix
 from .printed import line_sets
 from .program import REFUSED, YES, StrPath, run
-from .questions import printed_part, read_answer
+from .reading import printed_part, read_answer
 from .signings import Signing
 from .sources import MatrixLike
 from .submatrices import Submatrix
@@ -127,7 +128,7 @@ def generate(
     `size` is 1 to 1000, with `twosum` at most 249, and `number` 0 to 2147483647 chooses among them. docs/DEFINITIONS.md has the
     definition. Raises `BadCommandLine` where one is out of its range.
     """
-    words = ["generate", kind, str(int(size)), str(int(number)), "--lines", "0", "-M", "matrix"]
+    words = ["generate", kind, str(index(size)), str(index(number)), "--lines", "0", "-M", "matrix"]
     return Matrix.from_text(run(words, outputs=("matrix",), program=program, time_limit=time_limit).file("matrix"))
 
 

@@ -8,7 +8,7 @@ from __future__ import annotations
 from collections.abc import Iterable, Sequence
 from itertools import combinations, product
 
-from cmr_matrices import Chain, Graph, Line, LineSet, Node, Reductions, Tree
+from cmr_matrices import Chain, ChainStep, Graph, Line, LineSet, Node, Reductions, Tree
 
 Rows = Sequence[Sequence[int]]
 
@@ -120,27 +120,33 @@ def reduces(rows: Rows, reductions: Reductions, rest: LineSet | None, *, binary:
 
 def chain_holds(rows: Rows, chain: Chain) -> bool:
     """Whether each step of a chain keeps its rule and the violator is one of the signs."""
+    signs = signs_of_steps(rows, chain.steps)
+    lines = chain.violator
+    if signs is None or any(rows[row][at] and (row, at) not in signs for row in lines.rows for at in lines.columns):
+        return False
+    return is_violator([[signs.get((row, column), 0) for column in lines.columns] for row in lines.rows])
+
+
+def signs_of_steps(rows: Rows, steps: Iterable[ChainStep]) -> dict[tuple[int, int], int] | None:
+    """The signs that the steps of a chain give, or None where a step breaks its rule."""
     signs: dict[tuple[int, int], int] = {}
-    for step in chain.steps:
+    for step in steps:
         place = step.row, step.column
         if not rows[step.row][step.column] or place in signs:
-            return False
+            return None
         if step.lines is None:
             if _are_linked(signs, *place):
-                return False
+                return None
             signs[place] = 1
             continue
         ones = [(row, column) for row in step.lines.rows for column in step.lines.columns if rows[row][column]]
         support = part(rows, step.lines)
         if place not in ones or any(sum(line) != 2 for line in [*support, *zip(*support)]):
-            return False
+            return None
         if any(one not in signs for one in ones if one != place):
-            return False
+            return None
         signs[place] = -1 if (sum(signs[one] for one in ones if one != place) + 1) % 4 else 1
-    lines = chain.violator
-    if any(rows[row][column] and (row, column) not in signs for row in lines.rows for column in lines.columns):
-        return False
-    return is_violator([[signs.get((row, column), 0) for column in lines.columns] for row in lines.rows])
+    return signs
 
 
 def _are_linked(signs: Iterable[tuple[int, int]], row: int, column: int) -> bool:

@@ -1,0 +1,38 @@
+"""The options of the searches as keywords, with their ranges, and the words that say them to the program."""
+
+from __future__ import annotations
+
+from operator import index
+
+from .errors import BadInput
+
+__all__ = ["TAKES_PIVOTS", "budget_words", "whole"]
+
+TAKES_PIVOTS = False
+"""Whether the program has the option `--pivots`."""
+
+
+def budget_words(lines: int | None, workers: int | None, pivots: int = 0) -> list[str]:
+    """The words of a budget. An option that is left out has no words, and the program its own default."""
+    if pivots and not TAKES_PIVOTS:
+        raise BadInput("pivots is 0: the program has no such option")
+    return [
+        *_words("--lines", None if lines is None else whole("lines", lines, 0, 24)),
+        *_words("-w", None if workers is None else whole("workers", workers, 1, 64)),
+        *_words("--pivots", whole("pivots", pivots, 0, 100) or None),
+    ]
+
+
+def whole(name: str, value: int, least: int, greatest: int) -> int:
+    """A number of a keyword. Raises `BadInput` where it is no whole number in its range."""
+    try:
+        number = index(value)
+    except TypeError:
+        raise BadInput(f"{name} is a whole number, and here it is {value!r}") from None
+    if not least <= number <= greatest:
+        raise BadInput(f"{name} is a number from {least} to {greatest}, and here it is {number}")
+    return number
+
+
+def _words(option: str, value: int | None) -> list[str]:
+    return [] if value is None else [option, str(value)]

@@ -1,0 +1,77 @@
+"""Answers as values: a question is put to the program, and what it printed and wrote is read."""
+
+from __future__ import annotations
+
+from collections.abc import Mapping
+from dataclasses import dataclass, field
+
+from .answers import Answer, Verdict
+from .chains import Chain
+from .errors import ProgramFault
+from .graphs import Graph
+from .lines import LineSet
+from .matrix import Matrix
+from .printed import line_sets
+from .program import NO, YES, Ran, StrPath, run
+from .reductions import Reductions
+from .submatrices import Submatrix
+from .trees import Tree
+
+__all__ = ["Question", "printed_part", "read_answer"]
+
+
+@dataclass(frozen=True)
+class Question:
+    """A tool of the program with its words, and the files that it is to write, each by the option that names it."""
+
+    property_name: str
+    words: tuple[str, ...]
+    files: Mapping[str, str] = field(default_factory=dict)
+    said: str = ""
+    """The program's own word for the property, where that is another."""
+
+    def ask(self, matrix: Matrix, program: StrPath | None, time_limit: float | None) -> Answer:
+        """What the program says of a matrix."""
+        ran = run(
+            [*self.words, "-i", "sparse", *(word for option in self.files.items() for word in option)],
+            text=matrix.to_text(),
+            outputs=tuple(self.files.values()),
+            program=program,
+            time_limit=time_limit,
+        )
+        is_directed = self.words[0] == "network"
+        return read_answer(ran, matrix, self.property_name, word=self.said, directed=is_directed)
+
+
+def read_answer(ran: Ran, matrix: Matrix, property_name: str, *, word: str = "", directed: bool = True) -> Answer:
+    """The answer that a run on a matrix has printed and written, with all its evidence.
+
+    `word` is the program's own for the property, where that is another. Raises `ProgramFault` where the first line is not that of
+    the answer, as it is where another program was run.
+    """
+    verdict: Verdict = "yes" if ran.status == YES else "no" if ran.status == NO else "undecided"
+    if ran.said(word or property_name) != verdict:
+        raise ProgramFault(ran.status, f"the program is not cmr: it says {ran.lines[0]!r}")
+    found = line_sets(ran.lines)
+    names = matrix.names
+    texts = ran.files
+    signed = Matrix.from_text(texts["signed"]) if "signed" in texts else None
+    return Answer(
+        property_name=property_name,
+        verdict=verdict,
+        violator=printed_part(found, matrix, "violator") or printed_part(found, matrix, "fault"),
+        open=printed_part(found, matrix, "open"),
+        minimal=printed_part(found, matrix, "minimal"),
+        rest=printed_part(found, matrix, "rest"),
+        tree=Tree.from_text(texts["tree"], names) if "tree" in texts else None,
+        graph=Graph.from_text(texts["graph"], directed=directed, names=names) if "graph" in texts else None,
+        reductions=Reductions.from_text(texts["reductions"], names) if "reductions" in texts else None,
+        signed=None if signed is None else Matrix(signed.shape, signed.nonzeros, names),
+        chain=Chain.from_text(texts["chain"], names) if "chain" in texts else None,
+    )
+
+
+def printed_part(found: Mapping[str, LineSet], matrix: Matrix, word: str) -> Submatrix | None:
+    """The submatrix that stands behind a word in what was printed, or None where there is none."""
+    lines = found.get(word)
+    return None if lines is None else Submatrix(matrix.shape, lines.rows, lines.columns, matrix.names)
