@@ -115,7 +115,7 @@ pub struct CheckOptions<'a> {
 /// What `upgrade` is asked to do. A file of the name `-` is standard input where it is read.
 #[derive(Clone, Copy, Debug, PartialEq, Eq)]
 pub struct UpgradeOptions<'a> {
-    /// The file that holds the tree text, of either version.
+    /// The file that holds the tree text, of any version.
     pub evidence: &'a str,
     /// The file that gets the text of version 2.
     pub tree: &'a str,

@@ -1,7 +1,7 @@
 //! Laws of tree texts. Each is a function that does nothing: its contract is the law.
 ghost use Rattle.tree_text.specs.Laws.{RewritingKeepsTrees, SoundTreesReadBack, VersionTwoReadsAll};
 
-/// The canonical text of a tree that was read, in either version, stands for the same tree.
+/// The canonical text of a tree that was read, in any version, stands for the same tree.
 pub fn rewriting_keeps_trees()
     ensures { RewritingKeepsTrees }
 {}
