@@ -117,7 +117,7 @@ pub struct CheckOptions<'a> {
 pub struct UpgradeOptions<'a> {
     /// The file that holds the tree text, of any version.
     pub evidence: &'a str,
-    /// The file that gets the text of version 2.
+    /// The file that gets the canonical text.
     pub tree: &'a str,
 }
 
@@ -136,7 +136,7 @@ pub enum Command<'a> {
     Generate(GenerateOptions<'a>),
     /// Checks evidence on a matrix.
     Check(CheckOptions<'a>),
-    /// Writes a decomposition tree anew, in version 2 of tree texts.
+    /// Writes a decomposition tree anew, in its canonical text.
     Upgrade(UpgradeOptions<'a>),
     /// Tests whether a matrix has no cycle fault.
     Camion(CamionOptions<'a>),

@@ -1,4 +1,4 @@
-// Writing a decomposition tree anew, in version 2 of tree texts.
+// Writing a decomposition tree anew, in its canonical text.
 ghost use Rattle.std.specs.Prelude.{◌≡◌, IfOk, IsTrue};
 ghost use Rattle.tree_text.specs.Reading.{plain};
 ghost use Rattle.cmr_front.specs.Ending.{devices, standing};
