@@ -13,7 +13,7 @@ use Rattle.cmr_front.specs.Status.{answer_status}
 use Rattle.cmr_front.specs.Tool.{Tool}
 use Rattle.cmr_tools.specs.Words.Upgrade.{UpgradeOrder}
 
--- the canonical text, which is of version 2
+-- the canonical text
 abbrev pub upgraded_text : PlainTree → List ℕ
 upgraded_text t = tree_text t.rows t.columns t.root
 
