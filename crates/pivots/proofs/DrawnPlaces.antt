@@ -1,5 +1,5 @@
 -- The nonzeros of a submatrix, by their numbers.
-use Rattle.std.proofs.Common.{◌≡◌, ◌≢◌, ◌<◌, ◌≤◌, ◌+◌, ◌-◌, ◌∙◌, ◌++◌, ◌/◌, ◌%◌, inl, inr, ℕ, zero, suc, Bool, true, false, ℤ, pos, negsuc, List, [], ◌∷◌, filter, map, length, get_or, drop, Contains, refl, ap, sym, subst, arith}
+use Rattle.std.proofs.Common.{◌≡◌, ◌<◌, ◌≤◌, ◌+◌, ◌-◌, ◌∙◌, ◌++◌, ◌/◌, ◌%◌, inl, inr, ℕ, zero, suc, Bool, true, false, ℤ, pos, negsuc, List, [], ◌∷◌, filter, length, get_or, drop, Contains, refl, ap, sym, subst, arith}
 use Rattle.std.specs.Prelude.{slice_get, Option, Some, None, unwrap_or, IfSome, IfNone}
 use Rattle.std.specs.List.{AllByRecursion}
 use Rattle.std.specs.Option.{option_map}
@@ -13,7 +13,7 @@ use Rattle.cmr_base.proofs.Booleans.{true_is_false}
 use Rattle.cmr_base.proofs.Lists.{all-append, all-map}
 use Rattle.cmr_base.proofs.ListsWithout.{in_from_contains, contains_from_in}
 use Rattle.cmr_base.proofs.Members.{all_of_members}
-use Rattle.generate.specs.Draws.{next_state, draw}
+use Rattle.generate.specs.Draws.{next_state}
 use Rattle.pivots.specs.declared.drawn.DrawnPlace.{DrawnPlace}
 use Rattle.pivots.specs.declared.place.PivotPlace.{PivotPlace}
 use Rattle.pivots.specs.DrawnPlaces.{row_places, places_on, drawn_place}

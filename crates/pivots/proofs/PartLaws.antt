@@ -1,5 +1,5 @@
 -- What the pivot of a submatrix in its place keeps.
-use Rattle.std.proofs.Common.{◌≡◌, ◌≢◌, ◌<◌, ◌↔◌, ◌⊎◌, inl, inr, ◌∙◌, ◌&&◌, ℕ, Bool, true, false, cond, ℤ, List, [], ◌∷◌, ◌≤◌, map, length, get_or, Contains, refl, ap, sym, subst, arith}
+use Rattle.std.proofs.Common.{◌≡◌, ◌≢◌, ◌<◌, ◌↔◌, inl, inr, ◌∙◌, ◌&&◌, ℕ, Bool, true, false, cond, ℤ, List, [], ◌∷◌, ◌≤◌, map, length, get_or, Contains, refl, ap, sym, subst, arith}
 use mathlib.Core.Path.{ap₂}
 use Rattle.std.specs.List.{AllByRecursion}
 use Rattle.std.proofs.lemmas.Bool.{cases_eq}
@@ -9,7 +9,7 @@ use Rattle.cmr_base.specs.declared.limits.TheConstants.{MAX_ROWS}
 use Rattle.cmr_base.specs.declared.line.Line.TheVariants.{Row, Column}
 use Rattle.cmr_base.specs.declared.line_set.LineSet.{LineSet}
 use Rattle.cmr_base.specs.LineSets.{AllBelow, IsRowSet, IsColumnSet, first_lines}
-use Rattle.cmr_base.specs.Matrix.{Matrix, height, entry, IsEntry, IsMatrix, HasTernaryEntries, IsRectangular}
+use Rattle.cmr_base.specs.Matrix.{Matrix, height, entry, IsEntry, HasTernaryEntries, IsRectangular}
 use Rattle.cmr_base.specs.MatrixSums.{filled}
 use Rattle.cmr_base.specs.Members.{IsIn}
 use Rattle.cmr_base.specs.Separations.{listed}

@@ -21,7 +21,7 @@ use Rattle.ghouila.specs.PivotLaws.{pivot_entry}
 use Rattle.ghouila.proofs.PivotLaws.{filled_again}
 use Rattle.pivots.specs.declared.place.PivotPlace.{PivotPlace}
 use Rattle.pivots.specs.ChosenLines.{two_lines}
-use Rattle.pivots.specs.PivotedParts.{replaced_entry, pivoted_part, IsPlaceIn, IsMadePart, ShowsFirstTwoIn}
+use Rattle.pivots.specs.PivotedParts.{replaced_entry, IsPlaceIn, IsMadePart, ShowsFirstTwoIn}
 use Rattle.pivots.specs.PivotedRows.{IsPivotedRow, IsFirstTwoOfRow}
 use Rattle.pivots.proofs.LinesBefore.{pivot_place}
 use Rattle.pivots.proofs.PivotEntries.{two_is_violator}

@@ -1,6 +1,6 @@
 -- The pivot of a submatrix in its place: the matrix in which the submatrix on some lines is replaced by its pivot.
-use Rattle.std.specs.Prelude.{◌≡◌, ◌≢◌, ◌↔◌, ◌<◌, ◌&&◌, if◌then◌else◌, ℕ, ℤ, pos, List, Contains}
-use Rattle.std.specs.List.{AllByRecursion, list_any}
+use Rattle.std.specs.Prelude.{◌≡◌, ◌≢◌, ◌<◌, ◌&&◌, if◌then◌else◌, ℕ, ℤ, pos, List, Contains}
+use Rattle.std.specs.List.{AllByRecursion}
 use Rattle.cmr_base.specs.declared.line_set.LineSet.{LineSet}
 use Rattle.cmr_base.specs.Matrix.{Matrix, height, entry, IsEntry, IsMatrix}
 use Rattle.cmr_base.specs.LineSets.{IsRowSet, IsColumnSet}
@@ -8,7 +8,7 @@ use Rattle.cmr_base.specs.MatrixSums.{filled}
 use Rattle.cmr_base.specs.Separations.{listed}
 use Rattle.cmr_base.specs.declared.line.Line.TheVariants.{Row, Column}
 use Rattle.cmr_base.specs.Violator.{IsViolator}
-use Rattle.ghouila.specs.PivotLaws.{pivot_entry, AreLinesBefore}
+use Rattle.ghouila.specs.PivotLaws.{pivot_entry}
 use Rattle.pivots.specs.declared.part_pivot.PivotedPart.{PivotedPart}
 use Rattle.pivots.specs.declared.part_pivot.PivotedPart.TheVariants.{Ternary, Violated}
 use Rattle.pivots.specs.declared.place.PivotPlace.{PivotPlace}

@@ -1,4 +1,4 @@
-use Rattle.std.proofs.Common.{◌<◌, ◌≤◌, ◌+◌, ◌-◌, ◌∙◌, ℕ, drop, length, get_or, ap, subst}
+use Rattle.std.proofs.Common.{◌<◌, ◌≤◌, ◌+◌, ◌-◌, ◌∙◌, ℕ, drop, ap, subst}
 use Rattle.std.specs.Prelude.{slice_get}
 use Rattle.pivots.specs.DrawnPlaces.{places_on}
 use Rattle.pivots.proofs.DrawnPlaces.{place_here, place_later}

@@ -1,4 +1,4 @@
-use Rattle.std.proofs.Common.{◌≡◌, ◌∙◌, ℤ, ◌-ℤ◌, ◌*ℤ◌, sym, rules, w8, SFits}
+use Rattle.std.proofs.Common.{◌∙◌, ℤ, ◌-ℤ◌, ◌*ℤ◌, sym, rules, w8, SFits}
 use mathlib.Core.Path.{ap₂}
 use Rattle.std.proofs.lemmas.Int.{to_z-of_z}
 use Rattle.cmr_base.specs.Matrix.{entry}

@@ -1,4 +1,4 @@
-use Rattle.std.proofs.Common.{◌≡◌, ◌≢◌, ◌<◌, ◌∙◌, ℕ, List, length, get_or, ap, subst, sym, arith}
+use Rattle.std.proofs.Common.{◌≢◌, ◌<◌, ◌∙◌, ℕ, List, length, get_or, ap, subst, sym, arith}
 use Rattle.std.proofs.lemmas.List.Elements.{Contains-get_or}
 use Rattle.cmr_base.specs.LineSets.{IsColumnSet}
 use Rattle.cmr_base.specs.Matrix.{height}

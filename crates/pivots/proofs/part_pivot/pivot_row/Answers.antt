@@ -1,8 +1,7 @@
-use Rattle.std.proofs.Common.{◌≡◌, ◌∙◌, ◌+◌, get_or, subst, sym, arith, rules, w8, to_z, of_z, SFits}
+use Rattle.std.proofs.Common.{◌∙◌, ◌+◌, subst, sym, arith, rules, w8, to_z, of_z, SFits}
 use Rattle.std.proofs.lemmas.Bool.{false≢true}
 use Rattle.std.proofs.lemmas.Int.{to_z-of_z}
-use Rattle.cmr_base.specs.Matrix.{Matrix, height, entry, IsEntry}
-use Rattle.ghouila.specs.PivotLaws.{pivot_entry}
+use Rattle.cmr_base.specs.Matrix.{Matrix, IsEntry}
 use Rattle.pivots.proofs.PivotedRows.{IsRowPivotedTo, row_begun, row_goes_on, row_ended, row_stopped}
 use Rattle.pivots.proofs.part_pivot.pivot_row.Goals as goal
 
