@@ -317,6 +317,14 @@ class CmrTest(unittest.TestCase):
         self.assertTrue(first.startswith("proved\n(tu)(--lines)(3)(--)(--help)(a b)()(-h)SigIgn:"), first)
         self.assertEqual(first, self.clone.run("cmr", *words).stdout)
 
+    def test_a_signal_that_is_ignored_stays_so(self):
+        def ignore():
+            signal.signal(signal.SIGINT, signal.SIG_IGN)
+
+        said = [self.clone.run("cmr", "tu", "file", preexec_fn=ignore).stdout for _ in range(2)]
+        self.assertEqual(said[0], said[1])
+        self.assertIn("SigIgn:\t0000000000000002", said[0])
+
     def test_links_to_it(self):
         self.build()
         links = [self.folder / "one", self.folder / "two", self.folder / "three"]
