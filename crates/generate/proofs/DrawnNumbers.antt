@@ -3,7 +3,7 @@ use Rattle.std.proofs.Common.{◌≡◌, ◌<◌, ◌≤◌, ◌+◌, ◌-◌, �
 use Rattle.std.proofs.lemmas.List.{append_assoc, append-nil}
 use Rattle.std.proofs.lemmas.Nat.{mod_below}
 use Rattle.std.proofs.Math.Nat.{suc-mul, zero-mul}
-use Rattle.generate.specs.Draws.{next_state, draws}
+use Rattle.generate.specs.Draws.{next_state, draw, draws}
 
 -- the numbers so far and those that are drawn from here are all
 pub record AreDrawn (n bound step state : ℕ) (k bound' state' : ℕ) (drawn : List ℕ) : Type 0 where
@@ -32,12 +32,13 @@ one_drawn n bound step state k bound' state' numbers few h before low =
       high = let t = before.high in omega (arith, t, few);
     }
 
-pub drawn_on : (n bound step state k bound' state' new : ℕ) (numbers numbers' : List ℕ) → step ≤ 1 → k < n → AreDrawn n bound step state k bound' state' numbers → new < 2 ^ 31 → new ≡ next_state state'
-    → numbers' ≡ numbers ++ (new / 1024) % bound' ∷ [] → AreDrawn n bound step state (k + 1) (bound' + step) new numbers'
-drawn_on n bound step state k bound' state' new numbers numbers' few h before low e f =
-    subst (λ (xs : List ℕ). AreDrawn n bound step state (k + 1) (bound' + step) new xs) (sym f)
-    (subst (λ (now : ℕ). AreDrawn n bound step state (k + 1) (bound' + step) now (numbers ++ (now / 1024) % bound' ∷ [])) (sym e)
-    (one_drawn n bound step state k bound' state' numbers few h before (subst (λ (now : ℕ). now < 2 ^ 31) e low)))
+pub drawn_on : (n bound step state k bound' state' number new : ℕ) (numbers numbers' : List ℕ) → step ≤ 1 → k < n → AreDrawn n bound step state k bound' state' numbers → new < 2 ^ 31
+    → number ≡ (draw bound' state').0 → new ≡ (draw bound' state').1 → numbers' ≡ numbers ++ number ∷ [] → AreDrawn n bound step state (k + 1) (bound' + step) new numbers'
+drawn_on n bound step state k bound' state' number new numbers numbers' few h before low e f g =
+    subst (λ (xs : List ℕ). AreDrawn n bound step state (k + 1) (bound' + step) new xs) (sym g)
+    (subst (λ (now : ℕ). AreDrawn n bound step state (k + 1) (bound' + step) now (numbers ++ number ∷ [])) (sym f)
+    (subst (λ (x : ℕ). AreDrawn n bound step state (k + 1) (bound' + step) (next_state state') (numbers ++ x ∷ [])) (sym e)
+    (one_drawn n bound step state k bound' state' numbers few h before (subst (λ (now : ℕ). now < 2 ^ 31) f low))))
 
 pub record AreAll (n bound step state state' : ℕ) (drawn : List ℕ) : Type 0 where
   pub numbers_are : drawn ≡ (draws n bound step state).0

@@ -1,6 +1,6 @@
 // Numbers that are drawn one after another from a state.
 ghost use Rattle.std.specs.Prelude.{◌≡◌, ◌≤◌, ◌<◌, ◌^◌, IfOk};
-ghost use Rattle.generate.specs.Draws.{next_state, draws};
+ghost use Rattle.generate.specs.Draws.{next_state, draw, draws};
 
 use cmr_base::Memory;
 use std::alloc::Global;
@@ -10,6 +10,29 @@ use std::alloc::Global;
 pub struct Drawn {
     pub numbers: Vec<u32>,
     pub state: u32,
+}
+
+/// A number that is drawn, and the state after it.
+#[derive(Clone, Copy, Debug, PartialEq, Eq)]
+pub struct DrawnNumber {
+    pub number: u32,
+    pub state: u32,
+}
+
+/// A number below a bound, drawn from a state.
+pub fn draw_below(bound: u32, state: u32) -> DrawnNumber
+    requires bound { 1 ≤ bound }
+    requires state { state < 2 ^ 31 }
+    ensures number { result.number ≡ (draw bound state).0 }
+    ensures state { result.state ≡ (draw bound state).1 }
+    ensures below { result.number < bound }
+    ensures low { result.state < 2 ^ 31 }
+{
+    let next = next_state(state);
+    DrawnNumber {
+        number: next / 1024 % bound,
+        state: next,
+    }
 }
 
 fn next_state(state: u32) -> u32
@@ -35,8 +58,9 @@ pub fn draw(alloc: Global, count: u32, bound: u32, step: u32, state: u32) -> Res
     let mut now = state;
     let mut below = bound;
     for _place in 0..count {
-        now = next_state(now);
-        numbers.push(now / 1024 % below)?;
+        let drawn = draw_below(below, now);
+        numbers.push(drawn.number)?;
+        now = drawn.state;
         below += step;
     }
     Ok(Drawn {

@@ -6,4 +6,5 @@ mod making;
 mod networks;
 mod sums;
 
+pub use draws::{DrawnNumber, draw_below};
 pub use making::{MakeKind, make};

@@ -27,7 +27,7 @@ in_back : (x : ℕ) (xs ys : List ℕ) → IsIn x ys → IsIn x (xs ++ ys)
 in_back x [] ys h = h
 in_back x (y ∷ xs) ys h = inr (in_back x xs ys h)
 
-filter_in : (p : ℕ → Bool) (x : ℕ) (xs : List ℕ) → IsIn x (filter p xs) → IsIn x xs × (p x ≡ true)
+pub filter_in : (p : ℕ → Bool) (x : ℕ) (xs : List ℕ) → IsIn x (filter p xs) → IsIn x xs × (p x ≡ true)
 filter_in p x [] h = absurd h
 filter_in p x (y ∷ ys) h = go (p y) refl h (λ k. filter_in p x ys k)
   where
@@ -36,7 +36,7 @@ filter_in p x (y ∷ ys) h = go (p y) refl h (λ k. filter_in p x ys k)
     go true e (inr h) k = let r = k h in (inr r.0, r.1)
     go false e h k = let r = k h in (inr r.0, r.1)
 
-in_filter : (p : ℕ → Bool) (x : ℕ) (xs : List ℕ) → IsIn x xs → p x ≡ true → IsIn x (filter p xs)
+pub in_filter : (p : ℕ → Bool) (x : ℕ) (xs : List ℕ) → IsIn x xs → p x ≡ true → IsIn x (filter p xs)
 in_filter p x [] h e = absurd h
 in_filter p x (y ∷ ys) h e = go (p y) refl h (λ k. in_filter p x ys k e)
   where

@@ -84,7 +84,7 @@ module _ (m : Matrix) (r c : ℕ) (place : IsPivotPlace m r c) where
     | inr ge ↦ subst (λ xs. HasOneMore b (a ∷ []) xs) (ap₂ (λ (x y : ℕ). x ∷ y ∷ []) (omega arith) (omega arith)) (one_more_first b (a ∷ []))
   ]
 
-  violator_in_order : (i j : ℕ) → HasSquareViolator m r c i j → IsViolator (entry m) (two_lines r i) (two_lines c j)
+  pub violator_in_order : (i j : ℕ) → HasSquareViolator m r c i j → IsViolator (entry m) (two_lines r i) (two_lines c j)
   violator_in_order i j s =
       violator_columns_reordered (entry m) j (c ∷ []) (two_lines r i) (c ∷ j ∷ []) (two_lines c j) (one_more_later c j [] (j ∷ []) (one_more_first j [])) (in_order c j)
       (violator_rows_reordered (entry m) i (r ∷ []) (r ∷ i ∷ []) (two_lines r i) (c ∷ j ∷ []) (one_more_later r i [] (i ∷ []) (one_more_first i [])) (in_order r i)

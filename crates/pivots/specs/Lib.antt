@@ -1,3 +1,6 @@
 pub mod ChosenLines
+pub mod DrawnPlaces
+pub mod PartLaws
 pub mod Pivoted
 pub mod PivotedParts
+pub mod PivotedRows

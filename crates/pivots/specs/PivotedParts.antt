@@ -1,12 +1,18 @@
 -- The pivot of a submatrix in its place: the matrix in which the submatrix on some lines is replaced by its pivot.
-use Rattle.std.specs.Prelude.{◌≢◌, ◌&&◌, if◌then◌else◌, ℕ, ℤ, pos, Contains}
+use Rattle.std.specs.Prelude.{◌≡◌, ◌≢◌, ◌<◌, ◌&&◌, if◌then◌else◌, ℕ, ℤ, pos, List, Contains}
+use Rattle.std.specs.List.{AllByRecursion}
 use Rattle.cmr_base.specs.declared.line_set.LineSet.{LineSet}
-use Rattle.cmr_base.specs.Matrix.{Matrix, height, entry, IsEntry}
+use Rattle.cmr_base.specs.Matrix.{Matrix, height, entry, IsEntry, IsMatrix}
+use Rattle.cmr_base.specs.LineSets.{IsRowSet, IsColumnSet}
 use Rattle.cmr_base.specs.MatrixSums.{filled}
 use Rattle.cmr_base.specs.Separations.{listed}
 use Rattle.cmr_base.specs.declared.line.Line.TheVariants.{Row, Column}
+use Rattle.cmr_base.specs.Violator.{IsViolator}
 use Rattle.ghouila.specs.PivotLaws.{pivot_entry}
+use Rattle.pivots.specs.declared.part_pivot.PivotedPart.{PivotedPart}
+use Rattle.pivots.specs.declared.part_pivot.PivotedPart.TheVariants.{Ternary, Violated}
 use Rattle.pivots.specs.declared.place.PivotPlace.{PivotPlace}
+use Rattle.pivots.specs.ChosenLines.{two_lines}
 
 -- an entry where the submatrix on some lines is replaced by its pivot
 abbrev pub replaced_entry : Matrix → LineSet → PivotPlace → ℕ → ℕ → ℤ
@@ -26,3 +32,36 @@ pub record IsPlaceIn (m : Matrix) (lines : LineSet) (place : PivotPlace) : Type 
 -- the pivot of the submatrix has no 2 and no -2
 abbrev pub IsTernaryPivot : Matrix → LineSet → PivotPlace → Type 0
 IsTernaryPivot m lines place = (i j : ℕ) → Contains lines.rows i → Contains lines.columns j → IsEntry (pivot_entry (entry m) place.row place.column i j)
+
+-- rows and columns among some lines
+pub record AreAmong (lines : LineSet) (chosen_rows chosen_columns : List ℕ) : Type 0 where
+  pub rows : AllByRecursion (Contains lines.rows) chosen_rows
+  pub columns : AllByRecursion (Contains lines.columns) chosen_columns
+
+-- Lines that the pivot of the submatrix shows: the first entry of it, by the submatrix's rows and then by its columns, that is not -1, 0
+-- or 1; its lines and the pivot's are a violator of the matrix
+pub record ShowsFirstTwoIn (m : Matrix) (lines : LineSet) (place : PivotPlace) (rows columns : List ℕ) : Type 0 where
+  pub other_row : ℕ
+  pub other_column : ℕ
+  pub row_in : Contains lines.rows other_row
+  pub column_in : Contains lines.columns other_column
+  pub two : ¬ (IsEntry (pivot_entry (entry m) place.row place.column other_row other_column))
+  pub rows_before : (i j : ℕ) → Contains lines.rows i → Contains lines.columns j → i < other_row → IsEntry (pivot_entry (entry m) place.row place.column i j)
+  pub columns_before : (j : ℕ) → Contains lines.columns j → j < other_column → IsEntry (pivot_entry (entry m) place.row place.column other_row j)
+  pub rows_are : rows ≡ two_lines place.row other_row
+  pub columns_are : columns ≡ two_lines place.column other_column
+  pub row_set : IsRowSet m rows
+  pub column_set : IsColumnSet m columns
+  pub among : AreAmong lines rows columns
+  pub violator : IsViolator (entry m) rows columns
+
+-- the matrix has the pivot in the place of the submatrix
+pub record IsMadePart (m : Matrix) (lines : LineSet) (place : PivotPlace) (after : Matrix) : Type 0 where
+  pub ternary : IsTernaryPivot m lines place
+  pub is : after ≡ pivoted_part m lines place
+  pub shape : IsMatrix after
+
+-- the answer is right
+abbrev pub IsPivotedPart : Matrix → LineSet → PivotPlace → PivotedPart → Type 0
+IsPivotedPart m lines place (Ternary after) = IsMadePart m lines place after
+IsPivotedPart m lines place (Violated found) = ShowsFirstTwoIn m lines place found.rows found.columns

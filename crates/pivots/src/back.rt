@@ -8,7 +8,9 @@ ghost use Rattle.cmr_base.specs.Sums.{IsOdd};
 ghost use Rattle.cmr_base.specs.Violator.{IsViolator};
 ghost use Rattle.ghouila.specs.PivotLaws.{pivot_at, AreLinesBefore};
 ghost use Rattle.pivots.specs.ChosenLines.{with_line};
+ghost use Rattle.pivots.specs.PivotedParts.{pivoted_part, IsPlaceIn, AreAmong};
 
+use crate::PivotPlace;
 use cmr_base::{Indices, LineSet, MAX_COLUMNS, MAX_ROWS, Matrix, Memory};
 use std::alloc::Global;
 
@@ -41,6 +43,28 @@ pub fn violator_before(
         rows: with_line(alloc, &lines.rows, row, has_row)?,
         columns: with_line(alloc, &lines.columns, column, has_column)?,
     })
+}
+
+/// The same of the pivot of a submatrix in its place, with a violator among its lines: so are the lines before.
+pub fn violator_before_part(
+    alloc: Global,
+    matrix: &Matrix,
+    _lines: &LineSet,
+    place: PivotPlace,
+    fault: &LineSet,
+) -> Result<LineSet, Memory>
+    requires rows { IsRowSet matrix.now _lines.now.rows }
+    requires columns { IsColumnSet matrix.now _lines.now.columns }
+    requires place { IsPlaceIn matrix.now _lines.now place }
+    requires among { AreAmong _lines.now fault.now.rows fault.now.columns }
+    ensures lines { IfOk result (λ before. AreLinesBefore matrix.now place.row place.column fault.now.rows fault.now.columns before.rows before.columns) }
+    ensures row_set { IfOk result (λ before. IsRowSet matrix.now before.rows) }
+    ensures column_set { IfOk result (λ before. IsColumnSet matrix.now before.columns) }
+    ensures among { IfOk result (λ before. AreAmong _lines.now before.rows before.columns) }
+    ensures violator { IsViolator (entry (pivoted_part matrix.now _lines.now place)) fault.now.rows fault.now.columns → IfOk result (λ before. IsViolator (entry matrix.now) before.rows before.columns) }
+{
+    let before = violator_before(alloc, matrix, place.row, place.column, fault)?;
+    Ok(before)
 }
 
 fn is_odd(sum: i32) -> bool

@@ -1,10 +1,16 @@
-//! The pivot of a matrix at a nonzero, which decides no less than the matrix, and violators taken back through it.
+//! The pivot of a matrix, or of a submatrix in its place, at a nonzero: it decides no less than the matrix, and violators are
+//! taken back through it.
 #![tactic(auto)]
 
 mod back;
+mod drawn;
+pub mod laws;
 mod matrix_pivot;
+mod part_pivot;
 mod place;
 
-pub use back::violator_before;
+pub use back::{violator_before, violator_before_part};
+pub use drawn::{DrawnPlace, drawn_place};
 pub use matrix_pivot::{Pivoted, pivot};
+pub use part_pivot::{PivotedPart, pivot_part};
 pub use place::PivotPlace;

@@ -52,8 +52,9 @@ fn other_rows(alloc: Global, matrix: &Matrix, row: u32) -> Result<Indices, Memor
     Ok(lines.without_row(alloc, row)?.rows)
 }
 
-fn copy_of(alloc: Global, matrix: &Matrix) -> Result<Matrix, Memory>
-    ensures { IfOk result (λ work. work ≡ matrix.now) }
+pub(crate) fn copy_of(alloc: Global, matrix: &Matrix) -> Result<Matrix, Memory>
+    ensures copy { IfOk result (λ work. work ≡ matrix.now) }
+    ensures shape { IsMatrix matrix.now }
 {
     let lines = LineSet::all(alloc, matrix.rows(), matrix.columns())?;
     matrix.part(alloc, &lines)
@@ -76,7 +77,7 @@ fn multiply_row(work: &mut Matrix, row: u32, column: u32)
     }
 }
 
-fn two_lines(alloc: Global, one: u32, other: u32) -> Result<Indices, Memory>
+pub(crate) fn two_lines(alloc: Global, one: u32, other: u32) -> Result<Indices, Memory>
     requires { one ≢ other }
     ensures { IfOk result (λ lines. lines ≡ two_lines one other) }
 {

@@ -15,8 +15,8 @@ part-requires-clause-rows c = subst (λ (n : ℕ). AllBelow n c.in_ok-lines.line
 pub part-requires-clause-columns : goal.part-requires-clause-columns
 part-requires-clause-columns c = subst (λ (n : ℕ). AllBelow n c.in_ok-lines.lines.columns) c.columns.ensures.columns (all_below c.columns.result c.in_ok-lines.lines.columns c.in_ok-lines.ensures.columns)
 
-pub returns : goal.returns
-returns c =
+pub returns-clause-copy : goal.returns-clause-copy
+returns-clause-copy c =
     let m = c.args.matrix.now in
     let lines = c.in_ok-lines.lines in
     let rows : lines.rows ≡ first_lines (height m) = subst (λ (n : ℕ). lines.rows ≡ first_lines n) c.rows.ensures.rows c.in_ok-lines.ensures.rows in

@@ -28,25 +28,25 @@ returns-in-Some c =
 pub make_pivot-requires-clause-rows : goal.make_pivot-requires-clause-rows
 make_pivot-requires-clause-rows c =
     let m = c.args.matrix.now in
-    subst (λ (work : Matrix). IsRowSet work c.as_slice-left.result.now) (sym c.in_ok-work.ensures) (subst (IsRowSet m) (sym (c.as_slice-left.ensures.items ∙ c.in_ok-others.ensures.others))
+    subst (λ (work : Matrix). IsRowSet work c.as_slice-left.result.now) (sym c.in_ok-work.ensures.copy) (subst (IsRowSet m) (sym (c.as_slice-left.ensures.items ∙ c.in_ok-others.ensures.others))
     (record { rising = others_rise (height m) c.args.row; in_range = others_below (height m) c.args.row }))
 
 pub make_pivot-requires-clause-apart : goal.make_pivot-requires-clause-apart
 make_pivot-requires-clause-apart c = subst (IsOutside c.args.row) (sym (c.as_slice-left.ensures.items ∙ c.in_ok-others.ensures.others)) (others_outside (height c.args.matrix.now) c.args.row)
 
 pub make_pivot-requires-clause-nonzero : goal.make_pivot-requires-clause-nonzero
-make_pivot-requires-clause-nonzero c = subst (λ (work : Matrix). IsSign (entry work c.args.row c.args.column)) (sym c.in_ok-work.ensures)
+make_pivot-requires-clause-nonzero c = subst (λ (work : Matrix). IsSign (entry work c.args.row c.args.column)) (sym c.in_ok-work.ensures.copy)
     (pivot_place c.args.matrix.now c.args.row c.args.column c.other_rows.ensures.shape c.requires.row c.requires.column c.requires.nonzero).nonzero
 
 pub make_pivot-requires-clause-small : goal.make_pivot-requires-clause-small
 make_pivot-requires-clause-small c =
-    subst (λ (m : Matrix). AllByRecursion (λ other. IsTernaryRow m.width (reduced (entry m) c.args.row c.args.column other)) c.as_slice-left.result.now) (sym c.in_ok-work.ensures) c.in_default.ensures.none
+    subst (λ (m : Matrix). AllByRecursion (λ other. IsTernaryRow m.width (reduced (entry m) c.args.row c.args.column other)) c.as_slice-left.result.now) (sym c.in_ok-work.ensures.copy) c.in_default.ensures.none
 
 pub returns : goal.returns
 returns c =
     let m = c.args.matrix.now in
     let left = c.as_slice-left.ensures.items ∙ c.in_ok-others.ensures.others in
-    let work = c.in_ok-work.ensures in
+    let work = c.in_ok-work.ensures.copy in
     made_pivot m c.args.row c.args.column (pivot_place m c.args.row c.args.column c.other_rows.ensures.shape c.requires.row c.requires.column c.requires.nonzero) c.make_pivot.new.work c.multiply_row.new.work
     (subst (λ (before : Matrix). KeepsOthers before c.make_pivot.new.work (without (first_lines (height c.args.matrix.now)) c.args.row)) work (subst (KeepsOthers c.in_ok-work.work c.make_pivot.new.work) left c.make_pivot.ensures.others))
     (subst (λ (before : Matrix). PivotsRows before c.make_pivot.new.work c.args.row c.args.column (without (first_lines (height c.args.matrix.now)) c.args.row)) work (subst (PivotsRows c.in_ok-work.work c.make_pivot.new.work c.args.row c.args.column) left c.make_pivot.ensures.pivoted))

@@ -1,0 +1,10 @@
+//! Laws of pivots of submatrices. Each is a function that does nothing: its contract is the law.
+ghost use Rattle.pivots.specs.PartLaws.{PartPivotsTakeViolatorsBack, PartPivotsKeepViolators, PartPivotsStayMatrices};
+
+/// A submatrix has a violator exactly where it has one after its pivot, and a violator there is one here on the same lines
+/// but perhaps the pivot's row and column, as of a whole matrix. With entries -1, 0 and 1 in the pivot the matrix stays one.
+pub fn part_free()
+    ensures lines { PartPivotsTakeViolatorsBack }
+    ensures violators { PartPivotsKeepViolators }
+    ensures shape { PartPivotsStayMatrices }
+{}
