@@ -16,6 +16,7 @@ from contextlib import ExitStack, contextmanager
 from functools import partial
 from pathlib import Path
 from typing import Any
+from unittest import mock
 
 from cmr_matrices import find_program
 from tests.support import EXAMPLES, TOP, is_gone, needs_module, needs_program, waits_until
@@ -140,6 +141,16 @@ class Tables(CommandTest):
 
     @needs_module("pyarrow")
     def test_parquet(self) -> None:
+        self.parquet()
+
+    def test_parquet_over_a_stand_in(self) -> None:
+        """pyarrow is no package of Debian, so that its part is also tried with values and types alone."""
+        stand_ins = str(Path(__file__).parent / "stand_ins")
+        with mock.patch.dict(os.environ, {"PYTHONPATH": stand_ins}):
+            self.parquet()
+
+    def parquet(self) -> None:
+        """A table is written, taken up, and summed up."""
         self.runs("-", "--output", "table.parquet", text=stream(9))
         self.assertEqual(sorted(os.listdir(self.folder)), ["table.parquet"])
         self.runs("-", "--output", "table.parquet", "--resume", text=stream(12))
