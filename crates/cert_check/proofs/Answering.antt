@@ -14,13 +14,11 @@ use Rattle.cmr_base.proofs.Lists.{all-append}
 use Rattle.tree_type.specs.declared.refusal.Refusal.{Refusal}
 use Rattle.tree_type.specs.declared.refusal.Rule.{Rule}
 use Rattle.tree_type.specs.declared.refusal.Rule.TheVariants as rule
-use Rattle.tree_type.specs.Trees.{Finding, Reduced, TwoSum, ThreeSum, Pivoted, Tree, Trees, Branch, NoTrees, MoreTrees, SizedTree, one_tree, two_trees, kind_step, node_step, list_step, lines_of, tree_of}
+use Rattle.tree_type.specs.Trees.{Finding, Reduced, TwoSum, ThreeSum, Pivoted, Tree, Trees, Branch, NoTrees, MoreTrees, SizedTree, one_tree, two_trees, lines_of, tree_of}
 use Rattle.tree_type.specs.declared.tree.Node.{Node}
-use Rattle.tree_type.proofs.NodeTrees.{said, tree_is, said_reduced, said_two_sum, said_three_sum}
+use Rattle.tree_type.proofs.NodeTrees.{said, tree_is, said_reduced, said_two_sum, said_three_sum, said_pivoted}
 use Rattle.tree_type.specs.declared.tree.Kind.{Kind}
 use Rattle.tree_type.specs.declared.tree.Kind.TheVariants as kind
-use Rattle.tree_type.specs.declared.tree.Kind.TheFolds.{fold-roll-Kind}
-use Rattle.tree_type.specs.declared.tree.Kind.TheOpen as open'
 use Rattle.tree_type.specs.Invariant.{AreLines, AreTreesWithin, IsTreeFor}
 use Rattle.tree_type.specs.Places.{due_child, places_below, Due, AllLines, MadePivot, matrix_after, pivots_below, Place, places, places_from, lines_of_each}
 use Rattle.tree_type.specs.Soundness.{HasItsSizes, HasItsLines, Demands, MayStand, Keeps, KeepsAll, rule_number, BreaksFirst, IsFirstBroken}
@@ -282,9 +280,6 @@ two_sum_is node two a b e = kind_is node (kind.TwoSum two a b) (TwoSum two) (two
 
 pub three_sum_is : (node : Node) (three : Three) (a b : Box Node Global) → node.kind ≡ kind.ThreeSum three a b → tree_of node ≡ Branch node.lines (ThreeSum three) (two_trees (tree_of a.value) (tree_of b.value))
 three_sum_is node three a b e = kind_is node (kind.ThreeSum three a b) (ThreeSum three) (two_trees (tree_of a.value) (tree_of b.value)) e (said_three_sum three a b)
-
-said_pivoted : (place : PivotPlace) (child : Box Node Global) → said (kind.Pivoted place child) ≡ (Pivoted place, one_tree (tree_of child.value))
-said_pivoted place child = ap said (sym (kind.rolls-Pivoted place child)) ∙ fold-roll-Kind (Finding × Trees) Tree Trees kind_step node_step list_step (open'.Pivoted place child)
 
 pub pivoted_is : (node : Node) (place : PivotPlace) (child : Box Node Global) → node.kind ≡ kind.Pivoted place child → tree_of node ≡ Branch node.lines (Pivoted place) (one_tree (tree_of child.value))
 pivoted_is node place child e = kind_is node (kind.Pivoted place child) (Pivoted place) (one_tree (tree_of child.value)) e (said_pivoted place child)
