@@ -10,6 +10,7 @@ from collections.abc import Sequence
 from dataclasses import dataclass
 
 __all__ = [
+    "BadCoefficients",
     "BadCommandLine",
     "BadEntry",
     "BadInput",
@@ -17,6 +18,7 @@ __all__ = [
     "CannotRead",
     "CannotWrite",
     "CmrError",
+    "Family",
     "OutOfMemory",
     "ProgramFault",
     "ProgramMissing",
@@ -47,6 +49,32 @@ class BadEntry(BadInput):
 
     def __str__(self) -> str:
         return f"row {self.row}, column {self.column}: the entry {self.entry!r} is none of {self.allowed}"
+
+
+@dataclass(frozen=True)
+class Family:
+    """Rows whose names are the same up to digits and what stands in brackets.
+
+    How many there are, how many of them have entries that are refused, and how many such entries there are.
+    """
+
+    name: str
+    rows: int
+    refused: int
+    entries: int
+
+
+class BadCoefficients(BadInput):
+    """Coefficients of a model that are none of -1, 0 and 1: where the first stands, and the families of all rows."""
+
+    def __init__(self, place: str, families: tuple[Family, ...]) -> None:
+        super().__init__(place, families)
+        self.place = place
+        self.families = families
+
+    def __str__(self) -> str:
+        others = sum(family.entries for family in self.families) - 1
+        return f"{self.place}, nor are {others} others" if others else self.place
 
 
 class Undecided(CmrError):
@@ -134,18 +162,29 @@ class TextPlace:
 class BadText(ProgramFault, BadInput):
     """A text has a fault (status 3): its kind, and the byte before which all is in order, or None where it is too long.
 
-    `place` is the line, the column and the word at this byte, where the text is one that the package has given to the program.
+    `place` is the line, the column and the word at this byte, and `hint` what the text seems to be, where it is one that the package
+    has given to the program.
     """
 
-    def __init__(self, status: int, line: str, kind: str, byte: int | None, place: TextPlace | None = None) -> None:
+    def __init__(
+        self,
+        status: int,
+        line: str,
+        kind: str,
+        byte: int | None,
+        place: TextPlace | None = None,
+        hint: str | None = None,
+    ) -> None:
         super().__init__(status, line)
-        self.args = (status, line, kind, byte, place)
+        self.args = (status, line, kind, byte, place, hint)
         self.kind = kind
         self.byte = byte
         self.place = place
+        self.hint = hint
 
     def __str__(self) -> str:
-        return self.line if self.place is None else f"{self.line} ({self.place})"
+        said = self.line if self.place is None else f"{self.line} ({self.place})"
+        return said if self.hint is None else f"{said}: it seems to be {self.hint}"
 
 
 class CannotRead(ProgramFault, OSError):

@@ -13,7 +13,7 @@ from tests.support import TOP, needs_command, needs_module, needs_program
 
 
 def screens() -> list[str]:
-    """The Python screens of the README: one for each kind of reader, and one on undecided answers."""
+    """The Python screens of the README, one for each section that has some."""
     text = (TOP / "python" / "README.md").read_text(encoding="utf-8")
     return [part for part in text.split("\n## ") if ">>>" in part]
 
