@@ -4,6 +4,7 @@ from __future__ import annotations
 
 import importlib.util
 import shutil
+import subprocess
 import sys
 import unittest
 from collections.abc import Callable
@@ -50,4 +51,10 @@ def needs_command(name: str) -> Callable[[_Test], _Test]:
     return _needs(name, shutil.which(name) is not None)
 
 
+def _takes_pivots() -> bool:
+    ran = subprocess.run([find_program(), "tu", "--pivots", "1"], input=b"0 0", capture_output=True, check=False)
+    return ran.returncode == 0
+
+
 needs_program = _needs("the program cmr", _is_built())
+needs_pivots = _needs("the option --pivots of the program", _is_built() and _takes_pivots())
