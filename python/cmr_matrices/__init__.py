@@ -23,6 +23,7 @@ from .errors import (
     ProgramFault,
     ProgramMissing,
     Refused,
+    TextPlace,
     TimeLimitReached,
     Undecided,
 )
@@ -81,6 +82,7 @@ __all__ = [
     "Signing",
     "SigningStep",
     "Submatrix",
+    "TextPlace",
     "TimeLimitReached",
     "Tree",
     "Undecided",

@@ -3,9 +3,11 @@
 from __future__ import annotations
 
 import importlib.util
+import os
 import shutil
 import subprocess
 import sys
+import time
 import unittest
 from collections.abc import Callable
 from pathlib import Path
@@ -22,6 +24,9 @@ R10 = [[1, 1, 0, 0, 1], [1, 1, 1, 0, 0], [0, 1, 1, 1, 0], [0, 0, 1, 1, 1], [1, 0
 TRIANGLE = [[1, 1, 0], [0, 1, 1], [1, 0, 1]]
 
 _TOLD: set[str] = set()
+
+PATIENCE = 120.0
+"""Seconds that a test waits for what takes a moment on a free machine."""
 
 _Test = TypeVar("_Test", bound=Callable[..., Any])
 
@@ -54,6 +59,24 @@ def needs_command(name: str) -> Callable[[_Test], _Test]:
 def _takes_pivots() -> bool:
     ran = subprocess.run([find_program(), "tu", "--pivots", "1"], input=b"0 0", capture_output=True, check=False)
     return ran.returncode == 0
+
+
+def waits_until(happened: Callable[[], bool], what: str) -> None:
+    """Waits until something has happened, and fails where it does not."""
+    end = time.monotonic() + PATIENCE
+    while not happened():
+        if time.monotonic() > end:
+            raise AssertionError(f"{what} takes longer than {PATIENCE:g} seconds")
+        time.sleep(0.01)
+
+
+def is_gone(process: int) -> bool:
+    """Whether there is no process with this number."""
+    try:
+        os.kill(process, 0)
+    except ProcessLookupError:
+        return True
+    return False
 
 
 needs_program = _needs("the program cmr", _is_built())
