@@ -5,7 +5,7 @@ All take whatever `Matrix.of` takes, and these keywords:
 * `certificate`: whether evidence is computed that costs more than the answer;
 * `lines`: the budget of the search through row sets, 0 to 24, and 14 where it is left out;
 * `workers`: how many threads share the searches, 1 to 64; it changes no answer;
-* `pivots`: how many pivots may be made on the way to a part that nothing else decides, 0 to 100;
+* `pivots`: how many pivots may be made on the way to a part that nothing else decides, 0 to 100, where the program has them;
 * `tries`: where the program leaves the matrix undecided, in how many other orders of the lines it is asked again, 0 to 1000, with
   orders that `seed` draws. What decides it is evidence on the matrix itself: see `Answer.tries`;
 * `time_limit`: seconds after which the program is ended, and the call, tries and all; an undecided answer is given without the rest

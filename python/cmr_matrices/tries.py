@@ -1,7 +1,7 @@
 """What is asked again in other orders of the lines where the program leaves a matrix undecided.
 
 A part that is left open has no cycle fault in its own order, and has one in nearly every other where it is not totally unimodular;
-that is asked first, since it takes little. Then the whole matrix is asked with pivots, in its own order and in others.
+that is asked first, since it takes little. Then the whole matrix is asked, where its decomposition may take another way.
 
 What is found in another order is no answer yet: its evidence is taken back to the matrix's own order, and `check` tests it there. A
 no has a violator, that of a 0/1 matrix on regularity a chain; a yes has a tree, that of a 0/1 matrix one of the signed matrix.
@@ -21,6 +21,7 @@ from .line_orders import LineOrder, drawn_orders
 from .lines import LineSet
 from .matrix import Matrix
 from .nodes import Node
+from .options import TAKES_PIVOTS
 from .program import REFUSED, StrPath
 from .reading import Question
 from .submatrices import Submatrix
@@ -30,9 +31,6 @@ from .trees import Tree
 __all__ = ["Clock", "Tries"]
 
 _CAMION = Question("without cycle fault", ("camion",), said="camion")
-
-_PIVOTS = 20
-"""How many pivots are made where the caller names no number."""
 
 _Found = Iterator[Answer | None]
 """What is found in one order after another, None where it is nothing."""
@@ -153,13 +151,10 @@ class Tries:
         return fault and order.submatrix(fault)
 
     def _wholes(self, question: Question, matrix: Matrix, tree: Tree) -> Iterator[tuple[LineOrder, Answer]]:
-        """The whole matrix with pivots, in its own order and in others."""
-        asked = question
-        if "--pivots" not in question.words:
-            asked = replace(question, words=(*question.words, "--pivots", str(_PIVOTS)))
-        own = LineOrder(matrix, tree.root.rows, tree.root.columns)
-        for order in (own, *drawn_orders(matrix, tree.root.lines, self.count - 1, self.seed)):
-            yield order, asked.ask(order.reordered(), self.program, self.clock.left())
+        """The whole matrix in other orders, where its decomposition may differ: only sums, and pivots, are taken by choice."""
+        if TAKES_PIVOTS or any(node.connectors for _, node in tree.walk()):
+            for order in drawn_orders(matrix, tree.root.lines, self.count, self.seed):
+                yield order, question.ask(order.reordered(), self.program, self.clock.left())
 
     def _no_with_fault(self, matrix: Matrix, undecided: Answer, fault: Submatrix, part: Node) -> Answer:
         """The answer whose tree has a fault in a part that was left open."""

@@ -126,6 +126,13 @@ class Tried(unittest.TestCase):
         self.assertIsNone(answer.open)
         self.assertTrue(independent.is_violator(answer.violator.submatrix(matrix).to_lists()))
 
+    def test_what_stays_undecided(self) -> None:
+        matrix = Matrix.from_text(GOODS)
+        answer = cmr.is_totally_unimodular(matrix, lines=0, tries=3)
+        self.assertEqual((answer.verdict, answer.tries, answer.open is None), ("undecided", 3, False))
+        answer = cmr.is_balanced(matrix, lines=0, tries=2)
+        self.assertEqual((answer.verdict, answer.tries), ("undecided", 2))
+
     def test_a_decided_answer_is_not_asked_again(self) -> None:
         self.assertEqual(cmr.is_totally_unimodular(FANO, tries=20).tries, 0)
 
