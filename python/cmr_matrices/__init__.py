@@ -11,7 +11,9 @@ from 1 in the program's texts.
 from .answers import Answer, Checked, Parts
 from .chains import Chain, ChainStep
 from .constraints import Scaling
+from .edge_lists import graph_of_edges, graph_of_networkx
 from .errors import (
+    BadCoefficients,
     BadCommandLine,
     BadEntry,
     BadInput,
@@ -19,6 +21,7 @@ from .errors import (
     CannotRead,
     CannotWrite,
     CmrError,
+    Family,
     OutOfMemory,
     ProgramFault,
     ProgramMissing,
@@ -29,7 +32,8 @@ from .errors import (
 from .graphs import Edge, Graph
 from .lines import Line, LineSet, Names
 from .matrix import Matrix
-from .modellers import from_linopy, from_model, from_model_scaled, from_pulp, from_pyomo, from_scipy
+from .matroids import named
+from .modellers import from_linopy, from_model, from_model_scaled, from_pulp, from_pyomo, from_scipy, reduced_parts
 from .nodes import Node
 from .program import find_program
 from .questions import (
@@ -52,6 +56,7 @@ from .trees import Tree
 
 __all__ = [
     "Answer",
+    "BadCoefficients",
     "BadCommandLine",
     "BadEntry",
     "BadInput",
@@ -63,6 +68,7 @@ __all__ = [
     "Checked",
     "CmrError",
     "Edge",
+    "Family",
     "Graph",
     "Line",
     "LineSet",
@@ -94,6 +100,8 @@ __all__ = [
     "from_pyomo",
     "from_scipy",
     "generate",
+    "graph_of_edges",
+    "graph_of_networkx",
     "has_no_cycle_fault",
     "is_balanced",
     "is_cographic",
@@ -104,6 +112,8 @@ __all__ = [
     "is_series_parallel",
     "is_totally_unimodular",
     "matrix_of",
+    "named",
     "parts",
+    "reduced_parts",
     "sign",
 ]

@@ -1,56 +1,122 @@
-"""The constraint matrix of a model, and its scaling."""
+"""The constraints of a model as whole numbers: rows that are chosen, scaling, and the families of rows that are refused."""
 
 from __future__ import annotations
 
 import re
-from collections.abc import Callable, Mapping
+from collections.abc import Iterable, Iterator, Mapping
 from dataclasses import dataclass
-from math import gcd
+from fractions import Fraction
+from math import gcd, lcm
 
-from .errors import BadInput
+from .errors import BadCoefficients, BadInput, Family
+from .families import families_of
 from .lines import Names
 from .matrix import Matrix
 from .models import Coefficient, Model
 from .words import LIMIT
 
-__all__ = ["Scaling", "matrix_of_model"]
+__all__ = ["Choice", "Constraints", "Scaling", "constraints_of_model", "matrix_of_constraints", "matrix_of_model"]
+
+Entries = dict[tuple[int, int], Fraction]
 
 
 @dataclass(frozen=True)
-class _Constraints:
-    """Whole numbers at places counted from 0, row by row, and the names of all lines."""
+class Choice:
+    """Which rows of a model are taken, and whether they are scaled.
 
-    names: Names
-    entries: Mapping[tuple[int, int], int]
+    Rows are taken whose names have a match of `rows` and none of `without`, and with `unit_rows` those alone whose coefficients, after
+    the division of rows where it is scaled, are -1, 0 and 1. Then the columns are those that are in these rows.
+    """
+
+    rows: re.Pattern[str] | None = None
+    without: re.Pattern[str] | None = None
+    unit_rows: bool = False
+    scale: bool = False
+
+    @property
+    def is_all(self) -> bool:
+        """Whether all rows are taken."""
+        return self.rows is None and self.without is None and not self.unit_rows
+
+    def takes(self, name: str) -> bool:
+        """Whether a row is taken by its name."""
+        wanted = self.rows is None or self.rows.search(name)
+        return bool(wanted) and not (self.without is not None and self.without.search(name))
 
 
 @dataclass(frozen=True)
 class Scaling:
-    """A line that was divided by the common factor of its entries."""
+    """A line that was divided by the common factor of its entries, which may be a fraction such as 1/2.
+
+    `fractional` are right-hand sides of the row that are no whole numbers once they are divided too.
+    """
 
     kind: str
     name: str
-    factor: int
+    factor: int | Fraction
+    fractional: tuple[float, ...] = ()
+
+    def __str__(self) -> str:
+        is_part = isinstance(self.factor, Fraction) and self.factor.numerator == 1
+        done = f"multiplied by {self.factor.denominator}" if is_part else f"divided by {self.factor}"
+        sides = "".join(f", and its right-hand side {side:.12g} becomes no whole number" for side in self.fractional)
+        return f"{self.kind} {self.name} {done}{sides}"
 
 
-def matrix_of_model(
-    model: Model, rows: re.Pattern[str] | None = None, *, scale: bool = False
-) -> tuple[Matrix, tuple[Scaling, ...]]:
+@dataclass(frozen=True)
+class Constraints:
+    """Entries -1 and 1 at places counted from 0, row by row, the names of all lines, and what was divided."""
+
+    names: Names
+    entries: Mapping[tuple[int, int], int]
+    scalings: tuple[Scaling, ...] = ()
+
+
+def matrix_of_model(model: Model, choice: Choice = Choice()) -> tuple[Matrix, tuple[Scaling, ...]]:
     """The constraint matrix of a model, and the lines that were divided where it is scaled.
 
-    `rows` takes the rows whose names have a match, and the columns that are in them. Raises `BadInput` where it is no matrix with
-    entries -1, 0 and 1, with the names of the row and the column at fault.
+    Raises `BadInput` where it is no matrix with entries -1, 0 and 1, with the names of the row and the column at fault.
     """
-    constraints = _whole(_only_rows(model, rows) if rows else model)
-    if not scale:
-        return _matrix(constraints, "coefficient"), ()
-    divided, scalings = _scaled(constraints)
-    return _matrix(divided, "divided coefficient"), tuple(scalings)
+    constraints = constraints_of_model(model, choice)
+    return matrix_of_constraints(constraints), constraints.scalings
 
 
-def _only_rows(model: Model, pattern: re.Pattern[str]) -> Model:
-    """The rows whose names the pattern fits somewhere, and the columns that have a coefficient in them."""
-    rows = [row for row, name in enumerate(model.rows) if pattern.search(name)]
+def matrix_of_constraints(constraints: Constraints) -> Matrix:
+    """The matrix, which may have up to 1,000 rows and columns."""
+    names = constraints.names
+    for count, kind in ((len(names.rows), "rows"), (len(names.columns), "columns")):
+        if count > LIMIT:
+            raise BadInput(f"there are {count} {kind}, and a matrix may have at most {LIMIT}")
+    nonzeros = sorted((row, column, entry) for (row, column), entry in constraints.entries.items())
+    return Matrix(names.shape, tuple(nonzeros), names)
+
+
+def constraints_of_model(model: Model, choice: Choice = Choice()) -> Constraints:
+    """The chosen constraints, of any number. Raises `BadCoefficients` where an entry is none of -1, 0 and 1."""
+    if not model.rows:
+        raise BadInput("there are no rows")
+    taken = _only_rows(model, [row for row, name in enumerate(model.rows) if choice.takes(name)], choice.is_all)
+    if not taken.rows:
+        raise BadInput("there is no row whose name fits")
+    entries, row_scalings = _rows_divided(taken) if choice.scale else (_entries(taken), [])
+    if choice.unit_rows:
+        bad = {row for (row, _), entry in entries.items() if abs(entry) != 1}
+        taken = _only_rows(taken, [row for row in range(len(taken.rows)) if row not in bad], False)
+        if not taken.rows:
+            raise BadInput("there is no row with coefficients -1, 0 and 1 alone")
+        entries, row_scalings = _rows_divided(taken) if choice.scale else (_entries(taken), [])
+    column_scalings: list[Scaling] = []
+    if choice.scale:
+        entries, column_scalings = _columns_divided(taken, entries)
+    _must_be_units(taken, entries, "divided coefficient" if choice.scale else "coefficient")
+    whole = {place: int(entry) for place, entry in entries.items()}
+    return Constraints(Names(taken.rows, taken.columns), whole, tuple(row_scalings + column_scalings))
+
+
+def _only_rows(model: Model, rows: list[int], is_all: bool) -> Model:
+    """Some rows, and the columns that have a coefficient in them."""
+    if is_all:
+        return model
     row_places = {row: place for place, row in enumerate(rows)}
     kept = [coefficient for coefficient in model.coefficients if coefficient.row in row_places]
     columns = sorted({coefficient.column for coefficient in kept})
@@ -59,56 +125,66 @@ def _only_rows(model: Model, pattern: re.Pattern[str]) -> Model:
         tuple(model.rows[row] for row in rows),
         tuple(model.columns[column] for column in columns),
         tuple(Coefficient(row_places[at.row], column_places[at.column], at.value) for at in kept),
+        tuple(model.sides[row] for row in rows) if model.sides else (),
     )
 
 
-def _whole(model: Model) -> _Constraints:
-    """The coefficients of a model's constraints, which must have rows, not too many lines, and whole coefficients."""
-    if not model.rows:
-        raise BadInput("there are no rows")
-    for count, kind in ((len(model.rows), "rows"), (len(model.columns), "columns")):
-        if count > LIMIT:
-            raise BadInput(f"there are {count} {kind}, and a matrix may have at most {LIMIT}")
-    for at in model.coefficients:
-        if not at.value.is_integer():
-            place = _place(model.rows[at.row], model.columns[at.column])
-            raise BadInput(f"{place}: the coefficient {at.value:.12g} is no whole number")
-    entries = {(at.row, at.column): int(at.value) for at in model.coefficients if at.value}
-    return _Constraints(Names(model.rows, model.columns), entries)
+def _entries(model: Model) -> Entries:
+    """The nonzeros as fractions: what stands in a file as 0.1 is a tenth."""
+    return {(at.row, at.column): Fraction(f"{at.value:.15g}") for at in model.coefficients if at.value}
 
 
-def _scaled(matrix: _Constraints) -> tuple[_Constraints, list[Scaling]]:
-    """Divides each row by the common factor of its entries, and then each column, and tells the lines that it changes."""
-    names = matrix.names
-    by_rows, row_factors = _divided(matrix.entries, lambda place: place[0])
-    by_columns, column_factors = _divided(by_rows, lambda place: place[1])
-    rows = [Scaling("row", names.rows[line], factor) for line, factor in row_factors.items()]
-    columns = [Scaling("column", names.columns[line], factor) for line, factor in column_factors.items()]
-    return _Constraints(names, by_columns), rows + columns
+def _rows_divided(model: Model) -> tuple[Entries, list[Scaling]]:
+    """Divides each row by the common factor of its entries, and tells the rows that it changes."""
+    entries = _entries(model)
+    factors = _factors((row, entry) for (row, _), entry in entries.items())
+    divided = {place: entry / factors[place[0]] for place, entry in entries.items()}
+    scalings = []
+    for row, factor in sorted(factors.items()):
+        if factor != 1:
+            sides = model.sides[row] if model.sides else ()
+            broken = tuple(side for side in sides if (Fraction(f"{side:.15g}") / factor).denominator != 1)
+            scalings.append(Scaling("row", model.rows[row], _plain(factor), broken))
+    return divided, scalings
 
 
-def _matrix(constraints: _Constraints, entry_name: str) -> Matrix:
-    """The matrix of constraints. Where an entry is none of -1, 0 and 1, `BadInput` tells the first and the number of the others."""
-    large = [(place, entry) for place, entry in constraints.entries.items() if abs(entry) > 1]
+def _columns_divided(model: Model, entries: Entries) -> tuple[Entries, list[Scaling]]:
+    factors = _factors((column, entry) for (_, column), entry in entries.items())
+    divided = {place: entry / factors[place[1]] for place, entry in entries.items()}
+    changed = ((column, factor) for column, factor in sorted(factors.items()) if factor != 1)
+    return divided, [Scaling("column", model.columns[column], _plain(factor)) for column, factor in changed]
+
+
+def _factors(entries: Iterable[tuple[int, Fraction]]) -> dict[int, Fraction]:
+    """The common factor of the entries of each line: the greatest one by which all become whole numbers."""
+    tops: dict[int, int] = {}
+    bottoms: dict[int, int] = {}
+    for line, entry in entries:
+        tops[line] = gcd(tops.get(line, 0), entry.numerator)
+        bottoms[line] = lcm(bottoms.get(line, 1), entry.denominator)
+    return {line: Fraction(top, bottoms[line]) for line, top in tops.items()}
+
+
+def _plain(factor: Fraction) -> int | Fraction:
+    return factor.numerator if factor.denominator == 1 else factor
+
+
+def _must_be_units(model: Model, entries: Entries, entry_name: str) -> None:
+    """Raises `BadCoefficients` at the first entry that is none of -1, 0 and 1, with the families of rows that have some."""
+    large = [place for place, entry in entries.items() if abs(entry) != 1]
     if large:
-        (row, column), entry = large[0]
-        place = _place(constraints.names.rows[row], constraints.names.columns[column])
-        others = f", nor are {len(large) - 1} others" if len(large) > 1 else ""
-        raise BadInput(f"{place}: the {entry_name} {entry} is none of -1, 0 and 1{others}")
-    nonzeros = sorted((row, column, entry) for (row, column), entry in constraints.entries.items())
-    return Matrix(constraints.names.shape, tuple(nonzeros), constraints.names)
+        row, column = large[0]
+        entry = entries[row, column]
+        fault = "is none of -1, 0 and 1" if entry.denominator == 1 else "is no whole number"
+        place = f"row {model.rows[row]}, column {model.columns[column]}"
+        said = f"{place}: the {entry_name} {float(entry):.12g} {fault}"
+        raise BadCoefficients(said, tuple(_families(model, large)))
 
 
-Entries = Mapping[tuple[int, int], int]
-
-
-def _divided(entries: Entries, line_of: Callable[[tuple[int, int]], int]) -> tuple[Entries, dict[int, int]]:
-    factors: dict[int, int] = {}
-    for place, entry in entries.items():
-        factors[line_of(place)] = gcd(factors.get(line_of(place), 0), entry)
-    divided = {place: entry // factors[line_of(place)] for place, entry in entries.items()}
-    return divided, {line: factor for line, factor in sorted(factors.items()) if factor > 1}
-
-
-def _place(row: str, column: str) -> str:
-    return f"row {row}, column {column}"
+def _families(model: Model, large: list[tuple[int, int]]) -> Iterator[Family]:
+    counts: dict[int, int] = {}
+    for row, _ in large:
+        counts[row] = counts.get(row, 0) + 1
+    for name, rows in families_of(model.rows).items():
+        bad = [row for row in rows if row in counts]
+        yield Family(name, len(rows), len(bad), sum(counts[row] for row in bad))

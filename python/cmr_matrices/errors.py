@@ -7,8 +7,10 @@ program that is missing a `FileNotFoundError`, a time limit a `TimeoutError`.
 from __future__ import annotations
 
 from collections.abc import Sequence
+from dataclasses import dataclass
 
 __all__ = [
+    "BadCoefficients",
     "BadCommandLine",
     "BadEntry",
     "BadInput",
@@ -16,6 +18,7 @@ __all__ = [
     "CannotRead",
     "CannotWrite",
     "CmrError",
+    "Family",
     "OutOfMemory",
     "ProgramFault",
     "ProgramMissing",
@@ -45,6 +48,32 @@ class BadEntry(BadInput):
 
     def __str__(self) -> str:
         return f"row {self.row}, column {self.column}: the entry {self.entry!r} is none of {self.allowed}"
+
+
+@dataclass(frozen=True)
+class Family:
+    """Rows whose names are the same up to digits and what stands in brackets.
+
+    How many there are, how many of them have entries that are refused, and how many such entries there are.
+    """
+
+    name: str
+    rows: int
+    refused: int
+    entries: int
+
+
+class BadCoefficients(BadInput):
+    """Coefficients of a model that are none of -1, 0 and 1: where the first stands, and the families of all rows."""
+
+    def __init__(self, place: str, families: tuple[Family, ...]) -> None:
+        super().__init__(place, families)
+        self.place = place
+        self.families = families
+
+    def __str__(self) -> str:
+        others = sum(family.entries for family in self.families) - 1
+        return f"{self.place}, nor are {others} others" if others else self.place
 
 
 class Undecided(CmrError):

@@ -10,9 +10,10 @@ from collections.abc import Iterator, Sequence
 from dataclasses import dataclass, field
 from typing import Any
 
-from .dot import document, statement, svg
+from .dot import svg
 from .errors import BadInput
 from .lines import Kind, Line, Names
+from .network_picture import DRAWN, picture
 
 __all__ = ["Edge", "Graph"]
 
@@ -78,14 +79,22 @@ class Graph:
                 graph.add_edge(edge.tail, edge.head, key=edge.line, line=edge.line, name=name, in_tree=in_tree)
         return graph
 
-    def to_dot(self, names: Names | None = None, *, directed: bool | None = None) -> str:
-        """The graph in DOT: the edges of the tree are drawn in full, and the edges of walks are dashed."""
-        names = names or self._names
-        kind, join = ("digraph", "->") if (self.directed if directed is None else directed) else ("graph", "--")
-        nodes = [statement(str(node), {}) for node in range(len(self.arcs) + 1)]
-        arcs = [_drawn(edge, join, names, {"penwidth": "2"}) for edge in self.arcs]
-        walks = [_drawn(edge, join, names, _WALK) for edge in self.walks]
-        return document(kind, "network", _DEFAULTS + nodes + arcs + walks)
+    def to_dot(
+        self,
+        names: Names | None = None,
+        *,
+        directed: bool | None = None,
+        limit: int = DRAWN,
+        tree: bool = False,
+    ) -> str:
+        """The graph in DOT, with a layout that fits to its number of edges.
+
+        Where no walk takes more than two arcs, as in the network of a flow model, the arcs are drawn as nodes and the walks as
+        edges between them. Else, and always with `tree`, the edges of the tree are drawn in full and those of walks dashed. With
+        more edges than `limit` the families of lines are drawn, with their counts.
+        """
+        directed = self.directed if directed is None else directed
+        return picture(self, names or self._names, directed=directed, limit=limit, tree=tree)
 
     def _repr_svg_(self) -> str | None:
         return svg(self.to_dot()) if len(self.edges) <= _DRAWN else None
@@ -109,20 +118,6 @@ class Graph:
     @property
     def _names(self) -> Names:
         return self.names or Names.numbered(*(1 + max(numbers, default=-1) for numbers in _numbers(self.edges)))
-
-
-_DEFAULTS = [
-    statement("graph", {"nodesep": "0.4", "ranksep": "0.5"}),
-    statement(
-        "node", {"shape": "circle", "width": "0.3", "fixedsize": "true", "fontname": "Helvetica", "fontsize": "11"}
-    ),
-    statement("edge", {"fontname": "Helvetica", "fontsize": "10", "arrowsize": "0.6"}),
-]
-_WALK = {"style": "dashed", "color": "#3060a0", "fontcolor": "#3060a0"}
-
-
-def _drawn(edge: Edge, join: str, names: Names, look: dict[str, str]) -> str:
-    return statement(f"{edge.tail} {join} {edge.head}", {"label": names.line(edge.line)} | look)
 
 
 def _numbers(edges: Sequence[Edge]) -> Iterator[list[int]]:

@@ -14,62 +14,110 @@ import re
 from collections.abc import Iterable, Iterator, Sequence
 from typing import Any, Literal
 
-from .constraints import Scaling, matrix_of_model
-from .errors import BadInput
+from .constraints import Choice, Constraints, Scaling, constraints_of_model, matrix_of_constraints, matrix_of_model
+from .errors import BadCoefficients, BadInput
 from .matrix import Matrix
-from .models import Coefficient, Model, format_of, read_model
+from .model_reductions import connected_parts, reduced
+from .models import Coefficient, Model, read_model
 from .program import StrPath
+from .reductions import Reductions
 from .sources import MatrixLike, entries_of
 
-__all__ = ["from_linopy", "from_model", "from_model_scaled", "from_pulp", "from_pyomo", "from_scipy", "matrix_of_file"]
+__all__ = [
+    "constraints_of_file",
+    "from_linopy",
+    "from_model",
+    "from_model_scaled",
+    "from_pulp",
+    "from_pyomo",
+    "from_scipy",
+    "matrix_of_part",
+    "reduced_parts",
+]
 
 Format = Literal["mps", "lp", "mathprog"]
+Pattern = str | re.Pattern[str]
 
 
 def from_model(
     path: StrPath,
     *,
     form: Format | None = None,
-    rows: str | re.Pattern[str] | None = None,
+    rows: Pattern | None = None,
+    without: Pattern | None = None,
+    unit_rows: bool = False,
     data: StrPath | None = None,
 ) -> Matrix:
     """The matrix of a model in a file: fixed or free MPS, the LP format of CPLEX, or GNU MathProg, which may have its `data` apart.
 
-    The suffix tells the format where `form` is left out: `.lp`, `.mod`, and all else is MPS. With `rows` the matrix has the rows
-    whose names have a match, and the columns that are in them. GLPK reads the files, so Debian's python3-swiglpk has to be there.
+    Where `form` is left out, the suffixes `.lp`, `.mod` and `.mps` tell the format, and else what the file begins with. With `rows` the
+    matrix has the rows whose names have a match, with `without` those that have none, with `unit_rows` those whose coefficients are
+    -1, 0 and 1, and then the columns that are in them. GLPK reads the files, so Debian's python3-swiglpk has to be there.
     """
-    return matrix_of_file(path, form, rows, data)[0]
+    choice = Choice(_pattern(rows), _pattern(without), unit_rows)
+    return matrix_of_part(path, constraints_of_file(path, form, choice, data))
 
 
 def from_model_scaled(
     path: StrPath,
     *,
     form: Format | None = None,
-    rows: str | re.Pattern[str] | None = None,
+    rows: Pattern | None = None,
+    without: Pattern | None = None,
+    unit_rows: bool = False,
     data: StrPath | None = None,
 ) -> tuple[Matrix, tuple[Scaling, ...]]:
     """The same where each row, and then each column, is divided by the common factor of its coefficients first.
 
-    Beside the matrix stand the lines that were divided: their right-hand sides have to be integral after the division.
+    A factor may be a fraction: rows of 0.5 are divided by 1/2. Beside the matrix stand the lines that were divided: their right-hand
+    sides have to be integral after the division, and those that are not are named there.
     """
-    return matrix_of_file(path, form, rows, data, scale=True)
+    choice = Choice(_pattern(rows), _pattern(without), unit_rows, scale=True)
+    constraints = constraints_of_file(path, form, choice, data)
+    return matrix_of_part(path, constraints), constraints.scalings
 
 
-def matrix_of_file(
+def reduced_parts(
     path: StrPath,
-    form: Format | None,
-    rows: str | re.Pattern[str] | None,
-    data: StrPath | None,
     *,
-    scale: bool = False,
-) -> tuple[Matrix, tuple[Scaling, ...]]:
-    """The matrix of a model in a file, and the lines that were divided where it is scaled. Every fault names the file."""
+    form: Format | None = None,
+    rows: Pattern | None = None,
+    without: Pattern | None = None,
+    unit_rows: bool = False,
+    data: StrPath | None = None,
+) -> tuple[tuple[Matrix, ...], Reductions]:
+    """The connected parts of what is left of a model, which may have any number of rows, once its reducible lines are taken away.
+
+    These are lines that are zero, have one nonzero, or are copies or negatives of others, and the list of reductions has them. The
+    matrix of the model is totally unimodular exactly where all parts are. Raises `BadInput` where a part is too large for a matrix.
+    """
+    choice = Choice(_pattern(rows), _pattern(without), unit_rows)
+    left, steps = reduced(constraints_of_file(path, form, choice, data))
+    return tuple(matrix_of_part(path, part) for part in connected_parts(left)), steps
+
+
+def constraints_of_file(path: StrPath, form: Format | None, choice: Choice, data: StrPath | None) -> Constraints:
+    """The chosen constraints of a model in a file, of any number. Every fault names the file."""
     name = os.fspath(path)
-    model = read_model(name, form or format_of(name), None if data is None else os.fspath(data))
+    model = read_model(name, form, None if data is None else os.fspath(data))
     try:
-        return matrix_of_model(model, re.compile(rows) if isinstance(rows, str) else rows, scale=scale)
+        return constraints_of_model(model, choice)
+    except BadCoefficients as fault:
+        raise BadCoefficients(f"{name}: {fault.place}", fault.families) from fault
     except BadInput as fault:
         raise BadInput(f"{name}: {fault}") from fault
+
+
+def matrix_of_part(path: StrPath, constraints: Constraints) -> Matrix:
+    """The matrix of constraints of a file, which is named where they are too many."""
+    try:
+        return matrix_of_constraints(constraints)
+    except BadInput as fault:
+        raise BadInput(f"{os.fspath(path)}: {fault}") from fault
+
+
+def _pattern(pattern: Pattern | None) -> re.Pattern[str] | None:
+    return re.compile(pattern) if isinstance(pattern, str) else pattern
 
 
 def from_pulp(problem: Any) -> Matrix:

@@ -1,7 +1,7 @@
 """Constraints of linear models, and models in files, read by GLPK through Debian's `python3-swiglpk`.
 
 GLPK reads fixed and free MPS and keeps the names, without their blanks. Models in GNU MathProg and in the LP format of CPLEX
-are turned into free MPS by `glpsol` of Debian's `glpk-utils`.
+are turned into free MPS by `glpsol` of Debian's `glpk-utils`. What solvers write and GLPK does not know is put in its words first.
 """
 
 from __future__ import annotations
@@ -17,11 +17,11 @@ from pathlib import Path
 from typing import Any
 
 from .errors import BadInput
+from .model_texts import format_of, plain_text
 
-__all__ = ["Coefficient", "Model", "format_of", "read_model"]
+__all__ = ["Coefficient", "Model", "read_model"]
 
 TRANSLATIONS = {"lp": "--lp", "mathprog": "--math"}
-FORMATS = {".lp": "lp", ".mod": "mathprog"}
 
 
 @dataclass(frozen=True)
@@ -35,32 +35,43 @@ class Coefficient:
 
 @dataclass(frozen=True)
 class Model:
-    """The constraints of a linear model: free rows, such as the objective, are none of them."""
+    """The constraints of a linear model: free rows, such as the objective, are none of them.
+
+    `sides` has the right-hand sides of each row, two for a range, where they are known.
+    """
 
     rows: tuple[str, ...]
     columns: tuple[str, ...]
     coefficients: tuple[Coefficient, ...]
+    sides: tuple[tuple[float, ...], ...] = ()
 
 
-def format_of(name: str) -> str:
-    """The format that the suffix of a file tells, MPS where it tells none."""
-    return FORMATS.get(Path(name).suffix.lower(), "mps")
+def read_model(name: str, form: str | None, data: str | None = None) -> Model:
+    """The model of a file in the format `mps`, `lp` or `mathprog`, which may have its data in a second file.
 
-
-def read_model(name: str, form: str, data: str | None = None) -> Model:
-    """The model of a file in the format `mps`, `lp` or `mathprog`, which may have its data in a second file."""
-    for file in (name, *([data] if data else [])):
-        _must_be_readable(file)
-    if form == "mps":
-        return _read_mps(name, name)
+    Where no format is given, the file's suffix tells it, or what the file begins with.
+    """
+    text = _read(name)
+    if data:
+        _read(data)
+    form = form or format_of(name, text)
+    if data and form != "mathprog":
+        raise BadInput(f"{name}: --data goes with a model in GNU MathProg, and this is {form}")
+    try:
+        text = plain_text(text, form)
+    except BadInput as fault:
+        raise BadInput(f"{name}: {fault}") from fault
     with tempfile.TemporaryDirectory() as folder:
-        translated = os.path.join(folder, "model.mps")
-        _translate(name, TRANSLATIONS[form], data, translated)
+        source, translated = (os.path.join(folder, part) for part in ("model", "model.mps"))
+        Path(source).write_bytes(text)
+        if form == "mps":
+            return _read_mps(source, name)
+        _translate(source, name, TRANSLATIONS[form], data, translated)
         return _read_mps(translated, name)
 
 
-def _translate(name: str, option: str, data: str | None, translated: str) -> None:
-    command = ["glpsol", option, os.path.abspath(name), "--check", "--wfreemps", translated]
+def _translate(source: str, name: str, option: str, data: str | None, translated: str) -> None:
+    command = ["glpsol", option, source, "--check", "--wfreemps", translated]
     if data:
         command += ["--data", os.path.abspath(data)]
     try:
@@ -68,7 +79,9 @@ def _translate(name: str, option: str, data: str | None, translated: str) -> Non
     except FileNotFoundError as fault:
         raise BadInput(f"{name}: reading it needs glpsol of Debian's glpk-utils") from fault
     if run.returncode != 0 or not os.path.exists(translated):
-        raise BadInput(f"{name}: no model, {_Complaint.of(run.stdout).words}")
+        words = _Complaint.of(run.stdout).words
+        hint = f" (files of tables are looked for from {os.getcwd()})" if "table" in words else ""
+        raise BadInput(f"{name}: no model, {words}{hint}")
 
 
 def _read_mps(path: str, name: str) -> Model:
@@ -104,7 +117,15 @@ def _constraints(glpk: Any, problem: Any) -> Model:
         tuple(glpk.glp_get_row_name(problem, row) for row in kept),
         tuple(glpk.glp_get_col_name(problem, column) for column in columns),
         tuple(coefficients),
+        tuple(_sides(glpk, problem, row) for row in kept),
     )
+
+
+def _sides(glpk: Any, problem: Any, row: int) -> tuple[float, ...]:
+    kind = glpk.glp_get_row_type(problem, row)
+    lower = [glpk.glp_get_row_lb(problem, row)] if kind in (glpk.GLP_LO, glpk.GLP_DB, glpk.GLP_FX) else []
+    upper = [glpk.glp_get_row_ub(problem, row)] if kind in (glpk.GLP_UP, glpk.GLP_DB) else []
+    return tuple(lower + upper)
 
 
 def _numbers(count: int) -> range:
@@ -119,10 +140,9 @@ def _glpk() -> Any:
     return swiglpk
 
 
-def _must_be_readable(name: str) -> None:
+def _read(name: str) -> bytes:
     try:
-        with open(name, "rb"):
-            pass
+        return Path(name).read_bytes()
     except OSError as fault:
         raise BadInput(f"cannot read {name}: {fault.strerror}") from fault
 

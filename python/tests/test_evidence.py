@@ -148,8 +148,8 @@ class Graphs(unittest.TestCase):
         self.assertEqual(sorted(data["name"] for _, _, data in plain.edges(data=True)), ["c0", "c1", "c2", "r0", "r1"])
 
     def test_dot(self) -> None:
-        self.assertIn('0 -> 1 [label="r0", penwidth="2"]', Graph.from_text(GRAPH).to_dot())
-        self.assertIn("0 -- 2 [", Graph.from_text(GRAPH, directed=False).to_dot())
+        self.assertIn('0 -> 1 [label="r0", penwidth="2"]', Graph.from_text(GRAPH).to_dot(tree=True))
+        self.assertIn("0 -- 2 [", Graph.from_text(GRAPH, directed=False).to_dot(tree=True))
 
 
 class Pictures(unittest.TestCase):

@@ -13,7 +13,7 @@ from tests.support import TOP, needs_command, needs_module, needs_program
 
 
 def screens() -> list[str]:
-    """The Python screens of the README, one for each kind of reader."""
+    """The Python screens of the README, one for each section that has some."""
     text = (TOP / "python" / "README.md").read_text(encoding="utf-8")
     return [part for part in text.split("\n## ") if ">>>" in part]
 
@@ -22,7 +22,7 @@ def screens() -> list[str]:
 class Screens(unittest.TestCase):
     @needs_module("networkx")
     def test_the_readme(self) -> None:
-        self.assertEqual(len(screens()), 2)
+        self.assertEqual(len(screens()), 3)
         for screen in screens():
             title = screen.splitlines()[0]
             with self.subTest(screen=title):

@@ -65,6 +65,14 @@ class ScriptTest(unittest.TestCase):
         self.assertTrue(run.stderr.startswith(name), run.stderr)
         return run.stderr[len(name) :].rstrip("\n")
 
+    def refused_with_families(self, script, *words):
+        """The line of a refusal, and the table of families of rows below it, without its head."""
+        run = self.run_script(script, *words)
+        self.assertEqual((run.returncode, run.stdout), (1, ""), run.stderr)
+        line, head, *rows = run.stderr.splitlines()
+        self.assertEqual(head.split(), ["rows", "refused", "entries", "family"])
+        return line.removeprefix(f"{script}: "), [tuple(row.split(maxsplit=3)) for row in rows]
+
     def write(self, name, text):
         (self.folder / name).write_text(text, encoding="utf-8")
         return name

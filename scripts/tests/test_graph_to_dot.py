@@ -1,11 +1,28 @@
 """Tests of `graph_to_dot`."""
 
+import random
+import re
 import subprocess
 
 from tests.support import ScriptTest, needs_dot, needs_python
 
 GRAPH = "0 1 r1\n2 1 r2\n0 2 c1\n1 2 c2\n0 0 c3\n"
 TRANSPOSED = "0 1 c1\n2 1 c2\n0 2 r1\n"
+
+
+def flow(nodes, arcs):
+    """The graph text of the node-arc matrix of a random network, with its names."""
+    number = random.Random(1)
+    pairs = set()
+    while len(pairs) < arcs:
+        pairs.add(tuple(number.sample(range(2, nodes + 2), 2)))
+    tree = [(node, 1) if node > 1 else (0, 1) for node in (0, *range(2, nodes + 1))]
+    ends = [(0 if tail == nodes + 1 else tail, 0 if head == nodes + 1 else head) for tail, head in sorted(pairs)]
+    text = [f"{tail} {head} r{row}\n" for row, (tail, head) in enumerate(tree, 1)]
+    text += [f"{tail} {head} c{column}\n" for column, (tail, head) in enumerate(ends, 1)]
+    names = [f"r{row} node[{tail}]\n" for row, (tail, _) in enumerate(tree, 1)]
+    names += [f"c{column} flow[{tail},{head}]\n" for column, (tail, head) in enumerate(ends, 1)]
+    return "".join(text), "".join(names)
 
 
 @needs_python
@@ -18,21 +35,58 @@ class GraphPictures(ScriptTest):
 
     def test_arcs_and_walks(self):
         arcs = ["0 -> 1 r1", "2 -> 1 r2"]
-        self.assertEqual(self.edges(GRAPH), [*arcs, "0 -> 2 c1 dashed", "1 -> 2 c2 dashed", "0 -> 0 c3 dashed"])
+        walks = ["0 -> 2 c1 dashed", "1 -> 2 c2 dashed", "0 -> 0 c3 dashed"]
+        self.assertEqual(self.edges(GRAPH, "--tree"), [*arcs, *walks])
 
     def test_names(self):
         names = self.write("names", "r1 ann\nr2 bob\nc1 mon\nc2 tue\nc3 wed\n")
-        edges = self.edges(GRAPH, "--names", names, "--undirected")
+        edges = self.edges(GRAPH, "--names", names, "--undirected", "--tree")
         self.assertEqual(
             edges, ["0 -- 1 ann", "2 -- 1 bob", "0 -- 2 mon dashed", "1 -- 2 tue dashed", "0 -- 0 wed dashed"]
         )
 
     def test_a_graph_of_the_transposed_matrix(self):
-        self.assertEqual(self.edges(TRANSPOSED), ["0 -> 1 c1", "2 -> 1 c2", "0 -> 2 r1 dashed"])
+        self.assertEqual(self.edges(TRANSPOSED, "--tree"), ["0 -> 1 c1", "2 -> 1 c2", "0 -> 2 r1 dashed"])
+        self.assertEqual(self.edges(TRANSPOSED), ["c1 -> c2 r1"])
+
+    def test_a_tree_is_drawn_where_a_path_takes_three_arcs(self):
+        text = "0 1 r1\n1 2 r2\n2 3 r3\n0 2 c1\n0 3 c2\n"
+        arcs = ["0 -> 1 r1", "1 -> 2 r2", "2 -> 3 r3"]
+        self.assertEqual(self.edges(text), [*arcs, "0 -> 2 c1 dashed", "0 -> 3 c2 dashed"])
+
+    def test_rows_are_nodes_where_no_path_takes_more_than_two_arcs(self):
+        lines = self.output("graph_to_dot", text=GRAPH)
+        for piece in ('r1 -> r2 [label="c1"]', '"c2.end" -> r2 [label="c2"]', '"c3.end" -> "c3.end" [label="c3"]'):
+            self.assertIn(piece, lines)
+        self.assertNotIn("dashed", lines)
+
+    def test_arrows_as_the_names_tell(self):
+        """Of a matrix the arrows can be turned around together, and indices say which way they are meant."""
+        for columns in (["flow[a,b]", "flow[b,c]"], ["flow[b,a]", "flow[c,b]"]):
+            names = self.write("names", "".join(f"r{i} node[{it}]\n" for i, it in enumerate("abc", 1)))
+            names = self.write("names", self.read("names") + "".join(f"c{i} {it}\n" for i, it in enumerate(columns, 1)))
+            lines = self.output("graph_to_dot", "--names", names, text="0 1 r1\n2 1 r2\n3 1 r3\n0 2 c1\n2 3 c2\n")
+            forwards = columns[0] == "flow[a,b]"
+            self.assertIn(f"{'r1 -> r2' if forwards else 'r2 -> r1'} [label=\"{columns[0]}\"]", lines)
+            self.assertIn(f"{'r2 -> r3' if forwards else 'r3 -> r2'} [label=\"{columns[1]}\"]", lines)
+
+    def test_rows_with_one_sign_are_sources_and_sinks(self):
+        """As in a transport: each column has the entry 1 in the row of a supply and in that of a demand."""
+        lines = self.output("graph_to_dot", text="0 1 r1\n2 1 r2\n1 3 r3\n0 3 c1\n2 3 c2\n")
+        self.assertIn('r1 -> r3 [label="c1"]', lines)
+        self.assertIn('r2 -> r3 [label="c2"]', lines)
 
     def test_graphs_without_a_tree(self):
-        self.assertEqual(self.edges("0 0 c1\n"), ["0 -> 0 c1 dashed"])
+        self.assertEqual(self.edges("0 0 c1\n", "--tree"), ["0 -> 0 c1 dashed"])
         self.assertEqual(self.edges(""), [])
+
+    def test_families_beyond_the_limit(self):
+        text, names = flow(30, 100)
+        lines = self.output("graph_to_dot", "--limit", "99", "--names", self.write("names", names), text=text)
+        self.assertIn('label="30 of node[..]"', lines)
+        self.assertIn('label="100 of flow[..]"', lines)
+        path = "".join(f"{arc - 1} {arc} r{arc}\n" for arc in range(1, 1001)) + "0 1000 c1\n"
+        self.assertIn("a tree of 1000 arcs:\\n1000 of r#\\n1 paths:\\n1 of c#", self.output("graph_to_dot", text=path))
 
     def test_texts_that_are_no_graphs(self):
         for text, line in [
@@ -57,4 +111,27 @@ class GraphPictures(ScriptTest):
             dot = self.output("graph_to_dot", text=text)
             run = subprocess.run(["dot", "-Tsvg"], input=dot, capture_output=True, text=True)
             self.assertEqual((run.returncode, run.stderr), (0, ""))
-            self.assertEqual(run.stdout.count('class="edge"'), text.count("\n"))
+            edges = text.count("\n") - (2 if text in (GRAPH, TRANSPOSED) else 0)
+            self.assertEqual(run.stdout.count('class="edge"'), edges)
+
+    @needs_dot
+    def test_trees_with_many_paths_are_drawn(self):
+        """Graphviz ends with a fault where it is to bend the edges of such a graph."""
+        number = random.Random(7)
+        lines = [f"{number.randrange(arc)} {arc} r{arc}\n" for arc in range(1, 101)]
+        lines += [f"{number.randrange(101)} {number.randrange(101)} c{path}\n" for path in range(1, 101)]
+        dot = self.output("graph_to_dot", text="".join(lines))
+        run = subprocess.run(["dot", "-Tsvg"], input=dot, capture_output=True, text=True, timeout=10)
+        self.assertEqual((run.returncode, run.stderr, run.stdout.count('class="edge"')), (0, "", 200))
+
+    @needs_dot
+    def test_a_hundred_arcs_fit_on_a_screen_and_a_thousand_are_drawn(self):
+        for nodes, arcs, widest, highest in [(30, 100, 1400, 1000), (300, 1000, 3000, 3000)]:
+            text, names = flow(nodes, arcs)
+            dot = self.output("graph_to_dot", "--names", self.write("names", names), text=text)
+            run = subprocess.run(["dot", "-Tsvg"], input=dot, capture_output=True, text=True, timeout=10)
+            self.assertEqual((run.returncode, run.stderr), (0, ""))
+            self.assertEqual(run.stdout.count('class="edge"'), arcs)
+            width, height = (int(size) * 96 / 72 for size in re.findall(r'(?:width|height)="([0-9]+)pt"', run.stdout))
+            self.assertLess(width, widest)
+            self.assertLess(height, highest)

@@ -1,5 +1,6 @@
 """Tests of `model_to_matrix`."""
 
+import gzip
 import os
 import unittest
 
@@ -29,6 +30,61 @@ BOUNDS
  UP BOUND     BOB                3.0
 ENDATA
 """
+
+# One model as solvers write it in the LP format.
+SOLVERS = {
+    "gurobi.lp": """Maximize
+  o: x + z + [ x ^2 + 2 x * z ] / 2
+Subject To
+ a: x - y <= 1
+ b: x + z >= 1
+Lazy Constraints
+ c: y + z <= 3
+Bounds
+ x free
+Generals
+ z
+End
+""",
+    "cplex.lp": """\\ENCODING=ISO-8859-1
+\\Problem name: p
+
+Maximize
+ o: x + z
+Subject To
+ a: -1 <= x - y <= 1
+ b: x + z >= 1
+ c: 0 <= y +
+ z <= 3
+Bounds
+ 0 <= x <= 4
+Binaries
+ z
+End
+""",
+    "scip.lp": """\\ SCIP STATISTICS
+\\   Problem name     : p
+Maximize
+ o: +1 x +1 z
+Subject to
+ a: +1 x -1 y <= +1
+ b: +1 x +1 z >= +1
+ c: +1 y +1 z <= +3
+Bounds
+ 0 <= x <= 1
+End
+""",
+    "highs.lp": """\\ File written by HiGHS .lp file handler
+max
+ o: +1 x +1 z
+st
+ a: +1 x -1 y <= +1
+ b: +1 x +1 z >= +1
+ c: -inf <= +1 y +1 z <= +3
+bounds
+end
+""",
+}
 
 
 def free_mps(rows, columns):
@@ -87,6 +143,125 @@ class Models(ScriptTest):
         self.assertEqual(matrix, "2 2 3\n1 1 1\n1 2 1\n2 2 1\n")
         self.assertEqual(printed, "row second divided by 2\ncolumn x1 divided by 3\n")
 
+    def test_scale_multiplies_and_tells_of_right_hand_sides(self):
+        model = self.write(
+            "half.mps", small_mps((0.5, 1), (0.5, 0), (0, -1)).replace("RHS", "RHS\n b first 0.75 second 2")
+        )
+        matrix, _, printed = self.convert(model, "--scale")
+        self.assertEqual(matrix, "2 3 4\n1 1 1\n1 2 1\n2 1 1\n2 3 -1\n")
+        self.assertEqual(printed, "row first multiplied by 2, and its right-hand side 0.75 becomes no whole number\n")
+        model = self.write("two.mps", small_mps((2, 1.5), (2, 1.5)).replace("RHS", "RHS\n b first 5 second 3"))
+        printed = self.convert(model, "--scale")[2]
+        first = "row first divided by 2, and its right-hand side 5 becomes no whole number\n"
+        self.assertEqual(printed, f"{first}row second divided by 3/2\n")
+        model = self.write("tenth.mps", small_mps((0.1, 0.3), (0.1, -0.3)))
+        self.assertEqual(self.convert(model, "--scale")[2], "row first multiplied by 10\nrow second divided by 3/10\n")
+
+    def test_rows_that_are_left_out(self):
+        knapsack = EXAMPLES / "knapsack.mps"
+        chosen = self.convert(knapsack, "--rows", "_or_")
+        self.assertEqual(self.convert(knapsack, "--without", "^(weight|pockets)$"), chosen)
+        self.assertEqual(self.convert(knapsack, "--unit-rows"), chosen)
+        self.assertEqual(
+            self.convert(knapsack, "--rows", "_or_", "--without", "tarp")[1],
+            "r1 tent_or_hammock\nc1 tent\nc2 hammock\n",
+        )
+        matrix, names, printed = self.convert(knapsack, "--unit-rows", "--scale")
+        self.assertEqual((matrix[:4], printed), ("4 4 ", "row pockets divided by 2\n"))
+        self.assertNotIn("weight", names)
+
+    def test_reductions(self):
+        shifts = EXAMPLES / "assignment.mps"
+        self.assertEqual(self.convert(shifts, "--reduce", "list")[2], "reduced by 0, 6x9 is left\n")
+        self.assertEqual(self.read("list"), "")
+        model = self.write("small.mps", small_mps((1, 1), (1, 1), (0, -1), (0, 0)))
+        matrix, names, printed = self.convert(model, "--reduce", "list")
+        self.assertEqual((matrix, names), ("0 0 0\n", ""))
+        self.assertEqual(printed, "reduced by 6 (2 zero, 3 unit, 1 copy), 0x0 is left\n")
+        self.assertEqual(self.read("list").splitlines()[0], "x2 copy x1")
+
+    @needs_glpsol
+    def test_a_model_above_the_limit_and_its_parts(self):
+        words = ("--reduce", "list", "--parts", "parts")
+        printed = self.output("model_to_matrix", *words, EXAMPLES / "wards.mod", "matrix", "names")
+        lines = ["reduced by 1296 (1296 unit), 672x1296 is left"]
+        self.assertEqual(printed.splitlines(), lines + [f"parts/{number}.txt 168x324" for number in range(1, 5)])
+        self.assertFalse((self.folder / "matrix").exists())
+        self.assertEqual(self.read("list").count("\n"), 1296)
+        self.assertTrue(self.read("parts/2.txt").startswith("168 324 "))
+        self.assertTrue(self.read("parts/2.names").startswith("r1 staff[south,1]\n"))
+        self.write("parts/5.txt", "")
+        line = self.refusal("model_to_matrix", *words, EXAMPLES / "wards.mod", "matrix", "names")
+        self.assertEqual(line, "the folder parts has more parts of another run")
+
+    def test_parts_below_the_limit(self):
+        model = self.write("parts.mps", small_mps((1, 0), (0, 1), (-1, 0)))
+        matrix, _, printed = self.convert(model, "--parts", "parts")
+        self.assertEqual(matrix, "2 3 3\n1 1 1\n1 3 -1\n2 2 1\n")
+        self.assertEqual(printed, "parts/1.txt 1x2\nparts/2.txt 1x1\n")
+        self.assertEqual(self.read("parts/1.txt"), "1 2 2\n1 1 1\n1 2 -1\n")
+        self.assertEqual(self.read("parts/1.names"), "r1 first\nc1 x1\nc2 x3\n")
+
+    def test_what_solvers_write_in_mps(self):
+        plain = self.convert(self.write("plain.mps", small_mps((1, 0), (1, -1))))
+        for front in (
+            "OBJSENSE\n    MAX\n",
+            "OBJSENSE MAX\n",
+            "OBJSENSE\nMAX\n",
+            "OBJSENSE MAXIMIZE\nOBJNAME\n    cost\n",
+            "* SCIP STATISTICS\n*   Variables\n",
+        ):
+            text = small_mps((1, 0), (1, -1)).replace("ROWS", f"{front}ROWS", 1)
+            text = text.replace(
+                "ENDATA",
+                "RANGES\n RNG first 2\nBOUNDS\n BV BND x1\n SC BND x2 4\n FR BND x2\nQUADOBJ\n x1 x1 2\nENDATA",
+            )
+            for data in (text, text.replace("\n", "\r\n")):
+                for mark in ("", "\ufeff"):
+                    with self.subTest(front=front, mark=mark):
+                        (self.folder / "model.mps").write_bytes((mark + data).encode())
+                        self.assertEqual(self.convert("model.mps"), plain)
+        (self.folder / "model.mps.gz").write_bytes(gzip.compress(small_mps((1, 0), (1, -1)).encode()))
+        self.assertEqual(self.convert("model.mps.gz"), plain)
+
+    def test_a_column_with_the_name_of_a_kind_of_bound(self):
+        plain = self.convert(self.write("plain.mps", small_mps((1, 0), (1, -1))))[0]
+        self.assertEqual(
+            self.convert(self.write("named.mps", small_mps((1, 0), (1, -1)).replace("x1", "SC")))[0], plain
+        )
+
+    @needs_glpsol
+    def test_what_solvers_write_in_lp(self):
+        self.write("plain.lp", "maximize\n o: x + z\nsubject to\n a: x - y <= 1\n b: x + z >= 1\n c: y + z <= 3\nend\n")
+        plain = self.convert("plain.lp")
+        for name, text in SOLVERS.items():
+            with self.subTest(name=name):
+                matrix, names, _ = self.convert(self.write(name, text))
+                self.assertEqual(self.entries(matrix, names), self.entries(*plain[:2]))
+
+    @needs_glpsol
+    def test_ranges_in_lp(self):
+        """Of a range the left side goes; numbers in names, rows without names and rows that are no ranges stay."""
+        rows = "-1<=x2-y<=1\n x2 <= 3\n y >= 1\n 0 <= x2\n + y <= 4\n c4: x2 - y >= -1e3\n -inf < y + z < 2.5\n"
+        matrix, names, _ = self.convert(self.write("ranges.lp", f"min\n x2 + z\nst\n {rows}end\n"))
+        self.assertEqual(matrix.split("\n", 1)[0], "6 3 10")
+        self.assertIn("r5 c4\n", names)
+
+    def entries(self, matrix, names):
+        """The entries by names, so that the order of the lines does not count."""
+        named = dict(line.split(" ") for line in names.splitlines())
+        triples = (line.split() for line in matrix.splitlines()[1:])
+        return sorted((named[f"r{row}"], named[f"c{column}"], value) for row, column, value in triples)
+
+    @needs_glpsol
+    def test_formats_by_content(self):
+        for source in ("maxflow.mod", "shifts.lp", "assignment.mps"):
+            plain = self.convert(EXAMPLES / source)
+            for name in ("model.txt", "model", "model.dat"):
+                self.assertEqual(self.convert(self.write(name, (EXAMPLES / source).read_text())), plain)
+            marked = self.write(source, "\ufeff" + (EXAMPLES / source).read_text())
+            self.assertEqual(self.convert(marked), plain)
+
     def test_names_in_another_encoding(self):
         (self.folder / "latin.mps").write_bytes(small_mps((1, 1)).replace("x1", "gr\xfcn").encode("latin-1"))
         self.output("model_to_matrix", "latin.mps", "matrix", "names")
@@ -115,7 +290,9 @@ class Models(ScriptTest):
         self.write("flow.dat", f"data;{model.split('data;')[1]}")
         printed = self.convert("flow.mod", "--data", "flow.dat")
         self.assertEqual(printed, self.convert(EXAMPLES / "maxflow.mod"))
-        self.assertEqual(self.run_script("model_to_matrix", "--data", "flow.dat", "m.mps", "a", "b").returncode, 2)
+        model = self.write("m.mps", small_mps((1, 1)))
+        line = self.refusal("model_to_matrix", "--data", "flow.dat", model, "a", "b")
+        self.assertEqual(line, "m.mps: --data goes with a model in GNU MathProg, and this is mps")
 
     @needs_glpsol
     def test_lp_and_a_format_that_is_told(self):
@@ -156,26 +333,62 @@ class Refusals(ScriptTest):
         objective = "NAME none\nROWS\n N cost\nCOLUMNS\n x cost 1\nRHS\nENDATA\n"
         self.assertEqual(self.refused(self.write("bad.mps", objective)), "bad.mps: there are no rows")
         small = self.write("small.mps", small_mps((1, 1)))
-        self.assertEqual(self.refused(small, "--rows", "third"), "small.mps: there are no rows")
+        self.assertEqual(self.refused(small, "--rows", "third"), "small.mps: there is no row whose name fits")
+        self.assertEqual(self.refused(small, "--without", "."), "small.mps: there is no row whose name fits")
+        large = self.write("large.mps", small_mps((2, 3)))
+        line = "large.mps: there is no row with coefficients -1, 0 and 1 alone"
+        self.assertEqual(self.refused(large, "--unit-rows"), line)
 
     def test_coefficients_that_are_no_whole_numbers(self):
         model = self.write("bad.mps", small_mps((1, 1), (1, 0.5)))
-        for words in ([], ["--scale"]):
-            line = self.refused(model, *words)
-            self.assertEqual(line, "bad.mps: row second, column x2: the coefficient 0.5 is no whole number")
+        line = "bad.mps: row second, column x2: the coefficient 0.5 is no whole number"
+        families = [("1", "1", "1", "second"), ("1", "0", "0", "first")]
+        self.assertEqual(self.refused_with_families("model_to_matrix", model, "a", "b"), (line, families))
+        line = "bad.mps: row second, column x1: the divided coefficient 2 is none of -1, 0 and 1"
+        self.assertEqual(self.refused_with_families("model_to_matrix", "--scale", model, "a", "b"), (line, families))
 
     def test_coefficients_other_than_minus_one_zero_and_one(self):
         model = self.write("bad.mps", small_mps((1, 1), (1, -4), (2, 6)))
-        line = "bad.mps: row first, column x3: the coefficient 2 is none of -1, 0 and 1, nor are 2 others"
-        self.assertEqual(self.refused(model), line)
+        line = "bad.mps: row first, column x3: the coefficient 2 is none of -1, 0 and 1"
+        families = [("1", "1", "1", "first"), ("1", "1", "2", "second")]
+        self.assertEqual(self.refused_with_families("model_to_matrix", model, "a", "b"), (line, families))
         model = self.write("bad.mps", small_mps((1, 2), (1, 4)))
         line = "bad.mps: row second, column x2: the divided coefficient 2 is none of -1, 0 and 1"
-        self.assertEqual(self.refused(model, "--scale"), line)
+        self.assertEqual(self.refused_with_families("model_to_matrix", "--scale", model, "a", "b")[0], line)
+
+    def test_families_of_rows(self):
+        rows = [f"cap[{number},a]" for number in range(3)] + [f"link_{number}" for number in range(4)] + ["total"]
+        lines = ["NAME families", "ROWS", *(f" L {row}" for row in rows), "COLUMNS"]
+        lines += [f" x{number} {row} {3 if row[:3] == 'cap' else 1}" for number in range(2) for row in rows]
+        model = self.write("families.mps", "\n".join([*lines, "RHS", "ENDATA", ""]))
+        _, families = self.refused_with_families("model_to_matrix", model, "a", "b")
+        self.assertEqual(families, [("3", "3", "6", "cap[..]"), ("4", "0", "0", "link_#"), ("1", "0", "0", "total")])
 
     def test_too_many_lines(self):
         for rows, columns, line in [(1001, 1, "1001 rows"), (1, 1001, "1001 columns")]:
             model = self.write("bad.mps", free_mps(rows, columns))
-            self.assertEqual(self.refused(model), f"bad.mps: there are {line}, and a matrix may have at most 1000")
+            said = f"bad.mps: there are {line}, and a matrix may have at most 1000"
+            self.assertEqual(self.refused(model), f"{said} (--reduce takes away those that cannot matter)")
+
+    def test_too_many_lines_after_the_reductions(self):
+        """Rows i and i + 1 share a column, in a cycle of odd length with two cycles that cross it: nothing can go."""
+        lines = ["NAME cycles", "ROWS", *(f" L r{row}" for row in range(1101)), "COLUMNS"]
+        lines += [f" c{row}_{step} r{row} 1 r{(row + step) % 1101} 1" for row in range(1101) for step in (1, 7)]
+        model = self.write("bad.mps", "\n".join([*lines, "RHS", "ENDATA", ""]))
+        said = "bad.mps: there are 1101 rows, and a matrix may have at most 1000; reduced by 0, 1101x2202 is left"
+        self.assertEqual(self.refused(model, "--reduce", "list"), said)
+        self.assertFalse((self.folder / "list").exists())
+
+    def test_constraints_that_are_no_rows(self):
+        for section in ("SOS1", "INDICATORS", "QCMATRIX first"):
+            text = small_mps((1, 1)).replace("RHS", f"{section}\n x\nRHS")
+            line = f"constraints of the section {section.split()[0]} are no rows of a matrix"
+            self.assertEqual(self.refused(self.write("bad.mps", text)), f"bad.mps: no linear model, line 8: {line}")
+        self.write("bad.lp", "Minimize\n x\nSubject To\n a: x >= 1\nSOS\n s: S1:: x:1\nEnd\n")
+        line = "bad.lp: no linear model, line 5: constraints of this section are no rows of a matrix"
+        self.assertEqual(self.refused("bad.lp"), line)
+        self.write("solve.lp", "/* lp_solve */\nmax: 3x+2y;\nc1: x+y<=4;\n")
+        self.assertIn("LP format of lp_solve", self.refused("solve.lp"))
 
     @needs_glpsol
     def test_texts_in_other_formats(self):

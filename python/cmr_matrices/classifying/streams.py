@@ -15,7 +15,7 @@ from dataclasses import dataclass
 from pathlib import Path
 from typing import BinaryIO, Literal
 
-from ..models import FORMATS
+from ..model_texts import FORMATS
 
 __all__ = ["Format", "Item", "Source", "items_of", "part_of", "sources_of", "texts_of"]
 
@@ -28,7 +28,7 @@ _COUNT = re.compile(rb"\+?0*([0-9]{1,10})")
 _WORD = re.compile(rb"[^\t-\r ]+")
 _PIECE = 2**16
 _LINES = 1000
-_MODELS = {".mps", *FORMATS}
+_MODELS = frozenset(FORMATS)
 
 
 @dataclass(frozen=True)

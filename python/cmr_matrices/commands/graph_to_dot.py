@@ -1,7 +1,9 @@
 """Writes a graph of `cmr graphic -G` or `cmr network -G` as a picture in DOT, for example for `dot -Tsvg`.
 
-The edges of the tree are drawn in full and the edges that join the ends of paths are dashed. Each has the number or the name of
-the row or column for which it stands.
+Where no column has more than two nonzeros, as in the network of a flow model, its rows are the nodes and its columns the edges.
+Else the edges of the tree are drawn in full and the edges that join the ends of paths are dashed. Each has the number or the name
+of the row or column for which it stands. The layout fits to the number of edges: that of dot up to 40, of neato up to 250, and
+beyond that of sfdp, where names of edges are left out.
 """
 
 from __future__ import annotations
@@ -10,6 +12,7 @@ import argparse
 
 from ..graphs import Graph
 from ..lines import Names
+from ..network_picture import DRAWN
 from .command import end, read_as, write_text
 
 
@@ -23,6 +26,14 @@ def arguments() -> argparse.Namespace:
         "--names", metavar="NAMES", help="the names of model_to_matrix, to stand for the numbers of rows and columns"
     )
     parser.add_argument("--undirected", action="store_true", help="draw no arrows, as it fits a graph of `cmr graphic`")
+    parser.add_argument("--tree", action="store_true", help="draw the tree and its paths in any case")
+    parser.add_argument(
+        "--limit",
+        metavar="N",
+        type=int,
+        default=DRAWN,
+        help=f"draw N edges at most, and else the families of rows and columns with their counts ({DRAWN})",
+    )
     return parser.parse_args()
 
 
@@ -30,7 +41,7 @@ def _work(chosen: argparse.Namespace) -> None:
     graph = read_as(chosen.graph, Graph.from_text)
     names = read_as(chosen.names, Names.from_text) if chosen.names else Names.numbered(*graph.shape, first=1)
     names.must_fit(*graph.shape)
-    write_text("-", graph.to_dot(names, directed=not chosen.undirected))
+    write_text("-", graph.to_dot(names, directed=not chosen.undirected, limit=chosen.limit, tree=chosen.tree))
 
 
 def main() -> int:

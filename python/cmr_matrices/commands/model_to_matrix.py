@@ -1,18 +1,28 @@
 """Writes the constraint matrix of a linear model as a sparse text for cmr, with the names of its rows and columns.
 
 Free rows, such as the objective, and bounds are left out. Nothing is written where the matrix has an entry other than -1,
-0 and 1: such a matrix is not totally unimodular, and the place of the first such entry is told.
+0 and 1: such a matrix is not totally unimodular, and the place of the first such entry is told, with the families of the rows.
+A family has the names that are the same up to digits and what stands in brackets.
 """
 
 from __future__ import annotations
 
 import argparse
 import re
+from collections.abc import Callable, Iterator
+from pathlib import Path
 
+from ..constraints import Choice, Constraints
+from ..errors import BadCoefficients, BadInput, Family
 from ..lines import Names
-from ..modellers import matrix_of_file
-from ..models import format_of
+from ..matrix import Matrix
+from ..model_reductions import connected_parts, counted, reduced
+from ..modellers import constraints_of_file, matrix_of_part
+from ..words import LIMIT
 from .command import end, write_text
+
+FAMILIES = 20
+"""The most families of rows that are listed."""
 
 
 def pattern(text: str) -> re.Pattern[str]:
@@ -35,8 +45,26 @@ def arguments() -> argparse.Namespace:
     parser.add_argument(
         "--format",
         choices=("mps", "mathprog", "lp"),
-        help="the model's format; where it is left out, .mod is mathprog, .lp is lp, and all else mps",
+        help="the model's format; where it is left out, .mod is mathprog, .lp is lp, .mps is mps, and else the content tells",
     )
+    _add_choices(parser)
+    parser.add_argument(
+        "--reduce",
+        metavar="LIST",
+        help="take away lines that are zero, have one nonzero, or are copies or negatives, and list them in this file",
+    )
+    parser.add_argument(
+        "--parts",
+        metavar="DIR",
+        help="a folder that gets a matrix and names for each connected part of what is left; then MATRIX and NAMES "
+        "are written only where they have no more lines than a matrix may have",
+    )
+    parser.add_argument("--data", metavar="DATA", help="the file with the data of a MathProg model, where it has one")
+    return parser.parse_args()
+
+
+def _add_choices(parser: argparse.ArgumentParser) -> None:
+    """The options that choose rows and scale them."""
     parser.add_argument(
         "--rows",
         metavar="REGEX",
@@ -44,27 +72,93 @@ def arguments() -> argparse.Namespace:
         help="take only the rows whose names have a match, and the columns that are in them",
     )
     parser.add_argument(
+        "--without",
+        metavar="REGEX",
+        type=pattern,
+        help="leave out the rows whose names have a match, and the columns that are in no other",
+    )
+    parser.add_argument(
+        "--unit-rows",
+        action="store_true",
+        help="take only the rows whose coefficients are -1, 0 and 1, with --scale once they are divided",
+    )
+    parser.add_argument(
         "--scale",
         action="store_true",
         help="divide each row, then each column, by the common factor of its coefficients, and print what was divided",
     )
-    parser.add_argument("--data", metavar="DATA", help="the file with the data of a MathProg model, where it has one")
-    chosen = parser.parse_args()
-    chosen.format = chosen.format or format_of(chosen.model)
-    if chosen.data and chosen.format != "mathprog":
-        parser.error("--data goes with a model in GNU MathProg")
-    return chosen
 
 
 def _work(chosen: argparse.Namespace) -> None:
-    matrix, divided = matrix_of_file(chosen.model, chosen.format, chosen.rows, chosen.data, scale=chosen.scale)
-    names = matrix.names or Names.numbered(*matrix.shape)
-    write_text(chosen.matrix, matrix.to_text())
-    write_text(chosen.names, names.to_text())
-    write_text("-", "".join(f"{scaling.kind} {scaling.name} divided by {scaling.factor}\n" for scaling in divided))
+    choice = Choice(chosen.rows, chosen.without, chosen.unit_rows, chosen.scale)
+    constraints = constraints_of_file(chosen.model, chosen.format, choice, chosen.data)
+    said = [f"{scaling}\n" for scaling in constraints.scalings]
+    steps = None
+    if chosen.reduce:
+        constraints, steps = reduced(constraints)
+        said.append(f"reduced by {counted(steps)}, {_size(constraints)} is left\n")
+    try:
+        parts = [matrix_of_part(chosen.model, part) for part in connected_parts(constraints)] if chosen.parts else []
+        is_large = max(constraints.names.shape) > LIMIT
+        whole = None if chosen.parts and is_large else matrix_of_part(chosen.model, constraints)
+    except BadInput as fault:
+        hint = " (--reduce takes away those that cannot matter)" if steps is None else f"; {said[-1].rstrip()}"
+        raise BadInput(f"{fault}{hint}") from fault
+    if steps is not None:
+        write_text(chosen.reduce, f"{steps}\n" if len(steps) else "")
+    if chosen.parts:
+        _write_parts(chosen.parts, parts)
+        said += (f"{chosen.parts}/{number}.txt {_of_size(part)}\n" for number, part in enumerate(parts, 1))
+    if whole is not None:
+        _write(whole, chosen.matrix, chosen.names)
+    write_text("-", "".join(said))
+
+
+def _of_size(matrix: Matrix) -> str:
+    rows, columns = matrix.shape
+    return f"{rows}x{columns}"
+
+
+def _size(constraints: Constraints) -> str:
+    rows, columns = constraints.names.shape
+    return f"{rows}x{columns}"
+
+
+def _write(matrix: Matrix, text: str, names: str) -> None:
+    write_text(text, matrix.to_text())
+    write_text(names, (matrix.names or Names.numbered(*matrix.shape)).to_text())
+
+
+def _write_parts(folder: str, parts: list[Matrix]) -> None:
+    """Files 1.txt, 1.names, 2.txt, .., in a folder, which is made. Parts of another run in it are refused, if there were more."""
+    try:
+        Path(folder).mkdir(exist_ok=True)
+    except OSError as fault:
+        raise BadInput(f"cannot make the folder {folder}: {fault.strerror}") from fault
+    if Path(folder, f"{len(parts) + 1}.txt").exists():
+        raise BadInput(f"the folder {folder} has more parts of another run")
+    for number, part in enumerate(parts, 1):
+        _write(part, f"{folder}/{number}.txt", f"{folder}/{number}.names")
+
+
+def _table(families: tuple[Family, ...]) -> Iterator[str]:
+    """The families of rows, those that are refused first."""
+    yield f"{'rows':>6} {'refused':>8} {'entries':>8}  family"
+    ordered = sorted(families, key=lambda family: not family.refused)
+    for family in ordered[:FAMILIES]:
+        yield f"{family.rows:6} {family.refused:8} {family.entries:8}  {family.name}"
+    if len(ordered) > FAMILIES:
+        yield f"and {len(ordered) - FAMILIES} other families"
+
+
+def _with_table(work: Callable[[], None]) -> None:
+    try:
+        work()
+    except BadCoefficients as fault:
+        raise BadInput("\n".join([fault.place, *_table(fault.families)])) from fault
 
 
 def main() -> int:
     """Runs the command, and gives its status."""
     chosen = arguments()
-    return end(lambda: _work(chosen))
+    return end(lambda: _with_table(lambda: _work(chosen)))

@@ -1,0 +1,120 @@
+"""Runs `cmr WORDS..` with its own output and status, and where it is refused or undecided says more on standard error.
+
+Words: which one is at fault, the usage of its tool, and ranges. Texts: line, column and word, and what the file seems to be.
+Files: why they cannot be read or written. A run that would write over a file that it reads is not made (status 2).
+"""
+
+from __future__ import annotations
+
+import os
+import re
+import subprocess
+import sys
+from collections.abc import Iterable, Iterator
+from pathlib import Path
+
+from ..errors import ProgramMissing
+from ..explained.answers import refused, undecided
+from ..explained.faults import text_fault
+from ..explained.files import before_the_run, cannot_read, cannot_write, written_inputs
+from ..explained.words import TOOLS, Order, WordFault, read_words
+from ..program import REFUSED, UNDECIDED, find_program
+
+__all__ = ["main"]
+
+_TEXT_FAULT = re.compile(r"cmr: (?P<name>.*): (?:(?P<kind>[A-Za-z]+) at byte (?P<byte>[0-9]+)|TooLong)", re.DOTALL)
+_BAD_WORDS, _BAD_TEXT, _BAD_FILE, _NO_MEMORY, _NO_PROGRAM = 2, 3, 4, 5, 70
+
+
+def _say(lines: Iterable[str]) -> None:
+    for line in lines:
+        print(f"explain: {line}", file=sys.stderr)
+
+
+def _run(words: list[str]) -> int:
+    order = read_words(words)
+    data = b""
+    if isinstance(order, Order):
+        if over := written_inputs(order):
+            _say([*over, "nothing was run"])
+            return _BAD_WORDS
+        _say(before_the_run(order, at_terminal=sys.stdin is not None and sys.stdin.isatty()))
+        if "-" in order.inputs.values() and sys.stdin is not None:
+            data = sys.stdin.buffer.read()
+    command = [str(find_program()), *words]
+    ran = subprocess.run(command, input=data, capture_output=True, check=False)
+    sys.stderr.buffer.write(ran.stderr)
+    sys.stderr.flush()
+    status = ran.returncode if ran.returncode >= 0 else 128 - ran.returncode
+    try:
+        sys.stdout.buffer.write(ran.stdout)
+        sys.stdout.flush()
+    except OSError as fault:
+        _say([f"standard output cannot be written: {fault.strerror}"])
+        os.dup2(os.open(os.devnull, os.O_WRONLY), sys.stdout.fileno())
+        return _BAD_FILE
+    line = ran.stderr.decode("utf-8", "surrogateescape").rstrip("\n")
+    _say(_explained(order, status, line, ran.stdout.decode("ascii", "replace").splitlines(), data))
+    return status
+
+
+def _explained(order: Order | WordFault, status: int, line: str, lines: list[str], data: bytes) -> Iterator[str]:
+    if status == _BAD_WORDS:
+        yield from _of_words(order)
+    elif status > 128:
+        yield f"the program was ended by signal {status - 128}; use none of the files that it was to write"
+    elif status == _NO_MEMORY:
+        yield "the system refused memory, and nothing was written: `ulimit -v` shows the limit"
+    elif isinstance(order, WordFault):
+        return
+    elif status == _BAD_TEXT and (found := _TEXT_FAULT.fullmatch(line)):
+        byte = int(found["byte"]) if found["byte"] else None
+        texts = _texts(order, data) | {found["name"]: _text(found["name"], data)}
+        yield from text_fault(order, found["name"], texts, found["kind"] or "TooLong", byte)
+    elif status == _BAD_FILE and line.startswith("cmr: cannot read "):
+        yield from cannot_read(line.removeprefix("cmr: cannot read "))
+    elif status == _BAD_FILE and line.startswith("cmr: cannot write "):
+        yield from cannot_write(line.removeprefix("cmr: cannot write "))
+    elif status == UNDECIDED:
+        yield from undecided(order, lines)
+    elif status == REFUSED:
+        yield from refused(order, lines[0] if lines else "", _texts(order, data))
+
+
+def _of_words(order: Order | WordFault) -> Iterator[str]:
+    if isinstance(order, WordFault):
+        yield order.why
+        if order.is_help:
+            width = max(map(len, TOOLS))
+            yield from (f"  {tool.name:{width}}  {tool.tells}" for tool in TOOLS.values())
+        elif order.tool is None:
+            yield f"the tools are {', '.join(TOOLS)}"
+    if order.tool is not None:
+        yield f"usage: cmr {order.tool.name} {order.tool.usage}"
+        if "-c" in order.tool.flags:
+            yield f"   or: cmr {order.tool.name} -c [FILE]"
+
+
+def _texts(order: Order, data: bytes) -> dict[str, bytes]:
+    """The texts that a run has read, by name. `data` is standard input."""
+    return {name: _text(name, data) for name in order.inputs.values()}
+
+
+def _text(name: str, data: bytes) -> bytes:
+    if name == "-":
+        return data
+    try:
+        return Path(name).read_bytes()
+    except OSError:
+        return b""
+
+
+def main() -> int:
+    """Runs the program, and gives its status; 70 where there is none."""
+    try:
+        return _run(sys.argv[1:])
+    except ProgramMissing as fault:
+        _say([str(fault)])
+        return _NO_PROGRAM
+    except KeyboardInterrupt:
+        return 130

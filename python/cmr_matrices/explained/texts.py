@@ -1,0 +1,184 @@
+"""What a text seems to be, whatever it was read as."""
+
+from __future__ import annotations
+
+import re
+from dataclasses import dataclass
+
+__all__ = ["Guess", "guess"]
+
+_SPACE = b"\t\n\x0b\x0c\r "
+_WHOLE = re.compile(r"[+-]?[0-9]+")
+_DECIMAL = re.compile(r"[+-]?([0-9]+\.?[0-9]*|\.[0-9]+)([eE][+-]?[0-9]+)?")
+_PACKAGE = "the Python package in python/ takes it"
+_MAGIC = [
+    (b"\x93NUMPY", "npy", "an array that numpy.save wrote", _PACKAGE + ": `Matrix.of(numpy.load(..)).to_text()`"),
+    (b"PK\x03\x04", "zip", "a zip file, as .npz, .xlsx and .ods are", "cmr reads plain text"),
+    (b"\x1f\x8b", "gzip", "a gzip file", "`gunzip -c FILE | cmr TOOL -` reads it"),
+    (b"\xff\xfe", "utf16", "a text in UTF-16", "`iconv -f utf-16 -t utf-8` turns it into plain text"),
+    (b"\xfe\xff", "utf16", "a text in UTF-16", "`iconv -f utf-16 -t utf-8` turns it into plain text"),
+]
+_BY_FRONT = [
+    ("tree", r"cmr-tree\b", "a decomposition tree", ""),
+    ("chain", r"cmr-chain\b", "a chain of signs", ""),
+    ("market", r"%%MatrixMarket", "a Matrix Market file", f"{_PACKAGE}: `Matrix.of(scipy.io.mmread(..)).to_text()`"),
+    ("graph", r"\s*[0-9]+\s+[0-9]+\s+[rc][0-9]+\s", "a graph text", "`graphic -c` and `network -c` read it"),
+    ("steps", r"[rc][0-9]+ (zero|unit|copy|negative)\b", "a list of reductions", "no tool reads it"),
+    ("names", r"[rc]1 \S", "the names that model_to_matrix writes", "its matrix is in the other file"),
+    (
+        "answer",
+        r"(totally unimodular|regular|graphic|cographic|network|conetwork|balanced|signed|camion): ",
+        "what cmr printed",
+        "",
+    ),
+    ("xml", r"<", "XML or HTML", ""),
+    ("dot", r"\s*(strict\s+)?(di)?graph\b", "a picture in DOT", "that is for Graphviz"),
+    (
+        "lp",
+        r"(\\.*\n|\s)*(max|min)(imi[sz]e|imum)?\b[^;]*\n",
+        "a model in the LP format",
+        "scripts/model_to_matrix reads it",
+    ),
+    (
+        "mathprog",
+        r"(#.*\n|/\*(.|\n)*?\*/|\s)*(set|param|var)\s+\w+",
+        "a model in GNU MathProg",
+        "scripts/model_to_matrix reads it",
+    ),
+]
+_NOTE = re.compile(r"[ \t]*(#|%|//|;)")
+
+
+@dataclass(frozen=True)
+class Guess:
+    """A kind of text by a short name, what to call it, and what can be done with it."""
+
+    kind: str
+    what: str
+    help: str = ""
+
+
+def guess(data: bytes) -> Guess:
+    """What the bytes seem to be. The kinds `dense`, `sparse`, `submatrix` and `rows` are numbers alone."""
+    if not data.strip(_SPACE):
+        return Guess("empty", "empty" if not data else "empty: it has white space alone")
+    for magic, kind, what, aid in _MAGIC:
+        if data.startswith(magic):
+            return Guess(kind, what, aid)
+    if data.startswith(b"\xef\xbb\xbf"):
+        inner = guess(data[3:])
+        return Guess(
+            "bom",
+            f"{inner.what} behind a byte order mark, which editors of Windows put in front",
+            "`tail -c +4 FILE` leaves it out",
+        )
+    if b"\0" in data[:4096]:
+        return Guess("binary", "no text: it has zero bytes", "cmr reads plain text")
+    text = data.decode("utf-8", "replace")
+    for kind, front, what, aid in _BY_FRONT:
+        if re.match(front, text[:4096], re.IGNORECASE):
+            return Guess(kind, what, aid)
+    if re.search(r"^ROWS\s*$", text, re.M) and re.search(r"^COLUMNS\s*$", text, re.M):
+        return Guess("mps", "a model in MPS", "scripts/model_to_matrix reads it")
+    return _of_numbers(text)
+
+
+def _of_numbers(text: str) -> Guess:
+    if _NOTE.match(text):
+        inner = _of_numbers(
+            "".join(f"{line}\n" for line in text.splitlines() if line.strip() and not _NOTE.match(line)) or "?"
+        )
+        return Guess(
+            "notes",
+            f"{inner.what}, with comment lines",
+            "a text for cmr has no comments: `grep -v '^[#%]'` leaves them out",
+        )
+    if re.match(r"\s*(\w+\()?[\[({]", text):
+        return Guess(
+            "brackets",
+            f"rows in brackets, as Python, numpy and Sage print them{_sized(text, '[^0-9+.eE-]+')}",
+            "only white space may stand between numbers, " + _HEAD,
+        )
+    if "\N{MINUS SIGN}" in text or "\N{EN DASH}" in text:
+        return Guess("minus", "numbers with a typographic minus", "`-` is the minus of a text for cmr")
+    if found := re.match(r"[^\n]*?[0-9\"] *([,;|&])", text):
+        return Guess(
+            "csv",
+            f"a table with `{found[1]}` between its entries{_sized(text, f'[{found[1]} ]+')}",
+            "only white space may stand between numbers, " + _HEAD,
+        )
+    words = text.split()
+    if all(_WHOLE.fullmatch(word) for word in words):
+        return _whole(text, words)
+    if all(_DECIMAL.fullmatch(word) for word in words):
+        return Guess(
+            "decimals",
+            f"rows of decimal numbers, as numpy.savetxt writes them{_sized(text)}",
+            "entries are -1, 0 and 1 (`fmt='%d'` with numpy.savetxt), " + _HEAD,
+        )
+    return Guess("unknown", "no text that is known here")
+
+
+_HEAD = "and the numbers of rows and columns come first"
+
+
+def _whole(text: str, words: list[str]) -> Guess:
+    """Whole numbers alone. Their counts and their sizes tell what they can be."""
+    numbers = [int(word[:12]) for word in words]
+    found = [kind for kind, fits in _FITS.items() if _has_counts(numbers, kind) and fits(numbers)]
+    found += ["rows"] if _table(text) and all(abs(number) < 2 for number in numbers) else []
+    found += [kind for kind in _FITS if _has_counts(numbers, kind)]
+    rows = _table(text) or (0, 0)
+    match found[:1]:
+        case ["rows"]:
+            return Guess("rows", f"the rows of a matrix without its sizes, which come first: `{rows[0]} {rows[1]}`")
+        case ["submatrix"]:
+            return Guess("submatrix", f"a submatrix text for a matrix of size {numbers[0]}x{numbers[1]}")
+        case [kind]:
+            return Guess(kind, f"a {kind} text of size {numbers[0]}x{numbers[1]}")
+    return Guess("numbers", f"{len(words)} whole numbers, which are neither a dense nor a sparse text")
+
+
+def _has_counts(numbers: list[int], kind: str) -> bool:
+    """Whether there are as many numbers as those in front say."""
+    match kind, numbers:
+        case "dense", [rows, columns, *rest]:
+            return min(rows, columns) >= 0 and len(rest) == rows * columns
+        case "sparse", [rows, columns, triples, *rest]:
+            return min(rows, columns, triples) >= 0 and len(rest) == 3 * triples
+        case "submatrix", [rows, columns, some_rows, some_columns, *rest]:
+            return min(rows, columns, some_rows, some_columns) >= 0 and len(rest) == some_rows + some_columns
+    return False
+
+
+def _is_dense(numbers: list[int]) -> bool:
+    return all(abs(number) < 2 for number in numbers[2:])
+
+
+def _is_sparse(numbers: list[int]) -> bool:
+    rows, columns, _, *rest = numbers
+    return (
+        all(0 < row <= rows for row in rest[0::3])
+        and all(0 < column <= columns for column in rest[1::3])
+        and all(abs(value) < 2 for value in rest[2::3])
+    )
+
+
+def _is_submatrix(numbers: list[int]) -> bool:
+    rows, columns, some, _, *rest = numbers
+    return all(0 < row <= rows for row in rest[:some]) and all(0 < column <= columns for column in rest[some:])
+
+
+_FITS = {"dense": _is_dense, "sparse": _is_sparse, "submatrix": _is_submatrix}
+
+
+def _sized(text: str, between: str = r"\s+") -> str:
+    rows = _table(text, between)
+    return f", {rows[0]} rows of {rows[1]}" if rows else ""
+
+
+def _table(text: str, between: str = r"\s+") -> tuple[int, int] | None:
+    """How many lines there are with how many words each, where that is one number."""
+    lines = [[word for word in re.split(between, line) if word] for line in text.splitlines()]
+    lengths = [len(line) for line in lines if line]
+    return (len(lengths), lengths[0]) if lengths and len(set(lengths)) == 1 else None

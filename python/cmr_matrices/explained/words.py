@@ -1,0 +1,328 @@
+"""The words of the command line of `cmr`: what they ask for, or which of them is at fault. docs/FORMATS.md has the rules."""
+
+from __future__ import annotations
+
+import re
+from collections.abc import Mapping
+from dataclasses import dataclass, field
+from difflib import get_close_matches
+
+__all__ = ["OUTPUTS", "TOOLS", "Order", "Tool", "WordFault", "read_words"]
+
+_USAGES = {
+    "tu": "[-i dense|sparse] [--lines L] [-w N] [-D FILE] [-E FILE] [FILE]",
+    "regular": "[-i dense|sparse] [--lines L] [-w N] [-D FILE] [-E FILE] [-M FILE] [-C FILE] [FILE]",
+    "series-parallel": "[-i dense|sparse] [-b] [-N FILE] [-S FILE] [-R FILE] [FILE]",
+    "graphic": "[-i dense|sparse] [-t] [-N FILE] [-G FILE] [FILE]",
+    "network": "[-i dense|sparse] [-t] [-N FILE] [-G FILE] [FILE]",
+    "generate": "KIND SIZE NUMBER [--lines L] [-w N] [-M FILE]",
+    "check": "[-i dense|sparse] MATRIX EVIDENCE",
+    "upgrade": "EVIDENCE -D FILE",
+    "camion": "[-i dense|sparse] [-E FILE] [FILE]",
+    "sign": "[-i dense|sparse] MATRIX ROWS",
+    "balanced": "[-i dense|sparse] [--lines L] [-w N] [-E FILE] [FILE]",
+    "parts": "[-i dense|sparse] MATRIX TREE -A FILE -B FILE",
+    "compose": "[-i dense|sparse] SUM FIRST SECOND -M FILE",
+}
+_TELLS = {
+    "tu": "whether a matrix is totally unimodular",
+    "regular": "whether the ones of a matrix can be signed so that it is",
+    "series-parallel": "whether its lines can be removed one by one",
+    "graphic": "whether its columns are paths of a tree",
+    "network": "whether its columns are directed paths of a tree",
+    "generate": "makes a matrix from a number",
+    "check": "whether evidence keeps its rules",
+    "upgrade": "a tree text in its latest version",
+    "camion": "whether a matrix has no cycle fault",
+    "sign": "a signing of some rows",
+    "balanced": "whether a matrix is balanced",
+    "parts": "the two matrices of which a matrix is the sum",
+    "compose": "the sum of two matrices",
+}
+OUTPUTS = {
+    "-A": "the first matrix",
+    "-B": "the second matrix",
+    "-C": "the chain of signs",
+    "-D": "the decomposition tree",
+    "-E": "the violator or fault of a no",
+    "-G": "the graph of a yes",
+    "-M": "the matrix that is made",
+    "-N": "the minimal submatrix of a no",
+    "-R": "what the reductions leave",
+    "-S": "the list of reductions",
+}
+"""The options that name files which are written, and what these get."""
+
+_OTHER_NAMES = {
+    "sp": "series-parallel",
+    "seriesparallel": "series-parallel",
+    "cographic": "graphic -t",
+    "conetwork": "network -t",
+    "totally-unimodular": "tu",
+    "unimodular": "tu",
+    "totallyunimodular": "tu",
+    "balance": "balanced",
+    "verify": "check",
+    "convert": "upgrade",
+}
+_FORMATS = ("dense", "sparse")
+_SUMS = ("one", "two", "delta", "y", "mixed", "concentrated")
+_HELP = ("-h", "--help", "help", "-V", "--version", "-?")
+_RANGES = {"--lines": (0, 24), "-w": (1, 64)}
+_NUMBER = re.compile(r"\+?[0-9]+")
+_USAGE_PART = re.compile(r"\[[^]]*\]|--?[A-Za-z]+ [A-Z]+|[A-Z]+")
+
+
+@dataclass(frozen=True)
+class WordFault:
+    """A word at fault and why, or a word that is missing. `tool` is there where its usage helps."""
+
+    why: str
+    tool: Tool | None = None
+    is_help: bool = False
+
+
+@dataclass(frozen=True)
+class Tool:
+    """A tool: the words that it takes."""
+
+    name: str
+    usage: str
+    tells: str
+    values: tuple[str, ...]
+    flags: tuple[str, ...]
+    needed: tuple[str, ...]
+    operands: tuple[str, ...]
+
+    @property
+    def reads_input(self) -> bool:
+        """Whether its last word is a file that may be left out."""
+        return self.operands == ("FILE",)
+
+    @classmethod
+    def of_usage(cls, name: str, usage: str) -> Tool:
+        """The tool with a usage, such as `[-i dense|sparse] [-E FILE] [FILE]`."""
+        parts = _USAGE_PART.findall(usage)
+        options = [part.strip("[]").split() for part in parts if part.lstrip("[").startswith("-")]
+        flags = [words[0] for words in options if len(words) == 1]
+        if name in ("graphic", "network"):
+            flags.append("-c")
+        return cls(
+            name,
+            usage,
+            _TELLS[name],
+            tuple(words[0] for words in options if len(words) > 1),
+            tuple(flags),
+            tuple(part.split()[0] for part in parts if part.startswith("-")),
+            tuple(part.strip("[]") for part in parts if not part.lstrip("[").startswith("-")),
+        )
+
+
+TOOLS = {name: Tool.of_usage(name, usage) for name, usage in _USAGES.items()}
+"""The tools by name."""
+
+
+@dataclass
+class Order:
+    """What the words ask for: a tool with its options, each with its value, its flags, and its other words."""
+
+    tool: Tool
+    options: dict[str, str] = field(default_factory=dict)
+    flags: set[str] = field(default_factory=set)
+    operands: list[str] = field(default_factory=list)
+
+    @property
+    def named(self) -> Mapping[str, str]:
+        """The other words, each by what it is."""
+        return dict(zip(self.tool.operands, self.operands))
+
+    @property
+    def outputs(self) -> Mapping[str, str]:
+        """The files that may be written, by their options."""
+        return {option: name for option, name in self.options.items() if option in OUTPUTS}
+
+    @property
+    def inputs(self) -> Mapping[str, str]:
+        """The files that are read, by what they are; standard input is `-`."""
+        found = {kind: word for kind, word in self.named.items() if kind not in ("KIND", "SIZE", "NUMBER", "SUM")}
+        return {"FILE": "-"} | found if self.tool.reads_input else found
+
+    @property
+    def sparse(self) -> bool:
+        """Whether matrix texts are sparse ones."""
+        return self.options.get("-i") == "sparse"
+
+
+def read_words(words: list[str]) -> Order | WordFault:
+    """What the words ask for, or the first fault in them."""
+    if not words:
+        return WordFault("there is no word: the first one names the tool", is_help=True)
+    first = words[0]
+    if first in _HELP:
+        return WordFault(f"`{first}`: these are the tools, and `TOOL --help` shows the words of each", is_help=True)
+    if first not in TOOLS:
+        return WordFault(_unknown_tool(first))
+    order = Order(TOOLS[first])
+    rest = words[1:]
+    from_input = order.tool.reads_input and rest[-1:] == ["-"]
+    why = _fill(order, rest[:-1] if from_input else rest) or _bad_operands(order, from_input) or _bad_values(order)
+    return WordFault(why, order.tool) if why else order
+
+
+def _unknown_tool(word: str) -> str:
+    plain = word.lower().replace("_", "-")
+    if plain in TOOLS:
+        return f"`{word}` is no tool: it is spelled `{plain}`"
+    if plain in _OTHER_NAMES:
+        return f"`{word}` is no tool: that is `{_OTHER_NAMES[plain]}`"
+    if word.startswith("-"):
+        return f"`{word}` comes too early: the first word names the tool, and its options stand behind it"
+    if "." in word or "/" in word:
+        return f"`{word}` is no tool, which comes first: for example `cmr tu {word}`"
+    near = get_close_matches(plain, TOOLS, 1)
+    return f"`{word}` is no tool" + (f": did you mean `{near[0]}`?" if near else "")
+
+
+def _fill(order: Order, words: list[str]) -> str:
+    """Sorts the words into options, flags and others. Says what is wrong with the first word that is none."""
+    left = list(words)
+    while left:
+        word = left.pop(0)
+        if word == "--":
+            order.operands += left
+            break
+        if word.startswith("--"):
+            why = _long_option(order, word, left)
+        elif word.startswith("-") and word != "-":
+            why = _letters(order, word, left)
+        else:
+            order.operands.append(word)
+            continue
+        if why:
+            return why
+    return ""
+
+
+def _long_option(order: Order, word: str, left: list[str]) -> str:
+    name, equals, value = word.partition("=")
+    if name in order.tool.values:
+        return _set(order, name, value if equals else None, left)
+    return _unknown_option(order.tool, name)
+
+
+def _letters(order: Order, word: str, left: list[str]) -> str:
+    """The letters of a word such as `-bS`: flags, and behind them one option, whose value may follow at once."""
+    for place, letter in enumerate(word[1:], 1):
+        option = f"-{letter}"
+        if option in order.tool.values:
+            value = word[place + 1 :].removeprefix("=")
+            return _set(order, option, value or None, left)
+        if option not in order.tool.flags:
+            return _unknown_option(order.tool, option, word)
+        if option in order.flags:
+            return f"`{option}` stands twice"
+        order.flags.add(option)
+    return ""
+
+
+def _set(order: Order, option: str, value: str | None, left: list[str]) -> str:
+    takes = "FILE" if option in OUTPUTS else {"-i": "dense or sparse", "--lines": "L", "-w": "N"}[option]
+    if value is None:
+        if not left:
+            return f"`{option}` is the last word, and takes {takes} behind it"
+        value = left.pop(0)
+        if value.startswith("-"):
+            reason = "a file cannot be called so; `./` in front of the name helps" if len(value) > 1 else _DASH
+            return f"`{option}` takes {takes}, and `{value}` stands behind it: " + (
+                reason if takes == "FILE" else "that is no number" if takes in "LN" else "that is no format"
+            )
+    if option in order.options:
+        return f"`{option}` stands twice"
+    order.options[option] = value
+    return ""
+
+
+_DASH = "`-` is standard input as the last word alone, and nothing can be written to it; /dev/stdout can be named"
+
+
+def _unknown_option(tool: Tool, option: str, word: str = "") -> str:
+    place = f" (in `{word}`)" if word and word != option else ""
+    if option in _HELP:
+        return f"`{option}`: this is its usage, and docs/FORMATS.md says more"
+    known = tool.values + tool.flags
+    other_case = option.swapcase()
+    said = f"`{option}`{place} is no option of {tool.name}"
+    if option in ("-l", "-L", "--line", "--budget") and "--lines" in known:
+        return f"{said}: did you mean `--lines`?"
+    if option in ("--workers", "--threads", "-j", "-n") and "-w" in known:
+        return f"{said}: did you mean `-w`?"
+    if option in ("--format", "--input", "--sparse", "-s") and "-i" in known:
+        return f"{said}: did you mean `-i sparse`?"
+    if other_case in known:
+        return f"{said}: did you mean `{other_case}`?"
+    have = [other.name for other in TOOLS.values() if option in other.values + other.flags]
+    return f"{said}, but of {_listed(have)}" if have else said
+
+
+def _bad_operands(order: Order, from_input: bool) -> str:
+    tool, operands = order.tool, order.operands
+    if not tool.reads_input and "-" in operands:
+        return f"`-` is standard input for tools with one file alone, and {tool.name} has names for all its files"
+    if tool.reads_input and "-" in operands:
+        return "`-` is standard input as the last word alone"
+    most = len(tool.operands)
+    if from_input and operands:
+        return f"`-` is standard input, and `{operands[0]}` is a file beside it: one of the two has to go"
+    if len(operands) > most:
+        return f"`{operands[most]}` is a word too much: {tool.name} takes {_listed(list(tool.operands))}"
+    if not tool.reads_input and len(operands) < most:
+        return f"{_listed(list(tool.operands[len(operands):]))} {_is(most - len(operands))} missing"
+    for option in tool.needed:
+        if option not in order.options:
+            return f"`{option} FILE` is missing, for {OUTPUTS[option]}"
+    beside = [word for word in ("-i", "-t", "-N", "-G") if word in order.options or word in order.flags]
+    if "-c" in order.flags and beside:
+        return f"`{beside[0]}` does not go with `-c`, which reads a graph text and tests nothing"
+    return ""
+
+
+def _bad_values(order: Order) -> str:
+    form = order.options.get("-i")
+    if form is not None and form not in _FORMATS:
+        hint = "; a model becomes a sparse text by scripts/model_to_matrix" if form.lower() in _MODELS else ""
+        return f"`-i {form}`: the formats are dense and sparse, in small letters{hint}"
+    for option, (least, most) in _RANGES.items():
+        value = order.options.get(option)
+        if value is not None and not _within(value, least, most):
+            return f"`{option} {value}`: the number is {least} to {most}"
+    if order.tool.name == "generate":
+        return _bad_generate(*order.operands)
+    if order.tool.name == "compose" and order.operands[0] not in _SUMS:
+        return f"`{order.operands[0]}` is no SUM: the sums are {_listed(list(_SUMS))}"
+    return ""
+
+
+_MODELS = ("mps", "lp", "mod", "mathprog", "csv", "npy")
+
+
+def _bad_generate(kind: str, size: str, number: str) -> str:
+    most = {"network": 1000, "twosum": 249}
+    if kind not in most:
+        return f"`{kind}` is no KIND: the kinds are network and twosum"
+    if not _within(size, 1, most[kind]):
+        return f"`{size}`: the SIZE of {kind} is 1 to {most[kind]}"
+    if not _within(number, 0, 2147483647):
+        return f"`{number}`: the NUMBER is 0 to 2147483647"
+    return ""
+
+
+def _within(word: str, least: int, most: int) -> bool:
+    return bool(_NUMBER.fullmatch(word)) and len(word.lstrip("+0")) <= 10 and least <= int(word) <= most
+
+
+def _listed(words: list[str]) -> str:
+    return words[0] if len(words) == 1 else f"{', '.join(words[:-1])} and {words[-1]}"
+
+
+def _is(count: int) -> str:
+    return "is" if count == 1 else "are"

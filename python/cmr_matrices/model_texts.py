@@ -1,0 +1,101 @@
+"""Texts of models as solvers write them, in words that GLPK knows. Lines stay where they are, so faults keep their line numbers."""
+
+from __future__ import annotations
+
+import gzip
+import re
+import zlib
+from collections.abc import Iterator
+from pathlib import Path
+
+from .errors import BadInput
+from .explained.texts import guess
+
+__all__ = ["FORMATS", "format_of", "plain_text"]
+
+FORMATS = {".lp": "lp", ".mod": "mathprog", ".mps": "mps"}
+"""The formats of models that are read, by the suffixes of their files."""
+
+_MARK = b"\xef\xbb\xbf"
+# Sections of MPS that say nothing of rows and columns, and those with constraints that are no rows of a matrix.
+_BESIDE = ("OBJSENSE", "OBJNAME", "OBJECT", "BRANCH", "QUADOBJ", "QMATRIX", "QSECTION", "START", "SETS")
+_OTHER = ("QCMATRIX", "CSECTION", "INDICATORS", "SOS", "SOS1", "SOS2", "GENCONS", "PWLOBJ")
+_SENSES = ("MAX", "MIN", "MAXIMIZE", "MINIMIZE")
+_LAZY = ("LAZYCONS", "USERCUTS")
+_LP_OTHER = re.compile(
+    r"\s*(general\s+constraints?|gen\s+cons|gencons|sos[12]?|pwlobj|scenarios?|multi-?objectives?)\s*:?\s*", re.I
+)
+_LP_LAZY = re.compile(r"\s*(lazy\s+constraints?|user\s+cuts?)\s*", re.I)
+_LP_ROWS = re.compile(r"\s*(subject\s+to|such\s+that|st|s\.t\.|st\.)\b", re.I)
+_LP_BEHIND = re.compile(r"\s*(bounds?|generals?|gen|integers?|int|binar(y|ies)|bin|semi\S*|semis?|end)\s*", re.I)
+_NUMBER = r"[+-]?\s*(?:[0-9]+\.?[0-9]*(?:e[+-]?[0-9]+)?|\.[0-9]+(?:e[+-]?[0-9]+)?|inf(?:inity)?)"
+_SIGN = r"(?:<=|=<|<|>=|=>|>)"
+_RANGE = re.compile(rf"(?<![^\s:])({_NUMBER}\s*{_SIGN})([^<>=:]*?{_SIGN}\s*{_NUMBER})", re.I)
+_QUADRATIC = re.compile(r"[+-]?\s*\[[^]]*\]\s*(?:/\s*2)?", re.S)
+
+
+def format_of(name: str, data: bytes) -> str:
+    """The format that the suffix of a file tells, or else what it begins with, MPS where that tells nothing."""
+    path = Path(name)
+    suffixes = [suffix.lower() for suffix in path.suffixes if suffix.lower() not in (".gz", ".bz2")]
+    told = FORMATS.get(suffixes[-1]) if suffixes else None
+    kind = guess(_unpacked(data).removeprefix(_MARK)).kind
+    return told or (kind if kind in ("lp", "mathprog") else "mps")
+
+
+def plain_text(data: bytes, form: str) -> bytes:
+    """The text as GLPK reads it. Raises `BadInput` where it has constraints that are no rows of a matrix."""
+    text = _unpacked(data).removeprefix(_MARK).decode("utf-8", "surrogateescape").replace("\r\n", "\n")
+    if form == "mps":
+        text = "\n".join(_mps_lines(text.split("\n")))
+    elif form == "lp":
+        text = _lp(text)
+    return text.encode("utf-8", "surrogateescape")
+
+
+def _unpacked(data: bytes) -> bytes:
+    if not data.startswith(b"\x1f\x8b"):
+        return data
+    try:
+        return gzip.decompress(data)
+    except (OSError, EOFError, zlib.error) as fault:
+        raise BadInput("no model, it cannot be unpacked by gunzip") from fault
+
+
+def _mps_lines(lines: list[str]) -> Iterator[str]:
+    """The lines of MPS, where those of sections that GLPK does not know become comments."""
+    section = ""
+    for place, line in enumerate(lines, 1):
+        first = line.split()[0].upper() if line[:1] not in ("", " ", "\t", "*") else ""
+        if first and not (section == "OBJSENSE" and first in _SENSES):
+            section = first
+        if first in _OTHER:
+            raise BadInput(f"no linear model, line {place}: constraints of the section {first} are no rows of a matrix")
+        if first in _LAZY:
+            raise BadInput(f"no model, line {place}: rows of the section {first} have to stand in ROWS")
+        is_semicontinuous = section == "BOUNDS" and re.match(r"\s+S[CI]\s", line)
+        yield f"*{line}" if section in _BESIDE or is_semicontinuous else line
+
+
+def _lp(text: str) -> str:
+    """The text of an LP file without the left sides of ranges and without what is quadratic in the objective."""
+    if re.match(r"\s*(/\*(.|\n)*?\*/\s*)?(max|min)\s*:", text, re.I):
+        raise BadInput("no model, line 1: this is the LP format of lp_solve, which `xli` of lp_solve turns into MPS")
+    lines = [re.sub(r"\\.*", "", line) for line in text.split("\n")]
+    first = next((place for place, line in enumerate(lines) if _LP_ROWS.match(line)), len(lines))
+    last = next((place for place, line in enumerate(lines) if place > first and _LP_BEHIND.fullmatch(line)), len(lines))
+    for place, line in enumerate(lines[first:], first + 1):
+        if _LP_OTHER.fullmatch(line):
+            raise BadInput(f"no linear model, line {place}: constraints of this section are no rows of a matrix")
+    objective = _blank(_QUADRATIC, "\n".join(lines[:first]))
+    rows = "\n".join("" if _LP_LAZY.fullmatch(line) else line for line in lines[first:last])
+    rows = _RANGE.sub(lambda found: _line_feeds(found[1]) + found[2], rows)
+    return "\n".join([objective] * (first > 0) + [rows] * (last > first) + lines[last:])
+
+
+def _blank(pattern: re.Pattern[str], text: str) -> str:
+    return pattern.sub(lambda found: _line_feeds(found[0]), text)
+
+
+def _line_feeds(text: str) -> str:
+    return re.sub(r"[^\n]", " ", text)

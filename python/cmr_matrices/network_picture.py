@@ -1,0 +1,205 @@
+"""Pictures of graphs that show that a matrix is graphic or a network matrix.
+
+Where each walk takes at most two arcs, the matrix is that of a network whose nodes are the rows, as flow models have it: then the
+rows are drawn as nodes and the columns as edges between them. Else the tree is drawn, and the walks as dashed edges.
+"""
+
+from __future__ import annotations
+
+import re
+from collections import Counter
+from collections.abc import Iterable, Iterator, Sequence
+from dataclasses import dataclass
+from typing import TYPE_CHECKING
+
+from .dot import document, statement
+from .families import families_of, family_of
+from .lines import Line, Names
+from .walks import Taken, arcs_of_walks
+
+if TYPE_CHECKING:
+    from .graphs import Edge, Graph
+
+__all__ = ["DRAWN", "picture"]
+
+DRAWN = 1000
+"""The most edges that are drawn where no limit is given."""
+
+# Up to so many edges the layers of dot can be followed, and up to so many labels can be read.
+_LAYERED = 40
+_LABELLED = 250
+# Up to so many edges between rows are bent around nodes. With more, or in trees, Graphviz takes long for it, or fails.
+_BENT = 150
+# The words of a name, of which those behind the first are its index.
+_INDEX = re.compile(r"[^][(){},;_ ]+")
+_FONT = {"fontname": "Helvetica"}
+_WALK = {"style": "dashed", "color": "#3060a0", "fontcolor": "#3060a0"}
+# Where edges cross, colours tell which name belongs to which.
+_COLOURS = ("#20639b", "#b03a2e", "#1e8449", "#7d3c98", "#9c640c", "#17202a")
+_BOX = {"shape": "box", "style": "rounded,filled", "fillcolor": "#eef3f8", "color": "#708090"}
+_CIRCLE = {"shape": "circle", "width": "0.3", "fixedsize": "true", "style": "filled", "fillcolor": "white"}
+_OUTSIDE = {"shape": "point", "width": "0.05", "label": ""}
+
+
+@dataclass(frozen=True)
+class _Drawn:
+    """An edge of the picture between two of its nodes, which are named."""
+
+    tail: str
+    head: str
+    name: str
+    look: dict[str, str]
+
+
+def picture(graph: Graph, names: Names, *, directed: bool, limit: int = DRAWN, tree: bool = False) -> str:
+    """The graph in DOT. With more edges than the limit the families of its lines are drawn, with their counts.
+
+    `tree` draws the tree in any case. The layout is chosen by the number of edges, and any program of Graphviz then uses it.
+    """
+    taken = None if tree else arcs_of_walks(graph, 2)
+    count = len(graph.edges) if taken is None else len(graph.walks)
+    if count > limit:
+        return _summary(graph, names, taken, directed=directed)
+    if taken is None:
+        return _tree(graph, names, directed=directed)
+    return _rows_as_nodes(graph, names, taken, directed=directed)
+
+
+def _signs(graph: Graph, taken: Taken, names: Names) -> dict[Line, int]:
+    """A sign for each arc such that walks with two arcs have one 1 and one -1 once the arcs have their signs.
+
+    All signs of a connected part can be turned, and its edges with them. What names tell decides: `flow[a,b]` leads from `node[a]` to
+    `node[b]`. Where they tell nothing, the first arc of the part has the sign 1.
+    """
+    near: dict[Line, list[tuple[Line, int, int]]] = {arc.line: [] for arc in graph.arcs}
+    for walk, arcs in taken.items():
+        if len(arcs) == 2:
+            (first, entry), (second, other) = arcs
+            order = entry * _order(names.line(walk), names.line(first), names.line(second))
+            near[first].append((second, -entry * other, order))
+            near[second].append((first, -entry * other, 0))
+    signs: dict[Line, int] = {}
+    for line in near:
+        if line not in signs:
+            part = {line: 1}
+            queue = [line]
+            told = 0
+            for place in queue:
+                for other_line, same, order in near[place]:
+                    if other_line not in part:
+                        part[other_line] = part[place] * same
+                        queue.append(other_line)
+                    told += part[place] * order
+            turn = -1 if told < 0 else 1
+            signs.update({place: sign * turn for place, sign in part.items()})
+    return signs
+
+
+def _order(edge: str, first: str, second: str) -> int:
+    """1 where the name of an edge has the index of the first end before that of the second one, -1 the other way, and else 0."""
+    words, *ends = (_INDEX.findall(name)[1:] for name in (edge, first, second))
+    places = [_place(words, end) for end in ends]
+    match places:
+        case [int(tail), int(head)] if tail != head:
+            return 1 if tail < head else -1
+    return 0
+
+
+def _place(words: list[str], part: list[str]) -> int | None:
+    found = (place for place in range(len(words)) if part and words[place : place + len(part)] == part)
+    return next(found, None)
+
+
+def _rows_as_nodes(graph: Graph, names: Names, taken: Taken, *, directed: bool) -> str:
+    lines = [arc.line for arc in graph.arcs]
+    signs = _signs(graph, taken, names)
+    nodes = {line.word: names.line(line) for line in lines}
+    outside: list[str] = []
+    edges = []
+    for walk in graph.walks:
+        ends = {sign * signs[line]: line.word for line, sign in taken[walk.line]}
+        if len(ends) < 2:
+            outside.append(f"{walk.line.word}.end")
+        tail, head = (ends.get(sign, outside[-1] if outside else "") for sign in (1, -1))
+        edges.append(_Drawn(tail, head, names.line(walk.line), {}))
+    return _document(nodes, outside, edges, directed=directed, look=_BOX)
+
+
+def _tree(graph: Graph, names: Names, *, directed: bool) -> str:
+    nodes = {str(node): str(node) for node in range(len(graph.arcs) + 1)}
+    edges = [_of_edge(arc, names, {"penwidth": "2"}) for arc in graph.arcs]
+    edges += (_of_edge(walk, names, _WALK) for walk in graph.walks)
+    return _document(nodes, [], edges, directed=directed, look=_CIRCLE)
+
+
+def _of_edge(edge: Edge, names: Names, look: dict[str, str]) -> _Drawn:
+    return _Drawn(str(edge.tail), str(edge.head), names.line(edge.line), look)
+
+
+def _document(
+    nodes: dict[str, str], outside: Sequence[str], edges: Sequence[_Drawn], *, directed: bool, look: dict[str, str]
+) -> str:
+    kind, join = ("digraph", "->") if directed else ("graph", "--")
+    labelled = len(edges) <= _LABELLED
+    statements = list(_defaults(len(edges), look))
+    statements += (statement(_id(node), {"label": name} if node != name else {}) for node, name in nodes.items())
+    statements += (statement(_id(node), _OUTSIDE) for node in outside)
+    coloured = _LAYERED < len(edges) <= _LABELLED
+    for place, edge in enumerate(edges):
+        said = {"label" if labelled else "tooltip": edge.name}
+        if coloured and not edge.look:
+            said |= {"color": _COLOURS[place % len(_COLOURS)], "fontcolor": _COLOURS[place % len(_COLOURS)]}
+        statements.append(statement(f"{_id(edge.tail)} {join} {_id(edge.head)}", said | edge.look))
+    return document(kind, "network", statements)
+
+
+def _id(node: str) -> str:
+    return node if node.isalnum() else f'"{node}"'
+
+
+def _defaults(count: int, look: dict[str, str]) -> Iterator[str]:
+    """The layout for a number of edges, and the sizes of what is drawn."""
+    length = {}
+    if count <= _LAYERED:
+        yield statement("graph", {"nodesep": "0.4", "ranksep": "0.5"})
+        sizes = "11", "10", "0.6"
+    elif count <= _LABELLED:
+        length = {"len": "2.2"}
+        bent = "true" if look is _BOX and count <= _BENT else "line"
+        room = {"overlap": "false", "splines": bent, "sep": "+16", "size": "14.5,10.3"}
+        yield statement("graph", {"layout": "neato", "start": "1"} | room)
+        sizes = "11", "8", "0.5"
+    else:
+        yield statement("graph", {"layout": "sfdp", "overlap": "prism", "start": "1", "outputorder": "edgesfirst"})
+        sizes = "8", "8", "0.4"
+    node_size, edge_size, arrow = sizes
+    small = {"margin": "0.04,0.02", "height": "0.2", "width": "0.2"} if look["shape"] == "box" else {}
+    yield statement("node", look | small | _FONT | {"fontsize": node_size})
+    thin = {"color": "#00000060", "penwidth": "0.7"} if count > _LABELLED else {}
+    yield statement("edge", _FONT | {"fontsize": edge_size, "arrowsize": arrow} | length | thin)
+
+
+def _summary(graph: Graph, names: Names, taken: Taken | None, *, directed: bool) -> str:
+    """The families of the lines: where rows are nodes as a graph of their own, and else as a list."""
+    if taken is None:
+        arcs = families_of(names.line(arc.line) for arc in graph.arcs)
+        walks = families_of(names.line(walk.line) for walk in graph.walks)
+        lines = [f"a tree of {len(graph.arcs)} arcs:", *(f"{len(found)} of {family}" for family, found in arcs.items())]
+        lines += [f"{len(graph.walks)} paths:", *(f"{len(found)} of {family}" for family, found in walks.items())]
+        return document("graph", "network", [statement("summary", {"shape": "box", "label": "\n".join(lines)} | _FONT)])
+    signs = _signs(graph, taken, names)
+    families = families_of(names.line(arc.line) for arc in graph.arcs)
+    counted: Counter[tuple[str, str, str]] = Counter()
+    for walk in graph.walks:
+        ends = {sign * signs[line]: family_of(names.line(line)) for line, sign in taken[walk.line]}
+        counted[ends.get(1, ""), ends.get(-1, ""), family_of(names.line(walk.line))] += 1
+    nodes = {_key(family): f"{len(found)} of {family}" for family, found in families.items()}
+    outside = ["outside"] if any("" in ends[:2] for ends in counted) else []
+    edges = [
+        _Drawn(_key(tail), _key(head), f"{count} of {family}", {}) for (tail, head, family), count in counted.items()
+    ]
+    return _document(nodes, outside, edges, directed=directed, look=_BOX)
+
+
+def _key(family: str) -> str:
+    return f"family {family}".replace("\\", "/").replace('"', "'") if family else "outside"
