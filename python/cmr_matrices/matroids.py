@@ -14,7 +14,7 @@ from itertools import combinations
 
 from .edge_lists import graph_of_edges
 from .errors import BadInput
-from .lines import Line, Names
+from .lines import Names
 from .matrix import Matrix
 from .walks import arcs_of_walks
 from .words import LIMIT

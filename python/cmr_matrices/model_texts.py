@@ -2,6 +2,7 @@
 
 from __future__ import annotations
 
+import bz2
 import gzip
 import re
 import zlib
@@ -16,6 +17,7 @@ __all__ = ["FORMATS", "format_of", "plain_text"]
 FORMATS = {".lp": "lp", ".mod": "mathprog", ".mps": "mps"}
 """The formats of models that are read, by the suffixes of their files."""
 
+_PACKED = (".gz", ".bz2")
 _MARK = b"\xef\xbb\xbf"
 # Sections of MPS that say nothing of rows and columns, and those with constraints that are no rows of a matrix.
 _BESIDE = ("OBJSENSE", "OBJNAME", "OBJECT", "BRANCH", "QUADOBJ", "QMATRIX", "QSECTION", "START", "SETS")
@@ -28,19 +30,25 @@ _LP_OTHER = re.compile(
 _LP_LAZY = re.compile(r"\s*(lazy\s+constraints?|user\s+cuts?)\s*", re.I)
 _LP_ROWS = re.compile(r"\s*(subject\s+to|such\s+that|st|s\.t\.|st\.)\b", re.I)
 _LP_BEHIND = re.compile(r"\s*(bounds?|generals?|gen|integers?|int|binar(y|ies)|bin|semi\S*|semis?|end)\s*", re.I)
-_NUMBER = r"[+-]?\s*(?:[0-9]+\.?[0-9]*(?:e[+-]?[0-9]+)?|\.[0-9]+(?:e[+-]?[0-9]+)?|inf(?:inity)?)"
+_PLAIN = r"(?:[0-9]+\.?[0-9]*|\.[0-9]+)(?:e[+-]?[0-9]+)?"
+_NUMBER = rf"[+-]?\s*(?:{_PLAIN}|inf(?:inity)?)"
 _SIGN = r"(?:<=|=<|<|>=|=>|>)"
 _RANGE = re.compile(rf"(?<![^\s:])({_NUMBER}\s*{_SIGN})([^<>=:]*?{_SIGN}\s*{_NUMBER})", re.I)
+_CONSTANT = re.compile(rf"(?:[+-]\s*|(?<![^\s:])){_PLAIN}(?=\s*(?:[+-]|$))", re.I)
+_LP_HEAD = re.compile(r"\s*(max|min)\w*\s*([^\s:]+\s*:)?\s*", re.I)
+_LP_LABEL = re.compile(r"[^\s:]+\s*:")
+_LP_VARIABLE = re.compile(r"[^\s0-9.+<>=-][^\s+<>=-]*")
+_LP_NO_ROW = {"an indicator": re.compile("->"), "a quadratic": re.compile(r"(?<!\S)\[|\^")}
 _QUADRATIC = re.compile(r"[+-]?\s*\[[^]]*\]\s*(?:/\s*2)?", re.S)
 
 
 def format_of(name: str, data: bytes) -> str:
     """The format that the suffix of a file tells, or else what it begins with, MPS where that tells nothing."""
-    path = Path(name)
-    suffixes = [suffix.lower() for suffix in path.suffixes if suffix.lower() not in (".gz", ".bz2")]
-    told = FORMATS.get(suffixes[-1]) if suffixes else None
+    suffixes = [suffix.lower() for suffix in Path(name).suffixes if suffix.lower() not in _PACKED]
+    if suffixes and suffixes[-1] in FORMATS:
+        return FORMATS[suffixes[-1]]
     kind = guess(_unpacked(data).removeprefix(_MARK)).kind
-    return told or (kind if kind in ("lp", "mathprog") else "mps")
+    return kind if kind in ("lp", "mathprog") else "mps"
 
 
 def plain_text(data: bytes, form: str) -> bytes:
@@ -54,12 +62,13 @@ def plain_text(data: bytes, form: str) -> bytes:
 
 
 def _unpacked(data: bytes) -> bytes:
-    if not data.startswith(b"\x1f\x8b"):
-        return data
-    try:
-        return gzip.decompress(data)
-    except (OSError, EOFError, zlib.error) as fault:
-        raise BadInput("no model, it cannot be unpacked by gunzip") from fault
+    for magic, program, unpack in ((b"\x1f\x8b", "gunzip", gzip.decompress), (b"BZh", "bunzip2", bz2.decompress)):
+        if data.startswith(magic):
+            try:
+                return unpack(data)
+            except (OSError, EOFError, ValueError, zlib.error) as fault:
+                raise BadInput(f"no model, it cannot be unpacked by {program}") from fault
+    return data
 
 
 def _mps_lines(lines: list[str]) -> Iterator[str]:
@@ -67,30 +76,55 @@ def _mps_lines(lines: list[str]) -> Iterator[str]:
     section = ""
     for place, line in enumerate(lines, 1):
         first = line.split()[0].upper() if line[:1] not in ("", " ", "\t", "*") else ""
+        is_lazy = first in _LAZY and section in ("ROWS", *_LAZY)
         if first and not (section == "OBJSENSE" and first in _SENSES):
             section = first
         if first in _OTHER:
             raise BadInput(f"no linear model, line {place}: constraints of the section {first} are no rows of a matrix")
-        if first in _LAZY:
-            raise BadInput(f"no model, line {place}: rows of the section {first} have to stand in ROWS")
         is_semicontinuous = section == "BOUNDS" and re.match(r"\s+S[CI]\s", line)
-        yield f"*{line}" if section in _BESIDE or is_semicontinuous else line
+        yield f"*{line}" if section in _BESIDE or is_semicontinuous or is_lazy else line
 
 
 def _lp(text: str) -> str:
-    """The text of an LP file without the left sides of ranges and without what is quadratic in the objective."""
+    """The text of an LP file without what GLPK does not know and what says nothing of rows and columns."""
     if re.match(r"\s*(/\*(.|\n)*?\*/\s*)?(max|min)\s*:", text, re.I):
         raise BadInput("no model, line 1: this is the LP format of lp_solve, which `xli` of lp_solve turns into MPS")
     lines = [re.sub(r"\\.*", "", line) for line in text.split("\n")]
     first = next((place for place, line in enumerate(lines) if _LP_ROWS.match(line)), len(lines))
     last = next((place for place, line in enumerate(lines) if place > first and _LP_BEHIND.fullmatch(line)), len(lines))
     for place, line in enumerate(lines[first:], first + 1):
-        if _LP_OTHER.fullmatch(line):
-            raise BadInput(f"no linear model, line {place}: constraints of this section are no rows of a matrix")
-    objective = _blank(_QUADRATIC, "\n".join(lines[:first]))
+        _must_be_rows(line, place, place <= last)
     rows = "\n".join("" if _LP_LAZY.fullmatch(line) else line for line in lines[first:last])
     rows = _RANGE.sub(lambda found: _line_feeds(found[1]) + found[2], rows)
-    return "\n".join([objective] * (first > 0) + [rows] * (last > first) + lines[last:])
+    objective = _objective("\n".join(lines[:first]), rows)
+    behind = list(_without_semicontinuous(lines[last:]))
+    return "\n".join([objective] * (first > 0) + [rows] * (last > first) + behind)
+
+
+def _must_be_rows(line: str, place: int, is_row: bool) -> None:
+    """Raises `BadInput` at a line with constraints that are no rows of a matrix."""
+    if _LP_OTHER.fullmatch(line):
+        raise BadInput(f"no linear model, line {place}: constraints of this section are no rows of a matrix")
+    for kind, sign in _LP_NO_ROW.items():
+        if is_row and sign.search(line):
+            raise BadInput(f"no linear model, line {place}: {kind} constraint is no row of a matrix")
+
+
+def _objective(text: str, rows: str) -> str:
+    """The objective without what is quadratic in it and without its constant, and 0 times a variable where it is empty."""
+    linear = _blank(_CONSTANT, _blank(_QUADRATIC, text))
+    if _LP_HEAD.fullmatch(linear) and (found := _LP_VARIABLE.search(_LP_LABEL.sub(" ", _LP_ROWS.sub("", rows, 1)))):
+        return f"{linear} 0 {found[0]}"
+    return linear
+
+
+def _without_semicontinuous(lines: list[str]) -> Iterator[str]:
+    """The sections behind the rows, without those that name semicontinuous variables."""
+    is_left_out = False
+    for line in lines:
+        if _LP_BEHIND.fullmatch(line):
+            is_left_out = line.strip().lower().startswith("semi")
+        yield "" if is_left_out else line
 
 
 def _blank(pattern: re.Pattern[str], text: str) -> str:

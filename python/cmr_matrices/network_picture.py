@@ -8,7 +8,7 @@ from __future__ import annotations
 
 import re
 from collections import Counter
-from collections.abc import Iterable, Iterator, Sequence
+from collections.abc import Iterator, Sequence
 from dataclasses import dataclass
 from typing import TYPE_CHECKING
 
@@ -25,11 +25,8 @@ __all__ = ["DRAWN", "picture"]
 DRAWN = 1000
 """The most edges that are drawn where no limit is given."""
 
-# Up to so many edges the layers of dot can be followed, and up to so many labels can be read.
+# Up to so many edges the layers of dot can be followed.
 _LAYERED = 40
-_LABELLED = 250
-# Up to so many edges between rows are bent around nodes. With more, or in trees, Graphviz takes long for it, or fails.
-_BENT = 150
 # The words of a name, of which those behind the first are its index.
 _INDEX = re.compile(r"[^][(){},;_ ]+")
 _FONT = {"fontname": "Helvetica"}
@@ -39,6 +36,22 @@ _COLOURS = ("#20639b", "#b03a2e", "#1e8449", "#7d3c98", "#9c640c", "#17202a")
 _BOX = {"shape": "box", "style": "rounded,filled", "fillcolor": "#eef3f8", "color": "#708090"}
 _CIRCLE = {"shape": "circle", "width": "0.3", "fixedsize": "true", "style": "filled", "fillcolor": "white"}
 _OUTSIDE = {"shape": "point", "width": "0.05", "label": ""}
+
+
+@dataclass(frozen=True)
+class _Style:
+    """How nodes look, up to how many edges their labels can be read, and whether edges are bent around nodes.
+
+    In trees, and with many edges, Graphviz takes long to bend them, or fails.
+    """
+
+    node: dict[str, str]
+    labelled: int
+    bent: bool
+
+
+_ROWS = _Style(_BOX, 150, True)
+_TREE = _Style(_CIRCLE, 250, False)
 
 
 @dataclass(frozen=True)
@@ -122,14 +135,14 @@ def _rows_as_nodes(graph: Graph, names: Names, taken: Taken, *, directed: bool) 
             outside.append(f"{walk.line.word}.end")
         tail, head = (ends.get(sign, outside[-1] if outside else "") for sign in (1, -1))
         edges.append(_Drawn(tail, head, names.line(walk.line), {}))
-    return _document(nodes, outside, edges, directed=directed, look=_BOX)
+    return _document(nodes, outside, edges, directed=directed, style=_ROWS)
 
 
 def _tree(graph: Graph, names: Names, *, directed: bool) -> str:
     nodes = {str(node): str(node) for node in range(len(graph.arcs) + 1)}
     edges = [_of_edge(arc, names, {"penwidth": "2"}) for arc in graph.arcs]
     edges += (_of_edge(walk, names, _WALK) for walk in graph.walks)
-    return _document(nodes, [], edges, directed=directed, look=_CIRCLE)
+    return _document(nodes, [], edges, directed=directed, style=_TREE)
 
 
 def _of_edge(edge: Edge, names: Names, look: dict[str, str]) -> _Drawn:
@@ -137,14 +150,14 @@ def _of_edge(edge: Edge, names: Names, look: dict[str, str]) -> _Drawn:
 
 
 def _document(
-    nodes: dict[str, str], outside: Sequence[str], edges: Sequence[_Drawn], *, directed: bool, look: dict[str, str]
+    nodes: dict[str, str], outside: Sequence[str], edges: Sequence[_Drawn], *, directed: bool, style: _Style
 ) -> str:
     kind, join = ("digraph", "->") if directed else ("graph", "--")
-    labelled = len(edges) <= _LABELLED
-    statements = list(_defaults(len(edges), look))
+    labelled = len(edges) <= style.labelled
+    statements = list(_defaults(edges, style))
     statements += (statement(_id(node), {"label": name} if node != name else {}) for node, name in nodes.items())
     statements += (statement(_id(node), _OUTSIDE) for node in outside)
-    coloured = _LAYERED < len(edges) <= _LABELLED
+    coloured = labelled and len(edges) > _LAYERED
     for place, edge in enumerate(edges):
         said = {"label" if labelled else "tooltip": edge.name}
         if coloured and not edge.look:
@@ -157,26 +170,31 @@ def _id(node: str) -> str:
     return node if node.isalnum() else f'"{node}"'
 
 
-def _defaults(count: int, look: dict[str, str]) -> Iterator[str]:
+def _defaults(edges: Sequence[_Drawn], style: _Style) -> Iterator[str]:
     """The layout for a number of edges, and the sizes of what is drawn."""
-    length = {}
-    if count <= _LAYERED:
-        yield statement("graph", {"nodesep": "0.4", "ranksep": "0.5"})
+    length, thin = {}, {}
+    if len(edges) <= _LAYERED:
+        sides = {"rankdir": "LR", "nodesep": "0.1", "ranksep": "1.5"}
+        yield statement("graph", sides if _has_two_sides(edges) else {"nodesep": "0.4", "ranksep": "0.5"})
         sizes = "11", "10", "0.6"
-    elif count <= _LABELLED:
+    elif len(edges) <= style.labelled:
         length = {"len": "2.2"}
-        bent = "true" if look is _BOX and count <= _BENT else "line"
-        room = {"overlap": "false", "splines": bent, "sep": "+16", "size": "14.5,10.3"}
+        room = {"overlap": "false", "splines": "true" if style.bent else "line", "sep": "+16", "size": "14.5,10.3"}
         yield statement("graph", {"layout": "neato", "start": "1"} | room)
         sizes = "11", "8", "0.5"
     else:
+        thin = {"color": "#00000060", "penwidth": "0.7"}
         yield statement("graph", {"layout": "sfdp", "overlap": "prism", "start": "1", "outputorder": "edgesfirst"})
         sizes = "8", "8", "0.4"
     node_size, edge_size, arrow = sizes
-    small = {"margin": "0.04,0.02", "height": "0.2", "width": "0.2"} if look["shape"] == "box" else {}
-    yield statement("node", look | small | _FONT | {"fontsize": node_size})
-    thin = {"color": "#00000060", "penwidth": "0.7"} if count > _LABELLED else {}
+    small = {"margin": "0.04,0.02", "height": "0.2", "width": "0.2"} if style.node["shape"] == "box" else {}
+    yield statement("node", style.node | small | _FONT | {"fontsize": node_size})
     yield statement("edge", _FONT | {"fontsize": edge_size, "arrowsize": arrow} | length | thin)
+
+
+def _has_two_sides(edges: Sequence[_Drawn]) -> bool:
+    """Whether all edges lead from some nodes to others, as in a transport: then two columns are drawn, and not two wide rows."""
+    return not {edge.tail for edge in edges} & {edge.head for edge in edges}
 
 
 def _summary(graph: Graph, names: Names, taken: Taken | None, *, directed: bool) -> str:
@@ -198,7 +216,7 @@ def _summary(graph: Graph, names: Names, taken: Taken | None, *, directed: bool)
     edges = [
         _Drawn(_key(tail), _key(head), f"{count} of {family}", {}) for (tail, head, family), count in counted.items()
     ]
-    return _document(nodes, outside, edges, directed=directed, look=_BOX)
+    return _document(nodes, outside, edges, directed=directed, style=_ROWS)
 
 
 def _key(family: str) -> str:

@@ -1,5 +1,6 @@
 """Tests of `graph_to_dot`."""
 
+import os
 import random
 import re
 import subprocess
@@ -76,6 +77,18 @@ class GraphPictures(ScriptTest):
         self.assertIn('r1 -> r3 [label="c1"]', lines)
         self.assertIn('r2 -> r3 [label="c2"]', lines)
 
+    def test_layouts_by_size(self):
+        for arcs, pieces in [
+            (20, ["nodesep"]),
+            (100, ['layout="neato"', 'splines="true"', 'label="c100"']),
+            (200, ['layout="sfdp"', 'tooltip="c200"']),
+        ]:
+            lines = self.output("graph_to_dot", text=flow(30, arcs)[0])
+            for piece in pieces:
+                self.assertIn(piece, lines)
+        self.assertIn('rankdir="LR"', self.output("graph_to_dot", text="0 1 r1\n2 1 r2\n0 2 c1\n"))
+        self.assertNotIn("rankdir", self.output("graph_to_dot", text=flow(10, 20)[0]))
+
     def test_graphs_without_a_tree(self):
         self.assertEqual(self.edges("0 0 c1\n", "--tree"), ["0 -> 0 c1 dashed"])
         self.assertEqual(self.edges(""), [])
@@ -121,15 +134,17 @@ class GraphPictures(ScriptTest):
         lines = [f"{number.randrange(arc)} {arc} r{arc}\n" for arc in range(1, 101)]
         lines += [f"{number.randrange(101)} {number.randrange(101)} c{path}\n" for path in range(1, 101)]
         dot = self.output("graph_to_dot", text="".join(lines))
-        run = subprocess.run(["dot", "-Tsvg"], input=dot, capture_output=True, text=True, timeout=10)
+        run = subprocess.run(["dot", "-Tsvg"], input=dot, capture_output=True, text=True, timeout=600)
         self.assertEqual((run.returncode, run.stderr, run.stdout.count('class="edge"')), (0, "", 200))
 
     @needs_dot
     def test_a_hundred_arcs_fit_on_a_screen_and_a_thousand_are_drawn(self):
         for nodes, arcs, widest, highest in [(30, 100, 1400, 1000), (300, 1000, 3000, 3000)]:
             text, names = flow(nodes, arcs)
+            before = os.times().children_user
             dot = self.output("graph_to_dot", "--names", self.write("names", names), text=text)
-            run = subprocess.run(["dot", "-Tsvg"], input=dot, capture_output=True, text=True, timeout=10)
+            run = subprocess.run(["dot", "-Tsvg"], input=dot, capture_output=True, text=True, timeout=600)
+            self.assertLess(os.times().children_user - before, 10)
             self.assertEqual((run.returncode, run.stderr), (0, ""))
             self.assertEqual(run.stdout.count('class="edge"'), arcs)
             width, height = (int(size) * 96 / 72 for size in re.findall(r'(?:width|height)="([0-9]+)pt"', run.stdout))

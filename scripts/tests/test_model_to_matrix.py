@@ -1,5 +1,6 @@
 """Tests of `model_to_matrix`."""
 
+import bz2
 import gzip
 import os
 import unittest
@@ -76,13 +77,31 @@ End
 """,
     "highs.lp": """\\ File written by HiGHS .lp file handler
 max
- o: +1 x +1 z
+ o: +1 x +1 z +3
 st
  a: +1 x -1 y <= +1
  b: +1 x +1 z >= +1
  c: -inf <= +1 y +1 z <= +3
 bounds
+semi-continuous
+ z
 end
+""",
+    "empty.lp": """Minimize
+ o:
+Subject To
+ a: x - y <= 1
+ b: x + z >= 1
+ c: y + z <= 3
+End
+""",
+    "constant.lp": """Minimize
+ 5 - 2e+1
+Subject To
+ a: -2 <= x - y <= 1
+ b: x + z >= 1
+ c: y + z <= 3
+End
 """,
 }
 
@@ -221,8 +240,24 @@ class Models(ScriptTest):
                     with self.subTest(front=front, mark=mark):
                         (self.folder / "model.mps").write_bytes((mark + data).encode())
                         self.assertEqual(self.convert("model.mps"), plain)
-        (self.folder / "model.mps.gz").write_bytes(gzip.compress(small_mps((1, 0), (1, -1)).encode()))
-        self.assertEqual(self.convert("model.mps.gz"), plain)
+
+    def test_packed_models(self):
+        text = small_mps((1, 0), (1, -1))
+        plain = self.convert(self.write("plain.mps", text))
+        for suffix, pack in ((".gz", gzip.compress), (".bz2", bz2.compress)):
+            (self.folder / f"model.mps{suffix}").write_bytes(pack(text.encode()))
+            self.assertEqual(self.convert(f"model.mps{suffix}"), plain)
+        (self.folder / "bad.mps.bz2").write_bytes(bz2.compress(text.encode())[:-9])
+        line = self.refusal("model_to_matrix", "bad.mps.bz2", "matrix", "names")
+        self.assertEqual(line, "bad.mps.bz2: no model, it cannot be unpacked by bunzip2")
+
+    def test_lazy_rows_in_mps(self):
+        """They stand behind the others, and are rows as they are."""
+        text = small_mps((1, 0), (1, -1))
+        plain = self.convert(self.write("plain.mps", text))
+        for section in ("LAZYCONS", "USERCUTS\nLAZYCONS"):
+            lazy = self.write("lazy.mps", text.replace(" L second", f"{section}\n L second"))
+            self.assertEqual(self.convert(lazy), plain)
 
     def test_a_column_with_the_name_of_a_kind_of_bound(self):
         plain = self.convert(self.write("plain.mps", small_mps((1, 0), (1, -1))))[0]
@@ -387,6 +422,10 @@ class Refusals(ScriptTest):
         self.write("bad.lp", "Minimize\n x\nSubject To\n a: x >= 1\nSOS\n s: S1:: x:1\nEnd\n")
         line = "bad.lp: no linear model, line 5: constraints of this section are no rows of a matrix"
         self.assertEqual(self.refused("bad.lp"), line)
+        for row, kind in (("r: z = 1 -> x + y >= 2", "an indicator"), ("r: x + [ y ^2 ] <= 1", "a quadratic")):
+            self.write("bad.lp", f"Minimize\n x\nSubject To\n a: x >= 1\n {row}\nEnd\n")
+            said = f"bad.lp: no linear model, line 5: {kind} constraint is no row of a matrix"
+            self.assertEqual(self.refused("bad.lp"), said)
         self.write("solve.lp", "/* lp_solve */\nmax: 3x+2y;\nc1: x+y<=4;\n")
         self.assertIn("LP format of lp_solve", self.refused("solve.lp"))
 
