@@ -229,6 +229,10 @@ class Mistakes(ScriptTest):
         (self.folder / "link").symlink_to("m.txt")
         self.assertIn("would be written over", self.run_script("explain", "tu", "-D", "link", "m.txt").stderr)
         self.assertEqual(self.said("tu -D /dev/null m.txt", 1), "")
+        with open(self.folder / "m.txt", "rb") as data:
+            run = self.run_script("explain", "tu", "-E", "m.txt", text=None, stdin=data)
+        self.assertEqual((run.returncode, self.read("m.txt")), (2, FILES["m.txt"].decode()))
+        self.assertIn("m.txt is read and would be written over", run.stderr)
 
     def test_standard_input(self):
         run = self.run_script("explain", "tu", text="2 2\n1 0\n0 7\n")

@@ -1,7 +1,23 @@
-"""The lines of docs/FROM_A_MODEL.md and docs/CLASSIFYING.md are those of runs, and so is the picture of the latter."""
+"""The lines of documents are those of runs, and so is the picture of docs/CLASSIFYING.md."""
+
+import tempfile
+from pathlib import Path
 
 from tests.support import ScriptTest, needs_dot, needs_glpsol, needs_program, needs_python, needs_swiglpk
-from tests.walk import CLASSIFYING, DOCUMENT, PICTURES, walked
+from tests.walk import CLASSIFYING, DOCUMENT, PICTURES, SCREENS, walked
+
+
+@needs_python
+@needs_program
+class Screens(ScriptTest):
+    maxDiff = None
+
+    def test_each_line_is_that_of_a_run(self):
+        for document in SCREENS:
+            with self.subTest(document=document.name), tempfile.TemporaryDirectory() as folder:
+                text = document.read_text(encoding="utf-8")
+                self.assertIn("\n$ ", text)
+                self.assertEqual(text.splitlines(), walked(text, Path(folder)).splitlines())
 
 
 @needs_python

@@ -1,7 +1,7 @@
-"""The walks of docs/FROM_A_MODEL.md and docs/CLASSIFYING.md, whose lines are those of runs.
+"""The walks of documents, whose lines are those of runs.
 
 In the folder scripts, `python3 -m tests.walk` runs them, writes the lines of the runs into the documents, and puts the pictures that
-the runs draw beside them.
+the runs draw beside them. Blocks with `./try-cmr` are left as they are.
 """
 
 import re
@@ -14,7 +14,8 @@ from tests.support import TOP
 
 DOCUMENT = TOP / "docs" / "FROM_A_MODEL.md"
 CLASSIFYING = TOP / "docs" / "CLASSIFYING.md"
-PICTURES = {DOCUMENT: ("maxflow.svg", "shifts.svg"), CLASSIFYING: ("classes.svg",)}
+SCREENS = (TOP / "README.md", TOP / "docs" / "TOOLS.md", TOP / "examples" / "README.md")
+PICTURES = {**dict.fromkeys(SCREENS, ()), DOCUMENT: ("maxflow.svg", "shifts.svg"), CLASSIFYING: ("classes.svg",)}
 
 
 def walked(text, folder):
@@ -25,6 +26,8 @@ def walked(text, folder):
 
 
 def _run(block, folder):
+    if "$ ./try-cmr " in block:
+        return block
     commands = re.findall(r"^\$ (.*)", block, re.M)
     return "".join(f"$ {command}\n{_printed(command, folder)}" for command in commands)
 

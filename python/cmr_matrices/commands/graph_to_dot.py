@@ -2,8 +2,8 @@
 
 Where no column has more than two nonzeros, as in the network of a flow model, its rows are the nodes and its columns the edges.
 Else the edges of the tree are drawn in full and the edges that join the ends of paths are dashed. Each has the number or the name
-of the row or column for which it stands. The layout fits to the number of edges: that of dot up to 40, of neato up to 250, and
-beyond that of sfdp, where names of edges are left out.
+of the row or column for which it stands. The layout fits to the number of edges: that of dot up to 40, of neato up to 150 (in
+trees 250), and beyond that of sfdp, where names of edges are left out.
 """
 
 from __future__ import annotations

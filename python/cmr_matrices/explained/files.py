@@ -3,6 +3,7 @@
 from __future__ import annotations
 
 import os
+import stat
 from collections.abc import Iterator
 from difflib import get_close_matches
 from pathlib import Path
@@ -14,11 +15,11 @@ __all__ = ["before_the_run", "cannot_read", "cannot_write", "written_inputs"]
 
 
 def written_inputs(order: Order) -> list[str]:
-    """A line for each file that would be written and is also read."""
+    """A line for each file that would be written and is also read, by its name or as standard input."""
     return [
         f"{name} is read and would be written over: `{option}` names the file that gets {OUTPUTS[option]}"
         for option, name in order.outputs.items()
-        if any(_is_same(name, file) for file in order.inputs.values() if file != "-")
+        if any(_is_input(name) if file == "-" else _is_same(name, file) for file in order.inputs.values())
     ]
 
 
@@ -85,6 +86,15 @@ def _front(name: str) -> bytes:
         return Path(name).read_bytes()
     except OSError:
         return b"?"
+
+
+def _is_input(name: str) -> bool:
+    """Whether standard input is a regular file of that name."""
+    try:
+        found = os.fstat(0)
+        return stat.S_ISREG(found.st_mode) and os.path.samestat(found, os.stat(name))
+    except OSError:
+        return False
 
 
 def _is_same(name: str, other: str) -> bool:
