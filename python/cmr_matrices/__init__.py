@@ -26,6 +26,7 @@ from .errors import (
     ProgramFault,
     ProgramMissing,
     Refused,
+    TextPlace,
     TimeLimitReached,
     Undecided,
 )
@@ -87,6 +88,7 @@ __all__ = [
     "Signing",
     "SigningStep",
     "Submatrix",
+    "TextPlace",
     "TimeLimitReached",
     "Tree",
     "Undecided",

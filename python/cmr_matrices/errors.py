@@ -23,6 +23,7 @@ __all__ = [
     "ProgramFault",
     "ProgramMissing",
     "Refused",
+    "TextPlace",
     "TimeLimitReached",
     "Undecided",
 ]
@@ -133,14 +134,46 @@ class BadCommandLine(ProgramFault, ValueError):
     """The program refuses its words (status 2): an option is out of its range."""
 
 
-class BadText(ProgramFault, BadInput):
-    """A text has a fault (status 3): its kind, and the byte before which all is in order, or None where it is too long."""
+@dataclass(frozen=True)
+class TextPlace:
+    """A word of a text, empty at the end of the text, and where it stands: its line and its column, counted from 1."""
 
-    def __init__(self, status: int, line: str, kind: str, byte: int | None) -> None:
+    line: int
+    column: int
+    word: str
+
+    @classmethod
+    def at(cls, text: bytes, byte: int) -> TextPlace:
+        """The place of the word that begins at a byte."""
+        front = text[:byte]
+        start = front.rfind(b"\n") + 1
+        word = text[byte : byte + 1000].split(maxsplit=1)[:1]
+        return cls(
+            front.count(b"\n") + 1,
+            len(front[start:].decode("utf-8", "replace")) + 1,
+            word[0].decode("utf-8", "replace") if word else "",
+        )
+
+    def __str__(self) -> str:
+        word = self.word if len(self.word) <= 30 else f"{self.word[:30]}.."
+        return f"line {self.line}, column {self.column}: " + (f"`{word}`" if word else "the text ends")
+
+
+class BadText(ProgramFault, BadInput):
+    """A text has a fault (status 3): its kind, and the byte before which all is in order, or None where it is too long.
+
+    `place` is the line, the column and the word at this byte, where the text is one that the package has given to the program.
+    """
+
+    def __init__(self, status: int, line: str, kind: str, byte: int | None, place: TextPlace | None = None) -> None:
         super().__init__(status, line)
-        self.args = (status, line, kind, byte)
+        self.args = (status, line, kind, byte, place)
         self.kind = kind
         self.byte = byte
+        self.place = place
+
+    def __str__(self) -> str:
+        return self.line if self.place is None else f"{self.line} ({self.place})"
 
 
 class CannotRead(ProgramFault, OSError):

@@ -3,7 +3,7 @@
 The matrix has a row for each element of a basis and a column for each other element, with ones at the basis elements that add up to it. The
 dual matroid is represented by the transposed matrix.
 
-Source: Oxley, Matroid Theory; Seymour, Decomposition of Regular Matroids.
+Source: Seymour for R10 and R12, Oxley for the others.
 """
 
 from __future__ import annotations
@@ -29,16 +29,19 @@ _TABLES = {
     "R12": ("111000", "110100", "100010", "010001", "001011", "000111"),
     "F7": ("1101", "1011", "0111"),
 }
+_OF_GRAPH = re.compile(r"M(?P<dual>\*?)\((?P<graph>.+)\)")
 _NAME = re.compile(r"(?P<kind>[KW])_?(?P<first>[0-9]{1,4})(?:,(?P<second>[0-9]{1,4}))?")
 
 
 def named(name: str) -> Matrix:
     """The matrix of a matroid by its name, such as `R10`, `F7*`, `K5`, `K3,3*` or `W4`, and with names of its elements.
 
-    `K5` and `K3,3` are the matroids of complete graphs, and `W4` that of the wheel with four spokes. Raises `BadInput` where it is no
+    `K5` and `K3,3` are the matroids of complete graphs, also as `M(K5)` and `M*(K5)`, and `W4` that of the wheel with four spokes. Raises `BadInput` where it is no
     name, or the matrix would have more than 1,000 rows or columns.
     """
-    plain = name.replace(" ", "").replace("{", "").replace("}", "").upper()
+    plain = name.replace(" ", "").replace("{", "").replace("}", "").upper().replace("FANO", "F7")
+    if of_graph := _OF_GRAPH.fullmatch(plain):
+        plain = of_graph["graph"] + of_graph["dual"]
     matrix = _of_plain(plain.rstrip("*"), name)
     return matrix.T if plain.count("*") % 2 else matrix
 

@@ -21,6 +21,7 @@ from .errors import (
     OutOfMemory,
     ProgramFault,
     ProgramMissing,
+    TextPlace,
     TimeLimitReached,
 )
 
@@ -33,7 +34,7 @@ YES, NO, UNDECIDED, REFUSED = 0, 1, 6, 7
 _CLONE = Path(__file__).resolve().parents[2]
 # Where the package is installed below a prefix, as scripts/install does it.
 _BESIDE = _CLONE.parents[1] / "bin" / "cmr"
-_TEXT_FAULT = re.compile(r"cmr: .*: (?:(?P<kind>[A-Za-z]+) at byte (?P<byte>[0-9]+)|TooLong)", re.DOTALL)
+_TEXT_FAULT = re.compile(r"cmr: (?P<name>.*): (?:(?P<kind>[A-Za-z]+) at byte (?P<byte>[0-9]+)|TooLong)", re.DOTALL)
 
 
 @dataclass(frozen=True)
@@ -113,7 +114,8 @@ def run(
         except FileNotFoundError:
             raise ProgramMissing([command[0]]) from None
         if ran.returncode not in (YES, NO, UNDECIDED, REFUSED):
-            raise fault_of(ran.returncode, ran.stderr.decode("utf-8", "surrogateescape").rstrip("\n"))
+            line = ran.stderr.decode("utf-8", "surrogateescape").rstrip("\n")
+            raise fault_of(ran.returncode, line, {"-": text} | dict(inputs or {}))
         files = {name: path.read_text("ascii") for name in outputs if (path := Path(folder or "", name)).exists()}
     return Ran(ran.returncode, tuple(ran.stdout.decode("ascii").splitlines()), files)
 
@@ -126,15 +128,17 @@ def _encoded(text: str) -> bytes:
     return text.encode("utf-8", "surrogateescape")
 
 
-def fault_of(status: int, line: str) -> CmrError:
-    """The exception of a status that is no answer."""
+def fault_of(status: int, line: str, texts: Mapping[str, str] | None = None) -> CmrError:
+    """The exception of a status that is no answer. `texts` are those that were given to the program, by their names."""
     match status:
         case 2:
             return BadCommandLine(status, line)
         case 3:
             found = _TEXT_FAULT.fullmatch(line)
             if found and found["kind"]:
-                return BadText(status, line, found["kind"], int(found["byte"]))
+                byte, text = int(found["byte"]), (texts or {}).get(found["name"])
+                place = None if text is None else TextPlace.at(_encoded(text), byte)
+                return BadText(status, line, found["kind"], byte, place)
             return BadText(status, line, "TooLong", None)
         case 4:
             return (CannotWrite if line.startswith("cmr: cannot write") else CannotRead)(status, line)

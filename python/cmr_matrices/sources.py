@@ -75,12 +75,13 @@ def entries_of(source: Any) -> Entries:
 
 def _of_scipy(source: Any) -> Entries:
     """Values at one place are added, as scipy does where it makes an array of them."""
+    shape = _shape(source.shape)
     coordinates = source.tocoo()
     values: dict[tuple[int, int], Any] = {}
     for row, column, value in zip(coordinates.row.tolist(), coordinates.col.tolist(), coordinates.data.tolist()):
         place = row, column
         values[place] = values[place] + value if place in values else value
-    return Entries(_shape(source.shape), ((row, column, value) for (row, column), value in values.items()))
+    return Entries(shape, ((row, column, value) for (row, column), value in values.items()))
 
 
 def _of_sage(source: Any) -> Entries:

@@ -3,8 +3,10 @@
 from __future__ import annotations
 
 import importlib.util
+import os
 import shutil
 import sys
+import time
 import unittest
 from collections.abc import Callable
 from pathlib import Path
@@ -21,6 +23,9 @@ R10 = [[1, 1, 0, 0, 1], [1, 1, 1, 0, 0], [0, 1, 1, 1, 0], [0, 0, 1, 1, 1], [1, 0
 TRIANGLE = [[1, 1, 0], [0, 1, 1], [1, 0, 1]]
 
 _TOLD: set[str] = set()
+
+PATIENCE = 120.0
+"""Seconds that a test waits for what takes a moment on a free machine."""
 
 _Test = TypeVar("_Test", bound=Callable[..., Any])
 
@@ -48,6 +53,24 @@ def needs_module(name: str) -> Callable[[_Test], _Test]:
 def needs_command(name: str) -> Callable[[_Test], _Test]:
     """Passes a test over by name where the system has no such command."""
     return _needs(name, shutil.which(name) is not None)
+
+
+def waits_until(happened: Callable[[], bool], what: str) -> None:
+    """Waits until something has happened, and fails where it does not."""
+    end = time.monotonic() + PATIENCE
+    while not happened():
+        if time.monotonic() > end:
+            raise AssertionError(f"{what} takes longer than {PATIENCE:g} seconds")
+        time.sleep(0.01)
+
+
+def is_gone(process: int) -> bool:
+    """Whether there is no process with this number."""
+    try:
+        os.kill(process, 0)
+    except ProcessLookupError:
+        return True
+    return False
 
 
 needs_program = _needs("the program cmr", _is_built())

@@ -10,15 +10,16 @@ import signal
 import subprocess
 import sys
 import tempfile
-import time
 import unittest
 from collections.abc import Iterator
 from contextlib import ExitStack, contextmanager
+from functools import partial
 from pathlib import Path
 from typing import Any
+from unittest import mock
 
 from cmr_matrices import find_program
-from tests.support import EXAMPLES, TOP, needs_module, needs_program
+from tests.support import EXAMPLES, TOP, is_gone, needs_module, needs_program, waits_until
 
 COMMAND = [sys.executable, str(TOP / "scripts" / "cmr-classify")]
 
@@ -31,6 +32,11 @@ def stream(count: int, seed: int = 1) -> str:
         entries = draw.choice(((0, 1), (0, 0, 1), (-1, 0, 1)))
         texts.append(f"{rows} {columns}\n" + "".join(f"{draw.choice(entries)} " for _ in range(rows * columns)) + "\n")
     return "".join(texts)
+
+
+def _lines(table: Path) -> int:
+    """How many lines a table has that is being written."""
+    return table.read_bytes().count(b"\n") if table.exists() else 0
 
 
 def rows_of(table: Path) -> list[dict[str, Any]]:
@@ -66,8 +72,7 @@ class CommandTest(unittest.TestCase):
 
     def waits_for(self, run: subprocess.Popen[bytes], table: Path, lines: int) -> None:
         """Waits until a run has written so many lines of its table."""
-        while run.poll() is None and (not table.exists() or table.read_bytes().count(b"\n") < lines):
-            time.sleep(0.01)
+        waits_until(lambda: run.poll() is not None or _lines(table) >= lines, "the table")
 
 
 class Tables(CommandTest):
@@ -136,6 +141,16 @@ class Tables(CommandTest):
 
     @needs_module("pyarrow")
     def test_parquet(self) -> None:
+        self.parquet()
+
+    def test_parquet_over_a_stand_in(self) -> None:
+        """pyarrow is no package of Debian, so that its part is also tried with values and types alone."""
+        stand_ins = str(Path(__file__).parent / "stand_ins")
+        with mock.patch.dict(os.environ, {"PYTHONPATH": stand_ins}):
+            self.parquet()
+
+    def parquet(self) -> None:
+        """A table is written, taken up, and summed up."""
         self.runs("-", "--output", "table.parquet", text=stream(9))
         self.assertEqual(sorted(os.listdir(self.folder)), ["table.parquet"])
         self.runs("-", "--output", "table.parquet", "--resume", text=stream(12))
@@ -181,7 +196,6 @@ class Resumed(CommandTest):
                 self.waits_for(run, table, 200 * place)
                 run.send_signal(kind)
                 run.wait()
-            self.assertLess(table.read_bytes().count(b"\n"), count)
         self.runs(*words)
         self.runs("stream", "--output", "fresh.csv", "--classes", "tu,regular,camion", "--jobs", "2")
         self.assertEqual(rows_of(table), rows_of(self.folder / "fresh.csv"))
@@ -191,8 +205,7 @@ class Resumed(CommandTest):
         with subprocess.Popen(
             [*COMMAND, "-", "--output", "table.csv"], cwd=self.folder, stdin=subprocess.PIPE, stdout=subprocess.DEVNULL
         ) as first:
-            while not (self.folder / "table.csv").exists() or not (self.folder / "table.csv").stat().st_size:
-                time.sleep(0.05)
+            waits_until(lambda: _lines(self.folder / "table.csv") > 0, "the head of the table")
             self.assertIn("another run", self.runs("-", "--output", "table.csv", "--resume", status=1).stderr)
             first.communicate(b"1 1 1")
 
@@ -223,13 +236,12 @@ class Interrupted(CommandTest):
                 run.stdin.write(b"1 1 1")
                 run.stdin.close()
                 run.stdin = None
-                while not (self.folder / "process").exists():
-                    time.sleep(0.01)
+                waits_until((self.folder / "process").exists, "the start of the program")
                 run.send_signal(kind)
                 said = run.communicate()[1]
             self.assertEqual((run.returncode, said.count(b"\n")), (130, 1), said)
-            with self.assertRaises(ProcessLookupError):
-                os.kill(int((self.folder / "process").read_text(encoding="ascii")), 0)
+            process = int((self.folder / "process").read_text(encoding="ascii"))
+            waits_until(partial(is_gone, process), "the end of the program")
             (self.folder / "process").unlink()
         self.assertEqual(rows_of(self.folder / "table.csv"), [])
 
@@ -276,8 +288,7 @@ class OnDask(CommandTest):
         with ExitStack() as stack:
             try:
                 begin("dask_scheduler", "--host", "127.0.0.1", "--port", "0")
-                while not scheduler_file.exists():
-                    time.sleep(0.1)
+                waits_until(scheduler_file.exists, "the start of the scheduler")
                 for _ in range(2):
                     begin("dask_worker", "--host", "127.0.0.1", "--no-nanny", "--nthreads", "1", "--nworkers", "1")
                 yield json.loads(scheduler_file.read_text(encoding="utf-8"))["address"], begun[1:]
@@ -300,7 +311,6 @@ class OnDask(CommandTest):
                 self.waits_for(run, table, 200)
                 self.assertIsNone(run.poll(), run.poll() is not None and run.communicate()[1])
                 workers[0].kill()
-                self.assertLess(table.read_bytes().count(b"\n"), count)
                 said = run.communicate()[1]
             self.assertEqual(run.returncode, 0, said)
             self.assertEqual(rows_of(table), rows_of(self.folder / "here.csv"))

@@ -9,7 +9,6 @@ import subprocess
 import sys
 import tempfile
 import textwrap
-import time
 import unittest
 from collections.abc import Callable
 from pathlib import Path
@@ -25,6 +24,7 @@ from cmr_matrices import (
     OutOfMemory,
     ProgramFault,
     ProgramMissing,
+    TextPlace,
     TimeLimitReached,
     check,
     find_program,
@@ -33,7 +33,7 @@ from cmr_matrices import (
     is_totally_unimodular,
 )
 from cmr_matrices.program import run
-from tests.support import FANO, TOP, needs_program
+from tests.support import FANO, PATIENCE, TOP, is_gone, needs_program, waits_until
 
 
 class Folder(unittest.TestCase):
@@ -76,9 +76,12 @@ class Finding(Folder):
 
     @needs_program
     def test_the_clone_comes_last(self) -> None:
+        built = TOP / "crates" / "cmr" / "out" / "cmr"
+        if not built.exists():
+            self.skipTest("the program cmr, built in this clone, is not there")
         os.environ.pop("CMR_PROGRAM", None)
         os.environ["PATH"] = ""
-        self.assertEqual(find_program(), TOP / "crates" / "cmr" / "out" / "cmr")
+        self.assertEqual(find_program(), built)
 
     def test_a_program_that_is_missing(self) -> None:
         with self.assertRaises(ProgramMissing) as missing:
@@ -102,7 +105,8 @@ class Statuses(Folder):
         script = self.script(f"cat > /dev/null; echo '{line}' >&2; exit {status}")
         with self.assertRaises(ProgramFault) as fault:
             is_totally_unimodular(FANO, certificate=True, program=script)
-        self.assertEqual((fault.exception.status, str(fault.exception)), (status, line))
+        self.assertEqual((fault.exception.status, fault.exception.line), (status, line))
+        self.assertTrue(str(fault.exception).startswith(line))
         self.assertEqual(self.left(), [])
         return fault.exception
 
@@ -122,7 +126,7 @@ class Statuses(Folder):
                 self.assertIs(type(fault), kind)
                 self.assertIsInstance(fault, builtin)
                 copy = pickle.loads(pickle.dumps(fault))
-                self.assertEqual((type(copy), str(copy), copy.status), (kind, line, status))
+                self.assertEqual((type(copy), str(copy), copy.line, copy.status), (kind, str(fault), line, status))
 
     def test_the_kind_and_the_byte_of_a_text(self) -> None:
         fault = self.fault(3, "cmr: a: b: Short at byte 12")
@@ -152,9 +156,14 @@ class Statuses(Folder):
     @needs_program
     def test_faults_of_the_program_itself(self) -> None:
         with self.assertRaises(BadText) as fault:
-            check(FANO, "cmr-tree 3\n")
-        self.assertEqual((fault.exception.kind, fault.exception.byte), ("WrongVersion", 9))
-        self.assertEqual(str(fault.exception), "cmr: evidence: WrongVersion at byte 9")
+            check(FANO, "cmr-tree  3\n")
+        self.assertEqual((fault.exception.kind, fault.exception.byte), ("WrongVersion", 10))
+        self.assertEqual(fault.exception.place, TextPlace(1, 11, "3"))
+        self.assertEqual(str(fault.exception), "cmr: evidence: WrongVersion at byte 10 (line 1, column 11: `3`)")
+        self.assertEqual(fault.exception.line, "cmr: evidence: WrongVersion at byte 10")
+        with self.assertRaises(BadText) as fault:
+            check(FANO, "cmr-tree 2\n3 4\nonesum 3 4 1 2 3\n")
+        self.assertEqual(fault.exception.place, TextPlace(4, 1, ""))
         with self.assertRaises(BadCommandLine):
             generate("twosum", 250, 1)
         with self.assertRaises(CannotRead):
@@ -181,13 +190,7 @@ class Ends(Folder):
 
     def is_gone(self, number: Path) -> None:
         process = int(number.read_text(encoding="ascii"))
-        for _ in range(100):
-            try:
-                os.kill(process, 0)
-            except ProcessLookupError:
-                return
-            time.sleep(0.02)
-        self.fail("the program still runs")
+        waits_until(lambda: is_gone(process), "the end of the program")
 
     def sleeping(self) -> Path:
         return self.script(
@@ -199,7 +202,9 @@ class Ends(Folder):
             is_totally_unimodular(FANO, certificate=True, program=self.sleeping(), time_limit=0.5)
         self.assertEqual((str(limit.exception), limit.exception.seconds), ("no answer within 0.5 seconds", 0.5))
         self.assertIsInstance(limit.exception, TimeoutError)
-        self.is_gone(self.folder / "number")
+        # On a busy machine the limit may come before the shell has begun.
+        if (self.folder / "number").exists():
+            self.is_gone(self.folder / "number")
         self.assertEqual(self.left(), [])
 
     def test_an_interrupt(self) -> None:
@@ -211,13 +216,10 @@ class Ends(Folder):
             is_totally_unimodular([[1]], certificate=True, program={str(self.sleeping())!r})
         """
         with subprocess.Popen([sys.executable, "-c", textwrap.dedent(code)], stderr=subprocess.PIPE) as caller:
-            for _ in range(500):
-                if (self.folder / "number").exists():
-                    break
-                time.sleep(0.02)
+            waits_until((self.folder / "number").exists, "the start of the program")
             self.assertEqual(len(self.left()), 1)
             caller.send_signal(signal.SIGINT)
-            _, said = caller.communicate(timeout=20)
+            _, said = caller.communicate(timeout=PATIENCE)
         self.assertIn(b"KeyboardInterrupt", said)
         self.is_gone(self.folder / "number")
         self.assertEqual(self.left(), [])

@@ -49,13 +49,15 @@ class Item:
             target.chmod(0o755 if os.access(self.source, os.X_OK) else 0o644)
 
 
-def items() -> list[Item]:
+def items(prefix: Path) -> list[Item]:
     """All that is put. Scripts and package lie to each other as in the repository, so that the scripts find it."""
     scripts, python = TOP / "scripts", TOP / "python"
+    # `bin` may itself be a link to another place.
+    installed = os.path.relpath(os.path.realpath(prefix / FOLDER / "scripts"), os.path.realpath(prefix / "bin"))
     package = sorted(it for it in (python / "cmr_matrices").rglob("*") if it.suffix == ".py" or it.name == "py.typed")
     return [
         Item("bin/cmr", BUILT),
-        *(Item(f"bin/{name}", leads_to=f"../{FOLDER}/scripts/{script}") for name, script in SCRIPTS.items()),
+        *(Item(f"bin/{name}", leads_to=f"{installed}/{script}") for name, script in SCRIPTS.items()),
         *(Item(f"{FOLDER}/scripts/{it}", scripts / it) for it in SCRIPTS.values()),
         *(Item(f"{FOLDER}/python/{it.relative_to(python)}", it) for it in package),
         Item("share/man/man1/cmr.1", TOP / "docs" / "cmr.1"),
@@ -113,7 +115,7 @@ def read_list(prefix: Path) -> Listed | None:
 def refuse_what_is_there(prefix: Path) -> None:
     """Refuses a prefix below which not all can be put."""
     listed = read_list(prefix) or Listed()
-    for it in items():
+    for it in items(prefix):
         target = prefix / it.path
         _refuse_folder(target.parent)
         if os.path.lexists(target) and not listed.is_ours(prefix, it.path):
@@ -128,6 +130,14 @@ def _refuse_folder(folder: Path) -> None:
         raise BadInput(f"{folder} is no folder")
     if not os.access(folder, os.W_OK | os.X_OK):
         raise BadInput(f"cannot write in {folder}")
+
+
+def _give_second_name(path: Path, second: Path) -> None:
+    try:
+        os.link(path, second, follow_symlinks=False)
+    except OSError:
+        # Some file systems have no second names.
+        shutil.copy2(path, second, follow_symlinks=False)
 
 
 class Installation:
@@ -149,13 +159,13 @@ class Installation:
         shutil.rmtree(self._new)
 
     def _put(self) -> None:
-        before = read_list(self._prefix) or Listed()
-        made = [it for file in items() for it in self._make_folders((self._prefix / file.path).parent)]
+        before, put = read_list(self._prefix) or Listed(), items(self._prefix)
+        made = [it for file in put for it in self._make_folders((self._prefix / file.path).parent)]
         shutil.rmtree(self._new, ignore_errors=True)
         self._undo.append(lambda: shutil.rmtree(self._new, ignore_errors=True))
         self._new.mkdir()
-        written = {it.path: self._new / str(number) for number, it in enumerate(items())}
-        for item in items():
+        written = {it.path: self._new / str(number) for number, it in enumerate(put)}
+        for item in put:
             item.write(written[item.path])
         now = Listed({path: {sum_of(file)} for path, file in written.items()}, before.folders + made)
         before.add(now).write(self._new / "all")
@@ -180,10 +190,16 @@ class Installation:
         yield os.path.relpath(folder, self._prefix)
 
     def _replace(self, new: Path, path: str) -> None:
+        """Puts a file in its place in one step, so that at no moment there is neither it nor the one before."""
         target = self._prefix / path
-        self._set_aside(path)
-        new.rename(target)
-        self._undo.append(target.unlink)
+        if os.path.lexists(target):
+            before = self._new / f"old-{len(self._undo)}"
+            _give_second_name(target, before)
+            self._undo.append(lambda: before.replace(target))
+            new.replace(target)
+        else:
+            new.replace(target)
+            self._undo.append(target.unlink)
 
     def _set_aside(self, path: str) -> None:
         target = self._prefix / path

@@ -19,7 +19,9 @@ from building.work_folders import Busy, WorkFolders
 from cmr_matrices.commands.command import ignore_signals
 
 NO_KIT = 'the program is not built, and there is no rt on the PATH to build it: README.md says at "Run it" what has it'
-FIRST = "proving and building the program, an hour of processor time the first time (./try-cmr runs it at once, unproved)"
+FIRST = (
+    "proving and building the program, an hour of processor time the first time (./try-cmr runs it at once, unproved)"
+)
 LAST_LINES = 20
 SECONDS_TO_END = 20.0
 # What a proof with one job may take.
@@ -118,9 +120,7 @@ class Build:
         folder = self._folders.crate(name)
         said = (folder.parent.parent / "said").open("w+b")
         command = ["rt", "run" if name == PROGRAM else "lib", "--jobs", str(jobs)]
-        process = subprocess.Popen(
-            command, cwd=folder, stdin=subprocess.DEVNULL, stdout=said, stderr=subprocess.STDOUT
-        )
+        process = subprocess.Popen(command, cwd=folder, stdin=subprocess.DEVNULL, stdout=said, stderr=subprocess.STDOUT)
         self._running[name] = Proof(process, said, jobs, time.monotonic())
 
     def _end_finished(self) -> None:

@@ -27,6 +27,10 @@ FILES = {
     "a.npy": b"\x93NUMPY\x01\x00v\x00{'descr': '<i8'}",
     "sage.txt": b"[1 0 1]\n[0 1 1]\n",
     "list.txt": b"[[1, 0], [0, 1]]\n",
+    "matlab.txt": b"A = [1 0 1; 0 1 1];\n",
+    "latex.txt": b"1 & 0 \\\\\n0 & 1 \\\\\n",
+    "tail.txt": b"2 2\n1 0\n0 1\n# end\n",
+    "two.sparse": b"2 2 1\n1 1 2\n",
     "notes.txt": b"# shifts\n2 2\n1 0\n0 1\n",
     "model.mps": b"NAME A\nROWS\n N cost\n L r\nCOLUMNS\n x r 1\nRHS\nENDATA\n",
     "model.lp": b"Minimize\n x\nSubject To\n a: x >= 1\nEnd\n",
@@ -49,6 +53,9 @@ FILES = {
     "a.dot": b"digraph network {\n}\n",
     "steps.txt": b"r2 unit c2\n",
 }
+
+# In place of a piece: no other line but the one with the piece before.
+NOTHING_MORE = "nothing more"
 
 # The words, and pieces of what is said: of lines on standard error behind the program's own one.
 WORDS = [
@@ -99,6 +106,10 @@ TEXTS = [
     ("tu a.npy", ["an array that numpy.save wrote"]),
     ("tu sage.txt", ["`[1` is no number", "rows in brackets, as Python, numpy and Sage print them, 2 rows of 3"]),
     ("tu list.txt", ["rows in brackets"]),
+    ("tu matlab.txt", ["rows with `;` between them, as MATLAB has them, 2 rows of 3"]),
+    ("tu latex.txt", ["a table with `&` between its entries, 2 rows of 2"]),
+    ("tu tail.txt", ["`#` is left", "tail.txt has a comment there"]),
+    ("tu -i sparse two.sparse", ["line 2, column 5: `2` is none of -1, 0 and 1", NOTHING_MORE]),
     ("tu notes.txt", ["`#` is no number", "a dense text of size 2x2, with comment lines"]),
     ("tu model.mps", ["a model in MPS: scripts/model_to_matrix reads it"]),
     ("tu model.lp", ["a model in the LP format"]),
@@ -193,7 +204,10 @@ class Mistakes(ScriptTest):
             with self.subTest(words=words):
                 said = self.said(words, given[0] if given else status)
                 for piece in pieces:
-                    self.assertIn(piece, said)
+                    if piece is NOTHING_MORE:
+                        self.assertNotIn("\n", said)
+                    else:
+                        self.assertIn(piece, said)
 
     def test_words(self):
         self.table(WORDS, 2)

@@ -5,13 +5,14 @@ import resource
 import shutil
 import signal
 import subprocess
+import sys
 import tempfile
-import time
 import unittest
 from pathlib import Path
+from unittest import mock
 
 from building.clone import BUILT
-from building.installed import SCRIPTS
+from building.installed import SCRIPTS, Installation, refuse_what_is_there, take_away
 from tests.stand_in import SmallClone
 from tests.support import TOP, needs_man, needs_program, needs_python
 
@@ -120,6 +121,16 @@ class InstallTest(unittest.TestCase):
             text = (TOP / "docs" / file).read_text(encoding="utf-8").replace("\\-", "-")
             self.assertEqual([it for it in SCRIPTS if it not in text], [], file)
 
+    @needs_python
+    def test_a_folder_that_is_a_link_to_another_place(self):
+        elsewhere = self.prefix.parent / "some" / "where"
+        elsewhere.mkdir(parents=True)
+        (self.prefix / "bin").symlink_to(elsewhere)
+        self.install()
+        self.assertEqual(self.run_installed("cmr-names", "--help").returncode, 0)
+        self.install("--uninstall")
+        self.assertEqual((list(self.prefix.iterdir()), list(elsewhere.iterdir())), ([self.prefix / "bin"], []))
+
     @needs_man
     def test_man_finds_the_page(self):
         self.install()
@@ -219,6 +230,75 @@ class InstallTest(unittest.TestCase):
         said = build.communicate()[1].splitlines()
         self.assertEqual((build.returncode, said[-1]), (1, "install: interrupted: nothing was changed"))
         self.is_empty()
+
+
+class KilledTest(unittest.TestCase):
+    """An installation or its removal that is killed before its first change, its second one, and so on."""
+
+    CHANGES = {"os.mkdir", "os.rename", "os.symlink", "os.remove", "os.rmdir", "shutil.copyfile"}
+
+    def setUp(self):
+        folder = tempfile.TemporaryDirectory()
+        self.addCleanup(folder.cleanup)
+        self.prefix = Path(folder.name) / "prefix"
+        program = Path(folder.name) / "cmr"
+        program.write_text("#!/bin/sh\n", encoding="utf-8")
+        patch = mock.patch("building.installed.BUILT", program)
+        patch.start()
+        self.addCleanup(patch.stop)
+
+    def is_killed(self, work, number):
+        """Whether the work, in a process of its own, is killed before the change of that number."""
+        child = os.fork()
+        if not child:
+            left = iter(range(number, -1, -1))
+            sys.addaudithook(lambda event, _: event in self.CHANGES and next(left) == 0 and os._exit(9))
+            work()
+            os._exit(0)
+        return os.waitstatus_to_exitcode(os.waitpid(child, 0)[1]) == 9
+
+    def put(self):
+        refuse_what_is_there(self.prefix)
+        Installation(self.prefix).put()
+
+    def take_away(self):
+        take_away(self.prefix)
+
+    def test_an_installation_that_is_killed(self):
+        self.assertGreater(self.kill_installations(lambda: None), 100)
+
+    def test_an_upgrade_that_is_killed(self):
+        self.assertGreater(self.kill_installations(self.put_earlier_version), 100)
+
+    def put_earlier_version(self):
+        with mock.patch.dict("building.installed.SCRIPTS", {"cmr-earlier": "install"}):
+            self.put()
+
+    def kill_installations(self, before):
+        number = 0
+        before()
+        while self.is_killed(self.put, number):
+            with self.subTest(number=number):
+                self.put()
+                self.assertEqual(set(os.listdir(self.prefix / "bin")), {"cmr", *SCRIPTS})
+                self.take_away()
+                self.assertEqual([it for it in self.prefix.rglob("*") if not it.is_dir()], [])
+                shutil.rmtree(self.prefix, ignore_errors=True)
+                before()
+            number += 12 if number < 100 else 3
+        return number
+
+    def test_a_removal_that_is_killed(self):
+        number = 0
+        self.put()
+        while self.is_killed(self.take_away, number):
+            with self.subTest(number=number):
+                if (self.prefix / "lib" / "cmr" / "installed").exists():
+                    self.take_away()
+                self.assertEqual([it for it in self.prefix.rglob("*") if it.is_file()], [])
+                self.put()
+            number += 8
+        self.assertGreater(number, 50)
 
 
 @needs_program

@@ -7,7 +7,7 @@ import unittest
 from tests.support import PYTHON, ScriptTest, needs_program, needs_python
 from tests.test_matroids import MATROIDS, transposed
 
-# Which matroids are regular, graphic and cographic, as in Oxley, Matroid Theory.
+# Which matroids are regular, graphic and cographic, as the literature has them.
 FACTS = [
     ("R10", True, False, False),
     ("R12", True, False, False),
@@ -37,7 +37,8 @@ class Named(ScriptTest):
         ]:
             self.assertEqual(self.output("named", name), tables[table])
             self.assertEqual(self.output("named", f"{name}*"), transposed(tables[table]))
-        self.assertEqual(self.output("named", "k_{3,3}**"), self.output("named", "K3,3"))
+        for other, name in [("k_{3,3}**", "K3,3"), ("M(K5)", "K5"), ("M*(K3,3)", "K3,3*"), ("Fano*", "F7*")]:
+            self.assertEqual(self.output("named", other), self.output("named", name))
 
     def test_sizes_and_names(self):
         for name, front in [

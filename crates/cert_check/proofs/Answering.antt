@@ -1,6 +1,7 @@
 -- Answers on nodes, put together.
-use Rattle.std.proofs.Common.{◌≡◌, ◌<◌, ◌∙◌, ◌-◌, ℕ, List, [], ◌∷◌, ◌++◌, append_assoc, append-nil, length, get_or, Option, Some, None, Result, Ok, Err, IfOk, refl, ap, sym, subst, arith}
+use Rattle.std.proofs.Common.{◌≡◌, ◌<◌, ◌≤◌, ◌∙◌, ◌-◌, ℕ, Bool, true, false, List, [], ◌∷◌, ◌++◌, append_assoc, append-nil, length, get_or, Option, Some, None, IsTrue, ◌↔◌, Result, Ok, Err, IfOk, refl, ap, sym, subst, arith}
 use Rattle.std.specs.List.{AllByRecursion}
+use Rattle.std.proofs.lemmas.Bool.{true≢false}
 use Rattle.cmr_base.specs.Matrix.{Matrix, height}
 use Rattle.std.specs.declared.alloc.Global.{Global}
 use Rattle.std.specs.declared.boxed.Box.{Box}
@@ -13,29 +14,32 @@ use Rattle.cmr_base.proofs.Lists.{all-append}
 use Rattle.tree_type.specs.declared.refusal.Refusal.{Refusal}
 use Rattle.tree_type.specs.declared.refusal.Rule.{Rule}
 use Rattle.tree_type.specs.declared.refusal.Rule.TheVariants as rule
-use Rattle.tree_type.specs.Trees.{Finding, Reduced, TwoSum, ThreeSum, Tree, Trees, Branch, NoTrees, MoreTrees, SizedTree, one_tree, two_trees, lines_of, tree_of}
+use Rattle.tree_type.specs.Trees.{Finding, Reduced, TwoSum, ThreeSum, Pivoted, Tree, Trees, Branch, NoTrees, MoreTrees, SizedTree, one_tree, two_trees, lines_of, tree_of}
 use Rattle.tree_type.specs.declared.tree.Node.{Node}
-use Rattle.tree_type.proofs.NodeTrees.{said, tree_is, said_reduced, said_two_sum, said_three_sum}
+use Rattle.tree_type.proofs.NodeTrees.{said, tree_is, said_reduced, said_two_sum, said_three_sum, said_pivoted}
 use Rattle.tree_type.specs.declared.tree.Kind.{Kind}
 use Rattle.tree_type.specs.declared.tree.Kind.TheVariants as kind
 use Rattle.tree_type.specs.Invariant.{AreLines, AreTreesWithin, IsTreeFor}
-use Rattle.tree_type.specs.Places.{due_child, places_below, Due, AllLines, Place, places, places_from, lines_of_each}
-use Rattle.tree_type.specs.Soundness.{HasItsSizes, HasItsLines, Demands, Keeps, KeepsAll, rule_number, IsFirstBroken}
+use Rattle.tree_type.specs.Places.{due_child, places_below, Due, AllLines, MadePivot, matrix_after, pivots_below, Place, places, places_from, lines_of_each}
+use Rattle.tree_type.specs.Soundness.{HasItsSizes, HasItsLines, Demands, MayStand, Keeps, KeepsAll, rule_number, BreaksFirst, IsFirstBroken}
 use Rattle.tree_type.proofs.PlacedLines.{lines_within}
-use Rattle.cert_check.specs.Answers.{Answers, AnswersOn, Stands, nodes_below, place_of, IsRuleAt, IsOwnRule, finding_of, trees_below, due_from, due_child_of}
+use Rattle.pivots.specs.declared.place.PivotPlace.{PivotPlace}
+use Rattle.pivots.specs.PivotedParts.{pivoted_part}
+use Rattle.cert_check.specs.Answers.{Answers, AnswersOn, AnswersFrom, AnswersBelow, Stands, nodes_below, place_of, IsAfter, has_pivot, IsRuleAt, IsOwnRule, finding_of, trees_below, due_from, due_child_of, unless, KeepsOwn}
 
-pub opened : (path : List ℕ) (due : Due) (tree : Tree) → places_from path due tree ≡ place_of path due tree ∷ nodes_below path tree
-opened path due (Branch lines finding trees) = refl
+pub opened : (path : List ℕ) (pivots : List MadePivot) (due : Due) (tree : Tree) → places_from path pivots due tree ≡ place_of path pivots due tree ∷ nodes_below path pivots tree
+opened path pivots due (Branch lines finding trees) = refl
 
 -- the node itself breaks a rule
-pub broken_here : (m : Matrix) (path : List ℕ) (due : Due) (tree : Tree) (broken : Rule) → IsRuleAt m due tree (Some broken) → IsFirstBroken m (places_from path due tree) path broken
-broken_here m path due tree broken h = record {
+pub broken_here : (m : Matrix) (path : List ℕ) (pivots : List MadePivot) (due : Due) (tree : Tree) (broken : Rule) → BreaksFirst m (place_of path pivots due tree) broken
+    → IsFirstBroken m (places_from path pivots due tree) path broken
+broken_here m path pivots due tree broken h = record {
   before = [];
-  place = place_of path due tree;
-  after = nodes_below path tree;
-  order = opened path due tree;
+  place = place_of path pivots due tree;
+  after = nodes_below path pivots tree;
+  order = opened path pivots due tree;
   sound = tt;
-  breaks = h path;
+  breaks = h;
   path_is = refl;
 }
 
@@ -64,8 +68,10 @@ broken_before m front back refusal h = record {
   path_is = h.path_is;
 }
 
-pub answers_below : (m : Matrix) (path : List ℕ) (due : Due) (tree : Tree) (answer : Option Refusal) → IsRuleAt m due tree None → AnswersOn m (nodes_below path tree) answer → AnswersOn m (places_from path due tree) answer
-answers_below m path due tree answer here h = subst (λ nodes. AnswersOn m nodes answer) (sym (opened path due tree)) (answers_after m (place_of path due tree ∷ []) (nodes_below path tree) answer (here path, tt) h)
+pub answers_below : (m : Matrix) (path : List ℕ) (pivots : List MadePivot) (due : Due) (tree : Tree) (answer : Option Refusal) → KeepsAll m (place_of path pivots due tree) → AnswersOn m (nodes_below path pivots tree) answer
+    → AnswersOn m (places_from path pivots due tree) answer
+answers_below m path pivots due tree answer here h =
+    subst (λ nodes. AnswersOn m nodes answer) (sym (opened path pivots due tree)) (answers_after m (place_of path pivots due tree ∷ []) (nodes_below path pivots tree) answer (here, tt) h)
 
 -- the children of a node that stands stand
 pub children_stand : (m : Matrix) (lines : LineSet) (finding : Finding) (trees : Trees) → Stands m (Branch lines finding trees) → (levels : ℕ) × AreLines m lines × AreTreesWithin lines levels trees
@@ -77,25 +83,47 @@ first_stands m lines finding tree trees h = let w = children_stand m lines findi
 pub second_stands : (m : Matrix) (lines : LineSet) (finding : Finding) (one two : Tree) (trees : Trees) → Stands m (Branch lines finding (MoreTrees one (MoreTrees two trees))) → Stands m two
 second_stands m lines finding one two trees h = let w = children_stand m lines finding (MoreTrees one (MoreTrees two trees)) h in (lines, w.0, w.1, w.2.1.0)
 
-module _ (m : Matrix) (path : List ℕ) (due : Due) (tree : Tree) (sizes : HasItsSizes m due) (has : HasItsLines due (lines_of tree)) where
-  keeps_own : (broken : Rule) → Demands broken m (lines_of tree) (finding_of tree) (lines_of_each (trees_below tree)) → Keeps m (place_of path due tree) broken
-  keeps_own rule.Size h = sizes
-  keeps_own rule.Lines h = has
-  keeps_own rule.NotEmpty h = h
-  keeps_own rule.NotViolator h = h
-  keeps_own rule.NotReducible h = h
-  keeps_own rule.NotApart h = h
-  keeps_own rule.NotNetwork h = h
-  keeps_own rule.NotR10 h = h
-  keeps_own rule.CycleFault h = h
-  keeps_own rule.TooShort h = h
-  keeps_own rule.BadConnector h = h
-  keeps_own rule.CornerSign h = h
-  keeps_own rule.BadBlock h = h
-  keeps_own rule.TooMany h = h
-  keeps_own rule.NotClean h = h
+last_rule : (r : Rule) → rule_number r ≤ 16
+last_rule rule.Size = omega arith
+last_rule rule.Lines = omega arith
+last_rule rule.NotEmpty = omega arith
+last_rule rule.NotViolator = omega arith
+last_rule rule.NotReducible = omega arith
+last_rule rule.NotApart = omega arith
+last_rule rule.NotNetwork = omega arith
+last_rule rule.NotR10 = omega arith
+last_rule rule.CycleFault = omega arith
+last_rule rule.TooShort = omega arith
+last_rule rule.BadConnector = omega arith
+last_rule rule.CornerSign = omega arith
+last_rule rule.BadBlock = omega arith
+last_rule rule.TooMany = omega arith
+last_rule rule.NotClean = omega arith
+last_rule rule.NotPivot = omega arith
+last_rule rule.BelowPivot = omega arith
 
-  own_keeps : (broken : Rule) → Keeps m (place_of path due tree) broken → Demands broken m (lines_of tree) (finding_of tree) (lines_of_each (trees_below tree))
+module _ (m : Matrix) (path : List ℕ) (pivots : List MadePivot) (due : Due) (tree : Tree) where
+  keeps_own : HasItsSizes m due → HasItsLines due (lines_of tree) → (broken : Rule) → (rule_number broken ≡ 16 → MayStand pivots (finding_of tree)) → Demands broken (matrix_after m pivots) (lines_of tree) (finding_of tree) (lines_of_each (trees_below tree))
+      → Keeps m (place_of path pivots due tree) broken
+  keeps_own sizes has rule.Size may h = sizes
+  keeps_own sizes has rule.Lines may h = has
+  keeps_own sizes has rule.NotEmpty may h = h
+  keeps_own sizes has rule.NotViolator may h = h
+  keeps_own sizes has rule.NotReducible may h = h
+  keeps_own sizes has rule.NotApart may h = h
+  keeps_own sizes has rule.NotNetwork may h = h
+  keeps_own sizes has rule.NotR10 may h = h
+  keeps_own sizes has rule.CycleFault may h = h
+  keeps_own sizes has rule.TooShort may h = h
+  keeps_own sizes has rule.BadConnector may h = h
+  keeps_own sizes has rule.CornerSign may h = h
+  keeps_own sizes has rule.BadBlock may h = h
+  keeps_own sizes has rule.TooMany may h = h
+  keeps_own sizes has rule.NotClean may h = h
+  keeps_own sizes has rule.NotPivot may h = h
+  keeps_own sizes has rule.BelowPivot may h = may refl
+
+  own_keeps : (broken : Rule) → Keeps m (place_of path pivots due tree) broken → Demands broken (matrix_after m pivots) (lines_of tree) (finding_of tree) (lines_of_each (trees_below tree))
   own_keeps rule.Size h = tt
   own_keeps rule.Lines h = tt
   own_keeps rule.NotEmpty h = h
@@ -111,6 +139,8 @@ module _ (m : Matrix) (path : List ℕ) (due : Due) (tree : Tree) (sizes : HasIt
   own_keeps rule.BadBlock h = h
   own_keeps rule.TooMany h = h
   own_keeps rule.NotClean h = h
+  own_keeps rule.NotPivot h = h
+  own_keeps rule.BelowPivot h = tt
 
 own_demands : (m : Matrix) (tree : Tree) → IsOwnRule m tree None → (broken : Rule) → Demands broken m (lines_of tree) (finding_of tree) (lines_of_each (trees_below tree))
 own_demands m (Branch lines finding trees) h = h
@@ -119,38 +149,73 @@ own_broken : (m : Matrix) (tree : Tree) (broken : Rule) → IsOwnRule m tree (So
     → (¬ (Demands broken m (lines_of tree) (finding_of tree) (lines_of_each (trees_below tree)))) × ((earlier : Rule) → rule_number earlier < rule_number broken → Demands earlier m (lines_of tree) (finding_of tree) (lines_of_each (trees_below tree)))
 own_broken m (Branch lines finding trees) broken h = h
 
--- where the lines are right, the first rule is one on what the node says
-pub own_at : (m : Matrix) (due : Due) (tree : Tree) → HasItsSizes m due → HasItsLines due (lines_of tree) → (answer : Option Rule) → IsOwnRule m tree answer → IsRuleAt m due tree answer
-own_at m due tree sizes has None h = λ path broken. keeps_own m path due tree sizes has broken (own_demands m tree h broken)
-own_at m due tree sizes has (Some broken) h = λ path. record {
-  breaks = λ keeps. (own_broken m tree broken h).0 (own_keeps m path due tree sizes has broken keeps);
-  keeps = λ earlier l. keeps_own m path due tree sizes has earlier ((own_broken m tree broken h).1 earlier l);
-}
+module _ (here : Matrix) (below_pivot : Bool) (due : Due) (tree : Tree) (sizes : (m : Matrix) (pivots : List MadePivot) → IsAfter m pivots here below_pivot → HasItsSizes m due) where
+  -- the lines are not those that the node is to have
+  pub lines_at : ¬ (HasItsLines due (lines_of tree)) → IsRuleAt here below_pivot due tree (Some rule.Lines)
+  lines_at has_not = λ m pivots path after. record { breaks = has_not; keeps = λ earlier l. before m pivots path after earlier l }
+    where
+      before : (m : Matrix) (pivots : List MadePivot) (path : List ℕ) → IsAfter m pivots here below_pivot → (earlier : Rule) → rule_number earlier < 1 → Keeps m (place_of path pivots due tree) earlier
+      before m pivots path after rule.Size l = sizes m pivots after
+      before m pivots path after rule.Lines l = absurd (omega (arith, l))
+      before m pivots path after rule.NotEmpty l = absurd (omega (arith, l))
+      before m pivots path after rule.NotViolator l = absurd (omega (arith, l))
+      before m pivots path after rule.NotReducible l = absurd (omega (arith, l))
+      before m pivots path after rule.NotApart l = absurd (omega (arith, l))
+      before m pivots path after rule.NotNetwork l = absurd (omega (arith, l))
+      before m pivots path after rule.NotR10 l = absurd (omega (arith, l))
+      before m pivots path after rule.CycleFault l = absurd (omega (arith, l))
+      before m pivots path after rule.TooShort l = absurd (omega (arith, l))
+      before m pivots path after rule.BadConnector l = absurd (omega (arith, l))
+      before m pivots path after rule.CornerSign l = absurd (omega (arith, l))
+      before m pivots path after rule.BadBlock l = absurd (omega (arith, l))
+      before m pivots path after rule.TooMany l = absurd (omega (arith, l))
+      before m pivots path after rule.NotClean l = absurd (omega (arith, l))
+      before m pivots path after rule.NotPivot l = absurd (omega (arith, l))
+      before m pivots path after rule.BelowPivot l = absurd (omega (arith, l))
 
--- the lines are not those that the node is to have
-pub lines_at : (m : Matrix) (due : Due) (tree : Tree) → HasItsSizes m due → ¬ (HasItsLines due (lines_of tree)) → IsRuleAt m due tree (Some rule.Lines)
-lines_at m due tree sizes has_not = λ path. record { breaks = has_not; keeps = λ earlier l. before path earlier l }
-  where
-    before : (path : List ℕ) (earlier : Rule) → rule_number earlier < 1 → Keeps m (place_of path due tree) earlier
-    before path rule.Size l = sizes
-    before path rule.Lines l = absurd (omega (arith, l))
-    before path rule.NotEmpty l = absurd (omega (arith, l))
-    before path rule.NotViolator l = absurd (omega (arith, l))
-    before path rule.NotReducible l = absurd (omega (arith, l))
-    before path rule.NotApart l = absurd (omega (arith, l))
-    before path rule.NotNetwork l = absurd (omega (arith, l))
-    before path rule.NotR10 l = absurd (omega (arith, l))
-    before path rule.CycleFault l = absurd (omega (arith, l))
-    before path rule.TooShort l = absurd (omega (arith, l))
-    before path rule.BadConnector l = absurd (omega (arith, l))
-    before path rule.CornerSign l = absurd (omega (arith, l))
-    before path rule.BadBlock l = absurd (omega (arith, l))
-    before path rule.TooMany l = absurd (omega (arith, l))
-    before path rule.NotClean l = absurd (omega (arith, l))
+  module _ (has : HasItsLines due (lines_of tree)) where
+    -- of the matrix at hand as of the one after the pivots
+    after_demands : (m : Matrix) (pivots : List MadePivot) → IsAfter m pivots here below_pivot → (r : Rule) → Demands r here (lines_of tree) (finding_of tree) (lines_of_each (trees_below tree)) → Demands r (matrix_after m pivots) (lines_of tree) (finding_of tree) (lines_of_each (trees_below tree))
+    after_demands m pivots after r h = subst (λ w. Demands r w (lines_of tree) (finding_of tree) (lines_of_each (trees_below tree))) (sym after.matrix) h
 
-pub sizes_due : (m : Matrix) (due : Option LineSet) → HasItsSizes m (due_from due)
-sizes_due m None = tt
-sizes_due m (Some lines) = tt
+    -- where the lines are right, a rule on what the node says is the first
+    pub own_refused : (broken : Rule) → IsOwnRule here tree (Some broken) → IsRuleAt here below_pivot due tree (Some broken)
+    own_refused broken h = λ m pivots path after. record {
+      breaks = λ keeps. (own_broken here tree broken h).0 (subst (λ w. Demands broken w (lines_of tree) (finding_of tree) (lines_of_each (trees_below tree))) after.matrix (own_keeps m path pivots due tree broken keeps));
+      keeps = λ earlier l. keeps_own m path pivots due tree (sizes m pivots after) has earlier (λ e. absurd (omega (arith, e, l, last_rule broken))) (after_demands m pivots after earlier ((own_broken here tree broken h).1 earlier l));
+    }
+
+    -- and else the rule on what may stand below pivots
+    pub own_kept : IsOwnRule here tree None → ((pivots : List MadePivot) → has_pivot pivots ≡ below_pivot → MayStand pivots (finding_of tree)) → IsRuleAt here below_pivot due tree None
+    own_kept own may = λ m pivots path after broken. keeps_own m path pivots due tree (sizes m pivots after) has broken (λ e. may pivots after.pivoted) (after_demands m pivots after broken (own_demands here tree own broken))
+
+    -- at a place where it may stand anyway
+    pub own_rule_at : ((pivots : List MadePivot) → has_pivot pivots ≡ below_pivot → MayStand pivots (finding_of tree)) → (answer : Option Rule) → IsOwnRule here tree answer → IsRuleAt here below_pivot due tree answer
+    own_rule_at may None own = own_kept own may
+    own_rule_at may (Some broken) own = own_refused broken own
+
+    pub standing_refused : IsOwnRule here tree None → ((pivots : List MadePivot) → has_pivot pivots ≡ below_pivot → ¬ (MayStand pivots (finding_of tree))) → IsRuleAt here below_pivot due tree (Some rule.BelowPivot)
+    standing_refused own may_not = λ m pivots path after. record {
+      breaks = may_not pivots after.pivoted;
+      keeps = λ earlier l. keeps_own m path pivots due tree (sizes m pivots after) has earlier (λ e. absurd (omega (arith, e, l))) (after_demands m pivots after earlier (own_demands here tree own earlier));
+    }
+
+    -- the answer of the test of what may stand below pivots
+    pub standing_decides : (may : Bool) → ((pivots : List MadePivot) → has_pivot pivots ≡ below_pivot → IsTrue may ↔ MayStand pivots (finding_of tree)) → IsOwnRule here tree None → IsRuleAt here below_pivot due tree (unless may rule.BelowPivot)
+    standing_decides true is own = own_kept own (λ pivots e. (is pivots e).0 refl)
+    standing_decides false is own = standing_refused own (λ pivots e stands. true≢false (sym ((is pivots e).1 stands)))
+
+pub own_is_kept : (m : Matrix) (tree : Tree) (answer : Option Rule) → IsOwnRule m tree answer → KeepsOwn m tree answer
+own_is_kept m tree None own = own
+own_is_kept m tree (Some broken) own = tt
+
+pub own_stays : (m : Matrix) (tree : Tree) (may : Bool) (broken : Rule) → IsOwnRule m tree None → KeepsOwn m tree (unless may broken)
+own_stays m tree true broken own = own
+own_stays m tree false broken own = tt
+
+pub sizes_due : (due : Option LineSet) (m : Matrix) → HasItsSizes m (due_from due)
+sizes_due None m = tt
+sizes_due (Some lines) m = tt
 
 pub lines_is : (node : Node) → lines_of (tree_of node) ≡ node.lines
 lines_is node = ap lines_of (tree_is node)
@@ -173,9 +238,29 @@ root_stands m rows columns (Branch lines finding trees) within e f = (
   within.nodes,
 )
 
+-- the matrix itself is at hand after no pivot
+pub itself : (m : Matrix) → IsAfter m [] m false
+itself m = record { matrix = refl; pivoted = refl }
+
+-- without a pivot the matrix at hand is the matrix itself
+pub root_matrix : (m : Matrix) (pivots : List MadePivot) (here : Matrix) → IsAfter m pivots here false → m ≡ here
+root_matrix m [] here after = after.matrix
+root_matrix m (last ∷ pivots) here after = absurd (true≢false after.pivoted)
+
+pub root_sizes : (here : Matrix) (rows columns : ℕ) → rows ≡ height here → columns ≡ here.width → (m : Matrix) (pivots : List MadePivot) → IsAfter m pivots here false → HasItsSizes m (AllLines rows columns)
+root_sizes here rows columns e f m pivots after = subst (λ w. HasItsSizes w (AllLines rows columns)) (sym (root_matrix m pivots here after)) (e, f)
+
+-- the root has no pivot above it
+pub root_may : (finding : Finding) (pivots : List MadePivot) → has_pivot pivots ≡ false → MayStand pivots finding
+root_may finding [] e = tt
+root_may finding (last ∷ pivots) e = absurd (true≢false e)
+
 -- the sizes are others
-pub other_sizes : (m : Matrix) (rows columns : ℕ) (tree : Tree) → ((rows ≡ height m) → (columns ≡ m.width) → ⊥) → IsRuleAt m (AllLines rows columns) tree (Some rule.Size)
-other_sizes m rows columns tree differ = λ path. record { breaks = λ same. differ same.0 same.1; keeps = λ earlier l. absurd (omega (arith, l)) }
+pub other_sizes : (here : Matrix) (rows columns : ℕ) (tree : Tree) → ((rows ≡ height here) → (columns ≡ here.width) → ⊥) → IsRuleAt here false (AllLines rows columns) tree (Some rule.Size)
+other_sizes here rows columns tree differ = λ m pivots path after. record {
+  breaks = λ same. let is = subst (λ w. HasItsSizes w (AllLines rows columns)) (root_matrix m pivots here after) same in differ is.0 is.1;
+  keeps = λ earlier l. absurd (omega (arith, l));
+}
 
 -- an answer on all nodes is an answer on the tree
 pub whole_answer : (m : Matrix) (tree : SizedTree) (answer : Option Refusal) → AnswersOn m (places tree.rows tree.columns (tree_of tree.root)) answer → Answers m tree answer
@@ -196,28 +281,43 @@ two_sum_is node two a b e = kind_is node (kind.TwoSum two a b) (TwoSum two) (two
 pub three_sum_is : (node : Node) (three : Three) (a b : Box Node Global) → node.kind ≡ kind.ThreeSum three a b → tree_of node ≡ Branch node.lines (ThreeSum three) (two_trees (tree_of a.value) (tree_of b.value))
 three_sum_is node three a b e = kind_is node (kind.ThreeSum three a b) (ThreeSum three) (two_trees (tree_of a.value) (tree_of b.value)) e (said_three_sum three a b)
 
--- the answer of an only child
-pub only_child : (m : Matrix) (path : List ℕ) (tree : Tree) (lines : LineSet) (f : Finding) (child : Tree) (answer : Option Refusal) → tree ≡ Branch lines f (MoreTrees child NoTrees)
-    → AnswersOn m (places_from (path ++ 0 ∷ []) (due_child_of tree 0) child) answer → AnswersOn m (nodes_below path tree) answer
-only_child m path tree lines f child answer e h =
-    subst (λ t. AnswersOn m (nodes_below path t) answer) (sym e)
-    (subst (λ nodes. AnswersOn m nodes answer) (sym (append-nil (places_from (path ++ 0 ∷ []) (due_child lines f 0) child)))
-    (subst (λ t. AnswersOn m (places_from (path ++ 0 ∷ []) (due_child_of t 0) child) answer) e h))
+pub pivoted_is : (node : Node) (place : PivotPlace) (child : Box Node Global) → node.kind ≡ kind.Pivoted place child → tree_of node ≡ Branch node.lines (Pivoted place) (one_tree (tree_of child.value))
+pivoted_is node place child e = kind_is node (kind.Pivoted place child) (Pivoted place) (one_tree (tree_of child.value)) e (said_pivoted place child)
 
--- the first of two children refuses
-pub first_refused : (m : Matrix) (path : List ℕ) (tree : Tree) (lines : LineSet) (f : Finding) (one two : Tree) (refusal : Refusal) → tree ≡ Branch lines f (MoreTrees one (MoreTrees two NoTrees))
-    → AnswersOn m (places_from (path ++ 0 ∷ []) (due_child_of tree 0) one) (Some refusal) → AnswersOn m (nodes_below path tree) (Some refusal)
-first_refused m path tree lines f one two refusal e h =
-    subst (λ t. AnswersOn m (nodes_below path t) (Some refusal)) (sym e)
-    (broken_before m (places_from (path ++ 0 ∷ []) (due_child lines f 0) one) (places_below path lines f 1 (MoreTrees two NoTrees)) refusal
-    (subst (λ t. AnswersOn m (places_from (path ++ 0 ∷ []) (due_child_of t 0) one) (Some refusal)) e h))
+-- the matrix at hand at the children of a node, and whether a pivot is above them
+abbrev pub GoesOn : Matrix → Bool → LineSet → Finding → Matrix → Bool → Type 0
+GoesOn here below_pivot lines f next below_next = (m : Matrix) (pivots : List MadePivot) → IsAfter m pivots here below_pivot → IsAfter m (pivots_below lines f pivots) next below_next
 
--- the first keeps all rules, and the second decides
-pub second_decides : (m : Matrix) (path : List ℕ) (tree : Tree) (lines : LineSet) (f : Finding) (one two : Tree) (answer : Option Refusal) → tree ≡ Branch lines f (MoreTrees one (MoreTrees two NoTrees))
-    → AnswersOn m (places_from (path ++ 0 ∷ []) (due_child_of tree 0) one) None → AnswersOn m (places_from (path ++ 1 ∷ []) (due_child_of tree 1) two) answer → AnswersOn m (nodes_below path tree) answer
-second_decides m path tree lines f one two answer e h k =
-    subst (λ t. AnswersOn m (nodes_below path t) answer) (sym e)
-    (answers_after m (places_from (path ++ 0 ∷ []) (due_child lines f 0) one) (places_from (path ++ 1 ∷ []) (due_child lines f 1) two ++ []) answer
-    (subst (λ t. AnswersOn m (places_from (path ++ 0 ∷ []) (due_child_of t 0) one) None) e h)
-    (subst (λ nodes. AnswersOn m nodes answer) (sym (append-nil (places_from (path ++ 1 ∷ []) (due_child lines f 1) two)))
-    (subst (λ t. AnswersOn m (places_from (path ++ 1 ∷ []) (due_child_of t 1) two) answer) e k)))
+-- that after the pivot
+pub goes_pivoted : (here : Matrix) (below_pivot : Bool) (lines : LineSet) (place : PivotPlace) → GoesOn here below_pivot lines (Pivoted place) (pivoted_part here lines place) true
+goes_pivoted here below_pivot lines place m pivots after = record { matrix = ap (λ w. pivoted_part w lines place) after.matrix; pivoted = refl }
+
+module _ (here : Matrix) (below_pivot : Bool) (path : List ℕ) (tree : Tree) (lines : LineSet) (f : Finding) (next : Matrix) (below_next : Bool) (goes : GoesOn here below_pivot lines f next below_next) where
+  -- the answer of an only child
+  pub only_child : (child : Tree) (answer : Option Refusal) → tree ≡ Branch lines f (MoreTrees child NoTrees)
+      → AnswersFrom next below_next (path ++ 0 ∷ []) (due_child_of tree 0) child answer → AnswersBelow here below_pivot path tree answer
+  only_child child answer e h = λ m pivots after.
+      let below = pivots_below lines f pivots in
+      subst (λ t. AnswersOn m (nodes_below path pivots t) answer) (sym e)
+      (subst (λ nodes. AnswersOn m nodes answer) (sym (append-nil (places_from (path ++ 0 ∷ []) below (due_child lines f 0) child)))
+      (subst (λ t. AnswersOn m (places_from (path ++ 0 ∷ []) below (due_child_of t 0) child) answer) e (h m below (goes m pivots after))))
+
+  -- the first of two children refuses
+  pub first_refused : (one two : Tree) (refusal : Refusal) → tree ≡ Branch lines f (MoreTrees one (MoreTrees two NoTrees))
+      → AnswersFrom next below_next (path ++ 0 ∷ []) (due_child_of tree 0) one (Some refusal) → AnswersBelow here below_pivot path tree (Some refusal)
+  first_refused one two refusal e h = λ m pivots after.
+      let below = pivots_below lines f pivots in
+      subst (λ t. AnswersOn m (nodes_below path pivots t) (Some refusal)) (sym e)
+      (broken_before m (places_from (path ++ 0 ∷ []) below (due_child lines f 0) one) (places_below path below lines f 1 (MoreTrees two NoTrees)) refusal
+      (subst (λ t. AnswersOn m (places_from (path ++ 0 ∷ []) below (due_child_of t 0) one) (Some refusal)) e (h m below (goes m pivots after))))
+
+  -- the first keeps all rules, and the second decides
+  pub second_decides : (one two : Tree) (answer : Option Refusal) → tree ≡ Branch lines f (MoreTrees one (MoreTrees two NoTrees))
+      → AnswersFrom next below_next (path ++ 0 ∷ []) (due_child_of tree 0) one None → AnswersFrom next below_next (path ++ 1 ∷ []) (due_child_of tree 1) two answer → AnswersBelow here below_pivot path tree answer
+  second_decides one two answer e h k = λ m pivots after.
+      let below = pivots_below lines f pivots in
+      subst (λ t. AnswersOn m (nodes_below path pivots t) answer) (sym e)
+      (answers_after m (places_from (path ++ 0 ∷ []) below (due_child lines f 0) one) (places_from (path ++ 1 ∷ []) below (due_child lines f 1) two ++ []) answer
+      (subst (λ t. AnswersOn m (places_from (path ++ 0 ∷ []) below (due_child_of t 0) one) None) e (h m below (goes m pivots after)))
+      (subst (λ nodes. AnswersOn m nodes answer) (sym (append-nil (places_from (path ++ 1 ∷ []) below (due_child lines f 1) two)))
+      (subst (λ t. AnswersOn m (places_from (path ++ 1 ∷ []) below (due_child_of t 1) two) answer) e (k m below (goes m pivots after)))))

@@ -5,6 +5,7 @@ pub mod Sums
 pub mod NumberedParts
 pub mod OneSums
 pub mod Reductions
+pub mod PivotedMatrices
 pub mod SoundTrees
 pub mod Answering
 pub mod OwnRules

@@ -1,5 +1,5 @@
 -- The first rule that a node breaks by what it says, by the tests of its kind.
-use Rattle.std.proofs.Common.{◌≡◌, ◌<◌, ◌≤◌, ◌∙◌, min, length, map, ap, ◌↔◌, IsTrue, ℕ, Bool, true, false, Contains, Option, None, refl, sym, subst, arith}
+use Rattle.std.proofs.Common.{◌≡◌, ◌≢◌, pos, Some, ◌<◌, ◌≤◌, ◌∙◌, min, length, map, ap, ◌↔◌, IsTrue, ℕ, Bool, true, false, Contains, Option, None, refl, sym, subst, arith}
 use Rattle.std.proofs.lemmas.List.{length-map}
 use Rattle.std.specs.declared.alloc.Global.{Global}
 use Rattle.std.specs.declared.boxed.Box.{Box}
@@ -16,7 +16,7 @@ use Rattle.cmr_base.specs.R10.{IsR10}
 use Rattle.cmr_base.specs.Trees.{Reproduces}
 use Rattle.tree_type.specs.declared.refusal.Rule.{Rule}
 use Rattle.tree_type.specs.declared.refusal.Rule.TheVariants as rule
-use Rattle.tree_type.specs.Trees.{Finding, Empty, Cycle, Network, Conetwork, R10, Enumerated, TwoSum, ThreeSum, Violator, Undecided, Trees, Branch, NoTrees, two_trees, tree_of}
+use Rattle.tree_type.specs.Trees.{Finding, Empty, Cycle, Network, Conetwork, R10, Enumerated, TwoSum, ThreeSum, Violator, Undecided, Pivoted, Trees, Branch, NoTrees, two_trees, one_tree, tree_of}
 use Rattle.tree_type.specs.declared.tree.Node.{Node}
 use Rattle.tree_type.specs.declared.tree.Kind.{Kind}
 use Rattle.tree_type.specs.Invariant.{AreLines, size_of}
@@ -25,8 +25,10 @@ use Rattle.tree_type.specs.Soundness.{part, Demands, rule_number}
 use Rattle.tree_type.specs.declared.tree.Kind.TheVariants as kind
 use Rattle.tree_type.proofs.NodeTrees.{said, tree_is, said_cycle, said_two_sum, said_three_sum, said_violator}
 use Rattle.tree_type.proofs.PlacedLines.{lines_within}
+use Rattle.pivots.specs.declared.place.PivotPlace.{PivotPlace}
+use Rattle.pivots.specs.PivotedParts.{IsPlaceIn, IsTernaryPivot}
 use Rattle.cert_check.specs.Answers.{Stands, IsFirstOf, Says, IsOwnRule, unless}
-use Rattle.cert_check.proofs.Answering.{kind_is, children_stand}
+use Rattle.cert_check.proofs.Answering.{kind_is, pivoted_is, children_stand}
 use Rattle.cert_check.proofs.SumRules.{false_not}
 
 -- what a node says decides
@@ -63,6 +65,22 @@ three_lines m node t one_child two_child e stands = go (branch_stands m node (ki
   where
     go : Stands m (Branch node.lines (ThreeSum t) (two_trees (tree_of one_child.value) (tree_of two_child.value))) → HasConnector (first_is_flat t.form) node.lines.rows node.lines.columns t.first × HasConnector (second_is_flat t.form) node.lines.rows node.lines.columns t.second
     go (parent, levels, are, within) = (within.2.1, within.2.2)
+
+pub pivot_lines : (m : Matrix) (node : Node) (place : PivotPlace) (child : Box Node Global) → node.kind ≡ kind.Pivoted place child → Stands m (tree_of node) → Contains node.lines.rows place.row × Contains node.lines.columns place.column
+pivot_lines m node place child e stands = go (subst (Stands m) (pivoted_is node place child e) stands)
+  where
+    go : Stands m (Branch node.lines (Pivoted place) (one_tree (tree_of child.value))) → Contains node.lines.rows place.row × Contains node.lines.columns place.column
+    go (parent, levels, are, within) = (within.2.0, within.2.1)
+
+-- a pivoted node that keeps its rule
+pub own_pivot : (m : Matrix) (node : Node) (place : PivotPlace) (child : Box Node Global) → node.kind ≡ kind.Pivoted place child → Stands m (tree_of node) → IsOwnRule m (tree_of node) None
+    → IsPlaceIn m node.lines place × IsTernaryPivot m node.lines place
+own_pivot m node place child e stands own = go (subst (λ tree. IsOwnRule m tree None) (pivoted_is node place child e) own)
+  where
+    go : IsOwnRule m (Branch node.lines (Pivoted place) (one_tree (tree_of child.value))) None → IsPlaceIn m node.lines place × IsTernaryPivot m node.lines place
+    go keeps =
+        let lines = pivot_lines m node place child e stands in
+        let own = keeps rule.NotPivot in (record { row = lines.0; column = lines.1; nonzero = own.0 }, own.1)
 
 -- ---- one rule
 
@@ -173,3 +191,22 @@ r10_says m lines whole b e is h = go b (subst IsR10 e is) (subst (λ p. IsTrue b
         before rule.NotR10 l = is
         before rule.CycleFault l = absurd (omega (arith, l))
         before _ l = tt
+
+pub zero_says : (m : Matrix) (lines : LineSet) (place : PivotPlace) → entry m place.row place.column ≡ pos 0 → Says m lines (Pivoted place) (Some rule.NotPivot)
+zero_says m lines place zero children = (λ keeps. keeps.0 zero, before)
+  where
+    before : (earlier : Rule) → rule_number earlier < rule_number rule.NotPivot → Demands earlier m lines (Pivoted place) children
+    before rule.NotPivot l = absurd (omega (arith, l))
+    before _ l = tt
+
+pub pivot_says : (m : Matrix) (lines : LineSet) (place : PivotPlace) (yes : Bool) → entry m place.row place.column ≢ pos 0 → IsTrue yes ↔ IsTernaryPivot m lines place → Says m lines (Pivoted place) (unless yes rule.NotPivot)
+pivot_says m lines place true nonzero h children = kept
+  where
+    kept : (broken : Rule) → Demands broken m lines (Pivoted place) children
+    kept rule.NotPivot = (nonzero, h.0 refl)
+    kept _ = tt
+pivot_says m lines place false nonzero h children = (λ keeps. false_not h keeps.1, before)
+  where
+    before : (earlier : Rule) → rule_number earlier < rule_number rule.NotPivot → Demands earlier m lines (Pivoted place) children
+    before rule.NotPivot l = absurd (omega (arith, l))
+    before _ l = tt

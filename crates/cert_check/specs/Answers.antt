@@ -1,13 +1,13 @@
 -- What the checker answers, and what it finds on the way.
-use Rattle.std.specs.Prelude.{◌<◌, ℕ, Bool, true, false, List, Option, Some, None}
+use Rattle.std.specs.Prelude.{◌≡◌, ◌<◌, ℕ, Bool, true, false, List, [], ◌∷◌, Option, Some, None}
 use Rattle.std.specs.List.{AllByRecursion}
 use Rattle.cmr_base.specs.declared.line_set.LineSet.{LineSet}
 use Rattle.cmr_base.specs.Matrix.{Matrix}
 use Rattle.tree_type.specs.declared.refusal.Refusal.{Refusal}
 use Rattle.tree_type.specs.declared.refusal.Rule.{Rule}
-use Rattle.tree_type.specs.Trees.{Finding, Tree, Trees, Branch, SizedTree, lines_of}
+use Rattle.tree_type.specs.Trees.{Finding, Cycle, Violator, Undecided, Tree, Trees, Branch, SizedTree, lines_of}
 use Rattle.tree_type.specs.Invariant.{AreLines, IsTreeWithin}
-use Rattle.tree_type.specs.Places.{Due, These, Unnamed, Place, due_child, places_below, lines_of_each}
+use Rattle.tree_type.specs.Places.{Due, These, Unnamed, MadePivot, matrix_after, Place, due_child, pivots_below, places_from, places_below, lines_of_each}
 use Rattle.tree_type.specs.Soundness.{Demands, KeepsAll, rule_number, BreaksFirst, IsSound, IsFirstBroken, IsBroken}
 
 -- no refusal exactly where the tree is sound, and else the first node that breaks a rule, with that rule
@@ -48,9 +48,9 @@ finding_of (Branch lines finding trees) = finding
 abbrev pub trees_below : Tree → Trees
 trees_below (Branch lines finding trees) = trees
 
--- the nodes below a node
-abbrev pub nodes_below : List ℕ → Tree → List Place
-nodes_below path tree = places_below path (lines_of tree) (finding_of tree) 0 (trees_below tree)
+-- the nodes below a node that has these pivots above it
+abbrev pub nodes_below : List ℕ → List MadePivot → Tree → List Place
+nodes_below path pivots tree = places_below path (pivots_below (lines_of tree) (finding_of tree) pivots) (lines_of tree) (finding_of tree) 0 (trees_below tree)
 
 -- what a child is to have, where lines are named for it
 abbrev pub due_from : Option LineSet → Due
@@ -62,10 +62,40 @@ abbrev pub due_child_of : Tree → ℕ → Due
 due_child_of tree number = due_child (lines_of tree) (finding_of tree) number
 
 -- the node itself at its place
-abbrev pub place_of : List ℕ → Due → Tree → Place
-place_of path due tree = record { path = path; due = due; lines = lines_of tree; finding = finding_of tree; children = lines_of_each (trees_below tree) }
+abbrev pub place_of : List ℕ → List MadePivot → Due → Tree → Place
+place_of path pivots due tree =
+    record { path = path; pivots = pivots; due = due; lines = lines_of tree; finding = finding_of tree; children = lines_of_each (trees_below tree) }
 
--- the first rule that a node breaks at its place, or none, whatever its path is
-abbrev pub IsRuleAt : Matrix → Due → Tree → Option Rule → Type 0
-IsRuleAt m due tree None = (path : List ℕ) → KeepsAll m (place_of path due tree)
-IsRuleAt m due tree (Some broken) = (path : List ℕ) → BreaksFirst m (place_of path due tree) broken
+abbrev pub has_pivot : List MadePivot → Bool
+has_pivot [] = false
+has_pivot (last ∷ pivots) = true
+
+-- the node names no fault, and leaves no lines open
+abbrev pub is_settled : Finding → Bool
+is_settled (Cycle fault) = false
+is_settled (Violator fault) = false
+is_settled Undecided = false
+is_settled finding = true
+
+-- the matrix at hand is the one after some pivots of a matrix, and it is said whether there are any
+pub record IsAfter (m : Matrix) (pivots : List MadePivot) (here : Matrix) (below_pivot : Bool) : Type 0 where
+  pub matrix : matrix_after m pivots ≡ here
+  pub pivoted : has_pivot pivots ≡ below_pivot
+
+-- the first rule that a node breaks at its place, or none, whatever its path and the pivots are after which the matrix is at hand
+abbrev pub IsRuleAt : Matrix → Bool → Due → Tree → Option Rule → Type 0
+IsRuleAt here below_pivot due tree None = (m : Matrix) (pivots : List MadePivot) (path : List ℕ) → IsAfter m pivots here below_pivot → KeepsAll m (place_of path pivots due tree)
+IsRuleAt here below_pivot due tree (Some broken) =
+    (m : Matrix) (pivots : List MadePivot) (path : List ℕ) → IsAfter m pivots here below_pivot → BreaksFirst m (place_of path pivots due tree) broken
+
+-- the node keeps the rules on what it says, where it keeps all
+abbrev pub KeepsOwn : Matrix → Tree → Option Rule → Type 0
+KeepsOwn here tree None = IsOwnRule here tree None
+KeepsOwn here tree (Some broken) = Unit {0}
+
+-- the answer on a node and those below it, and on those below it alone
+abbrev pub AnswersFrom : Matrix → Bool → List ℕ → Due → Tree → Option Refusal → Type 0
+AnswersFrom here below_pivot path due tree answer = (m : Matrix) (pivots : List MadePivot) → IsAfter m pivots here below_pivot → AnswersOn m (places_from path pivots due tree) answer
+
+abbrev pub AnswersBelow : Matrix → Bool → List ℕ → Tree → Option Refusal → Type 0
+AnswersBelow here below_pivot path tree answer = (m : Matrix) (pivots : List MadePivot) → IsAfter m pivots here below_pivot → AnswersOn m (nodes_below path pivots tree) answer

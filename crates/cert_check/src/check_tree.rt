@@ -1,13 +1,18 @@
 // The check of a tree, node by node in preorder.
-ghost use Rattle.std.specs.Prelude.{◌≡◌, ◌++◌, ◌↔◌, [], ◌∷◌, IfOk, IsTrue};
+ghost use Rattle.std.specs.Prelude.{◌≡◌, ◌++◌, ◌↔◌, [], ◌∷◌, true, false, None, IfOk, IsTrue};
+ghost use Rattle.pivots.specs.PivotedParts.{pivoted_part, IsPlaceIn, IsTernaryPivot};
 ghost use Rattle.tree_type.specs.Trees.{tree_of};
-ghost use Rattle.tree_type.specs.Places.{AllLines, places_from};
+ghost use Rattle.tree_type.specs.Invariant.{AreLines};
+ghost use Rattle.tree_type.specs.Places.{AllLines};
 ghost use Rattle.tree_type.specs.Soundness.{HasItsLines};
-ghost use Rattle.cert_check.specs.Answers.{Answers, AnswersOn, IsRuleAt, Stands, nodes_below, due_from, due_child_of};
+ghost use Rattle.cert_check.specs.Answers.{Answers, AnswersBelow, AnswersFrom, IsOwnRule, IsRuleAt, KeepsOwn, Stands, due_from, due_child_of};
 
 use crate::due_lines::due_lines;
+use crate::leaf_rules::unless;
 use crate::own_rule::{own_rule, same_lines};
+use crate::pivot_rule::may_stand;
 use cmr_base::{LineSet, Matrix, Memory, PathList};
+use pivots::{PivotPlace, PivotedPart, pivot_part};
 use std::alloc::Global;
 use tree_type::{DecTree, Kind, Node, Refusal, Rule};
 
@@ -19,13 +24,14 @@ pub fn accept(alloc: Global, matrix: &Matrix, tree: &DecTree) -> Result<Option<R
     let path = PathList::new(alloc);
     match root_rule(alloc, matrix, tree)? {
         Some(rule) => Ok(Some(Refusal { path, rule })),
-        None => check_below(alloc, matrix, &path, tree.root()),
+        None => check_below(alloc, matrix, false, &path, tree.root()),
     }
 }
 
 /// The first rule that the root breaks, if there is one.
 fn root_rule(alloc: Global, matrix: &Matrix, tree: &DecTree) -> Result<Option<Rule>, Memory>
-    ensures { IfOk result (IsRuleAt matrix.now (AllLines tree.now.rows tree.now.columns) (tree_of tree.now.root)) }
+    ensures rule { IfOk result (IsRuleAt matrix.now false (AllLines tree.now.rows tree.now.columns) (tree_of tree.now.root)) }
+    ensures own { IfOk result (KeepsOwn matrix.now (tree_of tree.now.root)) }
 {
     if tree.rows() != matrix.rows() {
         return Ok(Some(Rule::Size));
@@ -41,39 +47,41 @@ fn root_rule(alloc: Global, matrix: &Matrix, tree: &DecTree) -> Result<Option<Ru
     own_rule(alloc, matrix, root)
 }
 
-/// The first node below a node that breaks a rule. The recursion goes by the ordinary stack, so its functions hold
-/// little.
+/// The first node below a node that breaks a rule. The matrix is the one after the pivots above the node, and `pivoted`
+/// where there are any. The recursion goes by the ordinary stack, so its functions hold little.
 #[cycle(check)]
 fn check_below(
     alloc: Global,
     matrix: &Matrix,
+    pivoted: bool,
     path: &PathList,
     node: &Node,
 ) -> Result<Option<Refusal>, Memory>
-    requires { Stands matrix.now (tree_of node.now) }
-    ensures { IfOk result (AnswersOn matrix.now (nodes_below path.now (tree_of node.now))) }
+    requires stands { Stands matrix.now (tree_of node.now) }
+    requires own { IsOwnRule matrix.now (tree_of node.now) None }
+    ensures { IfOk result (AnswersBelow matrix.now pivoted path.now (tree_of node.now)) }
 {
     match &node.kind {
-        Kind::Reduced { child, .. } => check_child(alloc, matrix, path, child, node, 0),
+        Kind::Reduced { child, .. } => check_child(alloc, matrix, pivoted, path, child, node, 0),
         Kind::TwoSum {
             one_child,
             two_child,
             ..
         } => {
-            if let Some(refusal) = check_child(alloc, matrix, path, one_child, node, 0)? {
+            if let Some(refusal) = check_child(alloc, matrix, pivoted, path, one_child, node, 0)? {
                 return Ok(Some(refusal));
             }
-            check_child(alloc, matrix, path, two_child, node, 1)
+            check_child(alloc, matrix, pivoted, path, two_child, node, 1)
         }
         Kind::ThreeSum {
             one_child,
             two_child,
             ..
         } => {
-            if let Some(refusal) = check_child(alloc, matrix, path, one_child, node, 0)? {
+            if let Some(refusal) = check_child(alloc, matrix, pivoted, path, one_child, node, 0)? {
                 return Ok(Some(refusal));
             }
-            check_child(alloc, matrix, path, two_child, node, 1)
+            check_child(alloc, matrix, pivoted, path, two_child, node, 1)
         }
         Kind::OneSum { children } => {
             let nodes = children.as_slice();
@@ -81,13 +89,16 @@ fn check_below(
             prove!(nodes.len() <= most as usize);
             let mut number = 0u32;
             for child in nodes {
-                if let Some(refusal) = check_child(alloc, matrix, path, child, node, number)? {
+                if let Some(refusal) = check_child(
+                    alloc, matrix, pivoted, path, child, node, number,
+                )? {
                     return Ok(Some(refusal));
                 }
                 number += 1;
             }
             Ok(None)
         }
+        Kind::Pivoted { place, child } => check_pivoted(alloc, matrix, path, child, node, *place),
         Kind::Empty
         | Kind::Cycle { .. }
         | Kind::Network { .. }
@@ -105,18 +116,42 @@ fn check_below(
 fn check_child(
     alloc: Global,
     matrix: &Matrix,
+    pivoted: bool,
     path: &PathList,
     child: &Node,
     parent: &Node,
     number: u32,
 ) -> Result<Option<Refusal>, Memory>
     requires { Stands matrix.now (tree_of child.now) }
-    ensures { IfOk result (AnswersOn matrix.now (places_from (path.now ++ number ∷ []) (due_child_of (tree_of parent.now) number) (tree_of child.now))) }
+    ensures { IfOk result (AnswersFrom matrix.now pivoted (path.now ++ number ∷ []) (due_child_of (tree_of parent.now) number) (tree_of child.now)) }
 {
     let longer = path.child(number)?;
-    match rule_of(alloc, matrix, child, parent, number)? {
+    match rule_of(alloc, matrix, pivoted, child, parent, number)? {
         Some(rule) => Ok(Some(Refusal { path: longer, rule })),
-        None => check_below(alloc, matrix, &longer, child),
+        None => check_below(alloc, matrix, pivoted, &longer, child),
+    }
+}
+
+/// The same of the child of a pivoted node, in the matrix after its pivot, which lives as long as the child is checked.
+#[cycle(check)]
+#[inline(never)]
+fn check_pivoted(
+    alloc: Global,
+    matrix: &Matrix,
+    path: &PathList,
+    child: &Node,
+    parent: &Node,
+    place: PivotPlace,
+) -> Result<Option<Refusal>, Memory>
+    requires lines { AreLines matrix.now parent.now.lines }
+    requires place { IsPlaceIn matrix.now parent.now.lines place }
+    requires ternary { IsTernaryPivot matrix.now parent.now.lines place }
+    requires stands { Stands matrix.now (tree_of child.now) }
+    ensures { IfOk result (AnswersFrom (pivoted_part matrix.now parent.now.lines place) true (path.now ++ 0 ∷ []) (due_child_of (tree_of parent.now) 0) (tree_of child.now)) }
+{
+    match pivot_part(alloc, matrix, &parent.lines, place)? {
+        PivotedPart::Ternary(after) => check_child(alloc, &after, true, path, child, parent, 0),
+        PivotedPart::Violated(_fault) => unreachable!(),
     }
 }
 
@@ -125,31 +160,38 @@ fn check_child(
 fn rule_of(
     alloc: Global,
     matrix: &Matrix,
+    pivoted: bool,
     child: &Node,
     parent: &Node,
     number: u32,
 ) -> Result<Option<Rule>, Memory>
     requires { Stands matrix.now (tree_of child.now) }
-    ensures { IfOk result (IsRuleAt matrix.now (due_child_of (tree_of parent.now) number) (tree_of child.now)) }
+    ensures rule { IfOk result (IsRuleAt matrix.now pivoted (due_child_of (tree_of parent.now) number) (tree_of child.now)) }
+    ensures own { IfOk result (KeepsOwn matrix.now (tree_of child.now)) }
 {
     let due = due_lines(alloc, parent, number)?;
-    rule_at(alloc, matrix, &due, child)
+    rule_at(alloc, matrix, pivoted, &due, child)
 }
 
 /// The first rule that a child breaks, if there is one.
 fn rule_at(
     alloc: Global,
     matrix: &Matrix,
+    pivoted: bool,
     due: &Option<LineSet>,
     child: &Node,
 ) -> Result<Option<Rule>, Memory>
     requires { Stands matrix.now (tree_of child.now) }
-    ensures { IfOk result (IsRuleAt matrix.now (due_from due.now) (tree_of child.now)) }
+    ensures rule { IfOk result (IsRuleAt matrix.now pivoted (due_from due.now) (tree_of child.now)) }
+    ensures own { IfOk result (KeepsOwn matrix.now (tree_of child.now)) }
 {
     if !has_lines(due, child) {
         return Ok(Some(Rule::Lines));
     }
-    own_rule(alloc, matrix, child)
+    if let Some(rule) = own_rule(alloc, matrix, child)? {
+        return Ok(Some(rule));
+    }
+    Ok(unless(may_stand(pivoted, child), Rule::BelowPivot))
 }
 
 /// Whether a child has the lines that are named for it.

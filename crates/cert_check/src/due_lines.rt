@@ -22,6 +22,7 @@ pub fn due_lines(alloc: Global, node: &Node, number: u32) -> Result<Option<LineS
         Kind::ThreeSum { three, .. } => {
             Ok(Some(three_child(alloc, &node.lines, three, number == 0)?))
         }
+        Kind::Pivoted { .. } => Ok(Some(copy_of(alloc, &node.lines)?)),
         Kind::Empty
         | Kind::Cycle { .. }
         | Kind::OneSum { .. }

@@ -11,6 +11,7 @@ pub mod laws;
 mod leaf_rules;
 mod members;
 mod own_rule;
+mod pivot_rule;
 mod reduced_rule;
 mod spread;
 mod sum_rules;

@@ -7,6 +7,7 @@ use crate::apart_rule::apart_rule;
 use crate::leaf_rules::{
     conetwork_rule, empty_rule, enumerated_rule, fault_rule, network_rule, r10_rule,
 };
+use crate::pivot_rule::pivot_rule;
 use crate::reduced_rule::reduced_rule;
 use crate::sum_rules::{three_rule, two_rule};
 use cmr_base::{LineSet, Matrix, Memory};
@@ -32,6 +33,7 @@ pub(crate) fn own_rule(alloc: Global, matrix: &Matrix, node: &Node) -> Result<Op
         Kind::Enumerated => enumerated_rule(alloc, matrix, lines),
         Kind::Violator { fault } => Ok(fault_rule(matrix, fault)),
         Kind::Undecided => Ok(None),
+        Kind::Pivoted { place, .. } => pivot_rule(alloc, matrix, lines, *place),
     }
 }
 

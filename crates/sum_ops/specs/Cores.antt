@@ -1,8 +1,8 @@
 -- The cores of concentrated sums.
 use Rattle.std.specs.Prelude.{◌≡◌, ◌<◌, ◌≤◌, ◌+◌, ◌-◌, ◌-ℤ◌, ◌*ℤ◌, ℕ, ℤ, pos}
-use Rattle.cmr_base.specs.Matrix.{Matrix, height, entry, IsEntry}
+use Rattle.cmr_base.specs.Matrix.{Matrix, height, entry}
 use Rattle.cmr_base.specs.Signing.{IsSign}
-use Rattle.cmr_base.specs.MatrixSums.{IsCore, core_block}
+use Rattle.cmr_base.specs.MatrixSums.{IsCore}
 
 -- the entries of a core after so many rows and columns that are 1 or -1
 pub record HaveSigns (row column : ℕ) (entries : ℕ → ℕ → ℤ) : Type 0 where
@@ -29,7 +29,3 @@ pub record IsFirstCore (first second : Matrix) : Type 0 where
   pub columns : 3 ≤ second.width
   pub same : (r c : ℕ) → r < 3 → c < 3 → entry second r c ≡ entry first ((height first - 3) + r) ((first.width - 3) + c)
   pub right : (c : ℕ) → 3 ≤ c → c < second.width → entry second 0 c ≡ pos 0
-
--- the entries of the block that the core makes are -1, 0 and 1
-abbrev pub IsSmallBlock : Matrix → Matrix → Type 0
-IsSmallBlock first second = (r c : ℕ) → 1 ≤ r → r < height second → c < first.width - 1 → IsEntry (core_block (height first - 3) (entry first) (entry second) r c)

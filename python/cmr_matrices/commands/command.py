@@ -41,11 +41,10 @@ def end_on_signals() -> None:
     def leave(number: int, _: object) -> None:
         sys.exit(128 + number)
 
-    signal.signal(signal.SIGINT, leave)
-    signal.signal(signal.SIGTERM, leave)
-    # A work under nohup goes on.
-    if signal.getsignal(signal.SIGHUP) is not signal.SIG_IGN:
-        signal.signal(signal.SIGHUP, leave)
+    for it in (signal.SIGHUP, signal.SIGINT, signal.SIGTERM):
+        # What is ignored stays so: a work under nohup goes on.
+        if signal.getsignal(it) is not signal.SIG_IGN:
+            signal.signal(it, leave)
 
 
 def ignore_signals() -> None:

@@ -7,7 +7,7 @@ from collections.abc import Iterator, Mapping
 from dataclasses import dataclass
 
 from ..words import LIMIT
-from .texts import Guess, guess
+from .texts import Guess, guess, has_size
 from .words import Order
 
 __all__ = ["text_fault"]
@@ -68,6 +68,10 @@ def text_fault(order: Order, name: str, texts: Mapping[str, bytes], kind: str, b
     if data.strip():
         where = f"line {place.line}, column {place.column}" if place.word else "at its end"
         said.append(f"{name}, {where}: {_why(order, wanted, data, kind, place)}")
+    if place.word.startswith(("#", "%", "//")) and seems.kind not in ("notes", "market"):
+        said.append(f"{name} has a comment there, and a text for cmr has none")
+    if seems.kind == "submatrix" and wanted in _MATRIX and has_size(data, wanted):
+        seems = Guess(wanted, _WANTED[wanted])
     others = [guess(text) for file, text in texts.items() if file != name]
     return said + [f"{name} {line}" for line in _guessed(order, wanted, kind, seems, others[0] if others else None)]
 

@@ -5,7 +5,7 @@ from __future__ import annotations
 import re
 from dataclasses import dataclass
 
-__all__ = ["Guess", "guess"]
+__all__ = ["Guess", "guess", "has_size"]
 
 _SPACE = b"\t\n\x0b\x0c\r "
 _WHOLE = re.compile(r"[+-]?[0-9]+")
@@ -83,6 +83,12 @@ def guess(data: bytes) -> Guess:
     return _of_numbers(text)
 
 
+def has_size(data: bytes, kind: str) -> bool:
+    """Whether a text of whole numbers alone has as many as a text of the kind `dense`, `sparse` or `submatrix` with its sizes has."""
+    words = data.decode("utf-8", "replace").split()
+    return all(_WHOLE.fullmatch(word) for word in words) and _has_counts([int(word[:12]) for word in words], kind)
+
+
 def _of_numbers(text: str) -> Guess:
     if _NOTE.match(text):
         inner = _of_numbers(
@@ -93,6 +99,12 @@ def _of_numbers(text: str) -> Guess:
             f"{inner.what}, with comment lines",
             "a text for cmr has no comments: `grep -v '^[#%]'` leaves them out",
         )
+    if rows := _matlab(text):
+        return Guess(
+            "matlab",
+            f"rows with `;` between them, as MATLAB has them, {rows[0]} rows of {rows[1]}",
+            "only white space may stand between numbers, " + _HEAD,
+        )
     if re.match(r"\s*(\w+\()?[\[({]", text):
         return Guess(
             "brackets",
@@ -102,9 +114,10 @@ def _of_numbers(text: str) -> Guess:
     if "\N{MINUS SIGN}" in text or "\N{EN DASH}" in text:
         return Guess("minus", "numbers with a typographic minus", "`-` is the minus of a text for cmr")
     if found := re.match(r"[^\n]*?[0-9\"] *([,;|&])", text):
+        sized = _sized(text, rf"[{found[1]}\\ ]+")
         return Guess(
             "csv",
-            f"a table with `{found[1]}` between its entries{_sized(text, f'[{found[1]} ]+')}",
+            f"a table with `{found[1]}` between its entries{sized}",
             "only white space may stand between numbers, " + _HEAD,
         )
     words = text.split()
@@ -174,7 +187,16 @@ _FITS = {"dense": _is_dense, "sparse": _is_sparse, "submatrix": _is_submatrix}
 
 def _sized(text: str, between: str = r"\s+") -> str:
     rows = _table(text, between)
-    return f", {rows[0]} rows of {rows[1]}" if rows else ""
+    return f", {rows[0]} rows of {rows[1]}" if rows and rows[0] > 1 else ""
+
+
+def _matlab(text: str) -> tuple[int, int] | None:
+    """The numbers of rows and of columns where rows of several numbers have `;` between them, and not only line ends."""
+    plain = re.sub(r"^\s*(\w+\s*=)?\s*\[|\]\s*;?\s*$", "", text)
+    if ";" not in plain or not re.fullmatch(r"[0-9;,.+\s-]*", plain):
+        return None
+    rows = _table(plain.replace(";", "\n"), r"[,\s]+")
+    return rows if rows and min(rows) > 1 else None
 
 
 def _table(text: str, between: str = r"\s+") -> tuple[int, int] | None:

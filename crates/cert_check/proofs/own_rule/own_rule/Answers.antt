@@ -2,7 +2,7 @@ use Rattle.std.proofs.Common.{[]}
 use Rattle.tree_type.specs.Trees.{Empty, Cycle, OneSum, Violator, NoTrees, trees_of}
 use Rattle.tree_type.specs.declared.tree.Kind.TheVariants as kind
 use Rattle.tree_type.proofs.NodeTrees.{said_empty, said_cycle, said_one_sum, said_violator}
-use Rattle.cert_check.proofs.OwnRules.{own_of, own_lines, cycle_lines, two_lines, three_lines, violator_lines}
+use Rattle.cert_check.proofs.OwnRules.{own_of, own_lines, cycle_lines, two_lines, three_lines, violator_lines, pivot_lines}
 use Rattle.cert_check.proofs.own_rule.own_rule.Goals as goal
 
 pub fault_rule-requires : goal.fault_rule-requires
@@ -59,3 +59,12 @@ enumerated_rule-requires c = own_lines c.args.matrix.now c.args.node.now c.requi
 
 pub r10_rule-requires : goal.r10_rule-requires
 r10_rule-requires c = own_lines c.args.matrix.now c.args.node.now c.requires
+
+pub pivot_rule-requires-clause-lines : goal.pivot_rule-requires-clause-lines
+pivot_rule-requires-clause-lines c = own_lines c.args.matrix.now c.args.node.now c.requires
+
+pub pivot_rule-requires-clause-row : goal.pivot_rule-requires-clause-row
+pivot_rule-requires-clause-row c = (pivot_lines c.args.matrix.now c.args.node.now c.in-Pivoted.place c.in-Pivoted.child c.in-Pivoted.is c.requires).0
+
+pub pivot_rule-requires-clause-column : goal.pivot_rule-requires-clause-column
+pivot_rule-requires-clause-column c = (pivot_lines c.args.matrix.now c.args.node.now c.in-Pivoted.place c.in-Pivoted.child c.in-Pivoted.is c.requires).1
