@@ -31,8 +31,6 @@ mod separations;
 #[cfg(test)]
 mod signings;
 #[cfg(test)]
-mod splitting;
-#[cfg(test)]
 mod sums;
 #[cfg(test)]
 mod texts;
