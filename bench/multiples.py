@@ -12,9 +12,10 @@ directed tree:
     legs    from the middle, legs of two arcs
 
 Arcs and columns are turned round at random and shuffled. `graphic` gets the supports, as they are and with one nonzero more;
-`network`, `camion` (the search for a cycle fault) and `tu` the matrices as they are and with one sign turned, and `tu` also the transposed
-ones. For each row of the table: the multiple at each size, and the exponent with which the time grows from the first size to the last. The full matrix of
-ones, and `graphic -N` at 200 lines with one nonzero more, come last. A run that takes longer than --seconds is written as `-`.
+`network`, `camion` (the search for a cycle fault) and `tu` the matrices as they are and with one sign turned, and `tu` the
+transposed ones too. For each row of the table: the multiple at each size, and the exponent with which the time grows from the
+first size to the last. The full matrix of ones, and `graphic -N` at 200 lines with one nonzero more, come last. A run that takes
+longer than --seconds is written as `-`.
 """
 
 import argparse
