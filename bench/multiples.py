@@ -12,8 +12,8 @@ directed tree:
     legs    from the middle, legs of two arcs
 
 Arcs and columns are turned round at random and shuffled. `graphic` gets the supports, as they are and with one nonzero more;
-`network`, `camion` (the search for a cycle fault) and `tu` the matrices as they are and with one sign turned. For each row of the
-table: the multiple at each size, and the exponent with which the time grows from the first size to the last. The full matrix of
+`network`, `camion` (the search for a cycle fault) and `tu` the matrices as they are and with one sign turned, and `tu` also the transposed
+ones. For each row of the table: the multiple at each size, and the exponent with which the time grows from the first size to the last. The full matrix of
 ones, and `graphic -N` at 200 lines with one nonzero more, come last. A run that takes longer than --seconds is written as `-`.
 """
 
@@ -73,6 +73,10 @@ def supports(entries):
     return [[abs(entry) for entry in row] for row in entries]
 
 
+def transposed(entries):
+    return [list(column) for column in zip(*entries)]
+
+
 def cases(kind, size):
     """The rows of the table for a kind: a name, the words of a tool, and a matrix."""
     draw = random.Random(1)
@@ -87,6 +91,8 @@ def cases(kind, size):
         ("camion, one sign turned", ["camion"], with_entry(entries, {1: -1, -1: 1}, draw)),
         ("tu, yes", ["tu"], entries),
         ("tu, one sign turned", ["tu"], with_entry(entries, {1: -1, -1: 1}, draw)),
+        ("tu, transposed, yes", ["tu"], transposed(entries)),
+        ("tu, transposed, one sign turned", ["tu"], transposed(with_entry(entries, {1: -1, -1: 1}, draw))),
     ]
 
 

@@ -162,18 +162,29 @@ class TextPlace:
 class BadText(ProgramFault, BadInput):
     """A text has a fault (status 3): its kind, and the byte before which all is in order, or None where it is too long.
 
-    `place` is the line, the column and the word at this byte, where the text is one that the package has given to the program.
+    `place` is the line, the column and the word at this byte, and `hint` what the text seems to be, where it is one that the package
+    has given to the program.
     """
 
-    def __init__(self, status: int, line: str, kind: str, byte: int | None, place: TextPlace | None = None) -> None:
+    def __init__(
+        self,
+        status: int,
+        line: str,
+        kind: str,
+        byte: int | None,
+        place: TextPlace | None = None,
+        hint: str | None = None,
+    ) -> None:
         super().__init__(status, line)
-        self.args = (status, line, kind, byte, place)
+        self.args = (status, line, kind, byte, place, hint)
         self.kind = kind
         self.byte = byte
         self.place = place
+        self.hint = hint
 
     def __str__(self) -> str:
-        return self.line if self.place is None else f"{self.line} ({self.place})"
+        said = self.line if self.place is None else f"{self.line} ({self.place})"
+        return said if self.hint is None else f"{said}: it seems to be {self.hint}"
 
 
 class CannotRead(ProgramFault, OSError):

@@ -70,6 +70,7 @@ class LineOrder:
             removed=tuple(map(self.line, node.removed)),
             connectors=tuple(map(self.line, node.connectors)),
             side=node.side and self.lines(node.side),
+            place=tuple(map(self.line, node.place)),
         )
 
     def _graph(self, graph: Graph) -> Graph:

@@ -126,6 +126,27 @@ class Matrix:
         )
         return Matrix((len(rows), len(columns)), tuple(nonzeros), self.names and self.names.part(rows, columns))
 
+    def pivoted(self, row: int, column: int) -> Matrix:
+        """The pivot at a nonzero a: a step of the simplex method in the tableau of `A x + y = b`, which the same pivot undoes.
+
+        Beside row and column an entry becomes A[i][j] - a A[i][column] A[row][j]; the row is multiplied by a and the column by -a, and
+        a stays. Raises `BadEntry` where the entry is 0, or where one of the pivot is none of -1, 0 and 1.
+        """
+        pivot = self[row, column]
+        if pivot == 0:
+            raise BadEntry(row, column, 0, "-1 and 1, as a pivot has to be")
+        entries = {(at, across): value for at, across, value in self.nonzeros}
+        in_row = [(across, value) for at, across, value in self.nonzeros if at == row and across != column]
+        in_column = [(at, value) for at, across, value in self.nonzeros if across == column and at != row]
+        for at, below in in_column:
+            for across, beside in in_row:
+                entries[at, across] = entries.get((at, across), 0) - pivot * below * beside
+            entries[at, column] = -pivot * below
+        for across, beside in in_row:
+            entries[row, across] = pivot * beside
+        made = Matrix.from_triples(((at, across, value) for (at, across), value in entries.items()), self.shape)
+        return replace(made, names=self.names)
+
     def sum(self) -> int:
         """The sum of all entries."""
         return sum(value for _, _, value in self.nonzeros)

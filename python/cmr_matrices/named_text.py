@@ -26,7 +26,7 @@ def named_text(text: str, names: Names, tree: Tree | None) -> str:
     A tree text becomes its outline, and a submatrix text its two lists. Of all other texts the lines that name rows or columns
     are changed, and those of an outline where the tree is given; the others stay.
     """
-    if text.split(maxsplit=1)[:1] == ["cmr-tree"]:
+    if text.split(maxsplit=1)[:1] in (["cmr-tree"], ["cmr-pivots"]):
         return "".join(f"{line}\n" for line in outline_lines(Tree.from_text(text), names))
     if NUMBERS.fullmatch(text):
         return names.line_set(_submatrix(text, names).lines) + "\n"

@@ -27,6 +27,7 @@ NodeKind = Literal[
     "y",
     "mixed",
     "concentrated",
+    "pivoted",
 ]
 
 LEAVES: frozenset[NodeKind] = frozenset(
@@ -44,11 +45,12 @@ CONNECTORS: dict[NodeKind, str] = {
 
 _KINDS: tuple[NodeKind, ...] = get_args(NodeKind)
 
-KINDS_OF_VERSION: dict[str, dict[str, NodeKind]] = {
-    "1": {kind: kind for kind in _KINDS if kind != "concentrated"},
-    "2": {kind: kind for kind in _KINDS},
+KINDS_OF_VERSION: dict[tuple[str, str], dict[str, NodeKind]] = {
+    ("cmr-tree", "1"): {kind: kind for kind in _KINDS if kind not in ("concentrated", "pivoted")},
+    ("cmr-tree", "2"): {kind: kind for kind in _KINDS if kind != "pivoted"},
+    ("cmr-pivots", "1"): {kind: kind for kind in _KINDS},
 }
-"""The kinds of nodes for which a text of each version has words."""
+"""The kinds of nodes for which a text has words, by the two words with which it begins."""
 
 
 @dataclass(frozen=True, eq=False)
@@ -57,7 +59,8 @@ class Node:
 
     `fault` are the lines of a fault (`cycle` and `violator`); `graph` shows a `network`, and of a `conetwork` the transposed
     matrix; `removed` are the lines that a `reduced` node takes away, one after another. A sum of two matrices has its `connectors`,
-    row and column of a `twosum` and (i, p, q) and (k, j, o) of a three-sum, and `side`, the lines of side one.
+    row and column of a `twosum` and (i, p, q) and (k, j, o) of a three-sum, and `side`, the lines of side one. A `pivoted` node has
+    the `place` of its pivot, a row and a column; what is below it speaks of the pivot of its submatrix: see `Tree.submatrices`.
     """
 
     kind: NodeKind
@@ -68,6 +71,7 @@ class Node:
     removed: tuple[Line, ...] = ()
     connectors: tuple[Line, ...] = ()
     side: LineSet | None = field(default=None, repr=False)
+    place: tuple[Line, ...] = ()
 
     @property
     def rows(self) -> tuple[int, ...]:

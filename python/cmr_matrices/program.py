@@ -24,6 +24,7 @@ from .errors import (
     TextPlace,
     TimeLimitReached,
 )
+from .explained.texts import guess
 
 __all__ = ["NO", "REFUSED", "UNDECIDED", "YES", "Ran", "StrPath", "fault_of", "find_program", "run"]
 
@@ -137,8 +138,10 @@ def fault_of(status: int, line: str, texts: Mapping[str, str] | None = None) -> 
             found = _TEXT_FAULT.fullmatch(line)
             if found and found["kind"]:
                 byte, text = int(found["byte"]), (texts or {}).get(found["name"])
-                place = None if text is None else TextPlace.at(_encoded(text), byte)
-                return BadText(status, line, found["kind"], byte, place)
+                if text is None:
+                    return BadText(status, line, found["kind"], byte)
+                data = _encoded(text)
+                return BadText(status, line, found["kind"], byte, TextPlace.at(data, byte), guess(data).what)
             return BadText(status, line, "TooLong", None)
         case 4:
             return (CannotWrite if line.startswith("cmr: cannot write") else CannotRead)(status, line)

@@ -141,8 +141,8 @@ def _label(box: Box, nodes: Sequence[Node], style: Style) -> list[str]:
 
 def _node_label(node: Node, style: Style) -> list[str]:
     label = [node.outline]
-    if node.connectors:
-        label += _wrapped("at", style.names.line_list(node.connectors))
+    if node.connectors or node.place:
+        label += _wrapped("at", style.names.line_list(node.connectors or node.place))
     if node.removed:
         few = len(node.removed) <= style.small
         label += _wrapped("without", style.names.line_list(node.removed) if few else f"{len(node.removed)} lines")

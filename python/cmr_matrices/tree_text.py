@@ -1,4 +1,7 @@
-"""The texts of decomposition trees: version 2 is written, and 1 is read too. docs/FORMATS.md has the format."""
+"""The texts of decomposition trees: `cmr-tree 2` is written, or `cmr-pivots 1` where a node is pivoted, and `cmr-tree 1` is read too.
+
+docs/FORMATS.md has the formats.
+"""
 
 from __future__ import annotations
 
@@ -22,9 +25,11 @@ def read_tree(text: str) -> tuple[tuple[int, int], Node]:
 
 
 def tree_text(shape: tuple[int, int], root: Node) -> str:
-    """The canonical text of a tree, of version 2."""
-    lines = ["cmr-tree 2", f"{shape[0]} {shape[1]}"]
-    for _, node in root.walk():
+    """The canonical text of a tree."""
+    nodes = [node for _, node in root.walk()]
+    head = "cmr-pivots 1" if any(node.kind == "pivoted" for node in nodes) else "cmr-tree 2"
+    lines = [head, f"{shape[0]} {shape[1]}"]
+    for node in nodes:
         lines.append(f"{node.kind} {node.lines.words}")
         own = _own_part(node)
         if own:
@@ -42,6 +47,8 @@ def _own_part(node: Node) -> str:
             return str(len(node.children))
         case "network" | "conetwork":
             return "" if node.graph is None else " ".join(f"{edge.tail} {edge.head}" for edge in node.graph.edges)
+        case "pivoted":
+            return " ".join(str(line.number + 1) for line in node.place)
         case kind if kind in CONNECTORS:
             numbers = " ".join(str(line.number + 1) for line in node.connectors)
             return f"{numbers} {node.side.words}" if node.side else numbers
@@ -60,6 +67,7 @@ class _Found:
     removed: tuple[Line, ...] = ()
     connectors: tuple[Line, ...] = ()
     side: LineSet | None = None
+    place: tuple[Line, ...] = ()
     children: list[Node] = field(default_factory=list)
 
     def node(self) -> Node:
@@ -72,6 +80,7 @@ class _Found:
             self.removed,
             self.connectors,
             self.side,
+            self.place,
         )
 
 
@@ -80,14 +89,14 @@ class _TreeReader:
 
     def __init__(self, text: str) -> None:
         self._words = Words(text)
-        self._kinds = KINDS_OF_VERSION["2"]
+        self._kinds = KINDS_OF_VERSION["cmr-tree", "2"]
         self._shape = (0, 0)
 
     def tree(self) -> tuple[tuple[int, int], Node]:
-        name, version = self._words.word(), self._words.word()
-        if name != "cmr-tree" or version not in KINDS_OF_VERSION:
-            raise BadInput("it does not begin with the words `cmr-tree 1` or `cmr-tree 2`")
-        self._kinds = KINDS_OF_VERSION[version]
+        head = self._words.word(), self._words.word()
+        if head not in KINDS_OF_VERSION:
+            raise BadInput("it does not begin with the words `cmr-tree 1`, `cmr-tree 2` or `cmr-pivots 1`")
+        self._kinds = KINDS_OF_VERSION[head]
         self._shape = self._words.shape()
         pending = [self._node()]
         while True:
@@ -125,6 +134,9 @@ class _TreeReader:
                 found.due = 1
             case "onesum":
                 found.due = self._words.count(len(lines))
+            case "pivoted":
+                found.place = self._words.row(self._shape), self._words.column(self._shape)
+                found.due = 1
             case kind if kind in CONNECTORS:
                 found.connectors = tuple(self._connector(letter) for letter in CONNECTORS[kind])
                 found.side = self._line_set()

@@ -11,8 +11,11 @@ from dataclasses import dataclass, field
 from typing import Any, Literal
 
 from .dot import svg
-from .lines import Names
+from .lines import LineSet, Names
+from .matrix import Matrix
 from .nodes import LEAVES, Node
+from .sources import MatrixLike
+from .submatrices import Submatrix
 from .tree_picture import Style, tree_picture
 from .tree_text import read_tree, tree_text
 
@@ -30,6 +33,25 @@ class Tree:
     def walk(self) -> Iterator[tuple[int, Node]]:
         """Each node in preorder, with its depth: 0 for the root."""
         return self.root.walk()
+
+    def submatrices(self, matrix: MatrixLike) -> Iterator[tuple[Node, Matrix]]:
+        """Each node in preorder with the submatrix of which it speaks: that on its lines, below pivoted nodes after their pivots.
+
+        Raises `BadInput` where the matrix has another shape, and `BadEntry` where a pivot is none, or gives another entry than -1,
+        0 and 1, which no tree has that `check` accepts.
+        """
+        whole = LineSet(tuple(range(self.shape[0])), tuple(range(self.shape[1])))
+        pending = [(self.root, Submatrix(self.shape, whole.rows, whole.columns).submatrix(matrix), whole)]
+        while pending:
+            node, above, lines = pending.pop()
+            rows = {row: place for place, row in enumerate(lines.rows)}
+            columns = {column: place for place, column in enumerate(lines.columns)}
+            part = above.submatrix([rows[row] for row in node.rows], [columns[column] for column in node.columns])
+            yield node, part
+            if node.kind == "pivoted":
+                row, column = node.place
+                part = part.pivoted(node.rows.index(row.number), node.columns.index(column.number))
+            pending.extend((child, part, node.lines) for child in reversed(node.children))
 
     @property
     def verdict(self) -> Literal["yes", "no", "undecided"]:
@@ -65,12 +87,12 @@ class Tree:
         return svg(self.to_dot())
 
     def to_text(self) -> str:
-        """The canonical tree text of version 2, with lines counted from 1."""
+        """The canonical tree text, with lines counted from 1."""
         return tree_text(self.shape, self.root)
 
     @classmethod
     def from_text(cls, text: str, names: Names | None = None) -> Tree:
-        """The tree that a text of version 1 or 2 has. Raises `BadInput` where it is none."""
+        """The tree that a text has. Raises `BadInput` where it is none."""
         shape, root = read_tree(text)
         return cls(shape, root, names)
 
@@ -101,6 +123,6 @@ def _named_node(node: Node, names: Names) -> str:
         return f"fault {names.line_set(node.fault)}"
     if node.removed:
         return f"without {names.line_list(node.removed)}"
-    if node.connectors:
-        return f"at {names.line_list(node.connectors)}"
+    if node.connectors or node.place:
+        return f"at {names.line_list(node.connectors or node.place)}"
     return names.line_set(node.lines) if node.kind in LEAVES else ""

@@ -162,7 +162,38 @@ def _are_linked(signs: Iterable[tuple[int, int]], row: int, column: int) -> bool
 def tree_holds(rows: Rows, tree: Tree) -> bool:
     """Whether the walk through a tree finds at each node what it says. Of three-sums only the lines are looked at."""
     whole = LineSet(tuple(range(len(rows))), tuple(range(len(rows[0]))))
-    return tree.root.lines == whole and all(_node_holds(rows, node) for _, node in tree.walk())
+    pending = [(tree.root, rows)]
+    while pending:
+        node, entries = pending.pop()
+        if not _node_holds(entries, node):
+            return False
+        below = pivot_of(entries, node) if node.kind == "pivoted" else entries
+        pending += ((child, below) for child in node.children)
+    return tree.root.lines == whole
+
+
+def pivot_of(rows: Rows, node: Node) -> list[list[int]]:
+    """The entries after the pivot of a node, which changes those of its lines alone."""
+    r, c = (line.number for line in node.place)
+    a = rows[r][c]
+    made = [list(row) for row in rows]
+    for i in node.rows:
+        for j in node.columns:
+            if i != r and j != c:
+                made[i][j] = rows[i][j] - a * rows[i][c] * rows[r][j]
+            elif i != r:
+                made[i][c] = -a * rows[i][c]
+            elif j != c:
+                made[r][j] = a * rows[r][j]
+    return made
+
+
+def _is_pivoted(rows: Rows, node: Node) -> bool:
+    row, column = node.place
+    if row not in node.lines or column not in node.lines or not rows[row.number][column.number]:
+        return False
+    is_ternary = all(entry in (-1, 0, 1) for made in part(pivot_of(rows, node), node.lines) for entry in made)
+    return is_ternary and [child.lines for child in node.children] == [node.lines]
 
 
 def _node_holds(rows: Rows, node: Node) -> bool:
@@ -185,6 +216,8 @@ def _node_holds(rows: Rows, node: Node) -> bool:
             return _is_apart(rows, node)
         case "twosum":
             return _is_two_sum(rows, node)
+        case "pivoted":
+            return _is_pivoted(rows, node)
     return node.kind != "undecided"
 
 

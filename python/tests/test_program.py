@@ -159,7 +159,10 @@ class Statuses(Folder):
             check(FANO, "cmr-tree  3\n")
         self.assertEqual((fault.exception.kind, fault.exception.byte), ("WrongVersion", 10))
         self.assertEqual(fault.exception.place, TextPlace(1, 11, "3"))
-        self.assertEqual(str(fault.exception), "cmr: evidence: WrongVersion at byte 10 (line 1, column 11: `3`)")
+        self.assertEqual(
+            str(fault.exception),
+            "cmr: evidence: WrongVersion at byte 10 (line 1, column 11: `3`): it seems to be a decomposition tree",
+        )
         self.assertEqual(fault.exception.line, "cmr: evidence: WrongVersion at byte 10")
         with self.assertRaises(BadText) as fault:
             check(FANO, "cmr-tree 2\n3 4\nonesum 3 4 1 2 3\n")

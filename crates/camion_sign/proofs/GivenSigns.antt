@@ -1,10 +1,11 @@
 -- One more sign: what stays, and the lines that are linked then.
-use Rattle.std.proofs.Common.{◌≡◌, ◌≢◌, ◌∙◌, ◌<◌, ◌⊎◌, ◌+◌, ℕ, suc, ℤ, pos, Bool, true, false, cond, nat_eq, List, [], ◌∷◌, inl, inr, refl, sym, ap, subst, arith}
-use Rattle.cmr_base.specs.Matrix.{Matrix, height, entry, with_entry, IsMatrix}
+use Rattle.std.proofs.Common.{◌≡◌, ◌≢◌, ◌∙◌, ◌<◌, ◌⊎◌, ◌+◌, ℕ, suc, ℤ, pos, Bool, true, false, cond, nat_eq, List, [], ◌∷◌, length, get_or, set, inl, inr, refl, sym, ap, subst, arith}
+use Rattle.std.proofs.lemmas.List.{length-set, get_or-set_same, get_or-set_other}
+use Rattle.cmr_base.specs.Matrix.{Matrix, height, row_of, entry, with_entry, IsMatrix, IsRectangular}
 use Rattle.cmr_base.specs.Signing.{IsSign}
 use Rattle.cmr_base.specs.declared.line.Line.{Line}
 use Rattle.cmr_base.specs.declared.line.Line.TheVariants.{Row, Column}
-use Rattle.cmr_base.proofs.Entries.{height-with_entry, entry-with_entry_same, entry-with_entry_other_column, entry-with_entry_other_row, is_matrix-with_entry}
+use Rattle.cmr_base.proofs.Entries.{height-with_entry, entry-with_entry_other_column, entry-with_entry_other_row, is_matrix-with_entry}
 use Rattle.cmr_base.proofs.RowLists.{same_or_not, is_eq, eq_of}
 use Rattle.cmr_base.proofs.SignEntries.{sign_is_entry}
 use Rattle.ghouila.proofs.SignProducts.{sign_nonzero}
@@ -20,16 +21,29 @@ pub record HasOneMore (s t : Matrix) (r c : ℕ) (v : ℤ) : Type 0 where
 pub here_or : (i j r c : ℕ) → ((i ≡ r) × (j ≡ c)) ⊎ ((i ≢ r) ⊎ (j ≢ c))
 here_or i j r c = elim (same_or_not i r) [ inr d ↦ inr (inl d) | inl e ↦ elim (same_or_not j c) [ inr d ↦ inr (inr d) | inl f ↦ inl (e, f) ] ]
 
-module _ (a s : Matrix) (is : IsMatrix a) (signs : AreSigns a s) (r c : ℕ) (v : ℤ) (one : entry a r c ≢ pos 0) where
+-- signs of a matrix of any size
+pub record FitSigns (a s : Matrix) : Type 0 where
+  pub rectangular : IsRectangular s
+  pub same_height : height s ≡ height a
+  pub same_width : s.width ≡ a.width
+  pub inside : (i j : ℕ) → entry a i j ≡ pos 0 → entry s i j ≡ pos 0
+
+module _ (a s : Matrix) (is : IsRectangular a) (signs : FitSigns a s) (r c : ℕ) (v : ℤ) (one : entry a r c ≢ pos 0) where
   row_inside : r < height s
   row_inside = let l = row_in a r c one in let e = signs.same_height in omega arith
 
   column_inside : c < s.width
-  column_inside = let l = column_in a r c is.rectangular one in let e = signs.same_width in omega arith
+  column_inside = let l = column_in a r c is one in let e = signs.same_width in omega arith
 
-  pub one_more : HasOneMore s (with_entry s r c v) r c v
-  one_more = record { here = entry-with_entry_same s r c v row_inside signs.matrix column_inside; other = other }
+  changed_row : row_of (with_entry s r c v) r ≡ set (row_of s r) c v
+  changed_row = get_or-set_same s.rows r (set (row_of s r) c v) [] row_inside
+
+  pub fit_one_more : HasOneMore s (with_entry s r c v) r c v
+  fit_one_more = record { here = here; other = other }
     where
+      here : entry (with_entry s r c v) r c ≡ v
+      here = ap (λ line. get_or line c (pos 0)) changed_row ∙ get_or-set_same (row_of s r) c v (pos 0) (let e = signs.rectangular r row_inside in let l = column_inside in omega arith)
+
       other : (i j : ℕ) → (i ≢ r) ⊎ (j ≢ c) → entry (with_entry s r c v) i j ≡ entry s i j
       other i j (inl d) = entry-with_entry_other_row s r c v i j d
       other i j (inr d) = elim (same_or_not i r) [
@@ -37,16 +51,37 @@ module _ (a s : Matrix) (is : IsMatrix a) (signs : AreSigns a s) (r c : ℕ) (v 
         | inr e ↦ entry-with_entry_other_row s r c v i j e
       ]
 
-  pub signs_more : IsSign v → AreSigns a (with_entry s r c v)
-  signs_more u = record {
-    matrix = is_matrix-with_entry s r c v row_inside (sign_is_entry v u) signs.matrix;
+  pub fit_more : FitSigns a (with_entry s r c v)
+  fit_more = record {
+    rectangular = λ i h. elim (same_or_not i r) [
+      | inl e ↦ subst (λ k. length (row_of (with_entry s r c v) k) ≡ s.width) (sym e) (ap length changed_row ∙ length-set (row_of s r) c v ∙ signs.rectangular r row_inside)
+      | inr d ↦ ap length (get_or-set_other s.rows r i (set (row_of s r) c v) [] d) ∙ signs.rectangular i (omega (arith, height-with_entry s r c v))
+    ];
     same_height = height-with_entry s r c v ∙ signs.same_height;
     same_width = signs.same_width;
     inside = λ i j z. elim (here_or i j r c) [
       | inl w ↦ absurd (one (subst (λ x. entry a x c ≡ pos 0) w.0 (subst (λ y. entry a i y ≡ pos 0) w.1 z)))
-      | inr d ↦ one_more.other i j d ∙ signs.inside i j z
+      | inr d ↦ fit_one_more.other i j d ∙ signs.inside i j z
     ];
   }
+
+pub fit : (a s : Matrix) → AreSigns a s → FitSigns a s
+fit a s signs = record { rectangular = signs.matrix.rectangular; same_height = signs.same_height; same_width = signs.same_width; inside = signs.inside }
+
+module _ (a s : Matrix) (is : IsMatrix a) (signs : AreSigns a s) (r c : ℕ) (v : ℤ) (one : entry a r c ≢ pos 0) where
+  pub one_more : HasOneMore s (with_entry s r c v) r c v
+  one_more = fit_one_more a s is.rectangular (fit a s signs) r c v one
+
+  pub signs_more : IsSign v → AreSigns a (with_entry s r c v)
+  signs_more u = record {
+    matrix = is_matrix-with_entry s r c v (row_inside a s is.rectangular (fit a s signs) r c v one) (sign_is_entry v u) signs.matrix;
+    same_height = more.same_height;
+    same_width = more.same_width;
+    inside = more.inside;
+  }
+    where
+      more : FitSigns a (with_entry s r c v)
+      more = fit_more a s is.rectangular (fit a s signs) r c v one
 
 module _ (s t : Matrix) (r c : ℕ) (v : ℤ) (u : IsSign v) (more : HasOneMore s t r c v) where
   pub keeps : (i j : ℕ) → entry s i j ≢ pos 0 → entry t i j ≢ pos 0

@@ -1,7 +1,8 @@
 -- How a run ends, from what was decided and how that was carried out.
 use Rattle.std.proofs.Common.{◌≡◌, ◌≤◌, ◌⊎◌, ◌∙◌, ℕ, Bool, IsTrue, List, length, Result, Ok, Err, sym, subst, inl, inr, arith, refl}
-use Rattle.std.specs.Prelude.{IfErr}
+use Rattle.std.specs.Prelude.{IfErr, OnErr}
 use Rattle.cmr_io.specs.Causes.{Rose}
+use Rattle.cmr_io.specs.Reads.{Reads}
 use Rattle.cmr_front.specs.declared.outcome.Outcome.{Outcome}
 use Rattle.cmr_front.specs.declared.outcome.Stop.{Stop}
 use Rattle.cmr_front.specs.declared.outcome.Stop.TheVariants as stops
@@ -11,10 +12,11 @@ use Rattle.cmr_front.specs.Ending.{Devices, Standing, Telling, devices, telling_
 use Rattle.cmr_front.specs.Inputs.{Given, given, not_there, too_much, texts}
 use Rattle.cmr_front.specs.Outcome.{ended_report, outcome_report, bad_words, too_long, bad_text, stop_report}
 use Rattle.cmr_front.specs.Report.{Held, Report}
-use Rattle.cmr_front.specs.Run.{Ordered, nothing, work, IsNothing, Reports, ReportsGiven, Means, gives_answer, names_fault, names_too_long, IsMissing, HasEnded, reported, unread, no_memory, Ends, Runs}
+use Rattle.cmr_front.specs.Run.{Ordered, nothing, work, IsNothing, Reports, ReportsGiven, Means, gives_answer, names_fault, names_too_long, CannotRead, HasEnded, reported, unread, no_memory, Ends, Runs}
 use Rattle.cmr_front.specs.Status.{IsStatus, answer_status, failure_status}
 use Rattle.cmr_front.specs.Tool.{IsDecision, IsLawful, Tool}
 use Rattle.cmr_front.specs.Stopped.{StopsInputs}
+use Rattle.cmr_front.specs.Unread.{Between, between, HaveEnded}
 use Rattle.cmr_front.proofs.Statuses.{answered_or_failed, status_of}
 
 pub pointwise : {A B : Type 0} (f g : A → B) → ((x : A) → f x ≡ g x) → f ≡ g
@@ -34,10 +36,10 @@ IsLawfulOrder nothing = Unit {0}
 IsLawfulOrder (work tool) = IsLawful tool
 
 -- What was decided, from what the names held before to after the files were read.
-pub record IsDecided (ordered : Ordered) (standing : Standing) (held read : Held) (before mid : ℕ) (ended : Result Outcome Stop) : Type 0 where
+pub record IsDecided (ordered : Ordered) (standing : Standing) (held read : Held) (reads : Between) (failed : Bool) (before mid : ℕ) (ended : Result Outcome Stop) : Type 0 where
   pub lawful : IsLawfulOrder ordered
   pub told : IsTrue standing.shelf_is_calm → IsTrue standing.shelf_tells
-  pub ends : Ends ordered held standing.shelf_tells standing.shelf_is_calm ended
+  pub ends : Ends ordered held standing.shelf_tells standing.shelf_is_calm reads failed ended
   pub content : (name : List ℕ) → read name ≡ held name
   pub later : before ≤ mid
   pub refused : IsNothing ordered → (ended ≡ Err stops.BadWords) ⊎ (ended ≡ Err stops.Memory)
@@ -49,30 +51,42 @@ pub record WasCarriedOut (standing : Standing) (ended : Result Outcome Stop) (mi
   pub given : (status ≡ (ended_report ended).status) ⊎ ((status ≡ failure_status failures.Device) × (Rose mid.shelf_faults after.shelf_faults ⊎ Rose mid.output_faults after.output_faults))
   pub ready : IsReadyFor (ended_report ended) standing → status ≡ (ended_report ended).status
   pub stopped : IfErr ended (λ stop. status ≡ (stop_report stop).status)
+  pub reads : after.reads ≡ mid.reads
+  pub failed : OnErr ended (after.failed ≡ mid.failed)
   pub later : mid.shelf_faults ≤ after.shelf_faults
 
 has_ended : (ordered : Ordered) (standing : Standing) (ended : Result Outcome Stop) (before after : Devices) (status : ℕ)
-    → Ends ordered before.held standing.shelf_tells standing.shelf_is_calm ended → CarriesOut ended (telling_of standing) before after status
+    → Ends ordered before.held standing.shelf_tells standing.shelf_is_calm (between before.reads after.reads) after.failed ended → CarriesOut ended (telling_of standing) before after status
     → ((ended_report ended).status ≡ failure_status failures.Device → Rose before.shelf_faults after.shelf_faults)
     → HasEnded ordered standing before after status
 has_ended ordered standing (Ok outcome) before after status ends done cause = reported (outcome_report outcome) ends.0 ends.1 done
-has_ended nothing standing (Err stops.BadWords) before after status ends done cause = reported bad_words refl (λ told. refl) (delivered done.0 done.1)
-has_ended (work tool) standing (Err stops.BadWords) before after status ends done cause = absurd ends
+has_ended nothing standing (Err stops.BadWords) before after status ends done cause = reported bad_words (refl, ends.1) (λ told. refl) (delivered done.0 done.1)
+has_ended (work tool) standing (Err stops.BadWords) before after status ends done cause = absurd ends.0
 has_ended ordered standing (Err (stops.TooLong name)) before after status ends done cause = reported (too_long name.now) ends.0 ends.1 (delivered done.0 done.1)
 has_ended ordered standing (Err (stops.BadText name kind place)) before after status ends done cause = reported (bad_text name.now kind place) ends.0 ends.1 (delivered done.0 done.1)
-has_ended ordered standing (Err (stops.CannotRead name)) before after status ends done cause = unread name.now ends.0 ends.1 (cause refl) done.0 done.1
+has_ended ordered standing (Err (stops.CannotRead name)) before after status ends done cause = unread name.now ends (cause refl) done.0 done.1
 has_ended ordered standing (Err stops.Memory) before after status ends done cause = no_memory done.0 done.1
 
+-- an end is that of a carrying out that leaves the reads, and where it is a stop the last call, as they were
+ends_after : (ordered : Ordered) (held : Held) (tells calm : Bool) (before mid after : Reads) (failed still : Bool) (ended : Result Outcome Stop) → after ≡ mid → OnErr ended (still ≡ failed)
+    → Ends ordered held tells calm (between before mid) failed ended → Ends ordered held tells calm (between before after) still ended
+ends_after ordered held tells calm before mid after failed still (Ok outcome) same stays ends =
+    subst (λ reads. Ends ordered held tells calm (between before reads) still (Ok outcome)) (sym same) ends
+ends_after ordered held tells calm before mid after failed still (Err stop) same stays ends =
+    subst (λ reads. Ends ordered held tells calm (between before reads) still (Err stop)) (sym same)
+    (subst (λ last. Ends ordered held tells calm (between before mid) last (Err stop)) (sym stays) ends)
+
 -- seen from before a read, which changes nothing that the names hold
-seen_from : (ended : Result Outcome Stop) (tells : Telling) (held read : Held) (output error : List ℕ) (before mid out err : ℕ) (after : Devices) (status : ℕ) → read ≡ held → before ≤ mid
-    → CarriesOut ended tells (devices read output error mid out err) after status → CarriesOut ended tells (devices held output error before out err) after status
-seen_from ended tells held read output error before mid out err after status same h done =
-    later ended held output error before mid out err after status h (subst (λ f. CarriesOut ended tells (devices f output error mid out err) after status) same done)
+seen_from : (ended : Result Outcome Stop) (tells : Telling) (held read : Held) (reads mid_reads : Reads) (failed mid_failed : Bool) (before mid : ℕ) (output : List ℕ) (out : ℕ) (error : List ℕ) (err : ℕ) (after : Devices) (status : ℕ)
+    → read ≡ held → before ≤ mid
+    → CarriesOut ended tells (devices read mid_reads mid_failed mid output out error err) after status → CarriesOut ended tells (devices held reads failed before output out error err) after status
+seen_from ended tells held read reads mid_reads failed mid_failed before mid output out error err after status same h done =
+    later ended after status (subst (λ f. CarriesOut ended tells (devices f mid_reads mid_failed mid output out error err) after status) same done)
   where
-    carried : (report : Report) (held : Held) (output error : List ℕ) (before mid out err : ℕ) (after : Devices) (status : ℕ) → before ≤ mid
-        → IsCarriedOut report tells (devices held output error mid out err) after status → IsCarriedOut report tells (devices held output error before out err) after status
-    carried report held output error before mid out err after status h (delivered e d) = delivered e (record { files = d.files; output = d.output; error = d.error })
-    carried report held output error before mid out err after status h (unwritten e u) = unwritten e (record {
+    carried : (report : Report) (after : Devices) (status : ℕ)
+        → IsCarriedOut report tells (devices held mid_reads mid_failed mid output out error err) after status → IsCarriedOut report tells (devices held reads failed before output out error err) after status
+    carried report after status (delivered e d) = delivered e (record { files = d.files; output = d.output; error = d.error })
+    carried report after status (unwritten e u) = unwritten e (record {
       place = u.place;
       file = u.file;
       there = u.there;
@@ -81,12 +95,12 @@ seen_from ended tells held read output error before mid out err after status sam
       error = u.error;
       cause = rose_from before mid after.shelf_faults h u.cause;
     })
-    carried report held output error before mid out err after status h (cut_short e c) = cut_short e (record { files = c.files; output = c.output; error = c.error; cause = c.cause })
+    carried report after status (cut_short e c) = cut_short e (record { files = c.files; output = c.output; error = c.error; cause = c.cause })
 
-    later : (ended : Result Outcome Stop) (held : Held) (output error : List ℕ) (before mid out err : ℕ) (after : Devices) (status : ℕ) → before ≤ mid
-        → CarriesOut ended tells (devices held output error mid out err) after status → CarriesOut ended tells (devices held output error before out err) after status
-    later (Ok outcome) held output error before mid out err after status h done = carried (outcome_report outcome) held output error before mid out err after status h done
-    later (Err stop) held output error before mid out err after status h done = (done.0, record { files = done.1.files; output = done.1.output; error = done.1.error })
+    later : (ended : Result Outcome Stop) (after : Devices) (status : ℕ)
+        → CarriesOut ended tells (devices held mid_reads mid_failed mid output out error err) after status → CarriesOut ended tells (devices held reads failed before output out error err) after status
+    later (Ok outcome) after status done = carried (outcome_report outcome) after status done
+    later (Err stop) after status done = (done.0, record { files = done.1.files; output = done.1.output; error = done.1.error })
 
 -- all reports of an ordered have one status
 one_of_given : (tool : Tool) → IsLawful tool → (read : Given) (r s : Report) → ReportsGiven tool read r → ReportsGiven tool read s → r.status ≡ s.status
@@ -107,33 +121,34 @@ is_reported : (ordered : Ordered) → IsLawfulOrder ordered → (held : Held) (e
 is_reported ordered law held ended report a b = record { reports = a; status = one_status ordered law held ended report a b }
 
 -- on a file that is missing there is none
-none_of_missing : (ordered : Ordered) (held : Held) (name : List ℕ) → IsMissing ordered held name → (report : Report) → ¬ (Reports ordered held report)
-none_of_missing nothing held name missing report is = missing
-none_of_missing (work tool) held name missing report is = subst (λ g. ReportsGiven tool g report) missing is
+none_of_missing : (ordered : Ordered) (held : Held) (tells calm : Bool) (reads : Between) (failed : Bool) (name : List ℕ) → CannotRead ordered held tells calm reads failed name → IsTrue tells → IsTrue calm
+    → (report : Report) → ¬ (Reports ordered held report)
+none_of_missing nothing held tells calm reads failed name at told is_calm report is = at
+none_of_missing (work tool) held tells calm reads failed name at told is_calm report is = subst (λ g. ReportsGiven tool g report) (at.missing told is_calm) is
 
 -- or there is none to be had
-the_status : (ordered : Ordered) → IsLawfulOrder ordered → (held : Held) (tells calm : Bool) (ended : Result Outcome Stop) → Ends ordered held tells calm ended → IsTrue tells → (report : Report) → Reports ordered held report
+the_status : (ordered : Ordered) → IsLawfulOrder ordered → (held : Held) (tells calm : Bool) (reads : Between) (failed : Bool) (ended : Result Outcome Stop) → Ends ordered held tells calm reads failed ended → IsTrue tells → (report : Report) → Reports ordered held report
     → IsReported ordered held (ended_report ended) report ⊎ (((ended_report ended).status ≡ failure_status failures.Device) × (IsTrue calm → ⊥)) ⊎ (ended ≡ Err stops.Memory)
-the_status ordered law held tells calm (Ok outcome) ends told report is = inl (is_reported ordered law held _ report (ends.1 told) is)
-the_status nothing law held tells calm (Err stops.BadWords) ends told report is = inl (is_reported nothing law held _ report refl is)
-the_status (work tool) law held tells calm (Err stops.BadWords) ends told report is = absurd ends
-the_status ordered law held tells calm (Err (stops.TooLong name)) ends told report is = inl (is_reported ordered law held _ report (ends.1 told) is)
-the_status ordered law held tells calm (Err (stops.BadText name kind place)) ends told report is = inl (is_reported ordered law held _ report (ends.1 told) is)
-the_status ordered law held tells calm (Err (stops.CannotRead name)) ends told report is = inr (inl (refl, λ is_calm. none_of_missing ordered held name.now (ends.1 told is_calm) report is))
-the_status ordered law held tells calm (Err stops.Memory) ends told report is = inr (inr refl)
+the_status ordered law held tells calm reads failed (Ok outcome) ends told report is = inl (is_reported ordered law held _ report (ends.1 told) is)
+the_status nothing law held tells calm reads failed (Err stops.BadWords) ends told report is = inl (is_reported nothing law held _ report refl is)
+the_status (work tool) law held tells calm reads failed (Err stops.BadWords) ends told report is = absurd ends.0
+the_status ordered law held tells calm reads failed (Err (stops.TooLong name)) ends told report is = inl (is_reported ordered law held _ report (ends.1 told) is)
+the_status ordered law held tells calm reads failed (Err (stops.BadText name kind place)) ends told report is = inl (is_reported ordered law held _ report (ends.1 told) is)
+the_status ordered law held tells calm reads failed (Err (stops.CannotRead name)) ends told report is = inr (inl (refl, λ is_calm. none_of_missing ordered held tells calm reads failed name.now ends told is_calm report is))
+the_status ordered law held tells calm reads failed (Err stops.Memory) ends told report is = inr (inr refl)
 
 -- a stop ends with its own status
 stop_status : (ended : Result Outcome Stop) (status : ℕ) → IfErr ended (λ stop. status ≡ (stop_report stop).status) → (stop : Stop) → ended ≡ Err stop → status ≡ (stop_report stop).status
 stop_status ended status h stop e = subst (λ r. IfErr r (λ s. status ≡ (stop_report s).status)) e h
 
 -- only refused words end with their status
-refused_words : (ordered : Ordered) (held : Held) (tells calm : Bool) (ended : Result Outcome Stop) → Ends ordered held tells calm ended → (ended_report ended).status ≡ failure_status failures.Words → IsNothing ordered
-refused_words ordered held tells calm (Ok outcome) ends e = absurd (answered_or_failed (answer_status outcome.answer) outcome.answer failures.Words refl e)
-refused_words ordered held tells calm (Err stops.BadWords) ends e = ends
-refused_words ordered held tells calm (Err (stops.TooLong name)) ends e = absurd (omega arith)
-refused_words ordered held tells calm (Err (stops.BadText name kind place)) ends e = absurd (omega arith)
-refused_words ordered held tells calm (Err (stops.CannotRead name)) ends e = absurd (omega arith)
-refused_words ordered held tells calm (Err stops.Memory) ends e = absurd (omega arith)
+refused_words : (ordered : Ordered) (held : Held) (tells calm : Bool) (reads : Between) (failed : Bool) (ended : Result Outcome Stop) → Ends ordered held tells calm reads failed ended → (ended_report ended).status ≡ failure_status failures.Words → IsNothing ordered
+refused_words ordered held tells calm reads failed (Ok outcome) ends e = absurd (answered_or_failed (answer_status outcome.answer) outcome.answer failures.Words refl e)
+refused_words ordered held tells calm reads failed (Err stops.BadWords) ends e = ends.0
+refused_words ordered held tells calm reads failed (Err (stops.TooLong name)) ends e = absurd (omega arith)
+refused_words ordered held tells calm reads failed (Err (stops.BadText name kind place)) ends e = absurd (omega arith)
+refused_words ordered held tells calm reads failed (Err (stops.CannotRead name)) ends e = absurd (omega arith)
+refused_words ordered held tells calm reads failed (Err stops.Memory) ends e = absurd (omega arith)
 
 -- each end has a status of an answer or of a failure
 is_status : (ended : Result Outcome Stop) → IsStatus (ended_report ended).status
@@ -144,22 +159,24 @@ is_status (Err (stops.BadText name kind place)) = inr (failures.Text, refl)
 is_status (Err (stops.CannotRead name)) = inr (failures.Device, refl)
 is_status (Err stops.Memory) = inr (failures.Memory, refl)
 
-pub runs : (ordered : Ordered) (standing : Standing) (held read : Held) (output error : List ℕ) (before mid out err : ℕ) (ended : Result Outcome Stop) (after : Devices) (status : ℕ)
-    → IsDecided ordered standing held read before mid ended → WasCarriedOut standing ended (devices read output error mid out err) after status
-    → Runs ordered standing (devices held output error before out err) after status
-runs ordered standing held read output error before mid out err ended after status decided carried = record {
+pub runs : (ordered : Ordered) (standing : Standing) (held read : Held) (reads mid_reads : Reads) (failed mid_failed : Bool) (before mid : ℕ) (output : List ℕ) (out : ℕ) (error : List ℕ) (err : ℕ)
+    (ended : Result Outcome Stop) (after : Devices) (status : ℕ)
+    → IsDecided ordered standing held read (between reads mid_reads) mid_failed before mid ended → WasCarriedOut standing ended (devices read mid_reads mid_failed mid output out error err) after status
+    → Runs ordered standing (devices held reads failed before output out error err) after status
+runs ordered standing held read reads mid_reads failed mid_failed before mid output out error err ended after status decided carried = record {
   ended =
-      has_ended ordered standing ended (devices held output error before out err) after status decided.ends
-      (seen_from ended (telling_of standing) held read output error before mid out err after status (pointwise read held decided.content) decided.later carried.carried_out)
+      has_ended ordered standing ended (devices held reads failed before output out error err) after status
+      (ends_after ordered held standing.shelf_tells standing.shelf_is_calm reads mid_reads after.reads mid_failed after.failed ended carried.reads carried.failed decided.ends)
+      (seen_from ended (telling_of standing) held read reads mid_reads failed mid_failed before mid output out error err after status (pointwise read held decided.content) decided.later carried.carried_out)
       (λ device. rose_until before mid after.shelf_faults carried.later (decided.cause device));
-  complete = λ told report is. elim (the_status ordered decided.lawful held standing.shelf_tells standing.shelf_is_calm ended decided.ends told report is) [
+  complete = λ told report is. elim (the_status ordered decided.lawful held standing.shelf_tells standing.shelf_is_calm (between reads mid_reads) mid_failed ended decided.ends told report is) [
     | inl one ↦ elim carried.given [ inl s ↦ inl (s ∙ one.status) | inr cut ↦ inr (inl cut.0) ]
     | inr other ↦ elim other [
       | inl gone ↦ elim carried.given [ inl s ↦ inr (inl (s ∙ gone.0)) | inr cut ↦ inr (inl cut.0) ]
       | inr memory ↦ elim carried.given [ inl s ↦ inr (inr (stop_status ended status carried.stopped stops.Memory memory)) | inr cut ↦ inr (inl cut.0) ]
     ]
   ];
-  ready = λ report is room. elim (the_status ordered decided.lawful held standing.shelf_tells standing.shelf_is_calm ended decided.ends (decided.told (room report is).shelf) report is) [
+  ready = λ report is room. elim (the_status ordered decided.lawful held standing.shelf_tells standing.shelf_is_calm (between reads mid_reads) mid_failed ended decided.ends (decided.told (room report is).shelf) report is) [
     | inl one ↦ inl (carried.ready (room (ended_report ended) one.reports) ∙ one.status)
     | inr other ↦ elim other [
       | inl gone ↦ absurd (gone.1 (room report is).shelf)
@@ -171,7 +188,7 @@ runs ordered standing held read output error before mid out err ended after stat
     | inr memory ↦ inr (stop_status ended status carried.stopped stops.Memory memory)
   ];
   refused_only = λ words. elim carried.given [
-    | inl s ↦ refused_words ordered held standing.shelf_tells standing.shelf_is_calm ended decided.ends (sym s ∙ words)
+    | inl s ↦ refused_words ordered held standing.shelf_tells standing.shelf_is_calm (between reads mid_reads) mid_failed ended decided.ends (sym s ∙ words)
     | inr cut ↦ absurd (omega (arith, cut.0))
   ];
   device = λ device. elim carried.given [
@@ -189,40 +206,43 @@ means_given tool law held (not_there name) e r answer a is = absurd a
 means_given tool law held (too_much name) e r answer a is = absurd (answered_or_failed r.status answer failures.Text is (status_of r _ a))
 means_given tool law held (texts bytes) e r answer a is = (bytes, e, law.means bytes r answer a is)
 
-means_ended : (tool : Tool) → IsLawful tool → (held : Held) (tells calm : Bool) (ended : Result Outcome Stop) → Ends (work tool) held tells calm ended → IsTrue tells → (answer : Answer)
+means_ended : (tool : Tool) → IsLawful tool → (held : Held) (tells calm : Bool) (reads : Between) (failed : Bool) (ended : Result Outcome Stop) → Ends (work tool) held tells calm reads failed ended → IsTrue tells → (answer : Answer)
     → (ended_report ended).status ≡ answer_status answer → Means tool held answer
-means_ended tool law held tells calm (Ok outcome) ends told answer is = means_given tool law held (given held tool.inputs) refl (outcome_report outcome) answer (ends.1 told) is
-means_ended tool law held tells calm (Err stops.BadWords) ends told answer is = absurd (answered_or_failed _ answer failures.Words is refl)
-means_ended tool law held tells calm (Err (stops.TooLong name)) ends told answer is = absurd (answered_or_failed _ answer failures.Text is refl)
-means_ended tool law held tells calm (Err (stops.BadText name kind place)) ends told answer is = absurd (answered_or_failed _ answer failures.Text is refl)
-means_ended tool law held tells calm (Err (stops.CannotRead name)) ends told answer is = absurd (answered_or_failed _ answer failures.Device is refl)
-means_ended tool law held tells calm (Err stops.Memory) ends told answer is = absurd (answered_or_failed _ answer failures.Memory is refl)
+means_ended tool law held tells calm reads failed (Ok outcome) ends told answer is = means_given tool law held (given held tool.inputs) refl (outcome_report outcome) answer (ends.1 told) is
+means_ended tool law held tells calm reads failed (Err stops.BadWords) ends told answer is = absurd (answered_or_failed _ answer failures.Words is refl)
+means_ended tool law held tells calm reads failed (Err (stops.TooLong name)) ends told answer is = absurd (answered_or_failed _ answer failures.Text is refl)
+means_ended tool law held tells calm reads failed (Err (stops.BadText name kind place)) ends told answer is = absurd (answered_or_failed _ answer failures.Text is refl)
+means_ended tool law held tells calm reads failed (Err (stops.CannotRead name)) ends told answer is = absurd (answered_or_failed _ answer failures.Device is refl)
+means_ended tool law held tells calm reads failed (Err stops.Memory) ends told answer is = absurd (answered_or_failed _ answer failures.Memory is refl)
 
-pub means : (tool : Tool) → IsLawful tool → (standing : Standing) (held : Held) (ended : Result Outcome Stop) (mid after : Devices) (status : ℕ) → Ends (work tool) held standing.shelf_tells standing.shelf_is_calm ended
+pub means : (tool : Tool) → IsLawful tool → (standing : Standing) (held : Held) (reads : Between) (failed : Bool) (ended : Result Outcome Stop) (mid after : Devices) (status : ℕ)
+    → Ends (work tool) held standing.shelf_tells standing.shelf_is_calm reads failed ended
     → (status ≡ (ended_report ended).status) ⊎ ((status ≡ failure_status failures.Device) × (Rose mid.shelf_faults after.shelf_faults ⊎ Rose mid.output_faults after.output_faults))
     → IsTrue standing.shelf_tells → (answer : Answer) → status ≡ answer_status answer → Means tool held answer
-means tool law standing held ended mid after status ends (inl same) told answer is = means_ended tool law held standing.shelf_tells standing.shelf_is_calm ended ends told answer (sym same ∙ is)
-means tool law standing held ended mid after status ends (inr cut) told answer is = absurd (answered_or_failed status answer failures.Device is cut.0)
+means tool law standing held reads failed ended mid after status ends (inl same) told answer is = means_ended tool law held standing.shelf_tells standing.shelf_is_calm reads failed ended ends told answer (sym same ∙ is)
+means tool law standing held reads failed ended mid after status ends (inr cut) told answer is = absurd (answered_or_failed status answer failures.Device is cut.0)
 
 -- ---- what is decided on what was read
 
-pub decided_ends : (tool : Tool) (held : Held) (tells calm : Bool) (bytes : List (List ℕ)) (ended : Result Outcome Stop) → length bytes ≡ length tool.inputs
-    → (IsTrue tells → given held tool.inputs ≡ texts bytes) → IsDecision (tool.Reports bytes) ended → Ends (work tool) held tells calm ended
-decided_ends tool held tells calm bytes (Ok outcome) count read d =
-    (gives_answer outcome.answer refl refl bytes count d, λ told. subst (λ g. ReportsGiven tool g (outcome_report outcome)) (sym (read told)) d)
-decided_ends tool held tells calm bytes (Err stops.BadWords) count read d = absurd d
-decided_ends tool held tells calm bytes (Err (stops.TooLong name)) count read d = absurd d
-decided_ends tool held tells calm bytes (Err (stops.BadText name kind place)) count read d =
-    (names_fault name.now kind place refl bytes count d, λ told. subst (λ g. ReportsGiven tool g (bad_text name.now kind place)) (sym (read told)) d)
-decided_ends tool held tells calm bytes (Err (stops.CannotRead name)) count read d = absurd d
-decided_ends tool held tells calm bytes (Err stops.Memory) count read d = tt
+pub decided_ends : (tool : Tool) (held : Held) (tells calm : Bool) (reads : Between) (failed : Bool) (bytes : List (List ℕ)) (ended : Result Outcome Stop) → length bytes ≡ length tool.inputs
+    → HaveEnded (length tool.inputs) reads → (IsTrue tells → given held tool.inputs ≡ texts bytes) → IsDecision (tool.Reports bytes) ended → Ends (work tool) held tells calm reads failed ended
+decided_ends tool held tells calm reads failed bytes (Ok outcome) count all read d =
+    (gives_answer outcome.answer refl refl bytes count d all, λ told. subst (λ g. ReportsGiven tool g (outcome_report outcome)) (sym (read told)) d)
+decided_ends tool held tells calm reads failed bytes (Err stops.BadWords) count all read d = absurd d
+decided_ends tool held tells calm reads failed bytes (Err (stops.TooLong name)) count all read d = absurd d
+decided_ends tool held tells calm reads failed bytes (Err (stops.BadText name kind place)) count all read d =
+    (names_fault name.now kind place refl bytes count d all, λ told. subst (λ g. ReportsGiven tool g (bad_text name.now kind place)) (sym (read told)) d)
+decided_ends tool held tells calm reads failed bytes (Err (stops.CannotRead name)) count all read d = absurd d
+decided_ends tool held tells calm reads failed bytes (Err stops.Memory) count all read d = tt
 
-pub stopped_ends : (tool : Tool) (held : Held) (tells calm : Bool) (stop : Stop) → StopsInputs tool.inputs held tells calm stop → Ends (work tool) held tells calm (Err stop)
-stopped_ends tool held tells calm stops.BadWords h = absurd h
-stopped_ends tool held tells calm (stops.TooLong name) h = (names_too_long name.now h.0 refl, λ told. subst (λ g. ReportsGiven tool g (too_long name.now)) (sym (h.1 told)) refl)
-stopped_ends tool held tells calm (stops.BadText name kind place) h = absurd h
-stopped_ends tool held tells calm (stops.CannotRead name) h = h
-stopped_ends tool held tells calm stops.Memory h = tt
+pub stopped_ends : (tool : Tool) (held : Held) (tells calm : Bool) (reads : Between) (failed : Bool) (stop : Stop) → StopsInputs tool.inputs held tells calm reads failed stop
+    → Ends (work tool) held tells calm reads failed (Err stop)
+stopped_ends tool held tells calm reads failed stops.BadWords h = absurd h
+stopped_ends tool held tells calm reads failed (stops.TooLong name) h =
+    (names_too_long h.0 name.now h.1 refl h.2, λ told. subst (λ g. ReportsGiven tool g (too_long name.now)) (sym (h.3 told)) refl)
+stopped_ends tool held tells calm reads failed (stops.BadText name kind place) h = absurd h
+stopped_ends tool held tells calm reads failed (stops.CannotRead name) h = h
+stopped_ends tool held tells calm reads failed stops.Memory h = tt
 
 -- an end with the status of a device comes from a stop
 pub answered_no_device : (Reports : Report → Type 0) (ended : Result Outcome Stop) → IsDecision Reports ended → (ended_report ended).status ≡ failure_status failures.Device → ⊥

@@ -1,6 +1,5 @@
 -- What reading some files one after another comes to.
 use Rattle.std.proofs.Common.{◌≡◌, ◌<◌, ◌+◌, ◌++◌, ◌∙◌, ℕ, zero, suc, Bool, IsTrue, List, [], ◌∷◌, length, map, take, get_or, ap, sym, subst, refl, arith, add-one}
-use Rattle.std.specs.Prelude.{Contains}
 use Rattle.std.proofs.lemmas.List.{map-append}
 use Rattle.cmr_front.specs.declared.input.Input.{Input}
 use Rattle.cmr_front.specs.declared.input.InputKind.TheVariants.{MatrixText}
@@ -9,7 +8,12 @@ use Rattle.cmr_front.specs.declared.outcome.Stop.{Stop}
 use Rattle.cmr_front.specs.declared.outcome.Stop.TheVariants as stops
 use Rattle.cmr_front.specs.Report.{Held}
 use Rattle.cmr_front.specs.Inputs.{InputFile, Given, Reading, and_then, bytes_of, given, input_file, most_bytes, missing, above_limit, whole, not_there, too_much, texts, reading, reading_of, with_text}
+use Rattle.cmr_io.specs.Calls.{next_number, up_to_last}
+use Rattle.cmr_front.specs.Outcome.{stop_report}
+use Rattle.cmr_front.specs.Status.{failure_status}
 use Rattle.cmr_front.specs.Stopped.{StopsInputs, StopsReading}
+use Rattle.cmr_front.specs.Unread.{Between, HaveEnded, IsNameAt}
+use Rattle.cmr_front.specs.declared.status.Failure.TheVariants as failures
 
 -- what a place beyond the last one holds
 abbrev pub no_input : Input
@@ -75,12 +79,10 @@ module _ (held : Held) where
   stops_above (input ∷ inputs) (suc k) before h e f =
       still_above input.name.now (reading held (input_file input)) (given_of (take k inputs)) (given_of inputs) before (file_at inputs k).name e (λ rest is. stops_above inputs k rest (omega arith) is f)
 
-named : (inputs : List Input) (k : ℕ) → k < length inputs → Contains (map (λ (file : InputFile). file.name) (map input_file inputs)) (file_at inputs k).name
-named [] k h = absurd (omega arith)
-named (input ∷ inputs) zero h = (0, omega arith, refl)
-named (input ∷ inputs) (suc k) h =
-    let later = named inputs k (omega arith) in
-    (suc later.0, omega (arith, later.1), later.2)
+name_at : (inputs : List Input) (k : ℕ) → k < length inputs → IsNameAt (map input_file inputs) k (file_at inputs k).name
+name_at [] k h = absurd (omega arith)
+name_at (input ∷ inputs) zero h = refl
+name_at (input ∷ inputs) (suc k) h = name_at inputs k (omega arith)
 
 -- what a reading of a file is while the names hold the same
 same_reading : (held mid : Held) → ((name : List ℕ) → mid name ≡ held name) → (file : InputFile) → reading held file ≡ reading mid file
@@ -93,19 +95,37 @@ texts_more held mid inputs k old new text h same before here more =
     rw (more, map-append bytes_of old (text ∷ []), add-one)
     (one_more held inputs k (map bytes_of old) (bytes_of text) h before (same_reading held mid same (file_at inputs k) ∙ here))
 
-pub stopped_at : (held mid : Held) (tells tells' calm calm' : Bool) (inputs : List Input) (k : ℕ) (before : List (List ℕ)) (stop : Stop) → k < length inputs
-    → ((name : List ℕ) → mid name ≡ held name) → (IsTrue tells → IsTrue tells') → (IsTrue calm → IsTrue calm') → (IsTrue tells → given held (map input_file (take k inputs)) ≡ texts before)
-    → StopsReading (file_at inputs k) mid tells' calm' stop → StopsInputs (map input_file inputs) held tells calm stop
-stopped_at held mid tells tells' calm calm' inputs k before stops.BadWords h same told is_calm read stopped = stopped
-stopped_at held mid tells tells' calm calm' inputs k before (stops.CannotRead name) h same told is_calm read stopped = (
-  subst (Contains (map (λ (file : InputFile). file.name) (map input_file inputs))) (sym stopped.0) (named inputs k h),
-  (λ t c.
-      stops_unread held inputs k before h (read t) (same_reading held mid same (file_at inputs k) ∙ stopped.1 (told t) (is_calm c)) ∙ ap not_there (sym stopped.0)),
-)
-stopped_at held mid tells tells' calm calm' inputs k before (stops.TooLong name) h same told is_calm read stopped = (
-  subst (Contains (map (λ (file : InputFile). file.name) (map input_file inputs))) (sym stopped.0) (named inputs k h),
-  (λ t.
-      stops_above held inputs k before h (read t) (same_reading held mid same (file_at inputs k) ∙ stopped.1 (told t)) ∙ ap too_much (sym stopped.0)),
-)
-stopped_at held mid tells tells' calm calm' inputs k before (stops.BadText name kind place) h same told is_calm read stopped = stopped
-stopped_at held mid tells tells' calm calm' inputs k before stops.Memory h same told is_calm read stopped = tt
+-- a read more has come to its end
+pub one_more_ended : (before mid after k : ℕ) → up_to_last mid ≡ up_to_last (before + k) → after ≡ next_number mid → up_to_last after ≡ up_to_last (before + (k + 1))
+one_more_ended before mid after k so_far more = omega (arith, so_far, more)
+
+-- the files before the first one that stops
+take_files : (inputs : List Input) (k : ℕ) → take k (map input_file inputs) ≡ map input_file (take k inputs)
+take_files [] zero = refl
+take_files [] (suc k) = refl
+take_files (input ∷ inputs) zero = refl
+take_files (input ∷ inputs) (suc k) = ap (λ (files : List InputFile). input_file input ∷ files) (take_files inputs k)
+
+module _ (held mid : Held) (tells tells' calm calm' : Bool) (inputs : List Input) (k : ℕ) (before : List (List ℕ)) (reads : Between) (failed : Bool) where
+  pub stopped_at : (stop : Stop) → k < length inputs → ((name : List ℕ) → mid name ≡ held name) → (IsTrue tells → IsTrue tells') → (IsTrue calm → IsTrue calm')
+      → (IsTrue tells → given held (map input_file (take k inputs)) ≡ texts before) → HaveEnded k reads → ((stop_report stop).status ≡ failure_status failures.Device → IsTrue failed)
+      → StopsReading (file_at inputs k) mid tells' calm' stop → StopsInputs (map input_file inputs) held tells calm reads failed stop
+  stopped_at stops.BadWords h same told is_calm read ended cause stopped = stopped
+  stopped_at (stops.CannotRead name) h same told is_calm read ended cause stopped = record {
+    place = k;
+    named = subst (IsNameAt (map input_file inputs) k) (sym stopped.0) (name_at inputs k h);
+    ended = ended;
+    cause = cause refl;
+    there = λ t. (before, ap (given held) (take_files inputs k) ∙ read t);
+    missing = λ t c.
+        stops_unread held inputs k before h (read t) (same_reading held mid same (file_at inputs k) ∙ stopped.1 (told t) (is_calm c)) ∙ ap not_there (sym stopped.0);
+  }
+  stopped_at (stops.TooLong name) h same told is_calm read ended cause stopped = (
+    k,
+    subst (IsNameAt (map input_file inputs) k) (sym stopped.0) (name_at inputs k h),
+    ended,
+    (λ t.
+        stops_above held inputs k before h (read t) (same_reading held mid same (file_at inputs k) ∙ stopped.1 (told t)) ∙ ap too_much (sym stopped.0)),
+  )
+  stopped_at (stops.BadText name kind place) h same told is_calm read ended cause stopped = stopped
+  stopped_at stops.Memory h same told is_calm read ended cause stopped = tt

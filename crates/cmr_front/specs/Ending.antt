@@ -2,6 +2,7 @@
 use Rattle.std.specs.Prelude.{◌≡◌, ◌≢◌, ◌≤◌, ◌++◌, ℕ, Bool, IsTrue, List, length, take, Option, Some, IsSomeAnd, slice_get, codes, Result, Ok, Err}
 use Rattle.std.specs.List.{AllByRecursion}
 use Rattle.cmr_io.specs.Causes.{Rose}
+use Rattle.cmr_io.specs.Reads.{Reads}
 use Rattle.cmr_io.specs.Whole.{AppendsFront, StaysOrHoldsFront}
 use Rattle.cmr_front.specs.Report.{Held, File, Report, with_files}
 use Rattle.cmr_front.specs.declared.outcome.Outcome.{Outcome}
@@ -11,18 +12,24 @@ use Rattle.cmr_front.specs.Outcome.{cannot_write_line, outcome_report, stop_repo
 use Rattle.cmr_front.specs.Status.{failure_status}
 use Rattle.cmr_front.specs.Written.{IsWritten}
 
--- what the names hold, what standard output and standard error have got, and how often a call on each has failed
+-- What the names hold, what all reads of the shelf have given, and whether the last call of the shelf failed; what standard
+-- output and standard error have got; and how often a call on each device has failed.
 pub record Devices : Type 0 where
   pub held : Held
+  pub reads : Reads
+  pub failed : Bool
   pub output : List ℕ
   pub error : List ℕ
   pub shelf_faults : ℕ
   pub output_faults : ℕ
   pub error_faults : ℕ
 
-abbrev pub devices : Held → List ℕ → List ℕ → ℕ → ℕ → ℕ → Devices
-devices held output error shelf_faults output_faults error_faults = record {
+-- the shelf, with its faults, and then the two sinks with theirs
+abbrev pub devices : Held → Reads → Bool → ℕ → List ℕ → ℕ → List ℕ → ℕ → Devices
+devices held reads failed shelf_faults output output_faults error error_faults = record {
   held = held;
+  reads = reads;
+  failed = failed;
   output = output;
   error = error;
   shelf_faults = shelf_faults;

@@ -13,6 +13,7 @@ pub mod GraphText
 pub mod Printed
 pub mod Refusals
 pub mod Minimal
+pub mod Unread
 pub mod Stopped
 pub mod Ending
 pub mod Run

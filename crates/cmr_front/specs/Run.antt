@@ -1,5 +1,5 @@
 -- What a run reports, how it ends, and what its answer means.
-use Rattle.std.specs.Prelude.{◌≡◌, ◌⊎◌, ℕ, Bool, IsTrue, List, [], length, Result, Ok, Err, map, Contains}
+use Rattle.std.specs.Prelude.{◌≡◌, ◌⊎◌, ℕ, Bool, IsTrue, List, [], length, Result, Ok, Err}
 use Rattle.cmr_io.specs.Causes.{Rose}
 use Rattle.cmr_front.specs.declared.outcome.FaultKind.{FaultKind}
 use Rattle.cmr_front.specs.declared.outcome.Outcome.{Outcome}
@@ -13,6 +13,7 @@ use Rattle.cmr_front.specs.Outcome.{bad_text, bad_words, cannot_read, out_of_mem
 use Rattle.cmr_front.specs.Ending.{Devices, Standing, IsDelivered, IsReadyFor, IsCarriedOut, telling_of}
 use Rattle.cmr_front.specs.Status.{IsStatus, answer_status, failure_status}
 use Rattle.cmr_front.specs.Tool.{Tool}
+use Rattle.cmr_front.specs.Unread.{Between, between, HaveEnded, IsNameAt, IsUnread}
 
 -- what the words order: nothing where they are refused, or a tool with its options
 pub data Ordered : Type 1 where
@@ -42,34 +43,31 @@ Reports (work tool) held report = ReportsHeld tool held report
 abbrev pub Means : Tool → Held → Answer → Type 0
 Means tool held answer = (bytes : List (List ℕ)) × (given held tool.inputs ≡ texts bytes) × tool.Means bytes answer
 
--- a file that is read
-abbrev pub IsInput : Ordered → List ℕ → Type 0
-IsInput nothing name = ⊥
-IsInput (work tool) name = Contains (map (λ file. file.name) tool.inputs) name
-
--- it is the first of the files that is not there, and those before it are there and within their limits
-abbrev pub IsMissing : Ordered → Held → List ℕ → Type 0
-IsMissing nothing held name = ⊥
-IsMissing (work tool) held name = given held tool.inputs ≡ not_there name
+-- a file of the order could not be read, and those before it were
+abbrev pub CannotRead : Ordered → Held → Bool → Bool → Between → Bool → List ℕ → Type 0
+CannotRead nothing held tells calm reads failed name = ⊥
+CannotRead (work tool) held tells calm reads failed name = IsUnread tool.inputs held tells calm reads failed name
 
 -- What a tool reports whatever the shelf tells: an answer without a line of standard error or a fault, on some texts, one
--- for each file; or that one of its files is too long.
-pub data IsReportOf (tool : Tool) (report : Report) : Type 0 where
-  gives_answer : (answer : Answer) → report.status ≡ answer_status answer → report.error ≡ [] → (bytes : List (List ℕ)) → length bytes ≡ length tool.inputs → tool.Reports bytes report → IsReportOf tool report
-  names_fault : (name : List ℕ) (kind : FaultKind) (place : ℕ) → report ≡ bad_text name kind place → (bytes : List (List ℕ)) → length bytes ≡ length tool.inputs → tool.Reports bytes report → IsReportOf tool report
-  names_too_long : (name : List ℕ) → IsInput (work tool) name → report ≡ too_long name → IsReportOf tool report
+-- for each file, and then so many reads came to their ends; or that one of its files is too long, and then as many came to
+-- their ends as stand before it.
+pub data IsReportOf (tool : Tool) (reads : Between) (report : Report) : Type 0 where
+  gives_answer : (answer : Answer) → report.status ≡ answer_status answer → report.error ≡ [] → (bytes : List (List ℕ)) → length bytes ≡ length tool.inputs → tool.Reports bytes report
+      → HaveEnded (length tool.inputs) reads → IsReportOf tool reads report
+  names_fault : (name : List ℕ) (kind : FaultKind) (place : ℕ) → report ≡ bad_text name kind place → (bytes : List (List ℕ)) → length bytes ≡ length tool.inputs → tool.Reports bytes report
+      → HaveEnded (length tool.inputs) reads → IsReportOf tool reads report
+  names_too_long : (place : ℕ) (name : List ℕ) → IsNameAt tool.inputs place name → report ≡ too_long name → HaveEnded place reads → IsReportOf tool reads report
 
 -- what is reported whatever the shelf tells
-abbrev pub ReportsSome : Ordered → Report → Type 0
-ReportsSome nothing report = report ≡ bad_words
-ReportsSome (work tool) report = IsReportOf tool report
+abbrev pub ReportsSome : Ordered → Between → Report → Type 0
+ReportsSome nothing reads report = (report ≡ bad_words) × (reads.after ≡ reads.before)
+ReportsSome (work tool) reads report = IsReportOf tool reads report
 
 -- How a run ends: a report is carried out, or a file cannot be read, or memory is refused, and then nothing
--- is written but the line of standard error. Where the shelf tells its bytes the report is the one on what the names
--- hold, and a file that cannot be read is the first that is not there where the shelf is calm.
+-- is written but the line of standard error. Where the shelf tells its bytes the report is the one on what the names hold.
 pub data HasEnded (ordered : Ordered) (standing : Standing) (before after : Devices) (status : ℕ) : Type 0 where
-  reported : (report : Report) → ReportsSome ordered report → (IsTrue standing.shelf_tells → Reports ordered before.held report) → IsCarriedOut report (telling_of standing) before after status → HasEnded ordered standing before after status
-  unread : (name : List ℕ) → IsInput ordered name → (IsTrue standing.shelf_tells → IsTrue standing.shelf_is_calm → IsMissing ordered before.held name) → Rose before.shelf_faults after.shelf_faults
+  reported : (report : Report) → ReportsSome ordered (between before.reads after.reads) report → (IsTrue standing.shelf_tells → Reports ordered before.held report) → IsCarriedOut report (telling_of standing) before after status → HasEnded ordered standing before after status
+  unread : (name : List ℕ) → CannotRead ordered before.held standing.shelf_tells standing.shelf_is_calm (between before.reads after.reads) after.failed name → Rose before.shelf_faults after.shelf_faults
       → status ≡ failure_status failures.Device → IsDelivered (cannot_read name) (telling_of standing) before after → HasEnded ordered standing before after status
   no_memory : status ≡ failure_status failures.Memory → IsDelivered out_of_memory (telling_of standing) before after → HasEnded ordered standing before after status
 
@@ -91,11 +89,11 @@ pub record Runs (ordered : Ordered) (standing : Standing) (before after : Device
   pub statuses : IsStatus status
 
 -- What an outcome or a stop says for what is ordered, before anything is written: it is a report, but for a file that
--- cannot be read, which is missing where the shelf is calm, and for want of memory.
-abbrev pub Ends : Ordered → Held → Bool → Bool → Result Outcome Stop → Type 0
-Ends ordered held tells calm (Ok outcome) = ReportsSome ordered (outcome_report outcome) × (IsTrue tells → Reports ordered held (outcome_report outcome))
-Ends ordered held tells calm (Err stops.BadWords) = IsNothing ordered
-Ends ordered held tells calm (Err (stops.CannotRead name)) = IsInput ordered name.now × (IsTrue tells → IsTrue calm → IsMissing ordered held name.now)
-Ends ordered held tells calm (Err (stops.TooLong name)) = ReportsSome ordered (too_long name.now) × (IsTrue tells → Reports ordered held (too_long name.now))
-Ends ordered held tells calm (Err (stops.BadText name kind place)) = ReportsSome ordered (bad_text name.now kind place) × (IsTrue tells → Reports ordered held (bad_text name.now kind place))
-Ends ordered held tells calm (Err stops.Memory) = Unit {0}
+-- cannot be read, and for want of memory.
+abbrev pub Ends : Ordered → Held → Bool → Bool → Between → Bool → Result Outcome Stop → Type 0
+Ends ordered held tells calm reads failed (Ok outcome) = ReportsSome ordered reads (outcome_report outcome) × (IsTrue tells → Reports ordered held (outcome_report outcome))
+Ends ordered held tells calm reads failed (Err stops.BadWords) = IsNothing ordered × (reads.after ≡ reads.before)
+Ends ordered held tells calm reads failed (Err (stops.CannotRead name)) = CannotRead ordered held tells calm reads failed name.now
+Ends ordered held tells calm reads failed (Err (stops.TooLong name)) = ReportsSome ordered reads (too_long name.now) × (IsTrue tells → Reports ordered held (too_long name.now))
+Ends ordered held tells calm reads failed (Err (stops.BadText name kind place)) = ReportsSome ordered reads (bad_text name.now kind place) × (IsTrue tells → Reports ordered held (bad_text name.now kind place))
+Ends ordered held tells calm reads failed (Err stops.Memory) = Unit {0}

@@ -21,13 +21,17 @@ pub fn carry_out<S: Shelf, O: Sink, E: Sink>(
     err: &mut E,
 ) -> u8
     ensures carried_out { CarriesOut ended.now (telling (S.tells shelf.old) (O.tells out.old) (E.tells err.old))
-        (devices (S.content shelf.old) (O.got out.old) (E.got err.old) (S.faults shelf.old) (O.faults out.old) (E.faults err.old))
-        (devices (S.content shelf.new) (O.got out.new) (E.got err.new) (S.faults shelf.new) (O.faults out.new) (E.faults err.new))
+        (devices (S.content shelf.old) (S.reads shelf.old) (S.failed shelf.old) (S.faults shelf.old)
+        (O.got out.old) (O.faults out.old) (E.got err.old) (E.faults err.old))
+        (devices (S.content shelf.new) (S.reads shelf.new) (S.failed shelf.new) (S.faults shelf.new)
+        (O.got out.new) (O.faults out.new) (E.got err.new) (E.faults err.new))
         result }
     ensures status { (result ≡ (ended_report ended.now).status) ⊎ ((result ≡ failure_status Device) × (Rose (S.faults shelf.old) (S.faults shelf.new) ⊎ Rose (O.faults out.old) (O.faults out.new))) }
     ensures ready { IsReadyFor (ended_report ended.now) (standing (S.tells shelf.old) (O.tells out.old) (E.tells err.old) (S.is_calm shelf.old) (S.room shelf.old) (O.is_calm out.old) (O.room out.old))
         → result ≡ (ended_report ended.now).status }
     ensures stopped { IfErr ended.now (λ stop. result ≡ (stop_report stop).status) }
+    ensures reads { S.reads shelf.new ≡ S.reads shelf.old }
+    ensures failed { OnErr ended.now (S.failed shelf.new ≡ S.failed shelf.old) }
     ensures later { S.faults shelf.old ≤ S.faults shelf.new }
 {
     match ended {
@@ -46,12 +50,15 @@ fn deliver<S: Shelf, O: Sink, E: Sink>(
     err: &mut E,
 ) -> u8
     ensures carried_out { IsCarriedOut (outcome_report outcome.now) (telling (S.tells shelf.old) (O.tells out.old) (E.tells err.old))
-        (devices (S.content shelf.old) (O.got out.old) (E.got err.old) (S.faults shelf.old) (O.faults out.old) (E.faults err.old))
-        (devices (S.content shelf.new) (O.got out.new) (E.got err.new) (S.faults shelf.new) (O.faults out.new) (E.faults err.new))
+        (devices (S.content shelf.old) (S.reads shelf.old) (S.failed shelf.old) (S.faults shelf.old)
+        (O.got out.old) (O.faults out.old) (E.got err.old) (E.faults err.old))
+        (devices (S.content shelf.new) (S.reads shelf.new) (S.failed shelf.new) (S.faults shelf.new)
+        (O.got out.new) (O.faults out.new) (E.got err.new) (E.faults err.new))
         result }
     ensures status { (result ≡ answer_status outcome.now.answer) ⊎ ((result ≡ failure_status Device) × (Rose (S.faults shelf.old) (S.faults shelf.new) ⊎ Rose (O.faults out.old) (O.faults out.new))) }
     ensures ready { IsReadyFor (outcome_report outcome.now) (standing (S.tells shelf.old) (O.tells out.old) (E.tells err.old) (S.is_calm shelf.old) (S.room shelf.old) (O.is_calm out.old) (O.room out.old))
         → result ≡ answer_status outcome.now.answer }
+    ensures reads { S.reads shelf.new ≡ S.reads shelf.old }
     ensures later { S.faults shelf.old ≤ S.faults shelf.new }
 {
     if let Err(Unwritten { place }) = write_files(shelf, &outcome.files) {
@@ -79,6 +86,7 @@ fn write_files<S: Shelf>(shelf: &mut S, files: &[OutputFile<'_>]) -> Result<(), 
         × (IsTrue (S.tells shelf.old) → IsLeftAt (map file_of files.now) e.place file (S.content shelf.old) (S.content shelf.new))) }
     ensures within { IfErr result (λ e. e.place < length files.now) }
     ensures ready { IsTrue (S.is_calm shelf.old) → HasRooms (S.room shelf.old) (map file_of files.now) → IsOk result }
+    ensures reads { S.reads shelf.new ≡ S.reads shelf.old }
     ensures cause { HasCause (S.faults shelf.old) (S.faults shelf.new) result }
 {
     for place in 0..files.len() {
@@ -96,6 +104,7 @@ fn write_output_file<S: Shelf>(shelf: &mut S, file: &OutputFile<'_>) -> Result<(
     ensures others { IsTrue (S.tells shelf.old)
         → (other : List ℕ) → other ≢ file.now.name.now → S.content shelf.new other ≡ S.content shelf.old other }
     ensures ready { IsTrue (S.is_calm shelf.old) → HasRooms (S.room shelf.old) (file_of file.now ∷ []) → IsOk result }
+    ensures reads { S.reads shelf.new ≡ S.reads shelf.old }
     ensures room { (other : List ℕ) → S.room shelf.new other ≡ S.room shelf.old other }
     ensures tells { S.tells shelf.new ≡ S.tells shelf.old }
     ensures calm { IsTrue (S.is_calm shelf.old) → IsTrue (S.is_calm shelf.new) }

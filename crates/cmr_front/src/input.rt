@@ -1,10 +1,12 @@
 // Reading the files of a tool.
-ghost use Rattle.std.specs.Prelude.{◌≡◌, ◌≢◌, ◌≤◌, ℕ, List, IfOk, IfErr, IsTrue, Ok, length, map};
+ghost use Rattle.std.specs.Prelude.{◌≡◌, ◌≢◌, ◌≤◌, ℕ, List, IfOk, IfErr, IsTrue, Ok, OnOk, OnErr, length, map};
+ghost use Rattle.cmr_io.specs.Calls.{next_number};
 ghost use Rattle.cmr_io.specs.Causes.{Rose};
 ghost use Rattle.cmr_front.specs.Inputs.{bytes_of, given, input_file, most_bytes, reading, texts, whole};
 ghost use Rattle.cmr_front.specs.Outcome.{stop_report};
 ghost use Rattle.cmr_front.specs.Status.{failure_status};
 ghost use Rattle.cmr_front.specs.Stopped.{StopsInputs, StopsReading};
+ghost use Rattle.cmr_front.specs.Unread.{HaveEnded, between};
 ghost use Rattle.cmr_front.specs.declared.status.Failure.TheVariants.{Device};
 
 use crate::outcome::Stop;
@@ -55,7 +57,10 @@ pub fn read_inputs<'a, S: Shelf>(
 ) -> Result<Vec<Text>, Stop<'a>>
     ensures given { IfOk result (λ read. IsTrue (S.tells shelf.old) → given (S.content shelf.old) (map input_file inputs.now) ≡ texts (map bytes_of read.items)) }
     ensures count { IfOk result (λ read. length read.items ≡ length inputs.now) }
-    ensures stopped { IfErr result (StopsInputs (map input_file inputs.now) (S.content shelf.old) (S.tells shelf.old) (S.is_calm shelf.old)) }
+    ensures ended { OnOk result (HaveEnded (length inputs.now) (between (S.reads shelf.old) (S.reads shelf.new))) }
+    ensures stopped { IfErr result (StopsInputs (map input_file inputs.now)
+        (S.content shelf.old) (S.tells shelf.old) (S.is_calm shelf.old)
+        (between (S.reads shelf.old) (S.reads shelf.new)) (S.failed shelf.new)) }
     ensures cause { IfErr result (λ stop. (stop_report stop).status ≡ failure_status Device → Rose (S.faults shelf.old) (S.faults shelf.new)) }
     ensures content { (other : List ℕ) → S.content shelf.new other ≡ S.content shelf.old other }
     ensures room { (other : List ℕ) → S.room shelf.new other ≡ S.room shelf.old other }
@@ -82,6 +87,9 @@ fn read_input<'a, S: Shelf>(
     input: Input<'a>,
 ) -> Result<Text, Stop<'a>>
     ensures whole { IfOk result (λ text. IsTrue (S.tells shelf.old) → reading (S.content shelf.old) (input_file input.entry) ≡ whole (bytes_of text)) }
+    ensures ended { OnOk result ((S.reads shelf.new).ends ≡ next_number (S.reads shelf.old).ends) }
+    ensures not_ended { OnErr result ((S.reads shelf.new).ends ≡ (S.reads shelf.old).ends) }
+    ensures failed { IfErr result (λ stop. (stop_report stop).status ≡ failure_status Device → IsTrue (S.failed shelf.new)) }
     ensures stopped { IfErr result (StopsReading (input_file input.entry) (S.content shelf.old) (S.tells shelf.old) (S.is_calm shelf.old)) }
     ensures cause { IfErr result (λ stop. (stop_report stop).status ≡ failure_status Device → Rose (S.faults shelf.old) (S.faults shelf.new)) }
     ensures content { (other : List ℕ) → S.content shelf.new other ≡ S.content shelf.old other }

@@ -7,6 +7,7 @@ use Rattle.cmr_base.specs.Matrix.{Matrix, IsMatrix, entry, height}
 use Rattle.cmr_base.specs.LineSets.{IsColumnSet, IsRowSet}
 use Rattle.cmr_base.specs.Trees.{IsBinary}
 use Rattle.cmr_base.specs.Violator.{IsViolator}
+use Rattle.cmr_base.proofs.WholeMatrices.{is_ternary}
 use Rattle.cmr_base.specs.declared.line_set.LineSet.{LineSet}
 use Rattle.ghouila.proofs.CamionLaw.{unsigned}
 use Rattle.camion_sign.specs.declared.step.SignStep.{SignStep}
@@ -135,8 +136,8 @@ pub shows_irregular : (a : Matrix) (c : SizedChain) (signs : Matrix) → IsMatri
 shows_irregular a c signs is binary sound = record {
   is_matrix = is;
   sound = sound;
-  violators = λ m small support. chains_mean_violators a m signs c binary is sound small support;
-  irregular = chains_refute_regularity a signs c binary is sound;
+  violators = λ m small support. chains_mean_violators a m signs c binary (is_ternary a is) sound (is_ternary m small) support;
+  irregular = chains_refute_regularity a signs c binary (is_ternary a is) sound;
 }
 
 one_chain : (a : Matrix) (c : SizedChain) (r s : Report) → ChainDecides a c r → ChainDecides a c s → r.status ≡ s.status

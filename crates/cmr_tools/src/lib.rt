@@ -13,7 +13,7 @@ pub use cmr_front::matrix_file::MatrixForm;
 pub use cmr_front::status::{Answer, Failure};
 pub use generate::MakeKind;
 pub use options::{
-    CheckOptions, GenerateOptions, RegularOptions, SeriesParallelOptions, TestOptions, TuOptions,
+    CheckOptions, GenerateOptions, RegularOptions, SpOptions, TestOptions, TuOptions,
     UpgradeOptions,
 };
 pub use program::run;

@@ -43,7 +43,7 @@ pub struct RegularOptions<'a> {
 
 /// What `series-parallel` is asked to do. A file of the name `-` is standard input where it is read.
 #[derive(Clone, Copy, Debug, PartialEq, Eq)]
-pub struct SeriesParallelOptions<'a> {
+pub struct SpOptions<'a> {
     /// The form of the matrix text.
     pub form: MatrixForm,
     /// Whether the matrix is 0/1. A line is then not reducible as the negative of another.
@@ -129,7 +129,7 @@ pub enum Command<'a> {
     /// Tests whether a 0/1 matrix has a totally unimodular signing.
     Regular(RegularOptions<'a>),
     /// Tests whether a matrix is series-parallel.
-    SeriesParallel(SeriesParallelOptions<'a>),
+    SeriesParallel(SpOptions<'a>),
     /// Tests whether the columns of a matrix are paths of a tree.
     Test(Property, TestOptions<'a>),
     /// Makes a matrix from a number, and tests whether it is totally unimodular.

@@ -9,4 +9,8 @@ mod failing_devices;
 #[cfg(test)]
 mod given;
 #[cfg(test)]
+mod later_runs;
+#[cfg(test)]
 mod runs;
+#[cfg(test)]
+mod single_tools;

@@ -2,7 +2,7 @@
 use Rattle.std.specs.Prelude.{ℕ, Bool, List, [], ◌∷◌, Option, Some, codes, option_map}
 use Rattle.clap.specs.Words.{App, Row, Text, first_of}
 use Rattle.cmr_front.specs.declared.matrix_file.MatrixForm.{MatrixForm}
-use Rattle.cmr_tools.specs.declared.options.SeriesParallelOptions.{SeriesParallelOptions}
+use Rattle.cmr_tools.specs.declared.options.SpOptions.{SpOptions}
 use Rattle.cmr_front.specs.Words.Arguments.{binary_rule, file_rule, form_rule, minimal_rule, rest_rule, steps_rule, tool_app}
 use Rattle.cmr_front.specs.Words.Parsing.{file_in, form_in, has_flag, matches_with_input}
 use Rattle.cmr_front.specs.Words.Reading.{◌>>=◌}
@@ -35,7 +35,7 @@ series_parallel_order_in rows = do
 abbrev pub series_parallel_order : List Text → Option SeriesParallelOrder
 series_parallel_order words = matches_with_input series_parallel_app words >>= series_parallel_order_in
 
-abbrev pub series_parallel_order_of : SeriesParallelOptions → SeriesParallelOrder
+abbrev pub series_parallel_order_of : SpOptions → SeriesParallelOrder
 series_parallel_order_of options = record {
   form = options.form;
   binary = options.binary;

@@ -35,8 +35,10 @@ pub fn generate_and_run<R: Threads + Sync, S: Shelf, O: Sink, E: Sink>(
     requires { IsInRange (generate_order_of options.now) }
     ensures runs { Runs (work (generate_tool (generate_order_of options.now)))
         (standing (S.tells shelf.old) (O.tells out.old) (E.tells err.old) (S.is_calm shelf.old) (S.room shelf.old) (O.is_calm out.old) (O.room out.old))
-        (devices (S.content shelf.old) (O.got out.old) (E.got err.old) (S.faults shelf.old) (O.faults out.old) (E.faults err.old))
-        (devices (S.content shelf.new) (O.got out.new) (E.got err.new) (S.faults shelf.new) (O.faults out.new) (E.faults err.new))
+        (devices (S.content shelf.old) (S.reads shelf.old) (S.failed shelf.old) (S.faults shelf.old)
+        (O.got out.old) (O.faults out.old) (E.got err.old) (E.faults err.old))
+        (devices (S.content shelf.new) (S.reads shelf.new) (S.failed shelf.new) (S.faults shelf.new)
+        (O.got out.new) (O.faults out.new) (E.got err.new) (E.faults err.new))
         result }
     ensures means { IsTrue (S.tells shelf.old) → (answer : Answer) → result ≡ answer_status answer → Means (generate_tool (generate_order_of options.now)) (S.content shelf.old) answer }
 {

@@ -12,7 +12,7 @@ ghost use Rattle.cmr_front.specs.Status.{answer_status};
 ghost use Rattle.cmr_tools.specs.Words.SeriesParallel.{series_parallel_order_of};
 ghost use Rattle.cmr_front.specs.declared.status.Answer.{Answer};
 
-use crate::options::SeriesParallelOptions;
+use crate::options::SpOptions;
 use cmr_base::{LineSet, Matrix, Memory};
 use cmr_front::asked::{push_minimal, push_steps, push_submatrix};
 use cmr_front::input::{Input, Text};
@@ -30,22 +30,24 @@ use std::thread::Threads;
 pub fn series_parallel<R: Threads + Sync, S: Shelf, O: Sink, E: Sink>(
     rt: &R,
     alloc: Global,
-    options: &SeriesParallelOptions<'_>,
+    options: &SpOptions<'_>,
     shelf: &mut S,
     out: &mut O,
     err: &mut E,
 ) -> u8
     ensures runs { Runs (work (series_parallel_tool (series_parallel_order_of options.now)))
         (standing (S.tells shelf.old) (O.tells out.old) (E.tells err.old) (S.is_calm shelf.old) (S.room shelf.old) (O.is_calm out.old) (O.room out.old))
-        (devices (S.content shelf.old) (O.got out.old) (E.got err.old) (S.faults shelf.old) (O.faults out.old) (E.faults err.old))
-        (devices (S.content shelf.new) (O.got out.new) (E.got err.new) (S.faults shelf.new) (O.faults out.new) (E.faults err.new))
+        (devices (S.content shelf.old) (S.reads shelf.old) (S.failed shelf.old) (S.faults shelf.old)
+        (O.got out.old) (O.faults out.old) (E.got err.old) (E.faults err.old))
+        (devices (S.content shelf.new) (S.reads shelf.new) (S.failed shelf.new) (S.faults shelf.new)
+        (O.got out.new) (O.faults out.new) (E.got err.new) (E.faults err.new))
         result }
     ensures means { IsTrue (S.tells shelf.old) → (answer : Answer) → result ≡ answer_status answer → Means (series_parallel_tool (series_parallel_order_of options.now)) (S.content shelf.old) answer }
 {
     run_tool(rt, alloc, options, shelf, out, err)
 }
 
-impl<'a> Tool<'a> for SeriesParallelOptions<'a> {
+impl<'a> Tool<'a> for SpOptions<'a> {
     ghost tool = { λ options. series_parallel_tool (series_parallel_order_of options) };
 
     fn inputs(&self, alloc: Global) -> Result<Vec<Input<'a>>, Memory> {
@@ -69,11 +71,7 @@ impl<'a> Tool<'a> for SeriesParallelOptions<'a> {
     }
 }
 
-fn test<'a>(
-    alloc: Global,
-    options: &SeriesParallelOptions<'a>,
-    matrix: &Matrix,
-) -> Result<Outcome<'a>, Memory>
+fn test<'a>(alloc: Global, options: &SpOptions<'a>, matrix: &Matrix) -> Result<Outcome<'a>, Memory>
     ensures { IfOk result (λ outcome. SeriesParallelDecides (series_parallel_order_of options.now) matrix.now (outcome_report outcome)) }
 {
     let reduction = reduce(alloc, matrix, options.binary)?;
@@ -86,7 +84,7 @@ fn test<'a>(
 
 fn yes<'a>(
     alloc: Global,
-    options: &SeriesParallelOptions<'a>,
+    options: &SpOptions<'a>,
     matrix: &Matrix,
     reduction: &Reduction,
 ) -> Result<Outcome<'a>, Memory>
@@ -106,7 +104,7 @@ fn yes<'a>(
 
 fn no<'a>(
     alloc: Global,
-    options: &SeriesParallelOptions<'a>,
+    options: &SpOptions<'a>,
     matrix: &Matrix,
     reduction: &Reduction,
 ) -> Result<Outcome<'a>, Memory>
@@ -120,7 +118,7 @@ fn no<'a>(
 
 fn no_outcome<'a>(
     alloc: Global,
-    options: &SeriesParallelOptions<'a>,
+    options: &SpOptions<'a>,
     matrix: &Matrix,
     reduction: &Reduction,
     minimal: &Option<LineSet>,
@@ -143,7 +141,7 @@ fn no_outcome<'a>(
 
 fn asked_minimal(
     alloc: Global,
-    options: &SeriesParallelOptions<'_>,
+    options: &SpOptions<'_>,
     matrix: &Matrix,
 ) -> Result<Option<LineSet>, Memory>
     requires { ¬ IsSeriesParallel options.now.binary matrix.now }
@@ -177,7 +175,7 @@ fn no_text(
 fn push_reduction<'a>(
     alloc: Global,
     files: &mut Vec<OutputFile<'a>>,
-    options: &SeriesParallelOptions<'a>,
+    options: &SpOptions<'a>,
     matrix: &Matrix,
     reduction: &Reduction,
 ) -> Result<(), Memory>

@@ -4,7 +4,7 @@ ghost use Rattle.clap.specs.Words.{app_of, found_of, rows_of};
 ghost use Rattle.cmr_front.specs.Words.Reading.{Gives};
 ghost use Rattle.cmr_tools.specs.Words.SeriesParallel.{series_parallel_app, series_parallel_order, series_parallel_order_in, series_parallel_order_of};
 
-use crate::options::SeriesParallelOptions;
+use crate::options::SpOptions;
 use clap::{ArgMatches, Command};
 use cmr_base::Word;
 use cmr_front::words::arguments::{BINARY, MINIMAL, REST, STEPS};
@@ -24,10 +24,10 @@ fn series_parallel_command<'a>(alloc: Global) -> Result<Command<'a>, AllocError>
     arguments::add(with_rest, arguments::file_operand(alloc))
 }
 
-fn options_in<'a>(matches: &ArgMatches<'a>) -> Result<SeriesParallelOptions<'a>, WordsError>
+fn options_in<'a>(matches: &ArgMatches<'a>) -> Result<SpOptions<'a>, WordsError>
     ensures { Gives series_parallel_order_of result (series_parallel_order_in (rows_of (found_of matches.now))) }
 {
-    Ok(SeriesParallelOptions {
+    Ok(SpOptions {
         form: form_in(matches)?,
         binary: has_flag(matches, BINARY),
         minimal: value_in(matches, MINIMAL),
@@ -41,7 +41,7 @@ fn options_in<'a>(matches: &ArgMatches<'a>) -> Result<SeriesParallelOptions<'a>,
 pub fn read_series_parallel<'a>(
     alloc: Global,
     words: &'a [Word],
-) -> Result<SeriesParallelOptions<'a>, WordsError>
+) -> Result<SpOptions<'a>, WordsError>
     ensures { Gives series_parallel_order_of result (series_parallel_order words.now) }
 {
     let matches = matches_with_input(series_parallel_command(alloc)?, words)?;

@@ -12,6 +12,7 @@ loop-place-preserved g c =
       written = λ told name. wrote.whole (before.tells ∙ told) name
           ∙ one_more (S.content c.args.shelf.now) (S.content c.loop-place.shelf) c.args.files.now c.loop-place.place c.index-files-place.result name c.loop-place-test.true c.index-files-place.is (before.written told name);
       room = λ name. wrote.room name ∙ before.room name;
+      reads = wrote.reads ∙ before.reads;
       tells = wrote.tells ∙ before.tells;
       calm = λ calm. wrote.calm (before.calm calm);
       later = omega (arith, wrote.cause.later, before.later);

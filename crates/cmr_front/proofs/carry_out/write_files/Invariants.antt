@@ -10,6 +10,7 @@ invariant-loop-place g l =
     record {
       written : IsTrue (S.tells l.fn.shelf) → (name : List ℕ) → S.content l.shelf name ≡ with_files (S.content l.fn.shelf) (map file_of (take l.place l.files)) name;
       room : (name : List ℕ) → S.room l.shelf name ≡ S.room l.fn.shelf name;
+      reads : S.reads l.shelf ≡ S.reads l.fn.shelf;
       tells : S.tells l.shelf ≡ S.tells l.fn.shelf;
       calm : IsTrue (S.is_calm l.fn.shelf) → IsTrue (S.is_calm l.shelf);
       later : S.faults l.fn.shelf ≤ S.faults l.shelf;

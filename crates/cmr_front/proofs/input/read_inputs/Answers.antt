@@ -1,6 +1,7 @@
 use Rattle.std.proofs.Common.{◌∙◌, ◌∷◌, [], map, arith, ap, length, length-append}
 use Rattle.cmr_front.specs.Inputs.{bytes_of}
-use Rattle.cmr_front.proofs.Inputs.{stopped_at, texts_more}
+use Rattle.cmr_front.specs.Unread.{HaveEnded, between}
+use Rattle.cmr_front.proofs.Inputs.{one_more_ended, stopped_at, texts_more}
 use Rattle.cmr_front.proofs.input.read_inputs.Goals as goal
 
 pub returns-in-Err-clause-stopped : goal.returns-in-Err-clause-stopped
@@ -9,8 +10,12 @@ returns-in-Err-clause-stopped g c =
     let shelf = c.args.shelf.now in
     let mid = c.loop-input.shelf in
     let before = c.loop-input.invariant in
-    stopped_at (S.content shelf) (S.content mid) (S.tells shelf) (S.tells mid) (S.is_calm shelf) (S.is_calm mid) c.args.inputs.now c.loop-input.input-index (map bytes_of c.loop-input.read.items) c.in-Err.stop
-    c.loop-input-test.true before.content (λ told. before.tells ∙ told) before.calm before.given c.in-Err.ensures.stopped
+    let after = c.read_input.new.shelf in
+    let stop = c.in-Err.stop in
+    let ended : HaveEnded c.loop-input.input-index (between (S.reads shelf) (S.reads after)) = rw c.in-Err.ensures.not_ended before.ended in
+    stopped_at (S.content shelf) (S.content mid) (S.tells shelf) (S.tells mid) (S.is_calm shelf) (S.is_calm mid) c.args.inputs.now c.loop-input.input-index (map bytes_of c.loop-input.read.items)
+    (between (S.reads shelf) (S.reads after)) (S.failed after) stop
+    c.loop-input-test.true before.content (λ told. before.tells ∙ told) before.calm before.given ended c.in-Err.ensures.failed c.in-Err.ensures.stopped
 
 pub loop-input-preserved : goal.loop-input-preserved
 loop-input-preserved g c =
@@ -23,6 +28,7 @@ loop-input-preserved g c =
       given = λ told. texts_more (S.content shelf) (S.content mid) c.args.inputs.now c.loop-input.input-index c.loop-input.read.items c.push.new.self.items c.in-Ok.text
           c.loop-input-test.true before.content (before.given told) (read.whole (before.tells ∙ told)) c.in-Ok-push.ensures.items;
       count = omega (arith, before.count, ap length c.in-Ok-push.ensures.items, length-append c.loop-input.read.items (c.in-Ok.text ∷ []));
+      ended = one_more_ended (S.reads shelf).ends (S.reads mid).ends (S.reads c.read_input.new.shelf).ends c.loop-input.input-index before.ended read.ended;
       content = λ other. read.content other ∙ before.content other;
       room = λ other. read.room other ∙ before.room other;
       tells = read.tells ∙ before.tells;

@@ -4,6 +4,7 @@ use Rattle.cmr_front.specs.declared.input.Input.{Input}
 use Rattle.cmr_front.specs.declared.input.Text.{Text}
 use Rattle.cmr_front.specs.Inputs.{InputFile, bytes_of, given, input_file, texts}
 use Rattle.cmr_front.specs.Stopped.{StopsInputs}
+use Rattle.cmr_front.specs.Unread.{HaveEnded, between}
 use Rattle.cmr_front.proofs.Endings.{decided_ends, stopped_ends}
 use Rattle.cmr_front.proofs.tool.examine.Goals as goal
 
@@ -18,8 +19,11 @@ returns-in-Ok-read_inputs-clause-ends g c =
     let inputs = c.deref.result.now in
     let read = c.deref-in-Ok-read_inputs.result.now in
     let same : map input_file inputs ≡ tool.inputs = ap (map input_file) c.deref.ensures.value ∙ c.in-Ok.ensures in
-    decided_ends tool (S.content shelf) (S.tells shelf) (S.is_calm shelf) (map bytes_of read) c.decide.result
+    let reads = between (S.reads shelf) (S.reads c.read_inputs.new.shelf) in
+    let all : HaveEnded (length tool.inputs) reads = subst (λ count. HaveEnded count reads) (sym (length-map inputs input_file) ∙ ap length same) c.in-Ok-read_inputs.ensures.ended in
+    decided_ends tool (S.content shelf) (S.tells shelf) (S.is_calm shelf) reads (S.failed c.read_inputs.new.shelf) (map bytes_of read) c.decide.result
     (one_for_each read inputs tool.inputs (ap length c.deref-in-Ok-read_inputs.ensures.value ∙ c.in-Ok-read_inputs.ensures.count) same)
+    all
     (λ told.
     subst (λ (files : List InputFile). given (S.content shelf) files ≡ texts (map bytes_of read)) same
     (c.in-Ok-read_inputs.ensures.given told ∙ ap (λ (ts : List Text). texts (map bytes_of ts)) (sym c.deref-in-Ok-read_inputs.ensures.value)))
@@ -31,5 +35,7 @@ returns-clause-ends g c =
     let shelf = c.args.shelf.now in
     let tool = g.T.Tool.tool c.args.tool.now in
     let same : map input_file c.deref.result.now ≡ tool.inputs = ap (map input_file) c.deref.ensures.value ∙ c.in-Ok.ensures in
-    stopped_ends tool (S.content shelf) (S.tells shelf) (S.is_calm shelf) c.in-Err-read_inputs.stop
-    (subst (λ (files : List InputFile). StopsInputs files (S.content shelf) (S.tells shelf) (S.is_calm shelf) c.in-Err-read_inputs.stop) same c.in-Err-read_inputs.ensures.stopped)
+    let reads = between (S.reads shelf) (S.reads c.read_inputs.new.shelf) in
+    let failed = S.failed c.read_inputs.new.shelf in
+    stopped_ends tool (S.content shelf) (S.tells shelf) (S.is_calm shelf) reads failed c.in-Err-read_inputs.stop
+    (subst (λ (files : List InputFile). StopsInputs files (S.content shelf) (S.tells shelf) (S.is_calm shelf) reads failed c.in-Err-read_inputs.stop) same c.in-Err-read_inputs.ensures.stopped)

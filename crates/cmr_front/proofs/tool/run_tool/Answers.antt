@@ -2,6 +2,7 @@ use Rattle.std.proofs.Common.{subst, sym}
 use Rattle.cmr_front.specs.Ending.{devices, standing, telling, CarriesOut, HasRooms}
 use Rattle.cmr_front.specs.Outcome.{ended_report}
 use Rattle.cmr_front.specs.Run.{work}
+use Rattle.cmr_front.specs.Unread.{between}
 use Rattle.cmr_front.proofs.Endings.{means, pointwise, runs}
 use Rattle.cmr_front.proofs.tool.run_tool.Goals as goal
 
@@ -17,8 +18,8 @@ returns-clause-runs g c =
     let done = c.carry_out in
     runs (work (g.T.Tool.tool c.args.tool.now))
     (standing (S.tells shelf) (O.tells out) (E.tells err) (S.is_calm shelf) (S.room shelf) (O.is_calm out) (O.room out))
-    (S.content shelf) (S.content read.new.shelf) (O.got out) (E.got err) (S.faults shelf) (S.faults read.new.shelf) (O.faults out) (E.faults err) read.result
-    (devices (S.content done.new.shelf) (O.got done.new.out) (E.got done.new.err) (S.faults done.new.shelf) (O.faults done.new.out) (E.faults done.new.err)) done.result
+    (S.content shelf) (S.content read.new.shelf) (S.reads shelf) (S.reads read.new.shelf) (S.failed shelf) (S.failed read.new.shelf) (S.faults shelf) (S.faults read.new.shelf) (O.got out) (O.faults out) (E.got err) (E.faults err) read.result
+    (devices (S.content done.new.shelf) (S.reads done.new.shelf) (S.failed done.new.shelf) (S.faults done.new.shelf) (O.got done.new.out) (O.faults done.new.out) (E.got done.new.err) (E.faults done.new.err)) done.result
     (record {
       lawful = c.requires.lawful;
       told = g.met.S.Shelf.calm_tells shelf;
@@ -30,12 +31,14 @@ returns-clause-runs g c =
     })
     (record {
       carried_out = subst (λ told. CarriesOut read.result (telling told (O.tells out) (E.tells err))
-          (devices (S.content read.new.shelf) (O.got out) (E.got err) (S.faults read.new.shelf) (O.faults out) (E.faults err))
-          (devices (S.content done.new.shelf) (O.got done.new.out) (E.got done.new.err) (S.faults done.new.shelf) (O.faults done.new.out) (E.faults done.new.err)) done.result)
+          (devices (S.content read.new.shelf) (S.reads read.new.shelf) (S.failed read.new.shelf) (S.faults read.new.shelf) (O.got out) (O.faults out) (E.got err) (E.faults err))
+          (devices (S.content done.new.shelf) (S.reads done.new.shelf) (S.failed done.new.shelf) (S.faults done.new.shelf) (O.got done.new.out) (O.faults done.new.out) (E.got done.new.err) (E.faults done.new.err)) done.result)
           read.ensures.tells done.ensures.carried_out;
       given = done.ensures.status;
       ready = λ room. done.ensures.ready (record { shelf = read.ensures.calm room.shelf; output = room.output; rooms = subst (λ rooms. HasRooms rooms (ended_report read.result).files) (sym (pointwise (S.room read.new.shelf) (S.room shelf) read.ensures.room)) room.rooms; room = room.room });
       stopped = done.ensures.stopped;
+      reads = done.ensures.reads;
+      failed = done.ensures.failed;
       later = done.ensures.later;
     })
 
@@ -50,7 +53,7 @@ returns-clause-means g c =
     let read = c.examine-ended in
     let done = c.carry_out in
     means (g.T.Tool.tool c.args.tool.now) (c.requires.lawful) (standing (S.tells shelf) (O.tells out) (E.tells err) (S.is_calm shelf) (S.room shelf) (O.is_calm out) (O.room out))
-    (S.content shelf) read.result
-    (devices (S.content read.new.shelf) (O.got out) (E.got err) (S.faults read.new.shelf) (O.faults out) (E.faults err))
-    (devices (S.content done.new.shelf) (O.got done.new.out) (E.got done.new.err) (S.faults done.new.shelf) (O.faults done.new.out) (E.faults done.new.err)) done.result
+    (S.content shelf) (between (S.reads shelf) (S.reads read.new.shelf)) (S.failed read.new.shelf) read.result
+    (devices (S.content read.new.shelf) (S.reads read.new.shelf) (S.failed read.new.shelf) (S.faults read.new.shelf) (O.got out) (O.faults out) (E.got err) (E.faults err))
+    (devices (S.content done.new.shelf) (S.reads done.new.shelf) (S.failed done.new.shelf) (S.faults done.new.shelf) (O.got done.new.out) (O.faults done.new.out) (E.got done.new.err) (E.faults done.new.err)) done.result
     read.ensures.ends done.ensures.status

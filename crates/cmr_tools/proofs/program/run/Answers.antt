@@ -21,12 +21,12 @@ returns-in-Err-Refused-clause-runs g c =
     let e : order c.args.words.now ≡ None = subst (λ f. Gives order_of (Err f) (order c.args.words.now)) c.in-Err-Refused.field-0-is c.in-Err-Refused.ensures in
     runs (ordered (order c.args.words.now))
     (standing (S.tells shelf) (O.tells out) (E.tells err) (S.is_calm shelf) (S.room shelf) (O.is_calm out) (O.room out))
-    (S.content shelf) (S.content shelf) (O.got out) (E.got err) (S.faults shelf) (S.faults shelf) (O.faults out) (E.faults err) (Err stops.BadWords)
-    (devices (S.content done.new.shelf) (O.got done.new.out) (E.got done.new.err) (S.faults done.new.shelf) (O.faults done.new.out) (E.faults done.new.err)) done.result
+    (S.content shelf) (S.content shelf) (S.reads shelf) (S.reads shelf) (S.failed shelf) (S.failed shelf) (S.faults shelf) (S.faults shelf) (O.got out) (O.faults out) (E.got err) (E.faults err) (Err stops.BadWords)
+    (devices (S.content done.new.shelf) (S.reads done.new.shelf) (S.failed done.new.shelf) (S.faults done.new.shelf) (O.got done.new.out) (O.faults done.new.out) (E.got done.new.err) (E.faults done.new.err)) done.result
     (record {
       lawful = subst (λ o. IsLawfulOrder (ordered o)) (sym e) tt;
       told = g.met.S.Shelf.calm_tells shelf;
-      ends = subst (λ o. IsNothing (ordered o)) (sym e) tt;
+      ends = (subst (λ o. IsNothing (ordered o)) (sym e) tt, refl);
       content = λ name. refl;
       later = omega arith;
       refused = λ none. inl refl;
@@ -37,6 +37,8 @@ returns-in-Err-Refused-clause-runs g c =
       given = done.ensures.status;
       ready = done.ensures.ready;
       stopped = done.ensures.stopped;
+      reads = done.ensures.reads;
+      failed = done.ensures.failed;
       later = done.ensures.later;
     })
 

@@ -1,0 +1,33 @@
+-- How far the files of a tool were read, and which one could not be.
+use Rattle.std.specs.Prelude.{◌≡◌, ◌+◌, ℕ, Bool, IsTrue, List, Some, map, slice_get, take}
+use Rattle.cmr_io.specs.Calls.{up_to_last}
+use Rattle.cmr_io.specs.Reads.{Reads}
+use Rattle.cmr_front.specs.Inputs.{InputFile, given, not_there, texts}
+use Rattle.cmr_front.specs.Report.{Held}
+
+-- what all reads of a shelf have given before and after
+pub record Between : Type 0 where
+  pub before : Reads
+  pub after : Reads
+
+abbrev pub between : Reads → Reads → Between
+between before after = record { before = before; after = after }
+
+-- so many reads more have come to their ends, as far as the counts tell
+abbrev pub HaveEnded : ℕ → Between → Type 0
+HaveEnded count reads = up_to_last reads.after.ends ≡ up_to_last (reads.before.ends + count)
+
+-- the file at a place has this name
+abbrev pub IsNameAt : List InputFile → ℕ → List ℕ → Type 0
+IsNameAt files place name = slice_get (map (λ file. file.name) files) place ≡ Some name
+
+-- A file could not be read: as many reads came to their ends as files stand before it, and then a call failed, which was
+-- the last. Where the shelf tells its bytes, those before it are there and within their limits; where the shelf is calm,
+-- it is not there.
+pub record IsUnread (files : List InputFile) (held : Held) (tells calm : Bool) (reads : Between) (failed : Bool) (name : List ℕ) : Type 0 where
+  pub place : ℕ
+  pub named : IsNameAt files place name
+  pub ended : HaveEnded place reads
+  pub cause : IsTrue failed
+  pub there : IsTrue tells → (bytes : List (List ℕ)) × (given held (take place files) ≡ texts bytes)
+  pub missing : IsTrue tells → IsTrue calm → given held files ≡ not_there name

@@ -1,0 +1,177 @@
+"""Pivots: of matrices, of trees that have them, and of the program where it makes them."""
+
+from __future__ import annotations
+
+import random
+import unittest
+
+import cmr_matrices as cmr
+from cmr_matrices import BadEntry, BadInput, Line, Matrix, Names, Tree
+from cmr_matrices.line_orders import LineOrder
+from cmr_matrices.named_text import named_text
+from tests import independent
+from tests.support import needs_pivots
+from tests.test_random import drawn, network
+from tests.test_tries import GOODS, any_order
+
+ROWS = [[1, 1, 0], [1, 0, 1], [0, 1, -1]]
+TREE = """\
+cmr-pivots 1
+3 3
+pivoted 3 3 1 2 3 1 2 3
+1 2
+pivoted 3 3 1 2 3 1 2 3
+3 1
+network 3 3 1 2 3 1 2 3
+0 1 0 2 0 3 2 1 1 0 0 3
+"""
+NAMES = Names(("a", "b", "c"), ("x", "y", "z"))
+
+
+def pivoted_tree(draw: random.Random) -> tuple[list[list[int]], Tree] | None:
+    """A network matrix after one to three pivots, with the tree that undoes them; None where a pivot has other entries."""
+    matrix = Matrix.of(network(draw, draw.randint(1, 6), draw.randint(1, 6)))
+    root = cmr.is_totally_unimodular(matrix, certificate=True).tree
+    assert root is not None
+    node = root.root
+    for _ in range(draw.randint(1, 3)):
+        if not matrix.nonzeros:
+            return None
+        row, column, _ = draw.choice(matrix.nonzeros)
+        matrix = matrix.pivoted(row, column)
+        node = cmr.Node("pivoted", node.lines, (node,), place=(Line("row", row), Line("column", column)))
+    return matrix.to_lists(), Tree(matrix.shape, node)
+
+
+class Matrices(unittest.TestCase):
+    def test_a_pivot(self) -> None:
+        matrix = Matrix.of([[1, -1, 0], [1, 0, 1]], row_names="ab")
+        pivot = matrix.pivoted(0, 1)
+        self.assertEqual(pivot.to_lists(), [[-1, -1, 0], [1, 0, 1]])
+        self.assertEqual(matrix.pivoted(1, 0).to_lists(), [[-1, -1, -1], [1, 0, 1]])
+        self.assertEqual(pivot.names, matrix.names)
+        with self.assertRaises(BadEntry) as refused:
+            matrix.pivoted(0, 2)
+        self.assertEqual(
+            str(refused.exception), "row 0, column 2: the entry 0 is none of -1 and 1, as a pivot has to be"
+        )
+        with self.assertRaises(BadEntry) as refused:
+            Matrix.of([[1, 1], [1, -1]]).pivoted(0, 0)
+        self.assertEqual((refused.exception.row, refused.exception.column, refused.exception.entry), (1, 1, -2))
+
+    def test_the_same_pivot_twice(self) -> None:
+        draw = random.Random(2)
+        for _ in range(100):
+            matrix = Matrix.of(network(draw, draw.randint(1, 6), draw.randint(1, 6)))
+            for row, column, _ in matrix.nonzeros:
+                self.assertEqual(matrix.pivoted(row, column).pivoted(row, column), matrix)
+
+
+class Trees(unittest.TestCase):
+    def test_the_text(self) -> None:
+        tree = Tree.from_text(TREE)
+        self.assertEqual(tree.to_text(), TREE)
+        self.assertEqual(tree.root.place, (Line("row", 0), Line("column", 1)))
+        self.assertEqual((tree.verdict, str(tree)), ("yes", "0 pivoted 3x3\n1 pivoted 3x3\n2 network 3x3"))
+        kept = TREE.replace("cmr-pivots 1", "cmr-pivots 1").replace(
+            "pivoted 3 3 1 2 3 1 2 3\n1 2\npivoted 3 3 1 2 3 1 2 3\n3 1\n", ""
+        )
+        self.assertTrue(Tree.from_text(kept).to_text().startswith("cmr-tree 2\n"))
+
+    def test_texts_that_are_refused(self) -> None:
+        for text, line in [
+            (TREE.replace("cmr-pivots 1", "cmr-tree 2"), "pivoted is no kind of node (at character 15)"),
+            (TREE.replace("cmr-pivots 1", "cmr-pivots 2"), "it does not begin with the words"),
+            (TREE.replace("\n1 2\n", "\n4 2\n"), "4 is above 3 (at character 41)"),
+            (TREE.replace("\n1 2\n", "\n0 2\n"), "rows and columns begin with 1 (at character 41)"),
+            (TREE[:44], "the text ends too early"),
+        ]:
+            with self.subTest(line=line), self.assertRaises(BadInput) as refused:
+                Tree.from_text(text)
+            self.assertIn(line, str(refused.exception))
+
+    def test_names_and_pictures(self) -> None:
+        tree = Tree.from_text(TREE, NAMES)
+        outline = "0 pivoted 3x3 at a y\n1 pivoted 3x3 at c x\n2 network 3x3 rows a b c columns x y z"
+        self.assertEqual(tree.outline(), outline)
+        self.assertEqual(named_text(TREE, NAMES, None), f"{outline}\n")
+        self.assertIn("pivoted 3x3\\nat a y", tree.to_dot())
+
+    def test_the_way_back_from_another_order(self) -> None:
+        tree = Tree.from_text(TREE)
+        order = LineOrder(Matrix((3, 3), ()), (2, 0, 1), (1, 2, 0))
+        self.assertEqual(order.tree(tree).root.place, (Line("row", 2), Line("column", 2)))
+
+    def test_what_nodes_speak_of(self) -> None:
+        """The submatrices of a walk are those of an independent pivot, and the independent check takes the tree, and no other."""
+        draw = random.Random(3)
+        seen = 0
+        for rows, tree in filter(None, (self.made(draw) for _ in range(60))):
+            seen += 1
+            self.assertEqual(Tree.from_text(tree.to_text()), tree)
+            self.assertTrue(independent.tree_holds(rows, tree), rows)
+            entries: list[list[int]] = [list(row) for row in rows]
+            for node, part in tree.submatrices(rows):
+                self.assertEqual(part.to_lists(), independent.part(entries, node.lines))
+                if node.kind == "pivoted":
+                    entries = independent.pivot_of(entries, node)
+            rows[tree.root.place[0].number][tree.root.place[1].number] = 0
+            self.assertFalse(independent.tree_holds(rows, tree))
+        self.assertGreater(seen, 30)
+
+    def made(self, draw: random.Random) -> tuple[list[list[int]], Tree] | None:
+        """A network matrix after pivots, without the program: its tree is a leaf that the test knows to be right."""
+        matrix = Matrix.of(network(draw, draw.randint(1, 6), draw.randint(1, 6)))
+        if not matrix.nonzeros:
+            return None
+        lines = cmr.LineSet(tuple(range(matrix.shape[0])), tuple(range(matrix.shape[1])))
+        node = cmr.Node("enumerated", lines)
+        for _ in range(draw.randint(1, 3)):
+            row, column, _ = draw.choice(matrix.nonzeros)
+            matrix = matrix.pivoted(row, column)
+            node = cmr.Node("pivoted", lines, (node,), place=(Line("row", row), Line("column", column)))
+        return matrix.to_lists(), Tree(matrix.shape, node)
+
+
+@needs_pivots
+class OfTheProgram(unittest.TestCase):
+    def test_two_goods(self) -> None:
+        """A totally unimodular matrix that no order of its lines decides without a budget, and pivots do."""
+        matrix = Matrix.from_text(GOODS)
+        self.assertTrue(cmr.is_totally_unimodular(matrix, lines=0).is_undecided)
+        for pivots, tries in ((20, 0), (0, 20)):
+            answer = cmr.is_totally_unimodular(matrix, lines=0, certificate=True, pivots=pivots, tries=tries)
+            assert answer.tree is not None
+            self.assertTrue(answer)
+            self.assertIn("pivoted", {node.kind for _, node in answer.tree.walk()})
+            self.assertTrue(independent.tree_holds(matrix.to_lists(), answer.tree))
+            self.assertEqual(cmr.check(matrix, answer.tree).says, "yes")
+        self.assertTrue(cmr.is_balanced(matrix, lines=0, tries=20))
+
+    def test_trees_by_hand(self) -> None:
+        draw = random.Random(9)
+        for rows, tree in filter(None, (pivoted_tree(draw) for _ in range(40))):
+            with self.subTest(rows=rows):
+                self.assertEqual(cmr.check(rows, tree).says, "yes")
+                order = any_order(Matrix.of(rows), 1)
+                self.assertEqual(cmr.check(Matrix.of(rows), order.tree(self.turned(order, tree))).says, "yes")
+
+    def turned(self, order: LineOrder, tree: Tree) -> Tree:
+        inverse = tuple(order.rows.index(row) for row in range(len(order.rows)))
+        across = tuple(order.columns.index(column) for column in range(len(order.columns)))
+        return LineOrder(order.reordered(), inverse, across).tree(tree)
+
+    def test_random_matrices(self) -> None:
+        """With pivots the answer is what it is without, or decides what is undecided, with a tree that holds."""
+        draw = random.Random(10)
+        for _ in range(100):
+            rows = drawn(draw)
+            answer = cmr.is_totally_unimodular(rows, lines=0, pivots=10, certificate=True)
+            if not answer.is_undecided:
+                assert answer.tree is not None
+                self.assertEqual(bool(answer), independent.is_unimodular(rows))
+                self.assertTrue(independent.tree_holds(rows, answer.tree))
+
+
+if __name__ == "__main__":
+    unittest.main()
