@@ -1,5 +1,5 @@
 -- What `check` reports on evidence, and what its answers mean.
-use Rattle.std.specs.Prelude.{◌≡◌, ◌++◌, ◌||◌, if◌then◌else◌, ℕ, Bool, true, false, List, [], ◌∷◌, Ok, bytes_eq, codes}
+use Rattle.std.specs.Prelude.{◌≡◌, ◌++◌, if◌then◌else◌, ℕ, Bool, true, false, List, [], ◌∷◌, Ok, bytes_eq, codes}
 use Rattle.std.specs.Fmt.{decimal}
 use Rattle.cmr_base.specs.Matrix.{Matrix, IsMatrix, entry, height}
 use Rattle.cmr_base.specs.LineSets.{submatrix_sum}
@@ -37,7 +37,8 @@ use Rattle.cmr_tools.specs.Words.Check.{CheckOrder}
 
 abbrev pub kind_named : List ℕ → EvidenceKind
 kind_named word =
-    if bytes_eq word (codes "cmr-tree") || bytes_eq word (codes "cmr-pivots") then kinds.Tree
+    if bytes_eq word (codes "cmr-tree") then kinds.Tree
+    else if bytes_eq word (codes "cmr-pivots") then kinds.Tree
     else if bytes_eq word (codes "cmr-chain") then kinds.Chain else kinds.Violator
 
 abbrev pub kind_of_words : List (ℕ × List ℕ) → EvidenceKind

@@ -24,13 +24,13 @@ module _ (limit : ℕ) (few : limit ≤ 24) (m : Matrix) (is : IsMatrix m) where
   here : (place : Place) → AreLines m place.lines → HasItsSizes m place.due → IsShapedAt limit m place → KeepsAll m place
   here place are sizes shaped = all
     where
-      demands : (broken : Rule) → Demands broken (matrix_after m place.pivots) place.lines place.finding place.children
-      demands broken = subst (λ ps. Demands broken (matrix_after m ps) place.lines place.finding place.children) (sym shaped.unpivoted) (plainly broken)
-
       plainly : (broken : Rule) → Demands broken m place.lines place.finding place.children
       plainly broken = subst (λ f. Demands broken m place.lines f place.children) (sym shaped.finding)
           (keeps limit few m is place.lines are shaped.case shaped.found shaped.parts place.children shaped.first shaped.says
           (subst (λ f. HasParts f place.children (map (set_in place.lines) shaped.parts)) shaped.finding shaped.children) broken)
+
+      demands : (broken : Rule) → Demands broken (matrix_after m place.pivots) place.lines place.finding place.children
+      demands broken = subst (λ ps. Demands broken (matrix_after m ps) place.lines place.finding place.children) (sym shaped.unpivoted) (plainly broken)
 
       all : KeepsAll m place
       all rule.Size = sizes

@@ -119,7 +119,9 @@ fn evidence_kind(evidence: &[u8]) -> EvidenceKind
 fn kind_named(word: &[u8]) -> EvidenceKind
     ensures { result ≡ kind_named word.now }
 {
-    if word == b"cmr-tree".as_slice() || word == b"cmr-pivots".as_slice() {
+    if word == b"cmr-tree".as_slice() {
+        EvidenceKind::Tree
+    } else if word == b"cmr-pivots".as_slice() {
         EvidenceKind::Tree
     } else if word == b"cmr-chain".as_slice() {
         EvidenceKind::Chain
