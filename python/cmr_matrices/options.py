@@ -6,20 +6,14 @@ from operator import index
 
 from .errors import BadInput
 
-__all__ = ["TAKES_PIVOTS", "budget_words", "whole"]
-
-TAKES_PIVOTS = False
-"""Whether the program has the option `--pivots`."""
+__all__ = ["budget_words", "whole"]
 
 
-def budget_words(lines: int | None, workers: int | None, pivots: int = 0) -> list[str]:
+def budget_words(lines: int | None, workers: int | None) -> list[str]:
     """The words of a budget. An option that is left out has no words, and the program its own default."""
-    if pivots and not TAKES_PIVOTS:
-        raise BadInput("pivots is 0: the program has no such option")
     return [
         *_words("--lines", None if lines is None else whole("lines", lines, 0, 24)),
         *_words("-w", None if workers is None else whole("workers", workers, 1, 64)),
-        *_words("--pivots", whole("pivots", pivots, 0, 100) or None),
     ]
 
 

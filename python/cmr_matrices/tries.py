@@ -9,7 +9,6 @@ no has a violator, that of a 0/1 matrix on regularity a chain; a yes has a tree,
 
 from __future__ import annotations
 
-import time
 from collections.abc import Callable, Iterator
 from dataclasses import dataclass, replace
 
@@ -21,36 +20,18 @@ from .line_orders import LineOrder, drawn_orders
 from .lines import LineSet
 from .matrix import Matrix
 from .nodes import Node
-from .options import TAKES_PIVOTS
-from .program import REFUSED, StrPath
+from .pivoting import Pivoting, unimodular_question
+from .program import REFUSED
 from .reading import Question
 from .submatrices import Submatrix
-from .tools import Evidence, check
 from .trees import Tree
 
-__all__ = ["Clock", "Tries"]
+__all__ = ["Tries"]
 
 _CAMION = Question("without cycle fault", ("camion",), said="camion")
 
 _Found = Iterator[Answer | None]
 """What is found in one order after another, None where it is nothing."""
-
-
-class Clock:
-    """The seconds that are left of a limit."""
-
-    def __init__(self, limit: float | None) -> None:
-        self.limit = limit
-        self._end = None if limit is None else time.monotonic() + limit
-
-    def left(self) -> float | None:
-        """How many are left, or None where there is no limit. Raises `TimeLimitReached` where none is."""
-        if self.limit is None or self._end is None:
-            return None
-        seconds = self._end - time.monotonic()
-        if seconds <= 0:
-            raise TimeLimitReached(self.limit)
-        return seconds
 
 
 @dataclass(frozen=True)
@@ -59,8 +40,7 @@ class Tries:
 
     count: int
     seed: int
-    clock: Clock
-    program: StrPath | None
+    pivoting: Pivoting
 
     def decided(self, question: Question, matrix: Matrix, undecided: Answer) -> Answer:
         """The answer to a question in other orders, or the undecided one where none decides it within the limit of time.
@@ -92,7 +72,7 @@ class Tries:
                 yield None
                 continue
             tree = order.tree(found.tree)
-            self._must_say(matrix, tree, found.verdict)
+            self.pivoting.tested(matrix, tree, found.verdict)
             yield replace(found, tree=tree, violator=found.violator and order.submatrix(found.violator))
 
     def _not_regular(self, question: Question, matrix: Matrix, undecided: Answer) -> _Found:
@@ -108,7 +88,7 @@ class Tries:
             tree, signed = order.tree(found.tree), order.entries(found.signed)
             chain = found.chain and order.chain(found.chain)
             if chain is not None:
-                self._must_say(matrix, chain, "not regular")
+                self.pivoting.tested(matrix, chain, "not regular")
             else:
                 self._must_sign(matrix, signed, tree)
             violator = found.violator and order.submatrix(found.violator)
@@ -120,12 +100,12 @@ class Tries:
         for order in drawn_orders(matrix, lines, self.count, self.seed):
             fault = self._fault(order)
             if fault is not None:
-                self._must_say(matrix, fault, "no")
+                self.pivoting.tested(matrix, fault, "no")
                 _must_be_cycle(matrix, fault)
-                yield replace(undecided, verdict="no", violator=fault, open=None)
+                yield replace(undecided, verdict="no", violator=fault, open=None, pivots=0)
             yield None
-        unimodular = Question("totally unimodular", ("tu", *question.words[1:]), {"-D": "tree"})
-        own = unimodular.ask(matrix, self.program, self.clock.left())
+        unimodular = unimodular_question(question)
+        own = self.pivoting.ask(unimodular, matrix)
         assert own.tree is not None
         for order, found in self._wholes(unimodular, matrix, own.tree) if own.is_undecided else ():
             if found.verdict == "no":
@@ -134,8 +114,8 @@ class Tries:
                 yield None
                 continue
             tree = order.tree(found.tree)
-            self._must_say(matrix, tree, "yes")
-            yield replace(undecided, verdict="yes", open=None, tree=tree)
+            self.pivoting.tested(matrix, tree, "yes")
+            yield replace(undecided, verdict="yes", open=None, tree=tree, pivots=found.pivots)
 
     def _faults(self, matrix: Matrix, tree: Tree) -> Iterator[tuple[Submatrix, Node] | None]:
         """The open parts of a tree in other orders: a cycle fault, with the node of its part."""
@@ -147,26 +127,26 @@ class Tries:
 
     def _fault(self, order: LineOrder) -> Submatrix | None:
         """A cycle fault in an order, if there is one, on the lines of the matrix."""
-        fault = _CAMION.ask(order.reordered(), self.program, self.clock.left()).violator
+        fault = self.pivoting.ask(_CAMION, order.reordered()).violator
         return fault and order.submatrix(fault)
 
     def _wholes(self, question: Question, matrix: Matrix, tree: Tree) -> Iterator[tuple[LineOrder, Answer]]:
         """The whole matrix in other orders, where its decomposition may differ: only sums, and pivots, are taken by choice."""
-        if TAKES_PIVOTS or any(node.connectors for _, node in tree.walk()):
+        if self.pivoting.count or any(node.connectors for _, node in tree.walk()):
             for order in drawn_orders(matrix, tree.root.lines, self.count, self.seed):
-                yield order, question.ask(order.reordered(), self.program, self.clock.left())
+                yield order, self.pivoting.ask(question, order.reordered())
 
     def _no_with_fault(self, matrix: Matrix, undecided: Answer, fault: Submatrix, part: Node) -> Answer:
         """The answer whose tree has a fault in a part that was left open."""
-        self._must_say(matrix, fault, "no")
+        self.pivoting.tested(matrix, fault, "no")
         tree = undecided.tree and replace(
             undecided.tree, root=undecided.tree.root.rebuilt(_WithFault(part, fault.lines))
         )
-        return replace(undecided, verdict="no", violator=fault, open=None, tree=tree)
+        return replace(undecided, verdict="no", violator=fault, open=None, tree=tree, pivots=0)
 
     def _no_signing(self, matrix: Matrix, signed: Matrix, steps: tuple[ChainStep, ...], fault: Submatrix) -> Answer:
         chain = Chain(matrix.shape, steps, fault.lines, matrix.names)
-        self._must_say(matrix, chain, "not regular")
+        self.pivoting.tested(matrix, chain, "not regular")
         every = LineSet(tuple(range(matrix.shape[0])), tuple(range(matrix.shape[1])))
         tree = Tree(matrix.shape, Node("violator", every, fault=fault.lines), matrix.names)
         return Answer("regular", "no", violator=fault, tree=tree, signed=signed, chain=chain)
@@ -175,13 +155,7 @@ class Tries:
         """Tests that a signed matrix has the ones of a 0/1 matrix, and its tree."""
         if [place[:2] for place in signed.nonzeros] != [place[:2] for place in matrix.nonzeros]:
             raise ProgramFault(REFUSED, "the signed matrix of another order is not one of the matrix")
-        self._must_say(signed, tree, "yes")
-
-    def _must_say(self, matrix: Matrix, evidence: Evidence, says: str) -> None:
-        """Tests evidence that was taken back from another order."""
-        checked = check(matrix, evidence, program=self.program, time_limit=self.clock.left())
-        if checked.says != says:
-            raise ProgramFault(REFUSED, f"the evidence of another order is refused: {checked.rule or checked.says}")
+        self.pivoting.tested(signed, tree, "yes")
 
 
 @dataclass(frozen=True)

@@ -5,7 +5,6 @@ from __future__ import annotations
 import importlib.util
 import os
 import shutil
-import subprocess
 import sys
 import time
 import unittest
@@ -56,11 +55,6 @@ def needs_command(name: str) -> Callable[[_Test], _Test]:
     return _needs(name, shutil.which(name) is not None)
 
 
-def _takes_pivots() -> bool:
-    ran = subprocess.run([find_program(), "tu", "--pivots", "1"], input=b"0 0", capture_output=True, check=False)
-    return ran.returncode == 0
-
-
 def waits_until(happened: Callable[[], bool], what: str) -> None:
     """Waits until something has happened, and fails where it does not."""
     end = time.monotonic() + PATIENCE
@@ -80,4 +74,3 @@ def is_gone(process: int) -> bool:
 
 
 needs_program = _needs("the program cmr", _is_built())
-needs_pivots = _needs("the option --pivots of the program", _is_built() and _takes_pivots())

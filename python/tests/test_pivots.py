@@ -1,4 +1,4 @@
-"""Pivots: of matrices, of trees that have them, and of the program where it makes them."""
+"""Pivots: of matrices, of trees that have them, and what `check` says of these."""
 
 from __future__ import annotations
 
@@ -10,9 +10,9 @@ from cmr_matrices import BadEntry, BadInput, Line, Matrix, Names, Tree
 from cmr_matrices.line_orders import LineOrder
 from cmr_matrices.named_text import named_text
 from tests import independent
-from tests.support import needs_pivots
-from tests.test_random import drawn, network
-from tests.test_tries import GOODS, any_order
+from tests.support import needs_program
+from tests.test_random import network
+from tests.test_tries import any_order
 
 ROWS = [[1, 1, 0], [1, 0, 1], [0, 1, -1]]
 TREE = """\
@@ -133,44 +133,20 @@ class Trees(unittest.TestCase):
         return matrix.to_lists(), Tree(matrix.shape, node)
 
 
-@needs_pivots
-class OfTheProgram(unittest.TestCase):
-    def test_two_goods(self) -> None:
-        """A totally unimodular matrix that no order of its lines decides without a budget, and pivots do."""
-        matrix = Matrix.from_text(GOODS)
-        self.assertTrue(cmr.is_totally_unimodular(matrix, lines=0).is_undecided)
-        for pivots, tries in ((20, 0), (0, 20)):
-            answer = cmr.is_totally_unimodular(matrix, lines=0, certificate=True, pivots=pivots, tries=tries)
-            assert answer.tree is not None
-            self.assertTrue(answer)
-            self.assertIn("pivoted", {node.kind for _, node in answer.tree.walk()})
-            self.assertTrue(independent.tree_holds(matrix.to_lists(), answer.tree))
-            self.assertEqual(cmr.check(matrix, answer.tree).says, "yes")
-        self.assertTrue(cmr.is_balanced(matrix, lines=0, tries=20))
-
+@needs_program
+class Checked(unittest.TestCase):
     def test_trees_by_hand(self) -> None:
         draw = random.Random(9)
         for rows, tree in filter(None, (pivoted_tree(draw) for _ in range(40))):
             with self.subTest(rows=rows):
                 self.assertEqual(cmr.check(rows, tree).says, "yes")
                 order = any_order(Matrix.of(rows), 1)
-                self.assertEqual(cmr.check(Matrix.of(rows), order.tree(self.turned(order, tree))).says, "yes")
+                self.assertEqual(cmr.check(order.reordered(), self.turned(order, tree)).says, "yes")
 
     def turned(self, order: LineOrder, tree: Tree) -> Tree:
         inverse = tuple(order.rows.index(row) for row in range(len(order.rows)))
         across = tuple(order.columns.index(column) for column in range(len(order.columns)))
         return LineOrder(order.reordered(), inverse, across).tree(tree)
-
-    def test_random_matrices(self) -> None:
-        """With pivots the answer is what it is without, or decides what is undecided, with a tree that holds."""
-        draw = random.Random(10)
-        for _ in range(100):
-            rows = drawn(draw)
-            answer = cmr.is_totally_unimodular(rows, lines=0, pivots=10, certificate=True)
-            if not answer.is_undecided:
-                assert answer.tree is not None
-                self.assertEqual(bool(answer), independent.is_unimodular(rows))
-                self.assertTrue(independent.tree_holds(rows, answer.tree))
 
 
 if __name__ == "__main__":
