@@ -22,6 +22,7 @@ from dataclasses import replace
 
 from .answers import Answer
 from .clock import Clock
+from .errors import TimeLimitReached
 from .matrix import Matrix
 from .options import budget_words, whole
 from .pivoting import Pivoting
@@ -202,7 +203,10 @@ def _tried(
     count = whole("tries", tries, 0, 1000)
     pivoting = Pivoting(whole("pivots", pivots, 0, 100), Clock(time_limit), program)
     asked = question if certificate or count or pivoting.count else replace(question, files={})
-    answer = pivoting.ask(asked, matrix)
+    try:
+        answer = pivoting.ask(asked, matrix)
+    except TimeLimitReached as reached:
+        raise TimeLimitReached(time_limit or reached.seconds) from None
     if answer.is_undecided and count:
         answer = Tries(count, seed, pivoting).decided(asked, matrix, answer)
     return answer if certificate else replace(answer, tree=None, signed=None, chain=None)

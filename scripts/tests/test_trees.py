@@ -52,8 +52,8 @@ class Reading(ScriptTest):
     def test_texts_that_are_no_trees(self):
         for text, fault in [
             ("", "the text ends too early"),
-            ("4 4\n", "it does not begin with the words `cmr-tree 1` or `cmr-tree 2`"),
-            ("cmr-tree 3\n", "it does not begin with the words `cmr-tree 1` or `cmr-tree 2`"),
+            ("4 4\n", "it does not begin with the words `cmr-tree 1`, `cmr-tree 2` or `cmr-pivots 1`"),
+            ("cmr-tree 3\n", "it does not begin with the words `cmr-tree 1`, `cmr-tree 2` or `cmr-pivots 1`"),
             ("cmr-tree 1 1001 1", "1001 is above 1000 (at character 11)"),
             ("cmr-tree 1 2 -2", "-2 is no number (at character 13)"),
             ("cmr-tree 2 2 2\nforest 0 0", "forest is no kind of node (at character 15)"),
