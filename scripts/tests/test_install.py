@@ -1,6 +1,7 @@
 """Tests of `scripts/install` over a stand-in for `rt`."""
 
 import os
+import re
 import resource
 import shutil
 import signal
@@ -92,6 +93,11 @@ class InstallTest(unittest.TestCase):
         for name in SCRIPTS:
             with self.subTest(name=name):
                 run = self.run_installed(name, "--help")
+                if name == "cmr-explain":
+                    # It takes the program's words, and says more of those that are none.
+                    self.assertEqual(run.returncode, 2)
+                    self.assertIn("explain: `--help`", run.stderr)
+                    continue
                 self.assertEqual((run.returncode, run.stderr), (0, ""))
                 self.assertIn(f"usage: {name} ", run.stdout)
         run = self.run_installed("cmr-names", "nothing")
@@ -305,18 +311,24 @@ class KilledTest(unittest.TestCase):
 class OtherMachineTest(unittest.TestCase):
     """What the program needs on a machine without the kit."""
 
-    NEEDS = {"libc.so.6": "/lib/x86_64-linux-gnu/libc.so.6", "ld-linux-x86-64.so.2": "/lib64/ld-linux-x86-64.so.2"}
+    LIBRARIES = {"libc.so.6", "ld-linux-x86-64.so.2", "libm.so.6", "libgcc_s.so.1"}
+
+    def libraries(self):
+        """What `ldd` lists of the program, by names and paths."""
+        run = subprocess.run(["ldd", BUILT], capture_output=True, text=True, check=True)
+        paths = re.findall(r"(/\S+) \(0x", run.stdout)
+        return {Path(path).name: path for path in paths}
 
     def test_what_it_is_linked_with(self):
-        run = subprocess.run(["ldd", BUILT], capture_output=True, text=True, check=True)
-        names = {Path(line.split()[0]).name for line in run.stdout.splitlines()}
-        self.assertEqual(names - {"linux-vdso.so.1"}, set(self.NEEDS))
+        names = set(self.libraries())
+        self.assertIn("libc.so.6", names)
+        self.assertLessEqual(names, self.LIBRARIES)
 
     def test_in_a_root_with_nothing_else(self):
         with tempfile.TemporaryDirectory() as name:
             root = Path(name)
             shutil.copy(BUILT, root / "cmr")
-            for it in self.NEEDS.values():
+            for it in self.libraries().values():
                 (root / it[1:]).parent.mkdir(parents=True, exist_ok=True)
                 shutil.copy(it, root / it[1:])
             words = ["unshare", "--user", "--map-root-user", "--root", root]
