@@ -18,6 +18,10 @@ SCREENS = (TOP / "README.md", TOP / "docs" / "TOOLS.md", TOP / "examples" / "REA
 PICTURES = {**dict.fromkeys(SCREENS, ()), DOCUMENT: ("maxflow.svg", "shifts.svg"), CLASSIFYING: ("classes.svg",)}
 
 
+# What long work says once a minute, which a slow machine alone prints.
+PROGRESS = re.compile(r"^cmr-classify: [0-9]+ rows?, [0-9.]+ a second.*\n", re.M)
+
+
 def walked(text, folder):
     """The text with the lines that its commands print when they run in a folder one after another."""
     for name in ("cmr", "crates", "examples", "scripts"):
@@ -35,7 +39,7 @@ def _run(block, folder):
 def _printed(command, folder):
     words = ["bash", "-c", command]
     run = subprocess.run(words, cwd=folder, stdout=subprocess.PIPE, stderr=subprocess.STDOUT, text=True)
-    return run.stdout
+    return PROGRESS.sub("", run.stdout)
 
 
 def main():
