@@ -14,7 +14,7 @@ use Rattle.tree_type.specs.Places.{Due, AllLines, places_from, places_below, piv
 use Rattle.tree_type.specs.Soundness.{part, HasItsLines, IsSoundTree}
 use Rattle.tree_type.proofs.PlacedLines.{lines_within}
 use Rattle.decomp_tree.specs.Shapes.{case_number, IsShapedAt, IsShape, HasParts, set_in}
-use Rattle.decomp_tree.specs.Seen.{AreDue, AreFewer, IsSaid, IsDrawn, AreDrawn}
+use Rattle.decomp_tree.specs.Seen.{AreDue, AreFewer, IsSaid, AreFalling, IsDrawn, AreDrawn}
 use Rattle.decomp_tree.proofs.Said.{first_case}
 use Rattle.decomp_tree.proofs.ShapeSound.{no_pivot, shapes_are_sound}
 
@@ -49,6 +49,13 @@ module _ (limit : ℕ) (m : Matrix) where
   within_below lines levels (child ∷ children) (tree ∷ trees) d fewer l =
       (d.0.within lines levels fewer.0.among (let k = fewer.0.fewer in omega (arith, k, l)), within_below lines levels children trees d.1 fewer.1 l)
 
+  falling_below : (lines : LineSet) (children : List LineSet) (trees : List Tree) → AreDrawn limit m children trees → AllByRecursion (AreFewer lines) children → AreFalling lines (trees_from trees)
+  falling_below lines [] [] d fewer = tt
+  falling_below lines [] (tree ∷ trees) d fewer = absurd d
+  falling_below lines (child ∷ children) [] d fewer = absurd d
+  falling_below lines (child ∷ children) (tree ∷ trees) d fewer =
+      (subst (AreFewer lines) (sym d.0.lines_are) fewer.0, d.0.falling, falling_below lines children trees d.1 fewer.1)
+
   pub drawn : (lines : LineSet) (finding : Finding) (children : List LineSet) (trees : List Tree) (said : IsSaid limit m lines finding children) → (2 < case_number said.case → HasNoCycleFault (entry (part m lines)))
       → AreDrawn limit m children trees → IsDrawn limit m lines (Branch lines finding (trees_from trees))
   drawn lines finding children trees said no_fault d = record {
@@ -75,6 +82,7 @@ module _ (limit : ℕ) (m : Matrix) where
       subst (HasChildren finding) (sym (count_drawn children trees d)) said.count,
       within_below lines (levels - 1) children trees d said.fewer (omega (arith, l)),
     );
+    falling = falling_below lines children trees d said.fewer;
   }
 
   -- one more tree
