@@ -72,7 +72,7 @@ module _ (limit : ℕ) (m : Matrix) where
         finding = said.finding_is;
         children = subst (λ c. HasParts finding c (map (set_in lines) said.parts)) (sym (lines_drawn children trees d)) said.parts_are;
       },
-      subst (λ pivots. AllByRecursion (IsShapedAt limit m) (places_below path pivots lines finding 0 (trees_from trees))) (sym (no_pivot limit (part m lines) said.case said.found said.parts lines finding said.says said.finding_is))
+      subst (λ pivots. AllByRecursion (IsShapedAt limit m) (places_below path pivots lines finding 0 (trees_from trees))) (sym (no_pivot [] limit (part m lines) said.case said.found said.parts lines finding said.says said.finding_is))
           (shaped_below path lines finding 0 children trees d said.due),
     );
     within = λ parent levels among l. (

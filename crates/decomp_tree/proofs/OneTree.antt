@@ -261,7 +261,7 @@ module _ (limit : ℕ) (m : Matrix) where
           only_one_sum (Pivoted place) e = cc
 
   mutual
-    one_tree : (path path' : List ℕ) (pivots pivots' : List MadePivot) (due due' : Due) (parent parent' : LineSet) (levels levels' : ℕ) (tree tree' : Tree) → lines_of tree ≡ lines_of tree' → IsTreeWithin parent levels tree → IsTreeWithin parent' levels' tree'
+    pub one_tree : (path path' : List ℕ) (pivots pivots' : List MadePivot) (due due' : Due) (parent parent' : LineSet) (levels levels' : ℕ) (tree tree' : Tree) → lines_of tree ≡ lines_of tree' → IsTreeWithin parent levels tree → IsTreeWithin parent' levels' tree'
         → AllByRecursion (IsShapedAt limit m) (places_from path pivots due tree) → AllByRecursion (IsShapedAt limit m) (places_from path' pivots' due' tree') → plain_tree tree ≡ plain_tree tree'
     one_tree path path' pivots pivots' due due' parent parent' levels levels' (Branch lines finding trees) (Branch lines' finding' trees') same fits fits' shaped shaped' =
         let node' = subst (λ l. IsShapedAt limit m (record { path = path'; pivots = pivots'; due = due'; lines = l; finding = finding'; children = lines_of_each trees' })) (sym same) shaped'.0 in

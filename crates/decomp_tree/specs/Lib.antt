@@ -6,4 +6,5 @@ pub mod Sketches
 pub mod PlainTrees
 pub mod Refined
 pub mod PivotedShapes
+pub mod PivotedLaws
 pub mod Obstructions

@@ -33,7 +33,7 @@ abbrev pub IsTakenBack : Matrix → LineSet → PivotPlace → Tree → Verdict 
 IsTakenBack m lines place after Yes tree = tree ≡ Branch lines (Pivoted place) (one_tree after)
 IsTakenBack m lines place after (No fault) tree =
     (before : LineSet) × AreBefore m place fault before × (tree ≡ Branch lines (Violator before) NoTrees)
-IsTakenBack m lines place after (Open open) tree = tree ≡ undecided lines
+IsTakenBack m lines place after (Open left) tree = tree ≡ undecided lines
 
 -- A pivot at a place that is drawn, if there is one, and then the tree of the submatrix after it, which goes on from the next
 -- state.
@@ -79,4 +79,4 @@ pub record IsBehind (Stands : Tree → Type 0) (before after : List Tree) : Type
 abbrev pub HasFaultAmong : LineSet → Verdict → Type 0
 HasFaultAmong lines Yes = Unit {0}
 HasFaultAmong lines (No fault) = AreAmong lines fault.rows fault.columns
-HasFaultAmong lines (Open open) = Unit {0}
+HasFaultAmong lines (Open left) = Unit {0}
