@@ -1,5 +1,5 @@
 -- The tree of some lines, from what its root says and from the trees of its children.
-use Rattle.std.proofs.Common.{◌≡◌, ◌<◌, ◌≤◌, ◌+◌, ◌-◌, ◌∙◌, ◌++◌, ℕ, zero, suc, List, [], ◌∷◌, length, map, refl, ap, ap₂, sym, subst, arith}
+use Rattle.std.proofs.Common.{◌≡◌, ◌<◌, ◌≤◌, ◌-◌, ◌++◌, ℕ, suc, List, [], ◌∷◌, length, map, refl, ap, ap₂, sym, subst, arith}
 use Rattle.std.specs.List.{AllByRecursion}
 use Rattle.cmr_base.specs.declared.line_set.LineSet.{LineSet}
 use Rattle.cmr_base.specs.CyclePlaces.{HasNoCycleFault}
@@ -7,12 +7,10 @@ use Rattle.cmr_base.specs.Matrix.{Matrix, height, entry, IsMatrix}
 use Rattle.cmr_base.specs.LineSets.{AllBelow, IsRowSet, IsColumnSet, first_lines}
 use Rattle.cmr_base.proofs.Lists.{all-append}
 use Rattle.cmr_base.proofs.Parts.{length-rising}
-use Rattle.cmr_base.proofs.RemovedLines.{first_lines_increase}
-use Rattle.tree_type.specs.Trees.{Finding, Tree, Trees, Branch, NoTrees, MoreTrees, trees_from, count_trees, lines_of}
-use Rattle.tree_type.specs.Invariant.{AreLines, AreLinesOf, size_of, Fits, HasChildren, IsTreeWithin, AreTreesWithin, IsTreeFor}
-use Rattle.tree_type.specs.Places.{Due, AllLines, places_from, places_below, pivots_below, due_child, lines_of_each}
-use Rattle.tree_type.specs.Soundness.{part, HasItsLines, IsSoundTree}
-use Rattle.tree_type.proofs.PlacedLines.{lines_within}
+use Rattle.tree_type.specs.Trees.{Finding, Tree, Branch, trees_from, count_trees}
+use Rattle.tree_type.specs.Invariant.{AreLinesOf, size_of, HasChildren, IsTreeWithin, AreTreesWithin, IsTreeFor}
+use Rattle.tree_type.specs.Places.{AllLines, places_from, places_below, due_child, lines_of_each}
+use Rattle.tree_type.specs.Soundness.{part, IsSoundTree}
 use Rattle.decomp_tree.specs.Shapes.{case_number, IsShapedAt, IsShape, HasParts, set_in}
 use Rattle.decomp_tree.specs.Seen.{AreDue, AreFewer, IsSaid, AreFalling, IsDrawn, AreDrawn}
 use Rattle.decomp_tree.proofs.Said.{first_case}

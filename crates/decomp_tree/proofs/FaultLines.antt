@@ -1,5 +1,5 @@
 -- The fault that the verdict of a tree names has lines of the tree's root.
-use Rattle.std.proofs.Common.{◌≡◌, ◌-◌, inl, inr, ℕ, Contains, Option, Some, None, refl, subst, sym}
+use Rattle.std.proofs.Common.{◌≡◌, ◌-◌, inl, inr, ℕ, Contains, Option, Some, None, refl, subst}
 use Rattle.cmr_base.specs.declared.line_set.LineSet.{LineSet}
 use Rattle.cmr_base.proofs.Lists.{all_contain, all_weaker}
 use Rattle.cmr_base.proofs.Options.{some_or, some_same}

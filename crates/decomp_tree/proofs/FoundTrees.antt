@@ -1,5 +1,5 @@
 -- What pivots find in the place of an undecided node: its lines and its levels.
-use Rattle.std.proofs.Common.{◌≡◌, ◌<◌, ◌≤◌, ◌+◌, ◌-◌, ◌∙◌, ◌⊎◌, inl, inr, ℕ, zero, suc, Bool, false, List, Contains, Option, Some, None, IfSome, refl, ap, sym, subst, arith}
+use Rattle.std.proofs.Common.{◌≡◌, ◌<◌, ◌≤◌, ◌+◌, ◌-◌, ◌∙◌, inl, inr, ℕ, zero, suc, Contains, Option, Some, None, IfSome, refl, ap, sym, subst, arith}
 use Rattle.cmr_base.specs.declared.line_set.LineSet.{LineSet}
 use Rattle.cmr_base.specs.Matrix.{Matrix}
 use Rattle.cmr_base.specs.LineSets.{IsRowSet, IsColumnSet}
@@ -10,12 +10,12 @@ use Rattle.pivots.specs.DrawnPlaces.{drawn_place}
 use Rattle.pivots.specs.PivotedParts.{AreAmong, IsPlaceIn, pivoted_part}
 use Rattle.pivots.proofs.DrawnPlaces.{drawn_in}
 use Rattle.pivots.proofs.PartLaws.{lines_before_among}
-use Rattle.tree_type.specs.Trees.{Finding, Empty, Cycle, Reduced, OneSum, Network, Conetwork, R10, TwoSum, ThreeSum, Enumerated, Violator, Undecided, Pivoted, Tree, Trees, Branch, NoTrees, MoreTrees, one_tree, count_trees, lines_of}
+use Rattle.tree_type.specs.Trees.{Finding, Empty, Cycle, Reduced, OneSum, Network, Conetwork, R10, TwoSum, ThreeSum, Enumerated, Violator, Undecided, Pivoted, Tree, Trees, Branch, NoTrees, MoreTrees, count_trees, lines_of}
 use Rattle.tree_type.specs.Invariant.{AreLinesOf, size_of, Fits, HasChildren, IsTreeWithin, AreTreesWithin}
 use Rattle.tree_type.specs.Verdicts.{Verdict, Yes, No, Open, verdict_of}
-use Rattle.decomp_tree.specs.Seen.{AreFewer, IsFalling, AreFalling, IsDrawn}
-use Rattle.decomp_tree.specs.Refined.{is_undecided, Refines, AllRefine}
-use Rattle.decomp_tree.specs.PivotedShapes.{AreBefore, IsShown, IsTakenBack, IsFoundAt, IsFound, IsDrawnWith, HasFaultAmong, undecided}
+use Rattle.decomp_tree.specs.Seen.{IsFalling, AreFalling, IsDrawn}
+use Rattle.decomp_tree.specs.Refined.{Refines, AllRefine}
+use Rattle.decomp_tree.specs.PivotedShapes.{IsTakenBack, IsFoundAt, IsFound, IsDrawnWith, HasFaultAmong, undecided}
 use Rattle.decomp_tree.proofs.FaultLines.{fault_among}
 use Rattle.decomp_tree.proofs.RefinedTrees.{RefinedNode, replaced, kept, refined_node, count_refined, refined_lines}
 

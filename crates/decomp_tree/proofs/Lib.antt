@@ -34,3 +34,4 @@ pub mod RefinedSound
 pub mod FoundSound
 pub mod PivotedRoots
 pub mod OpenNodes
+pub mod FoundCases

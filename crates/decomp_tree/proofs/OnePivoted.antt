@@ -1,5 +1,5 @@
 -- There is one decomposition of a matrix with what pivots find, but for what its networks say.
-use Rattle.std.proofs.Common.{◌≡◌, ◌≢◌, ◌<◌, ◌+◌, ◌-◌, ◌∙◌, ◌⊎◌, inl, inr, ℕ, zero, suc, Bool, true, false, List, [], Contains, Option, Some, None, refl, ap, ap₂, sym, subst, arith}
+use Rattle.std.proofs.Common.{◌≡◌, ◌<◌, ◌-◌, ◌∙◌, inl, inr, ℕ, zero, suc, List, [], Contains, Option, Some, None, refl, ap, ap₂, sym, subst, arith}
 use Rattle.cmr_base.specs.declared.line_set.LineSet.{LineSet}
 use Rattle.cmr_base.specs.Matrix.{Matrix, height, entry, IsEntry}
 use Rattle.ghouila.specs.PivotLaws.{pivot_entry}
@@ -10,9 +10,9 @@ use Rattle.cmr_base.proofs.RemovedLines.{first_lines_increase}
 use Rattle.pivots.specs.declared.drawn.DrawnPlace.{DrawnPlace}
 use Rattle.pivots.specs.declared.place.PivotPlace.{PivotPlace}
 use Rattle.pivots.specs.DrawnPlaces.{drawn_place}
-use Rattle.pivots.specs.PivotedParts.{IsTernaryPivot, ShowsFirstTwoIn, pivoted_part}
+use Rattle.pivots.specs.PivotedParts.{ShowsFirstTwoIn, pivoted_part}
 use Rattle.pivots.specs.ChosenLines.{two_lines}
-use Rattle.tree_type.specs.Trees.{Finding, Empty, Cycle, Reduced, OneSum, Network, Conetwork, R10, TwoSum, ThreeSum, Enumerated, Violator, Undecided, Pivoted, Tree, Trees, Branch, NoTrees, MoreTrees, lines_of}
+use Rattle.tree_type.specs.Trees.{Finding, Empty, Cycle, Reduced, OneSum, Network, Conetwork, R10, TwoSum, ThreeSum, Enumerated, Violator, Undecided, Pivoted, Tree, Trees, Branch, NoTrees, MoreTrees}
 use Rattle.tree_type.specs.Invariant.{AreLinesOf, size_of, IsTreeWithin, AreTreesWithin}
 use Rattle.tree_type.specs.Places.{These}
 use Rattle.tree_type.specs.Verdicts.{Verdict, Yes, No, Open, verdict_of}
@@ -20,7 +20,7 @@ use Rattle.decomp_tree.specs.PlainTrees.{plain, plain_tree, plain_trees}
 use Rattle.decomp_tree.specs.Seen.{IsDrawn}
 use Rattle.decomp_tree.specs.Refined.{is_undecided, Refines, AllRefine}
 use Rattle.decomp_tree.specs.PivotedLaws.{OnePivotedShape}
-use Rattle.decomp_tree.specs.PivotedShapes.{AreBefore, IsTakenBack, IsFoundAt, IsFound, IsDrawnWith, IsShapeWith, undecided, all_lines, pivots_within}
+use Rattle.decomp_tree.specs.PivotedShapes.{AreBefore, IsTakenBack, IsFoundAt, IsFound, IsDrawnWith, all_lines, pivots_within}
 use Rattle.decomp_tree.proofs.OneTree.{one_tree}
 use Rattle.decomp_tree.proofs.PlainVerdicts.{verdict_plain}
 use Rattle.decomp_tree.proofs.RefinedTrees.{RefinedNode, replaced, kept, refined_node}

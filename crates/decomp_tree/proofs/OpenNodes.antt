@@ -1,15 +1,15 @@
 -- The node that a decomposition leaves open comes to the last case, also where pivots were made.
-use Rattle.std.proofs.Common.{◌≡◌, ◌<◌, ◌-◌, ◌∙◌, ◌++◌, inl, inr, ℕ, zero, suc, Bool, false, List, [], ◌∷◌, Option, Some, None, refl, ap, sym, subst, arith}
+use Rattle.std.proofs.Common.{◌≡◌, ◌-◌, ◌∙◌, ◌++◌, inl, inr, ℕ, zero, suc, false, List, [], ◌∷◌, Option, Some, None, refl, ap, sym, subst, arith}
 use Rattle.std.specs.List.{AllByRecursion}
 use Rattle.std.specs.Option.{option_or}
 use Rattle.cmr_base.specs.declared.line_set.LineSet.{LineSet}
-use Rattle.cmr_base.specs.Matrix.{Matrix, height, IsMatrix}
+use Rattle.cmr_base.specs.Matrix.{Matrix, height}
 use Rattle.cmr_base.proofs.Lists.{all_front, all_back}
 use Rattle.cmr_base.proofs.Options.{some_or, some_same}
 use Rattle.pivots.specs.declared.drawn.DrawnPlace.{DrawnPlace}
 use Rattle.pivots.specs.declared.place.PivotPlace.{PivotPlace}
 use Rattle.pivots.specs.DrawnPlaces.{drawn_place}
-use Rattle.tree_type.specs.Trees.{Finding, Empty, Cycle, Reduced, OneSum, Network, Conetwork, R10, TwoSum, ThreeSum, Enumerated, Violator, Undecided, Pivoted, Tree, Trees, Branch, NoTrees, MoreTrees, one_tree, lines_of}
+use Rattle.tree_type.specs.Trees.{Finding, Empty, Cycle, Reduced, OneSum, Network, Conetwork, R10, TwoSum, ThreeSum, Enumerated, Violator, Undecided, Pivoted, Tree, Trees, Branch, NoTrees, MoreTrees}
 use Rattle.tree_type.specs.Invariant.{AreLines, size_of, IsTreeWithin, AreTreesWithin}
 use Rattle.tree_type.specs.Places.{Due, AllLines, Place, places_from, places_below, due_child, lines_of_each}
 use Rattle.tree_type.specs.Soundness.{part}
@@ -18,7 +18,7 @@ use Rattle.tree_type.proofs.PlacedLines.{lines_within}
 use Rattle.decomp_tree.specs.Seen.{IsDrawn}
 use Rattle.decomp_tree.specs.Refined.{is_undecided, Refines, AllRefine}
 use Rattle.decomp_tree.specs.Shapes.{Case, HasNoLines, HasFault, IsReducible, IsApart, IsNetwork, IsConetwork, IsR10Matrix, IsTwoSum, IsThreeSum, IsShort, IsLeft, IsFirstCase, Says, finding_in, IsShapedAt}
-use Rattle.decomp_tree.specs.PivotedShapes.{IsTakenBack, IsFoundAt, IsFound, IsDrawnWith, IsShapeWith, all_lines, pivots_within, undecided}
+use Rattle.decomp_tree.specs.PivotedShapes.{IsTakenBack, IsFoundAt, IsFound, all_lines, pivots_within, undecided}
 use Rattle.decomp_tree.specs.PivotedLaws.{OpenLinesAreLeft}
 use Rattle.decomp_tree.proofs.FaultLines.{lines_themselves}
 use Rattle.decomp_tree.proofs.PivotedRoots.{all_are_lines}

@@ -1,18 +1,18 @@
 -- Decompositions of whole matrices with what pivots find.
-use Rattle.std.proofs.Common.{◌≡◌, ◌≤◌, ◌<◌, ◌+◌, ◌-◌, ◌∙◌, ℕ, zero, suc, min, [], length, get_or, refl, ap, ap₂, sym, subst, arith}
+use Rattle.std.proofs.Common.{◌≡◌, ◌≤◌, ◌<◌, ◌+◌, ◌-◌, ◌∙◌, ℕ, suc, min, List, [], refl, ap, ap₂, sym, subst, arith}
 use Rattle.std.proofs.Math.Nat.{min-le_right, zero-min}
 use Rattle.std.specs.List.{AllByRecursion}
 use Rattle.std.proofs.lemmas.List.FromFn.{length-range_with_len}
 use Rattle.cmr_base.specs.declared.line_set.LineSet.{LineSet}
 use Rattle.cmr_base.specs.Matrix.{Matrix, height, IsMatrix}
-use Rattle.cmr_base.specs.LineSets.{AllBelow, IsRowSet, IsColumnSet, first_lines}
+use Rattle.cmr_base.specs.LineSets.{AllBelow, first_lines}
 use Rattle.tree_type.specs.Trees.{Finding, Tree, Trees, Branch, NoTrees, MoreTrees, count_trees, lines_of}
 use Rattle.tree_type.specs.Invariant.{AreLines, IsTreeFor, IsTreeWithin, AreTreesWithin, HasChildren, size_of}
 use Rattle.tree_type.specs.Places.{AllLines, places_from}
 use Rattle.tree_type.specs.Soundness.{IsSoundTree}
 use Rattle.decomp_tree.specs.Refined.{Refines, AllRefine}
-use Rattle.decomp_tree.specs.Shapes.{IsShape, IsShapedAt}
-use Rattle.decomp_tree.specs.PivotedShapes.{IsDrawnWith, IsFound, IsShapeWith, all_lines, pivots_within, undecided}
+use Rattle.decomp_tree.specs.Shapes.{IsShapedAt}
+use Rattle.decomp_tree.specs.PivotedShapes.{IsDrawnWith, IsFound, IsShapeWith, all_lines, pivots_within}
 use Rattle.decomp_tree.specs.PivotedLaws.{PivotedShapesAreTrees, PivotedShapesAreSound, NoPivotsChangeNothing}
 use Rattle.decomp_tree.proofs.OnePivoted.{all_themselves}
 use Rattle.decomp_tree.proofs.FaultLines.{lines_themselves}
@@ -64,6 +64,20 @@ pivoted_shapes_are_trees limit pivots m tree is d =
 pub pivoted_shapes_are_sound : PivotedShapesAreSound
 pivoted_shapes_are_sound limit pivots m tree few is d =
     drawn_with_sound limit few (pivots_within m pivots) 1 m (all_lines m) tree is d (all_are_lines m is) [] (AllLines (height m) m.width) (refl, refl) (root_is_whole limit pivots m tree d)
+
+-- the tree of all lines
+module _ (limit pivots within : ℕ) (m : Matrix) (lines : LineSet) (rows : lines.rows ≡ first_lines (height m)) (columns : lines.columns ≡ first_lines m.width) (is_within : within ≡ pivots_within m pivots) (tree : Tree) where
+  pub whole_shape : IsDrawnWith limit within 1 m lines tree → IsShapeWith limit pivots m tree
+  whole_shape d =
+      let all : lines ≡ all_lines m = ap₂ (λ (r c : List ℕ). let set : LineSet = record { rows = r; columns = c } in set) rows columns in
+      subst (λ (some : LineSet). IsDrawnWith limit (pivots_within m pivots) 1 m some tree) all (subst (λ k. IsDrawnWith limit k 1 m lines tree) is_within d)
+
+  module _ (is : IsMatrix m) (r w : ℕ) (e : r ≡ height m) (f : w ≡ m.width) where
+    pub whole_tree : IsDrawnWith limit within 1 m lines tree → IsTreeFor r w tree
+    whole_tree d = subst (λ k. IsTreeFor k w tree) (sym e) (subst (λ k. IsTreeFor (height m) k tree) (sym f) (pivoted_shapes_are_trees limit pivots m tree is (whole_shape d)))
+
+    pub whole_sound : limit ≤ 24 → IsDrawnWith limit within 1 m lines tree → IsSoundTree m r w tree
+    whole_sound few d = subst (λ k. IsSoundTree m k w tree) (sym e) (subst (λ k. IsSoundTree m (height m) k tree) (sym f) (pivoted_shapes_are_sound limit pivots m tree few is (whole_shape d)))
 
 -- where nothing is found each undecided node stays
 module _ (limit state : ℕ) (m : Matrix) where

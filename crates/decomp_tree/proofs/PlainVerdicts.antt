@@ -1,5 +1,5 @@
 -- The verdict of a tree does not depend on what its networks say.
-use Rattle.std.proofs.Common.{◌≡◌, ◌∙◌, ℕ, Option, refl, ap, ap₂, sym}
+use Rattle.std.proofs.Common.{◌≡◌, Option, refl, ap₂}
 use Rattle.std.specs.Option.{option_or}
 use Rattle.cmr_base.specs.declared.line_set.LineSet.{LineSet}
 use Rattle.tree_type.specs.Trees.{Finding, Empty, Cycle, Reduced, OneSum, Network, Conetwork, R10, TwoSum, ThreeSum, Enumerated, Violator, Undecided, Pivoted, Tree, Trees, Branch, NoTrees, MoreTrees}

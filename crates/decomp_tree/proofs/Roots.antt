@@ -1,5 +1,5 @@
 -- The tree of all lines of a matrix.
-use Rattle.std.proofs.Common.{◌≡◌, ◌≤◌, ℕ, List, get_or, sym, subst}
+use Rattle.std.proofs.Common.{◌≡◌, ◌≤◌, ℕ, get_or, sym, subst}
 use Rattle.cmr_base.specs.declared.line_set.LineSet.{LineSet}
 use Rattle.cmr_base.specs.Matrix.{Matrix, height, IsMatrix}
 use Rattle.cmr_base.specs.LineSets.{IsRowSet, IsColumnSet, first_lines}

@@ -13,7 +13,6 @@ use Rattle.tree_type.specs.Soundness.{HasItsSizes, HasItsLines, Demands, MayStan
 use Rattle.tree_type.proofs.PlacedLines.{lines_within}
 use Rattle.decomp_tree.specs.Laws.{ShapesAreSound}
 use Rattle.decomp_tree.specs.Shapes.{Case, HasNoLines, HasFault, IsReducible, IsApart, IsNetwork, IsConetwork, IsR10Matrix, IsTwoSum, IsThreeSum, IsShort, IsLeft, Says, finding_in, IsShapedAt, HasParts, set_in}
-use Rattle.tree_type.specs.Soundness.{part}
 use Rattle.decomp_tree.proofs.ShapeRules.{keeps}
 
 -- a node that meets what each rule demands keeps all

@@ -1,34 +1,11 @@
 -- Trees that say yes, which alone may stand below pivots.
-use Rattle.std.proofs.Common.{◌≡◌, ◌≢◌, ◌≤◌, ◌<◌, ◌+◌, ◌-◌, ◌∙◌, ◌++◌, ◌⊎◌, inl, inr, ℕ, zero, suc, Bool, false, pos, List, [], ◌∷◌, Option, Some, None, refl, ap, sym, subst, arith}
-use Rattle.std.specs.List.{AllByRecursion}
+use Rattle.std.proofs.Common.{◌≡◌, ◌⊎◌, inl, inr, List, [], ◌∷◌, Option, Some, None, refl, sym, subst}
 use Rattle.std.specs.Option.{option_or}
 use Rattle.cmr_base.specs.declared.line_set.LineSet.{LineSet}
-use Rattle.cmr_base.specs.Matrix.{Matrix, entry, IsMatrix}
-use Rattle.cmr_base.specs.Violator.{IsViolator}
-use Rattle.cmr_base.proofs.Lists.{all-append, all_front, all_back}
-use Rattle.pivots.specs.declared.drawn.DrawnPlace.{DrawnPlace}
-use Rattle.pivots.specs.declared.place.PivotPlace.{PivotPlace}
-use Rattle.pivots.specs.DrawnPlaces.{drawn_place}
-use Rattle.pivots.specs.PivotedParts.{IsPlaceIn, IsTernaryPivot, pivoted_part}
-use Rattle.pivots.proofs.PartLaws.{part_pivots_take_violators_back}
-use Rattle.tree_type.specs.declared.refusal.Rule.{Rule}
-use Rattle.tree_type.specs.declared.refusal.Rule.TheVariants as rule
-use Rattle.tree_type.specs.Trees.{Finding, Empty, Cycle, Reduced, OneSum, Network, Conetwork, R10, TwoSum, ThreeSum, Enumerated, Violator, Undecided, Pivoted, Tree, Trees, Branch, NoTrees, MoreTrees, one_tree, lines_of}
-use Rattle.tree_type.specs.Invariant.{AreLines, AreLinesOf, size_of, IsTreeWithin, AreTreesWithin}
-use Rattle.tree_type.specs.Places.{Due, These, MadePivot, Place, matrix_after, places_from, places_below, pivots_below, due_child, lines_of_each}
-use Rattle.tree_type.specs.Soundness.{HasItsSizes, HasItsLines, Demands, MayStand, KeepsAll}
-use Rattle.tree_type.specs.Verdicts.{Verdict, Yes, No, Open, first_in, first_among, fault_at, open_at, verdict_from, verdict_of}
-use Rattle.tree_type.proofs.PlacedLines.{lines_within}
-use Rattle.cert_check.proofs.PivotedMatrices.{lines_pivoted, pivoted_is_matrix}
-use Rattle.cert_check.proofs.SoundTrees.{fault_tree}
-use Rattle.decomp_tree.specs.Seen.{IsDrawn}
-use Rattle.decomp_tree.specs.Shapes.{IsShapedAt}
-use Rattle.decomp_tree.specs.Refined.{is_undecided, Refines, AllRefine}
-use Rattle.decomp_tree.specs.PivotedShapes.{AreBefore, IsShown, IsTakenBack, IsFoundAt, IsFound, IsDrawnWith, undecided}
-use Rattle.decomp_tree.proofs.FaultLines.{among_lines, fault_in, fault_of_verdict}
-use Rattle.decomp_tree.proofs.FoundTrees.{found_lines, drawn_with_lines, drawn_with_within, place_drawn}
-use Rattle.decomp_tree.proofs.RefinedTrees.{RefinedNode, replaced, kept, refined_node, refined_lines, refined_lines_each}
-use Rattle.decomp_tree.proofs.ShapeSound.{keeps_all, demanded, sizes_child, no_pivot}
+use Rattle.tree_type.specs.Trees.{Finding, Empty, Cycle, Reduced, OneSum, Network, Conetwork, R10, TwoSum, ThreeSum, Enumerated, Violator, Undecided, Pivoted, Tree, Trees, Branch, MoreTrees}
+use Rattle.tree_type.specs.Places.{MadePivot}
+use Rattle.tree_type.specs.Soundness.{MayStand}
+use Rattle.tree_type.specs.Verdicts.{Yes, first_in, first_among, fault_at, open_at, verdict_from, verdict_of}
 
 pub both_none : {A : Type 0} (a b : Option A) → option_or a b ≡ None → (a ≡ None) × (b ≡ None)
 both_none None b e = (refl, e)

@@ -1,5 +1,5 @@
 -- What is seen at a node, and the tree that is drawn of some lines.
-use Rattle.std.specs.Prelude.{◌≡◌, ◌<◌, ◌++◌, Bool, true, false, ℕ, suc, List, [], ◌∷◌, length, map, Contains}
+use Rattle.std.specs.Prelude.{◌≡◌, ◌<◌, Bool, true, false, ℕ, suc, List, [], ◌∷◌, length, map, Contains}
 use Rattle.std.specs.List.{AllByRecursion}
 use Rattle.cmr_base.specs.declared.line.Line.{Line}
 use Rattle.cmr_base.specs.declared.line.Line.TheVariants.{Row, Column}
@@ -116,9 +116,3 @@ abbrev pub AreDrawn : ℕ → Matrix → List LineSet → List Tree → Type 0
 AreDrawn limit m [] [] = Unit {0}
 AreDrawn limit m (lines ∷ children) (tree ∷ trees) = IsDrawn limit m lines tree × AreDrawn limit m children trees
 AreDrawn limit m children trees = ⊥
-
--- a tree of these lines stands behind some others
-pub record IsDrawnBehind (limit : ℕ) (m : Matrix) (lines : LineSet) (before after : List Tree) : Type 0 where
-  pub tree : Tree
-  pub order : after ≡ before ++ tree ∷ []
-  pub drawn : IsDrawn limit m lines tree
