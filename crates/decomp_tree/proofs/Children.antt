@@ -43,10 +43,3 @@ module _ (limit : ℕ) (m : Matrix) where
 
   pub some_drafted : (lines : LineSet) (drafts : List Draft) → IsDraftedBehind limit m lines [] (map sketch_of drafts) → length drafts ≡ 0 → ⊥
   some_drafted lines drafts d none = let one = sym (length-map drafts sketch_of) ∙ ap length d.order in omega (arith, one, none)
-
--- a tree that stands behind none is the only one
-pub only_behind : (Stands : Tree → Type 0) (others : List Node) (root : Node) → IsBehind Stands [] (map tree_of (others ++ root ∷ [])) → Stands (tree_of root)
-only_behind Stands others root d = subst Stands (sym (only_made tree_of others root d.tree d.order)) d.stands
-
-pub some_behind : (Stands : Tree → Type 0) (nodes : List Node) → IsBehind Stands [] (map tree_of nodes) → length nodes ≡ 0 → ⊥
-some_behind Stands nodes d none = let one = sym (length-map nodes tree_of) ∙ ap length d.order in omega (arith, one, none)

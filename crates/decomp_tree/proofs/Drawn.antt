@@ -89,30 +89,3 @@ module _ (limit : ℕ) (m : Matrix) where
   drawn_more [] (t ∷ trees) child tree d one = absurd d
   drawn_more (c ∷ children) [] child tree d one = absurd d
   drawn_more (c ∷ children) (t ∷ trees) child tree d one = (d.0, drawn_more children trees child tree d.1 one)
-
-  module _ (is : IsMatrix m) (lines : LineSet) (rows : lines.rows ≡ first_lines (height m)) (columns : lines.columns ≡ first_lines m.width) (row_set : IsRowSet m lines.rows) (column_set : IsColumnSet m lines.columns) where
-    all_few : size_of lines < 2001
-    all_few =
-        let a = length-rising lines.rows (height m) row_set.rising row_set.in_range in
-        let b = length-rising lines.columns m.width column_set.rising column_set.in_range in
-        let c = is.height_in in
-        let d = is.width_in in
-        omega (arith, a, b, c, d)
-
-    themselves : AreLinesOf lines lines
-    themselves = record { rows_rise = row_set.rising; columns_rise = column_set.rising; rows = λ row h. h; columns = λ column h. h }
-
-    pub whole_tree : (tree : Tree) → IsDrawn limit m lines tree → IsTreeFor (height m) m.width tree
-    whole_tree tree d = record {
-      rows_in = is.height_in;
-      columns_in = is.width_in;
-      root_rows = subst (λ l. AllBelow (height m) l.rows) (sym d.lines_are) row_set.in_range;
-      root_columns = subst (λ l. AllBelow m.width l.columns) (sym d.lines_are) column_set.in_range;
-      nodes = subst (λ l. IsTreeWithin l 2001 tree) (sym d.lines_are) (d.within lines 2001 themselves all_few);
-    }
-
-    pub whole_shape : (tree : Tree) → IsDrawn limit m lines tree → IsShape limit m tree
-    whole_shape tree d = d.shaped [] (AllLines (height m) m.width) (rows, columns)
-
-    pub whole_sound : (tree : Tree) → limit ≤ 24 → IsDrawn limit m lines tree → IsSoundTree m (height m) m.width tree
-    whole_sound tree few d = shapes_are_sound limit few m is tree (whole_tree tree d) (whole_shape tree d)

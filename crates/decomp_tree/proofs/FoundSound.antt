@@ -21,7 +21,6 @@ use Rattle.decomp_tree.specs.Refined.{Refines}
 use Rattle.decomp_tree.specs.PivotedShapes.{AreBefore, IsTakenBack, IsFoundAt, IsFound, IsDrawnWith}
 use Rattle.decomp_tree.proofs.FaultLines.{among_lines, fault_in, fault_of_verdict, lines_themselves}
 use Rattle.decomp_tree.proofs.FoundTrees.{found_lines, drawn_with_lines, drawn_with_within, place_drawn}
-
 use Rattle.decomp_tree.proofs.YesTrees.{MayBelow, says_yes}
 use Rattle.decomp_tree.proofs.PivotNodes.{IsSoundBelow, undecided_sound, violator_sound, pivot_sound}
 use Rattle.decomp_tree.proofs.RefinedSound.{refined_sound}

@@ -14,7 +14,6 @@ use Rattle.tree_type.specs.Places.{Due, These, MadePivot, matrix_after, places_f
 use Rattle.tree_type.specs.Soundness.{HasItsSizes, HasItsLines, Demands, KeepsAll}
 use Rattle.decomp_tree.specs.PivotedShapes.{undecided}
 use Rattle.decomp_tree.proofs.ShapeSound.{keeps_all}
-
 use Rattle.decomp_tree.proofs.YesTrees.{MayBelow, may_stand}
 
 -- the tree keeps all rules below these pivots

@@ -13,7 +13,6 @@ use Rattle.decomp_tree.specs.Shapes.{IsShapedAt}
 use Rattle.decomp_tree.specs.Refined.{Refines, AllRefine}
 use Rattle.decomp_tree.proofs.RefinedTrees.{RefinedNode, replaced, kept, refined_node, refined_lines_each}
 use Rattle.decomp_tree.proofs.ShapeSound.{keeps_all, demanded, sizes_child, no_pivot}
-
 use Rattle.decomp_tree.proofs.YesTrees.{MayBelow, AllMayBelow, may_stand, may_children, may_first}
 use Rattle.decomp_tree.proofs.PivotNodes.{IsSoundBelow}
 

@@ -42,14 +42,17 @@ IsFoundAt IsTree m lines None tree = tree ≡ undecided lines
 IsFoundAt IsTree m lines (Some drawn) tree =
     IsShown m lines drawn.place tree
     ⊎ (IsTernaryPivot m lines drawn.place
-    × (after : Tree) × IsTree drawn.state (pivoted_part m lines drawn.place) after × IsTakenBack m lines drawn.place after (verdict_of after) tree)
+    × (after : Tree) × IsTree drawn.state (pivoted_part m lines drawn.place) after
+    × IsTakenBack m lines drawn.place after (verdict_of after) tree)
 
 -- What stands in the place of an undecided node on these lines where so many pivots may still be made, of which the first is
 -- drawn from this state. The submatrix after a pivot has a decomposition of its own, in which one pivot fewer may be made.
 abbrev pub IsFound : ℕ → ℕ → ℕ → Matrix → LineSet → Tree → Type 0
 IsFound limit zero state m lines tree = tree ≡ undecided lines
 IsFound limit (suc pivots) state m lines tree =
-    IsFoundAt (λ next after found. (shape : Tree) × IsDrawn limit after lines shape × Refines (IsFound limit pivots next after) shape found)
+    IsFoundAt
+    (λ next after found. (shape : Tree) × IsDrawn limit after lines shape
+    × Refines (IsFound limit pivots next after) shape found)
     m lines (drawn_place m lines state) tree
 
 -- the decomposition of the submatrix on some lines, with what is found by pivots in the places of its undecided nodes

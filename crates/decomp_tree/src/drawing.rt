@@ -39,15 +39,7 @@ pub fn decompose<R: Threads + Sync>(
     let lines = LineSet::all(alloc, matrix.rows(), matrix.columns())?;
     let search = Search { limit, workers };
     let within = pivots_within(matrix, pivots);
-    let root = draw_root(
-        rt,
-        alloc,
-        matrix,
-        &lines,
-        search,
-        within,
-        FIRST_STATE,
-    )?;
+    let root = draw_root(rt, alloc, matrix, &lines, search, within, FIRST_STATE)?;
     Ok(DecTree::make(matrix.rows(), matrix.columns(), root))
 }
 

@@ -47,9 +47,7 @@ pub fn draw_root<R: Threads + Sync>(
 {
     let drawn = draft_root(rt, alloc, matrix, lines, search.limit, search.workers)?;
     let mut roots = Vec::new(alloc);
-    settle(
-        rt, alloc, matrix, drawn, search, pivots, state, &mut roots,
-    )?;
+    settle(rt, alloc, matrix, drawn, search, pivots, state, &mut roots)?;
     let Some(root) = roots.pop() else {
         unreachable!()
     };
@@ -140,15 +138,7 @@ fn find<R: Threads + Sync>(
     match pivot_part(alloc, matrix, lines, drawn.place)? {
         PivotedPart::Violated(fault) => leaf(alloc, lines, Finding::Violator(fault)),
         PivotedPart::Ternary(after) => {
-            let tree = draw_root(
-                rt,
-                alloc,
-                &after,
-                lines,
-                search,
-                pivots - 1,
-                drawn.state,
-            )?;
+            let tree = draw_root(rt, alloc, &after, lines, search, pivots - 1, drawn.state)?;
             taken_back(alloc, matrix, lines, drawn.place, tree)
         }
     }

@@ -37,17 +37,17 @@ pub fn taken_back(
 }
 
 // The pivoted node above a tree.
-fn above(
-    alloc: Global,
-    lines: &LineSet,
-    place: PivotPlace,
-    after: Node,
-) -> Result<Node, Memory>
+fn above(alloc: Global, lines: &LineSet, place: PivotPlace, after: Node) -> Result<Node, Memory>
     ensures { IfOk result (λ node. tree_of node ≡ Branch lines.now (Pivoted place) (one_tree (tree_of after))) }
 {
     let mut children = Vec::new(alloc);
     children.push(after)?;
-    join_node(alloc, copy_of(alloc, lines)?, Finding::Pivoted(place), children)
+    join_node(
+        alloc,
+        copy_of(alloc, lines)?,
+        Finding::Pivoted(place),
+        children,
+    )
 }
 
 /// The leaf that says this of some lines.

@@ -54,7 +54,7 @@ find-returns-in_ok-tree-in-Ternary g t c =
     let found = tree_of c.in_ok-tree-in-Ternary.tree in
     IfOk-weaker c.taken_back.result (λ node. IsTakenBack c.args.matrix.now c.args.lines.now c.in-Some.drawn.place found (verdict_of found) (tree_of node)) _
     (λ node told. found_after c.args.search.limit c.args.pivots c.args.state c.args.matrix.now c.args.lines.now c.in-Some.drawn (sym c.drawn_place.ensures.drawn ∙ c.in-Some.is) (tree_of node) found c.in-Ternary.after c.if-pivots-eq0.false made
-        c.in_ok-tree-in-Ternary.ensures told)
+    c.in_ok-tree-in-Ternary.ensures told)
     c.taken_back.ensures
 
 -- ---- a draft that is settled
