@@ -42,7 +42,13 @@ fn ends_so<R: Threads + Sync + Abort + AllocGlobal>(
 #[test]
 fn a_yes_behind_pivots(rt: HostRuntime) -> Result<(), Fail> {
     let mut on = devices_with(&rt, TWO_GOODS)?;
-    ends_so(&rt, &mut on, "tu --lines 0 f", 6, "totally unimodular: undecided\n")?;
+    ends_so(
+        &rt,
+        &mut on,
+        "tu --lines 0 f",
+        6,
+        "totally unimodular: undecided\n",
+    )?;
     ends_so(
         &rt,
         &mut on,

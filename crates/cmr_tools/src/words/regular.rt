@@ -9,8 +9,7 @@ use clap::{ArgMatches, Command};
 use cmr_base::Word;
 use cmr_front::words::arguments::{CHAIN, OUTPUT, TREE};
 use cmr_front::words::parsing::{
-    fault_in, file_in, form_in, lines_in, matches_with_input, pivots_in, value_in,
-    workers_in,
+    fault_in, file_in, form_in, lines_in, matches_with_input, pivots_in, value_in, workers_in,
 };
 use cmr_front::words::{WordsError, arguments};
 use std::alloc::{AllocError, Global};
