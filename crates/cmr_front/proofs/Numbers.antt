@@ -9,7 +9,7 @@ use Rattle.clap.specs.Values.{IsSignedIn}
 use Rattle.clap.specs.ValueTests.{is_signed_in}
 use Rattle.clap.specs.declared.builder.value_parser.ValueParser.TheVariants as vp
 use Rattle.clap.proofs.ValueTestLemmas.{Accepts-accepts, accepts-Accepts}
-use Rattle.cmr_front.specs.Words.Parsing.{lines_in, number_from, workers_in}
+use Rattle.cmr_front.specs.Words.Parsing.{lines_in, number_from, pivots_in, workers_in}
 
 number_from-some : (least most : ℕ) (text : List ℕ) → IsSignedIn (pos least) (pos most) text → number_from least most text ≡ Some (digits_value 10 (without_leading_sign text))
 number_from-some least most text h = ap (λ (b : Bool). cond b (Some (digits_value 10 (without_leading_sign text))) None) (Accepts-accepts false (vp.Signed (pos least) (pos most)) text h)
@@ -50,13 +50,20 @@ number_from-between least most text n e = go (is_signed_in (pos least) (pos most
         subst (λ (d : ℕ). (least ≤ d) × (d ≤ most)) same (of_sign (starts_with_minus text) (digits_value 10 (without_leading_sign text)) within.2 within.3)
     go false is e = cc
 
--- the lines and the workers that words name
+-- the lines, the pivots and the workers that words name
 pub lines_in-le : (rows : List Row) (lines : ℕ) → lines_in rows ≡ Some lines → lines ≤ 24
 lines_in-le rows lines e = go (first_of (codes "lines") rows) e
   where
     go : (text : Option Text) → option_map_or (number_from 0 24) text (Some 14) ≡ Some lines → lines ≤ 24
     go None e = let same : 14 ≡ lines = cc in omega arith
     go (Some text) e = (number_from-between 0 24 text lines e).1
+
+pub pivots_in-le : (rows : List Row) (pivots : ℕ) → pivots_in rows ≡ Some pivots → pivots ≤ 100
+pivots_in-le rows pivots e = go (first_of (codes "pivots") rows) e
+  where
+    go : (text : Option Text) → option_map_or (number_from 0 100) text (Some 0) ≡ Some pivots → pivots ≤ 100
+    go None e = let same : 0 ≡ pivots = cc in omega arith
+    go (Some text) e = (number_from-between 0 100 text pivots e).1
 
 pub workers_in-between : (rows : List Row) (workers : ℕ) → workers_in rows ≡ Some workers → (1 ≤ workers) × (workers ≤ 64)
 workers_in-between rows workers e = go (first_of (codes "workers") rows) e

@@ -10,7 +10,7 @@ use Rattle.tree_type.specs.Soundness.{IsSound}
 use Rattle.tree_type.specs.Trees.{SizedTree, Tree, tree_of}
 use Rattle.tree_type.specs.Verdicts as verdicts
 use Rattle.tree_type.specs.Verdicts.{verdict_of}
-use Rattle.decomp_tree.specs.Shapes.{IsShape}
+use Rattle.decomp_tree.specs.PivotedShapes.{IsShapeWith}
 use Rattle.decomp_tree.proofs.OneVerdict.{one_verdict}
 use Rattle.cert_check.specs.Laws.{Tells}
 use Rattle.cert_check.proofs.SoundTrees.{tells}
@@ -29,9 +29,9 @@ use Rattle.cmr_front.proofs.Statuses.{status_of}
 use Rattle.cmr_reach.specs.Balanced.{BalancedDecides, BalancedMeans, IsDecomposed, IsFaultOf, IsInRanges, IsUndecided, IsUntold, balanced_source, balanced_tool, cycle, decomposed, search_report, searched}
 use Rattle.clap.specs.Words.{Row, Text}
 use Rattle.cmr_front.specs.declared.matrix_file.MatrixForm.{MatrixForm}
-use Rattle.cmr_front.specs.Words.Parsing.{fault_in, file_in, form_in, lines_in, matches_with_input, workers_in}
+use Rattle.cmr_front.specs.Words.Parsing.{fault_in, file_in, form_in, lines_in, matches_with_input, pivots_in, workers_in}
 use Rattle.cmr_front.specs.Words.Reading.{◌>>=◌}
-use Rattle.cmr_front.proofs.Numbers.{lines_in-le, workers_in-between}
+use Rattle.cmr_front.proofs.Numbers.{lines_in-le, pivots_in-le, workers_in-between}
 use Rattle.cmr_reach.specs.Words.Balanced.{BalancedOrder, balanced_app, balanced_order, balanced_order_in}
 use Rattle.cmr_reach.proofs.CamionAnswers.{not_both}
 
@@ -48,9 +48,9 @@ least_is_fault m lines is = elim (cases_lt m.width (height m)) [
 pub cycle_is_fault : (m : Matrix) (lines : LineSet) → IsMatrix m → IsCycleFault m lines.rows lines.columns → IsFaultOf m lines
 cycle_is_fault m lines shape is = record { row_set = is.row_set; column_set = is.column_set; balance_fault = cycle_fault_unbalanced m shape lines.rows lines.columns is }
 
--- all decompositions within a budget say yes, or none does
-pub undecomposed : (budget : ℕ) (m : Matrix) (tree : Tree) → IsTreeFor (height m) m.width tree → IsShape budget m tree → ¬ (verdict_of tree ≡ verdicts.Yes) → ¬ (IsDecomposed budget m)
-undecomposed budget m tree is shape apart other = apart (one_verdict budget m tree other.tree is other.is_tree shape other.shape ∙ other.verdict)
+-- all decompositions within a budget and with so many pivots say yes, or none does
+pub undecomposed : (budget pivots : ℕ) (m : Matrix) (tree : Tree) → IsTreeFor (height m) m.width tree → IsShapeWith budget pivots m tree → ¬ (verdict_of tree ≡ verdicts.Yes) → ¬ (IsDecomposed budget pivots m)
+undecomposed budget pivots m tree is shape apart other = apart (one_verdict budget pivots m tree other.tree is other.is_tree shape other.shape ∙ other.verdict)
 
 pub tree_for : (m : Matrix) (tree : SizedTree) → tree.rows ≡ height m → tree.columns ≡ m.width → IsDecTree tree → IsTreeFor (height m) m.width (tree_of tree.root)
 tree_for m tree rows columns is = subst (λ n. IsTreeFor n m.width (tree_of tree.root)) rows (subst (λ n. IsTreeFor tree.rows n (tree_of tree.root)) columns is)
@@ -98,13 +98,13 @@ module _ (o : BalancedOrder) (m : Matrix) where
   says_no fault is Undecided e = absurd (omega arith)
   says_no fault is Refused e = absurd (omega arith)
 
-  says_open : IsUndecided o.lines m → (answer : Answer) → 6 ≡ answer_status answer → BalancedMeans o m answer
+  says_open : IsUndecided o.lines o.pivots m → (answer : Answer) → 6 ≡ answer_status answer → BalancedMeans o m answer
   says_open is Yes e = absurd (omega arith)
   says_open is No e = absurd (omega arith)
   says_open is Undecided e = is
   says_open is Refused e = absurd (omega arith)
 
-  says_found : IsUntold o.lines m → (found : BalanceSearch) → HasSearchedFaults m o.lines found → (answer : Answer) → (search_report o m found).status ≡ answer_status answer → BalancedMeans o m answer
+  says_found : IsUntold o.lines o.pivots m → (found : BalanceSearch) → HasSearchedFaults m o.lines found → (answer : Answer) → (search_report o m found).status ≡ answer_status answer → BalancedMeans o m answer
   says_found untold Clean has answer e = says_yes has.1 answer e
   says_found untold (Found lines) has answer e = says_no lines (least_is_fault m lines has.1) answer e
   says_found untold (TooMany shorter) has answer e = says_open (record { untold = untold; above = subst (λ n. o.lines < n) has.1 has.0 }) answer e
@@ -121,15 +121,18 @@ balanced_lawful o = lawful (balanced_source o) (BalancedDecides o) (BalancedMean
 pub balanced_order-ranges : (words : List Text) (o : BalancedOrder) → balanced_order words ≡ Some o → IsInRanges o
 balanced_order-ranges words o e = go (matches_with_input balanced_app words) e
   where
-    of_values : (form : Option MatrixForm) (lines workers : Option ℕ) (rows : List Row) → ((n : ℕ) → lines ≡ Some n → n ≤ 24) → ((n : ℕ) → workers ≡ Some n → (1 ≤ n) × (n ≤ 64))
-        → (form >>= (λ f. lines >>= (λ l. workers >>= (λ w. Some (record { form = f; lines = l; workers = w; fault = fault_in rows; file = file_in rows }))))) ≡ Some o → IsInRanges o
-    of_values None lines workers rows few some e = cc
-    of_values (Some f) None workers rows few some e = cc
-    of_values (Some f) (Some l) None rows few some e = cc
-    of_values (Some f) (Some l) (Some w) rows few some e =
-        let same : ◌≡◌ {A = BalancedOrder} (record { form = f; lines = l; workers = w; fault = fault_in rows; file = file_in rows }) o = cc in
-        subst IsInRanges same (record { lines = few l refl; some = (some w refl).0; workers = (some w refl).1 })
+    of_values : (form : Option MatrixForm) (lines pivots workers : Option ℕ) (rows : List Row) → ((n : ℕ) → lines ≡ Some n → n ≤ 24) → ((n : ℕ) → pivots ≡ Some n → n ≤ 100)
+        → ((n : ℕ) → workers ≡ Some n → (1 ≤ n) × (n ≤ 64))
+        → (form >>= (λ f. lines >>= (λ l. pivots >>= (λ p. workers >>= (λ w. Some (record { form = f; lines = l; pivots = p; workers = w; fault = fault_in rows; file = file_in rows })))))) ≡ Some o
+        → IsInRanges o
+    of_values None lines pivots workers rows few bound some e = cc
+    of_values (Some f) None pivots workers rows few bound some e = cc
+    of_values (Some f) (Some l) None workers rows few bound some e = cc
+    of_values (Some f) (Some l) (Some p) None rows few bound some e = cc
+    of_values (Some f) (Some l) (Some p) (Some w) rows few bound some e =
+        let same : ◌≡◌ {A = BalancedOrder} (record { form = f; lines = l; pivots = p; workers = w; fault = fault_in rows; file = file_in rows }) o = cc in
+        subst IsInRanges same (record { lines = few l refl; pivots = bound p refl; some = (some w refl).0; workers = (some w refl).1 })
 
     go : (rows : Option (List Row)) → (rows >>= balanced_order_in) ≡ Some o → IsInRanges o
     go None e = cc
-    go (Some rows) e = of_values (form_in rows) (lines_in rows) (workers_in rows) rows (lines_in-le rows) (workers_in-between rows) e
+    go (Some rows) e = of_values (form_in rows) (lines_in rows) (pivots_in rows) (workers_in rows) rows (lines_in-le rows) (pivots_in-le rows) (workers_in-between rows) e

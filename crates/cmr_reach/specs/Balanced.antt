@@ -13,7 +13,7 @@ use Rattle.tree_type.specs.Invariant.{IsTreeFor}
 use Rattle.tree_type.specs.Trees.{Tree}
 use Rattle.tree_type.specs.Verdicts as verdicts
 use Rattle.tree_type.specs.Verdicts.{verdict_of}
-use Rattle.decomp_tree.specs.Shapes.{IsShape}
+use Rattle.decomp_tree.specs.PivotedShapes.{IsShapeWith}
 use Rattle.cmr_front.specs.declared.status.Answer.{Answer}
 use Rattle.cmr_front.specs.declared.status.Answer.TheVariants.{Yes, No, Undecided, Refused}
 use Rattle.cmr_front.specs.MatrixText.{Source, matrix_tool, source}
@@ -25,11 +25,11 @@ use Rattle.cmr_reach.specs.Words.Balanced.{BalancedOrder}
 abbrev pub balanced_label : List ℕ
 balanced_label = codes "balanced"
 
--- the decomposition of the matrix within the budget says that it is totally unimodular
-pub record IsDecomposed (budget : ℕ) (m : Matrix) : Type 0 where
+-- the decomposition of the matrix within the budget and with so many pivots says that it is totally unimodular
+pub record IsDecomposed (budget pivots : ℕ) (m : Matrix) : Type 0 where
   pub tree : Tree
   pub is_tree : IsTreeFor (height m) m.width tree
-  pub shape : IsShape budget m tree
+  pub shape : IsShapeWith budget pivots m tree
   pub verdict : verdict_of tree ≡ verdicts.Yes
 
 -- these lines are a fault
@@ -39,9 +39,9 @@ pub record IsFaultOf (m : Matrix) (fault : LineSet) : Type 0 where
   pub balance_fault : IsBalanceFault (entry m) fault.rows fault.columns
 
 -- neither a cycle fault nor the decomposition decides
-pub record IsUntold (budget : ℕ) (m : Matrix) : Type 0 where
+pub record IsUntold (budget pivots : ℕ) (m : Matrix) : Type 0 where
   pub no_fault : HasNoCycleFault (entry m)
-  pub undecomposed : ¬ (IsDecomposed budget m)
+  pub undecomposed : ¬ (IsDecomposed budget pivots m)
 
 -- what a search finds: no fault, the least one, or too many lines
 abbrev pub search_report : BalancedOrder → Matrix → BalanceSearch → Report
@@ -53,23 +53,24 @@ search_report o m (TooMany shorter) = open_report balanced_label m
 -- its shorter side finds within the budget.
 pub data BalancedDecides (o : BalancedOrder) (m : Matrix) (report : Report) : Type 0 where
   cycle : (fault : LineSet) → IsCycleFault m fault.rows fault.columns → IsFaultOf m fault → report ≡ fault_report balanced_label o.fault m fault → BalancedDecides o m report
-  decomposed : HasNoCycleFault (entry m) → IsDecomposed o.lines m → IsBalanced m → report ≡ yes_report balanced_label → BalancedDecides o m report
-  searched : IsUntold o.lines m → (found : BalanceSearch) → HasSearchedFaults m o.lines found → report ≡ search_report o m found → BalancedDecides o m report
+  decomposed : HasNoCycleFault (entry m) → IsDecomposed o.lines o.pivots m → IsBalanced m → report ≡ yes_report balanced_label → BalancedDecides o m report
+  searched : IsUntold o.lines o.pivots m → (found : BalanceSearch) → HasSearchedFaults m o.lines found → report ≡ search_report o m found → BalancedDecides o m report
 
 -- what an answer leaves open: nothing but a search decides, and the shorter side has too many lines for it
-pub record IsUndecided (budget : ℕ) (m : Matrix) : Type 0 where
-  pub untold : IsUntold budget m
+pub record IsUndecided (budget pivots : ℕ) (m : Matrix) : Type 0 where
+  pub untold : IsUntold budget pivots m
   pub above : budget < shorter_side m
 
 abbrev pub BalancedMeans : BalancedOrder → Matrix → Answer → Type 0
 BalancedMeans o m Yes = IsBalanced m
 BalancedMeans o m No = (fault : LineSet) × IsFaultOf m fault
-BalancedMeans o m Undecided = IsUndecided o.lines m
+BalancedMeans o m Undecided = IsUndecided o.lines o.pivots m
 BalancedMeans o m Refused = ⊥
 
 -- the ranges of its numbers
 pub record IsInRanges (o : BalancedOrder) : Type 0 where
   pub lines : o.lines ≤ 24
+  pub pivots : o.pivots ≤ 100
   pub some : 1 ≤ o.workers
   pub workers : o.workers ≤ 64
 

@@ -31,6 +31,8 @@ pub struct BalancedOptions<'a> {
     pub form: MatrixForm,
     /// The most lines on the shorter side of what is searched whole, 0 to 24.
     pub lines: u32,
+    /// The most pivots of the decomposition on the way to a node where nothing else decides it, 0 to 100.
+    pub pivots: u32,
     /// How many workers share a search, 1 to 64. The answer does not depend on it.
     pub workers: u32,
     /// The file that gets the fault where there is one.

@@ -70,7 +70,7 @@ says : (o : GenerateOrder) (r : Report) (answer : Answer) → GenerateDecides o 
 says o r answer d is =
     let v = d.verdict in
     let status : answer_status (answer_of (verdict_in v.tree)) ≡ answer_status answer = sym (status_of d.told _ v.report_is) ∙ sym (status_of r _ d.report_is) ∙ is in
-    (d.made, d.is_made, unimodular_means o.lines d.made v.tree v.decomposition v.told answer status)
+    (d.made, d.is_made, unimodular_means o.lines o.pivots d.made v.tree v.decomposition v.told answer status)
 
 pub generate_lawful : (o : GenerateOrder) → IsLawful (generate_tool o)
 generate_lawful o = record { one_status = λ bytes. one_status o; means = λ bytes. says o }

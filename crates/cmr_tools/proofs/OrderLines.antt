@@ -6,7 +6,7 @@ use Rattle.cmr_front.specs.declared.matrix_file.MatrixForm.{MatrixForm}
 use Rattle.cmr_tools.specs.Tools.{tool_of}
 use Rattle.cmr_tools.specs.declared.options.Property.TheVariants.{Graphic, Network}
 use Rattle.cmr_tools.specs.Words.{Order, order, tu, regular, series_parallel, test, generate, check, upgrade, camion, sign, balanced, parts, compose}
-use Rattle.cmr_front.specs.Words.Parsing.{fault_in, file_in, form_in, lines_in, matches_in, matches_with_input, number_from, workers_in}
+use Rattle.cmr_front.specs.Words.Parsing.{fault_in, file_in, form_in, lines_in, matches_in, matches_with_input, number_from, pivots_in, workers_in}
 use Rattle.cmr_front.specs.Words.Reading.{◌>>=◌}
 use Rattle.generate.specs.declared.making.MakeKind.{MakeKind}
 use Rattle.cmr_tools.specs.Generate.{IsInRange}
@@ -26,36 +26,39 @@ use Rattle.cmr_reach.specs.Words.Parts.{parts_order}
 use Rattle.cmr_reach.specs.Words.Sign.{sign_order}
 use Rattle.cmr_reach.proofs.BalancedAnswers.{balanced_order-ranges}
 use Rattle.cmr_tools.specs.Words.Tu.{TuOrder, tu_app, tu_order, tu_order_in}
-use Rattle.cmr_front.proofs.Numbers.{lines_in-le, number_from-between, workers_in-between}
+use Rattle.cmr_front.proofs.Numbers.{lines_in-le, number_from-between, pivots_in-le, workers_in-between}
 
 -- the numbers that words of `tu` name
 tu_order-ranges : (words : List Text) (o : TuOrder) → tu_order words ≡ Some o → (tu_tool o).InRanges
 tu_order-ranges words o e = go (matches_with_input tu_app words) e
   where
-    order_with : List Row → MatrixForm → ℕ → ℕ → TuOrder
-    order_with rows form lines workers = record { form = form; lines = lines; workers = workers; tree = first_of (codes "tree") rows; fault = fault_in rows; file = file_in rows }
+    order_with : List Row → MatrixForm → ℕ → ℕ → ℕ → TuOrder
+    order_with rows form lines pivots workers = record { form = form; lines = lines; pivots = pivots; workers = workers; tree = first_of (codes "tree") rows; fault = fault_in rows; file = file_in rows }
 
-    of_values : (form : Option MatrixForm) (lines workers : Option ℕ) (rows : List Row) → ((n : ℕ) → lines ≡ Some n → n ≤ 24) → ((n : ℕ) → workers ≡ Some n → (1 ≤ n) × (n ≤ 64))
-        → (form >>= (λ f. lines >>= (λ l. workers >>= (λ w. Some (order_with rows f l w))))) ≡ Some o → (tu_tool o).InRanges
-    of_values None lines workers rows of_lines of_workers e = cc
-    of_values (Some f) None workers rows of_lines of_workers e = cc
-    of_values (Some f) (Some l) None rows of_lines of_workers e = cc
-    of_values (Some f) (Some l) (Some w) rows of_lines of_workers e =
-        let same : order_with rows f l w ≡ o = cc in
-        subst (λ (x : TuOrder). (tu_tool x).InRanges) same (of_lines l refl, (of_workers w refl).0, (of_workers w refl).1)
+    of_values : (form : Option MatrixForm) (lines pivots workers : Option ℕ) (rows : List Row) → ((n : ℕ) → lines ≡ Some n → n ≤ 24) → ((n : ℕ) → pivots ≡ Some n → n ≤ 100)
+        → ((n : ℕ) → workers ≡ Some n → (1 ≤ n) × (n ≤ 64))
+        → (form >>= (λ f. lines >>= (λ l. pivots >>= (λ p. workers >>= (λ w. Some (order_with rows f l p w)))))) ≡ Some o → (tu_tool o).InRanges
+    of_values None lines pivots workers rows of_lines of_pivots of_workers e = cc
+    of_values (Some f) None pivots workers rows of_lines of_pivots of_workers e = cc
+    of_values (Some f) (Some l) None workers rows of_lines of_pivots of_workers e = cc
+    of_values (Some f) (Some l) (Some p) None rows of_lines of_pivots of_workers e = cc
+    of_values (Some f) (Some l) (Some p) (Some w) rows of_lines of_pivots of_workers e =
+        let same : order_with rows f l p w ≡ o = cc in
+        subst (λ (x : TuOrder). (tu_tool x).InRanges) same (of_lines l refl, of_pivots p refl, (of_workers w refl).0, (of_workers w refl).1)
 
     go : (rows : Option (List Row)) → (rows >>= tu_order_in) ≡ Some o → (tu_tool o).InRanges
     go None e = cc
-    go (Some rows) e = of_values (form_in rows) (lines_in rows) (workers_in rows) rows (lines_in-le rows) (workers_in-between rows) e
+    go (Some rows) e = of_values (form_in rows) (lines_in rows) (pivots_in rows) (workers_in rows) rows (lines_in-le rows) (pivots_in-le rows) (workers_in-between rows) e
 
 -- the numbers that words of `regular` name
 regular_order-ranges : (words : List Text) (o : RegularOrder) → regular_order words ≡ Some o → (regular_tool o).InRanges
 regular_order-ranges words o e = go (matches_with_input regular_app words) e
   where
-    order_with : List Row → MatrixForm → ℕ → ℕ → RegularOrder
-    order_with rows form lines workers = record {
+    order_with : List Row → MatrixForm → ℕ → ℕ → ℕ → RegularOrder
+    order_with rows form lines pivots workers = record {
       form = form;
       lines = lines;
+      pivots = pivots;
       workers = workers;
       tree = first_of (codes "tree") rows;
       fault = fault_in rows;
@@ -64,18 +67,20 @@ regular_order-ranges words o e = go (matches_with_input regular_app words) e
       file = file_in rows;
     }
 
-    of_values : (form : Option MatrixForm) (lines workers : Option ℕ) (rows : List Row) → ((n : ℕ) → lines ≡ Some n → n ≤ 24) → ((n : ℕ) → workers ≡ Some n → (1 ≤ n) × (n ≤ 64))
-        → (form >>= (λ f. lines >>= (λ l. workers >>= (λ w. Some (order_with rows f l w))))) ≡ Some o → (regular_tool o).InRanges
-    of_values None lines workers rows of_lines of_workers e = cc
-    of_values (Some f) None workers rows of_lines of_workers e = cc
-    of_values (Some f) (Some l) None rows of_lines of_workers e = cc
-    of_values (Some f) (Some l) (Some w) rows of_lines of_workers e =
-        let same : order_with rows f l w ≡ o = cc in
-        subst (λ (x : RegularOrder). (regular_tool x).InRanges) same (of_lines l refl, (of_workers w refl).0, (of_workers w refl).1)
+    of_values : (form : Option MatrixForm) (lines pivots workers : Option ℕ) (rows : List Row) → ((n : ℕ) → lines ≡ Some n → n ≤ 24) → ((n : ℕ) → pivots ≡ Some n → n ≤ 100)
+        → ((n : ℕ) → workers ≡ Some n → (1 ≤ n) × (n ≤ 64))
+        → (form >>= (λ f. lines >>= (λ l. pivots >>= (λ p. workers >>= (λ w. Some (order_with rows f l p w)))))) ≡ Some o → (regular_tool o).InRanges
+    of_values None lines pivots workers rows of_lines of_pivots of_workers e = cc
+    of_values (Some f) None pivots workers rows of_lines of_pivots of_workers e = cc
+    of_values (Some f) (Some l) None workers rows of_lines of_pivots of_workers e = cc
+    of_values (Some f) (Some l) (Some p) None rows of_lines of_pivots of_workers e = cc
+    of_values (Some f) (Some l) (Some p) (Some w) rows of_lines of_pivots of_workers e =
+        let same : order_with rows f l p w ≡ o = cc in
+        subst (λ (x : RegularOrder). (regular_tool x).InRanges) same (of_lines l refl, of_pivots p refl, (of_workers w refl).0, (of_workers w refl).1)
 
     go : (rows : Option (List Row)) → (rows >>= regular_order_in) ≡ Some o → (regular_tool o).InRanges
     go None e = cc
-    go (Some rows) e = of_values (form_in rows) (lines_in rows) (workers_in rows) rows (lines_in-le rows) (workers_in-between rows) e
+    go (Some rows) e = of_values (form_in rows) (lines_in rows) (pivots_in rows) (workers_in rows) rows (lines_in-le rows) (pivots_in-le rows) (workers_in-between rows) e
 
 -- the numbers that words of `generate` name
 size_in-range : (what : MakeKind) (rows : List Row) (size : ℕ) → size_in what rows ≡ Some size → (1 ≤ size) × (size ≤ most_size what)
@@ -95,27 +100,29 @@ number_in-range rows number e = go (first_of (codes "number") rows) e
 generate_order-range : (words : List Text) (o : GenerateOrder) → generate_order words ≡ Some o → IsInRange o
 generate_order-range words o e = go (matches_in generate_app words) e
   where
-    order_with : MakeKind → Option (List ℕ) → ℕ → ℕ → ℕ → ℕ → GenerateOrder
-    order_with what output size number lines workers = record { what = what; size = size; number = number; lines = lines; workers = workers; output = output }
+    order_with : MakeKind → Option (List ℕ) → ℕ → ℕ → ℕ → ℕ → ℕ → GenerateOrder
+    order_with what output size number lines pivots workers = record { what = what; size = size; number = number; lines = lines; pivots = pivots; workers = workers; output = output }
 
-    of_values : (what : MakeKind) (output : Option (List ℕ)) (size number lines workers : Option ℕ)
+    of_values : (what : MakeKind) (output : Option (List ℕ)) (size number lines pivots workers : Option ℕ)
         → ((n : ℕ) → size ≡ Some n → (1 ≤ n) × (n ≤ most_size what)) → ((n : ℕ) → number ≡ Some n → n < 2 ^ 31) → ((n : ℕ) → lines ≡ Some n → n ≤ 24)
-        → ((n : ℕ) → workers ≡ Some n → (1 ≤ n) × (n ≤ 64))
-        → (size >>= (λ s. number >>= (λ n. lines >>= (λ l. workers >>= (λ w. Some (order_with what output s n l w)))))) ≡ Some o → IsInRange o
-    of_values what output None number lines workers of_size of_number of_lines of_workers e = cc
-    of_values what output (Some s) None lines workers of_size of_number of_lines of_workers e = cc
-    of_values what output (Some s) (Some n) None workers of_size of_number of_lines of_workers e = cc
-    of_values what output (Some s) (Some n) (Some l) None of_size of_number of_lines of_workers e = cc
-    of_values what output (Some s) (Some n) (Some l) (Some w) of_size of_number of_lines of_workers e =
-        let same : order_with what output s n l w ≡ o = cc in
-        subst IsInRange same (record { positive = (of_size s refl).0; size = (of_size s refl).1; number = of_number n refl; lines = of_lines l refl; workers = of_workers w refl })
+        → ((n : ℕ) → pivots ≡ Some n → n ≤ 100) → ((n : ℕ) → workers ≡ Some n → (1 ≤ n) × (n ≤ 64))
+        → (size >>= (λ s. number >>= (λ n. lines >>= (λ l. pivots >>= (λ p. workers >>= (λ w. Some (order_with what output s n l p w))))))) ≡ Some o → IsInRange o
+    of_values what output None number lines pivots workers of_size of_number of_lines of_pivots of_workers e = cc
+    of_values what output (Some s) None lines pivots workers of_size of_number of_lines of_pivots of_workers e = cc
+    of_values what output (Some s) (Some n) None pivots workers of_size of_number of_lines of_pivots of_workers e = cc
+    of_values what output (Some s) (Some n) (Some l) None workers of_size of_number of_lines of_pivots of_workers e = cc
+    of_values what output (Some s) (Some n) (Some l) (Some p) None of_size of_number of_lines of_pivots of_workers e = cc
+    of_values what output (Some s) (Some n) (Some l) (Some p) (Some w) of_size of_number of_lines of_pivots of_workers e =
+        let same : order_with what output s n l p w ≡ o = cc in
+        subst IsInRange same
+        (record { positive = (of_size s refl).0; size = (of_size s refl).1; number = of_number n refl; lines = of_lines l refl; pivots = of_pivots p refl; workers = of_workers w refl })
 
     of_kind : (what : Option MakeKind) (rows : List Row)
-        → (what >>= (λ k. size_in k rows >>= (λ s. number_in rows >>= (λ n. lines_in rows >>= (λ l. workers_in rows >>= (λ w. Some (order_with k (first_of (codes "output") rows) s n l w))))))) ≡ Some o → IsInRange o
+        → (what >>= (λ k. size_in k rows >>= (λ s. number_in rows >>= (λ n. lines_in rows >>= (λ l. pivots_in rows >>= (λ p. workers_in rows >>= (λ w. Some (order_with k (first_of (codes "output") rows) s n l p w)))))))) ≡ Some o → IsInRange o
     of_kind None rows e = cc
     of_kind (Some k) rows e =
-        of_values k (first_of (codes "output") rows) (size_in k rows) (number_in rows) (lines_in rows) (workers_in rows)
-        (size_in-range k rows) (number_in-range rows) (lines_in-le rows) (workers_in-between rows) e
+        of_values k (first_of (codes "output") rows) (size_in k rows) (number_in rows) (lines_in rows) (pivots_in rows) (workers_in rows)
+        (size_in-range k rows) (number_in-range rows) (lines_in-le rows) (pivots_in-le rows) (workers_in-between rows) e
 
     go : (rows : Option (List Row)) → (rows >>= generate_order_in) ≡ Some o → IsInRange o
     go None e = cc

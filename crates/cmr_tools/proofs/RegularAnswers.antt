@@ -66,7 +66,7 @@ one_status o a r s x y =
 
 -- ---- its meaning
 
-says_signed : (o : RegularOrder) (a signed : Matrix) (steps : List SignStep) → IsSigned a steps signed → (answer : Answer) → UnimodularMeans o.lines signed answer → RegularSays o a steps signed answer
+says_signed : (o : RegularOrder) (a signed : Matrix) (steps : List SignStep) → IsSigned a steps signed → (answer : Answer) → UnimodularMeans o.lines o.pivots signed answer → RegularSays o a steps signed answer
 says_signed o a signed steps is Yes (tree, decomposition, e, good) =
     (tree, decomposition, e, record { regular = (signed, is.signed_matrix, is.one_support, good.signings); unimodular = good })
 says_signed o a signed steps is No (tree, decomposition, fault, e, bad) =
@@ -88,7 +88,7 @@ says_signed o a signed steps is Refused none = none
 says : (o : RegularOrder) (a : Matrix) (r : Report) (answer : Answer) → RegularDecides o a r → r.status ≡ answer_status answer → RegularMeans o a answer
 says o a r answer d is =
     let status : answer_status (answer_of (verdict_in d.tree)) ≡ answer_status answer = sym (status_of r _ d.report_is) ∙ is in
-    (d.steps, d.signed, d.signing, says_signed o a d.signed d.steps d.signing answer (unimodular_means o.lines d.signed d.tree d.decomposition d.told answer status))
+    (d.steps, d.signed, d.signing, says_signed o a d.signed d.steps d.signing answer (unimodular_means o.lines o.pivots d.signed d.tree d.decomposition d.told answer status))
 
 pub regular_lawful : (o : RegularOrder) → IsLawful (regular_tool o)
 regular_lawful o = lawful (regular_source o) (RegularDecides o) (RegularMeans o) (says o) _ (one_status o)
@@ -98,7 +98,7 @@ pub fault_lines : (rows columns : ℕ) (v : Verdict) (fault : LineSet) → v ≡
 fault_lines rows columns v fault e lines = subst (HasLinesIn rows columns) e lines
 
 -- what is reported
-pub reported : (o : RegularOrder) (a signed : Matrix) (steps : List SignStep) (tree : SizedTree) (r : Result Outcome Memory) → IsSigned a steps signed → IsDecomposition o.lines signed tree → IsTold o.lines signed (verdict_in tree)
+pub reported : (o : RegularOrder) (a signed : Matrix) (steps : List SignStep) (tree : SizedTree) (r : Result Outcome Memory) → IsSigned a steps signed → IsDecomposition o.lines o.pivots signed tree → IsTold o.lines signed (verdict_in tree)
     → IfOk r (λ outcome. outcome_report outcome ≡ regular_report o a steps signed tree) → IfOk r (λ outcome. RegularDecides o a (outcome_report outcome))
 reported o a signed steps tree (Ok outcome) signing decomposition told is = record { steps = steps; signed = signed; signing = signing; tree = tree; decomposition = decomposition; told = told; report_is = is }
 reported o a signed steps tree (Err memory) signing decomposition told is = tt

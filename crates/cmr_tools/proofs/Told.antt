@@ -1,46 +1,40 @@
 -- What a decomposition tells is so.
-use Rattle.std.proofs.Common.{◌≡◌, ◌∙◌, ℕ, [], length, Option, Some, None, refl, ap, sym, subst}
+use Rattle.std.proofs.Common.{◌≡◌, ◌∙◌, ℕ, length, Option, Some, None, refl, ap, sym, subst}
 use Rattle.std.proofs.lemmas.List.FromFn.{length-range_with_len}
 use Rattle.cmr_base.specs.declared.line_set.LineSet.{LineSet}
-use Rattle.cmr_base.specs.LineSets.{AllBelow, first_lines}
+use Rattle.cmr_base.specs.LineSets.{AllBelow}
 use Rattle.cmr_base.specs.Matrix.{Matrix, height, IsMatrix}
-use Rattle.decomp_tree.specs.Shapes.{IsShape}
-use Rattle.decomp_tree.proofs.ShapeSound.{root_lines}
+use Rattle.decomp_tree.specs.PivotedShapes.{IsShapeWith}
+use Rattle.decomp_tree.proofs.PivotedRoots.{root_is_whole}
 use Rattle.tree_type.specs.declared.tree.Node.{Node}
-use Rattle.tree_type.specs.Places.{AllLines}
-use Rattle.tree_type.specs.Trees.{SizedTree, Tree, Branch, lines_of, tree_of}
+use Rattle.tree_type.specs.Trees.{SizedTree, tree_of}
 use Rattle.tree_type.specs.Verdicts as verdicts
 use Rattle.tree_type.specs.Verdicts.{Verdict, fault_at, first_in, open_at, verdict_from}
 use Rattle.cert_check.specs.Laws.{Tells}
 use Rattle.cert_check.proofs.Answering.{lines_is}
 use Rattle.cert_check.proofs.SoundTrees.{tells}
 use Rattle.cmr_tools.specs.Verdict.{IsDecomposition, IsTold, verdict_in}
-use Rattle.cmr_tools.proofs.OneVerdict.{tree_for}
-use Rattle.cmr_tools.proofs.OpenParts.{open_tree}
+use Rattle.cmr_tools.proofs.OpenParts.{open_part}
 
 open_from : (fault undecided : Option LineSet) (lines : LineSet) → verdict_from fault undecided ≡ verdicts.Open lines → undecided ≡ Some lines
 open_from None None lines e = cc
 open_from None (Some found) lines e = cc
 open_from (Some fault) undecided lines e = cc
 
-pub told : (budget : ℕ) (m : Matrix) → IsMatrix m → (tree : SizedTree) → IsDecomposition budget m tree → IsTold budget m (verdict_in tree)
-told budget m is tree d = go (verdict_in tree) refl (tells m is tree.rows tree.columns (tree_of tree.root) d.is_tree d.sound)
+pub told : (budget pivots : ℕ) (m : Matrix) → IsMatrix m → (tree : SizedTree) → IsDecomposition budget pivots m tree → IsTold budget m (verdict_in tree)
+told budget pivots m is tree d = go (verdict_in tree) refl (tells m is tree.rows tree.columns (tree_of tree.root) d.is_tree d.sound)
   where
     go : (v : Verdict) → verdict_in tree ≡ v → Tells m v → IsTold budget m v
     go verdicts.Yes e right = right
     go (verdicts.No fault) e right = right
     go (verdicts.Open lines) e right =
         let root = tree_of tree.root in
-        let for = tree_for budget m tree d in
-        open_tree budget m [] [] (AllLines (height m) m.width) (lines_of root) 2001 root lines (root_lines m root for) for.nodes d.shape (open_from (first_in fault_at root) (first_in open_at root) lines e)
-
-root_rows : (budget : ℕ) (m : Matrix) (tree : Tree) → IsShape budget m tree → (lines_of tree).rows ≡ first_lines (height m)
-root_rows budget m (Branch lines finding trees) shape = shape.0.lines.0
+        open_part budget pivots m root lines is d.shape (open_from (first_in fault_at root) (first_in open_at root) lines e)
 
 -- the root of a decomposition has all rows
-pub root_height : (budget : ℕ) (m : Matrix) (root : Node) → IsShape budget m (tree_of root) → length root.lines.rows ≡ height m
-root_height budget m root shape =
-    ap (λ (lines : LineSet). length lines.rows) (sym (lines_is root)) ∙ ap length (root_rows budget m (tree_of root) shape) ∙ length-range_with_len 0 (height m)
+pub root_height : (budget pivots : ℕ) (m : Matrix) (root : Node) → IsShapeWith budget pivots m (tree_of root) → length root.lines.rows ≡ height m
+root_height budget pivots m root shape =
+    ap (λ (lines : LineSet). length lines.rows) (sym (lines_is root)) ∙ ap length (root_is_whole budget pivots m (tree_of root) shape).0 ∙ length-range_with_len 0 (height m)
 
 -- the fault that a verdict names has lines of the matrix
 pub fault_rows : (m : Matrix) (v : Verdict) (fault : LineSet) → v ≡ verdicts.No fault → Tells m v → AllBelow (height m) fault.rows

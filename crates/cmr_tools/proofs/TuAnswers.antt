@@ -14,7 +14,7 @@ use Rattle.cmr_tools.proofs.OneVerdict.{one_verdict}
 use Rattle.cmr_tools.proofs.UnimodularAnswers.{unimodular_means}
 
 says : (o : TuOrder) (m : Matrix) (r : Report) (answer : Answer) → Decides (tu_verdict o) m r → r.status ≡ answer_status answer → TuMeans o m answer
-says o m r answer d is = unimodular_means o.lines m d.tree d.decomposition d.told answer (sym (status_of r _ d.report_is) ∙ is)
+says o m r answer d is = unimodular_means o.lines o.pivots m d.tree d.decomposition d.told answer (sym (status_of r _ d.report_is) ∙ is)
 
 pub tu_lawful : (o : TuOrder) → IsLawful (tu_tool o)
 tu_lawful o = lawful (tu_source o) (Decides (tu_verdict o)) (TuMeans o) (says o) _ (one_verdict (tu_verdict o))

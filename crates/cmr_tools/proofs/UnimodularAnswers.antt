@@ -25,8 +25,8 @@ not_unimodular m fault refuted = record {
   minor = other_determinant m fault.rows fault.columns (record { row_set = refuted.row_set; column_set = refuted.column_set; violator = refuted.violator });
 }
 
-module _ (budget : ℕ) (m : Matrix) (tree : SizedTree) (decomposition : IsDecomposition budget m tree) (told : IsTold budget m (verdict_in tree)) where
-  by_verdict : (v : Verdict) → verdict_in tree ≡ v → (answer : Answer) → answer_status (answer_of v) ≡ answer_status answer → UnimodularMeans budget m answer
+module _ (budget pivots : ℕ) (m : Matrix) (tree : SizedTree) (decomposition : IsDecomposition budget pivots m tree) (told : IsTold budget m (verdict_in tree)) where
+  by_verdict : (v : Verdict) → verdict_in tree ≡ v → (answer : Answer) → answer_status (answer_of v) ≡ answer_status answer → UnimodularMeans budget pivots m answer
   by_verdict verdicts.Yes e Yes is = (tree, decomposition, e, unimodular m (subst (IsTold budget m) e told).unimodular)
   by_verdict verdicts.Yes e No is = absurd (omega arith)
   by_verdict verdicts.Yes e Undecided is = absurd (omega arith)
@@ -40,5 +40,5 @@ module _ (budget : ℕ) (m : Matrix) (tree : SizedTree) (decomposition : IsDecom
   by_verdict (verdicts.Open lines) e Undecided is = (tree, decomposition, lines, e, subst (IsTold budget m) e told)
   by_verdict (verdicts.Open lines) e Refused is = absurd (omega arith)
 
-  pub unimodular_means : (answer : Answer) → answer_status (answer_of (verdict_in tree)) ≡ answer_status answer → UnimodularMeans budget m answer
+  pub unimodular_means : (answer : Answer) → answer_status (answer_of (verdict_in tree)) ≡ answer_status answer → UnimodularMeans budget pivots m answer
   unimodular_means answer is = by_verdict (verdict_in tree) refl answer is

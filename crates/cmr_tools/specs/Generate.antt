@@ -20,7 +20,7 @@ pub record IsMade (o : GenerateOrder) (m : Matrix) : Type 0 where
 
 -- what `tu` does on it
 abbrev pub generate_verdict : GenerateOrder → VerdictOrder
-generate_verdict o = record { label = codes "totally unimodular"; lines = o.lines; tree = None; fault = None }
+generate_verdict o = record { label = codes "totally unimodular"; lines = o.lines; pivots = o.pivots; tree = None; fault = None }
 
 abbrev pub kind_word : MakeKind → List ℕ
 kind_word Network = codes "network"
@@ -50,13 +50,14 @@ pub record GenerateDecides (o : GenerateOrder) (report : Report) : Type 0 where
 
 -- of the matrix that is made, what `tu` means
 abbrev pub GenerateMeans : GenerateOrder → Answer → Type 0
-GenerateMeans o answer = (made : Matrix) × IsMade o made × UnimodularMeans o.lines made answer
+GenerateMeans o answer = (made : Matrix) × IsMade o made × UnimodularMeans o.lines o.pivots made answer
 
 pub record IsInRange (o : GenerateOrder) : Type 0 where
   pub positive : 1 ≤ o.size
   pub size : o.size ≤ most_size o.what
   pub number : o.number < 2 ^ 31
   pub lines : o.lines ≤ 24
+  pub pivots : o.pivots ≤ 100
   pub workers : (1 ≤ o.workers) × (o.workers ≤ 64)
 
 -- it reads no file

@@ -2,14 +2,36 @@
 use Rattle.std.specs.Prelude.{◌≤◌, ◌+◌, ◌++◌, ℕ, List, [], length, codes}
 use Rattle.std.specs.Fmt.{decimal}
 use Rattle.cmr_base.specs.declared.line_set.LineSet.{LineSet}
+use Rattle.pivots.specs.declared.place.PivotPlace.{PivotPlace}
 use Rattle.tree_type.specs.Invariant.{IsTreeWithin, AreTreesWithin}
-use Rattle.tree_type.specs.Trees.{Finding, Tree, Trees, Branch, NoTrees, MoreTrees}
+use Rattle.tree_type.specs.Trees.{Finding, Empty, Cycle, Reduced, OneSum, Network, Conetwork, R10, TwoSum, ThreeSum, Enumerated, Violator, Undecided, Pivoted, Tree, Trees, Branch, NoTrees, MoreTrees}
 use Rattle.tree_text.specs.KindWords.{kind_of, word_of}
 
--- the depth of a node, its kind, and the numbers of its rows and columns
+-- row I column J
+abbrev pub pivot_words : PivotPlace → List ℕ
+pivot_words place = codes " row " ++ decimal (place.row + 1) ++ codes " column " ++ decimal (place.column + 1)
+
+-- where the pivot of a node is made, if it is a pivoted one
+abbrev pub place_words : Finding → List ℕ
+place_words Empty = []
+place_words (Cycle fault) = []
+place_words (Reduced steps) = []
+place_words OneSum = []
+place_words (Network net) = []
+place_words (Conetwork net) = []
+place_words R10 = []
+place_words (TwoSum two) = []
+place_words (ThreeSum three) = []
+place_words Enumerated = []
+place_words (Violator fault) = []
+place_words Undecided = []
+place_words (Pivoted place) = pivot_words place
+
+-- the depth of a node, its kind, the numbers of its rows and columns, and where its pivot is made
 abbrev pub outline_line : ℕ → LineSet → Finding → List ℕ
 outline_line depth lines finding =
-    decimal depth ++ codes " " ++ word_of (kind_of finding) ++ codes " " ++ decimal (length lines.rows) ++ codes "x" ++ decimal (length lines.columns) ++ codes "\n"
+    decimal depth ++ codes " " ++ word_of (kind_of finding) ++ codes " " ++ decimal (length lines.rows) ++ codes "x" ++ decimal (length lines.columns)
+    ++ place_words finding ++ codes "\n"
 
 abbrev mutual
   -- a node, and behind it the nodes below it

@@ -25,7 +25,7 @@ use Rattle.cmr_tools.specs.Verdict.{VerdictOrder, IsDecomposition, IsOpenPart, I
 use Rattle.cmr_tools.specs.Words.Regular.{RegularOrder}
 
 abbrev pub regular_verdict : RegularOrder → VerdictOrder
-regular_verdict o = record { label = codes "regular"; lines = o.lines; tree = o.tree; fault = o.fault }
+regular_verdict o = record { label = codes "regular"; lines = o.lines; pivots = o.pivots; tree = o.tree; fault = o.fault }
 
 abbrev pub regular_source : RegularOrder → Source
 regular_source o = source o.form true o.file
@@ -70,7 +70,7 @@ pub record RegularDecides (o : RegularOrder) (a : Matrix) (report : Report) : Ty
   pub signed : Matrix
   pub signing : IsSigned a steps signed
   pub tree : SizedTree
-  pub decomposition : IsDecomposition o.lines signed tree
+  pub decomposition : IsDecomposition o.lines o.pivots signed tree
   pub told : IsTold o.lines signed (verdict_in tree)
   pub report_is : report ≡ regular_report o a steps signed tree
 
@@ -87,9 +87,9 @@ pub record HasNoGoodSigning (a : Matrix) (steps : List SignStep) (signed : Matri
   pub not_regular : ¬ (IsRegular a)
 
 abbrev pub RegularSays : RegularOrder → Matrix → List SignStep → Matrix → Answer → Type 0
-RegularSays o a steps signed Yes = (tree : SizedTree) × IsDecomposition o.lines signed tree × (verdict_in tree ≡ verdicts.Yes) × HasGoodSigning a signed
-RegularSays o a steps signed No = (tree : SizedTree) × IsDecomposition o.lines signed tree × (fault : LineSet) × (verdict_in tree ≡ verdicts.No fault) × HasNoGoodSigning a steps signed fault
-RegularSays o a steps signed Undecided = (tree : SizedTree) × IsDecomposition o.lines signed tree × (lines : LineSet) × (verdict_in tree ≡ verdicts.Open lines) × IsOpenPart o.lines signed lines
+RegularSays o a steps signed Yes = (tree : SizedTree) × IsDecomposition o.lines o.pivots signed tree × (verdict_in tree ≡ verdicts.Yes) × HasGoodSigning a signed
+RegularSays o a steps signed No = (tree : SizedTree) × IsDecomposition o.lines o.pivots signed tree × (fault : LineSet) × (verdict_in tree ≡ verdicts.No fault) × HasNoGoodSigning a steps signed fault
+RegularSays o a steps signed Undecided = (tree : SizedTree) × IsDecomposition o.lines o.pivots signed tree × (lines : LineSet) × (verdict_in tree ≡ verdicts.Open lines) × IsOpenPart o.lines signed lines
 RegularSays o a steps signed Refused = ⊥
 
 -- of the signing by Camion: a yes comes with a tree that the checker accepts for the signed matrix; a no with a violator that
@@ -98,4 +98,4 @@ abbrev pub RegularMeans : RegularOrder → Matrix → Answer → Type 0
 RegularMeans o a answer = (steps : List SignStep) × (signed : Matrix) × IsSigned a steps signed × RegularSays o a steps signed answer
 
 abbrev pub regular_tool : RegularOrder → Tool
-regular_tool o = matrix_tool (regular_source o) ((o.lines ≤ 24) × (1 ≤ o.workers) × (o.workers ≤ 64)) (RegularDecides o) (RegularMeans o)
+regular_tool o = matrix_tool (regular_source o) ((o.lines ≤ 24) × (o.pivots ≤ 100) × (1 ≤ o.workers) × (o.workers ≤ 64)) (RegularDecides o) (RegularMeans o)

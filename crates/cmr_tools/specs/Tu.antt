@@ -17,7 +17,7 @@ use Rattle.cmr_base.specs.declared.line_set.LineSet.{LineSet}
 use Rattle.cmr_tools.specs.Words.Tu.{TuOrder}
 
 abbrev pub tu_verdict : TuOrder → VerdictOrder
-tu_verdict o = record { label = codes "totally unimodular"; lines = o.lines; tree = o.tree; fault = o.fault }
+tu_verdict o = record { label = codes "totally unimodular"; lines = o.lines; pivots = o.pivots; tree = o.tree; fault = o.fault }
 
 abbrev pub tu_source : TuOrder → Source
 tu_source o = source o.form false o.file
@@ -45,14 +45,14 @@ pub record IsNotUnimodular (m : Matrix) (fault : LineSet) : Type 0 where
 
 -- A yes comes with a tree that the checker accepts; a no with a violator that it names; undecided with a submatrix that is
 -- neither recognised nor separated, whose shorter side exceeds the budget.
-abbrev pub UnimodularMeans : ℕ → Matrix → Answer → Type 0
-UnimodularMeans budget m Yes = (tree : SizedTree) × IsDecomposition budget m tree × (verdict_in tree ≡ verdicts.Yes) × IsUnimodular m
-UnimodularMeans budget m No = (tree : SizedTree) × IsDecomposition budget m tree × (fault : LineSet) × (verdict_in tree ≡ verdicts.No fault) × IsNotUnimodular m fault
-UnimodularMeans budget m Undecided = (tree : SizedTree) × IsDecomposition budget m tree × (lines : LineSet) × (verdict_in tree ≡ verdicts.Open lines) × IsOpenPart budget m lines
-UnimodularMeans budget m Refused = ⊥
+abbrev pub UnimodularMeans : ℕ → ℕ → Matrix → Answer → Type 0
+UnimodularMeans budget pivots m Yes = (tree : SizedTree) × IsDecomposition budget pivots m tree × (verdict_in tree ≡ verdicts.Yes) × IsUnimodular m
+UnimodularMeans budget pivots m No = (tree : SizedTree) × IsDecomposition budget pivots m tree × (fault : LineSet) × (verdict_in tree ≡ verdicts.No fault) × IsNotUnimodular m fault
+UnimodularMeans budget pivots m Undecided = (tree : SizedTree) × IsDecomposition budget pivots m tree × (lines : LineSet) × (verdict_in tree ≡ verdicts.Open lines) × IsOpenPart budget m lines
+UnimodularMeans budget pivots m Refused = ⊥
 
 abbrev pub TuMeans : TuOrder → Matrix → Answer → Type 0
-TuMeans o = UnimodularMeans o.lines
+TuMeans o = UnimodularMeans o.lines o.pivots
 
 abbrev pub tu_tool : TuOrder → Tool
-tu_tool o = matrix_tool (tu_source o) ((o.lines ≤ 24) × (1 ≤ o.workers) × (o.workers ≤ 64)) (Decides (tu_verdict o)) (TuMeans o)
+tu_tool o = matrix_tool (tu_source o) ((o.lines ≤ 24) × (o.pivots ≤ 100) × (1 ≤ o.workers) × (o.workers ≤ 64)) (Decides (tu_verdict o)) (TuMeans o)

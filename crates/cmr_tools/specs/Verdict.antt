@@ -15,7 +15,8 @@ use Rattle.tree_type.specs.Trees.{SizedTree, tree_of}
 use Rattle.tree_type.specs.Verdicts as verdicts
 use Rattle.tree_type.specs.Verdicts.{Verdict, verdict_of}
 use Rattle.tree_text.specs.Canonical.{tree_text}
-use Rattle.decomp_tree.specs.Shapes.{Applies, IsApart, IsReducible, IsShape}
+use Rattle.decomp_tree.specs.Shapes.{Applies, IsApart, IsReducible}
+use Rattle.decomp_tree.specs.PivotedShapes.{IsShapeWith}
 use Rattle.cert_check.specs.Laws.{Tells}
 use Rattle.cmr_front.specs.declared.status.Answer.{Answer}
 use Rattle.cmr_front.specs.declared.status.Answer.TheVariants.{Yes, No, Undecided}
@@ -25,11 +26,12 @@ use Rattle.cmr_front.specs.Printed.{open_line, violator_line}
 use Rattle.cmr_front.specs.Report.{File, Report, asked_file}
 use Rattle.cmr_front.specs.Status.{answer_status}
 
--- The label of the verdict, the most lines on the shorter side of what is searched whole, and the files of the tree and of a
--- violator.
+-- The label of the verdict, the most lines on the shorter side of what is searched whole, the most pivots on the way to a node,
+-- and the files of the tree and of a violator.
 pub record VerdictOrder : Type 0 where
   pub label : List ℕ
   pub lines : ℕ
+  pub pivots : ℕ
   pub tree : Option (List ℕ)
   pub fault : Option (List ℕ)
 
@@ -37,6 +39,7 @@ abbrev pub verdict_order_of : VerdictOptions → VerdictOrder
 verdict_order_of options = record {
   label = options.label.now;
   lines = options.lines;
+  pivots = options.pivots;
   tree = option_map (λ name. name.now) options.tree;
   fault = option_map (λ name. name.now) options.fault;
 }
@@ -44,11 +47,11 @@ verdict_order_of options = record {
 -- ---- the tree
 
 -- A tree for the matrix of the stated shape, which keeps all rules of the checker.
-pub record IsDecomposition (budget : ℕ) (m : Matrix) (tree : SizedTree) : Type 0 where
+pub record IsDecomposition (budget pivots : ℕ) (m : Matrix) (tree : SizedTree) : Type 0 where
   pub rows : tree.rows ≡ height m
   pub columns : tree.columns ≡ m.width
   pub is_tree : IsDecTree tree
-  pub shape : IsShape budget m (tree_of tree.root)
+  pub shape : IsShapeWith budget pivots m (tree_of tree.root)
   pub sound : IsSound m tree
 
 abbrev pub verdict_in : SizedTree → Verdict
@@ -117,6 +120,6 @@ IsTold budget m (verdicts.Open lines) = IsOpenPart budget m lines
 -- on a matrix: by a decomposition, of which there are several where networks are, since the nodes of a network have any numbers
 pub record Decides (o : VerdictOrder) (m : Matrix) (report : Report) : Type 0 where
   pub tree : SizedTree
-  pub decomposition : IsDecomposition o.lines m tree
+  pub decomposition : IsDecomposition o.lines o.pivots m tree
   pub told : IsTold o.lines m (verdict_in tree)
   pub report_is : report ≡ verdict_report o m tree

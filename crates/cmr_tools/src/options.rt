@@ -10,6 +10,8 @@ pub struct TuOptions<'a> {
     pub form: MatrixForm,
     /// The most lines on the shorter side of a part that is searched whole where nothing else decides it, 0 to 24.
     pub lines: u32,
+    /// The most pivots on the way to a part where nothing else decides it, 0 to 100.
+    pub pivots: u32,
     /// How many workers share the searches, 1 to 64. The answer is the same for each number.
     pub workers: u32,
     /// The file that gets the decomposition tree.
@@ -27,6 +29,8 @@ pub struct RegularOptions<'a> {
     pub form: MatrixForm,
     /// The most lines on the shorter side of a part that is searched whole where nothing else decides it, 0 to 24.
     pub lines: u32,
+    /// The most pivots on the way to a part where nothing else decides it, 0 to 100.
+    pub pivots: u32,
     /// How many workers share the searches, 1 to 64. The answer is the same for each number.
     pub workers: u32,
     /// The file that gets the decomposition tree of the signed matrix.
@@ -95,6 +99,8 @@ pub struct GenerateOptions<'a> {
     pub number: u32,
     /// The most lines on the shorter side of a part that is searched whole where nothing else decides it, 0 to 24.
     pub lines: u32,
+    /// The most pivots on the way to a part where nothing else decides it, 0 to 100.
+    pub pivots: u32,
     /// How many workers share the searches, 1 to 64. The answer is the same for each number.
     pub workers: u32,
     /// The file that gets the matrix.

@@ -1,16 +1,18 @@
 // The outline of a decomposition.
-ghost use Rattle.std.specs.Prelude.{◌≡◌, ◌++◌, OnOk, codes};
+ghost use Rattle.std.specs.Prelude.{◌≡◌, ◌+◌, ◌++◌, OnOk, codes};
 ghost use Rattle.std.specs.Fmt.{decimal};
-ghost use Rattle.cmr_tools.specs.Outline.{IsAtDepth, outline_from, outline_line};
+ghost use Rattle.cmr_tools.specs.Outline.{IsAtDepth, outline_from, outline_line, pivot_words, place_words};
 ghost use Rattle.tree_text.specs.KindWords.{finding_of};
 ghost use Rattle.tree_type.specs.Trees.{tree_of};
 
 use cmr_base::Memory;
 use itoa::Buffer;
+use pivots::PivotPlace;
 use tree_text::{kind_of, word_of};
 use tree_type::{DecTree, Kind, Node};
 
-/// Appends the outline of a tree: a line for each node in preorder, with its depth, its kind and its size.
+/// Appends the outline of a tree: a line for each node in preorder, with its depth, its kind, its size, and the place of its
+/// pivot where it has one.
 pub fn push_outline(text: &mut Vec<u8>, tree: &DecTree) -> Result<(), Memory>
     ensures { OnOk result (text.new.items ≡ text.old.items ++ outline_from 0 (tree_of tree.now.root)) }
 {
@@ -62,17 +64,50 @@ fn push_node_line(text: &mut Vec<u8>, node: &Node, depth: u32) -> Result<(), Mem
     text.extend_from_slice(buffer.format(depth).as_bytes())?;
     text.push(b' ')?;
     text.extend_from_slice(word_of(kind_of(node)))?;
-    push_size(text, node.lines.rows.len(), node.lines.columns.len())
+    push_size(text, node.lines.rows.len(), node.lines.columns.len())?;
+    push_place(text, node)?;
+    text.push(b'\n')?;
+    Ok(())
 }
 
 fn push_size(text: &mut Vec<u8>, rows: usize, columns: usize) -> Result<(), Memory>
-    ensures { OnOk result (text.new.items ≡ text.old.items ++ codes " " ++ decimal rows ++ codes "x" ++ decimal columns ++ codes "\n") }
+    ensures { OnOk result (text.new.items ≡ text.old.items ++ codes " " ++ decimal rows ++ codes "x" ++ decimal columns) }
 {
     let mut buffer = Buffer::new();
     text.push(b' ')?;
     text.extend_from_slice(buffer.format(rows).as_bytes())?;
     text.push(b'x')?;
     text.extend_from_slice(buffer.format(columns).as_bytes())?;
-    text.push(b'\n')?;
+    Ok(())
+}
+
+fn push_place(text: &mut Vec<u8>, node: &Node) -> Result<(), Memory>
+    ensures { OnOk result (text.new.items ≡ text.old.items ++ place_words (finding_of (tree_of node.now))) }
+{
+    match &node.kind {
+        Kind::Pivoted { place, .. } => push_pivot(text, *place),
+        Kind::Empty
+        | Kind::Cycle { .. }
+        | Kind::Reduced { .. }
+        | Kind::OneSum { .. }
+        | Kind::Network { .. }
+        | Kind::Conetwork { .. }
+        | Kind::R10
+        | Kind::TwoSum { .. }
+        | Kind::ThreeSum { .. }
+        | Kind::Enumerated
+        | Kind::Violator { .. }
+        | Kind::Undecided => Ok(()),
+    }
+}
+
+fn push_pivot(text: &mut Vec<u8>, place: PivotPlace) -> Result<(), Memory>
+    ensures { OnOk result (text.new.items ≡ text.old.items ++ pivot_words place) }
+{
+    let mut buffer = Buffer::new();
+    text.extend_from_slice(b" row ")?;
+    text.extend_from_slice(buffer.format(u64::from(place.row) + 1).as_bytes())?;
+    text.extend_from_slice(b" column ")?;
+    text.extend_from_slice(buffer.format(u64::from(place.column) + 1).as_bytes())?;
     Ok(())
 }

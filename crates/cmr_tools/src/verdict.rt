@@ -18,13 +18,15 @@ use std::thread::Threads;
 use tree_text::write_tree;
 use tree_type::{DecTree, VerdictOf, verdict};
 
-/// Under which label a verdict is given, within which budget, and which files it has.
+/// Under which label a verdict is given, within which budget and with how many pivots, and which files it has.
 #[derive(Clone, Copy, Debug)]
 pub struct VerdictOptions<'a> {
     /// What is said of the matrix.
     pub label: &'static [u8],
     /// The most lines on the shorter side of what is searched whole, 0 to 24.
     pub lines: u32,
+    /// The most pivots on the way to a node where nothing else decides it.
+    pub pivots: u32,
     /// How many workers share the searches, 1 to 64.
     pub workers: u32,
     /// The file that gets the tree.
@@ -45,7 +47,14 @@ pub fn give_verdict<'a, R: Threads + Sync>(
     requires workers { (1 ≤ options.now.workers) × (options.now.workers ≤ 64) }
     ensures { IfOk result (λ outcome. Decides (verdict_order_of options.now) matrix.now (outcome_report outcome)) }
 {
-    let tree = decompose(rt, alloc, matrix, options.lines, options.workers)?;
+    let tree = decompose(
+        rt,
+        alloc,
+        matrix,
+        options.lines,
+        options.pivots,
+        options.workers,
+    )?;
     let root = tree.root();
     let rows = matrix.rows();
     prove!(root.lines.rows.len() == rows as usize);

@@ -9,4 +9,6 @@ mod failing_devices;
 #[cfg(test)]
 mod given;
 #[cfg(test)]
+mod pivoted_runs;
+#[cfg(test)]
 mod runs;

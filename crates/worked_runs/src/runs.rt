@@ -51,6 +51,7 @@ tu -i sparse f | f: 2 2 3/2 2 +1/1 2 0/1 1 1/ | 0 | totally unimodular: yes/0 re
 tu --lines 0 f | f: 3 3/1 1 0/0 1 1/1 0 1/ | 1 | totally unimodular: no/violator rows 1 2 3 columns 1 2 3 sum 6/0 cycle 3x3/ | none
 tu --lines 4 f | f: 4 4/1 1 0 0/1 0 1 0/1 0 0 1/1 1 1 1/ | 1 | totally unimodular: no/violator rows 1 2 3 4 columns 1 2 3 4 sum 10/0 violator 4x4/ | none
 tu --lines=+3 four | four: 4 4/1 1 0 0/1 0 1 0/1 0 0 1/1 1 1 1/ | 6 | totally unimodular: undecided/open rows 1 2 3 4 columns 1 2 3 4/0 undecided 4x4/ | none
+tu --pivots 0 --lines 3 f | f: 4 4/1 1 0 0/1 0 1 0/1 0 0 1/1 1 1 1/ | 6 | totally unimodular: undecided/open rows 1 2 3 4 columns 1 2 3 4/0 undecided 4x4/ | none
 tu '' | : 0 0/ | 0 | totally unimodular: yes/0 empty 0x0/ | none
 tu -- -t | -t: 0 0/ | 0 | totally unimodular: yes/0 empty 0x0/ | none
 series-parallel -b f | f: 1 2/1 1/ | 0 | binary series-parallel: yes/ | none
@@ -109,6 +110,8 @@ tu -i square -E e f
 tu -i dense -i dense f
 tu --lines 25 -E e f
 tu --lines -1 f
+tu --pivots 101 -E e f
+regular --pivots -1 -E e f
 tu --lin 3 -E e f
 tu -E -
 tu -E e -E e f
@@ -124,6 +127,7 @@ upgrade f
 sign f
 camion --lines 3 -E e f
 balanced -t -E e f
+balanced --pivots 20 --pivots 20 -E e f
 parts f f -A e
 compose three f f -M e
 compose two f f";

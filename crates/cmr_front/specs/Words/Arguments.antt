@@ -29,6 +29,10 @@ form_rule = value_rule (codes "format") 105
 abbrev pub lines_rule : Rule
 lines_rule = record (new_rule (codes "lines")) { long = Some (codes "lines"); action = Some Set }
 
+-- [--pivots K]
+abbrev pub pivots_rule : Rule
+pivots_rule = record (new_rule (codes "pivots")) { long = Some (codes "pivots"); action = Some Set }
+
 -- [-w N]
 abbrev pub workers_rule : Rule
 workers_rule = value_rule (codes "workers") 119

@@ -58,6 +58,10 @@ number_from least most text = if is_signed_in (pos least) (pos most) text
 abbrev pub lines_in : List Row → Option ℕ
 lines_in rows = option_map_or (number_from 0 24) (first_of (codes "lines") rows) (Some 14)
 
+-- K is 0 to 100, and 0 where it is left out
+abbrev pub pivots_in : List Row → Option ℕ
+pivots_in rows = option_map_or (number_from 0 100) (first_of (codes "pivots") rows) (Some 0)
+
 -- N is 1 to 64, and 1 where it is left out
 abbrev pub workers_in : List Row → Option ℕ
 workers_in rows = option_map_or (number_from 1 64) (first_of (codes "workers") rows) (Some 1)

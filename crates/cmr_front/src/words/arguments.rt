@@ -11,6 +11,8 @@ pub const FORMAT: &str = "format";
 
 pub const LINES: &str = "lines";
 
+pub const PIVOTS: &str = "pivots";
+
 pub const TREE: &str = "tree";
 
 pub const FAULT: &str = "fault";
@@ -83,6 +85,14 @@ pub fn lines_option<'a>(alloc: Global) -> Arg<'a>
     ensures local { result.global ≡ false }
 {
     Arg::new(alloc, LINES).long(LINES).action(ArgAction::Set)
+}
+
+/// The option `--pivots K`.
+pub fn pivots_option<'a>(alloc: Global) -> Arg<'a>
+    ensures rule { rule_of result ≡ arguments.pivots_rule }
+    ensures local { result.global ≡ false }
+{
+    Arg::new(alloc, PIVOTS).long(PIVOTS).action(ArgAction::Set)
 }
 
 /// The option `-w N`.

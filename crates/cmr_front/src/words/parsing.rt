@@ -7,7 +7,7 @@ ghost use Rattle.cmr_front.specs.Words.Reading.{Gives};
 
 use crate::matrix_file::MatrixForm;
 use crate::words::WordsError;
-use crate::words::arguments::{FAULT, FILE, FORMAT, LINES, WORKERS};
+use crate::words::arguments::{FAULT, FILE, FORMAT, LINES, PIVOTS, WORKERS};
 use clap::{ArgMatches, Command};
 use cmr_base::Word;
 
@@ -18,6 +18,11 @@ const DASH: &str = "-";
 const USUAL_LINES: u32 = 14;
 
 const MOST_LINES: u32 = 24;
+
+// K where it is left out, and the most that it may be.
+const USUAL_PIVOTS: u32 = 0;
+
+const MOST_PIVOTS: u32 = 100;
 
 // N where it is left out, and the most that it may be.
 const USUAL_WORKERS: u32 = 1;
@@ -119,6 +124,16 @@ pub fn lines_in(matches: &ArgMatches<'_>) -> Result<u32, WordsError>
     match value_in(matches, LINES) {
         None => Ok(USUAL_LINES),
         Some(text) => number_from(0, MOST_LINES, text).ok_or(WordsError::Refused),
+    }
+}
+
+/// The number K of pivots, 0 where it is left out.
+pub fn pivots_in(matches: &ArgMatches<'_>) -> Result<u32, WordsError>
+    ensures { Gives (λ pivots. pivots) result (parsing.pivots_in (rows_of (found_of matches.now))) }
+{
+    match value_in(matches, PIVOTS) {
+        None => Ok(USUAL_PIVOTS),
+        Some(text) => number_from(0, MOST_PIVOTS, text).ok_or(WordsError::Refused),
     }
 }
 

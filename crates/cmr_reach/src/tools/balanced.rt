@@ -107,7 +107,14 @@ fn without_cycle_fault<'a, R: Threads + Sync>(
     requires no_fault { HasNoCycleFault (entry matrix.now) }
     ensures { IfOk result (λ outcome. BalancedDecides (balanced_order_of options.now) matrix.now (outcome_report outcome)) }
 {
-    let tree = decompose(rt, alloc, matrix, options.lines, options.workers)?;
+    let tree = decompose(
+        rt,
+        alloc,
+        matrix,
+        options.lines,
+        options.pivots,
+        options.workers,
+    )?;
     if says_yes(&tree) {
         yes_outcome(alloc, LABEL)
     } else {
@@ -135,7 +142,7 @@ fn search<'a, R: Threads + Sync>(
 ) -> Result<Outcome<'a>, Memory>
     requires ranges { IsInRanges (balanced_order_of options.now) }
     requires shape { IsMatrix matrix.now }
-    requires untold { IsUntold options.now.lines matrix.now }
+    requires untold { IsUntold options.now.lines options.now.pivots matrix.now }
     ensures { IfOk result (λ outcome. BalancedDecides (balanced_order_of options.now) matrix.now (outcome_report outcome)) }
 {
     let found = least_balance_fault(rt, alloc, matrix, options.lines, options.workers)?;

@@ -1,4 +1,4 @@
-//! The words of `balanced`: `[-i FORMAT] [--lines L] [-w N] [-E FILE] [FILE]`.
+//! The words of `balanced`: `[-i FORMAT] [--lines L] [--pivots K] [-w N] [-E FILE] [FILE]`.
 ghost use Rattle.std.specs.Prelude.{◌≡◌, IfOk};
 ghost use Rattle.clap.specs.Words.{app_of, found_of, rows_of};
 ghost use Rattle.cmr_front.specs.Words.Reading.{Gives};
@@ -8,7 +8,7 @@ use crate::options::BalancedOptions;
 use clap::{ArgMatches, Command};
 use cmr_base::Word;
 use cmr_front::words::parsing::{
-    fault_in, file_in, form_in, lines_in, matches_with_input, workers_in,
+    fault_in, file_in, form_in, lines_in, matches_with_input, pivots_in, workers_in,
 };
 use cmr_front::words::{WordsError, arguments};
 use std::alloc::{AllocError, Global};
@@ -19,7 +19,8 @@ fn balanced_command<'a>(alloc: Global) -> Result<Command<'a>, AllocError>
     let bare = arguments::bare_command(alloc, "balanced");
     let with_form = arguments::add(bare, arguments::form_option(alloc))?;
     let with_lines = arguments::add(with_form, arguments::lines_option(alloc))?;
-    let with_workers = arguments::add(with_lines, arguments::workers_option(alloc))?;
+    let with_pivots = arguments::add(with_lines, arguments::pivots_option(alloc))?;
+    let with_workers = arguments::add(with_pivots, arguments::workers_option(alloc))?;
     let with_fault = arguments::add(with_workers, arguments::fault_option(alloc))?;
     arguments::add(with_fault, arguments::file_operand(alloc))
 }
@@ -30,6 +31,7 @@ fn options_in<'a>(matches: &ArgMatches<'a>) -> Result<BalancedOptions<'a>, Words
     Ok(BalancedOptions {
         form: form_in(matches)?,
         lines: lines_in(matches)?,
+        pivots: pivots_in(matches)?,
         workers: workers_in(matches)?,
         fault: fault_in(matches),
         file: file_in(matches),

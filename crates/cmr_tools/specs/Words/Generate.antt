@@ -5,8 +5,8 @@ use Rattle.clap.specs.Words.{App, Row, Text, first_of}
 use Rattle.generate.specs.declared.making.MakeKind.{MakeKind}
 use Rattle.generate.specs.declared.making.MakeKind.TheVariants.{Network, TwoSum}
 use Rattle.cmr_tools.specs.declared.options.GenerateOptions.{GenerateOptions}
-use Rattle.cmr_front.specs.Words.Arguments.{lines_rule, operand_rule, output_rule, tool_app, workers_rule}
-use Rattle.cmr_front.specs.Words.Parsing.{lines_in, matches_in, number_from, workers_in}
+use Rattle.cmr_front.specs.Words.Arguments.{lines_rule, operand_rule, output_rule, pivots_rule, tool_app, workers_rule}
+use Rattle.cmr_front.specs.Words.Parsing.{lines_in, matches_in, number_from, pivots_in, workers_in}
 use Rattle.cmr_front.specs.Words.Reading.{◌>>=◌}
 
 -- the options of `generate`
@@ -15,12 +15,13 @@ pub record GenerateOrder : Type 0 where
   pub size : ℕ
   pub number : ℕ
   pub lines : ℕ
+  pub pivots : ℕ
   pub workers : ℕ
   pub output : Option (List ℕ)
 
--- KIND SIZE NUMBER [--lines L] [-w N] [-M FILE]
+-- KIND SIZE NUMBER [--lines L] [--pivots K] [-w N] [-M FILE]
 abbrev pub generate_app : App
-generate_app = tool_app (codes "generate") (operand_rule (codes "kind") ∷ operand_rule (codes "size") ∷ operand_rule (codes "number") ∷ lines_rule ∷ workers_rule ∷ output_rule ∷ [])
+generate_app = tool_app (codes "generate") (operand_rule (codes "kind") ∷ operand_rule (codes "size") ∷ operand_rule (codes "number") ∷ lines_rule ∷ pivots_rule ∷ workers_rule ∷ output_rule ∷ [])
 
 abbrev pub kind_named : Text → Option MakeKind
 kind_named name = if bytes_eq name (codes "network") then Some Network
@@ -49,8 +50,9 @@ generate_order_in rows = do
   size ← size_in what rows
   number ← number_in rows
   lines ← lines_in rows
+  pivots ← pivots_in rows
   workers ← workers_in rows
-  Some (record { what = what; size = size; number = number; lines = lines; workers = workers; output = first_of (codes "output") rows })
+  Some (record { what = what; size = size; number = number; lines = lines; pivots = pivots; workers = workers; output = first_of (codes "output") rows })
 
 abbrev pub generate_order : List Text → Option GenerateOrder
 generate_order words = matches_in generate_app words >>= generate_order_in
@@ -61,6 +63,7 @@ generate_order_of options = record {
   size = options.size;
   number = options.number;
   lines = options.lines;
+  pivots = options.pivots;
   workers = options.workers;
   output = option_map (λ name. name.now) options.output;
 }

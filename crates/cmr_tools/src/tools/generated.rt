@@ -85,6 +85,7 @@ fn verdict_options<'a>(options: &GenerateOptions<'a>) -> VerdictOptions<'a>
     VerdictOptions {
         label: b"totally unimodular",
         lines: options.lines,
+        pivots: options.pivots,
         workers: options.workers,
         tree: None,
         fault: None,

@@ -41,6 +41,7 @@ pub fn regular<R: Threads + Sync, S: Shelf, O: Sink, E: Sink>(
     err: &mut E,
 ) -> u8
     requires lines { options.now.lines ≤ 24 }
+    requires pivots { options.now.pivots ≤ 100 }
     requires workers { (1 ≤ options.now.workers) × (options.now.workers ≤ 64) }
     ensures runs { Runs (work (regular_tool (regular_order_of options.now)))
         (standing (S.tells shelf.old) (O.tells out.old) (E.tells err.old) (S.is_calm shelf.old) (S.room shelf.old) (O.is_calm out.old) (O.room out.old))
@@ -90,7 +91,7 @@ fn sign_and_test<'a, R: Threads + Sync>(
     ensures { IfOk result (λ outcome. RegularDecides (regular_order_of options.now) matrix.now (outcome_report outcome)) }
 {
     let signing = signing_of(alloc, matrix)?;
-    let tree = decomposed(rt, alloc, &signing.signed, options.lines, options.workers)?;
+    let tree = decomposed(rt, alloc, &signing.signed, options)?;
     let told = report_tree(alloc, &verdict_options(options), &signing.signed, &tree)?;
     with_signing(alloc, options, matrix, signing, &tree, told)
 }
@@ -120,16 +121,22 @@ fn decomposed<R: Threads + Sync>(
     rt: &R,
     alloc: Global,
     matrix: &Matrix,
-    lines: u32,
-    workers: u32,
+    options: &RegularOptions<'_>,
 ) -> Result<DecTree, Memory>
-    requires lines { lines ≤ 24 }
-    requires workers { (1 ≤ workers) × (workers ≤ 64) }
-    ensures decomposition { IfOk result (IsDecomposition lines matrix.now) }
-    ensures told { IfOk result (λ tree. IsTold lines matrix.now (verdict_in tree)) }
+    requires lines { options.now.lines ≤ 24 }
+    requires workers { (1 ≤ options.now.workers) × (options.now.workers ≤ 64) }
+    ensures decomposition { IfOk result (IsDecomposition options.now.lines options.now.pivots matrix.now) }
+    ensures told { IfOk result (λ tree. IsTold options.now.lines matrix.now (verdict_in tree)) }
     ensures tells { IfOk result (λ tree. Tells matrix.now (verdict_in tree)) }
 {
-    let tree = decompose(rt, alloc, matrix, lines, workers)?;
+    let tree = decompose(
+        rt,
+        alloc,
+        matrix,
+        options.lines,
+        options.pivots,
+        options.workers,
+    )?;
     let root = tree.root();
     let rows = matrix.rows();
     prove!(root.lines.rows.len() == rows as usize);
@@ -142,6 +149,7 @@ fn verdict_options<'a>(options: &RegularOptions<'a>) -> VerdictOptions<'a>
     VerdictOptions {
         label: b"regular",
         lines: options.lines,
+        pivots: options.pivots,
         workers: options.workers,
         tree: options.tree,
         fault: options.fault,

@@ -30,6 +30,7 @@ pub fn tu<R: Threads + Sync, S: Shelf, O: Sink, E: Sink>(
     err: &mut E,
 ) -> u8
     requires lines { options.now.lines ≤ 24 }
+    requires pivots { options.now.pivots ≤ 100 }
     requires workers { (1 ≤ options.now.workers) × (options.now.workers ≤ 64) }
     ensures runs { Runs (work (tu_tool (tu_order_of options.now)))
         (standing (S.tells shelf.old) (O.tells out.old) (E.tells err.old) (S.is_calm shelf.old) (S.room shelf.old) (O.is_calm out.old) (O.room out.old))
@@ -74,6 +75,7 @@ fn verdict_options<'a>(options: &TuOptions<'a>) -> VerdictOptions<'a>
     VerdictOptions {
         label: b"totally unimodular",
         lines: options.lines,
+        pivots: options.pivots,
         workers: options.workers,
         tree: options.tree,
         fault: options.fault,

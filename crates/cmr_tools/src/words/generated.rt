@@ -1,4 +1,4 @@
-//! The words of `generate`: `KIND SIZE NUMBER [--lines L] [-w N] [-M FILE]`.
+//! The words of `generate`: `KIND SIZE NUMBER [--lines L] [--pivots K] [-w N] [-M FILE]`.
 ghost use Rattle.std.specs.Prelude.{◌≡◌, IfOk};
 ghost use Rattle.clap.specs.Words.{app_of, found_of, rows_of};
 ghost use Rattle.cmr_front.specs.Words.Reading.{Gives};
@@ -8,7 +8,9 @@ use crate::options::GenerateOptions;
 use clap::{ArgMatches, Command};
 use cmr_base::Word;
 use cmr_front::words::arguments::OUTPUT;
-use cmr_front::words::parsing::{lines_in, matches_in, number_from, value_in, workers_in};
+use cmr_front::words::parsing::{
+    lines_in, matches_in, number_from, pivots_in, value_in, workers_in,
+};
 use cmr_front::words::{WordsError, arguments};
 use generate::MakeKind;
 use std::alloc::{AllocError, Global};
@@ -30,7 +32,8 @@ fn generate_command<'a>(alloc: Global) -> Result<Command<'a>, AllocError>
     let with_size = arguments::add(with_kind, arguments::operand(alloc, SIZE))?;
     let with_number = arguments::add(with_size, arguments::operand(alloc, NUMBER))?;
     let with_lines = arguments::add(with_number, arguments::lines_option(alloc))?;
-    let with_workers = arguments::add(with_lines, arguments::workers_option(alloc))?;
+    let with_pivots = arguments::add(with_lines, arguments::pivots_option(alloc))?;
+    let with_workers = arguments::add(with_pivots, arguments::workers_option(alloc))?;
     arguments::add(with_workers, arguments::output_option(alloc))
 }
 
@@ -81,6 +84,7 @@ fn options_in<'a>(matches: &ArgMatches<'a>) -> Result<GenerateOptions<'a>, Words
         size: size_in(what, matches)?,
         number: number_in(matches)?,
         lines: lines_in(matches)?,
+        pivots: pivots_in(matches)?,
         workers: workers_in(matches)?,
         output: value_in(matches, OUTPUT),
     })

@@ -1,4 +1,4 @@
-//! The words of `regular`: `[-i FORMAT] [--lines L] [-w N] [-D FILE] [-E FILE] [-M FILE] [-C FILE] [FILE]`.
+//! The words of `regular`: `[-i FORMAT] [--lines L] [--pivots K] [-w N] [-D FILE] [-E FILE] [-M FILE] [-C FILE] [FILE]`.
 ghost use Rattle.std.specs.Prelude.{◌≡◌, IfOk};
 ghost use Rattle.clap.specs.Words.{app_of, found_of, rows_of};
 ghost use Rattle.cmr_front.specs.Words.Reading.{Gives};
@@ -9,7 +9,7 @@ use clap::{ArgMatches, Command};
 use cmr_base::Word;
 use cmr_front::words::arguments::{CHAIN, OUTPUT, TREE};
 use cmr_front::words::parsing::{
-    fault_in, file_in, form_in, lines_in, matches_with_input, value_in, workers_in,
+    fault_in, file_in, form_in, lines_in, matches_with_input, pivots_in, value_in, workers_in,
 };
 use cmr_front::words::{WordsError, arguments};
 use std::alloc::{AllocError, Global};
@@ -20,7 +20,8 @@ fn regular_command<'a>(alloc: Global) -> Result<Command<'a>, AllocError>
     let bare = arguments::bare_command(alloc, "regular");
     let with_form = arguments::add(bare, arguments::form_option(alloc))?;
     let with_lines = arguments::add(with_form, arguments::lines_option(alloc))?;
-    let with_workers = arguments::add(with_lines, arguments::workers_option(alloc))?;
+    let with_pivots = arguments::add(with_lines, arguments::pivots_option(alloc))?;
+    let with_workers = arguments::add(with_pivots, arguments::workers_option(alloc))?;
     let with_tree = arguments::add(with_workers, arguments::tree_option(alloc))?;
     let with_fault = arguments::add(with_tree, arguments::fault_option(alloc))?;
     let with_output = arguments::add(with_fault, arguments::output_option(alloc))?;
@@ -34,6 +35,7 @@ fn options_in<'a>(matches: &ArgMatches<'a>) -> Result<RegularOptions<'a>, WordsE
     Ok(RegularOptions {
         form: form_in(matches)?,
         lines: lines_in(matches)?,
+        pivots: pivots_in(matches)?,
         workers: workers_in(matches)?,
         tree: value_in(matches, TREE),
         fault: fault_in(matches),

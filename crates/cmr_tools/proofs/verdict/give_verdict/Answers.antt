@@ -9,8 +9,9 @@ use Rattle.cmr_tools.proofs.verdict.give_verdict.Goals as goal
 pub prove-unreachable-requires : goal.prove-unreachable-requires
 prove-unreachable-requires g c =
     let budget = c.args.options.now.lines in
+    let pivots = c.args.options.now.pivots in
     let m = c.args.matrix.now in
-    omega (arith, root_height budget m c.in_ok-tree.tree.root c.in_ok-tree.ensures.shape, c.rows-rows.ensures.rows, c.len.ensures, ap (λ node. length node.lines.rows) c.root-root.ensures.root)
+    omega (arith, root_height budget pivots m c.in_ok-tree.tree.root c.in_ok-tree.ensures.shape, c.rows-rows.ensures.rows, c.len.ensures, ap (λ node. length node.lines.rows) c.root-root.ensures.root)
 
 pub report_tree-requires : goal.report_tree-requires
 report_tree-requires g c =
@@ -20,8 +21,9 @@ report_tree-requires g c =
 pub returns : goal.returns
 returns g c =
     let budget = c.args.options.now.lines in
+    let pivots = c.args.options.now.pivots in
     let m = c.args.matrix.now in
     let tree = c.in_ok-tree.tree in
-    let is : IsDecomposition budget m tree =
+    let is : IsDecomposition budget pivots m tree =
     record { rows = c.in_ok-tree.ensures.rows; columns = c.in_ok-tree.ensures.columns; is_tree = c.root-root.ensures.tree; shape = c.in_ok-tree.ensures.shape; sound = c.in_ok-tree.ensures.sound } in
-    IfOk-weaker c.report_tree.result _ _ (λ outcome e. record { tree = tree; decomposition = is; told = told budget m c.rows-rows.ensures.shape tree is; report_is = e }) c.report_tree.ensures
+    IfOk-weaker c.report_tree.result _ _ (λ outcome e. record { tree = tree; decomposition = is; told = told budget pivots m c.rows-rows.ensures.shape tree is; report_is = e }) c.report_tree.ensures

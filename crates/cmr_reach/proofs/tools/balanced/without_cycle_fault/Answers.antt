@@ -23,5 +23,5 @@ search-requires-clause-untold g c κs within =
     let drawn = c.in_ok-tree.ensures in
     record {
       no_fault = c.requires.no_fault;
-      undecomposed = undecomposed c.args.options.now.lines m (tree_of tree.root) (tree_for m tree drawn.rows drawn.columns c.says_yes.ensures.is_tree) drawn.shape (c.says_yes.ensures.no c.if-says_yes.false);
+      undecomposed = undecomposed c.args.options.now.lines c.args.options.now.pivots m (tree_of tree.root) (tree_for m tree drawn.rows drawn.columns c.says_yes.ensures.is_tree) drawn.shape (c.says_yes.ensures.no c.if-says_yes.false);
     }

@@ -5,9 +5,10 @@ use Rattle.cmr_reach.proofs.words.balanced.balanced_command.Goals as goal
 
 pub returns : goal.returns
 returns c =
-    IfOk-weaker c.add-5.result _ _ (λ command is. is
+    IfOk-weaker c.add-6.result _ _ (λ command is. is
     ∙ ap₂ with_rule (c.in_ok-with_fault.ensures
     ∙ ap₂ with_rule (c.in_ok-with_workers.ensures
+    ∙ ap₂ with_rule (c.in_ok-with_pivots.ensures
     ∙ ap₂ with_rule (c.in_ok-with_lines.ensures
     ∙ ap₂ with_rule (c.in_ok-with_form.ensures
-    ∙ ap₂ with_rule c.bare_command-bare.ensures c.form_option.ensures.rule) c.lines_option.ensures.rule) c.workers_option.ensures.rule) c.fault_option.ensures.rule) c.file_operand.ensures.rule) c.add-5.ensures
+    ∙ ap₂ with_rule c.bare_command-bare.ensures c.form_option.ensures.rule) c.lines_option.ensures.rule) c.pivots_option.ensures.rule) c.workers_option.ensures.rule) c.fault_option.ensures.rule) c.file_operand.ensures.rule) c.add-6.ensures
