@@ -47,7 +47,7 @@ def sudoku(side: int, givens: Sequence[str] = ()) -> Rows:
         for region in range(size)
         for k in range(size)
     ]
-    return [[int(cell in taken) for cell in cells] for taken in map(set, sets)]
+    return [[int(cell in taken) for cell in cells] for taken in (set(cells) for cells in sets)]
 
 
 def rectangles(side: int) -> Rows:
@@ -78,7 +78,7 @@ def drawn_arcs(places: int, count: int, seed: int) -> Arcs:
     """Arcs between places that are drawn by chance, first one into each place."""
     draw = random.Random(seed)
     into = [(draw.randrange(place), place) for place in range(1, places)]
-    others = [arc for arc in product(range(places), repeat=2) if arc[0] != arc[1] and arc not in into]
+    others = [(tail, head) for tail in range(places) for head in range(places) if tail != head and (tail, head) not in into]
     return [*into, *draw.sample(others, count - len(into))]
 
 
