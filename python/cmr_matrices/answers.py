@@ -52,8 +52,6 @@ class Answer:
     """Of a yes of `sign`: the signs of the rows."""
     tries: int = field(default=0, repr=False)
     """In how many other orders of the lines the question was asked again."""
-    pivots: int = field(default=0, repr=False)
-    """How many pivots of parts that the program leaves open were made in the order of the lines that this answer is of."""
 
     @property
     def is_undecided(self) -> bool:
@@ -64,7 +62,7 @@ class Answer:
         if self.is_undecided:
             raise Undecided(
                 f"{self.property_name}: undecided, the open part is larger than the budget; "
-                "`pivots=20` goes on behind pivots, `tries=20` in other orders of the lines, and `lines` up to 24 is a larger budget"
+                "`pivots=20` goes on behind pivots of it, and `lines` up to 24 is a larger budget"
             )
         return self.verdict == "yes"
 

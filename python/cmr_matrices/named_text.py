@@ -16,7 +16,7 @@ __all__ = ["named_text"]
 
 NUMBER = "[0-9]{1,9}"
 EDGE = re.compile(f"({NUMBER} {NUMBER}) ([rc]{NUMBER})")
-OUTLINE = re.compile(f"{NUMBER} [a-z0-9]+ {NUMBER}x{NUMBER}")
+OUTLINE = re.compile(f"({NUMBER} [a-z0-9]+ {NUMBER}x{NUMBER})(?: row ({NUMBER}) column ({NUMBER}))?")
 NUMBERS = re.compile(rf"\s*{NUMBER}(?:\s+{NUMBER})*\s*")
 
 
@@ -24,7 +24,7 @@ def named_text(text: str, names: Names, tree: Tree | None) -> str:
     """The text with names for the numbers of rows and columns.
 
     A tree text becomes its outline, and a submatrix text its two lists. Of all other texts the lines that name rows or columns
-    are changed, and those of an outline where the tree is given; the others stay.
+    are changed, and those of an outline where the tree is given; the others stay. Of an outline without its tree pivots have their names.
     """
     if text.split(maxsplit=1)[:1] in (["cmr-tree"], ["cmr-pivots"]):
         return "".join(f"{line}\n" for line in outline_lines(Tree.from_text(text), names))
@@ -41,8 +41,12 @@ def _named_line(line: str, names: Names, outline: Iterator[str] | None) -> str:
         return reduction_of(line).named(names)
     if found := EDGE.fullmatch(line):
         return f"{found[1]} {names.line(Line.of_word(found[2]))}"
-    if outline is not None and OUTLINE.fullmatch(line):
-        return _same_node(line, next(outline, ""))
+    if found := OUTLINE.fullmatch(line):
+        if outline is not None:
+            return _same_node(found[1], next(outline, ""))
+        if found[2]:
+            place = Line("row", int(found[2]) - 1), Line("column", int(found[3]) - 1)
+            return f"{found[1]} at {names.line_list(place)}"
     return line
 
 

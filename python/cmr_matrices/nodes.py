@@ -90,8 +90,13 @@ class Node:
 
     @property
     def outline(self) -> str:
-        """The kind and the size, as the program prints them."""
+        """The kind and the size."""
         return f"{self.kind} {self.lines.size}"
+
+    @property
+    def printed(self) -> str:
+        """What the program prints of the node: the kind, the size, and where it is pivoted, counted from 1."""
+        return self.outline + "".join(f" {line.kind} {line.number + 1}" for line in self.place)
 
     def walk(self) -> Iterator[tuple[int, Node]]:
         """This node and each node below it in preorder, with its depth below this one."""

@@ -9,10 +9,11 @@ from .errors import BadInput
 __all__ = ["budget_words", "whole"]
 
 
-def budget_words(lines: int | None, workers: int | None) -> list[str]:
-    """The words of a budget. An option that is left out has no words, and the program its own default."""
+def budget_words(lines: int | None, pivots: int, workers: int | None) -> list[str]:
+    """The words of a budget. An option that is left out has no words, and the program its own default; so have no pivots."""
     return [
         *_words("--lines", None if lines is None else whole("lines", lines, 0, 24)),
+        *_words("--pivots", whole("pivots", pivots, 0, 100) or None),
         *_words("-w", None if workers is None else whole("workers", workers, 1, 64)),
     ]
 

@@ -5,11 +5,11 @@ All take whatever `Matrix.of` takes, and these keywords:
 * `certificate`: whether evidence is computed that costs more than the answer;
 * `lines`: the budget of the search through row sets, 0 to 24, and 14 where it is left out;
 * `workers`: how many threads share the searches, 1 to 64; it changes no answer;
-* `pivots`: where the program leaves a part open, how many pivots may be made on the way to what decides it, 0 to 100: see `pivoting`;
-* `tries`: where the program leaves the matrix undecided, in how many other orders of the lines it is asked again, 0 to 1000, with
-  orders that `seed` draws, and with as many pivots in each;
-* `time_limit`: seconds after which the program is ended, and the call, pivots, tries and all; an undecided answer is given without
-  what was left to do;
+* `pivots`: how many pivots may be made on the way to a part that nothing else decides, 0 to 100: docs/DEFINITIONS.md has the rule;
+* `tries`: where the matrix is undecided, in how many other orders of the lines it is asked again, 0 to 1000, with orders that
+  `seed` draws, and with as many pivots in each;
+* `time_limit`: seconds after which the program is ended, and the call, tries and all; an undecided answer is given without the tries
+  that were left;
 * `program`: the program's path, where it is not to be looked for.
 
 All raise `BadEntry` and `BadInput` for what is no matrix of theirs or out of a range, `ProgramMissing`, `TimeLimitReached`, and
@@ -22,10 +22,8 @@ from dataclasses import replace
 
 from .answers import Answer
 from .clock import Clock
-from .errors import TimeLimitReached
 from .matrix import Matrix
 from .options import budget_words, whole
-from .pivoting import Pivoting
 from .program import StrPath
 from .reading import Question
 from .sources import MatrixLike
@@ -62,9 +60,9 @@ def is_totally_unimodular(
 
     Source: Ghouila-Houri 1962; Hoffman and Kruskal 1956; Seymour 1980.
     """
-    words = ("tu", *budget_words(lines, workers))
+    words = ("tu", *budget_words(lines, pivots, workers))
     question = Question("totally unimodular", words, {"-D": "tree"})
-    return _tried(question, Matrix.of(matrix), certificate, pivots, tries, seed, time_limit, program)
+    return _tried(question, Matrix.of(matrix), certificate, tries, seed, time_limit, program)
 
 
 def is_regular(
@@ -86,9 +84,9 @@ def is_regular(
 
     Source: Camion 1965; Seymour 1980; Truemper, *Matroid Decomposition*.
     """
-    words = ("regular", *budget_words(lines, workers))
+    words = ("regular", *budget_words(lines, pivots, workers))
     question = Question("regular", words, {"-D": "tree", "-M": "signed", "-C": "chain"})
-    return _tried(question, _binary(matrix), certificate, pivots, tries, seed, time_limit, program)
+    return _tried(question, _binary(matrix), certificate, tries, seed, time_limit, program)
 
 
 def is_graphic(
@@ -167,13 +165,13 @@ def is_balanced(
 ) -> Answer:
     """Whether no submatrix with exactly two nonzeros in each line has a sum of 2 modulo 4.
 
-    A no has such a submatrix as its `violator`, and an undecided answer has all lines as `open`. A yes that pivots or other orders
-    have found has the `tree` of the totally unimodular matrix.
+    A no has such a submatrix as its `violator`, and an undecided answer has all lines as `open`. A yes that other orders have found
+    has the `tree` of the totally unimodular matrix.
 
     Source: Berge 1970; Truemper, *Matroid Decomposition*.
     """
-    question = Question("balanced", ("balanced", *budget_words(lines, workers)))
-    return _tried(question, Matrix.of(matrix), True, pivots, tries, seed, time_limit, program)
+    question = Question("balanced", ("balanced", *budget_words(lines, pivots, workers)))
+    return _tried(question, Matrix.of(matrix), True, tries, seed, time_limit, program)
 
 
 def has_no_cycle_fault(
@@ -193,22 +191,18 @@ def _tried(
     question: Question,
     matrix: Matrix,
     certificate: bool,
-    pivots: int,
     tries: int,
     seed: int,
     time_limit: float | None,
     program: StrPath | None,
 ) -> Answer:
-    """Asks, goes on behind pivots and then in other orders where the answer is undecided. Evidence that is not asked for is left out."""
+    """Asks, and again in other orders where the answer is undecided. Evidence that is not asked for is left out."""
     count = whole("tries", tries, 0, 1000)
-    pivoting = Pivoting(whole("pivots", pivots, 0, 100), Clock(time_limit), program)
-    asked = question if certificate or count or pivoting.count else replace(question, files={})
-    try:
-        answer = pivoting.ask(asked, matrix)
-    except TimeLimitReached as reached:
-        raise TimeLimitReached(time_limit or reached.seconds) from None
+    asked = question if certificate or count else replace(question, files={})
+    clock = Clock(time_limit)
+    answer = asked.ask(matrix, program, time_limit)
     if answer.is_undecided and count:
-        answer = Tries(count, seed, pivoting).decided(asked, matrix, answer)
+        answer = Tries(count, seed, clock, program).decided(asked, matrix, answer)
     return answer if certificate else replace(answer, tree=None, signed=None, chain=None)
 
 

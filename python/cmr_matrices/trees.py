@@ -107,7 +107,7 @@ class Tree:
         return Tree.from_text, (self.to_text(), self.names)
 
     def __str__(self) -> str:
-        return "\n".join(f"{depth} {node.outline}" for depth, node in self.walk())
+        return "\n".join(f"{depth} {node.printed}" for depth, node in self.walk())
 
 
 def outline_lines(tree: Tree, names: Names) -> Iterator[str]:

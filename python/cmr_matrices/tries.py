@@ -1,4 +1,4 @@
-"""What is asked again in other orders of the lines where the program leaves a matrix undecided.
+"""What is asked again in other orders of the lines where the program leaves a matrix undecided, with the pivots that it may make.
 
 A part that is left open has no cycle fault in its own order, and has one in nearly every other where it is not totally unimodular;
 that is asked first, since it takes little. Then the whole matrix is asked, where its decomposition may take another way.
@@ -14,16 +14,17 @@ from dataclasses import dataclass, replace
 
 from .answers import Answer
 from .chains import Chain, ChainStep
+from .clock import Clock
 from .errors import ProgramFault, TimeLimitReached
 from .forced_signs import forced_signs
 from .line_orders import LineOrder, drawn_orders
 from .lines import LineSet
 from .matrix import Matrix
 from .nodes import Node
-from .pivoting import Pivoting, unimodular_question
-from .program import REFUSED
+from .program import REFUSED, StrPath
 from .reading import Question
 from .submatrices import Submatrix
+from .tools import Evidence, check
 from .trees import Tree
 
 __all__ = ["Tries"]
@@ -36,11 +37,12 @@ _Found = Iterator[Answer | None]
 
 @dataclass(frozen=True)
 class Tries:
-    """How often a matrix is asked again, and with what."""
+    """How often a matrix is asked again, in which orders, within which time, and of which program."""
 
     count: int
     seed: int
-    pivoting: Pivoting
+    clock: Clock
+    program: StrPath | None
 
     def decided(self, question: Question, matrix: Matrix, undecided: Answer) -> Answer:
         """The answer to a question in other orders, or the undecided one where none decides it within the limit of time.
@@ -72,7 +74,7 @@ class Tries:
                 yield None
                 continue
             tree = order.tree(found.tree)
-            self.pivoting.tested(matrix, tree, found.verdict)
+            self._must_say(matrix, tree, found.verdict)
             yield replace(found, tree=tree, violator=found.violator and order.submatrix(found.violator))
 
     def _not_regular(self, question: Question, matrix: Matrix, undecided: Answer) -> _Found:
@@ -88,7 +90,7 @@ class Tries:
             tree, signed = order.tree(found.tree), order.entries(found.signed)
             chain = found.chain and order.chain(found.chain)
             if chain is not None:
-                self.pivoting.tested(matrix, chain, "not regular")
+                self._must_say(matrix, chain, "not regular")
             else:
                 self._must_sign(matrix, signed, tree)
             violator = found.violator and order.submatrix(found.violator)
@@ -100,12 +102,12 @@ class Tries:
         for order in drawn_orders(matrix, lines, self.count, self.seed):
             fault = self._fault(order)
             if fault is not None:
-                self.pivoting.tested(matrix, fault, "no")
+                self._must_say(matrix, fault, "no")
                 _must_be_cycle(matrix, fault)
-                yield replace(undecided, verdict="no", violator=fault, open=None, pivots=0)
+                yield replace(undecided, verdict="no", violator=fault, open=None)
             yield None
-        unimodular = unimodular_question(question)
-        own = self.pivoting.ask(unimodular, matrix)
+        unimodular = Question("totally unimodular", ("tu", *question.words[1:]), {"-D": "tree"})
+        own = self._ask(unimodular, matrix)
         assert own.tree is not None
         for order, found in self._wholes(unimodular, matrix, own.tree) if own.is_undecided else ():
             if found.verdict == "no":
@@ -114,8 +116,8 @@ class Tries:
                 yield None
                 continue
             tree = order.tree(found.tree)
-            self.pivoting.tested(matrix, tree, "yes")
-            yield replace(undecided, verdict="yes", open=None, tree=tree, pivots=found.pivots)
+            self._must_say(matrix, tree, "yes")
+            yield replace(undecided, verdict="yes", open=None, tree=tree)
 
     def _faults(self, matrix: Matrix, tree: Tree) -> Iterator[tuple[Submatrix, Node] | None]:
         """The open parts of a tree in other orders: a cycle fault, with the node of its part."""
@@ -127,26 +129,26 @@ class Tries:
 
     def _fault(self, order: LineOrder) -> Submatrix | None:
         """A cycle fault in an order, if there is one, on the lines of the matrix."""
-        fault = self.pivoting.ask(_CAMION, order.reordered()).violator
+        fault = self._ask(_CAMION, order.reordered()).violator
         return fault and order.submatrix(fault)
 
     def _wholes(self, question: Question, matrix: Matrix, tree: Tree) -> Iterator[tuple[LineOrder, Answer]]:
         """The whole matrix in other orders, where its decomposition may differ: only sums, and pivots, are taken by choice."""
-        if self.pivoting.count or any(node.connectors for _, node in tree.walk()):
+        if "--pivots" in question.words or any(node.connectors for _, node in tree.walk()):
             for order in drawn_orders(matrix, tree.root.lines, self.count, self.seed):
-                yield order, self.pivoting.ask(question, order.reordered())
+                yield order, self._ask(question, order.reordered())
 
     def _no_with_fault(self, matrix: Matrix, undecided: Answer, fault: Submatrix, part: Node) -> Answer:
         """The answer whose tree has a fault in a part that was left open."""
-        self.pivoting.tested(matrix, fault, "no")
+        self._must_say(matrix, fault, "no")
         tree = undecided.tree and replace(
             undecided.tree, root=undecided.tree.root.rebuilt(_WithFault(part, fault.lines))
         )
-        return replace(undecided, verdict="no", violator=fault, open=None, tree=tree, pivots=0)
+        return replace(undecided, verdict="no", violator=fault, open=None, tree=tree)
 
     def _no_signing(self, matrix: Matrix, signed: Matrix, steps: tuple[ChainStep, ...], fault: Submatrix) -> Answer:
         chain = Chain(matrix.shape, steps, fault.lines, matrix.names)
-        self.pivoting.tested(matrix, chain, "not regular")
+        self._must_say(matrix, chain, "not regular")
         every = LineSet(tuple(range(matrix.shape[0])), tuple(range(matrix.shape[1])))
         tree = Tree(matrix.shape, Node("violator", every, fault=fault.lines), matrix.names)
         return Answer("regular", "no", violator=fault, tree=tree, signed=signed, chain=chain)
@@ -155,7 +157,17 @@ class Tries:
         """Tests that a signed matrix has the ones of a 0/1 matrix, and its tree."""
         if [place[:2] for place in signed.nonzeros] != [place[:2] for place in matrix.nonzeros]:
             raise ProgramFault(REFUSED, "the signed matrix of another order is not one of the matrix")
-        self.pivoting.tested(signed, tree, "yes")
+        self._must_say(signed, tree, "yes")
+
+    def _ask(self, question: Question, matrix: Matrix) -> Answer:
+        """What the program says within the time that is left."""
+        return question.ask(matrix, self.program, self.clock.left())
+
+    def _must_say(self, matrix: Matrix, evidence: Evidence, says: str) -> None:
+        """Tests by `check` what evidence from another order says."""
+        checked = check(matrix, evidence, program=self.program, time_limit=self.clock.left())
+        if checked.says != says:
+            raise ProgramFault(REFUSED, f"the evidence of another order is refused: {checked.rule or checked.says}")
 
 
 @dataclass(frozen=True)

@@ -1,51 +1,37 @@
-"""What is decided behind pivots where the program leaves a matrix undecided, and the way of evidence back from there."""
+"""What is decided behind pivots: models, random matrices of few lines, and the trees of a plain slow program."""
 
 from __future__ import annotations
 
 import random
 import unittest
-from collections.abc import Callable, Sequence
+from collections import Counter
+from collections.abc import Callable
 from itertools import product
 
 import cmr_matrices as cmr
-from cmr_matrices import Answer, BadInput, Line, LineSet, Matrix
-from cmr_matrices.pivoting import Draws, violator_before
+from cmr_matrices import Answer, BadInput, Line, LineSet, Matrix, Tree
 from tests import independent
+from tests.open_matrices import RING, latin_square, models, shared_flows, two_goods
+from tests.slow_pivots import Draws, slow_tree, violator_before
 from tests.support import FANO, needs_program
 from tests.test_random import drawn, network
-from tests.test_tries import latin_squares
 
 Rows = list[list[int]]
-Arcs = Sequence[tuple[int, int]]
 
-TRIANGLE = ((0, 1), (0, 2), (2, 1), (1, 0), (2, 0), (1, 2))
-RING = ((0, 1), (1, 2), (2, 3), (3, 0), (0, 2), (1, 3), (2, 1), (3, 1))
-
-
-def shared_flows(goods: int, places: int, arcs: Arcs) -> Rows:
-    """Goods that share connections: for each good the balance of its places, then for each connection what it carries together."""
-    balances = [
-        [(head == place) - (tail == place) if good == own else 0 for good in range(goods) for tail, head in arcs]
-        for own in range(goods)
-        for place in range(places)
-    ]
-    return [*balances, *([int(arc == other) for _ in range(goods) for other in arcs] for arc in arcs)]
-
-
-def two_goods(connections: int) -> Rows:
-    """Two goods over connections between three places, with balances of two of these: totally unimodular."""
-    return shared_flows(2, 2, [TRIANGLE[number % 6] for number in range(connections)])
+MOST_NONZEROS = 400
+"""Models with more nonzeros are for `bench/pivots.py`."""
 
 
 class Rules(unittest.TestCase):
+    """The parts of the slow program."""
+
     def test_draws(self) -> None:
         """The numbers of the generator that docs/DEFINITIONS.md lays down."""
-        numbers, draws, state = [], Draws(), 1
+        draws, state = Draws(), 1
         for bound in range(1, 20):
             number, draws = draws.below(bound)
             state = (1103515245 * state + 12345) % 2147483648
             self.assertEqual(number, state // 1024 % bound)
-            numbers.append(number)
         self.assertEqual(Draws().below(1000), (1103527590 // 1024 % 1000, Draws(1103527590)))
 
     def test_violators_before_a_pivot(self) -> None:
@@ -68,36 +54,58 @@ class Rules(unittest.TestCase):
         self.assertGreater(seen, 40)
 
 
+class AnswerTest(unittest.TestCase):
+    def shows_no(self, matrix: Matrix, answer: Answer) -> None:
+        self.assertFalse(answer)
+        assert answer.violator is not None
+        self.assertIsNone(answer.open)
+        self.assertTrue(independent.is_violator(answer.violator.submatrix(matrix).to_lists()))
+        self.assertEqual(cmr.check(matrix, answer.violator).says, "no")
+
+    def shows_yes(self, rows: Rows, answer: Answer) -> None:
+        self.assertTrue(answer)
+        assert answer.tree is not None
+        self.assertTrue(independent.tree_holds(rows, answer.tree))
+        self.assertEqual(cmr.check(rows, answer.tree).says, "yes")
+
+    def is_the_slow_tree(self, matrix: Matrix, tree: Tree | None, pivots: int, lines: int) -> int:
+        """How many pivots the slow program has made on a way."""
+        assert tree is not None
+        slow, deepest = slow_tree(matrix, pivots, lines)
+        self.assertEqual(tree.outline().splitlines(), slow.outline().splitlines())
+        return deepest
+
+
 @needs_program
-class Models(unittest.TestCase):
+class Models(AnswerTest):
     def test_two_goods(self) -> None:
         """Totally unimodular, and no budget below all rows decides them without a pivot."""
         for connections in (6, 12, 30):
             with self.subTest(connections=connections):
                 rows = two_goods(connections)
+                self.assertTrue(cmr.is_totally_unimodular(rows, lines=0).is_undecided)
                 answer = cmr.is_totally_unimodular(rows, lines=0, pivots=20, certificate=True)
+                self.shows_yes(rows, answer)
                 assert answer.tree is not None
-                self.assertTrue(answer)
-                self.assertGreater(answer.pivots, 0)
                 self.assertIn("pivoted", {node.kind for _, node in answer.tree.walk()})
-                self.assertTrue(independent.tree_holds(rows, answer.tree))
-                self.assertEqual(cmr.check(rows, answer.tree).says, "yes")
-        self.assertTrue(cmr.is_totally_unimodular(two_goods(6)))
-        self.assertTrue(cmr.is_totally_unimodular(two_goods(6), lines=0, pivots=20, tries=3))
+                self.assertTrue(answer.tree.to_text().startswith("cmr-pivots 1\n"))
 
     def test_two_goods_are_balanced(self) -> None:
         rows = two_goods(6)
         self.assertTrue(cmr.is_balanced(rows, lines=0).is_undecided)
-        answer = cmr.is_balanced(rows, lines=0, pivots=20)
-        assert answer.tree is not None
-        self.assertEqual((bool(answer), answer.tree.verdict, answer.open), (True, "yes", None))
+        self.assertTrue(cmr.is_balanced(rows, lines=0, pivots=20))
+        self.assertIn("`pivots=20`", str(undecided(cmr.is_balanced(rows, lines=0))))
 
     def test_latin_squares(self) -> None:
         for order in (3, 4):
             with self.subTest(order=order):
-                matrix = Matrix.of(latin_squares(order))
+                matrix = Matrix.of(latin_square(order))
                 self.assertTrue(cmr.is_totally_unimodular(matrix, lines=0).is_undecided)
-                self.shows_no(matrix, cmr.is_totally_unimodular(matrix, lines=0, pivots=20, certificate=True))
+                answer = cmr.is_totally_unimodular(matrix, lines=0, pivots=20, certificate=True)
+                self.shows_no(matrix, answer)
+                assert answer.tree is not None
+                self.assertEqual(cmr.check(matrix, answer.tree).says, "no")
+                self.assertTrue(answer.tree.to_text().startswith("cmr-tree 2\n"))
 
     def test_two_commodities(self) -> None:
         matrix = Matrix.of(shared_flows(2, 4, RING), row_names=range(16))
@@ -105,35 +113,44 @@ class Models(unittest.TestCase):
         answer = cmr.is_totally_unimodular(matrix, lines=0, pivots=20)
         self.assertIsNone(answer.tree)
         self.shows_no(matrix, answer)
-        self.assertEqual(cmr.check(matrix, str_of(answer)).says, "no")
+
+    def test_models(self) -> None:
+        """Each small model has the answer that is known, with evidence, and the tree of the slow program."""
+        for name, says, rows in models():
+            matrix = Matrix.of(rows)
+            if len(matrix.nonzeros) > MOST_NONZEROS:
+                continue
+            with self.subTest(model=name):
+                answer = cmr.is_totally_unimodular(matrix, pivots=20, certificate=True)
+                self.assertEqual(answer.verdict, says)
+                if says == "yes":
+                    self.shows_yes(rows, answer)
+                else:
+                    self.shows_no(matrix, answer)
+                self.is_the_slow_tree(matrix, answer.tree, 20, 14)
 
     def test_regularity(self) -> None:
         """A no has a chain, whose violator is one of the signs of its steps."""
-        matrix = Matrix.of(latin_squares(3))
+        matrix = Matrix.of(latin_square(3))
         answer = cmr.is_regular(matrix, lines=0, pivots=20, certificate=True)
         assert answer.chain is not None and answer.signed is not None and answer.tree is not None
         self.assertTrue(independent.chain_holds(matrix.to_lists(), answer.chain))
         self.shows_no(answer.signed, answer)
         self.assertEqual(cmr.check(matrix, answer.chain).says, "not regular")
-        self.assertEqual(cmr.check(answer.signed, answer.tree).says, "no")
-
-    def shows_no(self, matrix: Matrix, answer: Answer) -> None:
-        self.assertFalse(answer)
-        assert answer.violator is not None
-        self.assertIsNone(answer.open)
-        self.assertGreater(answer.pivots, 0)
-        self.assertTrue(independent.is_violator(answer.violator.submatrix(matrix).to_lists()))
+        self.is_the_slow_tree(answer.signed, answer.tree, 20, 0)
+        support = [[abs(entry) for entry in row] for row in two_goods(6)]
+        answer = cmr.is_regular(support, lines=0, pivots=20, certificate=True)
+        assert answer.signed is not None
+        self.shows_yes(answer.signed.to_lists(), answer)
 
     def test_what_stays_undecided(self) -> None:
-        """Too few pivots leave the part open, and so does a limit of time; no pivots are made where the answer is there."""
-        rows = latin_squares(3)
-        answer = cmr.is_totally_unimodular(rows, lines=0, pivots=1, certificate=True)
-        assert answer.tree is not None and answer.open is not None
-        self.assertEqual((answer.verdict, answer.pivots, str(answer.tree)), ("undecided", 1, "0 undecided 27x27"))
-        with self.assertRaises(cmr.Undecided) as raised:
-            bool(answer)
-        self.assertIn("`pivots=20`", str(raised.exception))
-        self.assertEqual(cmr.is_totally_unimodular(FANO, pivots=20).pivots, 0)
+        """Too few pivots leave the part open, as if none were made."""
+        rows = latin_square(3)
+        for pivots in (0, 1, 2):
+            answer = cmr.is_totally_unimodular(rows, lines=0, pivots=pivots, certificate=True)
+            assert answer.tree is not None and answer.open is not None
+            self.assertEqual((answer.verdict, str(answer.tree)), ("undecided", "0 undecided 27x27"))
+            self.assertIn("`pivots=20`", str(undecided(answer)))
 
     def test_numbers_out_of_their_range(self) -> None:
         questions: list[Callable[..., Answer]] = [cmr.is_totally_unimodular, cmr.is_regular, cmr.is_balanced]
@@ -144,17 +161,36 @@ class Models(unittest.TestCase):
 
 
 @needs_program
-class RandomMatrices(unittest.TestCase):
+class RandomMatrices(AnswerTest):
+    """Matrices of up to eight rows and columns, without any search through sets of rows."""
+
     def test_total_unimodularity(self) -> None:
-        """Every answer that is given is right, and its evidence holds, without any search through sets of rows."""
+        """Every answer is there and right, with evidence, and the tree is that of the slow program."""
         draw = random.Random(10)
-        for rows in [drawn(draw) for _ in range(60)] + [any_signs(draw) for _ in range(40)]:
+        verdicts: Counter[tuple[str, bool]] = Counter()
+        kinds = [drawn] * 40 + [any_signs] * 40 + [with_full_row] * 60 + [pivoted_goods] * 60
+        for rows in [kind(draw) for kind in kinds]:
             with self.subTest(rows=rows):
-                answer = cmr.is_totally_unimodular(rows, lines=0, pivots=20, certificate=True)
-                if not answer.is_undecided:
-                    assert answer.tree is not None
-                    self.assertEqual(bool(answer), independent.is_unimodular(rows))
-                    self.assertTrue(independent.tree_holds(rows, answer.tree))
+                matrix = Matrix.of(rows)
+                answer = cmr.is_totally_unimodular(matrix, lines=0, pivots=20, certificate=True)
+                self.assertEqual(answer.verdict, "yes" if independent.is_unimodular(rows) else "no")
+                if answer.verdict == "yes":
+                    self.shows_yes(rows, answer)
+                else:
+                    self.shows_no(matrix, answer)
+                verdicts[answer.verdict, self.is_the_slow_tree(matrix, answer.tree, 20, 0) > 0] += 1
+        self.assertGreater(min(verdicts["yes", False], verdicts["no", False]), 30)
+        self.assertGreater(verdicts["yes", True], 0)
+        self.assertGreater(verdicts["no", True], 5)
+
+    def test_few_pivots(self) -> None:
+        """Where some are too few, the tree is that of the slow program too."""
+        draw = random.Random(12)
+        for rows, pivots in product([kind(draw) for kind in [with_full_row, pivoted_goods] * 10], (1, 2)):
+            with self.subTest(rows=rows, pivots=pivots):
+                matrix = Matrix.of(rows)
+                answer = cmr.is_totally_unimodular(matrix, lines=0, pivots=pivots, certificate=True)
+                self.is_the_slow_tree(matrix, answer.tree, pivots, 0)
 
     def test_the_other_properties(self) -> None:
         draw = random.Random(11)
@@ -174,8 +210,8 @@ class RandomMatrices(unittest.TestCase):
 
 
 def any_signs(draw: random.Random) -> Rows:
-    """Three to seven rows and columns each with entries by chance, some of them a network matrix but for one entry."""
-    height, width = draw.randint(3, 7), draw.randint(3, 7)
+    """Three to eight rows and columns each with entries by chance, some of them a network matrix but for one entry."""
+    height, width = draw.randint(3, 8), draw.randint(3, 8)
     if draw.random() < 0.5:
         return [[draw.choice((-1, 0, 0, 1)) for _ in range(width)] for _ in range(height)]
     rows = network(draw, height, width)
@@ -183,9 +219,37 @@ def any_signs(draw: random.Random) -> Rows:
     return rows
 
 
-def str_of(answer: Answer) -> str:
-    assert answer.violator is not None
-    return answer.violator.to_text()
+def with_full_row(draw: random.Random) -> Rows:
+    """Zeros and ones below a row of ones, or right of such a column, and sometimes an entry -1: many of these have no cycle fault."""
+    height, width = draw.randint(3, 7), draw.randint(3, 8)
+    rows = [[1] * width, *([draw.choice((0, 1)) for _ in range(width)] for _ in range(height))]
+    rows = [list(column) for column in zip(*rows)] if draw.random() < 0.5 else rows
+    if draw.random() < 0.3:
+        draw.choice(rows)[0] = -1
+    return rows
+
+
+def pivoted_goods(draw: random.Random) -> Rows:
+    """Two goods over four or five connections, of which a few lines are left out, after pivots, and with an entry changed in half."""
+    connections = draw.randint(4, 5)
+    matrix = Matrix.of(two_goods(connections))
+    for _ in range(draw.randint(0, 3)):
+        row, column, _ = draw.choice(matrix.nonzeros)
+        matrix = matrix.pivoted(row, column)
+    rows, columns = (sorted(draw.sample(range(count), min(count, 8))) for count in matrix.shape)
+    lists = matrix.submatrix(rows, columns).to_lists()
+    if draw.random() < 0.5:
+        line = draw.choice(lists)
+        line[draw.randrange(len(line))] = draw.choice((-1, 0, 1))
+    return lists
+
+
+def undecided(answer: Answer) -> cmr.Undecided:
+    try:
+        bool(answer)
+    except cmr.Undecided as raised:
+        return raised
+    raise AssertionError("the answer is decided")
 
 
 if __name__ == "__main__":

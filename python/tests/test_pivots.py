@@ -25,6 +25,10 @@ pivoted 3 3 1 2 3 1 2 3
 network 3 3 1 2 3 1 2 3
 0 1 0 2 0 3 2 1 1 0 0 3
 """
+OUTLINE = """\
+0 pivoted 3x3 row 1 column 2
+1 pivoted 3x3 row 3 column 1
+2 network 3x3"""
 NAMES = Names(("a", "b", "c"), ("x", "y", "z"))
 
 
@@ -72,7 +76,7 @@ class Trees(unittest.TestCase):
         tree = Tree.from_text(TREE)
         self.assertEqual(tree.to_text(), TREE)
         self.assertEqual(tree.root.place, (Line("row", 0), Line("column", 1)))
-        self.assertEqual((tree.verdict, str(tree)), ("yes", "0 pivoted 3x3\n1 pivoted 3x3\n2 network 3x3"))
+        self.assertEqual((tree.verdict, str(tree)), ("yes", OUTLINE))
         kept = TREE.replace("cmr-pivots 1", "cmr-pivots 1").replace(
             "pivoted 3 3 1 2 3 1 2 3\n1 2\npivoted 3 3 1 2 3 1 2 3\n3 1\n", ""
         )
@@ -95,6 +99,11 @@ class Trees(unittest.TestCase):
         outline = "0 pivoted 3x3 at a y\n1 pivoted 3x3 at c x\n2 network 3x3 rows a b c columns x y z"
         self.assertEqual(tree.outline(), outline)
         self.assertEqual(named_text(TREE, NAMES, None), f"{outline}\n")
+        self.assertEqual(named_text(f"{OUTLINE}\n", NAMES, tree), f"{outline}\n")
+        alone = "0 pivoted 3x3 at a y\n1 pivoted 3x3 at c x\n2 network 3x3\n"
+        self.assertEqual(named_text(f"{OUTLINE}\n", NAMES, None), alone)
+        with self.assertRaises(BadInput):
+            named_text("0 pivoted 3x3 row 4 column 1\n", NAMES, None)
         self.assertIn("pivoted 3x3\\nat a y", tree.to_dot())
 
     def test_the_way_back_from_another_order(self) -> None:

@@ -11,29 +11,10 @@ from cmr_matrices import Answer, BadInput, Chain, Line, LineSet, Matrix, Tree
 from cmr_matrices.forced_signs import forced_signs
 from cmr_matrices.line_orders import LineOrder, drawn_orders
 from tests import independent
+from tests.open_matrices import latin_square, two_goods
 from tests.support import FANO, R10, needs_program
 from tests.test_random import drawn
 from tests.test_written_texts import trees_by_hand
-
-GOODS = """10 12
--1 -1 0 -1 -1 0 0 0 0 0 0 0  1 0 -1 1 0 -1 0 0 0 0 0 0
-0 0 0 0 0 0 -1 -1 0 -1 -1 0  0 0 0 0 0 0 1 0 -1 1 0 -1
-1 0 0 0 0 0 1 0 0 0 0 0  0 1 0 0 0 0 0 1 0 0 0 0  0 0 1 0 0 0 0 0 1 0 0 0
-0 0 0 1 0 0 0 0 0 1 0 0  0 0 0 0 1 0 0 0 0 0 1 0  0 0 0 0 0 1 0 0 0 0 0 1
-"""
-"""Two goods over six connections between three places: totally unimodular, and no order of the lines shows it within no budget."""
-
-
-def latin_squares(order: int) -> list[list[int]]:
-    """The constraints of a Latin square, with a column for each row, column and symbol, in their natural order."""
-    cells = list(itertools.product(range(order), repeat=3))
-    pairs = list(itertools.product(range(order), repeat=2))
-    return [
-        [int((cell[first], cell[second]) == pair) for cell in cells]
-        for first, second in ((0, 1), (0, 2), (1, 2))
-        for pair in pairs
-    ]
-
 
 def any_order(matrix: Matrix, seed: int) -> LineOrder:
     lines = LineSet(tuple(range(matrix.shape[0])), tuple(range(matrix.shape[1])))
@@ -94,7 +75,7 @@ class TakenBack(unittest.TestCase):
 class Tried(unittest.TestCase):
     def test_total_unimodularity(self) -> None:
         """A Latin square has no cycle fault in its natural order and no separation, and has one in another order."""
-        matrix = Matrix.of(latin_squares(3), row_names=range(27))
+        matrix = Matrix.of(latin_square(3), row_names=range(27))
         self.assertTrue(cmr.is_totally_unimodular(matrix).is_undecided)
         answer = cmr.is_totally_unimodular(matrix, tries=20, certificate=True)
         self.assertFalse(answer)
@@ -106,7 +87,7 @@ class Tried(unittest.TestCase):
         self.assertEqual((again.violator, again.tries, again.tree), (answer.violator, answer.tries, None))
 
     def test_regularity(self) -> None:
-        matrix = Matrix.of(latin_squares(3))
+        matrix = Matrix.of(latin_square(3))
         answer = cmr.is_regular(matrix, tries=20, certificate=True)
         self.assertFalse(answer)
         assert answer.chain is not None and answer.signed is not None and answer.tree is not None
@@ -116,7 +97,7 @@ class Tried(unittest.TestCase):
         self.assertIsNone(cmr.is_regular(matrix, tries=20).chain)
 
     def test_balance(self) -> None:
-        matrix = Matrix.of(latin_squares(3))
+        matrix = Matrix.of(latin_square(3))
         answer = cmr.is_balanced(matrix, tries=20)
         self.assertFalse(answer)
         self.shows_no(matrix, answer)
@@ -127,11 +108,20 @@ class Tried(unittest.TestCase):
         self.assertTrue(independent.is_violator(answer.violator.submatrix(matrix).to_lists()))
 
     def test_what_stays_undecided(self) -> None:
-        matrix = Matrix.from_text(GOODS)
+        matrix = Matrix.of(two_goods(6))
         answer = cmr.is_totally_unimodular(matrix, lines=0, tries=3)
         self.assertEqual((answer.verdict, answer.tries, answer.open is None), ("undecided", 3, False))
         answer = cmr.is_balanced(matrix, lines=0, tries=2)
         self.assertEqual((answer.verdict, answer.tries), ("undecided", 2))
+
+    def test_with_pivots(self) -> None:
+        """A pivot is too few for a Latin square as it stands, and in another order it has a cycle fault."""
+        matrix = Matrix.of(latin_square(3))
+        self.assertEqual(cmr.is_totally_unimodular(matrix, lines=0, pivots=1).verdict, "undecided")
+        answer = cmr.is_totally_unimodular(matrix, lines=0, pivots=1, tries=20)
+        self.assertGreater(answer.tries, 0)
+        self.shows_no(matrix, answer)
+        self.assertEqual(cmr.is_totally_unimodular(two_goods(6), lines=0, pivots=20, tries=3).tries, 0)
 
     def test_a_decided_answer_is_not_asked_again(self) -> None:
         self.assertEqual(cmr.is_totally_unimodular(FANO, tries=20).tries, 0)

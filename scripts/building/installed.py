@@ -27,7 +27,6 @@ SCRIPTS = {
     "cmr-names": "name_lines",
     "cmr-graph-to-dot": "graph_to_dot",
     "cmr-tree-to-dot": "tree_to_dot",
-    "cmr-decide": "decide",
     "cmr-explain": "explain",
     "cmr-named": "named",
     "cmr-edges-to-graph": "edges_to_graph",

@@ -4,15 +4,15 @@
 _cmr_options()
 {
     case $1 in
-        tu) printf '%s\n' -i --lines -w -D -E ;;
-        regular) printf '%s\n' -i --lines -w -D -E -M -C ;;
+        tu) printf '%s\n' -i --lines --pivots -w -D -E ;;
+        regular) printf '%s\n' -i --lines --pivots -w -D -E -M -C ;;
         series-parallel) printf '%s\n' -i -b -N -S -R ;;
         graphic | network) printf '%s\n' -i -t -N -G -c ;;
-        generate) printf '%s\n' --lines -w -M ;;
+        generate) printf '%s\n' --lines --pivots -w -M ;;
         check | sign) printf '%s\n' -i ;;
         upgrade) printf '%s\n' -D ;;
         camion) printf '%s\n' -i -E ;;
-        balanced) printf '%s\n' -i --lines -w -E ;;
+        balanced) printf '%s\n' -i --lines --pivots -w -E ;;
         parts) printf '%s\n' -i -A -B ;;
         compose) printf '%s\n' -i -M ;;
     esac
@@ -25,6 +25,7 @@ _cmr_words()
         "1 "*) echo tu regular series-parallel graphic network generate check upgrade camion sign balanced parts compose ;;
         *" -i") echo dense sparse ;;
         *" --lines") echo {0..24} ;;
+        *" --pivots") echo {0..100} ;;
         *" -w") echo {1..64} ;;
         *" -"[ABCDEGMNRS]) ;;
         *)

@@ -35,10 +35,10 @@ class BashTest(ScriptTest):
                 self.assertEqual(sorted(self.offered(tool, "-")), sorted(options))
 
     def test_what_stands_there_is_not_offered_again(self):
-        self.assertEqual(self.offered("regular", "-D", "tree", "--lines", "3", "-"), ["-i", "-w", "-E", "-M", "-C"])
+        self.assertEqual(self.offered("regular", "-D", "tree", "--lines", "3", "-"), ["-i", "--pivots", "-w", "-E", "-M", "-C"])
 
     def test_many_words(self):
-        words = ["regular", "-i", "sparse", "--lines", "3", "-w", "2", "-D", "tree", "-E", "fault"]
+        words = ["regular", "-i", "sparse", "--lines", "3", "--pivots", "9", "-w", "2", "-D", "tree", "-E", "fault"]
         self.assertEqual(self.offered(*words, "-"), ["-M", "-C"])
         self.assertEqual(self.offered(*words, "-M", ""), [])
 

@@ -2,6 +2,7 @@
 
 import os
 import unittest
+from itertools import product
 
 from tests.support import TOP, ScriptTest, needs_program, needs_python
 
@@ -61,7 +62,7 @@ NOTHING_MORE = "nothing more"
 WORDS = [
     ("", ["there is no word", "whether a matrix is totally unimodular", "compose"]),
     ("--help", ["these are the tools", "series-parallel"]),
-    ("tu --help", ["usage: cmr tu [-i dense|sparse] [--lines L] [-w N] [-D FILE] [-E FILE] [FILE]"]),
+    ("tu --help", ["usage: cmr tu [-i dense|sparse] [--lines L] [--pivots K] [-w N] [-D FILE] [-E FILE] [FILE]"]),
     ("TU m.txt", ["`TU` is no tool: it is spelled `tu`", "the tools are tu, regular"]),
     ("tum m.txt", ["`tum` is no tool: did you mean `tu`?"]),
     ("sp m.txt", ["`sp` is no tool: that is `series-parallel`"]),
@@ -76,6 +77,12 @@ WORDS = [
     ("tu --lines 25 m.txt", ["`--lines 25`: the number is 0 to 24"]),
     ("tu --lines -1 m.txt", ["`--lines` takes L, and `-1` stands behind it"]),
     ("tu --line 5 m.txt", ["did you mean `--lines`?"]),
+    ("tu --pivots 101 m.txt", ["`--pivots 101`: the number is 0 to 100"]),
+    ("regular --pivots -1 m.txt", ["`--pivots` takes K, and `-1` stands behind it"]),
+    ("balanced --pivots", ["`--pivots` is the last word, and takes K behind it"]),
+    ("balanced --pivots 3 --pivots 4 m.txt", ["`--pivots` stands twice"]),
+    ("generate network 5 1 -p 3", ["`-p` is no option of generate: did you mean `--pivots`?"]),
+    ("camion --pivots 3 m.txt", ["`--pivots` is no option of camion, but of tu, regular, generate and balanced"]),
     ("tu -w 0 m.txt", ["`-w 0`: the number is 1 to 64"]),
     ("balanced -w 65 m.txt", ["`-w 65`: the number is 1 to 64"]),
     ("tu -w 2 -w 3 m.txt", ["`-w` stands twice"]),
@@ -258,7 +265,12 @@ class Mistakes(ScriptTest):
     def test_undecided(self):
         self.write("lost.txt", LOST.replace("m", "-1"))
         said = self.said("tu --lines 0 lost.txt", 6)
-        for piece in ("the part that is open has size 10x12", "`--lines 10` searches it whole", "in another order"):
+        for piece in ("the part that is open has size 10x12", "`--lines 10` searches it whole", "`--pivots 20` goes on"):
+            self.assertIn(piece, said)
+        self.assertEqual(self.said("tu --lines 0 --pivots 20 lost.txt", 0), "")
+        self.write("latin.txt", LATIN)
+        said = self.said("tu --pivots 1 latin.txt", 6)
+        for piece in ("the part that is open has size 27x27", "`--pivots 20` goes on", "in another order"):
             self.assertIn(piece, said)
 
     def test_a_program_that_is_missing(self):
@@ -280,6 +292,15 @@ m m 0 m m 0 0 0 0 0 0 0
 0 0 0 0 1 0 0 0 0 0 1 0
 0 0 0 0 0 1 0 0 0 0 0 1
 """
+
+# The constraints of a Latin square of order 3: five pivots show that they are not totally unimodular.
+_CELLS = list(product(range(3), repeat=3))
+_ROWS = [
+    [int((cell[first], cell[second]) == pair) for cell in _CELLS]
+    for first, second in ((0, 1), (0, 2), (1, 2))
+    for pair in product(range(3), repeat=2)
+]
+LATIN = "".join(["27 27\n", *(" ".join(map(str, row)) + "\n" for row in _ROWS)])
 
 
 if __name__ == "__main__":

@@ -9,10 +9,12 @@ from .words import Order
 
 __all__ = ["refused", "undecided"]
 
+_USUAL_PIVOTS, _MOST_PIVOTS = 20, 100
+
 
 def undecided(order: Order, lines: Sequence[str]) -> Iterator[str]:
-    """What can be tried. A no of any part, in any order, is a no for the matrix."""
-    budget = int(order.options.get("--lines", "14"))
+    """What can be tried. A no of any part is a no for the matrix."""
+    budget, pivots = int(order.options.get("--lines", "14")), int(order.options.get("--pivots", "0"))
     part = line_sets(lines).get("open")
     if part is not None:
         shorter = min(len(part.rows), len(part.columns))
@@ -21,8 +23,12 @@ def undecided(order: Order, lines: Sequence[str]) -> Iterator[str]:
             yield f"`--lines {shorter}` searches it whole, in up to about 2^{shorter} steps; `-w N` shares them"
         elif shorter > 24:
             yield "its shorter side has more than 24 lines, so no budget searches it whole"
-    yield "a cycle fault depends on the order of the lines: rows and columns in another order may have one at once,"
-    yield "and a no is one for every order; python/README.md has the lines that shuffle and ask again"
+    if pivots < _MOST_PIVOTS:
+        more = _USUAL_PIVOTS if pivots < _USUAL_PIVOTS else _MOST_PIVOTS
+        can_say = "which can show a yes" if order.tool.name == "balanced" else "which decides most that is left so"
+        yield f"`--pivots {more}` goes on from there: it pivots what is open, {can_say}"
+    if pivots:
+        yield "rows and columns in another order lead to other pivots (`tries` of the Python package asks again in others)"
     yield "a no for some rows or columns is one for all: leave some out (`model_to_matrix --rows`, `--without`)"
 
 
@@ -48,7 +54,7 @@ def _sizes(order: Order, texts: dict[str, bytes]) -> Iterator[str]:
     """The sizes of the matrix and of that for which the evidence is."""
     for kind, name in order.inputs.items():
         words = texts.get(name, b"")[:200].split()
-        if words[:1] in ([b"cmr-tree"], [b"cmr-chain"]):
+        if words[:1] in ([b"cmr-tree"], [b"cmr-pivots"], [b"cmr-chain"]):
             words = words[2:]
         if len(words) > 1:
             size = "x".join(word.decode("ascii", "replace") for word in words[:2])

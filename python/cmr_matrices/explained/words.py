@@ -10,17 +10,17 @@ from difflib import get_close_matches
 __all__ = ["OUTPUTS", "TOOLS", "Order", "Tool", "WordFault", "read_words"]
 
 _USAGES = {
-    "tu": "[-i dense|sparse] [--lines L] [-w N] [-D FILE] [-E FILE] [FILE]",
-    "regular": "[-i dense|sparse] [--lines L] [-w N] [-D FILE] [-E FILE] [-M FILE] [-C FILE] [FILE]",
+    "tu": "[-i dense|sparse] [--lines L] [--pivots K] [-w N] [-D FILE] [-E FILE] [FILE]",
+    "regular": "[-i dense|sparse] [--lines L] [--pivots K] [-w N] [-D FILE] [-E FILE] [-M FILE] [-C FILE] [FILE]",
     "series-parallel": "[-i dense|sparse] [-b] [-N FILE] [-S FILE] [-R FILE] [FILE]",
     "graphic": "[-i dense|sparse] [-t] [-N FILE] [-G FILE] [FILE]",
     "network": "[-i dense|sparse] [-t] [-N FILE] [-G FILE] [FILE]",
-    "generate": "KIND SIZE NUMBER [--lines L] [-w N] [-M FILE]",
+    "generate": "KIND SIZE NUMBER [--lines L] [--pivots K] [-w N] [-M FILE]",
     "check": "[-i dense|sparse] MATRIX EVIDENCE",
     "upgrade": "EVIDENCE -D FILE",
     "camion": "[-i dense|sparse] [-E FILE] [FILE]",
     "sign": "[-i dense|sparse] MATRIX ROWS",
-    "balanced": "[-i dense|sparse] [--lines L] [-w N] [-E FILE] [FILE]",
+    "balanced": "[-i dense|sparse] [--lines L] [--pivots K] [-w N] [-E FILE] [FILE]",
     "parts": "[-i dense|sparse] MATRIX TREE -A FILE -B FILE",
     "compose": "[-i dense|sparse] SUM FIRST SECOND -M FILE",
 }
@@ -68,7 +68,7 @@ _OTHER_NAMES = {
 _FORMATS = ("dense", "sparse")
 _SUMS = ("one", "two", "delta", "y", "mixed", "concentrated")
 _HELP = ("-h", "--help", "help", "-V", "--version", "-?")
-_RANGES = {"--lines": (0, 24), "-w": (1, 64)}
+_RANGES = {"--lines": (0, 24), "--pivots": (0, 100), "-w": (1, 64)}
 _NUMBER = re.compile(r"\+?[0-9]+")
 _USAGE_PART = re.compile(r"\[[^]]*\]|--?[A-Za-z]+ [A-Z]+|[A-Z]+")
 
@@ -226,7 +226,7 @@ def _letters(order: Order, word: str, left: list[str]) -> str:
 
 
 def _set(order: Order, option: str, value: str | None, left: list[str]) -> str:
-    takes = "FILE" if option in OUTPUTS else {"-i": "dense or sparse", "--lines": "L", "-w": "N"}[option]
+    takes = "FILE" if option in OUTPUTS else _TAKES[option]
     if value is None:
         if not left:
             return f"`{option}` is the last word, and takes {takes} behind it"
@@ -234,7 +234,7 @@ def _set(order: Order, option: str, value: str | None, left: list[str]) -> str:
         if value.startswith("-"):
             reason = "a file cannot be called so; `./` in front of the name helps" if len(value) > 1 else _DASH
             return f"`{option}` takes {takes}, and `{value}` stands behind it: " + (
-                reason if takes == "FILE" else "that is no number" if takes in "LN" else "that is no format"
+                reason if takes == "FILE" else "that is no format" if option == "-i" else "that is no number"
             )
     if option in order.options:
         return f"`{option}` stands twice"
@@ -242,6 +242,7 @@ def _set(order: Order, option: str, value: str | None, left: list[str]) -> str:
     return ""
 
 
+_TAKES = {"-i": "dense or sparse", "--lines": "L", "--pivots": "K", "-w": "N"}
 _DASH = "`-` is standard input as the last word alone, and nothing can be written to it; /dev/stdout can be named"
 
 
@@ -254,6 +255,8 @@ def _unknown_option(tool: Tool, option: str, word: str = "") -> str:
     said = f"`{option}`{place} is no option of {tool.name}"
     if option in ("-l", "-L", "--line", "--budget") and "--lines" in known:
         return f"{said}: did you mean `--lines`?"
+    if option in ("-p", "-P", "-k", "-K", "--pivot") and "--pivots" in known:
+        return f"{said}: did you mean `--pivots`?"
     if option in ("--workers", "--threads", "-j", "-n") and "-w" in known:
         return f"{said}: did you mean `-w`?"
     if option in ("--format", "--input", "--sparse", "-s") and "-i" in known:

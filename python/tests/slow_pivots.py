@@ -1,0 +1,99 @@
+"""The plain slow program of the pivots in a decomposition: it asks the program itself for the tree of each pivoted submatrix alone.
+
+It goes by the rule of docs/DEFINITIONS.md, with pivots, draws and the way back of violators of its own, and is for comparing.
+"""
+
+from __future__ import annotations
+
+from dataclasses import dataclass, replace
+
+import cmr_matrices as cmr
+from cmr_matrices import BadEntry, Line, LineSet, Matrix, Node, Tree
+from cmr_matrices.line_orders import LineOrder
+
+__all__ = ["Draws", "slow_tree", "violator_before"]
+
+MOST_LEVELS = 2000
+
+
+@dataclass(frozen=True)
+class Draws:
+    """Numbers that are drawn one after another from a state below 2^31, by the generator of `cmr generate`: docs/DEFINITIONS.md."""
+
+    state: int = 1
+
+    def below(self, bound: int) -> tuple[int, Draws]:
+        """A number below a bound, and the draws after it."""
+        after = (1103515245 * self.state + 12345) % 2**31
+        return after // 1024 % bound, Draws(after)
+
+
+def violator_before(matrix: Matrix, row: int, column: int, fault: LineSet) -> LineSet:
+    """The violator of a matrix that one of its pivot at a nonzero comes from.
+
+    It has the same lines but perhaps the pivot's: its row exactly where the fault's rows have an odd sum in the pivot's column, and its
+    column exactly where the fault's columns have one in the pivot's row.
+    """
+    rows, columns = set(fault.rows), set(fault.columns)
+    in_column = sum(value for at, across, value in matrix.nonzeros if across == column and at in rows)
+    in_row = sum(value for at, across, value in matrix.nonzeros if at == row and across in columns)
+    return LineSet(_with_line(rows, row, in_column % 2 == 1), _with_line(columns, column, in_row % 2 == 1))
+
+
+def slow_tree(matrix: Matrix, pivots: int, lines: int) -> tuple[Tree, int]:
+    """The decomposition with so many pivots on the way to a node and this budget of lines, and the most that were made on a way."""
+    search = _Search(lines)
+    tree = search.tree(matrix, min(pivots, MOST_LEVELS - sum(matrix.shape)), Draws())
+    return tree, search.deepest
+
+
+@dataclass
+class _Search:
+    lines: int
+    deepest: int = 0
+
+    def tree(self, matrix: Matrix, left: int, draws: Draws, made: int = 0) -> Tree:
+        """The tree of a matrix in which so many pivots may still be made."""
+        self.deepest = max(self.deepest, made)
+        tree = cmr.is_totally_unimodular(matrix, lines=self.lines, certificate=True).tree
+        assert tree is not None
+        undecided = [node for _, node in tree.walk() if node.kind == "undecided"]
+        found = {node: self._found(matrix, node, left, draws, made) for node in undecided}
+        return replace(tree, root=tree.root.rebuilt(_Exchanged(found)))
+
+    def _found(self, matrix: Matrix, node: Node, left: int, draws: Draws, made: int) -> Node:
+        """What stands in the place of an undecided node. Its submatrix has a nonzero, as it is not reducible."""
+        if not left:
+            return node
+        order = LineOrder(matrix, node.rows, node.columns)
+        part = order.reordered()
+        number, after = draws.below(len(part.nonzeros))
+        row, column, _ = part.nonzeros[number]
+        try:
+            pivoted = part.pivoted(row, column)
+        except BadEntry as entry:
+            fault = LineSet(tuple(sorted((row, entry.row))), tuple(sorted((column, entry.column))))
+            return Node("violator", node.lines, fault=order.lines(fault))
+        below = self.tree(pivoted, left - 1, after, made + 1)
+        if below.verdict == "yes":
+            place = order.line(Line("row", row)), order.line(Line("column", column))
+            return Node("pivoted", node.lines, (order.tree(below).root,), place=place)
+        faults = [found.fault for _, found in below.walk() if found.fault is not None]
+        if faults:
+            fault = violator_before(part, row, column, faults[0])
+            return Node("violator", node.lines, fault=order.lines(fault))
+        return node
+
+
+@dataclass(frozen=True)
+class _Exchanged:
+    """The change of a tree in which some nodes become others."""
+
+    others: dict[Node, Node]
+
+    def __call__(self, node: Node, children: tuple[Node, ...]) -> Node:
+        return self.others.get(node) or replace(node, children=children)
+
+
+def _with_line(lines: set[int], line: int, has: bool) -> tuple[int, ...]:
+    return tuple(sorted(lines | {line} if has else lines - {line}))
