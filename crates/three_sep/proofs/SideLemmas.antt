@@ -12,7 +12,7 @@ use Rattle.cmr_base.proofs.EntryBytes.{kept_entry}
 use Rattle.cmr_base.proofs.SeedLemmas.{count_grows}
 use Rattle.three_sep.specs.declared.half.Half.{Half}
 use Rattle.three_sep.specs.declared.side.Side.{Side}
-use Rattle.three_sep.specs.declared.corners.Corners.{Corners}
+use Rattle.cuts.specs.declared.corners.Corners.{Corners}
 use Rattle.cmr_base.specs.Separations.{Lines, product_at}
 use Rattle.cmr_base.specs.Seeds.{IsLine}
 use Rattle.three_sep.specs.NumberedSeeds.{Among, HasAll, outside}

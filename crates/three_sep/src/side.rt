@@ -6,7 +6,7 @@ ghost use Rattle.three_sep.specs.Halves.{AreSame};
 ghost use Rattle.cmr_base.specs.declared.line.Line.{Line};
 ghost use Rattle.three_sep.specs.Sides.{AreInside, HasNamedStart, HasRoom, HasSize, IsGrowing, IsGrowingBy, IsLeast, KeepsGrowing, LeavesFew, TellsClosed, set_of, start_lines, work};
 
-use crate::corners::Corners;
+use cuts::Corners;
 use crate::half::Half;
 use cmr_base::{Line, Memory, RowsAndColumns, product};
 use std::alloc::Global;
