@@ -4,9 +4,10 @@ use Rattle.std.proofs.lemmas.Bool.{cases_eq}
 use Rattle.std.proofs.lemmas.List.{get_or_append_left}
 use Rattle.std.proofs.Math.Seq.{get_or-append_seam}
 use Rattle.cmr_base.specs.ColumnSets.{HasCommon}
-use Rattle.cmr_base.specs.Matrix.{Matrix, height, row_of, is_nonzero, IsMatrix}
+use Rattle.cmr_base.specs.Matrix.{Matrix, height, row_of, is_nonzero, transposed, IsMatrix}
 use Rattle.cmr_base.specs.Planes.{words_for, words_of}
 use Rattle.cmr_base.proofs.ColumnWords.{words_columns}
+use Rattle.cmr_base.proofs.Parts.{height-transposed}
 use Rattle.cuts.specs.Classes.{AreClassNumbers, AreNumbered, IsNumber, Meets}
 use Rattle.cuts.specs.Digests.{digest_at, digest_of}
 use Rattle.cuts.proofs.DigestLemmas.{rows_unlike}
@@ -50,3 +51,7 @@ number_of_words m crossing words row class is l same (inr ((column, in_row, in_s
 
 pub class_numbers_as : (m m' : Matrix) (crossing crossing' classes : List ℕ) → m ≡ m' → crossing ≡ crossing' → AreClassNumbers m crossing classes → AreClassNumbers m' crossing' classes
 class_numbers_as m m' crossing crossing' classes em ec h = subst (λ (z : Matrix). AreClassNumbers z crossing' classes) em (subst (λ (v : List ℕ). AreClassNumbers m v classes) ec h)
+
+-- words for the columns, as words for the rows of the transposed matrix
+pub wide_words : (m by_columns : Matrix) (words items : List ℕ) → by_columns ≡ transposed m → words ≡ items → length items ≡ words_for m.width → length words ≡ words_for (height by_columns)
+wide_words m by_columns words items e v l = ap length v ∙ l ∙ ap words_for (sym (ap height e ∙ height-transposed m))

@@ -4,4 +4,6 @@ pub mod DigestLemmas
 pub mod ClassLemmas
 pub mod CoverLemmas
 pub mod PatternLemmas
+pub mod LinePatternLemmas
 pub mod GroupLemmas
+pub mod FinderLemmas

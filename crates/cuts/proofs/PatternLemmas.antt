@@ -1,5 +1,5 @@
 -- How many numbers of a rising list are 0 or equal to one, and how many lines beside a set have class 0 or another.
-use Rattle.std.proofs.Common.{ℕ, zero, suc, ◌+◌, ◌++◌, ◌&&◌, ◌||◌, Bool, true, false, not, cond, nat_eq, List, [], ◌∷◌, ◌≡◌, ◌≢◌, ◌<◌, ◌≤◌, ◌∙◌, sym, ap, refl, arith, subst, ◌⊎◌, inl, inr, length, get_or, take, count_by, IsPermutation}
+use Rattle.std.proofs.Common.{ℕ, zero, suc, ◌+◌, ◌++◌, ◌&&◌, ◌||◌, Bool, true, false, not, cond, nat_eq, List, [], ◌∷◌, ◌≡◌, ◌≢◌, ◌<◌, ◌≤◌, ◌∙◌, sym, ap, refl, arith, subst, ◌⊎◌, inl, inr, length, get_or, take, count_by, IsPermutation, length-append}
 use Rattle.std.specs.List.Sorted.{IsNonDecreasing}
 use Rattle.std.proofs.lemmas.List.{take_all}
 use Rattle.std.proofs.lemmas.List.Sums.{sum_by_more, sum_by_push, sum_by-le-sum_by}
@@ -28,11 +28,22 @@ open_more own classes listed after row so f is = let next : suc row ≡ row + 1 
 pub open_same : (own classes listed : List ℕ) (row : ℕ) → AreOpen own classes row listed → has_column own row ≡ true → AreOpen own classes (row + 1) listed
 open_same own classes listed row so t = let next : suc row ≡ row + 1 = omega arith in subst (λ (n : ℕ). AreOpen own classes n listed) next (λ test. so test ∙ sym (rw t refl))
 
+pub listed_more : (own classes listed after : List ℕ) (row : ℕ) → length listed ≤ row → AreOpen own classes row listed → has_column own row ≡ false → after ≡ listed ++ get_or classes row 0 ∷ []
+    → (length after ≤ row + 1) × AreOpen own classes (row + 1) after
+listed_more own classes listed after row l so f is =
+    let e = ap length is in
+    let k = length-append listed (get_or classes row 0 ∷ []) in
+    (omega (arith, e, k, l), open_more own classes listed after row so f is)
+
 pub open_sorted : (own classes listed sorted : List ℕ) (size : ℕ) → AreOpen own classes size listed → IsPermutation listed sorted → AreOpen own classes size sorted
 open_sorted own classes listed sorted size so permuted test = sum_by-IsPermutation (λ class. cond (test class) 1 0) listed sorted permuted ∙ so test
 
-pub most_beside : (own classes sorted : List ℕ) (size most : ℕ) → AreOpen own classes size sorted → AreAtMostListed sorted most → AreAtMostBeside own classes size most
+most_beside : (own classes sorted : List ℕ) (size most : ℕ) → AreOpen own classes size sorted → AreAtMostListed sorted most → AreAtMostBeside own classes size most
 most_beside own classes sorted size most so listed name = let e = so (λ class. nat_eq class 0 || nat_eq class name) in let l = listed name in omega (arith, e, l)
+
+pub most_of_sorted : (own classes items sorted listed : List ℕ) (rows size most : ℕ) → classes ≡ items → sorted ≡ listed → rows ≡ size → AreOpen own classes rows listed → AreAtMostListed sorted most → AreAtMostBeside own items size most
+most_of_sorted own classes items sorted listed rows size most ec es er so l =
+    subst (λ (v : List ℕ). AreAtMostBeside own v size most) ec (subst (λ (n : ℕ). AreAtMostBeside own classes n most) er (most_beside own classes listed rows most so (subst (λ (v : List ℕ). AreAtMostListed v most) es l)))
 
 -- ---- a rising list
 

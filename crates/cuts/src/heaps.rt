@@ -1,5 +1,4 @@
 // Classes of lines in two heaps: those with numbers in an interval, and the others.
-ghost use Rattle.std.specs.Prelude.{◌≡◌};
 
 /// The classes with numbers from one to another, and how many lines are in the lighter heap. None there means that there
 /// are no two heaps.

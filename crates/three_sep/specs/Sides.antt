@@ -78,13 +78,3 @@ start_lines c x = Row c.i ∷ Column c.p ∷ x ∷ []
 pub record HasSize (m : Matrix) (side : Side) : Type 0 where
   pub rows : HasPlaces (height m) side.rows
   pub columns : HasPlaces m.width side.columns
-
--- the place of a line in a list of names, the rows first
-abbrev pub name_in : Matrix → List ℕ → Line → ℕ
-name_in m names (Row r) = slice_index_or names r 0
-name_in m names (Column c) = slice_index_or names (height m + c) 0
-
--- for all corners it grows from a start of lines of two names
-abbrev pub HasNamedStart : Matrix → List ℕ → ℕ → ℕ → Side → Type 0
-HasNamedStart m names one two side = (corners : Corners) → (start : List Line) × IsGrowing m corners start side
-    × ((x : Line) → Among start x → IsLine (height m) m.width x × ((name_in m names x ≡ one) ⊎ (name_in m names x ≡ two)))

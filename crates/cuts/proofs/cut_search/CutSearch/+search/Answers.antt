@@ -5,6 +5,12 @@ use Rattle.cuts.specs.LineSets.{HasWords, set_of}
 use Rattle.cuts.proofs.CoverLemmas.{covers_both, covers_halves, covers_halves_beside, covers_line}
 use Rattle.cuts.proofs.cut_search.CutSearch.+search.Goals as goal
 
+pub returns-then-are_few-clause-covers : goal.returns-then-are_few-clause-covers
+returns-then-are_few-clause-covers t c = λ e. c.are_few.ensures.near c.if-are_few.true (set_of c.args.two.now) (set_of c.args.self.now.parted)
+
+pub returns-then-are_few-2-clause-covers : goal.returns-then-are_few-2-clause-covers
+returns-then-are_few-2-clause-covers t c = λ e. c.are_few-2.ensures.far c.if-are_few-2.true (set_of c.args.one.now) (set_of c.args.self.now.parted)
+
 pub returns-in-Some-clause-covers : goal.returns-in-Some-clause-covers
 returns-in-Some-clause-covers t c =
     let m = c.args.views.now in

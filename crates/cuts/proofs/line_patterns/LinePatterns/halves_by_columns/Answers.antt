@@ -8,6 +8,6 @@ returns c =
     let lines = c.args.lines.now in (
       c.in_ok-one.ensures.size,
       c.in_ok-other.ensures.size,
-      columns_halved m lines.rows.items lines.columns.items c.args.self.now.columns (set_of c.in_ok-one.one) (set_of c.in_ok-other.other) c.rows-_shape.ensures.shape c.requires.patterns.columns
+      columns_halved m lines.rows.items lines.columns.items c.args.self.now.columns (set_of c.in_ok-one.one) (set_of c.in_ok-other.other) c.rows-shape.ensures.shape c.requires.patterns.columns
           c.in_ok-one.ensures.lines c.in_ok-other.ensures.lines,
     )
