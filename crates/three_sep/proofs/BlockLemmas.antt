@@ -17,11 +17,12 @@ use Rattle.cmr_base.proofs.Parts.{length-rising}
 use Rattle.cmr_base.proofs.SeedLemmas.{form_is}
 use Rattle.cmr_base.proofs.Submatrices.{increasing_places}
 use Rattle.first_hit.specs.First.{IsFirst, NoneBetween}
-use Rattle.three_sep.specs.declared.corners.Corners.{Corners}
-use Rattle.three_sep.specs.declared.groups.Groups.{Groups}
+use Rattle.cuts.specs.declared.corners.Corners.{Corners}
+use Rattle.cuts.specs.declared.groups.Groups.{Groups}
 use Rattle.three_sep.specs.declared.triple.Triple.{Triple}
 use Rattle.three_sep.specs.NumberedSeeds.{Seed, AreCorners, IsCrossing, IsGoodSeed, seed_key, seed_of}
-use Rattle.three_sep.specs.Cuts.{HasNoCutAt, HoldTogether, IsCut}
+use Rattle.cuts.specs.Cuts.{HoldTogether, IsCut}
+use Rattle.three_sep.specs.Cuts.{HasNoCutAt}
 use Rattle.three_sep.specs.Searches.{BeginsWith, HasGood, HasNoGood, HasNoneBelow, IsFirstOf, IsNoSecondColumn, corner_front, other_line}
 use Rattle.three_sep.specs.Blocks.{SeedBlock, AreOpen, AreOpenBelow, HasGoodRow, HasGoodTriple, HasNumber, IsFirstTriple, TellsOpen, block_front, column_at, corners_with, firsts, number_count, seconds, triple_front}
 use Rattle.three_sep.proofs.CrossingLemmas.{as_crossing}

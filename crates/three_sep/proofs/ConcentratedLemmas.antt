@@ -17,7 +17,7 @@ use Rattle.cmr_base.proofs.SeedLemmas.{good_three_seed, three_separation_of_seed
 use Rattle.cmr_base.proofs.Booleans.{and_is, false_is, nonzero_is, not_both, not_is, true_is, zero_is}
 use Rattle.cmr_base.proofs.NextNonzeros.{column_in as nonzero_in}
 use Rattle.cmr_base.proofs.SignEntries.{sign_of_entry}
-use Rattle.three_sep.specs.declared.corners.Corners.{Corners}
+use Rattle.cuts.specs.declared.corners.Corners.{Corners}
 use Rattle.three_sep.specs.declared.connectors.Connectors.{Connectors}
 use Rattle.three_sep.specs.NumberedSeeds.{Among, IsGoodSeed, Seed, connector, inside, seed_key}
 use Rattle.three_sep.specs.Sides.{AreInside, IsClosedBy}

@@ -18,7 +18,7 @@ use Rattle.line_growth.proofs.FoundLemmas.{seen_added, seen_or_found}
 use Rattle.line_growth.proofs.GrownLines.{differs_not, same_not}
 use Rattle.three_sep.specs.NumberedSeeds.{count as number_of_lines}
 use Rattle.three_sep.specs.declared.half.Half.{Half}
-use Rattle.three_sep.specs.Halves.{is_in, Agrees, IsHalf, HasGrown, HasPulled, HasStarted, HasStartedWith, IsStartingWith, HasAdded, HasTaken}
+use Rattle.three_sep.specs.Halves.{is_in, Agrees, IsHalf, HasGrown, HasPulled, HasStarted, HasAdded, HasTaken}
 
 -- tests after one of them was set
 pub set_there : (xs : List Bool) (line : ℕ) (v : Bool) → line < length xs → get_or (set xs line v) line false ≡ v
@@ -288,42 +288,3 @@ started count one two empty half after none a b = record {
 pub started_as : (count n1 n2 one two : ℕ) (empty half after : Half) → n1 ≡ count → n2 ≡ count → ((x : ℕ) → is_in empty x ≡ false) → HasAdded n1 one empty half → HasAdded n2 two half after → HasStarted count one two after
 started_as count n1 n2 one two empty half after e1 e2 none a b =
     started count one two empty half after none (subst (λ (n : ℕ). HasAdded n one empty half) e1 a) (subst (λ (n : ℕ). HasAdded n two half after) e2 b)
-
-pub starting_none : (count : ℕ) (P : ℕ → Type 0) (half : Half) → IsHalf count half → ((x : ℕ) → is_in half x ≡ false) → IsStartingWith count P half 0
-starting_none count P half w none = record {
-  whole = w;
-  taken = λ x l h. absurd (omega arith);
-  only = λ x e. absurd (not_both (is_in half x) e (none x));
-  fresh = λ x e. absurd (not_both (is_in half x) e (none x));
-}
-
-module _ (count : ℕ) (P : ℕ → Type 0) (half : Half) (place : ℕ) (w : IsStartingWith count P half place) where
-  pub starting_takes : (after : Half) → HasAdded count place half after → P place → IsStartingWith count P after (place + 1)
-  starting_takes after a fits = record {
-    whole = a.whole;
-    taken = λ x l h. elim (cases_lt x place) [
-      | inl low ↦ a.kept x (w.taken x low h)
-      | inr high ↦ let q : x ≡ place = omega arith in subst (λ (z : ℕ). is_in after z ≡ true) (sym q) a.line_in
-    ];
-    only = λ x e. elim (a.only x e) [ inl h ↦ w.only x h | inr q ↦ subst P (sym q) fits ];
-    fresh = λ x e. elim (a.news x e) [ inl h ↦ a.waits x (w.fresh x h) | inr h ↦ h ];
-  }
-
-  pub starting_passes : ¬ (P place) → IsStartingWith count P half (place + 1)
-  starting_passes unfit = record {
-    whole = w.whole;
-    taken = λ x l h. elim (cases_lt x place) [
-      | inl low ↦ w.taken x low h
-      | inr high ↦ let q : x ≡ place = omega arith in absurd (unfit (subst P q h))
-    ];
-    only = w.only;
-    fresh = w.fresh;
-  }
-
-  pub starting_ends : count ≤ place → HasStartedWith count P half
-  starting_ends past = record { whole = w.whole; taken = λ x l h. w.taken x (omega arith) h; only = w.only; fresh = w.fresh }
-
-pub any_default : {A : Type 0} (xs : List A) (i : ℕ) (d e : A) → i < length xs → get_or xs i d ≡ get_or xs i e
-any_default [] i d e l = absurd (omega arith)
-any_default (x ∷ xs) zero d e l = refl
-any_default (x ∷ xs) (suc i) d e l = any_default xs i d e (omega arith)

@@ -3,8 +3,6 @@ pub mod SideLemmas
 pub mod RoomLemmas
 pub mod StartLemmas
 pub mod CutLemmas
-pub mod PartedLemmas
-pub mod DigestLemmas
 pub mod CrossingLemmas
 pub mod SpreadLemmas
 pub mod NumberLemmas

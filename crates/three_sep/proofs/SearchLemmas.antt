@@ -13,8 +13,8 @@ use Rattle.cmr_base.proofs.SeedLemmas.{line_is, form_is}
 use Rattle.cmr_base.proofs.LineCounts.{count_same}
 use Rattle.three_sep.specs.declared.half.Half.{Half}
 use Rattle.three_sep.specs.declared.side.Side.{Side}
-use Rattle.three_sep.specs.declared.groups.Groups.{Groups}
-use Rattle.three_sep.specs.declared.corners.Corners.{Corners}
+use Rattle.cuts.specs.declared.groups.Groups.{Groups}
+use Rattle.cuts.specs.declared.corners.Corners.{Corners}
 use Rattle.cmr_base.specs.declared.separation.Form.{Form}
 use Rattle.cmr_base.specs.declared.separation.Form.TheVariants.{Delta, YForm, Mixed, Concentrated}
 use Rattle.cmr_base.specs.declared.separation.Three.{Three}
@@ -23,7 +23,8 @@ use Rattle.cmr_base.specs.Seeds.{IsLine, form_number, line_number, IsBefore}
 use Rattle.three_sep.specs.NumberedSeeds.{Seed, Among, HasAll, HasNone, count, inside, connector, IsFirstOther, IsSecondOther, AreCorners, IsCrossing, IsGoodSeed, seed_key, HasLines, seed_of}
 use Rattle.three_sep.specs.Halves.{is_in, IsHalf, AreSame}
 use Rattle.three_sep.specs.Sides.{set_of, HasRoom, AreInside, IsGrowingBy, IsLeast, start_lines}
-use Rattle.three_sep.specs.Cuts.{IsCutAt, HasNoCutAt, IsCut, HasNames, HoldTogether}
+use Rattle.cuts.specs.Cuts.{IsCutAt, IsCut, HasNames, HoldTogether}
+use Rattle.three_sep.specs.Cuts.{HasNoCutAt}
 use Rattle.three_sep.specs.Searches.{BeginsWith, HasNoGood, IsFirstOf, HasNoneBelow, corner_front, line_count, other_line, LeavesSecond, IsNoSecondRow, IsNoSecondColumn}
 use Rattle.three_sep.proofs.CrossingLemmas.{IsGoodCrossing, as_crossing, as_good}
 use Rattle.three_sep.proofs.SideLemmas.{outside_less}

@@ -12,13 +12,13 @@ use Rattle.cmr_base.proofs.EntryBytes.{kept_entry}
 use Rattle.cmr_base.proofs.SeedLemmas.{count_grows}
 use Rattle.three_sep.specs.declared.half.Half.{Half}
 use Rattle.three_sep.specs.declared.side.Side.{Side}
-use Rattle.three_sep.specs.declared.corners.Corners.{Corners}
+use Rattle.cuts.specs.declared.corners.Corners.{Corners}
 use Rattle.cmr_base.specs.Separations.{Lines, product_at}
 use Rattle.cmr_base.specs.Seeds.{IsLine}
 use Rattle.three_sep.specs.NumberedSeeds.{Among, HasAll, outside}
-use Rattle.three_sep.specs.Halves.{is_in, HasPulled, HasAdded, HasTaken, Agrees, HasStartedWith, IsNamed}
+use Rattle.three_sep.specs.Halves.{is_in, HasPulled, HasAdded, HasTaken, Agrees}
 use Rattle.three_sep.proofs.HalfLemmas.{count_most}
-use Rattle.three_sep.specs.Sides.{set_of, HasRoom, IsClosedBy, IsGrowingBy, IsGrowing, IsLeastBy, LeavesFewBy, HasNamedStart, name_in}
+use Rattle.three_sep.specs.Sides.{set_of, HasRoom, IsClosedBy, IsGrowingBy, IsGrowing, IsLeastBy, LeavesFewBy}
 
 -- ---- counts
 
@@ -262,59 +262,6 @@ pub column_added_as : (m : Matrix) (upper lower : ℕ → ℕ → ℤ) (before a
     → HasAdded cc column before.columns after.columns → after.rows ≡ before.rows → IsGrowingBy m upper lower (line ∷ start) after
 column_added_as m upper lower before after start line column cc is ec g w same =
     subst (λ (z : Line). IsGrowingBy m upper lower (z ∷ start) after) (sym is) (column_added m upper lower before after start g column (subst (λ (z : ℕ). HasAdded z column before.columns after.columns) ec w) same)
-
--- ---- a start with names
-
-abbrev rows_in : List ℕ → List Line → List Line
-rows_in [] rest = rest
-rows_in (r ∷ rs) rest = Row r ∷ rows_in rs rest
-
-abbrev columns_in : List ℕ → List Line
-columns_in [] = []
-columns_in (c ∷ cs) = Column c ∷ columns_in cs
-
-among_row : (rs : List ℕ) (rest : List Line) (r : ℕ) → IsIn r rs → Among (rows_in rs rest) (Row r)
-among_row [] rest r h = absurd h
-among_row (s ∷ rs) rest r (inl e) = inl (ap Row e)
-among_row (s ∷ rs) rest r (inr h) = inr (among_row rs rest r h)
-
-among_rest : (rs : List ℕ) (rest : List Line) (x : Line) → Among rest x → Among (rows_in rs rest) x
-among_rest [] rest x h = h
-among_rest (s ∷ rs) rest x h = inr (among_rest rs rest x h)
-
-among_column : (cs : List ℕ) (c : ℕ) → IsIn c cs → Among (columns_in cs) (Column c)
-among_column [] c h = absurd h
-among_column (d ∷ cs) c (inl e) = inl (ap Column e)
-among_column (d ∷ cs) c (inr h) = inr (among_column cs c h)
-
-each_column : (P : Line → Type 0) (cs : List ℕ) → ((c : ℕ) → IsIn c cs → P (Column c)) → (x : Line) → Among (columns_in cs) x → P x
-each_column P [] h x a = absurd a
-each_column P (d ∷ cs) h x (inl e) = subst P (sym e) (h d (inl refl))
-each_column P (d ∷ cs) h x (inr a) = each_column P cs (λ c g. h c (inr g)) x a
-
-each_line : (P : Line → Type 0) (rs cs : List ℕ) → ((r : ℕ) → IsIn r rs → P (Row r)) → ((c : ℕ) → IsIn c cs → P (Column c)) → (x : Line) → Among (rows_in rs (columns_in cs)) x → P x
-each_line P [] cs hr hc x a = each_column P cs hc x a
-each_line P (s ∷ rs) cs hr hc x (inl e) = subst P (sym e) (hr s (inl refl))
-each_line P (s ∷ rs) cs hr hc x (inr a) = each_line P rs cs (λ r g. hr r (inr g)) hc x a
-
-pub named_start : (m : Matrix) (names : List ℕ) (one two cr cc offset : ℕ) (side : Side) → cr ≡ height m → cc ≡ m.width → offset ≡ height m → HasStartedWith cr (IsNamed names 0 one two) side.rows
-    → HasStartedWith cc (IsNamed names offset one two) side.columns → HasNamedStart m names one two side
-named_start m names one two cr cc offset side er ec eo rows columns corners = (
-  rows_in side.rows.fresh.items (columns_in side.columns.fresh.items),
-  record {
-    has = each_line (λ x. set_of side x ≡ true) side.rows.fresh.items side.columns.fresh.items rows.whole.fresh_inside columns.whole.fresh_inside;
-    least = λ T closed has x e. has x (listed x e);
-    right = λ r k lr lk e f. inl (rows.fresh r e);
-    below = λ r k lr lk e f. inl (columns.fresh k f);
-  },
-  each_line (λ x. IsLine (height m) m.width x × ((name_in m names x ≡ one) ⊎ (name_in m names x ≡ two))) side.rows.fresh.items side.columns.fresh.items
-      (λ r h. (subst (λ (z : ℕ). r < z) er (rows.whole.fresh_in r h), subst (λ (z : ℕ). (get_or names z 0 ≡ one) ⊎ (get_or names z 0 ≡ two)) (omega arith) (rows.only r (rows.whole.fresh_inside r h))))
-      (λ k h. (subst (λ (z : ℕ). k < z) ec (columns.whole.fresh_in k h), subst (λ (z : ℕ). (get_or names (z + k) 0 ≡ one) ⊎ (get_or names (z + k) 0 ≡ two)) eo (columns.only k (columns.whole.fresh_inside k h)))),
-)
-  where
-    listed : (x : Line) → set_of side x ≡ true → Among (rows_in side.rows.fresh.items (columns_in side.columns.fresh.items)) x
-    listed (Row r) e = among_row side.rows.fresh.items (columns_in side.columns.fresh.items) r (rows.fresh r e)
-    listed (Column k) e = among_rest side.rows.fresh.items (columns_in side.columns.fresh.items) (Column k) (among_column side.columns.fresh.items k (columns.fresh k e))
 
 -- ---- the transposed matrix
 

@@ -12,7 +12,7 @@ use Rattle.three_sep.specs.NumberedSeeds.{HasAll, inside, outside}
 use Rattle.three_sep.specs.Sides.{IsClosedBy}
 use Rattle.three_sep.specs.Searches.{LeavesSecond}
 use Rattle.three_sep.specs.Concentrated.{ArePlaced, HasNoLeaving, first_lines, first_of, second_of, turned}
-use Rattle.three_sep.proofs.CutLemmas.{count_same}
+use Rattle.cuts.proofs.CutLemmas.{count_same}
 use Rattle.three_sep.proofs.SpreadLemmas.{spread_turned}
 
 module _ (m : Matrix) (is : IsMatrix m) (d : Connectors) where

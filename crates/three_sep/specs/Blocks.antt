@@ -6,7 +6,7 @@ use Rattle.cmr_base.specs.Members.{IsIn}
 use Rattle.cmr_base.specs.declared.separation.Form.{Form}
 use Rattle.cmr_base.specs.Separations.{first_is_flat, second_is_flat}
 use Rattle.cmr_base.specs.Seeds.{form_number}
-use Rattle.three_sep.specs.declared.corners.Corners.{Corners}
+use Rattle.cuts.specs.declared.corners.Corners.{Corners}
 use Rattle.three_sep.specs.declared.triple.Triple.{Triple}
 use Rattle.three_sep.specs.Searches.{HasGood, HasNoGood, HasNoneBelow, corner_front, line_count}
 

@@ -7,7 +7,7 @@ use Rattle.cmr_base.specs.declared.separation.Form.TheVariants.{Concentrated}
 use Rattle.cmr_base.specs.Matrix.{Matrix, height, entry}
 use Rattle.cmr_base.specs.Signing.{IsSign}
 use Rattle.cmr_base.specs.Separations.{Lines, zeros, spread_at, core_determinant}
-use Rattle.three_sep.specs.declared.corners.Corners.{Corners}
+use Rattle.cuts.specs.declared.corners.Corners.{Corners}
 use Rattle.three_sep.specs.declared.connectors.Connectors.{Connectors}
 use Rattle.three_sep.specs.declared.side.Side.{Side}
 use Rattle.three_sep.specs.NumberedSeeds.{Seed, HasAll, IsGoodSeed}

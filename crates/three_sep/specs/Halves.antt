@@ -96,21 +96,3 @@ pub record AreSame (one two : Half) : Type 0 where
   pub seen : one.seen.seen.items ≡ two.seen.seen.items
   pub left : one.left ≡ two.left
   pub fresh : one.fresh.items ≡ two.fresh.items
-
--- the lines that pass, and they alone, are in the side
-pub record HasStartedWith (count : ℕ) (P : ℕ → Type 0) (half : Half) : Type 0 where
-  pub whole : IsHalf count half
-  pub taken : (line : ℕ) → line < count → P line → is_in half line ≡ true
-  pub only : (line : ℕ) → is_in half line ≡ true → P line
-  pub fresh : (line : ℕ) → is_in half line ≡ true → IsIn line half.fresh.items
-
--- so far: those of the lines below a place
-pub record IsStartingWith (count : ℕ) (P : ℕ → Type 0) (half : Half) (place : ℕ) : Type 0 where
-  pub whole : IsHalf count half
-  pub taken : (line : ℕ) → line < place → P line → is_in half line ≡ true
-  pub only : (line : ℕ) → is_in half line ≡ true → P line
-  pub fresh : (line : ℕ) → is_in half line ≡ true → IsIn line half.fresh.items
-
--- the name of a line is one of two
-abbrev pub IsNamed : List ℕ → ℕ → ℕ → ℕ → ℕ → Type 0
-IsNamed names offset one two line = (slice_index_or names (offset + line) 0 ≡ one) ⊎ (slice_index_or names (offset + line) 0 ≡ two)

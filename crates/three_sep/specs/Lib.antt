@@ -6,9 +6,6 @@ pub mod Sides
 pub mod Concentrated
 pub mod Independent
 pub mod Cuts
-pub mod Parted
-pub mod Digests
-pub mod Finders
 pub mod Searches
 pub mod Blocks
 pub mod BlocksView

@@ -12,11 +12,7 @@ use Rattle.cmr_base.specs.Separations.{Lines, upper_block, lower_block, first_is
 use Rattle.cmr_base.specs.Separations as base
 use Rattle.cmr_base.specs.Seeds.{IsLine, line_number, form_number}
 pub use Rattle.cmr_base.specs.Seeds.{count, inside, outside}
-
--- no line outside breaks a rule with a line inside: the one for rows inside, or the one for columns inside
-pub record IsClosed (m n : ℕ) (M right_rule below_rule : ℕ → ℕ → ℤ) (S : Lines) : Type 0 where
-  pub right : (r c : ℕ) → r < m → c < n → S (Row r) ≡ true → S (Column c) ≡ false → M r c ≡ right_rule r c
-  pub below : (r c : ℕ) → r < m → c < n → S (Row r) ≡ false → S (Column c) ≡ true → M r c ≡ below_rule r c
+pub use Rattle.cuts.specs.Cuts.{IsClosed}
 
 -- one of the listed lines
 abbrev pub Among : List Line → Line → Type 0

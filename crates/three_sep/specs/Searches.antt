@@ -5,10 +5,10 @@ use Rattle.cmr_base.specs.declared.line.Line.TheVariants.{Row, Column}
 use Rattle.cmr_base.specs.Matrix.{Matrix, height, entry}
 use Rattle.cmr_base.specs.declared.separation.Form.{Form}
 use Rattle.cmr_base.specs.declared.separation.Three.{Three}
-use Rattle.three_sep.specs.declared.corners.Corners.{Corners}
-use Rattle.three_sep.specs.declared.groups.Groups.{Groups}
+use Rattle.cuts.specs.declared.corners.Corners.{Corners}
+use Rattle.cuts.specs.declared.groups.Groups.{Groups}
 use Rattle.three_sep.specs.declared.side.Side.{Side}
-use Rattle.three_sep.specs.Cuts.{name_of}
+use Rattle.cuts.specs.Cuts.{name_of}
 use Rattle.cmr_base.specs.Separations.{Lines, first_is_flat, second_is_flat}
 use Rattle.cmr_base.specs.Seeds.{IsLine, IsBefore, form_number}
 use Rattle.three_sep.specs.Sides.{HasRoom, IsGrowing, IsLeast, set_of}

@@ -4,24 +4,18 @@ use Rattle.cmr_base.specs.declared.line.Line.{Line}
 use Rattle.cmr_base.specs.declared.line.Line.TheVariants.{Row, Column}
 use Rattle.cmr_base.specs.Matrix.{Matrix, height, entry}
 use Rattle.cmr_base.specs.Members.{IsIn}
-use Rattle.three_sep.specs.declared.corners.Corners.{Corners}
+use Rattle.cuts.specs.declared.corners.Corners.{Corners}
 use Rattle.three_sep.specs.declared.side.Side.{Side}
 use Rattle.cmr_base.specs.Separations.{Lines, product_at}
 use Rattle.cmr_base.specs.Seeds.{IsLine}
 use Rattle.three_sep.specs.NumberedSeeds.{IsClosed, Among, HasAll, outside}
+pub use Rattle.cuts.specs.Cuts.{AreInside, IsClosedAt, IsClosedBy}
 use Rattle.three_sep.specs.Halves.{is_in, HasPlaces, IsHalf, room}
 
 -- the lines of a side
 abbrev pub set_of : Side → Lines
 set_of side (Row r) = is_in side.rows r
 set_of side (Column c) = is_in side.columns c
-
--- the corners are in the matrix
-pub record AreInside (m : Matrix) (c : Corners) : Type 0 where
-  pub row_one : c.i < height m
-  pub column_one : c.p < m.width
-  pub row_two : c.k < height m
-  pub column_two : c.j < m.width
 
 pub record HasRoom (m : Matrix) (side : Side) : Type 0 where
   pub rows : IsHalf (height m) side.rows
@@ -30,10 +24,6 @@ pub record HasRoom (m : Matrix) (side : Side) : Type 0 where
 -- what is still to be done at most
 abbrev pub work : Side → ℕ
 work side = room side.rows + room side.columns
-
--- closed for what the entries between the sides are to be
-abbrev pub IsClosedBy : Matrix → (upper lower : ℕ → ℕ → ℤ) → Lines → Type 0
-IsClosedBy m upper lower S = IsClosed (height m) m.width (entry m) upper lower S
 
 -- It has the start and is in every closed set that has it, and where a line breaks a rule with a line of it, that one waits.
 pub record IsGrowingBy (m : Matrix) (upper lower : ℕ → ℕ → ℤ) (start : List Line) (side : Side) : Type 0 where
@@ -65,9 +55,6 @@ TellsClosedBy m upper lower start false S = LeavesFewBy m upper lower start
 
 -- ---- for two connectors with these corners
 
-abbrev pub IsClosedAt : Matrix → Corners → Lines → Type 0
-IsClosedAt m c S = IsClosedBy m (product_at (entry m) c.i c.j) (product_at (entry m) c.k c.p) S
-
 abbrev pub IsGrowing : Matrix → Corners → List Line → Side → Type 0
 IsGrowing m c start side = IsGrowingBy m (product_at (entry m) c.i c.j) (product_at (entry m) c.k c.p) start side
 
@@ -91,13 +78,3 @@ start_lines c x = Row c.i ∷ Column c.p ∷ x ∷ []
 pub record HasSize (m : Matrix) (side : Side) : Type 0 where
   pub rows : HasPlaces (height m) side.rows
   pub columns : HasPlaces m.width side.columns
-
--- the place of a line in a list of names, the rows first
-abbrev pub name_in : Matrix → List ℕ → Line → ℕ
-name_in m names (Row r) = slice_index_or names r 0
-name_in m names (Column c) = slice_index_or names (height m + c) 0
-
--- for all corners it grows from a start of lines of two names
-abbrev pub HasNamedStart : Matrix → List ℕ → ℕ → ℕ → Side → Type 0
-HasNamedStart m names one two side = (corners : Corners) → (start : List Line) × IsGrowing m corners start side
-    × ((x : Line) → Among start x → IsLine (height m) m.width x × ((name_in m names x ≡ one) ⊎ (name_in m names x ≡ two)))

@@ -5,12 +5,13 @@ ghost use Rattle.cmr_base.specs.declared.separation.Form.{Form};
 ghost use Rattle.first_hit.specs.First.{IsFirst};
 ghost use Rattle.three_sep.specs.NumberedSeeds.{IsCrossing};
 ghost use Rattle.three_sep.specs.Sides.{AreInside, HasSize};
-ghost use Rattle.three_sep.specs.Cuts.{HasNames, HoldTogether, IsCut};
+ghost use Rattle.cuts.specs.Cuts.{HasNames, HoldTogether, IsCut};
 ghost use Rattle.three_sep.specs.Searches.{HasNoGood};
 ghost use Rattle.three_sep.specs.Blocks.{AreOpen, HasGoodTriple, HasNumber, IsFirstTriple, TellsOpen, block_front, column_at, corners_with, firsts, number_count, seconds};
 
-use crate::corners::Corners;
-use crate::groups::{Groups, may_cut};
+use cuts::Corners;
+use crate::corners::may_cut;
+use cuts::Groups;
 use crate::others::count_of;
 use crate::search::{Search, is_second_column};
 use crate::side::Side;

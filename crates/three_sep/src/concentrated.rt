@@ -15,7 +15,7 @@ ghost use Rattle.three_sep.specs.Concentrated.{AreConcentratedCorners, AreCandid
 
 use crate::concentrated_rows::first_row;
 use crate::connectors::Connectors;
-use crate::corners::Corners;
+use cuts::Corners;
 use crate::independent::are_three_independent;
 use crate::others::{is_beside, line_at};
 use crate::pulled::is_second_pulled;

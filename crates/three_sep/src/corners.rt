@@ -1,24 +1,59 @@
-ghost use Rattle.std.specs.Prelude.{◌≡◌};
+// Corners of a cut.
+ghost use Rattle.std.specs.Prelude.{◌≡◌, true, false, IfOk, OnOk};
+ghost use Rattle.cmr_base.specs.Matrix.{height};
+ghost use Rattle.cmr_base.specs.Seeds.{IsLine};
+ghost use Rattle.three_sep.specs.Sides.{AreInside, HasSize};
+ghost use Rattle.three_sep.specs.Cuts.{HasNoCutAt};
 
-/// Rows i and k and columns p and j: the corners (i, p) in side one and (k, j) in side two.
-#[derive(Clone, Copy)]
-pub struct Corners {
-    pub i: u32,
-    pub p: u32,
-    pub k: u32,
-    pub j: u32,
-}
+use crate::side::Side;
+use cmr_base::{Line, Memory, RowsAndColumns};
+use cuts::Corners;
 
-impl Corners {
-    /// With the sides exchanged.
-    pub fn exchanged(&self) -> Corners
-        ensures { result ≡ record { i = self.now.k; p = self.now.j; k = self.now.i; j = self.now.p } }
-    {
-        Corners {
-            i: self.k,
-            p: self.j,
-            k: self.i,
-            j: self.p,
+/// Whether a cut may have the first corner in side one and the second in side two. Some rows are tried: where a row
+/// can be on neither side, there is none.
+pub fn may_cut(
+    views: &RowsAndColumns<'_>,
+    side: &mut Side,
+    corners: &Corners,
+) -> Result<bool, Memory>
+    requires size { HasSize views.now side.old }
+    requires corners { AreInside views.now corners.now }
+    ensures size { OnOk result (HasSize views.now side.new) }
+    ensures none { IfOk result (λ may. may ≡ false → HasNoCutAt views.now corners.now) }
+{
+    let mut tries = 3u32;
+    for row in 0..views.rows() {
+        if tries > 0 && row != corners.i && row != corners.k {
+            if is_refused(views, side, corners, Line::Row(row))? {
+                return Ok(false);
+            }
+            tries -= 1;
         }
     }
+    Ok(true)
+}
+
+// Whether the line can be on neither side of a cut at the corners.
+fn is_refused(
+    views: &RowsAndColumns<'_>,
+    side: &mut Side,
+    corners: &Corners,
+    line: Line,
+) -> Result<bool, Memory>
+    requires size { HasSize views.now side.old }
+    requires corners { AreInside views.now corners.now }
+    requires line { IsLine (height views.now) views.now.width line }
+    ensures size { OnOk result (HasSize views.now side.new) }
+    ensures none { IfOk result (λ refused. refused ≡ true → HasNoCutAt views.now corners.now) }
+{
+    side.start(views, corners, line)?;
+    if side.close(views, corners)? {
+        return Ok(false);
+    }
+    let exchanged = corners.exchanged();
+    side.start(views, &exchanged, line)?;
+    if side.close(views, &exchanged)? {
+        return Ok(false);
+    }
+    Ok(true)
 }

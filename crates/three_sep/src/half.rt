@@ -4,7 +4,7 @@ ghost use Rattle.cmr_base.specs.Planes.{has_bit};
 ghost use Rattle.cmr_base.specs.Matrix.{height, row_of, IsEntry};
 ghost use Rattle.cmr_base.specs.Trees.{support};
 ghost use Rattle.three_sep.specs.Numbers.{IsSmall};
-ghost use Rattle.three_sep.specs.Halves.{Agrees, AgreesWithSum, AreSame, HasAdded, HasGrown, HasPlaces, HasPulled, HasStarted, HasStartedWith, HasTaken, IsBitOf, IsHalf, IsNamed, is_in};
+ghost use Rattle.three_sep.specs.Halves.{Agrees, AgreesWithSum, AreSame, HasAdded, HasGrown, HasPlaces, HasPulled, HasStarted, HasTaken, IsBitOf, IsHalf, is_in};
 
 use crate::connectors::times;
 use cmr_base::columns::next_column;
@@ -17,12 +17,6 @@ use std::alloc::Global;
 pub struct Multiple {
     pub factor: i8,
     pub row: u32,
-}
-
-fn is_either(line: u32, one: u32, two: u32) -> bool
-    ensures { IsTrue result ↔ ((line ≡ one) ⊎ (line ≡ two)) }
-{
-    line == one || line == two
 }
 
 /// Whether the entry of a row at a place is the sum of those of two multiples.
@@ -87,28 +81,6 @@ impl Half {
         self.clear();
         self.add(one)?;
         self.add(two)?;
-        Ok(())
-    }
-
-    /// Begins with the lines of two names, where the line at a place has the name at `offset` and that place.
-    pub fn start_named(
-        &mut self,
-        names: &[u32],
-        offset: u32,
-        one: u32,
-        two: u32,
-    ) -> Result<(), Memory>
-        requires places { HasPlaces (length self.old.inside.items) self.old }
-        requires offset { offset ≤ 1000 }
-        requires names { offset + length self.old.inside.items ≤ length names.now }
-        ensures { OnOk result (HasStartedWith (length self.old.inside.items) (IsNamed names.now offset one two) self.new) }
-    {
-        self.clear();
-        for line in 0..self.inside.len() as u32 {
-            if is_either(names[(offset + line) as usize], one, two) {
-                self.add(line)?;
-            }
-        }
         Ok(())
     }
 

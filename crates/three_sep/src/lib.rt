@@ -6,17 +6,13 @@ mod concentrated;
 mod concentrated_rows;
 mod connectors;
 mod corners;
-mod finder;
-mod groups;
 mod half;
 mod independent;
 mod others;
-mod parted;
 mod pulled;
 mod search;
 mod side;
 mod spread_side;
-mod together;
 mod triple;
 
 pub use cmr_base::{Connector, Form, Three};

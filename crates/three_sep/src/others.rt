@@ -7,7 +7,7 @@ ghost use Rattle.three_sep.specs.NumberedSeeds.{Among, IsFirstOther, IsSecondOth
 ghost use Rattle.three_sep.specs.Sides.{AreInside};
 ghost use Rattle.three_sep.specs.Searches.{line_count, other_line};
 
-use crate::corners::Corners;
+use cuts::Corners;
 use cmr_base::{Form, Line, RowsAndColumns};
 
 /// How many columns, or rows.

@@ -11,14 +11,15 @@ ghost use Rattle.cmr_base.specs.Seeds.{line_number, IsLine, form_number};
 ghost use Rattle.three_sep.specs.NumberedSeeds.{Among, AreCorners, HasLines, IsCrossing, IsFirstOther, IsSecondOther, connector};
 ghost use Rattle.three_sep.specs.ThreeSeparations.{HasNoThreeSeparation, IsFirstThreeSeparation};
 ghost use Rattle.three_sep.specs.Sides.{AreInside, HasRoom, HasSize, IsGrowing, IsLeast, set_of, start_lines};
-ghost use Rattle.three_sep.specs.Cuts.{HasNames, HoldTogether, IsCut};
+ghost use Rattle.cuts.specs.Cuts.{HasNames, HoldTogether, IsCut};
 ghost use Rattle.three_sep.specs.Searches.{IsNoSecondRow, IsNoSecondColumn, HasNoGood, HasNoneBelow, HoldsFirst, IsFirstOf, LeavesSecond, corner_front, other_line};
 
 use crate::block::{Block, open_columns};
 use crate::concentrated::ConcentratedSearch;
-use crate::corners::Corners;
-use crate::finder::groups_of;
-use crate::groups::{Groups, may_cut};
+use cuts::Corners;
+use cuts::groups_of;
+use crate::corners::may_cut;
+use cuts::Groups;
 use crate::half::Half;
 use crate::others::{count_of, is_beside, is_first_other, is_second_other, line_at, line_of};
 use crate::side::Side;
@@ -82,14 +83,7 @@ impl Search {
     }
 
     // Looks for groups where it is time.
-    fn ask<R: Threads + Sync>(
-        &mut self,
-        rt: &R,
-        alloc: Global,
-        workers: u32,
-        views: &RowsAndColumns<'_>,
-    ) -> Result<(), Memory>
-        requires workers { (1 ≤ workers) × (workers ≤ 64) }
+    fn ask(&mut self, alloc: Global, views: &RowsAndColumns<'_>) -> Result<(), Memory>
         requires side { HasSize views.now self.old.side }
         requires names { HasNames views.now self.old.groups }
         requires together { HoldTogether (IsCut views.now) views.now self.old.groups }
@@ -101,7 +95,7 @@ impl Search {
         if self.asked || self.tries < EARLY {
             return Ok(());
         }
-        self.groups = groups_of(rt, alloc, workers, views, &mut self.side)?;
+        self.groups = groups_of(alloc, views)?;
         self.asked = true;
         Ok(())
     }
@@ -270,7 +264,7 @@ impl Search {
         ensures first { IfOk result (λ answer. IfSome answer (IsFirstOf views.now (form_number form ∷ i ∷ p ∷ k ∷ []))) }
         ensures none { IfOk result (λ answer. IfNone answer (HasNoGood views.now (form_number form ∷ i ∷ p ∷ k ∷ []))) }
     {
-        self.ask(rt, alloc, workers, views)?;
+        self.ask(alloc, views)?;
         if workers > 1 && is_large(views, &self.groups, i, p, k) {
             return self.first_of_block(rt, alloc, workers, views, form, i, p, k);
         }

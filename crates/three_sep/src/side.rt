@@ -4,9 +4,9 @@ ghost use Rattle.cmr_base.specs.Matrix.{height};
 ghost use Rattle.cmr_base.specs.Seeds.{IsLine};
 ghost use Rattle.three_sep.specs.Halves.{AreSame};
 ghost use Rattle.cmr_base.specs.declared.line.Line.{Line};
-ghost use Rattle.three_sep.specs.Sides.{AreInside, HasNamedStart, HasRoom, HasSize, IsGrowing, IsGrowingBy, IsLeast, KeepsGrowing, LeavesFew, TellsClosed, set_of, start_lines, work};
+ghost use Rattle.three_sep.specs.Sides.{AreInside, HasRoom, HasSize, IsGrowing, IsGrowingBy, IsLeast, KeepsGrowing, LeavesFew, TellsClosed, set_of, start_lines, work};
 
-use crate::corners::Corners;
+use cuts::Corners;
 use crate::half::Half;
 use cmr_base::{Line, Memory, RowsAndColumns, product};
 use std::alloc::Global;
@@ -52,24 +52,6 @@ impl Side {
                 self.columns.start(corners.p, column)?;
             }
         }
-        Ok(())
-    }
-
-    /// Begins with the lines of two names, which are given for the rows and then for the columns.
-    pub fn start_named(
-        &mut self,
-        views: &RowsAndColumns<'_>,
-        names: &[u32],
-        one: u32,
-        two: u32,
-    ) -> Result<(), Memory>
-        requires size { HasSize views.now self.old }
-        requires names { length names.now ≡ height views.now + views.now.width }
-        ensures room { OnOk result (HasRoom views.now self.new) }
-        ensures growing { OnOk result (HasNamedStart views.now names.now one two self.new) }
-    {
-        self.rows.start_named(names, 0, one, two)?;
-        self.columns.start_named(names, views.rows(), one, two)?;
         Ok(())
     }
 

@@ -2,7 +2,7 @@ use Rattle.std.proofs.Common.{[], ◌∷◌, sym, arith, subst}
 use Rattle.three_sep.specs.declared.search.Search.{Search}
 use Rattle.cmr_base.specs.Seeds.{form_number}
 use Rattle.three_sep.specs.Sides.{HasSize}
-use Rattle.three_sep.specs.Cuts.{HasNames, HoldTogether, IsCut}
+use Rattle.cuts.specs.Cuts.{HasNames, HoldTogether, IsCut}
 use Rattle.three_sep.proofs.SearchLemmas.{found_some, none_more, level_ends, none_below_more, good_inside, no_good_corner, no_good_whole}
 use Rattle.three_sep.proofs.search.Search.first_of_row.Goals as goal
 use Rattle.three_sep.proofs.search.Search.first_of_row.Goals.{then-is_nonzero+in_ok-three+in_default, else-is_nonzero}

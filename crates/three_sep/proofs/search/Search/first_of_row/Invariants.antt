@@ -1,7 +1,7 @@
 use Rattle.std.proofs.Common.{[], ◌∷◌}
 use Rattle.cmr_base.specs.Seeds.{form_number}
 use Rattle.three_sep.specs.Sides.{HasSize}
-use Rattle.three_sep.specs.Cuts.{HasNames, HoldTogether, IsCut}
+use Rattle.cuts.specs.Cuts.{HasNames, HoldTogether, IsCut}
 use Rattle.three_sep.specs.Searches.{HasNoneBelow}
 use Rattle.three_sep.proofs.search.Search.first_of_row.Given as goal
 

@@ -2,8 +2,8 @@ use Rattle.std.proofs.Common.{[], ◌∷◌, sym, arith, subst}
 use Rattle.three_sep.specs.declared.search.Search.{Search}
 use Rattle.cmr_base.specs.Seeds.{form_number}
 use Rattle.three_sep.specs.Sides.{HasSize}
-use Rattle.three_sep.specs.declared.groups.Groups.{Groups}
-use Rattle.three_sep.specs.Cuts.{HasNames, HoldTogether, IsCut}
+use Rattle.cuts.specs.declared.groups.Groups.{Groups}
+use Rattle.cuts.specs.Cuts.{HasNames, HoldTogether, IsCut}
 use Rattle.three_sep.proofs.SearchLemmas.{found_some, none_more, level_ends, none_below_more, good_inside, no_good_second_column}
 use Rattle.three_sep.proofs.BlockLemmas.{on_ok}
 use Rattle.three_sep.proofs.search.Search.first_of_second_row.Goals as goal

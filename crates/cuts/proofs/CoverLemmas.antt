@@ -1,0 +1,392 @@
+-- What is known of all cuts with some lines in side one and some in side two.
+use Rattle.std.proofs.Common.{Result, Ok, Err, IfOk, OnOk, ℕ, zero, suc, Bool, true, false, not, ◌≡◌, ◌≢◌, ◌<◌, ◌≤◌, ◌+◌, ◌∙◌, sym, ap, refl, arith, get_or, List, ◌⊎◌, inl, inr, nat_eq, nat_lt, pos, ◌*ℤ◌, ◌||◌}
+use Rattle.cmr_base.specs.declared.line.Line.{Line}
+use Rattle.cmr_base.specs.declared.line.Line.TheVariants.{Row, Column}
+use Rattle.cmr_base.specs.ColumnSets.{has_column}
+use Rattle.cmr_base.specs.Matrix.{Matrix, height, entry, is_nonzero, transposed, IsMatrix}
+use Rattle.cmr_base.specs.Separations.{Lines}
+use Rattle.cmr_base.specs.Trees.{support}
+use Rattle.cmr_base.proofs.Booleans.{false_is, two_cases, same_or_not, ne_of, and_is, at_least_of, lt_of, true_is, nonzero_is, not_both, not_is, not_false, is_not, is_and, is_eq, or_left, or_right}
+use Rattle.cmr_base.proofs.NextNonzeros.{column_in}
+use Rattle.cmr_base.proofs.Parts.{entry-transposed, height-transposed, is_matrix-transposed}
+use Rattle.cmr_base.proofs.SeedLemmas.{count_grows}
+use Rattle.cuts.specs.declared.groups.Groups.{Groups}
+use Rattle.cmr_base.specs.Seeds.{count}
+use Rattle.cuts.specs.Cuts.{IsCut, name_of, HoldTogether}
+use Rattle.cuts.specs.Covers.{IsHalved, IsMet, IsLineOf, AreOnOneSide, AreWithin, AreOutside, IsCutWith, Covers, AddsAtMost, AreUnlike, AreAllUnlike, AreClasses, may_be_outside, AreAtMost, LeavesFew, GetName, words_set}
+use Rattle.cuts.specs.Classes.{AreClassNumbers}
+use Rattle.cuts.specs.LineSets.{is_between, is_in_heap, rows_heap, columns_heap, set_of}
+use Rattle.cuts.specs.Patterns.{HasPatterns}
+use Rattle.cuts.specs.declared.heaps.Heaps.{Heaps}
+use Rattle.cuts.specs.declared.line_patterns.LinePatterns.{LinePatterns}
+use Rattle.cuts.specs.declared.line_words.LineWords.{LineWords}
+use Rattle.cuts.specs.declared.patterns.Patterns.{Patterns}
+use Rattle.cuts.proofs.CutLemmas.{other_side, other_is_cut}
+use Rattle.cuts.proofs.WordLemmas.{as_first, as_second, first_zero, second_zero}
+
+-- ---- one pattern
+
+-- two lines of one side that are not 0 on lines of the other side have equal patterns there
+module _ (m : Matrix) (is : IsMatrix m) (T : Lines) (w : IsCut m T) where
+  below : (r c : ℕ) → r < height m → c < m.width → T (Row r) ≡ false → T (Column c) ≡ true → entry m r c ≡ entry m r w.corners.p *ℤ (entry m w.corners.k c *ℤ entry m w.corners.k w.corners.p)
+  below r c lr lc er ec = w.cut.closed.below r c lr lc er ec
+
+  right : (r c : ℕ) → r < height m → c < m.width → T (Row r) ≡ true → T (Column c) ≡ false → entry m r c ≡ entry m r w.corners.j *ℤ (entry m w.corners.i c *ℤ entry m w.corners.i w.corners.j)
+  right r c lr lc er ec = w.cut.closed.right r c lr lc er ec
+
+  row_like : (r met c : ℕ) → r < height m → T (Row r) ≡ false → met < m.width → T (Column met) ≡ true → support m r met ≡ true → c < m.width → T (Column c) ≡ true → support m r c ≡ support m w.corners.k c
+  row_like r met c lr er lm em s lc ec =
+      let factor : entry m r w.corners.p ≢ pos 0 = λ z.
+      nonzero_is (entry m r met) s (below r met lr lm er em ∙ first_zero (entry m r w.corners.p) (entry m w.corners.k met) (entry m w.corners.k w.corners.p) z) in
+      as_second (entry m r c) (entry m r w.corners.p) (entry m w.corners.k c) (entry m w.corners.k w.corners.p) (is.small r w.corners.p) (is.small w.corners.k c) (is.small w.corners.k w.corners.p)
+      factor w.below (below r c lr lc er ec)
+
+  column_like : (c met r : ℕ) → c < m.width → T (Column c) ≡ false → met < height m → T (Row met) ≡ true → support m met c ≡ true → r < height m → T (Row r) ≡ true → support m r c ≡ support m r w.corners.j
+  column_like c met r lc ec lm em s lr er =
+      let factor : entry m w.corners.i c ≢ pos 0 = λ z.
+      nonzero_is (entry m met c) s (right met c lm lc em ec ∙ second_zero (entry m met w.corners.j) (entry m w.corners.i c) (entry m w.corners.i w.corners.j) z) in
+      as_first (entry m r c) (entry m r w.corners.j) (entry m w.corners.i c) (entry m w.corners.i w.corners.j) (is.small r w.corners.j) (is.small w.corners.i c) (is.small w.corners.i w.corners.j)
+      factor w.right (right r c lr lc er ec)
+
+-- two unlike lines are not both in side two
+pub one_pattern : (m : Matrix) (H T : Lines) (x y : Line) → IsMatrix m → IsCut m T → AreWithin m H T → IsLineOf m x → IsLineOf m y → AreUnlike m H x y → T x ≡ false → T y ≡ false → ⊥
+one_pattern m H T (Row r) (Row s) is w within lx ly u ex ey =
+    let (a, la, ha, sa) = u.met_one in
+    let (b, lb, hb, sb) = u.met_two in
+    let (c, lc, hc, d) = u.differ in
+    let ec = within (Column c) lc hc in
+    d (row_like m is T w r a c lx ex la (within (Column a) la ha) sa lc ec ∙ sym (row_like m is T w s b c ly ey lb (within (Column b) lb hb) sb lc ec))
+one_pattern m H T (Column c) (Column d) is w within lx ly u ex ey =
+    let (a, la, ha, sa) = u.met_one in
+    let (b, lb, hb, sb) = u.met_two in
+    let (r, lr, hr, n) = u.differ in
+    let er = within (Row r) lr hr in
+    n (column_like m is T w c a r lx ex la (within (Row a) la ha) sa lr er ∙ sym (column_like m is T w d b r ly ey lb (within (Row b) lb hb) sb lr er))
+one_pattern m H T (Row r) (Column d) is w within lx ly u ex ey = u.differ
+one_pattern m H T (Column c) (Row s) is w within lx ly u ex ey = u.differ
+
+-- nor both in side one, by lines of side two
+pub one_pattern_beside : (m : Matrix) (K T : Lines) (x y : Line) → IsMatrix m → IsCut m T → AreOutside m K T → IsLineOf m x → IsLineOf m y → AreUnlike m K x y → T x ≡ true → T y ≡ true → ⊥
+one_pattern_beside m K T x y is w outside lx ly u ex ey =
+    one_pattern m K (other_side T) x y is (other_is_cut m T w) (λ z l h. ap not (outside z l h)) lx ly u (ap not ex) (ap not ey)
+
+-- ---- what follows for the cuts with H in side one and K in side two
+
+pub covers_more : (m : Matrix) (H K P P' : Lines) → AreWithin m P P' → Covers m H K P → Covers m H K P'
+covers_more m H K P P' more h T w x l e = more x l (h T w x l e)
+
+within_sum : (m : Matrix) (H X H' T : Lines) → AddsAtMost m H' H X → AreWithin m H T → AreWithin m X T → AreWithin m H' T
+within_sum m H X H' T adds h x z l e = elim (adds z l e) [
+  | inl old ↦ h z l old
+  | inr new ↦ x z l new
+]
+
+outside_sum : (m : Matrix) (K X K' T : Lines) → AddsAtMost m K' K X → AreOutside m K T → AreOutside m X T → AreOutside m K' T
+outside_sum m K X K' T adds h x z l e = elim (adds z l e) [
+  | inl old ↦ h z l old
+  | inr new ↦ x z l new
+]
+
+with_one : (m : Matrix) (H K X H' T : Lines) → AddsAtMost m H' H X → IsCutWith m H K T → AreWithin m X T → IsCutWith m H' K T
+with_one m H K X H' T adds w x = record { cut = w.cut; one = within_sum m H X H' T adds w.one x; two = w.two }
+
+with_two : (m : Matrix) (H K X K' T : Lines) → AddsAtMost m K' K X → IsCutWith m H K T → AreOutside m X T → IsCutWith m H K' T
+with_two m H K X K' T adds w x = record { cut = w.cut; one = w.one; two = outside_sum m K X K' T adds w.two x }
+
+-- ---- all lines of a set are in another, or one is not
+
+abbrev AllOrOne : (ℕ → Bool) → (ℕ → Bool) → ℕ → Type 0
+AllOrOne test other size = ((a : ℕ) → a < size → test a ≡ true → other a ≡ true) ⊎ ((a : ℕ) × (a < size) × (test a ≡ true) × (other a ≡ false))
+
+all_or_one : (test other : ℕ → Bool) (size : ℕ) → AllOrOne test other size
+all_or_one test other zero = inl (λ a l e. absurd (omega (arith, l)))
+all_or_one test other (suc k) = elim (all_or_one test other k) [
+  | inr (a, l, e, f) ↦ inr (a, omega (arith, l), e, f)
+  | inl all ↦ elim (two_cases (other k)) [
+    | inl t ↦ inl (λ a l e. last all a l e (λ same. ap other same ∙ t))
+    | inr f ↦ elim (two_cases (test k)) [
+      | inl t ↦ inr (k, omega arith, t, f)
+      | inr n ↦ inl (λ a l e. last all a l e (λ same. absurd (not_both (test a) e (ap test same ∙ n))))
+    ]
+  ]
+]
+  where
+    last : ((a : ℕ) → a < k → test a ≡ true → other a ≡ true) → (a : ℕ) → a < suc k → test a ≡ true → (a ≡ k → other a ≡ true) → other a ≡ true
+    last all a l e here = elim (same_or_not a k) [
+      | inl same ↦ here same
+      | inr n ↦ all a (omega (arith, l, n)) e
+    ]
+
+within_or_not : (m : Matrix) (X T : Lines) → AreWithin m X T ⊎ ((x : Line) × IsLineOf m x × (X x ≡ true) × (T x ≡ false))
+within_or_not m X T = elim (all_or_one (λ r. X (Row r)) (λ r. T (Row r)) (height m)) [
+  | inr (r, l, e, f) ↦ inr (Row r, l, e, f)
+  | inl rows ↦ elim (all_or_one (λ c. X (Column c)) (λ c. T (Column c)) m.width) [
+    | inr (c, l, e, f) ↦ inr (Column c, l, e, f)
+    | inl columns ↦ inl (both rows columns)
+  ]
+]
+  where
+    both : ((r : ℕ) → r < height m → X (Row r) ≡ true → T (Row r) ≡ true) → ((c : ℕ) → c < m.width → X (Column c) ≡ true → T (Column c) ≡ true) → AreWithin m X T
+    both rows columns (Row r) l e = rows r l e
+    both rows columns (Column c) l e = columns c l e
+
+outside_or_not : (m : Matrix) (X T : Lines) → AreOutside m X T ⊎ ((x : Line) × IsLineOf m x × (X x ≡ true) × (T x ≡ true))
+outside_or_not m X T = elim (within_or_not m X (other_side T)) [
+  | inl all ↦ inl (λ x l e. not_is (T x) (all x l e))
+  | inr (x, l, e, f) ↦ inr (x, l, e, not_false (T x) f)
+]
+
+-- ---- halves
+
+-- of two sets that are unlike line by line, one is in side one
+pub halved_by_unlike : (m : Matrix) (H X Y H1 H2 : Lines) → IsMatrix m → AreAllUnlike m H X Y → AddsAtMost m H1 H X → AddsAtMost m H2 H Y → IsHalved m H H1 H2
+halved_by_unlike m H X Y H1 H2 is unlike adds1 adds2 T w one = elim (within_or_not m X T) [
+  | inl all ↦ inl (within_sum m H X H1 T adds1 one all)
+  | inr (x, lx, hx, ex) ↦ elim (within_or_not m Y T) [
+    | inl all ↦ inr (within_sum m H Y H2 T adds2 one all)
+    | inr (y, ly, hy, ey) ↦ absurd (one_pattern m H T x y is w one lx ly (unlike x y lx ly hx hy) ex ey)
+  ]
+]
+
+pub covers_halves : (m : Matrix) (H K P H1 H2 : Lines) → IsHalved m H H1 H2 → Covers m H1 K P → Covers m H2 K P → Covers m H K P
+covers_halves m H K P H1 H2 halved h1 h2 T w = elim (halved T w.cut w.one) [
+  | inl all ↦ h1 T (record { cut = w.cut; one = all; two = w.two })
+  | inr all ↦ h2 T (record { cut = w.cut; one = all; two = w.two })
+]
+
+-- the same for the lines of side two
+pub covers_halves_beside : (m : Matrix) (H K P K1 K2 : Lines) → IsHalved m K K1 K2 → Covers m H K1 P → Covers m H K2 P → Covers m H K P
+covers_halves_beside m H K P K1 K2 halved h1 h2 T w = elim (halved (other_side T) (other_is_cut m T w.cut) (λ z l h. ap not (w.two z l h))) [
+  | inl all ↦ h1 T (record { cut = w.cut; one = w.one; two = λ z l h. not_is (T z) (all z l h) })
+  | inr all ↦ h2 T (record { cut = w.cut; one = w.one; two = λ z l h. not_is (T z) (all z l h) })
+]
+
+pub covers_line : (m : Matrix) (H K P H' K' : Lines) (x : Line) → IsLineOf m x → ((z : Line) → IsLineOf m z → H' z ≡ true → (H z ≡ true) ⊎ (z ≡ x)) → ((z : Line) → IsLineOf m z → K' z ≡ true → (K z ≡ true) ⊎ (z ≡ x))
+    → Covers m H' K P → Covers m H K' P → Covers m H K P
+covers_line m H K P H' K' x lx adds1 adds2 h1 h2 T w = elim (two_cases (T x)) [
+  | inl t ↦ h1 T (record { cut = w.cut; one = one t; two = w.two })
+  | inr f ↦ h2 T (record { cut = w.cut; one = w.one; two = two f })
+]
+  where
+    one : T x ≡ true → AreWithin m H' T
+    one t z l e = elim (adds1 z l e) [
+      | inl old ↦ w.one z l old
+      | inr same ↦ ap T same ∙ t
+    ]
+
+    two : T x ≡ false → AreOutside m K' T
+    two f z l e = elim (adds2 z l e) [
+      | inl old ↦ w.two z l old
+      | inr same ↦ ap T same ∙ f
+    ]
+
+-- ---- no cut, or none that parts a line not yet in P
+
+-- H meets K
+pub covers_met : (m : Matrix) (H K P : Lines) → (x : Line) × IsLineOf m x × (H x ≡ true) × (K x ≡ true) → Covers m H K P
+covers_met m H K P (x, lx, h, k) T w = absurd (not_both (T x) (w.one x lx h) (w.two x lx k))
+
+-- all lines outside of H are in P
+pub covers_all : (m : Matrix) (H K P : Lines) → ((x : Line) → IsLineOf m x → H x ≡ false → P x ≡ true) → Covers m H K P
+covers_all m H K P all T w x l e = elim (two_cases (H x)) [
+  | inl h ↦ absurd (not_both (T x) (w.one x l h) e)
+  | inr f ↦ all x l f
+]
+
+-- ---- fewer than four lines
+
+-- a side that has none of H has lines of pattern 0 and of one class beside
+module _ (m : Matrix) (H T : Lines) (is : IsMatrix m) (w : IsCut m T) (within : AreWithin m H T) where
+  not_in : (x : Line) → IsLineOf m x → T x ≡ false → H x ≡ false
+  not_in x l e = elim (two_cases (H x)) [
+    | inl h ↦ absurd (not_both (T x) (within x l h) e)
+    | inr f ↦ f
+  ]
+
+  module _ (line : ℕ → Line) (class : ℕ → ℕ) (size bound : ℕ) (low : (a : ℕ) → a < size → IsLineOf m (line a)) (classes : AreClasses m H line class) (at_most : AreAtMost H line class size bound) where
+    bounded : (name : ℕ) → ((a : ℕ) → a < size → T (line a) ≡ false → (nat_eq (class a) 0 || nat_eq (class a) name) ≡ true) → count (λ a. not (T (line a))) size ≤ bound
+    bounded name all =
+        let l = count_grows (λ a. not (T (line a))) (may_be_outside H line class name) size (λ a la e.
+        let f = not_is (T (line a)) e in
+        is_and (not (H (line a))) (nat_eq (class a) 0 || nat_eq (class a) name) (is_not (H (line a)) (not_in (line a) (low a la) f)) (all a la f)) in
+        let b = at_most name in omega (arith, l, b)
+
+    of_class : (s : ℕ) → s < size → T (line s) ≡ false → class s ≢ 0 → (a : ℕ) → a < size → T (line a) ≡ false → (nat_eq (class a) 0 || nat_eq (class a) (class s)) ≡ true
+    of_class s ls es ns a la ea = elim (same_or_not (class a) 0) [
+      | inl zero_class ↦ or_left (nat_eq (class a) 0) (nat_eq (class a) (class s)) (is_eq (class a) 0 zero_class)
+      | inr na ↦ elim (same_or_not (class a) (class s)) [
+        | inl same ↦ or_right (nat_eq (class a) 0) (nat_eq (class a) (class s)) (is_eq (class a) (class s) same)
+        | inr n ↦
+            let u = classes a s (low a la) (low s ls) (not_in (line a) (low a la) ea) (not_in (line s) (low s ls) es) na ns n in
+            absurd (one_pattern m H T (line a) (line s) is w within (low a la) (low s ls) u ea es)
+      ]
+    ]
+
+    few_outside : count (λ a. not (T (line a))) size ≤ bound
+    few_outside = elim (all_or_one (λ a. not (T (line a))) (λ a. nat_eq (class a) 0) size) [
+      | inl all ↦ bounded 0 (λ a la e. or_left (nat_eq (class a) 0) (nat_eq (class a) 0) (all a la (is_not (T (line a)) e)))
+      | inr (s, ls, e, f) ↦ bounded (class s) (of_class s ls (not_is (T (line s)) e) (ne_of (class s) 0 f))
+    ]
+
+  pub no_few : LeavesFew m H → ⊥
+  no_few f =
+      let a = few_outside Row f.rows (height m) f.most_rows (λ r l. l) f.row_classes f.rows_at_most in
+      let b = few_outside Column f.columns m.width f.most_columns (λ c l. l) f.column_classes f.columns_at_most in
+      let few = f.few in
+      let four = w.cut.enough_two in omega (arith, a, b, few, four)
+
+-- side two has fewer than four lines
+pub covers_few : (m : Matrix) (H K P : Lines) → IsMatrix m → LeavesFew m H → Covers m H K P
+covers_few m H K P is few T w = absurd (no_few m H T is w.cut w.one few)
+
+-- side one has
+pub covers_few_beside : (m : Matrix) (H K P : Lines) → IsMatrix m → LeavesFew m K → Covers m H K P
+covers_few_beside m H K P is few T w = absurd (no_few m K (other_side T) is (other_is_cut m T w.cut) (λ z l h. ap not (w.two z l h)) few)
+
+-- ---- the group of a line
+
+-- lines of one name are in side one, or else in side two
+pub covers_group : (m : Matrix) (groups : Groups) (name : ℕ) (H G H' P : Lines) → HoldTogether (IsCut m) m groups → ((x : Line) → IsLineOf m x → G x ≡ true → name_of m groups x ≡ name) → AddsAtMost m H' H G
+    → (K : Lines) → ((x : Line) → IsLineOf m x → K x ≡ false) → Covers m H' K P → Covers m H G P → (T : Lines) → IsCut m T → AreWithin m H T → (x : Line) → IsLineOf m x → T x ≡ false → P x ≡ true
+covers_group m groups name H G H' P together named adds K empty h1 h2 T w one = elim (within_or_not m G T) [
+  | inl all ↦ h1 T (record { cut = w; one = within_sum m H G H' T adds one all; two = λ z l k. absurd (not_both (K z) k (empty z l)) })
+  | inr (x, lx, gx, ex) ↦ h2 T (record { cut = w; one = one; two = λ z l g. together T w z x l lx (named z l g ∙ sym (named x lx gx)) ∙ ex })
+]
+
+-- the lines not in P are on the side of the line with which the search began
+pub group_of_covers : (m : Matrix) (groups : Groups) (name : ℕ) (H G H' K P : Lines) (e : Line) → IsLineOf m e → ((x : Line) → IsLineOf m x → H x ≡ true → x ≡ e) → HoldTogether (IsCut m) m groups
+    → ((x : Line) → IsLineOf m x → G x ≡ true → name_of m groups x ≡ name) → AddsAtMost m H' H G → ((x : Line) → IsLineOf m x → K x ≡ false) → Covers m H' K P → Covers m H G P → AreOnOneSide m e P
+group_of_covers m groups name H G H' K P e le only together named adds empty h1 h2 T w x l n = elim (two_cases (T e)) [
+  | inl t ↦ in_one T w t ∙ sym t
+  | inr f ↦ not_is (T x) (in_one (other_side T) (other_is_cut m T w) (ap not f)) ∙ sym f
+]
+  where
+    in_one : (S : Lines) → IsCut m S → S e ≡ true → S x ≡ true
+    in_one S v t = elim (two_cases (S x)) [
+      | inl s ↦ s
+      | inr s ↦ absurd (not_both (P x) (covers_group m groups name H G H' P together named adds K empty h1 h2 S v (λ z lz hz. ap S (only z lz hz) ∙ t) x l s) n)
+    ]
+
+-- the names that such a group gets
+pub group_named : (m : Matrix) (before after : Groups) (P : Lines) (e : Line) → IsLineOf m e → HoldTogether (IsCut m) m before → ((T : Lines) → IsCut m T → (x : Line) → IsLineOf m x → P x ≡ false → T x ≡ T e)
+    → GetName m before after P e → HoldTogether (IsCut m) m after
+group_named m before after P e le together same named T w a b la lb is = sym (like a la).2 ∙ together T w (like a la).0 (like b lb).0 (like a la).1 (like b lb).1 (sym (like a la).3 ∙ is ∙ (like b lb).3) ∙ (like b lb).2
+  where
+    -- a line that is on the same side and had its name before
+    like : (x : Line) → IsLineOf m x → (y : Line) × IsLineOf m y × (T y ≡ T x) × (name_of m after x ≡ name_of m before y)
+    like x l = elim (two_cases (P x)) [
+      | inl p ↦ (x, l, refl, named.kept x l p)
+      | inr n ↦ (e, le, sym (same T w x l n), named.renamed x l n)
+    ]
+
+-- ---- classes by numbers
+
+-- rows by their numbers for the columns of a set
+unlike_rows : (m : Matrix) (rows columns classes : List ℕ) → IsMatrix m → AreClassNumbers m columns classes → (r s : ℕ) → r < height m → s < height m → get_or classes r 0 ≢ 0 → get_or classes s 0 ≢ 0 → get_or classes r 0 ≢ get_or classes s 0
+    → AreUnlike m (words_set rows columns) (Row r) (Row s)
+unlike_rows m rows columns classes is so r s lr ls nr ns d = record {
+  met_one = let (c, h, t) = so.met r lr nr in (c, column_in m r c is lr t, h, t);
+  met_two = let (c, h, t) = so.met s ls ns in (c, column_in m s c is ls t, h, t);
+  differ = let (c, h, n) = so.apart r s lr ls nr ns d in (c, width_of c n, h, n);
+}
+  where
+    width_of : (c : ℕ) → support m r c ≢ support m s c → c < m.width
+    width_of c n = elim (two_cases (support m r c)) [
+      | inl t ↦ column_in m r c is lr t
+      | inr f ↦ column_in m s c is ls (true_is (support m s c) (λ e. n (f ∙ sym e)))
+    ]
+
+-- columns by their numbers for the rows of a set
+unlike_columns : (m : Matrix) (rows columns classes : List ℕ) → IsMatrix m → AreClassNumbers (transposed m) rows classes → (c d : ℕ) → c < m.width → d < m.width → get_or classes c 0 ≢ 0 → get_or classes d 0 ≢ 0 → get_or classes c 0 ≢ get_or classes d 0
+    → AreUnlike m (words_set rows columns) (Column c) (Column d)
+unlike_columns m rows columns classes is so c d lc ld nc nd n = record {
+  met_one = met c lc nc;
+  met_two = met d ld nd;
+  differ = let (r, h, u) = so.apart c d (tall c lc) (tall d ld) nc nd n in (r, height_of r u, h, λ e. u (turned c r ∙ e ∙ sym (turned d r)));
+}
+  where
+    tall : (x : ℕ) → x < m.width → x < height (transposed m)
+    tall x l = let e = height-transposed m in omega (arith, l, e)
+
+    turned : (x r : ℕ) → support (transposed m) x r ≡ support m r x
+    turned x r = ap is_nonzero (entry-transposed m r x is)
+
+    low : (x r : ℕ) → x < m.width → support (transposed m) x r ≡ true → r < height m
+    low x r l t = column_in (transposed m) x r (is_matrix-transposed m is) (tall x l) t
+
+    met : (x : ℕ) → x < m.width → get_or classes x 0 ≢ 0 → IsMet m (words_set rows columns) (Column x)
+    met x l nx = let (r, h, t) = so.met x (tall x l) nx in (r, low x r l t, h, sym (turned x r) ∙ t)
+
+    height_of : (r : ℕ) → support (transposed m) c r ≢ support (transposed m) d r → r < height m
+    height_of r u = elim (two_cases (support (transposed m) c r)) [
+      | inl t ↦ low c r lc t
+      | inr f ↦ low d r ld (true_is (support (transposed m) d r) (λ e. u (f ∙ sym e)))
+    ]
+
+pub row_classes : (m : Matrix) (rows columns classes : List ℕ) → IsMatrix m → AreClassNumbers m columns classes → AreClasses m (words_set rows columns) Row (λ r. get_or classes r 0)
+row_classes m rows columns classes is so r s lr ls er es nr ns d = unlike_rows m rows columns classes is so r s lr ls nr ns d
+
+pub column_classes : (m : Matrix) (rows columns classes : List ℕ) → IsMatrix m → AreClassNumbers (transposed m) rows classes → AreClasses m (words_set rows columns) Column (λ c. get_or classes c 0)
+column_classes m rows columns classes is so c d lc ld ec ed nc nd n = unlike_columns m rows columns classes is so c d lc ld nc nd n
+
+-- the classes of one heap and those of the other
+heaps_differ : (heaps : Heaps) (one other : ℕ) → is_in_heap heaps one true ≡ true → is_in_heap heaps other false ≡ true → (one ≢ 0) × (other ≢ 0) × (one ≢ other)
+heaps_differ heaps one other e f =
+    let a = and_is (not (nat_eq one 0)) (is_between heaps.low heaps.high one) e in
+    let b = and_is (not (nat_eq other 0)) (not (is_between heaps.low heaps.high other)) f in
+    (ne_of one 0 (not_is (nat_eq one 0) a.0), ne_of other 0 (not_is (nat_eq other 0) b.0), λ same. not_both (is_between heaps.low heaps.high other) (sym (ap (is_between heaps.low heaps.high) same) ∙ a.1) (not_is (is_between heaps.low heaps.high other) b.1))
+
+pub rows_halved : (m : Matrix) (rows columns : List ℕ) (patterns : Patterns) (H1 H2 : Lines) → IsMatrix m → AreClassNumbers m columns patterns.classes.items → AddsAtMost m H1 (words_set rows columns) (rows_heap patterns true)
+    → AddsAtMost m H2 (words_set rows columns) (rows_heap patterns false) → IsHalved m (words_set rows columns) H1 H2
+rows_halved m rows columns patterns H1 H2 is so adds1 adds2 = halved_by_unlike m (words_set rows columns) (rows_heap patterns true) (rows_heap patterns false) H1 H2 is unlike adds1 adds2
+  where
+    unlike : AreAllUnlike m (words_set rows columns) (rows_heap patterns true) (rows_heap patterns false)
+    unlike (Row r) (Row s) lr ls hr hs = let (nr, ns, d) = heaps_differ patterns.heaps (get_or patterns.classes.items r 0) (get_or patterns.classes.items s 0) hr hs in unlike_rows m rows columns patterns.classes.items is so r s lr ls nr ns d
+    unlike (Row r) (Column c) lr lc hr hc = absurd (not_both false hc refl)
+    unlike (Column c) (Row r) lc lr hc hr = absurd (not_both false hc refl)
+    unlike (Column c) (Column d) lc ld hc hd = absurd (not_both false hc refl)
+
+pub columns_halved : (m : Matrix) (rows columns : List ℕ) (patterns : Patterns) (H1 H2 : Lines) → IsMatrix m → AreClassNumbers (transposed m) rows patterns.classes.items → AddsAtMost m H1 (words_set rows columns) (columns_heap patterns true)
+    → AddsAtMost m H2 (words_set rows columns) (columns_heap patterns false) → IsHalved m (words_set rows columns) H1 H2
+columns_halved m rows columns patterns H1 H2 is so adds1 adds2 = halved_by_unlike m (words_set rows columns) (columns_heap patterns true) (columns_heap patterns false) H1 H2 is unlike adds1 adds2
+  where
+    unlike : AreAllUnlike m (words_set rows columns) (columns_heap patterns true) (columns_heap patterns false)
+    unlike (Column c) (Column d) lc ld hc hd = let (nc, nd, n) = heaps_differ patterns.heaps (get_or patterns.classes.items c 0) (get_or patterns.classes.items d 0) hc hd in unlike_columns m rows columns patterns.classes.items is so c d lc ld nc nd n
+    unlike (Row r) (Column c) lr lc hr hc = absurd (not_both false hr refl)
+    unlike (Column c) (Row r) lc lr hc hr = absurd (not_both false hr refl)
+    unlike (Row r) (Row s) lr ls hr hs = absurd (not_both false hr refl)
+
+-- the patterns of the lines beside a set show that few can be on the other side
+pub patterns_few : (m : Matrix) (lines : LineWords) (patterns : LinePatterns) → IsMatrix m → HasPatterns m lines patterns → patterns.rows.most + patterns.columns.most < 4 → LeavesFew m (set_of lines)
+patterns_few m lines patterns is has few = record {
+  rows = λ r. get_or patterns.rows.classes.items r 0;
+  columns = λ c. get_or patterns.columns.classes.items c 0;
+  most_rows = patterns.rows.most;
+  most_columns = patterns.columns.most;
+  row_classes = row_classes m lines.rows.items lines.columns.items patterns.rows.classes.items is has.rows;
+  column_classes = column_classes m lines.rows.items lines.columns.items patterns.columns.classes.items is has.columns;
+  rows_at_most = has.most_rows;
+  columns_at_most = has.most_columns;
+  few = few;
+}
+
+-- two states were searched, the second after the first
+pub covers_both : {E : Type 0} (m : Matrix) (H K H1 K1 H2 K2 P1 P2 : Lines) (second : Result Bool E) → ((P : Lines) → Covers m H1 K1 P → Covers m H2 K2 P → Covers m H K P) → Covers m H1 K1 P1 → OnOk second (AreWithin m P1 P2)
+    → IfOk second (λ covered. covered ≡ true → Covers m H2 K2 P2) → IfOk second (λ covered. covered ≡ true → Covers m H K P2)
+covers_both m H K H1 K1 H2 K2 P1 P2 (Ok covered) step h1 more h2 = λ e. step P2 (covers_more m H1 K1 P1 P2 more h1) (h2 e)
+covers_both m H K H1 K1 H2 K2 P1 P2 (Err e) step h1 more h2 = h2
+
+-- a line more in a set of words
+pub row_added : (m : Matrix) (rows columns after : List ℕ) (row : ℕ) → ((x : ℕ) → has_column after x ≡ true → (x ≡ row) ⊎ (has_column rows x ≡ true)) → (z : Line) → IsLineOf m z → words_set after columns z ≡ true → (words_set rows columns z ≡ true) ⊎ (z ≡ Row row)
+row_added m rows columns after row only (Row r) l e = elim (only r e) [
+  | inl same ↦ inr (ap Row same)
+  | inr old ↦ inl old
+]
+row_added m rows columns after row only (Column c) l e = inl e
+
+pub column_added : (m : Matrix) (rows columns after : List ℕ) (column : ℕ) → ((x : ℕ) → has_column after x ≡ true → (x ≡ column) ⊎ (has_column columns x ≡ true)) → (z : Line) → IsLineOf m z → words_set rows after z ≡ true → (words_set rows columns z ≡ true) ⊎ (z ≡ Column column)
+column_added m rows columns after column only (Row r) l e = inl e
+column_added m rows columns after column only (Column c) l e = elim (only c e) [
+  | inl same ↦ inr (ap Column same)
+  | inr old ↦ inl old
+]

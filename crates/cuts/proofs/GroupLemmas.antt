@@ -1,0 +1,99 @@
+-- Groups while they are found.
+use Rattle.std.proofs.Common.{Result, Ok, Err, IfOk, OnOk, ℕ, ◌+◌, Bool, true, false, cond, List, ◌≡◌, ◌<◌, ◌≤◌, ◌∙◌, sym, ap, refl, arith, ◌⊎◌, inl, inr, get_or}
+use Rattle.cmr_base.specs.declared.line.Line.{Line}
+use Rattle.cmr_base.specs.declared.line.Line.TheVariants.{Row, Column}
+use Rattle.cmr_base.specs.ColumnSets.{has_column}
+use Rattle.cmr_base.specs.Matrix.{Matrix, height}
+use Rattle.cmr_base.specs.Separations.{Lines}
+use Rattle.cmr_base.proofs.Booleans.{not_both}
+use Rattle.cuts.specs.declared.groups.Groups.{Groups}
+use Rattle.cuts.specs.declared.line_words.LineWords.{LineWords}
+use Rattle.cuts.specs.Covers.{AddsAtMost, AreOnOneSide, AreWithin, Covers, GetName, IsLineOf, words_set}
+use Rattle.cuts.specs.Cuts.{HasNames, HoldTogether, IsCut, name_of}
+use Rattle.cuts.specs.LineSets.{set_of}
+use Rattle.cuts.proofs.CoverLemmas.{covers_more, group_of_covers}
+
+-- ---- names
+
+-- where each line has a name of its own
+pub apart_together : (m : Matrix) (groups : Groups) (P : Lines → Type 0) → ((k : ℕ) → k < height m + m.width → get_or groups.names.items k 0 ≡ k) → HoldTogether P m groups
+apart_together m groups P own T p (Row r) (Row s) lr ls e = let a = own r (omega (arith, lr)) in let b = own s (omega (arith, ls)) in ap (λ (z : ℕ). T (Row z)) (sym a ∙ e ∙ b)
+apart_together m groups P own T p (Column c) (Column d) lc ld e =
+    let a = own (height m + c) (omega (arith, lc)) in
+    let b = own (height m + d) (omega (arith, ld)) in
+    let same : height m + c ≡ height m + d = sym a ∙ e ∙ b in
+    let last : c ≡ d = omega (arith, same) in
+    ap (λ (z : ℕ). T (Column z)) last
+apart_together m groups P own T p (Row r) (Column c) lr lc e =
+    let a = own r (omega (arith, lr)) in
+    let b = own (height m + c) (omega (arith, lc)) in
+    let same : r ≡ height m + c = sym a ∙ e ∙ b in
+    absurd (omega (arith, same, lr))
+apart_together m groups P own T p (Column c) (Row r) lc lr e =
+    let a = own r (omega (arith, lr)) in
+    let b = own (height m + c) (omega (arith, lc)) in
+    let same : height m + c ≡ r = sym b ∙ e ∙ a in
+    absurd (omega (arith, same, lr))
+
+-- the rows and the columns of a name
+pub named_lines : (m : Matrix) (groups : Groups) (name from : ℕ) (one other rows columns : List ℕ) → one ≡ groups.names.items → other ≡ groups.names.items → from ≡ height m
+    → ((x : ℕ) → has_column rows x ≡ true → get_or one (0 + x) 0 ≡ name) → ((x : ℕ) → has_column columns x ≡ true → get_or other (from + x) 0 ≡ name)
+    → (x : Line) → IsLineOf m x → words_set rows columns x ≡ true → name_of m groups x ≡ name
+named_lines m groups name from one other rows columns eo et ef hr hc (Row r) l e =
+    let z : r ≡ 0 + r = omega arith in
+    sym (ap (λ (v : List ℕ). get_or v r 0) eo) ∙ ap (λ (k : ℕ). get_or one k 0) z ∙ hr r e
+named_lines m groups name from one other rows columns eo et ef hr hc (Column c) l e =
+    sym (ap (λ (v : List ℕ). get_or v (height m + c) 0) et) ∙ sym (ap (λ (z : ℕ). get_or other (z + c) 0) ef) ∙ hc c e
+
+-- the lines that are not in a set have got a name, first the rows and then the columns
+module _ (m : Matrix) (before after middle rows columns : List ℕ) (size width from value : ℕ) (es : size ≡ height m) (ew : width ≡ m.width) (ef : from ≡ height m)
+    (rows_named : (x : ℕ) → x < size → get_or middle (0 + x) 0 ≡ cond (has_column rows x) (get_or before (0 + x) 0) value) (rows_kept : (k : ℕ) → 0 + size ≤ k → get_or middle k 0 ≡ get_or before k 0)
+    (columns_named : (x : ℕ) → x < width → get_or after (from + x) 0 ≡ cond (has_column columns x) (get_or middle (from + x) 0) value) (columns_kept : (k : ℕ) → k < from → get_or after k 0 ≡ get_or middle k 0) where
+  row_named : (r : ℕ) → r < height m → get_or after r 0 ≡ cond (has_column rows r) (get_or before r 0) value
+  row_named r l =
+      let z : 0 + r ≡ r = omega arith in
+      columns_kept r (omega (arith, l, ef)) ∙ sym (ap (λ (k : ℕ). get_or middle k 0) z) ∙ rows_named r (omega (arith, l, es)) ∙ ap (λ (k : ℕ). cond (has_column rows r) (get_or before k 0) value) z
+
+  column_named : (c : ℕ) → c < m.width → get_or after (height m + c) 0 ≡ cond (has_column columns c) (get_or before (height m + c) 0) value
+  column_named c l =
+      sym (ap (λ (z : ℕ). get_or after (z + c) 0) ef) ∙ columns_named c (omega (arith, l, ew))
+      ∙ ap (λ (v : ℕ). cond (has_column columns c) v value) (rows_kept (from + c) (omega (arith, ef, es)) ∙ ap (λ (z : ℕ). get_or before (z + c) 0) ef)
+
+pub lines_renamed : (m : Matrix) (before after : Groups) (middle rows columns : List ℕ) (size width from value : ℕ) (line : Line) → size ≡ height m → width ≡ m.width → from ≡ height m → value ≡ name_of m before line
+    → ((x : ℕ) → x < size → get_or middle (0 + x) 0 ≡ cond (has_column rows x) (get_or before.names.items (0 + x) 0) value) → ((k : ℕ) → 0 + size ≤ k → get_or middle k 0 ≡ get_or before.names.items k 0)
+    → ((x : ℕ) → x < width → get_or after.names.items (from + x) 0 ≡ cond (has_column columns x) (get_or middle (from + x) 0) value) → ((k : ℕ) → k < from → get_or after.names.items k 0 ≡ get_or middle k 0)
+    → GetName m before after (words_set rows columns) line
+lines_renamed m before after middle rows columns size width from value line es ew ef ev a b c d = record {
+  renamed = renamed;
+  kept = kept;
+}
+  where
+    row : (r : ℕ) → r < height m → get_or after.names.items r 0 ≡ cond (has_column rows r) (get_or before.names.items r 0) value
+    row = row_named m before.names.items after.names.items middle rows columns size width from value es ew ef a b c d
+
+    column : (k : ℕ) → k < m.width → get_or after.names.items (height m + k) 0 ≡ cond (has_column columns k) (get_or before.names.items (height m + k) 0) value
+    column = column_named m before.names.items after.names.items middle rows columns size width from value es ew ef a b c d
+
+    renamed : (x : Line) → IsLineOf m x → words_set rows columns x ≡ false → name_of m after x ≡ name_of m before line
+    renamed (Row r) l f = row r l ∙ ap (λ (t : Bool). cond t (get_or before.names.items r 0) value) f ∙ ev
+    renamed (Column k) l f = column k l ∙ ap (λ (t : Bool). cond t (get_or before.names.items (height m + k) 0) value) f ∙ ev
+
+    kept : (x : Line) → IsLineOf m x → words_set rows columns x ≡ true → name_of m after x ≡ name_of m before x
+    kept (Row r) l t = row r l ∙ ap (λ (b : Bool). cond b (get_or before.names.items r 0) value) t
+    kept (Column k) l t = column k l ∙ ap (λ (b : Bool). cond b (get_or before.names.items (height m + k) 0) value) t
+
+-- ---- the group of a line
+
+pub none_among : (lines : LineWords) → ((r : ℕ) → has_column lines.rows.items r ≡ false) → ((c : ℕ) → has_column lines.columns.items c ≡ false) → (x : Line) → set_of lines x ≡ false
+none_among lines rows columns (Row r) = rows r
+none_among lines rows columns (Column c) = columns c
+
+-- two searches: with the lines of a name in side one, and with these in side two
+pub covered_group : {E : Type 0} (m : Matrix) (groups : Groups) (name : ℕ) (line : Line) (none one group more P1 P2 : Lines) (second : Result Bool E) → IsLineOf m line → HoldTogether (IsCut m) m groups → ((x : Line) → none x ≡ false)
+    → ((x : Line) → IsLineOf m x → one x ≡ true → (none x ≡ true) ⊎ (x ≡ line)) → ((x : Line) → IsLineOf m x → group x ≡ true → name_of m groups x ≡ name) → AddsAtMost m more one group
+    → Covers m more none P1 → OnOk second (AreWithin m P1 P2) → IfOk second (λ covered. covered ≡ true → Covers m one group P2) → IfOk second (λ covered. covered ≡ true → AreOnOneSide m line P2)
+covered_group m groups name line none one group more P1 P2 (Ok covered) lx together empty only named adds h1 within h2 = λ e.
+    group_of_covers m groups name one group more none P2 line lx
+    (λ x l h. elim (only x l h) [ inl old ↦ absurd (not_both (none x) old (empty x)) | inr same ↦ same ])
+    together named adds (λ x l. empty x) (covers_more m more none P1 P2 within h1) (h2 e)
+covered_group m groups name line none one group more P1 P2 (Err e) lx together empty only named adds h1 within h2 = h2

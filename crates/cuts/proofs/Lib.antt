@@ -1,0 +1,9 @@
+pub mod WordLemmas
+pub mod CutLemmas
+pub mod DigestLemmas
+pub mod ClassLemmas
+pub mod CoverLemmas
+pub mod PatternLemmas
+pub mod LinePatternLemmas
+pub mod GroupLemmas
+pub mod FinderLemmas

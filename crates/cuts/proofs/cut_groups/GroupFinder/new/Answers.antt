@@ -1,0 +1,10 @@
+use Rattle.cuts.specs.Cuts.{IsCut}
+use Rattle.cuts.proofs.GroupLemmas.{apart_together}
+use Rattle.cuts.proofs.cut_groups.GroupFinder.new.Goals as goal
+
+pub returns : goal.returns
+returns c = record {
+  groups = c.in_ok-new.ensures.names;
+  taken = c.in_ok-new-2.ensures.size;
+  together = apart_together c.args.views.now c.in_ok-new.field-0 (IsCut c.args.views.now) c.in_ok-new.ensures.apart;
+}

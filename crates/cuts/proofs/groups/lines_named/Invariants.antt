@@ -1,0 +1,7 @@
+use Rattle.std.proofs.Common.{◌≡◌, ◌+◌, ℕ, true, length, slice_index_or}
+use Rattle.cmr_base.specs.ColumnSets.{has_column}
+use Rattle.cmr_base.specs.Planes.{words_for}
+use Rattle.cuts.proofs.groups.lines_named.Given as goal
+
+abbrev pub invariant-loop-line : goal.invariant-loop-line
+invariant-loop-line l = (length l.lines.items ≡ words_for l.count) × ((x : ℕ) → has_column l.lines.items x ≡ true → slice_index_or l.names (l.from + x) 0 ≡ l.name)

@@ -1,0 +1,6 @@
+use Rattle.std.proofs.Common.{◌≤◌, length}
+use Rattle.cuts.specs.Patterns.{AreOpen}
+use Rattle.cuts.proofs.patterns.open_classes.Given as goal
+
+abbrev pub invariant-loop-row : goal.invariant-loop-row
+invariant-loop-row l = (length l.found.items ≤ l.row) × AreOpen l.own l.numbers l.row l.found.items

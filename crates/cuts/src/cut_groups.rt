@@ -1,0 +1,147 @@
+// Groups of lines that no cut parts, found one after the other.
+ghost use Rattle.std.specs.Prelude.{◌≡◌, ◌<◌, true, IfOk, OnOk, MatchOption};
+ghost use Rattle.cmr_base.specs.Separations.{Lines};
+ghost use Rattle.cmr_base.specs.declared.line.Line.{Line};
+ghost use Rattle.cuts.specs.Covers.{AreOnOneSide, IsLineOf};
+ghost use Rattle.cuts.specs.Cuts.{HasNames, HoldTogether, IsCut};
+ghost use Rattle.cuts.specs.Finders.{AreFound};
+ghost use Rattle.cuts.specs.LineSets.{HasWords, set_of};
+
+use crate::cut_search::CutSearch;
+use crate::groups::Groups;
+use crate::line_words::LineWords;
+use crate::next_line::next_line;
+use cmr_base::{Line, Memory, RowsAndColumns};
+use std::alloc::Global;
+
+/// How many states are looked at for each line of the matrix at most, in all.
+const STATES_OF_A_LINE: u32 = 100;
+
+/// A group of fewer lines is small, and after so many small ones no more are looked for.
+const SMALL: u32 = 8;
+
+const SMALL_GROUPS: u32 = 8;
+
+/// Finds groups of lines that no cut parts.
+pub fn groups_of(alloc: Global, views: &RowsAndColumns<'_>) -> Result<Groups, Memory>
+    ensures names { IfOk result (HasNames views.now) }
+    ensures together { IfOk result (HoldTogether (IsCut views.now) views.now) }
+{
+    let mut finder = GroupFinder::new(alloc, views)?;
+    for _line in 0..views.rows() + views.columns() {
+        match finder.next(alloc, views)? {
+            None => return Ok(finder.groups),
+            Some(line) => finder.take(alloc, views, line)?,
+        }
+    }
+    Ok(finder.groups)
+}
+
+// Groups while they are found: those found so far, their lines, the name and the size of the largest one, how many small
+// ones were found, and how many states may be looked at yet.
+#[derive(Drop)]
+struct GroupFinder {
+    groups: Groups,
+    taken: LineWords,
+    largest: u32,
+    size: u32,
+    small: u32,
+    states: u32,
+}
+
+impl GroupFinder {
+    fn new(alloc: Global, views: &RowsAndColumns<'_>) -> Result<GroupFinder, Memory>
+        ensures { IfOk result (AreFound views.now) }
+    {
+        Ok(GroupFinder {
+            groups: Groups::new(alloc, views)?,
+            taken: LineWords::new(alloc, views)?,
+            largest: 0,
+            size: 0,
+            small: 0,
+            states: STATES_OF_A_LINE * (views.rows() + views.columns()),
+        })
+    }
+
+    // A line of no group so far, unless enough groups were found.
+    fn next(&self, alloc: Global, views: &RowsAndColumns<'_>) -> Result<Option<Line>, Memory>
+        requires { AreFound views.now self.now }
+        ensures { IfOk result (λ found. MatchOption found (Unit {0}) (IsLineOf views.now)) }
+    {
+        if self.small >= SMALL_GROUPS || self.states == 0 {
+            return Ok(None);
+        }
+        let none = LineWords::new(alloc, views)?;
+        Ok(next_line(views, &none, &self.taken, &self.taken))
+    }
+
+    // Takes the group of a line.
+    fn take(&mut self, alloc: Global, views: &RowsAndColumns<'_>, line: Line) -> Result<(), Memory>
+        requires found { AreFound views.now self.old }
+        requires line { IsLineOf views.now line }
+        ensures { OnOk result (AreFound views.now self.new) }
+    {
+        let mut search = CutSearch {
+            parted: self.taken.copied(alloc, views)?,
+            states: self.states,
+        };
+        let name = if self.size == 0 {
+            self.groups.name(views, line)
+        } else {
+            self.largest
+        };
+        if is_covered(alloc, views, &self.groups, line, name, &mut search)? {
+            self.groups.rename(views, line, &search.parted);
+            self.taken.add_rest(views, &search.parted);
+            self.note(views, line, search.parted.count_others(views));
+        } else {
+            self.taken = self.taken.with_line(alloc, views, line)?;
+            self.small = self.small.saturating_add(1);
+        }
+        self.states = search.states;
+        Ok(())
+    }
+
+    // Notes the size of a group.
+    fn note(&mut self, views: &RowsAndColumns<'_>, line: Line, size: u32)
+        requires found { AreFound views.now self.old }
+        requires line { IsLineOf views.now line }
+        ensures { AreFound views.now self.new }
+    {
+        if size > self.size {
+            self.largest = self.groups.name(views, line);
+            self.size = size;
+        }
+        if size < SMALL {
+            self.small = self.small.saturating_add(1);
+        }
+    }
+}
+
+// Whether all lines are marked that some cut parts from a line. The group with a name is put into side one first, and
+// then into side two.
+fn is_covered(
+    alloc: Global,
+    views: &RowsAndColumns<'_>,
+    groups: &Groups,
+    line: Line,
+    name: u32,
+    search: &mut CutSearch,
+) -> Result<bool, Memory>
+    requires names { HasNames views.now groups.now }
+    requires together { HoldTogether (IsCut views.now) views.now groups.now }
+    requires line { IsLineOf views.now line }
+    requires parted { HasWords views.now search.old.parted }
+    ensures size { OnOk result (HasWords views.now search.new.parted) }
+    ensures one_side { IfOk result (λ covered. covered ≡ true → AreOnOneSide views.now line (set_of search.new.parted)) }
+{
+    let depth = views.rows() + views.columns() + 2;
+    let none = LineWords::new(alloc, views)?;
+    let one = none.with_line(alloc, views, line)?;
+    let group = groups.lines(alloc, views, name)?;
+    let more = one.with_lines(alloc, views, &group)?;
+    if !search.search(alloc, views, &more, &none, depth)? {
+        return Ok(false);
+    }
+    search.search(alloc, views, &one, &group, depth)
+}

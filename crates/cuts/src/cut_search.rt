@@ -1,0 +1,82 @@
+// The lines that cuts part from some lines of side one.
+ghost use Rattle.std.specs.Prelude.{◌≡◌, true, IfOk, OnOk};
+ghost use Rattle.cuts.specs.Covers.{AreWithin, Covers};
+ghost use Rattle.cuts.specs.LineSets.{HasWords, set_of};
+
+use crate::line_patterns::LinePatterns;
+use crate::line_words::LineWords;
+use crate::next_line::next_line;
+use cmr_base::{Memory, RowsAndColumns};
+use std::alloc::Global;
+
+/// The lines that may be parted from those with which the search began, and how many states may be looked at yet.
+#[derive(Drop)]
+pub struct CutSearch {
+    pub parted: LineWords,
+    pub states: u32,
+}
+
+impl CutSearch {
+    /// Marks the lines of side two of each cut that has some lines in side one and some in side two, and says so; or gives
+    /// up.
+    pub fn search(
+        &mut self,
+        alloc: Global,
+        views: &RowsAndColumns<'_>,
+        one: &LineWords,
+        two: &LineWords,
+        depth: u32,
+    ) -> Result<bool, Memory>
+        requires parted { HasWords views.now self.old.parted }
+        requires one { HasWords views.now one.now }
+        requires two { HasWords views.now two.now }
+        ensures size { OnOk result (HasWords views.now self.new.parted) }
+        ensures more { OnOk result (AreWithin views.now (set_of self.old.parted) (set_of self.new.parted)) }
+        ensures covers { IfOk result (λ covered. covered ≡ true → Covers views.now (set_of one.now) (set_of two.now) (set_of self.new.parted)) }
+    {
+        if one.meets(views, two) {
+            return Ok(true);
+        }
+        if self.parted.have_all(views, one) {
+            return Ok(true);
+        }
+        if depth == 0 || self.states == 0 {
+            return Ok(false);
+        }
+        self.states -= 1;
+        let near = LinePatterns::of(alloc, views, one, two)?;
+        if near.are_few(views, one) {
+            return Ok(true);
+        }
+        if near.have_one_class() && one.are_four(views) {
+            self.parted.add_rest(views, one);
+            return Ok(true);
+        }
+        let far = LinePatterns::of(alloc, views, two, one)?;
+        if far.are_few(views, two) {
+            return Ok(true);
+        }
+        if let Some(halves) = near.halves(alloc, views, one, far.lighter())? {
+            if !self.search(alloc, views, &halves.one, two, depth - 1)? {
+                return Ok(false);
+            }
+            return self.search(alloc, views, &halves.other, two, depth - 1);
+        }
+        if let Some(halves) = far.halves(alloc, views, two, 0)? {
+            if !self.search(alloc, views, one, &halves.one, depth - 1)? {
+                return Ok(false);
+            }
+            return self.search(alloc, views, one, &halves.other, depth - 1);
+        }
+        let Some(line) = next_line(views, one, two, &self.parted) else {
+            self.parted.add_rest(views, one);
+            return Ok(true);
+        };
+        let more_two = two.with_line(alloc, views, line)?;
+        if !self.search(alloc, views, one, &more_two, depth - 1)? {
+            return Ok(false);
+        }
+        let more_one = one.with_line(alloc, views, line)?;
+        self.search(alloc, views, &more_one, two, depth - 1)
+    }
+}

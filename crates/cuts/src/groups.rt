@@ -1,0 +1,146 @@
+// Groups of lines, which cuts are to keep together.
+ghost use Rattle.std.specs.Prelude.{◌≡◌, ◌<◌, ◌≤◌, ◌+◌, ◌⊎◌, ◌↔◌, ℕ, length, slice_index_or, true, false, cond, IsTrue, IfOk};
+ghost use Rattle.cmr_base.specs.ColumnSets.{has_column};
+ghost use Rattle.cmr_base.specs.Matrix.{height};
+ghost use Rattle.cmr_base.specs.Planes.{words_for};
+ghost use Rattle.cmr_base.specs.Seeds.{line_number};
+ghost use Rattle.cmr_base.specs.declared.line.Line.{Line};
+ghost use Rattle.cuts.specs.Covers.{GetName, IsLineOf};
+ghost use Rattle.cuts.specs.Cuts.{HasNames, name_of};
+ghost use Rattle.cuts.specs.LineSets.{HasWords, set_of};
+
+use crate::line_words::LineWords;
+use crate::words::{add_line, has_line};
+use cmr_base::columns::empty_set;
+use cmr_base::{Line, Memory, RowsAndColumns};
+use std::alloc::Global;
+
+/// A name for the group of each line, the rows first.
+#[derive(Drop)]
+pub struct Groups {
+    names: Vec<u32>,
+}
+
+impl Groups {
+    /// Each line is a group.
+    pub fn new(alloc: Global, views: &RowsAndColumns<'_>) -> Result<Groups, Memory>
+        ensures names { IfOk result (HasNames views.now) }
+        ensures apart { IfOk result (λ groups. (k : ℕ) → k < height views.now + views.now.width → slice_index_or groups.names.items k 0 ≡ k) }
+    {
+        let count = views.rows() + views.columns();
+        let mut names = Vec::with_capacity(alloc, count as usize)?;
+        for name in 0..count {
+            names.push(name)?;
+        }
+        Ok(Groups { names })
+    }
+
+    /// Whether two lines are in one group.
+    pub fn are_one(&self, one: u32, two: u32) -> bool
+        requires one { one < length self.now.names.items }
+        requires two { two < length self.now.names.items }
+        ensures { IsTrue result ↔ (slice_index_or self.now.names.items one 0 ≡ slice_index_or self.now.names.items two 0) }
+    {
+        self.names[one as usize] == self.names[two as usize]
+    }
+
+    /// Whether all lines are shown to be in one group.
+    pub fn are_all_one(&self) -> bool
+        ensures { result ≡ true → (k l : ℕ) → k < length self.now.names.items → l < length self.now.names.items → slice_index_or self.now.names.items k 0 ≡ slice_index_or self.now.names.items l 0 }
+    {
+        for line in 0..self.names.len() {
+            if self.names[line] != self.names[0] {
+                return false;
+            }
+        }
+        true
+    }
+
+    /// The name of a line's group.
+    pub fn name(&self, views: &RowsAndColumns<'_>, line: Line) -> u32
+        requires names { HasNames views.now self.now }
+        requires line { IsLineOf views.now line }
+        ensures { result ≡ name_of views.now self.now line }
+    {
+        match line {
+            Line::Row(row) => self.names[row as usize],
+            Line::Column(column) => self.names[(views.rows() + column) as usize],
+        }
+    }
+
+    /// The lines of a name.
+    pub fn lines(
+        &self,
+        alloc: Global,
+        views: &RowsAndColumns<'_>,
+        name: u32,
+    ) -> Result<LineWords, Memory>
+        requires { HasNames views.now self.now }
+        ensures size { IfOk result (HasWords views.now) }
+        ensures named { IfOk result (λ lines. (x : Line) → IsLineOf views.now x → set_of lines x ≡ true → name_of views.now self.now x ≡ name) }
+    {
+        let rows = lines_named(alloc, &self.names, 0, views.rows(), name)?;
+        let columns = lines_named(alloc, &self.names, views.rows(), views.columns(), name)?;
+        Ok(LineWords { rows, columns })
+    }
+
+    /// Gives the name of a line to all lines that are not among some.
+    pub fn rename(&mut self, views: &RowsAndColumns<'_>, line: Line, parted: &LineWords)
+        requires names { HasNames views.now self.old }
+        requires line { IsLineOf views.now line }
+        requires parted { HasWords views.now parted.now }
+        ensures names { HasNames views.now self.new }
+        ensures get { GetName views.now self.old self.new (set_of parted.now) line }
+    {
+        let name = self.name(views, line);
+        rename_others(&mut self.names, 0, views.rows(), &parted.rows, name);
+        rename_others(
+            &mut self.names,
+            views.rows(),
+            views.columns(),
+            &parted.columns,
+            name,
+        );
+    }
+}
+
+// Lines of a name among so many, the first of which has the name at a place.
+fn lines_named(
+    alloc: Global,
+    names: &[u32],
+    from: u32,
+    count: u32,
+    name: u32,
+) -> Result<Vec<u64>, Memory>
+    requires from { from ≤ 1000 }
+    requires count { count ≤ 1000 }
+    requires names { from + count ≤ length names.now }
+    ensures size { IfOk result (λ lines. length lines.items ≡ words_for count) }
+    ensures named { IfOk result (λ lines. (x : ℕ) → has_column lines.items x ≡ true → slice_index_or names.now (from + x) 0 ≡ name) }
+{
+    let mut lines = empty_set(alloc, count)?;
+    for line in 0..count {
+        if names[(from + line) as usize] == name {
+            add_line(&mut lines, line);
+        }
+    }
+    Ok(lines)
+}
+
+// Gives a name to those of so many lines that are not among some. The first of the lines has the name at a place.
+fn rename_others(names: &mut Vec<u32>, from: u32, count: u32, kept: &[u64], name: u32)
+    requires from { from ≤ 1000 }
+    requires count { count ≤ 1000 }
+    requires names { from + count ≤ length names.old.items }
+    requires kept { length kept.now ≡ words_for count }
+    ensures size { length names.new.items ≡ length names.old.items }
+    ensures lines { (x : ℕ) → x < count → slice_index_or names.new.items (from + x) 0 ≡ cond (has_column kept.now x) (slice_index_or names.old.items (from + x) 0) name }
+    ensures before { (k : ℕ) → k < from → slice_index_or names.new.items k 0 ≡ slice_index_or names.old.items k 0 }
+    ensures after { (k : ℕ) → from + count ≤ k → slice_index_or names.new.items k 0 ≡ slice_index_or names.old.items k 0 }
+{
+    for line in 0..count {
+        if !has_line(kept, line) {
+            names[(from + line) as usize] = name;
+        }
+    }
+}

@@ -1,0 +1,247 @@
+// Rows and columns of a matrix as words.
+ghost use Rattle.std.specs.Prelude.{◌≡◌, ◌<◌, ◌⊎◌, ℕ, true, false, length, slice_index_or, IfOk};
+ghost use Rattle.cmr_base.specs.ColumnSets.{has_column};
+ghost use Rattle.cmr_base.specs.Matrix.{height};
+ghost use Rattle.cmr_base.specs.Planes.{words_for};
+ghost use Rattle.cmr_base.specs.declared.line.Line.{Line};
+ghost use Rattle.cuts.specs.Covers.{AddsAtMost, AreWithin, IsLineOf};
+ghost use Rattle.cuts.specs.LineSets.{HasWords, columns_heap, is_in_heap, rows_heap, set_of};
+
+use crate::heaps::Heaps;
+use crate::patterns::Patterns;
+use crate::words::{add_line, has_line};
+use cmr_base::columns::{add_set, empty_set};
+use cmr_base::{Line, Memory, RowsAndColumns};
+use std::alloc::Global;
+
+/// A set of rows and columns.
+#[derive(Drop)]
+pub struct LineWords {
+    pub rows: Vec<u64>,
+    pub columns: Vec<u64>,
+}
+
+impl LineWords {
+    /// No line.
+    pub fn new(alloc: Global, views: &RowsAndColumns<'_>) -> Result<LineWords, Memory>
+        ensures size { IfOk result (HasWords views.now) }
+        ensures no_row { IfOk result (λ lines. (r : ℕ) → has_column lines.rows.items r ≡ false) }
+        ensures no_column { IfOk result (λ lines. (c : ℕ) → has_column lines.columns.items c ≡ false) }
+    {
+        Ok(LineWords {
+            rows: empty_set(alloc, views.rows())?,
+            columns: empty_set(alloc, views.columns())?,
+        })
+    }
+
+    /// The same lines once more.
+    pub fn copied(&self, alloc: Global, views: &RowsAndColumns<'_>) -> Result<LineWords, Memory>
+        requires { HasWords views.now self.now }
+        ensures size { IfOk result (HasWords views.now) }
+        ensures rows { IfOk result (λ lines. (r : ℕ) → has_column lines.rows.items r ≡ has_column self.now.rows.items r) }
+        ensures columns { IfOk result (λ lines. (c : ℕ) → has_column lines.columns.items c ≡ has_column self.now.columns.items c) }
+    {
+        let mut lines = LineWords::new(alloc, views)?;
+        add_set(&mut lines.rows, &self.rows);
+        add_set(&mut lines.columns, &self.columns);
+        Ok(lines)
+    }
+
+    /// The lines and the rows of one heap of classes, or of the other.
+    pub fn with_rows(
+        &self,
+        alloc: Global,
+        views: &RowsAndColumns<'_>,
+        patterns: &Patterns,
+        inside: bool,
+    ) -> Result<LineWords, Memory>
+        requires size { HasWords views.now self.now }
+        requires classes { length patterns.now.classes.items ≡ height views.now }
+        ensures size { IfOk result (HasWords views.now) }
+        ensures lines { IfOk result (λ lines. AddsAtMost views.now (set_of lines) (set_of self.now) (rows_heap patterns.now inside)) }
+    {
+        let mut lines = self.copied(alloc, views)?;
+        add_heap(&mut lines.rows, views.rows(), patterns, inside);
+        Ok(lines)
+    }
+
+    /// The lines and the columns of one heap of classes, or of the other.
+    pub fn with_columns(
+        &self,
+        alloc: Global,
+        views: &RowsAndColumns<'_>,
+        patterns: &Patterns,
+        inside: bool,
+    ) -> Result<LineWords, Memory>
+        requires size { HasWords views.now self.now }
+        requires classes { length patterns.now.classes.items ≡ views.now.width }
+        ensures size { IfOk result (HasWords views.now) }
+        ensures lines { IfOk result (λ lines. AddsAtMost views.now (set_of lines) (set_of self.now) (columns_heap patterns.now inside)) }
+    {
+        let mut lines = self.copied(alloc, views)?;
+        add_heap(&mut lines.columns, views.columns(), patterns, inside);
+        Ok(lines)
+    }
+
+    /// The lines and one more.
+    pub fn with_line(
+        &self,
+        alloc: Global,
+        views: &RowsAndColumns<'_>,
+        line: Line,
+    ) -> Result<LineWords, Memory>
+        requires size { HasWords views.now self.now }
+        requires line { IsLineOf views.now line }
+        ensures size { IfOk result (HasWords views.now) }
+        ensures lines { IfOk result (λ lines. (x : Line) → IsLineOf views.now x → set_of lines x ≡ true → (set_of self.now x ≡ true) ⊎ (x ≡ line)) }
+    {
+        let mut lines = self.copied(alloc, views)?;
+        match line {
+            Line::Row(row) => add_line(&mut lines.rows, row),
+            Line::Column(column) => add_line(&mut lines.columns, column),
+        }
+        Ok(lines)
+    }
+
+    /// The lines and others.
+    pub fn with_lines(
+        &self,
+        alloc: Global,
+        views: &RowsAndColumns<'_>,
+        others: &LineWords,
+    ) -> Result<LineWords, Memory>
+        requires size { HasWords views.now self.now }
+        requires others { HasWords views.now others.now }
+        ensures size { IfOk result (HasWords views.now) }
+        ensures lines { IfOk result (λ lines. AddsAtMost views.now (set_of lines) (set_of self.now) (set_of others.now)) }
+    {
+        let mut lines = self.copied(alloc, views)?;
+        add_set(&mut lines.rows, &others.rows);
+        add_set(&mut lines.columns, &others.columns);
+        Ok(lines)
+    }
+
+    /// Whether there are four lines or more.
+    pub fn are_four(&self, views: &RowsAndColumns<'_>) -> bool
+        requires { HasWords views.now self.now }
+    {
+        let lines = views.rows().saturating_add(views.columns());
+        lines.saturating_sub(self.count_others(views)) >= 4
+    }
+
+    /// How many lines of the matrix are not among these.
+    pub fn count_others(&self, views: &RowsAndColumns<'_>) -> u32
+        requires { HasWords views.now self.now }
+    {
+        let rows = count_others(&self.rows, views.rows());
+        rows.saturating_add(count_others(&self.columns, views.columns()))
+    }
+
+    /// Whether each line of the matrix is among these or among others.
+    pub fn have_all(&self, views: &RowsAndColumns<'_>, others: &LineWords) -> bool
+        requires size { HasWords views.now self.now }
+        requires others { HasWords views.now others.now }
+        ensures { result ≡ true → (x : Line) → IsLineOf views.now x → set_of others.now x ≡ false → set_of self.now x ≡ true }
+    {
+        have_others(&self.rows, views.rows(), &others.rows)
+            && have_others(&self.columns, views.columns(), &others.columns)
+    }
+
+    /// Whether some line of the matrix is among these and among others.
+    pub fn meets(&self, views: &RowsAndColumns<'_>, others: &LineWords) -> bool
+        requires size { HasWords views.now self.now }
+        requires others { HasWords views.now others.now }
+        ensures { result ≡ true → (x : Line) × IsLineOf views.now x × (set_of self.now x ≡ true) × (set_of others.now x ≡ true) }
+    {
+        share_line(&self.rows, &others.rows, views.rows())
+            || share_line(&self.columns, &others.columns, views.columns())
+    }
+
+    /// Adds the lines of the matrix that are not among others.
+    pub fn add_rest(&mut self, views: &RowsAndColumns<'_>, others: &LineWords)
+        requires size { HasWords views.now self.old }
+        requires others { HasWords views.now others.now }
+        ensures size { HasWords views.now self.new }
+        ensures kept { AreWithin views.now (set_of self.old) (set_of self.new) }
+        ensures rest { (x : Line) → IsLineOf views.now x → set_of others.now x ≡ false → set_of self.new x ≡ true }
+    {
+        add_others(&mut self.rows, views.rows(), &others.rows);
+        add_others(&mut self.columns, views.columns(), &others.columns);
+    }
+}
+
+// Whether those of so many lines that are not among some are in the set.
+fn have_others(set: &[u64], lines: u32, own: &[u64]) -> bool
+    requires own { length own.now ≡ words_for lines }
+    requires size { length set.now ≡ words_for lines }
+    ensures { result ≡ true → (x : ℕ) → x < lines → has_column own.now x ≡ false → has_column set.now x ≡ true }
+{
+    for line in 0..lines {
+        if !has_line(own, line) && !has_line(set, line) {
+            return false;
+        }
+    }
+    true
+}
+
+// How many of so many lines are not in a set.
+fn count_others(set: &[u64], lines: u32) -> u32
+    requires { length set.now ≡ words_for lines }
+{
+    let mut count = 0u32;
+    for line in 0..lines {
+        if !has_line(set, line) {
+            count = count.saturating_add(1);
+        }
+    }
+    count
+}
+
+// Whether one of so many lines is in both sets.
+fn share_line(one: &[u64], two: &[u64], lines: u32) -> bool
+    requires one { length one.now ≡ words_for lines }
+    requires two { length two.now ≡ words_for lines }
+    ensures { result ≡ true → (x : ℕ) × (x < lines) × (has_column one.now x ≡ true) × (has_column two.now x ≡ true) }
+{
+    for line in 0..lines {
+        if has_line(one, line) && has_line(two, line) {
+            return true;
+        }
+    }
+    false
+}
+
+// Adds those of so many lines that are not among some.
+fn add_others(set: &mut Vec<u64>, lines: u32, own: &[u64])
+    requires own { length own.now ≡ words_for lines }
+    requires size { length set.old.items ≡ words_for lines }
+    ensures size { length set.new.items ≡ length set.old.items }
+    ensures kept { (x : ℕ) → has_column set.old.items x ≡ true → has_column set.new.items x ≡ true }
+    ensures rest { (x : ℕ) → x < lines → has_column own.now x ≡ false → has_column set.new.items x ≡ true }
+{
+    for line in 0..lines {
+        if !has_line(own, line) {
+            add_line(set, line);
+        }
+    }
+}
+
+// Adds the lines of one heap of classes, or of the other.
+fn add_heap(set: &mut Vec<u64>, lines: u32, patterns: &Patterns, inside: bool)
+    requires lines { length patterns.now.classes.items ≡ lines }
+    requires size { length set.old.items ≡ words_for lines }
+    ensures size { length set.new.items ≡ length set.old.items }
+    ensures only { (x : ℕ) → has_column set.new.items x ≡ true → (has_column set.old.items x ≡ true) ⊎ (is_in_heap patterns.now.heaps (slice_index_or patterns.now.classes.items x 0) inside ≡ true) }
+{
+    for line in 0..lines {
+        if is_in_heap(&patterns.heaps, patterns.classes[line as usize], inside) {
+            add_line(set, line);
+        }
+    }
+}
+
+fn is_in_heap(heaps: &Heaps, class: u64, inside: bool) -> bool
+    ensures { result ≡ is_in_heap heaps.now class inside }
+{
+    class != 0 && (heaps.low <= class && class <= heaps.high) == inside
+}

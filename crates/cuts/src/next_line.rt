@@ -1,0 +1,104 @@
+// A line to be put into side one, and then into side two.
+ghost use Rattle.std.specs.Prelude.{◌≡◌, ◌<◌, length, MatchOption};
+ghost use Rattle.cmr_base.specs.Matrix.{height};
+ghost use Rattle.cmr_base.specs.Planes.{words_for};
+ghost use Rattle.cuts.specs.Covers.{IsLineOf};
+ghost use Rattle.cuts.specs.LineSets.{HasWords};
+
+use crate::line_words::LineWords;
+use crate::words::has_line;
+use cmr_base::columns::meets;
+use cmr_base::{Line, Matrix, RowsAndColumns};
+
+/// What a line counts more than one with more nonzeros if it crosses a line of side one, and if it is not yet parted.
+const CROSSING: u32 = 4096;
+
+const NOT_PARTED: u32 = 2048;
+
+/// A line that is on neither side: one that crosses a line of side one if there is one, then one that is not among those
+/// that are parted, then the one with most nonzeros.
+pub fn next_line(
+    views: &RowsAndColumns<'_>,
+    one: &LineWords,
+    two: &LineWords,
+    parted: &LineWords,
+) -> Option<Line>
+    requires one { HasWords views.now one.now }
+    requires two { HasWords views.now two.now }
+    requires parted { HasWords views.now parted.now }
+    ensures { MatchOption result (Unit {0}) (IsLineOf views.now) }
+{
+    let row = next_row(
+        views.by_rows(),
+        &one.rows,
+        &two.rows,
+        &parted.rows,
+        &one.columns,
+    );
+    let column = next_row(
+        views.by_columns(),
+        &one.columns,
+        &two.columns,
+        &parted.columns,
+        &one.rows,
+    );
+    if row.value == 0 && column.value == 0 {
+        return None;
+    }
+    if row.value >= column.value && row.line < views.rows() {
+        return Some(Line::Row(row.line));
+    }
+    if column.line < views.columns() {
+        return Some(Line::Column(column.line));
+    }
+    None
+}
+
+// A row, and what it counts. One that counts 0 is none.
+#[derive(Clone, Copy)]
+struct Candidate {
+    line: u32,
+    value: u32,
+}
+
+// The row that counts most of those that are on neither side.
+fn next_row(
+    matrix: &Matrix,
+    one: &[u64],
+    two: &[u64],
+    parted: &[u64],
+    crossing: &[u64],
+) -> Candidate
+    requires one { length one.now ≡ words_for (height matrix.now) }
+    requires two { length two.now ≡ words_for (height matrix.now) }
+    requires parted { length parted.now ≡ words_for (height matrix.now) }
+    requires crossing { length crossing.now ≡ words_for matrix.now.width }
+{
+    let mut best = Candidate { line: 0, value: 0 };
+    for row in 0..matrix.rows() {
+        if !has_line(one, row) && !has_line(two, row) {
+            let value = value_of(matrix.support_words(row), crossing, has_line(parted, row));
+            if value > best.value {
+                best = Candidate { line: row, value };
+            }
+        }
+    }
+    best
+}
+
+// What a row with these words counts.
+fn value_of(words: &[u64], crossing: &[u64], is_parted: bool) -> u32
+    requires { length words.now ≡ length crossing.now }
+{
+    let mut value = 1u32;
+    for word in words {
+        value = value.saturating_add(word.count_ones());
+    }
+    if meets(words, crossing) {
+        value = value.saturating_add(CROSSING);
+    }
+    if !is_parted {
+        value = value.saturating_add(NOT_PARTED);
+    }
+    value
+}

@@ -1,0 +1,166 @@
+// Patterns of the rows that are not on a side, on the columns that are.
+ghost use Rattle.std.specs.Prelude.{◌≡◌, ◌<◌, ◌≤◌, ◌+◌, ◌⊎◌, ℕ, List, length, slice_index_or, cond, nat_eq, IfOk};
+ghost use Rattle.std.specs.List.Sorted.{IsNonDecreasing};
+ghost use Rattle.cmr_base.specs.Matrix.{height};
+ghost use Rattle.cmr_base.specs.Planes.{words_for};
+ghost use Rattle.cuts.specs.Classes.{AreClassNumbers};
+ghost use Rattle.cuts.specs.Patterns.{AreAtMostBeside, AreAtMostListed, AreOpen, AreShort, IsCounted};
+
+use crate::classes::classes_of;
+use crate::heaps::{Heaps, heaps_of};
+use crate::words::has_line;
+use cmr_base::{Matrix, Memory};
+use std::alloc::Global;
+
+/// Classes of the rows, how many rows that are not among some are at most in class 0 and in one other, and two heaps of
+/// the classes of these rows.
+#[derive(Drop)]
+pub struct Patterns {
+    pub classes: Vec<u64>,
+    pub most: u32,
+    pub heaps: Heaps,
+}
+
+impl Patterns {
+    /// Those of the rows that are not among `own`, on the columns `crossing`. Rows `far` are on the other side.
+    pub fn of(
+        alloc: Global,
+        matrix: &Matrix,
+        own: &[u64],
+        far: &[u64],
+        crossing: &[u64],
+    ) -> Result<Patterns, Memory>
+        requires own { length own.now ≡ words_for (height matrix.now) }
+        requires far { length far.now ≡ words_for (height matrix.now) }
+        requires crossing { length crossing.now ≡ words_for matrix.now.width }
+        ensures size { IfOk result (λ patterns. length patterns.classes.items ≡ height matrix.now) }
+        ensures unlike { IfOk result (λ patterns. AreClassNumbers matrix.now crossing.now patterns.classes.items) }
+        ensures most { IfOk result (λ patterns. AreAtMostBeside own.now patterns.classes.items (height matrix.now) patterns.most) }
+    {
+        let classes = classes_of(alloc, matrix, crossing)?;
+        let sorted = sorted_classes(alloc, matrix.rows(), &classes, own)?;
+        let most = most_alike(&sorted);
+        let heaps = heaps_of(&sorted, pinned_class(matrix.rows(), &classes, own, far));
+        Ok(Patterns {
+            classes,
+            most,
+            heaps,
+        })
+    }
+}
+
+// The class of a row of the other side, or 0 if none has a class.
+fn pinned_class(rows: u32, classes: &[u64], own: &[u64], far: &[u64]) -> u64
+    requires classes { length classes.now ≡ rows }
+    requires own { length own.now ≡ words_for rows }
+    requires far { length far.now ≡ words_for rows }
+{
+    for row in 0..rows {
+        if has_line(far, row) && !has_line(own, row) && classes[row as usize] != 0 {
+            return classes[row as usize];
+        }
+    }
+    0
+}
+
+// The classes of the rows that are not among some, in rising order.
+fn sorted_classes(
+    alloc: Global,
+    rows: u32,
+    classes: &[u64],
+    own: &[u64],
+) -> Result<Vec<u64>, Memory>
+    requires rows { rows ≤ 1000 }
+    requires classes { length classes.now ≡ rows }
+    requires own { length own.now ≡ words_for rows }
+    ensures rising { IfOk result (λ sorted. IsNonDecreasing sorted.items) }
+    ensures few { IfOk result (λ sorted. length sorted.items ≤ 1000) }
+    ensures listed { IfOk result (λ sorted. AreOpen own.now classes.now rows sorted.items) }
+{
+    let mut numbers = open_classes(alloc, rows, classes, own)?;
+    numbers.sort_unstable();
+    Ok(numbers)
+}
+
+// The classes of the rows that are not among some.
+fn open_classes(alloc: Global, rows: u32, numbers: &[u64], own: &[u64]) -> Result<Vec<u64>, Memory>
+    requires rows { rows ≤ 1000 }
+    requires numbers { length numbers.now ≡ rows }
+    requires own { length own.now ≡ words_for rows }
+    ensures few { IfOk result (λ classes. length classes.items ≤ 1000) }
+    ensures listed { IfOk result (λ classes. AreOpen own.now numbers.now rows classes.items) }
+{
+    let mut found = Vec::with_capacity(alloc, rows as usize)?;
+    for row in 0..rows {
+        if !has_line(own, row) {
+            found.push(numbers[row as usize])?;
+        }
+    }
+    Ok(found)
+}
+
+// How many numbers are at most 0 or equal to one.
+fn most_alike(sorted: &[u64]) -> u32
+    requires rising { IsNonDecreasing sorted.now }
+    requires few { length sorted.now ≤ 1000 }
+    ensures { AreAtMostListed sorted.now result }
+{
+    let mut runs = Runs {
+        zeros: 0,
+        longest: 0,
+        run: 0,
+        last: 0,
+    };
+    for place in 0..sorted.len() {
+        runs = runs_with(runs, sorted[place]);
+    }
+    runs.zeros + runs.longest
+}
+
+// Of the first of some numbers in rising order: how many are 0, how many are at most equal to another one, how many are
+// equal to the last one, and which that is.
+#[derive(Clone, Copy)]
+struct Runs {
+    zeros: u32,
+    longest: u32,
+    run: u32,
+    last: u64,
+}
+
+// The same with the next number.
+fn runs_with(runs: Runs, class: u64) -> Runs
+    requires { AreShort runs 1000 }
+    ensures { (sorted : List ℕ) (place : ℕ) → IsNonDecreasing sorted → place < length sorted → slice_index_or sorted place 0 ≡ class → IsCounted sorted place runs → IsCounted sorted (place + 1) result }
+{
+    if class == 0 {
+        return Runs {
+            zeros: runs.zeros + 1,
+            longest: runs.longest,
+            run: runs.run,
+            last: class,
+        };
+    }
+    let run = run_with(runs, class);
+    Runs {
+        zeros: runs.zeros,
+        longest: longer(runs.longest, run),
+        run,
+        last: class,
+    }
+}
+
+// How many are equal to a number then.
+fn run_with(runs: Runs, class: u64) -> u32
+    requires { AreShort runs 1000 }
+    ensures { result ≡ cond (nat_eq class runs.last) (runs.run + 1) 1 }
+{
+    if class == runs.last { runs.run + 1 } else { 1 }
+}
+
+fn longer(one: u32, other: u32) -> u32
+    ensures one { one ≤ result }
+    ensures other { other ≤ result }
+    ensures either { (result ≡ one) ⊎ (result ≡ other) }
+{
+    if one < other { other } else { one }
+}

@@ -1,0 +1,39 @@
+// Lines of one kind as words.
+ghost use Rattle.std.specs.Prelude.{◌≡◌, ◌<◌, ◌/◌, ◌⊎◌, ℕ, true, length};
+ghost use Rattle.cmr_base.specs.ColumnSets.{has_column};
+ghost use Rattle.cuts.specs.Digests.{digest_of};
+
+use cmr_base::{has_bit, with_bit};
+use digests::mixed;
+
+/// Adds a line.
+pub fn add_line(lines: &mut Vec<u64>, line: u32)
+    requires { line / 64 < length lines.old.items }
+    ensures size { length lines.new.items ≡ length lines.old.items }
+    ensures only { (x : ℕ) → has_column lines.new.items x ≡ true → (x ≡ line) ⊎ (has_column lines.old.items x ≡ true) }
+    ensures here { has_column lines.new.items line ≡ true }
+    ensures kept { (x : ℕ) → has_column lines.old.items x ≡ true → has_column lines.new.items x ≡ true }
+{
+    let block = line as usize / 64;
+    lines[block] = with_bit(lines[block], line % 64, true);
+}
+
+/// Whether a line is among some.
+pub fn has_line(lines: &[u64], line: u32) -> bool
+    requires { line / 64 < length lines.now }
+    ensures { result ≡ has_column lines.now line }
+{
+    has_bit(lines[line as usize / 64], line % 64)
+}
+
+/// One number for what some words have in common with others.
+pub fn digest_of(words: &[u64], within: &[u64]) -> u64
+    requires { length within.now ≡ length words.now }
+    ensures { result ≡ digest_of words.now within.now }
+{
+    let mut digest = 0;
+    for block in 0..words.len() {
+        digest = mixed(digest, words[block] & within[block]);
+    }
+    digest
+}

@@ -1,6 +1,0 @@
-use Rattle.three_sep.specs.Sides.{HasSize}
-use Rattle.three_sep.specs.Cuts.{HasNames, HoldTogether, IsCutBetween}
-use Rattle.three_sep.proofs.together.join_row.Given as goal
-
-abbrev pub invariant-loop-p : goal.invariant-loop-p
-invariant-loop-p l = HasSize l.views l.side × HasNames l.views l.within × HoldTogether (IsCutBetween l.views l.i l.j) l.views l.within
