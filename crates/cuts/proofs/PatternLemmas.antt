@@ -16,9 +16,6 @@ one_more : (n s : ℕ) (t : Bool) → s ≡ n → s + cond t 1 0 ≡ cond t (suc
 one_more n s true e = omega (arith, e)
 one_more n s false e = omega (arith, e)
 
-pub open_none : (own classes : List ℕ) → AreOpen own classes 0 []
-open_none own classes test = refl
-
 pub open_more : (own classes listed after : List ℕ) (row : ℕ) → AreOpen own classes row listed → has_column own row ≡ false → after ≡ listed ++ get_or classes row 0 ∷ [] → AreOpen own classes (row + 1) after
 open_more own classes listed after row so f is = let next : suc row ≡ row + 1 = omega arith in subst (λ (n : ℕ). AreOpen own classes n after) next (λ test.
     ap (count_by test) is ∙ sum_by_push (λ class. cond (test class) 1 0) listed (get_or classes row 0)
