@@ -1,19 +1,18 @@
 -- What is known of all cuts with some lines in side one and some in side two.
-use Rattle.std.proofs.Common.{Result, Ok, Err, IfOk, OnOk, ℕ, zero, suc, Bool, true, false, not, ◌≡◌, ◌≢◌, ◌<◌, ◌≤◌, ◌+◌, ◌∙◌, sym, ap, refl, arith, get_or, List, ◌⊎◌, inl, inr, nat_eq, nat_lt, pos, ◌*ℤ◌, ◌||◌}
+use Rattle.std.proofs.Common.{Result, Ok, Err, IfOk, OnOk, ℕ, zero, suc, Bool, true, false, not, ◌≡◌, ◌≢◌, ◌<◌, ◌≤◌, ◌+◌, ◌∙◌, sym, ap, refl, arith, get_or, List, ◌⊎◌, inl, inr, nat_eq, pos, ◌*ℤ◌, ◌||◌}
 use Rattle.cmr_base.specs.declared.line.Line.{Line}
 use Rattle.cmr_base.specs.declared.line.Line.TheVariants.{Row, Column}
-use Rattle.cmr_base.specs.ColumnSets.{has_column}
 use Rattle.cmr_base.specs.Matrix.{Matrix, height, entry, is_nonzero, transposed, IsMatrix}
 use Rattle.cmr_base.specs.Separations.{Lines}
 use Rattle.cmr_base.specs.Trees.{support}
-use Rattle.cmr_base.proofs.Booleans.{false_is, two_cases, same_or_not, ne_of, and_is, at_least_of, lt_of, true_is, nonzero_is, not_both, not_is, not_false, is_not, is_and, is_eq, or_left, or_right}
+use Rattle.cmr_base.proofs.Booleans.{two_cases, same_or_not, ne_of, and_is, true_is, nonzero_is, not_both, not_is, is_not, is_and, is_eq, or_left, or_right}
 use Rattle.cmr_base.proofs.NextNonzeros.{column_in}
 use Rattle.cmr_base.proofs.Parts.{entry-transposed, height-transposed, is_matrix-transposed}
 use Rattle.cmr_base.proofs.SeedLemmas.{count_grows}
 use Rattle.cuts.specs.declared.groups.Groups.{Groups}
 use Rattle.cmr_base.specs.Seeds.{count}
 use Rattle.cuts.specs.Cuts.{IsCut, name_of, HoldTogether}
-use Rattle.cuts.specs.Covers.{IsHalved, IsMet, IsLineOf, AreOnOneSide, AreWithin, AreOutside, IsCutWith, Covers, AddsAtMost, AreUnlike, AreAllUnlike, AreClasses, may_be_outside, AreAtMost, LeavesFew, GetName, words_set}
+use Rattle.cuts.specs.Covers.{IsHalved, IsMet, IsLineOf, AreOnOneSide, AreWithin, AreOutside, Covers, AddsAtMost, AreUnlike, AreAllUnlike, AreClasses, may_be_outside, AreAtMost, LeavesFew, GetName, words_set}
 use Rattle.cuts.specs.Classes.{AreClassNumbers}
 use Rattle.cuts.specs.LineSets.{is_between, is_in_heap, rows_heap, columns_heap, set_of}
 use Rattle.cuts.specs.Patterns.{HasPatterns}

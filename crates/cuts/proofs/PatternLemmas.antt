@@ -8,7 +8,7 @@ use Rattle.cmr_base.specs.ColumnSets.{has_column}
 use Rattle.cmr_base.specs.Seeds.{count}
 use Rattle.cmr_base.proofs.Booleans.{eq_of, is_eq, is_ne, not_both, same_or_not, two_cases}
 use Rattle.cuts.specs.declared.patterns.Runs.{Runs}
-use Rattle.cuts.specs.Patterns.{AreAtMostBeside, AreAtMostListed, AreOpen, AreShort, IsCounted}
+use Rattle.cuts.specs.Patterns.{AreAtMostBeside, AreAtMostListed, AreOpen, IsCounted}
 
 -- ---- lines that are not in a set
 

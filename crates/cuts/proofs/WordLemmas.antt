@@ -1,17 +1,14 @@
 -- Words that differ, and products whose supports are told by one factor.
-use Rattle.std.proofs.Common.{ℕ, ◌+◌, ◌*◌, ◌/◌, ◌%◌, Bool, true, eqb, List, ◌≡◌, ◌≢◌, ◌<◌, ◌∙◌, sym, ap, refl, arith, ◌⊎◌, inl, inr, length, get_or, set, ℤ, pos, ◌*ℤ◌}
-use Rattle.std.specs.Int.{bit_at}
-use Rattle.std.proofs.lemmas.List.{get_or-set_same, get_or-set_other}
+use Rattle.std.proofs.Common.{ℕ, ◌+◌, ◌*◌, true, List, ◌≡◌, ◌≢◌, ◌∙◌, sym, ap, refl, arith, inl, inr, get_or, ℤ, pos, ◌*ℤ◌}
 use Rattle.cmr_base.specs.ColumnSets.{has_column}
 use Rattle.cmr_base.specs.Matrix.{Matrix, is_nonzero, IsEntry}
-use Rattle.cmr_base.specs.Planes.{has_bit}
 use Rattle.cmr_base.specs.Signing.{IsSign}
 use Rattle.cmr_base.specs.Trees.{support}
 use Rattle.cmr_base.proofs.Booleans.{is_zero, nonzero_is, zero_is}
 use Rattle.cmr_base.proofs.SignEntries.{sign_of_entry}
 use Rattle.cmr_base.proofs.ColumnWords.{column_at}
 use Rattle.cmr_base.proofs.Integers.{sums, products}
-use Rattle.cmr_base.proofs.RowLists.{two_cases, same_or_not}
+use Rattle.cmr_base.proofs.RowLists.{two_cases}
 use Rattle.cuts.specs.Digests.{DifferWithin}
 
 pub column_differs : (one two within : List ℕ) (block : ℕ) → DifferWithin (get_or one block 0) (get_or two block 0) (get_or within block 0)
