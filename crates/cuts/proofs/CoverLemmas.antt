@@ -1,19 +1,18 @@
 -- What is known of all cuts with some lines in side one and some in side two.
-use Rattle.std.proofs.Common.{Result, Ok, Err, IfOk, OnOk, ℕ, zero, suc, Bool, true, false, not, ◌≡◌, ◌≢◌, ◌<◌, ◌≤◌, ◌+◌, ◌∙◌, sym, ap, refl, arith, get_or, List, ◌⊎◌, inl, inr, nat_eq, nat_lt, pos, ◌*ℤ◌, ◌||◌}
+use Rattle.std.proofs.Common.{Result, Ok, Err, IfOk, OnOk, ℕ, zero, suc, Bool, true, false, not, ◌≡◌, ◌≢◌, ◌<◌, ◌≤◌, ◌+◌, ◌∙◌, sym, ap, refl, arith, get_or, List, ◌⊎◌, inl, inr, nat_eq, pos, ◌*ℤ◌, ◌||◌}
 use Rattle.cmr_base.specs.declared.line.Line.{Line}
 use Rattle.cmr_base.specs.declared.line.Line.TheVariants.{Row, Column}
-use Rattle.cmr_base.specs.ColumnSets.{has_column}
 use Rattle.cmr_base.specs.Matrix.{Matrix, height, entry, is_nonzero, transposed, IsMatrix}
 use Rattle.cmr_base.specs.Separations.{Lines}
 use Rattle.cmr_base.specs.Trees.{support}
-use Rattle.cmr_base.proofs.Booleans.{false_is, two_cases, same_or_not, ne_of, and_is, at_least_of, lt_of, true_is, nonzero_is, not_both, not_is, not_false, is_not, is_and, is_eq, or_left, or_right}
+use Rattle.cmr_base.proofs.Booleans.{two_cases, same_or_not, ne_of, and_is, true_is, nonzero_is, not_both, not_is, is_not, is_and, is_eq, or_left, or_right}
 use Rattle.cmr_base.proofs.NextNonzeros.{column_in}
 use Rattle.cmr_base.proofs.Parts.{entry-transposed, height-transposed, is_matrix-transposed}
 use Rattle.cmr_base.proofs.SeedLemmas.{count_grows}
 use Rattle.cuts.specs.declared.groups.Groups.{Groups}
 use Rattle.cmr_base.specs.Seeds.{count}
 use Rattle.cuts.specs.Cuts.{IsCut, name_of, HoldTogether}
-use Rattle.cuts.specs.Covers.{IsHalved, IsMet, IsLineOf, AreOnOneSide, AreWithin, AreOutside, IsCutWith, Covers, AddsAtMost, AreUnlike, AreAllUnlike, AreClasses, may_be_outside, AreAtMost, LeavesFew, GetName, words_set}
+use Rattle.cuts.specs.Covers.{IsHalved, IsMet, IsLineOf, AreOnOneSide, AreWithin, AreOutside, Covers, AddsAtMost, AreUnlike, AreAllUnlike, AreClasses, may_be_outside, AreAtMost, LeavesFew, GetName, words_set}
 use Rattle.cuts.specs.Classes.{AreClassNumbers}
 use Rattle.cuts.specs.LineSets.{is_between, is_in_heap, rows_heap, columns_heap, set_of}
 use Rattle.cuts.specs.Patterns.{HasPatterns}
@@ -65,11 +64,6 @@ one_pattern m H T (Column c) (Column d) is w within lx ly u ex ey =
 one_pattern m H T (Row r) (Column d) is w within lx ly u ex ey = u.differ
 one_pattern m H T (Column c) (Row s) is w within lx ly u ex ey = u.differ
 
--- nor both in side one, by lines of side two
-pub one_pattern_beside : (m : Matrix) (K T : Lines) (x y : Line) → IsMatrix m → IsCut m T → AreOutside m K T → IsLineOf m x → IsLineOf m y → AreUnlike m K x y → T x ≡ true → T y ≡ true → ⊥
-one_pattern_beside m K T x y is w outside lx ly u ex ey =
-    one_pattern m K (other_side T) x y is (other_is_cut m T w) (λ z l h. ap not (outside z l h)) lx ly u (ap not ex) (ap not ey)
-
 -- ---- what follows for the cuts with H in side one and K in side two
 
 pub covers_more : (m : Matrix) (H K P P' : Lines) → AreWithin m P P' → Covers m H K P → Covers m H K P'
@@ -80,18 +74,6 @@ within_sum m H X H' T adds h x z l e = elim (adds z l e) [
   | inl old ↦ h z l old
   | inr new ↦ x z l new
 ]
-
-outside_sum : (m : Matrix) (K X K' T : Lines) → AddsAtMost m K' K X → AreOutside m K T → AreOutside m X T → AreOutside m K' T
-outside_sum m K X K' T adds h x z l e = elim (adds z l e) [
-  | inl old ↦ h z l old
-  | inr new ↦ x z l new
-]
-
-with_one : (m : Matrix) (H K X H' T : Lines) → AddsAtMost m H' H X → IsCutWith m H K T → AreWithin m X T → IsCutWith m H' K T
-with_one m H K X H' T adds w x = record { cut = w.cut; one = within_sum m H X H' T adds w.one x; two = w.two }
-
-with_two : (m : Matrix) (H K X K' T : Lines) → AddsAtMost m K' K X → IsCutWith m H K T → AreOutside m X T → IsCutWith m H K' T
-with_two m H K X K' T adds w x = record { cut = w.cut; one = w.one; two = outside_sum m K X K' T adds w.two x }
 
 -- ---- all lines of a set are in another, or one is not
 
@@ -129,12 +111,6 @@ within_or_not m X T = elim (all_or_one (λ r. X (Row r)) (λ r. T (Row r)) (heig
     both : ((r : ℕ) → r < height m → X (Row r) ≡ true → T (Row r) ≡ true) → ((c : ℕ) → c < m.width → X (Column c) ≡ true → T (Column c) ≡ true) → AreWithin m X T
     both rows columns (Row r) l e = rows r l e
     both rows columns (Column c) l e = columns c l e
-
-outside_or_not : (m : Matrix) (X T : Lines) → AreOutside m X T ⊎ ((x : Line) × IsLineOf m x × (X x ≡ true) × (T x ≡ true))
-outside_or_not m X T = elim (within_or_not m X (other_side T)) [
-  | inl all ↦ inl (λ x l e. not_is (T x) (all x l e))
-  | inr (x, l, e, f) ↦ inr (x, l, e, not_false (T x) f)
-]
 
 -- ---- halves
 
@@ -179,19 +155,6 @@ covers_line m H K P H' K' x lx adds1 adds2 h1 h2 T w = elim (two_cases (T x)) [
       | inl old ↦ w.two z l old
       | inr same ↦ ap T same ∙ f
     ]
-
--- ---- no cut, or none that parts a line not yet in P
-
--- H meets K
-pub covers_met : (m : Matrix) (H K P : Lines) → (x : Line) × IsLineOf m x × (H x ≡ true) × (K x ≡ true) → Covers m H K P
-covers_met m H K P (x, lx, h, k) T w = absurd (not_both (T x) (w.one x lx h) (w.two x lx k))
-
--- all lines outside of H are in P
-pub covers_all : (m : Matrix) (H K P : Lines) → ((x : Line) → IsLineOf m x → H x ≡ false → P x ≡ true) → Covers m H K P
-covers_all m H K P all T w x l e = elim (two_cases (H x)) [
-  | inl h ↦ absurd (not_both (T x) (w.one x l h) e)
-  | inr f ↦ all x l f
-]
 
 -- ---- fewer than four lines
 
@@ -375,18 +338,3 @@ pub covers_both : {E : Type 0} (m : Matrix) (H K H1 K1 H2 K2 P1 P2 : Lines) (sec
     → IfOk second (λ covered. covered ≡ true → Covers m H2 K2 P2) → IfOk second (λ covered. covered ≡ true → Covers m H K P2)
 covers_both m H K H1 K1 H2 K2 P1 P2 (Ok covered) step h1 more h2 = λ e. step P2 (covers_more m H1 K1 P1 P2 more h1) (h2 e)
 covers_both m H K H1 K1 H2 K2 P1 P2 (Err e) step h1 more h2 = h2
-
--- a line more in a set of words
-pub row_added : (m : Matrix) (rows columns after : List ℕ) (row : ℕ) → ((x : ℕ) → has_column after x ≡ true → (x ≡ row) ⊎ (has_column rows x ≡ true)) → (z : Line) → IsLineOf m z → words_set after columns z ≡ true → (words_set rows columns z ≡ true) ⊎ (z ≡ Row row)
-row_added m rows columns after row only (Row r) l e = elim (only r e) [
-  | inl same ↦ inr (ap Row same)
-  | inr old ↦ inl old
-]
-row_added m rows columns after row only (Column c) l e = inl e
-
-pub column_added : (m : Matrix) (rows columns after : List ℕ) (column : ℕ) → ((x : ℕ) → has_column after x ≡ true → (x ≡ column) ⊎ (has_column columns x ≡ true)) → (z : Line) → IsLineOf m z → words_set rows after z ≡ true → (words_set rows columns z ≡ true) ⊎ (z ≡ Column column)
-column_added m rows columns after column only (Row r) l e = inl e
-column_added m rows columns after column only (Column c) l e = elim (only c e) [
-  | inl same ↦ inr (ap Column same)
-  | inr old ↦ inl old
-]

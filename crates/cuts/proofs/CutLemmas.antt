@@ -1,8 +1,7 @@
 -- Cuts with their sides exchanged.
-use Rattle.std.proofs.Common.{ℕ, zero, suc, ◌+◌, Bool, true, false, not, ◌≡◌, ◌≢◌, ◌<◌, sym, ap, refl, arith}
-use Rattle.cmr_base.specs.declared.line.Line.{Line}
+use Rattle.std.proofs.Common.{ℕ, zero, suc, Bool, not, ◌≡◌, ap, refl, arith}
 use Rattle.cmr_base.specs.declared.line.Line.TheVariants.{Row, Column}
-use Rattle.cmr_base.specs.Matrix.{Matrix, height, entry, IsMatrix}
+use Rattle.cmr_base.specs.Matrix.{Matrix, height}
 use Rattle.cmr_base.specs.Separations.{Lines}
 use Rattle.cmr_base.specs.Seeds.{count, inside, outside}
 use Rattle.cmr_base.proofs.Booleans.{not_is, not_false, not_not}

@@ -1,18 +1,15 @@
 -- Rows with different digests among the columns of a set differ in one of them.
-use Rattle.std.proofs.Common.{ℕ, zero, suc, ◌+◌, ◌^◌, ◌&&◌, ◌++◌, Bool, true, false, not, eqb, List, [], ◌∷◌, ◌≡◌, ◌≢◌, ◌<◌, ◌∙◌, sym, ap, refl, arith, subst, ◌⊎◌, inl, inr, length, get_or, length-append}
+use Rattle.std.proofs.Common.{ℕ, zero, suc, ◌^◌, ◌&&◌, Bool, true, false, eqb, List, [], ◌∷◌, ◌≡◌, ◌≢◌, ◌<◌, ◌∙◌, sym, ap, refl, arith, ◌⊎◌, inl, inr, length, get_or}
 use Rattle.std.specs.Int.{bit_at}
 use Rattle.std.specs.Int.Bits.{bit_and}
 use Rattle.std.proofs.lemmas.Bool.{cases_eq}
-use Rattle.std.proofs.lemmas.List.{get_or_append_left}
 use Rattle.std.proofs.lemmas.Nat.{and_le_l}
 use Rattle.std.proofs.lemmas.Nat.Bits.{bit_at-lt, same_from_bits_below}
-use Rattle.std.proofs.Math.Seq.{get_or-append_seam}
 use Rattle.cmr_base.specs.ColumnSets.{has_column}
 use Rattle.cmr_base.specs.Matrix.{Matrix, height, row_of, is_nonzero, IsMatrix}
 use Rattle.cmr_base.specs.Planes.{has_bit, words_for, words_of}
-use Rattle.cmr_base.specs.Seeds.{count}
 use Rattle.cmr_base.specs.Trees.{support}
-use Rattle.cmr_base.proofs.Booleans.{and_false, is_not, not_both, two_cases}
+use Rattle.cmr_base.proofs.Booleans.{and_false, not_both, two_cases}
 use Rattle.cmr_base.proofs.ColumnWords.{row_columns}
 use Rattle.cmr_base.proofs.PlaneWords.{length-words_of, word-words_of, word_of-lt}
 use Rattle.cmr_base.proofs.WordBits.{has_bit-and, zero_or_one}

@@ -1,5 +1,5 @@
 -- Groups while they are found.
-use Rattle.std.proofs.Common.{Result, Ok, Err, IfOk, OnOk, ℕ, ◌+◌, Bool, true, false, cond, List, ◌≡◌, ◌<◌, ◌≤◌, ◌∙◌, sym, ap, refl, arith, ◌⊎◌, inl, inr, get_or}
+use Rattle.std.proofs.Common.{Result, Ok, Err, IfOk, OnOk, ℕ, ◌+◌, Bool, true, false, cond, List, ◌≡◌, ◌<◌, ◌≤◌, ◌∙◌, sym, ap, arith, ◌⊎◌, inl, inr, get_or}
 use Rattle.cmr_base.specs.declared.line.Line.{Line}
 use Rattle.cmr_base.specs.declared.line.Line.TheVariants.{Row, Column}
 use Rattle.cmr_base.specs.ColumnSets.{has_column}
@@ -9,7 +9,7 @@ use Rattle.cmr_base.proofs.Booleans.{not_both}
 use Rattle.cuts.specs.declared.groups.Groups.{Groups}
 use Rattle.cuts.specs.declared.line_words.LineWords.{LineWords}
 use Rattle.cuts.specs.Covers.{AddsAtMost, AreOnOneSide, AreWithin, Covers, GetName, IsLineOf, words_set}
-use Rattle.cuts.specs.Cuts.{HasNames, HoldTogether, IsCut, name_of}
+use Rattle.cuts.specs.Cuts.{HoldTogether, IsCut, name_of}
 use Rattle.cuts.specs.LineSets.{set_of}
 use Rattle.cuts.proofs.CoverLemmas.{covers_more, group_of_covers}
 

@@ -8,16 +8,13 @@ use Rattle.cmr_base.specs.ColumnSets.{has_column}
 use Rattle.cmr_base.specs.Seeds.{count}
 use Rattle.cmr_base.proofs.Booleans.{eq_of, is_eq, is_ne, not_both, same_or_not, two_cases}
 use Rattle.cuts.specs.declared.patterns.Runs.{Runs}
-use Rattle.cuts.specs.Patterns.{AreAtMostBeside, AreAtMostListed, AreOpen, AreShort, IsCounted}
+use Rattle.cuts.specs.Patterns.{AreAtMostBeside, AreAtMostListed, AreOpen, IsCounted}
 
 -- ---- lines that are not in a set
 
 one_more : (n s : ℕ) (t : Bool) → s ≡ n → s + cond t 1 0 ≡ cond t (suc n) n
 one_more n s true e = omega (arith, e)
 one_more n s false e = omega (arith, e)
-
-pub open_none : (own classes : List ℕ) → AreOpen own classes 0 []
-open_none own classes test = refl
 
 pub open_more : (own classes listed after : List ℕ) (row : ℕ) → AreOpen own classes row listed → has_column own row ≡ false → after ≡ listed ++ get_or classes row 0 ∷ [] → AreOpen own classes (row + 1) after
 open_more own classes listed after row so f is = let next : suc row ≡ row + 1 = omega arith in subst (λ (n : ℕ). AreOpen own classes n after) next (λ test.

@@ -1,17 +1,14 @@
--- Words with a line more, and products whose supports are told by one factor.
-use Rattle.std.proofs.Common.{ℕ, ◌+◌, ◌*◌, ◌/◌, ◌%◌, Bool, true, eqb, List, ◌≡◌, ◌≢◌, ◌<◌, ◌∙◌, sym, ap, refl, arith, ◌⊎◌, inl, inr, length, get_or, set, ℤ, pos, ◌*ℤ◌}
-use Rattle.std.specs.Int.{bit_at}
-use Rattle.std.proofs.lemmas.List.{get_or-set_same, get_or-set_other}
+-- Words that differ, and products whose supports are told by one factor.
+use Rattle.std.proofs.Common.{ℕ, ◌+◌, ◌*◌, true, List, ◌≡◌, ◌≢◌, ◌∙◌, sym, ap, refl, arith, inl, inr, get_or, ℤ, pos, ◌*ℤ◌}
 use Rattle.cmr_base.specs.ColumnSets.{has_column}
 use Rattle.cmr_base.specs.Matrix.{Matrix, is_nonzero, IsEntry}
-use Rattle.cmr_base.specs.Planes.{has_bit}
 use Rattle.cmr_base.specs.Signing.{IsSign}
 use Rattle.cmr_base.specs.Trees.{support}
 use Rattle.cmr_base.proofs.Booleans.{is_zero, nonzero_is, zero_is}
 use Rattle.cmr_base.proofs.SignEntries.{sign_of_entry}
 use Rattle.cmr_base.proofs.ColumnWords.{column_at}
 use Rattle.cmr_base.proofs.Integers.{sums, products}
-use Rattle.cmr_base.proofs.RowLists.{two_cases, same_or_not}
+use Rattle.cmr_base.proofs.RowLists.{two_cases}
 use Rattle.cuts.specs.Digests.{DifferWithin}
 
 pub column_differs : (one two within : List ℕ) (block : ℕ) → DifferWithin (get_or one block 0) (get_or two block 0) (get_or within block 0)
@@ -21,34 +18,6 @@ column_differs one two within block (k, l, w, d) = (64 * block + k, column_at wi
 pub support_differs : (m : Matrix) (r s : ℕ) (one two crossing : List ℕ) → ((c : ℕ) → has_column one c ≡ support m r c) → ((c : ℕ) → has_column two c ≡ support m s c)
     → (c : ℕ) × (has_column crossing c ≡ true) × (has_column one c ≢ has_column two c) → (c : ℕ) × (has_column crossing c ≡ true) × (support m r c ≢ support m s c)
 support_differs m r s one two crossing er es (c, h, d) = (c, h, λ e. d (er c ∙ e ∙ sym (es c)))
-
--- a line is added
-pub only_added : (lines : List ℕ) (line word : ℕ) → line / 64 < length lines → ((k : ℕ) → k < 64 → k ≢ line % 64 → bit_at word k ≡ bit_at (get_or lines (line / 64) 0) k)
-    → (x : ℕ) → has_column (set lines (line / 64) word) x ≡ true → (x ≡ line) ⊎ (has_column lines x ≡ true)
-only_added lines line word l others x h = elim (same_or_not (x / 64) (line / 64)) [
-  | inl same ↦ elim (same_or_not (x % 64) (line % 64)) [
-    | inl e ↦ inl (omega (arith, same, e))
-    | inr n ↦ inr (
-        ap (λ b. has_bit (get_or lines b 0) (x % 64)) same
-        ∙ ap (λ bit. eqb bit 1) (sym (others (x % 64) (omega arith) n))
-        ∙ sym (ap (λ w. has_bit w (x % 64)) (ap (λ b. get_or (set lines (line / 64) word) b 0) same ∙ get_or-set_same lines (line / 64) word 0 l)) ∙ h
-        )
-  ]
-  | inr n ↦ inr (sym (ap (λ w. has_bit w (x % 64)) (get_or-set_other lines (line / 64) (x / 64) word 0 n)) ∙ h)
-]
-
-pub added_here : (lines : List ℕ) (line word : ℕ) → line / 64 < length lines → has_bit word (line % 64) ≡ true → has_column (set lines (line / 64) word) line ≡ true
-added_here lines line word l h = ap (λ w. has_bit w (line % 64)) (get_or-set_same lines (line / 64) word 0 l) ∙ h
-
-pub kept_added : (lines : List ℕ) (line word : ℕ) → line / 64 < length lines → ((k : ℕ) → k < 64 → k ≢ line % 64 → bit_at word k ≡ bit_at (get_or lines (line / 64) 0) k) → has_bit word (line % 64) ≡ true
-    → (x : ℕ) → has_column lines x ≡ true → has_column (set lines (line / 64) word) x ≡ true
-kept_added lines line word l others h x e = elim (same_or_not (x / 64) (line / 64)) [
-  | inl same ↦ ap (λ b. has_bit (get_or (set lines (line / 64) word) b 0) (x % 64)) same ∙ ap (λ w. has_bit w (x % 64)) (get_or-set_same lines (line / 64) word 0 l) ∙ elim (same_or_not (x % 64) (line % 64)) [
-    | inl place ↦ ap (has_bit word) place ∙ h
-    | inr n ↦ ap (λ bit. eqb bit 1) (others (x % 64) (omega arith) n) ∙ ap (λ b. has_bit (get_or lines b 0) (x % 64)) (sym same) ∙ e
-  ]
-  | inr n ↦ ap (λ w. has_bit w (x % 64)) (get_or-set_other lines (line / 64) (x / 64) word 0 n) ∙ e
-]
 
 times_sign : (a b e : ℤ) → IsSign a → IsSign b → IsSign e → is_nonzero (a *ℤ (b *ℤ e)) ≡ true
 times_sign a b e (inl x) (inl y) (inl z) = rw (x, y, z) refl

@@ -1,5 +1,5 @@
 -- Patterns of the lines that are not in a set, and how many of these lines are at most in class 0 and one other.
-use Rattle.std.specs.Prelude.{◌≡◌, ◌≢◌, ◌<◌, ◌≤◌, ◌+◌, ℕ, Bool, not, nat_eq, ◌||◌, ◌&&◌, List, length, slice_index_or, count_by, take}
+use Rattle.std.specs.Prelude.{◌≡◌, ◌≢◌, ◌<◌, ◌≤◌, ℕ, Bool, not, nat_eq, ◌||◌, ◌&&◌, List, length, slice_index_or, count_by, take}
 use Rattle.cmr_base.specs.ColumnSets.{has_column}
 use Rattle.cmr_base.specs.Matrix.{Matrix, height, transposed}
 use Rattle.cmr_base.specs.Seeds.{count}

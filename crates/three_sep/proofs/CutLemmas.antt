@@ -1,8 +1,8 @@
 -- Corners between which there is no cut.
-use Rattle.std.proofs.Common.{ℕ, Bool, true, false, not, List, ◌≡◌, ◌∙◌, ap, refl, arith, subst, inl, inr}
+use Rattle.std.proofs.Common.{Bool, true, false, not, List, ◌≡◌, ◌∙◌, ap, refl, arith, subst, inl, inr}
 use Rattle.cmr_base.specs.declared.line.Line.{Line}
 use Rattle.cmr_base.specs.declared.line.Line.TheVariants.{Row, Column}
-use Rattle.cmr_base.specs.Matrix.{Matrix, height}
+use Rattle.cmr_base.specs.Matrix.{Matrix}
 use Rattle.cmr_base.specs.Separations.{Lines}
 use Rattle.cmr_base.proofs.RowLists.{two_cases}
 use Rattle.cmr_base.proofs.Booleans.{not_both}

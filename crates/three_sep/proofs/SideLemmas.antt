@@ -14,7 +14,6 @@ use Rattle.three_sep.specs.declared.half.Half.{Half}
 use Rattle.three_sep.specs.declared.side.Side.{Side}
 use Rattle.cuts.specs.declared.corners.Corners.{Corners}
 use Rattle.cmr_base.specs.Separations.{Lines, product_at}
-use Rattle.cmr_base.specs.Seeds.{IsLine}
 use Rattle.three_sep.specs.NumberedSeeds.{Among, HasAll, outside}
 use Rattle.three_sep.specs.Halves.{is_in, HasPulled, HasAdded, HasTaken, Agrees}
 use Rattle.three_sep.proofs.HalfLemmas.{count_most}

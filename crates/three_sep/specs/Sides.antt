@@ -1,5 +1,5 @@
 -- Side one while it grows.
-use Rattle.std.specs.Prelude.{◌≡◌, ◌<◌, ◌+◌, ◌⊎◌, ℕ, ℤ, Bool, true, false, List, [], ◌∷◌, slice_index_or}
+use Rattle.std.specs.Prelude.{◌≡◌, ◌<◌, ◌+◌, ◌⊎◌, ℕ, ℤ, Bool, true, false, List, [], ◌∷◌}
 use Rattle.cmr_base.specs.declared.line.Line.{Line}
 use Rattle.cmr_base.specs.declared.line.Line.TheVariants.{Row, Column}
 use Rattle.cmr_base.specs.Matrix.{Matrix, height, entry}
@@ -7,8 +7,7 @@ use Rattle.cmr_base.specs.Members.{IsIn}
 use Rattle.cuts.specs.declared.corners.Corners.{Corners}
 use Rattle.three_sep.specs.declared.side.Side.{Side}
 use Rattle.cmr_base.specs.Separations.{Lines, product_at}
-use Rattle.cmr_base.specs.Seeds.{IsLine}
-use Rattle.three_sep.specs.NumberedSeeds.{IsClosed, Among, HasAll, outside}
+use Rattle.three_sep.specs.NumberedSeeds.{HasAll, outside}
 pub use Rattle.cuts.specs.Cuts.{AreInside, IsClosedAt, IsClosedBy}
 use Rattle.three_sep.specs.Halves.{is_in, HasPlaces, IsHalf, room}
 

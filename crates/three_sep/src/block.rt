@@ -9,14 +9,13 @@ ghost use Rattle.cuts.specs.Cuts.{HasNames, HoldTogether, IsCut};
 ghost use Rattle.three_sep.specs.Searches.{HasNoGood};
 ghost use Rattle.three_sep.specs.Blocks.{AreOpen, HasGoodTriple, HasNumber, IsFirstTriple, TellsOpen, block_front, column_at, corners_with, firsts, number_count, seconds};
 
-use cuts::Corners;
 use crate::corners::may_cut;
-use cuts::Groups;
 use crate::others::count_of;
 use crate::search::{Search, is_second_column};
 use crate::side::Side;
 use crate::triple::Triple;
 use cmr_base::{Form, Indices, Memory, RowsAndColumns};
+use cuts::{Corners, Groups};
 use first_hit::{Probe, first_hit};
 use std::alloc::Global;
 use std::marker::Model;

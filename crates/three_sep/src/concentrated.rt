@@ -15,7 +15,6 @@ ghost use Rattle.three_sep.specs.Concentrated.{AreConcentratedCorners, AreCandid
 
 use crate::concentrated_rows::first_row;
 use crate::connectors::Connectors;
-use cuts::Corners;
 use crate::independent::are_three_independent;
 use crate::others::{is_beside, line_at};
 use crate::pulled::is_second_pulled;
@@ -23,6 +22,7 @@ use crate::search::{leaves_second, separation_of};
 use crate::side::Side;
 use cmr_base::columns::empty_set;
 use cmr_base::{Form, Line, Memory, RowsAndColumns, Three};
+use cuts::Corners;
 use std::alloc::Global;
 use std::thread::Threads;
 

@@ -5,8 +5,8 @@ ghost use Rattle.cmr_base.specs.Separations.{core_determinant};
 ghost use Rattle.three_sep.specs.Numbers.{IsSmall};
 ghost use Rattle.three_sep.specs.Concentrated.{ArePlaced, first_of, second_of, turned};
 
-use cuts::Corners;
 use cmr_base::{RowsAndColumns, product};
+use cuts::Corners;
 
 /// Two connectors of the concentrated form: row i and columns p and q in side one, rows k and o and column j in side two.
 #[derive(Clone, Copy)]

@@ -7,8 +7,8 @@ ghost use Rattle.three_sep.specs.NumberedSeeds.{Among, IsFirstOther, IsSecondOth
 ghost use Rattle.three_sep.specs.Sides.{AreInside};
 ghost use Rattle.three_sep.specs.Searches.{line_count, other_line};
 
-use cuts::Corners;
 use cmr_base::{Form, Line, RowsAndColumns};
+use cuts::Corners;
 
 /// How many columns, or rows.
 pub fn count_of(views: &RowsAndColumns<'_>, flat: bool) -> u32

@@ -16,14 +16,12 @@ ghost use Rattle.three_sep.specs.Searches.{IsNoSecondRow, IsNoSecondColumn, HasN
 
 use crate::block::{Block, open_columns};
 use crate::concentrated::ConcentratedSearch;
-use cuts::Corners;
-use cuts::groups_of;
 use crate::corners::may_cut;
-use cuts::Groups;
 use crate::half::Half;
 use crate::others::{count_of, is_beside, is_first_other, is_second_other, line_at, line_of};
 use crate::side::Side;
 use cmr_base::{Connector, Form, Indices, Line, LineSet, Matrix, Memory, RowsAndColumns, Three};
+use cuts::{Corners, Groups, groups_of};
 use std::alloc::Global;
 use std::thread::Threads;
 

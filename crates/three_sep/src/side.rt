@@ -6,9 +6,9 @@ ghost use Rattle.three_sep.specs.Halves.{AreSame};
 ghost use Rattle.cmr_base.specs.declared.line.Line.{Line};
 ghost use Rattle.three_sep.specs.Sides.{AreInside, HasRoom, HasSize, IsGrowing, IsGrowingBy, IsLeast, KeepsGrowing, LeavesFew, TellsClosed, set_of, start_lines, work};
 
-use cuts::Corners;
 use crate::half::Half;
 use cmr_base::{Line, Memory, RowsAndColumns, product};
+use cuts::Corners;
 use std::alloc::Global;
 
 /// A side that grows.

@@ -9,10 +9,10 @@ ghost use Rattle.three_sep.specs.Sides.{HasRoom, HasSize, set_of, work};
 ghost use Rattle.three_sep.specs.Concentrated.{ArePlaced, GrowsFrom, HasSecond, IsGrowingFor, KeepsGrowingFor, TellsClosedFor, first_lines, first_of, second_of};
 
 use crate::connectors::{Connectors, cross, signed};
-use cuts::Corners;
 use crate::half::Multiple;
 use crate::side::Side;
 use cmr_base::{Memory, RowsAndColumns};
+use cuts::Corners;
 
 impl Side {
     /// Begins with the first connector.

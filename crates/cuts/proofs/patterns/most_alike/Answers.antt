@@ -1,4 +1,4 @@
-use Rattle.std.proofs.Common.{refl, arith}
+use Rattle.std.proofs.Common.{refl}
 use Rattle.cuts.proofs.PatternLemmas.{counted_all, counted_none}
 use Rattle.cuts.proofs.patterns.most_alike.Goals as goal
 

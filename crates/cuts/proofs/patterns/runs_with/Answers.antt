@@ -1,4 +1,4 @@
-use Rattle.std.proofs.Common.{refl, sym, ◌∙◌}
+use Rattle.std.proofs.Common.{refl}
 use Rattle.cuts.proofs.PatternLemmas.{counted_class, counted_zero}
 use Rattle.cuts.proofs.patterns.runs_with.Goals as goal
 

@@ -1,4 +1,4 @@
-use Rattle.std.proofs.Common.{◌≡◌, ap}
+use Rattle.std.proofs.Common.{ap}
 use Rattle.cuts.specs.declared.cut_groups.GroupFinder.{GroupFinder}
 use Rattle.cuts.proofs.FinderLemmas.{found_kept}
 use Rattle.cuts.proofs.cut_groups.GroupFinder.note.Goals as goal
