@@ -9,7 +9,8 @@ use Rattle.tree_type.proofs.PlacedLines.{lines_within}
 use Rattle.tree_type.specs.declared.tree.Node.{Node}
 use Rattle.tree_type.specs.Trees.{Finding, Tree, tree_of}
 use Rattle.decomp_tree.specs.declared.drafts.Draft.{Draft}
-use Rattle.decomp_tree.specs.Seen.{AreFewer, IsDrawn, IsDrawnBehind, AreDrawn}
+use Rattle.decomp_tree.specs.Seen.{AreFewer, AreDrawn}
+use Rattle.decomp_tree.specs.PivotedShapes.{IsBehind}
 use Rattle.decomp_tree.specs.Sketches.{sketch_of, lines_of_sketch, IsDrafted, IsDraftedBehind}
 
 pub child_rows : (m : Matrix) (lines child : LineSet) → AreLines m lines → AreFewer lines child → IsRowSet m child.rows
@@ -31,17 +32,10 @@ module _ (limit : ℕ) (m : Matrix) where
   as_many (child ∷ children) [] d = absurd d
   as_many (child ∷ children) (tree ∷ trees) d = ap suc (as_many children trees d.1)
 
-  pub has_children : (finding : Finding) (children : List LineSet) (nodes : List Node) → HasChildren finding (length children) → AreDrawn limit m children (map tree_of nodes) → HasChildren finding (length nodes)
-  has_children finding children nodes count drawn = subst (HasChildren finding) (sym (as_many children (map tree_of nodes) drawn) ∙ length-map nodes tree_of) count
+  pub has_children : (finding : Finding) (children : List LineSet) (trees : List Tree) → HasChildren finding (length children) → AreDrawn limit m children trees → HasChildren finding (length trees)
+  has_children finding children trees count drawn = subst (HasChildren finding) (sym (as_many children trees drawn)) count
 
-  -- a tree that is drawn behind none is the only one
-  pub only_drawn : (lines : LineSet) (others : List Node) (root : Node) → IsDrawnBehind limit m lines [] (map tree_of (others ++ root ∷ [])) → IsDrawn limit m lines (tree_of root)
-  only_drawn lines others root d = subst (IsDrawn limit m lines) (sym (only_made tree_of others root d.tree d.order)) d.drawn
-
-  pub some_drawn : (lines : LineSet) (nodes : List Node) → IsDrawnBehind limit m lines [] (map tree_of nodes) → length nodes ≡ 0 → ⊥
-  some_drawn lines nodes d none = let one = sym (length-map nodes tree_of) ∙ ap length d.order in omega (arith, one, none)
-
-  -- and so is a draft
+  -- a draft that stands behind none is the only one
   pub only_drafted : (lines : LineSet) (others : List Draft) (root : Draft) → IsDraftedBehind limit m lines [] (map sketch_of (others ++ root ∷ [])) → (lines_of_sketch (sketch_of root) ≡ lines) × IsDrafted limit m (sketch_of root)
   only_drafted lines others root d =
       let same = only_made sketch_of others root d.sketch d.order in

@@ -1,16 +1,16 @@
 -- A matrix has one list of connected parts.
-use Rattle.std.proofs.Common.{◌≡◌, ◌<◌, ◌≤◌, ◌⊎◌, ◌∙◌, ◌&&◌, inl, inr, ℕ, zero, suc, ℤ, Bool, true, false, List, [], ◌∷◌, length, refl, ap, sym, subst, arith}
+use Rattle.std.proofs.Common.{◌≡◌, ◌<◌, ◌⊎◌, ◌∙◌, ◌&&◌, inl, inr, ℕ, zero, suc, Bool, true, false, List, [], ◌∷◌, length, refl, ap, sym, arith}
 use Rattle.std.proofs.lemmas.Bool.{and_parts}
 use Rattle.cmr_base.specs.declared.line.Line.{Line}
 use Rattle.cmr_base.specs.declared.line.Line.TheVariants.{Row, Column}
 use Rattle.cmr_base.specs.declared.line_set.LineSet.{LineSet}
 use Rattle.cmr_base.specs.Matrix.{Matrix, height, entry}
-use Rattle.cmr_base.specs.Separations.{Lines, listed}
+use Rattle.cmr_base.specs.Separations.{Lines}
 use Rattle.cmr_base.specs.Seeds.{IsLine}
-use Rattle.cmr_base.specs.Components.{IsApart, IsComponent, HasSome, AreComponents, part_at, first_number}
+use Rattle.cmr_base.specs.Components.{IsApart, IsComponent, AreComponents, part_at, first_number}
 use Rattle.cmr_base.proofs.Booleans.{is_and}
 use Rattle.cmr_base.proofs.ListedLines.{listed_from_has_line}
-use Rattle.decomp_tree.proofs.SameSets.{HasAllOf, IsSet, lines_in, same_sets}
+use Rattle.decomp_tree.proofs.SameSets.{HasAllOf, lines_in, same_sets}
 
 -- parts with a line of both are one
 module _ (m : Matrix) (some others : Lines) where

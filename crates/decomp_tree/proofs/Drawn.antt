@@ -1,5 +1,5 @@
 -- The tree of some lines, from what its root says and from the trees of its children.
-use Rattle.std.proofs.Common.{◌≡◌, ◌<◌, ◌≤◌, ◌+◌, ◌-◌, ◌∙◌, ◌++◌, ℕ, zero, suc, List, [], ◌∷◌, length, map, refl, ap, ap₂, sym, subst, arith}
+use Rattle.std.proofs.Common.{◌≡◌, ◌<◌, ◌≤◌, ◌-◌, ◌++◌, ℕ, suc, List, [], ◌∷◌, length, map, refl, ap, ap₂, sym, subst, arith}
 use Rattle.std.specs.List.{AllByRecursion}
 use Rattle.cmr_base.specs.declared.line_set.LineSet.{LineSet}
 use Rattle.cmr_base.specs.CyclePlaces.{HasNoCycleFault}
@@ -7,14 +7,12 @@ use Rattle.cmr_base.specs.Matrix.{Matrix, height, entry, IsMatrix}
 use Rattle.cmr_base.specs.LineSets.{AllBelow, IsRowSet, IsColumnSet, first_lines}
 use Rattle.cmr_base.proofs.Lists.{all-append}
 use Rattle.cmr_base.proofs.Parts.{length-rising}
-use Rattle.cmr_base.proofs.RemovedLines.{first_lines_increase}
-use Rattle.tree_type.specs.Trees.{Finding, Tree, Trees, Branch, NoTrees, MoreTrees, trees_from, count_trees, lines_of}
-use Rattle.tree_type.specs.Invariant.{AreLines, AreLinesOf, size_of, Fits, HasChildren, IsTreeWithin, AreTreesWithin, IsTreeFor}
-use Rattle.tree_type.specs.Places.{Due, AllLines, places_from, places_below, pivots_below, due_child, lines_of_each}
-use Rattle.tree_type.specs.Soundness.{part, HasItsLines, IsSoundTree}
-use Rattle.tree_type.proofs.PlacedLines.{lines_within}
+use Rattle.tree_type.specs.Trees.{Finding, Tree, Branch, trees_from, count_trees}
+use Rattle.tree_type.specs.Invariant.{AreLinesOf, size_of, HasChildren, IsTreeWithin, AreTreesWithin, IsTreeFor}
+use Rattle.tree_type.specs.Places.{AllLines, places_from, places_below, due_child, lines_of_each}
+use Rattle.tree_type.specs.Soundness.{part, IsSoundTree}
 use Rattle.decomp_tree.specs.Shapes.{case_number, IsShapedAt, IsShape, HasParts, set_in}
-use Rattle.decomp_tree.specs.Seen.{AreDue, AreFewer, IsSaid, IsDrawn, AreDrawn}
+use Rattle.decomp_tree.specs.Seen.{AreDue, AreFewer, IsSaid, AreFalling, IsDrawn, AreDrawn}
 use Rattle.decomp_tree.proofs.Said.{first_case}
 use Rattle.decomp_tree.proofs.ShapeSound.{no_pivot, shapes_are_sound}
 
@@ -49,6 +47,13 @@ module _ (limit : ℕ) (m : Matrix) where
   within_below lines levels (child ∷ children) (tree ∷ trees) d fewer l =
       (d.0.within lines levels fewer.0.among (let k = fewer.0.fewer in omega (arith, k, l)), within_below lines levels children trees d.1 fewer.1 l)
 
+  falling_below : (lines : LineSet) (children : List LineSet) (trees : List Tree) → AreDrawn limit m children trees → AllByRecursion (AreFewer lines) children → AreFalling lines (trees_from trees)
+  falling_below lines [] [] d fewer = tt
+  falling_below lines [] (tree ∷ trees) d fewer = absurd d
+  falling_below lines (child ∷ children) [] d fewer = absurd d
+  falling_below lines (child ∷ children) (tree ∷ trees) d fewer =
+      (subst (AreFewer lines) (sym d.0.lines_are) fewer.0, d.0.falling, falling_below lines children trees d.1 fewer.1)
+
   pub drawn : (lines : LineSet) (finding : Finding) (children : List LineSet) (trees : List Tree) (said : IsSaid limit m lines finding children) → (2 < case_number said.case → HasNoCycleFault (entry (part m lines)))
       → AreDrawn limit m children trees → IsDrawn limit m lines (Branch lines finding (trees_from trees))
   drawn lines finding children trees said no_fault d = record {
@@ -65,7 +70,7 @@ module _ (limit : ℕ) (m : Matrix) where
         finding = said.finding_is;
         children = subst (λ c. HasParts finding c (map (set_in lines) said.parts)) (sym (lines_drawn children trees d)) said.parts_are;
       },
-      subst (λ pivots. AllByRecursion (IsShapedAt limit m) (places_below path pivots lines finding 0 (trees_from trees))) (sym (no_pivot limit (part m lines) said.case said.found said.parts lines finding said.says said.finding_is))
+      subst (λ pivots. AllByRecursion (IsShapedAt limit m) (places_below path pivots lines finding 0 (trees_from trees))) (sym (no_pivot [] limit (part m lines) said.case said.found said.parts lines finding said.says said.finding_is))
           (shaped_below path lines finding 0 children trees d said.due),
     );
     within = λ parent levels among l. (
@@ -75,6 +80,7 @@ module _ (limit : ℕ) (m : Matrix) where
       subst (HasChildren finding) (sym (count_drawn children trees d)) said.count,
       within_below lines (levels - 1) children trees d said.fewer (omega (arith, l)),
     );
+    falling = falling_below lines children trees d said.fewer;
   }
 
   -- one more tree
@@ -83,30 +89,3 @@ module _ (limit : ℕ) (m : Matrix) where
   drawn_more [] (t ∷ trees) child tree d one = absurd d
   drawn_more (c ∷ children) [] child tree d one = absurd d
   drawn_more (c ∷ children) (t ∷ trees) child tree d one = (d.0, drawn_more children trees child tree d.1 one)
-
-  module _ (is : IsMatrix m) (lines : LineSet) (rows : lines.rows ≡ first_lines (height m)) (columns : lines.columns ≡ first_lines m.width) (row_set : IsRowSet m lines.rows) (column_set : IsColumnSet m lines.columns) where
-    all_few : size_of lines < 2001
-    all_few =
-        let a = length-rising lines.rows (height m) row_set.rising row_set.in_range in
-        let b = length-rising lines.columns m.width column_set.rising column_set.in_range in
-        let c = is.height_in in
-        let d = is.width_in in
-        omega (arith, a, b, c, d)
-
-    themselves : AreLinesOf lines lines
-    themselves = record { rows_rise = row_set.rising; columns_rise = column_set.rising; rows = λ row h. h; columns = λ column h. h }
-
-    pub whole_tree : (tree : Tree) → IsDrawn limit m lines tree → IsTreeFor (height m) m.width tree
-    whole_tree tree d = record {
-      rows_in = is.height_in;
-      columns_in = is.width_in;
-      root_rows = subst (λ l. AllBelow (height m) l.rows) (sym d.lines_are) row_set.in_range;
-      root_columns = subst (λ l. AllBelow m.width l.columns) (sym d.lines_are) column_set.in_range;
-      nodes = subst (λ l. IsTreeWithin l 2001 tree) (sym d.lines_are) (d.within lines 2001 themselves all_few);
-    }
-
-    pub whole_shape : (tree : Tree) → IsDrawn limit m lines tree → IsShape limit m tree
-    whole_shape tree d = d.shaped [] (AllLines (height m) m.width) (rows, columns)
-
-    pub whole_sound : (tree : Tree) → limit ≤ 24 → IsDrawn limit m lines tree → IsSoundTree m (height m) m.width tree
-    whole_sound tree few d = shapes_are_sound limit few m is tree (whole_tree tree d) (whole_shape tree d)

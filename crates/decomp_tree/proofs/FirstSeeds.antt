@@ -1,20 +1,19 @@
 -- There is one separation of the first good seed.
-use Rattle.std.proofs.Common.{◌≡◌, ◌<◌, ◌⊎◌, ◌∙◌, inl, inr, ℕ, ℤ, true, List, [], ◌∷◌, length, refl, ap, sym, subst, arith}
+use Rattle.std.proofs.Common.{◌≡◌, ◌∙◌, inl, inr, ℕ, ℤ, List, [], ◌∷◌, length, refl, ap, sym, subst, arith}
 use Rattle.cmr_base.specs.declared.line.Line.{Line}
 use Rattle.cmr_base.specs.declared.line_set.LineSet.{LineSet}
 use Rattle.cmr_base.specs.declared.separation.Connector.{Connector}
 use Rattle.cmr_base.specs.declared.separation.Form.{Form}
-use Rattle.cmr_base.specs.declared.separation.Form.TheVariants.{Delta, YForm, Mixed, Concentrated}
 use Rattle.cmr_base.specs.declared.separation.Two.{Two}
 use Rattle.cmr_base.specs.declared.separation.Three.{Three}
 use Rattle.cmr_base.specs.Matrix.{Matrix, height, entry}
 use Rattle.cmr_base.specs.Separations.{Lines}
-use Rattle.cmr_base.specs.Seeds.{IsBefore, IsGoodTwo, IsGoodThree, IsGrown, form_number, line_number, two_key, three_key}
+use Rattle.cmr_base.specs.Seeds.{IsBefore, IsGoodTwo, IsGoodThree, form_number, line_number, two_key, three_key}
 use Rattle.cmr_base.proofs.Booleans.{neither}
 use Rattle.cmr_base.proofs.SeedLemmas.{line_is, form_is}
 use Rattle.two_sep.specs.FirstSeeds.{IsFirstTwoSeparation}
 use Rattle.three_sep.specs.ThreeSeparations.{IsFirstThreeSeparation}
-use Rattle.decomp_tree.proofs.SameSets.{HasAllOf, IsSet, lines_in, same_sets}
+use Rattle.decomp_tree.proofs.SameSets.{HasAllOf, lines_in, same_sets}
 
 same_keys : (xs ys : List ℕ) → length xs ≡ length ys → ¬ (IsBefore xs ys) → ¬ (IsBefore ys xs) → xs ≡ ys
 same_keys [] [] e a b = refl

@@ -1,7 +1,5 @@
 -- Lines of a node that pass a test: that they are lines of the node, and how many they are.
-use Rattle.std.proofs.Common.{◌≡◌, ◌≢◌, ◌<◌, ◌≤◌, ◌+◌, ◌∙◌, ◌||◌, ◌⊎◌, inl, inr, ℕ, zero, suc, Bool, true, false, cond, not, eqb, List, [], ◌∷◌, length, map, filter, get_or, Contains, refl, ap, ap₂, sym, subst, arith, eqb-true}
-use Rattle.std.proofs.lemmas.Bool.{eqb-false}
-use Rattle.std.proofs.lemmas.List.{length-map}
+use Rattle.std.proofs.Common.{◌≡◌, ◌<◌, ◌≤◌, ◌+◌, ◌||◌, inl, inr, ℕ, Bool, true, false, cond, not, eqb, List, [], ◌∷◌, length, map, filter, Contains, refl, sym, subst, arith, eqb-true}
 use Rattle.std.proofs.lemmas.List.Filters.{length-filter_both}
 use Rattle.std.proofs.lemmas.List.Kept.{IsStrictlyIncreasing-filter}
 use Rattle.std.specs.List.Sorted.{IsStrictlyIncreasing}
@@ -9,7 +7,6 @@ use Rattle.cmr_base.specs.declared.line_set.LineSet.{LineSet}
 use Rattle.cmr_base.specs.declared.separation.Connector.{Connector}
 use Rattle.cmr_base.specs.declared.separation.Two.{Two}
 use Rattle.cmr_base.specs.declared.separation.Three.{Three}
-use Rattle.cmr_base.specs.Matrix.{Matrix, height}
 use Rattle.cmr_base.specs.LineSets.{AllBelow}
 use Rattle.cmr_base.specs.Members.{IsIn, IsDistinct}
 use Rattle.cmr_base.specs.Separations.{first_is_flat, second_is_flat}
@@ -17,7 +14,7 @@ use Rattle.tree_type.specs.Sides.{is_among, inside, outside, inside_with, outsid
 use Rattle.cmr_base.proofs.ListsWithout.{in_from_contains, contains_from_in, in-get_or, place_of, place_is, increasing_distinct}
 use Rattle.cmr_base.proofs.RowLists.{in_filter}
 use Rattle.cmr_base.proofs.Lists.{filter_or}
-use Rattle.tree_type.specs.Invariant.{AreLines, AreLinesOf, size_of}
+use Rattle.tree_type.specs.Invariant.{AreLinesOf}
 use Rattle.tree_type.proofs.Among.{inside_alone, outside_alone}
 use Rattle.decomp_tree.specs.Shapes.{numbered, set_in}
 use Rattle.decomp_tree.specs.Seen.{IsPlacedSet, AreFewer}

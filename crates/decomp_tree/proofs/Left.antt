@@ -1,9 +1,7 @@
 -- What the stated order leaves of a node's submatrix.
-use Rattle.std.proofs.Common.{◌≡◌, ◌<◌, ◌≤◌, ◌+◌, ◌∙◌, ℕ, zero, suc, ℤ, true, false, List, [], ◌∷◌, length, map, Option, Some, None, refl, ap, ap₂, sym, subst, arith}
-use Rattle.std.proofs.lemmas.List.{length-map}
+use Rattle.std.proofs.Common.{◌≡◌, ◌<◌, ◌≤◌, ◌+◌, ◌∙◌, ℕ, zero, suc, ℤ, false, List, [], length, map, Option, Some, None, refl, ap, ap₂, arith}
 use Rattle.std.specs.Prelude.{IsSome}
 use Rattle.std.specs.List.{AllByRecursion}
-use Rattle.std.specs.List.Sorted.{IsStrictlyIncreasing}
 use Rattle.cmr_base.specs.declared.line.Line.{Line}
 use Rattle.cmr_base.specs.declared.line.Line.TheVariants.{Row, Column}
 use Rattle.cmr_base.specs.declared.line.Step.{Step}
@@ -17,10 +15,10 @@ use Rattle.sp_reduce.proofs.Orders.{search_is, after_step}
 use Rattle.tree_type.specs.Invariant.{AreLines}
 use Rattle.tree_type.specs.Places.{lines_left}
 use Rattle.tree_type.specs.Soundness.{part}
-use Rattle.decomp_tree.specs.Shapes.{numbered, line_in, set_in}
+use Rattle.decomp_tree.specs.Shapes.{numbered, line_in}
 use Rattle.decomp_tree.specs.Seen.{IsPlace}
 use Rattle.decomp_tree.proofs.Numbered.{height_in, named_all}
-use Rattle.decomp_tree.proofs.Removed.{AreLeft, has_line_named, rows_named, columns_named, fewer_left}
+use Rattle.decomp_tree.proofs.Removed.{AreLeft, rows_named, columns_named, fewer_left}
 
 -- where something is removed a line is reducible
 pub reducible_from_removed : (M : ℕ → ℕ → ℤ) (fuel : ℕ) (R C : List ℕ) → 0 < length (removal_on false M fuel R C).steps → (line : Line) × HasLine R C line × IsSome (line_reason false M R C line)

@@ -21,5 +21,17 @@ pub mod Components
 pub mod OneCycleFault
 pub mod OneLeast
 pub mod OneTree
+pub mod PlainVerdicts
+pub mod OnePivoted
 pub mod OneVerdict
 pub mod NoNetworks
+pub mod RefinedTrees
+pub mod FaultLines
+pub mod FoundTrees
+pub mod YesTrees
+pub mod PivotNodes
+pub mod RefinedSound
+pub mod FoundSound
+pub mod PivotedRoots
+pub mod OpenNodes
+pub mod FoundCases

@@ -1,6 +1,5 @@
 -- Lines of a submatrix by their numbers in the whole matrix.
-use Rattle.std.proofs.Common.{◌≡◌, ◌<◌, ◌≤◌, ◌+◌, ◌∙◌, ◌||◌, inl, inr, ℕ, zero, suc, Bool, true, false, cond, not, eqb, List, [], ◌∷◌, length, map, filter, take, get_or, Contains, refl, ap, sym, arith, eqb-true}
-use Rattle.std.proofs.lemmas.Bool.{eq-eqb}
+use Rattle.std.proofs.Common.{◌≡◌, ◌<◌, ◌≤◌, ◌+◌, ◌∙◌, inl, inr, ℕ, zero, suc, Bool, true, false, cond, not, List, [], ◌∷◌, length, map, filter, take, get_or, Contains, refl, ap, sym, arith}
 use Rattle.std.proofs.lemmas.List.{length-map, get_or-map, get_or-take, length-take}
 use Rattle.std.proofs.Math.Seq.{take-length}
 use Rattle.std.proofs.lemmas.List.Sums.{length-filter, count_by_more_yes, count_by_more_no}
@@ -16,7 +15,7 @@ use Rattle.cmr_base.specs.Members.{IsIn}
 use Rattle.tree_type.specs.Sides.{is_among, inside, outside}
 use Rattle.cmr_base.specs.Violator.{IsViolator}
 use Rattle.cmr_base.proofs.Lists.{all_weaker}
-use Rattle.cmr_base.proofs.ListsWithout.{true_is_false, in_from_contains, contains_from_in, in-get_or, increasing_distinct, same_place, place_of, place_is}
+use Rattle.cmr_base.proofs.ListsWithout.{in_from_contains, contains_from_in, in-get_or, increasing_distinct, same_place, place_of, place_is}
 use Rattle.cmr_base.proofs.Parts.{entry-submatrix}
 use Rattle.cmr_base.proofs.RemovedLines.{in_first_lines, first_lines_in}
 use Rattle.cmr_base.proofs.RowLists.{filter_in, in_filter}

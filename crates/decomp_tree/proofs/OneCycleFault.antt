@@ -1,12 +1,10 @@
 -- A matrix has one cycle fault at most.
-use Rattle.std.proofs.Common.{◌≡◌, ◌<◌, ◌⊎◌, ◌∙◌, inl, inr, ℕ, ℤ, List, [], ◌∷◌, length, refl, ap, sym, subst, arith}
-use Rattle.std.specs.List.Sorted.{IsStrictlyIncreasing}
-use Rattle.std.proofs.lemmas.Bool.{cases_lt}
+use Rattle.std.proofs.Common.{◌≡◌, ◌∙◌, inl, inr, ℕ, ℤ, List, ap, sym, subst}
 use Rattle.cmr_base.specs.Matrix.{Matrix, entry}
 use Rattle.cmr_base.specs.Members.{IsIn}
-use Rattle.cmr_base.specs.CyclePlaces.{IsNotAfter, IsCyclePlace, IsEarlierPlace, IsCycleFault, cycle_rows, cycle_columns}
+use Rattle.cmr_base.specs.CyclePlaces.{IsCyclePlace, IsEarlierPlace, IsCycleFault, cycle_rows, cycle_columns}
 use Rattle.cmr_base.proofs.Booleans.{neither}
-use Rattle.camion_sign.proofs.FirstFaults.{place_unique, same_list}
+use Rattle.camion_sign.proofs.FirstFaults.{place_unique}
 use Rattle.decomp_tree.proofs.SameSets.{same_numbers}
 
 -- places of which neither is earlier

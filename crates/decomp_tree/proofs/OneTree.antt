@@ -1,15 +1,15 @@
 -- There is one decomposition of a matrix, but for what its networks say.
-use Rattle.std.proofs.Common.{◌≡◌, ◌<◌, ◌≤◌, ◌∙◌, ◌++◌, inl, inr, ℕ, zero, suc, ◌-◌, List, [], ◌∷◌, length, map, get_or, refl, ap, ap₂, sym, subst, arith}
+use Rattle.std.proofs.Common.{◌≡◌, ◌∙◌, ◌++◌, ℕ, zero, suc, ◌-◌, List, [], ◌∷◌, length, map, get_or, refl, ap, ap₂, sym, subst, arith}
 use Rattle.std.specs.List.{AllByRecursion}
 use Rattle.cmr_base.specs.declared.line_set.LineSet.{LineSet}
 use Rattle.cmr_base.specs.Matrix.{Matrix, height}
 use Rattle.cmr_base.proofs.Lists.{all_front, all_back}
 use Rattle.cmr_base.proofs.Booleans.{neither}
 use Rattle.tree_type.specs.Trees.{Finding, Empty, Cycle, Reduced, OneSum, Network, Conetwork, R10, TwoSum, ThreeSum, Enumerated, Violator, Undecided, Pivoted, Tree, Trees, Branch, NoTrees, MoreTrees, count_trees, lines_of}
-use Rattle.tree_type.specs.Invariant.{HasChildren, IsTreeWithin, AreTreesWithin, IsTreeFor}
+use Rattle.tree_type.specs.Invariant.{HasChildren, IsTreeWithin, AreTreesWithin}
 use Rattle.tree_type.specs.Places.{Due, AllLines, These, Unnamed, MadePivot, pivots_below, due_child, lines_of_each, places_from, places_below}
 use Rattle.tree_type.specs.Soundness.{part, HasItsLines}
-use Rattle.decomp_tree.specs.Shapes.{Case, HasNoLines, HasFault, IsReducible, IsApart, IsNetwork, IsConetwork, IsR10Matrix, IsTwoSum, IsThreeSum, IsShort, IsLeft, case_number, IsFirstCase, Says, finding_in, set_in, HasParts, IsShapedAt, IsShape}
+use Rattle.decomp_tree.specs.Shapes.{Case, HasNoLines, HasFault, IsReducible, IsApart, IsNetwork, IsConetwork, IsR10Matrix, IsTwoSum, IsThreeSum, IsShort, IsLeft, case_number, IsFirstCase, Says, finding_in, set_in, HasParts, IsShapedAt}
 use Rattle.decomp_tree.specs.PlainTrees.{plain, plain_tree, plain_trees}
 use Rattle.decomp_tree.specs.PlainTrees.{OneShape}
 use Rattle.decomp_tree.proofs.FirstSeeds.{one_two, one_three}
@@ -261,7 +261,7 @@ module _ (limit : ℕ) (m : Matrix) where
           only_one_sum (Pivoted place) e = cc
 
   mutual
-    one_tree : (path path' : List ℕ) (pivots pivots' : List MadePivot) (due due' : Due) (parent parent' : LineSet) (levels levels' : ℕ) (tree tree' : Tree) → lines_of tree ≡ lines_of tree' → IsTreeWithin parent levels tree → IsTreeWithin parent' levels' tree'
+    pub one_tree : (path path' : List ℕ) (pivots pivots' : List MadePivot) (due due' : Due) (parent parent' : LineSet) (levels levels' : ℕ) (tree tree' : Tree) → lines_of tree ≡ lines_of tree' → IsTreeWithin parent levels tree → IsTreeWithin parent' levels' tree'
         → AllByRecursion (IsShapedAt limit m) (places_from path pivots due tree) → AllByRecursion (IsShapedAt limit m) (places_from path' pivots' due' tree') → plain_tree tree ≡ plain_tree tree'
     one_tree path path' pivots pivots' due due' parent parent' levels levels' (Branch lines finding trees) (Branch lines' finding' trees') same fits fits' shaped shaped' =
         let node' = subst (λ l. IsShapedAt limit m (record { path = path'; pivots = pivots'; due = due'; lines = l; finding = finding'; children = lines_of_each trees' })) (sym same) shaped'.0 in

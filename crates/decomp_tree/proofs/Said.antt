@@ -1,5 +1,5 @@
 -- What a node says in each case without separation.
-use Rattle.std.proofs.Common.{◌≡◌, ◌≢◌, ◌<◌, ◌≤◌, ◌+◌, ◌∙◌, ◌⊎◌, inl, inr, ℕ, zero, suc, Bool, true, false, min, List, [], ◌∷◌, length, map, get_or, Contains, Result, Ok, Err, IfOk, is_some, refl, ap, ap₂, sym, subst, arith}
+use Rattle.std.proofs.Common.{◌≡◌, ◌≢◌, ◌<◌, ◌≤◌, ◌+◌, ◌∙◌, ◌⊎◌, inl, inr, ℕ, zero, suc, true, false, min, List, [], ◌∷◌, length, map, get_or, Result, Ok, Err, IfOk, is_some, refl, ap, ap₂, sym, subst, arith}
 use Rattle.std.proofs.lemmas.Bool.{cases_lt, true≢false}
 use Rattle.std.proofs.lemmas.List.{length-map, get_or-map}
 use Rattle.std.proofs.lemmas.List.FromFn.{length-range_with_len}
@@ -13,7 +13,7 @@ use Rattle.cmr_base.specs.declared.network.Network as net
 use Rattle.cmr_base.specs.Matrix.{Matrix, height, entry, transposed, IsMatrix}
 use Rattle.cmr_base.specs.LineSets.{IsRowSet, IsColumnSet, AllBelow, first_lines}
 use Rattle.cmr_base.specs.CyclePlaces.{IsCycleFault, HasNoCycleFault}
-use Rattle.cmr_base.specs.Members.{IsIn, IsDistinct}
+use Rattle.cmr_base.specs.Members.{IsIn}
 use Rattle.cmr_base.specs.R10.{IsR10}
 use Rattle.cmr_base.specs.Reductions.{HasLine, removal}
 use Rattle.cmr_base.specs.Separations.{listed}
@@ -27,11 +27,11 @@ use Rattle.cmr_base.proofs.Members.{distinct_few}
 use Rattle.cmr_base.proofs.Parts.{height-transposed, length-rising}
 use Rattle.cmr_base.proofs.ListedLines.{has_line_from_listed, listed_from_has_line}
 use Rattle.sp_reduce.specs.Digests.{HasNoReducibleLine}
-use Rattle.tree_type.specs.Trees.{Finding, Empty, Cycle, Reduced, OneSum, Network, Conetwork, R10, Enumerated, Violator, Undecided, Trees, NoTrees, count_trees}
-use Rattle.tree_type.specs.Invariant.{AreLines, AreLinesOf, HasSizes, size_of, Fits, HasChildren}
+use Rattle.tree_type.specs.Trees.{Empty, Cycle, Reduced, OneSum, Network, Conetwork, R10, Enumerated, Violator, Undecided}
+use Rattle.tree_type.specs.Invariant.{AreLines, AreLinesOf, HasSizes, size_of}
 use Rattle.tree_type.specs.Places.{lines_left}
 use Rattle.tree_type.specs.Soundness.{part}
-use Rattle.decomp_tree.specs.Shapes.{Case, HasNoLines, HasFault, IsReducible, IsApart, IsNetwork, IsConetwork, IsR10Matrix, IsTwoSum, IsThreeSum, IsShort, IsLeft, case_number, Applies, IsFirstCase, Says, numbered, line_in, set_in, finding_in, HasParts}
+use Rattle.decomp_tree.specs.Shapes.{Case, HasNoLines, HasFault, IsReducible, IsApart, IsNetwork, IsConetwork, IsR10Matrix, IsTwoSum, IsThreeSum, IsShort, IsLeft, case_number, Applies, IsFirstCase, numbered, line_in, set_in}
 use Rattle.decomp_tree.specs.declared.seen.Seen.{Seen}
 use Rattle.decomp_tree.specs.Seen.{IsPlace, IsPlacedSet, IsOther, HasNoneBefore, IsNamedFault, AreDue, AreFewer, IsSaid, IsSeen}
 use Rattle.decomp_tree.proofs.Numbered.{height_in}

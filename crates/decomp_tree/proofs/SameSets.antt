@@ -1,21 +1,17 @@
 -- Sets of lines are the same where they have the same lines.
-use Rattle.std.proofs.Common.{◌≡◌, ◌<◌, ◌≤◌, ◌⊎◌, ◌∙◌, inl, inr, ℕ, true, List, [], ◌∷◌, length, refl, ap, ap₂, sym, subst, arith}
+use Rattle.std.proofs.Common.{◌≡◌, ◌<◌, ◌∙◌, inl, inr, ℕ, true, List, [], ◌∷◌, refl, ap, ap₂, sym, arith}
 use Rattle.std.specs.List.Sorted.{IsStrictlyIncreasing}
-use Rattle.std.proofs.lemmas.Bool.{cases_lt}
 use Rattle.cmr_base.specs.declared.line.Line.{Line}
 use Rattle.cmr_base.specs.declared.line.Line.TheVariants.{Row, Column}
 use Rattle.cmr_base.specs.declared.line_set.LineSet.{LineSet}
 use Rattle.cmr_base.specs.Matrix.{Matrix, height}
 use Rattle.cmr_base.specs.LineSets.{IsRowSet, IsColumnSet}
-use Rattle.cmr_base.specs.Members.{IsIn}
 use Rattle.cmr_base.specs.Separations.{Lines, listed}
-use Rattle.cmr_base.specs.Seeds.{IsLine, line_number}
+use Rattle.cmr_base.specs.Seeds.{IsLine}
 use Rattle.cmr_base.proofs.Members.{IsWithin, all_in}
 use Rattle.cmr_base.proofs.ListsWithout.{head_below, increasing_tail}
 use Rattle.cmr_base.proofs.ListedLines.{in_from_listed, listed_from_in}
 use Rattle.cmr_base.proofs.RisingLists.{rising_below, row_set_rises, column_set_rises}
-use Rattle.cmr_base.proofs.SeedLemmas.{line_is}
-use Rattle.cmr_base.proofs.Booleans.{neither}
 
 -- rising lists of the same numbers
 pub same_numbers : (xs ys : List ℕ) → IsStrictlyIncreasing xs → IsStrictlyIncreasing ys → IsWithin xs ys → IsWithin ys xs → xs ≡ ys

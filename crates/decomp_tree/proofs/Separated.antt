@@ -1,5 +1,5 @@
 -- Separations of a node's submatrix are separations of its lines.
-use Rattle.std.proofs.Common.{◌≡◌, ◌≢◌, ◌<◌, ◌∙◌, ◌⊎◌, inl, inr, ℕ, ℤ, pos, ◌*ℤ◌, Bool, true, false, not, List, [], ◌∷◌, length, filter, nat_eq, Contains, refl, ap, ap₂, sym, subst, arith}
+use Rattle.std.proofs.Common.{◌≡◌, ◌≢◌, ◌<◌, ◌∙◌, ℕ, ℤ, pos, ◌*ℤ◌, Bool, true, false, not, List, length, filter, nat_eq, Contains, refl, ap, ap₂, sym, subst, arith}
 use Rattle.std.specs.List.{list_any}
 use Rattle.std.specs.List.Sorted.{IsStrictlyIncreasing}
 use Rattle.std.proofs.lemmas.List.Kept.{IsStrictlyIncreasing-filter}
@@ -11,14 +11,13 @@ use Rattle.cmr_base.specs.declared.separation.Form.TheVariants.{Delta, YForm, Mi
 use Rattle.cmr_base.specs.declared.separation.Three.{Three}
 use Rattle.cmr_base.specs.Matrix.{Matrix, entry, IsMatrix}
 use Rattle.cmr_base.specs.LineSets.{IsRowSet, IsColumnSet, first_lines}
-use Rattle.cmr_base.specs.Members.{IsIn}
 use Rattle.cmr_base.specs.Signing.{IsSign}
 use Rattle.cmr_base.specs.CyclePlaces.{HasNoCycleFault}
 use Rattle.cmr_base.specs.Separations as separations
 use Rattle.cmr_base.specs.Separations.{Lines, listed, AreOn, AreEnough, IsTied, AreCrossing, AreConcentrated, AreTied, core_determinant, corner_product, HaveCornerSign, product_at, spread_at, upper_block, lower_block, first_is_flat, second_is_flat, connector_lines, IsTwoSeparation, IsThreeSeparation}
 use Rattle.cmr_base.proofs.LineCounts.{inside_is, outside_is}
 use Rattle.cmr_base.proofs.ListedLines.{in_from_listed, listed_from_in, contains_first_lines, first_lines_contain}
-use Rattle.cmr_base.proofs.ListsWithout.{increasing_tail, head_below, place_of, place_is}
+use Rattle.cmr_base.proofs.ListsWithout.{place_of, place_is}
 use Rattle.cmr_base.proofs.RemovedLines.{first_lines_increase, in_first_lines}
 use Rattle.cmr_base.proofs.RowLists.{filter_in, in_filter}
 use Rattle.cmr_base.proofs.Submatrices.{increasing_places}

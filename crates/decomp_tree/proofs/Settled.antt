@@ -1,5 +1,6 @@
 -- Drafts that are settled: their cycle faults, and the trees of their children one after another.
-use Rattle.std.proofs.Common.{◌≡◌, ◌<◌, ◌∙◌, ◌++◌, ℕ, Bool, true, false, List, [], ◌∷◌, length, map, refl, ap, ap₂, sym, subst, arith}
+use Rattle.std.proofs.Common.{◌≡◌, ◌<◌, ◌∙◌, ◌++◌, ℕ, suc, Bool, true, false, List, [], ◌∷◌, length, map, refl, ap, ap₂, sym, subst, arith}
+use Rattle.std.proofs.lemmas.List.{length-map}
 use Rattle.std.specs.List.{AllByRecursion}
 use Rattle.cmr_base.specs.declared.line_set.LineSet.{LineSet}
 use Rattle.cmr_base.specs.Matrix.{Matrix, entry, IsMatrix}
@@ -9,17 +10,43 @@ use Rattle.tree_type.specs.declared.tree.Node.{Node}
 use Rattle.tree_type.specs.Findings.{finding_shown}
 use Rattle.tree_type.specs.Invariant.{AreLines, HasChildren}
 use Rattle.tree_type.specs.Soundness.{part}
-use Rattle.tree_type.specs.Trees.{Cycle, Tree, NoTrees, Branch, tree_of, trees_from}
+use Rattle.tree_type.specs.Trees.{Finding, Empty, Cycle, Reduced, OneSum, Network, Conetwork, R10, TwoSum, ThreeSum, Enumerated, Violator, Undecided, Pivoted, Tree, NoTrees, Branch, count_trees, tree_of, trees_from}
 use Rattle.decomp_tree.specs.declared.drafts.Draft.{Draft}
 use Rattle.decomp_tree.specs.declared.drafts.Front.{Front}
 use Rattle.decomp_tree.specs.Shapes.{case_number, set_in}
-use Rattle.decomp_tree.specs.Seen.{HasNoneAmong, AreFewer, IsNamedFault, IsSaid, is_unsearched, IsDrawn, AreDrawn, IsDrawnBehind}
+use Rattle.decomp_tree.specs.Seen.{HasNoneAmong, AreFewer, IsNamedFault, IsSaid, is_unsearched, IsDrawn, AreDrawn}
+use Rattle.decomp_tree.specs.Refined.{is_undecided, AllRefine}
+use Rattle.decomp_tree.specs.PivotedShapes.{IsBehind, IsFound, IsDrawnWith}
 use Rattle.decomp_tree.specs.Fronts.{IsFront}
 use Rattle.decomp_tree.specs.Sketches.{sketches_from, sketch_of, front_in, is_free_in, drafts_in, lines_of_sketch, IsDrafted, AreDrafted, HasNoLateFault}
 use Rattle.decomp_tree.proofs.Children.{has_children}
 use Rattle.decomp_tree.proofs.DraftLemmas.{lines_are, parts_of}
 use Rattle.decomp_tree.proofs.Drawn.{drawn as drawn_node, drawn_more}
+use Rattle.decomp_tree.proofs.RefinedTrees.{count_refined, refined_kept, refined_more}
 use Rattle.decomp_tree.proofs.Said.{seen_fault}
+
+-- the trees of some sets of lines, with what pivots find
+abbrev pub AreSettled : ℕ → ℕ → ℕ → Matrix → List LineSet → List Tree → Type 0
+AreSettled limit pivots state m children trees = (shapes : List Tree) × AreDrawn limit m children shapes × AllRefine (IsFound limit pivots state m) (trees_from shapes) (trees_from trees)
+
+count_list : (trees : List Tree) → count_trees (trees_from trees) ≡ length trees
+count_list [] = refl
+count_list (tree ∷ trees) = ap suc (count_list trees)
+
+only_undecided_is : (finding : Finding) → is_undecided finding ≡ true → finding ≡ Undecided
+only_undecided_is Undecided e = refl
+only_undecided_is Empty e = cc
+only_undecided_is (Cycle fault) e = cc
+only_undecided_is (Reduced steps) e = cc
+only_undecided_is OneSum e = cc
+only_undecided_is (Network net) e = cc
+only_undecided_is (Conetwork net) e = cc
+only_undecided_is R10 e = cc
+only_undecided_is (TwoSum two) e = cc
+only_undecided_is (ThreeSum three) e = cc
+only_undecided_is Enumerated e = cc
+only_undecided_is (Violator fault) e = cc
+only_undecided_is (Pivoted place) e = cc
 
 module _ (limit : ℕ) (m : Matrix) where
   -- one of the children
@@ -42,12 +69,15 @@ module _ (limit : ℕ) (m : Matrix) where
   one_more (other ∷ drafts) draft = ap (λ xs. lines_of_sketch (sketch_of other) ∷ xs) (one_more drafts draft)
 
   -- the next child is settled behind the others
-  pub settled_next : (drafts : List Draft) (draft : Draft) (before after : List Tree) → AreDrawn limit m (map (λ draft. lines_of_sketch (sketch_of draft)) drafts) before → IsDrawnBehind limit m (lines_of_sketch (sketch_of draft)) before after
-      → AreDrawn limit m (map (λ draft. lines_of_sketch (sketch_of draft)) (drafts ++ draft ∷ [])) after
-  settled_next drafts draft before after so_far one =
-      subst (AreDrawn limit m (map (λ draft. lines_of_sketch (sketch_of draft)) (drafts ++ draft ∷ []))) (sym one.order)
-      (subst (λ some. AreDrawn limit m some (before ++ one.tree ∷ [])) (sym (one_more drafts draft))
-      (drawn_more limit m (map (λ draft. lines_of_sketch (sketch_of draft)) drafts) before (lines_of_sketch (sketch_of draft)) one.tree so_far one.drawn))
+  pub settled_next : (pivots state : ℕ) (drafts : List Draft) (draft : Draft) (before after : List Tree) → AreSettled limit pivots state m (map (λ draft. lines_of_sketch (sketch_of draft)) drafts) before
+      → IsBehind (IsDrawnWith limit pivots state m (lines_of_sketch (sketch_of draft))) before after → AreSettled limit pivots state m (map (λ draft. lines_of_sketch (sketch_of draft)) (drafts ++ draft ∷ [])) after
+  settled_next pivots state drafts draft before after (shapes, drawn, refined) one =
+      subst (AreSettled limit pivots state m (map (λ draft. lines_of_sketch (sketch_of draft)) (drafts ++ draft ∷ []))) (sym one.order)
+      (subst (λ some. AreSettled limit pivots state m some (before ++ one.tree ∷ [])) (sym (one_more drafts draft)) (
+        shapes ++ one.stands.shape ∷ [],
+        drawn_more limit m (map (λ draft. lines_of_sketch (sketch_of draft)) drafts) shapes (lines_of_sketch (sketch_of draft)) one.stands.shape drawn one.stands.drawn,
+        refined_more (IsFound limit pivots state m) shapes before one.stands.shape one.tree refined one.stands.refines,
+      ))
 
   -- all children are settled
   settled_all : (children : List LineSet) (drafts : List Draft) (trees : List Tree) → AreDrafted limit m children (sketches_from (map sketch_of drafts)) → AreDrawn limit m (map (λ draft. lines_of_sketch (sketch_of draft)) drafts) trees
@@ -55,23 +85,19 @@ module _ (limit : ℕ) (m : Matrix) where
   settled_all children drafts trees d all = subst (λ some. AreDrawn limit m some trees) (lines_each children drafts d) all
 
   -- a node without late cycle fault
-  settled_behind : (front : Front) → IsFront limit m front.lines front → HasNoLateFault m front.lines (finding_shown front.finding) → (trees before after : List Tree) → AreDrawn limit m front.children trees
-      → after ≡ before ++ Branch front.lines (finding_shown front.finding) (trees_from trees) ∷ [] → IsDrawnBehind limit m front.lines before after
-  settled_behind front is late trees before after children e = record {
-    tree = Branch front.lines (finding_shown front.finding) (trees_from trees);
-    order = e;
-    drawn = drawn_node limit m front.lines (finding_shown front.finding) front.children trees is.said (λ l. go (is_unsearched (finding_shown front.finding)) refl l) children;
-  }
+  node_drawn : (front : Front) → IsFront limit m front.lines front → HasNoLateFault m front.lines (finding_shown front.finding) → (trees : List Tree) → AreDrawn limit m front.children trees
+      → IsDrawn limit m front.lines (Branch front.lines (finding_shown front.finding) (trees_from trees))
+  node_drawn front is late trees children = drawn_node limit m front.lines (finding_shown front.finding) front.children trees is.said (λ l. go (is_unsearched (finding_shown front.finding)) refl l) children
     where
       go : (b : Bool) → is_unsearched (finding_shown front.finding) ≡ b → 2 < case_number is.said.case → HasNoCycleFault (entry (part m front.lines))
       go true e l = late e
       go false e l = is.said.searched e l
 
   -- a node with a late cycle fault
-  fault_behind : (lines fault : LineSet) → IsMatrix m → AreLines m lines → IsNamedFault m lines fault → (before after : List Tree) → after ≡ before ++ Branch lines (Cycle fault) NoTrees ∷ [] → IsDrawnBehind limit m lines before after
-  fault_behind lines fault is are found before after e =
+  fault_drawn : (lines fault : LineSet) → IsMatrix m → AreLines m lines → IsNamedFault m lines fault → IsDrawn limit m lines (Branch lines (Cycle fault) NoTrees)
+  fault_drawn lines fault is are found =
       let said = seen_fault limit m is lines are fault found in
-      record { tree = Branch lines (Cycle fault) NoTrees; order = e; drawn = drawn_node limit m lines (Cycle fault) [] [] said (said.searched refl) tt }
+      drawn_node limit m lines (Cycle fault) [] [] said (said.searched refl) tt
 
   module _ (draft : Draft) (drafted : IsDrafted limit m (sketch_of draft)) where
     pub lines_in : IsRowSet m (lines_of_sketch (sketch_of draft)).rows → IsColumnSet m (lines_of_sketch (sketch_of draft)).columns → AreLines m (front_in draft).lines
@@ -89,19 +115,71 @@ module _ (limit : ℕ) (m : Matrix) where
         let each = each_drafted (AreFewer front.lines) front.children before child after (subst (λ (drafts : List Draft). AreDrafted limit m front.children (sketches_from (map sketch_of drafts))) (sym e) parts.2) parts.0.said.fewer in
         (each.0, subst (λ (lines : LineSet). AreFewer lines (lines_of_sketch (sketch_of child))) (sym (lines_are draft)) each.1)
 
-    module _ (nodes : List Node) (settled : AreDrawn limit m (map (λ child. lines_of_sketch (sketch_of child)) (drafts_in draft)) (map tree_of nodes)) where
-      all_settled : AreDrawn limit m (front_in draft).children (map tree_of nodes)
-      all_settled = settled_all (front_in draft).children (drafts_in draft) (map tree_of nodes) (parts_of limit m draft drafted).2 settled
+    module _ (pivots state : ℕ) where
+      abbrev Settles : Tree → Type 0
+      Settles = IsDrawnWith limit pivots state m (lines_of_sketch (sketch_of draft))
 
-      pub count_settled : HasChildren (finding_shown (front_in draft).finding) (length nodes)
-      count_settled = has_children limit m (finding_shown (front_in draft).finding) (front_in draft).children nodes (parts_of limit m draft drafted).0.said.count all_settled
+      settles : (tree : Tree) → IsDrawnWith limit pivots state m (front_in draft).lines tree → Settles tree
+      settles tree d = subst (λ (lines : LineSet). IsDrawnWith limit pivots state m lines tree) (sym (lines_are draft)) d
 
-      pub whole_settled : HasNoLateFault m (front_in draft).lines (finding_shown (front_in draft).finding) → (before after : List Tree)
-          → after ≡ before ++ Branch (front_in draft).lines (finding_shown (front_in draft).finding) (trees_from (map tree_of nodes)) ∷ [] → IsDrawnBehind limit m (lines_of_sketch (sketch_of draft)) before after
-      whole_settled late before after e =
-          subst (λ (lines : LineSet). IsDrawnBehind limit m lines before after) (sym (lines_are draft))
-          (settled_behind (front_in draft) (parts_of limit m draft drafted).0 late (map tree_of nodes) before after all_settled e)
+      module _ (nodes : List Node) (settled : AreSettled limit pivots state m (map (λ child. lines_of_sketch (sketch_of child)) (drafts_in draft)) (map tree_of nodes)) where
+        all_settled : AreDrawn limit m (front_in draft).children settled.0
+        all_settled = settled_all (front_in draft).children (drafts_in draft) settled.0 (parts_of limit m draft drafted).2 settled.1
 
-    pub fault_settled : IsMatrix m → AreLines m (front_in draft).lines → (fault : LineSet) → IsNamedFault m (front_in draft).lines fault → (before after : List Tree) → after ≡ before ++ Branch (front_in draft).lines (Cycle fault) NoTrees ∷ []
-        → IsDrawnBehind limit m (lines_of_sketch (sketch_of draft)) before after
-    fault_settled is are fault found before after e = subst (λ (lines : LineSet). IsDrawnBehind limit m lines before after) (sym (lines_are draft)) (fault_behind (front_in draft).lines fault is are found before after e)
+        as_many_nodes : length nodes ≡ length settled.0
+        as_many_nodes =
+            sym (length-map nodes tree_of) ∙ sym (count_list (map tree_of nodes)) ∙ count_refined (IsFound limit pivots state m) (trees_from settled.0) (trees_from (map tree_of nodes)) settled.2 ∙ count_list settled.0
+
+        pub count_settled : HasChildren (finding_shown (front_in draft).finding) (length nodes)
+        count_settled = subst (HasChildren (finding_shown (front_in draft).finding)) (sym as_many_nodes) (has_children limit m (finding_shown (front_in draft).finding) (front_in draft).children settled.0 (parts_of limit m draft drafted).0.said.count all_settled)
+
+        pub whole_settled : is_undecided (finding_shown (front_in draft).finding) ≡ false → HasNoLateFault m (front_in draft).lines (finding_shown (front_in draft).finding) → (before after : List Tree)
+            → after ≡ before ++ Branch (front_in draft).lines (finding_shown (front_in draft).finding) (trees_from (map tree_of nodes)) ∷ [] → IsBehind Settles before after
+        whole_settled decided late before after e =
+            let front = front_in draft in
+            let tree = Branch front.lines (finding_shown front.finding) (trees_from (map tree_of nodes)) in
+            record {
+              tree = tree;
+              order = e;
+              stands = settles tree (record {
+                shape = Branch front.lines (finding_shown front.finding) (trees_from settled.0);
+                drawn = node_drawn front (parts_of limit m draft drafted).0 late settled.0 all_settled;
+                refines = refined_kept (IsFound limit pivots state m) front.lines (finding_shown front.finding) (trees_from settled.0) (trees_from (map tree_of nodes)) decided settled.2;
+              });
+            }
+
+      pub fault_settled : IsMatrix m → AreLines m (front_in draft).lines → (fault : LineSet) → IsNamedFault m (front_in draft).lines fault → (before after : List Tree) → after ≡ before ++ Branch (front_in draft).lines (Cycle fault) NoTrees ∷ []
+          → IsBehind Settles before after
+      fault_settled is are fault found before after e =
+          let lines = (front_in draft).lines in
+          let tree = Branch lines (Cycle fault) NoTrees in
+          record {
+            tree = tree;
+            order = e;
+            stands = settles tree (record {
+              shape = tree;
+              drawn = fault_drawn lines fault is are found;
+              refines = refined_kept (IsFound limit pivots state m) lines (Cycle fault) NoTrees NoTrees refl refl;
+            });
+          }
+
+      -- an undecided node, of which something is found
+      pub found_settled : is_undecided (finding_shown (front_in draft).finding) ≡ true → (found : Tree) → IsFound limit pivots state m (front_in draft).lines found → (before after : List Tree) → after ≡ before ++ found ∷ [] → IsBehind Settles before after
+      found_settled open_node found is before after e =
+          let front = front_in draft in
+          let known = (parts_of limit m draft drafted).0 in
+          let undecided_is = only_undecided_is (finding_shown front.finding) open_node in
+          let said = subst (λ f. IsSaid limit m front.lines f front.children) undecided_is known.said in
+          record {
+            tree = found;
+            order = e;
+            stands = settles found (record {
+              shape = Branch front.lines Undecided NoTrees;
+              drawn = drawn_node limit m front.lines Undecided front.children [] said (said.searched refl) (none_drawn front.children said.count);
+              refines = is;
+            });
+          }
+        where
+          none_drawn : (children : List LineSet) → length children ≡ 0 → AreDrawn limit m children []
+          none_drawn [] e = tt
+          none_drawn (child ∷ children) e = absurd (cc)

@@ -9,65 +9,67 @@ use Rattle.tree_type.specs.declared.refusal.Rule.TheVariants as rule
 use Rattle.tree_type.specs.Trees.{Finding, Empty, Cycle, Reduced, OneSum, Network, Conetwork, R10, TwoSum, ThreeSum, Enumerated, Violator, Undecided, Pivoted, Tree, Trees, Branch, NoTrees, MoreTrees, lines_of}
 use Rattle.tree_type.specs.Invariant.{AreLines, IsTreeWithin, AreTreesWithin, IsTreeFor}
 use Rattle.tree_type.specs.Places.{Due, AllLines, MadePivot, Place, matrix_after, places_from, places_below, pivots_below, due_child, lines_of_each}
-use Rattle.tree_type.specs.Soundness.{HasItsSizes, Demands, MayStand, KeepsAll}
+use Rattle.tree_type.specs.Soundness.{HasItsSizes, HasItsLines, Demands, MayStand, KeepsAll}
 use Rattle.tree_type.proofs.PlacedLines.{lines_within}
 use Rattle.decomp_tree.specs.Laws.{ShapesAreSound}
 use Rattle.decomp_tree.specs.Shapes.{Case, HasNoLines, HasFault, IsReducible, IsApart, IsNetwork, IsConetwork, IsR10Matrix, IsTwoSum, IsThreeSum, IsShort, IsLeft, Says, finding_in, IsShapedAt, HasParts, set_in}
-use Rattle.tree_type.specs.Soundness.{part}
 use Rattle.decomp_tree.proofs.ShapeRules.{keeps}
+
+-- a node that meets what each rule demands keeps all
+pub keeps_all : (m : Matrix) (place : Place) → HasItsSizes m place.due → HasItsLines place.due place.lines
+    → ((broken : Rule) → Demands broken (matrix_after m place.pivots) place.lines place.finding place.children) → MayStand place.pivots place.finding → KeepsAll m place
+keeps_all m place sizes lines demands may rule.Size = sizes
+keeps_all m place sizes lines demands may rule.Lines = lines
+keeps_all m place sizes lines demands may rule.NotEmpty = demands rule.NotEmpty
+keeps_all m place sizes lines demands may rule.NotViolator = demands rule.NotViolator
+keeps_all m place sizes lines demands may rule.NotReducible = demands rule.NotReducible
+keeps_all m place sizes lines demands may rule.NotApart = demands rule.NotApart
+keeps_all m place sizes lines demands may rule.NotNetwork = demands rule.NotNetwork
+keeps_all m place sizes lines demands may rule.NotR10 = demands rule.NotR10
+keeps_all m place sizes lines demands may rule.CycleFault = demands rule.CycleFault
+keeps_all m place sizes lines demands may rule.TooShort = demands rule.TooShort
+keeps_all m place sizes lines demands may rule.BadConnector = demands rule.BadConnector
+keeps_all m place sizes lines demands may rule.CornerSign = demands rule.CornerSign
+keeps_all m place sizes lines demands may rule.BadBlock = demands rule.BadBlock
+keeps_all m place sizes lines demands may rule.TooMany = demands rule.TooMany
+keeps_all m place sizes lines demands may rule.NotClean = demands rule.NotClean
+keeps_all m place sizes lines demands may rule.NotPivot = demands rule.NotPivot
+keeps_all m place sizes lines demands may rule.BelowPivot = may
+
+-- a child is no root
+pub sizes_child : (m : Matrix) (lines : LineSet) (finding : Finding) (k : ℕ) → HasItsSizes m (due_child lines finding k)
+sizes_child m lines (Reduced steps) k = tt
+sizes_child m lines (TwoSum two) zero = tt
+sizes_child m lines (TwoSum two) (suc k) = tt
+sizes_child m lines (ThreeSum three) zero = tt
+sizes_child m lines (ThreeSum three) (suc k) = tt
+sizes_child m lines Empty k = tt
+sizes_child m lines (Cycle fault) k = tt
+sizes_child m lines OneSum k = tt
+sizes_child m lines (Network net) k = tt
+sizes_child m lines (Conetwork net) k = tt
+sizes_child m lines R10 k = tt
+sizes_child m lines Enumerated k = tt
+sizes_child m lines (Violator fault) k = tt
+sizes_child m lines Undecided k = tt
+sizes_child m lines (Pivoted place) k = tt
 
 module _ (limit : ℕ) (few : limit ≤ 24) (m : Matrix) (is : IsMatrix m) where
   -- no pivot stands above a node
   unpivoted : (pivots : List MadePivot) (finding : Finding) → pivots ≡ [] → MayStand pivots finding
   unpivoted pivots finding e = subst (λ ps. MayStand ps finding) (sym e) tt
 
+  -- what the rules demand of a node of a decomposition, as of one that stands below no pivot
+  pub demanded : (place : Place) → AreLines m place.lines → IsShapedAt limit m place → (broken : Rule) → Demands broken m place.lines place.finding place.children
+  demanded place are shaped broken = subst (λ f. Demands broken m place.lines f place.children) (sym shaped.finding)
+      (keeps limit few m is place.lines are shaped.case shaped.found shaped.parts place.children shaped.first shaped.says
+      (subst (λ f. HasParts f place.children (map (set_in place.lines) shaped.parts)) shaped.finding shaped.children) broken)
+
   here : (place : Place) → AreLines m place.lines → HasItsSizes m place.due → IsShapedAt limit m place → KeepsAll m place
-  here place are sizes shaped = all
+  here place are sizes shaped = keeps_all m place sizes shaped.lines demands (unpivoted place.pivots place.finding shaped.unpivoted)
     where
-      plainly : (broken : Rule) → Demands broken m place.lines place.finding place.children
-      plainly broken = subst (λ f. Demands broken m place.lines f place.children) (sym shaped.finding)
-          (keeps limit few m is place.lines are shaped.case shaped.found shaped.parts place.children shaped.first shaped.says
-          (subst (λ f. HasParts f place.children (map (set_in place.lines) shaped.parts)) shaped.finding shaped.children) broken)
-
       demands : (broken : Rule) → Demands broken (matrix_after m place.pivots) place.lines place.finding place.children
-      demands broken = subst (λ ps. Demands broken (matrix_after m ps) place.lines place.finding place.children) (sym shaped.unpivoted) (plainly broken)
-
-      all : KeepsAll m place
-      all rule.Size = sizes
-      all rule.Lines = shaped.lines
-      all rule.NotEmpty = demands rule.NotEmpty
-      all rule.NotViolator = demands rule.NotViolator
-      all rule.NotReducible = demands rule.NotReducible
-      all rule.NotApart = demands rule.NotApart
-      all rule.NotNetwork = demands rule.NotNetwork
-      all rule.NotR10 = demands rule.NotR10
-      all rule.CycleFault = demands rule.CycleFault
-      all rule.TooShort = demands rule.TooShort
-      all rule.BadConnector = demands rule.BadConnector
-      all rule.CornerSign = demands rule.CornerSign
-      all rule.BadBlock = demands rule.BadBlock
-      all rule.TooMany = demands rule.TooMany
-      all rule.NotClean = demands rule.NotClean
-      all rule.NotPivot = demands rule.NotPivot
-      all rule.BelowPivot = unpivoted place.pivots place.finding shaped.unpivoted
-
-  -- a child is no root
-  sizes_child : (lines : LineSet) (finding : Finding) (k : ℕ) → HasItsSizes m (due_child lines finding k)
-  sizes_child lines (Reduced steps) k = tt
-  sizes_child lines (TwoSum two) zero = tt
-  sizes_child lines (TwoSum two) (suc k) = tt
-  sizes_child lines (ThreeSum three) zero = tt
-  sizes_child lines (ThreeSum three) (suc k) = tt
-  sizes_child lines Empty k = tt
-  sizes_child lines (Cycle fault) k = tt
-  sizes_child lines OneSum k = tt
-  sizes_child lines (Network net) k = tt
-  sizes_child lines (Conetwork net) k = tt
-  sizes_child lines R10 k = tt
-  sizes_child lines Enumerated k = tt
-  sizes_child lines (Violator fault) k = tt
-  sizes_child lines Undecided k = tt
-  sizes_child lines (Pivoted place) k = tt
+      demands broken = subst (λ ps. Demands broken (matrix_after m ps) place.lines place.finding place.children) (sym shaped.unpivoted) (demanded place are shaped broken)
 
   mutual
     sound_tree : (path : List ℕ) (pivots : List MadePivot) (due : Due) (parent : LineSet) (levels : ℕ) (tree : Tree) → AreLines m parent → HasItsSizes m due → IsTreeWithin parent levels tree
@@ -83,16 +85,16 @@ module _ (limit : ℕ) (few : limit ≤ 24) (m : Matrix) (is : IsMatrix m) where
     sound_trees path pivots lines finding levels k NoTrees are fits shaped = tt
     sound_trees path pivots lines finding levels k (MoreTrees tree trees) are fits shaped =
         all-append (KeepsAll m) (places_from (path ++ k ∷ []) pivots (due_child lines finding k) tree) (places_below path pivots lines finding (suc k) trees)
-        (sound_tree (path ++ k ∷ []) pivots (due_child lines finding k) lines levels tree are (sizes_child lines finding k) fits.0
+        (sound_tree (path ++ k ∷ []) pivots (due_child lines finding k) lines levels tree are (sizes_child m lines finding k) fits.0
         (all_front (IsShapedAt limit m) (places_from (path ++ k ∷ []) pivots (due_child lines finding k) tree) (places_below path pivots lines finding (suc k) trees) shaped))
         (sound_trees path pivots lines finding levels (suc k) trees are fits.1
         (all_back (IsShapedAt limit m) (places_from (path ++ k ∷ []) pivots (due_child lines finding k) tree) (places_below path pivots lines finding (suc k) trees) shaped))
 
 -- no node of a decomposition makes a pivot
-pub no_pivot : (limit : ℕ) (n : Matrix) (case : Case) (found : Finding) (parts : List LineSet) (lines : LineSet) (finding : Finding) → Says case n found parts → finding ≡ finding_in lines found → pivots_below lines finding [] ≡ []
-no_pivot limit n case found parts lines finding says e = subst (λ f. pivots_below lines f [] ≡ []) (sym e) (go case found says)
+pub no_pivot : (pivots : List MadePivot) (limit : ℕ) (n : Matrix) (case : Case) (found : Finding) (parts : List LineSet) (lines : LineSet) (finding : Finding) → Says case n found parts → finding ≡ finding_in lines found → pivots_below lines finding pivots ≡ pivots
+no_pivot pivots limit n case found parts lines finding says e = subst (λ f. pivots_below lines f pivots ≡ pivots) (sym e) (go case found says)
   where
-    go : (case : Case) (found : Finding) → Says case n found parts → pivots_below lines (finding_in lines found) [] ≡ []
+    go : (case : Case) (found : Finding) → Says case n found parts → pivots_below lines (finding_in lines found) pivots ≡ pivots
     go case Empty says = refl
     go case (Cycle fault) says = refl
     go case (Reduced steps) says = refl

@@ -4,4 +4,7 @@ pub mod Seen
 pub mod Fronts
 pub mod Sketches
 pub mod PlainTrees
+pub mod Refined
+pub mod PivotedShapes
+pub mod PivotedLaws
 pub mod Obstructions

@@ -1,5 +1,5 @@
 -- What is seen at a node, and the tree that is drawn of some lines.
-use Rattle.std.specs.Prelude.{◌≡◌, ◌<◌, ◌++◌, Bool, true, false, ℕ, suc, List, [], ◌∷◌, length, map, Contains}
+use Rattle.std.specs.Prelude.{◌≡◌, ◌<◌, Bool, true, false, ℕ, suc, List, [], ◌∷◌, length, map, Contains}
 use Rattle.std.specs.List.{AllByRecursion}
 use Rattle.cmr_base.specs.declared.line.Line.{Line}
 use Rattle.cmr_base.specs.declared.line.Line.TheVariants.{Row, Column}
@@ -10,7 +10,7 @@ use Rattle.cmr_base.specs.LineSets.{AllBelow}
 use Rattle.cmr_base.specs.CyclePlaces.{HasNoCycleFault, IsCycleFault}
 use Rattle.cmr_base.specs.Violator.{IsViolator}
 use Rattle.tree_type.specs.Findings.{finding_shown}
-use Rattle.tree_type.specs.Trees.{Finding, Cycle, Reduced, OneSum, Network, Conetwork, TwoSum, Violator, Undecided, Tree, Trees, count_trees, lines_of}
+use Rattle.tree_type.specs.Trees.{Finding, Cycle, Reduced, OneSum, Network, Conetwork, TwoSum, Violator, Undecided, Tree, Trees, Branch, NoTrees, MoreTrees, count_trees, lines_of}
 use Rattle.tree_type.specs.Invariant.{AreLinesOf, size_of, Fits, HasChildren, IsTreeWithin}
 use Rattle.tree_type.specs.Places.{Due, due_child, places_from}
 use Rattle.tree_type.specs.Soundness.{part, HasItsLines}
@@ -95,20 +95,24 @@ pub record IsSaid (limit : ℕ) (m : Matrix) (lines : LineSet) (finding : Findin
 abbrev pub IsSeen : ℕ → Matrix → LineSet → Seen → Type 0
 IsSeen limit m lines seen = IsSaid limit m lines (finding_shown seen.finding) seen.children
 
+abbrev mutual
+  -- each child has fewer lines than its parent
+  pub IsFalling : Tree → Type 0
+  IsFalling (Branch lines finding trees) = AreFalling lines trees
+
+  pub AreFalling : LineSet → Trees → Type 0
+  AreFalling lines NoTrees = Unit {0}
+  AreFalling lines (MoreTrees tree trees) = AreFewer lines (lines_of tree) × IsFalling tree × AreFalling lines trees
+
 -- the tree is the shape of the submatrix on these lines, with at most as many levels as lines and one more
 pub record IsDrawn (limit : ℕ) (m : Matrix) (lines : LineSet) (tree : Tree) : Type 0 where
   pub lines_are : lines_of tree ≡ lines
   pub shaped : (path : List ℕ) (due : Due) → HasItsLines due lines → AllByRecursion (IsShapedAt limit m) (places_from path [] due tree)
   pub within : (parent : LineSet) (levels : ℕ) → AreLinesOf lines parent → size_of lines < levels → IsTreeWithin parent levels tree
+  pub falling : IsFalling tree
 
 -- the trees of some sets of lines
 abbrev pub AreDrawn : ℕ → Matrix → List LineSet → List Tree → Type 0
 AreDrawn limit m [] [] = Unit {0}
 AreDrawn limit m (lines ∷ children) (tree ∷ trees) = IsDrawn limit m lines tree × AreDrawn limit m children trees
 AreDrawn limit m children trees = ⊥
-
--- a tree of these lines stands behind some others
-pub record IsDrawnBehind (limit : ℕ) (m : Matrix) (lines : LineSet) (before after : List Tree) : Type 0 where
-  pub tree : Tree
-  pub order : after ≡ before ++ tree ∷ []
-  pub drawn : IsDrawn limit m lines tree

@@ -7,13 +7,13 @@ ghost use Rattle.tree_type.specs.Findings.{finding_shown};
 ghost use Rattle.decomp_tree.specs.Seen.{keeps_free};
 ghost use Rattle.decomp_tree.specs.Fronts.{IsFront};
 ghost use Rattle.decomp_tree.specs.Obstructions.{IsKnown};
-ghost use Rattle.decomp_tree.specs.Sketches.{Sketched, sketch_of, sketches_from, is_free_in, IsDraftedBehind};
+ghost use Rattle.decomp_tree.specs.Sketches.{Sketched, sketch_of, sketches_from, is_free_in, lines_of_sketch, IsDrafted, IsDraftedBehind};
 
 use crate::faults::keeps_free;
 use crate::looking::look;
 use crate::obstructions::Obstruction;
 use crate::seen::Seen;
-use cmr_base::{LineSet, LineSetList, Memory, RowsAndColumns};
+use cmr_base::{LineSet, LineSetList, Matrix, Memory, RowsAndColumns};
 use std::alloc::Global;
 use std::thread::Threads;
 use tree_type::{Finding, copy_of};
@@ -34,6 +34,42 @@ pub struct Draft {
     pub children: Vec<Draft>,
     /// Whether it is known that no violator stands among its lines.
     pub is_free: bool,
+}
+
+/// The draft of the submatrix on these lines.
+pub fn draft_root<R: Threads + Sync>(
+    rt: &R,
+    alloc: Global,
+    matrix: &Matrix,
+    lines: &LineSet,
+    limit: u32,
+    workers: u32,
+) -> Result<Draft, Memory>
+    requires limit { limit ≤ 24 }
+    requires workers { (1 ≤ workers) × (workers ≤ 64) }
+    requires shape { IsMatrix matrix.now }
+    requires rows { IsRowSet matrix.now lines.now.rows }
+    requires columns { IsColumnSet matrix.now lines.now.columns }
+    ensures lines { IfOk result (λ drawn. lines_of_sketch (sketch_of drawn) ≡ lines.now) }
+    ensures drafted { IfOk result (λ drawn. IsDrafted limit matrix.now (sketch_of drawn)) }
+{
+    let mut drafts = Vec::new(alloc);
+    let unknown = Obstruction::unknown(matrix);
+    let both = RowsAndColumns::new(alloc, matrix)?;
+    draw(
+        rt,
+        alloc,
+        &both,
+        lines,
+        &unknown,
+        limit,
+        workers,
+        &mut drafts,
+    )?;
+    let Some(drawn) = drafts.pop() else {
+        unreachable!()
+    };
+    Ok(drawn)
 }
 
 /// Draws the submatrix on these lines, with what is known of some of them, and puts it behind the drafts that are there. Each child has fewer lines, so no

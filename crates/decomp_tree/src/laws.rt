@@ -1,6 +1,7 @@
 //! Laws over the definitions alone. Each is a function that does nothing: its contract is the law.
 ghost use Rattle.decomp_tree.specs.Laws.{ShapesAreSound};
 ghost use Rattle.decomp_tree.specs.PlainTrees.{OneShape};
+ghost use Rattle.decomp_tree.specs.PivotedLaws.{PivotedShapesAreTrees, PivotedShapesAreSound, OnePivotedShape, NoPivotsChangeNothing, OpenLinesAreLeft};
 
 /// A decomposition keeps all rules of decomposition trees.
 pub fn shapes_sound()
@@ -10,4 +11,15 @@ pub fn shapes_sound()
 /// Two decompositions of a matrix within one budget differ at most in what their networks say.
 pub fn one_shape()
     ensures { OneShape }
+{}
+
+/// A decomposition that makes pivots where nothing else decides is a tree that keeps all rules, and there is one, but for what
+/// its networks say. Where no pivot may be made it is the decomposition that makes none. What it leaves open is neither
+/// recognised nor separated, and too large for the budget, as without pivots.
+pub fn pivoted_shapes()
+    ensures trees { PivotedShapesAreTrees }
+    ensures sound { PivotedShapesAreSound }
+    ensures one { OnePivotedShape }
+    ensures none { NoPivotsChangeNothing }
+    ensures open_lines { OpenLinesAreLeft }
 {}

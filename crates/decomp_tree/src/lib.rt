@@ -10,5 +10,6 @@ mod naming;
 mod obstructions;
 mod seen;
 mod settling;
+mod taking_back;
 
 pub use drawing::decompose;

@@ -22,4 +22,4 @@ pub use node_count::count_nodes;
 pub use pivots::PivotPlace;
 pub use refusal::{Refusal, Rule};
 pub use tree::{Kind, Node, NodeList};
-pub use verdicts::{VerdictOf, verdict};
+pub use verdicts::{VerdictOf, verdict, verdict_at};

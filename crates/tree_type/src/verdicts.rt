@@ -20,7 +20,13 @@ pub enum VerdictOf<'a> {
 pub fn verdict(tree: &DecTree) -> VerdictOf<'_>
     ensures { verdict_shown result ≡ verdict_of (tree_of tree.now.root) }
 {
-    let root = tree.root();
+    verdict_at(tree.root())
+}
+
+/// The same of a tree that is given by its root.
+pub fn verdict_at(root: &Node) -> VerdictOf<'_>
+    ensures { verdict_shown result ≡ verdict_of (tree_of root.now) }
+{
     match first_fault(root) {
         Some(fault) => VerdictOf::No(fault),
         None => match first_undecided(root) {

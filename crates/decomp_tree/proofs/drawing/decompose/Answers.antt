@@ -2,7 +2,9 @@ use Rattle.std.proofs.Common.{◌∙◌, ap, sym, subst}
 use Rattle.cmr_base.specs.LineSets.{first_lines}
 use Rattle.tree_type.specs.Trees.{SizedTree, tree_of}
 use Rattle.tree_type.specs.Soundness.{IsSoundTree}
-use Rattle.decomp_tree.proofs.Roots.{root_rows, root_columns, root_tree, root_sound}
+use Rattle.decomp_tree.specs.PivotedShapes.{IsShapeWith}
+use Rattle.decomp_tree.proofs.PivotedRoots.{whole_shape, whole_sound, whole_tree}
+use Rattle.decomp_tree.proofs.Roots.{root_rows, root_columns}
 use Rattle.decomp_tree.proofs.drawing.decompose.Goals as goal
 
 pub draw_root-requires-clause-rows : goal.draw_root-requires-clause-rows
@@ -15,11 +17,17 @@ draw_root-requires-clause-columns g c =
 
 pub make-requires : goal.make-requires
 make-requires g c =
-    root_tree c.args.matrix.now c.rows.ensures.shape c.in_ok-lines.lines (c.in_ok-lines.ensures.rows ∙ ap first_lines c.rows.ensures.rows) (c.in_ok-lines.ensures.columns ∙ ap first_lines c.columns.ensures.columns)
-    c.args.limit (tree_of c.in_ok-root.root) c.in_ok-root.ensures c.rows-2.result c.columns-2.result c.rows-2.ensures.rows c.columns-2.ensures.columns
+    whole_tree c.args.limit c.args.pivots c.pivots_within-within.result c.args.matrix.now c.in_ok-lines.lines (c.in_ok-lines.ensures.rows ∙ ap first_lines c.rows.ensures.rows) (c.in_ok-lines.ensures.columns ∙ ap first_lines c.columns.ensures.columns)
+    c.pivots_within-within.ensures (tree_of c.in_ok-root.root) c.rows.ensures.shape c.rows-2.result c.columns-2.result c.rows-2.ensures.rows c.columns-2.ensures.columns c.in_ok-root.ensures
+
+pub returns-clause-shape : goal.returns-clause-shape
+returns-clause-shape g c =
+    subst (λ (t : SizedTree). IsShapeWith c.args.limit c.args.pivots c.args.matrix.now (tree_of t.root)) (sym c.make.ensures)
+    (whole_shape c.args.limit c.args.pivots c.pivots_within-within.result c.args.matrix.now c.in_ok-lines.lines (c.in_ok-lines.ensures.rows ∙ ap first_lines c.rows.ensures.rows) (c.in_ok-lines.ensures.columns ∙ ap first_lines c.columns.ensures.columns)
+    c.pivots_within-within.ensures (tree_of c.in_ok-root.root) c.in_ok-root.ensures)
 
 pub returns-clause-sound : goal.returns-clause-sound
 returns-clause-sound g c =
     subst (λ (t : SizedTree). IsSoundTree c.args.matrix.now t.rows t.columns (tree_of t.root)) (sym c.make.ensures)
-    (root_sound c.args.matrix.now c.rows.ensures.shape c.in_ok-lines.lines (c.in_ok-lines.ensures.rows ∙ ap first_lines c.rows.ensures.rows) (c.in_ok-lines.ensures.columns ∙ ap first_lines c.columns.ensures.columns)
-    c.args.limit (tree_of c.in_ok-root.root) c.requires.limit c.in_ok-root.ensures c.rows-2.result c.columns-2.result c.rows-2.ensures.rows c.columns-2.ensures.columns)
+    (whole_sound c.args.limit c.args.pivots c.pivots_within-within.result c.args.matrix.now c.in_ok-lines.lines (c.in_ok-lines.ensures.rows ∙ ap first_lines c.rows.ensures.rows) (c.in_ok-lines.ensures.columns ∙ ap first_lines c.columns.ensures.columns)
+    c.pivots_within-within.ensures (tree_of c.in_ok-root.root) c.rows.ensures.shape c.rows-2.result c.columns-2.result c.rows-2.ensures.rows c.columns-2.ensures.columns c.requires.limit c.in_ok-root.ensures)

@@ -3,7 +3,7 @@ use Rattle.cmr_base.specs.Matrix.{Matrix}
 use Rattle.decomp_tree.specs.declared.drafts.Draft.{Draft}
 use Rattle.decomp_tree.specs.Sketches.{sketch_of, IsDraftedBehind}
 use Rattle.decomp_tree.proofs.Children.{only_drafted, some_drafted}
-use Rattle.decomp_tree.proofs.drawing.draft_root.Goals as goal
+use Rattle.decomp_tree.proofs.drafts.draft_root.Goals as goal
 
 pub unreachable-requires : goal.unreachable-requires
 unreachable-requires g c =

@@ -1,0 +1,51 @@
+-- What pivots find, by cases: no place, a 2, and the tree of the submatrix after the pivot.
+use Rattle.std.proofs.Common.{◌≡◌, ◌≢◌, ◌+◌, ◌-◌, inl, inr, ℕ, zero, suc, Option, Some, None, refl, ap, sym, subst, arith}
+use Rattle.cmr_base.specs.declared.line_set.LineSet.{LineSet}
+use Rattle.cmr_base.specs.Matrix.{Matrix}
+use Rattle.cmr_base.specs.LineSets.{IsRowSet, IsColumnSet}
+use Rattle.pivots.specs.declared.drawn.DrawnPlace.{DrawnPlace}
+use Rattle.pivots.specs.DrawnPlaces.{drawn_place}
+use Rattle.pivots.specs.PivotedParts.{IsMadePart, ShowsFirstTwoIn, pivoted_part}
+use Rattle.tree_type.specs.Trees.{Tree, Branch, NoTrees, Violator}
+use Rattle.tree_type.specs.Invariant.{AreLines, size_of}
+use Rattle.tree_type.specs.Verdicts.{verdict_of}
+use Rattle.cert_check.proofs.PivotedMatrices.{lines_pivoted}
+use Rattle.decomp_tree.specs.Refined.{Refines}
+use Rattle.decomp_tree.specs.Seen.{IsDrawn}
+use Rattle.decomp_tree.specs.PivotedShapes.{HasFaultAmong, IsDrawnWith, IsFound, IsFoundAt, IsTakenBack, undecided}
+use Rattle.decomp_tree.proofs.FaultLines.{fault_among, lines_themselves}
+use Rattle.decomp_tree.proofs.FoundTrees.{drawn_with_lines, drawn_with_within}
+
+module _ (limit pivots state : ℕ) (m : Matrix) (lines : LineSet) where
+  -- some pivot may be made
+  found_at : (some : pivots ≢ 0) (tree : Tree) → IsFoundAt (λ next after found. (shape : Tree) × IsDrawn limit after lines shape × Refines (IsFound limit (pivots - 1) next after) shape found) m lines (drawn_place m lines state) tree
+      → IsFound limit pivots state m lines tree
+  found_at some tree found = subst (λ k. IsFound limit k state m lines tree) (let more : suc (pivots - 1) ≡ pivots = omega (arith, some) in more) found
+
+  pub found_none : (tree : Tree) → pivots ≡ 0 → tree ≡ undecided lines → IsFound limit pivots state m lines tree
+  found_none tree none e = subst (λ k. IsFound limit k state m lines tree) (sym none) e
+
+  pub found_no_place : (tree : Tree) → pivots ≢ 0 → drawn_place m lines state ≡ None → tree ≡ undecided lines → IsFound limit pivots state m lines tree
+  found_no_place tree some none e = found_at some tree (subst (λ o. IsFoundAt (λ next after found. (shape : Tree) × IsDrawn limit after lines shape × Refines (IsFound limit (pivots - 1) next after) shape found) m lines o tree) (sym none) e)
+
+  module _ (drawn : DrawnPlace) (is_drawn : drawn_place m lines state ≡ Some drawn) where
+    found_there : (tree : Tree) → pivots ≢ 0 → IsFoundAt (λ next after found. (shape : Tree) × IsDrawn limit after lines shape × Refines (IsFound limit (pivots - 1) next after) shape found) m lines (Some drawn) tree → IsFound limit pivots state m lines tree
+    found_there tree some found = found_at some tree (subst (λ o. IsFoundAt (λ next after t. (shape : Tree) × IsDrawn limit after lines shape × Refines (IsFound limit (pivots - 1) next after) shape t) m lines o tree) (sym is_drawn) found)
+
+    pub found_two : (tree : Tree) (fault : LineSet) → pivots ≢ 0 → ShowsFirstTwoIn m lines drawn.place fault.rows fault.columns → tree ≡ Branch lines (Violator fault) NoTrees → IsFound limit pivots state m lines tree
+    found_two tree fault some shows e = found_there tree some (inl (fault, shows, e))
+
+    pub found_after : (tree found : Tree) (after : Matrix) → pivots ≢ 0 → IsMadePart m lines drawn.place after → IsDrawnWith limit (pivots - 1) drawn.state after lines found → IsTakenBack m lines drawn.place found (verdict_of found) tree → IsFound limit pivots state m lines tree
+    found_after tree found after some made d told =
+        let there = subst (λ n. IsDrawnWith limit (pivots - 1) drawn.state n lines found) made.is d in
+        found_there tree some (inr (made.ternary, found, (there.shape, there.drawn, there.refines), told))
+
+    -- the lines are lines of the matrix after the pivot
+    pub lines_made : (after : Matrix) → IsMadePart m lines drawn.place after → IsRowSet m lines.rows → IsColumnSet m lines.columns → AreLines after lines
+    lines_made after made rows columns = subst (λ n. AreLines n lines) (sym made.is) (lines_pivoted m lines drawn.place lines (record { rows = rows; columns = columns }))
+
+-- a fault of a decomposition has lines of its root
+pub fault_drawn : (limit pivots state : ℕ) (m : Matrix) (lines : LineSet) (tree : Tree) → AreLines m lines → IsDrawnWith limit pivots state m lines tree → HasFaultAmong lines (verdict_of tree)
+fault_drawn limit pivots state m lines tree are d =
+    subst (λ (some : LineSet). HasFaultAmong some (verdict_of tree)) (drawn_with_lines limit pivots state m lines tree d)
+    (fault_among lines (suc (size_of lines + pivots)) tree (drawn_with_within limit pivots state m lines tree lines (suc (size_of lines + pivots)) d (lines_themselves m lines are) (omega arith)))

@@ -1,0 +1,149 @@
+-- What pivots find in the place of an undecided node: its lines and its levels.
+use Rattle.std.proofs.Common.{◌≡◌, ◌<◌, ◌≤◌, ◌+◌, ◌-◌, ◌∙◌, inl, inr, ℕ, zero, suc, Contains, Option, Some, None, IfSome, refl, ap, sym, subst, arith}
+use Rattle.cmr_base.specs.declared.line_set.LineSet.{LineSet}
+use Rattle.cmr_base.specs.Matrix.{Matrix}
+use Rattle.cmr_base.specs.LineSets.{IsRowSet, IsColumnSet}
+use Rattle.cmr_base.proofs.Lists.{all_contained}
+use Rattle.pivots.specs.declared.drawn.DrawnPlace.{DrawnPlace}
+use Rattle.pivots.specs.declared.place.PivotPlace.{PivotPlace}
+use Rattle.pivots.specs.DrawnPlaces.{drawn_place}
+use Rattle.pivots.specs.PivotedParts.{AreAmong, IsPlaceIn, pivoted_part}
+use Rattle.pivots.proofs.DrawnPlaces.{drawn_in}
+use Rattle.pivots.proofs.PartLaws.{lines_before_among}
+use Rattle.tree_type.specs.Trees.{Finding, Empty, Cycle, Reduced, OneSum, Network, Conetwork, R10, TwoSum, ThreeSum, Enumerated, Violator, Undecided, Pivoted, Tree, Trees, Branch, NoTrees, MoreTrees, count_trees, lines_of}
+use Rattle.tree_type.specs.Invariant.{AreLinesOf, size_of, Fits, HasChildren, IsTreeWithin, AreTreesWithin}
+use Rattle.tree_type.specs.Verdicts.{Verdict, Yes, No, Open, verdict_of}
+use Rattle.decomp_tree.specs.Seen.{IsFalling, AreFalling, IsDrawn}
+use Rattle.decomp_tree.specs.Refined.{Refines, AllRefine}
+use Rattle.decomp_tree.specs.PivotedShapes.{IsTakenBack, IsFoundAt, IsFound, IsDrawnWith, HasFaultAmong, undecided}
+use Rattle.decomp_tree.proofs.FaultLines.{fault_among}
+use Rattle.decomp_tree.proofs.RefinedTrees.{RefinedNode, replaced, kept, refined_node, count_refined, refined_lines}
+
+-- ---- lines
+
+told_lines : (m : Matrix) (lines : LineSet) (place : PivotPlace) (after : Tree) (v : Verdict) (tree : Tree) → IsTakenBack m lines place after v tree → lines_of tree ≡ lines
+told_lines m lines place after Yes tree e = ap lines_of e
+told_lines m lines place after (No fault) tree told = ap lines_of told.2
+told_lines m lines place after (Open left) tree e = ap lines_of e
+
+found_at_lines : (IsTree : ℕ → Matrix → Tree → Type 0) (m : Matrix) (lines : LineSet) (drawn : Option DrawnPlace) (tree : Tree) → IsFoundAt IsTree m lines drawn tree → lines_of tree ≡ lines
+found_at_lines IsTree m lines None tree e = ap lines_of e
+found_at_lines IsTree m lines (Some drawn) tree (inl shown) = ap lines_of shown.2
+found_at_lines IsTree m lines (Some drawn) tree (inr made) = told_lines m lines drawn.place made.1 (verdict_of made.1) tree made.3
+
+-- what is found stands on the lines of the node
+pub found_lines : (limit pivots state : ℕ) (m : Matrix) (lines : LineSet) (tree : Tree) → IsFound limit pivots state m lines tree → lines_of tree ≡ lines
+found_lines limit zero state m lines tree e = ap lines_of e
+found_lines limit (suc pivots) state m lines tree found = found_at_lines (λ next after found. (shape : Tree) × IsDrawn limit after lines shape × Refines (IsFound limit pivots next after) shape found) m lines (drawn_place m lines state) tree found
+
+-- and so does the decomposition with what is found
+pub drawn_with_lines : (limit pivots state : ℕ) (m : Matrix) (lines : LineSet) (tree : Tree) → IsDrawnWith limit pivots state m lines tree → lines_of tree ≡ lines
+drawn_with_lines limit pivots state m lines tree d = refined_lines (IsFound limit pivots state m) (found_lines limit pivots state m) d.shape tree d.refines ∙ d.drawn.lines_are
+
+-- a place that is drawn is one of the submatrix
+pub place_drawn : (m : Matrix) (lines : LineSet) (state : ℕ) (drawn : DrawnPlace) → drawn_place m lines state ≡ Some drawn → IsPlaceIn m lines drawn.place
+place_drawn m lines state drawn e = subst (λ o. IfSome o (λ (found : DrawnPlace). IsPlaceIn m lines found.place)) e (drawn_in m lines state)
+
+-- ---- levels
+
+-- as many children fit
+fits_as_many : (lines : LineSet) (finding : Finding) (trees others : Trees) → count_trees others ≡ count_trees trees → Fits lines finding trees → Fits lines finding others
+fits_as_many lines OneSum trees others e fits = subst (λ n. n ≤ size_of lines) (sym e) fits
+fits_as_many lines Empty trees others e fits = fits
+fits_as_many lines (Cycle fault) trees others e fits = fits
+fits_as_many lines (Reduced steps) trees others e fits = fits
+fits_as_many lines (Network net) trees others e fits = fits
+fits_as_many lines (Conetwork net) trees others e fits = fits
+fits_as_many lines R10 trees others e fits = fits
+fits_as_many lines (TwoSum two) trees others e fits = fits
+fits_as_many lines (ThreeSum three) trees others e fits = fits
+fits_as_many lines Enumerated trees others e fits = fits
+fits_as_many lines (Violator fault) trees others e fits = fits
+fits_as_many lines Undecided trees others e fits = fits
+fits_as_many lines (Pivoted place) trees others e fits = fits
+
+module _ (Stands : LineSet → Tree → Type 0) (more : ℕ) (stand_within : (lines : LineSet) (tree : Tree) (parent : LineSet) (levels : ℕ) → Stands lines tree → AreLinesOf lines parent → size_of lines + more < levels → IsTreeWithin parent levels tree) where
+  mutual
+    within_refined : (shape tree : Tree) (parent : LineSet) (some levels : ℕ) → Refines Stands shape tree → IsFalling shape → IsTreeWithin parent some shape → size_of (lines_of shape) + more < levels → IsTreeWithin parent levels tree
+    within_refined (Branch lines finding trees) tree parent some levels r falls within l =
+        go (refined_node Stands lines finding trees tree r) (λ below all few. within_each lines trees below (some - 1) (levels - 1) all falls within.4 few)
+      where
+        go : RefinedNode Stands lines finding trees tree → ((below : Trees) → AllRefine Stands trees below → size_of lines + more ≤ levels - 1 → AreTreesWithin lines (levels - 1) below) → IsTreeWithin parent levels tree
+        go (replaced e stands) each = stand_within lines tree parent levels stands within.1 l
+        go (kept e below is all) each = subst (IsTreeWithin parent levels) (sym is) (
+          omega (arith, l),
+          within.1,
+          fits_as_many lines finding trees below (count_refined Stands trees below all) within.2,
+          subst (HasChildren finding) (sym (count_refined Stands trees below all)) within.3,
+          each below all (omega (arith, l)),
+        )
+
+    within_each : (lines : LineSet) (trees below : Trees) (some levels : ℕ) → AllRefine Stands trees below → AreFalling lines trees → AreTreesWithin lines some trees → size_of lines + more ≤ levels → AreTreesWithin lines levels below
+    within_each lines NoTrees below some levels e falls within l = subst (AreTreesWithin lines levels) (sym e) tt
+    within_each lines (MoreTrees tree trees) below some levels (first, rest, e, r, all) falls within l =
+        subst (AreTreesWithin lines levels) (sym e) (
+          within_refined tree first lines some levels r falls.1 within.0 (let fewer = falls.0.fewer in omega (arith, l, fewer)),
+          within_each lines trees rest some levels all falls.2 within.1 l,
+        )
+
+undecided_within : (lines parent : LineSet) (levels : ℕ) → AreLinesOf lines parent → 0 < levels → IsTreeWithin parent levels (undecided lines)
+undecided_within lines parent levels are l = (l, are, tt, refl, tt)
+
+violator_within : (lines fault parent : LineSet) (levels : ℕ) → AreLinesOf lines parent → AreLinesOf fault lines → 0 < levels → IsTreeWithin parent levels (Branch lines (Violator fault) NoTrees)
+violator_within lines fault parent levels are fits l = (l, are, fits, refl, tt)
+
+-- rising lines among others are lines of them
+lines_among : (m : Matrix) (lines fault : LineSet) (rows_rise : IsRowSet m fault.rows) (columns_rise : IsColumnSet m fault.columns) → AreAmong lines fault.rows fault.columns → AreLinesOf fault lines
+lines_among m lines fault rows columns among = record {
+  rows_rise = rows.rising;
+  columns_rise = columns.rising;
+  rows = λ row h. all_contained (Contains lines.rows) fault.rows row among.rows h;
+  columns = λ column h. all_contained (Contains lines.columns) fault.columns column among.columns h;
+}
+
+themselves : (lines parent : LineSet) → AreLinesOf lines parent → AreLinesOf lines lines
+themselves lines parent are = record { rows_rise = are.rows_rise; columns_rise = are.columns_rise; rows = λ row h. h; columns = λ column h. h }
+
+module _ (limit : ℕ) where
+  abbrev IsWithin : ℕ → Type 0
+  IsWithin pivots = (state : ℕ) (m : Matrix) (lines : LineSet) (tree : Tree) (parent : LineSet) (levels : ℕ) → IsFound limit pivots state m lines tree → AreLinesOf lines parent → size_of lines + pivots < levels → IsTreeWithin parent levels tree
+
+  -- a decomposition with what is found
+  drawn_within : (pivots : ℕ) → IsWithin pivots → (state : ℕ) (m : Matrix) (lines : LineSet) (tree : Tree) (parent : LineSet) (levels : ℕ) → IsDrawnWith limit pivots state m lines tree → AreLinesOf lines parent → size_of lines + pivots < levels → IsTreeWithin parent levels tree
+  drawn_within pivots found state m lines tree parent levels d are l =
+      within_refined (IsFound limit pivots state m) pivots (λ some one over n. found state m some one over n) d.shape tree parent (suc (size_of lines)) levels d.refines d.drawn.falling
+      (d.drawn.within parent (suc (size_of lines)) are (omega arith))
+      (subst (λ some. size_of some + pivots < levels) (sym d.drawn.lines_are) l)
+
+  module _ (pivots : ℕ) (below : IsWithin pivots) (m : Matrix) (lines parent : LineSet) (levels : ℕ) (are : AreLinesOf lines parent) (l : size_of lines + suc pivots < levels) where
+    told_within : (next : ℕ) (place : PivotPlace) (at : IsPlaceIn m lines place) (after : Tree) → IsDrawnWith limit pivots next (pivoted_part m lines place) lines after → (tree : Tree) → IsTakenBack m lines place after (verdict_of after) tree → IsTreeWithin parent levels tree
+    told_within next place at after d tree told = go (verdict_of after) among told
+      where
+        after_within : IsTreeWithin lines (levels - 1) after
+        after_within = drawn_within pivots below next (pivoted_part m lines place) lines after lines (levels - 1) d (themselves lines parent are) (omega (arith, l))
+
+        among : HasFaultAmong lines (verdict_of after)
+        among = subst (λ some. HasFaultAmong some (verdict_of after)) (drawn_with_lines limit pivots next (pivoted_part m lines place) lines after d) (fault_among lines (levels - 1) after after_within)
+
+        go : (v : Verdict) → HasFaultAmong lines v → IsTakenBack m lines place after v tree → IsTreeWithin parent levels tree
+        go Yes h e = subst (IsTreeWithin parent levels) (sym e) (omega (arith, l), are, (at.row, at.column), refl, (after_within, tt))
+        go (No fault) h (before, is, e) = subst (IsTreeWithin parent levels) (sym e)
+            (violator_within lines before parent levels are (lines_among m lines before is.row_set is.column_set (lines_before_among m lines place fault.rows fault.columns before.rows before.columns at h is.lines)) (omega (arith, l)))
+        go (Open left) h e = subst (IsTreeWithin parent levels) (sym e) (undecided_within lines parent levels are (omega (arith, l)))
+
+    found_at_within : (drawn : Option DrawnPlace) → ((some : DrawnPlace) → drawn ≡ Some some → IsPlaceIn m lines some.place) → (tree : Tree)
+        → IsFoundAt (λ next after found. (shape : Tree) × IsDrawn limit after lines shape × Refines (IsFound limit pivots next after) shape found) m lines drawn tree → IsTreeWithin parent levels tree
+    found_at_within None at tree e = subst (IsTreeWithin parent levels) (sym e) (undecided_within lines parent levels are (omega (arith, l)))
+    found_at_within (Some drawn) at tree (inl (fault, shows, e)) = subst (IsTreeWithin parent levels) (sym e)
+        (violator_within lines fault parent levels are (lines_among m lines fault shows.row_set shows.column_set shows.among) (omega (arith, l)))
+    found_at_within (Some drawn) at tree (inr (ternary, after, (shape, is, refines), told)) =
+        told_within drawn.state drawn.place (at drawn refl) after (record { shape = shape; drawn = is; refines = refines }) tree told
+
+  pub found_within : (pivots : ℕ) → IsWithin pivots
+  found_within zero state m lines tree parent levels e are l = subst (IsTreeWithin parent levels) (sym e) (undecided_within lines parent levels are (omega (arith, l)))
+  found_within (suc pivots) state m lines tree parent levels found are l =
+      found_at_within pivots (found_within pivots) m lines parent levels are l (drawn_place m lines state) (place_drawn m lines state) tree found
+
+  -- the tree has at most as many levels as lines, pivots and one more
+  pub drawn_with_within : (pivots state : ℕ) (m : Matrix) (lines : LineSet) (tree : Tree) (parent : LineSet) (levels : ℕ) → IsDrawnWith limit pivots state m lines tree → AreLinesOf lines parent → size_of lines + pivots < levels → IsTreeWithin parent levels tree
+  drawn_with_within pivots = drawn_within pivots (found_within pivots)

@@ -1,0 +1,170 @@
+-- There is one decomposition of a matrix with what pivots find, but for what its networks say.
+use Rattle.std.proofs.Common.{◌≡◌, ◌<◌, ◌-◌, ◌∙◌, inl, inr, ℕ, zero, suc, List, [], Contains, Option, Some, None, refl, ap, ap₂, sym, subst, arith}
+use Rattle.cmr_base.specs.declared.line_set.LineSet.{LineSet}
+use Rattle.cmr_base.specs.Matrix.{Matrix, height, entry, IsEntry}
+use Rattle.ghouila.specs.PivotLaws.{pivot_entry}
+use Rattle.cmr_base.specs.Members.{IsIn}
+use Rattle.cmr_base.proofs.Booleans.{neither, same_or_not, true_is_false}
+use Rattle.cmr_base.proofs.Places.{rising_same}
+use Rattle.cmr_base.proofs.RemovedLines.{first_lines_increase}
+use Rattle.pivots.specs.declared.drawn.DrawnPlace.{DrawnPlace}
+use Rattle.pivots.specs.declared.place.PivotPlace.{PivotPlace}
+use Rattle.pivots.specs.DrawnPlaces.{drawn_place}
+use Rattle.pivots.specs.PivotedParts.{ShowsFirstTwoIn, pivoted_part}
+use Rattle.pivots.specs.ChosenLines.{two_lines}
+use Rattle.tree_type.specs.Trees.{Finding, Empty, Cycle, Reduced, OneSum, Network, Conetwork, R10, TwoSum, ThreeSum, Enumerated, Violator, Undecided, Pivoted, Tree, Trees, Branch, NoTrees, MoreTrees}
+use Rattle.tree_type.specs.Invariant.{AreLinesOf, size_of, IsTreeWithin, AreTreesWithin}
+use Rattle.tree_type.specs.Places.{These}
+use Rattle.tree_type.specs.Verdicts.{Verdict, Yes, No, Open, verdict_of}
+use Rattle.decomp_tree.specs.PlainTrees.{plain, plain_tree, plain_trees}
+use Rattle.decomp_tree.specs.Seen.{IsDrawn}
+use Rattle.decomp_tree.specs.Refined.{is_undecided, Refines, AllRefine}
+use Rattle.decomp_tree.specs.PivotedLaws.{OnePivotedShape}
+use Rattle.decomp_tree.specs.PivotedShapes.{AreBefore, IsTakenBack, IsFoundAt, IsFound, IsDrawnWith, all_lines, pivots_within}
+use Rattle.decomp_tree.proofs.OneTree.{one_tree}
+use Rattle.decomp_tree.proofs.PlainVerdicts.{verdict_plain}
+use Rattle.decomp_tree.proofs.RefinedTrees.{RefinedNode, replaced, kept, refined_node}
+
+-- ---- trees that others replace
+
+undecided_plain : (f : Finding) → is_undecided (plain f) ≡ is_undecided f
+undecided_plain Empty = refl
+undecided_plain (Cycle f) = refl
+undecided_plain (Reduced steps) = refl
+undecided_plain OneSum = refl
+undecided_plain (Network n) = refl
+undecided_plain (Conetwork n) = refl
+undecided_plain R10 = refl
+undecided_plain (TwoSum two) = refl
+undecided_plain (ThreeSum three) = refl
+undecided_plain Enumerated = refl
+undecided_plain (Violator f) = refl
+undecided_plain Undecided = refl
+undecided_plain (Pivoted place) = refl
+
+undecided_same : (f g : Finding) → plain f ≡ plain g → is_undecided f ≡ is_undecided g
+undecided_same f g e = sym (undecided_plain f) ∙ ap is_undecided e ∙ undecided_plain g
+
+-- lines of others are lines of themselves
+lines_of_lines_of : (lines parent : LineSet) → AreLinesOf lines parent → AreLinesOf lines lines
+lines_of_lines_of lines parent are = record { rows_rise = are.rows_rise; columns_rise = are.columns_rise; rows = λ row h. h; columns = λ column h. h }
+
+module _ (Stands : LineSet → Tree → Type 0) (same : (lines : LineSet) → AreLinesOf lines lines → (tree other : Tree) → Stands lines tree → Stands lines other → plain_tree tree ≡ plain_tree other) where
+  mutual
+    refined_same : (parent : LineSet) (levels : ℕ) (shape shape' tree tree' : Tree) → IsTreeWithin parent levels shape → plain_tree shape ≡ plain_tree shape' → Refines Stands shape tree → Refines Stands shape' tree' → plain_tree tree ≡ plain_tree tree'
+    refined_same parent levels (Branch lines finding trees) (Branch lines' finding' trees') tree tree' within e r r' =
+        go (refined_node Stands lines finding trees tree r) (refined_node Stands lines' finding' trees' tree' r')
+        (λ below below' all all'. let ts : plain_trees trees ≡ plain_trees trees' = cc in each_same lines (levels - 1) trees trees' below below' within.4 ts all all')
+      where
+        one_lines : lines ≡ lines'
+        one_lines = cc
+
+        one_finding : plain finding ≡ plain finding'
+        one_finding = cc
+
+        go : RefinedNode Stands lines finding trees tree → RefinedNode Stands lines' finding' trees' tree' → ((below below' : Trees) → AllRefine Stands trees below → AllRefine Stands trees' below' → plain_trees below ≡ plain_trees below') → plain_tree tree ≡ plain_tree tree'
+        go (replaced is stands) (replaced is' stands') each = same lines (lines_of_lines_of lines parent within.1) tree tree' stands (subst (λ l. Stands l tree') (sym one_lines) stands')
+        go (replaced is stands) (kept is' below' at all') each = true_is_false (sym (ap is_undecided is) ∙ undecided_same finding finding' one_finding ∙ is')
+        go (kept is below at all) (replaced is' stands') each = true_is_false (sym (ap is_undecided is') ∙ sym (undecided_same finding finding' one_finding) ∙ is)
+        go (kept is below at all) (kept is' below' at' all') each =
+            ap plain_tree at ∙ ap (λ (l : LineSet). Branch l (plain finding) (plain_trees below)) one_lines ∙ ap₂ (λ (f : Finding) (ts : Trees). Branch lines' f ts) one_finding (each below below' all all') ∙ sym (ap plain_tree at')
+
+    each_same : (parent : LineSet) (levels : ℕ) (trees trees' below below' : Trees) → AreTreesWithin parent levels trees → plain_trees trees ≡ plain_trees trees' → AllRefine Stands trees below → AllRefine Stands trees' below' → plain_trees below ≡ plain_trees below'
+    each_same parent levels NoTrees NoTrees below below' within e all all' = ap plain_trees (all ∙ sym all')
+    each_same parent levels NoTrees (MoreTrees tree' trees') below below' within e all all' = cc
+    each_same parent levels (MoreTrees tree trees) NoTrees below below' within e all all' = cc
+    each_same parent levels (MoreTrees tree trees) (MoreTrees tree' trees') below below' within e (first, rest, at, r, all) (first', rest', at', r', all') =
+        let head : plain_tree tree ≡ plain_tree tree' = cc in
+        let tail : plain_trees trees ≡ plain_trees trees' = cc in
+        ap plain_trees at ∙ ap₂ (λ (t : Tree) (ts : Trees). MoreTrees t ts) (refined_same parent levels tree tree' first first' within.0 head r r') (each_same parent levels trees trees' rest rest' within.1 tail all all') ∙ sym (ap plain_trees at')
+
+-- ---- what a pivot shows
+
+line_set_same : (f g : LineSet) → f.rows ≡ g.rows → f.columns ≡ g.columns → f ≡ g
+line_set_same f g e h = ap₂ (λ (rows columns : List ℕ). let set : LineSet = record { rows = rows; columns = columns } in set) e h
+
+one_two : (m : Matrix) (lines : LineSet) (place : PivotPlace) (fault other : LineSet) → ShowsFirstTwoIn m lines place fault.rows fault.columns → ShowsFirstTwoIn m lines place other.rows other.columns → fault ≡ other
+one_two m lines place fault other a b =
+    line_set_same fault other (a.rows_are ∙ ap (two_lines place.row) one_row ∙ sym b.rows_are) (a.columns_are ∙ ap (two_lines place.column) one_column ∙ sym b.columns_are)
+  where
+    one_row : a.other_row ≡ b.other_row
+    one_row = neither a.other_row b.other_row
+        (λ l. a.two (b.rows_before a.other_row a.other_column a.row_in a.column_in l))
+        (λ l. b.two (a.rows_before b.other_row b.other_column b.row_in b.column_in l))
+
+    before_one : (j : ℕ) → Contains lines.columns j → j < b.other_column → IsEntry (pivot_entry (entry m) place.row place.column a.other_row j)
+    before_one j is l = subst (λ i. IsEntry (pivot_entry (entry m) place.row place.column i j)) (sym one_row) (b.columns_before j is l)
+
+    one_column : a.other_column ≡ b.other_column
+    one_column = neither a.other_column b.other_column
+        (λ l. a.two (before_one a.other_column a.column_in l))
+        (λ l. b.two (subst (λ i. IsEntry (pivot_entry (entry m) place.row place.column i b.other_column)) one_row (a.columns_before b.other_column b.column_in l)))
+
+-- the lines before the pivot are one set
+before_same : (m : Matrix) (place : PivotPlace) (fault before other : LineSet) → AreBefore m place fault before → AreBefore m place fault other → before ≡ other
+before_same m place fault before other a b =
+    line_set_same before other
+    (rising_same before.rows other.rows a.row_set.rising b.row_set.rising (λ x h. rows_in a b x h) (λ x h. rows_in b a x h))
+    (rising_same before.columns other.columns a.column_set.rising b.column_set.rising (λ x h. columns_in a b x h) (λ x h. columns_in b a x h))
+  where
+    rows_in : {one another : LineSet} → AreBefore m place fault one → AreBefore m place fault another → (x : ℕ) → IsIn x one.rows → IsIn x another.rows
+    rows_in {one} {another} a b x h = elim (same_or_not x place.row) [
+      | inl e ↦ subst (λ i. IsIn i another.rows) (sym e) (b.lines.row_there.1 (a.lines.row_there.0 (subst (λ i. IsIn i one.rows) e h)))
+      | inr n ↦ (b.lines.other_rows x n).1 ((a.lines.other_rows x n).0 h)
+    ]
+
+    columns_in : {one another : LineSet} → AreBefore m place fault one → AreBefore m place fault another → (x : ℕ) → IsIn x one.columns → IsIn x another.columns
+    columns_in {one} {another} a b x h = elim (same_or_not x place.column) [
+      | inl e ↦ subst (λ i. IsIn i another.columns) (sym e) (b.lines.column_there.1 (a.lines.column_there.0 (subst (λ i. IsIn i one.columns) e h)))
+      | inr n ↦ (b.lines.other_columns x n).1 ((a.lines.other_columns x n).0 h)
+    ]
+
+told_same : (m : Matrix) (lines : LineSet) (place : PivotPlace) (after after' : Tree) → plain_tree after ≡ plain_tree after' → (v : Verdict) (tree tree' : Tree) → IsTakenBack m lines place after v tree → IsTakenBack m lines place after' v tree'
+    → plain_tree tree ≡ plain_tree tree'
+told_same m lines place after after' same Yes tree tree' e e' = ap plain_tree e ∙ ap (λ (t : Tree). Branch lines (Pivoted place) (MoreTrees t NoTrees)) same ∙ sym (ap plain_tree e')
+told_same m lines place after after' same (No fault) tree tree' (before, b, e) (before', b', e') =
+    ap plain_tree e ∙ ap (λ (f : LineSet). Branch lines (Violator f) NoTrees) (before_same m place fault before before' b b') ∙ sym (ap plain_tree e')
+told_same m lines place after after' same (Open left) tree tree' e e' = ap plain_tree (e ∙ sym e')
+
+-- ---- what pivots find
+
+module _ (limit : ℕ) where
+  abbrev IsOne : ℕ → Type 0
+  IsOne pivots = (state : ℕ) (m : Matrix) (lines : LineSet) → AreLinesOf lines lines → (tree tree' : Tree) → IsFound limit pivots state m lines tree → IsFound limit pivots state m lines tree' → plain_tree tree ≡ plain_tree tree'
+
+  shape_same : (m : Matrix) (lines : LineSet) → AreLinesOf lines lines → (shape shape' : Tree) → IsDrawn limit m lines shape → IsDrawn limit m lines shape' → plain_tree shape ≡ plain_tree shape'
+  shape_same m lines are shape shape' d d' =
+      one_tree limit m [] [] [] [] (These lines) (These lines) lines lines (suc (size_of lines)) (suc (size_of lines)) shape shape' (d.lines_are ∙ sym d'.lines_are)
+      (d.within lines (suc (size_of lines)) are (omega arith)) (d'.within lines (suc (size_of lines)) are (omega arith)) (d.shaped [] (These lines) (refl, refl)) (d'.shaped [] (These lines) (refl, refl))
+
+  drawn_same : (pivots : ℕ) → IsOne pivots → (state : ℕ) (m : Matrix) (lines : LineSet) → AreLinesOf lines lines → (tree tree' : Tree) → IsDrawnWith limit pivots state m lines tree → IsDrawnWith limit pivots state m lines tree' → plain_tree tree ≡ plain_tree tree'
+  drawn_same pivots one state m lines are tree tree' d d' =
+      refined_same (IsFound limit pivots state m) (λ some rise t t' f f'. one state m some rise t t' f f') lines (suc (size_of lines)) d.shape d'.shape tree tree'
+      (d.drawn.within lines (suc (size_of lines)) are (omega arith)) (shape_same m lines are d.shape d'.shape d.drawn d'.drawn) d.refines d'.refines
+
+  found_at_same : (pivots : ℕ) → IsOne pivots → (m : Matrix) (lines : LineSet) → AreLinesOf lines lines → (drawn : Option DrawnPlace) (tree tree' : Tree)
+      → IsFoundAt (λ next after found. (shape : Tree) × IsDrawn limit after lines shape × Refines (IsFound limit pivots next after) shape found) m lines drawn tree
+      → IsFoundAt (λ next after found. (shape : Tree) × IsDrawn limit after lines shape × Refines (IsFound limit pivots next after) shape found) m lines drawn tree' → plain_tree tree ≡ plain_tree tree'
+  found_at_same pivots one m lines are None tree tree' e e' = ap plain_tree (e ∙ sym e')
+  found_at_same pivots one m lines are (Some drawn) tree tree' (inl (fault, shows, e)) (inl (fault', shows', e')) =
+      ap plain_tree e ∙ ap (λ (f : LineSet). Branch lines (Violator f) NoTrees) (one_two m lines drawn.place fault fault' shows shows') ∙ sym (ap plain_tree e')
+  found_at_same pivots one m lines are (Some drawn) tree tree' (inl (fault, shows, e)) (inr (ternary, after', is', told')) = absurd (shows.two (ternary shows.other_row shows.other_column shows.row_in shows.column_in))
+  found_at_same pivots one m lines are (Some drawn) tree tree' (inr (ternary, after, is, told)) (inl (fault', shows', e')) = absurd (shows'.two (ternary shows'.other_row shows'.other_column shows'.row_in shows'.column_in))
+  found_at_same pivots one m lines are (Some drawn) tree tree' (inr (ternary, after, (shape, is, refines), told)) (inr (ternary', after', (shape', is', refines'), told')) =
+      let same = drawn_same pivots one drawn.state (pivoted_part m lines drawn.place) lines are after after' (record { shape = shape; drawn = is; refines = refines }) (record { shape = shape'; drawn = is'; refines = refines' }) in
+      told_same m lines drawn.place after after' same (verdict_of after) tree tree' told
+      (subst (λ v. IsTakenBack m lines drawn.place after' v tree') (verdict_plain after' ∙ ap verdict_of (sym same) ∙ sym (verdict_plain after)) told')
+
+  found_same : (pivots : ℕ) → IsOne pivots
+  found_same zero state m lines are tree tree' e e' = ap plain_tree (e ∙ sym e')
+  found_same (suc pivots) state m lines are tree tree' f f' = found_at_same pivots (found_same pivots) m lines are (drawn_place m lines state) tree tree' f f'
+
+  -- two decompositions differ at most in what their networks say
+  pub drawn_with_same : (pivots state : ℕ) (m : Matrix) (lines : LineSet) → AreLinesOf lines lines → (tree tree' : Tree) → IsDrawnWith limit pivots state m lines tree → IsDrawnWith limit pivots state m lines tree' → plain_tree tree ≡ plain_tree tree'
+  drawn_with_same pivots state m lines are tree tree' d d' = drawn_same pivots (found_same pivots) state m lines are tree tree' d d'
+
+pub all_themselves : (m : Matrix) → AreLinesOf (all_lines m) (all_lines m)
+all_themselves m = record { rows_rise = first_lines_increase (height m); columns_rise = first_lines_increase m.width; rows = λ row h. h; columns = λ column h. h }
+
+pub one_pivoted_shape : OnePivotedShape
+one_pivoted_shape limit pivots m tree other d d' = drawn_with_same limit (pivots_within m pivots) 1 m (all_lines m) (all_themselves m) tree other d d'

@@ -1,0 +1,150 @@
+-- The node that a decomposition leaves open comes to the last case, also where pivots were made.
+use Rattle.std.proofs.Common.{◌≡◌, ◌-◌, ◌∙◌, ◌++◌, inl, inr, ℕ, zero, suc, false, List, [], ◌∷◌, Option, Some, None, refl, ap, sym, subst, arith}
+use Rattle.std.specs.List.{AllByRecursion}
+use Rattle.std.specs.Option.{option_or}
+use Rattle.cmr_base.specs.declared.line_set.LineSet.{LineSet}
+use Rattle.cmr_base.specs.Matrix.{Matrix, height}
+use Rattle.cmr_base.proofs.Lists.{all_front, all_back}
+use Rattle.cmr_base.proofs.Options.{some_or, some_same}
+use Rattle.pivots.specs.declared.drawn.DrawnPlace.{DrawnPlace}
+use Rattle.pivots.specs.declared.place.PivotPlace.{PivotPlace}
+use Rattle.pivots.specs.DrawnPlaces.{drawn_place}
+use Rattle.tree_type.specs.Trees.{Finding, Empty, Cycle, Reduced, OneSum, Network, Conetwork, R10, TwoSum, ThreeSum, Enumerated, Violator, Undecided, Pivoted, Tree, Trees, Branch, NoTrees, MoreTrees}
+use Rattle.tree_type.specs.Invariant.{AreLines, size_of, IsTreeWithin, AreTreesWithin}
+use Rattle.tree_type.specs.Places.{Due, AllLines, Place, places_from, places_below, due_child, lines_of_each}
+use Rattle.tree_type.specs.Soundness.{part}
+use Rattle.tree_type.specs.Verdicts.{Verdict, Yes, No, Open, first_in, first_among, open_at, verdict_of}
+use Rattle.tree_type.proofs.PlacedLines.{lines_within}
+use Rattle.decomp_tree.specs.Seen.{IsDrawn}
+use Rattle.decomp_tree.specs.Refined.{is_undecided, Refines, AllRefine}
+use Rattle.decomp_tree.specs.Shapes.{Case, HasNoLines, HasFault, IsReducible, IsApart, IsNetwork, IsConetwork, IsR10Matrix, IsTwoSum, IsThreeSum, IsShort, IsLeft, IsFirstCase, Says, finding_in, IsShapedAt}
+use Rattle.decomp_tree.specs.PivotedShapes.{IsTakenBack, IsFoundAt, IsFound, all_lines, pivots_within, undecided}
+use Rattle.decomp_tree.specs.PivotedLaws.{OpenLinesAreLeft}
+use Rattle.decomp_tree.proofs.FaultLines.{lines_themselves}
+use Rattle.decomp_tree.proofs.PivotedRoots.{all_are_lines}
+use Rattle.decomp_tree.proofs.RefinedTrees.{RefinedNode, replaced, kept, refined_node}
+use Rattle.decomp_tree.proofs.ShapeSound.{no_pivot}
+use Rattle.decomp_tree.proofs.YesTrees.{says_yes}
+
+-- ---- an undecided node
+
+only_undecided : (lines : LineSet) (f : Finding) → Undecided ≡ finding_in lines f → f ≡ Undecided
+only_undecided lines Undecided e = refl
+only_undecided lines Empty e = cc
+only_undecided lines (Cycle f) e = cc
+only_undecided lines (Reduced steps) e = cc
+only_undecided lines OneSum e = cc
+only_undecided lines (Network n) e = cc
+only_undecided lines (Conetwork n) e = cc
+only_undecided lines R10 e = cc
+only_undecided lines (TwoSum two) e = cc
+only_undecided lines (ThreeSum three) e = cc
+only_undecided lines Enumerated e = cc
+only_undecided lines (Violator f) e = cc
+only_undecided lines (Pivoted place) e = cc
+
+left_case : (n : Matrix) (case : Case) (parts : List LineSet) → Says case n Undecided parts → case ≡ IsLeft
+left_case n HasNoLines parts says = absurd says
+left_case n HasFault parts says = absurd says
+left_case n IsReducible parts says = absurd says
+left_case n IsApart parts says = absurd says
+left_case n IsNetwork parts says = absurd says
+left_case n IsConetwork parts says = absurd says
+left_case n IsR10Matrix parts says = absurd says
+left_case n IsTwoSum parts says = absurd says
+left_case n IsThreeSum parts says = absurd says
+left_case n IsShort parts says = absurd says
+left_case n IsLeft parts says = refl
+
+left_here : (limit : ℕ) (m : Matrix) (place : Place) → place.finding ≡ Undecided → IsShapedAt limit m place → IsFirstCase limit (part m place.lines) IsLeft
+left_here limit m place e shaped =
+    let found : shaped.found ≡ Undecided = only_undecided place.lines shaped.found (sym e ∙ shaped.finding) in
+    let says = subst (λ f. Says shaped.case (part m place.lines) f shaped.parts) found shaped.says in
+    subst (IsFirstCase limit (part m place.lines)) (left_case (part m place.lines) shaped.case shaped.parts says) shaped.first
+
+-- ---- what pivots find is open only where nothing is found
+
+none_is_some : {A B : Type 0} (x : A) → None ≡ Some x → B
+none_is_some x e = absurd (cc)
+
+or_none : {A : Type 0} (a : Option A) → option_or a None ≡ a
+or_none None = refl
+or_none (Some x) = refl
+
+undecided_open : (lines found : LineSet) → first_in open_at (undecided lines) ≡ Some found → found ≡ lines
+undecided_open lines found e = sym (some_same lines found e)
+
+told_open : (m : Matrix) (lines : LineSet) (place : PivotPlace) (after : Tree) (v : Verdict) → verdict_of after ≡ v → (tree : Tree) (found : LineSet) → IsTakenBack m lines place after v tree → first_in open_at tree ≡ Some found → found ≡ lines
+told_open m lines place after Yes is tree found e first =
+    none_is_some found (sym (says_yes after is).1 ∙ sym (or_none (first_in open_at after)) ∙ sym (ap (first_in open_at) e) ∙ first)
+told_open m lines place after (No fault) is tree found (before, b, e) first = none_is_some found (sym (ap (first_in open_at) e) ∙ first)
+told_open m lines place after (Open left) is tree found e first = undecided_open lines found (sym (ap (first_in open_at) e) ∙ first)
+
+found_at_open : (IsTree : ℕ → Matrix → Tree → Type 0) (m : Matrix) (lines : LineSet) (drawn : Option DrawnPlace) (tree : Tree) (found : LineSet) → IsFoundAt IsTree m lines drawn tree → first_in open_at tree ≡ Some found → found ≡ lines
+found_at_open IsTree m lines None tree found e first = undecided_open lines found (sym (ap (first_in open_at) e) ∙ first)
+found_at_open IsTree m lines (Some drawn) tree found (inl (fault, shows, e)) first = none_is_some found (sym (ap (first_in open_at) e) ∙ first)
+found_at_open IsTree m lines (Some drawn) tree found (inr (ternary, after, is, told)) first = told_open m lines drawn.place after (verdict_of after) refl tree found told first
+
+found_open : (limit pivots state : ℕ) (m : Matrix) (lines : LineSet) (tree : Tree) (found : LineSet) → IsFound limit pivots state m lines tree → first_in open_at tree ≡ Some found → found ≡ lines
+found_open limit zero state m lines tree found e first = undecided_open lines found (sym (ap (first_in open_at) e) ∙ first)
+found_open limit (suc pivots) state m lines tree found is first =
+    found_at_open (λ next after t. (shape : Tree) × IsDrawn limit after lines shape × Refines (IsFound limit pivots next after) shape t) m lines (drawn_place m lines state) tree found is first
+
+-- ---- the nodes of a decomposition
+
+open_kept : (lines : LineSet) (finding : Finding) → is_undecided finding ≡ false → open_at lines finding ≡ None
+open_kept lines Undecided e = absurd (cc)
+open_kept lines Empty e = refl
+open_kept lines (Cycle fault) e = refl
+open_kept lines (Reduced steps) e = refl
+open_kept lines OneSum e = refl
+open_kept lines (Network net) e = refl
+open_kept lines (Conetwork net) e = refl
+open_kept lines R10 e = refl
+open_kept lines (TwoSum two) e = refl
+open_kept lines (ThreeSum three) e = refl
+open_kept lines Enumerated e = refl
+open_kept lines (Violator fault) e = refl
+open_kept lines (Pivoted place) e = refl
+
+module _ (limit : ℕ) (m : Matrix) (Stands : LineSet → Tree → Type 0) (stands_open : (lines : LineSet) (tree : Tree) (found : LineSet) → Stands lines tree → first_in open_at tree ≡ Some found → found ≡ lines) where
+  abbrev IsOpen : LineSet → Type 0
+  IsOpen found = AreLines m found × IsFirstCase limit (part m found) IsLeft
+
+  mutual
+    open_refined : (path : List ℕ) (due : Due) (parent : LineSet) (levels : ℕ) (shape tree : Tree) (found : LineSet) → AreLines m parent → IsTreeWithin parent levels shape → AllByRecursion (IsShapedAt limit m) (places_from path [] due shape)
+        → Refines Stands shape tree → first_in open_at tree ≡ Some found → IsOpen found
+    open_refined path due parent levels (Branch lines finding trees) tree found are within shaped r first =
+        go (refined_node Stands lines finding trees tree r) (λ below all e. open_each path lines finding (levels - 1) 0 trees below found here within.4 below_shaped all e)
+      where
+        here : AreLines m lines
+        here = lines_within m lines parent within.1 are
+
+        place : Place
+        place = record { path = path; pivots = []; due = due; lines = lines; finding = finding; children = lines_of_each trees }
+
+        below_shaped : AllByRecursion (IsShapedAt limit m) (places_below path [] lines finding 0 trees)
+        below_shaped = subst (λ ps. AllByRecursion (IsShapedAt limit m) (places_below path ps lines finding 0 trees)) (no_pivot [] limit (part m lines) shaped.0.case shaped.0.found shaped.0.parts lines finding shaped.0.says shaped.0.finding) shaped.1
+
+        go : RefinedNode Stands lines finding trees tree → ((below : Trees) → AllRefine Stands trees below → first_among open_at below ≡ Some found → IsOpen found) → IsOpen found
+        go (replaced e stands) each = subst IsOpen (sym (stands_open lines tree found stands first)) (here, left_here limit m place e shaped.0)
+        go (kept e below is all) each = each below all (ap (λ (o : Option LineSet). option_or o (first_among open_at below)) (sym (open_kept lines finding e)) ∙ sym (ap (first_in open_at) is) ∙ first)
+
+    open_each : (path : List ℕ) (lines : LineSet) (finding : Finding) (levels k : ℕ) (trees below : Trees) (found : LineSet) → AreLines m lines → AreTreesWithin lines levels trees → AllByRecursion (IsShapedAt limit m) (places_below path [] lines finding k trees)
+        → AllRefine Stands trees below → first_among open_at below ≡ Some found → IsOpen found
+    open_each path lines finding levels k NoTrees below found are within shaped e first = none_is_some found (sym (ap (first_among open_at) e) ∙ first)
+    open_each path lines finding levels k (MoreTrees tree trees) below found are within shaped (one, rest, e, r, all) first =
+        let now = places_from (path ++ k ∷ []) [] (due_child lines finding k) tree in
+        let later = places_below path [] lines finding (suc k) trees in
+        elim (some_or (first_in open_at one) (first_among open_at rest) found (sym (ap (first_among open_at) e) ∙ first)) [
+          | inl h ↦ open_refined (path ++ k ∷ []) (due_child lines finding k) lines levels tree one found are within.0 (all_front (IsShapedAt limit m) now later shaped) r h
+          | inr h ↦ open_each path lines finding levels (suc k) trees rest found are within.1 (all_back (IsShapedAt limit m) now later shaped) all h
+        ]
+
+-- the lines that a decomposition leaves open come to the last case
+pub open_case : OpenLinesAreLeft
+open_case limit pivots m tree lines is d first =
+    let all = all_lines m in
+    let are = all_are_lines m is in
+    open_refined limit m (IsFound limit (pivots_within m pivots) 1 m) (λ some t found stands e. found_open limit (pivots_within m pivots) 1 m some t found stands e)
+    [] (AllLines (height m) m.width) all (suc (size_of all)) d.shape tree lines are (d.drawn.within all (suc (size_of all)) (lines_themselves m all are) (omega arith)) (d.drawn.shaped [] (AllLines (height m) m.width) (refl, refl)) d.refines first

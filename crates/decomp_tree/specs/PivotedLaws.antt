@@ -1,0 +1,35 @@
+-- Laws of decompositions that make pivots where nothing else decides.
+use Rattle.std.specs.Prelude.{◌≡◌, ◌≤◌, ℕ, Some}
+use Rattle.cmr_base.specs.declared.line_set.LineSet.{LineSet}
+use Rattle.cmr_base.specs.Matrix.{Matrix, height, IsMatrix}
+use Rattle.tree_type.specs.Trees.{Tree}
+use Rattle.tree_type.specs.Invariant.{AreLines, IsTreeFor}
+use Rattle.tree_type.specs.Soundness.{IsSoundTree, part}
+use Rattle.tree_type.specs.Verdicts.{first_in, open_at}
+use Rattle.decomp_tree.specs.PlainTrees.{plain_tree}
+use Rattle.decomp_tree.specs.Shapes.{IsFirstCase, IsLeft, IsShape}
+use Rattle.decomp_tree.specs.PivotedShapes.{IsShapeWith}
+
+-- no node stands deeper than 2,000, however many pivots are made
+abbrev pub PivotedShapesAreTrees : Type 0
+PivotedShapesAreTrees = (limit pivots : ℕ) (m : Matrix) (tree : Tree) → IsMatrix m → IsShapeWith limit pivots m tree → IsTreeFor (height m) m.width tree
+
+-- they keep all rules
+abbrev pub PivotedShapesAreSound : Type 0
+PivotedShapesAreSound =
+    (limit pivots : ℕ) (m : Matrix) (tree : Tree) → limit ≤ 24 → IsMatrix m → IsShapeWith limit pivots m tree → IsSoundTree m (height m) m.width tree
+
+-- two of them differ at most in what their networks say
+abbrev pub OnePivotedShape : Type 0
+OnePivotedShape =
+    (limit pivots : ℕ) (m : Matrix) (tree other : Tree) → IsShapeWith limit pivots m tree → IsShapeWith limit pivots m other → plain_tree tree ≡ plain_tree other
+
+-- where no pivot may be made they are the decompositions that make none
+abbrev pub NoPivotsChangeNothing : Type 0
+NoPivotsChangeNothing = (limit : ℕ) (m : Matrix) (tree : Tree) → IsShapeWith limit 0 m tree → IsShape limit m tree
+
+-- the lines that they leave open come to the last case, as where no pivot is made
+abbrev pub OpenLinesAreLeft : Type 0
+OpenLinesAreLeft =
+    (limit pivots : ℕ) (m : Matrix) (tree : Tree) (lines : LineSet) → IsMatrix m → IsShapeWith limit pivots m tree → first_in open_at tree ≡ Some lines
+    → AreLines m lines × IsFirstCase limit (part m lines) IsLeft

@@ -1,0 +1,85 @@
+-- The shape of a decomposition that makes pivots where nothing else decides.
+use Rattle.std.specs.Prelude.{◌≡◌, ◌+◌, ◌-◌, ◌++◌, ◌⊎◌, ℕ, zero, suc, min, List, [], ◌∷◌, Option, Some, None}
+use Rattle.cmr_base.specs.declared.line_set.LineSet.{LineSet}
+use Rattle.cmr_base.specs.Matrix.{Matrix, height}
+use Rattle.cmr_base.specs.LineSets.{IsRowSet, IsColumnSet, first_lines}
+use Rattle.ghouila.specs.PivotLaws.{AreLinesBefore}
+use Rattle.pivots.specs.declared.drawn.DrawnPlace.{DrawnPlace}
+use Rattle.pivots.specs.declared.place.PivotPlace.{PivotPlace}
+use Rattle.pivots.specs.DrawnPlaces.{drawn_place}
+use Rattle.pivots.specs.PivotedParts.{pivoted_part, AreAmong, IsTernaryPivot, ShowsFirstTwoIn}
+use Rattle.tree_type.specs.Trees.{Tree, Branch, NoTrees, Undecided, Violator, Pivoted, one_tree}
+use Rattle.tree_type.specs.Verdicts.{Verdict, Yes, No, Open, verdict_of}
+use Rattle.decomp_tree.specs.Refined.{Refines}
+use Rattle.decomp_tree.specs.Seen.{IsDrawn}
+
+abbrev pub undecided : LineSet → Tree
+undecided lines = Branch lines Undecided NoTrees
+
+-- The pivot of the submatrix has a 2 or a -2: the node names the two rows and the two columns that show it.
+abbrev pub IsShown : Matrix → LineSet → PivotPlace → Tree → Type 0
+IsShown m lines place tree =
+    (fault : LineSet) × ShowsFirstTwoIn m lines place fault.rows fault.columns × (tree ≡ Branch lines (Violator fault) NoTrees)
+
+-- lines of the matrix that are those of a fault before the pivot
+pub record AreBefore (m : Matrix) (place : PivotPlace) (fault before : LineSet) : Type 0 where
+  pub row_set : IsRowSet m before.rows
+  pub column_set : IsColumnSet m before.columns
+  pub lines : AreLinesBefore m place.row place.column fault.rows fault.columns before.rows before.columns
+
+-- What the tree of the submatrix after a pivot says, told of the submatrix: a yes by a pivoted node above that tree, a no by
+-- its fault taken back to the lines before the pivot, and nothing where it is undecided.
+abbrev pub IsTakenBack : Matrix → LineSet → PivotPlace → Tree → Verdict → Tree → Type 0
+IsTakenBack m lines place after Yes tree = tree ≡ Branch lines (Pivoted place) (one_tree after)
+IsTakenBack m lines place after (No fault) tree =
+    (before : LineSet) × AreBefore m place fault before × (tree ≡ Branch lines (Violator before) NoTrees)
+IsTakenBack m lines place after (Open left) tree = tree ≡ undecided lines
+
+-- A pivot at a place that is drawn, if there is one, and then the tree of the submatrix after it, which goes on from the next
+-- state.
+abbrev pub IsFoundAt : (ℕ → Matrix → Tree → Type 0) → Matrix → LineSet → Option DrawnPlace → Tree → Type 0
+IsFoundAt IsTree m lines None tree = tree ≡ undecided lines
+IsFoundAt IsTree m lines (Some drawn) tree =
+    IsShown m lines drawn.place tree
+    ⊎ (IsTernaryPivot m lines drawn.place
+    × (after : Tree) × IsTree drawn.state (pivoted_part m lines drawn.place) after
+    × IsTakenBack m lines drawn.place after (verdict_of after) tree)
+
+-- What stands in the place of an undecided node on these lines where so many pivots may still be made, of which the first is
+-- drawn from this state. The submatrix after a pivot has a decomposition of its own, in which one pivot fewer may be made.
+abbrev pub IsFound : ℕ → ℕ → ℕ → Matrix → LineSet → Tree → Type 0
+IsFound limit zero state m lines tree = tree ≡ undecided lines
+IsFound limit (suc pivots) state m lines tree =
+    IsFoundAt
+    (λ next after found. (shape : Tree) × IsDrawn limit after lines shape
+    × Refines (IsFound limit pivots next after) shape found)
+    m lines (drawn_place m lines state) tree
+
+-- the decomposition of the submatrix on some lines, with what is found by pivots in the places of its undecided nodes
+pub record IsDrawnWith (limit pivots state : ℕ) (m : Matrix) (lines : LineSet) (tree : Tree) : Type 0 where
+  pub shape : Tree
+  pub drawn : IsDrawn limit m lines shape
+  pub refines : Refines (IsFound limit pivots state m) shape tree
+
+-- so many pivots that no node stands deeper than 2,000, also where each line is a level
+abbrev pub pivots_within : Matrix → ℕ → ℕ
+pivots_within m pivots = min pivots (2000 - (height m + m.width))
+
+abbrev pub all_lines : Matrix → LineSet
+all_lines m = record { rows = first_lines (height m); columns = first_lines m.width }
+
+-- The tree is a decomposition of the matrix with this budget of lines, in which so many pivots may be made on the way to a node.
+abbrev pub IsShapeWith : ℕ → ℕ → Matrix → Tree → Type 0
+IsShapeWith limit pivots m tree = IsDrawnWith limit (pivots_within m pivots) 1 m (all_lines m) tree
+
+-- a tree stands behind some others
+pub record IsBehind (Stands : Tree → Type 0) (before after : List Tree) : Type 0 where
+  pub tree : Tree
+  pub order : after ≡ before ++ tree ∷ []
+  pub stands : Stands tree
+
+-- a fault that a verdict names has lines among these
+abbrev pub HasFaultAmong : LineSet → Verdict → Type 0
+HasFaultAmong lines Yes = Unit {0}
+HasFaultAmong lines (No fault) = AreAmong lines fault.rows fault.columns
+HasFaultAmong lines (Open left) = Unit {0}

@@ -1,0 +1,22 @@
+-- Trees in which others stand in the places of undecided nodes.
+use Rattle.std.specs.Prelude.{◌≡◌, Bool, true, false}
+use Rattle.cmr_base.specs.declared.line_set.LineSet.{LineSet}
+use Rattle.tree_type.specs.Trees.{Finding, Undecided, Tree, Trees, Branch, NoTrees, MoreTrees}
+
+abbrev pub is_undecided : Finding → Bool
+is_undecided Undecided = true
+is_undecided finding = false
+
+abbrev mutual
+  -- The second tree is the first, but for what stands in the place of each undecided node: there it is any tree of these for
+  -- the node's lines.
+  pub Refines : (LineSet → Tree → Type 0) → Tree → Tree → Type 0
+  Refines Stands (Branch lines Undecided trees) tree = Stands lines tree
+  Refines Stands (Branch lines finding trees) tree =
+      (below : Trees) × (tree ≡ Branch lines finding below) × AllRefine Stands trees below
+
+  pub AllRefine : (LineSet → Tree → Type 0) → Trees → Trees → Type 0
+  AllRefine Stands NoTrees below = below ≡ NoTrees
+  AllRefine Stands (MoreTrees tree trees) below =
+      (first : Tree) × (rest : Trees) × (below ≡ MoreTrees first rest)
+      × Refines Stands tree first × AllRefine Stands trees rest

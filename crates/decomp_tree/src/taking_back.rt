@@ -1,0 +1,59 @@
+// What the tree of a submatrix after a pivot says of the submatrix.
+ghost use Rattle.std.specs.Prelude.{◌≡◌, IfOk};
+ghost use Rattle.cmr_base.specs.LineSets.{IsRowSet, IsColumnSet};
+ghost use Rattle.pivots.specs.PivotedParts.{IsPlaceIn};
+ghost use Rattle.tree_type.specs.Trees.{Branch, NoTrees, Pivoted, one_tree, tree_of};
+ghost use Rattle.tree_type.specs.Invariant.{HasChildren};
+ghost use Rattle.tree_type.specs.Findings.{finding_shown};
+ghost use Rattle.tree_type.specs.Verdicts.{verdict_of};
+ghost use Rattle.decomp_tree.specs.PivotedShapes.{IsTakenBack, HasFaultAmong};
+
+use cmr_base::{LineSet, Matrix, Memory};
+use pivots::{PivotPlace, violator_before_part};
+use std::alloc::Global;
+use tree_type::{Finding, Node, VerdictOf, copy_of, join_node, verdict_at};
+
+/// The node on these lines that tells what the tree of their submatrix says after a pivot: it stands above a tree that says
+/// yes, names the lines before the pivot of a fault that the tree names, and is undecided where the tree is.
+pub fn taken_back(
+    alloc: Global,
+    matrix: &Matrix,
+    lines: &LineSet,
+    place: PivotPlace,
+    after: Node,
+) -> Result<Node, Memory>
+    requires rows { IsRowSet matrix.now lines.now.rows }
+    requires columns { IsColumnSet matrix.now lines.now.columns }
+    requires place { IsPlaceIn matrix.now lines.now place }
+    requires fault { HasFaultAmong lines.now (verdict_of (tree_of after)) }
+    ensures { IfOk result (λ node. IsTakenBack matrix.now lines.now place (tree_of after) (verdict_of (tree_of after)) (tree_of node)) }
+{
+    let before = match verdict_at(&after) {
+        VerdictOf::Yes => return above(alloc, lines, place, after),
+        VerdictOf::No(fault) => violator_before_part(alloc, matrix, lines, place, fault)?,
+        VerdictOf::Undecided(_) => return leaf(alloc, lines, Finding::Undecided),
+    };
+    leaf(alloc, lines, Finding::Violator(before))
+}
+
+// The pivoted node above a tree.
+fn above(alloc: Global, lines: &LineSet, place: PivotPlace, after: Node) -> Result<Node, Memory>
+    ensures { IfOk result (λ node. tree_of node ≡ Branch lines.now (Pivoted place) (one_tree (tree_of after))) }
+{
+    let mut children = Vec::new(alloc);
+    children.push(after)?;
+    join_node(
+        alloc,
+        copy_of(alloc, lines)?,
+        Finding::Pivoted(place),
+        children,
+    )
+}
+
+/// The leaf that says this of some lines.
+pub fn leaf(alloc: Global, lines: &LineSet, finding: Finding) -> Result<Node, Memory>
+    requires { HasChildren (finding_shown finding) 0 }
+    ensures { IfOk result (λ node. tree_of node ≡ Branch lines.now (finding_shown finding) NoTrees) }
+{
+    join_node(alloc, copy_of(alloc, lines)?, finding, Vec::new(alloc))
+}
