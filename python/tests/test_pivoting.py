@@ -18,8 +18,8 @@ from tests.test_random import drawn, network
 
 Rows = list[list[int]]
 
-MOST_NONZEROS = 400
-"""Models with more nonzeros are for `bench/pivots.py`."""
+MOST_NONZEROS, MOST_SLOW = 1000, 150
+"""Models with more nonzeros are for `bench/pivots.py`, and the slow program has those with up to `MOST_SLOW`."""
 
 
 class Rules(unittest.TestCase):
@@ -115,7 +115,7 @@ class Models(AnswerTest):
         self.shows_no(matrix, answer)
 
     def test_models(self) -> None:
-        """Each small model has the answer that is known, with evidence, and the tree of the slow program."""
+        """Each model has the answer that is known, with evidence, and small ones have the tree of the slow program."""
         for name, says, rows in models():
             matrix = Matrix.of(rows)
             if len(matrix.nonzeros) > MOST_NONZEROS:
@@ -127,7 +127,8 @@ class Models(AnswerTest):
                     self.shows_yes(rows, answer)
                 else:
                     self.shows_no(matrix, answer)
-                self.is_the_slow_tree(matrix, answer.tree, 20, 14)
+                if len(matrix.nonzeros) <= MOST_SLOW:
+                    self.is_the_slow_tree(matrix, answer.tree, 20, 14)
 
     def test_regularity(self) -> None:
         """A no has a chain, whose violator is one of the signs of its steps."""

@@ -42,6 +42,7 @@ FILES = {
     "empty.txt": b"",
     "blank.txt": b" \n\n",
     "a.tree": b"cmr-tree 2\n2 2\nnetwork 2 2 1 2 1 2\n0 1 1 2 0 1 1 2\n",
+    "pivots.tree": b"cmr-pivots 1\n2 2\npivoted 2 2 1 2 1 2\n1 1\nnetwork 2 2 1 2 1 2\n0 1 1 2 0 1 1 2\n",
     "other.tree": b"cmr-tree 2\n1 1\nnetwork 1 1 1 1\n0 1 0 1\n",
     "v3.tree": b"cmr-tree 3\n2 2\n",
     "a.graph": b"0 1 r1\n1 2 r2\n0 2 c1\n",
@@ -154,6 +155,7 @@ TEXTS = [
         "tu a.tree",
         ["a.tree is read as a dense text, and seems to be a decomposition tree: `cmr check MATRIX EVIDENCE`"],
     ),
+    ("tu pivots.tree", ["pivots.tree is read as a dense text, and seems to be a decomposition tree"]),
     (
         "check a.tree signed.txt",
         ["seems to be a decomposition tree: are the two swapped? The words are MATRIX EVIDENCE"],
@@ -177,6 +179,7 @@ ELSE = [
     ("tu -D /dev/full m.txt", 4, ["/dev/full: the disk is full"]),
     ("tu -E x -D x m.txt", 1, ["`-E` and `-D` name one file, x"]),
     ("check m.txt a.tree", 7, ["of another size", "m.txt has size 3x3", "a.tree is for a matrix of size 2x2"]),
+    ("check m.txt pivots.tree", 7, ["of another size", "pivots.tree is for a matrix of size 2x2"]),
     ("check m.txt minimal.txt", 7, ["are no violator", "`-N`", "m.txt has size 3x3"]),
     ("check signed.txt a.tree", 7, ["does not fit to the matrix"]),
     ("compose delta m.txt a.one -M s", 7, ["have not the connecting lines of this sum"]),

@@ -115,7 +115,7 @@ _KINDS = {
     "TwiceNamed": "is the column of a place that was named before",
     "OtherSize": "is a size that is not the matrix's",
     "NotRising": "is not above the number before it in its list",
-    "WrongVersion": "stands where a tree text has `cmr-tree 2` or `cmr-tree 1`, and a chain text `cmr-chain 1`",
+    "WrongVersion": "stands where a tree text has `cmr-tree 2`, `cmr-tree 1` or `cmr-pivots 1`, and a chain text `cmr-chain 1`",
     "TooDeep": "begins a node that is deeper than 2,000",
     "UnknownKind": "is no kind of a node (`concentrated` is one in version 2 alone)",
     "UnknownStep": "stands where `free`, `forced` or `violator` is due",

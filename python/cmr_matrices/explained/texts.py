@@ -19,7 +19,7 @@ _MAGIC = [
     (b"\xfe\xff", "utf16", "a text in UTF-16", "`iconv -f utf-16 -t utf-8` turns it into plain text"),
 ]
 _BY_FRONT = [
-    ("tree", r"cmr-tree\b", "a decomposition tree", ""),
+    ("tree", r"cmr-(?:tree|pivots)\b", "a decomposition tree", ""),
     ("chain", r"cmr-chain\b", "a chain of signs", ""),
     ("market", r"%%MatrixMarket", "a Matrix Market file", f"{_PACKAGE}: `Matrix.of(scipy.io.mmread(..)).to_text()`"),
     ("graph", r"\s*[0-9]+\s+[0-9]+\s+[rc][0-9]+\s", "a graph text", "`graphic -c` and `network -c` read it"),
