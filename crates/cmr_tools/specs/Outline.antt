@@ -27,11 +27,13 @@ place_words (Violator fault) = []
 place_words Undecided = []
 place_words (Pivoted place) = pivot_words place
 
--- the depth of a node, its kind, the numbers of its rows and columns, and where its pivot is made
+-- the numbers of its rows and columns, and where its pivot is made, to the end of the line
+abbrev pub size_and_place : LineSet → Finding → List ℕ
+size_and_place lines finding = codes " " ++ decimal (length lines.rows) ++ codes "x" ++ decimal (length lines.columns) ++ place_words finding ++ codes "\n"
+
+-- the depth of a node, its kind, its size and the place of its pivot
 abbrev pub outline_line : ℕ → LineSet → Finding → List ℕ
-outline_line depth lines finding =
-    decimal depth ++ codes " " ++ word_of (kind_of finding) ++ codes " " ++ decimal (length lines.rows) ++ codes "x" ++ decimal (length lines.columns)
-    ++ place_words finding ++ codes "\n"
+outline_line depth lines finding = decimal depth ++ codes " " ++ word_of (kind_of finding) ++ size_and_place lines finding
 
 abbrev mutual
   -- a node, and behind it the nodes below it

@@ -1,7 +1,7 @@
 // The outline of a decomposition.
 ghost use Rattle.std.specs.Prelude.{◌≡◌, ◌+◌, ◌++◌, OnOk, codes};
 ghost use Rattle.std.specs.Fmt.{decimal};
-ghost use Rattle.cmr_tools.specs.Outline.{IsAtDepth, outline_from, outline_line, pivot_words, place_words};
+ghost use Rattle.cmr_tools.specs.Outline.{IsAtDepth, outline_from, outline_line, pivot_words, place_words, size_and_place};
 ghost use Rattle.tree_text.specs.KindWords.{finding_of};
 ghost use Rattle.tree_type.specs.Trees.{tree_of};
 
@@ -64,10 +64,14 @@ fn push_node_line(text: &mut Vec<u8>, node: &Node, depth: u32) -> Result<(), Mem
     text.extend_from_slice(buffer.format(depth).as_bytes())?;
     text.push(b' ')?;
     text.extend_from_slice(word_of(kind_of(node)))?;
+    push_size_and_place(text, node)
+}
+
+fn push_size_and_place(text: &mut Vec<u8>, node: &Node) -> Result<(), Memory>
+    ensures { OnOk result (text.new.items ≡ text.old.items ++ size_and_place node.now.lines (finding_of (tree_of node.now))) }
+{
     push_size(text, node.lines.rows.len(), node.lines.columns.len())?;
-    push_place(text, node)?;
-    text.push(b'\n')?;
-    Ok(())
+    push_place(text, node)
 }
 
 fn push_size(text: &mut Vec<u8>, rows: usize, columns: usize) -> Result<(), Memory>
@@ -82,7 +86,7 @@ fn push_size(text: &mut Vec<u8>, rows: usize, columns: usize) -> Result<(), Memo
 }
 
 fn push_place(text: &mut Vec<u8>, node: &Node) -> Result<(), Memory>
-    ensures { OnOk result (text.new.items ≡ text.old.items ++ place_words (finding_of (tree_of node.now))) }
+    ensures { OnOk result (text.new.items ≡ text.old.items ++ place_words (finding_of (tree_of node.now)) ++ codes "\n") }
 {
     match &node.kind {
         Kind::Pivoted { place, .. } => push_pivot(text, *place),
@@ -97,17 +101,21 @@ fn push_place(text: &mut Vec<u8>, node: &Node) -> Result<(), Memory>
         | Kind::ThreeSum { .. }
         | Kind::Enumerated
         | Kind::Violator { .. }
-        | Kind::Undecided => Ok(()),
+        | Kind::Undecided => {
+            text.push(b'\n')?;
+            Ok(())
+        }
     }
 }
 
 fn push_pivot(text: &mut Vec<u8>, place: PivotPlace) -> Result<(), Memory>
-    ensures { OnOk result (text.new.items ≡ text.old.items ++ pivot_words place) }
+    ensures { OnOk result (text.new.items ≡ text.old.items ++ pivot_words place ++ codes "\n") }
 {
     let mut buffer = Buffer::new();
     text.extend_from_slice(b" row ")?;
     text.extend_from_slice(buffer.format(u64::from(place.row) + 1).as_bytes())?;
     text.extend_from_slice(b" column ")?;
     text.extend_from_slice(buffer.format(u64::from(place.column) + 1).as_bytes())?;
+    text.push(b'\n')?;
     Ok(())
 }
