@@ -18,7 +18,8 @@ from pathlib import Path
 from typing import Any
 from unittest import mock
 
-from cmr_matrices import find_program
+from cmr_matrices import Matrix, find_program
+from tests.open_matrices import two_goods
 from tests.support import EXAMPLES, TOP, is_gone, needs_module, needs_program, waits_until
 
 COMMAND = [sys.executable, str(TOP / "scripts" / "cmr-classify")]
@@ -157,6 +158,16 @@ class Tables(CommandTest):
         ran = self.runs("-", "--output", "table.csv", text=stream(12))
         self.assertEqual(self.runs("--tables", "table.parquet").stdout, ran.stdout)
 
+    def test_pivots(self) -> None:
+        """What is undecided is decided behind pivots, of each class that has a budget."""
+        words = ["-", "--format", "sparse", "--output", "table.csv", "--classes", "tu,balanced", "--lines", "0"]
+        goods = Matrix.of(two_goods(6)).to_text()
+        for pivots, verdict in ((0, "undecided"), (20, "yes")):
+            self.runs(*words, "--pivots", str(pivots), text=goods)
+            (row,) = rows_of(self.folder / "table.csv")
+            self.assertEqual((row["tu"], row["balanced"]), (verdict, verdict))
+            (self.folder / "table.csv").unlink()
+
     def test_words_that_are_refused(self) -> None:
         for words in (
             ["--part", "3/2"],
@@ -165,6 +176,7 @@ class Tables(CommandTest):
             ["--classes", "tu,x"],
             ["--resume"],
             ["--lines", "25"],
+            ["--pivots", "101"],
         ):
             self.runs("-", *words, status=2)
 

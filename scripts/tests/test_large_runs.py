@@ -15,7 +15,8 @@ SECONDS = 60
 class LargeRunsTest(ScriptTest):
     def says_yes(self, *words):
         """What the program prints within the time of a test where it answers with status 0."""
-        run = subprocess.run([BUILT, *words], capture_output=True, text=True, cwd=self.folder, timeout=SECONDS, check=False)
+        command = [BUILT, *words]
+        run = subprocess.run(command, capture_output=True, text=True, cwd=self.folder, timeout=SECONDS, check=False)
         self.assertEqual((run.returncode, run.stderr), (0, ""), words)
         return run.stdout.splitlines()
 

@@ -35,6 +35,15 @@ class Settings:
     evidence: bool = False
     infers: bool = False
     """Whether a class is not asked where the inclusions settle it. Else the verdicts are held against them."""
+    pivots: int = 0
+    """The most pivots on the way to a part that nothing else decides."""
+
+    def budget(self, kind: MatrixClass) -> list[str]:
+        """The words that say how long a class is looked for."""
+        if not kind.has_budget:
+            return []
+        lines = [] if self.lines is None else ["--lines", str(self.lines)]
+        return [*lines, *(["--pivots", str(self.pivots)] if self.pivots else [])]
 
 
 @dataclass(frozen=True)
@@ -173,8 +182,7 @@ class _Asked:
             return self._verdict(_REGULAR, file, "sparse", []) != "no"
 
     def _verdict(self, kind: MatrixClass, text: int, form: Format, options: Sequence[str]) -> str:
-        budget = ["--lines", str(self.settings.lines)] if kind.has_budget and self.settings.lines is not None else []
-        words = [*kind.words, "-i", form, *budget, *options]
+        words = [*kind.words, "-i", form, *self.settings.budget(kind), *options]
         return ask(self.settings.program, words, text, kind.said, self.settings.time_limit)
 
     def _with_evidence(self, kind: MatrixClass) -> str:

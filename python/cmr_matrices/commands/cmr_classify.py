@@ -90,6 +90,7 @@ def arguments() -> argparse.Namespace:
     add("--part", metavar="K/N", type=part, default=(1, 1), help="take every N-th matrix from the K-th on")
     add("--evidence", metavar="DIR", help="keep evidence in DIR/CLASS/FILE/NUMBER.KIND")
     add("--lines", metavar="L", type=number(0, 24), help="the budget of the searches (14)")
+    add("--pivots", metavar="K", type=number(0, 100), default=0, help="go on behind so many pivots (0)")
     add("--time-limit", metavar="S", type=number(1, 10**8), help="leave a class undecided after so many seconds")
     add(
         "--infer",
@@ -170,7 +171,13 @@ class _Run:
         except ProgramMissing as fault:
             raise BadInput(str(fault)) from fault
         settings = Settings(
-            chosen.classes, program, chosen.lines, chosen.time_limit, chosen.evidence is not None, chosen.infer
+            chosen.classes,
+            program,
+            chosen.lines,
+            chosen.time_limit,
+            chosen.evidence is not None,
+            chosen.infer,
+            chosen.pivots,
         )
         if chosen.dask:
             return Cluster(chosen.dask, settings, chosen.worker_program)
