@@ -18,7 +18,8 @@ pub struct FaultProbe<'a> {
 impl<'a> FaultProbe<'a> {
     /// The row set with a number.
     pub fn rows_at(&self, alloc: Global, number: u64) -> Result<Indices, Memory>
-        ensures numbered { IfOk result (λ rows. rows ≡ set_numbered (height self.now.matrix.now) 0 number) }
+        ensures numbered { IfOk result (λ rows. rows ≡ set_numbered (height self.now.matrix.now) 0
+            number) }
         ensures row_set { IfOk result (IsRowSet self.now.matrix.now) }
     {
         Indices::numbered(alloc, self.matrix.rows(), number)

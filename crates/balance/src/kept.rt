@@ -67,7 +67,8 @@ fn has_alike(matrix: &Matrix, rows: &[u32], columns: &[u32], column: u32) -> boo
     requires few { length rows.now ≤ 1000 }
     requires columns { AllBelow matrix.now.width columns.now }
     requires column { column < matrix.now.width }
-    ensures { IsTrue result ↔ ((other : ℕ) × IsIn other columns.now × AreAlike matrix.now rows.now other column) }
+    ensures { IsTrue result
+        ↔ ((other : ℕ) × IsIn other columns.now × AreAlike matrix.now rows.now other column) }
 {
     for other in columns {
         if are_alike(matrix, rows, *other, column) {
@@ -97,7 +98,10 @@ fn join_same_rows(matrix: &Matrix, rows: &[u32], first: u32, second: u32) -> boo
     requires rows { AllBelow (height matrix.now) rows.now }
     requires first { first < matrix.now.width }
     requires second { second < matrix.now.width }
-    ensures { IsTrue result ↔ AllByRecursion (λ row. is_nonzero (entry matrix.now row first) ≡ is_nonzero (entry matrix.now row second)) rows.now }
+    ensures { IsTrue result
+        ↔ AllByRecursion
+        (λ row. is_nonzero (entry matrix.now row first) ≡ is_nonzero (entry matrix.now row second))
+        rows.now }
 {
     for row in rows {
         let is_first = is_nonzero(matrix, *row, first);

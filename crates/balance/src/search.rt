@@ -56,7 +56,8 @@ fn least<R: Threads + Sync>(
 ) -> Result<Option<LineSet>, Memory>
     requires few { shorter_side matrix.now ≤ 24 }
     requires workers { (1 ≤ workers) × (workers ≤ 64) }
-    ensures least { IfOk result (λ answer. IfSome answer (λ lines. IsLeastFault matrix.now lines.rows lines.columns)) }
+    ensures least { IfOk result (λ answer.
+        IfSome answer (λ lines. IsLeastFault matrix.now lines.rows lines.columns)) }
     ensures none { IfOk result (λ answer. IfNone answer (IsBalanced matrix.now)) }
 {
     if matrix.rows() <= matrix.columns() {
@@ -85,7 +86,8 @@ fn least_by_columns<R: Threads + Sync>(
     requires few { matrix.now.width ≤ 24 }
     requires shape { IsMatrix matrix.now }
     requires workers { (1 ≤ workers) × (workers ≤ 64) }
-    ensures least { IfOk result (λ answer. IfSome answer (λ lines. IsLeastFaultByColumns matrix.now lines.rows lines.columns)) }
+    ensures least { IfOk result (λ answer.
+        IfSome answer (λ lines. IsLeastFaultByColumns matrix.now lines.rows lines.columns)) }
     ensures none { IfOk result (λ answer. IfNone answer (IsBalanced matrix.now)) }
 {
     let turned = turned(alloc, matrix)?;
@@ -110,7 +112,8 @@ fn least_by_rows<R: Threads + Sync>(
 ) -> Result<Option<LineSet>, Memory>
     requires few { height matrix.now ≤ 24 }
     requires workers { (1 ≤ workers) × (workers ≤ 64) }
-    ensures least { IfOk result (λ answer. IfSome answer (λ lines. IsLeastFaultByRows matrix.now lines.rows lines.columns)) }
+    ensures least { IfOk result (λ answer.
+        IfSome answer (λ lines. IsLeastFaultByRows matrix.now lines.rows lines.columns)) }
     ensures none { IfOk result (λ answer. IfNone answer (IsBalanced matrix.now)) }
 {
     let probe = FaultProbe { matrix };

@@ -19,7 +19,8 @@ pub fn fault_columns(
 ) -> Result<Option<Indices>, Memory>
     requires { IsRowSet matrix.now rows.now }
     ensures kept { IfOk result (λ found. IfSome found (AreKept matrix.now rows.now)) }
-    ensures fault { IfOk result (λ found. IfSome found (IsBalanceFault (entry matrix.now) rows.now)) }
+    ensures fault { IfOk result (λ found.
+        IfSome found (IsBalanceFault (entry matrix.now) rows.now)) }
     ensures none { IfOk result (λ found. IfNone found (¬ (MakeFault matrix.now rows.now))) }
     ensures shape { IfOk result (λ found. IsMatrix matrix.now) }
 {
@@ -46,7 +47,8 @@ fn is_fault(matrix: &Matrix, rows: &[u32], columns: &[u32]) -> bool
 fn have_two_in_rows(matrix: &Matrix, rows: &[u32], columns: &[u32]) -> bool
     requires rows { AllBelow (height matrix.now) rows.now }
     requires columns { AllBelow matrix.now.width columns.now }
-    ensures { IsTrue result ↔ AllByRecursion (λ row. row_nonzeros (entry matrix.now) columns.now row ≡ 2) rows.now }
+    ensures { IsTrue result
+        ↔ AllByRecursion (λ row. row_nonzeros (entry matrix.now) columns.now row ≡ 2) rows.now }
 {
     for row in rows {
         if !has_two(matrix, *row, columns) {
@@ -74,7 +76,10 @@ fn has_two(matrix: &Matrix, row: u32, columns: &[u32]) -> bool
 fn have_two_in_columns(matrix: &Matrix, rows: &[u32], columns: &[u32]) -> bool
     requires rows { AllBelow (height matrix.now) rows.now }
     requires columns { AllBelow matrix.now.width columns.now }
-    ensures { IsTrue result ↔ AllByRecursion (λ column. column_nonzeros (entry matrix.now) rows.now column ≡ 2) columns.now }
+    ensures { IsTrue result
+        ↔ AllByRecursion
+        (λ column. column_nonzeros (entry matrix.now) rows.now column ≡ 2)
+        columns.now }
 {
     for column in columns {
         if !is_candidate(matrix, rows, *column) {
@@ -89,7 +94,8 @@ fn whole_sum(matrix: &Matrix, rows: &[u32], columns: &[u32]) -> i32
     requires columns { AllBelow matrix.now.width columns.now }
     requires few_rows { length rows.now ≤ 1000 }
     requires few_columns { length columns.now ≤ 1000 }
-    ensures { result ≡ sum_over rows.now (λ row. sum_over columns.now (λ column. entry matrix.now row column)) }
+    ensures { result ≡ sum_over rows.now (λ row.
+        sum_over columns.now (λ column. entry matrix.now row column)) }
 {
     let mut sum = 0i32;
     for row in rows {

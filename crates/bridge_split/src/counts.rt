@@ -23,9 +23,12 @@ impl Counts {
     fn new(alloc: Global, columns: u32) -> Result<Counts, Memory>
         requires { columns ≤ 1000 }
         ensures words { IfOk result (HasWords columns) }
-        ensures once { IfOk result (λ counts. (column : ℕ) → has_column counts.once.items column ≡ false) }
-        ensures twice { IfOk result (λ counts. (column : ℕ) → has_column counts.twice.items column ≡ false) }
-        ensures thrice { IfOk result (λ counts. (column : ℕ) → has_column counts.thrice.items column ≡ false) }
+        ensures once { IfOk result (λ counts. (column : ℕ)
+            → has_column counts.once.items column ≡ false) }
+        ensures twice { IfOk result (λ counts. (column : ℕ)
+            → has_column counts.twice.items column ≡ false) }
+        ensures thrice { IfOk result (λ counts. (column : ℕ)
+            → has_column counts.thrice.items column ≡ false) }
     {
         let words = words_for(columns);
         Ok(Counts {
@@ -55,9 +58,18 @@ impl Counts {
         ensures once_long { length self.new.once.items ≡ length self.old.once.items }
         ensures twice_long { length self.new.twice.items ≡ length self.old.twice.items }
         ensures thrice_long { length self.new.thrice.items ≡ length self.old.thrice.items }
-        ensures once { (column : ℕ) → has_column self.new.once.items column ≡ (has_column self.old.once.items column || (has_column row.now column && has_column row.now column)) }
-        ensures twice { (column : ℕ) → has_column self.new.twice.items column ≡ (has_column self.old.twice.items column || (has_column self.old.once.items column && has_column row.now column)) }
-        ensures thrice { (column : ℕ) → has_column self.new.thrice.items column ≡ (has_column self.old.thrice.items column || (has_column self.old.twice.items column && has_column row.now column)) }
+        ensures once { (column : ℕ)
+            → has_column self.new.once.items column
+            ≡ (has_column self.old.once.items column
+            || (has_column row.now column && has_column row.now column)) }
+        ensures twice { (column : ℕ)
+            → has_column self.new.twice.items column
+            ≡ (has_column self.old.twice.items column
+            || (has_column self.old.once.items column && has_column row.now column)) }
+        ensures thrice { (column : ℕ)
+            → has_column self.new.thrice.items column
+            ≡ (has_column self.old.thrice.items column
+            || (has_column self.old.twice.items column && has_column row.now column)) }
     {
         add_common(&mut self.thrice, self.twice.as_slice(), row);
         add_common(&mut self.twice, self.once.as_slice(), row);
@@ -67,7 +79,10 @@ impl Counts {
     /// The first column with three nonzeros or more.
     pub fn first_from_three(&self) -> Option<u32>
         requires { length self.now.thrice.items ≤ 16 }
-        ensures { MatchOption result ((column : ℕ) → has_column self.now.thrice.items column ≡ false) (λ first. (has_column self.now.thrice.items first ≡ true) × ((column : ℕ) → column < first → has_column self.now.thrice.items column ≡ false)) }
+        ensures { MatchOption result
+            ((column : ℕ) → has_column self.now.thrice.items column ≡ false)
+            (λ first. (has_column self.now.thrice.items first ≡ true)
+            × ((column : ℕ) → column < first → has_column self.now.thrice.items column ≡ false)) }
     {
         next_column(self.thrice.as_slice(), 0)
     }

@@ -30,10 +30,12 @@ impl CutTable {
     ) -> Result<CutTable, Memory>
         requires row { row < height matrix.now }
         requires few { length parts.now ≤ height matrix.now }
-        requires rows { (a : ℕ) → a < length parts.now → AllBelow (height matrix.now) (part_at parts.now a) }
+        requires rows { (a : ℕ) → a < length parts.now
+            → AllBelow (height matrix.now) (part_at parts.now a) }
         ensures square { IfOk result IsSquare }
         ensures count { IfOk result (λ table. table.count ≡ length parts.now) }
-        ensures cuts { IfOk result (λ table. IsCutTable (support matrix.now) row parts.now (length parts.now) table.cuts.items) }
+        ensures cuts { IfOk result (λ table.
+            IsCutTable (support matrix.now) row parts.now (length parts.now) table.cuts.items) }
     {
         prove!(parts.len() <= matrix.rows() as usize);
         let mut cuts = Vec::with_capacity(alloc, parts.len() * parts.len())?;
@@ -73,7 +75,8 @@ pub fn set_common(matrix: &Matrix, row: u32, part: &Indices, common: &mut Vec<u6
     requires rows { AllBelow (height matrix.now) part.now }
     requires size { length common.old.items ≡ words_for matrix.now.width }
     ensures size { length common.new.items ≡ words_for matrix.now.width }
-    ensures common { (column : ℕ) → (has_column common.new.items column ≡ true) ↔ IsCommon (support matrix.now) row part.now column }
+    ensures common { (column : ℕ) → (has_column common.new.items column ≡ true)
+        ↔ IsCommon (support matrix.now) row part.now column }
 {
     for block in 0..common.len() {
         common[block] = common_word(matrix, row, part, block as u32);
@@ -107,9 +110,11 @@ fn push_cuts(
     cuts: &mut Vec<bool>,
 ) -> Result<(), Memory>
     requires shape { IsMatrix matrix.now }
-    requires rows { (a : ℕ) → a < length parts.now → AllBelow (height matrix.now) (part_at parts.now a) }
+    requires rows { (a : ℕ) → a < length parts.now
+        → AllBelow (height matrix.now) (part_at parts.now a) }
     requires size { length columns.now ≡ words_for matrix.now.width }
-    ensures { OnOk result (HasLine (support matrix.now) (has_column columns.now) parts.now (length parts.now) cuts.old.items cuts.new.items) }
+    ensures { OnOk result (HasLine (support matrix.now) (has_column columns.now) parts.now
+        (length parts.now) cuts.old.items cuts.new.items) }
 {
     for part in parts {
         cuts.push(part_cuts(matrix, part.as_slice(), columns))?;

@@ -30,9 +30,11 @@ pub struct Forest {
 impl Forest {
     /// Room for the trees over so many parts.
     pub fn new(alloc: Global, count: usize) -> Result<Forest, Memory>
-        ensures room { IfOk result (λ forest. HasTreeRoom count forest.depth.items forest.parent.items) }
+        ensures room { IfOk result (λ forest.
+            HasTreeRoom count forest.depth.items forest.parent.items) }
         ensures reached { IfOk result (λ forest. forest.reached.items ≡ []) }
-        ensures unreached { IfOk result (λ forest. (x : ℕ) → depth_at forest.depth.items x ≡ 4294967295) }
+        ensures unreached { IfOk result (λ forest. (x : ℕ)
+            → depth_at forest.depth.items x ≡ 4294967295) }
     {
         Ok(Forest {
             depth: vec![in alloc; UNREACHED; count]?,
@@ -47,8 +49,13 @@ impl Forest {
         requires room { HasTreeRoom table.now.count self.old.depth.items self.old.parent.items }
         requires reached { self.old.reached.items ≡ [] }
         requires unreached { (x : ℕ) → depth_at self.old.depth.items x ≡ 4294967295 }
-        ensures room { OnOk result (HasTreeRoom table.now.count self.new.depth.items self.new.parent.items) }
-        ensures found { IfOk result (λ found. MatchOption found (IsTwoColoured (joins table.now) table.now.count (depth_at self.new.depth.items)) (λ conflict. IsConflict (joins table.now) table.now.count (depth_at self.new.depth.items) (parent_at self.new.parent.items) self.new.reached.items conflict.one conflict.two)) }
+        ensures room { OnOk result (HasTreeRoom table.now.count self.new.depth.items
+            self.new.parent.items) }
+        ensures found { IfOk result (λ found. MatchOption found
+            (IsTwoColoured (joins table.now) table.now.count (depth_at self.new.depth.items))
+            (λ conflict. IsConflict (joins table.now) table.now.count
+            (depth_at self.new.depth.items) (parent_at self.new.parent.items) self.new.reached.items
+            conflict.one conflict.two)) }
     {
         for root in 0..table.len() as u32 {
             if self.depth[root as usize] == UNREACHED {
@@ -66,11 +73,18 @@ impl Forest {
         requires room { HasTreeRoom table.now.count self.old.depth.items self.old.parent.items }
         requires root { root < table.now.count }
         requires unreached { depth_at self.old.depth.items root ≡ 4294967295 }
-        requires grown { IsGrown (joins table.now) table.now.count (depth_at self.old.depth.items) (parent_at self.old.parent.items) self.old.reached.items }
-        ensures room { OnOk result (HasTreeRoom table.now.count self.new.depth.items self.new.parent.items) }
+        requires grown { IsGrown (joins table.now) table.now.count (depth_at self.old.depth.items)
+            (parent_at self.old.parent.items) self.old.reached.items }
+        ensures room { OnOk result (HasTreeRoom table.now.count self.new.depth.items
+            self.new.parent.items) }
         ensures extends { OnOk result (Extends self.old.reached.items self.new.reached.items) }
         ensures root { OnOk result (IsIn root self.new.reached.items) }
-        ensures found { IfOk result (λ found. MatchOption found (IsGrown (joins table.now) table.now.count (depth_at self.new.depth.items) (parent_at self.new.parent.items) self.new.reached.items) (λ conflict. IsConflict (joins table.now) table.now.count (depth_at self.new.depth.items) (parent_at self.new.parent.items) self.new.reached.items conflict.one conflict.two)) }
+        ensures found { IfOk result (λ found. MatchOption found
+            (IsGrown (joins table.now) table.now.count (depth_at self.new.depth.items)
+            (parent_at self.new.parent.items) self.new.reached.items)
+            (λ conflict. IsConflict (joins table.now) table.now.count
+            (depth_at self.new.depth.items) (parent_at self.new.parent.items) self.new.reached.items
+            conflict.one conflict.two)) }
     {
         let mut head = self.reached.len();
         self.reach(root, root, 0)?;
@@ -89,10 +103,18 @@ impl Forest {
         requires table { IsSquare table.now }
         requires room { HasTreeRoom table.now.count self.old.depth.items self.old.parent.items }
         requires head { head < length self.old.reached.items }
-        requires growing { IsGrowing (joins table.now) table.now.count (depth_at self.old.depth.items) (parent_at self.old.parent.items) self.old.reached.items head }
-        ensures room { OnOk result (HasTreeRoom table.now.count self.new.depth.items self.new.parent.items) }
+        requires growing { IsGrowing (joins table.now) table.now.count
+            (depth_at self.old.depth.items) (parent_at self.old.parent.items) self.old.reached.items
+            head }
+        ensures room { OnOk result (HasTreeRoom table.now.count self.new.depth.items
+            self.new.parent.items) }
         ensures extends { OnOk result (Extends self.old.reached.items self.new.reached.items) }
-        ensures found { IfOk result (λ found. MatchOption found (IsGrowing (joins table.now) table.now.count (depth_at self.new.depth.items) (parent_at self.new.parent.items) self.new.reached.items (head + 1)) (λ two. IsConflict (joins table.now) table.now.count (depth_at self.new.depth.items) (parent_at self.new.parent.items) self.new.reached.items (slice_index self.new.reached.items head) two)) }
+        ensures found { IfOk result (λ found. MatchOption found
+            (IsGrowing (joins table.now) table.now.count (depth_at self.new.depth.items)
+            (parent_at self.new.parent.items) self.new.reached.items (head + 1))
+            (λ two. IsConflict (joins table.now) table.now.count (depth_at self.new.depth.items)
+            (parent_at self.new.parent.items) self.new.reached.items
+            (slice_index self.new.reached.items head) two)) }
     {
         let part = self.reached[head];
         let depth = self.depth[part as usize];
@@ -112,9 +134,12 @@ impl Forest {
     fn reach(&mut self, part: u32, parent: u32, depth: u32) -> Result<(), Memory>
         requires depths { part < length self.old.depth.items }
         requires parents { part < length self.old.parent.items }
-        ensures depths { OnOk result (self.new.depth.items ≡ slice_set self.old.depth.items part depth) }
-        ensures parents { OnOk result (self.new.parent.items ≡ slice_set self.old.parent.items part parent) }
-        ensures reached { OnOk result (self.new.reached.items ≡ self.old.reached.items ++ part ∷ []) }
+        ensures depths { OnOk result (self.new.depth.items
+            ≡ slice_set self.old.depth.items part depth) }
+        ensures parents { OnOk result (self.new.parent.items
+            ≡ slice_set self.old.parent.items part parent) }
+        ensures reached { OnOk result (self.new.reached.items
+            ≡ self.old.reached.items ++ part ∷ []) }
     {
         self.depth[part as usize] = depth;
         self.parent[part as usize] = parent;
@@ -131,8 +156,11 @@ impl Forest {
         two: u32,
     ) -> Result<(), Memory>
         requires room { HasTreeRoom table.now.count self.now.depth.items self.now.parent.items }
-        requires tree { AreInOneTree (joins table.now) table.now.count (depth_at self.now.depth.items) (parent_at self.now.parent.items) self.now.reached.items one two }
-        ensures { OnOk result (HasRoute (joins table.now) table.now.count (depth_at self.now.depth.items) path.old path.new one two) }
+        requires tree { AreInOneTree (joins table.now) table.now.count
+            (depth_at self.now.depth.items) (parent_at self.now.parent.items) self.now.reached.items
+            one two }
+        ensures { OnOk result (HasRoute (joins table.now) table.now.count
+            (depth_at self.now.depth.items) path.old path.new one two) }
     {
         if one == two {
             path.push(one)?;

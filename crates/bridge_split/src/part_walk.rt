@@ -39,7 +39,8 @@ impl PartWalk {
         requires row { IsIn row rows.now }
         requires room { HasRoom matrix.now self.old.part.items self.old.reached.items }
         ensures room { HasRoom matrix.now self.new.part.items self.new.reached.items }
-        ensures parts { AreNumbered (support matrix.now) rows.now row (number_at self.new.part.items) result }
+        ensures parts { AreNumbered (support matrix.now) rows.now row
+            (number_at self.new.part.items) result }
     {
         self.clear();
         let mut count = 0;
@@ -77,12 +78,15 @@ impl PartWalk {
         requires place { place < length rows.now }
         requires few { number < 1000 }
         requires left { IsLeft row (number_at self.old.part.items) (slice_index rows.now place) }
-        requires passed { ArePassed (support matrix.now) rows.now row (number_at self.old.part.items) place }
-        requires between { IsBetween (support matrix.now) rows.now row (number_at self.old.part.items) number }
+        requires passed { ArePassed (support matrix.now) rows.now row
+            (number_at self.old.part.items) place }
+        requires between { IsBetween (support matrix.now) rows.now row
+            (number_at self.old.part.items) number }
         ensures room { HasRoom matrix.now self.new.part.items self.new.reached.items }
         ensures keeps { Keeps (number_at self.old.part.items) (number_at self.new.part.items) }
         ensures first { number_at self.new.part.items (slice_index rows.now place) ≡ Some number }
-        ensures between { IsBetween (support matrix.now) rows.now row (number_at self.new.part.items) (number + 1) }
+        ensures between { IsBetween (support matrix.now) rows.now row
+            (number_at self.new.part.items) (number + 1) }
     {
         self.forget();
         self.meet(matrix, row, rows[place], number);
@@ -106,12 +110,17 @@ impl PartWalk {
         requires few { length rows.now ≤ 1000 }
         requires row { row < height matrix.now }
         requires room { HasRoom matrix.now self.old.part.items self.old.reached.items }
-        requires walk { IsWalking (support matrix.now) rows.now row (number_at self.old.part.items) number (has_column self.old.reached.items) }
+        requires walk { IsWalking (support matrix.now) rows.now row (number_at self.old.part.items)
+            number (has_column self.old.reached.items) }
         ensures room { HasRoom matrix.now self.new.part.items self.new.reached.items }
-        ensures walk { IsWalking (support matrix.now) rows.now row (number_at self.new.part.items) number (has_column self.new.reached.items) }
+        ensures walk { IsWalking (support matrix.now) rows.now row (number_at self.new.part.items)
+            number (has_column self.new.reached.items) }
         ensures keeps { Keeps (number_at self.old.part.items) (number_at self.new.part.items) }
-        ensures fewer { left_in rows.now (number_at self.new.part.items) + result ≤ left_in rows.now (number_at self.old.part.items) }
-        ensures none { result ≡ 0 → (x : ℕ) → IsIn x rows.now → ¬ (IsTouched (support matrix.now) row (number_at self.new.part.items) (has_column self.new.reached.items) x) }
+        ensures fewer { left_in rows.now (number_at self.new.part.items) + result
+            ≤ left_in rows.now (number_at self.old.part.items) }
+        ensures none { result ≡ 0 → (x : ℕ) → IsIn x rows.now
+            → ¬ (IsTouched (support matrix.now) row (number_at self.new.part.items)
+            (has_column self.new.reached.items) x) }
     {
         let mut met = 0;
         for other in rows {
@@ -127,7 +136,9 @@ impl PartWalk {
     fn is_touched(&self, matrix: &Matrix, other: u32, row: u32) -> bool
         requires other { other < height matrix.now }
         requires room { HasRoom matrix.now self.now.part.items self.now.reached.items }
-        ensures { IsTrue result ↔ IsTouched (support matrix.now) row (number_at self.now.part.items) (has_column self.now.reached.items) other }
+        ensures { IsTrue result
+            ↔ IsTouched (support matrix.now) row (number_at self.now.part.items)
+            (has_column self.now.reached.items) other }
     {
         self.is_left(other, row) && meets(self.reached.as_slice(), matrix.support_words(other))
     }
@@ -139,7 +150,10 @@ impl PartWalk {
         requires room { HasRoom matrix.now self.old.part.items self.old.reached.items }
         ensures room { HasRoom matrix.now self.new.part.items self.new.reached.items }
         ensures part { self.new.part.items ≡ slice_set self.old.part.items other (Some number) }
-        ensures reached { (column : ℕ) → has_column self.new.reached.items column ≡ (has_column self.old.reached.items column || (support matrix.now other column && not (support matrix.now row column))) }
+        ensures reached { (column : ℕ)
+            → has_column self.new.reached.items column
+            ≡ (has_column self.old.reached.items column
+            || (support matrix.now other column && not (support matrix.now row column))) }
     {
         self.part[other as usize] = Some(number);
         add_outside(

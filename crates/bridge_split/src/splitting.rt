@@ -72,7 +72,10 @@ pub fn first_splitting_row(
     requires rows { AllBelow (height matrix.now) rows.now }
     requires rising { IsStrictlyIncreasing rows.now }
     requires tested { (row : ℕ) → row < untested → ¬ (Splits (support matrix.now) rows.now row) }
-    ensures { IfOk result (λ found. MatchOption found ((row : ℕ) → ¬ (Splits (support matrix.now) rows.now row)) (λ split. IsFirstSplit (support matrix.now) rows.now split.row × AreParts (support matrix.now) rows.now split.row split.parts)) }
+    ensures { IfOk result (λ found. MatchOption found
+        ((row : ℕ) → ¬ (Splits (support matrix.now) rows.now row))
+        (λ split. IsFirstSplit (support matrix.now) rows.now split.row
+        × AreParts (support matrix.now) rows.now split.row split.parts)) }
 {
     let mut walk = PartWalk::new(alloc, matrix)?;
     for row in rows {
@@ -119,7 +122,8 @@ fn first_column_with_three(
     rows: &Indices,
 ) -> Result<Option<u32>, Memory>
     requires { AllBelow (height matrix.now) rows.now }
-    ensures { IfOk result (λ found. MatchOption found (HasNoThree (support matrix.now) rows.now) (IsFirstWithThree (support matrix.now) rows.now)) }
+    ensures { IfOk result (λ found. MatchOption found (HasNoThree (support matrix.now) rows.now)
+        (IsFirstWithThree (support matrix.now) rows.now)) }
 {
     let counts = Counts::of(alloc, matrix, rows.as_slice())?;
     Ok(counts.first_from_three())

@@ -51,7 +51,8 @@ fn steps(
 ) -> Result<SignStepList, ChainError>
     requires rows { rows ≤ MAX_ROWS }
     requires columns { columns ≤ MAX_COLUMNS }
-    ensures { Reads (λ steps. steps) words.new result (times (another_step rows columns) count [] words.old) }
+    ensures { Reads (λ steps. steps) words.new result
+        (times (another_step rows columns) count [] words.old) }
 {
     let mut steps = SignStepList::new(alloc);
     for _ in 0..count {
@@ -83,7 +84,8 @@ fn step(
     rows: u32,
     columns: u32,
 ) -> Result<SignStep, ChainError>
-    ensures { Reads (λ step. step) words.new result (step_of rows columns name row column words.old) }
+    ensures { Reads (λ step. step) words.new result
+        (step_of rows columns name row column words.old) }
 {
     match name {
         StepName::Free => Ok(SignStep::Free { row, column }),
@@ -200,7 +202,8 @@ fn line_in(word: &[u8], most: u32) -> Result<u32, ChainKind>
 }
 
 fn rising_line(words: &mut Words<'_>, most: u32, before: u32) -> Result<u32, ChainError>
-    ensures read { Reads (λ n. n) words.new result (field Short (rising_line_in most before) words.old) }
+    ensures read { Reads (λ n. n) words.new result
+        (field Short (rising_line_in most before) words.old) }
     ensures above { IfOk result (λ n. before < n) }
     ensures within { IfOk result (λ n. n ≤ most) }
 {

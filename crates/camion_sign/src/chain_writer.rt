@@ -18,9 +18,14 @@ pub fn write_chain(alloc: Global, chain: &Chain, rows: u32, columns: u32) -> Res
     requires few { length chain.now.steps ≤ rows * columns }
     requires steps { AllByRecursion (IsStepIn rows columns) chain.now.steps }
     requires violator { AreLinesIn rows columns chain.now.violator }
-    ensures text { IfOk result (λ v. v.items ≡ chain_text (record { chain = chain.now; rows = rows; columns = columns })) }
+    ensures text { IfOk result (λ v. v.items ≡ chain_text (record {
+      chain = chain.now;
+      rows = rows;
+      columns = columns;
+    })) }
     // It is read again as the same chain.
-    ensures again { IfOk result (λ v. chain_in (text_of v.items) ≡ Ok (record { chain = chain.now; rows = rows; columns = columns })) }
+    ensures again { IfOk result (λ v. chain_in (text_of v.items)
+        ≡ Ok (record { chain = chain.now; rows = rows; columns = columns })) }
 {
     let steps = chain.steps.as_slice();
     let mut text = Writer::new(alloc);
@@ -80,7 +85,8 @@ fn put_step(text: &mut Writer, step: &SignStep, rows: u32, columns: u32) -> Resu
 fn put_place(text: &mut Writer, word: &[u8], row: u32, column: u32) -> Result<(), Memory>
     requires row { row < 1000 }
     requires column { column < 1000 }
-    ensures { OnOk result (text.new ≡ fold with_word text.old (word.now ∷ number_of_line row ∷ number_of_line column ∷ [])) }
+    ensures { OnOk result (text.new ≡ fold with_word text.old (word.now ∷ number_of_line row
+        ∷ number_of_line column ∷ [])) }
 {
     text.word(word)?;
     text.number(row + 1)?;
@@ -92,7 +98,8 @@ fn write_violator(text: &mut Writer, lines: &LineSet, rows: u32, columns: u32) -
     requires columns { columns ≤ MAX_COLUMNS }
     requires lines { AreLinesIn rows columns lines.now }
     requires at_start { text.old.is_begun ≡ false }
-    ensures line { OnOk result (text.new ≡ with_line text.old (codes "violator" ∷ line_set_words lines.now)) }
+    ensures line { OnOk result (text.new ≡ with_line text.old (codes "violator"
+        ∷ line_set_words lines.now)) }
     ensures rising { OnOk result (AreRising lines.now) }
 {
     text.word(b"violator".as_slice())?;

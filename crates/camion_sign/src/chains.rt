@@ -34,7 +34,9 @@ pub fn check_chain(
     matrix: &Matrix,
     chain: &SizedChain,
 ) -> Result<Option<u32>, Memory>
-    ensures { IfOk result (λ found. MatchOption found ((signs : Matrix) × IsSoundChain matrix.now chain.now signs) (IsFirstBroken matrix.now chain.now)) }
+    ensures { IfOk result (λ found. MatchOption found
+        ((signs : Matrix) × IsSoundChain matrix.now chain.now signs)
+        (IsFirstBroken matrix.now chain.now)) }
 {
     if chain.rows != matrix.rows() || chain.columns != matrix.columns() {
         return Ok(Some(1));
@@ -81,7 +83,8 @@ fn follow(alloc: Global, matrix: &Matrix, steps: &[SignStep]) -> Result<Followed
 
 // A label of its own for each line.
 fn first_labels(alloc: Global, matrix: &Matrix) -> Result<Vec<u32>, Memory>
-    ensures { IfOk result (λ labels. (length labels.items ≡ height matrix.now + matrix.now.width) × ((k : ℕ) → k < length labels.items → slice_index labels.items k ≡ k)) }
+    ensures { IfOk result (λ labels. (length labels.items ≡ height matrix.now + matrix.now.width)
+        × ((k : ℕ) → k < length labels.items → slice_index labels.items k ≡ k)) }
 {
     let count = matrix.rows() + matrix.columns();
     let mut labels = Vec::with_capacity(alloc, count as usize)?;
@@ -115,7 +118,11 @@ fn give_sign(matrix: &Matrix, signs: &mut Matrix, labels: &mut Vec<u32>, step: &
 fn join(labels: &mut Vec<u32>, row: usize, column: usize)
     requires row { row < length labels.old.items }
     requires column { column < length labels.old.items }
-    ensures { labels.new.items ≡ map (λ label. cond (nat_eq label (slice_index labels.old.items column)) (slice_index labels.old.items row) label) labels.old.items }
+    ensures { labels.new.items
+        ≡ map
+        (λ label. cond (nat_eq label (slice_index labels.old.items column))
+        (slice_index labels.old.items row) label)
+        labels.old.items }
 {
     let new = labels[row];
     let old = labels[column];
@@ -133,7 +140,9 @@ fn sign_of_step(matrix: &Matrix, signs: &Matrix, labels: &[u32], step: &SignStep
     requires matrix { IsMatrix matrix.now }
     requires signs { AreSigns matrix.now signs.now }
     requires labels { AreLabels matrix.now signs.now labels.now }
-    ensures { MatchOption result ((sign : ℤ) → ¬ (KeepsRule matrix.now signs.now step.now sign)) (KeepsRule matrix.now signs.now step.now) }
+    ensures { MatchOption result
+        ((sign : ℤ) → ¬ (KeepsRule matrix.now signs.now step.now sign))
+        (KeepsRule matrix.now signs.now step.now) }
 {
     match step {
         SignStep::Free { row, column } => {
@@ -177,7 +186,9 @@ fn forced_sign(
 ) -> Option<i8>
     requires matrix { IsMatrix matrix.now }
     requires signs { AreSigns matrix.now signs.now }
-    ensures { MatchOption result ((sign : ℤ) → ¬ (KeepsRule matrix.now signs.now (Forced row column cycle.now) sign)) (KeepsRule matrix.now signs.now (Forced row column cycle.now)) }
+    ensures { MatchOption result
+        ((sign : ℤ) → ¬ (KeepsRule matrix.now signs.now (Forced row column cycle.now) sign))
+        (KeepsRule matrix.now signs.now (Forced row column cycle.now)) }
 {
     if !is_open(matrix, signs, row, column) || !are_lines_of(matrix, cycle) {
         return None;
@@ -192,7 +203,9 @@ fn forced_sign(
 }
 
 fn are_lines_of(matrix: &Matrix, lines: &LineSet) -> bool
-    ensures inside { IsTrue result ↔ (AllBelow (height matrix.now) lines.now.rows × AllBelow matrix.now.width lines.now.columns) }
+    ensures inside { IsTrue result
+        ↔ (AllBelow (height matrix.now) lines.now.rows
+        × AllBelow matrix.now.width lines.now.columns) }
     ensures rows_rise { IsStrictlyIncreasing lines.now.rows }
     ensures columns_rise { IsStrictlyIncreasing lines.now.columns }
 {
@@ -243,7 +256,10 @@ fn have_two_in_rows(matrix: &Matrix, rows: &[u32], columns: &[u32]) -> bool
     requires rows { AllBelow (height matrix.now) rows.now }
     requires columns { AllBelow matrix.now.width columns.now }
     requires few { length columns.now ≤ 1000 }
-    ensures { IsTrue result ↔ AllByRecursion (λ row. sum_over columns.now (λ column. entry matrix.now row column) ≡ pos 2) rows.now }
+    ensures { IsTrue result
+        ↔ AllByRecursion
+        (λ row. sum_over columns.now (λ column. entry matrix.now row column) ≡ pos 2)
+        rows.now }
 {
     for row in rows {
         if !is_two(matrix.row_sum(*row, columns)) {
@@ -257,7 +273,10 @@ fn have_two_in_columns(matrix: &Matrix, rows: &[u32], columns: &[u32]) -> bool
     requires rows { AllBelow (height matrix.now) rows.now }
     requires columns { AllBelow matrix.now.width columns.now }
     requires few { length rows.now ≤ 1000 }
-    ensures { IsTrue result ↔ AllByRecursion (λ column. sum_over rows.now (λ row. entry matrix.now row column) ≡ pos 2) columns.now }
+    ensures { IsTrue result
+        ↔ AllByRecursion
+        (λ column. sum_over rows.now (λ row. entry matrix.now row column) ≡ pos 2)
+        columns.now }
 {
     for column in columns {
         if !is_two(matrix.column_sum(rows, *column)) {
@@ -278,7 +297,8 @@ fn all_signed_but(matrix: &Matrix, signs: &Matrix, lines: &LineSet, row: u32, co
     requires signs { AreSigns matrix.now signs.now }
     requires rows { AllBelow (height matrix.now) lines.now.rows }
     requires columns { AllBelow matrix.now.width lines.now.columns }
-    ensures { IsTrue result ↔ AllSignedBut matrix.now signs.now lines.now.rows lines.now.columns row column }
+    ensures { IsTrue result
+        ↔ AllSignedBut matrix.now signs.now lines.now.rows lines.now.columns row column }
 {
     let rows = lines.rows.as_slice();
     let columns = lines.columns.as_slice();
@@ -301,7 +321,8 @@ fn row_signed_but(
     requires signs { AreSigns matrix.now signs.now }
     requires row { i < height matrix.now }
     requires columns { AllBelow matrix.now.width columns.now }
-    ensures { IsTrue result ↔ AllByRecursion (λ j. ¬ (IsOpenBut matrix.now signs.now row column i j)) columns.now }
+    ensures { IsTrue result
+        ↔ AllByRecursion (λ j. ¬ (IsOpenBut matrix.now signs.now row column i j)) columns.now }
 {
     for j in columns {
         if is_open_but(matrix, signs, row, column, i, *j) {
@@ -321,7 +342,8 @@ fn is_open_but(matrix: &Matrix, signs: &Matrix, row: u32, column: u32, i: u32, j
 
 // The sign with which a sum becomes a multiple of four.
 fn closing(sum: i32) -> Option<i8>
-    ensures { MatchOption result ((sign : ℤ) → IsSign sign → ¬ (IsZeroModFour (sum +ℤ sign))) (λ sign. IsSign sign × IsZeroModFour (sum +ℤ sign)) }
+    ensures { MatchOption result ((sign : ℤ) → IsSign sign → ¬ (IsZeroModFour (sum +ℤ sign)))
+        (λ sign. IsSign sign × IsZeroModFour (sum +ℤ sign)) }
 {
     let rest = sum.rem_euclid(4);
     if rest == 1 {

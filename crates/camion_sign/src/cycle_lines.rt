@@ -16,8 +16,10 @@ use std::alloc::Global;
 /// of Camion: each of its lines has two nonzeros in it. The time is at most one walk through the rows before for each
 /// nonzero.
 pub fn cycle_fault(alloc: Global, matrix: &Matrix) -> Result<Option<LineSet>, Memory>
-    ensures fault { IfOk result (λ found. MatchOption found (HasNoCycleFault (entry matrix.now)) (λ lines. IsCycleFault matrix.now lines.rows lines.columns)) }
-    ensures violator { IfOk result (λ found. IfSome found (λ lines. IsViolator (entry matrix.now) lines.rows lines.columns)) }
+    ensures fault { IfOk result (λ found. MatchOption found (HasNoCycleFault (entry matrix.now))
+        (λ lines. IsCycleFault matrix.now lines.rows lines.columns)) }
+    ensures violator { IfOk result (λ found.
+        IfSome found (λ lines. IsViolator (entry matrix.now) lines.rows lines.columns)) }
 {
     let first = passed_rows(alloc, matrix)?;
     cycle_fault_from(alloc, matrix, first)
@@ -30,8 +32,10 @@ pub fn cycle_fault_from(
     first: u32,
 ) -> Result<Option<LineSet>, Memory>
     requires passed { HasNoFaultBefore matrix.now first }
-    ensures fault { IfOk result (λ found. MatchOption found (HasNoCycleFault (entry matrix.now)) (λ lines. IsCycleFault matrix.now lines.rows lines.columns)) }
-    ensures violator { IfOk result (λ found. IfSome found (λ lines. IsViolator (entry matrix.now) lines.rows lines.columns)) }
+    ensures fault { IfOk result (λ found. MatchOption found (HasNoCycleFault (entry matrix.now))
+        (λ lines. IsCycleFault matrix.now lines.rows lines.columns)) }
+    ensures violator { IfOk result (λ found.
+        IfSome found (λ lines. IsViolator (entry matrix.now) lines.rows lines.columns)) }
 {
     match first_fault(alloc, matrix, first)? {
         Some(fault) => {
@@ -51,7 +55,8 @@ pub fn cycle_fault_from(
 
 /// The rows of the cycle of a place in this row with this path, as far as they are below a bound.
 pub fn rows_of_cycle(alloc: Global, row: u32, path: &[u32], height: u32) -> Result<Indices, Memory>
-    ensures { IfOk result (λ rows. IsBuilt (λ line. IsIn line (cycle_rows row path.now)) height rows) }
+    ensures { IfOk result (λ rows.
+        IsBuilt (λ line. IsIn line (cycle_rows row path.now)) height rows) }
 {
     let mut rows = Indices::new(alloc);
     let mut next = least_row(row, path, 0);
@@ -70,7 +75,8 @@ pub fn columns_of_cycle(
     path: &[u32],
     width: u32,
 ) -> Result<Indices, Memory>
-    ensures { IfOk result (λ columns. IsBuilt (λ line. IsIn line (cycle_columns first last path.now)) width columns) }
+    ensures { IfOk result (λ columns.
+        IsBuilt (λ line. IsIn line (cycle_columns first last path.now)) width columns) }
 {
     let mut columns = Indices::new(alloc);
     let mut next = least_column(first, last, path, 0);
@@ -132,7 +138,8 @@ fn least_path_column(path: &[u32], from: u32) -> Option<u32>
 
 // The least line that is at least a number, of one line and the least of others.
 fn lesser(line: u32, others: Option<u32>, from: u32) -> Option<u32>
-    ensures { (lines : List ℕ) → IsLeastFrom lines from others → IsLeastFrom (line ∷ lines) from result }
+    ensures { (lines : List ℕ) → IsLeastFrom lines from others
+        → IsLeastFrom (line ∷ lines) from result }
 {
     if line < from {
         return others;

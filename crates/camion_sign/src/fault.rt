@@ -25,7 +25,9 @@ pub struct Fault {
 /// The first fault in the order of places, where the rows before one have none.
 pub fn first_fault(alloc: Global, matrix: &Matrix, first: u32) -> Result<Option<Fault>, Memory>
     requires passed { HasNoFaultBefore matrix.now first }
-    ensures { IfOk result (λ found. MatchOption found (HasNoCycleFault (entry matrix.now)) (λ f. IsFirstFault matrix.now f.row f.first f.last f.lines.items)) }
+    ensures { IfOk result (λ found. MatchOption found
+        (HasNoCycleFault (entry matrix.now))
+        (λ f. IsFirstFault matrix.now f.row f.first f.last f.lines.items)) }
 {
     if first >= matrix.rows() {
         return Ok(None);
@@ -57,7 +59,9 @@ fn fault_from_row(
 ) -> Result<Option<Fault>, Memory>
     requires fits { FitsMatrix support.now walk.old }
     requires passed { HasNoFaultBefore support.now first }
-    ensures { IfOk result (λ found. MatchOption found (HasNoCycleFault (entry support.now)) (λ f. IsFirstFault support.now f.row f.first f.last f.lines.items)) }
+    ensures { IfOk result (λ found. MatchOption found
+        (HasNoCycleFault (entry support.now))
+        (λ f. IsFirstFault support.now f.row f.first f.last f.lines.items)) }
 {
     for row in first..support.rows() {
         if let Some(fault) = fault_of_row(alloc, support, walk, row)? {
@@ -76,7 +80,11 @@ fn fault_of_row(
 ) -> Result<Option<Fault>, Memory>
     requires row { row < height support.now }
     requires fits { FitsMatrix support.now walk.old }
-    ensures found { IfOk result (λ found. MatchOption found ((x y : ℕ) → HasNoFaultAt support.now row x y) (λ f. (f.row ≡ row) × IsColumnFault support.now row f.first f.last f.lines.items × ((x y : ℕ) → x < f.first → HasNoFaultAt support.now row x y))) }
+    ensures found { IfOk result (λ found. MatchOption found
+        ((x y : ℕ) → HasNoFaultAt support.now row x y)
+        (λ f. (f.row ≡ row)
+        × IsColumnFault support.now row f.first f.last f.lines.items
+        × ((x y : ℕ) → x < f.first → HasNoFaultAt support.now row x y))) }
     ensures fits { IfOk result (λ found. FitsMatrix support.now walk.new) }
 {
     for column in 0..support.columns() {
@@ -101,7 +109,11 @@ fn fault_from(
     requires column { start.column < support.now.width }
     requires first { entry support.now start.row start.column ≢ pos 0 }
     requires fits { FitsMatrix support.now walk.old }
-    ensures found { IfOk result (λ found. MatchOption found ((y : ℕ) → HasNoFaultAt support.now start.row start.column y) (λ f. (f.row ≡ start.row) × (f.first ≡ start.column) × IsColumnFault support.now start.row start.column f.last f.lines.items)) }
+    ensures found { IfOk result (λ found. MatchOption found
+        ((y : ℕ) → HasNoFaultAt support.now start.row start.column y)
+        (λ f. (f.row ≡ start.row)
+        × (f.first ≡ start.column)
+        × IsColumnFault support.now start.row start.column f.last f.lines.items)) }
     ensures fits { IfOk result (λ found. FitsMatrix support.now walk.new) }
 {
     walk_from(support, walk, start)?;
@@ -126,7 +138,8 @@ fn is_fault(support: &Support<'_>, walk: &Walk, start: Start, last: u32) -> bool
     requires first { entry support.now start.row start.column ≢ pos 0 }
     requires walked { HasWalked support.now start.row start.column walk.now }
     ensures reached { IsTrue result → place_in walk.now.places.items last < 4294967295 }
-    ensures fault { IsTrue result ↔ ((path : List ℕ) × IsFaultAt (entry support.now) start.row start.column last path) }
+    ensures fault { IsTrue result
+        ↔ ((path : List ℕ) × IsFaultAt (entry support.now) start.row start.column last path) }
 {
     if support.entry(start.row, last) == 0 || !walk.has_reached(last) {
         return false;
@@ -150,7 +163,8 @@ pub fn path_to(
     requires last { entry support.now start.row last ≢ pos 0 }
     requires walked { HasWalked support.now start.row start.column walk.now }
     requires reached { place_in walk.now.places.items last < 4294967295 }
-    ensures { IfOk result (λ lines. IsCyclePlace (entry support.now) start.row start.column last lines.items) }
+    ensures { IfOk result (λ lines.
+        IsCyclePlace (entry support.now) start.row start.column last lines.items) }
 {
     let step = walk.steps[walk.places[last as usize] as usize];
     let mut lines = vec![in alloc; step.row; 1]?;

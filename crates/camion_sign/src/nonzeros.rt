@@ -57,7 +57,8 @@ impl Nonzeros {
 
 fn push_nonzeros(places: &mut Vec<u32>, matrix: &Matrix, row: u32) -> Result<(), Memory>
     requires { row < height matrix.now }
-    ensures { OnOk result (places.new.items ≡ places.old.items ++ nonzeros_from 0 (row_of matrix.now row)) }
+    ensures { OnOk result (places.new.items
+        ≡ places.old.items ++ nonzeros_from 0 (row_of matrix.now row)) }
 {
     for column in 0..matrix.columns() {
         if matrix.entry(row, column) != 0 {

@@ -49,9 +49,13 @@ fn reach_rows(
     requires walking { IsWalking support.now start.row start.column head 0 walk.old }
     requires pending { pending ≤ support.now.width }
     requires waits { NoneWaits support.now start.row start.column pending walk.old.places.items }
-    ensures walk { IfOk result (λ pending. IsWalking support.now start.row start.column (head + 1) 0 walk.new ⊎ ((pending ≡ support.now.width) × HasSettled support.now start.row start.column walk.new)) }
+    ensures walk { IfOk result (λ pending. IsWalking support.now start.row start.column (head + 1) 0
+        walk.new
+        ⊎ ((pending ≡ support.now.width)
+        × HasSettled support.now start.row start.column walk.new)) }
     ensures pending { IfOk result (λ pending. pending ≤ support.now.width) }
-    ensures waits { IfOk result (λ pending. NoneWaits support.now start.row start.column pending walk.new.places.items) }
+    ensures waits { IfOk result (λ pending.
+        NoneWaits support.now start.row start.column pending walk.new.places.items) }
 {
     let mut pending = pending;
     for row in support.column(walk.steps[head].column) {
@@ -82,7 +86,8 @@ fn reach_row(
     requires open { IsOpen support.now start.row head walk.old }
     requires leads { entry support.now row (step_at walk.old.steps.items head).column ≢ pos 0 }
     requires walking { IsWalking support.now start.row start.column head row walk.old }
-    ensures walking { OnOk result (IsWalking support.now start.row start.column head (row + 1) walk.new) }
+    ensures walking { OnOk result (IsWalking support.now start.row start.column head (row + 1)
+        walk.new) }
     ensures grows { OnOk result (GrowsFrom walk.old walk.new) }
     ensures used { OnOk result (walk.new.used.items ≡ slice_set walk.old.used.items row true) }
 {
@@ -110,7 +115,8 @@ fn first_waiting(support: &Support<'_>, walk: &Walk, start: Start, from: u32) ->
     requires from { from ≤ support.now.width }
     ensures from { from ≤ result }
     ensures width { result ≤ support.now.width }
-    ensures waits { (d : ℕ) → from ≤ d → d < result → entry support.now start.row d ≢ pos 0 → (place_in walk.now.places.items d ≢ 4294967295) ⊎ IsUntouched support.now start.row d }
+    ensures waits { (d : ℕ) → from ≤ d → d < result → entry support.now start.row d ≢ pos 0
+        → (place_in walk.now.places.items d ≢ 4294967295) ⊎ IsUntouched support.now start.row d }
 {
     for column in from..support.columns() {
         if support.entry(start.row, column) != 0

@@ -65,8 +65,10 @@ impl RowPlaces {
         requires other { partner ≢ column }
         requires first { entry support.now row column ≢ pos 0 }
         requires last { entry support.now row partner ≢ pos 0 }
-        ensures yes { IfOk result (λ makes. IsTrue makes → (path : List ℕ) × IsPlaceOf support.now row partner column path) }
-        ensures no { IfOk result (λ makes. makes ≡ false → (path : List ℕ) → ¬ (IsPlaceOf support.now row partner column path)) }
+        ensures yes { IfOk result (λ makes. IsTrue makes
+            → (path : List ℕ) × IsPlaceOf support.now row partner column path) }
+        ensures no { IfOk result (λ makes. makes ≡ false → (path : List ℕ)
+            → ¬ (IsPlaceOf support.now row partner column path)) }
         ensures places { IfOk result (λ makes. KnowsPlaces support.now row self.new) }
     {
         if partner < column {
@@ -88,8 +90,10 @@ impl RowPlaces {
         requires width { last < support.now.width }
         requires first { entry support.now start.row start.column ≢ pos 0 }
         requires last { entry support.now start.row last ≢ pos 0 }
-        ensures yes { IfOk result (λ makes. IsTrue makes → (path : List ℕ) × IsCyclePlace (entry support.now) start.row start.column last path) }
-        ensures no { IfOk result (λ makes. makes ≡ false → (path : List ℕ) → ¬ (IsCyclePlace (entry support.now) start.row start.column last path)) }
+        ensures yes { IfOk result (λ makes. IsTrue makes
+            → (path : List ℕ) × IsCyclePlace (entry support.now) start.row start.column last path) }
+        ensures no { IfOk result (λ makes. makes ≡ false → (path : List ℕ)
+            → ¬ (IsCyclePlace (entry support.now) start.row start.column last path)) }
         ensures places { IfOk result (λ makes. KnowsPlaces support.now start.row self.new) }
     {
         self.learn(support, start)?;
@@ -103,7 +107,8 @@ impl RowPlaces {
         requires column { start.column < support.now.width }
         requires first { entry support.now start.row start.column ≢ pos 0 }
         ensures places { OnOk result (KnowsPlaces support.now start.row self.new) }
-        ensures known { OnOk result (TellsFrom support.now start.row start.column support.now.width self.new.links) }
+        ensures known { OnOk result (TellsFrom support.now start.row start.column support.now.width
+            self.new.links) }
     {
         if self.known[start.column as usize] {
             return Ok(());
@@ -117,7 +122,8 @@ impl RowPlaces {
         requires column { start.column < support.now.width }
         requires first { entry support.now start.row start.column ≢ pos 0 }
         ensures places { OnOk result (KnowsPlaces support.now start.row self.new) }
-        ensures known { OnOk result (TellsFrom support.now start.row start.column support.now.width self.new.links) }
+        ensures known { OnOk result (TellsFrom support.now start.row start.column support.now.width
+            self.new.links) }
         ensures walked { OnOk result (HasWalked support.now start.row start.column self.new.walk) }
     {
         walk_from(support, &mut self.walk, start)?;
@@ -179,8 +185,10 @@ impl RowPlaces {
     ) -> Result<LineSet, Memory>
         requires row { start.row < height support.now }
         requires places { KnowsPlaces support.now start.row self.old }
-        requires place { (path : List ℕ) × IsCyclePlace (entry support.now) start.row start.column last path }
-        ensures cycle { IfOk result (λ cycle. IsCycleLines support.now start.row start.column last cycle) }
+        requires place { (path : List ℕ)
+            × IsCyclePlace (entry support.now) start.row start.column last path }
+        ensures cycle { IfOk result (λ cycle.
+            IsCycleLines support.now start.row start.column last cycle) }
         ensures places { IfOk result (λ cycle. KnowsPlaces support.now start.row self.new) }
     {
         self.stand_at(support, start)?;

@@ -40,10 +40,13 @@ pub struct ForcedOne {
 pub fn sign(alloc: Global, matrix: &Matrix) -> Result<(Matrix, SignStepList), Memory>
     ensures signed { IfOk result (λ signed. IsSignedBy matrix.now signed.1 signed.0) }
     // Of a 0/1 matrix, the steps are those of a chain.
-    ensures chain { IsBinary matrix.now → IfOk result (λ signed. LeadTo (KeepsRule matrix.now) (unsigned matrix.now) signed.1 signed.0) }
+    ensures chain { IsBinary matrix.now
+        → IfOk result (λ signed.
+        LeadTo (KeepsRule matrix.now) (unsigned matrix.now) signed.1 signed.0) }
     ensures support { IfOk result (λ signed. HaveOneSupport matrix.now signed.0) }
     ensures few { IfOk result (λ signed. length signed.1 ≤ height matrix.now * matrix.now.width) }
-    ensures steps { IfOk result (λ signed. AllByRecursion (IsStepIn (height matrix.now) matrix.now.width) signed.1) }
+    ensures steps { IfOk result (λ signed.
+        AllByRecursion (IsStepIn (height matrix.now) matrix.now.width) signed.1) }
 {
     let signing = all_rows_signed(alloc, matrix)?;
     Ok((signing.signs, signing.steps))
@@ -103,8 +106,10 @@ fn sign_next(
     requires first { IsFirstUnsigned support.now signing.old.signs row first }
     ensures state { OnOk result (IsAtRow support.now row signing.new) }
     ensures places { OnOk result (KnowsPlaces support.now row places.new) }
-    ensures fewer { OnOk result (unsigned_before support.now signing.new.signs row support.now.width < unsigned_before support.now signing.old.signs row support.now.width) }
-    ensures keeps { OnOk result ((d : ℕ) → IsUnsignedOne support.now signing.new.signs row d → IsUnsignedOne support.now signing.old.signs row d) }
+    ensures fewer { OnOk result (unsigned_before support.now signing.new.signs row support.now.width
+        < unsigned_before support.now signing.old.signs row support.now.width) }
+    ensures keeps { OnOk result ((d : ℕ) → IsUnsignedOne support.now signing.new.signs row d
+        → IsUnsignedOne support.now signing.old.signs row d) }
 {
     match forced_one(support, places, row, first, &signing.signs)? {
         Some(forced) => sign_forced(alloc, support, places, row, forced, signing),
@@ -125,8 +130,10 @@ fn forced_one(
     requires places { KnowsPlaces support.now row places.old }
     requires signs { AreSigns support.now signs.now }
     requires first { IsFirstUnsigned support.now signs.now row first }
-    ensures forced { IfOk result (λ found. MatchOption found (NoneForced support.now signs.now row)
-        (λ forced. IsForcedColumn support.now signs.now row forced.column × IsPartner support.now signs.now row forced.column forced.partner)) }
+    ensures forced { IfOk result (λ found. MatchOption found
+        (NoneForced support.now signs.now row)
+        (λ forced. IsForcedColumn support.now signs.now row forced.column
+        × IsPartner support.now signs.now row forced.column forced.partner)) }
     ensures places { IfOk result (λ found. KnowsPlaces support.now row places.new) }
 {
     for column in first..support.columns() {
@@ -161,7 +168,9 @@ fn partner_of(
     requires places { KnowsPlaces support.now row places.old }
     requires signs { AreSigns support.now signs.now }
     requires here { IsUnsignedOne support.now signs.now row column }
-    ensures partner { IfOk result (λ found. MatchOption found ((c : ℕ) → ¬ (IsForcedBy support.now signs.now row column c)) (IsPartner support.now signs.now row column)) }
+    ensures partner { IfOk result (λ found. MatchOption found
+        ((c : ℕ) → ¬ (IsForcedBy support.now signs.now row column c))
+        (IsPartner support.now signs.now row column)) }
     ensures places { IfOk result (λ found. KnowsPlaces support.now row places.new) }
 {
     for partner in support.row(row) {
@@ -180,7 +189,8 @@ fn first_unsigned(support: &Support<'_>, row: u32, from: u32, signs: &Matrix) ->
     requires row { row < height support.now }
     requires signs { AreSigns support.now signs.now }
     requires before { (d : ℕ) → d < from → ¬ (IsUnsignedOne support.now signs.now row d) }
-    ensures { MatchOption result ((d : ℕ) → ¬ (IsUnsignedOne support.now signs.now row d)) (IsFirstUnsigned support.now signs.now row) }
+    ensures { MatchOption result ((d : ℕ) → ¬ (IsUnsignedOne support.now signs.now row d))
+        (IsFirstUnsigned support.now signs.now row) }
 {
     for column in from..support.columns() {
         if is_unsigned_one(support, row, column, signs) {
@@ -202,8 +212,10 @@ fn sign_free(
     requires first { IsFirstUnsigned support.now signing.old.signs row column }
     requires none { NoneForced support.now signing.old.signs row }
     ensures state { OnOk result (IsAtRow support.now row signing.new) }
-    ensures fewer { OnOk result (unsigned_before support.now signing.new.signs row support.now.width < unsigned_before support.now signing.old.signs row support.now.width) }
-    ensures keeps { OnOk result ((d : ℕ) → IsUnsignedOne support.now signing.new.signs row d → IsUnsignedOne support.now signing.old.signs row d) }
+    ensures fewer { OnOk result (unsigned_before support.now signing.new.signs row support.now.width
+        < unsigned_before support.now signing.old.signs row support.now.width) }
+    ensures keeps { OnOk result ((d : ℕ) → IsUnsignedOne support.now signing.new.signs row d
+        → IsUnsignedOne support.now signing.old.signs row d) }
 {
     signing.signs.set(row, column, 1);
     signing.steps.push(SignStep::Free { row, column })?;
@@ -225,8 +237,10 @@ fn sign_forced(
     requires partner { IsPartner support.now signing.old.signs row forced.column forced.partner }
     ensures state { OnOk result (IsAtRow support.now row signing.new) }
     ensures places { OnOk result (KnowsPlaces support.now row places.new) }
-    ensures fewer { OnOk result (unsigned_before support.now signing.new.signs row support.now.width < unsigned_before support.now signing.old.signs row support.now.width) }
-    ensures keeps { OnOk result ((d : ℕ) → IsUnsignedOne support.now signing.new.signs row d → IsUnsignedOne support.now signing.old.signs row d) }
+    ensures fewer { OnOk result (unsigned_before support.now signing.new.signs row support.now.width
+        < unsigned_before support.now signing.old.signs row support.now.width) }
+    ensures keeps { OnOk result ((d : ℕ) → IsUnsignedOne support.now signing.new.signs row d
+        → IsUnsignedOne support.now signing.old.signs row d) }
 {
     let column = forced.column;
     let cycle = places.cycle(alloc, support, row, column, forced.partner)?;

@@ -45,9 +45,12 @@ impl Walk {
     /// Begins a walk from a column.
     pub fn begin(&mut self, column: u32) -> Result<(), Memory>
         requires { column < length self.old.places.items }
-        ensures steps { OnOk result (self.new.steps.items ≡ record { column = column; row = 0; before = 0; is_two = false } ∷ []) }
-        ensures places { OnOk result (self.new.places.items ≡ slice_set (replicate (length self.old.places.items) 4294967295) column 0) }
-        ensures used { OnOk result (self.new.used.items ≡ replicate (length self.old.used.items) false) }
+        ensures steps { OnOk result (self.new.steps.items
+            ≡ record { column = column; row = 0; before = 0; is_two = false } ∷ []) }
+        ensures places { OnOk result (self.new.places.items
+            ≡ slice_set (replicate (length self.old.places.items) 4294967295) column 0) }
+        ensures used { OnOk result (self.new.used.items
+            ≡ replicate (length self.old.used.items) false) }
     {
         self.steps.clear();
         self.places.fill(UNREACHED);
@@ -76,7 +79,8 @@ impl Walk {
         requires column { step.column < length self.old.places.items }
         requires few { length self.old.steps.items ≤ 1000 }
         ensures steps { OnOk result (self.new.steps.items ≡ self.old.steps.items ++ step ∷ []) }
-        ensures places { OnOk result (self.new.places.items ≡ slice_set self.old.places.items step.column (length self.old.steps.items)) }
+        ensures places { OnOk result (self.new.places.items
+            ≡ slice_set self.old.places.items step.column (length self.old.steps.items)) }
         ensures used { OnOk result (self.new.used.items ≡ self.old.used.items) }
     {
         self.places[step.column as usize] = self.steps.len() as u32;

@@ -17,7 +17,8 @@ use tree_type::{Node, NodeList, Rule, has_line};
 
 pub fn apart_rule(matrix: &Matrix, lines: &LineSet, children: &NodeList) -> Option<Rule>
     requires { AreLines matrix.now lines.now }
-    ensures { IsFirstOf matrix.now lines.now says.OneSum (lines_of_each (says.trees_of children.now)) result }
+    ensures { IsFirstOf matrix.now lines.now says.OneSum
+        (lines_of_each (says.trees_of children.now)) result }
 {
     unless(
         are_apart(matrix, lines, children.as_slice()),
@@ -59,7 +60,10 @@ fn are_filled(children: &[Node]) -> bool
 
 // Whether each of these rows is in exactly one child.
 fn have_rows(children: &[Node], rows: &[u32]) -> bool
-    ensures { IsTrue result ↔ AllByRecursion (λ row. count_by (λ child. is_among child.rows row) (lines_in children.now) ≡ 1) rows.now }
+    ensures { IsTrue result
+        ↔ AllByRecursion
+        (λ row. count_by (λ child. is_among child.rows row) (lines_in children.now) ≡ 1)
+        rows.now }
 {
     for row in rows {
         if count_row(children, *row) != 1 {
@@ -82,7 +86,10 @@ fn count_row(children: &[Node], row: u32) -> usize
 }
 
 fn have_columns(children: &[Node], columns: &[u32]) -> bool
-    ensures { IsTrue result ↔ AllByRecursion (λ column. count_by (λ child. is_among child.columns column) (lines_in children.now) ≡ 1) columns.now }
+    ensures { IsTrue result
+        ↔ AllByRecursion
+        (λ column. count_by (λ child. is_among child.columns column) (lines_in children.now) ≡ 1)
+        columns.now }
 {
     for column in columns {
         if count_column(children, *column) != 1 {
@@ -108,8 +115,19 @@ fn count_column(children: &[Node], column: u32) -> usize
 fn have_nonzeros(matrix: &Matrix, children: &[Node], rows: &[u32], columns: &[u32]) -> bool
     requires rows { AllBelow (height matrix.now) rows.now }
     requires columns { AllBelow matrix.now.width columns.now }
-    requires one { AllByRecursion (λ row. count_by (λ child. is_among child.rows row) (lines_in children.now) ≡ 1) rows.now }
-    ensures { IsTrue result ↔ AllByRecursion (λ row. AllByRecursion (λ column. entry matrix.now row column ≢ pos 0 → list_any (λ child. is_among child.rows row && is_among child.columns column) (lines_in children.now) ≡ true) columns.now) rows.now }
+    requires one { AllByRecursion
+        (λ row. count_by (λ child. is_among child.rows row) (lines_in children.now) ≡ 1)
+        rows.now }
+    ensures { IsTrue result
+        ↔ AllByRecursion
+        (λ row. AllByRecursion
+        (λ column. entry matrix.now row column ≢ pos 0
+        → list_any
+        (λ child. is_among child.rows row && is_among child.columns column)
+        (lines_in children.now)
+        ≡ true)
+        columns.now)
+        rows.now }
 {
     for row in rows {
         if !has_nonzeros(matrix, children, *row, columns) {
@@ -123,7 +141,14 @@ fn has_nonzeros(matrix: &Matrix, children: &[Node], row: u32, columns: &[u32]) -
     requires row { row < height matrix.now }
     requires columns { AllBelow matrix.now.width columns.now }
     requires one { count_by (λ child. is_among child.rows row) (lines_in children.now) ≡ 1 }
-    ensures { IsTrue result ↔ AllByRecursion (λ column. entry matrix.now row column ≢ pos 0 → list_any (λ child. is_among child.rows row && is_among child.columns column) (lines_in children.now) ≡ true) columns.now }
+    ensures { IsTrue result
+        ↔ AllByRecursion
+        (λ column. entry matrix.now row column ≢ pos 0
+        → list_any
+        (λ child. is_among child.rows row && is_among child.columns column)
+        (lines_in children.now)
+        ≡ true)
+        columns.now }
 {
     are_inside(matrix, columns_beside(children, row), row, columns)
 }
@@ -131,7 +156,11 @@ fn has_nonzeros(matrix: &Matrix, children: &[Node], row: u32, columns: &[u32]) -
 // The columns of the one child that has this row.
 fn columns_beside(children: &[Node], row: u32) -> &Indices
     requires { count_by (λ child. is_among child.rows row) (lines_in children.now) ≡ 1 }
-    ensures { (column : ℕ) → list_any (λ child. is_among child.rows row && is_among child.columns column) (lines_in children.now) ≡ is_among result.now column }
+    ensures { (column : ℕ)
+        → list_any
+        (λ child. is_among child.rows row && is_among child.columns column)
+        (lines_in children.now)
+        ≡ is_among result.now column }
 {
     for child in children {
         if has_line(&child.lines.rows, row) {
@@ -145,7 +174,10 @@ fn columns_beside(children: &[Node], row: u32) -> &Indices
 fn are_inside(matrix: &Matrix, inside: &Indices, row: u32, columns: &[u32]) -> bool
     requires row { row < height matrix.now }
     requires columns { AllBelow matrix.now.width columns.now }
-    ensures { IsTrue result ↔ AllByRecursion (λ column. entry matrix.now row column ≢ pos 0 → is_among inside.now column ≡ true) columns.now }
+    ensures { IsTrue result
+        ↔ AllByRecursion
+        (λ column. entry matrix.now row column ≢ pos 0 → is_among inside.now column ≡ true)
+        columns.now }
 {
     for column in columns {
         if matrix.entry(row, *column) != 0 && !has_line(inside, *column) {

@@ -20,7 +20,10 @@ pub fn is_zero_block(matrix: &Matrix, rows: &Indices, columns: &Indices) -> bool
 fn are_zero_rows(matrix: &Matrix, rows: &[u32], columns: &[u32]) -> bool
     requires rows { AllBelow (height matrix.now) rows.now }
     requires columns { AllBelow matrix.now.width columns.now }
-    ensures { IsTrue result ↔ AllByRecursion (λ row. AllByRecursion (λ column. entry matrix.now row column ≡ pos 0) columns.now) rows.now }
+    ensures { IsTrue result
+        ↔ AllByRecursion
+        (λ row. AllByRecursion (λ column. entry matrix.now row column ≡ pos 0) columns.now)
+        rows.now }
 {
     for row in rows {
         if !is_zero_row(matrix, *row, columns) {
@@ -33,7 +36,8 @@ fn are_zero_rows(matrix: &Matrix, rows: &[u32], columns: &[u32]) -> bool
 fn is_zero_row(matrix: &Matrix, row: u32, columns: &[u32]) -> bool
     requires row { row < height matrix.now }
     requires columns { AllBelow matrix.now.width columns.now }
-    ensures { IsTrue result ↔ AllByRecursion (λ column. entry matrix.now row column ≡ pos 0) columns.now }
+    ensures { IsTrue result
+        ↔ AllByRecursion (λ column. entry matrix.now row column ≡ pos 0) columns.now }
 {
     for column in columns {
         if matrix.entry(row, *column) != 0 {
@@ -49,7 +53,8 @@ pub fn is_made_block(matrix: &Matrix, rows: &Indices, columns: &Indices, i: u32,
     requires columns { AllBelow matrix.now.width columns.now }
     requires i { i < height matrix.now }
     requires j { j < matrix.now.width }
-    ensures { IsTrue result ↔ AreEntries (entry matrix.now) rows.now columns.now (product_at (entry matrix.now) i j) }
+    ensures { IsTrue result
+        ↔ AreEntries (entry matrix.now) rows.now columns.now (product_at (entry matrix.now) i j) }
 {
     are_made_rows(matrix, rows.as_slice(), columns.as_slice(), i, j)
 }
@@ -59,7 +64,13 @@ fn are_made_rows(matrix: &Matrix, rows: &[u32], columns: &[u32], i: u32, j: u32)
     requires columns { AllBelow matrix.now.width columns.now }
     requires i { i < height matrix.now }
     requires j { j < matrix.now.width }
-    ensures { IsTrue result ↔ AllByRecursion (λ row. AllByRecursion (λ column. entry matrix.now row column ≡ (entry matrix.now row j *ℤ entry matrix.now i j) *ℤ entry matrix.now i column) columns.now) rows.now }
+    ensures { IsTrue result
+        ↔ AllByRecursion
+        (λ row. AllByRecursion
+        (λ column. entry matrix.now row column
+        ≡ (entry matrix.now row j *ℤ entry matrix.now i j) *ℤ entry matrix.now i column)
+        columns.now)
+        rows.now }
 {
     for row in rows {
         if !is_made_row(matrix, *row, columns, i, j) {
@@ -74,7 +85,11 @@ fn is_made_row(matrix: &Matrix, row: u32, columns: &[u32], i: u32, j: u32) -> bo
     requires columns { AllBelow matrix.now.width columns.now }
     requires i { i < height matrix.now }
     requires j { j < matrix.now.width }
-    ensures { IsTrue result ↔ AllByRecursion (λ column. entry matrix.now row column ≡ (entry matrix.now row j *ℤ entry matrix.now i j) *ℤ entry matrix.now i column) columns.now }
+    ensures { IsTrue result
+        ↔ AllByRecursion
+        (λ column. entry matrix.now row column
+        ≡ (entry matrix.now row j *ℤ entry matrix.now i j) *ℤ entry matrix.now i column)
+        columns.now }
 {
     for column in columns {
         if !is_made_entry(matrix, row, *column, i, j) {
@@ -89,7 +104,9 @@ fn is_made_entry(matrix: &Matrix, row: u32, column: u32, i: u32, j: u32) -> bool
     requires column { column < matrix.now.width }
     requires i { i < height matrix.now }
     requires j { j < matrix.now.width }
-    ensures { IsTrue result ↔ (entry matrix.now row column ≡ (entry matrix.now row j *ℤ entry matrix.now i j) *ℤ entry matrix.now i column) }
+    ensures { IsTrue result
+        ↔ (entry matrix.now row column
+        ≡ (entry matrix.now row j *ℤ entry matrix.now i j) *ℤ entry matrix.now i column) }
 {
     let factor = product(matrix.entry(row, j), matrix.entry(i, j));
     matrix.entry(row, column) == product(factor, matrix.entry(i, column))

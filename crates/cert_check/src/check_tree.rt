@@ -30,7 +30,8 @@ pub fn accept(alloc: Global, matrix: &Matrix, tree: &DecTree) -> Result<Option<R
 
 /// The first rule that the root breaks, if there is one.
 fn root_rule(alloc: Global, matrix: &Matrix, tree: &DecTree) -> Result<Option<Rule>, Memory>
-    ensures rule { IfOk result (IsRuleAt matrix.now false (AllLines tree.now.rows tree.now.columns) (tree_of tree.now.root)) }
+    ensures rule { IfOk result (IsRuleAt matrix.now false (AllLines tree.now.rows tree.now.columns)
+        (tree_of tree.now.root)) }
     ensures own { IfOk result (KeepsOwn matrix.now (tree_of tree.now.root)) }
 {
     if tree.rows() != matrix.rows() {
@@ -123,7 +124,8 @@ fn check_child(
     number: u32,
 ) -> Result<Option<Refusal>, Memory>
     requires { Stands matrix.now (tree_of child.now) }
-    ensures { IfOk result (AnswersFrom matrix.now pivoted (path.now ++ number ∷ []) (due_child_of (tree_of parent.now) number) (tree_of child.now)) }
+    ensures { IfOk result (AnswersFrom matrix.now pivoted (path.now ++ number ∷ [])
+        (due_child_of (tree_of parent.now) number) (tree_of child.now)) }
 {
     let longer = path.child(number)?;
     match rule_of(alloc, matrix, pivoted, child, parent, number)? {
@@ -147,7 +149,8 @@ fn check_pivoted(
     requires place { IsPlaceIn matrix.now parent.now.lines place }
     requires ternary { IsTernaryPivot matrix.now parent.now.lines place }
     requires stands { Stands matrix.now (tree_of child.now) }
-    ensures { IfOk result (AnswersFrom (pivoted_part matrix.now parent.now.lines place) true (path.now ++ 0 ∷ []) (due_child_of (tree_of parent.now) 0) (tree_of child.now)) }
+    ensures { IfOk result (AnswersFrom (pivoted_part matrix.now parent.now.lines place) true
+        (path.now ++ 0 ∷ []) (due_child_of (tree_of parent.now) 0) (tree_of child.now)) }
 {
     match pivot_part(alloc, matrix, &parent.lines, place)? {
         PivotedPart::Ternary(after) => check_child(alloc, &after, true, path, child, parent, 0),
@@ -166,7 +169,8 @@ fn rule_of(
     number: u32,
 ) -> Result<Option<Rule>, Memory>
     requires { Stands matrix.now (tree_of child.now) }
-    ensures rule { IfOk result (IsRuleAt matrix.now pivoted (due_child_of (tree_of parent.now) number) (tree_of child.now)) }
+    ensures rule { IfOk result (IsRuleAt matrix.now pivoted
+        (due_child_of (tree_of parent.now) number) (tree_of child.now)) }
     ensures own { IfOk result (KeepsOwn matrix.now (tree_of child.now)) }
 {
     let due = due_lines(alloc, parent, number)?;
@@ -182,7 +186,8 @@ fn rule_at(
     child: &Node,
 ) -> Result<Option<Rule>, Memory>
     requires { Stands matrix.now (tree_of child.now) }
-    ensures rule { IfOk result (IsRuleAt matrix.now pivoted (due_from due.now) (tree_of child.now)) }
+    ensures rule { IfOk result (IsRuleAt matrix.now pivoted (due_from due.now)
+        (tree_of child.now)) }
     ensures own { IfOk result (KeepsOwn matrix.now (tree_of child.now)) }
 {
     if !has_lines(due, child) {

@@ -16,7 +16,8 @@ use cmr_base::{Connector, Form, LineSet, Matrix, Three, product};
 pub fn are_connectors(matrix: &Matrix, one: &LineSet, other: &LineSet, three: &Three) -> bool
     requires first { IsConnectorIn matrix.now (first_is_flat three.now.form) three.now.first }
     requires second { IsConnectorIn matrix.now (second_is_flat three.now.form) three.now.second }
-    ensures { IsTrue result ↔ AreConnectors (entry matrix.now) (sides_from one.now other.now) three.now }
+    ensures { IsTrue result
+        ↔ AreConnectors (entry matrix.now) (sides_from one.now other.now) three.now }
 {
     has_connector(one, three.form.first_is_flat(), three.first)
         && has_connector(other, three.form.second_is_flat(), three.second)

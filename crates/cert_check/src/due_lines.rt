@@ -48,7 +48,8 @@ fn lines_left(alloc: Global, lines: &LineSet, steps: &[Line]) -> Result<LineSet,
 /// The lines without one of them.
 pub fn without_line(alloc: Global, lines: &LineSet, line: Line) -> Result<LineSet, Memory>
     ensures rows { IfOk result (λ fewer. fewer.rows ≡ rows_without lines.now.rows line) }
-    ensures columns { IfOk result (λ fewer. fewer.columns ≡ columns_without lines.now.columns line) }
+    ensures columns { IfOk result (λ fewer. fewer.columns
+        ≡ columns_without lines.now.columns line) }
 {
     match line {
         Line::Row(row) => lines.without_row(alloc, row),

@@ -39,7 +39,8 @@ pub(crate) fn own_rule(alloc: Global, matrix: &Matrix, node: &Node) -> Result<Op
 
 /// Whether two sets have the same lines.
 pub(crate) fn same_lines(one: &LineSet, other: &LineSet) -> bool
-    ensures { IsTrue result ↔ ((one.now.rows ≡ other.now.rows) × (one.now.columns ≡ other.now.columns)) }
+    ensures { IsTrue result
+        ↔ ((one.now.rows ≡ other.now.rows) × (one.now.columns ≡ other.now.columns)) }
 {
     one.rows.as_slice() == other.rows.as_slice()
         && one.columns.as_slice() == other.columns.as_slice()

@@ -54,7 +54,8 @@ fn is_ternary_pivot(
 
 /// Whether a node may stand where it does: below a pivot it names no fault and leaves no lines open.
 pub fn may_stand(below_pivot: bool, node: &Node) -> bool
-    ensures { (pivots : List MadePivot) → has_pivot pivots ≡ below_pivot → IsTrue result ↔ MayStand pivots (finding_of (tree_of node.now)) }
+    ensures { (pivots : List MadePivot) → has_pivot pivots ≡ below_pivot → IsTrue result
+        ↔ MayStand pivots (finding_of (tree_of node.now)) }
 {
     !below_pivot || is_settled(node)
 }

@@ -41,7 +41,8 @@ fn are_reductions(
     steps: &[Line],
 ) -> Result<bool, Memory>
     requires { AreLines matrix.now lines.now }
-    ensures { IfOk result (λ yes. IsTrue yes ↔ AreReductions (entry matrix.now) lines.now.rows lines.now.columns steps.now) }
+    ensures { IfOk result (λ yes. IsTrue yes ↔ AreReductions (entry matrix.now) lines.now.rows
+        lines.now.columns steps.now) }
 {
     let mut left = copy_of(alloc, lines)?;
     for step in steps {
@@ -56,7 +57,9 @@ fn are_reductions(
 // Whether a line is among these and reducible.
 fn is_step(matrix: &Matrix, lines: &LineSet, line: Line) -> bool
     requires { AreLines matrix.now lines.now }
-    ensures { IsTrue result ↔ (HasLine lines.now.rows lines.now.columns line × IsSome (line_reason false (entry matrix.now) lines.now.rows lines.now.columns line)) }
+    ensures { IsTrue result
+        ↔ (HasLine lines.now.rows lines.now.columns line
+        × IsSome (line_reason false (entry matrix.now) lines.now.rows lines.now.columns line)) }
 {
     has_line(lines, line) && is_reducible_line(matrix, lines, line, false)
 }

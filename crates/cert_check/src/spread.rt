@@ -23,7 +23,9 @@ pub fn is_spread_block(
     requires columns { AllBelow matrix.now.width columns.now }
     requires first { IsConnectorIn matrix.now true first }
     requires second { IsConnectorIn matrix.now false second }
-    ensures { IsTrue result ↔ AreEntries (entry matrix.now) rows.now columns.now (spread_at (entry matrix.now) first second) }
+    ensures { IsTrue result
+        ↔ AreEntries (entry matrix.now) rows.now columns.now
+        (spread_at (entry matrix.now) first second) }
 {
     are_spread_rows(matrix, rows.as_slice(), columns.as_slice(), first, second)
 }
@@ -39,7 +41,13 @@ fn are_spread_rows(
     requires columns { AllBelow matrix.now.width columns.now }
     requires first { IsConnectorIn matrix.now true first }
     requires second { IsConnectorIn matrix.now false second }
-    ensures { IsTrue result ↔ AllByRecursion (λ row. AllByRecursion (λ column. entry matrix.now row column ≡ spread_at (entry matrix.now) first second row column) columns.now) rows.now }
+    ensures { IsTrue result
+        ↔ AllByRecursion
+        (λ row. AllByRecursion
+        (λ column. entry matrix.now row column
+        ≡ spread_at (entry matrix.now) first second row column)
+        columns.now)
+        rows.now }
 {
     for row in rows {
         if !is_spread_row(matrix, *row, columns, first, second) {
@@ -60,7 +68,11 @@ fn is_spread_row(
     requires columns { AllBelow matrix.now.width columns.now }
     requires first { IsConnectorIn matrix.now true first }
     requires second { IsConnectorIn matrix.now false second }
-    ensures { IsTrue result ↔ AllByRecursion (λ column. entry matrix.now row column ≡ spread_at (entry matrix.now) first second row column) columns.now }
+    ensures { IsTrue result
+        ↔ AllByRecursion
+        (λ column. entry matrix.now row column
+        ≡ spread_at (entry matrix.now) first second row column)
+        columns.now }
 {
     let factors = factors_of(matrix, row, first, second);
     is_row_made(matrix, row, columns, factors, second)
@@ -79,7 +91,12 @@ fn is_row_made(
     requires row { row < height matrix.now }
     requires columns { AllBelow matrix.now.width columns.now }
     requires second { IsConnectorIn matrix.now false second }
-    ensures { IsTrue result ↔ AllByRecursion (λ column. entry matrix.now row column ≡ factors.first *ℤ entry matrix.now second.row column +ℤ factors.other *ℤ entry matrix.now second.other column) columns.now }
+    ensures { IsTrue result
+        ↔ AllByRecursion
+        (λ column. entry matrix.now row column
+        ≡ factors.first *ℤ entry matrix.now second.row column
+        +ℤ factors.other *ℤ entry matrix.now second.other column)
+        columns.now }
 {
     for column in columns {
         if !is_entry_made(matrix, row, *column, factors, second) {
@@ -101,7 +118,10 @@ fn is_entry_made(
     requires row { row < height matrix.now }
     requires column { column < matrix.now.width }
     requires second { IsConnectorIn matrix.now false second }
-    ensures { IsTrue result ↔ (entry matrix.now row column ≡ factors.first *ℤ entry matrix.now second.row column +ℤ factors.other *ℤ entry matrix.now second.other column) }
+    ensures { IsTrue result
+        ↔ (entry matrix.now row column
+        ≡ factors.first *ℤ entry matrix.now second.row column
+        +ℤ factors.other *ℤ entry matrix.now second.other column) }
 {
     let upper = matrix.entry(second.row, column);
     let lower = matrix.entry(second.other, column);
@@ -112,7 +132,10 @@ fn factors_of(matrix: &Matrix, row: u32, first: Connector, second: Connector) ->
     requires row { row < height matrix.now }
     requires first { IsConnectorIn matrix.now true first }
     requires second { IsConnectorIn matrix.now false second }
-    ensures sum { (column : ℕ) → spread_at (entry matrix.now) first second row column ≡ result.first *ℤ entry matrix.now second.row column +ℤ result.other *ℤ entry matrix.now second.other column }
+    ensures sum { (column : ℕ)
+        → spread_at (entry matrix.now) first second row column
+        ≡ result.first *ℤ entry matrix.now second.row column
+        +ℤ result.other *ℤ entry matrix.now second.other column }
     ensures first { IsBounded 4 result.first }
     ensures other { IsBounded 4 result.other }
 {
@@ -128,7 +151,8 @@ fn factors_of(matrix: &Matrix, row: u32, first: Connector, second: Connector) ->
 pub fn core_of(matrix: &Matrix, first: Connector, second: Connector) -> Core
     requires first { IsConnectorIn matrix.now true first }
     requires second { IsConnectorIn matrix.now false second }
-    ensures place { IsCoreAt (entry matrix.now) second.row second.other first.column first.other result }
+    ensures place { IsCoreAt (entry matrix.now) second.row second.other first.column first.other
+        result }
     ensures entries { HasEntries result }
 {
     Core::at(matrix, second.row, second.other, first.column, first.other)

@@ -39,7 +39,8 @@ fn two_rule_on(matrix: &Matrix, one: &LineSet, other: &LineSet, two: &Two) -> Op
     requires other { AreLines matrix.now other.now }
     requires row { two.now.row < height matrix.now }
     requires column { two.now.column < matrix.now.width }
-    ensures { (lines : LineSet) → sides_from one.now other.now ≡ sides lines two.now.side → Says matrix.now lines (says.TwoSum two.now) result }
+    ensures { (lines : LineSet) → sides_from one.now other.now ≡ sides lines two.now.side
+        → Says matrix.now lines (says.TwoSum two.now) result }
 {
     if !have_lines(one, other, 2) {
         return Some(Rule::TooShort);
@@ -67,7 +68,8 @@ fn are_so_many(lines: &LineSet, low: u32) -> bool
 fn is_reference(matrix: &Matrix, one: &LineSet, other: &LineSet, two: &Two) -> bool
     requires row { two.now.row < height matrix.now }
     requires column { two.now.column < matrix.now.width }
-    ensures { IsTrue result ↔ IsReference (entry matrix.now) (sides_from one.now other.now) two.now.row two.now.column }
+    ensures { IsTrue result
+        ↔ IsReference (entry matrix.now) (sides_from one.now other.now) two.now.row two.now.column }
 {
     is_in(&other.rows, two.row)
         && is_in(&one.columns, two.column)
@@ -79,7 +81,9 @@ fn are_two_blocks(matrix: &Matrix, one: &LineSet, other: &LineSet, two: &Two) ->
     requires other { AreLines matrix.now other.now }
     requires row { two.now.row < height matrix.now }
     requires column { two.now.column < matrix.now.width }
-    ensures { IsTrue result ↔ AreTwoBlocks (entry matrix.now) (sides_from one.now other.now) two.now.row two.now.column }
+    ensures { IsTrue result
+        ↔ AreTwoBlocks (entry matrix.now) (sides_from one.now other.now) two.now.row
+        two.now.column }
 {
     is_zero_block(matrix, &one.rows, &other.columns)
         && is_made_block(matrix, &other.rows, &one.columns, two.row, two.column)
@@ -92,8 +96,10 @@ pub fn three_rule(
     three: &Three,
 ) -> Result<Option<Rule>, Memory>
     requires lines { AreLines matrix.now lines.now }
-    requires first { HasConnector (first_is_flat three.now.form) lines.now.rows lines.now.columns three.now.first }
-    requires second { HasConnector (second_is_flat three.now.form) lines.now.rows lines.now.columns three.now.second }
+    requires first { HasConnector (first_is_flat three.now.form) lines.now.rows lines.now.columns
+        three.now.first }
+    requires second { HasConnector (second_is_flat three.now.form) lines.now.rows lines.now.columns
+        three.now.second }
     ensures { IfOk result (Says matrix.now lines.now (says.ThreeSum three.now)) }
 {
     let one = side_one(alloc, lines, &three.side)?;
@@ -106,7 +112,8 @@ fn three_rule_on(matrix: &Matrix, one: &LineSet, other: &LineSet, three: &Three)
     requires other { AreLines matrix.now other.now }
     requires first { IsConnectorIn matrix.now (first_is_flat three.now.form) three.now.first }
     requires second { IsConnectorIn matrix.now (second_is_flat three.now.form) three.now.second }
-    ensures { (lines : LineSet) → sides_from one.now other.now ≡ sides lines three.now.side → Says matrix.now lines (says.ThreeSum three.now) result }
+    ensures { (lines : LineSet) → sides_from one.now other.now ≡ sides lines three.now.side
+        → Says matrix.now lines (says.ThreeSum three.now) result }
 {
     if !have_lines(one, other, 4) {
         return Some(Rule::TooShort);
@@ -125,7 +132,8 @@ fn are_three_blocks(matrix: &Matrix, one: &LineSet, other: &LineSet, three: &Thr
     requires other { AreLines matrix.now other.now }
     requires first { IsConnectorIn matrix.now (first_is_flat three.now.form) three.now.first }
     requires second { IsConnectorIn matrix.now (second_is_flat three.now.form) three.now.second }
-    ensures { IsTrue result ↔ AreThreeBlocks (entry matrix.now) (sides_from one.now other.now) three.now }
+    ensures { IsTrue result
+        ↔ AreThreeBlocks (entry matrix.now) (sides_from one.now other.now) three.now }
 {
     match three.form {
         Form::Delta | Form::YForm | Form::Mixed => {
@@ -150,7 +158,11 @@ fn are_made_blocks(
     requires first_column { first.column < matrix.now.width }
     requires second_row { second.row < height matrix.now }
     requires second_column { second.column < matrix.now.width }
-    ensures { IsTrue result ↔ (AreEntries (entry matrix.now) one.now.rows other.now.columns (product_at (entry matrix.now) first.row second.column) × AreEntries (entry matrix.now) other.now.rows one.now.columns (product_at (entry matrix.now) second.row first.column)) }
+    ensures { IsTrue result
+        ↔ (AreEntries (entry matrix.now) one.now.rows other.now.columns
+        (product_at (entry matrix.now) first.row second.column)
+        × AreEntries (entry matrix.now) other.now.rows one.now.columns
+        (product_at (entry matrix.now) second.row first.column)) }
 {
     is_made_block(matrix, &one.rows, &other.columns, first.row, second.column)
         && is_made_block(matrix, &other.rows, &one.columns, second.row, first.column)
@@ -167,7 +179,10 @@ fn are_concentrated_blocks(
     requires other { AreLines matrix.now other.now }
     requires first { IsConnectorIn matrix.now true first }
     requires second { IsConnectorIn matrix.now false second }
-    ensures { IsTrue result ↔ (AreEntries (entry matrix.now) one.now.rows other.now.columns zeros × AreEntries (entry matrix.now) other.now.rows one.now.columns (spread_at (entry matrix.now) first second)) }
+    ensures { IsTrue result
+        ↔ (AreEntries (entry matrix.now) one.now.rows other.now.columns zeros
+        × AreEntries (entry matrix.now) other.now.rows one.now.columns
+        (spread_at (entry matrix.now) first second)) }
 {
     is_zero_block(matrix, &one.rows, &other.columns)
         && is_spread_block(matrix, &other.rows, &one.columns, first, second)

@@ -29,7 +29,9 @@ pub fn clear_set(set: &mut Vec<u64>)
 pub fn add_set(set: &mut Vec<u64>, other: &[u64])
     requires { length other.now ≡ length set.old.items }
     ensures size { length set.new.items ≡ length set.old.items }
-    ensures columns { (column : ℕ) → has_column set.new.items column ≡ (has_column set.old.items column || has_column other.now column) }
+    ensures columns { (column : ℕ)
+        → has_column set.new.items column
+        ≡ (has_column set.old.items column || has_column other.now column) }
 {
     for block in 0..set.len() {
         set[block] |= other[block];
@@ -41,7 +43,10 @@ pub fn add_common(set: &mut Vec<u64>, one: &[u64], two: &[u64])
     requires one { length one.now ≡ length set.old.items }
     requires two { length two.now ≡ length set.old.items }
     ensures size { length set.new.items ≡ length set.old.items }
-    ensures columns { (column : ℕ) → has_column set.new.items column ≡ (has_column set.old.items column || (has_column one.now column && has_column two.now column)) }
+    ensures columns { (column : ℕ)
+        → has_column set.new.items column
+        ≡ (has_column set.old.items column
+        || (has_column one.now column && has_column two.now column)) }
 {
     for block in 0..set.len() {
         set[block] |= one[block] & two[block];
@@ -53,7 +58,10 @@ pub fn add_outside(set: &mut Vec<u64>, one: &[u64], other: &[u64])
     requires one { length one.now ≡ length set.old.items }
     requires other { length other.now ≡ length set.old.items }
     ensures size { length set.new.items ≡ length set.old.items }
-    ensures columns { (column : ℕ) → has_column set.new.items column ≡ (has_column set.old.items column || (has_column one.now column && not (has_column other.now column))) }
+    ensures columns { (column : ℕ)
+        → has_column set.new.items column
+        ≡ (has_column set.old.items column
+        || (has_column one.now column && not (has_column other.now column))) }
 {
     for block in 0..set.len() {
         set[block] |= outside(one[block], other[block]);
@@ -102,7 +110,8 @@ fn is_part(word: u64, other: u64) -> bool
 
 // Whether two words have a bit in common.
 fn share_bit(one: u64, two: u64) -> bool
-    ensures { IsTrue result ↔ ((k : ℕ) × (k < 64) × (has_bit one k ≡ true) × (has_bit two k ≡ true)) }
+    ensures { IsTrue result
+        ↔ ((k : ℕ) × (k < 64) × (has_bit one k ≡ true) × (has_bit two k ≡ true)) }
 {
     one & two != 0
 }
@@ -111,7 +120,12 @@ fn share_bit(one: u64, two: u64) -> bool
 pub fn next_column(set: &[u64], from: u32) -> Option<u32>
     requires size { length set.now ≤ 16 }
     requires from { from ≤ 1024 }
-    ensures { MatchOption result ((column : ℕ) → from ≤ column → has_column set.now column ≡ false) (λ next. (from ≤ next) × (next < 64 * length set.now) × (has_column set.now next ≡ true) × ((column : ℕ) → from ≤ column → column < next → has_column set.now column ≡ false)) }
+    ensures { MatchOption result
+        ((column : ℕ) → from ≤ column → has_column set.now column ≡ false)
+        (λ next. (from ≤ next)
+        × (next < 64 * length set.now)
+        × (has_column set.now next ≡ true)
+        × ((column : ℕ) → from ≤ column → column < next → has_column set.now column ≡ false)) }
 {
     let mut column = from;
     while (column as usize) < 64 * set.len() {
@@ -135,7 +149,8 @@ pub fn is_cut(one: &[u64], two: &[u64]) -> bool
 /// How many columns are in a set.
 pub fn count_columns(set: &[u64]) -> u32
     requires { length set.now ≤ 16 }
-    ensures count { (width : ℕ) → ((column : ℕ) → has_column set.now column ≡ true → column < width) → result ≡ count_by (has_column set.now) (first_lines width) }
+    ensures count { (width : ℕ) → ((column : ℕ) → has_column set.now column ≡ true → column < width)
+        → result ≡ count_by (has_column set.now) (first_lines width) }
     ensures few { result ≤ 1024 }
 {
     let mut count = 0;

@@ -57,7 +57,9 @@ impl Core {
         requires determinant { IsBounded 2 determinant }
         requires first { IsEntry first }
         requires other { IsEntry other }
-        ensures sum { (column_first column_other : ℤ) → spread determinant self.x self.y self.z self.w first other column_first column_other ≡ result.first *ℤ column_first +ℤ result.other *ℤ column_other }
+        ensures sum { (column_first column_other : ℤ)
+            → spread determinant self.x self.y self.z self.w first other column_first column_other
+            ≡ result.first *ℤ column_first +ℤ result.other *ℤ column_other }
         ensures first { IsBounded 4 result.first }
         ensures other { IsBounded 4 result.other }
     {

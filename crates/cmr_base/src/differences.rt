@@ -14,7 +14,8 @@ impl Matrix {
         requires model { model < height self.now }
         requires factor { IsEntry factor }
         requires block { 64 * block < self.now.width }
-        ensures { (i : ℕ) → i < 64 → bit_at result i ≡ cond (differs_at self.now row factor model (64 * block + i)) 1 0 }
+        ensures { (i : ℕ) → i < 64
+            → bit_at result i ≡ cond (differs_at self.now row factor model (64 * block + i)) 1 0 }
     {
         let _rows = self.rows();
         let support = self.support_word(row, block);

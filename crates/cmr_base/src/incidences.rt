@@ -46,7 +46,8 @@ impl Incidences {
     pub fn new(alloc: Global, arcs: &[Pair], end: End, nodes: usize) -> Result<Incidences, Memory>
         requires few { length arcs.now ≤ 2 ^ 32 }
         requires nodes { (arc : ℕ) → arc < length arcs.now → end_at arcs.now end arc < nodes }
-        ensures { IfOk result (λ made. AreIncidences arcs.now end nodes made.last.items made.previous.items) }
+        ensures { IfOk result (λ made.
+            AreIncidences arcs.now end nodes made.last.items made.previous.items) }
     {
         let mut last = vec![in alloc; None; nodes]?;
         let mut previous = Vec::with_capacity(alloc, arcs.len())?;

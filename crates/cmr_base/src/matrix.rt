@@ -49,7 +49,10 @@ impl Matrix {
     pub fn zero(alloc: Global, rows: u32, columns: u32) -> Result<Matrix, Memory>
         requires rows { rows ≤ MAX_ROWS }
         requires columns { columns ≤ MAX_COLUMNS }
-        ensures { IfOk result (λ m. m ≡ record { rows = replicate rows (replicate columns (pos 0)); width = columns }) }
+        ensures { IfOk result (λ m. m ≡ record {
+          rows = replicate rows (replicate columns (pos 0));
+          width = columns;
+        }) }
     {
         let words = rows as usize * words_for(columns);
         Ok(Matrix {
@@ -71,7 +74,10 @@ impl Matrix {
         requires columns { columns ≤ MAX_COLUMNS }
         requires whole { length cells.now ≡ rows * columns }
         requires small { (k : ℕ) → IsEntry (slice_index_or cells.now k (pos 0)) }
-        ensures { IfOk result (λ m. m ≡ record { rows = rows_of rows columns cells.now; width = columns }) }
+        ensures { IfOk result (λ m. m ≡ record {
+          rows = rows_of rows columns cells.now;
+          width = columns;
+        }) }
     {
         let planes = planes_of(alloc, cells, rows, columns)?;
         Ok(Matrix {
@@ -133,7 +139,8 @@ impl Matrix {
     /// The words of a row's support, block by block.
     pub fn support_words(&self, row: u32) -> &[u64]
         requires { row < height self.now }
-        ensures { result.now ≡ words_of (words_for self.now.width) is_nonzero (row_of self.now row) }
+        ensures { result.now ≡ words_of (words_for self.now.width) is_nonzero
+            (row_of self.now row) }
     {
         row_words(&self.support, row, words_for(self.columns))
     }
@@ -280,7 +287,8 @@ impl Matrix {
         requires shape { IsMatrix turned.old }
         requires height { height turned.old ≡ self.now.width }
         requires width { row < turned.old.width }
-        requires empty { (column : ℕ) → column < self.now.width → entry turned.old column row ≡ pos 0 }
+        requires empty { (column : ℕ) → column < self.now.width
+            → entry turned.old column row ≡ pos 0 }
         ensures { IsColumnWritten turned.old turned.new row (row_of self.now row) self.now.width }
     {
         let mut from = 0;

@@ -42,7 +42,8 @@ fn matrix_of_paths(
     ensures rows { IfOk result (λ matrix. height matrix ≡ length arcs.now) }
     ensures columns { IfOk result (λ matrix. matrix.width ≡ length walks.now) }
     ensures paths { IfOk result (λ matrix. (column : ℕ) → column < length walks.now
-        → IsDirectedPathOf arcs.now (length arcs.now) (λ row. entry matrix row column) (tail walks.now column) (head walks.now column)) }
+        → IsDirectedPathOf arcs.now (length arcs.now) (λ row. entry matrix row column)
+        (tail walks.now column) (head walks.now column)) }
 {
     let mut matrix = Matrix::zero(alloc, arcs.len() as u32, walks.len() as u32)?;
     let mut directions = vec![in alloc; 0i8; arcs.len()]?;

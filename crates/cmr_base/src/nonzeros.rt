@@ -19,7 +19,13 @@ impl Matrix {
     pub fn next_nonzero(&self, row: u32, from: u32) -> Option<u32>
         requires row { row < height self.now }
         requires from { from ≤ MAX_COLUMNS }
-        ensures first { MatchOption result ((column : ℕ) → from ≤ column → support self.now row column ≡ false) (λ next. (from ≤ next) × (next < self.now.width) × (support self.now row next ≡ true) × ((column : ℕ) → from ≤ column → column < next → support self.now row column ≡ false)) }
+        ensures first { MatchOption result
+            ((column : ℕ) → from ≤ column → support self.now row column ≡ false)
+            (λ next. (from ≤ next)
+            × (next < self.now.width)
+            × (support self.now row next ≡ true)
+            × ((column : ℕ) → from ≤ column → column < next
+            → support self.now row column ≡ false)) }
         ensures small { IfSome result (λ next. next < MAX_COLUMNS) }
     {
         let mut column = from;

@@ -58,8 +58,10 @@ pub fn planes_of(alloc: Global, cells: &[i8], rows: u32, columns: u32) -> Result
     requires rows { rows ≤ MAX_ROWS }
     requires columns { columns ≤ MAX_COLUMNS }
     requires whole { length cells.now ≡ rows * columns }
-    ensures support { IfOk result (λ made. made.support.items ≡ flat_map (words_of (words_for columns) is_nonzero) (rows_of rows columns cells.now)) }
-    ensures minus { IfOk result (λ made. made.minus.items ≡ flat_map (words_of (words_for columns) is_minus) (rows_of rows columns cells.now)) }
+    ensures support { IfOk result (λ made. made.support.items
+        ≡ flat_map (words_of (words_for columns) is_nonzero) (rows_of rows columns cells.now)) }
+    ensures minus { IfOk result (λ made. made.minus.items
+        ≡ flat_map (words_of (words_for columns) is_minus) (rows_of rows columns cells.now)) }
 {
     let words = words_for(columns);
     let mut support = Vec::with_capacity(alloc, rows as usize * words)?;
@@ -84,8 +86,10 @@ fn push_row(
 ) -> Result<(), Memory>
     requires words { words ≡ words_for (length row.now) }
     requires few { length row.now ≤ MAX_COLUMNS }
-    ensures support { OnOk result (support.new.items ≡ support.old.items ++ words_of words is_nonzero row.now) }
-    ensures minus { OnOk result (minus.new.items ≡ minus.old.items ++ words_of words is_minus row.now) }
+    ensures support { OnOk result (support.new.items
+        ≡ support.old.items ++ words_of words is_nonzero row.now) }
+    ensures minus { OnOk result (minus.new.items
+        ≡ minus.old.items ++ words_of words is_minus row.now) }
 {
     for word in 0..words {
         let from = 64 * word;
@@ -187,7 +191,8 @@ fn xor_lanes(into: &mut [u64], from: &[u64]) -> usize
 fn xor_at(into: &mut [u64], from: &[u64], place: usize)
     requires room { place + LANES ≤ length into.old }
     requires other { place + LANES ≤ length from.now }
-    ensures { into.new ≡ put_chunk place into.old (zip2 bit_xor (chunk place LANES into.old) (chunk place LANES from.now)) }
+    ensures { into.new ≡ put_chunk place into.old (zip2 bit_xor (chunk place LANES into.old)
+        (chunk place LANES from.now)) }
 {
     let lanes = u64x8::from_slice(&into[place..]) ^ u64x8::from_slice(&from[place..]);
     lanes.copy_to_slice(&mut into[place..]);

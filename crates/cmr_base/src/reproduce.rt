@@ -74,7 +74,8 @@ fn have_paths(
     requires spanning { IsSpanning arcs.now tree.now.links.items tree.now.places.items }
     requires count { length walks.now ≡ matrix.now.width }
     requires range { AreEndsInRange walks.now (height matrix.now) }
-    ensures { IfOk result (λ yes. IsTrue yes ↔ ((column : ℕ) → column < matrix.now.width → IsColumnPath comparison arcs.now walks.now matrix.now column)) }
+    ensures { IfOk result (λ yes. IsTrue yes ↔ ((column : ℕ) → column < matrix.now.width
+        → IsColumnPath comparison arcs.now walks.now matrix.now column)) }
 {
     let mut directions = vec![in alloc; 0i8; matrix.rows() as usize]?;
     for column in 0..matrix.columns() {
@@ -90,7 +91,10 @@ fn have_paths(
 fn column_agrees(matrix: &Matrix, column: u32, directions: &[i8], comparison: Comparison) -> bool
     requires column { column < matrix.now.width }
     requires rows { length directions.now ≡ height matrix.now }
-    ensures { IsTrue result ↔ ((row : ℕ) → row < height matrix.now → Agrees comparison (entry matrix.now row column) (slice_index_or directions.now row (pos 0))) }
+    ensures { IsTrue result
+        ↔ ((row : ℕ) → row < height matrix.now
+        → Agrees comparison (entry matrix.now row column)
+        (slice_index_or directions.now row (pos 0))) }
 {
     for row in 0..matrix.rows() {
         if !comparison.agrees(matrix.entry(row, column), directions[row as usize]) {

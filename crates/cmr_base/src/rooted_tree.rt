@@ -34,7 +34,9 @@ pub fn is_tree(alloc: Global, net: &Network, rows: u32) -> Result<bool, Memory>
 
 /// The tree of some arcs on the nodes 0 to `rows`, or `None` where they are no tree.
 pub fn rooted(alloc: Global, arcs: &[Pair], rows: u32) -> Result<Option<RootedTree>, Memory>
-    ensures { IfOk result (λ found. MatchOption found (¬ (IsTree arcs.now rows)) (λ tree. IsTree arcs.now rows × IsSpanning arcs.now tree.links.items tree.places.items)) }
+    ensures { IfOk result (λ found. MatchOption found
+        (¬ (IsTree arcs.now rows))
+        (λ tree. IsTree arcs.now rows × IsSpanning arcs.now tree.links.items tree.places.items)) }
 {
     if arcs.len() != rows as usize || !are_in_range(arcs, rows) {
         return Ok(None);
@@ -65,7 +67,8 @@ pub fn are_in_range(pairs: &[Pair], rows: u32) -> bool
 impl RootedTree {
     // The root alone, of so many nodes.
     fn new(alloc: Global, nodes: usize) -> Result<RootedTree, Memory>
-        ensures links { IfOk result (λ tree. tree.links.items ≡ record { node = 0; above = 0; arc = 0 } ∷ []) }
+        ensures links { IfOk result (λ tree. tree.links.items
+            ≡ record { node = 0; above = 0; arc = 0 } ∷ []) }
         ensures places { IfOk result (λ tree. tree.places.items ≡ replicate nodes 0) }
     {
         let root = Link {
@@ -91,12 +94,15 @@ impl RootedTree {
     ) -> Result<(), Memory>
         requires few { length arcs.now < 2 ^ 32 }
         requires range { AreEndsInRange arcs.now (length arcs.now) }
-        requires incidences { AreIncidences arcs.now end (suc (length arcs.now)) incidences.now.last.items incidences.now.previous.items }
+        requires incidences { AreIncidences arcs.now end (suc (length arcs.now))
+            incidences.now.last.items incidences.now.previous.items }
         requires rooted { IsRooted arcs.now self.old.links.items self.old.places.items }
         requires place { place < length self.old.links.items }
-        ensures rooted { OnOk result (IsRooted arcs.now self.new.links.items self.new.places.items) }
+        ensures rooted { OnOk result (IsRooted arcs.now self.new.links.items
+            self.new.places.items) }
         ensures longer { OnOk result (IsLonger self.old.links.items self.new.links.items) }
-        ensures reached { OnOk result (AreReached arcs.now self.new.links.items end (node_at self.old.links.items place)) }
+        ensures reached { OnOk result (AreReached arcs.now self.new.links.items end
+            (node_at self.old.links.items place)) }
     {
         let mut next = incidences.last[self.links[place].node as usize];
         while let Some(arc) = next {
@@ -113,8 +119,10 @@ impl RootedTree {
         requires rooted { IsRooted arcs.now self.old.links.items self.old.places.items }
         requires arc { arc < length arcs.now }
         requires place { above < length self.old.links.items }
-        requires above { end_at arcs.now (opposite_of end) arc ≡ node_at self.old.links.items above }
-        ensures rooted { OnOk result (IsRooted arcs.now self.new.links.items self.new.places.items) }
+        requires above { end_at arcs.now (opposite_of end) arc
+            ≡ node_at self.old.links.items above }
+        ensures rooted { OnOk result (IsRooted arcs.now self.new.links.items
+            self.new.places.items) }
         ensures longer { OnOk result (IsLonger self.old.links.items self.new.links.items) }
         ensures there { OnOk result (HasNode self.new.links.items (end_at arcs.now end arc)) }
     {
@@ -128,7 +136,8 @@ impl RootedTree {
     fn has(&self, node: u32) -> bool
         requires node { node < length self.now.places.items }
         requires place { slice_index self.now.places.items node < length self.now.links.items }
-        ensures { IsTrue result ↔ (node_at self.now.links.items (slice_index self.now.places.items node) ≡ node) }
+        ensures { IsTrue result
+            ↔ (node_at self.now.links.items (slice_index self.now.places.items node) ≡ node) }
     {
         self.links[self.places[node as usize] as usize].node == node
     }
@@ -137,7 +146,8 @@ impl RootedTree {
         requires node { link.node < length self.old.places.items }
         requires few { length self.old.links.items < 2 ^ 32 }
         ensures links { OnOk result (self.new.links.items ≡ self.old.links.items ++ link ∷ []) }
-        ensures places { OnOk result (self.new.places.items ≡ slice_set self.old.places.items link.node (length self.old.links.items)) }
+        ensures places { OnOk result (self.new.places.items
+            ≡ slice_set self.old.places.items link.node (length self.old.links.items)) }
     {
         let place = self.links.len() as u32;
         self.links.push(link)?;
@@ -153,7 +163,8 @@ impl RootedTree {
         requires head { walk.head ≤ length arcs.now }
         requires zeros { directions.old ≡ replicate (length arcs.now) (pos 0) }
         ensures length { length directions.new ≡ length arcs.now }
-        ensures path { IsDirectedPathOf arcs.now (length arcs.now) (λ row. slice_index_or directions.new row (pos 0)) walk.tail walk.head }
+        ensures path { IsDirectedPathOf arcs.now (length arcs.now)
+            (λ row. slice_index_or directions.new row (pos 0)) walk.tail walk.head }
     {
         let mut first = self.places[walk.tail as usize];
         let mut last = self.places[walk.head as usize];

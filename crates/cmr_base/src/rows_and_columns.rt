@@ -69,7 +69,8 @@ impl<'a> RowsAndColumns<'a> {
     fn columns_of(&self, alloc: Global, lines: &LineSet) -> Result<Matrix, Memory>
         requires rows { AllBelow (height self.now) lines.now.rows }
         requires columns { AllBelow self.now.width lines.now.columns }
-        ensures { IfOk result (λ columns. columns ≡ transposed (submatrix self.now lines.now.rows lines.now.columns)) }
+        ensures { IfOk result (λ columns. columns ≡ transposed (submatrix self.now lines.now.rows
+            lines.now.columns)) }
     {
         self.columns.part_on(alloc, &lines.columns, &lines.rows)
     }

@@ -66,11 +66,13 @@ pub fn chosen_plane(
 ) -> Result<Vec<u64>, Memory>
     requires width { width ≤ MAX_COLUMNS }
     requires few { length rows.now ≤ MAX_ROWS }
-    requires rows { (k : ℕ) → k < length rows.now → slice_index rows.now k * words_for width + words_for width ≤ length plane.now }
+    requires rows { (k : ℕ) → k < length rows.now
+        → slice_index rows.now k * words_for width + words_for width ≤ length plane.now }
     requires columns { AllBelow width columns.now }
     requires short { length columns.now ≤ MAX_COLUMNS }
     requires runs { AreRuns columns.now runs.now (length columns.now) }
-    ensures { IfOk result (λ made. IsPlaneChosen width plane.now rows.now columns.now (length rows.now) made.items) }
+    ensures { IfOk result (λ made.
+        IsPlaneChosen width plane.now rows.now columns.now (length rows.now) made.items) }
 {
     let from = words_for(width);
     let to = words_for(columns.len() as u32);
@@ -89,8 +91,10 @@ fn add_row(words: &[u64], _columns: &[u32], runs: &[Run], made: &mut Vec<u64>, a
     requires short { length _columns.now ≤ MAX_COLUMNS }
     requires runs { AreRuns _columns.now runs.now (length _columns.now) }
     requires room { at + words_for (length _columns.now) ≤ length made.old.items }
-    requires empty { (k : ℕ) → k < length _columns.now → has_column made.old.items (64 * at + k) ≡ false }
-    ensures { IsRowChosen words.now _columns.now (64 * at) (length _columns.now) made.old.items made.new.items }
+    requires empty { (k : ℕ) → k < length _columns.now
+        → has_column made.old.items (64 * at + k) ≡ false }
+    ensures { IsRowChosen words.now _columns.now (64 * at) (length _columns.now) made.old.items
+        made.new.items }
 {
     for number in 0..runs.len() {
         add_run(words, runs[number], made, at);
@@ -104,7 +108,8 @@ fn add_run(words: &[u64], run: Run, made: &mut Vec<u64>, at: usize)
     requires in_word { run.place % 64 + run.size ≤ 64 }
     requires inside { run.column + run.size ≤ 64 * length words.now }
     requires room { at + run.place / 64 < length made.old.items }
-    ensures { IsRunAdded words.now run.column run.size (64 * at + run.place) made.old.items made.new.items }
+    ensures { IsRunAdded words.now run.column run.size (64 * at + run.place) made.old.items
+        made.new.items }
 {
     let bits = first_bits(bits_from(words, run.column, run.size), run.size);
     made[at + run.place as usize / 64] |= bits << (run.place % 64);

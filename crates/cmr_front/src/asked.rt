@@ -24,8 +24,11 @@ pub fn push_submatrix<'a>(
 ) -> Result<(), Memory>
     requires rows { AllBelow (height matrix.now) lines.now.rows }
     requires columns { AllBelow matrix.now.width lines.now.columns }
-    ensures { OnOk result (map file_of files.new.items ≡ map file_of files.old.items
-        ++ asked_file (option_map (λ name. name.now) name.entry) (submatrix_text (height matrix.now) matrix.now.width lines.now)) }
+    ensures { OnOk result (map file_of files.new.items
+        ≡ map file_of files.old.items
+        ++ asked_file
+        (option_map (λ name. name.now) name.entry)
+        (submatrix_text (height matrix.now) matrix.now.width lines.now)) }
 {
     if let Some(name) = name {
         let bytes = write_submatrix(alloc, lines, matrix.rows(), matrix.columns())?;

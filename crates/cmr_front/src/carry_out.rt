@@ -20,14 +20,21 @@ pub fn carry_out<S: Shelf, O: Sink, E: Sink>(
     out: &mut O,
     err: &mut E,
 ) -> u8
-    ensures carried_out { CarriesOut ended.now (telling (S.tells shelf.old) (O.tells out.old) (E.tells err.old))
+    ensures carried_out { CarriesOut ended.now
+        (telling (S.tells shelf.old) (O.tells out.old) (E.tells err.old))
         (devices (S.content shelf.old) (S.reads shelf.old) (S.failed shelf.old) (S.faults shelf.old)
         (O.got out.old) (O.faults out.old) (E.got err.old) (E.faults err.old))
         (devices (S.content shelf.new) (S.reads shelf.new) (S.failed shelf.new) (S.faults shelf.new)
         (O.got out.new) (O.faults out.new) (E.got err.new) (E.faults err.new))
         result }
-    ensures status { (result ≡ (ended_report ended.now).status) ⊎ ((result ≡ failure_status Device) × (Rose (S.faults shelf.old) (S.faults shelf.new) ⊎ Rose (O.faults out.old) (O.faults out.new))) }
-    ensures ready { IsReadyFor (ended_report ended.now) (standing (S.tells shelf.old) (O.tells out.old) (E.tells err.old) (S.is_calm shelf.old) (S.room shelf.old) (O.is_calm out.old) (O.room out.old))
+    ensures status { (result ≡ (ended_report ended.now).status)
+        ⊎ ((result ≡ failure_status Device)
+        × (Rose (S.faults shelf.old) (S.faults shelf.new)
+        ⊎ Rose (O.faults out.old) (O.faults out.new))) }
+    ensures ready { IsReadyFor
+        (ended_report ended.now)
+        (standing (S.tells shelf.old) (O.tells out.old) (E.tells err.old) (S.is_calm shelf.old)
+        (S.room shelf.old) (O.is_calm out.old) (O.room out.old))
         → result ≡ (ended_report ended.now).status }
     ensures stopped { IfErr ended.now (λ stop. result ≡ (stop_report stop).status) }
     ensures reads { S.reads shelf.new ≡ S.reads shelf.old }
@@ -49,14 +56,22 @@ fn deliver<S: Shelf, O: Sink, E: Sink>(
     out: &mut O,
     err: &mut E,
 ) -> u8
-    ensures carried_out { IsCarriedOut (outcome_report outcome.now) (telling (S.tells shelf.old) (O.tells out.old) (E.tells err.old))
+    ensures carried_out { IsCarriedOut
+        (outcome_report outcome.now)
+        (telling (S.tells shelf.old) (O.tells out.old) (E.tells err.old))
         (devices (S.content shelf.old) (S.reads shelf.old) (S.failed shelf.old) (S.faults shelf.old)
         (O.got out.old) (O.faults out.old) (E.got err.old) (E.faults err.old))
         (devices (S.content shelf.new) (S.reads shelf.new) (S.failed shelf.new) (S.faults shelf.new)
         (O.got out.new) (O.faults out.new) (E.got err.new) (E.faults err.new))
         result }
-    ensures status { (result ≡ answer_status outcome.now.answer) ⊎ ((result ≡ failure_status Device) × (Rose (S.faults shelf.old) (S.faults shelf.new) ⊎ Rose (O.faults out.old) (O.faults out.new))) }
-    ensures ready { IsReadyFor (outcome_report outcome.now) (standing (S.tells shelf.old) (O.tells out.old) (E.tells err.old) (S.is_calm shelf.old) (S.room shelf.old) (O.is_calm out.old) (O.room out.old))
+    ensures status { (result ≡ answer_status outcome.now.answer)
+        ⊎ ((result ≡ failure_status Device)
+        × (Rose (S.faults shelf.old) (S.faults shelf.new)
+        ⊎ Rose (O.faults out.old) (O.faults out.new))) }
+    ensures ready { IsReadyFor
+        (outcome_report outcome.now)
+        (standing (S.tells shelf.old) (O.tells out.old) (E.tells err.old) (S.is_calm shelf.old)
+        (S.room shelf.old) (O.is_calm out.old) (O.room out.old))
         → result ≡ answer_status outcome.now.answer }
     ensures reads { S.reads shelf.new ≡ S.reads shelf.old }
     ensures later { S.faults shelf.old ≤ S.faults shelf.new }
@@ -81,11 +96,17 @@ struct Unwritten {
 }
 
 fn write_files<S: Shelf>(shelf: &mut S, files: &[OutputFile<'_>]) -> Result<(), Unwritten>
-    ensures whole { OnOk result (IsTrue (S.tells shelf.old) → (name : List ℕ) → S.content shelf.new name ≡ with_files (S.content shelf.old) (map file_of files.now) name) }
-    ensures left { IfErr result (λ e. (file : File) × (slice_get (map file_of files.now) e.place ≡ Some file)
-        × (IsTrue (S.tells shelf.old) → IsLeftAt (map file_of files.now) e.place file (S.content shelf.old) (S.content shelf.new))) }
+    ensures whole { OnOk result (IsTrue (S.tells shelf.old) → (name : List ℕ)
+        → S.content shelf.new name
+        ≡ with_files (S.content shelf.old) (map file_of files.now) name) }
+    ensures left { IfErr result (λ e. (file : File)
+        × (slice_get (map file_of files.now) e.place ≡ Some file)
+        × (IsTrue (S.tells shelf.old)
+        → IsLeftAt (map file_of files.now) e.place file (S.content shelf.old)
+        (S.content shelf.new))) }
     ensures within { IfErr result (λ e. e.place < length files.now) }
-    ensures ready { IsTrue (S.is_calm shelf.old) → HasRooms (S.room shelf.old) (map file_of files.now) → IsOk result }
+    ensures ready { IsTrue (S.is_calm shelf.old)
+        → HasRooms (S.room shelf.old) (map file_of files.now) → IsOk result }
     ensures reads { S.reads shelf.new ≡ S.reads shelf.old }
     ensures cause { HasCause (S.faults shelf.old) (S.faults shelf.new) result }
 {
@@ -98,12 +119,15 @@ fn write_files<S: Shelf>(shelf: &mut S, files: &[OutputFile<'_>]) -> Result<(), 
 }
 
 fn write_output_file<S: Shelf>(shelf: &mut S, file: &OutputFile<'_>) -> Result<(), WriteFault>
-    ensures whole { OnOk result (IsTrue (S.tells shelf.old) → (name : List ℕ) → S.content shelf.new name ≡ with_file (S.content shelf.old) (file_of file.now) name) }
+    ensures whole { OnOk result (IsTrue (S.tells shelf.old) → (name : List ℕ)
+        → S.content shelf.new name ≡ with_file (S.content shelf.old) (file_of file.now) name) }
     ensures front { OnErr result (IsTrue (S.tells shelf.old)
-        → StaysOrHoldsFront (S.content shelf.old file.now.name.now) (S.content shelf.new file.now.name.now) file.now.bytes.items) }
-    ensures others { IsTrue (S.tells shelf.old)
-        → (other : List ℕ) → other ≢ file.now.name.now → S.content shelf.new other ≡ S.content shelf.old other }
-    ensures ready { IsTrue (S.is_calm shelf.old) → HasRooms (S.room shelf.old) (file_of file.now ∷ []) → IsOk result }
+        → StaysOrHoldsFront (S.content shelf.old file.now.name.now)
+        (S.content shelf.new file.now.name.now) file.now.bytes.items) }
+    ensures others { IsTrue (S.tells shelf.old) → (other : List ℕ) → other ≢ file.now.name.now
+        → S.content shelf.new other ≡ S.content shelf.old other }
+    ensures ready { IsTrue (S.is_calm shelf.old)
+        → HasRooms (S.room shelf.old) (file_of file.now ∷ []) → IsOk result }
     ensures reads { S.reads shelf.new ≡ S.reads shelf.old }
     ensures room { (other : List ℕ) → S.room shelf.new other ≡ S.room shelf.old other }
     ensures tells { S.tells shelf.new ≡ S.tells shelf.old }

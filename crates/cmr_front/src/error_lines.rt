@@ -15,7 +15,9 @@ use tree_text::TreeKind;
 
 /// Writes the line that says why a run has no outcome. A failure changes nothing else.
 pub fn write_stop<E: Sink>(err: &mut E, stop: &Stop<'_>)
-    ensures { IsTrue (E.tells err.old) → IsWritten (E.got err.old) (E.got err.new) (E.faults err.old) (E.faults err.new) (stop_report stop.now).error }
+    ensures { IsTrue (E.tells err.old)
+        → IsWritten (E.got err.old) (E.got err.new) (E.faults err.old) (E.faults err.new)
+        (stop_report stop.now).error }
 {
     match stop {
         Stop::BadWords => write_line(err, "cmr: bad command line", "", "\n"),
@@ -28,13 +30,16 @@ pub fn write_stop<E: Sink>(err: &mut E, stop: &Stop<'_>)
 
 /// Writes that a name cannot be written. A failure changes nothing else.
 pub fn write_cannot_write<E: Sink>(err: &mut E, name: &str)
-    ensures { IsTrue (E.tells err.old) → IsWritten (E.got err.old) (E.got err.new) (E.faults err.old) (E.faults err.new) (cannot_write_line name.now) }
+    ensures { IsTrue (E.tells err.old)
+        → IsWritten (E.got err.old) (E.got err.new) (E.faults err.old) (E.faults err.new)
+        (cannot_write_line name.now) }
 {
     write_line(err, "cmr: cannot write ", name, "\n");
 }
 
 fn write_fault<E: Sink>(err: &mut E, name: &str, kind: &str, place: usize)
-    ensures { IsTrue (E.tells err.old) → IsWritten (E.got err.old) (E.got err.new) (E.faults err.old) (E.faults err.new)
+    ensures { IsTrue (E.tells err.old)
+        → IsWritten (E.got err.old) (E.got err.new) (E.faults err.old) (E.faults err.new)
         (fault_line name.now kind.now (decimal place)) }
 {
     let mut buffer = Buffer::new();
@@ -42,21 +47,24 @@ fn write_fault<E: Sink>(err: &mut E, name: &str, kind: &str, place: usize)
 }
 
 fn write_fault_at<'a, E: Sink>(err: &mut E, name: &'a str, kind: &'a str, place: &'a str)
-    ensures { IsTrue (E.tells err.old) → IsWritten (E.got err.old) (E.got err.new) (E.faults err.old) (E.faults err.new)
+    ensures { IsTrue (E.tells err.old)
+        → IsWritten (E.got err.old) (E.got err.new) (E.faults err.old) (E.faults err.new)
         (fault_line name.now kind.now place.now) }
 {
     write_parts(err, &["cmr: ", name, ": ", kind, " at byte ", place, "\n"]);
 }
 
 fn write_line<'a, E: Sink>(err: &mut E, before: &'a str, name: &'a str, after: &'a str)
-    ensures { IsTrue (E.tells err.old) → IsWritten (E.got err.old) (E.got err.new) (E.faults err.old) (E.faults err.new)
+    ensures { IsTrue (E.tells err.old)
+        → IsWritten (E.got err.old) (E.got err.new) (E.faults err.old) (E.faults err.new)
         (before.now ++ name.now ++ after.now) }
 {
     write_parts(err, &[before, name, after]);
 }
 
 fn write_parts<E: Sink>(err: &mut E, parts: &[&str])
-    ensures { IsTrue (E.tells err.old) → IsWritten (E.got err.old) (E.got err.new) (E.faults err.old) (E.faults err.new)
+    ensures { IsTrue (E.tells err.old)
+        → IsWritten (E.got err.old) (E.got err.new) (E.faults err.old) (E.faults err.new)
         (concat (map (λ part. part.now) parts.now)) }
 {
     for part in parts {

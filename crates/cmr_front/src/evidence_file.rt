@@ -26,7 +26,8 @@ pub fn evidence_inputs<'a>(
     matrix: &'a str,
     evidence: &'a str,
 ) -> Result<Vec<Input<'a>>, Memory>
-    ensures { IfOk result (λ inputs. map input_file inputs.items ≡ evidence_files matrix.entry.now evidence.entry.now) }
+    ensures { IfOk result (λ inputs. map input_file inputs.items
+        ≡ evidence_files matrix.entry.now evidence.entry.now) }
 {
     let mut inputs = Vec::new(alloc);
     inputs.push(Input {
@@ -39,7 +40,8 @@ pub fn evidence_inputs<'a>(
 
 /// The one file of a tool that reads evidence alone.
 pub fn evidence_input<'a>(alloc: Global, name: &'a str) -> Result<Vec<Input<'a>>, Memory>
-    ensures { IfOk result (λ inputs. map input_file inputs.items ≡ evidence_file name.entry.now ∷ []) }
+    ensures { IfOk result (λ inputs. map input_file inputs.items
+        ≡ evidence_file name.entry.now ∷ []) }
 {
     let mut inputs = Vec::new(alloc);
     inputs.push(evidence_of(name))?;
@@ -58,7 +60,8 @@ fn evidence_of<'a>(name: &'a str) -> Input<'a>
 /// The tree that the text of a file stands for, or why the run ends: the text's first fault.
 pub fn read_tree_file<'a>(alloc: Global, name: &'a str, bytes: &[u8]) -> Result<DecTree, Stop<'a>>
     ensures read { IfOk result (λ found. tree (text_of bytes.now) ≡ Ok (plain found)) }
-    ensures stopped { IfErr result (StopsText faults.Tree name.entry.now (tree (text_of bytes.now))) }
+    ensures stopped { IfErr result (StopsText faults.Tree name.entry.now (tree
+        (text_of bytes.now))) }
 {
     match read_tree(alloc, bytes) {
         Ok(tree) => Ok(tree),
@@ -78,7 +81,8 @@ pub fn read_chain_file<'a>(
     bytes: &[u8],
 ) -> Result<SizedChain, Stop<'a>>
     ensures read { IfOk result (λ found. chain (text_of bytes.now) ≡ Ok found) }
-    ensures stopped { IfErr result (StopsText faults.Chain name.entry.now (chain (text_of bytes.now))) }
+    ensures stopped { IfErr result (StopsText faults.Chain name.entry.now (chain
+        (text_of bytes.now))) }
 {
     match read_chain(alloc, bytes) {
         Ok(chain) => Ok(chain),
@@ -100,9 +104,12 @@ pub fn read_submatrix_file<'a>(
     columns: u32,
 ) -> Result<LineSet, Stop<'a>>
     ensures read { IfOk result (λ lines. submatrix rows columns (text_of bytes.now) ≡ Ok lines) }
-    ensures rows_rise { IfOk result (λ lines. IsStrictlyIncreasing lines.rows × AllBelow rows lines.rows) }
-    ensures columns_rise { IfOk result (λ lines. IsStrictlyIncreasing lines.columns × AllBelow columns lines.columns) }
-    ensures stopped { IfErr result (StopsText faults.Matrix name.entry.now (submatrix rows columns (text_of bytes.now))) }
+    ensures rows_rise { IfOk result (λ lines. IsStrictlyIncreasing lines.rows
+        × AllBelow rows lines.rows) }
+    ensures columns_rise { IfOk result (λ lines. IsStrictlyIncreasing lines.columns
+        × AllBelow columns lines.columns) }
+    ensures stopped { IfErr result (StopsText faults.Matrix name.entry.now (submatrix rows columns
+        (text_of bytes.now))) }
 {
     match read_submatrix(alloc, bytes, rows, columns) {
         Ok(lines) => Ok(lines),

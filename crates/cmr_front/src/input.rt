@@ -55,13 +55,17 @@ pub fn read_inputs<'a, S: Shelf>(
     shelf: &mut S,
     inputs: &[Input<'a>],
 ) -> Result<Vec<Text>, Stop<'a>>
-    ensures given { IfOk result (λ read. IsTrue (S.tells shelf.old) → given (S.content shelf.old) (map input_file inputs.now) ≡ texts (map bytes_of read.items)) }
+    ensures given { IfOk result (λ read. IsTrue (S.tells shelf.old)
+        → given (S.content shelf.old) (map input_file inputs.now)
+        ≡ texts (map bytes_of read.items)) }
     ensures count { IfOk result (λ read. length read.items ≡ length inputs.now) }
-    ensures ended { OnOk result (HaveEnded (length inputs.now) (between (S.reads shelf.old) (S.reads shelf.new))) }
+    ensures ended { OnOk result (HaveEnded (length inputs.now)
+        (between (S.reads shelf.old) (S.reads shelf.new))) }
     ensures stopped { IfErr result (StopsInputs (map input_file inputs.now)
         (S.content shelf.old) (S.tells shelf.old) (S.is_calm shelf.old)
         (between (S.reads shelf.old) (S.reads shelf.new)) (S.failed shelf.new)) }
-    ensures cause { IfErr result (λ stop. (stop_report stop).status ≡ failure_status Device → Rose (S.faults shelf.old) (S.faults shelf.new)) }
+    ensures cause { IfErr result (λ stop. (stop_report stop).status ≡ failure_status Device
+        → Rose (S.faults shelf.old) (S.faults shelf.new)) }
     ensures content { (other : List ℕ) → S.content shelf.new other ≡ S.content shelf.old other }
     ensures room { (other : List ℕ) → S.room shelf.new other ≡ S.room shelf.old other }
     ensures tells { S.tells shelf.new ≡ S.tells shelf.old }
@@ -86,12 +90,16 @@ fn read_input<'a, S: Shelf>(
     shelf: &mut S,
     input: Input<'a>,
 ) -> Result<Text, Stop<'a>>
-    ensures whole { IfOk result (λ text. IsTrue (S.tells shelf.old) → reading (S.content shelf.old) (input_file input.entry) ≡ whole (bytes_of text)) }
+    ensures whole { IfOk result (λ text. IsTrue (S.tells shelf.old)
+        → reading (S.content shelf.old) (input_file input.entry) ≡ whole (bytes_of text)) }
     ensures ended { OnOk result ((S.reads shelf.new).ends ≡ next_number (S.reads shelf.old).ends) }
     ensures not_ended { OnErr result ((S.reads shelf.new).ends ≡ (S.reads shelf.old).ends) }
-    ensures failed { IfErr result (λ stop. (stop_report stop).status ≡ failure_status Device → IsTrue (S.failed shelf.new)) }
-    ensures stopped { IfErr result (StopsReading (input_file input.entry) (S.content shelf.old) (S.tells shelf.old) (S.is_calm shelf.old)) }
-    ensures cause { IfErr result (λ stop. (stop_report stop).status ≡ failure_status Device → Rose (S.faults shelf.old) (S.faults shelf.new)) }
+    ensures failed { IfErr result (λ stop. (stop_report stop).status ≡ failure_status Device
+        → IsTrue (S.failed shelf.new)) }
+    ensures stopped { IfErr result (StopsReading (input_file input.entry) (S.content shelf.old)
+        (S.tells shelf.old) (S.is_calm shelf.old)) }
+    ensures cause { IfErr result (λ stop. (stop_report stop).status ≡ failure_status Device
+        → Rose (S.faults shelf.old) (S.faults shelf.new)) }
     ensures content { (other : List ℕ) → S.content shelf.new other ≡ S.content shelf.old other }
     ensures room { (other : List ℕ) → S.room shelf.new other ≡ S.room shelf.old other }
     ensures tells { S.tells shelf.new ≡ S.tells shelf.old }

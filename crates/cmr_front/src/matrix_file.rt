@@ -24,7 +24,8 @@ pub enum MatrixForm {
 
 /// The one file that such a tool reads.
 pub fn matrix_input<'a>(alloc: Global, name: &'a str) -> Result<Vec<Input<'a>>, Memory>
-    ensures { IfOk result (λ inputs. map input_file inputs.items ≡ matrix_file name.entry.now ∷ []) }
+    ensures { IfOk result (λ inputs. map input_file inputs.items
+        ≡ matrix_file name.entry.now ∷ []) }
 {
     let mut inputs = Vec::new(alloc);
     inputs.push(Input {
@@ -45,7 +46,8 @@ pub fn read_matrix<'a>(
 ) -> Result<Matrix, Stop<'a>>
     ensures read { IfOk result (λ m. matrix_in form binary bytes.now ≡ Ok m) }
     ensures binary { IsTrue binary → IfOk result IsBinary }
-    ensures stopped { IfErr result (StopsText faults.Matrix name.entry.now (matrix_in form binary bytes.now)) }
+    ensures stopped { IfErr result (StopsText faults.Matrix name.entry.now (matrix_in form binary
+        bytes.now)) }
 {
     match read_form(alloc, form, binary, bytes) {
         Ok(matrix) => Ok(matrix),

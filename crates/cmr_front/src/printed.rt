@@ -10,7 +10,8 @@ use std::alloc::Global;
 
 /// Appends a set of lines: `rows LIST columns LIST`.
 pub fn push_line_set(text: &mut Vec<u8>, lines: &LineSet) -> Result<(), Memory>
-    ensures { OnOk result (text.new.items ≡ text.old.items ++ line_set lines.now.rows lines.now.columns) }
+    ensures { OnOk result (text.new.items
+        ≡ text.old.items ++ line_set lines.now.rows lines.now.columns) }
 {
     text.extend_from_slice(b"rows")?;
     push_line_numbers(text, &lines.rows)?;
@@ -31,7 +32,8 @@ fn push_line_numbers(text: &mut Vec<u8>, lines: &Indices) -> Result<(), Memory>
 
 /// Appends the line that tells of a violator and its sum.
 pub fn push_violator_line(text: &mut Vec<u8>, lines: &LineSet, sum: i32) -> Result<(), Memory>
-    ensures { OnOk result (text.new.items ≡ text.old.items ++ violator_line lines.now.rows lines.now.columns sum) }
+    ensures { OnOk result (text.new.items
+        ≡ text.old.items ++ violator_line lines.now.rows lines.now.columns sum) }
 {
     text.extend_from_slice(b"violator ")?;
     push_line_set(text, lines)?;
@@ -40,7 +42,8 @@ pub fn push_violator_line(text: &mut Vec<u8>, lines: &LineSet, sum: i32) -> Resu
 
 /// Appends a sum and the end of its line.
 pub fn push_sum(text: &mut Vec<u8>, sum: i32) -> Result<(), Memory>
-    ensures { OnOk result (text.new.items ≡ text.old.items ++ codes " sum " ++ signed_decimal sum ++ codes "\n") }
+    ensures { OnOk result (text.new.items
+        ≡ text.old.items ++ codes " sum " ++ signed_decimal sum ++ codes "\n") }
 {
     let mut buffer = Buffer::new();
     text.extend_from_slice(b" sum ")?;
@@ -51,7 +54,8 @@ pub fn push_sum(text: &mut Vec<u8>, sum: i32) -> Result<(), Memory>
 
 /// Appends the line that tells what is left open.
 pub fn push_open_line(text: &mut Vec<u8>, lines: &LineSet) -> Result<(), Memory>
-    ensures { OnOk result (text.new.items ≡ text.old.items ++ open_line lines.now.rows lines.now.columns) }
+    ensures { OnOk result (text.new.items
+        ≡ text.old.items ++ open_line lines.now.rows lines.now.columns) }
 {
     text.extend_from_slice(b"open ")?;
     push_line_set(text, lines)?;
@@ -83,7 +87,9 @@ pub fn write_steps(alloc: Global, steps: &StepList) -> Result<Vec<u8>, Memory>
 }
 
 fn push_step(text: &mut Vec<u8>, step: Step) -> Result<(), Memory>
-    ensures { OnOk result (text.new.items ≡ text.old.items ++ line_name step.line ++ codes " " ++ reason_words step.reason ++ codes "\n") }
+    ensures { OnOk result (text.new.items
+        ≡ text.old.items ++ line_name step.line ++ codes " " ++ reason_words step.reason
+        ++ codes "\n") }
 {
     push_line_name(text, step.line)?;
     text.push(b' ')?;

@@ -54,14 +54,17 @@ pub fn run_tool<'a, R: Threads + Sync, S: Shelf, O: Sink, E: Sink, T: Tool<'a>>(
 ) -> u8
     requires ranges { (T.tool tool.now).InRanges }
     requires lawful { IsLawful (T.tool tool.now) }
-    ensures runs { Runs (work (T.tool tool.now))
-        (standing (S.tells shelf.old) (O.tells out.old) (E.tells err.old) (S.is_calm shelf.old) (S.room shelf.old) (O.is_calm out.old) (O.room out.old))
+    ensures runs { Runs
+        (work (T.tool tool.now))
+        (standing (S.tells shelf.old) (O.tells out.old) (E.tells err.old) (S.is_calm shelf.old)
+        (S.room shelf.old) (O.is_calm out.old) (O.room out.old))
         (devices (S.content shelf.old) (S.reads shelf.old) (S.failed shelf.old) (S.faults shelf.old)
         (O.got out.old) (O.faults out.old) (E.got err.old) (E.faults err.old))
         (devices (S.content shelf.new) (S.reads shelf.new) (S.failed shelf.new) (S.faults shelf.new)
         (O.got out.new) (O.faults out.new) (E.got err.new) (E.faults err.new))
         result }
-    ensures means { IsTrue (S.tells shelf.old) → (answer : Answer) → result ≡ answer_status answer → Means (T.tool tool.now) (S.content shelf.old) answer }
+    ensures means { IsTrue (S.tells shelf.old) → (answer : Answer) → result ≡ answer_status answer
+        → Means (T.tool tool.now) (S.content shelf.old) answer }
 {
     let ended = examine(rt, alloc, tool, shelf);
     carry_out(&ended, shelf, out, err)
@@ -74,9 +77,11 @@ fn examine<'a, R: Threads + Sync, S: Shelf, T: Tool<'a>>(
     shelf: &mut S,
 ) -> Result<Outcome<'a>, Stop<'a>>
     requires { (T.tool tool.now).InRanges }
-    ensures ends { Ends (work (T.tool tool.now)) (S.content shelf.old) (S.tells shelf.old) (S.is_calm shelf.old)
-        (between (S.reads shelf.old) (S.reads shelf.new)) (S.failed shelf.new) result }
-    ensures cause { (ended_report result).status ≡ failure_status Device → Rose (S.faults shelf.old) (S.faults shelf.new) }
+    ensures ends { Ends (work (T.tool tool.now)) (S.content shelf.old) (S.tells shelf.old)
+        (S.is_calm shelf.old) (between (S.reads shelf.old) (S.reads shelf.new)) (S.failed shelf.new)
+        result }
+    ensures cause { (ended_report result).status ≡ failure_status Device
+        → Rose (S.faults shelf.old) (S.faults shelf.new) }
     ensures content { (other : List ℕ) → S.content shelf.new other ≡ S.content shelf.old other }
     ensures room { (other : List ℕ) → S.room shelf.new other ≡ S.room shelf.old other }
     ensures tells { S.tells shelf.new ≡ S.tells shelf.old }

@@ -99,7 +99,8 @@ pub fn bytes_of(files: &[File], file: usize) -> &[u8]
 pub fn read_at(files: &[File], file: usize, at: usize, into: &mut [u8], limit: &Limit) -> usize
     requires file { file < length files.now }
     requires at { at ≤ length (bytes_at files.now file) }
-    ensures count { result ≡ given_by_next limit.now.most (drop at (bytes_at files.now file)) into.new }
+    ensures count { result ≡ given_by_next limit.now.most (drop at (bytes_at files.now file))
+        into.new }
     ensures copied { take result into.new ≡ take result (drop at (bytes_at files.now file)) }
     ensures end { at + result ≤ length (bytes_at files.now file) }
     ensures fits { at + result < 2 ^ 64 }
@@ -130,10 +131,12 @@ pub fn empty(files: &mut Vec<File>, name: &str) -> Option<usize>
 pub fn put(files: &mut Vec<File>, file: usize, piece: &[u8], limit: &Limit) -> usize
     requires within { file < vec_len files.old }
     requires writable { IsTrue (is_writable_at files.old.items file) }
-    ensures count { result ≡ taken_by_put limit.now.most piece.now
-        (unwrap_or (room_in files.old.items (name_at files.old.items file)) 0 - length (bytes_at files.old.items file)) }
+    ensures count { result ≡ taken_by_put limit.now.most piece.now (unwrap_or
+        (room_in files.old.items (name_at files.old.items file)) 0
+        - length (bytes_at files.old.items file)) }
     ensures name { name_at files.new.items file ≡ name_at files.old.items file }
-    ensures writes { Writes files.old.items files.new.items file (bytes_at files.old.items file ++ take result piece.now) }
+    ensures writes { Writes files.old.items files.new.items file (bytes_at files.old.items file
+        ++ take result piece.now) }
     ensures within { file < vec_len files.new }
 {
     files[file].put(piece, limit)

@@ -14,7 +14,8 @@ pub fn read_counted<R: Read>(
     faults: &mut FaultCount,
 ) -> Result<usize, Failed>
     ensures within { IfOk result (λ count. count ≤ length into.new) }
-    ensures given { IfOk result (λ count. Consumes (R.remaining reader.old) (R.remaining reader.new) (take count into.new)) }
+    ensures given { IfOk result (λ count.
+        Consumes (R.remaining reader.old) (R.remaining reader.new) (take count into.new)) }
     ensures end { IfOk result (λ count. count ≡ 0 → 0 < length into.new
         → IsAtEnd (R.remaining reader.new)) }
     ensures err { OnErr result (Keeps (R.remaining reader.old) (R.remaining reader.new)) }
@@ -39,7 +40,8 @@ pub fn write_counted<W: Write>(
 ) -> Result<usize, Failed>
     ensures within { IfOk result (λ count. count ≤ length piece.now) }
     ensures some { IfOk result (λ count. 0 < length piece.now → 0 < count) }
-    ensures taken { IfOk result (λ count. Appends (W.contents writer.old) (W.contents writer.new) (take count piece.now)) }
+    ensures taken { IfOk result (λ count.
+        Appends (W.contents writer.old) (W.contents writer.new) (take count piece.now)) }
     ensures err { OnErr result (Keeps (W.contents writer.old) (W.contents writer.new)) }
     ensures count { faults.new ≡ counted result faults.old }
     ensures cause { HasCause faults.old faults.new result }

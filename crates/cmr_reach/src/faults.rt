@@ -35,7 +35,8 @@ pub fn fault_outcome<'a>(
 ) -> Result<Outcome<'a>, Memory>
     requires rows { AllBelow (height matrix.now) fault.now.rows }
     requires columns { AllBelow matrix.now.width fault.now.columns }
-    ensures { IfOk result (λ outcome. outcome_report outcome ≡ fault_report label.now (option_map (λ name. name.now) name.entry) matrix.now fault.now) }
+    ensures { IfOk result (λ outcome. outcome_report outcome
+        ≡ fault_report label.now (option_map (λ name. name.now) name.entry) matrix.now fault.now) }
 {
     let mut output = label.to_vec(alloc)?;
     output.extend_from_slice(b": no\n")?;
@@ -65,7 +66,8 @@ pub fn open_outcome<'a>(alloc: Global, label: &[u8], matrix: &Matrix) -> Result<
 }
 
 fn push_fault(text: &mut Vec<u8>, fault: &LineSet, sum: i32) -> Result<(), Memory>
-    ensures { OnOk result (text.new.items ≡ text.old.items ++ named_fault fault.now.rows fault.now.columns sum) }
+    ensures { OnOk result (text.new.items
+        ≡ text.old.items ++ named_fault fault.now.rows fault.now.columns sum) }
 {
     text.extend_from_slice(b"fault ")?;
     push_line_set(text, fault)?;

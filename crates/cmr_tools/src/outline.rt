@@ -14,14 +14,16 @@ use tree_type::{DecTree, Kind, Node};
 /// Appends the outline of a tree: a line for each node in preorder, with its depth, its kind, its size, and the place of its
 /// pivot where it has one.
 pub fn push_outline(text: &mut Vec<u8>, tree: &DecTree) -> Result<(), Memory>
-    ensures { OnOk result (text.new.items ≡ text.old.items ++ outline_from 0 (tree_of tree.now.root)) }
+    ensures { OnOk result (text.new.items
+        ≡ text.old.items ++ outline_from 0 (tree_of tree.now.root)) }
 {
     push_node(text, tree.root(), 0)
 }
 
 fn push_node(text: &mut Vec<u8>, node: &Node, depth: u32) -> Result<(), Memory>
     requires { IsAtDepth depth (tree_of node.now) }
-    ensures { OnOk result (text.new.items ≡ text.old.items ++ outline_from depth (tree_of node.now)) }
+    ensures { OnOk result (text.new.items
+        ≡ text.old.items ++ outline_from depth (tree_of node.now)) }
 {
     push_node_line(text, node, depth)?;
     match &node.kind {
@@ -58,7 +60,8 @@ fn push_node(text: &mut Vec<u8>, node: &Node, depth: u32) -> Result<(), Memory>
 }
 
 fn push_node_line(text: &mut Vec<u8>, node: &Node, depth: u32) -> Result<(), Memory>
-    ensures { OnOk result (text.new.items ≡ text.old.items ++ outline_line depth node.now.lines (finding_of (tree_of node.now))) }
+    ensures { OnOk result (text.new.items
+        ≡ text.old.items ++ outline_line depth node.now.lines (finding_of (tree_of node.now))) }
 {
     let mut buffer = Buffer::new();
     text.extend_from_slice(buffer.format(depth).as_bytes())?;
@@ -68,14 +71,16 @@ fn push_node_line(text: &mut Vec<u8>, node: &Node, depth: u32) -> Result<(), Mem
 }
 
 fn push_size_and_place(text: &mut Vec<u8>, node: &Node) -> Result<(), Memory>
-    ensures { OnOk result (text.new.items ≡ text.old.items ++ size_and_place node.now.lines (finding_of (tree_of node.now))) }
+    ensures { OnOk result (text.new.items
+        ≡ text.old.items ++ size_and_place node.now.lines (finding_of (tree_of node.now))) }
 {
     push_size(text, node.lines.rows.len(), node.lines.columns.len())?;
     push_place(text, node)
 }
 
 fn push_size(text: &mut Vec<u8>, rows: usize, columns: usize) -> Result<(), Memory>
-    ensures { OnOk result (text.new.items ≡ text.old.items ++ codes " " ++ decimal rows ++ codes "x" ++ decimal columns) }
+    ensures { OnOk result (text.new.items
+        ≡ text.old.items ++ codes " " ++ decimal rows ++ codes "x" ++ decimal columns) }
 {
     let mut buffer = Buffer::new();
     text.push(b' ')?;
@@ -86,7 +91,8 @@ fn push_size(text: &mut Vec<u8>, rows: usize, columns: usize) -> Result<(), Memo
 }
 
 fn push_place(text: &mut Vec<u8>, node: &Node) -> Result<(), Memory>
-    ensures { OnOk result (text.new.items ≡ text.old.items ++ place_words (finding_of (tree_of node.now)) ++ codes "\n") }
+    ensures { OnOk result (text.new.items
+        ≡ text.old.items ++ place_words (finding_of (tree_of node.now)) ++ codes "\n") }
 {
     match &node.kind {
         Kind::Pivoted { place, .. } => push_pivot(text, *place),

@@ -45,7 +45,8 @@ pub fn give_verdict<'a, R: Threads + Sync>(
 ) -> Result<Outcome<'a>, Memory>
     requires lines { options.now.lines ≤ 24 }
     requires workers { (1 ≤ options.now.workers) × (options.now.workers ≤ 64) }
-    ensures { IfOk result (λ outcome. Decides (verdict_order_of options.now) matrix.now (outcome_report outcome)) }
+    ensures { IfOk result (λ outcome.
+        Decides (verdict_order_of options.now) matrix.now (outcome_report outcome)) }
 {
     let tree = decompose(
         rt,
@@ -69,7 +70,8 @@ pub fn report_tree<'a>(
     tree: &DecTree,
 ) -> Result<Outcome<'a>, Memory>
     requires { Tells matrix.now (verdict_in tree.now) }
-    ensures { IfOk result (λ outcome. outcome_report outcome ≡ verdict_report (verdict_order_of options.now) matrix.now tree.now) }
+    ensures { IfOk result (λ outcome. outcome_report outcome
+        ≡ verdict_report (verdict_order_of options.now) matrix.now tree.now) }
 {
     let found = verdict(tree);
     let output = verdict_text(alloc, options.label, matrix, &found, tree)?;
@@ -127,7 +129,8 @@ fn push_named_line(
     verdict: &VerdictOf<'_>,
 ) -> Result<(), Memory>
     requires { Tells matrix.now (verdict_shown verdict.now) }
-    ensures { OnOk result (text.new.items ≡ text.old.items ++ named_line matrix.now (verdict_shown verdict.now)) }
+    ensures { OnOk result (text.new.items
+        ≡ text.old.items ++ named_line matrix.now (verdict_shown verdict.now)) }
 {
     match verdict {
         VerdictOf::Yes => Ok(()),
@@ -142,7 +145,9 @@ fn push_tree<'a>(
     name: Option<&'a str>,
     tree: &DecTree,
 ) -> Result<(), Memory>
-    ensures { OnOk result (map file_of files.new.items ≡ map file_of files.old.items ++ tree_file (option_map (λ name. name.now) name.entry) tree.now) }
+    ensures { OnOk result (map file_of files.new.items
+        ≡ map file_of files.old.items
+        ++ tree_file (option_map (λ name. name.now) name.entry) tree.now) }
 {
     if let Some(name) = name {
         let bytes = write_tree(alloc, tree)?;
@@ -159,7 +164,10 @@ fn push_fault<'a>(
     verdict: &VerdictOf<'_>,
 ) -> Result<(), Memory>
     requires { Tells matrix.now (verdict_shown verdict.now) }
-    ensures { OnOk result (map file_of files.new.items ≡ map file_of files.old.items ++ fault_file (option_map (λ name. name.now) name.entry) matrix.now (verdict_shown verdict.now)) }
+    ensures { OnOk result (map file_of files.new.items
+        ≡ map file_of files.old.items
+        ++ fault_file (option_map (λ name. name.now) name.entry) matrix.now
+        (verdict_shown verdict.now)) }
 {
     match verdict {
         VerdictOf::No(fault) => push_submatrix(alloc, files, name, matrix, fault),

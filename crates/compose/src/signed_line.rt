@@ -87,7 +87,8 @@ fn push_row(
     requires row { row.line < height matrix.now }
     requires sign { IsSign row.sign }
     requires columns { AreSignedLines matrix.now.width columns.now }
-    ensures { OnOk result (cells.new.items ≡ cells.old.items ++ map (signed_entry (entry matrix.now) row) columns.now) }
+    ensures { OnOk result (cells.new.items
+        ≡ cells.old.items ++ map (signed_entry (entry matrix.now) row) columns.now) }
 {
     for column in columns {
         cells.push(signed_entry(matrix, row, *column))?;

@@ -20,7 +20,8 @@ use std::alloc::Global;
 /// both matrices have both connectors.
 pub fn arrange_three(alloc: Global, matrix: &Matrix, three: &Three) -> Result<Arranged, Memory>
     requires { IsThreeOf matrix.now three.now }
-    ensures arranged { IfOk result (λ both. both ≡ arranged matrix.now (three_arrangement matrix.now three.now)) }
+    ensures arranged { IfOk result (λ both. both ≡ arranged matrix.now (three_arrangement matrix.now
+        three.now)) }
     ensures round_trip { IfOk result (IsRoundTrip (kind_of three.now.form) matrix.now) }
 {
     let sides = Sides::of(alloc, matrix, &three.side)?;
@@ -37,7 +38,8 @@ fn three_lines(
 ) -> Result<Arrangement, Memory>
     requires first { HasConnector (first_is_flat form) matrix.now first }
     requires second { HasConnector (second_is_flat form) matrix.now second }
-    ensures { IfOk result (λ lines. lines ≡ three_lines (entry matrix.now) form sides.now first second) }
+    ensures { IfOk result (λ lines. lines ≡ three_lines (entry matrix.now) form sides.now first
+        second) }
 {
     match form {
         Form::Delta => corner_lines(alloc, matrix, true, true, sides, first, second),
@@ -58,7 +60,8 @@ fn corner_lines(
 ) -> Result<Arrangement, Memory>
     requires first { HasConnector first_flat matrix.now first }
     requires second { HasConnector second_flat matrix.now second }
-    ensures { IfOk result (λ lines. lines ≡ corner_lines (entry matrix.now) first_flat second_flat sides.now first second) }
+    ensures { IfOk result (λ lines. lines ≡ corner_lines (entry matrix.now) first_flat second_flat
+        sides.now first second) }
 {
     let rows_one = sides.rows_one.as_slice();
     let columns_one = sides.columns_one.as_slice();
@@ -85,7 +88,8 @@ fn last_rows(
 ) -> Result<SignedLineList, Memory>
     requires column { first.column < matrix.now.width }
     requires second { HasConnector flat matrix.now second }
-    ensures { IfOk result (λ lines. lines ≡ last_rows (entry matrix.now) flat rows.now first second) }
+    ensures { IfOk result (λ lines. lines ≡ last_rows (entry matrix.now) flat rows.now first
+        second) }
 {
     let corner = plain(second.row);
     if flat {
@@ -109,7 +113,8 @@ fn last_columns(
 ) -> Result<SignedLineList, Memory>
     requires row { first.row < height matrix.now }
     requires second { HasConnector flat matrix.now second }
-    ensures { IfOk result (λ lines. lines ≡ last_columns (entry matrix.now) flat columns.now first second) }
+    ensures { IfOk result (λ lines. lines ≡ last_columns (entry matrix.now) flat columns.now first
+        second) }
 {
     let corner = plain(second.column);
     if flat {
@@ -133,7 +138,8 @@ fn begin_rows(
 ) -> Result<SignedLineList, Memory>
     requires first { HasConnector flat matrix.now first }
     requires column { second.column < matrix.now.width }
-    ensures { IfOk result (λ lines. lines ≡ begin_rows (entry matrix.now) flat rows.now first second) }
+    ensures { IfOk result (λ lines. lines ≡ begin_rows (entry matrix.now) flat rows.now first
+        second) }
 {
     let corner = SignedLine {
         line: first.row,
@@ -161,7 +167,8 @@ fn begin_columns(
 ) -> Result<SignedLineList, Memory>
     requires first { HasConnector flat matrix.now first }
     requires row { second.row < height matrix.now }
-    ensures { IfOk result (λ lines. lines ≡ begin_columns (entry matrix.now) flat columns.now first second) }
+    ensures { IfOk result (λ lines. lines ≡ begin_columns (entry matrix.now) flat columns.now first
+        second) }
 {
     let corner = SignedLine {
         line: first.column,

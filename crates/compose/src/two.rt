@@ -18,7 +18,8 @@ use std::alloc::Global;
 /// the entry where the two cross.
 pub fn arrange_two(alloc: Global, matrix: &Matrix, two: &Two) -> Result<Arranged, Memory>
     requires { IsTwoOf matrix.now two.now }
-    ensures arranged { IfOk result (λ both. both ≡ arranged matrix.now (two_arrangement matrix.now two.now)) }
+    ensures arranged { IfOk result (λ both. both ≡ arranged matrix.now (two_arrangement matrix.now
+        two.now)) }
     ensures round_trip { IfOk result (IsRoundTrip kind.Two matrix.now) }
 {
     let sides = Sides::of(alloc, matrix, &two.side)?;

@@ -16,7 +16,8 @@ use std::alloc::Global;
 pub fn classes_of(alloc: Global, matrix: &Matrix, crossing: &[u64]) -> Result<Vec<u64>, Memory>
     requires crossing { length crossing.now ≡ words_for matrix.now.width }
     ensures size { IfOk result (λ classes. length classes.items ≡ height matrix.now) }
-    ensures unlike { IfOk result (λ classes. AreClassNumbers matrix.now crossing.now classes.items) }
+    ensures unlike { IfOk result (λ classes.
+        AreClassNumbers matrix.now crossing.now classes.items) }
 {
     let mut classes = Vec::with_capacity(alloc, matrix.rows() as usize)?;
     for row in 0..matrix.rows() {
@@ -28,7 +29,8 @@ pub fn classes_of(alloc: Global, matrix: &Matrix, crossing: &[u64]) -> Result<Ve
 // The digest of what some words have in common with others, or 0 if that is nothing.
 fn class_of(words: &[u64], crossing: &[u64]) -> u64
     requires { length words.now ≡ length crossing.now }
-    ensures { (result ≡ 0) ⊎ (HasCommon words.now crossing.now × (result ≡ digest_of words.now crossing.now)) }
+    ensures { (result ≡ 0)
+        ⊎ (HasCommon words.now crossing.now × (result ≡ digest_of words.now crossing.now)) }
 {
     if meets(words, crossing) {
         digest_of(words, crossing)

@@ -12,7 +12,12 @@ pub struct Corners {
 impl Corners {
     /// With the sides exchanged.
     pub fn exchanged(&self) -> Corners
-        ensures { result ≡ record { i = self.now.k; p = self.now.j; k = self.now.i; j = self.now.p } }
+        ensures { result ≡ record {
+          i = self.now.k;
+          p = self.now.j;
+          k = self.now.i;
+          j = self.now.p;
+        } }
     {
         Corners {
             i: self.k,

@@ -133,7 +133,8 @@ fn is_covered(
     requires line { IsLineOf views.now line }
     requires parted { HasWords views.now search.old.parted }
     ensures size { OnOk result (HasWords views.now search.new.parted) }
-    ensures one_side { IfOk result (λ covered. covered ≡ true → AreOnOneSide views.now line (set_of search.new.parted)) }
+    ensures one_side { IfOk result (λ covered. covered ≡ true
+        → AreOnOneSide views.now line (set_of search.new.parted)) }
 {
     let depth = views.rows() + views.columns() + 2;
     let none = LineWords::new(alloc, views)?;

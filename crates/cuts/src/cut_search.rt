@@ -31,8 +31,10 @@ impl CutSearch {
         requires one { HasWords views.now one.now }
         requires two { HasWords views.now two.now }
         ensures size { OnOk result (HasWords views.now self.new.parted) }
-        ensures more { OnOk result (AreWithin views.now (set_of self.old.parted) (set_of self.new.parted)) }
-        ensures covers { IfOk result (λ covered. covered ≡ true → Covers views.now (set_of one.now) (set_of two.now) (set_of self.new.parted)) }
+        ensures more { OnOk result (AreWithin views.now (set_of self.old.parted)
+            (set_of self.new.parted)) }
+        ensures covers { IfOk result (λ covered. covered ≡ true
+            → Covers views.now (set_of one.now) (set_of two.now) (set_of self.new.parted)) }
     {
         if one.meets(views, two) {
             return Ok(true);

@@ -25,7 +25,8 @@ impl Groups {
     /// Each line is a group.
     pub fn new(alloc: Global, views: &RowsAndColumns<'_>) -> Result<Groups, Memory>
         ensures names { IfOk result (HasNames views.now) }
-        ensures apart { IfOk result (λ groups. (k : ℕ) → k < height views.now + views.now.width → slice_index_or groups.names.items k 0 ≡ k) }
+        ensures apart { IfOk result (λ groups. (k : ℕ) → k < height views.now + views.now.width
+            → slice_index_or groups.names.items k 0 ≡ k) }
     {
         let count = views.rows() + views.columns();
         let mut names = Vec::with_capacity(alloc, count as usize)?;
@@ -39,14 +40,18 @@ impl Groups {
     pub fn are_one(&self, one: u32, two: u32) -> bool
         requires one { one < length self.now.names.items }
         requires two { two < length self.now.names.items }
-        ensures { IsTrue result ↔ (slice_index_or self.now.names.items one 0 ≡ slice_index_or self.now.names.items two 0) }
+        ensures { IsTrue result
+            ↔ (slice_index_or self.now.names.items one 0
+            ≡ slice_index_or self.now.names.items two 0) }
     {
         self.names[one as usize] == self.names[two as usize]
     }
 
     /// Whether all lines are shown to be in one group.
     pub fn are_all_one(&self) -> bool
-        ensures { result ≡ true → (k l : ℕ) → k < length self.now.names.items → l < length self.now.names.items → slice_index_or self.now.names.items k 0 ≡ slice_index_or self.now.names.items l 0 }
+        ensures { result ≡ true → (k l : ℕ) → k < length self.now.names.items
+            → l < length self.now.names.items
+            → slice_index_or self.now.names.items k 0 ≡ slice_index_or self.now.names.items l 0 }
     {
         for line in 0..self.names.len() {
             if self.names[line] != self.names[0] {
@@ -77,7 +82,8 @@ impl Groups {
     ) -> Result<LineWords, Memory>
         requires { HasNames views.now self.now }
         ensures size { IfOk result (HasWords views.now) }
-        ensures named { IfOk result (λ lines. (x : Line) → IsLineOf views.now x → set_of lines x ≡ true → name_of views.now self.now x ≡ name) }
+        ensures named { IfOk result (λ lines. (x : Line) → IsLineOf views.now x
+            → set_of lines x ≡ true → name_of views.now self.now x ≡ name) }
     {
         let rows = lines_named(alloc, &self.names, 0, views.rows(), name)?;
         let columns = lines_named(alloc, &self.names, views.rows(), views.columns(), name)?;
@@ -116,7 +122,8 @@ fn lines_named(
     requires count { count ≤ 1000 }
     requires names { from + count ≤ length names.now }
     ensures size { IfOk result (λ lines. length lines.items ≡ words_for count) }
-    ensures named { IfOk result (λ lines. (x : ℕ) → has_column lines.items x ≡ true → slice_index_or names.now (from + x) 0 ≡ name) }
+    ensures named { IfOk result (λ lines. (x : ℕ) → has_column lines.items x ≡ true
+        → slice_index_or names.now (from + x) 0 ≡ name) }
 {
     let mut lines = empty_set(alloc, count)?;
     for line in 0..count {
@@ -134,9 +141,13 @@ fn rename_others(names: &mut Vec<u32>, from: u32, count: u32, kept: &[u64], name
     requires names { from + count ≤ length names.old.items }
     requires kept { length kept.now ≡ words_for count }
     ensures size { length names.new.items ≡ length names.old.items }
-    ensures lines { (x : ℕ) → x < count → slice_index_or names.new.items (from + x) 0 ≡ cond (has_column kept.now x) (slice_index_or names.old.items (from + x) 0) name }
-    ensures before { (k : ℕ) → k < from → slice_index_or names.new.items k 0 ≡ slice_index_or names.old.items k 0 }
-    ensures after { (k : ℕ) → from + count ≤ k → slice_index_or names.new.items k 0 ≡ slice_index_or names.old.items k 0 }
+    ensures lines { (x : ℕ) → x < count
+        → slice_index_or names.new.items (from + x) 0
+        ≡ cond (has_column kept.now x) (slice_index_or names.old.items (from + x) 0) name }
+    ensures before { (k : ℕ) → k < from
+        → slice_index_or names.new.items k 0 ≡ slice_index_or names.old.items k 0 }
+    ensures after { (k : ℕ) → from + count ≤ k
+        → slice_index_or names.new.items k 0 ≡ slice_index_or names.old.items k 0 }
 {
     for line in 0..count {
         if !has_line(kept, line) {

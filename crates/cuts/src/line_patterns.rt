@@ -84,7 +84,10 @@ impl LinePatterns {
     ) -> Result<Option<Halves>, Memory>
         requires lines { HasWords views.now lines.now }
         requires patterns { HasPatterns views.now lines.now self.now }
-        ensures { IfOk result (λ found. MatchOption found (Unit {0}) (λ halves. HasWords views.now halves.one × HasWords views.now halves.other × IsHalved views.now (set_of lines.now) (set_of halves.one) (set_of halves.other))) }
+        ensures { IfOk result (λ found. MatchOption found (Unit {0}) (λ halves. HasWords views.now
+            halves.one
+            × HasWords views.now halves.other
+            × IsHalved views.now (set_of lines.now) (set_of halves.one) (set_of halves.other))) }
     {
         if self.have_one_class() || self.lighter() < least {
             return Ok(None);
@@ -104,7 +107,9 @@ impl LinePatterns {
     ) -> Result<Halves, Memory>
         requires lines { HasWords views.now lines.now }
         requires patterns { HasPatterns views.now lines.now self.now }
-        ensures { IfOk result (λ halves. HasWords views.now halves.one × HasWords views.now halves.other × IsHalved views.now (set_of lines.now) (set_of halves.one) (set_of halves.other)) }
+        ensures { IfOk result (λ halves. HasWords views.now halves.one
+            × HasWords views.now halves.other
+            × IsHalved views.now (set_of lines.now) (set_of halves.one) (set_of halves.other)) }
     {
         let _shape = views.rows();
         let one = lines.with_rows(alloc, views, &self.rows, true)?;
@@ -120,7 +125,9 @@ impl LinePatterns {
     ) -> Result<Halves, Memory>
         requires lines { HasWords views.now lines.now }
         requires patterns { HasPatterns views.now lines.now self.now }
-        ensures { IfOk result (λ halves. HasWords views.now halves.one × HasWords views.now halves.other × IsHalved views.now (set_of lines.now) (set_of halves.one) (set_of halves.other)) }
+        ensures { IfOk result (λ halves. HasWords views.now halves.one
+            × HasWords views.now halves.other
+            × IsHalved views.now (set_of lines.now) (set_of halves.one) (set_of halves.other)) }
     {
         let _shape = views.rows();
         let one = lines.with_columns(alloc, views, &self.columns, true)?;

@@ -26,7 +26,8 @@ impl LineWords {
     pub fn new(alloc: Global, views: &RowsAndColumns<'_>) -> Result<LineWords, Memory>
         ensures size { IfOk result (HasWords views.now) }
         ensures no_row { IfOk result (λ lines. (r : ℕ) → has_column lines.rows.items r ≡ false) }
-        ensures no_column { IfOk result (λ lines. (c : ℕ) → has_column lines.columns.items c ≡ false) }
+        ensures no_column { IfOk result (λ lines. (c : ℕ)
+            → has_column lines.columns.items c ≡ false) }
     {
         Ok(LineWords {
             rows: empty_set(alloc, views.rows())?,
@@ -38,8 +39,10 @@ impl LineWords {
     pub fn copied(&self, alloc: Global, views: &RowsAndColumns<'_>) -> Result<LineWords, Memory>
         requires { HasWords views.now self.now }
         ensures size { IfOk result (HasWords views.now) }
-        ensures rows { IfOk result (λ lines. (r : ℕ) → has_column lines.rows.items r ≡ has_column self.now.rows.items r) }
-        ensures columns { IfOk result (λ lines. (c : ℕ) → has_column lines.columns.items c ≡ has_column self.now.columns.items c) }
+        ensures rows { IfOk result (λ lines. (r : ℕ)
+            → has_column lines.rows.items r ≡ has_column self.now.rows.items r) }
+        ensures columns { IfOk result (λ lines. (c : ℕ)
+            → has_column lines.columns.items c ≡ has_column self.now.columns.items c) }
     {
         let mut lines = LineWords::new(alloc, views)?;
         add_set(&mut lines.rows, &self.rows);
@@ -58,7 +61,8 @@ impl LineWords {
         requires size { HasWords views.now self.now }
         requires classes { length patterns.now.classes.items ≡ height views.now }
         ensures size { IfOk result (HasWords views.now) }
-        ensures lines { IfOk result (λ lines. AddsAtMost views.now (set_of lines) (set_of self.now) (rows_heap patterns.now inside)) }
+        ensures lines { IfOk result (λ lines.
+            AddsAtMost views.now (set_of lines) (set_of self.now) (rows_heap patterns.now inside)) }
     {
         let mut lines = self.copied(alloc, views)?;
         add_heap(&mut lines.rows, views.rows(), patterns, inside);
@@ -76,7 +80,8 @@ impl LineWords {
         requires size { HasWords views.now self.now }
         requires classes { length patterns.now.classes.items ≡ views.now.width }
         ensures size { IfOk result (HasWords views.now) }
-        ensures lines { IfOk result (λ lines. AddsAtMost views.now (set_of lines) (set_of self.now) (columns_heap patterns.now inside)) }
+        ensures lines { IfOk result (λ lines. AddsAtMost views.now (set_of lines) (set_of self.now)
+            (columns_heap patterns.now inside)) }
     {
         let mut lines = self.copied(alloc, views)?;
         add_heap(&mut lines.columns, views.columns(), patterns, inside);
@@ -93,7 +98,8 @@ impl LineWords {
         requires size { HasWords views.now self.now }
         requires line { IsLineOf views.now line }
         ensures size { IfOk result (HasWords views.now) }
-        ensures lines { IfOk result (λ lines. (x : Line) → IsLineOf views.now x → set_of lines x ≡ true → (set_of self.now x ≡ true) ⊎ (x ≡ line)) }
+        ensures lines { IfOk result (λ lines. (x : Line) → IsLineOf views.now x
+            → set_of lines x ≡ true → (set_of self.now x ≡ true) ⊎ (x ≡ line)) }
     {
         let mut lines = self.copied(alloc, views)?;
         match line {
@@ -113,7 +119,8 @@ impl LineWords {
         requires size { HasWords views.now self.now }
         requires others { HasWords views.now others.now }
         ensures size { IfOk result (HasWords views.now) }
-        ensures lines { IfOk result (λ lines. AddsAtMost views.now (set_of lines) (set_of self.now) (set_of others.now)) }
+        ensures lines { IfOk result (λ lines.
+            AddsAtMost views.now (set_of lines) (set_of self.now) (set_of others.now)) }
     {
         let mut lines = self.copied(alloc, views)?;
         add_set(&mut lines.rows, &others.rows);
@@ -141,7 +148,8 @@ impl LineWords {
     pub fn have_all(&self, views: &RowsAndColumns<'_>, others: &LineWords) -> bool
         requires size { HasWords views.now self.now }
         requires others { HasWords views.now others.now }
-        ensures { result ≡ true → (x : Line) → IsLineOf views.now x → set_of others.now x ≡ false → set_of self.now x ≡ true }
+        ensures { result ≡ true → (x : Line) → IsLineOf views.now x → set_of others.now x ≡ false
+            → set_of self.now x ≡ true }
     {
         have_others(&self.rows, views.rows(), &others.rows)
             && have_others(&self.columns, views.columns(), &others.columns)
@@ -151,7 +159,11 @@ impl LineWords {
     pub fn meets(&self, views: &RowsAndColumns<'_>, others: &LineWords) -> bool
         requires size { HasWords views.now self.now }
         requires others { HasWords views.now others.now }
-        ensures { result ≡ true → (x : Line) × IsLineOf views.now x × (set_of self.now x ≡ true) × (set_of others.now x ≡ true) }
+        ensures { result ≡ true
+            → (x : Line)
+            × IsLineOf views.now x
+            × (set_of self.now x ≡ true)
+            × (set_of others.now x ≡ true) }
     {
         share_line(&self.rows, &others.rows, views.rows())
             || share_line(&self.columns, &others.columns, views.columns())
@@ -163,7 +175,8 @@ impl LineWords {
         requires others { HasWords views.now others.now }
         ensures size { HasWords views.now self.new }
         ensures kept { AreWithin views.now (set_of self.old) (set_of self.new) }
-        ensures rest { (x : Line) → IsLineOf views.now x → set_of others.now x ≡ false → set_of self.new x ≡ true }
+        ensures rest { (x : Line) → IsLineOf views.now x → set_of others.now x ≡ false
+            → set_of self.new x ≡ true }
     {
         add_others(&mut self.rows, views.rows(), &others.rows);
         add_others(&mut self.columns, views.columns(), &others.columns);
@@ -174,7 +187,8 @@ impl LineWords {
 fn have_others(set: &[u64], lines: u32, own: &[u64]) -> bool
     requires own { length own.now ≡ words_for lines }
     requires size { length set.now ≡ words_for lines }
-    ensures { result ≡ true → (x : ℕ) → x < lines → has_column own.now x ≡ false → has_column set.now x ≡ true }
+    ensures { result ≡ true → (x : ℕ) → x < lines → has_column own.now x ≡ false
+        → has_column set.now x ≡ true }
 {
     for line in 0..lines {
         if !has_line(own, line) && !has_line(set, line) {
@@ -201,7 +215,8 @@ fn count_others(set: &[u64], lines: u32) -> u32
 fn share_line(one: &[u64], two: &[u64], lines: u32) -> bool
     requires one { length one.now ≡ words_for lines }
     requires two { length two.now ≡ words_for lines }
-    ensures { result ≡ true → (x : ℕ) × (x < lines) × (has_column one.now x ≡ true) × (has_column two.now x ≡ true) }
+    ensures { result ≡ true
+        → (x : ℕ) × (x < lines) × (has_column one.now x ≡ true) × (has_column two.now x ≡ true) }
 {
     for line in 0..lines {
         if has_line(one, line) && has_line(two, line) {
@@ -217,7 +232,8 @@ fn add_others(set: &mut Vec<u64>, lines: u32, own: &[u64])
     requires size { length set.old.items ≡ words_for lines }
     ensures size { length set.new.items ≡ length set.old.items }
     ensures kept { (x : ℕ) → has_column set.old.items x ≡ true → has_column set.new.items x ≡ true }
-    ensures rest { (x : ℕ) → x < lines → has_column own.now x ≡ false → has_column set.new.items x ≡ true }
+    ensures rest { (x : ℕ) → x < lines → has_column own.now x ≡ false
+        → has_column set.new.items x ≡ true }
 {
     for line in 0..lines {
         if !has_line(own, line) {
@@ -231,7 +247,10 @@ fn add_heap(set: &mut Vec<u64>, lines: u32, patterns: &Patterns, inside: bool)
     requires lines { length patterns.now.classes.items ≡ lines }
     requires size { length set.old.items ≡ words_for lines }
     ensures size { length set.new.items ≡ length set.old.items }
-    ensures only { (x : ℕ) → has_column set.new.items x ≡ true → (has_column set.old.items x ≡ true) ⊎ (is_in_heap patterns.now.heaps (slice_index_or patterns.now.classes.items x 0) inside ≡ true) }
+    ensures only { (x : ℕ) → has_column set.new.items x ≡ true
+        → (has_column set.old.items x ≡ true)
+        ⊎ (is_in_heap patterns.now.heaps (slice_index_or patterns.now.classes.items x 0) inside
+        ≡ true) }
 {
     for line in 0..lines {
         if is_in_heap(&patterns.heaps, patterns.classes[line as usize], inside) {

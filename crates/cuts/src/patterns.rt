@@ -34,8 +34,10 @@ impl Patterns {
         requires far { length far.now ≡ words_for (height matrix.now) }
         requires crossing { length crossing.now ≡ words_for matrix.now.width }
         ensures size { IfOk result (λ patterns. length patterns.classes.items ≡ height matrix.now) }
-        ensures unlike { IfOk result (λ patterns. AreClassNumbers matrix.now crossing.now patterns.classes.items) }
-        ensures most { IfOk result (λ patterns. AreAtMostBeside own.now patterns.classes.items (height matrix.now) patterns.most) }
+        ensures unlike { IfOk result (λ patterns.
+            AreClassNumbers matrix.now crossing.now patterns.classes.items) }
+        ensures most { IfOk result (λ patterns.
+            AreAtMostBeside own.now patterns.classes.items (height matrix.now) patterns.most) }
     {
         let classes = classes_of(alloc, matrix, crossing)?;
         let sorted = sorted_classes(alloc, matrix.rows(), &classes, own)?;
@@ -130,7 +132,9 @@ struct Runs {
 // The same with the next number.
 fn runs_with(runs: Runs, class: u64) -> Runs
     requires { AreShort runs 1000 }
-    ensures { (sorted : List ℕ) (place : ℕ) → IsNonDecreasing sorted → place < length sorted → slice_index_or sorted place 0 ≡ class → IsCounted sorted place runs → IsCounted sorted (place + 1) result }
+    ensures { (sorted : List ℕ) (place : ℕ) → IsNonDecreasing sorted → place < length sorted
+        → slice_index_or sorted place 0 ≡ class → IsCounted sorted place runs
+        → IsCounted sorted (place + 1) result }
 {
     if class == 0 {
         return Runs {

@@ -10,9 +10,11 @@ use digests::mixed;
 pub fn add_line(lines: &mut Vec<u64>, line: u32)
     requires { line / 64 < length lines.old.items }
     ensures size { length lines.new.items ≡ length lines.old.items }
-    ensures only { (x : ℕ) → has_column lines.new.items x ≡ true → (x ≡ line) ⊎ (has_column lines.old.items x ≡ true) }
+    ensures only { (x : ℕ) → has_column lines.new.items x ≡ true
+        → (x ≡ line) ⊎ (has_column lines.old.items x ≡ true) }
     ensures here { has_column lines.new.items line ≡ true }
-    ensures kept { (x : ℕ) → has_column lines.old.items x ≡ true → has_column lines.new.items x ≡ true }
+    ensures kept { (x : ℕ) → has_column lines.old.items x ≡ true
+        → has_column lines.new.items x ≡ true }
 {
     let block = line as usize / 64;
     lines[block] = with_bit(lines[block], line % 64, true);

@@ -91,7 +91,8 @@ pub fn draw<R: Threads + Sync>(
     requires columns { IsColumnSet matrix.now lines.now.columns }
     requires known { IsKnown matrix.now obstruction.now }
     requires sought { obstruction.now.sought ≤ 4000 }
-    ensures { OnOk result (IsDraftedBehind limit matrix.now lines.now (map sketch_of drafts.old.items) (map sketch_of drafts.new.items)) }
+    ensures { OnOk result (IsDraftedBehind limit matrix.now lines.now
+        (map sketch_of drafts.old.items) (map sketch_of drafts.new.items)) }
 {
     let front = front_of(rt, alloc, matrix, lines, obstruction, limit, workers)?;
     let mut children = Vec::new(alloc);
@@ -147,7 +148,12 @@ fn push_draft(
     children: Vec<Draft>,
     drafts: &mut Vec<Draft>,
 ) -> Result<(), Memory>
-    ensures { OnOk result (map sketch_of drafts.new.items ≡ map sketch_of drafts.old.items ++ Sketched front.value (keeps_free (finding_shown front.value.finding) && list_all is_free_in children.items) (sketches_from (map sketch_of children.items)) ∷ []) }
+    ensures { OnOk result (map sketch_of drafts.new.items
+        ≡ map sketch_of drafts.old.items
+        ++ Sketched front.value
+        (keeps_free (finding_shown front.value.finding) && list_all is_free_in children.items)
+        (sketches_from (map sketch_of children.items))
+        ∷ []) }
 {
     let is_free = keeps_free(&front.finding) && are_free(children.as_slice());
     drafts.push(Draft {

@@ -31,7 +31,9 @@ pub fn fault_from(
     requires columns { IsColumnSet _matrix.now lines.now.columns }
     requires inner { inner.now ≡ part _matrix.now lines.now }
     requires passed { HasNoFaultBefore inner.now first }
-    ensures { IfOk result (λ found. MatchOption found (HasNoCycleFault (entry (part _matrix.now lines.now))) (IsNamedFault _matrix.now lines.now)) }
+    ensures { IfOk result (λ found. MatchOption found
+        (HasNoCycleFault (entry (part _matrix.now lines.now)))
+        (IsNamedFault _matrix.now lines.now)) }
 {
     match cycle_fault_from(alloc, inner, first)? {
         Some(found) => Ok(Some(named_set(alloc, lines, &found)?)),
@@ -99,7 +101,10 @@ pub fn late_fault(
     requires rows { IsRowSet matrix.now lines.now.rows }
     requires columns { IsColumnSet matrix.now lines.now.columns }
     requires free { IsTrue is_free → HasNoneAmong matrix.now lines.now }
-    ensures { IfOk result (λ found. MatchOption found (HasNoLateFault matrix.now lines.now (finding_shown finding.now)) (λ fault. IsNamedFault matrix.now lines.now fault × (is_unsearched (finding_shown finding.now) ≡ true))) }
+    ensures { IfOk result (λ found. MatchOption found
+        (HasNoLateFault matrix.now lines.now (finding_shown finding.now))
+        (λ fault. IsNamedFault matrix.now lines.now fault
+        × (is_unsearched (finding_shown finding.now) ≡ true))) }
 {
     if is_free || !is_unsearched(finding) {
         return Ok(None);
@@ -119,7 +124,9 @@ fn fault_of(
     requires rows { IsRowSet _matrix.now lines.now.rows }
     requires columns { IsColumnSet _matrix.now lines.now.columns }
     requires inner { inner.now ≡ part _matrix.now lines.now }
-    ensures { IfOk result (λ found. MatchOption found (HasNoCycleFault (entry (part _matrix.now lines.now))) (IsNamedFault _matrix.now lines.now)) }
+    ensures { IfOk result (λ found. MatchOption found
+        (HasNoCycleFault (entry (part _matrix.now lines.now)))
+        (IsNamedFault _matrix.now lines.now)) }
 {
     match cycle_fault(alloc, inner)? {
         Some(found) => Ok(Some(named_set(alloc, lines, &found)?)),

@@ -127,8 +127,10 @@ fn seen_reduced(
     requires none { HasNoneBefore _limit (part _matrix.now lines.now) 3 }
     requires some { 0 < length reduction.now.steps }
     requires steps { reduction.now.steps ≡ (removal false (part _matrix.now lines.now)).steps }
-    requires rest_rows { reduction.now.rest.rows ≡ (removal false (part _matrix.now lines.now)).rows }
-    requires rest_columns { reduction.now.rest.columns ≡ (removal false (part _matrix.now lines.now)).columns }
+    requires rest_rows { reduction.now.rest.rows
+        ≡ (removal false (part _matrix.now lines.now)).rows }
+    requires rest_columns { reduction.now.rest.columns
+        ≡ (removal false (part _matrix.now lines.now)).columns }
     ensures { IfOk result (IsSeen _limit _matrix.now lines.now) }
 {
     let steps = named_steps(alloc, lines, reduction.steps.as_slice())?;

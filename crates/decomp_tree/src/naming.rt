@@ -60,7 +60,8 @@ fn named_line(lines: &LineSet, line: Line) -> Line
 /// The lines of some removals, in their order.
 pub fn named_steps(alloc: Global, lines: &LineSet, steps: &[Step]) -> Result<LineList, Memory>
     requires { AllByRecursion (λ step. IsPlace lines.now step.line) steps.now }
-    ensures { IfOk result (λ named. named ≡ map (line_in lines.now) (map (λ step. step.line) steps.now)) }
+    ensures { IfOk result (λ named. named ≡ map (line_in lines.now)
+        (map (λ step. step.line) steps.now)) }
 {
     let mut named = LineList::new(alloc);
     for step in steps {

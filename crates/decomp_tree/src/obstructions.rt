@@ -119,8 +119,10 @@ fn size_of(_matrix: &Matrix, lines: &LineSet) -> u32
 
 // Whether these are among some lines.
 fn has_lines(lines: &LineSet, own: &LineSet) -> bool
-    ensures rows { IsTrue result → AllByRecursion (λ line. is_among lines.now.rows line ≡ true) own.now.rows }
-    ensures columns { IsTrue result → AllByRecursion (λ line. is_among lines.now.columns line ≡ true) own.now.columns }
+    ensures rows { IsTrue result
+        → AllByRecursion (λ line. is_among lines.now.rows line ≡ true) own.now.rows }
+    ensures columns { IsTrue result
+        → AllByRecursion (λ line. is_among lines.now.columns line ≡ true) own.now.columns }
 {
     has_all(&lines.rows, own.rows.as_slice()) && has_all(&lines.columns, own.columns.as_slice())
 }

@@ -38,7 +38,10 @@ pub fn above_two(
     one: LineSet,
     other: LineSet,
 ) -> Result<Seen, Memory>
-    ensures { IfOk result (λ seen. seen ≡ record { finding = finding; children = one ∷ other ∷ [] }) }
+    ensures { IfOk result (λ seen. seen ≡ record {
+      finding = finding;
+      children = one ∷ other ∷ [];
+    }) }
 {
     let mut children = LineSetList::new(alloc);
     children.push(one)?;

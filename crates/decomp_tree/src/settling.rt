@@ -43,7 +43,8 @@ pub fn draw_root<R: Threads + Sync>(
     requires shape { IsMatrix matrix.now }
     requires rows { IsRowSet matrix.now lines.now.rows }
     requires columns { IsColumnSet matrix.now lines.now.columns }
-    ensures { IfOk result (λ node. IsDrawnWith search.limit pivots state matrix.now lines.now (tree_of node)) }
+    ensures { IfOk result (λ node.
+        IsDrawnWith search.limit pivots state matrix.now lines.now (tree_of node)) }
 {
     let drawn = draft_root(rt, alloc, matrix, lines, search.limit, search.workers)?;
     let mut roots = Vec::new(alloc);
@@ -75,7 +76,10 @@ fn settle<R: Threads + Sync>(
     requires rows { IsRowSet matrix.now (lines_of_sketch (sketch_of drawn)).rows }
     requires columns { IsColumnSet matrix.now (lines_of_sketch (sketch_of drawn)).columns }
     requires drafted { IsDrafted search.limit matrix.now (sketch_of drawn) }
-    ensures { OnOk result (IsBehind (IsDrawnWith search.limit pivots state matrix.now (lines_of_sketch (sketch_of drawn))) (map tree_of nodes.old.items) (map tree_of nodes.new.items)) }
+    ensures { OnOk result (IsBehind
+        (IsDrawnWith search.limit pivots state matrix.now (lines_of_sketch (sketch_of drawn)))
+        (map tree_of nodes.old.items)
+        (map tree_of nodes.new.items)) }
 {
     let front = drawn.front;
     if let Some(fault) = late_fault(alloc, matrix, &front.lines, &front.finding, drawn.is_free)? {
@@ -127,7 +131,8 @@ fn find<R: Threads + Sync>(
     requires shape { IsMatrix matrix.now }
     requires rows { IsRowSet matrix.now lines.now.rows }
     requires columns { IsColumnSet matrix.now lines.now.columns }
-    ensures { IfOk result (λ node. IsFound search.limit pivots state matrix.now lines.now (tree_of node)) }
+    ensures { IfOk result (λ node.
+        IsFound search.limit pivots state matrix.now lines.now (tree_of node)) }
 {
     if pivots == 0 {
         return leaf(alloc, lines, Finding::Undecided);
@@ -153,7 +158,11 @@ fn push_node(
     nodes: &mut Vec<Node>,
 ) -> Result<(), Memory>
     requires { HasChildren (finding_shown front.value.finding) (length children.items) }
-    ensures { OnOk result (map tree_of nodes.new.items ≡ map tree_of nodes.old.items ++ Branch front.value.lines (finding_shown front.value.finding) (trees_from (map tree_of children.items)) ∷ []) }
+    ensures { OnOk result (map tree_of nodes.new.items
+        ≡ map tree_of nodes.old.items
+        ++ Branch front.value.lines (finding_shown front.value.finding)
+        (trees_from (map tree_of children.items))
+        ∷ []) }
 {
     let Front { lines, finding, .. } = Box::into_inner(front);
     nodes.push(join_node(alloc, lines, finding, children)?)?;
@@ -168,7 +177,8 @@ fn push_fault(
     fault: LineSet,
     nodes: &mut Vec<Node>,
 ) -> Result<(), Memory>
-    ensures { OnOk result (map tree_of nodes.new.items ≡ map tree_of nodes.old.items ++ Branch front.value.lines (Cycle fault) NoTrees ∷ []) }
+    ensures { OnOk result (map tree_of nodes.new.items
+        ≡ map tree_of nodes.old.items ++ Branch front.value.lines (Cycle fault) NoTrees ∷ []) }
 {
     let front = Box::into_inner(front);
     nodes.push(join_node(alloc, front.lines, Finding::Cycle(fault), Vec::new(alloc))?)?;

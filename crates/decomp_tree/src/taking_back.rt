@@ -26,7 +26,8 @@ pub fn taken_back(
     requires columns { IsColumnSet matrix.now lines.now.columns }
     requires place { IsPlaceIn matrix.now lines.now place }
     requires fault { HasFaultAmong lines.now (verdict_of (tree_of after)) }
-    ensures { IfOk result (λ node. IsTakenBack matrix.now lines.now place (tree_of after) (verdict_of (tree_of after)) (tree_of node)) }
+    ensures { IfOk result (λ node. IsTakenBack matrix.now lines.now place (tree_of after)
+        (verdict_of (tree_of after)) (tree_of node)) }
 {
     let before = match verdict_at(&after) {
         VerdictOf::Yes => return above(alloc, lines, place, after),
@@ -38,7 +39,8 @@ pub fn taken_back(
 
 // The pivoted node above a tree.
 fn above(alloc: Global, lines: &LineSet, place: PivotPlace, after: Node) -> Result<Node, Memory>
-    ensures { IfOk result (λ node. tree_of node ≡ Branch lines.now (Pivoted place) (one_tree (tree_of after))) }
+    ensures { IfOk result (λ node. tree_of node
+        ≡ Branch lines.now (Pivoted place) (one_tree (tree_of after))) }
 {
     let mut children = Vec::new(alloc);
     children.push(after)?;
@@ -53,7 +55,8 @@ fn above(alloc: Global, lines: &LineSet, place: PivotPlace, after: Node) -> Resu
 /// The leaf that says this of some lines.
 pub fn leaf(alloc: Global, lines: &LineSet, finding: Finding) -> Result<Node, Memory>
     requires { HasChildren (finding_shown finding) 0 }
-    ensures { IfOk result (λ node. tree_of node ≡ Branch lines.now (finding_shown finding) NoTrees) }
+    ensures { IfOk result (λ node. tree_of node
+        ≡ Branch lines.now (finding_shown finding) NoTrees) }
 {
     join_node(alloc, copy_of(alloc, lines)?, finding, Vec::new(alloc))
 }

@@ -50,7 +50,8 @@ pub fn draw(alloc: Global, count: u32, bound: u32, step: u32, state: u32) -> Res
     requires step { step ≤ 1 }
     requires count { count ≤ 2000 }
     requires state { state < 2 ^ 31 }
-    ensures numbers { IfOk result (λ drawn. drawn.numbers.items ≡ (draws count bound step state).0) }
+    ensures numbers { IfOk result (λ drawn. drawn.numbers.items
+        ≡ (draws count bound step state).0) }
     ensures state { IfOk result (λ drawn. drawn.state ≡ (draws count bound step state).1) }
     ensures low { IfOk result (λ drawn. drawn.state < 2 ^ 31) }
 {

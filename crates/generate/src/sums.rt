@@ -75,7 +75,8 @@ fn push_zeros(cells: &mut Vec<i8>, count: u32) -> Result<(), Memory>
 fn push_multiple(cells: &mut Vec<i8>, factor: i8, matrix: &Matrix, row: u32) -> Result<(), Memory>
     requires factor { IsEntry factor }
     requires row { row < height matrix.now }
-    ensures { OnOk result (cells.new.items ≡ cells.old.items ++ map (λ z. factor *ℤ z) (row_of matrix.now row)) }
+    ensures { OnOk result (cells.new.items
+        ≡ cells.old.items ++ map (λ z. factor *ℤ z) (row_of matrix.now row)) }
 {
     for column in 0..matrix.columns() {
         cells.push(product(factor, matrix.entry(row, column)))?;
@@ -95,7 +96,10 @@ fn product(first: i8, second: i8) -> i8
 // The rows whose number is 1 negated.
 fn negated(alloc: Global, matrix: &Matrix, signs: &[u32]) -> Result<Matrix, Memory>
     requires { length signs.now ≡ height matrix.now }
-    ensures { IfOk result (λ m. m ≡ record { rows = negated_rows matrix.now.rows signs.now; width = matrix.now.width }) }
+    ensures { IfOk result (λ m. m ≡ record {
+      rows = negated_rows matrix.now.rows signs.now;
+      width = matrix.now.width;
+    }) }
 {
     let rows = matrix.rows();
     let columns = matrix.columns();

@@ -154,7 +154,8 @@ fn sign_by_pivot(
     requires nonzero { IsSign (entry work.old row column) }
     requires odd { IsOdd (sum_over left.items (λ other. entry work.old other column)) }
     ensures found { IfOk result (IsOutcome work.old (row ∷ left.items)) }
-    ensures run { (rows : List ℕ) → IsPivotNext work.old rows row column left.items → IfOk result (AddsRun work.old rows steps.old steps.new) }
+    ensures run { (rows : List ℕ) → IsPivotNext work.old rows row column left.items
+        → IfOk result (AddsRun work.old rows steps.old steps.new) }
     ensures others { KeepsOthers work.old work.new left.items }
 {
     if let Some(corner) = first_square_violator(work, &left, row, column) {
@@ -191,9 +192,12 @@ fn sign_aside(
     requires row { row < height work.old }
     requires apart { IsOutside row left.items }
     requires small { IsTernaryRow work.old.width (entry work.old row) }
-    requires quiet { (column : ℕ) → column < work.old.width → (entry work.old row column ≡ pos 0) ⊎ IsEven (sum_over left.items (λ other. entry work.old other column)) }
+    requires quiet { (column : ℕ) → column < work.old.width
+        → (entry work.old row column ≡ pos 0)
+        ⊎ IsEven (sum_over left.items (λ other. entry work.old other column)) }
     ensures found { IfOk result (IsOutcome work.old (row ∷ left.items)) }
-    ensures run { (rows : List ℕ) → IsPutAside work.old rows row left.items → IfOk result (AddsRun work.old rows steps.old steps.new) }
+    ensures run { (rows : List ℕ) → IsPutAside work.old rows row left.items
+        → IfOk result (AddsRun work.old rows steps.old steps.new) }
     ensures others { KeepsOthers work.old work.new left.items }
 {
     steps.push(Pivot { row, column: None })?;

@@ -21,7 +21,8 @@ impl MarkedLines {
     /// No line is marked.
     fn new(alloc: Global, work: &Matrix) -> Result<MarkedLines, Memory>
         ensures rows { IfOk result (λ lines. lines.rows.items ≡ replicate (height work.now) false) }
-        ensures columns { IfOk result (λ lines. lines.columns.items ≡ replicate work.now.width false) }
+        ensures columns { IfOk result (λ lines. lines.columns.items
+            ≡ replicate work.now.width false) }
         ensures odd { IfOk result (λ lines. lines.odd.items ≡ replicate work.now.width false) }
     {
         Ok(MarkedLines {
@@ -42,9 +43,12 @@ impl MarkedLines {
         requires row { row < height work.now }
         requires column { column < work.now.width }
         requires square { HasSquareViolator work.now row column corner.row corner.column }
-        ensures violator { IfOk result (λ lines. MarksViolator work.now (row ∷ corner.row ∷ []) lines.rows.items lines.columns.items lines.odd.items) }
-        ensures rows { IfOk result (λ lines. (i : ℕ) → IsIn i (marked lines.rows.items) ↔ IsIn i (row ∷ corner.row ∷ [])) }
-        ensures columns { IfOk result (λ lines. (j : ℕ) → IsIn j (marked lines.columns.items) ↔ IsIn j (column ∷ corner.column ∷ [])) }
+        ensures violator { IfOk result (λ lines. MarksViolator work.now (row ∷ corner.row ∷ [])
+            lines.rows.items lines.columns.items lines.odd.items) }
+        ensures rows { IfOk result (λ lines. (i : ℕ) → IsIn i (marked lines.rows.items)
+            ↔ IsIn i (row ∷ corner.row ∷ [])) }
+        ensures columns { IfOk result (λ lines. (j : ℕ) → IsIn j (marked lines.columns.items)
+            ↔ IsIn j (column ∷ corner.column ∷ [])) }
     {
         let mut lines = MarkedLines::new(alloc, work)?;
         lines.rows[row as usize] = true;
@@ -66,9 +70,11 @@ impl MarkedLines {
         requires row_each { length self.old.rows.items ≡ height work.now }
         requires column_each { length self.old.columns.items ≡ work.now.width }
         requires odd_each { length self.old.odd.items ≡ work.now.width }
-        ensures rows { self.new.rows.items ≡ slice_set self.old.rows.items row (slice_index_or self.old.odd.items column false) }
+        ensures rows { self.new.rows.items
+            ≡ slice_set self.old.rows.items row (slice_index_or self.old.odd.items column false) }
         ensures odd { self.new.odd.items ≡ slice_set self.old.odd.items column false }
-        ensures columns { MarksAnew (entry work.now row) column self.old.columns.items self.new.columns.items }
+        ensures columns { MarksAnew (entry work.now row) column self.old.columns.items
+            self.new.columns.items }
     {
         let was_there = self.columns[column as usize];
         self.rows[row as usize] = self.odd[column as usize];

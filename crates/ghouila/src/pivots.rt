@@ -24,8 +24,10 @@ pub struct Corner {
 /// The first column with an even number, at least two, of nonzeros in the rows left, at the first of them.
 pub fn first_pivot(work: &Matrix, left: &[u32]) -> Option<PivotPlace>
     requires { AllBelow (height work.now) left.now }
-    ensures some { IfSome result (λ pivot. IsFirstPivot work.now left.now pivot.place pivot.column) }
-    ensures none { IfNone result ((column : ℕ) → column < work.now.width → HasNoPivot work.now left.now column) }
+    ensures some { IfSome result (λ pivot.
+        IsFirstPivot work.now left.now pivot.place pivot.column) }
+    ensures none { IfNone result ((column : ℕ) → column < work.now.width
+        → HasNoPivot work.now left.now column) }
     ensures shape { IsMatrix work.now }
 {
     let blocks = (work.columns() + 63) / 64;
@@ -62,7 +64,8 @@ fn pivot_in(work: &Matrix, left: &[u32], column: u32) -> Option<usize>
     requires rows { AllBelow (height work.now) left.now }
     requires column { column < work.now.width }
     ensures some { IfSome result (λ place. IsPivot work.now left.now place column) }
-    ensures first { IfSome result (λ place. (k : ℕ) → k < place → entry work.now (slice_index left.now k) column ≡ pos 0) }
+    ensures first { IfSome result (λ place. (k : ℕ) → k < place
+        → entry work.now (slice_index left.now k) column ≡ pos 0) }
     ensures none { IfNone result (HasNoPivot work.now left.now column) }
 {
     let mut first = None;
@@ -84,9 +87,14 @@ pub fn first_square_violator(work: &Matrix, left: &[u32], row: u32, column: u32)
     requires row { row < height work.now }
     requires column { column < work.now.width }
     requires nonzero { IsSign (entry work.now row column) }
-    ensures some { IfSome result (λ corner. Contains left.now corner.row × HasSquareViolator work.now row column corner.row corner.column) }
-    ensures first { IfSome result (λ corner. (place : ℕ) × (corner.row ≡ slice_index left.now place) × IsFirstTwo work.now left.now row column place corner.column) }
-    ensures none { IfNone result (AllByRecursion (λ other. IsTernaryRow work.now.width (reduced (entry work.now) row column other)) left.now) }
+    ensures some { IfSome result (λ corner. Contains left.now corner.row
+        × HasSquareViolator work.now row column corner.row corner.column) }
+    ensures first { IfSome result (λ corner. (place : ℕ)
+        × (corner.row ≡ slice_index left.now place)
+        × IsFirstTwo work.now left.now row column place corner.column) }
+    ensures none { IfNone result (AllByRecursion
+        (λ other. IsTernaryRow work.now.width (reduced (entry work.now) row column other))
+        left.now) }
 {
     for other in left {
         if let Some(last) = square_violator_in(work, row, column, *other) {
@@ -105,9 +113,12 @@ fn square_violator_in(work: &Matrix, row: u32, column: u32, other: u32) -> Optio
     requires other { other < height work.now }
     requires nonzero { IsSign (entry work.now row column) }
     ensures some { IfSome result (λ last. HasSquareViolator work.now row column other last) }
-    ensures two { IfSome result (λ last. ¬ (IsEntry (reduced (entry work.now) row column other last))) }
-    ensures first { IfSome result (λ last. IsTernaryRow last (reduced (entry work.now) row column other)) }
-    ensures none { IfNone result (IsTernaryRow work.now.width (reduced (entry work.now) row column other)) }
+    ensures two { IfSome result (λ last.
+        ¬ (IsEntry (reduced (entry work.now) row column other last))) }
+    ensures first { IfSome result (λ last.
+        IsTernaryRow last (reduced (entry work.now) row column other)) }
+    ensures none { IfNone result (IsTernaryRow work.now.width (reduced (entry work.now) row column
+        other)) }
 {
     let factor = product(work.entry(row, column), work.entry(other, column));
     prove!(work.columns() <= MAX_COLUMNS);
@@ -156,7 +167,9 @@ pub fn make_pivot(work: &mut Matrix, left: &[u32], row: u32, column: u32)
     requires apart { IsOutside row left.now }
     requires column { column < work.old.width }
     requires nonzero { IsSign (entry work.old row column) }
-    requires small { AllByRecursion (λ other. IsTernaryRow work.old.width (reduced (entry work.old) row column other)) left.now }
+    requires small { AllByRecursion
+        (λ other. IsTernaryRow work.old.width (reduced (entry work.old) row column other))
+        left.now }
     ensures pivoted { PivotsRows work.old work.new row column left.now }
     ensures others { KeepsOthers work.old work.new left.now }
 {

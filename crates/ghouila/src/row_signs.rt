@@ -29,7 +29,9 @@ impl RowSigns {
     pub fn sign_pivot(&mut self, row: u32, column: u32)
         requires row { row < length self.old.signs.items }
         requires column { column < length self.old.sums.items }
-        ensures signs { self.new.signs.items ≡ slice_set self.old.signs.items row (slice_index_or self.old.sums.items column (pos 0)) }
+        ensures signs { self.new.signs.items
+            ≡ slice_set self.old.signs.items row (slice_index_or self.old.sums.items column
+            (pos 0)) }
         ensures sums { self.new.sums.items ≡ slice_set self.old.sums.items column (pos 0) }
     {
         self.signs[row as usize] = self.sums[column as usize];
@@ -41,10 +43,13 @@ impl RowSigns {
         requires row { row < height work.now }
         requires row_each { length self.old.signs.items ≡ height work.now }
         requires column_each { length self.old.sums.items ≡ work.now.width }
-        requires small { IsTernaryRow work.now.width (λ column. slice_index_or self.old.sums.items column (pos 0)) }
+        requires small { IsTernaryRow work.now.width (λ column.
+            slice_index_or self.old.sums.items column (pos 0)) }
         ensures signs { self.new.signs.items ≡ slice_set self.old.signs.items row (pos 1) }
         ensures sum_each { length self.new.sums.items ≡ length self.old.sums.items }
-        ensures sums { (column : ℕ) → column < work.now.width → slice_index_or self.new.sums.items column (pos 0) ≡ slice_index_or self.old.sums.items column (pos 0) +ℤ entry work.now row column }
+        ensures sums { (column : ℕ) → column < work.now.width
+            → slice_index_or self.new.sums.items column (pos 0)
+            ≡ slice_index_or self.old.sums.items column (pos 0) +ℤ entry work.now row column }
     {
         self.signs[row as usize] = 1;
         for column in 0..work.columns() {
@@ -55,7 +60,8 @@ impl RowSigns {
     /// The signs of these rows, in their order.
     pub fn of_rows(&self, alloc: Global, rows: &[u32]) -> Result<SignList, Memory>
         requires { AllBelow (length self.now.signs.items) rows.now }
-        ensures { IfOk result (λ list. list ≡ map (λ row. slice_index_or self.now.signs.items row (pos 0)) rows.now) }
+        ensures { IfOk result (λ list. list ≡ map
+            (λ row. slice_index_or self.now.signs.items row (pos 0)) rows.now) }
     {
         let mut list = SignList::new(alloc);
         for row in rows {

@@ -31,7 +31,8 @@ pub fn branches_at(
     requires row { row < height matrix.now }
     requires parts { AreInRows (height matrix.now) parts.now }
     requires ends { length ends.now ≡ length parts.now }
-    ensures { IfOk result (λ branches. AreBranches (support matrix.now) matrix.now.width row parts.now ends.now (length parts.now) branches.items) }
+    ensures { IfOk result (λ branches. AreBranches (support matrix.now) matrix.now.width row
+        parts.now ends.now (length parts.now) branches.items) }
 {
     let mut branches = Vec::new(alloc);
     for place in 0..parts.len() {

@@ -25,8 +25,10 @@ pub enum Spot {
 /// 0; the k-th arc that is grown leads to node k.
 pub fn grow_network(alloc: Global, matrix: &Matrix, sides: &ArcSides) -> Result<Network, Memory>
     requires tables { AreTablesOf matrix.now sides.now }
-    requires cuts { IsCuts (support matrix.now) (λ r. r < height matrix.now) (side_in sides.now) (end_in sides.now) }
-    ensures { IfOk result (λ net. RealisesSupport net (support matrix.now) (height matrix.now) matrix.now.width) }
+    requires cuts { IsCuts (support matrix.now) (λ r. r < height matrix.now) (side_in sides.now)
+        (end_in sides.now) }
+    ensures { IfOk result (λ net.
+        RealisesSupport net (support matrix.now) (height matrix.now) matrix.now.width) }
 {
     let near = near_sides(alloc, matrix, sides)?;
     let order = growing_order(alloc, matrix, sides, &near)?;
@@ -86,7 +88,8 @@ fn growing_order(
 ) -> Result<Vec<u32>, Memory>
     requires tables { AreTablesOf matrix.now sides.now }
     requires near { AreNear sides.now (height matrix.now) near.now }
-    requires cuts { IsCuts (support matrix.now) (λ r. r < height matrix.now) (side_in sides.now) (end_in sides.now) }
+    requires cuts { IsCuts (support matrix.now) (λ r. r < height matrix.now) (side_in sides.now)
+        (end_in sides.now) }
     ensures { IfOk result (λ order. IsOrder (is_beyond sides.now) (height matrix.now) order.items) }
 {
     let mut order = Vec::new(alloc);
@@ -143,7 +146,8 @@ fn grown_arcs(
     requires near { AreNear sides.now (height matrix.now) near.now }
     requires order { AllBelow (height matrix.now) order.now }
     requires few { length order.now ≤ 1000 }
-    ensures { IfOk result (λ arcs. arcs ≡ arcs_by (side_in sides.now) (end_in sides.now) order.now (height matrix.now)) }
+    ensures { IfOk result (λ arcs. arcs ≡ arcs_by (side_in sides.now) (end_in sides.now) order.now
+        (height matrix.now)) }
 {
     let mut arcs = PairList::new(alloc);
     for row in 0..matrix.rows() {
@@ -159,7 +163,8 @@ fn arc_of(matrix: &Matrix, sides: &ArcSides, near: &[bool], order: &[u32], row: 
     requires order { AllBelow (height matrix.now) order.now }
     requires few { length order.now ≤ 1000 }
     requires row { row < height matrix.now }
-    ensures { result ≡ turned (end_in sides.now true row 0) (pair_of (grown (is_beyond sides.now) order.now) row) }
+    ensures { result ≡ turned (end_in sides.now true row 0)
+        (pair_of (grown (is_beyond sides.now) order.now) row) }
 {
     let pair = pair_of(matrix, sides, near, order, row);
     if near[row as usize] {
@@ -203,7 +208,8 @@ fn grown_walks(
     requires near { AreNear sides.now (height matrix.now) near.now }
     requires order { AllBelow (height matrix.now) order.now }
     requires few { length order.now ≤ 1000 }
-    ensures { IfOk result (λ walks. walks ≡ walks_by (side_in sides.now) (end_in sides.now) order.now matrix.now.width) }
+    ensures { IfOk result (λ walks. walks ≡ walks_by (side_in sides.now) (end_in sides.now)
+        order.now matrix.now.width) }
 {
     let mut walks = PairList::new(alloc);
     for column in 0..matrix.columns() {

@@ -20,13 +20,17 @@ use cmr_base::{Indices, Matrix};
 pub fn join(matrix: &Matrix, rows: &Indices, joint: &Joint, sides: &mut ArcSides)
     requires rows { AllBelow (height matrix.now) rows.now }
     requires joint { FitsJoint (height matrix.now) matrix.now.width joint.now }
-    requires numbered { (r : ℕ) → IsIn r rows.now → r ≢ joint.now.row → number_at joint.now.part_of.items r ≢ None }
+    requires numbered { (r : ℕ) → IsIn r rows.now → r ≢ joint.now.row
+        → number_at joint.now.part_of.items r ≢ None }
     requires off { AreOff (support matrix.now) joint.now }
-    requires blocks { AreBlocksOf (support matrix.now joint.now.row) matrix.now.width joint.now.row_blocks }
+    requires blocks { AreBlocksOf (support matrix.now joint.now.row) matrix.now.width
+        joint.now.row_blocks }
     requires tables { AreTablesOf matrix.now sides.old }
-    requires clear { (r : ℕ) → IsIn r rows.now → r ≢ joint.now.row → IsClearBeside (support matrix.now) joint.now sides.old r }
+    requires clear { (r : ℕ) → IsIn r rows.now → r ≢ joint.now.row
+        → IsClearBeside (support matrix.now) joint.now sides.old r }
     ensures tables { AreTablesOf matrix.now sides.new }
-    ensures joined { (r : ℕ) → IsIn r rows.now → IsArcJoined (support matrix.now) joint.now sides.old sides.new r }
+    ensures joined { (r : ℕ) → IsIn r rows.now
+        → IsArcJoined (support matrix.now) joint.now sides.old sides.new r }
     ensures others { KeepsOutside sides.old sides.new rows.now }
 {
     for arc in rows.as_slice() {
@@ -42,7 +46,8 @@ pub fn join(matrix: &Matrix, rows: &Indices, joint: &Joint, sides: &mut ArcSides
 fn join_row(matrix: &Matrix, joint: &Joint, sides: &mut ArcSides)
     requires joint { FitsJoint (height matrix.now) matrix.now.width joint.now }
     requires off { AreOff (support matrix.now) joint.now }
-    requires blocks { AreBlocksOf (support matrix.now joint.now.row) matrix.now.width joint.now.row_blocks }
+    requires blocks { AreBlocksOf (support matrix.now joint.now.row) matrix.now.width
+        joint.now.row_blocks }
     requires tables { AreTablesOf matrix.now sides.old }
     ensures tables { AreTablesOf matrix.now sides.new }
     ensures joined { IsArcJoined (support matrix.now) joint.now sides.old sides.new joint.now.row }
@@ -69,7 +74,8 @@ fn clear_arc(arc: u32, sides: &mut ArcSides)
 fn add_parts_at_first(matrix: &Matrix, joint: &Joint, sides: &mut ArcSides)
     requires joint { FitsJoint (height matrix.now) matrix.now.width joint.now }
     requires tables { AreTablesOf matrix.now sides.old }
-    ensures { AreChosen joint.now (is_at_first joint.now) joint.now.row (length joint.now.branches.items) sides.old sides.new }
+    ensures { AreChosen joint.now (is_at_first joint.now) joint.now.row
+        (length joint.now.branches.items) sides.old sides.new }
 {
     let _rows = matrix.rows();
     for part in 0..joint.branches.len() {
@@ -82,9 +88,14 @@ fn add_parts_at_first(matrix: &Matrix, joint: &Joint, sides: &mut ArcSides)
 // Puts the first ends of the row's columns on the side `true` of its arc.
 fn add_first_ends(matrix: &Matrix, joint: &Joint, sides: &mut ArcSides)
     requires row { joint.now.row < height matrix.now }
-    requires blocks { AreBlocksOf (support matrix.now joint.now.row) matrix.now.width joint.now.row_blocks }
+    requires blocks { AreBlocksOf (support matrix.now joint.now.row) matrix.now.width
+        joint.now.row_blocks }
     requires tables { AreTablesOf matrix.now sides.old }
-    ensures { IsArcChanged (λ other. side_in sides.old joint.now.row other) (λ end column. end_in sides.old end joint.now.row column || (end && support matrix.now joint.now.row column)) sides.old sides.new joint.now.row }
+    ensures { IsArcChanged
+        (λ other. side_in sides.old joint.now.row other)
+        (λ end column. end_in sides.old end joint.now.row column
+        || (end && support matrix.now joint.now.row column))
+        sides.old sides.new joint.now.row }
 {
     let row = joint.row;
     let blocks = joint.row_blocks.as_slice();
@@ -98,7 +109,8 @@ fn join_arc(matrix: &Matrix, joint: &Joint, arc: u32, sides: &mut ArcSides)
     requires part { number_at joint.now.part_of.items arc ≢ None }
     requires joint { FitsJoint (height matrix.now) matrix.now.width joint.now }
     requires off { AreOff (support matrix.now) joint.now }
-    requires blocks { AreBlocksOf (support matrix.now joint.now.row) matrix.now.width joint.now.row_blocks }
+    requires blocks { AreBlocksOf (support matrix.now joint.now.row) matrix.now.width
+        joint.now.row_blocks }
     requires tables { AreTablesOf matrix.now sides.old }
     requires clear { IsClearBeside (support matrix.now) joint.now sides.old arc }
     ensures tables { AreTablesOf matrix.now sides.new }
@@ -126,12 +138,18 @@ fn keep_part(
     requires own { number_at joint.now.part_of.items arc ≡ Some own }
     requires joint { FitsJoint (height matrix.now) matrix.now.width joint.now }
     requires off { AreOff (support matrix.now) joint.now }
-    requires blocks { AreBlocksOf (support matrix.now joint.now.row) matrix.now.width joint.now.row_blocks }
+    requires blocks { AreBlocksOf (support matrix.now joint.now.row) matrix.now.width
+        joint.now.row_blocks }
     requires tables { AreTablesOf matrix.now sides.old }
     requires line { IsLineFor joint.now sides.old arc own }
     requires turned { is_turned ≡ side_in sides.old arc joint.now.row }
     requires clear { IsClearBeside (support matrix.now) joint.now sides.old arc }
-    ensures { IsArcChanged (λ other. cell joint.now.row_marks own other && differ is_turned (side_in sides.old arc other)) (λ end column. cell joint.now.column_marks own column && differ is_turned (end_in sides.old end arc column)) sides.old sides.new arc }
+    ensures { IsArcChanged
+        (λ other. cell joint.now.row_marks own other
+        && differ is_turned (side_in sides.old arc other))
+        (λ end column. cell joint.now.column_marks own column
+        && differ is_turned (end_in sides.old end arc column))
+        sides.old sides.new arc }
 {
     if is_turned {
         turn_part(joint, arc, own, sides);
@@ -145,7 +163,11 @@ fn keep_part(
 // Turns the sides of an arc round for its own part, and clears all others.
 fn turn_part(joint: &Joint, arc: u32, own: usize, sides: &mut ArcSides)
     requires { IsLineFor joint.now sides.old arc own }
-    ensures { IsArcChanged (λ other. cell joint.now.row_marks own other && not (side_in sides.old arc other)) (λ end column. cell joint.now.column_marks own column && not (end_in sides.old end arc column)) sides.old sides.new arc }
+    ensures { IsArcChanged
+        (λ other. cell joint.now.row_marks own other && not (side_in sides.old arc other))
+        (λ end column. cell joint.now.column_marks own column
+        && not (end_in sides.old end arc column))
+        sides.old sides.new arc }
 {
     let line = own as u32;
     sides.arcs.turn(arc, &joint.row_marks, line);
@@ -159,7 +181,8 @@ fn add_hung(matrix: &Matrix, joint: &Joint, arc: u32, own: usize, sides: &mut Ar
     requires own { number_at joint.now.part_of.items arc ≡ Some own }
     requires joint { FitsJoint (height matrix.now) matrix.now.width joint.now }
     requires tables { AreTablesOf matrix.now sides.old }
-    ensures { AreHung (support matrix.now) joint.now arc own (length joint.now.branches.items) sides.old sides.new }
+    ensures { AreHung (support matrix.now) joint.now arc own (length joint.now.branches.items)
+        sides.old sides.new }
 {
     for part in 0..joint.branches.len() {
         if hangs(matrix, joint, arc, own, part) {
@@ -174,7 +197,8 @@ fn hangs(matrix: &Matrix, joint: &Joint, arc: u32, own: usize, part: usize) -> b
     requires own { number_at joint.now.part_of.items arc ≡ Some own }
     requires part { part < length joint.now.branches.items }
     requires joint { FitsJoint (height matrix.now) matrix.now.width joint.now }
-    ensures { result ≡ (not (part == own) && spot (support matrix.now) joint.now.row (hanging_of joint.now) arc part) }
+    ensures { result ≡ (not (part == own)
+        && spot (support matrix.now) joint.now.row (hanging_of joint.now) arc part) }
 {
     part != own && side_of_other(matrix, joint, arc, own, part)
 }
@@ -182,7 +206,10 @@ fn hangs(matrix: &Matrix, joint: &Joint, arc: u32, own: usize, part: usize) -> b
 // Puts a part on the side `true` of an arc.
 fn add_part(joint: &Joint, arc: u32, part: usize, sides: &mut ArcSides)
     requires { IsLineFor joint.now sides.old arc part }
-    ensures { IsArcChanged (λ other. side_in sides.old arc other || cell joint.now.row_marks part other) (λ end column. end_in sides.old end arc column || cell joint.now.column_marks part column) sides.old sides.new arc }
+    ensures { IsArcChanged
+        (λ other. side_in sides.old arc other || cell joint.now.row_marks part other)
+        (λ end column. end_in sides.old end arc column || cell joint.now.column_marks part column)
+        sides.old sides.new arc }
 {
     let line = part as u32;
     sides.arcs.add(arc, &joint.row_marks, line);
@@ -195,9 +222,11 @@ fn add_used(matrix: &Matrix, joint: &Joint, arc: u32, own: usize, sides: &mut Ar
     requires arc { arc < height matrix.now }
     requires own { own < length joint.now.branches.items }
     requires row { joint.now.row < height matrix.now }
-    requires blocks { AreBlocksOf (support matrix.now joint.now.row) matrix.now.width joint.now.row_blocks }
+    requires blocks { AreBlocksOf (support matrix.now joint.now.row) matrix.now.width
+        joint.now.row_blocks }
     requires tables { AreTablesOf matrix.now sides.old }
-    ensures { IsArcChanged (λ other. side_in sides.old arc other) (is_used (support matrix.now) joint.now arc own sides.old) sides.old sides.new arc }
+    ensures { IsArcChanged (λ other. side_in sides.old arc other)
+        (is_used (support matrix.now) joint.now arc own sides.old) sides.old sides.new arc }
 {
     let blocks = joint.row_blocks.as_slice();
     if joint.branches[own].end {
@@ -231,7 +260,8 @@ fn side_of_other(matrix: &Matrix, joint: &Joint, arc: u32, own: usize, other: us
 
 // Whether part `own` is heavier than another, or as heavy and has the greater number.
 fn is_above(own_branch: Branch, own: usize, other_branch: Branch, other: usize) -> bool
-    ensures { result ≡ (ltb other_branch.weight own_branch.weight || other_branch.weight == own_branch.weight && ltb other own) }
+    ensures { result ≡ (ltb other_branch.weight own_branch.weight
+        || other_branch.weight == own_branch.weight && ltb other own) }
 {
     other_branch.weight < own_branch.weight
         || (other_branch.weight == own_branch.weight && other < own)

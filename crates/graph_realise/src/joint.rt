@@ -46,7 +46,8 @@ impl Joint {
         requires disjoint { AreDisjoint parts.now }
         requires ends { length ends.now ≡ length parts.now }
         ensures shape { IsMatrix matrix.now }
-        ensures joint { IfOk result (IsJointOf (support matrix.now) (height matrix.now) matrix.now.width row parts.now ends.now) }
+        ensures joint { IfOk result (IsJointOf (support matrix.now) (height matrix.now)
+            matrix.now.width row parts.now ends.now) }
     {
         let part_of = parts_of_rows(alloc, matrix, parts)?;
         let part_with = parts_with_columns(alloc, matrix, row, parts)?;
@@ -70,7 +71,8 @@ impl Joint {
         requires few { length self.now.part_of.items ≤ 1000 }
         requires row { self.now.row < length self.now.part_of.items }
         ensures rising { IfOk result IsStrictlyIncreasing }
-        ensures rows { IfOk result (λ rows. (x : ℕ) → IsIn x rows ↔ ((x ≡ self.now.row) ⊎ (number_at self.now.part_of.items x ≡ Some part))) }
+        ensures rows { IfOk result (λ rows. (x : ℕ) → IsIn x rows
+            ↔ ((x ≡ self.now.row) ⊎ (number_at self.now.part_of.items x ≡ Some part))) }
     {
         let mut rows = Indices::new(alloc);
         for row in 0..self.part_of.len() as u32 {
@@ -84,7 +86,8 @@ impl Joint {
     // Whether it is the row itself or one of the part.
     fn is_with(&self, row: u32, part: usize) -> bool
         requires { row < length self.now.part_of.items }
-        ensures { IsTrue result ↔ ((row ≡ self.now.row) ⊎ (number_at self.now.part_of.items row ≡ Some part)) }
+        ensures { IsTrue result
+            ↔ ((row ≡ self.now.row) ⊎ (number_at self.now.part_of.items row ≡ Some part)) }
     {
         row == self.row || self.part_of[row as usize] == Some(part)
     }
@@ -100,7 +103,8 @@ fn parts_of_rows(
     requires disjoint { AreDisjoint parts.now }
     ensures shape { IsMatrix matrix.now }
     ensures size { IfOk result (λ numbers. length numbers.items ≡ height matrix.now) }
-    ensures numbered { IfOk result (λ numbers. AreNumbered parts.now (length parts.now) numbers.items) }
+    ensures numbered { IfOk result (λ numbers.
+        AreNumbered parts.now (length parts.now) numbers.items) }
 {
     let mut numbers = vec![in alloc; None; matrix.rows() as usize]?;
     for place in 0..parts.len() {
@@ -113,7 +117,8 @@ fn number_rows(numbers: &mut Vec<Option<usize>>, part: &Indices, number: usize)
     requires { AllBelow (length numbers.old.items) part.now }
     ensures size { length numbers.new.items ≡ length numbers.old.items }
     ensures inside { (row : ℕ) → IsIn row part.now → number_at numbers.new.items row ≡ Some number }
-    ensures outside { (row : ℕ) → ¬ (IsIn row part.now) → number_at numbers.new.items row ≡ number_at numbers.old.items row }
+    ensures outside { (row : ℕ) → ¬ (IsIn row part.now)
+        → number_at numbers.new.items row ≡ number_at numbers.old.items row }
 {
     for row in part.as_slice() {
         numbers[*row as usize] = Some(number);
@@ -130,7 +135,9 @@ fn parts_with_columns(
     requires row { row < height matrix.now }
     requires parts { AreInRows (height matrix.now) parts.now }
     ensures size { IfOk result (λ numbers. length numbers.items ≡ matrix.now.width) }
-    ensures parts { IfOk result (λ numbers. (column : ℕ) → IsNamed (support matrix.now) row parts.now (length parts.now) column (number_at numbers.items column)) }
+    ensures parts { IfOk result (λ numbers. (column : ℕ)
+        → IsNamed (support matrix.now) row parts.now (length parts.now) column
+        (number_at numbers.items column)) }
 {
     let mut numbers = no_numbers(alloc, matrix.columns())?;
     let mut columns = empty_set(alloc, matrix.columns())?;
@@ -169,7 +176,9 @@ pub fn add_row(matrix: &Matrix, row: u32, set: &mut Vec<u64>)
     requires row { row < height matrix.now }
     requires size { length set.old.items ≡ words_for matrix.now.width }
     ensures size { length set.new.items ≡ words_for matrix.now.width }
-    ensures columns { (column : ℕ) → has_column set.new.items column ≡ (has_column set.old.items column || support matrix.now row column) }
+    ensures columns { (column : ℕ)
+        → has_column set.new.items column
+        ≡ (has_column set.old.items column || support matrix.now row column) }
 {
     add_common(set, matrix.support_words(row), matrix.support_words(row));
 }
@@ -181,7 +190,8 @@ fn set_columns_of_part(matrix: &Matrix, row: u32, part: &Indices, columns: &mut 
     requires rows { AllBelow (height matrix.now) part.now }
     requires size { length columns.old.items ≡ words_for matrix.now.width }
     ensures size { length columns.new.items ≡ words_for matrix.now.width }
-    ensures columns { AreOfRows (support matrix.now) row part.now (length part.now) (has_column columns.new.items) }
+    ensures columns { AreOfRows (support matrix.now) row part.now (length part.now)
+        (has_column columns.new.items) }
 {
     clear_set(columns);
     for other in part.as_slice() {
@@ -196,10 +206,13 @@ fn set_columns_of_part(matrix: &Matrix, row: u32, part: &Indices, columns: &mut 
 // Gives the columns of a set a number.
 fn number_columns(columns: &[u64], number: Option<usize>, numbers: &mut Vec<Option<usize>>)
     requires few { length columns.now ≤ 16 }
-    requires inside { (column : ℕ) → has_column columns.now column ≡ true → column < length numbers.old.items }
+    requires inside { (column : ℕ) → has_column columns.now column ≡ true
+        → column < length numbers.old.items }
     ensures size { length numbers.new.items ≡ length numbers.old.items }
-    ensures inside { (column : ℕ) → has_column columns.now column ≡ true → number_at numbers.new.items column ≡ number }
-    ensures outside { (column : ℕ) → has_column columns.now column ≡ false → number_at numbers.new.items column ≡ number_at numbers.old.items column }
+    ensures inside { (column : ℕ) → has_column columns.now column ≡ true
+        → number_at numbers.new.items column ≡ number }
+    ensures outside { (column : ℕ) → has_column columns.now column ≡ false
+        → number_at numbers.new.items column ≡ number_at numbers.old.items column }
 {
     let mut from = 0;
     while let Some(column) = next_column(columns, from) {

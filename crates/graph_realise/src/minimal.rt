@@ -15,8 +15,10 @@ pub fn minimal_not_graphic(alloc: Global, matrix: &Matrix) -> Result<Option<Line
     requires { IsBinary matrix.now }
     ensures found { IfOk result (λ found. MatchOption found
         (IsGraphic matrix.now)
-        (λ lines. (¬ IsGraphic matrix.now) × IsGreedySet IsGraphic matrix.now lines.rows lines.columns)) }
-    ensures minimal { IfOk result (λ found. IfSome found (λ lines. IsMinimalWithout IsGraphic matrix.now lines.rows lines.columns)) }
+        (λ lines. (¬ IsGraphic matrix.now)
+        × IsGreedySet IsGraphic matrix.now lines.rows lines.columns)) }
+    ensures minimal { IfOk result (λ found.
+        IfSome found (λ lines. IsMinimalWithout IsGraphic matrix.now lines.rows lines.columns)) }
 {
     minimal_without(alloc, matrix, &Graphic)
 }

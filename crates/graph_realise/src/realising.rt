@@ -11,7 +11,8 @@ use std::alloc::Global;
 /// A tree whose arcs are the rows, and for each column the path whose arcs are the column's support; `None` exactly
 /// where there is none. Of a 0/1 matrix this says that it is not graphic; the signs of another one do not count.
 pub fn realise(alloc: Global, matrix: &Matrix) -> Result<Option<Network>, Memory>
-    ensures { IfOk result (λ found. MatchOption found (¬ (HasGraphicSupport matrix.now)) (λ net. ReproducesSupport net matrix.now)) }
+    ensures { IfOk result (λ found. MatchOption found (¬ (HasGraphicSupport matrix.now))
+        (λ net. ReproducesSupport net matrix.now)) }
 {
     let mut sides = ArcSides::new(alloc, matrix)?;
     let lines = LineSet::all(alloc, matrix.rows(), 0)?;

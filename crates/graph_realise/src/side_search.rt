@@ -91,7 +91,9 @@ fn find_split(
 ) -> Result<Option<SplitRow>, Memory>
     requires rows { AllBelow (height matrix.now) rows.now }
     requires tested { AreWholeBelow (support matrix.now) rows.now untested }
-    ensures { IfOk result (λ found. MatchOption found ((row : ℕ) → ¬ (Splits (support matrix.now) rows.now row)) (IsSplit (support matrix.now) rows.now)) }
+    ensures { IfOk result (λ found. MatchOption found
+        ((row : ℕ) → ¬ (Splits (support matrix.now) rows.now row))
+        (IsSplit (support matrix.now) rows.now)) }
 {
     first_splitting_row(alloc, matrix, rows.as_slice(), untested)
 }

@@ -29,7 +29,8 @@ pub fn draw_star(
     requires few { HasNoThree (support matrix.now) rows.now }
     requires tables { AreTablesOf matrix.now sides.old }
     ensures tables { AreTablesOf matrix.now sides.new }
-    ensures cuts { OnOk result (IsCuts (support matrix.now) (λ r. IsIn r rows.now) (side_in sides.new) (end_in sides.new)) }
+    ensures cuts { OnOk result (IsCuts (support matrix.now) (λ r. IsIn r rows.now)
+        (side_in sides.new) (end_in sides.new)) }
     ensures clear { OnOk result (AreClear (support matrix.now) rows.now sides.new) }
     ensures others { KeepsOutside sides.old sides.new rows.now }
 {

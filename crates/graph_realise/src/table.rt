@@ -73,7 +73,9 @@ impl Table {
         requires row { row < self.old.height }
         requires line { line < marks.now.height }
         requires width { marks.now.width ≡ self.old.width }
-        ensures { IsRowFilled (λ column. cell marks.now line column && not (cell self.old row column)) self.old self.new row self.old.width }
+        ensures { IsRowFilled
+            (λ column. cell marks.now line column && not (cell self.old row column))
+            self.old self.new row self.old.width }
     {
         for block in 0..self.blocks() {
             let word = outside(marks.word(line, block), self.word(row, block));
@@ -87,7 +89,9 @@ impl Table {
         requires other { other < height matrix.now }
         requires width { matrix.now.width ≡ self.old.width }
         requires blocks { AreBlocksOf (support matrix.now other) matrix.now.width blocks.now }
-        ensures { IsRowFilled (λ column. cell self.old row column && not (support matrix.now other column)) self.old self.new row self.old.width }
+        ensures { IsRowFilled
+            (λ column. cell self.old row column && not (support matrix.now other column))
+            self.old self.new row self.old.width }
     {
         for block in blocks {
             let word = self.word(row, *block);
@@ -103,7 +107,9 @@ impl Table {
         requires row { row < self.old.height }
         requires line { line < marks.now.height }
         requires width { marks.now.width ≡ self.old.width }
-        ensures { IsRowFilled (λ column. cell self.old row column || cell marks.now line column) self.old self.new row self.old.width }
+        ensures { IsRowFilled
+            (λ column. cell self.old row column || cell marks.now line column)
+            self.old self.new row self.old.width }
     {
         for block in 0..self.blocks() {
             let word = self.word(row, block) | marks.word(line, block);
@@ -119,7 +125,10 @@ impl Table {
         requires other { other < height matrix.now }
         requires width { matrix.now.width ≡ self.old.width }
         requires blocks { AreBlocksOf (support matrix.now other) matrix.now.width blocks.now }
-        ensures { IsRowFilled (λ column. cell self.old row column || support matrix.now one column && support matrix.now other column) self.old self.new row self.old.width }
+        ensures { IsRowFilled
+            (λ column. cell self.old row column
+            || support matrix.now one column && support matrix.now other column)
+            self.old self.new row self.old.width }
     {
         for block in blocks {
             let common = matrix.support_word(one, *block) & matrix.support_word(other, *block);
@@ -144,7 +153,9 @@ impl Table {
         requires row { row < self.old.height }
         requires one { length one.now ≡ words_for self.old.width }
         requires two { length two.now ≡ words_for self.old.width }
-        ensures { IsRowFilled (λ column. has_column one.now column && has_column two.now column) self.old self.new row self.old.width }
+        ensures { IsRowFilled
+            (λ column. has_column one.now column && has_column two.now column)
+            self.old self.new row self.old.width }
     {
         for block in 0..self.blocks() {
             let word = one[block as usize] & two[block as usize];
@@ -157,7 +168,9 @@ impl Table {
         requires row { row < self.old.height }
         requires one { length one.now ≡ words_for self.old.width }
         requires other { length other.now ≡ words_for self.old.width }
-        ensures { IsRowFilled (λ column. has_column one.now column && not (has_column other.now column)) self.old self.new row self.old.width }
+        ensures { IsRowFilled
+            (λ column. has_column one.now column && not (has_column other.now column))
+            self.old self.new row self.old.width }
     {
         for block in 0..self.blocks() {
             let word = one[block as usize] & !other[block as usize];
@@ -175,7 +188,8 @@ impl Table {
     fn word(&self, row: u32, block: u32) -> u64
         requires row { row < self.now.height }
         requires block { 64 * block < self.now.width }
-        ensures { (k : ℕ) → k < 64 → 64 * block + k < self.now.width → has_bit result k ≡ cell self.now row (64 * block + k) }
+        ensures { (k : ℕ) → k < 64 → 64 * block + k < self.now.width
+            → has_bit result k ≡ cell self.now row (64 * block + k) }
     {
         self.words[row as usize * words_for(self.width) + block as usize]
     }

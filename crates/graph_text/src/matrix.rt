@@ -26,7 +26,8 @@ pub fn matrix_of(
     ensures columns { IfOk result (λ matrix. matrix.width ≡ columns) }
     ensures directed { IsTrue directed → IfOk result (λ matrix. Reproduces net.now matrix) }
     ensures binary { directed ≡ false → IfOk result IsBinary }
-    ensures undirected { directed ≡ false → IfOk result (λ matrix. ReproducesSupport net.now matrix) }
+    ensures undirected { directed ≡ false
+        → IfOk result (λ matrix. ReproducesSupport net.now matrix) }
 {
     let matrix = net.matrix(alloc, rows, columns)?;
     if directed {
@@ -38,7 +39,8 @@ pub fn matrix_of(
 
 // The matrix of the same sizes with 1 at each nonzero.
 fn support_of(alloc: Global, matrix: &Matrix) -> Result<Matrix, Memory>
-    ensures { IfOk result (λ made. made ≡ filled (height matrix.now) matrix.now.width (one_at matrix.now)) }
+    ensures { IfOk result (λ made. made ≡ filled (height matrix.now) matrix.now.width
+        (one_at matrix.now)) }
 {
     let size = matrix.rows() as usize * matrix.columns() as usize;
     let mut cells = Vec::with_capacity(alloc, size)?;
@@ -50,7 +52,8 @@ fn support_of(alloc: Global, matrix: &Matrix) -> Result<Matrix, Memory>
 
 fn push_support(cells: &mut Vec<i8>, matrix: &Matrix, row: u32) -> Result<(), Memory>
     requires { row < height matrix.now }
-    ensures { OnOk result (cells.new.items ≡ cells.old.items ++ map (one_at matrix.now row) (first_lines matrix.now.width)) }
+    ensures { OnOk result (cells.new.items
+        ≡ cells.old.items ++ map (one_at matrix.now row) (first_lines matrix.now.width)) }
 {
     for column in 0..matrix.columns() {
         cells.push(i8::from(matrix.is_nonzero(row, column)))?;

@@ -31,7 +31,8 @@ pub struct SizedNetwork {
 pub fn read_graph(alloc: Global, bytes: &[u8]) -> Result<SizedNetwork, GraphError>
     ensures exact { IsReading (text_of bytes.now) result }
     ensures found { IfOk result (IsGraphText (words_in bytes.now)) }
-    ensures only { (sized : SizedNetwork) → IsGraphText (words_in bytes.now) sized → Gives (λ net. net) result (Ok sized) }
+    ensures only { (sized : SizedNetwork) → IsGraphText (words_in bytes.now) sized
+        → Gives (λ net. net) result (Ok sized) }
 {
     let sized = read_network(alloc, bytes)?;
     if is_tree(alloc, &sized.net, sized.rows)? {
@@ -97,7 +98,8 @@ fn node_within(node: Node, last: usize) -> Result<(), GraphError>
 }
 
 fn read_edges(alloc: Global, words: &mut Words<'_>) -> Result<Edges, GraphError>
-    ensures read { Gives (λ edges. edges) result (edges_from words.old.size no_edges words.old.words) }
+    ensures read { Gives (λ edges. edges) result
+        (edges_from words.old.size no_edges words.old.words) }
     ensures rows { IfOk result (λ edges. length edges.rows ≤ MAX_ROWS) }
     ensures columns { IfOk result (λ edges. length edges.columns ≤ MAX_COLUMNS) }
 {
@@ -120,7 +122,8 @@ fn read_edge(
     requires columns { length edges.now.columns ≤ MAX_COLUMNS }
     ensures read { Reads (λ edge. edge) words.new result (edge_behind edges.now tail words.old) }
     ensures row { IfOk result (λ edge. edge.0 ≡ Row → length edges.now.rows < MAX_ROWS) }
-    ensures column { IfOk result (λ edge. edge.0 ≡ Column → length edges.now.columns < MAX_COLUMNS) }
+    ensures column { IfOk result (λ edge. edge.0 ≡ Column
+        → length edges.now.columns < MAX_COLUMNS) }
 {
     let head = next_node(words)?;
     let element = next_element(words, edges)?;
@@ -150,9 +153,11 @@ fn number_in(word: &[u8]) -> Result<u32, GraphKind>
 fn next_element(words: &mut Words<'_>, edges: &Edges) -> Result<Element, GraphError>
     requires rows { length edges.now.rows ≤ MAX_ROWS }
     requires columns { length edges.now.columns ≤ MAX_COLUMNS }
-    ensures read { Reads (λ element. element) words.new result (field Short (element_in edges.now) words.old) }
+    ensures read { Reads (λ element. element) words.new result
+        (field Short (element_in edges.now) words.old) }
     ensures row { IfOk result (λ element. element ≡ Row → length edges.now.rows < MAX_ROWS) }
-    ensures column { IfOk result (λ element. element ≡ Column → length edges.now.columns < MAX_COLUMNS) }
+    ensures column { IfOk result (λ element. element ≡ Column
+        → length edges.now.columns < MAX_COLUMNS) }
 {
     let (place, word) = words.due(GraphKind::Short)?;
     at_place(place, element_in(word, edges))
@@ -163,7 +168,8 @@ fn element_in(word: &[u8], edges: &Edges) -> Result<Element, GraphKind>
     requires columns { length edges.now.columns ≤ MAX_COLUMNS }
     ensures value { result ≡ element_in edges.now word.now }
     ensures row { IfOk result (λ element. element ≡ Row → length edges.now.rows < MAX_ROWS) }
-    ensures column { IfOk result (λ element. element ≡ Column → length edges.now.columns < MAX_COLUMNS) }
+    ensures column { IfOk result (λ element. element ≡ Column
+        → length edges.now.columns < MAX_COLUMNS) }
 {
     let rows = edges.rows.len();
     let columns = edges.columns.len();

@@ -23,8 +23,11 @@ pub fn write_graph(alloc: Global, net: &Network, rows: u32, columns: u32) -> Res
     requires columns { length net.now.walks ≡ columns }
     ensures text { IfOk result (λ text. text.items ≡ graph_text net.now) }
     // Within the limits a tree with its walks is read again as the same.
-    ensures again { IfOk result (λ text. rows ≤ MAX_ROWS → columns ≤ MAX_COLUMNS → IsNetworkOf net.now rows columns
-        → IsGraph (text_of text.items) (Ok (record { net = net.now; rows = rows; columns = columns }))) }
+    ensures again { IfOk result (λ text. rows ≤ MAX_ROWS → columns ≤ MAX_COLUMNS
+        → IsNetworkOf net.now rows columns
+        → IsGraph
+        (text_of text.items)
+        (Ok (record { net = net.now; rows = rows; columns = columns }))) }
 {
     let mut text = Vec::new(alloc);
     push_edges(&mut text, ROW, &net.arcs, rows)?;
@@ -52,7 +55,8 @@ pub fn write_transposed_graph(
 
 fn push_edges(text: &mut Vec<u8>, letter: u8, edges: &PairList, count: u32) -> Result<(), Memory>
     requires { length edges.now ≡ count }
-    ensures { OnOk result (text.new.items ≡ text.old.items ++ text_of_lines (edge_lines letter 0 edges.now)) }
+    ensures { OnOk result (text.new.items
+        ≡ text.old.items ++ text_of_lines (edge_lines letter 0 edges.now)) }
 {
     for line in 0..count {
         push_edge(text, letter, line, *edges.get(line as usize))?;
@@ -61,7 +65,8 @@ fn push_edges(text: &mut Vec<u8>, letter: u8, edges: &PairList, count: u32) -> R
 }
 
 fn push_edge(text: &mut Vec<u8>, letter: u8, line: u32, edge: Pair) -> Result<(), Memory>
-    ensures { OnOk result (text.new.items ≡ text.old.items ++ text_line (edge_words letter line edge)) }
+    ensures { OnOk result (text.new.items
+        ≡ text.old.items ++ text_line (edge_words letter line edge)) }
 {
     push_end(text, edge.tail)?;
     push_end(text, edge.head)?;

@@ -53,7 +53,8 @@ fn least<R: Threads + Sync>(
 ) -> Result<Option<LineSet>, Memory>
     requires few { shorter_side matrix.now ≤ MAX_LINES }
     requires workers { (1 ≤ workers) × (workers ≤ 64) }
-    ensures least { IfOk result (λ answer. IfSome answer (λ lines. IsLeastViolator matrix.now lines.rows lines.columns)) }
+    ensures least { IfOk result (λ answer.
+        IfSome answer (λ lines. IsLeastViolator matrix.now lines.rows lines.columns)) }
     ensures none { IfOk result (λ answer. IfNone answer (HasNoViolator matrix.now)) }
 {
     if matrix.rows() <= matrix.columns() {
@@ -82,7 +83,8 @@ fn least_by_columns<R: Threads + Sync>(
     requires few { matrix.now.width ≤ MAX_LINES }
     requires shape { IsMatrix matrix.now }
     requires workers { (1 ≤ workers) × (workers ≤ 64) }
-    ensures least { IfOk result (λ answer. IfSome answer (λ lines. IsLeastByColumns matrix.now lines.rows lines.columns)) }
+    ensures least { IfOk result (λ answer.
+        IfSome answer (λ lines. IsLeastByColumns matrix.now lines.rows lines.columns)) }
     ensures none { IfOk result (λ answer. IfNone answer (HasNoViolator matrix.now)) }
 {
     let turned = turned(alloc, matrix)?;
@@ -107,7 +109,8 @@ fn least_by_rows<R: Threads + Sync>(
 ) -> Result<Option<LineSet>, Memory>
     requires few { height matrix.now ≤ MAX_LINES }
     requires workers { (1 ≤ workers) × (workers ≤ 64) }
-    ensures least { IfOk result (λ answer. IfSome answer (λ lines. IsLeastByRows matrix.now lines.rows lines.columns)) }
+    ensures least { IfOk result (λ answer.
+        IfSome answer (λ lines. IsLeastByRows matrix.now lines.rows lines.columns)) }
     ensures none { IfOk result (λ answer. IfNone answer (HasNoViolator matrix.now)) }
 {
     let probe = RowProbe { matrix };

@@ -22,7 +22,8 @@ impl Places {
     pub fn new(alloc: Global, count: u32) -> Result<Places, Memory>
         requires { count ≤ 1000 }
         ensures size { IfOk result (HaveSize count) }
-        ensures none { IfOk result (λ places. (place : ℕ) → has_column places.seen.items place ≡ false) }
+        ensures none { IfOk result (λ places. (place : ℕ)
+            → has_column places.seen.items place ≡ false) }
     {
         Ok(Places {
             seen: empty_set(alloc, count)?,
@@ -64,11 +65,15 @@ impl Places {
     ) -> u64
         requires size { HaveSize matrix.now.width self.now }
         requires row { row < height matrix.now }
-        requires words { words.now ≡ words_of (words_for matrix.now.width) is_nonzero (row_of matrix.now row) }
+        requires words { words.now ≡ words_of (words_for matrix.now.width) is_nonzero
+            (row_of matrix.now row) }
         requires model { multiple.model < height matrix.now }
         requires factor { IsEntry multiple.factor }
         requires block { block < length self.now.seen.items }
-        ensures { (k : ℕ) → k < 64 → has_bit result k ≡ (differs_at matrix.now row multiple.factor multiple.model (64 * block + k) && not (has_column self.now.seen.items (64 * block + k))) }
+        ensures { (k : ℕ) → k < 64
+            → has_bit result k
+            ≡ (differs_at matrix.now row multiple.factor multiple.model (64 * block + k)
+            && not (has_column self.now.seen.items (64 * block + k))) }
     {
         let _rows = matrix.rows();
         if multiple.factor == 0 {

@@ -62,7 +62,10 @@ impl Block {
         requires row { row < height matrix.now }
         ensures model { result.model < height matrix.now }
         ensures factor { IsEntry result.factor }
-        ensures differences { (column : ℕ) → differs_at matrix.now row result.factor result.model column ≡ differ (entry matrix.now row column) (block_entry (entry matrix.now) self row column) }
+        ensures differences { (column : ℕ)
+            → differs_at matrix.now row result.factor result.model column
+            ≡ differ (entry matrix.now row column)
+            (block_entry (entry matrix.now) self row column) }
     {
         match self {
             Block::Zero => Multiple {
@@ -82,7 +85,10 @@ impl Block {
         requires column { column < matrix.now.width }
         ensures model { result.model < matrix.now.width }
         ensures factor { IsEntry result.factor }
-        ensures differences { (row : ℕ) → differs_at (transposed matrix.now) column result.factor result.model row ≡ differ (entry matrix.now row column) (block_entry (entry matrix.now) self row column) }
+        ensures differences { (row : ℕ)
+            → differs_at (transposed matrix.now) column result.factor result.model row
+            ≡ differ (entry matrix.now row column)
+            (block_entry (entry matrix.now) self row column) }
     {
         let _rows = matrix.rows();
         match self {

@@ -29,7 +29,8 @@ pub fn reach(
     requires rule { IsRuleOf matrix.now rule }
     requires starts { AllBelow (height matrix.now + matrix.now.width) starts.now }
     requires least { least ≤ 4 }
-    ensures { IfOk result (λ marks. AreReached (height matrix.now + matrix.now.width) (pulls_along matrix.now rule direction) least starts.now marks.items) }
+    ensures { IfOk result (λ marks. AreReached (height matrix.now + matrix.now.width)
+        (pulls_along matrix.now rule direction) least starts.now marks.items) }
 {
     let size = (matrix.rows() + matrix.columns()) as usize;
     let mut walk = Walk::from_starts(alloc, size, starts)?;
@@ -55,7 +56,9 @@ impl Walk {
     fn from_starts(alloc: Global, size: usize, starts: &[u32]) -> Result<Walk, Memory>
         requires size { size ≤ 2000 }
         requires starts { AllBelow size starts.now }
-        ensures { IfOk result (λ walk. (leads : ℕ → ℕ → Bool) → AreStarting size leads starts.now walk.marks.items walk.met.items (length starts.now)) }
+        ensures { IfOk result (λ walk. (leads : ℕ → ℕ → Bool)
+            → AreStarting size leads starts.now walk.marks.items walk.met.items
+            (length starts.now)) }
     {
         let mut walk = Walk {
             marks: vec![in alloc; false; size]?,
@@ -71,7 +74,8 @@ impl Walk {
 
     fn meet(&mut self, line: u32) -> Result<(), Memory>
         requires { line < length self.old.marks.items }
-        ensures marks { OnOk result (self.new.marks.items ≡ slice_set self.old.marks.items line true) }
+        ensures marks { OnOk result (self.new.marks.items
+            ≡ slice_set self.old.marks.items line true) }
         ensures met { OnOk result (self.new.met.items ≡ self.old.met.items ++ line ∷ []) }
     {
         self.marks[line as usize] = true;
@@ -84,7 +88,14 @@ impl Walk {
     fn take_last(&mut self, head: usize)
         requires head { head < length self.old.met.items }
         ensures marks { self.new.marks ≡ self.old.marks }
-        ensures met { (last : ℕ) × (head ≤ last) × (last < length self.old.met.items) × (self.new.met.items ≡ slice_set (slice_set self.old.met.items head (slice_index_or self.old.met.items last 0)) last (slice_index_or self.old.met.items head 0)) }
+        ensures met { (last : ℕ)
+            × (head ≤ last)
+            × (last < length self.old.met.items)
+            × (self.new.met.items
+            ≡ slice_set
+            (slice_set self.old.met.items head (slice_index_or self.old.met.items last 0))
+            last
+            (slice_index_or self.old.met.items head 0)) }
     {
         let last = self.met.len() - 1;
         let line = self.met[last];
@@ -114,8 +125,15 @@ impl Walk {
         ensures row_size { HaveSize (height matrix.now) seen_rows.new }
         ensures column_size { HaveSize matrix.now.width seen_columns.new }
         ensures rows { OnOk result (AreSeen seen_rows.new 0 self.new.marks.items) }
-        ensures columns { OnOk result (AreSeen seen_columns.new (height matrix.now) self.new.marks.items) }
-        ensures reaching { OnOk result ((starts : List ℕ) → AreReaching (height matrix.now + matrix.now.width) (pulls_along matrix.now rule direction) starts self.old.marks.items self.old.met.items head → AreReaching (height matrix.now + matrix.now.width) (pulls_along matrix.now rule direction) starts self.new.marks.items self.new.met.items (head + 1)) }
+        ensures columns { OnOk result (AreSeen seen_columns.new (height matrix.now)
+            self.new.marks.items) }
+        ensures reaching { OnOk result ((starts : List ℕ)
+            → AreReaching (height matrix.now + matrix.now.width)
+            (pulls_along matrix.now rule direction) starts self.old.marks.items self.old.met.items
+            head
+            → AreReaching (height matrix.now + matrix.now.width)
+            (pulls_along matrix.now rule direction) starts self.new.marks.items self.new.met.items
+            (head + 1)) }
     {
         let line = self.met[head];
         let rows = matrix.rows();
@@ -152,8 +170,16 @@ impl Walk {
         requires seen { AreSeen seen.old first self.old.marks.items }
         ensures size { HaveSize matrix.now.width seen.new }
         ensures seen { OnOk result (AreSeen seen.new first self.new.marks.items) }
-        ensures grows { OnOk result ((line : ℕ) → is_marked self.old.marks.items line ≡ true → is_marked self.new.marks.items line ≡ true) }
-        ensures reaching { OnOk result ((leads : ℕ → ℕ → Bool) (starts : List ℕ) → LeadsTo (length self.old.marks.items) first matrix.now.width (leads (slice_index_or self.old.met.items head 0)) (differs_at matrix.now row multiple.factor multiple.model) → AreReaching (length self.old.marks.items) leads starts self.old.marks.items self.old.met.items head → AreReaching (length self.old.marks.items) leads starts self.new.marks.items self.new.met.items (head + 1)) }
+        ensures grows { OnOk result ((line : ℕ) → is_marked self.old.marks.items line ≡ true
+            → is_marked self.new.marks.items line ≡ true) }
+        ensures reaching { OnOk result ((leads : ℕ → ℕ → Bool) (starts : List ℕ)
+            → LeadsTo (length self.old.marks.items) first matrix.now.width
+            (leads (slice_index_or self.old.met.items head 0))
+            (differs_at matrix.now row multiple.factor multiple.model)
+            → AreReaching (length self.old.marks.items) leads starts self.old.marks.items
+            self.old.met.items head
+            → AreReaching (length self.old.marks.items) leads starts self.new.marks.items
+            self.new.met.items (head + 1)) }
     {
         let _columns = matrix.columns();
         let words = matrix.support_words(row);
@@ -170,11 +196,19 @@ impl Walk {
     // Meets the lines of the bits of a word, which have the numbers from `first` on.
     fn meet_word(&mut self, first: u32, word: u64) -> Result<(), Memory>
         requires first { first ≤ 2000 }
-        requires marks { (k : ℕ) → k < 64 → has_bit word k ≡ true → first + k < length self.old.marks.items }
+        requires marks { (k : ℕ) → k < 64 → has_bit word k ≡ true
+            → first + k < length self.old.marks.items }
         ensures size { OnOk result (length self.new.marks.items ≡ length self.old.marks.items) }
-        ensures marked { OnOk result ((k : ℕ) → k < 64 → has_bit word k ≡ true → is_marked self.new.marks.items (first + k) ≡ true) }
-        ensures grows { OnOk result ((line : ℕ) → is_marked self.old.marks.items line ≡ true → is_marked self.new.marks.items line ≡ true) }
-        ensures reaching { OnOk result ((leads : ℕ → ℕ → Bool) (starts : List ℕ) (head from : ℕ) → LeadsToBits (length self.old.marks.items) first word (leads from) → AreMeeting (length self.old.marks.items) leads starts self.old.marks.items self.old.met.items head from → AreMeeting (length self.old.marks.items) leads starts self.new.marks.items self.new.met.items head from) }
+        ensures marked { OnOk result ((k : ℕ) → k < 64 → has_bit word k ≡ true
+            → is_marked self.new.marks.items (first + k) ≡ true) }
+        ensures grows { OnOk result ((line : ℕ) → is_marked self.old.marks.items line ≡ true
+            → is_marked self.new.marks.items line ≡ true) }
+        ensures reaching { OnOk result ((leads : ℕ → ℕ → Bool) (starts : List ℕ) (head from : ℕ)
+            → LeadsToBits (length self.old.marks.items) first word (leads from)
+            → AreMeeting (length self.old.marks.items) leads starts self.old.marks.items
+            self.old.met.items head from
+            → AreMeeting (length self.old.marks.items) leads starts self.new.marks.items
+            self.new.met.items head from) }
     {
         let bits = [word];
         let mut from = 0;

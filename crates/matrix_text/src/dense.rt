@@ -22,7 +22,8 @@ pub fn read_dense(alloc: Global, bytes: &[u8], binary: bool) -> Result<Matrix, T
     // What is read is a dense text of the matrix.
     ensures found { IfOk result (IsDense binary (words_in bytes.now)) }
     // A dense text of a matrix is read as this matrix, unless memory runs out.
-    ensures only { (m : Matrix) → IsDense binary (words_in bytes.now) m → Gives (λ m. m) result (Ok m) }
+    ensures only { (m : Matrix) → IsDense binary (words_in bytes.now) m
+        → Gives (λ m. m) result (Ok m) }
     // Read as 0/1, it is a matrix of zeros and ones.
     ensures zeros_and_ones { IsTrue binary → IfOk result IsBinary }
     // Which fault is the first.
@@ -48,7 +49,8 @@ fn entries(
     count: usize,
     binary: bool,
 ) -> Result<Vec<i8>, TextError>
-    ensures read { Reads (λ v. v.items) words.new result (fields Short (entry_in binary) count words.old) }
+    ensures read { Reads (λ v. v.items) words.new result
+        (fields Short (entry_in binary) count words.old) }
     ensures small { IfOk result (λ v. (k : ℕ) → IsEntry (slice_index_or v.items k (pos 0))) }
     ensures len { IfOk result (λ v. length v.items ≡ count) }
 {
@@ -64,7 +66,8 @@ pub fn write_dense(alloc: Global, matrix: &Matrix) -> Result<Vec<u8>, Memory>
     ensures text { IfOk result (λ v. v.items ≡ dense_text matrix.now) }
     // It is read again as the same matrix, as a 0/1 matrix too where it is one.
     ensures again { IfOk result (λ v. dense false (text_of v.items) ≡ Ok matrix.now) }
-    ensures binary_again { IsBinary matrix.now → IfOk result (λ v. dense true (text_of v.items) ≡ Ok matrix.now) }
+    ensures binary_again { IsBinary matrix.now
+        → IfOk result (λ v. dense true (text_of v.items) ≡ Ok matrix.now) }
 {
     let mut text = Writer::new(alloc);
     text.numbers(&[matrix.rows(), matrix.columns()])?;
@@ -77,7 +80,8 @@ pub fn write_dense(alloc: Global, matrix: &Matrix) -> Result<Vec<u8>, Memory>
 fn write_row(text: &mut Writer, matrix: &Matrix, row: u32) -> Result<(), Memory>
     requires row { row < height matrix.now }
     requires at_start { text.old.is_begun ≡ false }
-    ensures { OnOk result (text.new ≡ with_line text.old (map signed_decimal (row_of matrix.now row))) }
+    ensures { OnOk result (text.new ≡ with_line text.old (map signed_decimal
+        (row_of matrix.now row))) }
 {
     for column in 0..matrix.columns() {
         text.entry(matrix.entry(row, column))?;

@@ -46,7 +46,8 @@ pub fn rising_line(
     outside: TextKind,
     before: u32,
 ) -> Result<u32, TextError>
-    ensures read { Reads (λ n. n) words.new result (field Short (rising_line_in most outside before) words.old) }
+    ensures read { Reads (λ n. n) words.new result
+        (field Short (rising_line_in most outside before) words.old) }
     ensures above { IfOk result (λ n. before < n) }
     ensures within { IfOk result (λ n. n ≤ most) }
 {
@@ -56,7 +57,10 @@ pub fn rising_line(
 
 pub fn free_column(words: &mut Words<'_>, taken: &[bool]) -> Result<u32, TextError>
     requires { length taken.now ≤ MAX_COLUMNS }
-    ensures read { Reads (λ n. n) words.new result (field Short (free_column_in (length taken.now) (λ n. slice_index_or taken.now (n - 1) false)) words.old) }
+    ensures read { Reads (λ n. n) words.new result
+        (field Short
+        (free_column_in (length taken.now) (λ n. slice_index_or taken.now (n - 1) false))
+        words.old) }
     ensures above { IfOk result (λ n. 0 < n) }
     ensures within { IfOk result (λ n. n ≤ length taken.now) }
 {

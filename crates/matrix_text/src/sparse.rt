@@ -20,7 +20,8 @@ pub fn read_sparse(alloc: Global, bytes: &[u8], binary: bool) -> Result<Matrix, 
     // What is read is a sparse text of the matrix.
     ensures found { IfOk result (IsSparse binary (words_in bytes.now)) }
     // A sparse text of a matrix is read as this matrix, unless memory runs out.
-    ensures only { (m : Matrix) → IsSparse binary (words_in bytes.now) m → Gives (λ m. m) result (Ok m) }
+    ensures only { (m : Matrix) → IsSparse binary (words_in bytes.now) m
+        → Gives (λ m. m) result (Ok m) }
     // Read as 0/1, it is a matrix of zeros and ones.
     ensures zeros_and_ones { IsTrue binary → IfOk result IsBinary }
     // Which fault is the first.
@@ -51,7 +52,8 @@ fn matrix_by_triples(
 ) -> Result<Matrix, TextError>
     requires rows { rows ≤ MAX_ROWS }
     requires columns { columns ≤ MAX_COLUMNS }
-    ensures { Reads (λ m. m) words.new result (matrix_by_triples binary rows columns count words.old) }
+    ensures { Reads (λ m. m) words.new result
+        (matrix_by_triples binary rows columns count words.old) }
 {
     let mut matrix = Matrix::zero(alloc, rows, columns)?;
     let mut taken = vec![in alloc; false; rows as usize * columns as usize]?;
@@ -74,7 +76,10 @@ fn free_place(
 ) -> Result<(u32, u32), TextError>
     requires columns { columns ≤ MAX_COLUMNS }
     requires whole { length taken.now ≡ rows * columns }
-    ensures read { Reads (λ p. p) words.new result (free_place rows columns (λ row column. slice_index_or taken.now ((row - 1) * columns + (column - 1)) false) words.old) }
+    ensures read { Reads (λ p. p) words.new result
+        (free_place rows columns
+        (λ row column. slice_index_or taken.now ((row - 1) * columns + (column - 1)) false)
+        words.old) }
     ensures row_above { IfOk result (λ p. 0 < p.0) }
     ensures row_within { IfOk result (λ p. p.0 ≤ rows) }
     ensures column_above { IfOk result (λ p. 0 < p.1) }
@@ -91,7 +96,8 @@ pub fn write_sparse(alloc: Global, matrix: &Matrix) -> Result<Vec<u8>, Memory>
     ensures text { IfOk result (λ v. v.items ≡ sparse_text matrix.now) }
     // It is read again as the same matrix, as a 0/1 matrix too where it is one.
     ensures again { IfOk result (λ v. sparse false (text_of v.items) ≡ Ok matrix.now) }
-    ensures binary_again { IsBinary matrix.now → IfOk result (λ v. sparse true (text_of v.items) ≡ Ok matrix.now) }
+    ensures binary_again { IsBinary matrix.now
+        → IfOk result (λ v. sparse true (text_of v.items) ≡ Ok matrix.now) }
 {
     let mut text = Writer::new(alloc);
     text.numbers(&[matrix.rows(), matrix.columns(), matrix.nonzeros()])?;
@@ -105,7 +111,8 @@ pub fn write_sparse(alloc: Global, matrix: &Matrix) -> Result<Vec<u8>, Memory>
 fn write_row(text: &mut Writer, matrix: &Matrix, row: u32) -> Result<(), Memory>
     requires row { row < height matrix.now }
     requires at_start { text.old.is_begun ≡ false }
-    ensures { OnOk result (text.new ≡ fold with_line text.old (map triple_line (row_triples (row + 1) 1 (row_of matrix.now row)))) }
+    ensures { OnOk result (text.new ≡ fold with_line text.old (map triple_line
+        (row_triples (row + 1) 1 (row_of matrix.now row)))) }
 {
     for column in 0..matrix.columns() {
         let entry = matrix.entry(row, column);
@@ -119,7 +126,8 @@ fn write_row(text: &mut Writer, matrix: &Matrix, row: u32) -> Result<(), Memory>
 fn write_triple(text: &mut Writer, row: u32, column: u32, entry: i8) -> Result<(), Memory>
     requires small { IsEntry entry }
     requires at_start { text.old.is_begun ≡ false }
-    ensures { OnOk result (text.new ≡ with_line text.old (triple_line (record { row = row; column = column; value = entry }))) }
+    ensures { OnOk result (text.new ≡ with_line text.old (triple_line (record
+        { row = row; column = column; value = entry }))) }
 {
     text.number(row)?;
     text.number(column)?;

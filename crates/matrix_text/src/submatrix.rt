@@ -24,7 +24,8 @@ pub fn read_submatrix(
     // What is read is a submatrix text of the lines.
     ensures found { IfOk result (IsSubmatrix rows columns (words_in bytes.now)) }
     // A submatrix text of some lines is read as these lines, unless memory runs out.
-    ensures only { (lines : LineSet) → IsSubmatrix rows columns (words_in bytes.now) lines → Gives (λ lines. lines) result (Ok lines) }
+    ensures only { (lines : LineSet) → IsSubmatrix rows columns (words_in bytes.now) lines
+        → Gives (λ lines. lines) result (Ok lines) }
     // Which fault is the first.
     ensures exact { Gives (λ lines. lines) result (submatrix rows columns (text_of bytes.now)) }
 {

@@ -72,7 +72,8 @@ pub fn rising_line_in(
 /// The number of a column that is not taken.
 pub fn free_column_in(word: &[u8], taken: &[bool]) -> Result<u32, TextKind>
     requires { length taken.now ≤ MAX_COLUMNS }
-    ensures value { result ≡ free_column_in (length taken.now) (λ n. slice_index_or taken.now (n - 1) false) word.now }
+    ensures value { result ≡ free_column_in (length taken.now)
+        (λ n. slice_index_or taken.now (n - 1) false) word.now }
     ensures above { IfOk result (λ n. 0 < n) }
     ensures within { IfOk result (λ n. n ≤ length taken.now) }
 {

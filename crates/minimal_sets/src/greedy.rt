@@ -21,8 +21,10 @@ pub fn minimal_without<P: Property>(
     requires hereditary { IsHereditary (P.holds property.now) }
     ensures found { IfOk result (λ found. MatchOption found
         (P.holds property.now matrix.now)
-        (λ lines. (¬ P.holds property.now matrix.now) × IsGreedySet (P.holds property.now) matrix.now lines.rows lines.columns)) }
-    ensures minimal { IfOk result (λ found. IfSome found (λ lines. IsMinimalWithout (P.holds property.now) matrix.now lines.rows lines.columns)) }
+        (λ lines. (¬ P.holds property.now matrix.now)
+        × IsGreedySet (P.holds property.now) matrix.now lines.rows lines.columns)) }
+    ensures minimal { IfOk result (λ found. IfSome found (λ lines.
+        IsMinimalWithout (P.holds property.now) matrix.now lines.rows lines.columns)) }
 {
     let all = LineSet::all(alloc, matrix.rows(), matrix.columns())?;
     if property.holds_on(alloc, matrix, &all)? {
@@ -46,7 +48,11 @@ fn leave_out<P: Property>(
     requires rows { IsRowSet matrix.now lines.rows }
     requires columns { IsColumnSet matrix.now lines.columns }
     requires lacks { ¬ P.holds property.now (submatrix matrix.now lines.rows lines.columns) }
-    ensures { IfOk result (λ left. IsGreedyFrom (P.holds property.now) matrix.now (lines_between (height matrix.now) 0 (height matrix.now + matrix.now.width)) lines.rows lines.columns left.rows left.columns) }
+    ensures { IfOk result (λ left. IsGreedyFrom
+        (P.holds property.now)
+        matrix.now
+        (lines_between (height matrix.now) 0 (height matrix.now + matrix.now.width))
+        lines.rows lines.columns left.rows left.columns) }
 {
     let rows = matrix.rows();
     let end = rows + matrix.columns();
@@ -81,8 +87,10 @@ fn without_run(
     requires few { from + count ≤ 2000 }
     requires rows { AllBelow height lines.now.rows }
     requires columns { AllBelow 1000 lines.now.columns }
-    ensures rows { IfOk result (λ fewer. fewer.rows ≡ rows_left lines.now.rows (lines_between height from count)) }
-    ensures columns { IfOk result (λ fewer. fewer.columns ≡ columns_left lines.now.columns (lines_between height from count)) }
+    ensures rows { IfOk result (λ fewer. fewer.rows ≡ rows_left lines.now.rows
+        (lines_between height from count)) }
+    ensures columns { IfOk result (λ fewer. fewer.columns
+        ≡ columns_left lines.now.columns (lines_between height from count)) }
 {
     let rows = lines.rows.as_slice();
     let columns = lines.columns.as_slice();

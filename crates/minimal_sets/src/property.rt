@@ -20,5 +20,6 @@ pub trait Property {
         requires domain { domain self.now matrix.now }
         requires rows { IsRowSet matrix.now lines.now.rows }
         requires columns { IsColumnSet matrix.now lines.now.columns }
-        ensures { IfOk result (λ yes. IsTrue yes ↔ holds self.now (submatrix matrix.now lines.now.rows lines.now.columns)) };
+        ensures { IfOk result (λ yes. IsTrue yes ↔ holds self.now (submatrix matrix.now
+            lines.now.rows lines.now.columns)) };
 }

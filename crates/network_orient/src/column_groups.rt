@@ -20,8 +20,10 @@ impl ColumnGroups {
     /// The groups with the fewest columns in which each row has the columns of its nonzeros in one group.
     pub fn of(alloc: Global, from: &Matrix, to: &Matrix) -> Result<ColumnGroups, Memory>
         requires { HaveOneSupport from.now to.now }
-        ensures groups { IfOk result (λ all. AreSignedGroups from.now to.now all.groups.items all.signs.items) }
-        ensures joined { IfOk result (λ all. (row : ℕ) → row < height from.now → IsRowJoined from.now all.groups.items row) }
+        ensures groups { IfOk result (λ all.
+            AreSignedGroups from.now to.now all.groups.items all.signs.items) }
+        ensures joined { IfOk result (λ all. (row : ℕ) → row < height from.now
+            → IsRowJoined from.now all.groups.items row) }
     {
         let mut groups = ColumnGroups::new(alloc, from.columns())?;
         for row in 0..from.rows() {
@@ -49,8 +51,10 @@ impl ColumnGroups {
     fn join_row(&mut self, from: &Matrix, to: &Matrix, row: u32)
         requires support { HaveOneSupport from.now to.now }
         requires row { row < height from.now }
-        requires groups { AreSignedGroups from.now to.now self.old.groups.items self.old.signs.items }
-        ensures groups { AreSignedGroups from.now to.now self.new.groups.items self.new.signs.items }
+        requires groups { AreSignedGroups from.now to.now self.old.groups.items
+            self.old.signs.items }
+        ensures groups { AreSignedGroups from.now to.now self.new.groups.items
+            self.new.signs.items }
         ensures coarser { IsCoarser from.now.width self.old.groups.items self.new.groups.items }
         ensures joined { IsRowJoined from.now self.new.groups.items row }
     {
@@ -72,10 +76,13 @@ impl ColumnGroups {
         requires first_nonzero { entry from.now row first ≢ pos 0 }
         requires other { other < from.now.width }
         requires other_nonzero { entry from.now row other ≢ pos 0 }
-        requires groups { AreSignedGroups from.now to.now self.old.groups.items self.old.signs.items }
-        ensures groups { AreSignedGroups from.now to.now self.new.groups.items self.new.signs.items }
+        requires groups { AreSignedGroups from.now to.now self.old.groups.items
+            self.old.signs.items }
+        ensures groups { AreSignedGroups from.now to.now self.new.groups.items
+            self.new.signs.items }
         ensures coarser { IsCoarser from.now.width self.old.groups.items self.new.groups.items }
-        ensures joined { group_of self.new.groups.items other ≡ group_of self.new.groups.items first }
+        ensures joined { group_of self.new.groups.items other
+            ≡ group_of self.new.groups.items first }
     {
         let stays = self.groups[first as usize];
         let gone = self.groups[other as usize];
@@ -92,7 +99,8 @@ impl ColumnGroups {
         requires signs { (column : ℕ) → IsSign (sign_of self.old.signs.items column) }
         requires factor { IsSign factor }
         requires two { gone ≢ stays }
-        ensures { IsMerged self.old.groups.items self.old.signs.items self.new.groups.items self.new.signs.items gone stays factor }
+        ensures { IsMerged self.old.groups.items self.old.signs.items self.new.groups.items
+            self.new.signs.items gone stays factor }
     {
         for column in 0..self.groups.len() {
             if self.groups[column] == gone {
@@ -108,7 +116,8 @@ impl ColumnGroups {
         requires row { row < height from.now }
         requires column { column < from.now.width }
         requires nonzero { entry from.now row column ≢ pos 0 }
-        requires groups { AreSignedGroups from.now to.now self.now.groups.items self.now.signs.items }
+        requires groups { AreSignedGroups from.now to.now self.now.groups.items
+            self.now.signs.items }
         ensures value { result ≡ row_sign_by from.now to.now self.now.signs.items row column }
         ensures sign { IsSign result }
         ensures small { IsEntry result }
@@ -131,10 +140,14 @@ impl ColumnGroups {
     pub fn row_sign(&self, from: &Matrix, to: &Matrix, row: u32) -> i8
         requires support { HaveOneSupport from.now to.now }
         requires row { row < height from.now }
-        requires groups { AreSignedGroups from.now to.now self.now.groups.items self.now.signs.items }
+        requires groups { AreSignedGroups from.now to.now self.now.groups.items
+            self.now.signs.items }
         ensures sign { IsSign result }
         ensures value { ((column : ℕ) → entry from.now row column ≡ pos 0)
-            ⊎ ((column : ℕ) × (column < from.now.width) × (entry from.now row column ≢ pos 0) × (result ≡ row_sign_by from.now to.now self.now.signs.items row column)) }
+            ⊎ ((column : ℕ)
+            × (column < from.now.width)
+            × (entry from.now row column ≢ pos 0)
+            × (result ≡ row_sign_by from.now to.now self.now.signs.items row column)) }
     {
         match first_nonzero(from, row) {
             Some(column) => self.row_sign_by(from, to, row, column),
@@ -146,7 +159,8 @@ impl ColumnGroups {
     pub fn is_row_turned(&self, from: &Matrix, to: &Matrix, row: u32, sign: i8) -> bool
         requires support { HaveOneSupport from.now to.now }
         requires row { row < height from.now }
-        requires groups { AreSignedGroups from.now to.now self.now.groups.items self.now.signs.items }
+        requires groups { AreSignedGroups from.now to.now self.now.groups.items
+            self.now.signs.items }
         requires sign { IsSign sign }
         ensures { IsTrue result ↔ IsRowTurned from.now to.now self.now.signs.items row sign }
     {
@@ -165,7 +179,9 @@ impl ColumnGroups {
 // A column in which a row has a nonzero.
 fn first_nonzero(matrix: &Matrix, row: u32) -> Option<u32>
     requires { row < height matrix.now }
-    ensures { MatchOption result ((column : ℕ) → entry matrix.now row column ≡ pos 0) (λ column. (column < matrix.now.width) × (entry matrix.now row column ≢ pos 0)) }
+    ensures { MatchOption result
+        ((column : ℕ) → entry matrix.now row column ≡ pos 0)
+        (λ column. (column < matrix.now.width) × (entry matrix.now row column ≢ pos 0)) }
 {
     matrix.next_nonzero(row, 0)
 }

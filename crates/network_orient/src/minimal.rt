@@ -14,8 +14,10 @@ use std::alloc::Global;
 pub fn minimal_not_network(alloc: Global, matrix: &Matrix) -> Result<Option<LineSet>, Memory>
     ensures found { IfOk result (λ found. MatchOption found
         (IsNetworkMatrix matrix.now)
-        (λ lines. (¬ IsNetworkMatrix matrix.now) × IsGreedySet IsNetworkMatrix matrix.now lines.rows lines.columns)) }
-    ensures minimal { IfOk result (λ found. IfSome found (λ lines. IsMinimalWithout IsNetworkMatrix matrix.now lines.rows lines.columns)) }
+        (λ lines. (¬ IsNetworkMatrix matrix.now)
+        × IsGreedySet IsNetworkMatrix matrix.now lines.rows lines.columns)) }
+    ensures minimal { IfOk result (λ found. IfSome found (λ lines.
+        IsMinimalWithout IsNetworkMatrix matrix.now lines.rows lines.columns)) }
 {
     minimal_without(alloc, matrix, &NetworkMatrices)
 }

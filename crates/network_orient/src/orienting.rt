@@ -56,7 +56,8 @@ pub fn orientation_of(alloc: Global, matrix: &Matrix) -> Result<Orientation, Mem
 /// A directed tree whose arcs are the rows, and for each column a path that uses the arcs as its entries say, +1
 /// forwards and -1 backwards; `None` exactly where there is none, that is where the matrix is no network matrix.
 pub fn orient(alloc: Global, matrix: &Matrix) -> Result<Option<Network>, Memory>
-    ensures { IfOk result (λ found. MatchOption found (¬ (IsNetworkMatrix matrix.now)) (λ net. Reproduces net matrix.now)) }
+    ensures { IfOk result (λ found.
+        MatchOption found (¬ (IsNetworkMatrix matrix.now)) (λ net. Reproduces net matrix.now)) }
 {
     match orientation_of(alloc, matrix)? {
         Orientation::Directed(net) => Ok(Some(net)),

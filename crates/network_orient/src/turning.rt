@@ -10,7 +10,8 @@ use std::alloc::Global;
 pub fn turned_network(alloc: Global, net: &Network, signs: &LineSigns) -> Result<Network, Memory>
     requires arcs { length net.now.arcs ≡ length signs.now.rows.items }
     requires walks { length net.now.walks ≡ length signs.now.columns.items }
-    ensures { IfOk result (λ turned. turned ≡ turned_network net.now signs.now.rows.items signs.now.columns.items) }
+    ensures { IfOk result (λ turned. turned ≡ turned_network net.now signs.now.rows.items
+        signs.now.columns.items) }
 {
     Ok(Network {
         arcs: turned_pairs(alloc, net.arcs.as_slice(), &signs.rows)?,

@@ -52,7 +52,11 @@ impl Basis {
     pub fn push(&mut self, pivot: u32, columns: &[u64]) -> Result<(), Memory>
         requires pivot { pivot / 64 < self.old.words }
         requires columns { length columns.now ≡ self.old.words }
-        ensures ok { OnOk result (self.new ≡ record { words = self.old.words; equations = self.old.equations ++ record { pivot = pivot; columns = number_of columns.now } ∷ [] }) }
+        ensures ok { OnOk result (self.new ≡ record {
+          words = self.old.words;
+          equations = self.old.equations
+              ++ record { pivot = pivot; columns = number_of columns.now } ∷ [];
+        }) }
         ensures err { OnErr result (self.new ≡ self.old) }
     {
         self.pivots.push(pivot)?;
@@ -96,7 +100,8 @@ impl Basis {
     // A pivot and its equation.
     fn get(&self, place: usize) -> (u32, &[u64])
         requires { place < length self.now.equations }
-        ensures equation { slice_get self.now.equations place ≡ Some (record { pivot = result.0; columns = number_of result.1.now }) }
+        ensures equation { slice_get self.now.equations place
+            ≡ Some (record { pivot = result.0; columns = number_of result.1.now }) }
         ensures len { length result.1.now ≡ self.now.words }
         ensures inside { result.0 / 64 < self.now.words }
     {
@@ -110,7 +115,9 @@ impl Basis {
 fn clear_pivot(columns: &mut [u64], pivot: u32, equation: &[u64])
     requires pivot { pivot / 64 < length columns.old }
     requires len { length columns.old ≡ length equation.now }
-    ensures { number_of columns.new ≡ cleared_by (record { pivot = pivot; columns = number_of equation.now }) (number_of columns.old) }
+    ensures { number_of columns.new
+        ≡ cleared_by (record { pivot = pivot; columns = number_of equation.now })
+        (number_of columns.old) }
 {
     if is_set(columns, pivot) {
         add(columns, equation);
@@ -120,7 +127,9 @@ fn clear_pivot(columns: &mut [u64], pivot: u32, equation: &[u64])
 fn correct(columns: &mut [u64], pivot: u32, equation: &[u64])
     requires pivot { pivot / 64 < length columns.old }
     requires len { length equation.now ≡ length columns.old }
-    ensures { number_of columns.new ≡ corrected_by (record { pivot = pivot; columns = number_of equation.now }) (number_of columns.old) }
+    ensures { number_of columns.new
+        ≡ corrected_by (record { pivot = pivot; columns = number_of equation.now })
+        (number_of columns.old) }
 {
     if have_odd_common(equation, columns) {
         toggle(columns, pivot);

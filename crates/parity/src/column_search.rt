@@ -168,7 +168,8 @@ fn eliminate(
     requires basis { basis.old.words ≡ words_for matrix.now.width }
     requires equation { length equation.old ≡ words_for matrix.now.width }
     requires shape { IsMatrix matrix.now }
-    ensures basis { OnOk result (IsBasis matrix.now.width sums.now.ones (equations_of matrix.now sums.now.ones rows.now) basis.new.equations) }
+    ensures basis { OnOk result (IsBasis matrix.now.width sums.now.ones
+        (equations_of matrix.now sums.now.ones rows.now) basis.new.equations) }
     ensures words { basis.new.words ≡ basis.old.words }
 {
     basis.clear();
@@ -188,9 +189,11 @@ fn free_column(sums: &Sums, basis: &Basis, equation: &mut [u64]) -> Option<u32>
     requires basis { basis.now.words ≡ sums.now.words }
     requires equation { length equation.old ≡ sums.now.words }
     requires few { 64 * length equation.old < 2 ^ 32 }
-    ensures some { IfSome result (IsLowest (reduced basis.now.equations (outside sums.now.ones sums.now.twos))) }
+    ensures some { IfSome result (IsLowest (reduced basis.now.equations (outside sums.now.ones
+        sums.now.twos))) }
     ensures inside { IfSome result (λ free. free < 64 * length equation.old) }
-    ensures none { IfNone result (reduced basis.now.equations (outside sums.now.ones sums.now.twos) ≡ 0) }
+    ensures none { IfNone result (reduced basis.now.equations (outside sums.now.ones sums.now.twos)
+        ≡ 0) }
 {
     sums.write_halves(equation);
     basis.reduce(equation);
@@ -208,7 +211,8 @@ fn solution(
     requires words { length columns.old ≡ basis.now.words }
     requires free { free < 64 * length columns.old }
     requires count { count ≤ 64 * length columns.old }
-    ensures { IfOk result (λ set. set ≡ set_numbered count 0 (solved basis.now.equations (2 ^ free))) }
+    ensures { IfOk result (λ set. set ≡ set_numbered count 0 (solved basis.now.equations
+        (2 ^ free))) }
 {
     clear(columns);
     toggle(columns, free);

@@ -77,7 +77,10 @@ fn add_planes(ones: &mut [u64], twos: &mut [u64], support: &[u64], minus: &[u64]
     requires support { length support.now ≡ length ones.old }
     requires minus { length minus.now ≡ length ones.old }
     ensures ones { number_of ones.new ≡ bit_xor (number_of ones.old) (number_of support.now) }
-    ensures twos { number_of twos.new ≡ bit_xor (number_of twos.old) (bit_xor (bit_and (number_of ones.old) (number_of support.now)) (number_of minus.now)) }
+    ensures twos { number_of twos.new
+        ≡ bit_xor
+        (number_of twos.old)
+        (bit_xor (bit_and (number_of ones.old) (number_of support.now)) (number_of minus.now)) }
 {
     for place in 0..ones.len() {
         let carry = ones[place] & support[place];

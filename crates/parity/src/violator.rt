@@ -26,7 +26,10 @@ fn have_even_rows(matrix: &Matrix, rows: &[u32], columns: &[u32]) -> bool
     requires rows { AllBelow (height matrix.now) rows.now }
     requires columns { AllBelow matrix.now.width columns.now }
     requires few { length columns.now ≤ MAX_COLUMNS }
-    ensures { IsTrue result ↔ AllByRecursion (λ row. IsEven (sum_over columns.now (λ column. entry matrix.now row column))) rows.now }
+    ensures { IsTrue result
+        ↔ AllByRecursion
+        (λ row. IsEven (sum_over columns.now (λ column. entry matrix.now row column)))
+        rows.now }
 {
     for row in rows {
         if !is_even(matrix.row_sum(*row, columns)) {
@@ -40,7 +43,10 @@ fn have_even_columns(matrix: &Matrix, rows: &[u32], columns: &[u32]) -> bool
     requires rows { AllBelow (height matrix.now) rows.now }
     requires columns { AllBelow matrix.now.width columns.now }
     requires few { length rows.now ≤ MAX_ROWS }
-    ensures { IsTrue result ↔ AllByRecursion (λ column. IsEven (sum_over rows.now (λ row. entry matrix.now row column))) columns.now }
+    ensures { IsTrue result
+        ↔ AllByRecursion
+        (λ column. IsEven (sum_over rows.now (λ row. entry matrix.now row column)))
+        columns.now }
 {
     for column in columns {
         if !is_even(matrix.column_sum(rows, *column)) {

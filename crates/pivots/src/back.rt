@@ -28,10 +28,13 @@ pub fn violator_before(
     requires nonzero { entry matrix.now row column ≢ pos 0 }
     requires rows { AllBelow (height matrix.now) lines.now.rows }
     requires columns { AllBelow matrix.now.width lines.now.columns }
-    ensures lines { IfOk result (λ before. AreLinesBefore matrix.now row column lines.now.rows lines.now.columns before.rows before.columns) }
+    ensures lines { IfOk result (λ before. AreLinesBefore matrix.now row column lines.now.rows
+        lines.now.columns before.rows before.columns) }
     ensures row_set { IfOk result (λ before. IsRowSet matrix.now before.rows) }
     ensures column_set { IfOk result (λ before. IsColumnSet matrix.now before.columns) }
-    ensures violator { IsViolator (entry (pivot_at matrix.now row column)) lines.now.rows lines.now.columns → IfOk result (λ before. IsViolator (entry matrix.now) before.rows before.columns) }
+    ensures violator { IsViolator (entry (pivot_at matrix.now row column)) lines.now.rows
+        lines.now.columns
+        → IfOk result (λ before. IsViolator (entry matrix.now) before.rows before.columns) }
 {
     let rows = lines.rows.as_slice();
     let columns = lines.columns.as_slice();
@@ -57,11 +60,14 @@ pub fn violator_before_part(
     requires columns { IsColumnSet matrix.now _lines.now.columns }
     requires place { IsPlaceIn matrix.now _lines.now place }
     requires among { AreAmong _lines.now fault.now.rows fault.now.columns }
-    ensures lines { IfOk result (λ before. AreLinesBefore matrix.now place.row place.column fault.now.rows fault.now.columns before.rows before.columns) }
+    ensures lines { IfOk result (λ before. AreLinesBefore matrix.now place.row place.column
+        fault.now.rows fault.now.columns before.rows before.columns) }
     ensures row_set { IfOk result (λ before. IsRowSet matrix.now before.rows) }
     ensures column_set { IfOk result (λ before. IsColumnSet matrix.now before.columns) }
     ensures among { IfOk result (λ before. AreAmong _lines.now before.rows before.columns) }
-    ensures violator { IsViolator (entry (pivoted_part matrix.now _lines.now place)) fault.now.rows fault.now.columns → IfOk result (λ before. IsViolator (entry matrix.now) before.rows before.columns) }
+    ensures violator { IsViolator (entry (pivoted_part matrix.now _lines.now place)) fault.now.rows
+        fault.now.columns
+        → IfOk result (λ before. IsViolator (entry matrix.now) before.rows before.columns) }
 {
     let before = violator_before(alloc, matrix, place.row, place.column, fault)?;
     Ok(before)
@@ -86,7 +92,8 @@ fn with_line(alloc: Global, lines: &Indices, line: u32, has: bool) -> Result<Ind
 
 // The lines below a line, and that line or not.
 fn lines_up_to(alloc: Global, lines: &Indices, line: u32, has: bool) -> Result<Indices, Memory>
-    ensures { IfOk result (λ made. made ≡ filter (λ other. nat_lt other line) lines.now ++ (if has then line ∷ [] else [])) }
+    ensures { IfOk result (λ made. made ≡ filter (λ other. nat_lt other line) lines.now
+        ++ (if has then line ∷ [] else [])) }
 {
     let mut made = lines_below(alloc, lines, line)?;
     if has {

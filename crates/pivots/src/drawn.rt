@@ -25,7 +25,8 @@ pub fn drawn_place(matrix: &Matrix, lines: &LineSet, state: u32) -> Option<Drawn
     ensures drawn { result ≡ drawn_place matrix.now lines.now state }
     ensures place { IfSome result (λ drawn. IsPlaceIn matrix.now lines.now drawn.place) }
     ensures low { IfSome result (λ drawn. drawn.state < 2 ^ 31) }
-    ensures none { IfNone result ((i j : ℕ) → Contains lines.now.rows i → Contains lines.now.columns j → entry matrix.now i j ≡ pos 0) }
+    ensures none { IfNone result ((i j : ℕ) → Contains lines.now.rows i
+        → Contains lines.now.columns j → entry matrix.now i j ≡ pos 0) }
 {
     let rows = lines.rows.as_slice();
     let columns = lines.columns.as_slice();

@@ -45,7 +45,8 @@ pub fn pivot(alloc: Global, matrix: &Matrix, row: u32, column: u32) -> Result<Pi
 }
 
 fn other_rows(alloc: Global, matrix: &Matrix, row: u32) -> Result<Indices, Memory>
-    ensures others { IfOk result (λ others. others ≡ without (first_lines (height matrix.now)) row) }
+    ensures others { IfOk result (λ others. others ≡ without (first_lines (height matrix.now))
+        row) }
     ensures shape { IsMatrix matrix.now }
 {
     let lines = LineSet::all(alloc, matrix.rows(), 0)?;
@@ -64,7 +65,8 @@ pub(crate) fn copy_of(alloc: Global, matrix: &Matrix) -> Result<Matrix, Memory>
 fn multiply_row(work: &mut Matrix, row: u32, column: u32)
     requires row { row < height work.old }
     requires column { column < work.old.width }
-    ensures row { (j : ℕ) → j < work.old.width → entry work.new row j ≡ pivot_entry (entry work.old) row column row j }
+    ensures row { (j : ℕ) → j < work.old.width
+        → entry work.new row j ≡ pivot_entry (entry work.old) row column row j }
     ensures others { KeepsOthers work.old work.new (row ∷ []) }
     ensures shape { IsMatrix work.new }
 {

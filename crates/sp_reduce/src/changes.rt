@@ -40,8 +40,10 @@ impl Side {
     }
 
     fn place_of(&self, line: u32) -> Option<usize>
-        ensures some { IfSome result (λ place. (place < length self.now.stays.items) × (slice_index self.now.stays.items place ≡ line)) }
-        ensures none { IfNone result ((at : ℕ) → at < length self.now.stays.items → slice_index self.now.stays.items at ≡ line → ⊥) }
+        ensures some { IfSome result (λ place. (place < length self.now.stays.items)
+            × (slice_index self.now.stays.items place ≡ line)) }
+        ensures none { IfNone result ((at : ℕ) → at < length self.now.stays.items
+            → slice_index self.now.stays.items at ≡ line → ⊥) }
     {
         self.stays.iter().position(|other| *other == line)
     }
@@ -78,7 +80,11 @@ impl Side {
         requires gone { gone < cross_size matrix.now self.old.kind }
         requires place { place < length self.old.stays.items }
         requires held { IsHeldAt matrix.now self.old gone place }
-        ensures same { self.new ≡ record self.old { counts = self.new.counts; sums = self.new.sums; settled = self.new.settled } }
+        ensures same { self.new ≡ record self.old {
+          counts = self.new.counts;
+          sums = self.new.sums;
+          settled = self.new.settled;
+        } }
         ensures parallel { IsParallel self.new }
         ensures here { HasForgotten matrix.now self.old self.new gone place }
         ensures others { (at : ℕ) → (at ≡ place → ⊥) → IsSameAt self.old self.new at }
@@ -100,7 +106,8 @@ impl Side {
         requires changed { changed < length self.old.stays.items }
         ensures same { self.new ≡ record self.old { settled = self.new.settled } }
         ensures long { length self.new.settled.items ≡ length self.old.stays.items }
-        ensures unsettled { (at : ℕ) → at < length self.old.stays.items → IsUnsettled binary matrix.now self.old self.new across.now changed at }
+        ensures unsettled { (at : ℕ) → at < length self.old.stays.items
+            → IsUnsettled binary matrix.now self.old self.new across.now changed at }
     {
         'places: for place in 0..self.stays.len() {
             self.unsettle_at(matrix, changed, place, across, binary);
@@ -123,7 +130,9 @@ impl Side {
         ensures same { self.new ≡ record self.old { settled = self.new.settled } }
         ensures long { length self.new.settled.items ≡ length self.old.stays.items }
         ensures here { IsUnsettled binary matrix.now self.old self.new across.now changed place }
-        ensures others { (at : ℕ) → (at ≡ place → ⊥) → slice_index_or self.new.settled.items at false ≡ slice_index_or self.old.settled.items at false }
+        ensures others { (at : ℕ) → (at ≡ place → ⊥)
+            → slice_index_or self.new.settled.items at false
+            ≡ slice_index_or self.old.settled.items at false }
     {
         if self.settled[place] {
             self.settled[place] = place != changed

@@ -101,7 +101,8 @@ fn is_equal(matrix: &Matrix, kind: Kind, line: u32, twin: u32, other: u32) -> bo
     requires line { line < size_of matrix.now kind }
     requires twin { twin < size_of matrix.now kind }
     requires other { other < cross_size matrix.now kind }
-    ensures { result ≡ int_eq (table (entry matrix.now) kind twin other) (table (entry matrix.now) kind line other) }
+    ensures { result ≡ int_eq (table (entry matrix.now) kind twin other)
+        (table (entry matrix.now) kind line other) }
 {
     entry(matrix, kind, twin, other) == entry(matrix, kind, line, other)
 }
@@ -110,7 +111,8 @@ fn is_opposite(matrix: &Matrix, kind: Kind, line: u32, twin: u32, other: u32) ->
     requires line { line < size_of matrix.now kind }
     requires twin { twin < size_of matrix.now kind }
     requires other { other < cross_size matrix.now kind }
-    ensures { result ≡ int_eq (table (entry matrix.now) kind twin other) (neg_ℤ (table (entry matrix.now) kind line other)) }
+    ensures { result ≡ int_eq (table (entry matrix.now) kind twin other)
+        (neg_ℤ (table (entry matrix.now) kind line other)) }
 {
     entry(matrix, kind, twin, other) == -entry(matrix, kind, line, other)
 }
@@ -134,7 +136,8 @@ pub fn are_equal(matrix: &Matrix, kind: Kind, line: u32, twin: u32, across: &[u3
     requires line { line < size_of matrix.now kind }
     requires twin { twin < size_of matrix.now kind }
     requires across { AllBelow (cross_size matrix.now kind) across.now }
-    ensures { result ≡ equal_at across.now (table (entry matrix.now) kind twin) (table (entry matrix.now) kind line) }
+    ensures { result ≡ equal_at across.now (table (entry matrix.now) kind twin)
+        (table (entry matrix.now) kind line) }
 {
     'others: for other in across {
         if !is_equal(matrix, kind, line, twin, *other) {
@@ -149,7 +152,8 @@ pub fn are_opposite(matrix: &Matrix, kind: Kind, line: u32, twin: u32, across: &
     requires line { line < size_of matrix.now kind }
     requires twin { twin < size_of matrix.now kind }
     requires across { AllBelow (cross_size matrix.now kind) across.now }
-    ensures { result ≡ equal_at across.now (table (entry matrix.now) kind twin) (λ other. neg_ℤ (table (entry matrix.now) kind line other)) }
+    ensures { result ≡ equal_at across.now (table (entry matrix.now) kind twin)
+        (λ other. neg_ℤ (table (entry matrix.now) kind line other)) }
 {
     'others: for other in across {
         if !is_opposite(matrix, kind, line, twin, *other) {

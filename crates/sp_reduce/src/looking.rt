@@ -22,7 +22,8 @@ pub enum FirstLook {
 /// apart, no line is reducible: a copy or a negative has the same support. Equal digests tell nothing. No two lines are
 /// compared: it takes the time of a walk through the words and of two sorts.
 pub fn first_look(alloc: Global, both: &RowsAndColumns<'_>) -> Result<FirstLook, Memory>
-    ensures { IfOk result (λ look. look ≡ FirstLook.Irreducible → (binary : Bool) → HasNoReducibleLine binary both.now) }
+    ensures { IfOk result (λ look. look ≡ FirstLook.Irreducible → (binary : Bool)
+        → HasNoReducibleLine binary both.now) }
 {
     if has_unlike_rows(alloc, both.by_rows())? && has_unlike_rows(alloc, both.by_columns())? {
         return Ok(FirstLook::Irreducible);
@@ -47,7 +48,8 @@ fn has_unlike_rows(alloc: Global, matrix: &Matrix) -> Result<bool, Memory>
 // Whether a row has at most one nonzero.
 fn has_few_nonzeros(matrix: &Matrix, row: u32) -> bool
     requires { row < height matrix.now }
-    ensures { result ≡ false → 1 < nonzeros_at (first_lines matrix.now.width) (entry matrix.now row) }
+    ensures { result ≡ false
+        → 1 < nonzeros_at (first_lines matrix.now.width) (entry matrix.now row) }
 {
     match matrix.next_nonzero(row, 0) {
         Some(first) => matrix.next_nonzero(row, first + 1).is_none(),

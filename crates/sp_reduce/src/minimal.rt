@@ -20,8 +20,10 @@ pub fn minimal_not_sp(
 ) -> Result<Option<LineSet>, Memory>
     ensures found { IfOk result (λ found. MatchOption found
         (IsSeriesParallel binary matrix.now)
-        (λ lines. (¬ IsSeriesParallel binary matrix.now) × IsGreedySet (IsSeriesParallel binary) matrix.now lines.rows lines.columns)) }
-    ensures minimal { IfOk result (λ found. IfSome found (λ lines. IsMinimalWithout (IsSeriesParallel binary) matrix.now lines.rows lines.columns)) }
+        (λ lines. (¬ IsSeriesParallel binary matrix.now)
+        × IsGreedySet (IsSeriesParallel binary) matrix.now lines.rows lines.columns)) }
+    ensures minimal { IfOk result (λ found. IfSome found (λ lines.
+        IsMinimalWithout (IsSeriesParallel binary) matrix.now lines.rows lines.columns)) }
 {
     minimal_without(alloc, matrix, &SeriesParallel { binary })
 }
@@ -51,7 +53,8 @@ fn is_series_parallel(
     requires shape { IsMatrix matrix.now }
     requires rows { IsRowSet matrix.now lines.now.rows }
     requires columns { IsColumnSet matrix.now lines.now.columns }
-    ensures { IfOk result (λ yes. IsTrue yes ↔ IsSeriesParallel binary (submatrix matrix.now lines.now.rows lines.now.columns)) }
+    ensures { IfOk result (λ yes. IsTrue yes ↔ IsSeriesParallel binary (submatrix matrix.now
+        lines.now.rows lines.now.columns)) }
 {
     let reduction = reduce_lines(alloc, matrix, lines, binary)?;
     Ok(has_no_lines(&reduction.rest))

@@ -15,7 +15,8 @@ pub fn is_reducible_line(matrix: &Matrix, lines: &LineSet, line: Line, binary: b
     requires rows { AllBelow (height matrix.now) lines.now.rows }
     requires columns { AllBelow matrix.now.width lines.now.columns }
     requires line { HasLine lines.now.rows lines.now.columns line }
-    ensures { result ≡ is_some (line_reason binary (entry matrix.now) lines.now.rows lines.now.columns line) }
+    ensures { result ≡ is_some (line_reason binary (entry matrix.now) lines.now.rows
+        lines.now.columns line) }
 {
     let rows = lines.rows.as_slice();
     let columns = lines.columns.as_slice();
@@ -53,7 +54,9 @@ fn has_twin(
     requires line { line < size_of matrix.now kind }
     requires own { AllBelow (size_of matrix.now kind) own.now }
     requires across { AllBelow (cross_size matrix.now kind) across.now }
-    ensures { result ≡ list_any (is_twin binary (table (entry matrix.now) kind) across.now line) own.now }
+    ensures { result ≡ list_any
+        (is_twin binary (table (entry matrix.now) kind) across.now line)
+        own.now }
 {
     'twins: for twin in own {
         if is_twin(matrix, kind, line, *twin, across, binary) {

@@ -25,8 +25,10 @@ pub struct Reduction {
 /// until neither is. With `binary` a line is not reducible as the negative of another.
 pub fn reduce(alloc: Global, matrix: &Matrix, binary: bool) -> Result<Reduction, Memory>
     ensures steps { IfOk result (λ reduction. reduction.steps ≡ (removal binary matrix.now).steps) }
-    ensures rows { IfOk result (λ reduction. reduction.rest.rows ≡ (removal binary matrix.now).rows) }
-    ensures columns { IfOk result (λ reduction. reduction.rest.columns ≡ (removal binary matrix.now).columns) }
+    ensures rows { IfOk result (λ reduction. reduction.rest.rows
+        ≡ (removal binary matrix.now).rows) }
+    ensures columns { IfOk result (λ reduction. reduction.rest.columns
+        ≡ (removal binary matrix.now).columns) }
 {
     let lines = LineSet::all(alloc, matrix.rows(), matrix.columns())?;
     reduce_lines(alloc, matrix, &lines, binary)
@@ -42,9 +44,15 @@ pub fn reduce_lines(
     requires shape { IsMatrix matrix.now }
     requires rows { AllBelow (height matrix.now) lines.now.rows }
     requires columns { AllBelow matrix.now.width lines.now.columns }
-    ensures steps { IfOk result (λ reduction. reduction.steps ≡ (removal_on binary (entry matrix.now) (length lines.now.rows + length lines.now.columns) lines.now.rows lines.now.columns).steps) }
-    ensures rows { IfOk result (λ reduction. reduction.rest.rows ≡ (removal_on binary (entry matrix.now) (length lines.now.rows + length lines.now.columns) lines.now.rows lines.now.columns).rows) }
-    ensures columns { IfOk result (λ reduction. reduction.rest.columns ≡ (removal_on binary (entry matrix.now) (length lines.now.rows + length lines.now.columns) lines.now.rows lines.now.columns).columns) }
+    ensures steps { IfOk result (λ reduction. reduction.steps
+        ≡ (removal_on binary (entry matrix.now) (length lines.now.rows + length lines.now.columns)
+        lines.now.rows lines.now.columns).steps) }
+    ensures rows { IfOk result (λ reduction. reduction.rest.rows
+        ≡ (removal_on binary (entry matrix.now) (length lines.now.rows + length lines.now.columns)
+        lines.now.rows lines.now.columns).rows) }
+    ensures columns { IfOk result (λ reduction. reduction.rest.columns
+        ≡ (removal_on binary (entry matrix.now) (length lines.now.rows + length lines.now.columns)
+        lines.now.rows lines.now.columns).columns) }
 {
     let row_numbers = lines.rows.as_slice();
     let column_numbers = lines.columns.as_slice();
@@ -69,10 +77,16 @@ fn next_step(matrix: &Matrix, rows: &mut Side, columns: &mut Side, binary: bool)
     ensures kind { rows.new.kind ≡ Rows }
     ensures paired { ArePaired binary matrix.now rows.new columns.new }
     ensures step { MatchOption result
-        ((first_step binary (entry matrix.now) rows.old.stays.items columns.old.stays.items (lines_of rows.old.stays.items columns.old.stays.items) ≡ None)
-        × (rows.new.stays.items ≡ rows.old.stays.items) × (columns.new.stays.items ≡ columns.old.stays.items))
-        (λ step. (first_step binary (entry matrix.now) rows.old.stays.items columns.old.stays.items (lines_of rows.old.stays.items columns.old.stays.items) ≡ Some step)
-        × (rows.new.stays.items ≡ rows_without rows.old.stays.items step.line) × (columns.new.stays.items ≡ columns_without columns.old.stays.items step.line)) }
+        ((first_step binary (entry matrix.now) rows.old.stays.items columns.old.stays.items
+        (lines_of rows.old.stays.items columns.old.stays.items)
+        ≡ None)
+        × (rows.new.stays.items ≡ rows.old.stays.items)
+        × (columns.new.stays.items ≡ columns.old.stays.items))
+        (λ step. (first_step binary (entry matrix.now) rows.old.stays.items columns.old.stays.items
+        (lines_of rows.old.stays.items columns.old.stays.items)
+        ≡ Some step)
+        × (rows.new.stays.items ≡ rows_without rows.old.stays.items step.line)
+        × (columns.new.stays.items ≡ columns_without columns.old.stays.items step.line)) }
 {
     match remove_first(matrix, rows, columns, binary) {
         Some(step) => Some(step),
@@ -87,10 +101,16 @@ fn remove_first(matrix: &Matrix, own: &mut Side, across: &mut Side, binary: bool
     ensures kind { own.new.kind ≡ own.old.kind }
     ensures paired { ArePaired binary matrix.now own.new across.new }
     ensures across { across.new.stays.items ≡ across.old.stays.items }
-    ensures named { IfSome result (λ step. step.line ≡ line_named own.old.kind (number_of step.line)) }
+    ensures named { IfSome result (λ step. step.line ≡ line_named own.old.kind
+        (number_of step.line)) }
     ensures step { MatchOption result
-        ((first_step_of binary (entry matrix.now) own.old.kind own.old.stays.items across.old.stays.items own.old.stays.items ≡ None) × (own.new.stays.items ≡ own.old.stays.items))
-        (λ step. (first_step_of binary (entry matrix.now) own.old.kind own.old.stays.items across.old.stays.items own.old.stays.items ≡ Some step)
+        ((first_step_of binary (entry matrix.now) own.old.kind own.old.stays.items
+        across.old.stays.items own.old.stays.items
+        ≡ None)
+        × (own.new.stays.items ≡ own.old.stays.items))
+        (λ step. (first_step_of binary (entry matrix.now) own.old.kind own.old.stays.items
+        across.old.stays.items own.old.stays.items
+        ≡ Some step)
         × (own.new.stays.items ≡ without own.old.stays.items (number_of step.line))) }
 {
     let found = own.first_reducible(matrix, &across.stays, binary)?;

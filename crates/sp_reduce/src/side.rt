@@ -47,7 +47,8 @@ impl Side {
         ensures stays { IfOk result (λ side. side.stays.items ≡ stays.now) }
         ensures side { IfOk result (IsSide matrix.now) }
         ensures counted { IfOk result (λ side. IsCounted matrix.now side across.now) }
-        ensures settled { IfOk result (λ side. (binary : Bool) → IsSettled binary matrix.now side across.now) }
+        ensures settled { IfOk result (λ side. (binary : Bool)
+            → IsSettled binary matrix.now side across.now) }
     {
         let marks = marks_of(alloc, kind.other().size(matrix), across)?;
         let tallies = Tallies::new(alloc, matrix, kind, &marks)?;
@@ -78,7 +79,9 @@ impl Side {
         requires counted { IsCounted matrix.now self.old across.now }
         requires settled { IsSettled binary matrix.now self.old across.now }
         ensures found { MatchOption result
-            (first_step_of binary (entry matrix.now) self.old.kind self.old.stays.items across.now self.old.stays.items ≡ None)
+            (first_step_of binary (entry matrix.now) self.old.kind self.old.stays.items across.now
+            self.old.stays.items
+            ≡ None)
             (IsFirst binary matrix.now self.old across.now) }
         ensures same { self.new ≡ record self.old { settled = self.new.settled } }
         ensures long { length self.new.settled.items ≡ length self.old.stays.items }
@@ -105,7 +108,8 @@ impl Side {
         requires counted { IsCounted matrix.now self.old across.now }
         requires settled { IsSettled binary matrix.now self.old across.now }
         requires place { place < length self.old.stays.items }
-        ensures reason { result ≡ reason_for binary (entry matrix.now) self.old.kind self.old.stays.items across.now (slice_index self.old.stays.items place) }
+        ensures reason { result ≡ reason_for binary (entry matrix.now) self.old.kind
+            self.old.stays.items across.now (slice_index self.old.stays.items place) }
         ensures same { self.new ≡ record self.old { settled = self.new.settled } }
         ensures long { length self.new.settled.items ≡ length self.old.stays.items }
         ensures settled { IsSettled binary matrix.now self.new across.now }
@@ -123,7 +127,8 @@ impl Side {
         requires across { IsAcross matrix.now self.now.kind across.now }
         requires counted { IsCounted matrix.now self.now across.now }
         requires place { place < length self.now.stays.items }
-        ensures { result ≡ reason_for binary (entry matrix.now) self.now.kind self.now.stays.items across.now (slice_index self.now.stays.items place) }
+        ensures { result ≡ reason_for binary (entry matrix.now) self.now.kind self.now.stays.items
+            across.now (slice_index self.now.stays.items place) }
     {
         match self.counts[place] {
             0 => Some(Reason::Zero),
@@ -146,7 +151,8 @@ impl Side {
         requires across { IsAcross matrix.now self.now.kind across.now }
         requires counted { IsCounted matrix.now self.now across.now }
         requires place { place < length self.now.stays.items }
-        ensures { result ≡ twin_reason binary (entry matrix.now) self.now.kind self.now.stays.items across.now (slice_index self.now.stays.items place) }
+        ensures { result ≡ twin_reason binary (entry matrix.now) self.now.kind self.now.stays.items
+            across.now (slice_index self.now.stays.items place) }
     {
         if self.shares_sum(place) {
             self.first_twin(matrix, place, across, binary)
@@ -176,7 +182,8 @@ impl Side {
         requires across { IsAcross matrix.now self.now.kind across.now }
         requires counted { IsCounted matrix.now self.now across.now }
         requires place { place < length self.now.stays.items }
-        ensures { result ≡ twin_reason binary (entry matrix.now) self.now.kind self.now.stays.items across.now (slice_index self.now.stays.items place) }
+        ensures { result ≡ twin_reason binary (entry matrix.now) self.now.kind self.now.stays.items
+            across.now (slice_index self.now.stays.items place) }
     {
         if let Some(twin) = self.first_copy(matrix, place, across) {
             return Some(Reason::Copy(self.kind.line(twin)));
@@ -193,7 +200,10 @@ impl Side {
         requires across { IsAcross matrix.now self.now.kind across.now }
         requires counted { IsCounted matrix.now self.now across.now }
         requires place { place < length self.now.stays.items }
-        ensures { result ≡ find (is_copy (table (entry matrix.now) self.now.kind) across.now (slice_index self.now.stays.items place)) self.now.stays.items }
+        ensures { result ≡ find
+            (is_copy (table (entry matrix.now) self.now.kind) across.now
+            (slice_index self.now.stays.items place))
+            self.now.stays.items }
     {
         'places: for other in 0..self.stays.len() {
             if self.is_copy(matrix, place, other, across) {
@@ -208,7 +218,10 @@ impl Side {
         requires across { IsAcross matrix.now self.now.kind across.now }
         requires counted { IsCounted matrix.now self.now across.now }
         requires place { place < length self.now.stays.items }
-        ensures { result ≡ find (is_negative (table (entry matrix.now) self.now.kind) across.now (slice_index self.now.stays.items place)) self.now.stays.items }
+        ensures { result ≡ find
+            (is_negative (table (entry matrix.now) self.now.kind) across.now
+            (slice_index self.now.stays.items place))
+            self.now.stays.items }
     {
         'places: for other in 0..self.stays.len() {
             if self.is_negative(matrix, place, other, across) {
@@ -231,7 +244,8 @@ impl Side {
         requires counted { IsCounted matrix.now self.now across.now }
         requires place { place < length self.now.stays.items }
         requires other { other < length self.now.stays.items }
-        ensures { result ≡ is_twin binary (table (entry matrix.now) self.now.kind) across.now (slice_index self.now.stays.items place) (slice_index self.now.stays.items other) }
+        ensures { result ≡ is_twin binary (table (entry matrix.now) self.now.kind) across.now
+            (slice_index self.now.stays.items place) (slice_index self.now.stays.items other) }
     {
         self.is_copy(matrix, place, other, across)
             || !binary && self.is_negative(matrix, place, other, across)
@@ -253,7 +267,8 @@ impl Side {
         requires counted { IsCounted matrix.now self.now across.now }
         requires place { place < length self.now.stays.items }
         requires other { other < length self.now.stays.items }
-        ensures { result ≡ is_copy (table (entry matrix.now) self.now.kind) across.now (slice_index self.now.stays.items place) (slice_index self.now.stays.items other) }
+        ensures { result ≡ is_copy (table (entry matrix.now) self.now.kind) across.now
+            (slice_index self.now.stays.items place) (slice_index self.now.stays.items other) }
     {
         self.may_be_twins(place, other)
             && are_equal(
@@ -271,7 +286,8 @@ impl Side {
         requires counted { IsCounted matrix.now self.now across.now }
         requires place { place < length self.now.stays.items }
         requires other { other < length self.now.stays.items }
-        ensures { result ≡ is_negative (table (entry matrix.now) self.now.kind) across.now (slice_index self.now.stays.items place) (slice_index self.now.stays.items other) }
+        ensures { result ≡ is_negative (table (entry matrix.now) self.now.kind) across.now
+            (slice_index self.now.stays.items place) (slice_index self.now.stays.items other) }
     {
         self.may_be_twins(place, other)
             && are_opposite(
@@ -287,7 +303,8 @@ impl Side {
 // Whether one of the sums from one place to before another is this.
 fn has_sum(sums: &[u64], from: usize, to: usize, sum: u64) -> bool
     requires { to ≤ length sums.now }
-    ensures { result ≡ false → (place : ℕ) → from ≤ place → place < to → slice_index sums.now place ≢ sum }
+    ensures { result ≡ false → (place : ℕ) → from ≤ place → place < to
+        → slice_index sums.now place ≢ sum }
 {
     'places: for place in from..to {
         if sums[place] == sum {
@@ -300,7 +317,9 @@ fn has_sum(sums: &[u64], from: usize, to: usize, sum: u64) -> bool
 fn first_nonzero(matrix: &Matrix, kind: Kind, line: u32, across: &[u32]) -> Option<u32>
     requires line { line < size_of matrix.now kind }
     requires across { AllBelow (cross_size matrix.now kind) across.now }
-    ensures { result ≡ find (λ other. is_nonzero (table (entry matrix.now) kind line other)) across.now }
+    ensures { result ≡ find
+        (λ other. is_nonzero (table (entry matrix.now) kind line other))
+        across.now }
 {
     'others: for other in across {
         if is_nonzero(matrix, kind, line, *other) {

@@ -86,8 +86,11 @@ impl Tallies {
         requires few { slice_index self.old.counts.items line ≤ 1000 }
         requires light { slice_index self.old.sums.items line ≤ 1000 * 1000 ^ 5 }
         requires small { weight ≤ 1000 ^ 5 }
-        ensures counts { self.new.counts.items ≡ set self.old.counts.items line (slice_index self.old.counts.items line + (if is_marked then 1 else 0)) }
-        ensures sums { self.new.sums.items ≡ set self.old.sums.items line (slice_index self.old.sums.items line + weight) }
+        ensures counts { self.new.counts.items
+            ≡ set self.old.counts.items line (slice_index self.old.counts.items line
+            + (if is_marked then 1 else 0)) }
+        ensures sums { self.new.sums.items
+            ≡ set self.old.sums.items line (slice_index self.old.sums.items line + weight) }
     {
         self.counts[line as usize] += if is_marked { 1 } else { 0 };
         self.sums[line as usize] += weight;

@@ -12,9 +12,14 @@ use std::alloc::Global;
 /// The lines of the children of a two-separation of some lines: those of side one with the row of side two, and those of
 /// side two with the column of side one. Each child has fewer lines.
 pub fn two_parts(alloc: Global, lines: &LineSet, two: &Two) -> Result<LineSetPair, Memory>
-    requires { AreEnough lines.now.rows lines.now.columns (listed two.now.side.rows two.now.side.columns) 2 }
-    ensures one { IfOk result (λ pair. AreOfChild lines.now (child_one (listed two.now.side.rows two.now.side.columns) (Row two.now.row ∷ [])) pair.one) }
-    ensures two { IfOk result (λ pair. AreOfChild lines.now (child_two (listed two.now.side.rows two.now.side.columns) (Column two.now.column ∷ [])) pair.two) }
+    requires { AreEnough lines.now.rows lines.now.columns
+        (listed two.now.side.rows two.now.side.columns) 2 }
+    ensures one { IfOk result (λ pair. AreOfChild lines.now
+        (child_one (listed two.now.side.rows two.now.side.columns) (Row two.now.row ∷ []))
+        pair.one) }
+    ensures two { IfOk result (λ pair. AreOfChild lines.now
+        (child_two (listed two.now.side.rows two.now.side.columns) (Column two.now.column ∷ []))
+        pair.two) }
     ensures fewer_in_one { IfOk result (λ pair. HasFewer lines.now pair.one) }
     ensures fewer_in_two { IfOk result (λ pair. HasFewer lines.now pair.two) }
 {
@@ -27,9 +32,18 @@ pub fn two_parts(alloc: Global, lines: &LineSet, two: &Two) -> Result<LineSetPai
 /// The lines of the children of a three-separation of some lines: those of side one with the second connector, and those of
 /// side two with the first. Each child has fewer lines.
 pub fn three_parts(alloc: Global, lines: &LineSet, three: &Three) -> Result<LineSetPair, Memory>
-    requires { AreEnough lines.now.rows lines.now.columns (listed three.now.side.rows three.now.side.columns) 4 }
-    ensures one { IfOk result (λ pair. AreOfChild lines.now (child_one (listed three.now.side.rows three.now.side.columns) (connector_lines (second_is_flat three.now.form) three.now.second)) pair.one) }
-    ensures two { IfOk result (λ pair. AreOfChild lines.now (child_two (listed three.now.side.rows three.now.side.columns) (connector_lines (first_is_flat three.now.form) three.now.first)) pair.two) }
+    requires { AreEnough lines.now.rows lines.now.columns
+        (listed three.now.side.rows three.now.side.columns) 4 }
+    ensures one { IfOk result (λ pair. AreOfChild lines.now
+        (child_one
+        (listed three.now.side.rows three.now.side.columns)
+        (connector_lines (second_is_flat three.now.form) three.now.second))
+        pair.one) }
+    ensures two { IfOk result (λ pair. AreOfChild lines.now
+        (child_two
+        (listed three.now.side.rows three.now.side.columns)
+        (connector_lines (first_is_flat three.now.form) three.now.first))
+        pair.two) }
     ensures fewer_in_one { IfOk result (λ pair. HasFewer lines.now pair.one) }
     ensures fewer_in_two { IfOk result (λ pair. HasFewer lines.now pair.two) }
 {
@@ -64,8 +78,11 @@ fn child(
     inside: bool,
     more: &[Line],
 ) -> Result<LineSet, Memory>
-    ensures lines { IfOk result (AreOfChild lines.now (with_lines (on_side inside (listed side.now.rows side.now.columns)) more.now)) }
-    ensures fewer { (least : ℕ) → AreEnough lines.now.rows lines.now.columns (listed side.now.rows side.now.columns) least → length more.now < least → IfOk result (HasFewer lines.now) }
+    ensures lines { IfOk result (AreOfChild lines.now (with_lines
+        (on_side inside (listed side.now.rows side.now.columns)) more.now)) }
+    ensures fewer { (least : ℕ)
+        → AreEnough lines.now.rows lines.now.columns (listed side.now.rows side.now.columns) least
+        → length more.now < least → IfOk result (HasFewer lines.now) }
 {
     Ok(LineSet {
         rows: child_rows(alloc, &lines.rows, &side.rows, inside, more)?,
@@ -99,7 +116,8 @@ fn child_columns(
     inside: bool,
     more: &[Line],
 ) -> Result<Indices, Memory>
-    ensures child { IfOk result (λ child. child ≡ chosen Column inside side.now more.now columns.now) }
+    ensures child { IfOk result (λ child. child ≡ chosen Column inside side.now more.now
+        columns.now) }
     ensures rising { IfOk result (λ _. IsStrictlyIncreasing columns.now) }
 {
     let mut child = Indices::new(alloc);

@@ -54,7 +54,9 @@ pub fn concentrated_sum(alloc: Global, first: &Matrix, second: &Matrix) -> Resul
 
 // The determinant of the core in which the first matrix ends and with which the second begins.
 fn shared_core(first: &Matrix, second: &Matrix) -> Option<i8>
-    ensures { MatchOption result (HaveConcentratedSum first.now second.now → ⊥) (λ determinant. IsLastCore first.now determinant × IsFirstCore first.now second.now) }
+    ensures { MatchOption result
+        (HaveConcentratedSum first.now second.now → ⊥)
+        (λ determinant. IsLastCore first.now determinant × IsFirstCore first.now second.now) }
 {
     match last_core(first) {
         Some(determinant) if is_first_core(first, second) => Some(determinant),

@@ -10,7 +10,8 @@ use cmr_base::{Core, Matrix};
 
 /// The determinant x w - y z of the core in which a matrix ends, `None` where it does not end in a core with zeros above.
 pub fn last_core(matrix: &Matrix) -> Option<i8>
-    ensures { MatchOption result ((determinant : ℤ) → IsLastCore matrix.now determinant → ⊥) (λ determinant. IsLastCore matrix.now determinant) }
+    ensures { MatchOption result ((determinant : ℤ) → IsLastCore matrix.now determinant → ⊥)
+        (λ determinant. IsLastCore matrix.now determinant) }
 {
     if matrix.rows() < 3 || matrix.columns() < 3 {
         return None;
@@ -110,7 +111,9 @@ fn is_zero_above(matrix: &Matrix, row: u32, column: u32) -> bool
 fn is_zero_after(matrix: &Matrix, column: u32) -> bool
     requires row { 0 < height matrix.now }
     requires column { column ≤ matrix.now.width }
-    ensures { IsTrue result ↔ ((after : ℕ) → column ≤ after → after < matrix.now.width → entry matrix.now 0 after ≡ pos 0) }
+    ensures { IsTrue result
+        ↔ ((after : ℕ) → column ≤ after → after < matrix.now.width
+        → entry matrix.now 0 after ≡ pos 0) }
 {
     for after in column..matrix.columns() {
         if matrix.entry(0, after) != 0 {
@@ -125,7 +128,10 @@ fn have_one_core(first: &Matrix, second: &Matrix) -> bool
     requires first_columns { 3 ≤ first.now.width }
     requires second_rows { 3 ≤ height second.now }
     requires second_columns { 3 ≤ second.now.width }
-    ensures { IsTrue result ↔ ((row column : ℕ) → row < 3 → column < 3 → entry second.now row column ≡ entry first.now ((height first.now - 3) + row) ((first.now.width - 3) + column)) }
+    ensures { IsTrue result
+        ↔ ((row column : ℕ) → row < 3 → column < 3
+        → entry second.now row column
+        ≡ entry first.now ((height first.now - 3) + row) ((first.now.width - 3) + column)) }
 {
     for row in 0..3 {
         if !have_one_core_row(first, second, row) {
@@ -141,7 +147,10 @@ fn have_one_core_row(first: &Matrix, second: &Matrix, row: u32) -> bool
     requires second_rows { 3 ≤ height second.now }
     requires second_columns { 3 ≤ second.now.width }
     requires row { row < 3 }
-    ensures { IsTrue result ↔ ((column : ℕ) → column < 3 → entry second.now row column ≡ entry first.now ((height first.now - 3) + row) ((first.now.width - 3) + column)) }
+    ensures { IsTrue result
+        ↔ ((column : ℕ) → column < 3
+        → entry second.now row column
+        ≡ entry first.now ((height first.now - 3) + row) ((first.now.width - 3) + column)) }
 {
     let first_row = first.rows() - 3 + row;
     let first_column = first.columns() - 3;

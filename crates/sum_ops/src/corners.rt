@@ -7,7 +7,8 @@ use cmr_base::Matrix;
 
 /// The corner of the connecting lines in which a matrix ends, `None` where it does not end in such lines.
 pub fn last_corner(matrix: &Matrix, flat: bool) -> Option<i8>
-    ensures { MatchOption result ((corner : ℤ) → IsLastCorner flat matrix.now corner → ⊥) (λ corner. IsLastCorner flat matrix.now corner) }
+    ensures { MatchOption result ((corner : ℤ) → IsLastCorner flat matrix.now corner → ⊥)
+        (λ corner. IsLastCorner flat matrix.now corner) }
 {
     if flat {
         last_flat_corner(matrix)
@@ -18,7 +19,8 @@ pub fn last_corner(matrix: &Matrix, flat: bool) -> Option<i8>
 
 /// The corner of the connecting lines with which a matrix begins, `None` where it does not begin with such lines.
 pub fn first_corner(matrix: &Matrix, flat: bool) -> Option<i8>
-    ensures { MatchOption result ((corner : ℤ) → IsFirstCorner flat matrix.now corner → ⊥) (λ corner. IsFirstCorner flat matrix.now corner) }
+    ensures { MatchOption result ((corner : ℤ) → IsFirstCorner flat matrix.now corner → ⊥)
+        (λ corner. IsFirstCorner flat matrix.now corner) }
 {
     if flat {
         first_flat_corner(matrix)
@@ -28,7 +30,8 @@ pub fn first_corner(matrix: &Matrix, flat: bool) -> Option<i8>
 }
 
 fn last_flat_corner(matrix: &Matrix) -> Option<i8>
-    ensures { MatchOption result ((corner : ℤ) → IsLastCorner true matrix.now corner → ⊥) (λ corner. IsLastCorner true matrix.now corner) }
+    ensures { MatchOption result ((corner : ℤ) → IsLastCorner true matrix.now corner → ⊥)
+        (λ corner. IsLastCorner true matrix.now corner) }
 {
     if matrix.rows() < 1 || matrix.columns() < 2 {
         return None;
@@ -47,7 +50,8 @@ fn last_flat_corner(matrix: &Matrix) -> Option<i8>
 }
 
 fn last_tall_corner(matrix: &Matrix) -> Option<i8>
-    ensures { MatchOption result ((corner : ℤ) → IsLastCorner false matrix.now corner → ⊥) (λ corner. IsLastCorner false matrix.now corner) }
+    ensures { MatchOption result ((corner : ℤ) → IsLastCorner false matrix.now corner → ⊥)
+        (λ corner. IsLastCorner false matrix.now corner) }
 {
     if matrix.rows() < 2 || matrix.columns() < 1 {
         return None;
@@ -66,7 +70,8 @@ fn last_tall_corner(matrix: &Matrix) -> Option<i8>
 }
 
 fn first_flat_corner(matrix: &Matrix) -> Option<i8>
-    ensures { MatchOption result ((corner : ℤ) → IsFirstCorner true matrix.now corner → ⊥) (λ corner. IsFirstCorner true matrix.now corner) }
+    ensures { MatchOption result ((corner : ℤ) → IsFirstCorner true matrix.now corner → ⊥)
+        (λ corner. IsFirstCorner true matrix.now corner) }
 {
     if matrix.rows() < 1 || matrix.columns() < 2 {
         return None;
@@ -80,7 +85,8 @@ fn first_flat_corner(matrix: &Matrix) -> Option<i8>
 }
 
 fn first_tall_corner(matrix: &Matrix) -> Option<i8>
-    ensures { MatchOption result ((corner : ℤ) → IsFirstCorner false matrix.now corner → ⊥) (λ corner. IsFirstCorner false matrix.now corner) }
+    ensures { MatchOption result ((corner : ℤ) → IsFirstCorner false matrix.now corner → ⊥)
+        (λ corner. IsFirstCorner false matrix.now corner) }
 {
     if matrix.rows() < 2 || matrix.columns() < 1 {
         return None;
@@ -98,7 +104,9 @@ fn are_equal_columns(matrix: &Matrix, column: u32, other: u32, from: u32, to: u3
     requires other { other < matrix.now.width }
     requires from { from ≤ to }
     requires to { to ≤ height matrix.now }
-    ensures { IsTrue result ↔ ((row : ℕ) → from ≤ row → row < to → entry matrix.now row other ≡ entry matrix.now row column) }
+    ensures { IsTrue result
+        ↔ ((row : ℕ) → from ≤ row → row < to
+        → entry matrix.now row other ≡ entry matrix.now row column) }
 {
     for row in from..to {
         if matrix.entry(row, other) != matrix.entry(row, column) {
@@ -113,7 +121,9 @@ fn are_equal_rows(matrix: &Matrix, row: u32, other: u32, from: u32, to: u32) -> 
     requires other { other < height matrix.now }
     requires from { from ≤ to }
     requires to { to ≤ matrix.now.width }
-    ensures { IsTrue result ↔ ((column : ℕ) → from ≤ column → column < to → entry matrix.now other column ≡ entry matrix.now row column) }
+    ensures { IsTrue result
+        ↔ ((column : ℕ) → from ≤ column → column < to
+        → entry matrix.now other column ≡ entry matrix.now row column) }
 {
     for column in from..to {
         if matrix.entry(other, column) != matrix.entry(row, column) {

@@ -37,7 +37,8 @@ impl Plan {
         requires fits { Fits self first.now second.now }
         requires rows { rows_of self second.now ≤ 1000 }
         requires columns { columns_of self second.now ≤ 1000 }
-        ensures blocks { IfOk result (λ sum. sum ≡ filled (rows_of self second.now) (columns_of self second.now) (entries_of self first.now second.now)) }
+        ensures blocks { IfOk result (λ sum. sum ≡ filled (rows_of self second.now)
+            (columns_of self second.now) (entries_of self first.now second.now)) }
         ensures small { IfOk result HasTernaryEntries }
     {
         let rows = self.rows + (second.rows() - self.up);
@@ -61,7 +62,9 @@ impl Plan {
         requires second { IsMatrix second.now }
         requires row { row < rows_of self second.now }
         requires columns { columns ≡ columns_of self second.now }
-        ensures { OnOk result (cells.new.items ≡ cells.old.items ++ map (entries_of self first.now second.now row) (first_lines columns)) }
+        ensures { OnOk result (cells.new.items
+            ≡ cells.old.items
+            ++ map (entries_of self first.now second.now row) (first_lines columns)) }
     {
         for column in 0..columns {
             cells.push(self.entry(first, second, row, column))?;

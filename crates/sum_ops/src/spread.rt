@@ -35,7 +35,9 @@ impl Spread {
     pub fn has_small_entries(self, first: &Matrix, second: &Matrix, columns: u32) -> bool
         requires lines { LinesAreThere self first.now second.now }
         requires columns { columns ≤ first.now.width }
-        ensures { IsTrue result ↔ ((row column : ℕ) → 1 ≤ row → row < height second.now → column < columns → IsEntry (spread_entry self first.now second.now row column)) }
+        ensures { IsTrue result
+            ↔ ((row column : ℕ) → 1 ≤ row → row < height second.now → column < columns
+            → IsEntry (spread_entry self first.now second.now row column)) }
     {
         for row in 1..second.rows() {
             if !self.has_small_row(first, second, row, columns) {
@@ -49,7 +51,9 @@ impl Spread {
         requires lines { LinesAreThere self first.now second.now }
         requires row { row < height second.now }
         requires columns { columns ≤ first.now.width }
-        ensures { IsTrue result ↔ ((column : ℕ) → column < columns → IsEntry (spread_entry self first.now second.now row column)) }
+        ensures { IsTrue result
+            ↔ ((column : ℕ) → column < columns
+            → IsEntry (spread_entry self first.now second.now row column)) }
     {
         for column in 0..columns {
             if !is_entry(self.entry(first, second, row, column)) {

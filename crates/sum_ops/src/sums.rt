@@ -108,11 +108,15 @@ fn corner_sum(
     first: &Matrix,
     second: &Matrix,
 ) -> Result<Matrix, SumError>
-    requires rows { height first.now + height second.now ≤ 1000 + (connecting_rows second_flat + connecting_rows first_flat) }
-    requires columns { first.now.width + second.now.width ≤ 1000 + (connecting_columns second_flat + connecting_columns first_flat) }
-    ensures sum { IfOk result (λ sum. sum ≡ the_corner_sum first_flat second_flat first.now second.now) }
+    requires rows { height first.now + height second.now
+        ≤ 1000 + (connecting_rows second_flat + connecting_rows first_flat) }
+    requires columns { first.now.width + second.now.width
+        ≤ 1000 + (connecting_columns second_flat + connecting_columns first_flat) }
+    ensures sum { IfOk result (λ sum. sum ≡ the_corner_sum first_flat second_flat first.now
+        second.now) }
     ensures defined { IfOk result (λ _. HaveCornerSum first_flat second_flat first.now second.now) }
-    ensures cause { IfErr result (IsCause (HaveCornerSum first_flat second_flat first.now second.now)) }
+    ensures cause { IfErr result (IsCause (HaveCornerSum first_flat second_flat first.now
+        second.now)) }
 {
     if !have_one_corner(first, second, second_flat, first_flat) {
         return Err(SumError::BadConnector);

@@ -56,13 +56,27 @@ impl<'a, 'b> Block<'a, 'b> {
         k: u32,
     ) -> Block<'a, 'b>
         requires crossing { IsCrossing form }
-        requires columns { AreOpen (record { matrix = views.now; form = form; i = i; p = p; k = k; columns = columns }) }
+        requires columns { AreOpen (record {
+          matrix = views.now;
+          form = form;
+          i = i;
+          p = p;
+          k = k;
+          columns = columns;
+        }) }
         requires row { i < height views.now }
         requires column { p < views.now.width }
         requires second_row { k < height views.now }
         requires nonzero { entry views.now i p ≢ pos 0 }
         requires below { entry views.now k p ≢ pos 0 }
-        ensures { result ≡ record { matrix = views.now; form = form; i = i; p = p; k = k; columns = columns } }
+        ensures { result ≡ record {
+          matrix = views.now;
+          form = form;
+          i = i;
+          p = p;
+          k = k;
+          columns = columns;
+        } }
     {
         Block {
             views,
@@ -82,7 +96,9 @@ impl<'a, 'b> Block<'a, 'b> {
         workers: u32,
     ) -> Result<Option<Triple>, Memory>
         requires { (1 ≤ workers) × (workers ≤ 64) }
-        ensures { IfOk result (λ found. MatchOption found (HasNoGood self.now.matrix (block_front self.now)) (λ triple. IsFirstTriple self.now triple)) }
+        ensures { IfOk result (λ found. MatchOption found
+            (HasNoGood self.now.matrix (block_front self.now))
+            (λ triple. IsFirstTriple self.now triple)) }
     {
         let found = first_hit(rt, alloc, workers, self.total(), self)?;
         match found {
@@ -297,7 +313,15 @@ pub fn open_columns(
     requires column { p < views.now.width }
     requires second_row { k < height views.now }
     ensures size { OnOk result (HasSize views.now side.new) }
-    ensures open { IfOk result (λ columns. (form : Form) → IsCrossing form → AreOpen (record { matrix = views.now; form = form; i = i; p = p; k = k; columns = columns })) }
+    ensures open { IfOk result (λ columns. (form : Form) → IsCrossing form
+        → AreOpen (record {
+          matrix = views.now;
+          form = form;
+          i = i;
+          p = p;
+          k = k;
+          columns = columns;
+        })) }
 {
     let mut columns = Indices::new(alloc);
     for j in 0..views.columns() {
@@ -320,7 +344,8 @@ fn may_be_open(
     requires together { HoldTogether (IsCut views.now) views.now groups.now }
     requires inside { AreInside views.now corners.now }
     ensures size { OnOk result (HasSize views.now side.new) }
-    ensures open { IfOk result (λ yes. (form : Form) → IsCrossing form → TellsOpen views.now form corners.now yes) }
+    ensures open { IfOk result (λ yes. (form : Form) → IsCrossing form
+        → TellsOpen views.now form corners.now yes) }
 {
     let Corners { i, p, k, j } = *corners;
     if !is_second_column(views, groups, i, p, k, j) {

@@ -40,7 +40,8 @@ impl ConcentratedSearch {
     pub fn new(alloc: Global, views: &RowsAndColumns<'_>) -> Result<ConcentratedSearch, Memory>
         ensures side { IfOk result (λ search. HasSize views.now search.side) }
         ensures grown { IfOk result (λ search. HasSize views.now search.grown) }
-        ensures candidates { IfOk result (λ search. length search.candidates.items ≡ views.now.width) }
+        ensures candidates { IfOk result (λ search. length search.candidates.items
+            ≡ views.now.width) }
     {
         Ok(ConcentratedSearch {
             side: Side::new(alloc, views)?,
@@ -121,7 +122,8 @@ impl ConcentratedSearch {
 
     // Whether a column is a candidate.
     fn has_candidate(&self) -> bool
-        ensures { result ≡ false → (j : ℕ) → slice_index_or self.now.candidates.items j false ≡ false }
+        ensures { result ≡ false → (j : ℕ)
+            → slice_index_or self.now.candidates.items j false ≡ false }
     {
         self.candidates.iter().any(|is_candidate| *is_candidate)
     }
@@ -132,7 +134,9 @@ impl ConcentratedSearch {
         requires row { k < height views.now }
         requires column { j < views.now.width }
         ensures yes { result ≡ true → entry views.now k j ≢ pos 0 }
-        ensures no { result ≡ false → (entry views.now k j ≡ pos 0) ⊎ (slice_index_or self.now.candidates.items j false ≡ false) }
+        ensures no { result ≡ false
+            → (entry views.now k j ≡ pos 0)
+            ⊎ (slice_index_or self.now.candidates.items j false ≡ false) }
     {
         if !self.candidates[j as usize] {
             return false;
@@ -147,7 +151,9 @@ impl ConcentratedSearch {
         requires inside { AreInside views.now corners.now }
         requires column { q < views.now.width }
         ensures yes { result ≡ true → IsOtherColumn (entry views.now) corners.now q }
-        ensures no { result ≡ false → IsNoOtherColumn (entry views.now) corners.now q ⊎ (slice_index_or self.now.candidates.items corners.now.j false ≡ false) }
+        ensures no { result ≡ false
+            → IsNoOtherColumn (entry views.now) corners.now q
+            ⊎ (slice_index_or self.now.candidates.items corners.now.j false ≡ false) }
     {
         if !self.candidates[corners.j as usize] {
             return false;
@@ -160,7 +166,9 @@ impl ConcentratedSearch {
         requires candidates { length self.now.candidates.items ≡ views.now.width }
         requires placed { ArePlaced views.now connectors.now }
         ensures yes { result ≡ true → IsOtherRow (entry views.now) connectors.now }
-        ensures no { result ≡ false → (¬ (IsOtherRow (entry views.now) connectors.now)) ⊎ (slice_index_or self.now.candidates.items connectors.now.corners.j false ≡ false) }
+        ensures no { result ≡ false
+            → (¬ (IsOtherRow (entry views.now) connectors.now))
+            ⊎ (slice_index_or self.now.candidates.items connectors.now.corners.j false ≡ false) }
     {
         if !self.candidates[connectors.corners.j as usize] {
             return false;
@@ -217,8 +225,10 @@ impl ConcentratedSearch {
         ensures side { OnOk result (HasSize views.now self.new.side) }
         ensures grown { OnOk result (HasSize views.now self.new.grown) }
         ensures candidates { OnOk result (AreCandidates views.now i self.new.candidates.items) }
-        ensures first { IfOk result (λ answer. IfSome answer (IsFirstOf views.now (3 ∷ i ∷ p ∷ []))) }
-        ensures none { IfOk result (λ answer. IfNone answer (HasNoGood views.now (3 ∷ i ∷ p ∷ []))) }
+        ensures first { IfOk result (λ answer.
+            IfSome answer (IsFirstOf views.now (3 ∷ i ∷ p ∷ []))) }
+        ensures none { IfOk result (λ answer.
+            IfNone answer (HasNoGood views.now (3 ∷ i ∷ p ∷ []))) }
     {
         if !self.has_candidate() {
             return Ok(None);
@@ -252,8 +262,10 @@ impl ConcentratedSearch {
         ensures side { OnOk result (HasSize views.now self.new.side) }
         ensures grown { OnOk result (HasSize views.now self.new.grown) }
         ensures candidates { OnOk result (AreCandidates views.now i self.new.candidates.items) }
-        ensures first { IfOk result (λ answer. IfSome answer (IsFirstOf views.now (3 ∷ i ∷ p ∷ k ∷ []))) }
-        ensures none { IfOk result (λ answer. IfNone answer (HasNoGood views.now (3 ∷ i ∷ p ∷ k ∷ []))) }
+        ensures first { IfOk result (λ answer.
+            IfSome answer (IsFirstOf views.now (3 ∷ i ∷ p ∷ k ∷ []))) }
+        ensures none { IfOk result (λ answer.
+            IfNone answer (HasNoGood views.now (3 ∷ i ∷ p ∷ k ∷ []))) }
     {
         if !self.has_candidate() {
             return Ok(None);
@@ -289,9 +301,12 @@ impl ConcentratedSearch {
         requires corners { AreConcentratedCorners (entry views.now) corners.now }
         ensures side { OnOk result (HasSize views.now self.new.side) }
         ensures grown { OnOk result (HasSize views.now self.new.grown) }
-        ensures candidates { OnOk result (AreCandidates views.now corners.now.i self.new.candidates.items) }
-        ensures first { IfOk result (λ answer. IfSome answer (IsFirstOf views.now (corner_front Concentrated corners.now))) }
-        ensures none { IfOk result (λ answer. IfNone answer (HasNoGood views.now (corner_front Concentrated corners.now))) }
+        ensures candidates { OnOk result (AreCandidates views.now corners.now.i
+            self.new.candidates.items) }
+        ensures first { IfOk result (λ answer.
+            IfSome answer (IsFirstOf views.now (corner_front Concentrated corners.now))) }
+        ensures none { IfOk result (λ answer.
+            IfNone answer (HasNoGood views.now (corner_front Concentrated corners.now))) }
     {
         let _columns = views.columns();
         let mut from = corners.p + 1;
@@ -325,9 +340,12 @@ impl ConcentratedSearch {
         requires column { q < views.now.width }
         ensures side { OnOk result (HasSize views.now self.new.side) }
         ensures grown { OnOk result (HasSize views.now self.new.grown) }
-        ensures candidates { OnOk result (AreCandidates views.now corners.now.i self.new.candidates.items) }
-        ensures first { IfOk result (λ answer. IfSome answer (IsFirstOf views.now (corner_front Concentrated corners.now ++ q ∷ []))) }
-        ensures none { IfOk result (λ answer. IfNone answer (HasNoGood views.now (corner_front Concentrated corners.now ++ q ∷ []))) }
+        ensures candidates { OnOk result (AreCandidates views.now corners.now.i
+            self.new.candidates.items) }
+        ensures first { IfOk result (λ answer.
+            IfSome answer (IsFirstOf views.now (corner_front Concentrated corners.now ++ q ∷ []))) }
+        ensures none { IfOk result (λ answer.
+            IfNone answer (HasNoGood views.now (corner_front Concentrated corners.now ++ q ∷ []))) }
     {
         for o in 0..views.rows() {
             let connectors = Connectors {
@@ -356,16 +374,20 @@ impl ConcentratedSearch {
         requires turned { turned.now ≡ transposed views.now }
         requires side { HasSize views.now self.old.side }
         requires grown { HasSize views.now self.old.grown }
-        requires candidates { AreCandidates views.now connectors.now.corners.i self.old.candidates.items }
+        requires candidates { AreCandidates views.now connectors.now.corners.i
+            self.old.candidates.items }
         requires placed { ArePlaced views.now connectors.now }
         requires corners { AreConcentratedCorners (entry views.now) connectors.now.corners }
         requires column { IsOtherColumn (entry views.now) connectors.now.corners connectors.now.q }
         requires row { IsOtherRow (entry views.now) connectors.now }
         ensures side { OnOk result (HasSize views.now self.new.side) }
         ensures grown { OnOk result (HasSize views.now self.new.grown) }
-        ensures candidates { OnOk result (AreCandidates views.now connectors.now.corners.i self.new.candidates.items) }
-        ensures first { IfOk result (λ answer. IfSome answer (IsFirstOf views.now (all_front connectors.now))) }
-        ensures none { IfOk result (λ answer. IfNone answer (HasNoGood views.now (all_front connectors.now))) }
+        ensures candidates { OnOk result (AreCandidates views.now connectors.now.corners.i
+            self.new.candidates.items) }
+        ensures first { IfOk result (λ answer.
+            IfSome answer (IsFirstOf views.now (all_front connectors.now))) }
+        ensures none { IfOk result (λ answer.
+            IfNone answer (HasNoGood views.now (all_front connectors.now))) }
     {
         if let Some(three) = self.first_of_placed(alloc, views, turned, connectors)? {
             return Ok(Some(three));
@@ -392,8 +414,10 @@ impl ConcentratedSearch {
         ensures candidates { self.new.candidates ≡ self.old.candidates }
         ensures side { OnOk result (HasSize views.now self.new.side) }
         ensures grown { OnOk result (HasSize views.now self.new.grown) }
-        ensures first { IfOk result (λ answer. IfSome answer (IsFirstOf views.now (all_front connectors.now))) }
-        ensures none { IfOk result (λ answer. IfNone answer (HasNoGood views.now (all_front connectors.now))) }
+        ensures first { IfOk result (λ answer.
+            IfSome answer (IsFirstOf views.now (all_front connectors.now))) }
+        ensures none { IfOk result (λ answer.
+            IfNone answer (HasNoGood views.now (all_front connectors.now))) }
     {
         let _rows = views.rows();
         if is_second_pulled(views, connectors) {
@@ -418,7 +442,8 @@ impl ConcentratedSearch {
         connectors: &Connectors,
     ) -> Result<Option<Three>, Memory>
         requires room { HasRoom views.now self.old.side }
-        requires growing { IsGrowingFor views.now connectors.now (first_lines connectors.now) self.old.side }
+        requires growing { IsGrowingFor views.now connectors.now (first_lines connectors.now)
+            self.old.side }
         requires grown { HasSize views.now self.old.grown }
         requires placed { ArePlaced views.now connectors.now }
         requires corners { AreConcentratedCorners (entry views.now) connectors.now.corners }
@@ -427,8 +452,10 @@ impl ConcentratedSearch {
         ensures candidates { self.new.candidates ≡ self.old.candidates }
         ensures side { self.new.side ≡ self.old.side }
         ensures grown { OnOk result (HasSize views.now self.new.grown) }
-        ensures first { IfOk result (λ answer. IfSome answer (IsFirstOf views.now (all_front connectors.now))) }
-        ensures none { IfOk result (λ answer. IfNone answer (HasNoGood views.now (all_front connectors.now))) }
+        ensures first { IfOk result (λ answer.
+            IfSome answer (IsFirstOf views.now (all_front connectors.now))) }
+        ensures none { IfOk result (λ answer.
+            IfNone answer (HasNoGood views.now (all_front connectors.now))) }
     {
         let Connectors { corners, q, o } = *connectors;
         for place in 0..views.rows() + views.columns() {
@@ -458,15 +485,21 @@ impl ConcentratedSearch {
         line: Line,
     ) -> Result<bool, Memory>
         requires room { HasRoom views.now self.old.side }
-        requires growing { IsGrowingFor views.now connectors.now (first_lines connectors.now) self.old.side }
+        requires growing { IsGrowingFor views.now connectors.now (first_lines connectors.now)
+            self.old.side }
         requires placed { ArePlaced views.now connectors.now }
         requires row { IsOtherRow (entry views.now) connectors.now }
         requires line { IsLine (height views.now) views.now.width line }
         ensures candidates { self.new.candidates ≡ self.old.candidates }
         ensures side { self.new.side ≡ self.old.side }
         ensures room { OnOk result (HasRoom views.now self.new.grown) }
-        ensures yes { IfOk result (λ good. good ≡ true → IsLeastFor views.now connectors.now (line ∷ first_lines connectors.now) (set_of self.new.grown) × LeavesSecond views.now connectors.now.corners (Row connectors.now.o) (set_of self.new.grown)) }
-        ensures no { IfOk result (λ good. good ≡ false → HasNoLeaving views.now connectors.now (line ∷ first_lines connectors.now)) }
+        ensures yes { IfOk result (λ good. good ≡ true
+            → IsLeastFor views.now connectors.now (line ∷ first_lines connectors.now)
+            (set_of self.new.grown)
+            × LeavesSecond views.now connectors.now.corners (Row connectors.now.o)
+            (set_of self.new.grown)) }
+        ensures no { IfOk result (λ good. good ≡ false
+            → HasNoLeaving views.now connectors.now (line ∷ first_lines connectors.now)) }
     {
         self.grown.copy(&self.side)?;
         self.grown.add(views, line)?;
@@ -517,7 +550,11 @@ fn may_be_between(
 fn next_nonzero(views: &RowsAndColumns<'_>, row: u32, from: u32) -> Option<u32>
     requires row { row < height views.now }
     requires from { from ≤ 1000 }
-    ensures first { MatchOption result ((column : ℕ) → from ≤ column → support views.now row column ≡ false) (λ next. (from ≤ next) × (next < views.now.width) × ((column : ℕ) → from ≤ column → column < next → support views.now row column ≡ false)) }
+    ensures first { MatchOption result
+        ((column : ℕ) → from ≤ column → support views.now row column ≡ false)
+        (λ next. (from ≤ next)
+        × (next < views.now.width)
+        × ((column : ℕ) → from ≤ column → column < next → support views.now row column ≡ false)) }
     ensures small { IfSome result (λ next. next < 1000) }
 {
     views.by_rows().next_nonzero(row, from)
@@ -557,10 +594,13 @@ fn may_part(
 ) -> Result<bool, Memory>
     requires side { HasSize views.now side.old }
     requires placed { ArePlaced views.now connectors.now }
-    requires determinant { IsSign (core_determinant (entry views.now) (first_of connectors.now) (second_of connectors.now)) }
+    requires determinant { IsSign (core_determinant (entry views.now) (first_of connectors.now)
+        (second_of connectors.now)) }
     ensures room { OnOk result (HasRoom views.now side.new) }
-    ensures growing { OnOk result (IsGrowingFor views.now connectors.now (first_lines connectors.now) side.new) }
-    ensures no { IfOk result (λ may. may ≡ false → HasNoLeaving views.now connectors.now (first_lines connectors.now)) }
+    ensures growing { OnOk result (IsGrowingFor views.now connectors.now
+        (first_lines connectors.now) side.new) }
+    ensures no { IfOk result (λ may. may ≡ false
+        → HasNoLeaving views.now connectors.now (first_lines connectors.now)) }
 {
     side.start_flat(views, connectors)?;
     if !side.spread(views, connectors)? {
@@ -577,8 +617,12 @@ fn may_be_left(
     connectors: &Connectors,
 ) -> Result<bool, Memory>
     requires placed { ArePlaced turned.now (turned_connectors connectors.now) }
-    requires determinant { IsSign (core_determinant (entry turned.now) (first_of (turned_connectors connectors.now)) (second_of (turned_connectors connectors.now))) }
-    ensures no { IfOk result (λ may. may ≡ false → HasNoLeaving turned.now (turned_connectors connectors.now) (first_lines (turned_connectors connectors.now))) }
+    requires determinant { IsSign (core_determinant (entry turned.now)
+        (first_of (turned_connectors connectors.now))
+        (second_of (turned_connectors connectors.now))) }
+    ensures no { IfOk result (λ may. may ≡ false
+        → HasNoLeaving turned.now (turned_connectors connectors.now)
+        (first_lines (turned_connectors connectors.now))) }
 {
     let mut side = Side::new(alloc, turned)?;
     may_part(turned, &mut side, &connectors.turned())
@@ -594,7 +638,8 @@ fn may_separate(
 ) -> Result<bool, Memory>
     requires turned { turned.now ≡ transposed views.now }
     requires placed { ArePlaced views.now connectors.now }
-    requires determinant { IsSign (core_determinant (entry views.now) (first_of connectors.now) (second_of connectors.now)) }
+    requires determinant { IsSign (core_determinant (entry views.now) (first_of connectors.now)
+        (second_of connectors.now)) }
     ensures { IfOk result (λ may. may ≡ false → HasNoGood views.now (all_front connectors.now)) }
 {
     let mut one = Side::new(alloc, views)?;
@@ -628,11 +673,13 @@ fn is_refused(
     requires one { HasSize views.now one.old }
     requires two { HasSize turned.now two.old }
     requires placed { ArePlaced views.now connectors.now }
-    requires determinant { IsSign (core_determinant (entry views.now) (first_of connectors.now) (second_of connectors.now)) }
+    requires determinant { IsSign (core_determinant (entry views.now) (first_of connectors.now)
+        (second_of connectors.now)) }
     requires row { row < height views.now }
     ensures one { OnOk result (HasSize views.now one.new) }
     ensures two { OnOk result (HasSize turned.now two.new) }
-    ensures refused { IfOk result (λ refused. refused ≡ true → HasNoGood views.now (all_front connectors.now)) }
+    ensures refused { IfOk result (λ refused. refused ≡ true
+        → HasNoGood views.now (all_front connectors.now)) }
 {
     let _rows = views.rows();
     if may_hold(views, one, connectors, Line::Row(row))? {
@@ -653,10 +700,12 @@ fn may_hold(
 ) -> Result<bool, Memory>
     requires side { HasSize views.now side.old }
     requires placed { ArePlaced views.now connectors.now }
-    requires determinant { IsSign (core_determinant (entry views.now) (first_of connectors.now) (second_of connectors.now)) }
+    requires determinant { IsSign (core_determinant (entry views.now) (first_of connectors.now)
+        (second_of connectors.now)) }
     requires line { IsLine (height views.now) views.now.width line }
     ensures size { OnOk result (HasSize views.now side.new) }
-    ensures no { IfOk result (λ may. may ≡ false → HasNoLeaving views.now connectors.now (line ∷ first_lines connectors.now)) }
+    ensures no { IfOk result (λ may. may ≡ false
+        → HasNoLeaving views.now connectors.now (line ∷ first_lines connectors.now)) }
 {
     side.start_flat(views, connectors)?;
     side.add(views, line)?;

@@ -37,7 +37,8 @@ impl Connectors {
     /// The determinant of the four entries where rows k and o cross columns p and q.
     pub fn determinant(&self, views: &RowsAndColumns<'_>) -> i8
         requires { ArePlaced views.now self.now }
-        ensures value { result ≡ core_determinant (entry views.now) (first_of self.now) (second_of self.now) }
+        ensures value { result ≡ core_determinant (entry views.now) (first_of self.now)
+            (second_of self.now) }
         ensures small { IsSmall result }
     {
         let Corners { p, k, .. } = self.corners;

@@ -27,7 +27,9 @@ pub fn is_sum_at(matrix: &Matrix, row: u32, one: &Multiple, other: &Multiple, pl
     requires one_factor { IsSmall one.now.factor }
     requires other_factor { IsSmall other.now.factor }
     requires place { place < matrix.now.width }
-    ensures { IsTrue result ↔ AgreesWithSum (row_of matrix.now row) one.now.factor (row_of matrix.now one.now.row) other.now.factor (row_of matrix.now other.now.row) place }
+    ensures { IsTrue result
+        ↔ AgreesWithSum (row_of matrix.now row) one.now.factor (row_of matrix.now one.now.row)
+        other.now.factor (row_of matrix.now other.now.row) place }
 {
     let one_part = times(one.factor, matrix.entry(one.row, place));
     let other_part = times(other.factor, matrix.entry(other.row, place));
@@ -107,7 +109,10 @@ impl Half {
         requires row { row < height matrix.now }
         requires model { model < height matrix.now }
         requires factor { IsEntry factor }
-        ensures { OnOk result (HasPulled (length self.old.inside.items) (Agrees (row_of matrix.now row) factor (row_of matrix.now model)) self.old self.new) }
+        ensures { OnOk result (HasPulled
+            (length self.old.inside.items)
+            (Agrees (row_of matrix.now row) factor (row_of matrix.now model))
+            self.old self.new) }
     {
         let _columns = matrix.columns();
         let words = matrix.support_words(row);
@@ -131,9 +136,12 @@ impl Half {
     fn add_word(&mut self, first: u32, word: u64) -> Result<(), Memory>
         requires half { IsHalf (length self.old.inside.items) self.old }
         requires first { first ≤ 1000 }
-        requires lines { (k : ℕ) → k < 64 → has_bit word k ≡ true → first + k < length self.old.inside.items }
-        ensures taken { OnOk result ((k : ℕ) → k < 64 → has_bit word k ≡ true → is_in self.new (first + k) ≡ true) }
-        ensures grown { OnOk result (HasGrown (length self.old.inside.items) (IsBitOf first word) self.old self.new) }
+        requires lines { (k : ℕ) → k < 64 → has_bit word k ≡ true
+            → first + k < length self.old.inside.items }
+        ensures taken { OnOk result ((k : ℕ) → k < 64 → has_bit word k ≡ true
+            → is_in self.new (first + k) ≡ true) }
+        ensures grown { OnOk result (HasGrown (length self.old.inside.items) (IsBitOf first word)
+            self.old self.new) }
         ensures seen { OnOk result (self.new.seen ≡ self.old.seen) }
     {
         let bits = [word];
@@ -161,7 +169,11 @@ impl Half {
         requires other_row { other.now.row < height matrix.now }
         requires one_factor { IsSmall one.now.factor }
         requires other_factor { IsSmall other.now.factor }
-        ensures { OnOk result (HasPulled (length self.old.inside.items) (AgreesWithSum (row_of matrix.now row) one.now.factor (row_of matrix.now one.now.row) other.now.factor (row_of matrix.now other.now.row)) self.old self.new) }
+        ensures { OnOk result (HasPulled
+            (length self.old.inside.items)
+            (AgreesWithSum (row_of matrix.now row) one.now.factor (row_of matrix.now one.now.row)
+            other.now.factor (row_of matrix.now other.now.row))
+            self.old self.new) }
     {
         self.pull_along(matrix, row, row, one, other)?;
         self.pull_along(matrix, one.row, row, one, other)?;
@@ -186,8 +198,16 @@ impl Half {
         requires other_row { other.now.row < height matrix.now }
         requires one_factor { IsSmall one.now.factor }
         requires other_factor { IsSmall other.now.factor }
-        ensures grown { OnOk result (HasGrown (length self.old.inside.items) (λ line. ¬ (AgreesWithSum (row_of matrix.now row) one.now.factor (row_of matrix.now one.now.row) other.now.factor (row_of matrix.now other.now.row) line)) self.old self.new) }
-        ensures agree { OnOk result ((line : ℕ) → support matrix.now along line ≡ true → is_in self.new line ≡ false → AgreesWithSum (row_of matrix.now row) one.now.factor (row_of matrix.now one.now.row) other.now.factor (row_of matrix.now other.now.row) line) }
+        ensures grown { OnOk result (HasGrown
+            (length self.old.inside.items)
+            (λ line. ¬ (AgreesWithSum (row_of matrix.now row) one.now.factor
+            (row_of matrix.now one.now.row) other.now.factor (row_of matrix.now other.now.row)
+            line))
+            self.old self.new) }
+        ensures agree { OnOk result ((line : ℕ) → support matrix.now along line ≡ true
+            → is_in self.new line ≡ false
+            → AgreesWithSum (row_of matrix.now row) one.now.factor (row_of matrix.now one.now.row)
+            other.now.factor (row_of matrix.now other.now.row) line) }
     {
         let mut from = 0;
         while let Some(line) = matrix.next_nonzero(along, from) {
@@ -215,8 +235,14 @@ impl Half {
         requires one_factor { IsSmall one.now.factor }
         requires other_factor { IsSmall other.now.factor }
         requires line { line < length self.now.inside.items }
-        ensures yes { result ≡ true → ¬ (AgreesWithSum (row_of matrix.now row) one.now.factor (row_of matrix.now one.now.row) other.now.factor (row_of matrix.now other.now.row) line) }
-        ensures no { result ≡ false → (is_in self.now line ≡ true) ⊎ AgreesWithSum (row_of matrix.now row) one.now.factor (row_of matrix.now one.now.row) other.now.factor (row_of matrix.now other.now.row) line }
+        ensures yes { result ≡ true
+            → ¬ (AgreesWithSum (row_of matrix.now row) one.now.factor
+            (row_of matrix.now one.now.row) other.now.factor (row_of matrix.now other.now.row)
+            line) }
+        ensures no { result ≡ false
+            → (is_in self.now line ≡ true)
+            ⊎ AgreesWithSum (row_of matrix.now row) one.now.factor (row_of matrix.now one.now.row)
+            other.now.factor (row_of matrix.now other.now.row) line }
     {
         if self.inside[line as usize] {
             return false;
@@ -240,7 +266,8 @@ impl Half {
     /// A line whose pulls were not followed yet, which counts as followed from now on.
     pub fn next(&mut self) -> Option<u32>
         requires { IsHalf (length self.old.inside.items) self.old }
-        ensures { MatchOption result (length self.old.fresh.items ≡ 0) (λ line. HasTaken (length self.old.inside.items) line self.old self.new) }
+        ensures { MatchOption result (length self.old.fresh.items ≡ 0) (λ line.
+            HasTaken (length self.old.inside.items) line self.old self.new) }
     {
         self.fresh.pop()
     }

@@ -75,7 +75,9 @@ fn put_outside(set: &mut Vec<u64>, one: &[u64], other: &[u64])
     requires one { length one.now ≡ length set.old.items }
     requires other { length other.now ≡ length set.old.items }
     ensures size { length set.new.items ≡ length set.old.items }
-    ensures columns { (column : ℕ) → has_column set.new.items column ≡ (has_column one.now column && not (has_column other.now column)) }
+    ensures columns { (column : ℕ)
+        → has_column set.new.items column
+        ≡ (has_column one.now column && not (has_column other.now column)) }
 {
     clear_set(set);
     add_outside(set, one, other);

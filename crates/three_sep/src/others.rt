@@ -46,8 +46,12 @@ pub fn line_at(views: &RowsAndColumns<'_>, place: u32) -> Line
 pub fn is_first_other(views: &RowsAndColumns<'_>, form: Form, corners: &Corners, q: u32) -> bool
     requires inside { AreInside views.now corners.now }
     requires line { IsLine (height views.now) views.now.width (other_line (first_is_flat form) q) }
-    ensures yes { result ≡ true → IsFirstOther (first_is_flat form) (entry views.now) corners.now.i corners.now.p corners.now.k corners.now.j q }
-    ensures no { result ≡ false → ¬ (IsFirstOther (first_is_flat form) (entry views.now) corners.now.i corners.now.p corners.now.k corners.now.j q) }
+    ensures yes { result ≡ true
+        → IsFirstOther (first_is_flat form) (entry views.now) corners.now.i corners.now.p
+        corners.now.k corners.now.j q }
+    ensures no { result ≡ false
+        → ¬ (IsFirstOther (first_is_flat form) (entry views.now) corners.now.i corners.now.p
+        corners.now.k corners.now.j q) }
 {
     if form.first_is_flat() {
         is_flat_other(views, corners.i, corners.k, q)
@@ -60,8 +64,12 @@ pub fn is_first_other(views: &RowsAndColumns<'_>, form: Form, corners: &Corners,
 pub fn is_second_other(views: &RowsAndColumns<'_>, form: Form, corners: &Corners, o: u32) -> bool
     requires inside { AreInside views.now corners.now }
     requires line { IsLine (height views.now) views.now.width (other_line (second_is_flat form) o) }
-    ensures yes { result ≡ true → IsSecondOther (second_is_flat form) (entry views.now) corners.now.i corners.now.p corners.now.k corners.now.j o }
-    ensures no { result ≡ false → ¬ (IsSecondOther (second_is_flat form) (entry views.now) corners.now.i corners.now.p corners.now.k corners.now.j o) }
+    ensures yes { result ≡ true
+        → IsSecondOther (second_is_flat form) (entry views.now) corners.now.i corners.now.p
+        corners.now.k corners.now.j o }
+    ensures no { result ≡ false
+        → ¬ (IsSecondOther (second_is_flat form) (entry views.now) corners.now.i corners.now.p
+        corners.now.k corners.now.j o) }
 {
     if form.second_is_flat() {
         is_flat_other(views, corners.k, corners.i, o)
@@ -75,8 +83,10 @@ fn is_flat_other(views: &RowsAndColumns<'_>, own: u32, across: u32, other: u32) 
     requires own { own < height views.now }
     requires across { across < height views.now }
     requires other { other < views.now.width }
-    ensures yes { result ≡ true → (entry views.now own other ≡ pos 0) × (entry views.now across other ≢ pos 0) }
-    ensures no { result ≡ false → ¬ ((entry views.now own other ≡ pos 0) × (entry views.now across other ≢ pos 0)) }
+    ensures yes { result ≡ true
+        → (entry views.now own other ≡ pos 0) × (entry views.now across other ≢ pos 0) }
+    ensures no { result ≡ false
+        → ¬ ((entry views.now own other ≡ pos 0) × (entry views.now across other ≢ pos 0)) }
 {
     if views.is_nonzero(own, other) {
         return false;
@@ -89,8 +99,10 @@ fn is_tall_other(views: &RowsAndColumns<'_>, own: u32, across: u32, other: u32) 
     requires own { own < views.now.width }
     requires across { across < views.now.width }
     requires other { other < height views.now }
-    ensures yes { result ≡ true → (entry views.now other own ≡ pos 0) × (entry views.now other across ≢ pos 0) }
-    ensures no { result ≡ false → ¬ ((entry views.now other own ≡ pos 0) × (entry views.now other across ≢ pos 0)) }
+    ensures yes { result ≡ true
+        → (entry views.now other own ≡ pos 0) × (entry views.now other across ≢ pos 0) }
+    ensures no { result ≡ false
+        → ¬ ((entry views.now other own ≡ pos 0) × (entry views.now other across ≢ pos 0)) }
 {
     if views.is_nonzero(other, own) {
         return false;
@@ -100,9 +112,13 @@ fn is_tall_other(views: &RowsAndColumns<'_>, own: u32, across: u32, other: u32) 
 
 /// Whether a line is in neither connector.
 pub fn is_beside(form: Form, corners: &Corners, q: u32, o: u32, line: Line) -> bool
-    ensures first { result ≡ true → ¬ (Among (connector (first_is_flat form) corners.now.i corners.now.p q) line) }
-    ensures second { result ≡ true → ¬ (Among (connector (second_is_flat form) corners.now.k corners.now.j o) line) }
-    ensures no { result ≡ false → Among (connector (first_is_flat form) corners.now.i corners.now.p q) line ⊎ Among (connector (second_is_flat form) corners.now.k corners.now.j o) line }
+    ensures first { result ≡ true
+        → ¬ (Among (connector (first_is_flat form) corners.now.i corners.now.p q) line) }
+    ensures second { result ≡ true
+        → ¬ (Among (connector (second_is_flat form) corners.now.k corners.now.j o) line) }
+    ensures no { result ≡ false
+        → Among (connector (first_is_flat form) corners.now.i corners.now.p q) line
+        ⊎ Among (connector (second_is_flat form) corners.now.k corners.now.j o) line }
 {
     if is_in_connector(form.first_is_flat(), corners.i, corners.p, q, line) {
         return false;

@@ -14,7 +14,8 @@ use cmr_base::RowsAndColumns;
 /// first connector has column j.
 pub fn is_second_pulled(views: &RowsAndColumns<'_>, connectors: &Connectors) -> bool
     requires placed { ArePlaced views.now connectors.now }
-    requires determinant { IsSign (core_determinant (entry views.now) (first_of connectors.now) (second_of connectors.now)) }
+    requires determinant { IsSign (core_determinant (entry views.now) (first_of connectors.now)
+        (second_of connectors.now)) }
     ensures { result ≡ true → HasNoLeaving views.now connectors.now (first_lines connectors.now) }
 {
     for column in 0..views.columns() {
@@ -32,9 +33,16 @@ pub fn is_second_pulled(views: &RowsAndColumns<'_>, connectors: &Connectors) -> 
 // Whether a column pulls in a row that is not 0 in column j.
 fn pulls_row(views: &RowsAndColumns<'_>, connectors: &Connectors, column: u32) -> bool
     requires placed { ArePlaced views.now connectors.now }
-    requires determinant { IsSign (core_determinant (entry views.now) (first_of connectors.now) (second_of connectors.now)) }
+    requires determinant { IsSign (core_determinant (entry views.now) (first_of connectors.now)
+        (second_of connectors.now)) }
     requires column { column < views.now.width }
-    ensures { result ≡ true → (r : ℕ) × (r < height views.now) × (entry views.now r connectors.now.corners.j ≢ pos 0) × (entry views.now r column ≢ spread_at (entry views.now) (first_of connectors.now) (second_of connectors.now) r column) }
+    ensures { result ≡ true
+        → (r : ℕ)
+        × (r < height views.now)
+        × (entry views.now r connectors.now.corners.j ≢ pos 0)
+        × (entry views.now r column
+        ≢ spread_at (entry views.now) (first_of connectors.now) (second_of connectors.now) r
+        column) }
 {
     let one = part_of_first(views, connectors, column);
     let other = part_of_other(views, connectors, column);

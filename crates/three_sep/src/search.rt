@@ -34,7 +34,8 @@ pub fn three_separation<R: Threads + Sync>(
     workers: u32,
 ) -> Result<Option<Three>, Memory>
     requires { (1 ≤ workers) × (workers ≤ 64) }
-    ensures { IfOk result (λ found. MatchOption found (HasNoThreeSeparation matrix.now) (λ three. IsFirstThreeSeparation matrix.now three)) }
+    ensures { IfOk result (λ found. MatchOption found (HasNoThreeSeparation matrix.now)
+        (λ three. IsFirstThreeSeparation matrix.now three)) }
 {
     let views = RowsAndColumns::new(alloc, matrix)?;
     Search::new(alloc, &views)?.first(rt, alloc, workers, &views)
@@ -60,7 +61,8 @@ impl Search {
         ensures side { IfOk result (λ search. HasSize views.now search.side) }
         ensures grown { IfOk result (λ search. HasSize views.now search.grown) }
         ensures names { IfOk result (λ search. HasNames views.now search.groups) }
-        ensures together { IfOk result (λ search. HoldTogether (IsCut views.now) views.now search.groups) }
+        ensures together { IfOk result (λ search.
+            HoldTogether (IsCut views.now) views.now search.groups) }
     {
         Ok(Search {
             side: Side::new(alloc, views)?,
@@ -145,8 +147,10 @@ impl Search {
         ensures grown { OnOk result (HasSize views.now self.new.grown) }
         ensures names { OnOk result (HasNames views.now self.new.groups) }
         ensures together { OnOk result (HoldTogether (IsCut views.now) views.now self.new.groups) }
-        ensures first { IfOk result (λ answer. IfSome answer (IsFirstOf views.now (form_number form ∷ []))) }
-        ensures none { IfOk result (λ answer. IfNone answer (HasNoGood views.now (form_number form ∷ []))) }
+        ensures first { IfOk result (λ answer.
+            IfSome answer (IsFirstOf views.now (form_number form ∷ []))) }
+        ensures none { IfOk result (λ answer.
+            IfNone answer (HasNoGood views.now (form_number form ∷ []))) }
     {
         for i in 0..views.rows() {
             if let Some(three) = self.first_of_row(rt, alloc, workers, views, form, i)? {
@@ -177,8 +181,10 @@ impl Search {
         ensures grown { OnOk result (HasSize views.now self.new.grown) }
         ensures names { OnOk result (HasNames views.now self.new.groups) }
         ensures together { OnOk result (HoldTogether (IsCut views.now) views.now self.new.groups) }
-        ensures first { IfOk result (λ answer. IfSome answer (IsFirstOf views.now (form_number form ∷ i ∷ []))) }
-        ensures none { IfOk result (λ answer. IfNone answer (HasNoGood views.now (form_number form ∷ i ∷ []))) }
+        ensures first { IfOk result (λ answer.
+            IfSome answer (IsFirstOf views.now (form_number form ∷ i ∷ []))) }
+        ensures none { IfOk result (λ answer.
+            IfNone answer (HasNoGood views.now (form_number form ∷ i ∷ []))) }
     {
         if self.groups.are_all_one() {
             return Ok(None);
@@ -217,8 +223,10 @@ impl Search {
         ensures grown { OnOk result (HasSize views.now self.new.grown) }
         ensures names { OnOk result (HasNames views.now self.new.groups) }
         ensures together { OnOk result (HoldTogether (IsCut views.now) views.now self.new.groups) }
-        ensures first { IfOk result (λ answer. IfSome answer (IsFirstOf views.now (form_number form ∷ i ∷ p ∷ []))) }
-        ensures none { IfOk result (λ answer. IfNone answer (HasNoGood views.now (form_number form ∷ i ∷ p ∷ []))) }
+        ensures first { IfOk result (λ answer.
+            IfSome answer (IsFirstOf views.now (form_number form ∷ i ∷ p ∷ []))) }
+        ensures none { IfOk result (λ answer.
+            IfNone answer (HasNoGood views.now (form_number form ∷ i ∷ p ∷ []))) }
     {
         for k in 0..views.rows() {
             if is_second_row(views, &self.groups, i, p, k) {
@@ -259,8 +267,10 @@ impl Search {
         ensures grown { OnOk result (HasSize views.now self.new.grown) }
         ensures names { OnOk result (HasNames views.now self.new.groups) }
         ensures together { OnOk result (HoldTogether (IsCut views.now) views.now self.new.groups) }
-        ensures first { IfOk result (λ answer. IfSome answer (IsFirstOf views.now (form_number form ∷ i ∷ p ∷ k ∷ []))) }
-        ensures none { IfOk result (λ answer. IfNone answer (HasNoGood views.now (form_number form ∷ i ∷ p ∷ k ∷ []))) }
+        ensures first { IfOk result (λ answer.
+            IfSome answer (IsFirstOf views.now (form_number form ∷ i ∷ p ∷ k ∷ []))) }
+        ensures none { IfOk result (λ answer.
+            IfNone answer (HasNoGood views.now (form_number form ∷ i ∷ p ∷ k ∷ []))) }
     {
         self.ask(alloc, views)?;
         if workers > 1 && is_large(views, &self.groups, i, p, k) {
@@ -307,8 +317,10 @@ impl Search {
         ensures side { OnOk result (HasSize views.now self.new.side) }
         ensures grown { OnOk result (HasSize views.now self.new.grown) }
         ensures groups { self.new.groups ≡ self.old.groups }
-        ensures first { IfOk result (λ answer. IfSome answer (IsFirstOf views.now (form_number form ∷ i ∷ p ∷ k ∷ []))) }
-        ensures none { IfOk result (λ answer. IfNone answer (HasNoGood views.now (form_number form ∷ i ∷ p ∷ k ∷ []))) }
+        ensures first { IfOk result (λ answer.
+            IfSome answer (IsFirstOf views.now (form_number form ∷ i ∷ p ∷ k ∷ []))) }
+        ensures none { IfOk result (λ answer.
+            IfNone answer (HasNoGood views.now (form_number form ∷ i ∷ p ∷ k ∷ []))) }
     {
         let columns = open_columns(alloc, views, &mut self.side, &self.groups, i, p, k)?;
         let block = Block::new(views, columns, form, i, p, k);
@@ -347,14 +359,19 @@ impl Search {
         requires side { HasSize views.now self.old.side }
         requires grown { HasSize views.now self.old.grown }
         requires inside { AreInside views.now corners.now }
-        requires corners { AreCorners (entry views.now) corners.now.i corners.now.p corners.now.k corners.now.j }
-        requires first_line { IsLine (height views.now) views.now.width (other_line (first_is_flat form) q) }
-        requires second_line { IsLine (height views.now) views.now.width (other_line (second_is_flat form) o) }
+        requires corners { AreCorners (entry views.now) corners.now.i corners.now.p corners.now.k
+            corners.now.j }
+        requires first_line { IsLine (height views.now) views.now.width
+            (other_line (first_is_flat form) q) }
+        requires second_line { IsLine (height views.now) views.now.width
+            (other_line (second_is_flat form) o) }
         ensures side { OnOk result (HasSize views.now self.new.side) }
         ensures grown { OnOk result (HasSize views.now self.new.grown) }
         ensures groups { self.new.groups ≡ self.old.groups }
-        ensures first { IfOk result (λ answer. IfSome answer (IsFirstOf views.now (corner_front form corners.now ++ q ∷ o ∷ []))) }
-        ensures none { IfOk result (λ answer. IfNone answer (HasNoGood views.now (corner_front form corners.now ++ q ∷ o ∷ []))) }
+        ensures first { IfOk result (λ answer.
+            IfSome answer (IsFirstOf views.now (corner_front form corners.now ++ q ∷ o ∷ []))) }
+        ensures none { IfOk result (λ answer.
+            IfNone answer (HasNoGood views.now (corner_front form corners.now ++ q ∷ o ∷ []))) }
     {
         if !self.hold_first(views, form, corners, q)? {
             return Ok(None);
@@ -374,12 +391,15 @@ impl Search {
         requires side { HasSize views.now self.old.side }
         requires grown { HasSize views.now self.old.grown }
         requires inside { AreInside views.now corners.now }
-        requires corners { AreCorners (entry views.now) corners.now.i corners.now.p corners.now.k corners.now.j }
+        requires corners { AreCorners (entry views.now) corners.now.i corners.now.p corners.now.k
+            corners.now.j }
         ensures side { OnOk result (HasSize views.now self.new.side) }
         ensures grown { OnOk result (HasSize views.now self.new.grown) }
         ensures groups { self.new.groups ≡ self.old.groups }
-        ensures first { IfOk result (λ answer. IfSome answer (IsFirstOf views.now (corner_front form corners.now))) }
-        ensures none { IfOk result (λ answer. IfNone answer (HasNoGood views.now (corner_front form corners.now))) }
+        ensures first { IfOk result (λ answer.
+            IfSome answer (IsFirstOf views.now (corner_front form corners.now))) }
+        ensures none { IfOk result (λ answer.
+            IfNone answer (HasNoGood views.now (corner_front form corners.now))) }
     {
         if !may_cut(views, &mut self.side, corners)? {
             self.count_tries(1);
@@ -405,12 +425,16 @@ impl Search {
     ) -> Result<bool, Memory>
         requires side { HasSize views.now self.old.side }
         requires inside { AreInside views.now corners.now }
-        requires line { IsLine (height views.now) views.now.width (other_line (first_is_flat form) q) }
+        requires line { IsLine (height views.now) views.now.width
+            (other_line (first_is_flat form) q) }
         ensures grown { self.new.grown ≡ self.old.grown }
         ensures groups { self.new.groups ≡ self.old.groups }
         ensures side { OnOk result (HasSize views.now self.new.side) }
-        ensures held { IfOk result (λ held. held ≡ true → HoldsFirst views.now form corners.now q self.new.side) }
-        ensures no { IfOk result (λ held. held ≡ false → ¬ (IsFirstOther (first_is_flat form) (entry views.now) corners.now.i corners.now.p corners.now.k corners.now.j q)) }
+        ensures held { IfOk result (λ held. held ≡ true
+            → HoldsFirst views.now form corners.now q self.new.side) }
+        ensures no { IfOk result (λ held. held ≡ false
+            → ¬ (IsFirstOther (first_is_flat form) (entry views.now) corners.now.i corners.now.p
+            corners.now.k corners.now.j q)) }
     {
         if !is_first_other(views, form, corners, q) {
             return Ok(false);
@@ -434,13 +458,17 @@ impl Search {
         requires held { HoldsFirst views.now form corners.now q self.old.side }
         requires grown { HasSize views.now self.old.grown }
         requires inside { AreInside views.now corners.now }
-        requires corners { AreCorners (entry views.now) corners.now.i corners.now.p corners.now.k corners.now.j }
-        requires line { IsLine (height views.now) views.now.width (other_line (first_is_flat form) q) }
+        requires corners { AreCorners (entry views.now) corners.now.i corners.now.p corners.now.k
+            corners.now.j }
+        requires line { IsLine (height views.now) views.now.width
+            (other_line (first_is_flat form) q) }
         ensures side { OnOk result (HasSize views.now self.new.side) }
         ensures grown { OnOk result (HasSize views.now self.new.grown) }
         ensures groups { self.new.groups ≡ self.old.groups }
-        ensures first { IfOk result (λ answer. IfSome answer (IsFirstOf views.now (corner_front form corners.now ++ q ∷ []))) }
-        ensures none { IfOk result (λ answer. IfNone answer (HasNoGood views.now (corner_front form corners.now ++ q ∷ []))) }
+        ensures first { IfOk result (λ answer.
+            IfSome answer (IsFirstOf views.now (corner_front form corners.now ++ q ∷ []))) }
+        ensures none { IfOk result (λ answer.
+            IfNone answer (HasNoGood views.now (corner_front form corners.now ++ q ∷ []))) }
     {
         for o in 0..count_of(views, form.second_is_flat()) {
             if let Some(three) = self.first_of_other(alloc, views, form, corners, q, o)? {
@@ -464,14 +492,19 @@ impl Search {
         requires held { HoldsFirst views.now form corners.now q self.old.side }
         requires grown { HasSize views.now self.old.grown }
         requires inside { AreInside views.now corners.now }
-        requires corners { AreCorners (entry views.now) corners.now.i corners.now.p corners.now.k corners.now.j }
-        requires first_line { IsLine (height views.now) views.now.width (other_line (first_is_flat form) q) }
-        requires second_line { IsLine (height views.now) views.now.width (other_line (second_is_flat form) o) }
+        requires corners { AreCorners (entry views.now) corners.now.i corners.now.p corners.now.k
+            corners.now.j }
+        requires first_line { IsLine (height views.now) views.now.width
+            (other_line (first_is_flat form) q) }
+        requires second_line { IsLine (height views.now) views.now.width
+            (other_line (second_is_flat form) o) }
         ensures side { self.new.side ≡ self.old.side }
         ensures grown { OnOk result (HasSize views.now self.new.grown) }
         ensures groups { self.new.groups ≡ self.old.groups }
-        ensures first { IfOk result (λ answer. IfSome answer (IsFirstOf views.now (corner_front form corners.now ++ q ∷ o ∷ []))) }
-        ensures none { IfOk result (λ answer. IfNone answer (HasNoGood views.now (corner_front form corners.now ++ q ∷ o ∷ []))) }
+        ensures first { IfOk result (λ answer.
+            IfSome answer (IsFirstOf views.now (corner_front form corners.now ++ q ∷ o ∷ []))) }
+        ensures none { IfOk result (λ answer.
+            IfNone answer (HasNoGood views.now (corner_front form corners.now ++ q ∷ o ∷ []))) }
     {
         if !is_second_other(views, form, corners, o) {
             return Ok(None);
@@ -494,19 +527,28 @@ impl Search {
     ) -> Result<Option<Three>, Memory>
         requires crossing { IsCrossing form }
         requires room { HasRoom views.now self.old.side }
-        requires growing { IsGrowing views.now corners.now (connector (first_is_flat form) corners.now.i corners.now.p q) self.old.side }
+        requires growing { IsGrowing views.now corners.now
+            (connector (first_is_flat form) corners.now.i corners.now.p q)
+            self.old.side }
         requires grown { HasSize views.now self.old.grown }
         requires inside { AreInside views.now corners.now }
-        requires corners { AreCorners (entry views.now) corners.now.i corners.now.p corners.now.k corners.now.j }
-        requires first_other { IsFirstOther (first_is_flat form) (entry views.now) corners.now.i corners.now.p corners.now.k corners.now.j q }
-        requires first_line { IsLine (height views.now) views.now.width (other_line (first_is_flat form) q) }
-        requires second_other { IsSecondOther (second_is_flat form) (entry views.now) corners.now.i corners.now.p corners.now.k corners.now.j o }
-        requires second_line { IsLine (height views.now) views.now.width (other_line (second_is_flat form) o) }
+        requires corners { AreCorners (entry views.now) corners.now.i corners.now.p corners.now.k
+            corners.now.j }
+        requires first_other { IsFirstOther (first_is_flat form) (entry views.now) corners.now.i
+            corners.now.p corners.now.k corners.now.j q }
+        requires first_line { IsLine (height views.now) views.now.width
+            (other_line (first_is_flat form) q) }
+        requires second_other { IsSecondOther (second_is_flat form) (entry views.now) corners.now.i
+            corners.now.p corners.now.k corners.now.j o }
+        requires second_line { IsLine (height views.now) views.now.width
+            (other_line (second_is_flat form) o) }
         ensures side { self.new.side ≡ self.old.side }
         ensures grown { OnOk result (HasSize views.now self.new.grown) }
         ensures groups { self.new.groups ≡ self.old.groups }
-        ensures first { IfOk result (λ answer. IfSome answer (IsFirstOf views.now (corner_front form corners.now ++ q ∷ o ∷ []))) }
-        ensures none { IfOk result (λ answer. IfNone answer (HasNoGood views.now (corner_front form corners.now ++ q ∷ o ∷ []))) }
+        ensures first { IfOk result (λ answer.
+            IfSome answer (IsFirstOf views.now (corner_front form corners.now ++ q ∷ o ∷ []))) }
+        ensures none { IfOk result (λ answer.
+            IfNone answer (HasNoGood views.now (corner_front form corners.now ++ q ∷ o ∷ []))) }
     {
         for place in 0..views.rows() + views.columns() {
             let line = line_at(views, place);
@@ -534,8 +576,11 @@ impl Search {
         ensures side { self.new.side ≡ self.old.side }
         ensures groups { self.new.groups ≡ self.old.groups }
         ensures room { OnOk result (HasRoom views.now self.new.grown) }
-        ensures least { OnOk result ((start : List Line) → IsGrowing views.now corners.now start self.old.side → IsLeast views.now corners.now (line ∷ start) (set_of self.new.grown)) }
-        ensures good { IfOk result (λ good. IsTrue good ↔ LeavesSecond views.now corners.now second (set_of self.new.grown)) }
+        ensures least { OnOk result ((start : List Line)
+            → IsGrowing views.now corners.now start self.old.side
+            → IsLeast views.now corners.now (line ∷ start) (set_of self.new.grown)) }
+        ensures good { IfOk result (λ good. IsTrue good
+            ↔ LeavesSecond views.now corners.now second (set_of self.new.grown)) }
     {
         self.grown.copy(&self.side)?;
         self.grown.add(views, line)?;
@@ -649,9 +694,12 @@ pub fn separation_of(
 ) -> Result<Three, Memory>
     requires { HasRoom views.now grown.now }
     ensures form { IfOk result (λ three. three.form ≡ form) }
-    ensures first { IfOk result (λ three. three.first ≡ record { row = corners.now.i; column = corners.now.p; other = q }) }
-    ensures second { IfOk result (λ three. three.second ≡ record { row = corners.now.k; column = corners.now.j; other = o }) }
-    ensures lines { IfOk result (λ three. HasLines (height views.now) views.now.width (set_of grown.now) three.side.rows three.side.columns) }
+    ensures first { IfOk result (λ three. three.first
+        ≡ record { row = corners.now.i; column = corners.now.p; other = q }) }
+    ensures second { IfOk result (λ three. three.second
+        ≡ record { row = corners.now.k; column = corners.now.j; other = o }) }
+    ensures lines { IfOk result (λ three. HasLines (height views.now) views.now.width
+        (set_of grown.now) three.side.rows three.side.columns) }
 {
     Ok(Three {
         form,
@@ -675,7 +723,8 @@ pub fn separation_of(
 fn indices_of(alloc: Global, half: &Half, count: u32) -> Result<Indices, Memory>
     requires { IsHalf count half.now }
     ensures rising { IfOk result IsStrictlyIncreasing }
-    ensures lines { IfOk result (λ lines. (line : ℕ) → IsIn line lines ↔ ((line < count) × (is_in half.now line ≡ true))) }
+    ensures lines { IfOk result (λ lines. (line : ℕ) → IsIn line lines
+        ↔ ((line < count) × (is_in half.now line ≡ true))) }
 {
     let mut lines = Indices::new(alloc);
     for line in 0..count {

@@ -40,7 +40,8 @@ impl Side {
         requires corners { AreInside views.now corners.now }
         requires line { IsLine (height views.now) views.now.width line }
         ensures room { OnOk result (HasRoom views.now self.new) }
-        ensures growing { OnOk result (IsGrowing views.now corners.now (start_lines corners.now line) self.new) }
+        ensures growing { OnOk result (IsGrowing views.now corners.now
+            (start_lines corners.now line) self.new) }
     {
         match line {
             Line::Row(row) => {
@@ -60,7 +61,9 @@ impl Side {
         requires room { HasRoom views.now self.old }
         requires line { IsLine (height views.now) views.now.width line }
         ensures room { OnOk result (HasRoom views.now self.new) }
-        ensures growing { OnOk result ((upper lower : ℕ → ℕ → ℤ) (start : List Line) → IsGrowingBy views.now upper lower start self.old → IsGrowingBy views.now upper lower (line ∷ start) self.new) }
+        ensures growing { OnOk result ((upper lower : ℕ → ℕ → ℤ) (start : List Line)
+            → IsGrowingBy views.now upper lower start self.old
+            → IsGrowingBy views.now upper lower (line ∷ start) self.new) }
     {
         match line {
             Line::Row(row) => {
@@ -88,7 +91,9 @@ impl Side {
         requires room { HasRoom views.now self.old }
         requires corners { AreInside views.now corners.now }
         ensures room { OnOk result (HasRoom views.now self.new) }
-        ensures closed { IfOk result (λ closed. (start : List Line) → IsGrowing views.now corners.now start self.old → TellsClosed views.now corners.now start closed (set_of self.new)) }
+        ensures closed { IfOk result (λ closed. (start : List Line)
+            → IsGrowing views.now corners.now start self.old
+            → TellsClosed views.now corners.now start closed (set_of self.new)) }
     {
         while self.rows.left() + self.columns.left() >= 4 {
             if self.rows.waiting() + self.columns.waiting() == 0 {
@@ -105,7 +110,9 @@ impl Side {
         requires corners { AreInside views.now corners.now }
         ensures room { OnOk result (HasRoom views.now self.new) }
         ensures growing { OnOk result (KeepsGrowing views.now corners.now self.old self.new) }
-        ensures closed { OnOk result ((start : List Line) → IsGrowing views.now corners.now start self.old → IsLeast views.now corners.now start (set_of self.new)) }
+        ensures closed { OnOk result ((start : List Line)
+            → IsGrowing views.now corners.now start self.old
+            → IsLeast views.now corners.now start (set_of self.new)) }
     {
         while self.rows.waiting() + self.columns.waiting() > 0 {
             self.follow(views, corners)?;
@@ -117,7 +124,8 @@ impl Side {
     fn follow(&mut self, views: &RowsAndColumns<'_>, corners: &Corners) -> Result<(), Memory>
         requires room { HasRoom views.now self.old }
         requires corners { AreInside views.now corners.now }
-        requires waits { 0 < length self.old.rows.fresh.items + length self.old.columns.fresh.items }
+        requires waits { 0
+            < length self.old.rows.fresh.items + length self.old.columns.fresh.items }
         ensures room { OnOk result (HasRoom views.now self.new) }
         ensures growing { OnOk result (KeepsGrowing views.now corners.now self.old self.new) }
         ensures less { OnOk result (work self.new < work self.old) }

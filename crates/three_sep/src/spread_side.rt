@@ -41,10 +41,13 @@ impl Side {
     ) -> Result<bool, Memory>
         requires room { HasRoom views.now self.old }
         requires placed { ArePlaced views.now connectors.now }
-        requires determinant { IsSign (core_determinant (entry views.now) (first_of connectors.now) (second_of connectors.now)) }
+        requires determinant { IsSign (core_determinant (entry views.now) (first_of connectors.now)
+            (second_of connectors.now)) }
         ensures room { OnOk result (HasRoom views.now self.new) }
         ensures growing { OnOk result (KeepsGrowingFor views.now connectors.now self.old self.new) }
-        ensures closed { IfOk result (λ closed. (start : List Line) → IsGrowingFor views.now connectors.now start self.old → TellsClosedFor views.now connectors.now start closed (set_of self.new)) }
+        ensures closed { IfOk result (λ closed. (start : List Line)
+            → IsGrowingFor views.now connectors.now start self.old
+            → TellsClosedFor views.now connectors.now start closed (set_of self.new)) }
     {
         while self.rows.left() + self.columns.left() >= 4 {
             if self.has_second(connectors) {
@@ -60,7 +63,8 @@ impl Side {
 
     // Whether a line of the second connector is in the side.
     fn has_second(&self, connectors: &Connectors) -> bool
-        requires rows { (connectors.now.corners.k < length self.now.rows.inside.items) × (connectors.now.o < length self.now.rows.inside.items) }
+        requires rows { (connectors.now.corners.k < length self.now.rows.inside.items)
+            × (connectors.now.o < length self.now.rows.inside.items) }
         requires columns { connectors.now.corners.j < length self.now.columns.inside.items }
         ensures { result ≡ true → HasSecond connectors.now self.now }
     {
@@ -78,8 +82,10 @@ impl Side {
     ) -> Result<(), Memory>
         requires room { HasRoom views.now self.old }
         requires placed { ArePlaced views.now connectors.now }
-        requires determinant { IsSign (core_determinant (entry views.now) (first_of connectors.now) (second_of connectors.now)) }
-        requires waits { 0 < length self.old.rows.fresh.items + length self.old.columns.fresh.items }
+        requires determinant { IsSign (core_determinant (entry views.now) (first_of connectors.now)
+            (second_of connectors.now)) }
+        requires waits { 0
+            < length self.old.rows.fresh.items + length self.old.columns.fresh.items }
         ensures room { OnOk result (HasRoom views.now self.new) }
         ensures growing { OnOk result (KeepsGrowingFor views.now connectors.now self.old self.new) }
         ensures less { OnOk result (work self.new < work self.old) }
@@ -96,7 +102,8 @@ impl Side {
         requires room { HasRoom views.now self.old }
         requires waits { 0 < length self.old.rows.fresh.items }
         ensures room { OnOk result (HasRoom views.now self.new) }
-        ensures growing { OnOk result ((connectors : Connectors) → KeepsGrowingFor views.now connectors self.old self.new) }
+        ensures growing { OnOk result ((connectors : Connectors)
+            → KeepsGrowingFor views.now connectors self.old self.new) }
         ensures less { OnOk result (work self.new < work self.old) }
     {
         if let Some(row) = self.rows.next() {
@@ -113,7 +120,8 @@ impl Side {
     ) -> Result<(), Memory>
         requires room { HasRoom views.now self.old }
         requires placed { ArePlaced views.now connectors.now }
-        requires determinant { IsSign (core_determinant (entry views.now) (first_of connectors.now) (second_of connectors.now)) }
+        requires determinant { IsSign (core_determinant (entry views.now) (first_of connectors.now)
+            (second_of connectors.now)) }
         requires waits { 0 < length self.old.columns.fresh.items }
         ensures room { OnOk result (HasRoom views.now self.new) }
         ensures growing { OnOk result (KeepsGrowingFor views.now connectors.now self.old self.new) }
@@ -133,9 +141,19 @@ impl Side {
 pub fn part_of_first(views: &RowsAndColumns<'_>, connectors: &Connectors, column: u32) -> Multiple
     requires placed { ArePlaced views.now connectors.now }
     requires column { column < views.now.width }
-    requires determinant { IsSign (core_determinant (entry views.now) (first_of connectors.now) (second_of connectors.now)) }
+    requires determinant { IsSign (core_determinant (entry views.now) (first_of connectors.now)
+        (second_of connectors.now)) }
     ensures row { result.row ≡ connectors.now.corners.p }
-    ensures factor { result.factor ≡ core_determinant (entry views.now) (first_of connectors.now) (second_of connectors.now) *ℤ (entry views.now connectors.now.o connectors.now.q *ℤ entry views.now connectors.now.corners.k column -ℤ entry views.now connectors.now.corners.k connectors.now.q *ℤ entry views.now connectors.now.o column) }
+    ensures factor { result.factor
+        ≡ core_determinant
+        (entry views.now)
+        (first_of connectors.now)
+        (second_of connectors.now)
+        *ℤ
+        (entry views.now connectors.now.o connectors.now.q *ℤ entry views.now
+        connectors.now.corners.k column
+        -ℤ entry views.now connectors.now.corners.k connectors.now.q *ℤ entry views.now
+        connectors.now.o column) }
     ensures small { IsSmall result.factor }
 {
     let k = connectors.corners.k;
@@ -156,9 +174,19 @@ pub fn part_of_first(views: &RowsAndColumns<'_>, connectors: &Connectors, column
 pub fn part_of_other(views: &RowsAndColumns<'_>, connectors: &Connectors, column: u32) -> Multiple
     requires placed { ArePlaced views.now connectors.now }
     requires column { column < views.now.width }
-    requires determinant { IsSign (core_determinant (entry views.now) (first_of connectors.now) (second_of connectors.now)) }
+    requires determinant { IsSign (core_determinant (entry views.now) (first_of connectors.now)
+        (second_of connectors.now)) }
     ensures row { result.row ≡ connectors.now.q }
-    ensures factor { result.factor ≡ core_determinant (entry views.now) (first_of connectors.now) (second_of connectors.now) *ℤ (entry views.now connectors.now.corners.k connectors.now.corners.p *ℤ entry views.now connectors.now.o column -ℤ entry views.now connectors.now.o connectors.now.corners.p *ℤ entry views.now connectors.now.corners.k column) }
+    ensures factor { result.factor
+        ≡ core_determinant
+        (entry views.now)
+        (first_of connectors.now)
+        (second_of connectors.now)
+        *ℤ
+        (entry views.now connectors.now.corners.k connectors.now.corners.p *ℤ entry views.now
+        connectors.now.o column
+        -ℤ entry views.now connectors.now.o connectors.now.corners.p *ℤ entry views.now
+        connectors.now.corners.k column) }
     ensures small { IsSmall result.factor }
 {
     let Corners { p, k, .. } = connectors.corners;

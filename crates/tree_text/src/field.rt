@@ -55,7 +55,8 @@ pub fn next_line(
     whole: Option<&Indices>,
     before: u32,
 ) -> Result<u32, TreeError>
-    ensures read { Reads (λ n. n) words.new result (field Short (next_line most (option_copied whole.entry) before) words.old) }
+    ensures read { Reads (λ n. n) words.new result
+        (field Short (next_line most (option_copied whole.entry) before) words.old) }
     ensures above { IfOk result (λ line. before ≤ line) }
     ensures within { IfOk result (λ line. line < most) }
 {

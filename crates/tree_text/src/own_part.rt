@@ -42,7 +42,8 @@ pub fn read_line_set(
     sizes: Sizes,
     whole: Option<&LineSet>,
 ) -> Result<LineSet, TreeError>
-    ensures read { Reads (λ lines. lines) words.new result (line_set sizes (option_copied whole.entry) words.old) }
+    ensures read { Reads (λ lines. lines) words.new result
+        (line_set sizes (option_copied whole.entry) words.old) }
     ensures rows { IfOk result (λ lines. length lines.rows ≤ sizes.rows) }
     ensures columns { IfOk result (λ lines. length lines.columns ≤ sizes.columns) }
 {
@@ -64,7 +65,8 @@ fn read_rising(
     whole: Option<&Indices>,
     count: u32,
 ) -> Result<Indices, TreeError>
-    ensures read { Reads (λ lines. lines) words.new result (rising_lines most (option_copied whole.entry) count words.old) }
+    ensures read { Reads (λ lines. lines) words.new result
+        (rising_lines most (option_copied whole.entry) count words.old) }
     ensures len { IfOk result (λ lines. length lines ≡ count) }
 {
     let mut lines = Indices::new(alloc);
@@ -84,7 +86,8 @@ fn read_steps(
     lines: &LineSet,
     count: u32,
 ) -> Result<LineList, TreeError>
-    ensures { Reads (λ steps. steps) words.new result (fields Short (step_in sizes lines.now) count words.old) }
+    ensures { Reads (λ steps. steps) words.new result
+        (fields Short (step_in sizes lines.now) count words.old) }
 {
     let mut steps = LineList::new(alloc);
     for _ in 0..count {
@@ -99,7 +102,8 @@ fn read_pairs(
     last: u32,
     count: usize,
 ) -> Result<PairList, TreeError>
-    ensures { Reads (λ pairs. pairs) words.new result (times (another_pair last) count [] words.old) }
+    ensures { Reads (λ pairs. pairs) words.new result
+        (times (another_pair last) count [] words.old) }
 {
     let mut pairs = PairList::new(alloc);
     for _ in 0..count {
@@ -117,7 +121,8 @@ fn read_network(
     walks: &Indices,
 ) -> Result<Network, TreeError>
     requires { length arcs.now ≤ 1000 }
-    ensures { Reads (λ net. net) words.new result (network (length arcs.now) (length walks.now) words.old) }
+    ensures { Reads (λ net. net) words.new result
+        (network (length arcs.now) (length walks.now) words.old) }
 {
     let last = arcs.len() as u32;
     let arcs = read_pairs(alloc, words, last, arcs.len())?;
@@ -246,8 +251,10 @@ pub fn read_front(
 ) -> Result<Box<Front>, TreeError>
     requires rows { header.sizes.rows ≤ 1000 }
     requires columns { header.sizes.columns ≤ 1000 }
-    ensures read { Reads (λ front. front_shown front.value) words.new result (front header (option_copied parent.entry) words.old) }
-    ensures children { IfOk result (λ front. HasChildren (finding_shown front.value.finding) front.value.children) }
+    ensures read { Reads (λ front. front_shown front.value) words.new result
+        (front header (option_copied parent.entry) words.old) }
+    ensures children { IfOk result (λ front.
+        HasChildren (finding_shown front.value.finding) front.value.children) }
 {
     let Header { version, sizes } = header;
     let kind = field::kind(words, version)?;

@@ -66,7 +66,11 @@ fn read_node(
 ) -> Result<(), TreeError>
     requires rows { header.sizes.rows ≤ 1000 }
     requires columns { header.sizes.columns ≤ 1000 }
-    ensures { Reads (λ x. map tree_of nodes.new.items) words.new result (another_tree (node header levels (option_copied parent.entry)) (map tree_of nodes.old.items) words.old) }
+    ensures { Reads
+        (λ x. map tree_of nodes.new.items)
+        words.new result
+        (another_tree (node header levels (option_copied parent.entry))
+        (map tree_of nodes.old.items) words.old) }
 {
     if levels == 0 {
         return Err(too_deep(words));
@@ -95,7 +99,11 @@ fn push_node(
     nodes: &mut Vec<Node>,
 ) -> Result<(), Memory>
     requires { HasChildren (finding_shown front.value.finding) (length children.items) }
-    ensures { OnOk result (map tree_of nodes.new.items ≡ map tree_of nodes.old.items ++ Branch front.value.lines (finding_shown front.value.finding) (trees_from (map tree_of children.items)) ∷ []) }
+    ensures { OnOk result (map tree_of nodes.new.items
+        ≡ map tree_of nodes.old.items
+        ++ Branch front.value.lines (finding_shown front.value.finding)
+        (trees_from (map tree_of children.items))
+        ∷ []) }
 {
     let front = Box::into_inner(front);
     nodes.push(join_node(alloc, front.lines, front.finding, children)?)?;

@@ -20,9 +20,11 @@ use tree_type::{DecTree, Kind, Node, PivotPlace};
 
 /// The canonical text of a tree: in version 2, or a text of pivots where a node is pivoted.
 pub fn write_tree(alloc: Global, tree: &DecTree) -> Result<Vec<u8>, Memory>
-    ensures text { IfOk result (λ v. v.items ≡ tree_text tree.now.rows tree.now.columns (tree_of tree.now.root)) }
+    ensures text { IfOk result (λ v. v.items ≡ tree_text tree.now.rows tree.now.columns
+        (tree_of tree.now.root)) }
     // It is read again as the same tree.
-    ensures again { IfOk result (λ v. reading.tree (text_of v.items) ≡ Ok (reading.plain tree.now)) }
+    ensures again { IfOk result (λ v. reading.tree (text_of v.items)
+        ≡ Ok (reading.plain tree.now)) }
     // It has a byte or more for each node.
     ensures nodes { IfOk result (λ v. node_count (tree_of tree.now.root) ≤ length v.items) }
 {
@@ -39,7 +41,8 @@ pub fn write_tree(alloc: Global, tree: &DecTree) -> Result<Vec<u8>, Memory>
 #[tactic(auto, using(crate::proofs::WrittenLines::both_written))]
 fn write_node(alloc: Global, text: &mut Writer, node: &Node) -> Result<(), Memory>
     requires { text.old.is_begun ≡ false }
-    ensures lines { OnOk result (text.new ≡ fold with_line text.old (node_lines (tree_of node.now))) }
+    ensures lines { OnOk result (text.new ≡ fold with_line text.old (node_lines
+        (tree_of node.now))) }
     ensures at_start { OnOk result (text.new.is_begun ≡ false) }
 {
     write_front(alloc, text, node)?;
@@ -79,7 +82,8 @@ fn write_node(alloc: Global, text: &mut Writer, node: &Node) -> Result<(), Memor
 // A line with the node's kind and its lines, and one with its own part.
 fn write_front(alloc: Global, text: &mut Writer, node: &Node) -> Result<(), Memory>
     requires { text.old.is_begun ≡ false }
-    ensures lines { OnOk result (text.new ≡ fold with_line text.old (front_lines (tree_of node.now))) }
+    ensures lines { OnOk result (text.new ≡ fold with_line text.old (front_lines
+        (tree_of node.now))) }
     ensures at_start { OnOk result (text.new.is_begun ≡ false) }
 {
     write_first_line(text, node)?;
@@ -88,7 +92,9 @@ fn write_front(alloc: Global, text: &mut Writer, node: &Node) -> Result<(), Memo
 
 fn write_first_line(text: &mut Writer, node: &Node) -> Result<(), Memory>
     requires { text.old.is_begun ≡ false }
-    ensures { OnOk result (text.new ≡ with_line text.old (word_of (kind_of (finding_of (tree_of node.now))) ∷ set_words node.now.lines)) }
+    ensures { OnOk result (text.new ≡ with_line text.old (word_of (kind_of (finding_of
+        (tree_of node.now)))
+        ∷ set_words node.now.lines)) }
 {
     text.word(word_of(kind_of(node)))?;
     write_set(text, &node.lines)?;
@@ -121,7 +127,8 @@ fn write_fault(text: &mut Writer, fault: &LineSet) -> Result<(), Memory>
 
 fn write_steps(alloc: Global, text: &mut Writer, steps: &[Line]) -> Result<(), Memory>
     requires { text.old.is_begun ≡ false }
-    ensures { OnOk result (text.new ≡ with_line text.old (decimal (length steps.now) ∷ map line_name steps.now)) }
+    ensures { OnOk result (text.new ≡ with_line text.old (decimal (length steps.now)
+        ∷ map line_name steps.now)) }
 {
     write_count(text, steps.len())?;
     write_line_names(alloc, text, steps)?;
@@ -150,7 +157,8 @@ fn write_network(text: &mut Writer, net: &Network) -> Result<(), Memory>
 
 fn write_two(text: &mut Writer, two: &Two) -> Result<(), Memory>
     requires { text.old.is_begun ≡ false }
-    ensures { OnOk result (text.new ≡ with_line text.old (number_of_line two.now.row ∷ number_of_line two.now.column ∷ set_words two.now.side)) }
+    ensures { OnOk result (text.new ≡ with_line text.old (number_of_line two.now.row
+        ∷ number_of_line two.now.column ∷ set_words two.now.side)) }
 {
     write_line(text, two.row)?;
     write_line(text, two.column)?;
@@ -160,7 +168,8 @@ fn write_two(text: &mut Writer, two: &Two) -> Result<(), Memory>
 
 fn write_place(text: &mut Writer, place: PivotPlace) -> Result<(), Memory>
     requires { text.old.is_begun ≡ false }
-    ensures { OnOk result (text.new ≡ with_line text.old (number_of_line place.row ∷ number_of_line place.column ∷ [])) }
+    ensures { OnOk result (text.new ≡ with_line text.old (number_of_line place.row
+        ∷ number_of_line place.column ∷ [])) }
 {
     write_line(text, place.row)?;
     write_line(text, place.column)?;
@@ -169,7 +178,8 @@ fn write_place(text: &mut Writer, place: PivotPlace) -> Result<(), Memory>
 
 fn write_three(text: &mut Writer, three: &Three) -> Result<(), Memory>
     requires { text.old.is_begun ≡ false }
-    ensures { OnOk result (text.new ≡ with_line text.old (connector_words three.now.first ++ connector_words three.now.second ++ set_words three.now.side)) }
+    ensures { OnOk result (text.new ≡ with_line text.old (connector_words three.now.first
+        ++ connector_words three.now.second ++ set_words three.now.side)) }
 {
     write_connector(text, three.first)?;
     write_connector(text, three.second)?;

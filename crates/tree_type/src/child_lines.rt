@@ -100,8 +100,10 @@ fn one_with(
     is_flat: bool,
     connector: Connector,
 ) -> Result<LineSet, Memory>
-    ensures rows { IfOk result (λ one. one.rows ≡ inside_with side.now.rows (connector_rows is_flat connector) lines.now.rows) }
-    ensures columns { IfOk result (λ one. one.columns ≡ inside_with side.now.columns (connector_columns is_flat connector) lines.now.columns) }
+    ensures rows { IfOk result (λ one. one.rows ≡ inside_with side.now.rows
+        (connector_rows is_flat connector) lines.now.rows) }
+    ensures columns { IfOk result (λ one. one.columns
+        ≡ inside_with side.now.columns (connector_columns is_flat connector) lines.now.columns) }
 {
     let Connector { row, column, other } = connector;
     if is_flat {
@@ -125,8 +127,10 @@ fn other_with(
     is_flat: bool,
     connector: Connector,
 ) -> Result<LineSet, Memory>
-    ensures rows { IfOk result (λ other. other.rows ≡ outside_with side.now.rows (connector_rows is_flat connector) lines.now.rows) }
-    ensures columns { IfOk result (λ other. other.columns ≡ outside_with side.now.columns (connector_columns is_flat connector) lines.now.columns) }
+    ensures rows { IfOk result (λ other. other.rows ≡ outside_with side.now.rows
+        (connector_rows is_flat connector) lines.now.rows) }
+    ensures columns { IfOk result (λ other. other.columns
+        ≡ outside_with side.now.columns (connector_columns is_flat connector) lines.now.columns) }
 {
     let Connector { row, column, other } = connector;
     if is_flat {

@@ -26,7 +26,8 @@ impl Model for DecTree {
 
     ghost view = { λ a. record { rows = a.rows; columns = a.columns; root = a.root } };
 
-    ghost invariant = { λ a. IsDecTree (record { rows = a.rows; columns = a.columns; root = a.root }) };
+    ghost invariant = { λ a.
+        IsDecTree (record { rows = a.rows; columns = a.columns; root = a.root }) };
 }
 
 impl DecTree {

@@ -35,7 +35,8 @@ pub fn join_node(
     mut children: Vec<Node>,
 ) -> Result<Node, Memory>
     requires { HasChildren (finding_shown finding) (length children.items) }
-    ensures { IfOk result (λ node. tree_of node ≡ Branch lines (finding_shown finding) (trees_from (map tree_of children.items))) }
+    ensures { IfOk result (λ node. tree_of node
+        ≡ Branch lines (finding_shown finding) (trees_from (map tree_of children.items))) }
 {
     let kind = match finding {
         Finding::Empty => Kind::Empty,

@@ -19,7 +19,10 @@ pub fn own_labels(alloc: Global, size: u32) -> Result<Vec<u32>, Memory>
 /// Gives the label `kept` to all lines of the label `gone`.
 pub fn join_labels(labels: &mut Vec<u32>, gone: u32, kept: u32)
     ensures count { length labels.new.items ≡ length labels.old.items }
-    ensures joined { (k : ℕ) → k < length labels.old.items → slice_index_or labels.new.items k 0 ≡ (if nat_eq (slice_index_or labels.old.items k 0) gone then kept else slice_index_or labels.old.items k 0) }
+    ensures joined { (k : ℕ) → k < length labels.old.items
+        → slice_index_or labels.new.items k 0
+        ≡ (if nat_eq (slice_index_or labels.old.items k 0) gone then kept else slice_index_or
+        labels.old.items k 0) }
 {
     for place in 0..labels.len() {
         if labels[place] == gone {

@@ -24,8 +24,10 @@ pub fn marked_set(alloc: Global, marks: &[bool], rows: u32, columns: u32) -> Res
     requires rows { rows ≤ 1000 }
     requires columns { columns ≤ 1000 }
     requires count { length marks.now ≡ rows + columns }
-    ensures rows { IfOk result (λ lines. lines.rows ≡ filter (λ row. is_marked marks.now row) (first_lines rows)) }
-    ensures columns { IfOk result (λ lines. lines.columns ≡ filter (λ column. is_marked marks.now (rows + column)) (first_lines columns)) }
+    ensures rows { IfOk result (λ lines. lines.rows ≡ filter (λ row. is_marked marks.now row)
+        (first_lines rows)) }
+    ensures columns { IfOk result (λ lines. lines.columns
+        ≡ filter (λ column. is_marked marks.now (rows + column)) (first_lines columns)) }
 {
     Ok(LineSet {
         rows: marked_from(alloc, marks, 0, rows)?,
@@ -37,7 +39,8 @@ fn marked_from(alloc: Global, marks: &[bool], first: u32, count: u32) -> Result<
     requires first { first ≤ 1000 }
     requires within { first + count ≤ length marks.now }
     requires few { count ≤ 1000 }
-    ensures { IfOk result (λ lines. lines ≡ filter (λ line. is_marked marks.now (first + line)) (first_lines count)) }
+    ensures { IfOk result (λ lines. lines ≡ filter (λ line. is_marked marks.now (first + line))
+        (first_lines count)) }
 {
     let mut lines = Indices::new(alloc);
     for line in 0..count {

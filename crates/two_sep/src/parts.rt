@@ -41,7 +41,8 @@ pub fn components_of(alloc: Global, matrix: &RowsAndColumns<'_>) -> Result<LineS
 fn add_marks(seen: &mut Vec<bool>, marks: &[bool])
     requires { length marks.now ≡ length seen.old.items }
     ensures count { length seen.new.items ≡ length seen.old.items }
-    ensures marks { (k : ℕ) → is_marked seen.new.items k ≡ (is_marked seen.old.items k || is_marked marks.now k) }
+    ensures marks { (k : ℕ)
+        → is_marked seen.new.items k ≡ (is_marked seen.old.items k || is_marked marks.now k) }
 {
     for place in 0..marks.len() {
         if marks[place] {

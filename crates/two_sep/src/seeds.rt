@@ -19,7 +19,8 @@ pub fn first_good_side(
     requires row { row < height matrix.now }
     requires column { column < matrix.now.width }
     requires nonzero { entry matrix.now row column ≢ pos 0 }
-    ensures { IfOk result (λ found. MatchOption found (HasNoGoodSeed matrix.now row column) (λ side. IsFirstGoodSide matrix.now row column side.items)) }
+    ensures { IfOk result (λ found. MatchOption found (HasNoGoodSeed matrix.now row column)
+        (λ side. IsFirstGoodSide matrix.now row column side.items)) }
 {
     let rows = matrix.rows();
     let size = rows + matrix.columns();

@@ -13,14 +13,16 @@ use std::alloc::Global;
 /// has no two-separation. A nonzero without a good seed has its row and its column on one side of every two-separation, so
 /// of the nonzeros only those whose lines are not linked by earlier ones need a look.
 pub fn two_separation(alloc: Global, matrix: &Matrix) -> Result<Option<Two>, Memory>
-    ensures { IfOk result (λ found. MatchOption found (HasNoTwoSeparation matrix.now) (λ two. IsFirstTwoSeparation matrix.now two)) }
+    ensures { IfOk result (λ found. MatchOption found (HasNoTwoSeparation matrix.now)
+        (λ two. IsFirstTwoSeparation matrix.now two)) }
 {
     two_separation_of(alloc, &RowsAndColumns::new(alloc, matrix)?)
 }
 
 /// The same, of a matrix by its rows and its columns.
 pub fn two_separation_of(alloc: Global, matrix: &RowsAndColumns<'_>) -> Result<Option<Two>, Memory>
-    ensures { IfOk result (λ found. MatchOption found (HasNoTwoSeparation matrix.now) (λ two. IsFirstTwoSeparation matrix.now two)) }
+    ensures { IfOk result (λ found. MatchOption found (HasNoTwoSeparation matrix.now)
+        (λ two. IsFirstTwoSeparation matrix.now two)) }
 {
     let mut labels = own_labels(alloc, matrix.rows() + matrix.columns())?;
     for row in 0..matrix.rows() {
@@ -41,7 +43,9 @@ fn separation_at(
 ) -> Result<Option<Two>, Memory>
     requires row { row < height matrix.now }
     requires passed { ArePassed matrix.now row 0 labels.old.items }
-    ensures { IfOk result (λ found. MatchOption found (ArePassed matrix.now (row + 1) 0 labels.new.items) (λ two. IsFirstTwoSeparation matrix.now two)) }
+    ensures { IfOk result (λ found. MatchOption found
+        (ArePassed matrix.now (row + 1) 0 labels.new.items)
+        (λ two. IsFirstTwoSeparation matrix.now two)) }
 {
     let rows = matrix.rows();
     for column in 0..matrix.columns() {

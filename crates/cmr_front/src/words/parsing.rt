@@ -139,7 +139,8 @@ pub fn pivots_in(matches: &ArgMatches<'_>) -> Result<u32, WordsError>
 
 /// The number N of workers, 1 where it is left out.
 pub fn workers_in(matches: &ArgMatches<'_>) -> Result<u32, WordsError>
-    ensures { Gives (λ workers. workers) result (parsing.workers_in (rows_of (found_of matches.now))) }
+    ensures { Gives (λ workers. workers) result
+        (parsing.workers_in (rows_of (found_of matches.now))) }
 {
     match value_in(matches, WORKERS) {
         None => Ok(USUAL_WORKERS),

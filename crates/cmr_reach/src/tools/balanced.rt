@@ -44,14 +44,17 @@ pub fn balanced<R: Threads + Sync, S: Shelf, O: Sink, E: Sink>(
     err: &mut E,
 ) -> u8
     requires { IsInRanges (balanced_order_of options.now) }
-    ensures runs { Runs (work (balanced_tool (balanced_order_of options.now)))
-        (standing (S.tells shelf.old) (O.tells out.old) (E.tells err.old) (S.is_calm shelf.old) (S.room shelf.old) (O.is_calm out.old) (O.room out.old))
+    ensures runs { Runs
+        (work (balanced_tool (balanced_order_of options.now)))
+        (standing (S.tells shelf.old) (O.tells out.old) (E.tells err.old) (S.is_calm shelf.old)
+        (S.room shelf.old) (O.is_calm out.old) (O.room out.old))
         (devices (S.content shelf.old) (S.reads shelf.old) (S.failed shelf.old) (S.faults shelf.old)
         (O.got out.old) (O.faults out.old) (E.got err.old) (E.faults err.old))
         (devices (S.content shelf.new) (S.reads shelf.new) (S.failed shelf.new) (S.faults shelf.new)
         (O.got out.new) (O.faults out.new) (E.got err.new) (E.faults err.new))
         result }
-    ensures means { IsTrue (S.tells shelf.old) → (answer : Answer) → result ≡ answer_status answer → Means (balanced_tool (balanced_order_of options.now)) (S.content shelf.old) answer }
+    ensures means { IsTrue (S.tells shelf.old) → (answer : Answer) → result ≡ answer_status answer
+        → Means (balanced_tool (balanced_order_of options.now)) (S.content shelf.old) answer }
 {
     run_tool(rt, alloc, options, shelf, out, err)
 }
@@ -87,7 +90,8 @@ fn test<'a, R: Threads + Sync>(
     matrix: &Matrix,
 ) -> Result<Outcome<'a>, Memory>
     requires { IsInRanges (balanced_order_of options.now) }
-    ensures { IfOk result (λ outcome. BalancedDecides (balanced_order_of options.now) matrix.now (outcome_report outcome)) }
+    ensures { IfOk result (λ outcome.
+        BalancedDecides (balanced_order_of options.now) matrix.now (outcome_report outcome)) }
 {
     prove!(matrix.rows() <= MAX_ROWS);
     match cycle_fault(alloc, matrix)? {
@@ -105,7 +109,8 @@ fn without_cycle_fault<'a, R: Threads + Sync>(
     requires ranges { IsInRanges (balanced_order_of options.now) }
     requires shape { IsMatrix matrix.now }
     requires no_fault { HasNoCycleFault (entry matrix.now) }
-    ensures { IfOk result (λ outcome. BalancedDecides (balanced_order_of options.now) matrix.now (outcome_report outcome)) }
+    ensures { IfOk result (λ outcome.
+        BalancedDecides (balanced_order_of options.now) matrix.now (outcome_report outcome)) }
 {
     let tree = decompose(
         rt,
@@ -143,7 +148,8 @@ fn search<'a, R: Threads + Sync>(
     requires ranges { IsInRanges (balanced_order_of options.now) }
     requires shape { IsMatrix matrix.now }
     requires untold { IsUntold options.now.lines options.now.pivots matrix.now }
-    ensures { IfOk result (λ outcome. BalancedDecides (balanced_order_of options.now) matrix.now (outcome_report outcome)) }
+    ensures { IfOk result (λ outcome.
+        BalancedDecides (balanced_order_of options.now) matrix.now (outcome_report outcome)) }
 {
     let found = least_balance_fault(rt, alloc, matrix, options.lines, options.workers)?;
     search_outcome(alloc, options, matrix, &found)
@@ -156,7 +162,8 @@ fn search_outcome<'a>(
     found: &BalanceSearch,
 ) -> Result<Outcome<'a>, Memory>
     requires { HasSearchedFaults matrix.now options.now.lines found.now }
-    ensures { IfOk result (λ outcome. outcome_report outcome ≡ search_report (balanced_order_of options.now) matrix.now found.now) }
+    ensures { IfOk result (λ outcome. outcome_report outcome
+        ≡ search_report (balanced_order_of options.now) matrix.now found.now) }
 {
     match found {
         BalanceSearch::Clean => yes_outcome(alloc, LABEL),

@@ -30,14 +30,17 @@ pub fn camion<R: Threads + Sync, S: Shelf, O: Sink, E: Sink>(
     out: &mut O,
     err: &mut E,
 ) -> u8
-    ensures runs { Runs (work (camion_tool (camion_order_of options.now)))
-        (standing (S.tells shelf.old) (O.tells out.old) (E.tells err.old) (S.is_calm shelf.old) (S.room shelf.old) (O.is_calm out.old) (O.room out.old))
+    ensures runs { Runs
+        (work (camion_tool (camion_order_of options.now)))
+        (standing (S.tells shelf.old) (O.tells out.old) (E.tells err.old) (S.is_calm shelf.old)
+        (S.room shelf.old) (O.is_calm out.old) (O.room out.old))
         (devices (S.content shelf.old) (S.reads shelf.old) (S.failed shelf.old) (S.faults shelf.old)
         (O.got out.old) (O.faults out.old) (E.got err.old) (E.faults err.old))
         (devices (S.content shelf.new) (S.reads shelf.new) (S.failed shelf.new) (S.faults shelf.new)
         (O.got out.new) (O.faults out.new) (E.got err.new) (E.faults err.new))
         result }
-    ensures means { IsTrue (S.tells shelf.old) → (answer : Answer) → result ≡ answer_status answer → Means (camion_tool (camion_order_of options.now)) (S.content shelf.old) answer }
+    ensures means { IsTrue (S.tells shelf.old) → (answer : Answer) → result ≡ answer_status answer
+        → Means (camion_tool (camion_order_of options.now)) (S.content shelf.old) answer }
 {
     run_tool(rt, alloc, options, shelf, out, err)
 }
@@ -71,7 +74,8 @@ fn test<'a>(
     options: &CamionOptions<'a>,
     matrix: &Matrix,
 ) -> Result<Outcome<'a>, Memory>
-    ensures { IfOk result (λ outcome. CamionDecides (camion_order_of options.now) matrix.now (outcome_report outcome)) }
+    ensures { IfOk result (λ outcome.
+        CamionDecides (camion_order_of options.now) matrix.now (outcome_report outcome)) }
 {
     match cycle_fault(alloc, matrix)? {
         Some(fault) => fault_outcome(alloc, b"camion", options.fault, matrix, &fault),

@@ -36,14 +36,17 @@ pub fn compose<R: Threads + Sync, S: Shelf, O: Sink, E: Sink>(
     out: &mut O,
     err: &mut E,
 ) -> u8
-    ensures runs { Runs (work (compose_tool (compose_order_of options.now)))
-        (standing (S.tells shelf.old) (O.tells out.old) (E.tells err.old) (S.is_calm shelf.old) (S.room shelf.old) (O.is_calm out.old) (O.room out.old))
+    ensures runs { Runs
+        (work (compose_tool (compose_order_of options.now)))
+        (standing (S.tells shelf.old) (O.tells out.old) (E.tells err.old) (S.is_calm shelf.old)
+        (S.room shelf.old) (O.is_calm out.old) (O.room out.old))
         (devices (S.content shelf.old) (S.reads shelf.old) (S.failed shelf.old) (S.faults shelf.old)
         (O.got out.old) (O.faults out.old) (E.got err.old) (E.faults err.old))
         (devices (S.content shelf.new) (S.reads shelf.new) (S.failed shelf.new) (S.faults shelf.new)
         (O.got out.new) (O.faults out.new) (E.got err.new) (E.faults err.new))
         result }
-    ensures means { IsTrue (S.tells shelf.old) → (answer : Answer) → result ≡ answer_status answer → Means (compose_tool (compose_order_of options.now)) (S.content shelf.old) answer }
+    ensures means { IsTrue (S.tells shelf.old) → (answer : Answer) → result ≡ answer_status answer
+        → Means (compose_tool (compose_order_of options.now)) (S.content shelf.old) answer }
     ensures one { HasOneReport (compose_tool (compose_order_of options.now)) }
 {
     run_tool(rt, alloc, options, shelf, out, err)
@@ -77,7 +80,9 @@ fn decide_on<'a>(
     first: &[u8],
     second: &[u8],
 ) -> Result<Outcome<'a>, Stop<'a>>
-    ensures { IsDecision (ComposeReports (compose_order_of options.now) first.now second.now) result }
+    ensures { IsDecision
+        (ComposeReports (compose_order_of options.now) first.now second.now)
+        result }
 {
     let first = match read_matrix(alloc, options.first, options.form, false, first) {
         Ok(first) => first,
@@ -92,7 +97,11 @@ fn decide_on_second<'a>(
     first: &Matrix,
     second: &[u8],
 ) -> Result<Outcome<'a>, Stop<'a>>
-    ensures { IsDecision (ReportsText faults.Matrix options.now.second.now (ComposeDecides (compose_order_of options.now) first.now) (matrix_in options.now.form false second.now)) result }
+    ensures { IsDecision
+        (ReportsText faults.Matrix options.now.second.now
+        (ComposeDecides (compose_order_of options.now) first.now)
+        (matrix_in options.now.form false second.now))
+        result }
 {
     let second = match read_matrix(alloc, options.second, options.form, false, second) {
         Ok(second) => second,
@@ -110,7 +119,8 @@ fn compose_matrices<'a>(
     first: &Matrix,
     second: &Matrix,
 ) -> Result<Outcome<'a>, Memory>
-    ensures { IfOk result (λ outcome. ComposeDecides (compose_order_of options.now) first.now second.now (outcome_report outcome)) }
+    ensures { IfOk result (λ outcome. ComposeDecides (compose_order_of options.now) first.now
+        second.now (outcome_report outcome)) }
 {
     match sum_or_obstacle(alloc, options.sum, first, second)? {
         Composition::Sum(sum) => composed(alloc, options.output, &sum),
@@ -169,7 +179,8 @@ fn with_sum(sum: Matrix) -> Composition
 }
 
 fn composed<'a>(alloc: Global, name: &'a str, sum: &Matrix) -> Result<Outcome<'a>, Memory>
-    ensures { IfOk result (λ outcome. outcome_report outcome ≡ composed_report name.entry.now sum.now) }
+    ensures { IfOk result (λ outcome. outcome_report outcome
+        ≡ composed_report name.entry.now sum.now) }
 {
     let bytes = write_dense(alloc, sum)?;
     let output = composed_line(alloc, sum)?;

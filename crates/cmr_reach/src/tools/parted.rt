@@ -43,14 +43,17 @@ pub fn parts<R: Threads + Sync, S: Shelf, O: Sink, E: Sink>(
     out: &mut O,
     err: &mut E,
 ) -> u8
-    ensures runs { Runs (work (parts_tool (parts_order_of options.now)))
-        (standing (S.tells shelf.old) (O.tells out.old) (E.tells err.old) (S.is_calm shelf.old) (S.room shelf.old) (O.is_calm out.old) (O.room out.old))
+    ensures runs { Runs
+        (work (parts_tool (parts_order_of options.now)))
+        (standing (S.tells shelf.old) (O.tells out.old) (E.tells err.old) (S.is_calm shelf.old)
+        (S.room shelf.old) (O.is_calm out.old) (O.room out.old))
         (devices (S.content shelf.old) (S.reads shelf.old) (S.failed shelf.old) (S.faults shelf.old)
         (O.got out.old) (O.faults out.old) (E.got err.old) (E.faults err.old))
         (devices (S.content shelf.new) (S.reads shelf.new) (S.failed shelf.new) (S.faults shelf.new)
         (O.got out.new) (O.faults out.new) (E.got err.new) (E.faults err.new))
         result }
-    ensures means { IsTrue (S.tells shelf.old) → (answer : Answer) → result ≡ answer_status answer → Means (parts_tool (parts_order_of options.now)) (S.content shelf.old) answer }
+    ensures means { IsTrue (S.tells shelf.old) → (answer : Answer) → result ≡ answer_status answer
+        → Means (parts_tool (parts_order_of options.now)) (S.content shelf.old) answer }
     ensures one { HasOneReport (parts_tool (parts_order_of options.now)) }
 {
     run_tool(rt, alloc, options, shelf, out, err)
@@ -94,7 +97,10 @@ fn decide_on_tree<'a>(
     matrix: &Matrix,
     tree: &[u8],
 ) -> Result<Outcome<'a>, Stop<'a>>
-    ensures { IsDecision (ReportsTree options.now.tree.now (PartsDecides (parts_order_of options.now) matrix.now) tree.now) result }
+    ensures { IsDecision
+        (ReportsTree options.now.tree.now (PartsDecides (parts_order_of options.now) matrix.now)
+        tree.now)
+        result }
 {
     let tree = match read_tree_file(alloc, options.tree, tree) {
         Ok(tree) => tree,
@@ -112,7 +118,8 @@ fn check_and_part<'a>(
     matrix: &Matrix,
     tree: &DecTree,
 ) -> Result<Outcome<'a>, Memory>
-    ensures { IfOk result (λ outcome. PartsDecides (parts_order_of options.now) matrix.now (plain tree.now) (outcome_report outcome)) }
+    ensures { IfOk result (λ outcome. PartsDecides (parts_order_of options.now) matrix.now
+        (plain tree.now) (outcome_report outcome)) }
 {
     let found = accept(alloc, matrix, tree)?;
     match &found {
@@ -128,7 +135,8 @@ fn part_root<'a>(
     tree: &DecTree,
 ) -> Result<Outcome<'a>, Memory>
     requires { IsSound matrix.now tree.now }
-    ensures { IfOk result (λ outcome. PartsDecides (parts_order_of options.now) matrix.now (plain tree.now) (outcome_report outcome)) }
+    ensures { IfOk result (λ outcome. PartsDecides (parts_order_of options.now) matrix.now
+        (plain tree.now) (outcome_report outcome)) }
 {
     let word = root_word(tree);
     let arranged = arrange_root(alloc, matrix, tree)?;
@@ -173,7 +181,8 @@ fn parted<'a>(
     word: &[u8],
     both: &Arranged,
 ) -> Result<Outcome<'a>, Memory>
-    ensures report { IfOk result (λ outcome. outcome_report outcome ≡ parts_report (parts_order_of options.now) word.now both.now) }
+    ensures report { IfOk result (λ outcome. outcome_report outcome
+        ≡ parts_report (parts_order_of options.now) word.now both.now) }
     ensures first { IfOk result (λ _. IsMatrix both.now.first) }
     ensures second { IfOk result (λ _. IsMatrix both.now.second) }
 {
@@ -232,7 +241,8 @@ fn other_root<'a>(alloc: Global, word: &[u8]) -> Result<Outcome<'a>, Memory>
 
 // A tree whose node at this path breaks this rule.
 fn broken<'a>(alloc: Global, path: &PathList, rule: Rule) -> Result<Outcome<'a>, Memory>
-    ensures { IfOk result (λ outcome. outcome_report outcome ≡ said_refused (refusal_line path.now rule)) }
+    ensures { IfOk result (λ outcome. outcome_report outcome
+        ≡ said_refused (refusal_line path.now rule)) }
 {
     let mut output = Vec::new(alloc);
     push_refusal_line(&mut output, path, rule)?;

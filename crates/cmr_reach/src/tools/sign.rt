@@ -39,14 +39,17 @@ pub fn sign_rows<R: Threads + Sync, S: Shelf, O: Sink, E: Sink>(
     out: &mut O,
     err: &mut E,
 ) -> u8
-    ensures runs { Runs (work (sign_tool (sign_order_of options.now)))
-        (standing (S.tells shelf.old) (O.tells out.old) (E.tells err.old) (S.is_calm shelf.old) (S.room shelf.old) (O.is_calm out.old) (O.room out.old))
+    ensures runs { Runs
+        (work (sign_tool (sign_order_of options.now)))
+        (standing (S.tells shelf.old) (O.tells out.old) (E.tells err.old) (S.is_calm shelf.old)
+        (S.room shelf.old) (O.is_calm out.old) (O.room out.old))
         (devices (S.content shelf.old) (S.reads shelf.old) (S.failed shelf.old) (S.faults shelf.old)
         (O.got out.old) (O.faults out.old) (E.got err.old) (E.faults err.old))
         (devices (S.content shelf.new) (S.reads shelf.new) (S.failed shelf.new) (S.faults shelf.new)
         (O.got out.new) (O.faults out.new) (E.got err.new) (E.faults err.new))
         result }
-    ensures means { IsTrue (S.tells shelf.old) → (answer : Answer) → result ≡ answer_status answer → Means (sign_tool (sign_order_of options.now)) (S.content shelf.old) answer }
+    ensures means { IsTrue (S.tells shelf.old) → (answer : Answer) → result ≡ answer_status answer
+        → Means (sign_tool (sign_order_of options.now)) (S.content shelf.old) answer }
     ensures one { HasOneReport (sign_tool (sign_order_of options.now)) }
 {
     run_tool(rt, alloc, options, shelf, out, err)
@@ -95,7 +98,10 @@ fn decide_on_rows<'a>(
     matrix: &Matrix,
     rows: &[u8],
 ) -> Result<Outcome<'a>, Stop<'a>>
-    ensures { IsDecision (ReportsText faults.Matrix file.entry.now (λ lines. SignDecides matrix.now lines.rows) (lines_in matrix.now rows.now)) result }
+    ensures { IsDecision
+        (ReportsText faults.Matrix file.entry.now (λ lines. SignDecides matrix.now lines.rows)
+        (lines_in matrix.now rows.now))
+        result }
 {
     let lines = match read_submatrix_file(alloc, file, rows, matrix.rows(), matrix.columns()) {
         Ok(lines) => lines,
@@ -122,7 +128,8 @@ fn report_answer<'a>(
     answer: &SetSigning,
 ) -> Result<Outcome<'a>, Memory>
     requires { IsAnswerFor matrix.now rows.now answer.now }
-    ensures { IfOk result (λ outcome. outcome_report outcome ≡ sign_report matrix.now rows.now answer.now) }
+    ensures { IfOk result (λ outcome. outcome_report outcome
+        ≡ sign_report matrix.now rows.now answer.now) }
 {
     match answer {
         SetSigning::Signed { signs, steps } => signed(alloc, rows, signs, steps),
@@ -137,7 +144,8 @@ fn signed<'a>(
     steps: &PivotList,
 ) -> Result<Outcome<'a>, Memory>
     requires { length signs.now ≡ length rows.now }
-    ensures { IfOk result (λ outcome. outcome_report outcome ≡ signed_report rows.now signs.now steps.now) }
+    ensures { IfOk result (λ outcome. outcome_report outcome
+        ≡ signed_report rows.now signs.now steps.now) }
 {
     let mut output = Vec::new(alloc);
     output.extend_from_slice(b"signed: yes\n")?;
@@ -161,7 +169,8 @@ fn push_signs(text: &mut Vec<u8>, rows: &[u32], signs: &[i8]) -> Result<(), Memo
 }
 
 fn push_sign(text: &mut Vec<u8>, row: u32, sign: i8) -> Result<(), Memory>
-    ensures { OnOk result (text.new.items ≡ text.old.items ++ codes "row " ++ decimal (row + 1) ++ sign_mark sign) }
+    ensures { OnOk result (text.new.items
+        ≡ text.old.items ++ codes "row " ++ decimal (row + 1) ++ sign_mark sign) }
 {
     text.extend_from_slice(b"row ")?;
     push_number(text, row)?;
@@ -213,7 +222,8 @@ fn push_number(text: &mut Vec<u8>, line: u32) -> Result<(), Memory>
 fn violated<'a>(alloc: Global, matrix: &Matrix, lines: &LineSet) -> Result<Outcome<'a>, Memory>
     requires rows { AllBelow (height matrix.now) lines.now.rows }
     requires columns { AllBelow matrix.now.width lines.now.columns }
-    ensures { IfOk result (λ outcome. outcome_report outcome ≡ violated_report matrix.now lines.now) }
+    ensures { IfOk result (λ outcome. outcome_report outcome
+        ≡ violated_report matrix.now lines.now) }
 {
     let mut output = Vec::new(alloc);
     output.extend_from_slice(b"signed: no\n")?;

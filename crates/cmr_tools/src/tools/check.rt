@@ -49,14 +49,17 @@ pub fn check<R: Threads + Sync, S: Shelf, O: Sink, E: Sink>(
     out: &mut O,
     err: &mut E,
 ) -> u8
-    ensures runs { Runs (work (check_tool (check_order_of options.now)))
-        (standing (S.tells shelf.old) (O.tells out.old) (E.tells err.old) (S.is_calm shelf.old) (S.room shelf.old) (O.is_calm out.old) (O.room out.old))
+    ensures runs { Runs
+        (work (check_tool (check_order_of options.now)))
+        (standing (S.tells shelf.old) (O.tells out.old) (E.tells err.old) (S.is_calm shelf.old)
+        (S.room shelf.old) (O.is_calm out.old) (O.room out.old))
         (devices (S.content shelf.old) (S.reads shelf.old) (S.failed shelf.old) (S.faults shelf.old)
         (O.got out.old) (O.faults out.old) (E.got err.old) (E.faults err.old))
         (devices (S.content shelf.new) (S.reads shelf.new) (S.failed shelf.new) (S.faults shelf.new)
         (O.got out.new) (O.faults out.new) (E.got err.new) (E.faults err.new))
         result }
-    ensures means { IsTrue (S.tells shelf.old) → (answer : Answer) → result ≡ answer_status answer → Means (check_tool (check_order_of options.now)) (S.content shelf.old) answer }
+    ensures means { IsTrue (S.tells shelf.old) → (answer : Answer) → result ≡ answer_status answer
+        → Means (check_tool (check_order_of options.now)) (S.content shelf.old) answer }
 {
     run_tool(rt, alloc, options, shelf, out, err)
 }
@@ -95,7 +98,10 @@ fn decide_on<'a>(
     matrix: &[u8],
     evidence: &[u8],
 ) -> Result<Outcome<'a>, Stop<'a>>
-    ensures { IsDecision (CheckReportsBy (check_order_of options.now) (evidence_kind evidence.now) matrix.now evidence.now) result }
+    ensures { IsDecision
+        (CheckReportsBy (check_order_of options.now) (evidence_kind evidence.now) matrix.now
+        evidence.now)
+        result }
 {
     let kind = evidence_kind(evidence);
     let binary = is_of_support(kind);
@@ -162,7 +168,9 @@ fn decide_tree<'a>(
     matrix: &Matrix,
     evidence: &[u8],
 ) -> Result<Outcome<'a>, Stop<'a>>
-    ensures { IsDecision (EvidenceReports file.entry.now kinds.Tree matrix.now evidence.now) result }
+    ensures { IsDecision
+        (EvidenceReports file.entry.now kinds.Tree matrix.now evidence.now)
+        result }
 {
     let tree = match read_tree_file(alloc, file, evidence) {
         Ok(tree) => tree,
@@ -175,7 +183,8 @@ fn decide_tree<'a>(
 }
 
 fn check_tree<'a>(alloc: Global, matrix: &Matrix, tree: &DecTree) -> Result<Outcome<'a>, Memory>
-    ensures { IfOk result (λ outcome. TreeDecides matrix.now (plain tree.now) (outcome_report outcome)) }
+    ensures { IfOk result (λ outcome.
+        TreeDecides matrix.now (plain tree.now) (outcome_report outcome)) }
 {
     let found = accept(alloc, matrix, tree)?;
     match &found {
@@ -186,7 +195,8 @@ fn check_tree<'a>(alloc: Global, matrix: &Matrix, tree: &DecTree) -> Result<Outc
 
 fn accepted_tree<'a>(alloc: Global, matrix: &Matrix, tree: &DecTree) -> Result<Outcome<'a>, Memory>
     requires { IsSound matrix.now tree.now }
-    ensures { IfOk result (λ outcome. TreeDecides matrix.now (plain tree.now) (outcome_report outcome)) }
+    ensures { IfOk result (λ outcome.
+        TreeDecides matrix.now (plain tree.now) (outcome_report outcome)) }
 {
     let root = tree.root();
     let rows = matrix.rows();
@@ -201,7 +211,9 @@ fn decide_violator<'a>(
     matrix: &Matrix,
     evidence: &[u8],
 ) -> Result<Outcome<'a>, Stop<'a>>
-    ensures { IsDecision (EvidenceReports file.entry.now kinds.Violator matrix.now evidence.now) result }
+    ensures { IsDecision
+        (EvidenceReports file.entry.now kinds.Violator matrix.now evidence.now)
+        result }
 {
     let rows = matrix.rows();
     let columns = matrix.columns();
@@ -222,7 +234,8 @@ fn check_violator<'a>(
 ) -> Result<Outcome<'a>, Memory>
     requires row_set { IsRowSet matrix.now lines.now.rows }
     requires column_set { IsColumnSet matrix.now lines.now.columns }
-    ensures { IfOk result (λ outcome. ViolatorDecides matrix.now lines.now (outcome_report outcome)) }
+    ensures { IfOk result (λ outcome.
+        ViolatorDecides matrix.now lines.now (outcome_report outcome)) }
 {
     if is_violator(matrix, lines) {
         accepted(alloc, matrix, &VerdictOf::No(lines))
@@ -238,7 +251,9 @@ fn decide_chain<'a>(
     evidence: &[u8],
 ) -> Result<Outcome<'a>, Stop<'a>>
     requires { IsBinary matrix.now }
-    ensures { IsDecision (EvidenceReports file.entry.now kinds.Chain matrix.now evidence.now) result }
+    ensures { IsDecision
+        (EvidenceReports file.entry.now kinds.Chain matrix.now evidence.now)
+        result }
 {
     let chain = match read_chain_file(alloc, file, evidence) {
         Ok(chain) => chain,
@@ -287,7 +302,8 @@ fn accepted<'a>(
     verdict: &VerdictOf<'_>,
 ) -> Result<Outcome<'a>, Memory>
     requires { Tells matrix.now (verdict_shown verdict.now) }
-    ensures { IfOk result (λ outcome. outcome_report outcome ≡ accepted_report matrix.now (verdict_shown verdict.now)) }
+    ensures { IfOk result (λ outcome. outcome_report outcome
+        ≡ accepted_report matrix.now (verdict_shown verdict.now)) }
 {
     match verdict {
         VerdictOf::Yes => Ok(said(alloc, Answer::Yes, b"accepted: yes\n".to_vec(alloc)?)),
@@ -316,7 +332,8 @@ fn refused<'a>(alloc: Global, path: &PathList, rule: Rule) -> Result<Outcome<'a>
 fn irregular<'a>(alloc: Global, signs: &Matrix, lines: &LineSet) -> Result<Outcome<'a>, Memory>
     requires rows { AllBelow (height signs.now) lines.now.rows }
     requires columns { AllBelow signs.now.width lines.now.columns }
-    ensures { IfOk result (λ outcome. outcome_report outcome ≡ irregular_report signs.now lines.now) }
+    ensures { IfOk result (λ outcome. outcome_report outcome
+        ≡ irregular_report signs.now lines.now) }
 {
     let mut text = b"accepted: not regular\n".to_vec(alloc)?;
     push_violator_line(&mut text, lines, signs.sum(lines))?;

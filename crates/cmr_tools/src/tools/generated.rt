@@ -33,14 +33,17 @@ pub fn generate_and_run<R: Threads + Sync, S: Shelf, O: Sink, E: Sink>(
     err: &mut E,
 ) -> u8
     requires { IsInRange (generate_order_of options.now) }
-    ensures runs { Runs (work (generate_tool (generate_order_of options.now)))
-        (standing (S.tells shelf.old) (O.tells out.old) (E.tells err.old) (S.is_calm shelf.old) (S.room shelf.old) (O.is_calm out.old) (O.room out.old))
+    ensures runs { Runs
+        (work (generate_tool (generate_order_of options.now)))
+        (standing (S.tells shelf.old) (O.tells out.old) (E.tells err.old) (S.is_calm shelf.old)
+        (S.room shelf.old) (O.is_calm out.old) (O.room out.old))
         (devices (S.content shelf.old) (S.reads shelf.old) (S.failed shelf.old) (S.faults shelf.old)
         (O.got out.old) (O.faults out.old) (E.got err.old) (E.faults err.old))
         (devices (S.content shelf.new) (S.reads shelf.new) (S.failed shelf.new) (S.faults shelf.new)
         (O.got out.new) (O.faults out.new) (E.got err.new) (E.faults err.new))
         result }
-    ensures means { IsTrue (S.tells shelf.old) → (answer : Answer) → result ≡ answer_status answer → Means (generate_tool (generate_order_of options.now)) (S.content shelf.old) answer }
+    ensures means { IsTrue (S.tells shelf.old) → (answer : Answer) → result ≡ answer_status answer
+        → Means (generate_tool (generate_order_of options.now)) (S.content shelf.old) answer }
 {
     run_tool(rt, alloc, options, shelf, out, err)
 }
@@ -71,7 +74,8 @@ fn make_and_test<'a, R: Threads + Sync>(
     options: &GenerateOptions<'a>,
 ) -> Result<Outcome<'a>, Memory>
     requires { IsInRange (generate_order_of options.now) }
-    ensures { IfOk result (λ outcome. GenerateDecides (generate_order_of options.now) (outcome_report outcome)) }
+    ensures { IfOk result (λ outcome.
+        GenerateDecides (generate_order_of options.now) (outcome_report outcome)) }
 {
     let matrix = make(alloc, options.what, options.size, options.number)?;
     let told = give_verdict(rt, alloc, &verdict_options(options), &matrix)?;
@@ -99,7 +103,8 @@ fn with_summary<'a>(
     matrix: &Matrix,
     told: Outcome<'a>,
 ) -> Result<Outcome<'a>, Memory>
-    ensures report { IfOk result (λ outcome. outcome_report outcome ≡ generate_report (generate_order_of options.now) matrix.now (outcome_report told.entry)) }
+    ensures report { IfOk result (λ outcome. outcome_report outcome
+        ≡ generate_report (generate_order_of options.now) matrix.now (outcome_report told.entry)) }
     ensures shape { IfOk result (λ outcome. IsMatrix matrix.now) }
 {
     let mut output = summary(alloc, options.what, matrix)?;

@@ -41,14 +41,18 @@ pub fn graphic<R: Threads + Sync, S: Shelf, O: Sink, E: Sink>(
     out: &mut O,
     err: &mut E,
 ) -> u8
-    ensures runs { Runs (work (test_tool properties.Graphic (test_order_of options.now)))
-        (standing (S.tells shelf.old) (O.tells out.old) (E.tells err.old) (S.is_calm shelf.old) (S.room shelf.old) (O.is_calm out.old) (O.room out.old))
+    ensures runs { Runs
+        (work (test_tool properties.Graphic (test_order_of options.now)))
+        (standing (S.tells shelf.old) (O.tells out.old) (E.tells err.old) (S.is_calm shelf.old)
+        (S.room shelf.old) (O.is_calm out.old) (O.room out.old))
         (devices (S.content shelf.old) (S.reads shelf.old) (S.failed shelf.old) (S.faults shelf.old)
         (O.got out.old) (O.faults out.old) (E.got err.old) (E.faults err.old))
         (devices (S.content shelf.new) (S.reads shelf.new) (S.failed shelf.new) (S.faults shelf.new)
         (O.got out.new) (O.faults out.new) (E.got err.new) (E.faults err.new))
         result }
-    ensures means { IsTrue (S.tells shelf.old) → (answer : Answer) → result ≡ answer_status answer → Means (test_tool properties.Graphic (test_order_of options.now)) (S.content shelf.old) answer }
+    ensures means { IsTrue (S.tells shelf.old) → (answer : Answer) → result ≡ answer_status answer
+        → Means (test_tool properties.Graphic (test_order_of options.now)) (S.content shelf.old)
+        answer }
 {
     test_property(rt, alloc, Property::Graphic, options, shelf, out, err)
 }
@@ -62,14 +66,18 @@ pub fn network<R: Threads + Sync, S: Shelf, O: Sink, E: Sink>(
     out: &mut O,
     err: &mut E,
 ) -> u8
-    ensures runs { Runs (work (test_tool properties.Network (test_order_of options.now)))
-        (standing (S.tells shelf.old) (O.tells out.old) (E.tells err.old) (S.is_calm shelf.old) (S.room shelf.old) (O.is_calm out.old) (O.room out.old))
+    ensures runs { Runs
+        (work (test_tool properties.Network (test_order_of options.now)))
+        (standing (S.tells shelf.old) (O.tells out.old) (E.tells err.old) (S.is_calm shelf.old)
+        (S.room shelf.old) (O.is_calm out.old) (O.room out.old))
         (devices (S.content shelf.old) (S.reads shelf.old) (S.failed shelf.old) (S.faults shelf.old)
         (O.got out.old) (O.faults out.old) (E.got err.old) (E.faults err.old))
         (devices (S.content shelf.new) (S.reads shelf.new) (S.failed shelf.new) (S.faults shelf.new)
         (O.got out.new) (O.faults out.new) (E.got err.new) (E.faults err.new))
         result }
-    ensures means { IsTrue (S.tells shelf.old) → (answer : Answer) → result ≡ answer_status answer → Means (test_tool properties.Network (test_order_of options.now)) (S.content shelf.old) answer }
+    ensures means { IsTrue (S.tells shelf.old) → (answer : Answer) → result ≡ answer_status answer
+        → Means (test_tool properties.Network (test_order_of options.now)) (S.content shelf.old)
+        answer }
 {
     test_property(rt, alloc, Property::Network, options, shelf, out, err)
 }
@@ -84,14 +92,17 @@ pub fn test_property<R: Threads + Sync, S: Shelf, O: Sink, E: Sink>(
     out: &mut O,
     err: &mut E,
 ) -> u8
-    ensures runs { Runs (work (test_tool property (test_order_of options.now)))
-        (standing (S.tells shelf.old) (O.tells out.old) (E.tells err.old) (S.is_calm shelf.old) (S.room shelf.old) (O.is_calm out.old) (O.room out.old))
+    ensures runs { Runs
+        (work (test_tool property (test_order_of options.now)))
+        (standing (S.tells shelf.old) (O.tells out.old) (E.tells err.old) (S.is_calm shelf.old)
+        (S.room shelf.old) (O.is_calm out.old) (O.room out.old))
         (devices (S.content shelf.old) (S.reads shelf.old) (S.failed shelf.old) (S.faults shelf.old)
         (O.got out.old) (O.faults out.old) (E.got err.old) (E.faults err.old))
         (devices (S.content shelf.new) (S.reads shelf.new) (S.failed shelf.new) (S.faults shelf.new)
         (O.got out.new) (O.faults out.new) (E.got err.new) (E.faults err.new))
         result }
-    ensures means { IsTrue (S.tells shelf.old) → (answer : Answer) → result ≡ answer_status answer → Means (test_tool property (test_order_of options.now)) (S.content shelf.old) answer }
+    ensures means { IsTrue (S.tells shelf.old) → (answer : Answer) → result ≡ answer_status answer
+        → Means (test_tool property (test_order_of options.now)) (S.content shelf.old) answer }
 {
     if options.from_graph {
         let graph = GraphMatrix {
@@ -157,7 +168,8 @@ fn test<'a>(
     matrix: &Matrix,
 ) -> Result<Outcome<'a>, Memory>
     requires { IsTestable property matrix.now }
-    ensures { IfOk result (λ outcome. TestDecides property (test_order_of options.now) matrix.now (outcome_report outcome)) }
+    ensures { IfOk result (λ outcome.
+        TestDecides property (test_order_of options.now) matrix.now (outcome_report outcome)) }
 {
     if options.transposed {
         let transposed = matrix.transposed(alloc)?;
@@ -176,7 +188,8 @@ fn decide<'a>(
 ) -> Result<Outcome<'a>, Memory>
     requires is_tested { tested.now ≡ tested_matrix options.now.transposed matrix.now }
     requires testable { IsTestable property tested.now }
-    ensures { IfOk result (λ outcome. TestDecides property (test_order_of options.now) matrix.now (outcome_report outcome)) }
+    ensures { IfOk result (λ outcome.
+        TestDecides property (test_order_of options.now) matrix.now (outcome_report outcome)) }
 {
     if let Some(network) = find_network(alloc, property, tested)? {
         return yes(alloc, property, options, tested, &network);
@@ -191,7 +204,8 @@ fn find_network(
     matrix: &Matrix,
 ) -> Result<Option<Network>, Memory>
     requires { IsTestable property matrix.now }
-    ensures { IfOk result (λ found. MatchOption found (¬ (Has property matrix.now)) (λ net. Shows property net matrix.now)) }
+    ensures { IfOk result (λ found.
+        MatchOption found (¬ (Has property matrix.now)) (λ net. Shows property net matrix.now)) }
 {
     match property {
         Property::Graphic => realise(alloc, matrix),
@@ -207,7 +221,8 @@ fn yes<'a>(
     network: &Network,
 ) -> Result<Outcome<'a>, Memory>
     requires { Shows property network.now tested.now }
-    ensures { IfOk result (λ outcome. outcome_report outcome ≡ test_yes property (test_order_of options.now) network.now) }
+    ensures { IfOk result (λ outcome. outcome_report outcome
+        ≡ test_yes property (test_order_of options.now) network.now) }
 {
     let mut output = property_name(property, options.transposed).to_vec(alloc)?;
     output.extend_from_slice(b": yes\n")?;
@@ -229,8 +244,10 @@ fn push_graph<'a>(
 ) -> Result<(), Memory>
     requires rows { length network.now.arcs ≡ height tested.now }
     requires columns { length network.now.walks ≡ tested.now.width }
-    ensures { OnOk result (map file_of files.new.items ≡ map file_of files.old.items
-        ++ asked_file (option_map (λ name. name.now) options.now.graph) (written_graph options.now.transposed network.now)) }
+    ensures { OnOk result (map file_of files.new.items
+        ≡ map file_of files.old.items
+        ++ asked_file (option_map (λ name. name.now) options.now.graph)
+        (written_graph options.now.transposed network.now)) }
 {
     if let Some(name) = options.graph {
         let bytes = write_tested(alloc, options.transposed, tested, network)?;
@@ -266,7 +283,8 @@ fn no<'a>(
 ) -> Result<Outcome<'a>, Memory>
     requires rows { IfSome minimal.now (λ lines. AllBelow (height matrix.now) lines.rows) }
     requires columns { IfSome minimal.now (λ lines. AllBelow matrix.now.width lines.columns) }
-    ensures { IfOk result (λ outcome. outcome_report outcome ≡ test_no property (test_order_of options.now) matrix.now minimal.now) }
+    ensures { IfOk result (λ outcome. outcome_report outcome
+        ≡ test_no property (test_order_of options.now) matrix.now minimal.now) }
 {
     let mut output = property_name(property, options.transposed).to_vec(alloc)?;
     output.extend_from_slice(b": no\n")?;
@@ -289,7 +307,9 @@ fn asked_minimal(
 ) -> Result<Option<LineSet>, Memory>
     requires testable { IsTestable property tested.now }
     requires lacks { ¬ (Has property tested.now) }
-    ensures { IfOk result (λ found. IsMinimalAsked (Has property) tested.now (option_map (λ name. name.now) options.now.minimal) (option_map (tested_lines options.now.transposed) found)) }
+    ensures { IfOk result (λ found. IsMinimalAsked (Has property) tested.now
+        (option_map (λ name. name.now) options.now.minimal)
+        (option_map (tested_lines options.now.transposed) found)) }
 {
     if options.minimal.is_none() {
         return Ok(None);

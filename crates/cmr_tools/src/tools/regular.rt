@@ -43,14 +43,17 @@ pub fn regular<R: Threads + Sync, S: Shelf, O: Sink, E: Sink>(
     requires lines { options.now.lines ≤ 24 }
     requires pivots { options.now.pivots ≤ 100 }
     requires workers { (1 ≤ options.now.workers) × (options.now.workers ≤ 64) }
-    ensures runs { Runs (work (regular_tool (regular_order_of options.now)))
-        (standing (S.tells shelf.old) (O.tells out.old) (E.tells err.old) (S.is_calm shelf.old) (S.room shelf.old) (O.is_calm out.old) (O.room out.old))
+    ensures runs { Runs
+        (work (regular_tool (regular_order_of options.now)))
+        (standing (S.tells shelf.old) (O.tells out.old) (E.tells err.old) (S.is_calm shelf.old)
+        (S.room shelf.old) (O.is_calm out.old) (O.room out.old))
         (devices (S.content shelf.old) (S.reads shelf.old) (S.failed shelf.old) (S.faults shelf.old)
         (O.got out.old) (O.faults out.old) (E.got err.old) (E.faults err.old))
         (devices (S.content shelf.new) (S.reads shelf.new) (S.failed shelf.new) (S.faults shelf.new)
         (O.got out.new) (O.faults out.new) (E.got err.new) (E.faults err.new))
         result }
-    ensures means { IsTrue (S.tells shelf.old) → (answer : Answer) → result ≡ answer_status answer → Means (regular_tool (regular_order_of options.now)) (S.content shelf.old) answer }
+    ensures means { IsTrue (S.tells shelf.old) → (answer : Answer) → result ≡ answer_status answer
+        → Means (regular_tool (regular_order_of options.now)) (S.content shelf.old) answer }
 {
     run_tool(rt, alloc, options, shelf, out, err)
 }
@@ -88,7 +91,8 @@ fn sign_and_test<'a, R: Threads + Sync>(
     requires lines { options.now.lines ≤ 24 }
     requires workers { (1 ≤ options.now.workers) × (options.now.workers ≤ 64) }
     requires binary { IsBinary matrix.now }
-    ensures { IfOk result (λ outcome. RegularDecides (regular_order_of options.now) matrix.now (outcome_report outcome)) }
+    ensures { IfOk result (λ outcome.
+        RegularDecides (regular_order_of options.now) matrix.now (outcome_report outcome)) }
 {
     let signing = signing_of(alloc, matrix)?;
     let tree = decomposed(rt, alloc, &signing.signed, options)?;
@@ -106,8 +110,10 @@ struct SignedMatrix {
 fn signing_of(alloc: Global, matrix: &Matrix) -> Result<SignedMatrix, Memory>
     requires { IsBinary matrix.now }
     ensures signed { IfOk result (λ signing. IsSigned matrix.now signing.steps signing.signed) }
-    ensures few { IfOk result (λ signing. length signing.steps ≤ height matrix.now * matrix.now.width) }
-    ensures steps { IfOk result (λ signing. AllByRecursion (IsStepIn (height matrix.now) matrix.now.width) signing.steps) }
+    ensures few { IfOk result (λ signing. length signing.steps
+        ≤ height matrix.now * matrix.now.width) }
+    ensures steps { IfOk result (λ signing.
+        AllByRecursion (IsStepIn (height matrix.now) matrix.now.width) signing.steps) }
 {
     let (signed, steps) = sign(alloc, matrix)?;
     let rows = matrix.rows();
@@ -125,7 +131,8 @@ fn decomposed<R: Threads + Sync>(
 ) -> Result<DecTree, Memory>
     requires lines { options.now.lines ≤ 24 }
     requires workers { (1 ≤ options.now.workers) × (options.now.workers ≤ 64) }
-    ensures decomposition { IfOk result (IsDecomposition options.now.lines options.now.pivots matrix.now) }
+    ensures decomposition { IfOk result (IsDecomposition options.now.lines options.now.pivots
+        matrix.now) }
     ensures told { IfOk result (λ tree. IsTold options.now.lines matrix.now (verdict_in tree)) }
     ensures tells { IfOk result (λ tree. Tells matrix.now (verdict_in tree)) }
 {
@@ -169,8 +176,11 @@ fn with_signing<'a>(
     requires few { length signing.steps ≤ height matrix.now * matrix.now.width }
     requires steps { AllByRecursion (IsStepIn (height matrix.now) matrix.now.width) signing.steps }
     requires tells { Tells signing.signed (verdict_in tree.now) }
-    requires told { outcome_report told ≡ verdict_report (regular_verdict (regular_order_of options.now)) signing.signed tree.now }
-    ensures { IfOk result (λ outcome. outcome_report outcome ≡ regular_report (regular_order_of options.now) matrix.now signing.steps signing.signed tree.now) }
+    requires told { outcome_report told
+        ≡ verdict_report (regular_verdict (regular_order_of options.now)) signing.signed tree.now }
+    ensures { IfOk result (λ outcome. outcome_report outcome
+        ≡ regular_report (regular_order_of options.now) matrix.now signing.steps signing.signed
+        tree.now) }
 {
     let mut files = told.files;
     push_matrix(alloc, &mut files, options.signed, &signing.signed)?;
@@ -201,7 +211,10 @@ fn push_chain<'a>(
     requires few { length steps ≤ height matrix.now * matrix.now.width }
     requires steps { AllByRecursion (IsStepIn (height matrix.now) matrix.now.width) steps }
     requires lines { HasLinesIn (height matrix.now) matrix.now.width (verdict_shown verdict.now) }
-    ensures { OnOk result (map file_of files.new.items ≡ map file_of files.old.items ++ chain_file (option_map (λ name. name.now) name.entry) matrix.now steps (verdict_shown verdict.now)) }
+    ensures { OnOk result (map file_of files.new.items
+        ≡ map file_of files.old.items
+        ++ chain_file (option_map (λ name. name.now) name.entry) matrix.now steps
+        (verdict_shown verdict.now)) }
 {
     match verdict {
         VerdictOf::No(fault) => push_chain_with(alloc, files, name, matrix, steps, fault),
@@ -220,8 +233,10 @@ fn push_chain_with<'a>(
     requires few { length steps ≤ height matrix.now * matrix.now.width }
     requires steps { AllByRecursion (IsStepIn (height matrix.now) matrix.now.width) steps }
     requires lines { AreLinesIn (height matrix.now) matrix.now.width fault.now }
-    ensures { OnOk result (map file_of files.new.items ≡ map file_of files.old.items
-        ++ asked_file (option_map (λ name. name.now) name.entry) (chain_text (chain_with matrix.now steps fault.now))) }
+    ensures { OnOk result (map file_of files.new.items
+        ≡ map file_of files.old.items
+        ++ asked_file (option_map (λ name. name.now) name.entry)
+        (chain_text (chain_with matrix.now steps fault.now))) }
 {
     if let Some(name) = name {
         let violator = copied(alloc, fault)?;

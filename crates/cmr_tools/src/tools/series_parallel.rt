@@ -35,14 +35,20 @@ pub fn series_parallel<R: Threads + Sync, S: Shelf, O: Sink, E: Sink>(
     out: &mut O,
     err: &mut E,
 ) -> u8
-    ensures runs { Runs (work (series_parallel_tool (series_parallel_order_of options.now)))
-        (standing (S.tells shelf.old) (O.tells out.old) (E.tells err.old) (S.is_calm shelf.old) (S.room shelf.old) (O.is_calm out.old) (O.room out.old))
+    ensures runs { Runs
+        (work (series_parallel_tool (series_parallel_order_of options.now)))
+        (standing (S.tells shelf.old) (O.tells out.old) (E.tells err.old) (S.is_calm shelf.old)
+        (S.room shelf.old) (O.is_calm out.old) (O.room out.old))
         (devices (S.content shelf.old) (S.reads shelf.old) (S.failed shelf.old) (S.faults shelf.old)
         (O.got out.old) (O.faults out.old) (E.got err.old) (E.faults err.old))
         (devices (S.content shelf.new) (S.reads shelf.new) (S.failed shelf.new) (S.faults shelf.new)
         (O.got out.new) (O.faults out.new) (E.got err.new) (E.faults err.new))
         result }
-    ensures means { IsTrue (S.tells shelf.old) → (answer : Answer) → result ≡ answer_status answer → Means (series_parallel_tool (series_parallel_order_of options.now)) (S.content shelf.old) answer }
+    ensures means { IsTrue (S.tells shelf.old) → (answer : Answer) → result ≡ answer_status answer
+        → Means
+        (series_parallel_tool (series_parallel_order_of options.now))
+        (S.content shelf.old)
+        answer }
 {
     run_tool(rt, alloc, options, shelf, out, err)
 }
@@ -72,7 +78,8 @@ impl<'a> Tool<'a> for SpOptions<'a> {
 }
 
 fn test<'a>(alloc: Global, options: &SpOptions<'a>, matrix: &Matrix) -> Result<Outcome<'a>, Memory>
-    ensures { IfOk result (λ outcome. SeriesParallelDecides (series_parallel_order_of options.now) matrix.now (outcome_report outcome)) }
+    ensures { IfOk result (λ outcome. SeriesParallelDecides (series_parallel_order_of options.now)
+        matrix.now (outcome_report outcome)) }
 {
     let reduction = reduce(alloc, matrix, options.binary)?;
     if reduction.rest.rows.len() == 0 && reduction.rest.columns.len() == 0 {
@@ -89,7 +96,8 @@ fn yes<'a>(
     reduction: &Reduction,
 ) -> Result<Outcome<'a>, Memory>
     requires { IsReduced options.now.binary matrix.now reduction.now }
-    ensures { IfOk result (λ outcome. outcome_report outcome ≡ series_parallel_yes (series_parallel_order_of options.now) matrix.now) }
+    ensures { IfOk result (λ outcome. outcome_report outcome
+        ≡ series_parallel_yes (series_parallel_order_of options.now) matrix.now) }
 {
     let mut output = property_name(options.binary).to_vec(alloc)?;
     output.extend_from_slice(b": yes\n")?;
@@ -110,7 +118,8 @@ fn no<'a>(
 ) -> Result<Outcome<'a>, Memory>
     requires reduced { IsReduced options.now.binary matrix.now reduction.now }
     requires lacks { ¬ IsSeriesParallel options.now.binary matrix.now }
-    ensures { IfOk result (λ outcome. SeriesParallelDecides (series_parallel_order_of options.now) matrix.now (outcome_report outcome)) }
+    ensures { IfOk result (λ outcome. SeriesParallelDecides (series_parallel_order_of options.now)
+        matrix.now (outcome_report outcome)) }
 {
     let minimal = asked_minimal(alloc, options, matrix)?;
     no_outcome(alloc, options, matrix, reduction, &minimal)
@@ -126,7 +135,8 @@ fn no_outcome<'a>(
     requires reduced { IsReduced options.now.binary matrix.now reduction.now }
     requires rows { IfSome minimal.now (λ lines. AllBelow (height matrix.now) lines.rows) }
     requires columns { IfSome minimal.now (λ lines. AllBelow matrix.now.width lines.columns) }
-    ensures { IfOk result (λ outcome. outcome_report outcome ≡ series_parallel_no (series_parallel_order_of options.now) matrix.now minimal.now) }
+    ensures { IfOk result (λ outcome. outcome_report outcome
+        ≡ series_parallel_no (series_parallel_order_of options.now) matrix.now minimal.now) }
 {
     let output = no_text(alloc, options.binary, &reduction.rest, minimal)?;
     let mut files = Vec::new(alloc);
@@ -145,9 +155,12 @@ fn asked_minimal(
     matrix: &Matrix,
 ) -> Result<Option<LineSet>, Memory>
     requires { ¬ IsSeriesParallel options.now.binary matrix.now }
-    ensures asked { IfOk result (IsMinimalAsked (IsSeriesParallel options.now.binary) matrix.now (option_map (λ name. name.now) options.now.minimal)) }
-    ensures rows { IfOk result (λ found. IfSome found (λ lines. AllBelow (height matrix.now) lines.rows)) }
-    ensures columns { IfOk result (λ found. IfSome found (λ lines. AllBelow matrix.now.width lines.columns)) }
+    ensures asked { IfOk result (IsMinimalAsked (IsSeriesParallel options.now.binary) matrix.now
+        (option_map (λ name. name.now) options.now.minimal)) }
+    ensures rows { IfOk result (λ found.
+        IfSome found (λ lines. AllBelow (height matrix.now) lines.rows)) }
+    ensures columns { IfOk result (λ found.
+        IfSome found (λ lines. AllBelow matrix.now.width lines.columns)) }
 {
     match options.minimal {
         Some(_) => minimal_not_sp(alloc, matrix, options.binary),
@@ -180,7 +193,9 @@ fn push_reduction<'a>(
     reduction: &Reduction,
 ) -> Result<(), Memory>
     requires { IsReduced options.now.binary matrix.now reduction.now }
-    ensures { OnOk result (map file_of files.new.items ≡ map file_of files.old.items ++ reduction_files (series_parallel_order_of options.now) matrix.now) }
+    ensures { OnOk result (map file_of files.new.items
+        ≡ map file_of files.old.items
+        ++ reduction_files (series_parallel_order_of options.now) matrix.now) }
 {
     push_steps(alloc, files, options.steps, &reduction.steps)?;
     push_submatrix(alloc, files, options.rest, matrix, &reduction.rest)

@@ -34,14 +34,17 @@ pub fn upgrade<R: Threads + Sync, S: Shelf, O: Sink, E: Sink>(
     out: &mut O,
     err: &mut E,
 ) -> u8
-    ensures runs { Runs (work (upgrade_tool (upgrade_order_of options.now)))
-        (standing (S.tells shelf.old) (O.tells out.old) (E.tells err.old) (S.is_calm shelf.old) (S.room shelf.old) (O.is_calm out.old) (O.room out.old))
+    ensures runs { Runs
+        (work (upgrade_tool (upgrade_order_of options.now)))
+        (standing (S.tells shelf.old) (O.tells out.old) (E.tells err.old) (S.is_calm shelf.old)
+        (S.room shelf.old) (O.is_calm out.old) (O.room out.old))
         (devices (S.content shelf.old) (S.reads shelf.old) (S.failed shelf.old) (S.faults shelf.old)
         (O.got out.old) (O.faults out.old) (E.got err.old) (E.faults err.old))
         (devices (S.content shelf.new) (S.reads shelf.new) (S.failed shelf.new) (S.faults shelf.new)
         (O.got out.new) (O.faults out.new) (E.got err.new) (E.faults err.new))
         result }
-    ensures means { IsTrue (S.tells shelf.old) → (answer : Answer) → result ≡ answer_status answer → Means (upgrade_tool (upgrade_order_of options.now)) (S.content shelf.old) answer }
+    ensures means { IsTrue (S.tells shelf.old) → (answer : Answer) → result ≡ answer_status answer
+        → Means (upgrade_tool (upgrade_order_of options.now)) (S.content shelf.old) answer }
     ensures one { HasOneReport (upgrade_tool (upgrade_order_of options.now)) }
 {
     run_tool(rt, alloc, options, shelf, out, err)
@@ -69,7 +72,9 @@ fn upgrade_text<'a>(
     options: &UpgradeOptions<'a>,
     evidence: &[u8],
 ) -> Result<Outcome<'a>, Stop<'a>>
-    ensures { IsDecision (ReportsTree options.now.evidence.now (UpgradeDecides options.now.tree.now) evidence.now) result }
+    ensures { IsDecision
+        (ReportsTree options.now.evidence.now (UpgradeDecides options.now.tree.now) evidence.now)
+        result }
 {
     let tree = match read_tree_file(alloc, options.evidence, evidence) {
         Ok(tree) => tree,
@@ -82,7 +87,8 @@ fn upgrade_text<'a>(
 }
 
 fn upgraded<'a>(alloc: Global, name: &'a str, tree: &DecTree) -> Result<Outcome<'a>, Memory>
-    ensures { IfOk result (λ outcome. outcome_report outcome ≡ upgrade_report name.entry.now (plain tree.now)) }
+    ensures { IfOk result (λ outcome. outcome_report outcome
+        ≡ upgrade_report name.entry.now (plain tree.now)) }
 {
     let bytes = write_tree(alloc, tree)?;
     let output = upgraded_line(alloc, count_nodes(tree))?;

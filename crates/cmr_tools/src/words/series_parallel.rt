@@ -25,7 +25,8 @@ fn series_parallel_command<'a>(alloc: Global) -> Result<Command<'a>, AllocError>
 }
 
 fn options_in<'a>(matches: &ArgMatches<'a>) -> Result<SpOptions<'a>, WordsError>
-    ensures { Gives series_parallel_order_of result (series_parallel_order_in (rows_of (found_of matches.now))) }
+    ensures { Gives series_parallel_order_of result (series_parallel_order_in
+        (rows_of (found_of matches.now))) }
 {
     Ok(SpOptions {
         form: form_in(matches)?,
