@@ -217,6 +217,19 @@ pulled count agrees before after g all = record {
   room_same = g.room_same;
 }
 
+-- two tests that say the same pull the same
+pub pulled_alike : (count : ℕ) (one other : ℕ → Type 0) (before after : Half) → ((x : ℕ) → one x → other x) → ((x : ℕ) → other x → one x)
+    → HasPulled count one before after → HasPulled count other before after
+pulled_alike count one other before after to back g = record {
+  whole = g.whole;
+  kept = g.kept;
+  agree = λ x l e. to x (g.agree x l e);
+  only = λ x e. elim (g.only x e) [ inl h ↦ inl h | inr k ↦ inr (k.0, λ h. k.1 (back x h)) ];
+  news = g.news;
+  waits = g.waits;
+  room_same = g.room_same;
+}
+
 -- ---- pulls by words
 
 -- the places that were seen and those that are added are inside

@@ -1,5 +1,5 @@
 // The rows, or the columns, of a side that grows.
-ghost use Rattle.std.specs.Prelude.{◌≡◌, ◌<◌, ◌≤◌, ◌+◌, ◌↔◌, ◌⊎◌, IsTrue, ℕ, true, false, length, IfOk, OnOk, MatchOption};
+ghost use Rattle.std.specs.Prelude.{◌≡◌, ◌<◌, ◌≤◌, ◌+◌, ◌↔◌, ◌⊎◌, IsTrue, ℕ, pos, true, false, length, IfOk, OnOk, MatchOption};
 ghost use Rattle.cmr_base.specs.Planes.{has_bit};
 ghost use Rattle.cmr_base.specs.Matrix.{height, row_of, IsEntry};
 ghost use Rattle.cmr_base.specs.Trees.{support};
@@ -34,6 +34,20 @@ pub fn is_sum_at(matrix: &Matrix, row: u32, one: &Multiple, other: &Multiple, pl
     let one_part = times(one.factor, matrix.entry(one.row, place));
     let other_part = times(other.factor, matrix.entry(other.row, place));
     matrix.entry(row, place) == one_part + other_part
+}
+
+// Whether a factor is 0.
+fn is_zero(factor: i8) -> bool
+    ensures { result ≡ true → factor ≡ pos 0 }
+{
+    factor == 0
+}
+
+// Whether a factor is -1, 0 or 1.
+fn is_entry(factor: i8) -> bool
+    ensures { result ≡ true → IsEntry factor }
+{
+    -1 <= factor && factor <= 1
 }
 
 /// The rows, or the columns, of a side that grows: which are in it, how many are not, and those in it whose pulls were not
@@ -154,8 +168,38 @@ impl Half {
     }
 
     /// Takes in the lines outside at which the entry of a row is not the sum of those of two multiples. The lines are the
-    /// columns of the matrix.
+    /// columns of the matrix. Mostly one of the factors is 0, and then the sum is a multiple.
     pub fn pull_sum(
+        &mut self,
+        matrix: &Matrix,
+        row: u32,
+        one: &Multiple,
+        other: &Multiple,
+    ) -> Result<(), Memory>
+        requires half { IsHalf (length self.old.inside.items) self.old }
+        requires width { matrix.now.width ≡ length self.old.inside.items }
+        requires row { row < height matrix.now }
+        requires one_row { one.now.row < height matrix.now }
+        requires other_row { other.now.row < height matrix.now }
+        requires one_factor { IsSmall one.now.factor }
+        requires other_factor { IsSmall other.now.factor }
+        ensures { OnOk result (HasPulled
+            (length self.old.inside.items)
+            (AgreesWithSum (row_of matrix.now row) one.now.factor (row_of matrix.now one.now.row)
+            other.now.factor (row_of matrix.now other.now.row))
+            self.old self.new) }
+    {
+        if is_zero(other.factor) && is_entry(one.factor) {
+            return self.pull(matrix, row, one.factor, one.row);
+        }
+        if is_zero(one.factor) && is_entry(other.factor) {
+            return self.pull(matrix, row, other.factor, other.row);
+        }
+        self.pull_by_nonzeros(matrix, row, one, other)
+    }
+
+    // The same along the nonzeros of the three rows.
+    fn pull_by_nonzeros(
         &mut self,
         matrix: &Matrix,
         row: u32,

@@ -1,65 +1,65 @@
-use Rattle.std.proofs.Common.{◌≡◌, ℕ, ℤ, pos, ◌+ℤ◌, ◌*ℤ◌, false, true, inl, inr, length, subst, sym, arith}
-use Rattle.cmr_base.specs.Matrix.{Matrix, entry, row_of}
-use Rattle.cmr_base.specs.Trees.{support}
-use Rattle.cmr_base.proofs.Booleans.{false_is, not_both, zero_is}
+use Rattle.std.proofs.Common.{◌≡◌, ◌∙◌, refl, w8, to_z, of_z, ℕ, ℤ, pos, ◌+ℤ◌, ◌*ℤ◌, List, length, get_or, subst, sym, ap, arith}
+use Rattle.std.proofs.lemmas.Result.{on_ok_weaker}
+use Rattle.cmr_base.specs.Matrix.{row_of}
 use Rattle.cmr_base.proofs.Integers.{products, sums}
-use Rattle.cmr_base.proofs.RowLists.{two_cases}
-use Rattle.three_sep.specs.declared.half.Half.{Half}
-use Rattle.three_sep.specs.Halves.{AgreesWithSum, HasGrown, HasPulled, IsHalf, is_in}
-use Rattle.three_sep.proofs.HalfLemmas.{grown_joined, pulled}
+use Rattle.three_sep.specs.Halves.{Agrees, AgreesWithSum, HasPulled}
+use Rattle.three_sep.specs.Numbers.{IsSmall}
+use Rattle.three_sep.proofs.HalfLemmas.{pulled_alike}
+use Rattle.three_sep.proofs.NumberLemmas.{kept_small}
 use Rattle.three_sep.proofs.half.Half.pull_sum.Goals as goal
 
-zero_sum : (x y z f g : ℤ) → x ≡ pos 0 → y ≡ pos 0 → z ≡ pos 0 → x ≡ f *ℤ y +ℤ g *ℤ z
-zero_sum x y z f g ex ey ez = rw (ex, ey, ez) (simp products (omega (arith, sums)))
+zero_factor : (z : ℤ) → IsSmall z → to_z w8 (of_z w8 z) ≡ pos 0 → z ≡ pos 0
+zero_factor z small e = sym (kept_small z small) ∙ e
 
-of_size : (n count : ℕ) (P : ℕ → Type 0) (before after : Half) → n ≡ count → HasGrown n P before after → HasGrown count P before after
-of_size n count P before after e g = subst (λ (k : ℕ). HasGrown k P before after) e g
+without_other : (f g y z : ℤ) → g ≡ pos 0 → f *ℤ y ≡ f *ℤ y +ℤ g *ℤ z
+without_other f g y z e = rw e (simp products (omega (arith, sums)))
 
-module _ (m : Matrix) (row one other : ℕ) (f g : ℤ) (count : ℕ) where
-  abbrev agrees : ℕ → Type 0
-  agrees = AgreesWithSum (row_of m row) f (row_of m one) g (row_of m other)
+without_one : (f g y z : ℤ) → f ≡ pos 0 → g *ℤ z ≡ f *ℤ y +ℤ g *ℤ z
+without_one f g y z e = rw e (simp products (omega (arith, sums)))
 
-  abbrev Agree : ℕ → Half → Type 0
-  Agree along half = (x : ℕ) → support m along x ≡ true → is_in half x ≡ false → agrees x
+module _ (entries one other : List ℤ) (f g : ℤ) where
+  abbrev one_at : ℕ → ℤ
+  one_at x = get_or one x (pos 0)
 
-  out_before : (before after : Half) (x : ℕ) → HasGrown count (λ y. ¬ (agrees y)) before after → is_in after x ≡ false → is_in before x ≡ false
-  out_before before after x grown e = false_is (is_in before x) (λ t. not_both (is_in after x) (grown.kept x t) e)
+  abbrev other_at : ℕ → ℤ
+  other_at x = get_or other x (pos 0)
 
-  -- along the row, and then along the others
-  pub all_pulled : (start first second third : Half) → HasGrown count (λ y. ¬ (agrees y)) start first → HasGrown count (λ y. ¬ (agrees y)) first second → HasGrown count (λ y. ¬ (agrees y)) second third
-      → Agree row first → Agree one second → Agree other third → HasPulled count agrees start third
-  all_pulled start first second third one_grown two_grown three_grown one_agree two_agree three_agree =
-      let to_second = grown_joined count (λ y. ¬ (agrees y)) start first second one_grown (λ y. ¬ (agrees y)) two_grown (λ x n. n) in
-      let to_third = grown_joined count (λ y. ¬ (agrees y)) start second third to_second (λ y. ¬ (agrees y)) three_grown (λ x n. n) in
-      pulled count agrees start third to_third (λ x l e.
-      let out_second = out_before second third x three_grown e in
-      elim (two_cases (support m row x)) [
-        | inl t ↦ one_agree x t (out_before first second x two_grown out_second)
-        | inr zero ↦ elim (two_cases (support m one x)) [
-          | inl t ↦ two_agree x t out_second
-          | inr zero_one ↦ elim (two_cases (support m other x)) [
-            | inl t ↦ three_agree x t e
-            | inr zero_other ↦ zero_sum (entry m row x) (entry m one x) (entry m other x) f g (zero_is (entry m row x) zero) (zero_is (entry m one x) zero_one) (zero_is (entry m other x) zero_other)
-          ]
-        ]
-      ])
+  pub first_alone : g ≡ pos 0 → (x : ℕ) → Agrees entries f one x → AgreesWithSum entries f one g other x
+  first_alone e x h = h ∙ without_other f g (one_at x) (other_at x) e
 
-pub pull_along-requires-2-clause-half : goal.pull_along-requires-2-clause-half
-pull_along-requires-2-clause-half c = let w = c.in_ok-pull_along.ensures.grown.whole in subst (λ (n : ℕ). IsHalf n c.pull_along.new.self) (sym w.size) w
+  pub first_alone_back : g ≡ pos 0 → (x : ℕ) → AgreesWithSum entries f one g other x → Agrees entries f one x
+  first_alone_back e x h = h ∙ sym (without_other f g (one_at x) (other_at x) e)
 
-pub returns : goal.returns
-returns c =
-    let count = length c.args.self.now.inside.items in
+  pub second_alone : f ≡ pos 0 → (x : ℕ) → Agrees entries g other x → AgreesWithSum entries f one g other x
+  second_alone e x h = h ∙ without_one f g (one_at x) (other_at x) e
+
+  pub second_alone_back : f ≡ pos 0 → (x : ℕ) → AgreesWithSum entries f one g other x → Agrees entries g other x
+  second_alone_back e x h = h ∙ sym (without_one f g (one_at x) (other_at x) e)
+
+pub returns-then-is_entry : goal.returns-then-is_entry
+returns-then-is_entry c =
     let m = c.args.matrix.now in
-    let row = c.args.row in
     let one = c.args.one.now in
     let other = c.args.other.now in
-    let rest : ℕ → Type 0 = λ x. ¬ (agrees m row one.row other.row one.factor other.factor count x) in
-    let start = c.args.self.now in
-    let first = c.pull_along.new.self in
-    let second = c.pull_along-2.new.self in
-    let third = c.pull_along-3.new.self in
-    let to_first = c.in_ok-pull_along.ensures.grown in
-    let to_second = of_size (length first.inside.items) count rest first second to_first.whole.size c.in_ok-pull_along-2.ensures.grown in
-    let to_third = of_size (length second.inside.items) count rest second third to_second.whole.size c.in_ok-pull_along-3.ensures.grown in
-    all_pulled m row one.row other.row one.factor other.factor count start first second third to_first to_second to_third c.in_ok-pull_along.ensures.agree c.in_ok-pull_along-2.ensures.agree c.in_ok-pull_along-3.ensures.agree
+    let entries : List ℤ = row_of m c.args.row in
+    let first : List ℤ = row_of m one.row in
+    let second : List ℤ = row_of m other.row in
+    on_ok_weaker c.pull.result
+    (λ h. pulled_alike (length c.args.self.now.inside.items) (Agrees entries one.factor first) (AgreesWithSum entries one.factor first other.factor second) c.args.self.now c.pull.new.self
+    (first_alone entries first second one.factor other.factor (zero_factor other.factor c.requires.other_factor (c.if-is_zero.ensures refl))) (first_alone_back entries first second one.factor other.factor (zero_factor other.factor c.requires.other_factor (c.if-is_zero.ensures refl)))
+    (subst (λ (z : ℤ). HasPulled (length c.args.self.now.inside.items) (Agrees entries z first) c.args.self.now c.pull.new.self) (kept_small one.factor c.requires.one_factor) h))
+    c.pull.ensures
+
+pub returns-then-is_entry-2 : goal.returns-then-is_entry-2
+returns-then-is_entry-2 c =
+    let m = c.args.matrix.now in
+    let one = c.args.one.now in
+    let other = c.args.other.now in
+    let entries : List ℤ = row_of m c.args.row in
+    let first : List ℤ = row_of m one.row in
+    let second : List ℤ = row_of m other.row in
+    on_ok_weaker c.pull-then-is_entry-2.result
+    (λ h. pulled_alike (length c.args.self.now.inside.items) (Agrees entries other.factor second) (AgreesWithSum entries one.factor first other.factor second) c.args.self.now c.pull-then-is_entry-2.new.self
+    (second_alone entries first second one.factor other.factor (zero_factor one.factor c.requires.one_factor (c.if-is_zero-2.ensures refl))) (second_alone_back entries first second one.factor other.factor (zero_factor one.factor c.requires.one_factor (c.if-is_zero-2.ensures refl)))
+    (subst (λ (z : ℤ). HasPulled (length c.args.self.now.inside.items) (Agrees entries z second) c.args.self.now c.pull-then-is_entry-2.new.self) (kept_small other.factor c.requires.other_factor) h))
+    c.pull-then-is_entry-2.ensures
