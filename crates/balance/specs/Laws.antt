@@ -1,6 +1,6 @@
 -- Balanced matrices and violators.
 use Rattle.std.specs.Prelude.{ℕ, List}
-use Rattle.cmr_base.specs.Matrix.{Matrix, entry, IsMatrix, IsTernary}
+use Rattle.cmr_base.specs.Matrix.{Matrix, entry, IsTernary}
 use Rattle.cmr_base.specs.CyclePlaces.{IsCycleFault}
 use Rattle.cmr_base.specs.Violator.{HasNoViolator}
 use Rattle.balance.specs.BalanceFaults.{IsBalanceFault, IsBalanced}
@@ -11,4 +11,4 @@ FreeIsBalanced = (m : Matrix) → IsTernary m → HasNoViolator m → IsBalanced
 
 -- the cycle fault is a balance fault
 abbrev pub CycleFaultsAreBalanceFaults : Type 0
-CycleFaultsAreBalanceFaults = (m : Matrix) → IsMatrix m → (rows columns : List ℕ) → IsCycleFault m rows columns → IsBalanceFault (entry m) rows columns
+CycleFaultsAreBalanceFaults = (m : Matrix) → IsTernary m → (rows columns : List ℕ) → IsCycleFault m rows columns → IsBalanceFault (entry m) rows columns

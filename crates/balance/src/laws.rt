@@ -1,4 +1,5 @@
-//! Laws over the definitions alone. Each is a function that does nothing: its contract is the law.
+//! Laws over the definitions alone, for all matrices with entries -1, 0 and 1. Each is a function that does
+//! nothing: its contract is the law.
 ghost use Rattle.balance.specs.Laws.{CycleFaultsAreBalanceFaults, FreeIsBalanced};
 
 /// Balance faults are violators, so a matrix without violators is balanced; and the cycle fault is a balance fault,

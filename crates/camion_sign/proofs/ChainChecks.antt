@@ -60,8 +60,8 @@ forced_from a s row column cycle v is signs here row_set column_set row_here col
         plain (submatrix_sum (with_entry s row column v) cycle.rows cycle.columns) (submatrix_sum s cycle.rows cycle.columns) (entry (with_entry s row column v) row column) (entry s row column) v
         (one_entry (entry (with_entry s row column v)) (entry s) cycle.rows cycle.columns row column
         (rising_distinct 0 (height a) cycle.rows (row_set_rises a cycle.rows row_set)) (rising_distinct 0 a.width cycle.columns (column_set_rises a cycle.columns column_set))
-        row_here column_here (λ i j h g e. (one_more a s is signs row column v here.one).other i j e))
-        (one_more a s is signs row column v here.one).here here.no_sign
+        row_here column_here (λ i j h g e. (one_more a s is.rectangular signs row column v here.one).other i j e))
+        (one_more a s is.rectangular signs row column v here.one).here here.no_sign
       where
         plain : (x y p q v : ℤ) → x -ℤ y ≡ p -ℤ q → p ≡ v → q ≡ pos 0 → x ≡ y +ℤ v
         plain x y p q v e f g = omega (arith, sums)
@@ -72,8 +72,8 @@ forced_rest a s row column cycle v is signs rule = subst IsZeroModFour
     (plain (submatrix_sum (with_entry s row column v) cycle.rows cycle.columns) (submatrix_sum s cycle.rows cycle.columns) (entry (with_entry s row column v) row column) (entry s row column) v
     (one_entry (entry (with_entry s row column v)) (entry s) cycle.rows cycle.columns row column
     (rising_distinct 0 (height a) cycle.rows (row_set_rises a cycle.rows rule.row_set)) (rising_distinct 0 a.width cycle.columns (column_set_rises a cycle.columns rule.column_set))
-    rule.row_in rule.column_in (λ i j h g e. (one_more a s is signs row column v rule.here.one).other i j e))
-    (one_more a s is signs row column v rule.here.one).here rule.here.no_sign) rule.four
+    rule.row_in rule.column_in (λ i j h g e. (one_more a s is.rectangular signs row column v rule.here.one).other i j e))
+    (one_more a s is.rectangular signs row column v rule.here.one).here rule.here.no_sign) rule.four
   where
     plain : (x y p q v : ℤ) → x -ℤ y ≡ p -ℤ q → p ≡ v → q ≡ pos 0 → x ≡ y +ℤ v
     plain x y p q v e f g = omega (arith, sums)
@@ -93,7 +93,7 @@ rule_one a s (Free row column) v (rule, e) = (rule.here, inl e)
 rule_one a s (Forced row column cycle) v rule = (rule.here, rule.is_sign)
 
 pub rule_signs : (a s : Matrix) (step : SignStep) (v : ℤ) → IsMatrix a → AreSigns a s → KeepsRule a s step v → AreSigns a (signed_by s step v)
-rule_signs a s step v is signs rule = let h = rule_one a s step v rule in signs_more a s is signs (step_row step) (step_column step) v h.0.one h.1
+rule_signs a s step v is signs rule = let h = rule_one a s step v rule in signs_more a s is.rectangular signs (step_row step) (step_column step) v h.0.one h.1
 
 -- where the steps lead is one matrix
 pub lead_once : (a s end other : Matrix) (steps : List SignStep) → IsMatrix a → AreSigns a s → LeadTo (KeepsRule a) s steps end → LeadTo (KeepsRule a) s steps other → end ≡ other
@@ -204,8 +204,8 @@ signs_of_sound a chain steps followed signs is e h sound = go (subst (λ x. HasF
     go : HasFollowed a chain.chain.steps followed → IsSoundChain a chain followed.signs
     go f = elim (cases_lt followed.kept (length chain.chain.steps)) [
       | inl lt ↦ absurd (step_kept followed.signs signs (drop followed.kept chain.chain.steps) (let k = length-drop followed.kept chain.chain.steps in omega arith)
-          (lead_from a (unsigned a) signs followed.signs chain.chain.steps followed.kept is (unsigned_signs a is) sound.steps f.leads) f.breaks)
-      | inr ge ↦ subst (IsSoundChain a chain) (lead_once a (unsigned a) signs followed.signs chain.chain.steps is (unsigned_signs a is) sound.steps (all_kept a chain.chain.steps followed f (omega arith))) sound
+          (lead_from a (unsigned a) signs followed.signs chain.chain.steps followed.kept is (unsigned_signs a) sound.steps f.leads) f.breaks)
+      | inr ge ↦ subst (IsSoundChain a chain) (lead_once a (unsigned a) signs followed.signs chain.chain.steps is (unsigned_signs a) sound.steps (all_kept a chain.chain.steps followed f (omega arith))) sound
     ]
 
 -- one more step that keeps its rule

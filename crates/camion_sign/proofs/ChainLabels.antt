@@ -68,7 +68,7 @@ module _ (a s t : Matrix) (labels more_labels : List ℕ) (r c : ℕ) (v : ℤ) 
             ∙ sym (ap (λ y. cond (nat_eq (label_in a labels (Column y)) (label_in a labels (Column c))) (label_in a labels (Row r)) (label_in a labels (Column y))) p.1 ∙ at_column)
         | inr d ↦ ap (λ l. cond (nat_eq l (label_in a labels (Column c))) (label_in a labels (Row r)) l) (w.joined i j (λ e. h (more.other i j d ∙ e)))
       ]
-      ∙ sym (new_label (Column j) (let l = column_in t i j signs.matrix.rectangular h in let e = signs.same_width in omega arith))
+      ∙ sym (new_label (Column j) (let l = column_in t i j signs.ternary.rectangular h in let e = signs.same_width in omega arith))
 
   old_links : (x y : Line) → IsLineOf a x → IsLineOf a y → label_in a labels x ≡ label_in a labels y → AreLinked t x y
   old_links x y l m e = let k = w.linked x y l m e in (k.0, links_more s t (keeps s t r c v u more) k.0 x y k.1)
@@ -102,6 +102,6 @@ differ_test x y z e = ((λ h f. true_is_false (sym h ∙ ap not (is_eq x y (f �
 pub labels_given : (a s t : Matrix) (labels made : List ℕ) (row column n : ℕ) (v : ℤ) → IsMatrix a → AreSigns a s → IsUnsignedOne a s row column → IsSign v → AreLabels a s labels → t ≡ with_entry s row column v → n ≡ height a
     → made ≡ map (λ l. cond (nat_eq l (get_or labels (n + column) 0)) (get_or labels row 0) l) labels → AreLabels a t made
 labels_given a s t labels made row column n v is signs here u w e f g =
-    subst (λ x. AreLabels a x made) (sym e) (labels_more a s (with_entry s row column v) labels made row column v u (one_more a s is signs row column v here.one) (signs_more a s is signs row column v here.one u) w
+    subst (λ x. AreLabels a x made) (sym e) (labels_more a s (with_entry s row column v) labels made row column v u (one_more a s is.rectangular signs row column v here.one) (signs_more a s is.rectangular signs row column v here.one u) w
     (row_in a row column here.one) (column_in a row column is.rectangular here.one)
     (subst (λ k. made ≡ map (λ l. cond (nat_eq l (get_or labels (k + column) 0)) (get_or labels row 0) l) labels) f g))

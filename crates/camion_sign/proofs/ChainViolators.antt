@@ -2,7 +2,7 @@
 use Rattle.std.proofs.Common.{◌≡◌, ◌≢◌, ◌∙◌, ◌⊎◌, ◌↔◌, ℕ, zero, suc, ℤ, pos, negsuc, neg_ℤ, ◌-ℤ◌, ◌*ℤ◌, Bool, true, false, nat_eq, List, [], ◌∷◌, replicate, length, get_or, inl, inr, refl, sym, ap, subst, arith}
 use Rattle.std.proofs.lemmas.Int.{ints}
 use Rattle.std.proofs.lemmas.List.{get_or-replicate, length-replicate}
-use Rattle.cmr_base.specs.Matrix.{Matrix, height, entry, with_entry, IsMatrix, IsEntry}
+use Rattle.cmr_base.specs.Matrix.{Matrix, height, entry, with_entry, IsEntry, IsTernary}
 use Rattle.cmr_base.specs.Signing.{IsSign}
 use Rattle.cmr_base.specs.Sums.{sum_over, IsEven, IsTwoModFour}
 use Rattle.cmr_base.specs.Members.{IsIn, IsDistinct}
@@ -175,7 +175,7 @@ even_line xs f g h e = even_by_difference (sum_over xs f) (sum_over xs g)
     (subst IsEven (sum_over-sub xs f g) (even-sum_over xs (λ x. f x -ℤ g x) (all_of_members (λ x. IsEven (f x -ℤ g x)) xs (λ x i. h x))))
     (pos 1, e)
 
-module _ (a : Matrix) (is : IsMatrix a) (binary : IsBinary a) (lines : LineSet) (end : Matrix) where
+module _ (a : Matrix) (is : IsTernary a) (binary : IsBinary a) (lines : LineSet) (end : Matrix) where
   chain : (steps : List SignStep) (s : Matrix) (N : ℕ → ℕ → ℤ) → AreSigns a s → IsMatched a s N → Labels s → LeadTo (KeepsRule a) s steps end → IsSignedViolator a end lines → Found a N
   chain [] s N f m w e v = record {
     rows = lines.rows;
@@ -190,16 +190,16 @@ module _ (a : Matrix) (is : IsMatrix a) (binary : IsBinary a) (lines : LineSet) 
         | inl z ↦ f.inside i j ((m.support i j).1 z) ∙ sym z
         | inr u ↦ m.same i j (subst (λ t. entry t i j ≢ pos 0) (sym e) (v.all_signed i j h g (λ z. sign_nonzero (N i j) u ((m.support i j).0 z))))
       ]
-  chain (Free r c ∷ steps) s N f m w (v, (rule, plus), rest) v' = go (sign_of a s N m r c rule.here.one) (λ K k. chain steps (with_entry s r c v) K (signs_more a s is f r c v rule.here.one (inl plus)) k (more_labels s (with_entry s r c v) r c v (inl plus) (one_more a s is f r c v rule.here.one) w) rest v')
+  chain (Free r c ∷ steps) s N f m w (v, (rule, plus), rest) v' = go (sign_of a s N m r c rule.here.one) (λ K k. chain steps (with_entry s r c v) K (signs_more a s is.rectangular f r c v rule.here.one (inl plus)) k (more_labels s (with_entry s r c v) r c v (inl plus) (one_more a s is.rectangular f r c v rule.here.one) w) rest v')
     where
       go : IsSign (N r c) → ((K : ℕ → ℕ → ℤ) → IsMatched a (with_entry s r c v) K → Found a K) → Found a N
-      go (inl e) again = again N (more_matched a s (with_entry s r c v) N r c v (one_more a s is f r c v rule.here.one) (plus ∙ sym e) m)
+      go (inl e) again = again N (more_matched a s (with_entry s r c v) N r c v (one_more a s is.rectangular f r c v rule.here.one) (plus ∙ sym e) m)
       go (inr e) again =
           let top = w.label (Column c) in
           let K = turned a s N w m top in
-          let found = again K (more_matched a s (with_entry s r c v) K r c v (one_more a s is f r c v rule.here.one) (plus ∙ turned_at a s N w m top r c (λ q. rule.apart (w.links (Row r) (Column c) q)) refl e) (turned_matched a s N w m top)) in
+          let found = again K (more_matched a s (with_entry s r c v) K r c v (one_more a s is.rectangular f r c v rule.here.one) (plus ∙ turned_at a s N w m top r c (λ q. rule.apart (w.links (Row r) (Column c) q)) refl e) (turned_matched a s N w m top)) in
           record { rows = found.rows; columns = found.columns; row_set = found.row_set; column_set = found.column_set; violator = violator_up_to_signs K N found.rows found.columns (turned_back a s N w m top) found.violator }
-  chain (Forced r c cycle ∷ steps) s N f m w (v, rule, rest) v' = go (four_or_two (sum_over cycle.rows (λ i. sum_over cycle.columns (λ j. N i j))) even) (λ k. chain steps (with_entry s r c v) N (signs_more a s is f r c v rule.here.one rule.is_sign) k (more_labels s (with_entry s r c v) r c v rule.is_sign (one_more a s is f r c v rule.here.one) w) rest v')
+  chain (Forced r c cycle ∷ steps) s N f m w (v, rule, rest) v' = go (four_or_two (sum_over cycle.rows (λ i. sum_over cycle.columns (λ j. N i j))) even) (λ k. chain steps (with_entry s r c v) N (signs_more a s is.rectangular f r c v rule.here.one rule.is_sign) k (more_labels s (with_entry s r c v) r c v rule.is_sign (one_more a s is.rectangular f r c v rule.here.one) w) rest v')
     where
       parity : (i j : ℕ) → IsEven (entry a i j -ℤ N i j)
       parity i j = same_parity (entry a i j) (N i j) (no_minus a binary i j) (is.small i j) (m.small i j) (m.support i j)
@@ -214,7 +214,7 @@ module _ (a : Matrix) (is : IsMatrix a) (binary : IsBinary a) (lines : LineSet) 
       even = even-sum_over cycle.rows (λ i. sum_over cycle.columns (λ j. N i j)) (all_of_members (λ i. IsEven (sum_over cycle.columns (λ j. N i j))) cycle.rows row_even)
 
       equal : (i j : ℕ) → IsIn i cycle.rows → IsIn j cycle.columns → (i ≢ r) ⊎ (j ≢ c) → entry (with_entry s r c v) i j ≡ N i j
-      equal i j h g d = (one_more a s is f r c v rule.here.one).other i j d ∙ elim (zero_or_sign (N i j) (m.small i j)) [
+      equal i j h g d = (one_more a s is.rectangular f r c v rule.here.one).other i j d ∙ elim (zero_or_sign (N i j) (m.small i j)) [
         | inl z ↦ f.inside i j ((m.support i j).1 z) ∙ sym z
         | inr u ↦ m.same i j (rule.others i j h g (λ e. sign_nonzero (N i j) u ((m.support i j).0 e)) d)
       ]
@@ -231,10 +231,10 @@ module _ (a : Matrix) (is : IsMatrix a) (binary : IsBinary a) (lines : LineSet) 
           two_mod_four = two;
         };
       }
-      go (inl four) again = again (more_matched a s (with_entry s r c v) N r c v (one_more a s is f r c v rule.here.one)
-          (sym (one_more a s is f r c v rule.here.one).here ∙ sign_four (sum_over cycle.rows (λ i. sum_over cycle.columns (λ j. entry (with_entry s r c v) i j))) (sum_over cycle.rows (λ i. sum_over cycle.columns (λ j. N i j))) (entry (with_entry s r c v) r c) (N r c)
+      go (inl four) again = again (more_matched a s (with_entry s r c v) N r c v (one_more a s is.rectangular f r c v rule.here.one)
+          (sym (one_more a s is.rectangular f r c v rule.here.one).here ∙ sign_four (sum_over cycle.rows (λ i. sum_over cycle.columns (λ j. entry (with_entry s r c v) i j))) (sum_over cycle.rows (λ i. sum_over cycle.columns (λ j. N i j))) (entry (with_entry s r c v) r c) (N r c)
           (one_entry (entry (with_entry s r c v)) N cycle.rows cycle.columns r c (rising_distinct 0 (height a) cycle.rows (row_set_rises a cycle.rows rule.row_set)) (rising_distinct 0 a.width cycle.columns (column_set_rises a cycle.columns rule.column_set)) rule.row_in rule.column_in equal)
-          rule.four four (subst IsSign (sym (one_more a s is f r c v rule.here.one).here) rule.is_sign) (sign_of a s N m r c rule.here.one))
+          rule.four four (subst IsSign (sym (one_more a s is.rectangular f r c v rule.here.one).here) rule.is_sign) (sign_of a s N m r c rule.here.one))
           m)
 
 pub entry-unsigned : (a : Matrix) (i j : ℕ) → entry (unsigned a) i j ≡ pos 0
@@ -245,13 +245,11 @@ entry-unsigned a i j = rows (height a) i
     rows (suc n) zero = get_or-replicated a.width j (pos 0)
     rows (suc n) (suc i) = rows n i
 
-pub unsigned_signs : (a : Matrix) → IsMatrix a → AreSigns a (unsigned a)
-unsigned_signs a is = record {
-  matrix = record {
+pub unsigned_signs : (a : Matrix) → AreSigns a (unsigned a)
+unsigned_signs a = record {
+  ternary = record {
     rectangular = λ i h. ap length (get_or-replicate (height a) i (replicate a.width (pos 0)) [] (omega (arith, h, length-replicate (height a) (replicate a.width (pos 0))))) ∙ length-replicate a.width (pos 0);
     small = λ i j. subst IsEntry (sym (entry-unsigned a i j)) (record { low = omega (arith, ints); high = omega (arith, ints) });
-    height_in = omega (arith, is.height_in, length-replicate (height a) (replicate a.width (pos 0)));
-    width_in = is.width_in;
   };
   same_height = length-replicate (height a) (replicate a.width (pos 0));
   same_width = refl;
@@ -260,7 +258,7 @@ unsigned_signs a is = record {
 
 pub chains_mean_violators : ChainsMeanViolators
 chains_mean_violators a m signs sized binary is sound small support free =
-    let found = chain a is binary sized.chain.violator signs sized.chain.steps (unsigned a) (entry m) (unsigned_signs a is)
+    let found = chain a is binary sized.chain.violator signs sized.chain.steps (unsigned a) (entry m) (unsigned_signs a)
     (record { small = small.small; support = support.zeros_same; same = λ i j h. absurd (h (entry-unsigned a i j)) })
     (no_labels (unsigned a) (entry-unsigned a)) sound.steps sound.violator in
     free found.rows found.columns

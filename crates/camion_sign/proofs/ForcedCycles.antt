@@ -189,16 +189,16 @@ module _ (a s : Matrix) (is : IsMatrix a) (signs : AreSigns a s) (t c d : ℕ) (
   sum_more v = plain (submatrix_sum (with_entry s t d v) cycle.rows cycle.columns) (submatrix_sum s cycle.rows cycle.columns) (entry (with_entry s t d v) t d) (entry s t d) v
       (one_entry (entry (with_entry s t d v)) (entry s) cycle.rows cycle.columns t d
       (rising_distinct 0 (height a) cycle.rows (row_set_rises a cycle.rows lines.row_set)) (rising_distinct 0 a.width cycle.columns (column_set_rises a cycle.columns lines.column_set))
-      (ends_in a t c d cycle lines).0 (ends_in a t c d cycle lines).1 (λ i j h g e. (one_more a s is signs t d v here.one).other i j e))
-      (one_more a s is signs t d v here.one).here here.no_sign
+      (ends_in a t c d cycle lines).0 (ends_in a t c d cycle lines).1 (λ i j h g e. (one_more a s is.rectangular signs t d v here.one).other i j e))
+      (one_more a s is.rectangular signs t d v here.one).here here.no_sign
     where
       plain : (x y p q v : ℤ) → x -ℤ y ≡ p -ℤ q → p ≡ v → q ≡ pos 0 → x ≡ y +ℤ v
       plain x y p q v e f g = omega (arith, sums)
 
   -- which is odd before
   pub odd_sum : IsOdd (submatrix_sum s cycle.rows cycle.columns)
-  odd_sum = subst IsEven (sum_more (pos 1)) (even_whole a is t c d cycle o (entry n) (signed_cycle a is t c d cycle o (entry n) more.matrix.small more.inside
-      (λ i j l h. keeps s n t d (pos 1) (inl refl) (one_more a s is signs t d (pos 1) here.one) i j (turn.earlier i j l h)) (at o.ends).0 (at o.ends).1))
+  odd_sum = subst IsEven (sum_more (pos 1)) (even_whole a is t c d cycle o (entry n) (signed_cycle a is t c d cycle o (entry n) more.ternary.small more.inside
+      (λ i j l h. keeps s n t d (pos 1) (inl refl) (one_more a s is.rectangular signs t d (pos 1) here.one) i j (turn.earlier i j l h)) (at o.ends).0 (at o.ends).1))
     where
       o : IsOrdered a t c d cycle
       o = ordered a t c d cycle lines
@@ -207,13 +207,13 @@ module _ (a s : Matrix) (is : IsMatrix a) (signs : AreSigns a s) (t c d : ℕ) (
       n = with_entry s t d (pos 1)
 
       more : AreSigns a (with_entry s t d (pos 1))
-      more = signs_more a s is signs t d (pos 1) here.one (inl refl)
+      more = signs_more a s is.rectangular signs t d (pos 1) here.one (inl refl)
 
       old : entry (with_entry s t d (pos 1)) t c ≢ pos 0
-      old = keeps s (with_entry s t d (pos 1)) t d (pos 1) (inl refl) (one_more a s is signs t d (pos 1) here.one) t c signed
+      old = keeps s (with_entry s t d (pos 1)) t d (pos 1) (inl refl) (one_more a s is.rectangular signs t d (pos 1) here.one) t c signed
 
       new : entry (with_entry s t d (pos 1)) t d ≢ pos 0
-      new e = sign_nonzero (pos 1) (inl refl) (sym (one_more a s is signs t d (pos 1) here.one).here ∙ e)
+      new e = sign_nonzero (pos 1) (inl refl) (sym (one_more a s is.rectangular signs t d (pos 1) here.one).here ∙ e)
 
       at : ((o.first ≡ c) × (o.last ≡ d)) ⊎ ((o.first ≡ d) × (o.last ≡ c)) → (entry (with_entry s t d (pos 1)) t o.first ≢ pos 0) × (entry (with_entry s t d (pos 1)) t o.last ≢ pos 0)
       at (inl q) = (subst (λ x. entry (with_entry s t d (pos 1)) t x ≢ pos 0) (sym q.0) old, subst (λ x. entry (with_entry s t d (pos 1)) t x ≢ pos 0) (sym q.1) new)

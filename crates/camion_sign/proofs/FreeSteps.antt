@@ -52,7 +52,7 @@ module _ (a s : Matrix) (is : IsMatrix a) (signs : AreSigns a s) (t : ℕ) (turn
   next_near (Row i) (Row k) joined near = absurd joined
   next_near (Column j) (Column k) joined near = absurd joined
   next_near (Row i) (Column j) joined (inl e) = inl (subst (λ x. entry s x j ≢ pos 0) e joined)
-  next_near (Row i) (Column j) joined (inr (l, (y, signed, from))) = go (zero_or_sign (entry a t j) (is.small t j)) (zero_or_sign (entry s t j) (signs.matrix.small t j))
+  next_near (Row i) (Column j) joined (inr (l, (y, signed, from))) = go (zero_or_sign (entry a t j) (is.small t j)) (zero_or_sign (entry s t j) (signs.ternary.small t j))
     where
       path : (lines : List ℕ) × IsPath (entry a) t j y lines
       path = from j (one_of i j joined)
@@ -89,8 +89,8 @@ keeps_rule a s is binary signs (Free row column) v (turn, next, e) = (record { h
 keeps_rule a s is binary signs (Forced row column cycle) v (turn, next) = forced_step a s is binary signs row column cycle v turn next
 
 signs_by : (a s : Matrix) → IsMatrix a → AreSigns a s → (step : SignStep) (v : ℤ) → IsNextSign a s step v → AreSigns a (signed_by s step v)
-signs_by a s is signs (Free row column) v (turn, next, e) = signs_more a s is signs row column v next.here.one (inl e)
-signs_by a s is signs (Forced row column cycle) v (turn, next) = signs_more a s is signs row column v next.here.one next.is_sign
+signs_by a s is signs (Free row column) v (turn, next, e) = signs_more a s is.rectangular signs row column v next.here.one (inl e)
+signs_by a s is signs (Forced row column cycle) v (turn, next) = signs_more a s is.rectangular signs row column v next.here.one next.is_sign
 
 pub chain_steps : (a : Matrix) → IsMatrix a → IsBinary a → (steps : List SignStep) (s end : Matrix) → AreSigns a s → LeadTo (IsNextSign a) s steps end → LeadTo (KeepsRule a) s steps end
 chain_steps a is binary [] s end signs e = e

@@ -1,10 +1,11 @@
 -- One more sign: what stays, and the lines that are linked then.
-use Rattle.std.proofs.Common.{◌≡◌, ◌≢◌, ◌∙◌, ◌<◌, ◌⊎◌, ◌+◌, ℕ, suc, ℤ, pos, Bool, true, false, cond, nat_eq, List, [], ◌∷◌, inl, inr, refl, sym, ap, subst, arith}
-use Rattle.cmr_base.specs.Matrix.{Matrix, height, entry, with_entry, IsMatrix}
+use Rattle.std.proofs.Common.{◌≡◌, ◌≢◌, ◌∙◌, ◌<◌, ◌⊎◌, ◌+◌, ℕ, suc, ℤ, pos, Bool, true, false, cond, nat_eq, List, [], ◌∷◌, length, get_or, set, inl, inr, refl, sym, ap, subst, arith}
+use Rattle.std.proofs.lemmas.List.{length-set, get_or-set_same, get_or-set_other}
+use Rattle.cmr_base.specs.Matrix.{Matrix, height, row_of, entry, with_entry, IsEntry, IsRectangular}
 use Rattle.cmr_base.specs.Signing.{IsSign}
 use Rattle.cmr_base.specs.declared.line.Line.{Line}
 use Rattle.cmr_base.specs.declared.line.Line.TheVariants.{Row, Column}
-use Rattle.cmr_base.proofs.Entries.{height-with_entry, entry-with_entry_same, entry-with_entry_other_column, entry-with_entry_other_row, is_matrix-with_entry}
+use Rattle.cmr_base.proofs.Entries.{height-with_entry, entry-with_entry_other_column, entry-with_entry_other_row}
 use Rattle.cmr_base.proofs.RowLists.{same_or_not, is_eq, eq_of}
 use Rattle.cmr_base.proofs.SignEntries.{sign_is_entry}
 use Rattle.ghouila.proofs.SignProducts.{sign_nonzero}
@@ -20,15 +21,21 @@ pub record HasOneMore (s t : Matrix) (r c : ℕ) (v : ℤ) : Type 0 where
 pub here_or : (i j r c : ℕ) → ((i ≡ r) × (j ≡ c)) ⊎ ((i ≢ r) ⊎ (j ≢ c))
 here_or i j r c = elim (same_or_not i r) [ inr d ↦ inr (inl d) | inl e ↦ elim (same_or_not j c) [ inr d ↦ inr (inr d) | inl f ↦ inl (e, f) ] ]
 
-module _ (a s : Matrix) (is : IsMatrix a) (signs : AreSigns a s) (r c : ℕ) (v : ℤ) (one : entry a r c ≢ pos 0) where
+module _ (a s : Matrix) (rectangular : IsRectangular a) (signs : AreSigns a s) (r c : ℕ) (v : ℤ) (one : entry a r c ≢ pos 0) where
   row_inside : r < height s
   row_inside = let l = row_in a r c one in let e = signs.same_height in omega arith
 
   column_inside : c < s.width
-  column_inside = let l = column_in a r c is.rectangular one in let e = signs.same_width in omega arith
+  column_inside = let l = column_in a r c rectangular one in let e = signs.same_width in omega arith
+
+  changed : row_of (with_entry s r c v) r ≡ set (row_of s r) c v
+  changed = get_or-set_same s.rows r (set (row_of s r) c v) [] row_inside
+
+  long : length (row_of s r) ≡ s.width
+  long = signs.ternary.rectangular r row_inside
 
   pub one_more : HasOneMore s (with_entry s r c v) r c v
-  one_more = record { here = entry-with_entry_same s r c v row_inside signs.matrix column_inside; other = other }
+  one_more = record { here = ap (λ row. get_or row c (pos 0)) changed ∙ get_or-set_same (row_of s r) c v (pos 0) (let l = column_inside in let e = long in omega arith); other = other }
     where
       other : (i j : ℕ) → (i ≢ r) ⊎ (j ≢ c) → entry (with_entry s r c v) i j ≡ entry s i j
       other i j (inl d) = entry-with_entry_other_row s r c v i j d
@@ -37,9 +44,21 @@ module _ (a s : Matrix) (is : IsMatrix a) (signs : AreSigns a s) (r c : ℕ) (v 
         | inr e ↦ entry-with_entry_other_row s r c v i j e
       ]
 
+  still_rectangular : IsRectangular (with_entry s r c v)
+  still_rectangular i l = elim (same_or_not i r) [
+    | inl e ↦ ap (λ k. length (row_of (with_entry s r c v) k)) e ∙ ap length changed ∙ length-set (row_of s r) c v ∙ long
+    | inr d ↦ ap length (get_or-set_other s.rows r i (set (row_of s r) c v) [] d) ∙ signs.ternary.rectangular i (omega (arith, height-with_entry s r c v))
+  ]
+
+  still_small : IsSign v → (i j : ℕ) → IsEntry (entry (with_entry s r c v) i j)
+  still_small u i j = elim (here_or i j r c) [
+    | inl w ↦ subst (λ x. IsEntry (entry (with_entry s r c v) x j)) (sym w.0) (subst (λ y. IsEntry (entry (with_entry s r c v) r y)) (sym w.1) (subst IsEntry (sym one_more.here) (sign_is_entry v u)))
+    | inr d ↦ subst IsEntry (sym (one_more.other i j d)) (signs.ternary.small i j)
+  ]
+
   pub signs_more : IsSign v → AreSigns a (with_entry s r c v)
   signs_more u = record {
-    matrix = is_matrix-with_entry s r c v row_inside (sign_is_entry v u) signs.matrix;
+    ternary = record { rectangular = still_rectangular; small = still_small u };
     same_height = height-with_entry s r c v ∙ signs.same_height;
     same_width = signs.same_width;
     inside = λ i j z. elim (here_or i j r c) [

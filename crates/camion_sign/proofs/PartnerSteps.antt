@@ -52,4 +52,4 @@ ones_kept a s after is signs row column v u here e d unsigned = elim (cases_eq d
 ]
   where
     more : HasOneMore s (with_entry s row column v) row column v
-    more = one_more a s is signs row column v here.one
+    more = one_more a s is.rectangular signs row column v here.one

@@ -37,7 +37,7 @@ fewer_unsigned a s t row column v u more here (suc n) l = elim (cases_lt column 
 
 module _ (a s : Matrix) (is : IsMatrix a) (row column : ℕ) (v : ℤ) (u : IsSign v) (signs : AreSigns a s) (turn : IsRowsTurn a s row) (here : IsUnsignedOne a s row column) where
   more : HasOneMore s (with_entry s row column v) row column v
-  more = one_more a s is signs row column v here.one
+  more = one_more a s is.rectangular signs row column v here.one
 
   turn_more : IsRowsTurn a (with_entry s row column v) row
   turn_more = record {
@@ -48,7 +48,7 @@ module _ (a s : Matrix) (is : IsMatrix a) (row column : ℕ) (v : ℤ) (u : IsSi
   pub state_more : (steps more_steps : List SignStep) (step : SignStep) → LeadTo (IsNextSign a) (unsigned a) steps s → IsNextSign a s step v → signed_by s step v ≡ with_entry s row column v → more_steps ≡ steps ++ step ∷ []
       → (after : Matrix) → after ≡ with_entry s row column v → IsAtRow a row (record { signs = after; steps = more_steps })
   state_more steps more_steps step lead next e f after g = record {
-    signs = subst (AreSigns a) (sym g) (signs_more a s is signs row column v here.one u);
+    signs = subst (AreSigns a) (sym g) (signs_more a s is.rectangular signs row column v here.one u);
     turn = subst (λ x. IsRowsTurn a x row) (sym g) turn_more;
     steps = subst (λ x. LeadTo (IsNextSign a) (unsigned a) x after) (sym f) (subst (LeadTo (IsNextSign a) (unsigned a) (steps ++ step ∷ [])) (e ∙ sym g) (lead_more (IsNextSign a) (unsigned a) s steps step v lead next));
   }
@@ -70,9 +70,9 @@ next_row a row signing is state done = record {
   steps = state.steps;
 }
 
-pub start_state : (a : Matrix) (signing : Signing) → IsMatrix a → signing.signs ≡ unsigned a → signing.steps ≡ [] → IsAtRow a 0 signing
-start_state a signing is e f = record {
-  signs = subst (AreSigns a) (sym e) (unsigned_signs a is);
+pub start_state : (a : Matrix) (signing : Signing) → signing.signs ≡ unsigned a → signing.steps ≡ [] → IsAtRow a 0 signing
+start_state a signing e f = record {
+  signs = subst (AreSigns a) (sym e) (unsigned_signs a);
   turn = record { earlier = λ i j l. absurd (omega arith); later = λ i j l. subst (λ x. entry x i j ≡ pos 0) (sym e) (entry-unsigned a i j) };
   steps = subst (λ x. LeadTo (IsNextSign a) (unsigned a) x signing.signs) (sym f) (sym e);
 }

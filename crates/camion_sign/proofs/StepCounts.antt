@@ -53,15 +53,15 @@ module _ (a : Matrix) (is : IsMatrix a) (Rule : Matrix → SignStep → ℤ → 
       let columns_are = signs.same_width in
       let row_inside = row_in a row column here.one in
       let column_inside = column_in a row column is.rectangular here.one in
-      let long = signs.matrix.rectangular row (omega (arith, row_inside, rows_are)) in
+      let long = signs.ternary.rectangular row (omega (arith, row_inside, rows_are)) in
       let more = nonzeros_set s.rows row column v (omega (arith, row_inside, rows_are)) (omega (arith, column_inside, columns_are, long)) here.no_sign one.1 in
-      let others = steps_count steps (signed_by s step v) end (signs_more a s is signs row column v here.one one.1) later in
+      let others = steps_count steps (signed_by s step v) end (signs_more a s is.rectangular signs row column v here.one one.1) later in
       omega (arith, more, others)
 
   all_few : (steps : List SignStep) (end : Matrix) → AreSigns a end → LeadTo Rule (unsigned a) steps end → length steps ≤ height a * a.width
   all_few steps end signs leads =
-      let count = steps_count steps (unsigned a) end (unsigned_signs a is) leads in
-      let most = few_nonzeros end.width end.rows signs.matrix.rectangular in
+      let count = steps_count steps (unsigned a) end (unsigned_signs a) leads in
+      let most = few_nonzeros end.width end.rows signs.ternary.rectangular in
       let rows_are = signs.same_height in
       let columns_are = signs.same_width in
       let same : height end * end.width ≡ height a * a.width = rw (rows_are, columns_are) refl in

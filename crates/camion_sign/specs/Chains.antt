@@ -1,6 +1,6 @@
 -- Chains: steps that sign ones of a 0/1 matrix with no choice but the signs of whole lines, and a violator of these signs.
 use Rattle.std.specs.Prelude.{◌≡◌, ◌≢◌, ◌≤◌, ◌+◌, ◌⊎◌, ℕ, ℤ, pos, List, [], ◌∷◌, take, drop, length}
-use Rattle.cmr_base.specs.Matrix.{Matrix, height, entry, with_entry, IsMatrix}
+use Rattle.cmr_base.specs.Matrix.{Matrix, height, entry, with_entry, IsTernary}
 use Rattle.cmr_base.specs.Members.{IsIn}
 use Rattle.cmr_base.specs.LineSets.{IsRowSet, IsColumnSet, submatrix_sum}
 use Rattle.cmr_base.specs.Signing.{IsSign, IsTotallyUnimodular}
@@ -89,6 +89,6 @@ pub record IsFirstBroken (a : Matrix) (chain : SizedChain) (part : ℕ) : Type 0
   pub broken : ((¬ (HasSizes a chain)) × (before ≡ 0))
       ⊎ (HasSizes a chain × ((signs : Matrix) × LeadTo (KeepsRule a) (unsigned a) (take before chain.chain.steps) signs × Breaks a signs (drop before chain.chain.steps) chain.chain.violator))
 
--- some matrix with the same support is totally unimodular
+-- some matrix with the same support and entries -1, 0 and 1 is totally unimodular
 abbrev pub IsRegular : Matrix → Type 0
-IsRegular a = (m : Matrix) × IsMatrix m × HaveOneSupport a m × IsTotallyUnimodular m
+IsRegular a = (m : Matrix) × IsTernary m × HaveOneSupport a m × IsTotallyUnimodular m

@@ -1,6 +1,6 @@
 -- Laws of matrices without cycle fault, and of chains.
 use Rattle.std.specs.Prelude.{◌≡◌, ◌≢◌, ◌*ℤ◌, ℕ, pos}
-use Rattle.cmr_base.specs.Matrix.{Matrix, entry, IsMatrix, IsTernary}
+use Rattle.cmr_base.specs.Matrix.{Matrix, entry, IsTernary}
 use Rattle.cmr_base.specs.Supports.{HaveOneSupport}
 use Rattle.cmr_base.specs.Violator.{HasNoViolator}
 use Rattle.cmr_base.specs.CyclePlaces.{HasNoCycleFault}
@@ -21,8 +21,8 @@ FullSquaresHaveProductOne = (m : Matrix) → IsTernary m → HasNoCycleFault (en
 
 -- where a chain is sound, each signing of the support has a violator
 abbrev pub ChainsMeanViolators : Type 0
-ChainsMeanViolators = (a m signs : Matrix) (chain : SizedChain) → IsBinary a → IsMatrix a → IsSoundChain a chain signs → IsMatrix m → HaveOneSupport a m → ¬ (HasNoViolator m)
+ChainsMeanViolators = (a m signs : Matrix) (chain : SizedChain) → IsBinary a → IsTernary a → IsSoundChain a chain signs → IsTernary m → HaveOneSupport a m → ¬ (HasNoViolator m)
 
 -- so none is totally unimodular
 abbrev pub ChainsRefuteRegularity : Type 0
-ChainsRefuteRegularity = (a signs : Matrix) (chain : SizedChain) → IsBinary a → IsMatrix a → IsSoundChain a chain signs → ¬ (IsRegular a)
+ChainsRefuteRegularity = (a signs : Matrix) (chain : SizedChain) → IsBinary a → IsTernary a → IsSoundChain a chain signs → ¬ (IsRegular a)

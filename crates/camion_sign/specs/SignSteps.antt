@@ -1,6 +1,6 @@
 -- Steps that sign the ones of a 0/1 matrix one after another.
 use Rattle.std.specs.Prelude.{◌≡◌, ◌≢◌, ℕ, ℤ, pos, ◌+ℤ◌, List, [], ◌∷◌, replicate}
-use Rattle.cmr_base.specs.Matrix.{Matrix, height, entry, with_entry, IsMatrix}
+use Rattle.cmr_base.specs.Matrix.{Matrix, height, entry, with_entry, IsTernary}
 use Rattle.camion_sign.specs.declared.step.SignStep.{SignStep}
 use Rattle.camion_sign.specs.declared.step.SignStep.TheVariants.{Free, Forced}
 
@@ -14,7 +14,7 @@ unsigned m = record { rows = replicate (height m) (replicate m.width (pos 0)); w
 
 -- signs of a matrix: of its sizes, and 0 where it is 0
 pub record AreSigns (a s : Matrix) : Type 0 where
-  pub matrix : IsMatrix s
+  pub ternary : IsTernary s
   pub same_height : height s ≡ height a
   pub same_width : s.width ≡ a.width
   pub inside : (i j : ℕ) → entry a i j ≡ pos 0 → entry s i j ≡ pos 0

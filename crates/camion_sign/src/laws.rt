@@ -8,8 +8,8 @@ pub fn full_two()
     ensures { FullSquaresHaveProductOne }
 {}
 
-/// Where a chain is sound for a 0/1 matrix, each signing of its ones has a violator: the named lines of some forced step,
-/// or the chain's own. So none is totally unimodular.
+/// Where a chain is sound for a 0/1 matrix of any size, each signing of its ones has a violator: the named lines of some
+/// forced step, or the chain's own. So none is totally unimodular.
 pub fn chain_means()
     ensures violators { ChainsMeanViolators }
     ensures regular { ChainsRefuteRegularity }

@@ -8,6 +8,7 @@ use Rattle.cmr_base.specs.LineSets.{IsColumnSet, IsRowSet}
 use Rattle.cmr_base.specs.Trees.{IsBinary}
 use Rattle.cmr_base.specs.Violator.{IsViolator}
 use Rattle.cmr_base.specs.declared.line_set.LineSet.{LineSet}
+use Rattle.cmr_base.proofs.WholeMatrices.{is_ternary}
 use Rattle.ghouila.proofs.CamionLaw.{unsigned}
 use Rattle.camion_sign.specs.declared.step.SignStep.{SignStep}
 use Rattle.camion_sign.specs.declared.step.SizedChain.{SizedChain}
@@ -120,7 +121,7 @@ chain_unbroken : (a : Matrix) (c : SizedChain) (signs : Matrix) (step : ℕ) →
 chain_unbroken a c signs step is sound broken = elim broken.broken [
   | inl other ↦ other.0 sound.sizes
   | inr (sizes, (middle, lead, breaks)) ↦ unbroken a middle signs (drop broken.before c.chain.steps) c.chain.violator
-      (lead_from a (signing.unsigned a) signs middle c.chain.steps broken.before is (unsigned_signs a is) sound.steps lead) sound.violator breaks
+      (lead_from a (signing.unsigned a) signs middle c.chain.steps broken.before is (unsigned_signs a) sound.steps lead) sound.violator breaks
 ]
 
 -- where steps lead that keep their rules, there are signs of the matrix
@@ -129,14 +130,14 @@ lead_signs a s end [] is signs e = subst (AreSigns a) e signs
 lead_signs a s end (step ∷ steps) is signs (sign, keeps, rest) = lead_signs a (signed_by s step sign) end steps is (rule_signs a s step sign is signs keeps) rest
 
 pub chain_sign_matrix : (a : Matrix) (c : SizedChain) (signs : Matrix) → IsMatrix a → IsSoundChain a c signs → AreSigns a signs
-chain_sign_matrix a c signs is sound = lead_signs a (signing.unsigned a) signs c.chain.steps is (unsigned_signs a is) sound.steps
+chain_sign_matrix a c signs is sound = lead_signs a (signing.unsigned a) signs c.chain.steps is (unsigned_signs a) sound.steps
 
 pub shows_irregular : (a : Matrix) (c : SizedChain) (signs : Matrix) → IsMatrix a → IsBinary a → IsSoundChain a c signs → ShowsIrregular a c signs
 shows_irregular a c signs is binary sound = record {
   is_matrix = is;
   sound = sound;
-  violators = λ m small support. chains_mean_violators a m signs c binary is sound small support;
-  irregular = chains_refute_regularity a signs c binary is sound;
+  violators = λ m ternary support. chains_mean_violators a m signs c binary (is_ternary a is) sound ternary support;
+  irregular = chains_refute_regularity a signs c binary (is_ternary a is) sound;
 }
 
 one_chain : (a : Matrix) (c : SizedChain) (r s : Report) → ChainDecides a c r → ChainDecides a c s → r.status ≡ s.status

@@ -134,8 +134,8 @@ one_lead a s m n (step ∷ steps) (other ∷ others) is signs (v, next, rest) (w
     let here = next_one a s step v next in
     let row = same_row a s (step_row step) (step_column step) (step_row other) (step_column other) (next_turn a s step v next) (next_turn a s other w next') here (next_one a s other w next') in
     let same = one_next a s is signs step other v w row next next' in
-    one_lead a (signed_by s step v) m n steps others is (signs_more a s is signs (step_row step) (step_column step) v here.one (next_sign a s step v next)) rest
+    one_lead a (signed_by s step v) m n steps others is (signs_more a s is.rectangular signs (step_row step) (step_column step) v here.one (next_sign a s step v next)) rest
     (subst (λ x. LeadTo (IsNextSign a) (signed_by s step x) others n) (sym same.1) (subst (λ x. LeadTo (IsNextSign a) (signed_by s x w) others n) (sym same.0) rest')) all all'
 
 pub one_signing : (a m n : Matrix) (steps others : List SignStep) → IsMatrix a → IsSignedBy a steps m → IsSignedBy a others n → m ≡ n
-one_signing a m n steps others is x y = one_lead a (unsigned a) m n steps others is (unsigned_signs a is) x.steps_are y.steps_are x.all_signed y.all_signed
+one_signing a m n steps others is x y = one_lead a (unsigned a) m n steps others is (unsigned_signs a) x.steps_are y.steps_are x.all_signed y.all_signed

@@ -4,6 +4,7 @@ use Rattle.std.specs.Prelude.{IfOk}
 use Rattle.cmr_base.specs.declared.memory.Memory.{Memory}
 use Rattle.cmr_base.specs.declared.line_set.LineSet.{LineSet}
 use Rattle.cmr_base.specs.Matrix.{Matrix, height}
+use Rattle.cmr_base.proofs.WholeMatrices.{is_ternary}
 use Rattle.camion_sign.proofs.ChainViolators.{chains_mean_violators, chains_refute_regularity}
 use Rattle.camion_sign.specs.declared.step.SignStep.{SignStep}
 use Rattle.camion_sign.specs.ChainTexts.{AreLinesIn, chain_text}
@@ -68,7 +69,7 @@ one_status o a r s x y =
 
 says_signed : (o : RegularOrder) (a signed : Matrix) (steps : List SignStep) → IsSigned a steps signed → (answer : Answer) → UnimodularMeans o.lines o.pivots signed answer → RegularSays o a steps signed answer
 says_signed o a signed steps is Yes (tree, decomposition, e, good) =
-    (tree, decomposition, e, record { regular = (signed, is.signed_matrix, is.one_support, good.signings); unimodular = good })
+    (tree, decomposition, e, record { regular = (signed, is_ternary signed is.signed_matrix, is.one_support, good.signings); unimodular = good })
 says_signed o a signed steps is No (tree, decomposition, fault, e, bad) =
     let chain = sound a signed steps fault is bad.refuted in (
       tree,
@@ -78,8 +79,8 @@ says_signed o a signed steps is No (tree, decomposition, fault, e, bad) =
       record {
         not_unimodular = bad;
         chain = chain;
-        violators = λ m matrix support. chains_mean_violators a m signed (chain_with a steps fault) is.binary is.matrix chain matrix support;
-        not_regular = chains_refute_regularity a signed (chain_with a steps fault) is.binary is.matrix chain;
+        violators = λ m ternary support. chains_mean_violators a m signed (chain_with a steps fault) is.binary (is_ternary a is.matrix) chain ternary support;
+        not_regular = chains_refute_regularity a signed (chain_with a steps fault) is.binary (is_ternary a is.matrix) chain;
       },
     )
 says_signed o a signed steps is Undecided left = left

@@ -1,7 +1,7 @@
 -- What `check` reports on evidence, and what its answers mean.
 use Rattle.std.specs.Prelude.{◌≡◌, ◌++◌, if◌then◌else◌, ℕ, Bool, true, false, List, [], ◌∷◌, Ok, bytes_eq, codes}
 use Rattle.std.specs.Fmt.{decimal}
-use Rattle.cmr_base.specs.Matrix.{Matrix, IsMatrix, entry, height}
+use Rattle.cmr_base.specs.Matrix.{Matrix, IsMatrix, IsTernary, entry, height}
 use Rattle.cmr_base.specs.LineSets.{submatrix_sum}
 use Rattle.cmr_base.specs.Supports.{HaveOneSupport}
 use Rattle.cmr_base.specs.Violator.{HasNoViolator, IsViolator}
@@ -97,7 +97,7 @@ pub data ViolatorDecides (m : Matrix) (lines : LineSet) (report : Report) : Type
 pub record ShowsIrregular (a : Matrix) (c : SizedChain) (signs : Matrix) : Type 0 where
   pub is_matrix : IsMatrix a
   pub sound : IsSoundChain a c signs
-  pub violators : (m : Matrix) → IsMatrix m → HaveOneSupport a m → ¬ (HasNoViolator m)
+  pub violators : (m : Matrix) → IsTernary m → HaveOneSupport a m → ¬ (HasNoViolator m)
   pub irregular : ¬ (IsRegular a)
 
 pub data ChainDecides (a : Matrix) (c : SizedChain) (report : Report) : Type 0 where

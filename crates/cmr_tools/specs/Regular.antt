@@ -1,6 +1,6 @@
 -- What `regular` reports, and what its answers mean.
 use Rattle.std.specs.Prelude.{◌≡◌, ◌≤◌, ◌++◌, ℕ, true, List, [], Option, codes}
-use Rattle.cmr_base.specs.Matrix.{Matrix, height, IsMatrix}
+use Rattle.cmr_base.specs.Matrix.{Matrix, height, IsMatrix, IsTernary}
 use Rattle.cmr_base.specs.Supports.{HaveOneSupport}
 use Rattle.cmr_base.specs.Trees.{IsBinary}
 use Rattle.cmr_base.specs.Violator.{HasNoViolator}
@@ -83,7 +83,7 @@ pub record HasGoodSigning (a signed : Matrix) : Type 0 where
 pub record HasNoGoodSigning (a : Matrix) (steps : List SignStep) (signed : Matrix) (fault : LineSet) : Type 0 where
   pub not_unimodular : IsNotUnimodular signed fault
   pub chain : IsSoundChain a (chain_with a steps fault) signed
-  pub violators : (m : Matrix) → IsMatrix m → HaveOneSupport a m → ¬ (HasNoViolator m)
+  pub violators : (m : Matrix) → IsTernary m → HaveOneSupport a m → ¬ (HasNoViolator m)
   pub not_regular : ¬ (IsRegular a)
 
 abbrev pub RegularSays : RegularOrder → Matrix → List SignStep → Matrix → Answer → Type 0

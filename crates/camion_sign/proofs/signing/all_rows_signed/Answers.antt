@@ -1,5 +1,5 @@
 use Rattle.std.proofs.Common.{◌≡◌, ◌∙◌, ℕ, ap, subst, arith}
-use Rattle.cmr_base.specs.Matrix.{Matrix, height, IsMatrix}
+use Rattle.cmr_base.specs.Matrix.{Matrix, height}
 use Rattle.camion_sign.specs.Signings.{HasRoom, IsAtRow}
 use Rattle.camion_sign.proofs.PlaceLinks.{same_zeros}
 use Rattle.camion_sign.proofs.SigningStates.{start_state}
@@ -9,11 +9,10 @@ pub loop-row-init : goal.loop-row-init
 loop-row-init c =
     let m = c.args.matrix.now in
     let e : c.in_ok-support.support ≡ m = c.in_ok-support.ensures in
-    let is : IsMatrix m = subst IsMatrix e c.rows.ensures.shape in
     let tall = ap height e in
     let wide = ap (λ (x : Matrix). x.width) e in (
       subst (λ (x : Matrix). HasRoom x c.in_ok-places.places) e c.in_ok-places.ensures,
-      start_state m (record { signs = c.in_ok-zero.field-0; steps = c.new-3.result }) is (c.in_ok-zero.ensures ∙ same_zeros c.rows.result c.columns.result (height m) m.width (c.rows.ensures.rows ∙ tall) (c.columns.ensures.columns ∙ wide)) c.new-3.ensures,
+      start_state m (record { signs = c.in_ok-zero.field-0; steps = c.new-3.result }) (c.in_ok-zero.ensures ∙ same_zeros c.rows.result c.columns.result (height m) m.width (c.rows.ensures.rows ∙ tall) (c.columns.ensures.columns ∙ wide)) c.new-3.ensures,
     )
 
 pub sign_row-requires-clause-places : goal.sign_row-requires-clause-places

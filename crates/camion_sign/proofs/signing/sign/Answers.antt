@@ -12,7 +12,7 @@ pub returns-clause-chain : goal.returns-clause-chain
 returns-clause-chain c binary =
     let m = c.args.matrix.now in
     let is = c.in_ok-signing.ensures.shape in
-    chain_steps m is binary c.in_ok-signing.signing.steps (unsigned m) c.in_ok-signing.signing.signs (unsigned_signs m is) c.in_ok-signing.ensures.state.steps
+    chain_steps m is binary c.in_ok-signing.signing.steps (unsigned m) c.in_ok-signing.signing.signs (unsigned_signs m) c.in_ok-signing.ensures.state.steps
 
 pub returns-clause-support : goal.returns-clause-support
 returns-clause-support c = signs_support c.args.matrix.now c.in_ok-signing.signing c.in_ok-signing.ensures.shape c.in_ok-signing.ensures.state
