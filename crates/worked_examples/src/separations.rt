@@ -144,8 +144,8 @@ fn shared_blocks(rt: HostRuntime) -> Result<(), Fail> {
     for (text, expected) in [
         // The two other lines are the last columns.
         (
-            "600 600 15/1 1 1/1 3 1/1 599 1/2 1 1/2 600 1/2 3 1/4 4 1/5 4 1/5 5 1/6 5 1/6 6 1/7 6 1/7 7 1/8 7 1/8 8 1/",
-            "delta 0 0 599 1 2 598/0 3 4 5 6 7/0 3 4 5 6 7 599/",
+            "600 600 15/1 1 1/1 3 1/1 599 1/2 1 1/2 600 1/2 3 1/3 4 1/4 4 1/4 5 1/5 5 1/5 6 1/6 6 1/6 7 1/7 7 1/7 8 1/",
+            "delta 0 0 599 1 2 598/0 2 3 4 5 6/0 3 4 5 6 7 599/",
         ),
         // Before these rows two others are nonzero in two columns together.
         (
@@ -154,7 +154,7 @@ fn shared_blocks(rt: HostRuntime) -> Result<(), Fail> {
         ),
         // The first one transposed, and one whose second connector is tall. No seed of a form before is good.
         (
-            "600 600 15/1 1 1/3 1 1/599 1 1/1 2 1/600 2 1/3 2 1/4 4 1/5 4 1/5 5 1/6 5 1/6 6 1/7 6 1/7 7 1/8 7 1/8 8 1/",
+            "600 600 15/1 1 1/3 1 1/599 1 1/1 2 1/600 2 1/3 2 1/4 3 1/4 4 1/5 4 1/5 5 1/6 5 1/6 6 1/7 6 1/7 7 1/8 7 1/",
             "y 0 0 599 2 1 598/0 1 599/0/",
         ),
         (
