@@ -178,7 +178,10 @@ fn shared_rows(rt: HostRuntime) -> Result<(), Fail> {
             "150 150 8/147 147 1/147 148 1/148 147 1/149 147 1/149 149 1/149 150 1/150 148 1/150 149 -1/",
             "concentrated 146 146 147 148 148 149/0 146/146 147/",
         ),
-        ("150 150 9/4 4 1/5 4 1/5 5 1/6 5 1/6 6 1/7 6 1/7 7 1/8 7 1/8 8 1/", "none/"),
+        (
+            "150 150 9/4 4 1/5 4 1/5 5 1/6 5 1/6 6 1/7 6 1/7 7 1/8 7 1/8 8 1/",
+            "none/",
+        ),
     ] {
         let matrix = sparse(rt.alloc(), text)?;
         for workers in [1, 3, 64] {
@@ -220,10 +223,7 @@ fn three_children<R: Threads + Sync + AllocGlobal>(
 // Each child has its side, and of the other side the row or the column, or the connector.
 #[test]
 fn children(rt: HostRuntime) -> Result<(), Fail> {
-    let sum = matrix(
-        rt.alloc(),
-        "4 4/1 1 0 0/1 -1 0 0/0 1 1 1/0 1 1 -1/",
-    )?;
+    let sum = matrix(rt.alloc(), "4 4/1 1 0 0/1 -1 0 0/0 1 1 1/0 1 1 -1/")?;
     let pair = two_children(rt.alloc(), &sum)?.ok_or("no two-separation")?;
     is_text(&rt, &pair_text(rt.alloc(), &pair)?, "0 2 3/1 2 3/0 1/0 1/")?;
     for (text, expected) in [

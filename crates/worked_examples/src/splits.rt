@@ -21,7 +21,8 @@ fn case_text(alloc: Global, case: &SplitCase) -> Result<Vec<u8>, Fail> {
         SplitCase::AllConnected(column) => row_text(alloc, "all connected", &[*column]),
         SplitCase::Parts { row, parts, .. } => parts_text(alloc, "parts", *row, parts),
         SplitCase::OddCycle { row, parts } => {
-            row_text(alloc, "odd", &[*row, parts.len() as u32])
+            let word = if parts.len() == 3 { "odd three" } else { "odd" };
+            row_text(alloc, word, &[*row])
         }
     }
 }
@@ -49,7 +50,7 @@ fn cases(rt: HostRuntime) -> Result<(), Fail> {
             "parts 1/part 0 3/part 2/",
         ),
         // Each two of the three disagree.
-        ("4 3/1 1 1/1 1 0/0 1 1/1 0 1/", "odd 0 3/"),
+        ("4 3/1 1 1/1 1 0/0 1 1/1 0 1/", "odd three 0/"),
     ] {
         let found = split(rt.alloc(), &matrix(rt.alloc(), text)?)?;
         is_text(&rt, &case_text(rt.alloc(), &found)?, expected)?;

@@ -45,7 +45,11 @@ fn answers<R: Threads + Sync + Abort + AllocGlobal>(
     let mut err = MemorySink::new(alloc, 100)?;
     let found = tested(rt, asks_for_graphs, &mut shelf, &mut out, &mut err);
     assert_eq!(rt; found, status, "of {matrix}");
-    assert_eq!(rt; out.content(), bytes(alloc, printed)?.as_slice(), "of {matrix}");
+    assert_eq!(rt;
+        out.content(),
+        bytes(alloc, printed)?.as_slice(),
+        "of {matrix}"
+    );
     Ok(())
 }
 

@@ -36,7 +36,11 @@ fn parts_and_their_sum(rt: HostRuntime) -> Result<(), Fail> {
         let sum = parts.next().ok_or("no sum")?;
         let mut on = devices_with(&rt, matrix, tree)?;
         ends_so(&rt, &mut on, "parts f t -A a -B b", 0, "parts: ")?;
-        assert_eq!(rt; on.out.content(), bytes(alloc, printed)?.as_slice(), "of {kind}");
+        assert_eq!(rt;
+            on.out.content(),
+            bytes(alloc, printed)?.as_slice(),
+            "of {kind}"
+        );
         let compose = format!(in alloc; "compose {kind} a b -M m")?;
         ends_so(&rt, &mut on, compose.as_str(), 0, "composed 4x4 ")?;
         let found = on.shelf.content("m").unwrap_or(b"");

@@ -55,10 +55,17 @@ fn kinds_of_a_yes(rt: HostRuntime) -> Result<(), Fail> {
         on.shelf.hold("b", &bytes(rt.alloc(), block)?)?;
         ends_so(&rt, &mut on, "compose one m b -M m", 0, "composed ")?;
     }
-    for (options, kind) in [("--lines 10", "enumerated"), ("--lines 0 --pivots 20", "pivoted")] {
+    for (options, kind) in [
+        ("--lines 10", "enumerated"),
+        ("--lines 0 --pivots 20", "pivoted"),
+    ] {
         let alone = tree_of(&rt, &mut on, options, 1)?;
         for workers in [3, 64] {
-            assert_eq!(rt; tree_of(&rt, &mut on, options, workers)?, alone, "of {workers}");
+            assert_eq!(rt;
+                tree_of(&rt, &mut on, options, workers)?,
+                alone,
+                "of {workers}"
+            );
         }
         for kind in KINDS {
             assert!(rt; has(&alone, kind), "of {kind}");
@@ -90,7 +97,10 @@ fn kinds_of_other_answers(rt: HostRuntime) -> Result<(), Fail> {
     ] {
         let mut on = devices_with(&rt, matrix)?;
         ends_so(&rt, &mut on, words, status, "totally unimodular: ")?;
-        assert!(rt; has(on.shelf.content("t").unwrap_or(b""), kind), "of {kind}");
+        assert!(rt;
+            has(on.shelf.content("t").unwrap_or(b""), kind),
+            "of {kind}"
+        );
         ends_so(&rt, &mut on, "check m t", status, "accepted: ")?;
     }
     Ok(())
