@@ -42,9 +42,7 @@ fn violators(rt: HostRuntime) -> Result<(), Fail> {
         let matrix = matrix(rt.alloc(), text)?;
         is_text(&rt, &violator(&rt, &matrix, limit, workers)?, expected)?;
     }
-    // A late set of rows.
-    let late = sparse(rt.alloc(), "12 12 4/11 4 1/11 5 1/12 4 1/12 5 -1/")?;
-    is_text(&rt, &violator(&rt, &late, 12, 4)?, "10 11/3 4/")
+    Ok(())
 }
 
 fn balance_text(alloc: Global, search: &BalanceSearch) -> Result<Vec<u8>, Fail> {
@@ -84,6 +82,31 @@ fn balance_faults(rt: HostRuntime) -> Result<(), Fail> {
     ] {
         let matrix = matrix(rt.alloc(), text)?;
         is_text(&rt, &balance_fault(&rt, &matrix, limit, workers)?, expected)?;
+    }
+    Ok(())
+}
+
+// Twelve lines on the shorter side have more sets than one worker goes through: the faults are in the last two lines, in all, and
+// in none.
+#[test]
+fn shared_sets(rt: HostRuntime) -> Result<(), Fail> {
+    for (text, expected) in [
+        ("12 13 4/11 4 1/11 5 1/12 4 1/12 5 -1/", "10 11/3 4/"),
+        ("13 12 4/4 11 1/4 12 1/5 11 1/5 12 -1/", "3 4/10 11/"),
+        (
+            "12 12 24/1 1 1/1 2 1/2 2 1/2 3 1/3 3 1/3 4 1/4 4 1/4 5 1/5 5 1/5 6 1/6 6 1/6 7 1/7 7 1/7 8 1/8 8 1/8 9 1/9 9 1/9 10 1/10 10 1/10 11 1/11 11 1/11 12 1/12 12 1/12 1 -1/",
+            "0 1 2 3 4 5 6 7 8 9 10 11/0 1 2 3 4 5 6 7 8 9 10 11/",
+        ),
+        (
+            "12 12 24/1 1 1/1 2 1/2 2 1/2 3 1/3 3 1/3 4 1/4 4 1/4 5 1/5 5 1/5 6 1/6 6 1/6 7 1/7 7 1/7 8 1/8 8 1/8 9 1/9 9 1/9 10 1/10 10 1/10 11 1/11 11 1/11 12 1/12 12 1/12 1 1/",
+            "clean/",
+        ),
+    ] {
+        let matrix = sparse(rt.alloc(), text)?;
+        for workers in [1, 3, 64] {
+            is_text(&rt, &violator(&rt, &matrix, 12, workers)?, expected)?;
+            is_text(&rt, &balance_fault(&rt, &matrix, 12, workers)?, expected)?;
+        }
     }
     Ok(())
 }

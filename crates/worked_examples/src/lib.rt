@@ -31,6 +31,8 @@ mod separations;
 #[cfg(test)]
 mod signings;
 #[cfg(test)]
+mod splits;
+#[cfg(test)]
 mod sums;
 #[cfg(test)]
 mod texts;

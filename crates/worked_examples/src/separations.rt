@@ -1,10 +1,11 @@
-// Connected parts, two-separations and three-separations.
+// Connected parts, two-separations and three-separations, and the lines of their children.
 use crate::given::{bytes, is_text, lines_text, matrix, named_lines_text, sparse};
-use cmr_base::{Matrix, Three};
+use cmr_base::{LineSet, LineSetPair, Matrix, Memory, Three};
 use std::alloc::Global;
 use std::process::Abort;
 use std::test::Fail;
 use std::thread::Threads;
+use sum_ops::{three_parts, two_parts};
 use three_sep::{Form, three_separation};
 use two_sep::{components, two_separation};
 
@@ -132,6 +133,112 @@ fn long_three_separation(rt: HostRuntime) -> Result<(), Fail> {
         "delta 0 0 1 1 2 3/0 2 3 4 5 6 7 8 9 10 11 12 13 14 15 16 17 18 19 20 21/0 1 4 5 6 7 8 9 10 11 12 13 14 15 16 17 18 19 20 21 22 23/";
     for workers in [1, 3, 64] {
         is_text(&rt, &three_of(&rt, &matrix, workers)?, expected)?;
+    }
+    Ok(())
+}
+
+// A path beside the lines of the connectors, in a matrix so large that several workers share a block of seeds. Side one takes in
+// all of the path, or a row of zeros where that comes first.
+#[test]
+fn shared_blocks(rt: HostRuntime) -> Result<(), Fail> {
+    for (text, expected) in [
+        // The two other lines are the last columns.
+        (
+            "600 600 15/1 1 1/1 3 1/1 599 1/2 1 1/2 600 1/2 3 1/3 4 1/4 4 1/4 5 1/5 5 1/5 6 1/6 6 1/6 7 1/7 7 1/7 8 1/",
+            "delta 0 0 599 1 2 598/0 2 3 4 5 6/0 3 4 5 6 7 599/",
+        ),
+        // Before these rows two others are nonzero in two columns together.
+        (
+            "600 600 19/1 1 1/1 2 1/2 1 1/2 2 1/9 9 1/9 11 1/9 599 1/10 9 1/10 600 1/10 11 1/4 4 1/5 4 1/5 5 1/6 5 1/6 6 1/7 6 1/7 7 1/8 7 1/8 8 1/",
+            "delta 8 8 599 9 10 598/0 1 8/0 1 8 599/",
+        ),
+        // The first one transposed, and one whose second connector is tall. No seed of a form before is good.
+        (
+            "600 600 15/1 1 1/3 1 1/599 1 1/1 2 1/600 2 1/3 2 1/4 3 1/4 4 1/5 4 1/5 5 1/6 5 1/6 6 1/7 6 1/7 7 1/8 7 1/",
+            "y 0 0 599 2 1 598/0 1 599/0/",
+        ),
+        (
+            "600 600 16/1 1 1/1 3 1/2 1 1/2 2 1/2 3 1/3 1 1/3 2 1/4 4 1/5 4 1/5 5 1/6 5 1/6 6 1/7 6 1/7 7 1/8 7 1/8 8 1/",
+            "mixed 0 0 1 1 2 2/0 3 4 5 6 7/0 1 3 4 5 6 7/",
+        ),
+    ] {
+        let matrix = sparse(rt.alloc(), text)?;
+        for workers in [1, 3, 64] {
+            is_text(&rt, &three_of(&rt, &matrix, workers)?, expected)?;
+        }
+    }
+    Ok(())
+}
+
+// Of the concentrated form several workers share the rows i. The first good one is among the last rows, or there is none.
+#[test]
+fn shared_rows(rt: HostRuntime) -> Result<(), Fail> {
+    for (text, expected) in [
+        (
+            "150 150 8/147 147 1/147 148 1/148 147 1/149 147 1/149 149 1/149 150 1/150 148 1/150 149 -1/",
+            "concentrated 146 146 147 148 148 149/0 146/146 147/",
+        ),
+        (
+            "150 150 9/4 4 1/5 4 1/5 5 1/6 5 1/6 6 1/7 6 1/7 7 1/8 7 1/8 8 1/",
+            "none/",
+        ),
+    ] {
+        let matrix = sparse(rt.alloc(), text)?;
+        for workers in [1, 3, 64] {
+            is_text(&rt, &three_of(&rt, &matrix, workers)?, expected)?;
+        }
+    }
+    Ok(())
+}
+
+// The lines of the first child, and those of the second.
+fn pair_text(alloc: Global, pair: &LineSetPair) -> Result<Vec<u8>, Fail> {
+    let mut text = lines_text(alloc, &pair.one)?;
+    text.extend_from_slice(&lines_text(alloc, &pair.two)?)?;
+    Ok(text)
+}
+
+// The children of the first two-separation of a matrix.
+fn two_children(alloc: Global, matrix: &Matrix) -> Result<Option<LineSetPair>, Memory> {
+    let lines = LineSet::all(alloc, matrix.rows(), matrix.columns())?;
+    match two_separation(alloc, matrix)? {
+        Some(two) => Ok(Some(two_parts(alloc, &lines, &two)?)),
+        None => Ok(None),
+    }
+}
+
+// The children of the first three-separation of a matrix.
+fn three_children<R: Threads + Sync + AllocGlobal>(
+    rt: &R,
+    matrix: &Matrix,
+) -> Result<Option<LineSetPair>, Memory> {
+    let alloc = rt.alloc();
+    let lines = LineSet::all(alloc, matrix.rows(), matrix.columns())?;
+    match three_separation(rt, alloc, matrix, 1)? {
+        Some(three) => Ok(Some(three_parts(alloc, &lines, &three)?)),
+        None => Ok(None),
+    }
+}
+
+// Each child has its side, and of the other side the row or the column, or the connector.
+#[test]
+fn children(rt: HostRuntime) -> Result<(), Fail> {
+    let sum = matrix(rt.alloc(), "4 4/1 1 0 0/1 -1 0 0/0 1 1 1/0 1 1 -1/")?;
+    let pair = two_children(rt.alloc(), &sum)?.ok_or("no two-separation")?;
+    is_text(&rt, &pair_text(rt.alloc(), &pair)?, "0 2 3/1 2 3/0 1/0 1/")?;
+    for (text, expected) in [
+        (
+            "7 7/1 1 1 0 1 1 0/0 0 0 -1 1 1 0/1 0 1 1 0 0 0/0 0 0 0 1 0 1/0 1 1 0 1 0 0/0 1 1 0 1 0 1/0 0 0 0 0 -1 1/",
+            "0 1 3 4 5 6/1 4 5 6/0 1 2 4/0 1 2 3 4 5/",
+        ),
+        (
+            "4 4/1 1 0 0/1 0 0 0/1 0 1 1/0 1 -1 0/",
+            "0 1 2 3/0 1 2/0 2 3/0 1 2 3/",
+        ),
+    ] {
+        let matrix = matrix(rt.alloc(), text)?;
+        let pair = three_children(&rt, &matrix)?.ok_or("no three-separation")?;
+        is_text(&rt, &pair_text(rt.alloc(), &pair)?, expected)?;
     }
     Ok(())
 }

@@ -3,6 +3,7 @@ use cmr_base::{Word, WordList};
 use cmr_io::{MemoryShelf, MemorySink, Shelf, Sink};
 use cmr_tools::run;
 use std::alloc::{AllocGlobal, Global};
+use std::process::Abort;
 use std::test::Fail;
 use std::thread::Threads;
 
@@ -119,6 +120,25 @@ fn run_over<R: Threads + Sync + AllocGlobal, S: Shelf, O: Sink, E: Sink>(
     err: &mut E,
 ) -> u8 {
     run(rt, rt.alloc(), words, shelf, out, err)
+}
+
+// The room of standard output.
+const OUTPUT_ROOM: usize = 10_000;
+
+/// The run ends with this status, and what it prints begins with these lines.
+pub fn ends_so<R: Threads + Sync + Abort + AllocGlobal>(
+    rt: &R,
+    devices: &mut Devices,
+    texts: &str,
+    status: u8,
+    begins: &str,
+) -> Result<(), Fail> {
+    let words = words(rt.alloc(), texts)?;
+    devices.out = MemorySink::new(rt.alloc(), OUTPUT_ROOM)?;
+    assert_eq!(rt; run_on(rt, &words, devices), status, "of {texts}");
+    let printed = devices.out.content();
+    assert!(rt; printed.starts_with(begins.as_bytes()), "of {texts}");
+    Ok(())
 }
 
 /// What stands after a run, as one text: its status, what the standard streams have got, and the names that it may write

@@ -12,3 +12,9 @@ mod given;
 mod pivoted_runs;
 #[cfg(test)]
 mod runs;
+#[cfg(test)]
+mod single_tools;
+#[cfg(test)]
+mod sums;
+#[cfg(test)]
+mod trees;

@@ -1,10 +1,8 @@
 // Runs that decide only where they make pivots. What they write is read by `check`.
-use crate::given::{Devices, run_on, words};
+use crate::given::{Devices, ends_so};
 use cmr_io::{MemoryShelf, MemorySink};
 use std::alloc::AllocGlobal;
-use std::process::Abort;
 use std::test::Fail;
-use std::thread::Threads;
 
 // The room of each device.
 const ROOM: usize = 10_000;
@@ -21,22 +19,6 @@ fn devices_with<R: AllocGlobal>(rt: &R, matrix: &str) -> Result<Devices, Fail> {
         out: MemorySink::new(alloc, ROOM)?,
         err: MemorySink::new(alloc, ROOM)?,
     })
-}
-
-// The run ends with this status, and what it prints begins with these lines.
-fn ends_so<R: Threads + Sync + Abort + AllocGlobal>(
-    rt: &R,
-    devices: &mut Devices,
-    texts: &str,
-    status: u8,
-    begins: &str,
-) -> Result<(), Fail> {
-    let words = words(rt.alloc(), texts)?;
-    devices.out = MemorySink::new(rt.alloc(), ROOM)?;
-    assert_eq!(rt; run_on(rt, &words, devices), status, "of {texts}");
-    let printed = devices.out.content();
-    assert!(rt; printed.starts_with(begins.as_bytes()), "of {texts}");
-    Ok(())
 }
 
 #[test]

@@ -52,11 +52,13 @@ tu --lines 0 f | f: 3 3/1 1 0/0 1 1/1 0 1/ | 1 | totally unimodular: no/violator
 tu --lines 4 f | f: 4 4/1 1 0 0/1 0 1 0/1 0 0 1/1 1 1 1/ | 1 | totally unimodular: no/violator rows 1 2 3 4 columns 1 2 3 4 sum 10/0 violator 4x4/ | none
 tu --lines=+3 four | four: 4 4/1 1 0 0/1 0 1 0/1 0 0 1/1 1 1 1/ | 6 | totally unimodular: undecided/open rows 1 2 3 4 columns 1 2 3 4/0 undecided 4x4/ | none
 tu --pivots 0 --lines 3 f | f: 4 4/1 1 0 0/1 0 1 0/1 0 0 1/1 1 1 1/ | 6 | totally unimodular: undecided/open rows 1 2 3 4 columns 1 2 3 4/0 undecided 4x4/ | none
+tu -w 3 f | f: 7 7/1 1 1 0 1 1 0/0 0 0 -1 1 1 0/1 0 1 1 0 0 0/0 0 0 0 1 0 1/0 1 1 0 1 0 0/0 1 1 0 1 0 1/0 0 0 0 0 -1 1/ | 0 | totally unimodular: yes/0 mixed 7x7/1 conetwork 6x4/1 network 4x6/ | none
 tu '' | : 0 0/ | 0 | totally unimodular: yes/0 empty 0x0/ | none
 tu -- -t | -t: 0 0/ | 0 | totally unimodular: yes/0 empty 0x0/ | none
 series-parallel -b f | f: 1 2/1 1/ | 0 | binary series-parallel: yes/ | none
 series-parallel -b f | f: 3 3/1 1 0/0 1 1/1 0 1/ | 1 | binary series-parallel: no/rest rows 1 2 3 columns 1 2 3/ | none
 series-parallel -R e -S e -N e f | f: 3 3/1 1 0/0 1 1/1 0 1/ | 1 | series-parallel: no/rest rows 1 2 3 columns 1 2 3/minimal rows 1 2 3 columns 1 2 3/ | e: 3 3 3 3/1 2 3/1 2 3/
+series-parallel -N n f | f: 3 3/1 1 0/0 1 1/1 0 -1/ | 1 | series-parallel: no/rest rows 1 2 3 columns 1 2 3/minimal rows 1 2 3 columns 1 2 3/ | n: 3 3 3 3/1 2 3/1 2 3/
 graphic -N n f | f: 4 6/1 1 1 0 0 0/1 0 0 1 1 0/0 1 0 1 0 1/0 0 1 0 1 1/ | 0 | graphic: yes/ | n: as before
 network f | f: 3 3/1 1 0/0 1 1/1 0 -1/ | 0 | network: yes/ | none
 network -t f | f: 3 3/1 1 0/0 1 1/1 0 -1/ | 0 | conetwork: yes/ | none

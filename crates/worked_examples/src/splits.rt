@@ -1,0 +1,72 @@
+// Rows that a row splits.
+use crate::given::{bytes, is_text, matrix, row_text};
+use bridge_split::{SplitCase, split};
+use cmr_base::PartList;
+use std::alloc::Global;
+use std::test::Fail;
+
+// The row that splits, and each part on a line.
+fn parts_text(alloc: Global, word: &str, row: u32, parts: &PartList) -> Result<Vec<u8>, Fail> {
+    let mut text = row_text(alloc, word, &[row])?;
+    for part in parts.as_slice() {
+        text.extend_from_slice(&row_text(alloc, "part", part.as_slice())?)?;
+    }
+    Ok(text)
+}
+
+// The sides are free but for those of parts that disagree, so the text has none.
+fn case_text(alloc: Global, case: &SplitCase) -> Result<Vec<u8>, Fail> {
+    match case {
+        SplitCase::Star => bytes(alloc, "star/"),
+        SplitCase::AllConnected(column) => row_text(alloc, "all connected", &[*column]),
+        SplitCase::Parts { row, parts, .. } => parts_text(alloc, "parts", *row, parts),
+        SplitCase::OddCycle { row, parts } => {
+            let word = if parts.len() == 3 { "odd three" } else { "odd" };
+            row_text(alloc, word, &[*row])
+        }
+    }
+}
+
+#[test]
+fn cases(rt: HostRuntime) -> Result<(), Fail> {
+    for (text, expected) in [
+        // A spanning star of the complete graph on five nodes, and the transposed matrix, which is not graphic.
+        (
+            "4 6/1 1 1 0 0 0/1 0 0 1 1 0/0 1 0 1 0 1/0 0 1 0 1 1/",
+            "star/",
+        ),
+        (
+            "6 4/1 1 0 0/1 0 1 0/1 0 0 1/0 1 1 0/0 1 0 1/0 0 1 1/",
+            "all connected 0/",
+        ),
+        // Each of the rows below is a part, and the first two of them disagree.
+        (
+            "4 3/1 1 1/1 1 0/0 1 1/0 0 1/",
+            "parts 0/part 1/part 2/part 3/",
+        ),
+        // The second row is the first that splits. The first and the last row are one part.
+        (
+            "4 5/1 0 0 0 1/1 1 1 1 0/1 1 1 0 0/0 0 1 1 1/",
+            "parts 1/part 0 3/part 2/",
+        ),
+        // Each two of the three disagree.
+        ("4 3/1 1 1/1 1 0/0 1 1/1 0 1/", "odd three 0/"),
+    ] {
+        let found = split(rt.alloc(), &matrix(rt.alloc(), text)?)?;
+        is_text(&rt, &case_text(rt.alloc(), &found)?, expected)?;
+    }
+    Ok(())
+}
+
+// Parts that disagree are on different sides.
+#[test]
+fn sides(rt: HostRuntime) -> Result<(), Fail> {
+    let matrix = matrix(rt.alloc(), "4 3/1 1 1/1 1 0/0 1 1/0 0 1/")?;
+    if let SplitCase::Parts { sides, .. } = split(rt.alloc(), &matrix)? {
+        let sides = sides.as_slice();
+        assert_eq!(rt; sides.len(), 3);
+        assert!(rt; sides[0] != sides[1]);
+        return Ok(());
+    }
+    Err(Fail::from("no row splits the others"))
+}
