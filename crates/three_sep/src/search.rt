@@ -14,7 +14,6 @@ ghost use Rattle.three_sep.specs.Sides.{AreInside, HasRoom, HasSize, IsGrowing, 
 ghost use Rattle.cuts.specs.Cuts.{HasNames, HoldTogether, IsCut};
 ghost use Rattle.three_sep.specs.Searches.{IsNoSecondRow, IsNoSecondColumn, HasNoGood, HasNoneBelow, HoldsFirst, IsFirstOf, LeavesSecond, corner_front, other_line};
 
-use crate::block::{Block, open_columns};
 use crate::concentrated::ConcentratedSearch;
 use crate::corners::may_cut;
 use crate::half::Half;
@@ -26,7 +25,8 @@ use std::alloc::Global;
 use std::thread::Threads;
 
 /// The three-separation of the first good seed, in the order of the forms, corners, other lines and lines of seeds; `None` where
-/// the matrix has no three-separation.
+/// the matrix has no three-separation. One worker makes the search: since groups of lines are found by halving, nothing that is left is
+/// worth sharing.
 pub fn three_separation<R: Threads + Sync>(
     rt: &R,
     alloc: Global,
@@ -73,13 +73,13 @@ impl Search {
         })
     }
 
-    // Counts corners that no cut has.
-    fn count_tries(&mut self, count: u32)
+    // Counts a corner that no cut has.
+    fn count_try(&mut self)
         ensures side { self.new.side ≡ self.old.side }
         ensures grown { self.new.grown ≡ self.old.grown }
         ensures groups { self.new.groups ≡ self.old.groups }
     {
-        self.tries = self.tries.saturating_add(count).min(EARLY);
+        self.tries = self.tries.saturating_add(1).min(EARLY);
     }
 
     // Looks for groups where it is time.
@@ -116,29 +116,26 @@ impl Search {
         ensures first { IfOk result (λ answer. IfSome answer (IsFirstOf views.now [])) }
         ensures none { IfOk result (λ answer. IfNone answer (HasNoGood views.now [])) }
     {
-        if let Some(three) = self.first_of_form(rt, alloc, workers, views, Form::Delta)? {
+        if let Some(three) = self.first_of_form(alloc, views, Form::Delta)? {
             return Ok(Some(three));
         }
-        if let Some(three) = self.first_of_form(rt, alloc, workers, views, Form::YForm)? {
+        if let Some(three) = self.first_of_form(alloc, views, Form::YForm)? {
             return Ok(Some(three));
         }
-        if let Some(three) = self.first_of_form(rt, alloc, workers, views, Form::Mixed)? {
+        if let Some(three) = self.first_of_form(alloc, views, Form::Mixed)? {
             return Ok(Some(three));
         }
         ConcentratedSearch::new(alloc, views)?.first(rt, alloc, workers, views)
     }
 
     // The rows i.
-    fn first_of_form<R: Threads + Sync>(
+    fn first_of_form(
         &mut self,
-        rt: &R,
         alloc: Global,
-        workers: u32,
         views: &RowsAndColumns<'_>,
         form: Form,
     ) -> Result<Option<Three>, Memory>
         requires crossing { IsCrossing form }
-        requires workers { (1 ≤ workers) × (workers ≤ 64) }
         requires side { HasSize views.now self.old.side }
         requires grown { HasSize views.now self.old.grown }
         requires names { HasNames views.now self.old.groups }
@@ -153,7 +150,7 @@ impl Search {
             IfNone answer (HasNoGood views.now (form_number form ∷ []))) }
     {
         for i in 0..views.rows() {
-            if let Some(three) = self.first_of_row(rt, alloc, workers, views, form, i)? {
+            if let Some(three) = self.first_of_row(alloc, views, form, i)? {
                 return Ok(Some(three));
             }
         }
@@ -161,17 +158,14 @@ impl Search {
     }
 
     // The columns p.
-    fn first_of_row<R: Threads + Sync>(
+    fn first_of_row(
         &mut self,
-        rt: &R,
         alloc: Global,
-        workers: u32,
         views: &RowsAndColumns<'_>,
         form: Form,
         i: u32,
     ) -> Result<Option<Three>, Memory>
         requires crossing { IsCrossing form }
-        requires workers { (1 ≤ workers) × (workers ≤ 64) }
         requires side { HasSize views.now self.old.side }
         requires grown { HasSize views.now self.old.grown }
         requires names { HasNames views.now self.old.groups }
@@ -191,7 +185,7 @@ impl Search {
         }
         for p in 0..views.columns() {
             if views.is_nonzero(i, p) {
-                if let Some(three) = self.first_of_corner(rt, alloc, workers, views, form, i, p)? {
+                if let Some(three) = self.first_of_corner(alloc, views, form, i, p)? {
                     return Ok(Some(three));
                 }
             }
@@ -200,18 +194,15 @@ impl Search {
     }
 
     // The rows k.
-    fn first_of_corner<R: Threads + Sync>(
+    fn first_of_corner(
         &mut self,
-        rt: &R,
         alloc: Global,
-        workers: u32,
         views: &RowsAndColumns<'_>,
         form: Form,
         i: u32,
         p: u32,
     ) -> Result<Option<Three>, Memory>
         requires crossing { IsCrossing form }
-        requires workers { (1 ≤ workers) × (workers ≤ 64) }
         requires side { HasSize views.now self.old.side }
         requires grown { HasSize views.now self.old.grown }
         requires names { HasNames views.now self.old.groups }
@@ -231,7 +222,7 @@ impl Search {
         for k in 0..views.rows() {
             if is_second_row(views, &self.groups, i, p, k) {
                 if let Some(three) = self.first_of_second_row(
-                    rt, alloc, workers, views, form, i, p, k,
+                    alloc, views, form, i, p, k,
                 )? {
                     return Ok(Some(three));
                 }
@@ -241,11 +232,9 @@ impl Search {
     }
 
     // The columns j.
-    fn first_of_second_row<R: Threads + Sync>(
+    fn first_of_second_row(
         &mut self,
-        rt: &R,
         alloc: Global,
-        workers: u32,
         views: &RowsAndColumns<'_>,
         form: Form,
         i: u32,
@@ -253,7 +242,6 @@ impl Search {
         k: u32,
     ) -> Result<Option<Three>, Memory>
         requires crossing { IsCrossing form }
-        requires workers { (1 ≤ workers) × (workers ≤ 64) }
         requires side { HasSize views.now self.old.side }
         requires grown { HasSize views.now self.old.grown }
         requires names { HasNames views.now self.old.groups }
@@ -273,9 +261,6 @@ impl Search {
             IfNone answer (HasNoGood views.now (form_number form ∷ i ∷ p ∷ k ∷ []))) }
     {
         self.ask(alloc, views)?;
-        if workers > 1 && is_large(views, &self.groups, i, p, k) {
-            return self.first_of_block(rt, alloc, workers, views, form, i, p, k);
-        }
         for j in 0..views.columns() {
             if is_second_column(views, &self.groups, i, p, k, j) {
                 if let Some(three) = self.first_of_corners(
@@ -289,94 +274,6 @@ impl Search {
             }
         }
         Ok(None)
-    }
-
-    // The first triple of a good seed by several workers, and the first seed with it by one.
-    fn first_of_block<R: Threads + Sync>(
-        &mut self,
-        rt: &R,
-        alloc: Global,
-        workers: u32,
-        views: &RowsAndColumns<'_>,
-        form: Form,
-        i: u32,
-        p: u32,
-        k: u32,
-    ) -> Result<Option<Three>, Memory>
-        requires crossing { IsCrossing form }
-        requires workers { (1 ≤ workers) × (workers ≤ 64) }
-        requires side { HasSize views.now self.old.side }
-        requires grown { HasSize views.now self.old.grown }
-        requires names { HasNames views.now self.old.groups }
-        requires together { HoldTogether (IsCut views.now) views.now self.old.groups }
-        requires row { i < height views.now }
-        requires column { p < views.now.width }
-        requires second_row { k < height views.now }
-        requires nonzero { entry views.now i p ≢ pos 0 }
-        requires below { entry views.now k p ≢ pos 0 }
-        ensures side { OnOk result (HasSize views.now self.new.side) }
-        ensures grown { OnOk result (HasSize views.now self.new.grown) }
-        ensures groups { self.new.groups ≡ self.old.groups }
-        ensures first { IfOk result (λ answer.
-            IfSome answer (IsFirstOf views.now (form_number form ∷ i ∷ p ∷ k ∷ []))) }
-        ensures none { IfOk result (λ answer.
-            IfNone answer (HasNoGood views.now (form_number form ∷ i ∷ p ∷ k ∷ []))) }
-    {
-        let columns = open_columns(alloc, views, &mut self.side, &self.groups, i, p, k)?;
-        let block = Block::new(views, columns, form, i, p, k);
-        let found = block.first_triple(rt, alloc, workers)?;
-        match found {
-            Some(triple) => {
-                let j = triple.j;
-                self.first_of_triple(
-                    alloc,
-                    views,
-                    form,
-                    &Corners { i, p, k, j },
-                    triple.q,
-                    triple.o,
-                )
-            }
-            None => {
-                let tried = count_second_columns(views, &self.groups, i, p, k);
-                self.count_tries(tried.saturating_sub(block.open_columns() as u32));
-                Ok(None)
-            }
-        }
-    }
-
-    // The separation of the first good seed with these corners and other lines.
-    fn first_of_triple(
-        &mut self,
-        alloc: Global,
-        views: &RowsAndColumns<'_>,
-        form: Form,
-        corners: &Corners,
-        q: u32,
-        o: u32,
-    ) -> Result<Option<Three>, Memory>
-        requires crossing { IsCrossing form }
-        requires side { HasSize views.now self.old.side }
-        requires grown { HasSize views.now self.old.grown }
-        requires inside { AreInside views.now corners.now }
-        requires corners { AreCorners (entry views.now) corners.now.i corners.now.p corners.now.k
-            corners.now.j }
-        requires first_line { IsLine (height views.now) views.now.width
-            (other_line (first_is_flat form) q) }
-        requires second_line { IsLine (height views.now) views.now.width
-            (other_line (second_is_flat form) o) }
-        ensures side { OnOk result (HasSize views.now self.new.side) }
-        ensures grown { OnOk result (HasSize views.now self.new.grown) }
-        ensures groups { self.new.groups ≡ self.old.groups }
-        ensures first { IfOk result (λ answer.
-            IfSome answer (IsFirstOf views.now (corner_front form corners.now ++ q ∷ o ∷ []))) }
-        ensures none { IfOk result (λ answer.
-            IfNone answer (HasNoGood views.now (corner_front form corners.now ++ q ∷ o ∷ []))) }
-    {
-        if !self.hold_first(views, form, corners, q)? {
-            return Ok(None);
-        }
-        self.first_of_other(alloc, views, form, corners, q, o)
     }
 
     // The lines q.
@@ -402,7 +299,7 @@ impl Search {
             IfNone answer (HasNoGood views.now (corner_front form corners.now))) }
     {
         if !may_cut(views, &mut self.side, corners)? {
-            self.count_tries(1);
+            self.count_try();
             return Ok(None);
         }
         for q in 0..count_of(views, form.first_is_flat()) {
@@ -415,8 +312,8 @@ impl Search {
         Ok(None)
     }
 
-    /// Closes the side of the first connector with the other line q, where it can be that.
-    pub fn hold_first(
+    // Closes the side of the first connector with the other line q, where it can be that.
+    fn hold_first(
         &mut self,
         views: &RowsAndColumns<'_>,
         form: Form,
@@ -478,8 +375,8 @@ impl Search {
         Ok(None)
     }
 
-    /// The separation of the first good seed with these corners and other lines, by the closed side of the first connector.
-    pub fn first_of_other(
+    // The separation of the first good seed with these corners and other lines, by the closed side of the first connector.
+    fn first_of_other(
         &mut self,
         alloc: Global,
         views: &RowsAndColumns<'_>,
@@ -589,39 +486,6 @@ impl Search {
     }
 }
 
-/// How many pairs of lines are gone over, once for each column j that may be in a second corner, sooner than other workers
-/// are started.
-const FEW_PAIRS: u64 = 1_000_000;
-
-// Whether a block is large enough for several workers.
-fn is_large(views: &RowsAndColumns<'_>, groups: &Groups, i: u32, p: u32, k: u32) -> bool
-    requires names { HasNames views.now groups.now }
-    requires row { i < height views.now }
-    requires column { p < views.now.width }
-    requires second_row { k < height views.now }
-{
-    let lines = u64::from(views.rows() + views.columns());
-    let columns = u64::from(count_second_columns(views, groups, i, p, k));
-    columns * lines * lines >= FEW_PAIRS
-}
-
-// How many columns can be in the second corner with row k.
-fn count_second_columns(views: &RowsAndColumns<'_>, groups: &Groups, i: u32, p: u32, k: u32) -> u32
-    requires names { HasNames views.now groups.now }
-    requires row { i < height views.now }
-    requires column { p < views.now.width }
-    requires second_row { k < height views.now }
-    ensures { result ≤ 1000 }
-{
-    let mut count = 0;
-    for j in 0..views.columns() {
-        if is_second_column(views, groups, i, p, k, j) {
-            count += 1;
-        }
-    }
-    count
-}
-
 // Whether row k can be in the second corner, beside the first one (i, p).
 fn is_second_row(views: &RowsAndColumns<'_>, groups: &Groups, i: u32, p: u32, k: u32) -> bool
     requires names { HasNames views.now groups.now }
@@ -637,8 +501,8 @@ fn is_second_row(views: &RowsAndColumns<'_>, groups: &Groups, i: u32, p: u32, k:
     !groups.are_one(i, k) && !groups.are_one(views.rows() + p, k)
 }
 
-/// Whether column j can be in the second corner with row k.
-pub fn is_second_column(
+// Whether column j can be in the second corner with row k.
+fn is_second_column(
     views: &RowsAndColumns<'_>,
     groups: &Groups,
     i: u32,

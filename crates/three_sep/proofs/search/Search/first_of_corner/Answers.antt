@@ -8,10 +8,10 @@ use Rattle.three_sep.proofs.search.Search.first_of_corner.Goals as goal
 use Rattle.three_sep.proofs.search.Search.first_of_corner.Goals.{then-is_second_row+in_ok-three+in_default, else-is_second_row}
 
 pub returns-in-Some-clause-first : goal.returns-in-Some-clause-first
-returns-in-Some-clause-first g c = found_some c.args.views.now (form_number c.args.form ∷ c.args.i ∷ c.args.p ∷ []) c.loop-k.k c.in_ok-three.field-0 c.in-Some.three (omega arith) c.loop-k.invariant.2 c.in-Some.is c.in_ok-three.ensures.first
+returns-in-Some-clause-first c = found_some c.args.views.now (form_number c.args.form ∷ c.args.i ∷ c.args.p ∷ []) c.loop-k.k c.in_ok-three.field-0 c.in-Some.three (omega arith) c.loop-k.invariant.2 c.in-Some.is c.in_ok-three.ensures.first
 
 pub loop-k-preserved : goal.loop-k-preserved
-loop-k-preserved g c =
+loop-k-preserved c =
     let m = c.args.views.now in
     elim c.if-is_second_row.branch [
       | then-is_second_row+in_ok-three+in_default w ↦ (
@@ -31,5 +31,5 @@ loop-k-preserved g c =
     ]
 
 pub returns-clause-none : goal.returns-clause-none
-returns-clause-none g c = level_ends c.args.views.now (form_number c.args.form ∷ c.args.i ∷ c.args.p ∷ []) c.loop-k.k (omega arith) c.loop-k.invariant.2
+returns-clause-none c = level_ends c.args.views.now (form_number c.args.form ∷ c.args.i ∷ c.args.p ∷ []) c.loop-k.k (omega arith) c.loop-k.invariant.2
     (λ s S b g h. let k = (good_inside c.args.views.now s S g).row_two in let e = h.1.1.1.0 in let l = c.loop-k-test.false in let r = c.rows-k-end.ensures.rows in omega arith)
