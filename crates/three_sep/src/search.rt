@@ -1,5 +1,5 @@
 // The first good seed.
-ghost use Rattle.std.specs.Prelude.{◌≡◌, ◌≢◌, ◌<◌, ◌≤◌, ◌+◌, ◌++◌, ◌∷◌, [], ◌⊎◌, ◌↔◌, ℕ, List, pos, Bool, true, false, IsTrue, IfOk, OnOk, IfSome, IfNone, MatchOption, if◌then◌else◌};
+ghost use Rattle.std.specs.Prelude.{◌≡◌, ◌≢◌, ◌<◌, ◌≤◌, ◌++◌, ◌∷◌, [], ◌↔◌, ℕ, List, pos, true, false, IsTrue, IfOk, OnOk, IfSome, IfNone, MatchOption};
 ghost use Rattle.cmr_base.specs.declared.line.Line.{Line};
 ghost use Rattle.cmr_base.specs.declared.line.Line.TheVariants.{Row, Column};
 ghost use Rattle.cmr_base.specs.Matrix.{height, entry, IsMatrix};
@@ -8,11 +8,11 @@ ghost use Rattle.cmr_base.specs.Members.{IsIn};
 ghost use Rattle.three_sep.specs.Halves.{IsHalf, is_in};
 ghost use Rattle.cmr_base.specs.Separations.{first_is_flat, second_is_flat};
 ghost use Rattle.cmr_base.specs.Seeds.{line_number, IsLine, form_number};
-ghost use Rattle.three_sep.specs.NumberedSeeds.{Among, AreCorners, HasLines, IsCrossing, IsFirstOther, IsSecondOther, connector};
+ghost use Rattle.three_sep.specs.NumberedSeeds.{HasLines, IsCrossing, IsFirstOther, IsSecondOther};
 ghost use Rattle.three_sep.specs.ThreeSeparations.{HasNoThreeSeparation, IsFirstThreeSeparation};
-ghost use Rattle.three_sep.specs.Sides.{AreInside, HasRoom, HasSize, IsGrowing, IsLeast, set_of, start_lines};
-ghost use Rattle.cuts.specs.Cuts.{HasNames, HoldTogether, IsCut};
-ghost use Rattle.three_sep.specs.Searches.{IsNoSecondRow, IsNoSecondColumn, HasNoGood, HasNoneBelow, HoldsFirst, IsFirstOf, LeavesSecond, corner_front, other_line};
+ghost use Rattle.three_sep.specs.Sides.{AreInside, HasRoom, IsGrowing, IsLeast, set_of};
+ghost use Rattle.cuts.specs.Cuts.{HasNames};
+ghost use Rattle.three_sep.specs.Searches.{HasCorners, HasNoGood, HoldsFirst, IsCorner, IsFirstOf, IsNoSecondColumn, IsNoSecondRow, IsSearchOf, LeavesSecond, corner_front, other_line};
 
 use crate::concentrated::ConcentratedSearch;
 use crate::corners::may_cut;
@@ -58,11 +58,7 @@ pub struct Search {
 impl Search {
     /// A search with each line as a group.
     pub fn new(alloc: Global, views: &RowsAndColumns<'_>) -> Result<Search, Memory>
-        ensures side { IfOk result (λ search. HasSize views.now search.side) }
-        ensures grown { IfOk result (λ search. HasSize views.now search.grown) }
-        ensures names { IfOk result (λ search. HasNames views.now search.groups) }
-        ensures together { IfOk result (λ search.
-            HoldTogether (IsCut views.now) views.now search.groups) }
+        ensures { IfOk result (IsSearchOf views.now) }
     {
         Ok(Search {
             side: Side::new(alloc, views)?,
@@ -73,24 +69,10 @@ impl Search {
         })
     }
 
-    // Counts a corner that no cut has.
-    fn count_try(&mut self)
-        ensures side { self.new.side ≡ self.old.side }
-        ensures grown { self.new.grown ≡ self.old.grown }
-        ensures groups { self.new.groups ≡ self.old.groups }
-    {
-        self.tries = self.tries.saturating_add(1).min(EARLY);
-    }
-
     // Looks for groups where it is time.
     fn ask(&mut self, alloc: Global, views: &RowsAndColumns<'_>) -> Result<(), Memory>
-        requires side { HasSize views.now self.old.side }
-        requires names { HasNames views.now self.old.groups }
-        requires together { HoldTogether (IsCut views.now) views.now self.old.groups }
-        ensures side { OnOk result (HasSize views.now self.new.side) }
-        ensures grown { self.new.grown ≡ self.old.grown }
-        ensures names { OnOk result (HasNames views.now self.new.groups) }
-        ensures together { OnOk result (HoldTogether (IsCut views.now) views.now self.new.groups) }
+        requires search { IsSearchOf views.now self.old }
+        ensures search { OnOk result (IsSearchOf views.now self.new) }
     {
         if self.asked || self.tries < EARLY {
             return Ok(());
@@ -109,10 +91,7 @@ impl Search {
         views: &RowsAndColumns<'_>,
     ) -> Result<Option<Three>, Memory>
         requires workers { (1 ≤ workers) × (workers ≤ 64) }
-        requires side { HasSize views.now self.old.side }
-        requires grown { HasSize views.now self.old.grown }
-        requires names { HasNames views.now self.old.groups }
-        requires together { HoldTogether (IsCut views.now) views.now self.old.groups }
+        requires search { IsSearchOf views.now self.old }
         ensures first { IfOk result (λ answer. IfSome answer (IsFirstOf views.now [])) }
         ensures none { IfOk result (λ answer. IfNone answer (HasNoGood views.now [])) }
     {
@@ -136,14 +115,8 @@ impl Search {
         form: Form,
     ) -> Result<Option<Three>, Memory>
         requires crossing { IsCrossing form }
-        requires side { HasSize views.now self.old.side }
-        requires grown { HasSize views.now self.old.grown }
-        requires names { HasNames views.now self.old.groups }
-        requires together { HoldTogether (IsCut views.now) views.now self.old.groups }
-        ensures side { OnOk result (HasSize views.now self.new.side) }
-        ensures grown { OnOk result (HasSize views.now self.new.grown) }
-        ensures names { OnOk result (HasNames views.now self.new.groups) }
-        ensures together { OnOk result (HoldTogether (IsCut views.now) views.now self.new.groups) }
+        requires search { IsSearchOf views.now self.old }
+        ensures search { OnOk result (IsSearchOf views.now self.new) }
         ensures first { IfOk result (λ answer.
             IfSome answer (IsFirstOf views.now (form_number form ∷ []))) }
         ensures none { IfOk result (λ answer.
@@ -166,15 +139,9 @@ impl Search {
         i: u32,
     ) -> Result<Option<Three>, Memory>
         requires crossing { IsCrossing form }
-        requires side { HasSize views.now self.old.side }
-        requires grown { HasSize views.now self.old.grown }
-        requires names { HasNames views.now self.old.groups }
-        requires together { HoldTogether (IsCut views.now) views.now self.old.groups }
+        requires search { IsSearchOf views.now self.old }
         requires row { i < height views.now }
-        ensures side { OnOk result (HasSize views.now self.new.side) }
-        ensures grown { OnOk result (HasSize views.now self.new.grown) }
-        ensures names { OnOk result (HasNames views.now self.new.groups) }
-        ensures together { OnOk result (HoldTogether (IsCut views.now) views.now self.new.groups) }
+        ensures search { OnOk result (IsSearchOf views.now self.new) }
         ensures first { IfOk result (λ answer.
             IfSome answer (IsFirstOf views.now (form_number form ∷ i ∷ []))) }
         ensures none { IfOk result (λ answer.
@@ -203,17 +170,9 @@ impl Search {
         p: u32,
     ) -> Result<Option<Three>, Memory>
         requires crossing { IsCrossing form }
-        requires side { HasSize views.now self.old.side }
-        requires grown { HasSize views.now self.old.grown }
-        requires names { HasNames views.now self.old.groups }
-        requires together { HoldTogether (IsCut views.now) views.now self.old.groups }
-        requires row { i < height views.now }
-        requires column { p < views.now.width }
-        requires nonzero { entry views.now i p ≢ pos 0 }
-        ensures side { OnOk result (HasSize views.now self.new.side) }
-        ensures grown { OnOk result (HasSize views.now self.new.grown) }
-        ensures names { OnOk result (HasNames views.now self.new.groups) }
-        ensures together { OnOk result (HoldTogether (IsCut views.now) views.now self.new.groups) }
+        requires search { IsSearchOf views.now self.old }
+        requires corner { IsCorner views.now i p }
+        ensures search { OnOk result (IsSearchOf views.now self.new) }
         ensures first { IfOk result (λ answer.
             IfSome answer (IsFirstOf views.now (form_number form ∷ i ∷ p ∷ []))) }
         ensures none { IfOk result (λ answer.
@@ -242,19 +201,10 @@ impl Search {
         k: u32,
     ) -> Result<Option<Three>, Memory>
         requires crossing { IsCrossing form }
-        requires side { HasSize views.now self.old.side }
-        requires grown { HasSize views.now self.old.grown }
-        requires names { HasNames views.now self.old.groups }
-        requires together { HoldTogether (IsCut views.now) views.now self.old.groups }
-        requires row { i < height views.now }
-        requires column { p < views.now.width }
-        requires second_row { k < height views.now }
-        requires nonzero { entry views.now i p ≢ pos 0 }
-        requires below { entry views.now k p ≢ pos 0 }
-        ensures side { OnOk result (HasSize views.now self.new.side) }
-        ensures grown { OnOk result (HasSize views.now self.new.grown) }
-        ensures names { OnOk result (HasNames views.now self.new.groups) }
-        ensures together { OnOk result (HoldTogether (IsCut views.now) views.now self.new.groups) }
+        requires search { IsSearchOf views.now self.old }
+        requires corner { IsCorner views.now i p }
+        requires below { IsCorner views.now k p }
+        ensures search { OnOk result (IsSearchOf views.now self.new) }
         ensures first { IfOk result (λ answer.
             IfSome answer (IsFirstOf views.now (form_number form ∷ i ∷ p ∷ k ∷ []))) }
         ensures none { IfOk result (λ answer.
@@ -285,21 +235,16 @@ impl Search {
         corners: &Corners,
     ) -> Result<Option<Three>, Memory>
         requires crossing { IsCrossing form }
-        requires side { HasSize views.now self.old.side }
-        requires grown { HasSize views.now self.old.grown }
-        requires inside { AreInside views.now corners.now }
-        requires corners { AreCorners (entry views.now) corners.now.i corners.now.p corners.now.k
-            corners.now.j }
-        ensures side { OnOk result (HasSize views.now self.new.side) }
-        ensures grown { OnOk result (HasSize views.now self.new.grown) }
-        ensures groups { self.new.groups ≡ self.old.groups }
+        requires search { IsSearchOf views.now self.old }
+        requires corners { HasCorners views.now corners.now }
+        ensures search { OnOk result (IsSearchOf views.now self.new) }
         ensures first { IfOk result (λ answer.
             IfSome answer (IsFirstOf views.now (corner_front form corners.now))) }
         ensures none { IfOk result (λ answer.
             IfNone answer (HasNoGood views.now (corner_front form corners.now))) }
     {
         if !may_cut(views, &mut self.side, corners)? {
-            self.count_try();
+            self.tries = self.tries.saturating_add(1);
             return Ok(None);
         }
         for q in 0..count_of(views, form.first_is_flat()) {
@@ -320,15 +265,13 @@ impl Search {
         corners: &Corners,
         q: u32,
     ) -> Result<bool, Memory>
-        requires side { HasSize views.now self.old.side }
+        requires search { IsSearchOf views.now self.old }
         requires inside { AreInside views.now corners.now }
         requires line { IsLine (height views.now) views.now.width
             (other_line (first_is_flat form) q) }
-        ensures grown { self.new.grown ≡ self.old.grown }
-        ensures groups { self.new.groups ≡ self.old.groups }
-        ensures side { OnOk result (HasSize views.now self.new.side) }
+        ensures search { OnOk result (IsSearchOf views.now self.new) }
         ensures held { IfOk result (λ held. held ≡ true
-            → HoldsFirst views.now form corners.now q self.new.side) }
+            → HoldsFirst views.now form corners.now q self.new) }
         ensures no { IfOk result (λ held. held ≡ false
             → ¬ (IsFirstOther (first_is_flat form) (entry views.now) corners.now.i corners.now.p
             corners.now.k corners.now.j q)) }
@@ -352,16 +295,9 @@ impl Search {
         q: u32,
     ) -> Result<Option<Three>, Memory>
         requires crossing { IsCrossing form }
-        requires held { HoldsFirst views.now form corners.now q self.old.side }
-        requires grown { HasSize views.now self.old.grown }
-        requires inside { AreInside views.now corners.now }
-        requires corners { AreCorners (entry views.now) corners.now.i corners.now.p corners.now.k
-            corners.now.j }
-        requires line { IsLine (height views.now) views.now.width
-            (other_line (first_is_flat form) q) }
-        ensures side { OnOk result (HasSize views.now self.new.side) }
-        ensures grown { OnOk result (HasSize views.now self.new.grown) }
-        ensures groups { self.new.groups ≡ self.old.groups }
+        requires corners { HasCorners views.now corners.now }
+        requires held { HoldsFirst views.now form corners.now q self.old }
+        ensures search { OnOk result (IsSearchOf views.now self.new) }
         ensures first { IfOk result (λ answer.
             IfSome answer (IsFirstOf views.now (corner_front form corners.now ++ q ∷ []))) }
         ensures none { IfOk result (λ answer.
@@ -386,18 +322,11 @@ impl Search {
         o: u32,
     ) -> Result<Option<Three>, Memory>
         requires crossing { IsCrossing form }
-        requires held { HoldsFirst views.now form corners.now q self.old.side }
-        requires grown { HasSize views.now self.old.grown }
-        requires inside { AreInside views.now corners.now }
-        requires corners { AreCorners (entry views.now) corners.now.i corners.now.p corners.now.k
-            corners.now.j }
-        requires first_line { IsLine (height views.now) views.now.width
-            (other_line (first_is_flat form) q) }
-        requires second_line { IsLine (height views.now) views.now.width
+        requires corners { HasCorners views.now corners.now }
+        requires held { HoldsFirst views.now form corners.now q self.old }
+        requires line { IsLine (height views.now) views.now.width
             (other_line (second_is_flat form) o) }
-        ensures side { self.new.side ≡ self.old.side }
-        ensures grown { OnOk result (HasSize views.now self.new.grown) }
-        ensures groups { self.new.groups ≡ self.old.groups }
+        ensures held { OnOk result (HoldsFirst views.now form corners.now q self.new) }
         ensures first { IfOk result (λ answer.
             IfSome answer (IsFirstOf views.now (corner_front form corners.now ++ q ∷ o ∷ []))) }
         ensures none { IfOk result (λ answer.
@@ -423,25 +352,13 @@ impl Search {
         o: u32,
     ) -> Result<Option<Three>, Memory>
         requires crossing { IsCrossing form }
-        requires room { HasRoom views.now self.old.side }
-        requires growing { IsGrowing views.now corners.now
-            (connector (first_is_flat form) corners.now.i corners.now.p q)
-            self.old.side }
-        requires grown { HasSize views.now self.old.grown }
-        requires inside { AreInside views.now corners.now }
-        requires corners { AreCorners (entry views.now) corners.now.i corners.now.p corners.now.k
-            corners.now.j }
-        requires first_other { IsFirstOther (first_is_flat form) (entry views.now) corners.now.i
-            corners.now.p corners.now.k corners.now.j q }
-        requires first_line { IsLine (height views.now) views.now.width
-            (other_line (first_is_flat form) q) }
-        requires second_other { IsSecondOther (second_is_flat form) (entry views.now) corners.now.i
+        requires corners { HasCorners views.now corners.now }
+        requires held { HoldsFirst views.now form corners.now q self.old }
+        requires other { IsSecondOther (second_is_flat form) (entry views.now) corners.now.i
             corners.now.p corners.now.k corners.now.j o }
-        requires second_line { IsLine (height views.now) views.now.width
+        requires line { IsLine (height views.now) views.now.width
             (other_line (second_is_flat form) o) }
-        ensures side { self.new.side ≡ self.old.side }
-        ensures grown { OnOk result (HasSize views.now self.new.grown) }
-        ensures groups { self.new.groups ≡ self.old.groups }
+        ensures held { OnOk result (HoldsFirst views.now form corners.now q self.new) }
         ensures first { IfOk result (λ answer.
             IfSome answer (IsFirstOf views.now (corner_front form corners.now ++ q ∷ o ∷ []))) }
         ensures none { IfOk result (λ answer.
@@ -470,8 +387,7 @@ impl Search {
         requires inside { AreInside views.now corners.now }
         requires second { IsLine (height views.now) views.now.width second }
         requires line { IsLine (height views.now) views.now.width line }
-        ensures side { self.new.side ≡ self.old.side }
-        ensures groups { self.new.groups ≡ self.old.groups }
+        ensures kept { (self.new.side ≡ self.old.side) × (self.new.groups ≡ self.old.groups) }
         ensures room { OnOk result (HasRoom views.now self.new.grown) }
         ensures least { OnOk result ((start : List Line)
             → IsGrowing views.now corners.now start self.old.side
