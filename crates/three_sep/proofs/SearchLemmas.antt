@@ -13,6 +13,7 @@ use Rattle.cmr_base.proofs.SeedLemmas.{line_is, form_is}
 use Rattle.cmr_base.proofs.LineCounts.{count_same}
 use Rattle.three_sep.specs.declared.half.Half.{Half}
 use Rattle.three_sep.specs.declared.side.Side.{Side}
+use Rattle.three_sep.specs.declared.search.Search.{Search}
 use Rattle.cuts.specs.declared.groups.Groups.{Groups}
 use Rattle.cuts.specs.declared.corners.Corners.{Corners}
 use Rattle.cmr_base.specs.declared.separation.Form.{Form}
@@ -22,12 +23,13 @@ use Rattle.cmr_base.specs.Separations.{Lines, first_is_flat, second_is_flat}
 use Rattle.cmr_base.specs.Seeds.{IsLine, form_number, line_number, IsBefore}
 use Rattle.three_sep.specs.NumberedSeeds.{Seed, Among, HasAll, HasNone, count, inside, connector, IsFirstOther, IsSecondOther, AreCorners, IsCrossing, IsGoodSeed, seed_key, HasLines, seed_of}
 use Rattle.three_sep.specs.Halves.{is_in, IsHalf, AreSame}
-use Rattle.three_sep.specs.Sides.{set_of, HasRoom, AreInside, IsGrowingBy, IsLeast, start_lines}
+use Rattle.three_sep.specs.Sides.{set_of, HasRoom, HasSize, AreInside, IsGrowing, IsGrowingBy, IsLeast, start_lines}
 use Rattle.cuts.specs.Cuts.{IsCutAt, IsCut, HasNames, HoldTogether}
 use Rattle.three_sep.specs.Cuts.{HasNoCutAt}
-use Rattle.three_sep.specs.Searches.{BeginsWith, HasNoGood, IsFirstOf, HasNoneBelow, corner_front, line_count, other_line, LeavesSecond, IsNoSecondRow, IsNoSecondColumn}
+use Rattle.three_sep.specs.Searches.{BeginsWith, HasNoGood, HoldsFirst, IsFirstOf, HasNoneBelow, corner_front, line_count, other_line, LeavesSecond, IsNoSecondRow, IsNoSecondColumn}
 use Rattle.three_sep.proofs.CrossingLemmas.{IsGoodCrossing, as_crossing, as_good}
 use Rattle.three_sep.proofs.SideLemmas.{outside_less}
+use Rattle.three_sep.proofs.CutLemmas.{has_size}
 
 -- ---- four lines
 
@@ -352,10 +354,6 @@ not_before_itself [] h = h
 not_before_itself (y ∷ ys) (inl l) = omega arith
 not_before_itself (y ∷ ys) (inr h) = not_before_itself ys h.1
 
-begins_itself : (ys : List ℕ) → BeginsWith ys ys
-begins_itself [] = tt
-begins_itself (y ∷ ys) = (refl, begins_itself ys)
-
 module _ (m : Matrix) (form : Form) (c : Corners) (q o place : ℕ) (x : Line) (S : Lines) (three : Three) where
   pub seed_good : IsCrossing form → AreInside m c → AreCorners (entry m) c.i c.p c.k c.j → IsFirstOther (first_is_flat form) (entry m) c.i c.p c.k c.j q → IsSecondOther (second_is_flat form) (entry m) c.i c.p c.k c.j o
       → IsLine (height m) m.width (other_line (first_is_flat form) q) → IsLine (height m) m.width (other_line (second_is_flat form) o) → IsLine (height m) m.width x
@@ -422,6 +420,22 @@ growing_same m upper lower start one two rows columns g = record {
     is : (x : Line) → set_of one x ≡ set_of two x
     is (Row r) = ap (λ (v : List Bool). get_or v r false) rows.inside
     is (Column k) = ap (λ (v : List Bool). get_or v k false) columns.inside
+
+-- the side of the first connector after the other one has grown
+pub held_kept : (m : Matrix) (form : Form) (c : Corners) (q : ℕ) (before after : Search) → HoldsFirst m form c q before → after.side ≡ before.side → after.groups ≡ before.groups → HasRoom m after.grown → HoldsFirst m form c q after
+held_kept m form c q before after held side groups room = record {
+  kept = record {
+    side = subst (λ (z : Side). HasSize m z) (sym side) held.kept.side;
+    grown = has_size m after.grown room;
+    names = subst (λ (z : Groups). HasNames m z) (sym groups) held.kept.names;
+    together = subst (λ (z : Groups). HoldTogether (IsCut m) m z) (sym groups) held.kept.together;
+  };
+  line = held.line;
+  other = held.other;
+  room = subst (λ (z : Side). HasRoom m z) (sym side) held.room;
+  growing = subst (λ (z : Side). IsGrowing m c (connector (first_is_flat form) c.i c.p q) z) (sym side) held.growing;
+  least = subst (λ (z : Side). IsLeast m c (connector (first_is_flat form) c.i c.p q) (set_of z)) (sym side) held.least;
+}
 
 -- ---- all forms
 

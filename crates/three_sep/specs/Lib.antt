@@ -8,5 +8,4 @@ pub mod Independent
 pub mod Cuts
 pub mod Searches
 pub mod Blocks
-pub mod BlocksView
 pub mod ConcentratedRowsView

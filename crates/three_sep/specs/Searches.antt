@@ -1,5 +1,5 @@
 -- The search for the first good seed, by the numbers with which seeds begin.
-use Rattle.std.specs.Prelude.{◌≡◌, ◌<◌, ◌≤◌, ◌++◌, ◌⊎◌, ℕ, pos, Bool, true, false, List, [], ◌∷◌}
+use Rattle.std.specs.Prelude.{◌≡◌, ◌≢◌, ◌<◌, ◌≤◌, ◌++◌, ◌⊎◌, ℕ, pos, Bool, true, false, List, [], ◌∷◌}
 use Rattle.cmr_base.specs.declared.line.Line.{Line}
 use Rattle.cmr_base.specs.declared.line.Line.TheVariants.{Row, Column}
 use Rattle.cmr_base.specs.Matrix.{Matrix, height, entry}
@@ -7,12 +7,12 @@ use Rattle.cmr_base.specs.declared.separation.Form.{Form}
 use Rattle.cmr_base.specs.declared.separation.Three.{Three}
 use Rattle.cuts.specs.declared.corners.Corners.{Corners}
 use Rattle.cuts.specs.declared.groups.Groups.{Groups}
-use Rattle.three_sep.specs.declared.side.Side.{Side}
-use Rattle.cuts.specs.Cuts.{name_of}
+use Rattle.three_sep.specs.declared.search.Search.{Search}
+use Rattle.cuts.specs.Cuts.{AreInside, HasNames, HoldTogether, IsCut, name_of}
 use Rattle.cmr_base.specs.Separations.{Lines, first_is_flat, second_is_flat}
 use Rattle.cmr_base.specs.Seeds.{IsLine, IsBefore, form_number}
-use Rattle.three_sep.specs.Sides.{HasRoom, IsGrowing, IsLeast, set_of}
-use Rattle.three_sep.specs.NumberedSeeds.{Seed, IsGoodSeed, IsFirstOther, HasLines, Among, connector, seed_key, seed_of, outside}
+use Rattle.three_sep.specs.Sides.{HasRoom, HasSize, IsGrowing, IsLeast, set_of}
+use Rattle.three_sep.specs.NumberedSeeds.{Seed, AreCorners, IsGoodSeed, IsFirstOther, HasLines, connector, seed_key, seed_of, outside}
 
 -- the list begins with these numbers
 abbrev pub BeginsWith : List ℕ → List ℕ → Type 0
@@ -57,12 +57,32 @@ abbrev pub line_count : Matrix → Bool → ℕ
 line_count m true = m.width
 line_count m false = height m
 
--- the side is the closed one of the first connector with the other line q
-pub record HoldsFirst (m : Matrix) (form : Form) (c : Corners) (q : ℕ) (side : Side) : Type 0 where
-  pub room : HasRoom m side
+-- what always holds of a search: the sides have room for the lines of the matrix, and no cut parts a group
+pub record IsSearchOf (m : Matrix) (search : Search) : Type 0 where
+  pub side : HasSize m search.side
+  pub grown : HasSize m search.grown
+  pub names : HasNames m search.groups
+  pub together : HoldTogether (IsCut m) m search.groups
+
+-- a row and a column that cross in a nonzero
+pub record IsCorner (m : Matrix) (r c : ℕ) : Type 0 where
+  pub row : r < height m
+  pub column : c < m.width
+  pub nonzero : entry m r c ≢ pos 0
+
+-- the corners are in the matrix, and the four entries where they cross are not 0
+pub record HasCorners (m : Matrix) (c : Corners) : Type 0 where
+  pub inside : AreInside m c
+  pub values : AreCorners (entry m) c.i c.p c.k c.j
+
+-- the side of the search is the closed one of the first connector with the other line q
+pub record HoldsFirst (m : Matrix) (form : Form) (c : Corners) (q : ℕ) (search : Search) : Type 0 where
+  pub kept : IsSearchOf m search
+  pub line : IsLine (height m) m.width (other_line (first_is_flat form) q)
   pub other : IsFirstOther (first_is_flat form) (entry m) c.i c.p c.k c.j q
-  pub growing : IsGrowing m c (connector (first_is_flat form) c.i c.p q) side
-  pub least : IsLeast m c (connector (first_is_flat form) c.i c.p q) (set_of side)
+  pub room : HasRoom m search.side
+  pub growing : IsGrowing m c (connector (first_is_flat form) c.i c.p q) search.side
+  pub least : IsLeast m c (connector (first_is_flat form) c.i c.p q) (set_of search.side)
 
 -- none of the second connector is in the set, and four lines or more are outside
 pub record LeavesSecond (m : Matrix) (c : Corners) (second : Line) (S : Lines) : Type 0 where
@@ -70,12 +90,6 @@ pub record LeavesSecond (m : Matrix) (c : Corners) (second : Line) (S : Lines) :
   pub column : S (Column c.j) ≡ false
   pub other : S second ≡ false
   pub enough : 4 ≤ outside (height m) m.width S
-
--- a line that is in neither connector
-pub record IsBeside (m : Matrix) (form : Form) (c : Corners) (q o : ℕ) (x : Line) : Type 0 where
-  pub line : IsLine (height m) m.width x
-  pub first : ¬ (Among (connector (first_is_flat form) c.i c.p q) x)
-  pub second : ¬ (Among (connector (second_is_flat form) c.k c.j o) x)
 
 -- row k is not in the lower block beside the corner (i, p), or a group holds it with one of its lines
 abbrev pub IsNoSecondRow : Matrix → Groups → ℕ → ℕ → ℕ → Type 0

@@ -9,6 +9,9 @@ use crate::side::Side;
 use cmr_base::{Line, Memory, RowsAndColumns};
 use cuts::Corners;
 
+/// How many rows are tried.
+const TRIES: u32 = 3;
+
 /// Whether a cut may have the first corner in side one and the second in side two. Some rows are tried: where a row
 /// can be on neither side, there is none.
 pub fn may_cut(
@@ -21,9 +24,12 @@ pub fn may_cut(
     ensures size { OnOk result (HasSize views.now side.new) }
     ensures none { IfOk result (λ may. may ≡ false → HasNoCutAt views.now corners.now) }
 {
-    let mut tries = 3u32;
+    let mut tries = TRIES;
     for row in 0..views.rows() {
-        if tries > 0 && row != corners.i && row != corners.k {
+        if row != corners.i && row != corners.k {
+            if tries == 0 {
+                return Ok(true);
+            }
             if is_refused(views, side, corners, Line::Row(row))? {
                 return Ok(false);
             }

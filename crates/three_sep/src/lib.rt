@@ -1,7 +1,6 @@
 //! The three-separations of a matrix.
 #![tactic(auto)]
 
-mod block;
 mod concentrated;
 mod concentrated_rows;
 mod connectors;
@@ -13,7 +12,6 @@ mod pulled;
 mod search;
 mod side;
 mod spread_side;
-mod triple;
 
 pub use cmr_base::{Connector, Form, Three};
 pub use search::three_separation;

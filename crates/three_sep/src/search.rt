@@ -1,5 +1,5 @@
 // The first good seed.
-ghost use Rattle.std.specs.Prelude.{◌≡◌, ◌≢◌, ◌<◌, ◌≤◌, ◌+◌, ◌++◌, ◌∷◌, [], ◌⊎◌, ◌↔◌, ℕ, List, pos, Bool, true, false, IsTrue, IfOk, OnOk, IfSome, IfNone, MatchOption, if◌then◌else◌};
+ghost use Rattle.std.specs.Prelude.{◌≡◌, ◌≢◌, ◌<◌, ◌≤◌, ◌++◌, ◌∷◌, [], ◌↔◌, ℕ, List, pos, true, false, IsTrue, IfOk, OnOk, IfSome, IfNone, MatchOption};
 ghost use Rattle.cmr_base.specs.declared.line.Line.{Line};
 ghost use Rattle.cmr_base.specs.declared.line.Line.TheVariants.{Row, Column};
 ghost use Rattle.cmr_base.specs.Matrix.{height, entry, IsMatrix};
@@ -8,13 +8,12 @@ ghost use Rattle.cmr_base.specs.Members.{IsIn};
 ghost use Rattle.three_sep.specs.Halves.{IsHalf, is_in};
 ghost use Rattle.cmr_base.specs.Separations.{first_is_flat, second_is_flat};
 ghost use Rattle.cmr_base.specs.Seeds.{line_number, IsLine, form_number};
-ghost use Rattle.three_sep.specs.NumberedSeeds.{Among, AreCorners, HasLines, IsCrossing, IsFirstOther, IsSecondOther, connector};
+ghost use Rattle.three_sep.specs.NumberedSeeds.{HasLines, IsCrossing, IsFirstOther, IsSecondOther};
 ghost use Rattle.three_sep.specs.ThreeSeparations.{HasNoThreeSeparation, IsFirstThreeSeparation};
-ghost use Rattle.three_sep.specs.Sides.{AreInside, HasRoom, HasSize, IsGrowing, IsLeast, set_of, start_lines};
-ghost use Rattle.cuts.specs.Cuts.{HasNames, HoldTogether, IsCut};
-ghost use Rattle.three_sep.specs.Searches.{IsNoSecondRow, IsNoSecondColumn, HasNoGood, HasNoneBelow, HoldsFirst, IsFirstOf, LeavesSecond, corner_front, other_line};
+ghost use Rattle.three_sep.specs.Sides.{AreInside, HasRoom, IsGrowing, IsLeast, set_of};
+ghost use Rattle.cuts.specs.Cuts.{HasNames};
+ghost use Rattle.three_sep.specs.Searches.{HasCorners, HasNoGood, HoldsFirst, IsCorner, IsFirstOf, IsNoSecondColumn, IsNoSecondRow, IsSearchOf, LeavesSecond, corner_front, other_line};
 
-use crate::block::{Block, open_columns};
 use crate::concentrated::ConcentratedSearch;
 use crate::corners::may_cut;
 use crate::half::Half;
@@ -26,7 +25,8 @@ use std::alloc::Global;
 use std::thread::Threads;
 
 /// The three-separation of the first good seed, in the order of the forms, corners, other lines and lines of seeds; `None` where
-/// the matrix has no three-separation.
+/// the matrix has no three-separation. One worker makes the search: since groups of lines are found by halving, nothing that is left is
+/// worth sharing.
 pub fn three_separation<R: Threads + Sync>(
     rt: &R,
     alloc: Global,
@@ -58,11 +58,7 @@ pub struct Search {
 impl Search {
     /// A search with each line as a group.
     pub fn new(alloc: Global, views: &RowsAndColumns<'_>) -> Result<Search, Memory>
-        ensures side { IfOk result (λ search. HasSize views.now search.side) }
-        ensures grown { IfOk result (λ search. HasSize views.now search.grown) }
-        ensures names { IfOk result (λ search. HasNames views.now search.groups) }
-        ensures together { IfOk result (λ search.
-            HoldTogether (IsCut views.now) views.now search.groups) }
+        ensures { IfOk result (IsSearchOf views.now) }
     {
         Ok(Search {
             side: Side::new(alloc, views)?,
@@ -73,24 +69,10 @@ impl Search {
         })
     }
 
-    // Counts corners that no cut has.
-    fn count_tries(&mut self, count: u32)
-        ensures side { self.new.side ≡ self.old.side }
-        ensures grown { self.new.grown ≡ self.old.grown }
-        ensures groups { self.new.groups ≡ self.old.groups }
-    {
-        self.tries = self.tries.saturating_add(count).min(EARLY);
-    }
-
     // Looks for groups where it is time.
     fn ask(&mut self, alloc: Global, views: &RowsAndColumns<'_>) -> Result<(), Memory>
-        requires side { HasSize views.now self.old.side }
-        requires names { HasNames views.now self.old.groups }
-        requires together { HoldTogether (IsCut views.now) views.now self.old.groups }
-        ensures side { OnOk result (HasSize views.now self.new.side) }
-        ensures grown { self.new.grown ≡ self.old.grown }
-        ensures names { OnOk result (HasNames views.now self.new.groups) }
-        ensures together { OnOk result (HoldTogether (IsCut views.now) views.now self.new.groups) }
+        requires search { IsSearchOf views.now self.old }
+        ensures search { OnOk result (IsSearchOf views.now self.new) }
     {
         if self.asked || self.tries < EARLY {
             return Ok(());
@@ -109,51 +91,39 @@ impl Search {
         views: &RowsAndColumns<'_>,
     ) -> Result<Option<Three>, Memory>
         requires workers { (1 ≤ workers) × (workers ≤ 64) }
-        requires side { HasSize views.now self.old.side }
-        requires grown { HasSize views.now self.old.grown }
-        requires names { HasNames views.now self.old.groups }
-        requires together { HoldTogether (IsCut views.now) views.now self.old.groups }
+        requires search { IsSearchOf views.now self.old }
         ensures first { IfOk result (λ answer. IfSome answer (IsFirstOf views.now [])) }
         ensures none { IfOk result (λ answer. IfNone answer (HasNoGood views.now [])) }
     {
-        if let Some(three) = self.first_of_form(rt, alloc, workers, views, Form::Delta)? {
+        if let Some(three) = self.first_of_form(alloc, views, Form::Delta)? {
             return Ok(Some(three));
         }
-        if let Some(three) = self.first_of_form(rt, alloc, workers, views, Form::YForm)? {
+        if let Some(three) = self.first_of_form(alloc, views, Form::YForm)? {
             return Ok(Some(three));
         }
-        if let Some(three) = self.first_of_form(rt, alloc, workers, views, Form::Mixed)? {
+        if let Some(three) = self.first_of_form(alloc, views, Form::Mixed)? {
             return Ok(Some(three));
         }
         ConcentratedSearch::new(alloc, views)?.first(rt, alloc, workers, views)
     }
 
     // The rows i.
-    fn first_of_form<R: Threads + Sync>(
+    fn first_of_form(
         &mut self,
-        rt: &R,
         alloc: Global,
-        workers: u32,
         views: &RowsAndColumns<'_>,
         form: Form,
     ) -> Result<Option<Three>, Memory>
         requires crossing { IsCrossing form }
-        requires workers { (1 ≤ workers) × (workers ≤ 64) }
-        requires side { HasSize views.now self.old.side }
-        requires grown { HasSize views.now self.old.grown }
-        requires names { HasNames views.now self.old.groups }
-        requires together { HoldTogether (IsCut views.now) views.now self.old.groups }
-        ensures side { OnOk result (HasSize views.now self.new.side) }
-        ensures grown { OnOk result (HasSize views.now self.new.grown) }
-        ensures names { OnOk result (HasNames views.now self.new.groups) }
-        ensures together { OnOk result (HoldTogether (IsCut views.now) views.now self.new.groups) }
+        requires search { IsSearchOf views.now self.old }
+        ensures search { OnOk result (IsSearchOf views.now self.new) }
         ensures first { IfOk result (λ answer.
             IfSome answer (IsFirstOf views.now (form_number form ∷ []))) }
         ensures none { IfOk result (λ answer.
             IfNone answer (HasNoGood views.now (form_number form ∷ []))) }
     {
         for i in 0..views.rows() {
-            if let Some(three) = self.first_of_row(rt, alloc, workers, views, form, i)? {
+            if let Some(three) = self.first_of_row(alloc, views, form, i)? {
                 return Ok(Some(three));
             }
         }
@@ -161,26 +131,17 @@ impl Search {
     }
 
     // The columns p.
-    fn first_of_row<R: Threads + Sync>(
+    fn first_of_row(
         &mut self,
-        rt: &R,
         alloc: Global,
-        workers: u32,
         views: &RowsAndColumns<'_>,
         form: Form,
         i: u32,
     ) -> Result<Option<Three>, Memory>
         requires crossing { IsCrossing form }
-        requires workers { (1 ≤ workers) × (workers ≤ 64) }
-        requires side { HasSize views.now self.old.side }
-        requires grown { HasSize views.now self.old.grown }
-        requires names { HasNames views.now self.old.groups }
-        requires together { HoldTogether (IsCut views.now) views.now self.old.groups }
+        requires search { IsSearchOf views.now self.old }
         requires row { i < height views.now }
-        ensures side { OnOk result (HasSize views.now self.new.side) }
-        ensures grown { OnOk result (HasSize views.now self.new.grown) }
-        ensures names { OnOk result (HasNames views.now self.new.groups) }
-        ensures together { OnOk result (HoldTogether (IsCut views.now) views.now self.new.groups) }
+        ensures search { OnOk result (IsSearchOf views.now self.new) }
         ensures first { IfOk result (λ answer.
             IfSome answer (IsFirstOf views.now (form_number form ∷ i ∷ []))) }
         ensures none { IfOk result (λ answer.
@@ -191,7 +152,7 @@ impl Search {
         }
         for p in 0..views.columns() {
             if views.is_nonzero(i, p) {
-                if let Some(three) = self.first_of_corner(rt, alloc, workers, views, form, i, p)? {
+                if let Some(three) = self.first_of_corner(alloc, views, form, i, p)? {
                     return Ok(Some(three));
                 }
             }
@@ -200,29 +161,18 @@ impl Search {
     }
 
     // The rows k.
-    fn first_of_corner<R: Threads + Sync>(
+    fn first_of_corner(
         &mut self,
-        rt: &R,
         alloc: Global,
-        workers: u32,
         views: &RowsAndColumns<'_>,
         form: Form,
         i: u32,
         p: u32,
     ) -> Result<Option<Three>, Memory>
         requires crossing { IsCrossing form }
-        requires workers { (1 ≤ workers) × (workers ≤ 64) }
-        requires side { HasSize views.now self.old.side }
-        requires grown { HasSize views.now self.old.grown }
-        requires names { HasNames views.now self.old.groups }
-        requires together { HoldTogether (IsCut views.now) views.now self.old.groups }
-        requires row { i < height views.now }
-        requires column { p < views.now.width }
-        requires nonzero { entry views.now i p ≢ pos 0 }
-        ensures side { OnOk result (HasSize views.now self.new.side) }
-        ensures grown { OnOk result (HasSize views.now self.new.grown) }
-        ensures names { OnOk result (HasNames views.now self.new.groups) }
-        ensures together { OnOk result (HoldTogether (IsCut views.now) views.now self.new.groups) }
+        requires search { IsSearchOf views.now self.old }
+        requires corner { IsCorner views.now i p }
+        ensures search { OnOk result (IsSearchOf views.now self.new) }
         ensures first { IfOk result (λ answer.
             IfSome answer (IsFirstOf views.now (form_number form ∷ i ∷ p ∷ []))) }
         ensures none { IfOk result (λ answer.
@@ -231,7 +181,7 @@ impl Search {
         for k in 0..views.rows() {
             if is_second_row(views, &self.groups, i, p, k) {
                 if let Some(three) = self.first_of_second_row(
-                    rt, alloc, workers, views, form, i, p, k,
+                    alloc, views, form, i, p, k,
                 )? {
                     return Ok(Some(three));
                 }
@@ -241,11 +191,9 @@ impl Search {
     }
 
     // The columns j.
-    fn first_of_second_row<R: Threads + Sync>(
+    fn first_of_second_row(
         &mut self,
-        rt: &R,
         alloc: Global,
-        workers: u32,
         views: &RowsAndColumns<'_>,
         form: Form,
         i: u32,
@@ -253,29 +201,16 @@ impl Search {
         k: u32,
     ) -> Result<Option<Three>, Memory>
         requires crossing { IsCrossing form }
-        requires workers { (1 ≤ workers) × (workers ≤ 64) }
-        requires side { HasSize views.now self.old.side }
-        requires grown { HasSize views.now self.old.grown }
-        requires names { HasNames views.now self.old.groups }
-        requires together { HoldTogether (IsCut views.now) views.now self.old.groups }
-        requires row { i < height views.now }
-        requires column { p < views.now.width }
-        requires second_row { k < height views.now }
-        requires nonzero { entry views.now i p ≢ pos 0 }
-        requires below { entry views.now k p ≢ pos 0 }
-        ensures side { OnOk result (HasSize views.now self.new.side) }
-        ensures grown { OnOk result (HasSize views.now self.new.grown) }
-        ensures names { OnOk result (HasNames views.now self.new.groups) }
-        ensures together { OnOk result (HoldTogether (IsCut views.now) views.now self.new.groups) }
+        requires search { IsSearchOf views.now self.old }
+        requires corner { IsCorner views.now i p }
+        requires below { IsCorner views.now k p }
+        ensures search { OnOk result (IsSearchOf views.now self.new) }
         ensures first { IfOk result (λ answer.
             IfSome answer (IsFirstOf views.now (form_number form ∷ i ∷ p ∷ k ∷ []))) }
         ensures none { IfOk result (λ answer.
             IfNone answer (HasNoGood views.now (form_number form ∷ i ∷ p ∷ k ∷ []))) }
     {
         self.ask(alloc, views)?;
-        if workers > 1 && is_large(views, &self.groups, i, p, k) {
-            return self.first_of_block(rt, alloc, workers, views, form, i, p, k);
-        }
         for j in 0..views.columns() {
             if is_second_column(views, &self.groups, i, p, k, j) {
                 if let Some(three) = self.first_of_corners(
@@ -291,94 +226,6 @@ impl Search {
         Ok(None)
     }
 
-    // The first triple of a good seed by several workers, and the first seed with it by one.
-    fn first_of_block<R: Threads + Sync>(
-        &mut self,
-        rt: &R,
-        alloc: Global,
-        workers: u32,
-        views: &RowsAndColumns<'_>,
-        form: Form,
-        i: u32,
-        p: u32,
-        k: u32,
-    ) -> Result<Option<Three>, Memory>
-        requires crossing { IsCrossing form }
-        requires workers { (1 ≤ workers) × (workers ≤ 64) }
-        requires side { HasSize views.now self.old.side }
-        requires grown { HasSize views.now self.old.grown }
-        requires names { HasNames views.now self.old.groups }
-        requires together { HoldTogether (IsCut views.now) views.now self.old.groups }
-        requires row { i < height views.now }
-        requires column { p < views.now.width }
-        requires second_row { k < height views.now }
-        requires nonzero { entry views.now i p ≢ pos 0 }
-        requires below { entry views.now k p ≢ pos 0 }
-        ensures side { OnOk result (HasSize views.now self.new.side) }
-        ensures grown { OnOk result (HasSize views.now self.new.grown) }
-        ensures groups { self.new.groups ≡ self.old.groups }
-        ensures first { IfOk result (λ answer.
-            IfSome answer (IsFirstOf views.now (form_number form ∷ i ∷ p ∷ k ∷ []))) }
-        ensures none { IfOk result (λ answer.
-            IfNone answer (HasNoGood views.now (form_number form ∷ i ∷ p ∷ k ∷ []))) }
-    {
-        let columns = open_columns(alloc, views, &mut self.side, &self.groups, i, p, k)?;
-        let block = Block::new(views, columns, form, i, p, k);
-        let found = block.first_triple(rt, alloc, workers)?;
-        match found {
-            Some(triple) => {
-                let j = triple.j;
-                self.first_of_triple(
-                    alloc,
-                    views,
-                    form,
-                    &Corners { i, p, k, j },
-                    triple.q,
-                    triple.o,
-                )
-            }
-            None => {
-                let tried = count_second_columns(views, &self.groups, i, p, k);
-                self.count_tries(tried.saturating_sub(block.open_columns() as u32));
-                Ok(None)
-            }
-        }
-    }
-
-    // The separation of the first good seed with these corners and other lines.
-    fn first_of_triple(
-        &mut self,
-        alloc: Global,
-        views: &RowsAndColumns<'_>,
-        form: Form,
-        corners: &Corners,
-        q: u32,
-        o: u32,
-    ) -> Result<Option<Three>, Memory>
-        requires crossing { IsCrossing form }
-        requires side { HasSize views.now self.old.side }
-        requires grown { HasSize views.now self.old.grown }
-        requires inside { AreInside views.now corners.now }
-        requires corners { AreCorners (entry views.now) corners.now.i corners.now.p corners.now.k
-            corners.now.j }
-        requires first_line { IsLine (height views.now) views.now.width
-            (other_line (first_is_flat form) q) }
-        requires second_line { IsLine (height views.now) views.now.width
-            (other_line (second_is_flat form) o) }
-        ensures side { OnOk result (HasSize views.now self.new.side) }
-        ensures grown { OnOk result (HasSize views.now self.new.grown) }
-        ensures groups { self.new.groups ≡ self.old.groups }
-        ensures first { IfOk result (λ answer.
-            IfSome answer (IsFirstOf views.now (corner_front form corners.now ++ q ∷ o ∷ []))) }
-        ensures none { IfOk result (λ answer.
-            IfNone answer (HasNoGood views.now (corner_front form corners.now ++ q ∷ o ∷ []))) }
-    {
-        if !self.hold_first(views, form, corners, q)? {
-            return Ok(None);
-        }
-        self.first_of_other(alloc, views, form, corners, q, o)
-    }
-
     // The lines q.
     fn first_of_corners(
         &mut self,
@@ -388,21 +235,16 @@ impl Search {
         corners: &Corners,
     ) -> Result<Option<Three>, Memory>
         requires crossing { IsCrossing form }
-        requires side { HasSize views.now self.old.side }
-        requires grown { HasSize views.now self.old.grown }
-        requires inside { AreInside views.now corners.now }
-        requires corners { AreCorners (entry views.now) corners.now.i corners.now.p corners.now.k
-            corners.now.j }
-        ensures side { OnOk result (HasSize views.now self.new.side) }
-        ensures grown { OnOk result (HasSize views.now self.new.grown) }
-        ensures groups { self.new.groups ≡ self.old.groups }
+        requires search { IsSearchOf views.now self.old }
+        requires corners { HasCorners views.now corners.now }
+        ensures search { OnOk result (IsSearchOf views.now self.new) }
         ensures first { IfOk result (λ answer.
             IfSome answer (IsFirstOf views.now (corner_front form corners.now))) }
         ensures none { IfOk result (λ answer.
             IfNone answer (HasNoGood views.now (corner_front form corners.now))) }
     {
         if !may_cut(views, &mut self.side, corners)? {
-            self.count_tries(1);
+            self.tries = self.tries.saturating_add(1);
             return Ok(None);
         }
         for q in 0..count_of(views, form.first_is_flat()) {
@@ -415,23 +257,21 @@ impl Search {
         Ok(None)
     }
 
-    /// Closes the side of the first connector with the other line q, where it can be that.
-    pub fn hold_first(
+    // Closes the side of the first connector with the other line q, where it can be that.
+    fn hold_first(
         &mut self,
         views: &RowsAndColumns<'_>,
         form: Form,
         corners: &Corners,
         q: u32,
     ) -> Result<bool, Memory>
-        requires side { HasSize views.now self.old.side }
+        requires search { IsSearchOf views.now self.old }
         requires inside { AreInside views.now corners.now }
         requires line { IsLine (height views.now) views.now.width
             (other_line (first_is_flat form) q) }
-        ensures grown { self.new.grown ≡ self.old.grown }
-        ensures groups { self.new.groups ≡ self.old.groups }
-        ensures side { OnOk result (HasSize views.now self.new.side) }
+        ensures search { OnOk result (IsSearchOf views.now self.new) }
         ensures held { IfOk result (λ held. held ≡ true
-            → HoldsFirst views.now form corners.now q self.new.side) }
+            → HoldsFirst views.now form corners.now q self.new) }
         ensures no { IfOk result (λ held. held ≡ false
             → ¬ (IsFirstOther (first_is_flat form) (entry views.now) corners.now.i corners.now.p
             corners.now.k corners.now.j q)) }
@@ -455,16 +295,9 @@ impl Search {
         q: u32,
     ) -> Result<Option<Three>, Memory>
         requires crossing { IsCrossing form }
-        requires held { HoldsFirst views.now form corners.now q self.old.side }
-        requires grown { HasSize views.now self.old.grown }
-        requires inside { AreInside views.now corners.now }
-        requires corners { AreCorners (entry views.now) corners.now.i corners.now.p corners.now.k
-            corners.now.j }
-        requires line { IsLine (height views.now) views.now.width
-            (other_line (first_is_flat form) q) }
-        ensures side { OnOk result (HasSize views.now self.new.side) }
-        ensures grown { OnOk result (HasSize views.now self.new.grown) }
-        ensures groups { self.new.groups ≡ self.old.groups }
+        requires corners { HasCorners views.now corners.now }
+        requires held { HoldsFirst views.now form corners.now q self.old }
+        ensures search { OnOk result (IsSearchOf views.now self.new) }
         ensures first { IfOk result (λ answer.
             IfSome answer (IsFirstOf views.now (corner_front form corners.now ++ q ∷ []))) }
         ensures none { IfOk result (λ answer.
@@ -478,8 +311,8 @@ impl Search {
         Ok(None)
     }
 
-    /// The separation of the first good seed with these corners and other lines, by the closed side of the first connector.
-    pub fn first_of_other(
+    // The separation of the first good seed with these corners and other lines, by the closed side of the first connector.
+    fn first_of_other(
         &mut self,
         alloc: Global,
         views: &RowsAndColumns<'_>,
@@ -489,18 +322,11 @@ impl Search {
         o: u32,
     ) -> Result<Option<Three>, Memory>
         requires crossing { IsCrossing form }
-        requires held { HoldsFirst views.now form corners.now q self.old.side }
-        requires grown { HasSize views.now self.old.grown }
-        requires inside { AreInside views.now corners.now }
-        requires corners { AreCorners (entry views.now) corners.now.i corners.now.p corners.now.k
-            corners.now.j }
-        requires first_line { IsLine (height views.now) views.now.width
-            (other_line (first_is_flat form) q) }
-        requires second_line { IsLine (height views.now) views.now.width
+        requires corners { HasCorners views.now corners.now }
+        requires held { HoldsFirst views.now form corners.now q self.old }
+        requires line { IsLine (height views.now) views.now.width
             (other_line (second_is_flat form) o) }
-        ensures side { self.new.side ≡ self.old.side }
-        ensures grown { OnOk result (HasSize views.now self.new.grown) }
-        ensures groups { self.new.groups ≡ self.old.groups }
+        ensures held { OnOk result (HoldsFirst views.now form corners.now q self.new) }
         ensures first { IfOk result (λ answer.
             IfSome answer (IsFirstOf views.now (corner_front form corners.now ++ q ∷ o ∷ []))) }
         ensures none { IfOk result (λ answer.
@@ -526,25 +352,13 @@ impl Search {
         o: u32,
     ) -> Result<Option<Three>, Memory>
         requires crossing { IsCrossing form }
-        requires room { HasRoom views.now self.old.side }
-        requires growing { IsGrowing views.now corners.now
-            (connector (first_is_flat form) corners.now.i corners.now.p q)
-            self.old.side }
-        requires grown { HasSize views.now self.old.grown }
-        requires inside { AreInside views.now corners.now }
-        requires corners { AreCorners (entry views.now) corners.now.i corners.now.p corners.now.k
-            corners.now.j }
-        requires first_other { IsFirstOther (first_is_flat form) (entry views.now) corners.now.i
-            corners.now.p corners.now.k corners.now.j q }
-        requires first_line { IsLine (height views.now) views.now.width
-            (other_line (first_is_flat form) q) }
-        requires second_other { IsSecondOther (second_is_flat form) (entry views.now) corners.now.i
+        requires corners { HasCorners views.now corners.now }
+        requires held { HoldsFirst views.now form corners.now q self.old }
+        requires other { IsSecondOther (second_is_flat form) (entry views.now) corners.now.i
             corners.now.p corners.now.k corners.now.j o }
-        requires second_line { IsLine (height views.now) views.now.width
+        requires line { IsLine (height views.now) views.now.width
             (other_line (second_is_flat form) o) }
-        ensures side { self.new.side ≡ self.old.side }
-        ensures grown { OnOk result (HasSize views.now self.new.grown) }
-        ensures groups { self.new.groups ≡ self.old.groups }
+        ensures held { OnOk result (HoldsFirst views.now form corners.now q self.new) }
         ensures first { IfOk result (λ answer.
             IfSome answer (IsFirstOf views.now (corner_front form corners.now ++ q ∷ o ∷ []))) }
         ensures none { IfOk result (λ answer.
@@ -573,8 +387,7 @@ impl Search {
         requires inside { AreInside views.now corners.now }
         requires second { IsLine (height views.now) views.now.width second }
         requires line { IsLine (height views.now) views.now.width line }
-        ensures side { self.new.side ≡ self.old.side }
-        ensures groups { self.new.groups ≡ self.old.groups }
+        ensures kept { (self.new.side ≡ self.old.side) × (self.new.groups ≡ self.old.groups) }
         ensures room { OnOk result (HasRoom views.now self.new.grown) }
         ensures least { OnOk result ((start : List Line)
             → IsGrowing views.now corners.now start self.old.side
@@ -587,39 +400,6 @@ impl Search {
         self.grown.close_all(views, corners)?;
         Ok(leaves_second(views, &self.grown, corners, second))
     }
-}
-
-/// How many pairs of lines are gone over, once for each column j that may be in a second corner, sooner than other workers
-/// are started.
-const FEW_PAIRS: u64 = 1_000_000;
-
-// Whether a block is large enough for several workers.
-fn is_large(views: &RowsAndColumns<'_>, groups: &Groups, i: u32, p: u32, k: u32) -> bool
-    requires names { HasNames views.now groups.now }
-    requires row { i < height views.now }
-    requires column { p < views.now.width }
-    requires second_row { k < height views.now }
-{
-    let lines = u64::from(views.rows() + views.columns());
-    let columns = u64::from(count_second_columns(views, groups, i, p, k));
-    columns * lines * lines >= FEW_PAIRS
-}
-
-// How many columns can be in the second corner with row k.
-fn count_second_columns(views: &RowsAndColumns<'_>, groups: &Groups, i: u32, p: u32, k: u32) -> u32
-    requires names { HasNames views.now groups.now }
-    requires row { i < height views.now }
-    requires column { p < views.now.width }
-    requires second_row { k < height views.now }
-    ensures { result ≤ 1000 }
-{
-    let mut count = 0;
-    for j in 0..views.columns() {
-        if is_second_column(views, groups, i, p, k, j) {
-            count += 1;
-        }
-    }
-    count
 }
 
 // Whether row k can be in the second corner, beside the first one (i, p).
@@ -637,8 +417,8 @@ fn is_second_row(views: &RowsAndColumns<'_>, groups: &Groups, i: u32, p: u32, k:
     !groups.are_one(i, k) && !groups.are_one(views.rows() + p, k)
 }
 
-/// Whether column j can be in the second corner with row k.
-pub fn is_second_column(
+// Whether column j can be in the second corner with row k.
+fn is_second_column(
     views: &RowsAndColumns<'_>,
     groups: &Groups,
     i: u32,

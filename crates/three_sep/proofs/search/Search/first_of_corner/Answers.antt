@@ -1,35 +1,28 @@
 use Rattle.std.proofs.Common.{[], ◌∷◌, sym, arith, subst}
 use Rattle.three_sep.specs.declared.search.Search.{Search}
 use Rattle.cmr_base.specs.Seeds.{form_number}
-use Rattle.three_sep.specs.Sides.{HasSize}
-use Rattle.cuts.specs.Cuts.{HasNames, HoldTogether, IsCut}
+use Rattle.three_sep.specs.Searches.{IsSearchOf}
 use Rattle.three_sep.proofs.SearchLemmas.{found_some, none_more, level_ends, none_below_more, good_inside, no_good_second_row}
 use Rattle.three_sep.proofs.search.Search.first_of_corner.Goals as goal
 use Rattle.three_sep.proofs.search.Search.first_of_corner.Goals.{then-is_second_row+in_ok-three+in_default, else-is_second_row}
 
 pub returns-in-Some-clause-first : goal.returns-in-Some-clause-first
-returns-in-Some-clause-first g c = found_some c.args.views.now (form_number c.args.form ∷ c.args.i ∷ c.args.p ∷ []) c.loop-k.k c.in_ok-three.field-0 c.in-Some.three (omega arith) c.loop-k.invariant.2 c.in-Some.is c.in_ok-three.ensures.first
+returns-in-Some-clause-first c = found_some c.args.views.now (form_number c.args.form ∷ c.args.i ∷ c.args.p ∷ []) c.loop-k.k c.in_ok-three.field-0 c.in-Some.three (omega arith) c.loop-k.invariant.1 c.in-Some.is c.in_ok-three.ensures.first
 
 pub loop-k-preserved : goal.loop-k-preserved
-loop-k-preserved g c =
+loop-k-preserved c =
     let m = c.args.views.now in
     elim c.if-is_second_row.branch [
       | then-is_second_row+in_ok-three+in_default w ↦ (
-        subst (λ (s : Search). HasSize m s.side) (sym w.self-is) w.in_ok-three.ensures.side,
-        subst (λ (s : Search). HasSize m s.grown) (sym w.self-is) w.in_ok-three.ensures.grown,
-        none_more m (form_number c.args.form ∷ c.args.i ∷ c.args.p ∷ []) c.loop-k.k w.in_ok-three.field-0 c.loop-k.invariant.2 w.in_default.is w.in_ok-three.ensures.none,
-        subst (λ (s : Search). HasNames m s.groups) (sym w.self-is) w.in_ok-three.ensures.names,
-        subst (λ (s : Search). HoldTogether (IsCut m) m s.groups) (sym w.self-is) w.in_ok-three.ensures.together,
+        subst (λ (s : Search). IsSearchOf m s) (sym w.self-is) w.in_ok-three.ensures.search,
+        none_more m (form_number c.args.form ∷ c.args.i ∷ c.args.p ∷ []) c.loop-k.k w.in_ok-three.field-0 c.loop-k.invariant.1 w.in_default.is w.in_ok-three.ensures.none,
       )
       | else-is_second_row w ↦ (
-        subst (λ (s : Search). HasSize m s.side) (sym w.self-is) c.loop-k.invariant.0,
-        subst (λ (s : Search). HasSize m s.grown) (sym w.self-is) c.loop-k.invariant.1,
-        none_below_more m (form_number c.args.form ∷ c.args.i ∷ c.args.p ∷ []) c.loop-k.k c.loop-k.invariant.2 (no_good_second_row m c.args.form c.requires.crossing c.loop-k.self.groups c.args.i c.args.p c.loop-k.k c.loop-k.invariant.4 (c.is_second_row.ensures.no w.if-is_second_row.false)),
-        subst (λ (s : Search). HasNames m s.groups) (sym w.self-is) c.loop-k.invariant.3,
-        subst (λ (s : Search). HoldTogether (IsCut m) m s.groups) (sym w.self-is) c.loop-k.invariant.4,
+        subst (λ (s : Search). IsSearchOf m s) (sym w.self-is) c.loop-k.invariant.0,
+        none_below_more m (form_number c.args.form ∷ c.args.i ∷ c.args.p ∷ []) c.loop-k.k c.loop-k.invariant.1 (no_good_second_row m c.args.form c.requires.crossing c.loop-k.self.groups c.args.i c.args.p c.loop-k.k c.loop-k.invariant.0.together (c.is_second_row.ensures.no w.if-is_second_row.false)),
       )
     ]
 
 pub returns-clause-none : goal.returns-clause-none
-returns-clause-none g c = level_ends c.args.views.now (form_number c.args.form ∷ c.args.i ∷ c.args.p ∷ []) c.loop-k.k (omega arith) c.loop-k.invariant.2
+returns-clause-none c = level_ends c.args.views.now (form_number c.args.form ∷ c.args.i ∷ c.args.p ∷ []) c.loop-k.k (omega arith) c.loop-k.invariant.1
     (λ s S b g h. let k = (good_inside c.args.views.now s S g).row_two in let e = h.1.1.1.0 in let l = c.loop-k-test.false in let r = c.rows-k-end.ensures.rows in omega arith)

@@ -1,9 +1,7 @@
-use Rattle.std.proofs.Common.{sym, ap, arith, subst, Bool, ◌∙◌}
+use Rattle.std.proofs.Common.{ap, arith, subst, Bool, sym, ◌∙◌}
 use Rattle.three_sep.specs.declared.search.Search.{Search}
-use Rattle.three_sep.specs.declared.side.Side.{Side}
 use Rattle.cmr_base.specs.Separations.{first_is_flat}
-use Rattle.three_sep.specs.Sides.{HasSize}
-use Rattle.three_sep.specs.Searches.{corner_front, line_count}
+use Rattle.three_sep.specs.Searches.{IsSearchOf, corner_front, line_count}
 use Rattle.three_sep.proofs.SearchLemmas.{below_line, found_some, none_more, level_ends, none_below_more, no_good_corners, no_good_first, first_below}
 use Rattle.three_sep.proofs.search.Search.first_of_corners.Goals as goal
 use Rattle.three_sep.proofs.search.Search.first_of_corners.Goals.{then-branch+in_ok-three+in_default, else-branch}
@@ -15,12 +13,8 @@ pub hold_first-requires-clause-line : goal.hold_first-requires-clause-line
 hold_first-requires-clause-line c =
     below_line c.args.views.now (first_is_flat c.args.form) c.loop-q.q (let l = c.loop-q-test.true in let e = c.count_of-q-end.ensures.count ∙ ap (λ (z : Bool). line_count c.args.views.now z) c.first_is_flat.ensures in omega arith)
 
-pub first_of_connector-requires-clause-line : goal.first_of_connector-requires-clause-line
-first_of_connector-requires-clause-line c =
-    below_line c.args.views.now (first_is_flat c.args.form) c.loop-q.q (let l = c.loop-q-test.true in let e = c.count_of-q-end.ensures.count ∙ ap (λ (z : Bool). line_count c.args.views.now z) c.first_is_flat.ensures in omega arith)
-
 pub returns-in-Some-clause-first : goal.returns-in-Some-clause-first
-returns-in-Some-clause-first c = found_some c.args.views.now (corner_front c.args.form c.args.corners.now) c.loop-q.q c.in_ok-three.field-0 c.in-Some.three (omega arith) c.loop-q.invariant.2 c.in-Some.is c.in_ok-three.ensures.first
+returns-in-Some-clause-first c = found_some c.args.views.now (corner_front c.args.form c.args.corners.now) c.loop-q.q c.in_ok-three.field-0 c.in-Some.three (omega arith) c.loop-q.invariant.1 c.in-Some.is c.in_ok-three.ensures.first
 
 pub loop-q-preserved : goal.loop-q-preserved
 loop-q-preserved c =
@@ -28,20 +22,16 @@ loop-q-preserved c =
     let front = corner_front c.args.form c.args.corners.now in
     elim c.if-branch.branch [
       | then-branch+in_ok-three+in_default w ↦ (
-        subst (λ (s : Search). HasSize m s.side) (sym w.self-is) w.in_ok-three.ensures.side,
-        subst (λ (s : Search). HasSize m s.grown) (sym w.self-is) w.in_ok-three.ensures.grown,
-        none_more m front c.loop-q.q w.in_ok-three.field-0 c.loop-q.invariant.2 w.in_default.is w.in_ok-three.ensures.none,
-        ap (λ (s : Search). s.groups) w.self-is ∙ w.in_ok-three.ensures.groups ∙ c.in_ok-hold_first.ensures.groups ∙ c.loop-q.invariant.3,
+        subst (λ (s : Search). IsSearchOf m s) (sym w.self-is) w.in_ok-three.ensures.search,
+        none_more m front c.loop-q.q w.in_ok-three.field-0 c.loop-q.invariant.1 w.in_default.is w.in_ok-three.ensures.none,
       )
       | else-branch w ↦ (
-        subst (λ (s : Search). HasSize m s.side) (sym w.self-is) c.in_ok-hold_first.ensures.side,
-        subst (λ (s : Side). HasSize m s) (sym (ap (λ (s : Search). s.grown) w.self-is ∙ c.in_ok-hold_first.ensures.grown)) c.loop-q.invariant.1,
-        none_below_more m front c.loop-q.q c.loop-q.invariant.2 (no_good_first m c.args.form c.requires.crossing c.args.corners.now c.loop-q.q (c.in_ok-hold_first.ensures.no w.if-branch.false)),
-        ap (λ (s : Search). s.groups) w.self-is ∙ c.in_ok-hold_first.ensures.groups ∙ c.loop-q.invariant.3,
+        subst (λ (s : Search). IsSearchOf m s) (sym w.self-is) c.in_ok-hold_first.ensures.search,
+        none_below_more m front c.loop-q.q c.loop-q.invariant.1 (no_good_first m c.args.form c.requires.crossing c.args.corners.now c.loop-q.q (c.in_ok-hold_first.ensures.no w.if-branch.false)),
       )
     ]
 
 pub returns-clause-none : goal.returns-clause-none
-returns-clause-none c = level_ends c.args.views.now (corner_front c.args.form c.args.corners.now) c.loop-q.q (omega arith) c.loop-q.invariant.2
+returns-clause-none c = level_ends c.args.views.now (corner_front c.args.form c.args.corners.now) c.loop-q.q (omega arith) c.loop-q.invariant.1
     (λ s S b g h. let k = first_below c.args.views.now c.args.form c.args.corners.now s S b g h in
     let l = c.loop-q-test.false in let e = c.count_of-q-end.ensures.count ∙ ap (λ (z : Bool). line_count c.args.views.now z) c.first_is_flat.ensures in omega arith)

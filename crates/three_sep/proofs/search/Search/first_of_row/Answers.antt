@@ -1,38 +1,31 @@
 use Rattle.std.proofs.Common.{[], ◌∷◌, sym, arith, subst}
 use Rattle.three_sep.specs.declared.search.Search.{Search}
 use Rattle.cmr_base.specs.Seeds.{form_number}
-use Rattle.three_sep.specs.Sides.{HasSize}
-use Rattle.cuts.specs.Cuts.{HasNames, HoldTogether, IsCut}
+use Rattle.three_sep.specs.Searches.{IsSearchOf}
 use Rattle.three_sep.proofs.SearchLemmas.{found_some, none_more, level_ends, none_below_more, good_inside, no_good_corner, no_good_whole}
 use Rattle.three_sep.proofs.search.Search.first_of_row.Goals as goal
 use Rattle.three_sep.proofs.search.Search.first_of_row.Goals.{then-is_nonzero+in_ok-three+in_default, else-is_nonzero}
 
 pub returns-then-are_all_one-clause-none : goal.returns-then-are_all_one-clause-none
-returns-then-are_all_one-clause-none g c = no_good_whole c.args.views.now c.args.form c.requires.crossing c.args.self.now.groups c.args.i c.requires.names c.requires.together (c.are_all_one.ensures c.if-are_all_one.true)
+returns-then-are_all_one-clause-none c = no_good_whole c.args.views.now c.args.form c.requires.crossing c.args.self.now.groups c.args.i c.requires.search.names c.requires.search.together (c.are_all_one.ensures c.if-are_all_one.true)
 
 pub returns-in-Some-clause-first : goal.returns-in-Some-clause-first
-returns-in-Some-clause-first g c = found_some c.args.views.now (form_number c.args.form ∷ c.args.i ∷ []) c.loop-p.p c.in_ok-three.field-0 c.in-Some.three (omega arith) c.loop-p.invariant.2 c.in-Some.is c.in_ok-three.ensures.first
+returns-in-Some-clause-first c = found_some c.args.views.now (form_number c.args.form ∷ c.args.i ∷ []) c.loop-p.p c.in_ok-three.field-0 c.in-Some.three (omega arith) c.loop-p.invariant.1 c.in-Some.is c.in_ok-three.ensures.first
 
 pub loop-p-preserved : goal.loop-p-preserved
-loop-p-preserved g c =
+loop-p-preserved c =
     let m = c.args.views.now in
     elim c.if-is_nonzero.branch [
       | then-is_nonzero+in_ok-three+in_default w ↦ (
-        subst (λ (s : Search). HasSize m s.side) (sym w.self-is) w.in_ok-three.ensures.side,
-        subst (λ (s : Search). HasSize m s.grown) (sym w.self-is) w.in_ok-three.ensures.grown,
-        none_more m (form_number c.args.form ∷ c.args.i ∷ []) c.loop-p.p w.in_ok-three.field-0 c.loop-p.invariant.2 w.in_default.is w.in_ok-three.ensures.none,
-        subst (λ (s : Search). HasNames m s.groups) (sym w.self-is) w.in_ok-three.ensures.names,
-        subst (λ (s : Search). HoldTogether (IsCut m) m s.groups) (sym w.self-is) w.in_ok-three.ensures.together,
+        subst (λ (s : Search). IsSearchOf m s) (sym w.self-is) w.in_ok-three.ensures.search,
+        none_more m (form_number c.args.form ∷ c.args.i ∷ []) c.loop-p.p w.in_ok-three.field-0 c.loop-p.invariant.1 w.in_default.is w.in_ok-three.ensures.none,
       )
       | else-is_nonzero w ↦ (
-        subst (λ (s : Search). HasSize m s.side) (sym w.self-is) c.loop-p.invariant.0,
-        subst (λ (s : Search). HasSize m s.grown) (sym w.self-is) c.loop-p.invariant.1,
-        none_below_more m (form_number c.args.form ∷ c.args.i ∷ []) c.loop-p.p c.loop-p.invariant.2 (no_good_corner m c.args.form c.requires.crossing c.args.i c.loop-p.p (c.is_nonzero.ensures.no w.if-is_nonzero.false)),
-        subst (λ (s : Search). HasNames m s.groups) (sym w.self-is) c.loop-p.invariant.3,
-        subst (λ (s : Search). HoldTogether (IsCut m) m s.groups) (sym w.self-is) c.loop-p.invariant.4,
+        subst (λ (s : Search). IsSearchOf m s) (sym w.self-is) c.loop-p.invariant.0,
+        none_below_more m (form_number c.args.form ∷ c.args.i ∷ []) c.loop-p.p c.loop-p.invariant.1 (no_good_corner m c.args.form c.requires.crossing c.args.i c.loop-p.p (c.is_nonzero.ensures.no w.if-is_nonzero.false)),
       )
     ]
 
 pub returns-clause-none : goal.returns-clause-none
-returns-clause-none g c = level_ends c.args.views.now (form_number c.args.form ∷ c.args.i ∷ []) c.loop-p.p (omega arith) c.loop-p.invariant.2
+returns-clause-none c = level_ends c.args.views.now (form_number c.args.form ∷ c.args.i ∷ []) c.loop-p.p (omega arith) c.loop-p.invariant.1
     (λ s S b g h. let k = (good_inside c.args.views.now s S g).column_one in let e = h.1.1.0 in let l = c.loop-p-test.false in let r = c.columns-p-end.ensures.columns in omega arith)

@@ -1,45 +1,28 @@
 use Rattle.std.proofs.Common.{[], ◌∷◌, sym, arith, subst}
 use Rattle.three_sep.specs.declared.search.Search.{Search}
 use Rattle.cmr_base.specs.Seeds.{form_number}
-use Rattle.three_sep.specs.Sides.{HasSize}
-use Rattle.cuts.specs.declared.groups.Groups.{Groups}
-use Rattle.cuts.specs.Cuts.{HasNames, HoldTogether, IsCut}
+use Rattle.three_sep.specs.Searches.{IsSearchOf}
 use Rattle.three_sep.proofs.SearchLemmas.{found_some, none_more, level_ends, none_below_more, good_inside, no_good_second_column}
-use Rattle.three_sep.proofs.BlockLemmas.{on_ok}
 use Rattle.three_sep.proofs.search.Search.first_of_second_row.Goals as goal
 use Rattle.three_sep.proofs.search.Search.first_of_second_row.Goals.{then-is_second_column+in_ok-three+in_default, else-is_second_column}
 
 pub returns-in-Some-clause-first : goal.returns-in-Some-clause-first
-returns-in-Some-clause-first g c = found_some c.args.views.now (form_number c.args.form ∷ c.args.i ∷ c.args.p ∷ c.args.k ∷ []) c.loop-j.j c.in_ok-three.field-0 c.in-Some.three (omega arith) c.loop-j.invariant.2 c.in-Some.is c.in_ok-three.ensures.first
+returns-in-Some-clause-first c = found_some c.args.views.now (form_number c.args.form ∷ c.args.i ∷ c.args.p ∷ c.args.k ∷ []) c.loop-j.j c.in_ok-three.field-0 c.in-Some.three (omega arith) c.loop-j.invariant.1 c.in-Some.is c.in_ok-three.ensures.first
 
 pub loop-j-preserved : goal.loop-j-preserved
-loop-j-preserved g c =
+loop-j-preserved c =
     let m = c.args.views.now in
     elim c.if-is_second_column.branch [
       | then-is_second_column+in_ok-three+in_default w ↦ (
-        subst (λ (s : Search). HasSize m s.side) (sym w.self-is) w.in_ok-three.ensures.side,
-        subst (λ (s : Search). HasSize m s.grown) (sym w.self-is) w.in_ok-three.ensures.grown,
-        none_more m (form_number c.args.form ∷ c.args.i ∷ c.args.p ∷ c.args.k ∷ []) c.loop-j.j w.in_ok-three.field-0 c.loop-j.invariant.2 w.in_default.is w.in_ok-three.ensures.none,
-        subst (λ (s : Search). HasNames m s.groups) (sym w.self-is) (subst (λ (g : Groups). HasNames m g) (sym w.in_ok-three.ensures.groups) c.loop-j.invariant.3),
-        subst (λ (s : Search). HoldTogether (IsCut m) m s.groups) (sym w.self-is) (subst (λ (g : Groups). HoldTogether (IsCut m) m g) (sym w.in_ok-three.ensures.groups) c.loop-j.invariant.4),
+        subst (λ (s : Search). IsSearchOf m s) (sym w.self-is) w.in_ok-three.ensures.search,
+        none_more m (form_number c.args.form ∷ c.args.i ∷ c.args.p ∷ c.args.k ∷ []) c.loop-j.j w.in_ok-three.field-0 c.loop-j.invariant.1 w.in_default.is w.in_ok-three.ensures.none,
       )
       | else-is_second_column w ↦ (
-        subst (λ (s : Search). HasSize m s.side) (sym w.self-is) c.loop-j.invariant.0,
-        subst (λ (s : Search). HasSize m s.grown) (sym w.self-is) c.loop-j.invariant.1,
-        none_below_more m (form_number c.args.form ∷ c.args.i ∷ c.args.p ∷ c.args.k ∷ []) c.loop-j.j c.loop-j.invariant.2 (no_good_second_column m c.args.form c.requires.crossing c.loop-j.self.groups c.args.i c.args.p c.args.k c.loop-j.j c.loop-j.invariant.4 (c.is_second_column.ensures.no w.if-is_second_column.false)),
-        subst (λ (s : Search). HasNames m s.groups) (sym w.self-is) c.loop-j.invariant.3,
-        subst (λ (s : Search). HoldTogether (IsCut m) m s.groups) (sym w.self-is) c.loop-j.invariant.4,
+        subst (λ (s : Search). IsSearchOf m s) (sym w.self-is) c.loop-j.invariant.0,
+        none_below_more m (form_number c.args.form ∷ c.args.i ∷ c.args.p ∷ c.args.k ∷ []) c.loop-j.j c.loop-j.invariant.1 (no_good_second_column m c.args.form c.requires.crossing c.loop-j.self.groups c.args.i c.args.p c.args.k c.loop-j.j c.loop-j.invariant.0.together (c.is_second_column.ensures.no w.if-is_second_column.false)),
       )
     ]
 
 pub returns-clause-none : goal.returns-clause-none
-returns-clause-none g c = level_ends c.args.views.now (form_number c.args.form ∷ c.args.i ∷ c.args.p ∷ c.args.k ∷ []) c.loop-j.j (omega arith) c.loop-j.invariant.2
+returns-clause-none c = level_ends c.args.views.now (form_number c.args.form ∷ c.args.i ∷ c.args.p ∷ c.args.k ∷ []) c.loop-j.j (omega arith) c.loop-j.invariant.1
     (λ s S b g h. let k = (good_inside c.args.views.now s S g).column_two in let e = h.1.1.1.1.0 in let l = c.loop-j-test.false in let r = c.columns-j-end.ensures.columns in omega arith)
-
-pub returns-in-Some-clause-together : goal.returns-in-Some-clause-together
-returns-in-Some-clause-together g c = subst (λ (g : Groups). HoldTogether (IsCut c.args.views.now) c.args.views.now g) (sym c.in_ok-three.ensures.groups) c.loop-j.invariant.4
-
-pub returns-then-is_large-clause-together : goal.returns-then-is_large-clause-together
-returns-then-is_large-clause-together g c =
-    let m = c.args.views.now in
-    on_ok c.first_of_block.result (subst (λ (s : Groups). HoldTogether (IsCut m) m s) (sym c.first_of_block.ensures.groups) c.in_ok-ask.ensures.together)
