@@ -1,5 +1,5 @@
 -- Sums and numbers of a part of a list.
-use Rattle.std.proofs.Common.{◌≡◌, ◌≢◌, ◌<◌, ◌≤◌, ◌+◌, ◌^◌, ◌∙◌, inl, inr, ℕ, suc, Bool, true, false, cond, not, nat_lt, ℤ, pos, ◌+ℤ◌, List, [], ◌∷◌, length, refl, ap, sym, arith}
+use Rattle.std.proofs.Common.{◌≡◌, ◌≢◌, ◌<◌, ◌≤◌, ◌+◌, ◌^◌, ◌∙◌, inl, inr, ℕ, Bool, true, false, cond, not, nat_lt, ℤ, pos, ◌+ℤ◌, List, [], ◌∷◌, length, refl, ap, sym, arith}
 use Rattle.std.specs.Prelude.{filter}
 use Rattle.std.specs.List.{AllByRecursion}
 use Rattle.std.proofs.Math.Pow.{pow_pos}
@@ -67,10 +67,6 @@ part_one false low high x ys l h r = rises_from_lower low (x + 1) high ys (omega
 pub rises-part : (p : ℕ → Bool) (low high : ℕ) (xs : List ℕ) → RisesIn low high xs → RisesIn low high (filter p xs)
 rises-part p low high [] r = tt
 rises-part p low high (x ∷ xs) r = part_one (p x) low high x (filter p xs) r.0 r.1 (rises-part p (x + 1) high xs r.2)
-
-short_one : (b : Bool) (x : ℕ) (ys : List ℕ) (n : ℕ) → length ys ≤ n → length (cond b (x ∷ ys) ys) ≤ suc n
-short_one true x ys n h = omega arith
-short_one false x ys n h = omega arith
 
 fewer_one : (b c : Bool) (x : ℕ) (ys zs : List ℕ) → (b ≡ true → c ≡ true) → length ys ≤ length zs → length (cond b (x ∷ ys) ys) ≤ length (cond c (x ∷ zs) zs)
 fewer_one true true x ys zs k h = omega arith

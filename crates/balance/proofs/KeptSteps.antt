@@ -85,9 +85,6 @@ module _ (m : Matrix) (is : IsMatrix m) (rows : List ℕ) where
 
 -- ---- one column after another
 
-pub none_kept : (m : Matrix) (rows columns : List ℕ) → columns ≡ [] → AreKeptBelow m rows 0 columns
-none_kept m rows columns e = rw e (record { rising = λ k l. absurd (omega arith); members = λ y. ((λ h. absurd h), (λ w. let l = w.0 in absurd (omega arith))) })
-
 -- what is kept next is above the others
 pub above : (m : Matrix) (rows : List ℕ) (bound : ℕ) (columns : List ℕ) → AreKeptBelow m rows bound columns → (k : ℕ) → k < length columns → get_or columns k 0 < bound
 above m rows bound columns b k l = ((b.members (get_or columns k 0)).0 (in_at columns k l)).0

@@ -191,9 +191,6 @@ violator_broken a chain steps followed sizes e h l none = record {
   );
 }
 
-pub sound_chain : (a : Matrix) (chain : SizedChain) (steps : List SignStep) (followed : Followed) → HasSizes a chain → steps ≡ chain.chain.steps → HasFollowed a steps followed → ¬ (followed.kept < length steps) → IsSignedViolator a followed.signs chain.chain.violator → IsSoundChain a chain followed.signs
-sound_chain a chain steps followed sizes e h l v = record { sizes = sizes; steps = subst (λ x. LeadTo (KeepsRule a) (unsigned a) x followed.signs) e (all_kept a steps followed h l); violator = v }
-
 pub signs_of_sound : (a : Matrix) (chain : SizedChain) (steps : List SignStep) (followed : Followed) (signs : Matrix) → IsMatrix a → steps ≡ chain.chain.steps → HasFollowed a steps followed → IsSoundChain a chain signs → IsSoundChain a chain followed.signs
 signs_of_sound a chain steps followed signs is e h sound = go (subst (λ x. HasFollowed a x followed) e h)
   where

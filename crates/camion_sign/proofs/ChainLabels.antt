@@ -18,16 +18,6 @@ place_inside : (a : Matrix) (labels : List ℕ) (x : Line) → length labels ≡
 place_inside a labels (Row row) e l = omega arith
 place_inside a labels (Column column) e l = omega arith
 
--- each line of its own
-pub own_labels : (a s : Matrix) (labels : List ℕ) → ((i j : ℕ) → entry s i j ≡ pos 0) → length labels ≡ height a + a.width → ((k : ℕ) → k < length labels → get_or labels k 0 ≡ k) → AreLabels a s labels
-own_labels a s labels zeros long own = record { one_each = long; joined = λ i j h. absurd (h (zeros i j)); linked = λ x y l m e. ([], same x y l m (sym (own (label_place a x) (place_inside a labels x long l)) ∙ e ∙ own (label_place a y) (place_inside a labels y long m))) }
-  where
-    same : (x y : Line) → IsLineOf a x → IsLineOf a y → label_place a x ≡ label_place a y → x ≡ y
-    same (Row i) (Row k) l m e = ap Row e
-    same (Row i) (Column j) l m e = absurd (omega arith)
-    same (Column j) (Row i) l m e = absurd (omega arith)
-    same (Column j) (Column k) l m e = let q : j ≡ k = omega arith in ap Column q
-
 -- linked lines have one label
 one_label : (a s : Matrix) (labels : List ℕ) → AreLabels a s labels → (x y : Line) → AreJoined s x y → label_in a labels x ≡ label_in a labels y
 one_label a s labels w (Row i) (Row k) j = absurd j

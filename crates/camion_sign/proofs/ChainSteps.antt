@@ -2,30 +2,15 @@
 use Rattle.std.proofs.Common.{◌≡◌, ◌∙◌, ◌∷◌, [], ◌++◌, ℕ, List, length, map, Result, Ok, Err, false, refl, ap, sym}
 use Rattle.std.specs.Prelude.{fold, codes, OnOk}
 use Rattle.std.specs.Fmt.{decimal}
-use Rattle.cmr_base.specs.declared.line_set.LineSet.{LineSet}
 use Rattle.text_fields.specs.Words.{Text}
 use Rattle.text_fields.specs.Written.{Draft, with_word, with_line, with_end}
 use Rattle.text_fields.proofs.Lines.{line_written, lines_written}
 use Rattle.camion_sign.specs.declared.step.SignStep.{SignStep}
 use Rattle.camion_sign.specs.declared.step.SizedChain.{SizedChain}
-use Rattle.camion_sign.specs.ChainTexts.{next_step, another_step, line_set_words, step_words, chain_lines, chain_text, number_of_line}
+use Rattle.camion_sign.specs.ChainTexts.{next_step, another_step, line_set_words, step_words, chain_lines, chain_text}
 
 pub step_made : (height width : ℕ) (steps more : List SignStep) (step : SignStep) (text rest : Text) → next_step height width text ≡ Ok (step, rest) → more ≡ steps ++ step ∷ [] → another_step height width steps text ≡ Ok (more, rest)
 step_made height width steps more step text rest e f = rw (e, f) refl
-
-fold-words : (draft : Draft) (words more : List (List ℕ)) → fold with_word draft (words ++ more) ≡ fold with_word (fold with_word draft words) more
-fold-words draft [] more = refl
-fold-words draft (word ∷ words) more = fold-words (with_word draft word) words more
-
--- the two counts and the two lists of a line set
-pub line_set_put : (start counted rows columns : Draft) (lines : LineSet) → counted ≡ with_word (with_word start (decimal (length lines.rows))) (decimal (length lines.columns)) → rows ≡ fold with_word counted (map number_of_line lines.rows) → columns ≡ fold with_word rows (map number_of_line lines.columns)
-    → columns ≡ fold with_word start (line_set_words lines)
-line_set_put start counted rows columns lines e f g =
-    g ∙ ap (λ d. fold with_word d (map number_of_line lines.columns)) (f ∙ ap (λ d. fold with_word d (map number_of_line lines.rows)) e)
-    ∙ sym (fold-words (with_word (with_word start (decimal (length lines.rows))) (decimal (length lines.columns))) (map number_of_line lines.rows) (map number_of_line lines.columns))
-
-pub words_then : (start middle end : Draft) (words more : List (List ℕ)) → middle ≡ fold with_word start words → end ≡ fold with_word middle more → end ≡ fold with_word start (words ++ more)
-words_then start middle end words more e f = f ∙ ap (λ d. fold with_word d more) e ∙ sym (fold-words start words more)
 
 fold-lines : (draft : Draft) (lines more : List (List (List ℕ))) → fold with_line draft (lines ++ more) ≡ fold with_line (fold with_line draft lines) more
 fold-lines draft [] more = refl

@@ -104,16 +104,6 @@ module _ (m : Matrix) (t c d : ℕ) (walk : Walk) (w : HasWalked m t c walk) (or
         (λ f. v.1 (subst (IsFaultAt (entry m) t c d) (place_unique (entry m) t c d f.0 lines f.1.place (is_place first last lines k)) f.1)),
       )
 
--- a place whose row is 0 in one of its columns has no fault, nor has one that no path makes
-pub none_zero : (m : Matrix) (t c d : ℕ) → entry m t d ≡ pos 0 → HasNoFaultAt m t c d
-none_zero m t c d z lines f = f.place.last z
-
-pub none_order : (m : Matrix) (t c d : ℕ) → d < c + 1 → HasNoFaultAt m t c d
-none_order m t c d l lines f = let o = f.place.order in omega arith
-
-pub none_unmet : (m : Matrix) (t c d : ℕ) (walk : Walk) → HasWalked m t c walk → place_in walk.places.items d ≡ 4294967295 → HasNoFaultAt m t c d
-none_unmet m t c d walk w e lines f = w.none d lines f.place.order f.place.last e f.place.is_path
-
 pub column_fault : (m : Matrix) (t c d : ℕ) (lines : List ℕ) → (path : List ℕ) × IsFaultAt (entry m) t c d path → IsCyclePlace (entry m) t c d lines → ((y : ℕ) → y < d → HasNoFaultAt m t c y) → IsColumnFault m t c d lines
 column_fault m t c d lines f place none = record { fault = subst (IsFaultAt (entry m) t c d) (place_unique (entry m) t c d f.0 lines f.1.place place) f.1; least = none }
 

@@ -83,9 +83,6 @@ pub record AreCut (m : Matrix) (places starts : List ℕ) (row : ℕ) : Type 0 w
   pub full : IsFull places starts
   pub lists : cut places starts ≡ map (nonzeros_from 0) (take row m.rows)
 
-pub no_rows : (m : Matrix) (places starts : List ℕ) → places ≡ [] → starts ≡ 0 ∷ [] → AreCut m places starts 0
-no_rows m places starts p s = rw (p, s) (record { full = record { starts_are = omega arith; some = omega arith; last = λ k e. let z : k ≡ 0 = omega arith in rw z refl }; lists = refl })
-
 pub one_row : (m : Matrix) (places starts places2 starts2 : List ℕ) (row count : ℕ) → AreCut m places starts row → row < height m → places2 ≡ places ++ nonzeros_from 0 (row_of m row) → starts2 ≡ starts ++ count ∷ [] → count ≡ length places2
     → AreCut m places2 starts2 (row + 1)
 one_row m places starts places2 starts2 row count h l p s n = rw (s, n, p) (record {

@@ -27,9 +27,6 @@ more_columns [] from found some h = absurd (omega arith)
 more_columns (r ∷ []) from found some h = absurd (omega arith)
 more_columns (r ∷ j ∷ rest) from found some h = h
 
-pub nothing_built : (P : ℕ → Type 0) (list : List ℕ) → list ≡ [] → IsBuilt P 0 list
-nothing_built P list e = rw e (record { rising = λ k l. absurd (omega arith); members = λ y. ((λ h. absurd h), (λ w. let l = w.0 in absurd (omega arith))) })
-
 -- what is pushed is above the others
 pub above : (P : ℕ → Type 0) (x : ℕ) (list : List ℕ) → IsBuilt P x list → (k : ℕ) → k < length list → get_or list k 0 < x
 above P x list b k l = ((b.members (get_or list k 0)).0 (in_at list k l)).0
@@ -43,19 +40,7 @@ pushed P x list list2 b p e = rw e (record {
   );
 })
 
-pub passed_by : (P : ℕ → Type 0) (x : ℕ) (list list2 : List ℕ) → IsBuilt P x list → (P x → ⊥) → list2 ≡ list → IsBuilt P (x + 1) list2
-passed_by P x list list2 b p e = rw e (record {
-  rising = b.rising;
-  members = λ y. (
-    (λ h. let w = (b.members y).0 h in (let l = w.0 in omega arith, w.1)),
-    (λ w. (b.members y).1 (elim (cases_eq y x) [ inl q ↦ absurd (p (subst P q w.1)) | inr d ↦ (let l = w.0 in omega arith) ], w.1)),
-  );
-})
-
 -- ---- lines gathered by taking the least again and again
-
-pub start_gathering : (lines : List ℕ) (bound : ℕ) (next : Option ℕ) (found : List ℕ) → found ≡ [] → IsLeastFrom lines 0 next → IsGathering lines bound next found
-start_gathering lines bound next found e least = record { from = 0; inside = omega arith; built = nothing_built (λ line. IsIn line lines) found e; least = least }
 
 -- up to the least line there is no other
 built_up : (lines found : List ℕ) (from to : ℕ) → from ≤ to → ((x : ℕ) → IsIn x lines → x < to → x < from) → IsBuilt (λ line. IsIn line lines) from found → IsBuilt (λ line. IsIn line lines) to found
@@ -153,9 +138,6 @@ cycle_fault_is m t c d lines R C {high = high} {wide = wide} is f h w rows colum
     column_low j (inl e) = let l = steps.within m t c is high_t f.fault.place.first in omega arith
     column_low j (inr (inl e)) = let l = steps.within m t d is high_t f.fault.place.last in omega arith
     column_low j (inr (inr g)) = let l = path_columns_low m t c d lines is high_t f.fault.place.is_path j g in omega arith
-
-pub built_to : (P : ℕ → Type 0) (x size : ℕ) (list : List ℕ) → IsBuilt P x list → size ≤ x → x ≤ size → IsBuilt P size list
-built_to P x size list b l k = let e : x ≡ size = omega arith in subst (λ (n : ℕ). IsBuilt P n list) e b
 
 -- all of it, with the lines as the two calls were given them
 pub fault_lines : (m : Matrix) (o : Option Fault) (f : Fault) (rows_of columns_of R C : List ℕ) {high wide : ℕ} → IsMatrix m → o ≡ Some f → MatchOption o (HasNoCycleFault (entry m)) (λ f. IsFirstFault m f.row f.first f.last f.lines.items)

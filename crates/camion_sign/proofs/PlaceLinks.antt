@@ -1,11 +1,10 @@
 -- Which pairs of columns make cycle places, as walks find it out.
 use Rattle.std.proofs.Common.{◌≡◌, ◌≢◌, ◌∙◌, ◌<◌, ◌+◌, ◌++◌, ℕ, ℤ, pos, Bool, true, false, Some, List, [], ◌∷◌, length, replicate, set, get_or, inl, inr, refl, sym, ap, subst, arith}
 use Rattle.std.proofs.lemmas.Bool.{cases_eq, cases_lt}
-use Rattle.std.proofs.lemmas.List.{get_or-set_other, length-replicate, length-set}
-use Rattle.cmr_base.specs.Matrix.{Matrix, height, entry, with_entry, IsMatrix, IsEntry}
+use Rattle.std.proofs.lemmas.List.{get_or-set_other, length-set}
+use Rattle.cmr_base.specs.Matrix.{Matrix, height, entry, with_entry, IsEntry}
 use Rattle.cmr_base.specs.CyclePlaces.{IsCyclePlace}
 use Rattle.cmr_base.proofs.Entries.{height-with_entry, entry-with_entry_same, entry-with_entry_other_column, entry-with_entry_other_row, is_matrix-with_entry}
-use Rattle.cmr_base.proofs.PlaneSteps.{is_matrix-zero}
 use Rattle.camion_sign.specs.declared.walk.Walk.{Walk}
 use Rattle.camion_sign.specs.Walks.{HasWalked, step_at, place_in}
 use Rattle.camion_sign.specs.declared.row_places.RowPlaces.{RowPlaces}
@@ -55,13 +54,6 @@ module _ (m links : Matrix) (t c last : ℕ) (square : AreSquare m links) (tells
 
     pub note_others : (a b : ℕ) → a ≢ c → entry (with_entry links c last z) a b ≡ entry links a b
     note_others a b d = entry-with_entry_other_row links c last z a b d
-
-pub zeros_square : (m links : Matrix) → IsMatrix m → links ≡ record { rows = replicate m.width (replicate m.width (pos 0)); width = m.width } → AreSquare m links
-zeros_square m links is e = subst (AreSquare m) (sym e) (record {
-  matrix = is_matrix-zero m.width m.width (let w = is.width_in in omega (arith, w)) is.width_in;
-  links_height = length-replicate m.width (replicate m.width (pos 0));
-  links_width = refl;
-})
 
 abbrev pub zeros : ℕ → ℕ → Matrix
 zeros n k = record { rows = replicate n (replicate k (pos 0)); width = k }

@@ -56,20 +56,6 @@ module _ (a s : Matrix) (is : IsMatrix a) (row column : ℕ) (v : ℤ) (u : IsSi
   pub fewer_more : (after : Matrix) → after ≡ with_entry s row column v → unsigned_before a after row a.width < unsigned_before a s row a.width
   fewer_more after g = subst (λ x. unsigned_before a x row a.width < unsigned_before a s row a.width) (sym g) (fewer_unsigned a s (with_entry s row column v) row column v u more here a.width (column_in a row column is.rectangular here.one))
 
--- after the last one of a row
-pub next_row : (a : Matrix) (row : ℕ) (signing : Signing) → IsMatrix a → IsAtRow a row signing → ((d : ℕ) → ¬ (IsUnsignedOne a signing.signs row d)) → IsAtRow a (row + 1) signing
-next_row a row signing is state done = record {
-  signs = state.signs;
-  turn = record {
-    earlier = λ i j l one z. elim (cases_lt i row) [
-      | inl lt ↦ state.turn.earlier i j lt one z
-      | inr ge ↦ let e : i ≡ row = omega arith in done j (record { one = subst (λ x. entry a x j ≢ pos 0) e one; no_sign = subst (λ x. entry signing.signs x j ≡ pos 0) e z })
-    ];
-    later = λ i j l. state.turn.later i j (omega arith);
-  };
-  steps = state.steps;
-}
-
 pub start_state : (a : Matrix) (signing : Signing) → signing.signs ≡ unsigned a → signing.steps ≡ [] → IsAtRow a 0 signing
 start_state a signing e f = record {
   signs = subst (AreSigns a) (sym e) (unsigned_signs a);

@@ -243,12 +243,3 @@ stopped_ends tool held tells calm reads failed (stops.TooLong name) h =
 stopped_ends tool held tells calm reads failed (stops.BadText name kind place) h = absurd h
 stopped_ends tool held tells calm reads failed (stops.CannotRead name) h = h
 stopped_ends tool held tells calm reads failed stops.Memory h = tt
-
--- an end with the status of a device comes from a stop
-pub answered_no_device : (Reports : Report → Type 0) (ended : Result Outcome Stop) → IsDecision Reports ended → (ended_report ended).status ≡ failure_status failures.Device → ⊥
-answered_no_device Reports (Ok outcome) d e = answered_or_failed (answer_status outcome.answer) outcome.answer failures.Device refl e
-answered_no_device Reports (Err stops.BadWords) d e = d
-answered_no_device Reports (Err (stops.TooLong name)) d e = d
-answered_no_device Reports (Err (stops.BadText name kind place)) d e = omega arith
-answered_no_device Reports (Err (stops.CannotRead name)) d e = d
-answered_no_device Reports (Err stops.Memory) d e = omega arith

@@ -93,14 +93,6 @@ compose_lawful o = pair_lawful (ComposeReports o) (ComposeSays o) (λ first seco
 
 -- ---- why there is no sum
 
-pub unconnected : (kind : SumKind) (first second : Matrix) → IsCauseOf kind first second errors.BadConnector → ¬ (HaveSum kind first second)
-unconnected kinds.One first second cause = cause
-unconnected kinds.Two first second cause = cause
-unconnected kinds.Delta first second cause = cause
-unconnected kinds.YForm first second cause = cause
-unconnected kinds.Mixed first second cause = cause
-unconnected kinds.Concentrated first second cause = cause
-
 pub not_ternary : (kind : SumKind) (first second : Matrix) → IsCauseOf kind first second errors.BadEntry → HaveSum kind first second × ¬ (HasTernaryEntries (sum_of kind first second))
 not_ternary kinds.One first second cause = absurd cause
 not_ternary kinds.Two first second cause = absurd cause

@@ -1,8 +1,7 @@
 -- Numbers of lines.
-use Rattle.std.proofs.Common.{◌≡◌, ◌<◌, ◌≤◌, ◌+◌, ◌-◌, ◌*◌, ◌∙◌, ℕ, zero, suc, zero-le, Bool, false, cond, List, ◌∷◌, length, get_or, take, drop, Ok, Err, ap, sym, subst, arith}
+use Rattle.std.proofs.Common.{◌≡◌, ◌<◌, ◌≤◌, ◌+◌, ◌-◌, ◌*◌, ◌∙◌, ℕ, suc, Bool, false, cond, List, ◌∷◌, length, get_or, take, drop, Ok, Err, ap, sym, arith}
 use Rattle.std.proofs.lemmas.List.{get_or-take, get_or-drop, length-take-le, length-drop}
 use Rattle.std.proofs.Math.Nat.{suc-mul, mul-le-mul_right}
-use Rattle.std.specs.List.Sorted.{IsStrictlyIncreasing}
 use Rattle.text_fields.specs.Words.{Text}
 use Rattle.text_fields.specs.Numbers.{count_in}
 use Rattle.text_fields.specs.Reading.{field}
@@ -39,10 +38,3 @@ row_part width start taken fits text =
 
 pub row_fits : (row rows width : ℕ) → 0 < row → row ≤ rows → (row - 1) * width + width ≤ rows * width
 row_fits row rows width above within = let next : suc (row - 1) ≡ row = omega arith in omega (arith, suc-mul (row - 1) width, ap (λ k. k * width) next, mul-le-mul_right width within)
-
-rising_at : (lines : List ℕ) → IsStrictlyIncreasing lines → (k : ℕ) → k < length lines → k ≤ get_or lines k 0
-rising_at lines rising zero h = zero-le
-rising_at lines rising (suc k) h =
-    let next : k + 1 ≡ suc k = omega arith in
-    let above : get_or lines k 0 < get_or lines (suc k) 0 = subst (λ i. get_or lines k 0 < get_or lines i 0) next (rising k (omega arith)) in
-    omega (arith, rising_at lines rising k (omega arith))

@@ -124,18 +124,6 @@ some_left count line half w l out =
     let b : half.left ≡ suc (number_of_lines (λ x. not (get_or (set half.inside.items line true) x false)) count) = w.left ∙ left_less half.inside.items line count l low out in
     omega arith
 
-pub added_before : (count line : ℕ) (half : Half) → IsHalf count half → is_in half line ≡ true → HasAdded count line half half
-added_before count line half w e = record {
-  whole = w;
-  line_in = e;
-  kept = λ x h. h;
-  only = λ x h. inl h;
-  news = λ x h. inl h;
-  waits = λ x h. h;
-  room_same = refl;
-  seen_same = refl;
-}
-
 pub takes : (count line : ℕ) (before after : Half) → IsHalf count before → before.fresh.items ≡ after.fresh.items ++ line ∷ [] → after.inside ≡ before.inside → after.seen ≡ before.seen → after.left ≡ before.left
     → HasTaken count line before after
 takes count line before after w fresh inside seen left =
@@ -267,12 +255,6 @@ module _ (m : Matrix) (row : ℕ) (factor : ℤ) (model : ℕ) where
       ]
 
 -- ---- the start
-
--- past the lines no test is true
-pub past_false : (xs : List Bool) (x : ℕ) → get_or xs x false ≡ true → x < length xs
-past_false [] x e = absurd (not_both false e refl)
-past_false (b ∷ xs) zero e = omega arith
-past_false (b ∷ xs) (suc x) e = let k = past_false xs x e in omega arith
 
 pub cleared : (count n : ℕ) (after : Half) → count ≤ 1000 → after.inside.items ≡ replicate n false → length after.inside.items ≡ count → HaveSize count after.seen
     → ((x : ℕ) → has_column after.seen.seen.items x ≡ false) → after.left ≡ length after.inside.items → after.fresh.items ≡ [] → IsHalf count after

@@ -31,7 +31,3 @@ is_same_sum e a b x y z he ha hb ex ey ez =
       (λ t. sym ex ∙ sym (kept_entry e he) ∙ ap (λ (n : ℕ). to_z w8 n) (eq_of (of_z w8 e) (of_z w8 (to_z w8 (of_z w8 a) +ℤ to_z w8 (of_z w8 b))) t) ∙ ap (λ (v : ℤ). to_z w8 (of_z w8 v)) whole ∙ sum_kept a b ha hb ∙ ap₂ (λ (u v : ℤ). u +ℤ v) ey ez),
       λ same. is_eq (of_z w8 e) (of_z w8 (to_z w8 (of_z w8 a) +ℤ to_z w8 (of_z w8 b))) (ap (λ (v : ℤ). of_z w8 v) (ex ∙ same ∙ sym (ap₂ (λ (u v : ℤ). u +ℤ v) ey ez) ∙ sym whole)),
     )
-
--- the factors of the parts of a column
-pub part_is : (f a b x y : ℤ) → f ≡ a *ℤ b → a ≡ x → b ≡ y → f ≡ x *ℤ y
-part_is f a b x y e ea eb = e ∙ ap₂ (λ (u v : ℤ). u *ℤ v) ea eb

@@ -2,7 +2,6 @@
 // line feed, and lines of a matrix are counted from 0.
 ghost use Rattle.std.specs.Prelude.{◌≤◌, IfOk};
 ghost use Rattle.cmr_base.specs.LineSets.{AllBelow};
-ghost use Rattle.cmr_base.specs.Matrix.{IsEntry};
 ghost use Rattle.cmr_base.specs.Trees.{IsBinary};
 
 use cmr_base::{Indices, LineSet, Matrix, Memory};
@@ -60,17 +59,6 @@ fn mark_row(ones: &mut Matrix, entries: &Matrix, row: u32)
         if row < entries.rows() && entries.entry(row, column) == 1 {
             mark(ones, row, column);
         }
-    }
-}
-
-/// The entry at a place, and 0 outside the matrix.
-pub fn entry_at(matrix: &Matrix, row: u32, column: u32) -> i8
-    ensures { IsEntry result }
-{
-    if row < matrix.rows() && column < matrix.columns() {
-        matrix.entry(row, column)
-    } else {
-        0
     }
 }
 
