@@ -24,9 +24,9 @@ use Rattle.cmr_base.specs.Seeds.{IsLine, form_number, line_number, IsBefore}
 use Rattle.three_sep.specs.NumberedSeeds.{Seed, Among, HasAll, HasNone, count, inside, connector, IsFirstOther, IsSecondOther, AreCorners, IsCrossing, IsGoodSeed, seed_key, HasLines, seed_of}
 use Rattle.three_sep.specs.Halves.{is_in, IsHalf, AreSame}
 use Rattle.three_sep.specs.Sides.{set_of, HasRoom, HasSize, AreInside, IsGrowing, IsGrowingBy, IsLeast, start_lines}
-use Rattle.cuts.specs.Cuts.{IsCutAt, IsCut, HasNames, HoldTogether}
+use Rattle.cuts.specs.Cuts.{IsCutAt, IsCut, HasNames, HoldTogether, name_of}
 use Rattle.three_sep.specs.Cuts.{HasNoCutAt}
-use Rattle.three_sep.specs.Searches.{BeginsWith, HasNoGood, HoldsFirst, IsFirstOf, HasNoneBelow, corner_front, line_count, other_line, LeavesSecond, IsNoSecondRow, IsNoSecondColumn}
+use Rattle.three_sep.specs.Searches.{BeginsWith, HasNoGood, HoldsFirst, IsFirstOf, HasNoneBelow, corner_front, line_count, other_line, HasNoColumn, HasNoRow, LacksColumn, LacksRow, LeavesSecond, IsNoSecondRow, IsNoSecondColumn}
 use Rattle.three_sep.proofs.CrossingLemmas.{IsGoodCrossing, as_crossing, as_good}
 use Rattle.three_sep.proofs.SideLemmas.{outside_less}
 use Rattle.three_sep.proofs.CutLemmas.{has_size}
@@ -259,8 +259,75 @@ module _ (m : Matrix) (form : Form) (crossing : IsCrossing form) where
       let lk : s.k < length groups.names.items = let l = within.row_two in omega (arith, names, l) in
       not_both (S (Row s.i)) cut.row_one (hold S (good_is_cut m s S (is_crossing s h.0) g0) (Row s.i) (Row s.k) within.row_one within.row_two (one s.i s.k li lk) ∙ cut.row_two)
 
-  pub no_good_second_row : (groups : Groups) (i p k : ℕ) → HoldTogether (IsCut m) m groups → IsNoSecondRow m groups i p k → HasNoGood m (form_number form ∷ i ∷ p ∷ k ∷ [])
-  no_good_second_row groups i p k hold no_row s S h g0 =
+  module _ (groups : Groups) (hold : HoldTogether (IsCut m) m groups) where
+    -- the other line of a flat or tall connector and the corner that it is to be apart from
+    first_apart : (s : Seed) (S : Lines) → form_number form ≡ form_number s.form → IsGoodSeed (height m) m.width (entry m) s S → (y : Line) → S y ≡ false → IsLine (height m) m.width y
+        → name_of m groups (other_line (first_is_flat s.form) s.q) ≢ name_of m groups y
+    first_apart s S e g0 y out ly same =
+        let x = other_line (first_is_flat s.form) s.q in
+        let among = corner_other (first_is_flat s.form) s.i s.p s.q in
+        not_both (S x) (g0.side.has x (inr among)) (hold S (good_is_cut m s S (is_crossing s e) g0) x y (g0.connectors.first_lines x among) ly same ∙ out)
+
+    second_apart : (s : Seed) (S : Lines) → form_number form ≡ form_number s.form → IsGoodSeed (height m) m.width (entry m) s S → (y : Line) → S y ≡ true → IsLine (height m) m.width y
+        → name_of m groups (other_line (second_is_flat s.form) s.o) ≢ name_of m groups y
+    second_apart s S e g0 y within ly same =
+        let x = other_line (second_is_flat s.form) s.o in
+        let among = corner_other (second_is_flat s.form) s.k s.j s.o in
+        not_both (S x) (hold S (good_is_cut m s S (is_crossing s e) g0) x y (g0.connectors.second_lines x among) ly same ∙ within) (g0.two x among)
+
+    no_first_column : (s : Seed) (S : Lines) → form_number form ≡ form_number s.form → IsGoodSeed (height m) m.width (entry m) s S → first_is_flat s.form ≡ true → HasNoColumn m groups s.i s.k → ⊥
+    no_first_column s S e g0 flat none =
+        let g = crossing_seed s S e g0 in
+        let line : IsLine (height m) m.width (other_line true s.q) = subst (λ (z : Bool). IsLine (height m) m.width (other_line z s.q)) flat (g0.connectors.first_lines (other_line (first_is_flat s.form) s.q) (corner_other (first_is_flat s.form) s.i s.p s.q)) in
+        let other = subst (λ (z : Bool). IsFirstOther z (entry m) s.i s.p s.k s.j s.q) flat g.connectors.first_other in
+        first_apart s S e g0 (Row s.k) (good_is_cut_at m s S g).row_two (good_inside m s S g0).row_two
+        (ap (λ (z : Bool). name_of m groups (other_line z s.q)) flat ∙ none s.q line other.0 other.1)
+
+    no_second_column : (s : Seed) (S : Lines) → form_number form ≡ form_number s.form → IsGoodSeed (height m) m.width (entry m) s S → second_is_flat s.form ≡ true → HasNoColumn m groups s.k s.i → ⊥
+    no_second_column s S e g0 flat none =
+        let g = crossing_seed s S e g0 in
+        let line : IsLine (height m) m.width (other_line true s.o) = subst (λ (z : Bool). IsLine (height m) m.width (other_line z s.o)) flat (g0.connectors.second_lines (other_line (second_is_flat s.form) s.o) (corner_other (second_is_flat s.form) s.k s.j s.o)) in
+        let other = subst (λ (z : Bool). IsSecondOther z (entry m) s.i s.p s.k s.j s.o) flat g.connectors.second_other in
+        second_apart s S e g0 (Row s.i) (good_is_cut_at m s S g).row_one (good_inside m s S g0).row_one
+        (ap (λ (z : Bool). name_of m groups (other_line z s.o)) flat ∙ none s.o line other.0 other.1)
+
+    no_first_row : (s : Seed) (S : Lines) → form_number form ≡ form_number s.form → IsGoodSeed (height m) m.width (entry m) s S → first_is_flat s.form ≡ false → HasNoRow m groups s.p s.j → ⊥
+    no_first_row s S e g0 tall none =
+        let g = crossing_seed s S e g0 in
+        let line : IsLine (height m) m.width (other_line false s.q) = subst (λ (z : Bool). IsLine (height m) m.width (other_line z s.q)) tall (g0.connectors.first_lines (other_line (first_is_flat s.form) s.q) (corner_other (first_is_flat s.form) s.i s.p s.q)) in
+        let other = subst (λ (z : Bool). IsFirstOther z (entry m) s.i s.p s.k s.j s.q) tall g.connectors.first_other in
+        first_apart s S e g0 (Column s.j) (good_is_cut_at m s S g).column_two (good_inside m s S g0).column_two
+        (ap (λ (z : Bool). name_of m groups (other_line z s.q)) tall ∙ none s.q line other.0 other.1)
+
+    no_second_row : (s : Seed) (S : Lines) → form_number form ≡ form_number s.form → IsGoodSeed (height m) m.width (entry m) s S → second_is_flat s.form ≡ false → HasNoRow m groups s.j s.p → ⊥
+    no_second_row s S e g0 tall none =
+        let g = crossing_seed s S e g0 in
+        let line : IsLine (height m) m.width (other_line false s.o) = subst (λ (z : Bool). IsLine (height m) m.width (other_line z s.o)) tall (g0.connectors.second_lines (other_line (second_is_flat s.form) s.o) (corner_other (second_is_flat s.form) s.k s.j s.o)) in
+        let other = subst (λ (z : Bool). IsSecondOther z (entry m) s.i s.p s.k s.j s.o) tall g.connectors.second_other in
+        second_apart s S e g0 (Column s.p) (good_is_cut_at m s S g).column_one (good_inside m s S g0).column_one
+        (ap (λ (z : Bool). name_of m groups (other_line z s.o)) tall ∙ none s.o line other.0 other.1)
+
+    lacks_column : (i p k : ℕ) → LacksColumn m groups form i k → HasNoGood m (form_number form ∷ i ∷ p ∷ k ∷ [])
+    lacks_column i p k lacks s S h g0 =
+        let kind = form_is form s.form h.0 in
+        let here : LacksColumn m groups s.form s.i s.k = rw (sym kind, sym h.1.0, sym h.1.1.1.0) lacks in
+        elim here [
+          | inl none ↦ no_first_column s S h.0 g0 none.0 none.1
+          | inr none ↦ no_second_column s S h.0 g0 none.0 none.1
+        ]
+
+    lacks_row : (i p k j : ℕ) → LacksRow m groups form p j → HasNoGood m (form_number form ∷ i ∷ p ∷ k ∷ j ∷ [])
+    lacks_row i p k j lacks s S h g0 =
+        let kind = form_is form s.form h.0 in
+        let here : LacksRow m groups s.form s.p s.j = rw (sym kind, sym h.1.1.0, sym h.1.1.1.1.0) lacks in
+        elim here [
+          | inl none ↦ no_first_row s S h.0 g0 none.0 none.1
+          | inr none ↦ no_second_row s S h.0 g0 none.0 none.1
+        ]
+
+  pub no_good_second_row : (groups : Groups) (i p k : ℕ) → HoldTogether (IsCut m) m groups → IsNoSecondRow m groups form i p k → HasNoGood m (form_number form ∷ i ∷ p ∷ k ∷ [])
+  no_good_second_row groups i p k hold (inl lacks) s S h g0 = lacks_column groups hold i p k lacks s S h g0
+  no_good_second_row groups i p k hold (inr no_row) s S h g0 =
       let g = crossing_seed s S h.0 g0 in
       let cut = good_is_cut_at m s S g in
       let within = good_inside m s S g0 in
@@ -271,8 +338,9 @@ module _ (m : Matrix) (form : Form) (crossing : IsCrossing form) where
         | inr (inr e) ↦ not_both (S (Column s.p)) cut.column_one (T (Column s.p) (Row s.k) within.column_one within.row_two (rw (sym h.1.1.0, sym h.1.1.1.0) e) ∙ cut.row_two)
       ]
 
-  pub no_good_second_column : (groups : Groups) (i p k j : ℕ) → HoldTogether (IsCut m) m groups → IsNoSecondColumn m groups i p k j → HasNoGood m (form_number form ∷ i ∷ p ∷ k ∷ j ∷ [])
-  no_good_second_column groups i p k j hold no_column s S h g0 =
+  pub no_good_second_column : (groups : Groups) (i p k j : ℕ) → HoldTogether (IsCut m) m groups → IsNoSecondColumn m groups form i p k j → HasNoGood m (form_number form ∷ i ∷ p ∷ k ∷ j ∷ [])
+  no_good_second_column groups i p k j hold (inl lacks) s S h g0 = lacks_row groups hold i p k j lacks s S h g0
+  no_good_second_column groups i p k j hold (inr no_column) s S h g0 =
       let g = crossing_seed s S h.0 g0 in
       let cut = good_is_cut_at m s S g in
       let within = good_inside m s S g0 in

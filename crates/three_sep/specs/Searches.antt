@@ -91,9 +91,25 @@ pub record LeavesSecond (m : Matrix) (c : Corners) (second : Line) (S : Lines) :
   pub other : S second ≡ false
   pub enough : 4 ≤ outside (height m) m.width S
 
--- row k is not in the lower block beside the corner (i, p), or a group holds it with one of its lines
-abbrev pub IsNoSecondRow : Matrix → Groups → ℕ → ℕ → ℕ → Type 0
-IsNoSecondRow m groups i p k = (entry m k p ≡ pos 0) ⊎ (name_of m groups (Row i) ≡ name_of m groups (Row k)) ⊎ (name_of m groups (Column p) ≡ name_of m groups (Row k))
+-- each column that is 0 in one row and not in another is in the group of the other one
+abbrev pub HasNoColumn : Matrix → Groups → ℕ → ℕ → Type 0
+HasNoColumn m groups own across = (c : ℕ) → c < m.width → entry m own c ≡ pos 0 → entry m across c ≢ pos 0 → name_of m groups (Column c) ≡ name_of m groups (Row across)
 
-abbrev pub IsNoSecondColumn : Matrix → Groups → ℕ → ℕ → ℕ → ℕ → Type 0
-IsNoSecondColumn m groups i p k j = (entry m k j ≡ pos 0) ⊎ (entry m i j ≡ pos 0) ⊎ (name_of m groups (Row i) ≡ name_of m groups (Column j)) ⊎ (name_of m groups (Column p) ≡ name_of m groups (Column j))
+-- each row that is 0 in one column and not in another is in the group of the other one
+abbrev pub HasNoRow : Matrix → Groups → ℕ → ℕ → Type 0
+HasNoRow m groups own across = (r : ℕ) → r < height m → entry m r own ≡ pos 0 → entry m r across ≢ pos 0 → name_of m groups (Row r) ≡ name_of m groups (Column across)
+
+-- a flat connector of the form has no other line beside rows i and k
+abbrev pub LacksColumn : Matrix → Groups → Form → ℕ → ℕ → Type 0
+LacksColumn m groups form i k = ((first_is_flat form ≡ true) × HasNoColumn m groups i k) ⊎ ((second_is_flat form ≡ true) × HasNoColumn m groups k i)
+
+-- a tall connector of the form has no other line beside columns p and j
+abbrev pub LacksRow : Matrix → Groups → Form → ℕ → ℕ → Type 0
+LacksRow m groups form p j = ((first_is_flat form ≡ false) × HasNoRow m groups p j) ⊎ ((second_is_flat form ≡ false) × HasNoRow m groups j p)
+
+-- row k is not in the lower block beside the corner (i, p), or a group holds it with one of its lines, or a connector lacks a column
+abbrev pub IsNoSecondRow : Matrix → Groups → Form → ℕ → ℕ → ℕ → Type 0
+IsNoSecondRow m groups form i p k = LacksColumn m groups form i k ⊎ (entry m k p ≡ pos 0) ⊎ (name_of m groups (Row i) ≡ name_of m groups (Row k)) ⊎ (name_of m groups (Column p) ≡ name_of m groups (Row k))
+
+abbrev pub IsNoSecondColumn : Matrix → Groups → Form → ℕ → ℕ → ℕ → ℕ → Type 0
+IsNoSecondColumn m groups form i p k j = LacksRow m groups form p j ⊎ (entry m k j ≡ pos 0) ⊎ (entry m i j ≡ pos 0) ⊎ (name_of m groups (Row i) ≡ name_of m groups (Column j)) ⊎ (name_of m groups (Column p) ≡ name_of m groups (Column j))

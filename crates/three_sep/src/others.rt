@@ -1,14 +1,16 @@
 // The lines of connectors.
 ghost use Rattle.std.specs.Prelude.{◌≡◌, ◌≢◌, ◌<◌, ◌+◌, ◌⊎◌, pos, true, false};
 ghost use Rattle.cmr_base.specs.Matrix.{height, entry, IsMatrix};
+ghost use Rattle.cmr_base.specs.declared.line.Line.TheVariants.{Row, Column};
 ghost use Rattle.cmr_base.specs.Separations.{first_is_flat, second_is_flat};
 ghost use Rattle.cmr_base.specs.Seeds.{line_number, IsLine};
 ghost use Rattle.three_sep.specs.NumberedSeeds.{Among, IsFirstOther, IsSecondOther, connector};
 ghost use Rattle.three_sep.specs.Sides.{AreInside};
-ghost use Rattle.three_sep.specs.Searches.{line_count, other_line};
+ghost use Rattle.cuts.specs.Cuts.{HasNames, name_of};
+ghost use Rattle.three_sep.specs.Searches.{HasNoColumn, HasNoRow, LacksColumn, LacksRow, line_count, other_line};
 
 use cmr_base::{Form, Line, RowsAndColumns};
-use cuts::Corners;
+use cuts::{Corners, Groups};
 
 /// How many columns, or rows.
 pub fn count_of(views: &RowsAndColumns<'_>, flat: bool) -> u32
@@ -108,6 +110,128 @@ fn is_tall_other(views: &RowsAndColumns<'_>, own: u32, across: u32, other: u32) 
         return false;
     }
     views.is_nonzero(other, across)
+}
+
+/// Whether the flat connectors of the form may have other lines beside rows i and k.
+pub fn may_have_columns(
+    views: &RowsAndColumns<'_>,
+    groups: &Groups,
+    form: Form,
+    i: u32,
+    k: u32,
+) -> bool
+    requires names { HasNames views.now groups.now }
+    requires row { i < height views.now }
+    requires second_row { k < height views.now }
+    ensures { result ≡ false → LacksColumn views.now groups.now form i k }
+{
+    if form.first_is_flat() {
+        if !has_column(views, groups, i, k) {
+            return false;
+        }
+    }
+    if form.second_is_flat() {
+        return has_column(views, groups, k, i);
+    }
+    true
+}
+
+/// Whether the tall connectors of the form may have other lines beside columns p and j.
+pub fn may_have_rows(
+    views: &RowsAndColumns<'_>,
+    groups: &Groups,
+    form: Form,
+    p: u32,
+    j: u32,
+) -> bool
+    requires names { HasNames views.now groups.now }
+    requires column { p < views.now.width }
+    requires second_column { j < views.now.width }
+    ensures { result ≡ false → LacksRow views.now groups.now form p j }
+{
+    if !form.first_is_flat() {
+        if !has_row(views, groups, p, j) {
+            return false;
+        }
+    }
+    if !form.second_is_flat() {
+        return has_row(views, groups, j, p);
+    }
+    true
+}
+
+// Whether a column is 0 in one row and not in another, and apart from the group of that one.
+fn has_column(views: &RowsAndColumns<'_>, groups: &Groups, own: u32, across: u32) -> bool
+    requires names { HasNames views.now groups.now }
+    requires own { own < height views.now }
+    requires across { across < height views.now }
+    ensures { result ≡ false → HasNoColumn views.now groups.now own across }
+{
+    for column in 0..views.columns() {
+        if is_column_apart(views, groups, own, across, column) {
+            return true;
+        }
+    }
+    false
+}
+
+// Whether this column is.
+fn is_column_apart(
+    views: &RowsAndColumns<'_>,
+    groups: &Groups,
+    own: u32,
+    across: u32,
+    column: u32,
+) -> bool
+    requires names { HasNames views.now groups.now }
+    requires own { own < height views.now }
+    requires across { across < height views.now }
+    requires column { column < views.now.width }
+    ensures { result ≡ false → entry views.now own column ≡ pos 0
+        → entry views.now across column ≢ pos 0
+        → name_of views.now groups.now (Column column) ≡ name_of views.now groups.now (Row across) }
+{
+    if !is_flat_other(views, own, across, column) {
+        return false;
+    }
+    !groups.are_one(views.rows() + column, across)
+}
+
+// Whether a row is 0 in one column and not in another, and apart from the group of that one.
+fn has_row(views: &RowsAndColumns<'_>, groups: &Groups, own: u32, across: u32) -> bool
+    requires names { HasNames views.now groups.now }
+    requires own { own < views.now.width }
+    requires across { across < views.now.width }
+    ensures { result ≡ false → HasNoRow views.now groups.now own across }
+{
+    for row in 0..views.rows() {
+        if is_row_apart(views, groups, own, across, row) {
+            return true;
+        }
+    }
+    false
+}
+
+// Whether this row is.
+fn is_row_apart(
+    views: &RowsAndColumns<'_>,
+    groups: &Groups,
+    own: u32,
+    across: u32,
+    row: u32,
+) -> bool
+    requires names { HasNames views.now groups.now }
+    requires own { own < views.now.width }
+    requires across { across < views.now.width }
+    requires row { row < height views.now }
+    ensures { result ≡ false → entry views.now row own ≡ pos 0
+        → entry views.now row across ≢ pos 0
+        → name_of views.now groups.now (Row row) ≡ name_of views.now groups.now (Column across) }
+{
+    if !is_tall_other(views, own, across, row) {
+        return false;
+    }
+    !groups.are_one(row, views.rows() + across)
 }
 
 /// Whether a line is in neither connector.

@@ -17,7 +17,10 @@ ghost use Rattle.three_sep.specs.Searches.{HasCorners, HasNoGood, HoldsFirst, Is
 use crate::concentrated::ConcentratedSearch;
 use crate::corners::may_cut;
 use crate::half::Half;
-use crate::others::{count_of, is_beside, is_first_other, is_second_other, line_at, line_of};
+use crate::others::{
+    count_of, is_beside, is_first_other, is_second_other, line_at, line_of, may_have_columns,
+    may_have_rows,
+};
 use crate::side::Side;
 use cmr_base::{Connector, Form, Indices, Line, LineSet, Matrix, Memory, RowsAndColumns, Three};
 use cuts::{Corners, Groups, groups_of};
@@ -179,10 +182,8 @@ impl Search {
             IfNone answer (HasNoGood views.now (form_number form ∷ i ∷ p ∷ []))) }
     {
         for k in 0..views.rows() {
-            if is_second_row(views, &self.groups, i, p, k) {
-                if let Some(three) = self.first_of_second_row(
-                    alloc, views, form, i, p, k,
-                )? {
+            if is_second_row(views, &self.groups, form, i, p, k) {
+                if let Some(three) = self.first_of_second_row(alloc, views, form, i, p, k)? {
                     return Ok(Some(three));
                 }
             }
@@ -212,7 +213,7 @@ impl Search {
     {
         self.ask(alloc, views)?;
         for j in 0..views.columns() {
-            if is_second_column(views, &self.groups, i, p, k, j) {
+            if is_second_column(views, &self.groups, form, i, p, k, j) {
                 if let Some(three) = self.first_of_corners(
                     alloc,
                     views,
@@ -403,24 +404,35 @@ impl Search {
 }
 
 // Whether row k can be in the second corner, beside the first one (i, p).
-fn is_second_row(views: &RowsAndColumns<'_>, groups: &Groups, i: u32, p: u32, k: u32) -> bool
+fn is_second_row(
+    views: &RowsAndColumns<'_>,
+    groups: &Groups,
+    form: Form,
+    i: u32,
+    p: u32,
+    k: u32,
+) -> bool
     requires names { HasNames views.now groups.now }
     requires row { i < height views.now }
     requires column { p < views.now.width }
     requires second_row { k < height views.now }
     ensures yes { result ≡ true → entry views.now k p ≢ pos 0 }
-    ensures no { result ≡ false → IsNoSecondRow views.now groups.now i p k }
+    ensures no { result ≡ false → IsNoSecondRow views.now groups.now form i p k }
 {
     if !views.is_nonzero(k, p) {
         return false;
     }
-    !groups.are_one(i, k) && !groups.are_one(views.rows() + p, k)
+    if groups.are_one(i, k) || groups.are_one(views.rows() + p, k) {
+        return false;
+    }
+    may_have_columns(views, groups, form, i, k)
 }
 
 // Whether column j can be in the second corner with row k.
 fn is_second_column(
     views: &RowsAndColumns<'_>,
     groups: &Groups,
+    form: Form,
     i: u32,
     p: u32,
     k: u32,
@@ -433,12 +445,16 @@ fn is_second_column(
     requires second_column { j < views.now.width }
     ensures corner { result ≡ true → entry views.now k j ≢ pos 0 }
     ensures right { result ≡ true → entry views.now i j ≢ pos 0 }
-    ensures no { result ≡ false → IsNoSecondColumn views.now groups.now i p k j }
+    ensures no { result ≡ false → IsNoSecondColumn views.now groups.now form i p k j }
 {
     if !views.is_nonzero(k, j) || !views.is_nonzero(i, j) {
         return false;
     }
-    !groups.are_one(i, views.rows() + j) && !groups.are_one(views.rows() + p, views.rows() + j)
+    let column = views.rows() + j;
+    if groups.are_one(i, column) || groups.are_one(views.rows() + p, column) {
+        return false;
+    }
+    may_have_rows(views, groups, form, p, j)
 }
 
 /// Whether a side leaves the second connector and four lines or more.

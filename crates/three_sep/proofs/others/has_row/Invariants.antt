@@ -1,0 +1,8 @@
+use Rattle.std.proofs.Common.{◌≡◌, ◌≢◌, ◌<◌, ℕ, pos}
+use Rattle.cmr_base.specs.declared.line.Line.TheVariants.{Row, Column}
+use Rattle.cmr_base.specs.Matrix.{entry}
+use Rattle.cuts.specs.Cuts.{name_of}
+use Rattle.three_sep.proofs.others.has_row.Given as goal
+
+abbrev pub invariant-loop-row : goal.invariant-loop-row
+invariant-loop-row l = (r : ℕ) → r < l.row → entry l.views r l.own ≡ pos 0 → entry l.views r l.across ≢ pos 0 → name_of l.views l.groups (Row r) ≡ name_of l.views l.groups (Column l.across)
