@@ -24,7 +24,7 @@ use Rattle.three_sep.specs.NumberedSeeds.{Seed, AreCorners, IsCrossing, IsGoodSe
 use Rattle.cuts.specs.Cuts.{HoldTogether, IsCut}
 use Rattle.three_sep.specs.Cuts.{HasNoCutAt}
 use Rattle.three_sep.specs.Searches.{BeginsWith, HasGood, HasNoGood, HasNoneBelow, IsFirstOf, IsNoSecondColumn, corner_front, other_line}
-use Rattle.three_sep.specs.Blocks.{SeedBlock, AreOpen, AreOpenBelow, HasGoodRow, HasGoodTriple, HasNumber, IsFirstTriple, TellsOpen, block_front, column_at, corners_with, firsts, number_count, seconds, triple_front}
+use Rattle.three_sep.specs.Blocks.{SeedBlock, AreOpen, AreOpenBelow, HasGoodTriple, HasNumber, IsFirstTriple, TellsOpen, block_front, column_at, corners_with, firsts, number_count, seconds, triple_front}
 use Rattle.three_sep.proofs.CrossingLemmas.{as_crossing}
 use Rattle.three_sep.proofs.SearchLemmas.{begins_shorter, below_line, first_below, good_inside, level_ends, level_found, map_first, map_none, no_good_corners, no_good_second_column, second_below}
 
@@ -347,11 +347,6 @@ open_few b are = length-rising b.columns b.matrix.width are.rising (λ k l. are.
 
 pub open_at : (b : SeedBlock) → AreOpen b → (place : ℕ) → place < length b.columns → (column_at b place < b.matrix.width) × TellsOpen b.matrix b.form (corners_with b (column_at b place)) true
 open_at b are place l = let member = in_at b.columns place l in (are.below (column_at b place) member, are.nonzero (column_at b place) member)
-
--- ---- rows of the concentrated form
-
-pub none_in_rows : (m : Matrix) → IsFirst (HasGoodRow m) 0 (height m) None → HasNoGood m (3 ∷ [])
-none_in_rows m none = none_by_number m (3 ∷ []) (height m) (omega arith) none (λ s S l good h. let k = (good_inside m s S good).row_one in let e = h.1.0 in omega arith)
 
 pub on_ok : {A E P : Type 0} (r : Result A E) → P → OnOk r P
 on_ok (Ok x) p = p

@@ -81,7 +81,3 @@ pub record IsFirstTriple (b : SeedBlock) (t : Triple) : Type 0 where
   pub columns : HasNoneBelow b.matrix (block_front b) t.j
   pub first_others : HasNoneBelow b.matrix (block_front b ++ t.j ∷ []) t.q
   pub second_others : HasNoneBelow b.matrix (block_front b ++ t.j ∷ t.q ∷ []) t.o
-
--- a seed of the concentrated form with the row i is good
-abbrev pub HasGoodRow : Matrix → ℕ → Type 0
-HasGoodRow m i = HasGood m (3 ∷ i ∷ [])

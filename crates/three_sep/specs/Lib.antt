@@ -9,4 +9,3 @@ pub mod Cuts
 pub mod Searches
 pub mod Blocks
 pub mod BlocksView
-pub mod ConcentratedRowsView

@@ -3,10 +3,10 @@
 
 mod block;
 mod concentrated;
-mod concentrated_rows;
 mod connectors;
 mod corners;
 mod half;
+mod held;
 mod independent;
 mod others;
 mod pulled;

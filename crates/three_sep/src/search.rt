@@ -15,7 +15,7 @@ ghost use Rattle.cuts.specs.Cuts.{HasNames, HoldTogether, IsCut};
 ghost use Rattle.three_sep.specs.Searches.{IsNoSecondRow, IsNoSecondColumn, HasNoGood, HasNoneBelow, HoldsFirst, IsFirstOf, LeavesSecond, corner_front, other_line};
 
 use crate::block::{Block, open_columns};
-use crate::concentrated::ConcentratedSearch;
+use crate::concentrated::first_concentrated;
 use crate::corners::may_cut;
 use crate::half::Half;
 use crate::others::{count_of, is_beside, is_first_other, is_second_other, line_at, line_of};
@@ -125,7 +125,7 @@ impl Search {
         if let Some(three) = self.first_of_form(rt, alloc, workers, views, Form::Mixed)? {
             return Ok(Some(three));
         }
-        ConcentratedSearch::new(alloc, views)?.first(rt, alloc, workers, views)
+        first_concentrated(alloc, views)
     }
 
     // The rows i.
