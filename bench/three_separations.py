@@ -11,10 +11,12 @@ The kinds, each with as many rows as columns:
     blocks     two such blocks of half the size, with a column times a row in each of the other quarters
     networks   the mixed sum of a network and of a transposed one, each with a tree of a fourth as many arcs: neither a
                network nor transposed to one
+    entry      the support of a network with a tree drawn at random, and one nonzero more
 
-The rows and the columns of the last two are shuffled. `tu` refuses the first two by a cycle whose sum is wrong before
-it looks for a three-separation, so they are for a program that calls `three_separation` on the text. The third are
-totally unimodular, and `tu` decomposes them.
+The rows and the columns of `blocks` and `networks` are shuffled. `tu` refuses the first two by a cycle whose sum is wrong
+before it looks for a three-separation, so they are for a program that calls `three_separation` on the text. The third
+are totally unimodular, and `tu` decomposes them. The last are for `regular`: mostly they have no three-separation of the
+concentrated form, and the search for one is what takes the time.
 
 Printed for each text: its kind and size, the probability, the number of workers, the shortest time of the runs, and the
 exit statuses. Without a command only the nonzeros are printed.
@@ -27,6 +29,7 @@ import shlex
 import tempfile
 
 from measuring import dense_text, measured
+from networks import mixed, recursive, with_entry
 
 
 def drawn(rows, columns, density, draw):
@@ -94,9 +97,21 @@ def networks_kind(size, _density, draw):
     return shuffled(entries, draw)
 
 
-KINDS = {"random": random_kind, "blocks": blocks_kind, "networks": networks_kind}
+def entry_kind(size, _density, draw):
+    support = [[abs(entry) for entry in row] for row in mixed(recursive(size, draw), size, draw)]
+    return with_entry(support, {0: 1}, draw)
 
-SIZES = {"random": (20, 40, 80, 160, 320), "blocks": (40, 80, 160, 320, 640), "networks": (40, 80, 160, 320, 640)}
+
+KINDS = {"random": random_kind, "blocks": blocks_kind, "networks": networks_kind, "entry": entry_kind}
+
+SIZES = {
+    "random": (20, 40, 80, 160, 320),
+    "blocks": (40, 80, 160, 320, 640),
+    "networks": (40, 80, 160, 320, 640),
+    "entry": (125, 300, 640),
+}
+
+WITH_DENSITY = ("random", "blocks")
 
 
 def shuffled(entries, draw):
@@ -124,11 +139,11 @@ def main():
     with tempfile.TemporaryDirectory() as folder:
         for kind in options.kinds:
             for size in options.sizes or SIZES[kind]:
-                for density in options.densities if kind != "networks" else options.densities[:1]:
+                for density in options.densities if kind in WITH_DENSITY else options.densities[:1]:
                     entries = KINDS[kind](size, density, random.Random(f"{options.seed} {kind} {size} {density}"))
                     file = pathlib.Path(folder) / "matrix"
                     file.write_text(dense_text(entries))
-                    name = f"{kind} {size}" + (f" {density}" if kind != "networks" else "")
+                    name = f"{kind} {size}" + (f" {density}" if kind in WITH_DENSITY else "")
                     print(f"{name}: {sum(map(bool, sum(entries, [])))} nonzeros", flush=True)
                     if words:
                         report(name, words, options, file)

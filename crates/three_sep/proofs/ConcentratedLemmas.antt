@@ -1,9 +1,11 @@
 -- Good seeds of the concentrated form.
-use Rattle.std.proofs.Common.{ℕ, ℤ, pos, ◌+◌, ◌<◌, ◌≤◌, ◌*ℤ◌, ◌+ℤ◌, ◌-ℤ◌, Bool, true, false, not, set, List, [], ◌∷◌, ◌++◌, ◌≡◌, ◌≢◌, ◌∙◌, sym, ap, refl, arith, subst, ◌⊎◌, inl, inr, length, get_or}
+use Rattle.std.proofs.Common.{ℕ, ℤ, pos, ◌+◌, ◌<◌, ◌≤◌, ◌*ℤ◌, ◌+ℤ◌, ◌-ℤ◌, Bool, true, false, not, List, [], ◌∷◌, ◌++◌, ◌≡◌, ◌≢◌, ◌∙◌, sym, ap, refl, arith, subst, ◌⊎◌, inl, inr, length, Option, Some, None, IfSome}
 use Rattle.std.proofs.lemmas.Bool.{cases_lt}
 use Rattle.cmr_base.specs.declared.line.Line.{Line}
 use Rattle.cmr_base.specs.declared.line.Line.TheVariants.{Row, Column}
 use Rattle.cmr_base.specs.declared.separation.Form.TheVariants.{Concentrated}
+use Rattle.cmr_base.specs.declared.separation.Three.{Three}
+use Rattle.cmr_base.specs.ColumnSets.{has_column}
 use Rattle.cmr_base.specs.Matrix.{Matrix, height, entry, transposed, IsMatrix}
 use Rattle.cmr_base.specs.LineSets as sets
 use Rattle.cmr_base.specs.Signing.{IsSign}
@@ -14,22 +16,18 @@ use Rattle.cmr_base.proofs.Integers.{sums, products}
 use Rattle.cmr_base.proofs.ListedLines.{has_line_from_line}
 use Rattle.cmr_base.proofs.RowLists.{same_or_not, two_cases}
 use Rattle.cmr_base.proofs.SeedLemmas.{good_three_seed, three_separation_of_seed, form_is}
-use Rattle.cmr_base.proofs.Booleans.{and_is, false_is, nonzero_is, not_both, not_is, true_is, zero_is}
-use Rattle.cmr_base.proofs.NextNonzeros.{column_in as nonzero_in}
-use Rattle.cmr_base.proofs.SignEntries.{sign_of_entry}
+use Rattle.cmr_base.proofs.Booleans.{false_is, not_both, true_is, zero_is}
 use Rattle.cuts.specs.declared.corners.Corners.{Corners}
 use Rattle.three_sep.specs.declared.connectors.Connectors.{Connectors}
 use Rattle.three_sep.specs.NumberedSeeds.{Among, IsGoodSeed, Seed, connector, inside, seed_key}
 use Rattle.three_sep.specs.Sides.{AreInside, IsClosedBy}
-use Rattle.three_sep.specs.Searches.{BeginsWith, HasNoGood, HasNoneBelow, LeavesSecond, corner_front}
+use Rattle.three_sep.specs.Searches.{BeginsWith, HasNoGood, HasNoneBelow, IsFirstOf, LeavesSecond, corner_front}
 use Rattle.cmr_base.specs.Trees.{support}
-use Rattle.three_sep.specs.Independent.{AreIndependent, outside_one, outside_two}
-use Rattle.three_sep.specs.Concentrated.{AreCandidates, AreConcentratedCorners, ArePlaced, HasNoLeaving, HasNoneBetween, IsLeastFor, IsNoOtherColumn, IsOtherColumn, IsOtherRow, TellsClosedFor, all_front, first_lines, first_of, second_of, turned}
-use Rattle.three_sep.proofs.HalfLemmas.{set_elsewhere, set_there}
+use Rattle.three_sep.specs.Concentrated.{AreCandidates, AreConcentratedCorners, ArePlaced, HasNoLeaving, HasNoneBetween, IsFirstPair, IsHeldBy, IsLeastFor, IsNoOtherColumn, IsOtherColumn, IsOtherRow, TellsClosedFor, all_front, first_lines, first_of, second_of, turned}
 use Rattle.three_sep.proofs.SideLemmas.{outside_less}
-use Rattle.three_sep.proofs.SearchLemmas.{enough_lines, good_inside, lines_of_connector, none_of_connector, seed_at, seed_from_all, seed_from_first, seed_from_second, seed_is}
+use Rattle.three_sep.proofs.SearchLemmas.{enough_lines, good_inside, level_found, lines_of_connector, none_of_connector, seed_at, seed_from_all, seed_from_first, seed_from_second, seed_is}
 use Rattle.three_sep.proofs.SeedForms.{closed_to, good_numbered, good_three, seed_with}
-use Rattle.three_sep.proofs.SpreadLemmas.{no_triangle, spread_parts, spread_same}
+use Rattle.three_sep.proofs.SpreadLemmas.{spread_parts, spread_same}
 use Rattle.three_sep.proofs.TurnedLemmas.{closed_turned, has_turned, leaves_turned, no_turned, turned_side}
 
 -- ---- what a good seed says
@@ -71,44 +69,6 @@ module _ (m : Matrix) (c : Corners) (q o : ℕ) (x : Line) (S : Lines) (g : IsGo
   parts row column lr lc er ec =
       g.side.closed.below row column lr lc er ec
       ∙ spread_parts determinant (entry m c.k c.p) (entry m c.k q) (entry m o c.p) (entry m o q) (entry m row c.p) (entry m row q) (entry m c.k column) (entry m o column)
-
-  -- rows of column j are made by two rows in the columns of row i
-  module _ (is : IsMatrix m) (h : AreIndependent m c.i c.j) where
-    among_first : (column : ℕ) → support m c.i column ≡ true → (column < m.width) × (S (Column column) ≡ true)
-    among_first column e = let l = nonzero_in m c.i column is row_in e in (l, columns_one column l (nonzero_is (entry m c.i column) e))
-
-    among_one : (column : ℕ) → outside_one m c.i h.one column ≡ true → (support m c.i column ≡ true) × (entry m h.one column ≡ pos 0)
-    among_one column e = let (own, out) = and_is _ _ e in (own, zero_is (entry m h.one column) (not_is _ out))
-
-    among_two : (column : ℕ) → outside_two m c.i h.one h.two column ≡ true → (support m c.i column ≡ true) × (entry m h.one column ≡ pos 0) × (entry m h.two column ≡ pos 0)
-    among_two column e = let (before, out) = and_is _ _ e in let (own, zero_one) = among_one column before in (own, zero_one, zero_is (entry m h.two column) (not_is _ out))
-
-    two_of : (row : ℕ) → row < height m → support m row c.j ≡ true → S (Row row) ≡ false
-    two_of row l e = rows_two row l (nonzero_is (entry m row c.j) e)
-
-    sign_at : (row column : ℕ) → support m row column ≡ true → IsSign (entry m row column)
-    sign_at row column e = sign_of_entry (entry m row column) (is.small row column) (nonzero_is (entry m row column) e)
-
-    not_independent : ⊥
-    not_independent =
-        let one = h.first in
-        let two = h.second in
-        let three = h.third in
-        let (lz, iz) = among_first one.column one.among in
-        let (own_y, one_y) = among_one two.column two.among in
-        let (ly, iy) = among_first two.column own_y in
-        let (own_x, one_x, two_x) = among_two three.column three.among in
-        let (lx, ix) = among_first three.column own_x in
-        let o1 = two_of h.one one.row_in one.nonzero in
-        let o2 = two_of h.two two.row_in two.nonzero in
-        let o3 = two_of h.three three.row_in three.nonzero in
-        let zero = no_triangle (entry m h.three c.p) (entry m h.three q) (entry m h.two c.p) (entry m h.two q) (entry m h.one c.p) (entry m h.one q)
-        (of_first three.column) (of_other three.column) (of_first two.column) (of_other two.column) (of_first one.column) (of_other one.column)
-        (sym (parts h.one three.column one.row_in lx o1 ix) ∙ one_x) (sym (parts h.one two.column one.row_in ly o1 iy) ∙ one_y)
-        (subst (λ (z : ℤ). IsSign z) (parts h.one one.column one.row_in lz o1 iz) (sign_at h.one one.column one.here))
-        (sym (parts h.two three.column two.row_in lx o2 ix) ∙ two_x)
-        (subst (λ (z : ℤ). IsSign z) (parts h.two two.column two.row_in ly o2 iy) (sign_at h.two two.column two.here)) in
-        nonzero_is (entry m h.three three.column) three.here (parts h.three three.column three.row_in lx o3 ix ∙ zero)
 
   -- other connectors with row i and column j
   module _ (d : Connectors) (placed : ArePlaced m d) (same_row : d.corners.i ≡ c.i) (same_column : d.corners.j ≡ c.j) (corners : AreConcentratedCorners (entry m) d.corners) (column : IsOtherColumn (entry m) d.corners d.q) (row : IsOtherRow (entry m) d) where
@@ -191,15 +151,12 @@ module _ (m : Matrix) where
       let c : Corners = record { i = d.corners.i; p = s.p; k = s.k; j = d.corners.j } in
       some_elsewhere m c s.q s.o s.x S (at_seed s S (seed_at Concentrated c s.q s.o s.x) (between_seed s d.corners.i d.corners.j ef ei ej) g) d placed refl refl corners column row none
 
-  pub none_at_nonzero : (i j : ℕ) → entry m i j ≢ pos 0 → HasNoneBetween m i j
-  none_at_nonzero i j n s S ef ei ej g =
+  -- a column that is in side one with row i
+  pub none_at_held : (i j : ℕ) → IsHeldBy m i j → HasNoneBetween m i j
+  none_at_held i j held s S ef ei ej g0 =
       let c : Corners = record { i = i; p = s.p; k = s.k; j = j } in
-      n (zero_between m c s.q s.o s.x S (at_seed s S (seed_at Concentrated c s.q s.o s.x) (between_seed s i j ef ei ej) g))
-
-  pub none_at_independent : IsMatrix m → (i j : ℕ) → AreIndependent m i j → HasNoneBetween m i j
-  none_at_independent is i j independent s S ef ei ej g =
-      let c : Corners = record { i = i; p = s.p; k = s.k; j = j } in
-      not_independent m c s.q s.o s.x S (at_seed s S (seed_at Concentrated c s.q s.o s.x) (between_seed s i j ef ei ej) g) is independent
+      let g = at_seed s S (seed_at Concentrated c s.q s.o s.x) (between_seed s i j ef ei ej) g0 in
+      not_both (S (Column j)) (held (record { corners = c; q = s.q; o = s.o }) S g.side.closed (row_one m c s.q s.o s.x S g)) (column_two m c s.q s.o s.x S g)
 
   pub no_corner : (i p : ℕ) → entry m i p ≡ pos 0 → HasNoGood m (3 ∷ i ∷ p ∷ [])
   no_corner i p e s S h g = g.connectors.values.first_corner (rw (sym h.1.0, sym h.1.1.0) e)
@@ -210,11 +167,8 @@ module _ (m : Matrix) where
   pub no_candidate : (i p k j : ℕ) → HasNoneBetween m i j → HasNoGood m (3 ∷ i ∷ p ∷ k ∷ j ∷ [])
   no_candidate i p k j none s S h g = none s S (sym (form_is Concentrated s.form h.0)) (sym h.1.0) (sym h.1.1.1.1.0) g
 
-  pub no_candidates : (i p : ℕ) (candidates : List Bool) → AreCandidates m i candidates → ((j : ℕ) → get_or candidates j false ≡ false) → HasNoGood m (3 ∷ i ∷ p ∷ [])
+  pub no_candidates : (i p : ℕ) (candidates : List ℕ) → AreCandidates m i candidates → ((j : ℕ) → has_column candidates j ≡ false) → HasNoGood m (3 ∷ i ∷ p ∷ [])
   no_candidates i p candidates are none s S h g = are.others s.j (good_inside m s S g).column_two (none s.j) s S (sym (form_is Concentrated s.form h.0)) (sym h.1.0) refl g
-
-  pub no_candidates_left : (i p k : ℕ) (candidates : List Bool) → AreCandidates m i candidates → ((j : ℕ) → get_or candidates j false ≡ false) → HasNoGood m (3 ∷ i ∷ p ∷ k ∷ [])
-  no_candidates_left i p k candidates are none s S h g = are.others s.j (good_inside m s S g).column_two (none s.j) s S (sym (form_is Concentrated s.form h.0)) (sym h.1.0) refl g
 
   zero_determinant : (x y z w : ℤ) → x ≡ pos 0 → y ≡ pos 0 → ¬ (IsSign (x *ℤ w -ℤ y *ℤ z))
   zero_determinant x y z w ex ey (inl e) = let k : x *ℤ w -ℤ y *ℤ z ≡ pos 0 = rw (ex, ey) (simp products (omega (arith, sums))) in let l = sym k ∙ e in absurd (omega (arith, sums))
@@ -239,18 +193,12 @@ module _ (m : Matrix) where
     | inr high ↦ no_column c b (inr (inl (zero_is (entry m c.i b) (zeros b high l))))
   ]
 
-  pub column_shut : (c : Corners) (q : ℕ) → HasNoneBetween m c.i c.j → HasNoGood m (corner_front Concentrated c ++ q ∷ [])
-  column_shut c q none s S h g = none s S (sym (form_is Concentrated s.form h.0)) (sym h.1.0) (sym h.1.1.1.1.0) g
-
   module _ (d : Connectors) where
     abbrev seed_here : Line → Seed
     seed_here x = seed_at Concentrated d.corners d.q d.o x
 
     good_here : (s : Seed) (S : Lines) → BeginsWith (all_front d) (seed_key (height m) s) → IsGoodSeed (height m) m.width (entry m) s S → IsGoodSeed (height m) m.width (entry m) (seed_here s.x) S
     good_here s S h g = at_seed s S (seed_here s.x) (seed_from_second m Concentrated d.corners d.q d.o s h) g
-
-    pub row_shut : HasNoneBetween m d.corners.i d.corners.j → HasNoGood m (all_front d)
-    row_shut none s S h g = none s S (sym (form_is Concentrated s.form h.0)) (sym h.1.0) (sym h.1.1.1.1.0) g
 
     pub no_row : ¬ (IsOtherRow (entry m) d) → HasNoGood m (all_front d)
     no_row refused s S h g0 = let g = good_here s S h g0 in refused (record { rises = g.connectors.values.tied.rows_rise; nonzero = g.connectors.values.tied.second_other; determinant = g.connectors.values.tied.determinant })
@@ -310,38 +258,60 @@ module _ (m : Matrix) where
 
 -- ---- candidates
 
-pub one_less : (m : Matrix) (i j : ℕ) (before after : List Bool) → AreCandidates m i before → HasNoneBetween m i j → length after ≡ length before → ((other : ℕ) → other ≢ j → get_or after other false ≡ get_or before other false) → AreCandidates m i after
-one_less m i j before after are none size same = record {
+pub one_less : (m : Matrix) (i j : ℕ) (before after : List ℕ) → AreCandidates m i before → HasNoneBetween m i j → length after ≡ length before
+    → ((x : ℕ) → has_column after x ≡ false → (x ≡ j) ⊎ (has_column before x ≡ false)) → AreCandidates m i after
+one_less m i j before after are none size only = record {
   size = size ∙ are.size;
-  others = λ other l e. elim (same_or_not other j) [
-    | inl is ↦ subst (λ (z : ℕ). HasNoneBetween m i z) (sym is) none
-    | inr n ↦ are.others other l (sym (same other n) ∙ e)
+  others = λ x l e. elim (only x e) [
+    | inl here ↦ subst (λ (z : ℕ). HasNoneBetween m i z) (sym here) none
+    | inr other ↦ are.others x l other
   ];
 }
 
-pub more_looked : (m : Matrix) (i j : ℕ) (before : List Bool) (may : Bool) → j < length before → (may ≡ false → HasNoneBetween m i j) → ((k : ℕ) → k < j → get_or before k false ≡ false → HasNoneBetween m i k)
-    → (k : ℕ) → k < j + 1 → get_or (set before j may) k false ≡ false → HasNoneBetween m i k
-more_looked m i j before may l none looked k lk e = elim (same_or_not k j) [
-  | inl is ↦
-      let there : get_or (set before j may) j false ≡ may = set_there before j may l in
-      subst (λ (z : ℕ). HasNoneBetween m i z) (sym is) (none (sym there ∙ ap (λ (z : ℕ). get_or (set before j may) z false) (sym is) ∙ e))
-  | inr n ↦ looked k (omega (arith, n)) (sym (set_elsewhere before j k may n) ∙ e)
+-- the columns before j were looked at, and column j is a candidate now
+pub added_candidate : (m : Matrix) (i j : ℕ) (before after : ℕ → Bool) → ((x : ℕ) → before x ≡ true → after x ≡ true) → after j ≡ true → ((k : ℕ) → k < j → before k ≡ false → HasNoneBetween m i k)
+    → (k : ℕ) → k < j + 1 → after k ≡ false → HasNoneBetween m i k
+added_candidate m i j before after kept here looked k l e = elim (same_or_not k j) [
+  | inl is ↦ absurd (not_both (after j) here (sym (ap after is) ∙ e))
+  | inr n ↦ looked k (omega (arith, n)) (false_is (before k) (λ t. not_both (after k) (kept k t) e))
 ]
 
--- ---- what a test refuses
+-- and it is none
+pub held_candidate : (m : Matrix) (i j : ℕ) (set : ℕ → Bool) → IsHeldBy m i j → ((k : ℕ) → k < j → set k ≡ false → HasNoneBetween m i k) → (k : ℕ) → k < j + 1 → set k ≡ false → HasNoneBetween m i k
+held_candidate m i j set held looked k l e = elim (same_or_not k j) [
+  | inl is ↦ subst (λ (z : ℕ). HasNoneBetween m i z) (sym is) (none_at_held m i j held)
+  | inr n ↦ looked k (omega (arith, n)) e
+]
 
-pub no_second : (m : Matrix) (i p k j : ℕ) (candidates : List Bool) → AreCandidates m i candidates → j < m.width → (entry m k j ≡ pos 0) ⊎ (get_or candidates j false ≡ false) → HasNoGood m (3 ∷ i ∷ p ∷ k ∷ j ∷ [])
-no_second m i p k j candidates are l (inl e) = no_second_corner m i p k j e
-no_second m i p k j candidates are l (inr e) = no_candidate m i p k j (are.others j l e)
+-- a second column is a candidate in which row k is not 0
+pub no_second : (m : Matrix) (i p k j : ℕ) (candidates : List ℕ) → AreCandidates m i candidates → (support m k j ≡ false) ⊎ (has_column candidates j ≡ false) → HasNoGood m (3 ∷ i ∷ p ∷ k ∷ j ∷ [])
+no_second m i p k j candidates are (inl e) = no_second_corner m i p k j (zero_is (entry m k j) e)
+no_second m i p k j candidates are (inr e) = λ s S h g. are.others j (let l = (good_inside m s S g).column_two in let n = h.1.1.1.1.0 in omega arith) e s S (sym (form_is Concentrated s.form h.0)) (sym h.1.0) (sym h.1.1.1.1.0) g
 
-pub no_other_column : (m : Matrix) (c : Corners) (q : ℕ) (candidates : List Bool) → AreInside m c → AreCandidates m c.i candidates → IsNoOtherColumn (entry m) c q ⊎ (get_or candidates c.j false ≡ false)
-    → HasNoGood m (corner_front Concentrated c ++ q ∷ [])
-no_other_column m c q candidates inside are (inl h) = no_column m c q h
-no_other_column m c q candidates inside are (inr e) = column_shut m c q (are.others c.j inside.column_two e)
+pub none_between_seconds : (m : Matrix) (i p k from j : ℕ) (columns candidates : List ℕ) → AreCandidates m i candidates → ((x : ℕ) → has_column columns x ≡ false → (support m k x ≡ false) ⊎ (has_column candidates x ≡ false))
+    → HasNoneBelow m (3 ∷ i ∷ p ∷ k ∷ []) from → ((x : ℕ) → from ≤ x → x < j → has_column columns x ≡ false) → HasNoneBelow m (3 ∷ i ∷ p ∷ k ∷ []) j
+none_between_seconds m i p k from j columns candidates are others before none b l = elim (cases_lt b from) [
+  | inl low ↦ before b low
+  | inr high ↦ no_second m i p k b candidates are (others b (none b high l))
+]
 
-pub no_other_row : (m : Matrix) (d : Connectors) (candidates : List Bool) → AreInside m d.corners → AreCandidates m d.corners.i candidates → (¬ (IsOtherRow (entry m) d)) ⊎ (get_or candidates d.corners.j false ≡ false) → HasNoGood m (all_front d)
-no_other_row m d candidates inside are (inl h) = no_row m d h
-no_other_row m d candidates inside are (inr e) = row_shut m d (are.others d.corners.j inside.column_two e)
+-- row k is 0 in each candidate
+pub no_common : (m : Matrix) (i p k : ℕ) (candidates : List ℕ) → AreCandidates m i candidates → ((x : ℕ) → (support m k x ≡ false) ⊎ (has_column candidates x ≡ false)) → HasNoGood m (3 ∷ i ∷ p ∷ k ∷ [])
+no_common m i p k candidates are none s S h g = no_second m i p k s.j candidates are (none s.j) s S (h.0, (h.1.0, (h.1.1.0, (h.1.1.1.0, (refl, tt))))) g
+
+-- ---- the first connectors with two corners
+
+module _ (m : Matrix) (c : Corners) (d : Connectors) (is : IsFirstPair m c d) where
+  pub pair_found : (o : Option Three) (three : Three) → o ≡ Some three → IfSome o (IsFirstOf m (all_front d)) → IsFirstOf m (corner_front Concentrated c) three
+  pair_found o three e h =
+      let here : IsFirstOf m (corner_front Concentrated c ++ d.q ∷ d.o ∷ []) three =
+      subst (λ (z : Corners). IsFirstOf m (corner_front Concentrated z ++ d.q ∷ d.o ∷ []) three) is.corners (subst (λ (z : Option Three). IfSome z (IsFirstOf m (all_front d))) e h) in
+      level_found m (corner_front Concentrated c) d.q three (omega arith) is.columns (level_found m (corner_front Concentrated c ++ d.q ∷ []) d.o three (omega arith) is.rows here)
+
+  pub none_at_pair : AreConcentratedCorners (entry m) c → HasNoGood m (all_front d) → HasNoneBetween m c.i c.j
+  none_at_pair corners none =
+      subst (λ (z : Corners). HasNoneBetween m z.i z.j) is.corners
+      (none_between m d is.placed (subst (λ (z : Corners). AreConcentratedCorners (entry m) z) (sym is.corners) corners) is.column is.row none)
 
 -- ---- what a closed side tells
 

@@ -11,5 +11,5 @@ pub mod SearchLemmas
 pub mod SeedForms
 pub mod TurnedLemmas
 pub mod PulledLemmas
+pub mod HeldLemmas
 pub mod ConcentratedLemmas
-pub mod BlockLemmas

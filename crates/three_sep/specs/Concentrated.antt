@@ -1,10 +1,12 @@
 -- The concentrated form: its connectors and its rules.
-use Rattle.std.specs.Prelude.{◌≡◌, ◌≢◌, ◌<◌, ◌≤◌, ◌⊎◌, ◌++◌, ℕ, ℤ, pos, Bool, true, false, List, [], ◌∷◌, length, slice_index_or}
+use Rattle.std.specs.Prelude.{◌≡◌, ◌≢◌, ◌<◌, ◌≤◌, ◌⊎◌, ◌++◌, ℕ, ℤ, pos, Bool, true, false, List, [], ◌∷◌, length}
 use Rattle.cmr_base.specs.declared.line.Line.{Line}
 use Rattle.cmr_base.specs.declared.line.Line.TheVariants.{Row, Column}
 use Rattle.cmr_base.specs.declared.separation.Connector.{Connector}
 use Rattle.cmr_base.specs.declared.separation.Form.TheVariants.{Concentrated}
+use Rattle.cmr_base.specs.ColumnSets.{has_column}
 use Rattle.cmr_base.specs.Matrix.{Matrix, height, entry}
+use Rattle.cmr_base.specs.Planes.{words_for}
 use Rattle.cmr_base.specs.Signing.{IsSign}
 use Rattle.cmr_base.specs.Separations.{Lines, zeros, spread_at, core_determinant}
 use Rattle.cuts.specs.declared.corners.Corners.{Corners}
@@ -12,7 +14,7 @@ use Rattle.three_sep.specs.declared.connectors.Connectors.{Connectors}
 use Rattle.three_sep.specs.declared.side.Side.{Side}
 use Rattle.three_sep.specs.NumberedSeeds.{Seed, HasAll, IsGoodSeed}
 use Rattle.three_sep.specs.Sides.{AreInside, IsClosedBy, IsGrowingBy, IsLeastBy, KeepsGrowingBy, set_of}
-use Rattle.three_sep.specs.Searches.{LeavesSecond, corner_front}
+use Rattle.three_sep.specs.Searches.{HasNoneBelow, LeavesSecond, corner_front}
 
 abbrev pub first_of : Connectors → Connector
 first_of c = record { row = c.corners.i; column = c.corners.p; other = c.q }
@@ -82,13 +84,37 @@ TellsClosedFor m c start false S = HasNoLeaving m c start
 abbrev pub HasSecond : Connectors → Side → Type 0
 HasSecond c side = (set_of side (Row c.corners.k) ≡ true) ⊎ (set_of side (Row c.o) ≡ true) ⊎ (set_of side (Column c.corners.j) ≡ true)
 
+-- ---- what comes first
+
+-- the first row o with which two corners and a column q have connectors
+pub record IsFirstRow (m : Matrix) (c : Corners) (q o : ℕ) : Type 0 where
+  pub inside : o < height m
+  pub row : IsOtherRow (entry m) (record { corners = c; q = q; o = o })
+  pub rows : HasNoneBelow m (corner_front Concentrated c ++ q ∷ []) o
+
+-- the first connectors with two corners
+pub record IsFirstPair (m : Matrix) (c : Corners) (d : Connectors) : Type 0 where
+  pub corners : d.corners ≡ c
+  pub placed : ArePlaced m d
+  pub column : IsOtherColumn (entry m) d.corners d.q
+  pub row : IsOtherRow (entry m) d
+  pub columns : HasNoneBelow m (corner_front Concentrated c) d.q
+  pub rows : HasNoneBelow m (corner_front Concentrated c ++ d.q ∷ []) d.o
+
 -- ---- columns that may be in side two
+
+-- each set with row i that two connectors of the form close has the column
+abbrev pub IsHeldBy : Matrix → ℕ → ℕ → Type 0
+IsHeldBy m i column = (d : Connectors) (S : Lines) → IsClosedBy m zeros (spread_at (entry m) (first_of d) (second_of d)) S → S (Row i) ≡ true → S (Column column) ≡ true
+
+abbrev pub AreHeldBy : Matrix → ℕ → (ℕ → Bool) → Type 0
+AreHeldBy m i set = (column : ℕ) → set column ≡ true → IsHeldBy m i column
 
 -- no good seed of the form has row i and column j
 abbrev pub HasNoneBetween : Matrix → ℕ → ℕ → Type 0
 HasNoneBetween m i j = (s : Seed) (S : Lines) → s.form ≡ Concentrated → s.i ≡ i → s.j ≡ j → ¬ (IsGoodSeed (height m) m.width (entry m) s S)
 
 -- each column that is no candidate is in no good seed with row i
-pub record AreCandidates (m : Matrix) (i : ℕ) (candidates : List Bool) : Type 0 where
-  pub size : length candidates ≡ m.width
-  pub others : (j : ℕ) → j < m.width → slice_index_or candidates j false ≡ false → HasNoneBetween m i j
+pub record AreCandidates (m : Matrix) (i : ℕ) (candidates : List ℕ) : Type 0 where
+  pub size : length candidates ≡ words_for m.width
+  pub others : (j : ℕ) → j < m.width → has_column candidates j ≡ false → HasNoneBetween m i j

@@ -11,19 +11,19 @@ pub record IsNewRow (m : Matrix) (j : ℕ) (set : ℕ → Bool) (row : ℕ) : Ty
   pub among : set column ≡ true
   pub here : support m row column ≡ true
 
--- the columns in which row i is not 0 and a row is
-abbrev pub outside_one : Matrix → ℕ → ℕ → ℕ → Bool
-outside_one m i one column = support m i column && not (support m one column)
+-- the columns of a set in which a row is 0
+abbrev pub outside_one : Matrix → (ℕ → Bool) → ℕ → ℕ → Bool
+outside_one m set one column = set column && not (support m one column)
 
 -- and another row too
-abbrev pub outside_two : Matrix → ℕ → ℕ → ℕ → ℕ → Bool
-outside_two m i one two column = outside_one m i one column && not (support m two column)
+abbrev pub outside_two : Matrix → (ℕ → Bool) → ℕ → ℕ → ℕ → Bool
+outside_two m set one two column = outside_one m set one column && not (support m two column)
 
--- three rows that are not 0 in column j, each of them not 0 in a column in which row i is not 0 and those before it are
-pub record AreIndependent (m : Matrix) (i j : ℕ) : Type 0 where
+-- three rows that are not 0 in column j, each of them not 0 in a column of a set in which those before it are 0
+pub record AreIndependent (m : Matrix) (set : ℕ → Bool) (j : ℕ) : Type 0 where
   pub one : ℕ
   pub two : ℕ
   pub three : ℕ
-  pub first : IsNewRow m j (support m i) one
-  pub second : IsNewRow m j (outside_one m i one) two
-  pub third : IsNewRow m j (outside_two m i one two) three
+  pub first : IsNewRow m j set one
+  pub second : IsNewRow m j (outside_one m set one) two
+  pub third : IsNewRow m j (outside_two m set one two) three

@@ -7,5 +7,3 @@ pub mod Concentrated
 pub mod Independent
 pub mod Cuts
 pub mod Searches
-pub mod Blocks
-pub mod ConcentratedRowsView

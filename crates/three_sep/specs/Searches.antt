@@ -24,13 +24,6 @@ BeginsWith (x ∷ xs) (y ∷ ys) = (x ≡ y) × BeginsWith xs ys
 abbrev pub HasNoGood : Matrix → List ℕ → Type 0
 HasNoGood m front = (s : Seed) (S : Lines) → BeginsWith front (seed_key (height m) s) → ¬ (IsGoodSeed (height m) m.width (entry m) s S)
 
--- a seed that begins so is good
-pub record HasGood (m : Matrix) (front : List ℕ) : Type 0 where
-  pub seed : Seed
-  pub side : Lines
-  pub begins : BeginsWith front (seed_key (height m) seed)
-  pub good : IsGoodSeed (height m) m.width (entry m) seed side
-
 -- the separation of the first good one of the seeds that begin so
 pub record IsFirstOf (m : Matrix) (front : List ℕ) (three : Three) : Type 0 where
   pub x : Line

@@ -9,30 +9,29 @@ ghost use Rattle.three_sep.specs.Independent.{AreIndependent, IsNewRow};
 use cmr_base::columns::{add_outside, clear_set, meets};
 use cmr_base::{MAX_ROWS, RowsAndColumns};
 
-/// Whether three rows are shown to be independent that are not 0 in column j, in the columns in which row i is not 0: each
-/// is not 0 in one of them in which those before it are 0. A side with row i and without column j would have these
-/// columns and not these rows, and two rows would make all three. The rows are taken as they come, so that most pairs are
-/// settled by three rows. `left` and `last` are room for columns.
+/// Whether three rows are shown to be independent that are not 0 in column j, in the columns of a set: each is not 0 in
+/// one of them in which those before it are 0. A side with these columns and without column j would have none of these
+/// rows, and two rows would make all three. The rows are taken as they come, so that most columns are settled by three
+/// rows. `left` and `last` are room for columns.
 pub fn are_three_independent(
     views: &RowsAndColumns<'_>,
-    i: u32,
+    set: &[u64],
     j: u32,
     left: &mut Vec<u64>,
     last: &mut Vec<u64>,
 ) -> bool
-    requires row { i < height views.now }
     requires column { j < views.now.width }
+    requires set { length set.now ≡ words_for views.now.width }
     requires left { length left.old.items ≡ words_for views.now.width }
     requires last { length last.old.items ≡ words_for views.now.width }
     ensures left { length left.new.items ≡ words_for views.now.width }
     ensures last { length last.new.items ≡ words_for views.now.width }
-    ensures independent { result ≡ true → AreIndependent views.now i j }
+    ensures independent { result ≡ true → AreIndependent views.now (has_column set.now) j }
 {
-    let own = columns_of(views, i);
-    let Some(one) = new_row(views, own, j, 0) else {
+    let Some(one) = new_row(views, set, j, 0) else {
         return false;
     };
-    put_outside(left, own, columns_of(views, one));
+    put_outside(left, set, columns_of(views, one));
     let Some(two) = new_row(views, left, j, one + 1) else {
         return false;
     };
@@ -61,8 +60,8 @@ fn new_row(views: &RowsAndColumns<'_>, set: &[u64], j: u32, from: u32) -> Option
     None
 }
 
-// The columns in which a row is not 0.
-fn columns_of<'b>(views: &'b RowsAndColumns<'_>, row: u32) -> &'b [u64]
+/// The columns in which a row is not 0.
+pub fn columns_of<'b>(views: &'b RowsAndColumns<'_>, row: u32) -> &'b [u64]
     requires { row < height views.now }
     ensures size { length result.now ≡ words_for views.now.width }
     ensures columns { (column : ℕ) → has_column result.now column ≡ support views.now row column }

@@ -2,10 +2,10 @@
 #![tactic(auto)]
 
 mod concentrated;
-mod concentrated_rows;
 mod connectors;
 mod corners;
 mod half;
+mod held;
 mod independent;
 mod others;
 mod pulled;

@@ -14,7 +14,7 @@ ghost use Rattle.three_sep.specs.Sides.{AreInside, HasRoom, IsGrowing, IsLeast, 
 ghost use Rattle.cuts.specs.Cuts.{HasNames};
 ghost use Rattle.three_sep.specs.Searches.{HasCorners, HasNoGood, HoldsFirst, IsCorner, IsFirstOf, IsNoSecondColumn, IsNoSecondRow, IsSearchOf, LeavesSecond, corner_front, other_line};
 
-use crate::concentrated::ConcentratedSearch;
+use crate::concentrated::first_concentrated;
 use crate::corners::may_cut;
 use crate::half::Half;
 use crate::others::{
@@ -41,7 +41,7 @@ pub fn three_separation<R: Threads + Sync>(
         (λ three. IsFirstThreeSeparation matrix.now three)) }
 {
     let views = RowsAndColumns::new(alloc, matrix)?;
-    Search::new(alloc, &views)?.first(rt, alloc, workers, &views)
+    Search::new(alloc, &views)?.first(alloc, &views)
 }
 
 /// How many corners are tried before groups are looked for, so that an early find does not pay for them.
@@ -86,14 +86,7 @@ impl Search {
     }
 
     // The forms in their order.
-    fn first<R: Threads + Sync>(
-        &mut self,
-        rt: &R,
-        alloc: Global,
-        workers: u32,
-        views: &RowsAndColumns<'_>,
-    ) -> Result<Option<Three>, Memory>
-        requires workers { (1 ≤ workers) × (workers ≤ 64) }
+    fn first(&mut self, alloc: Global, views: &RowsAndColumns<'_>) -> Result<Option<Three>, Memory>
         requires search { IsSearchOf views.now self.old }
         ensures first { IfOk result (λ answer. IfSome answer (IsFirstOf views.now [])) }
         ensures none { IfOk result (λ answer. IfNone answer (HasNoGood views.now [])) }
@@ -107,7 +100,7 @@ impl Search {
         if let Some(three) = self.first_of_form(alloc, views, Form::Mixed)? {
             return Ok(Some(three));
         }
-        ConcentratedSearch::new(alloc, views)?.first(rt, alloc, workers, views)
+        first_concentrated(alloc, views)
     }
 
     // The rows i.

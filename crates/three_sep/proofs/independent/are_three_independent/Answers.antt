@@ -1,6 +1,5 @@
 use Rattle.std.proofs.Common.{◌∙◌, ◌≡◌, ◌&&◌, not, ap, refl, sym, ℕ, Bool, List, length}
 use Rattle.cmr_base.specs.Matrix.{Matrix}
-use Rattle.cmr_base.specs.Trees.{support}
 use Rattle.cmr_base.specs.ColumnSets.{has_column}
 use Rattle.three_sep.specs.Independent.{IsNewRow, outside_one, outside_two}
 use Rattle.three_sep.proofs.independent.are_three_independent.Goals as goal
@@ -13,7 +12,7 @@ both_same : (a b e f : Bool) → a ≡ b → e ≡ f → (a && not e) ≡ (b && 
 both_same a b e f s t = rw (s, t) refl
 
 pub put_outside-requires-clause-one : goal.put_outside-requires-clause-one
-put_outside-requires-clause-one c = c.columns_of-own.ensures.size ∙ sym c.requires.left
+put_outside-requires-clause-one c = c.requires.set ∙ sym c.requires.left
 
 pub put_outside-requires-clause-other : goal.put_outside-requires-clause-other
 put_outside-requires-clause-other c = c.columns_of.ensures.size ∙ sym c.requires.left
@@ -27,21 +26,20 @@ put_outside-requires-2-clause-other c = c.columns_of-2.ensures.size ∙ sym c.re
 pub returns-in-Some-new_row-2-clause-independent : goal.returns-in-Some-new_row-2-clause-independent
 returns-in-Some-new_row-2-clause-independent c = λ e.
     let m = c.args.views.now in
-    let i = c.args.i in
+    let set = has_column c.args.set.now in
     let j = c.args.j in
     let one = c.in-Some.one in
     let two = c.in-Some-new_row.two in
     let three = c.in-Some-new_row-2._three in
-    let own = c.columns_of-own.ensures.columns in
-    let left : (column : ℕ) → has_column c.put_outside.new.set.items column ≡ outside_one m i one column =
-    λ column. c.put_outside.ensures.columns column ∙ both_same _ _ _ _ (own column) (c.columns_of.ensures.columns column) in
-    let last : (column : ℕ) → has_column c.put_outside-2.new.set.items column ≡ outside_two m i one two column =
+    let left : (column : ℕ) → has_column c.put_outside.new.set.items column ≡ outside_one m set one column =
+    λ column. c.put_outside.ensures.columns column ∙ both_same _ _ _ _ refl (c.columns_of.ensures.columns column) in
+    let last : (column : ℕ) → has_column c.put_outside-2.new.set.items column ≡ outside_two m set one two column =
     λ column. c.put_outside-2.ensures.columns column ∙ ap (λ (xs : List ℕ). has_column xs column && not (has_column c.columns_of-2.result.now column)) c.deref-2.ensures.value ∙ both_same _ _ _ _ (left column) (c.columns_of-2.ensures.columns column) in
     record {
       one = one;
       two = two;
       three = three;
-      first = same_new m j one _ (support m i) own c.in-Some.ensures.new;
-      second = same_new m j two _ (outside_one m i one) (λ column. ap (λ (xs : List ℕ). has_column xs column) c.deref.ensures.value ∙ left column) c.in-Some-new_row.ensures.new;
-      third = same_new m j three _ (outside_two m i one two) (λ column. ap (λ (xs : List ℕ). has_column xs column) c.deref-3.ensures.value ∙ last column) c.in-Some-new_row-2.ensures.new;
+      first = c.in-Some.ensures.new;
+      second = same_new m j two _ (outside_one m set one) (λ column. ap (λ (xs : List ℕ). has_column xs column) c.deref.ensures.value ∙ left column) c.in-Some-new_row.ensures.new;
+      third = same_new m j three _ (outside_two m set one two) (λ column. ap (λ (xs : List ℕ). has_column xs column) c.deref-3.ensures.value ∙ last column) c.in-Some-new_row-2.ensures.new;
     }

@@ -21,10 +21,10 @@ pub returns-clause-first : goal.returns-clause-first
 returns-clause-first g c =
     let m = c.args.views.now in
     let before = none_more m [] 1 c.in_ok-three-2.field-0 (none_more m [] 0 c.in_ok-three.field-0 (below_none m) c.in_default.is c.in_ok-three.ensures.none) c.in_default-2.is c.in_ok-three-2.ensures.none in
-    first_of_last_form m c.first.result (none_more m [] 2 c.in_ok-three-3.field-0 before c.in_default-3.is c.in_ok-three-3.ensures.none) c.first.ensures.first
+    first_of_last_form m c.first_concentrated.result (none_more m [] 2 c.in_ok-three-3.field-0 before c.in_default-3.is c.in_ok-three-3.ensures.none) c.first_concentrated.ensures.first
 
 pub returns-clause-none : goal.returns-clause-none
 returns-clause-none g c =
     let m = c.args.views.now in
     let before = none_more m [] 1 c.in_ok-three-2.field-0 (none_more m [] 0 c.in_ok-three.field-0 (below_none m) c.in_default.is c.in_ok-three.ensures.none) c.in_default-2.is c.in_ok-three-2.ensures.none in
-    map_none (HasNoGood m (3 ∷ [])) (HasNoGood m []) c.first.result (none_of_forms m (none_more m [] 2 c.in_ok-three-3.field-0 before c.in_default-3.is c.in_ok-three-3.ensures.none)) c.first.ensures.none
+    map_none (HasNoGood m (3 ∷ [])) (HasNoGood m []) c.first_concentrated.result (none_of_forms m (none_more m [] 2 c.in_ok-three-3.field-0 before c.in_default-3.is c.in_ok-three-3.ensures.none)) c.first_concentrated.ensures.none

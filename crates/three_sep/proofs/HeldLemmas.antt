@@ -1,0 +1,95 @@
+-- Columns that are in side one with a row.
+use Rattle.std.proofs.Common.{ℕ, ℤ, pos, ◌<◌, ◌*ℤ◌, ◌+ℤ◌, ◌&&◌, ◌||◌, Bool, true, false, not, List, ◌≡◌, ◌≢◌, ◌∙◌, sym, refl, subst, ◌⊎◌, inl, inr}
+use Rattle.cmr_base.specs.declared.line.Line.TheVariants.{Row, Column}
+use Rattle.cmr_base.specs.Matrix.{Matrix, height, entry, IsMatrix}
+use Rattle.cmr_base.specs.Signing.{IsSign}
+use Rattle.cmr_base.specs.Separations.{Lines, zeros, spread_at}
+use Rattle.cmr_base.specs.Trees.{support}
+use Rattle.cmr_base.proofs.Booleans.{and_is, false_is, nonzero_is, not_both, not_is, true_is, zero_is}
+use Rattle.cmr_base.proofs.NextNonzeros.{column_in as nonzero_in}
+use Rattle.cmr_base.proofs.SignEntries.{sign_of_entry}
+use Rattle.three_sep.specs.declared.connectors.Connectors.{Connectors}
+use Rattle.three_sep.specs.Sides.{IsClosedBy}
+use Rattle.three_sep.specs.Independent.{AreIndependent, outside_one, outside_two}
+use Rattle.three_sep.specs.Concentrated.{AreHeldBy, IsHeldBy, first_of, second_of}
+use Rattle.three_sep.proofs.SpreadLemmas.{no_triangle, spread_parts}
+use Rattle.three_sep.proofs.SpreadSideLemmas.{determinant, part_first, part_other}
+
+-- ---- sets of columns
+
+pub or_none : (a b : Bool) → a ≡ false → (a || b) ≡ b
+or_none true b e = absurd (not_both true refl e)
+or_none false b e = refl
+
+pub and_false : (a b : Bool) → (a && b) ≡ false → (b ≡ false) ⊎ (a ≡ false)
+and_false true b e = inl e
+and_false false b e = inr refl
+
+-- ---- columns that are held
+
+module _ (m : Matrix) (is : IsMatrix m) where
+  -- the columns of a row
+  pub own_held : (i : ℕ) → i < height m → AreHeldBy m i (support m i)
+  own_held i row_in column e d S closed one =
+      let l = nonzero_in m i column is row_in e in
+      true_is (S (Column column)) (λ out. nonzero_is (entry m i column) e (closed.right i column row_in l one out))
+
+  module _ (d : Connectors) (S : Lines) (closed : IsClosedBy m zeros (spread_at (entry m) (first_of d) (second_of d)) S) where
+    -- a column of the lower block from columns p and q
+    parts : (row column : ℕ) → row < height m → column < m.width → S (Row row) ≡ false → S (Column column) ≡ true
+        → entry m row column ≡ part_first m d column *ℤ entry m row d.corners.p +ℤ part_other m d column *ℤ entry m row d.q
+    parts row column lr lc er ec =
+        closed.below row column lr lc er ec
+        ∙ spread_parts (determinant m d) (entry m d.corners.k d.corners.p) (entry m d.corners.k d.q) (entry m d.o d.corners.p) (entry m d.o d.q) (entry m row d.corners.p) (entry m row d.q) (entry m d.corners.k column) (entry m d.o column)
+
+    -- three independent rows are not all outside
+    module _ (set : ℕ → Bool) (j : ℕ) (h : AreIndependent m set j) (inside : (column : ℕ) → set column ≡ true → S (Column column) ≡ true) (column_in : j < m.width) (out : S (Column j) ≡ false) where
+      row_out : (row : ℕ) → row < height m → support m row j ≡ true → S (Row row) ≡ false
+      row_out row l e = false_is (S (Row row)) (λ within. nonzero_is (entry m row j) e (closed.right row j l column_in within out))
+
+      among_one : (column : ℕ) → outside_one m set h.one column ≡ true → (set column ≡ true) × (entry m h.one column ≡ pos 0)
+      among_one column e = let (own, none) = and_is _ _ e in (own, zero_is (entry m h.one column) (not_is _ none))
+
+      among_two : (column : ℕ) → outside_two m set h.one h.two column ≡ true → (set column ≡ true) × (entry m h.one column ≡ pos 0) × (entry m h.two column ≡ pos 0)
+      among_two column e = let (before, none) = and_is _ _ e in let (own, zero_one) = among_one column before in (own, zero_one, zero_is (entry m h.two column) (not_is _ none))
+
+      sign_at : (row column : ℕ) → support m row column ≡ true → IsSign (entry m row column)
+      sign_at row column e = sign_of_entry (entry m row column) (is.small row column) (nonzero_is (entry m row column) e)
+
+      not_independent : ⊥
+      not_independent =
+          let one = h.first in
+          let two = h.second in
+          let three = h.third in
+          let lz = nonzero_in m h.one one.column is one.row_in one.here in
+          let ly = nonzero_in m h.two two.column is two.row_in two.here in
+          let lx = nonzero_in m h.three three.column is three.row_in three.here in
+          let iz = inside one.column one.among in
+          let (own_y, one_y) = among_one two.column two.among in
+          let iy = inside two.column own_y in
+          let (own_x, one_x, two_x) = among_two three.column three.among in
+          let ix = inside three.column own_x in
+          let o1 = row_out h.one one.row_in one.nonzero in
+          let o2 = row_out h.two two.row_in two.nonzero in
+          let o3 = row_out h.three three.row_in three.nonzero in
+          let p = d.corners.p in
+          let q = d.q in
+          let zero = no_triangle (entry m h.three p) (entry m h.three q) (entry m h.two p) (entry m h.two q) (entry m h.one p) (entry m h.one q)
+          (part_first m d three.column) (part_other m d three.column) (part_first m d two.column) (part_other m d two.column) (part_first m d one.column) (part_other m d one.column)
+          (sym (parts h.one three.column one.row_in lx o1 ix) ∙ one_x) (sym (parts h.one two.column one.row_in ly o1 iy) ∙ one_y)
+          (subst (λ (z : ℤ). IsSign z) (parts h.one one.column one.row_in lz o1 iz) (sign_at h.one one.column one.here))
+          (sym (parts h.two three.column two.row_in lx o2 ix) ∙ two_x)
+          (subst (λ (z : ℤ). IsSign z) (parts h.two two.column two.row_in ly o2 iy) (sign_at h.two two.column two.here)) in
+          nonzero_is (entry m h.three three.column) three.here (parts h.three three.column three.row_in lx o3 ix ∙ zero)
+
+  -- a column three rows of which are independent in columns that are held
+  pub forced_held : (i : ℕ) (set : ℕ → Bool) (j : ℕ) → AreHeldBy m i set → AreIndependent m set j → j < m.width → IsHeldBy m i j
+  forced_held i set j held independent column_in d S closed one =
+      true_is (S (Column j)) (λ out. not_independent d S closed set j independent (λ column e. held column e d S closed one) column_in out)
+
+-- one more
+pub held_more : (m : Matrix) (i j : ℕ) (before after : ℕ → Bool) → AreHeldBy m i before → IsHeldBy m i j → ((x : ℕ) → after x ≡ true → (x ≡ j) ⊎ (before x ≡ true)) → AreHeldBy m i after
+held_more m i j before after held one only x e = elim (only x e) [
+  | inl here ↦ subst (λ (z : ℕ). IsHeldBy m i z) (sym here) one
+  | inr other ↦ held x other
+]

@@ -1,9 +1,0 @@
-use Rattle.std.proofs.Common.{[], ◌∷◌, ◌++◌}
-use Rattle.cmr_base.specs.declared.separation.Form.TheVariants.{Concentrated}
-use Rattle.three_sep.specs.Sides.{HasSize}
-use Rattle.three_sep.specs.Searches.{HasNoneBelow, corner_front}
-use Rattle.three_sep.specs.Concentrated.{AreCandidates}
-use Rattle.three_sep.proofs.concentrated.ConcentratedSearch.first_of_columns.Given as goal
-
-abbrev pub invariant-loop-o : goal.invariant-loop-o
-invariant-loop-o l = HasSize l.views l.self.side × HasSize l.views l.self.grown × HasNoneBelow l.views (corner_front Concentrated l.corners ++ l.q ∷ []) l.o × AreCandidates l.views l.corners.i l.self.candidates.items

@@ -1,8 +1,0 @@
-use Rattle.std.proofs.Common.{[], ◌∷◌}
-use Rattle.three_sep.specs.Sides.{HasSize}
-use Rattle.three_sep.specs.Searches.{HasNoneBelow}
-use Rattle.three_sep.specs.Concentrated.{AreCandidates}
-use Rattle.three_sep.proofs.concentrated.ConcentratedSearch.first_of_row.Given as goal
-
-abbrev pub invariant-loop-p : goal.invariant-loop-p
-invariant-loop-p l = HasSize l.views l.self.side × HasSize l.views l.self.grown × HasNoneBelow l.views (3 ∷ l.i ∷ []) l.p × AreCandidates l.views l.i l.self.candidates.items

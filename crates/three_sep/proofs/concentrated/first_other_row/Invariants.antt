@@ -1,0 +1,7 @@
+use Rattle.std.proofs.Common.{[], ◌∷◌, ◌++◌}
+use Rattle.cmr_base.specs.declared.separation.Form.TheVariants.{Concentrated}
+use Rattle.three_sep.specs.Searches.{HasNoneBelow, corner_front}
+use Rattle.three_sep.proofs.concentrated.first_other_row.Given as goal
+
+abbrev pub invariant-loop-o : goal.invariant-loop-o
+invariant-loop-o l = HasNoneBelow l.views (corner_front Concentrated l.corners ++ l.q ∷ []) l.o

@@ -1,0 +1,10 @@
+use Rattle.std.proofs.Common.{◌≡◌, ℕ, length}
+use Rattle.cmr_base.specs.ColumnSets.{has_column}
+use Rattle.cmr_base.specs.Planes.{words_for}
+use Rattle.three_sep.specs.Concentrated.{AreHeldBy}
+use Rattle.three_sep.proofs.held.add_forced.Given as goal
+
+-- what holds of the columns known before holds of those known now
+abbrev pub invariant-loop-j : goal.invariant-loop-j
+invariant-loop-j l = (length l.held.items ≡ words_for l.views.width) × (length l.left.items ≡ words_for l.views.width) × (length l.last.items ≡ words_for l.views.width)
+    × ((i : ℕ) → AreHeldBy l.views i (has_column l.fn.held.items) → AreHeldBy l.views i (has_column l.held.items))

@@ -1,0 +1,89 @@
+// Columns that are in side one with a row, in each good seed of the concentrated form.
+ghost use Rattle.std.specs.Prelude.{◌≡◌, ◌<◌, ◌/◌, ◌⊎◌, ℕ, true, false, length, IfOk};
+ghost use Rattle.cmr_base.specs.ColumnSets.{has_column};
+ghost use Rattle.cmr_base.specs.Matrix.{height};
+ghost use Rattle.cmr_base.specs.Planes.{words_for};
+ghost use Rattle.three_sep.specs.Concentrated.{AreHeldBy};
+
+use crate::independent::{are_three_independent, columns_of};
+use cmr_base::columns::{add_set, empty_set};
+use cmr_base::{Memory, RowsAndColumns, has_bit, with_bit};
+use std::alloc::Global;
+
+/// Columns that are in side one of each good seed of the form with row i: those in which row i is not 0, and each column
+/// three rows of which are independent in the columns that are known so far, until none is added.
+pub fn held_columns(alloc: Global, views: &RowsAndColumns<'_>, i: u32) -> Result<Vec<u64>, Memory>
+    requires row { i < height views.now }
+    ensures size { IfOk result (λ set. length set.items ≡ words_for views.now.width) }
+    ensures held { IfOk result (λ set. AreHeldBy views.now i (has_column set.items)) }
+{
+    let mut held = empty_set(alloc, views.columns())?;
+    add_set(&mut held, columns_of(views, i));
+    let mut left = empty_set(alloc, views.columns())?;
+    let mut last = empty_set(alloc, views.columns())?;
+    for _round in 0..views.columns() {
+        if !add_forced(views, &mut held, &mut left, &mut last) {
+            return Ok(held);
+        }
+    }
+    Ok(held)
+}
+
+// Adds each column three rows of which are independent in the columns that are known, and says whether there is one.
+fn add_forced(
+    views: &RowsAndColumns<'_>,
+    held: &mut Vec<u64>,
+    left: &mut Vec<u64>,
+    last: &mut Vec<u64>,
+) -> bool
+    requires held { length held.old.items ≡ words_for views.now.width }
+    requires left { length left.old.items ≡ words_for views.now.width }
+    requires last { length last.old.items ≡ words_for views.now.width }
+    ensures held { length held.new.items ≡ words_for views.now.width }
+    ensures left { length left.new.items ≡ words_for views.now.width }
+    ensures last { length last.new.items ≡ words_for views.now.width }
+    ensures more { (i : ℕ) → AreHeldBy views.now i (has_column held.old.items)
+        → AreHeldBy views.now i (has_column held.new.items) }
+{
+    let mut grows = false;
+    for j in 0..views.columns() {
+        if !has_column(held, j) && are_three_independent(views, held, j, left, last) {
+            add_column(held, j);
+            grows = true;
+        }
+    }
+    grows
+}
+
+/// Adds a column to a set.
+pub fn add_column(set: &mut Vec<u64>, column: u32)
+    requires { column / 64 < length set.old.items }
+    ensures size { length set.new.items ≡ length set.old.items }
+    ensures only { (x : ℕ) → has_column set.new.items x ≡ true
+        → (x ≡ column) ⊎ (has_column set.old.items x ≡ true) }
+    ensures here { has_column set.new.items column ≡ true }
+    ensures kept { (x : ℕ) → has_column set.old.items x ≡ true
+        → has_column set.new.items x ≡ true }
+{
+    let block = column as usize / 64;
+    set[block] = with_bit(set[block], column % 64, true);
+}
+
+/// Takes a column out of a set.
+pub fn remove_column(set: &mut Vec<u64>, column: u32)
+    requires { column / 64 < length set.old.items }
+    ensures size { length set.new.items ≡ length set.old.items }
+    ensures only { (x : ℕ) → has_column set.new.items x ≡ false
+        → (x ≡ column) ⊎ (has_column set.old.items x ≡ false) }
+{
+    let block = column as usize / 64;
+    set[block] = with_bit(set[block], column % 64, false);
+}
+
+/// Whether a column is in a set.
+pub fn has_column(set: &[u64], column: u32) -> bool
+    requires { column / 64 < length set.now }
+    ensures { result ≡ has_column set.now column }
+{
+    has_bit(set[column as usize / 64], column % 64)
+}
