@@ -1,9 +1,13 @@
-"""Counts how many matrices of 10 by 10 `cmr-classify` does in a second of a processor, for all classes.
+"""Counts how many matrices of 10 by 10 `cmr-classify` does in a second of a processor, and tells where a run's time goes.
 
     /usr/bin/python3 bench/classifying.py --program crates/cmr/out/cmr
 
-It goes by the processor's time of the command, its process and all runs of the program, which depends little on what else the machine
-does. Each kind of matrix is asked with all classes, and with `--infer`, which settles some verdicts by others.
+It goes by the processor's time of the command, its process and all runs of the program, which depends less than the clock on what else
+the machine does: a run whose memory was given to others in between still takes up to twice as long. So all that is measured takes turns,
+and the best of the rounds is printed with the middle one.
+
+Each kind of matrix is asked with all classes, and with `--infer`, which settles some verdicts by others. Then a run for each class is
+measured by itself, as `cmr-classify` makes it, and one whose words are refused, which is the start and the end of the program alone.
 """
 
 import argparse
@@ -13,9 +17,17 @@ import resource
 import subprocess
 import sys
 import tempfile
+from contextlib import suppress
 from pathlib import Path
 
-COMMAND = Path(__file__).resolve().parents[1] / "scripts" / "cmr-classify"
+TOP = Path(__file__).resolve().parents[1]
+sys.path.insert(0, str(TOP / "python"))
+
+from cmr_matrices import CmrError  # noqa: E402
+from cmr_matrices.classifying.asking import ask, held_text  # noqa: E402
+from cmr_matrices.classifying.classes import CLASSES  # noqa: E402
+
+COMMAND = TOP / "scripts" / "cmr-classify"
 
 KINDS = {
     "half of the entries 1": (0, 1),
@@ -24,32 +36,76 @@ KINDS = {
 }
 
 
-def stream(entries, count):
+def texts(entries, count):
     draw = random.Random(1)
     for _ in range(count):
         yield "10 10\n" + "\n".join(" ".join(str(draw.choice(entries)) for _ in range(10)) for _ in range(10)) + "\n"
 
 
-def seconds(words):
-    """The processor's time of a command with all that it starts."""
-    before = resource.getrusage(resource.RUSAGE_CHILDREN)
-    subprocess.run([sys.executable, COMMAND, *words], stdout=subprocess.DEVNULL, stderr=subprocess.DEVNULL, check=True)
-    after = resource.getrusage(resource.RUSAGE_CHILDREN)
-    return after.ru_utime + after.ru_stime - before.ru_utime - before.ru_stime
+def seconds(work, *whose):
+    """The processor's time of what is done."""
+
+    def taken():
+        return sum(usage.ru_utime + usage.ru_stime for usage in map(resource.getrusage, whose))
+
+    before = taken()
+    work()
+    return taken() - before
+
+
+def in_turns(works, rounds, *whose):
+    """The times of each work, sorted, where the works take turns."""
+    times = [[seconds(work, *whose) for work in works] for _ in range(rounds)]
+    return [sorted(column) for column in zip(*times)]
+
+
+def rates(program, count, rounds):
+    with tempfile.TemporaryDirectory() as folder:
+        names, works = [], []
+        for place, (name, entries) in enumerate(KINDS.items()):
+            file = Path(folder, str(place))
+            file.write_text("".join(texts(entries, count)), encoding="ascii")
+            for option in ([], ["--infer"]):
+                words = [sys.executable, COMMAND, file, "--jobs", "1", "--program", program, *option]
+                names.append(" ".join([name, *option]))
+                works.append(lambda words=words: silent(words))
+        for name, times in zip(names, in_turns(works, rounds, resource.RUSAGE_CHILDREN)):
+            best, middle = count / times[0], count / times[len(times) // 2]
+            print(f"{name}: {best:.0f} a second, middle {middle:.0f}", flush=True)
+
+
+def silent(words):
+    subprocess.run(words, stdout=subprocess.DEVNULL, stderr=subprocess.DEVNULL, check=True)
+
+
+def runs(program, entries, rounds):
+    """The time of a run of each class on some matrices, the least of the rounds for each of them, with the part of Python in it."""
+    kept = [text.encode("ascii") for text in texts(entries, 20)]
+
+    def asked(text, words, said):
+        with held_text(text) as file, suppress(CmrError):
+            ask(program, words, file, said)
+
+    questions = [(["no-such-tool"], ""), *((kind.words, kind.said) for kind in CLASSES)]
+    works = [lambda text=text, question=question: asked(text, *question) for question in questions for text in kept]
+    least = [times[0] * 1e6 for times in in_turns(works, rounds, resource.RUSAGE_SELF, resource.RUSAGE_CHILDREN)]
+    start, *means = [sum(least[place : place + len(kept)]) / len(kept) for place in range(0, len(least), len(kept))]
+    print(f"words that are refused: {start:.0f} us")
+    for kind, mean in zip(CLASSES, means):
+        print(f"{kind.name}: {mean:.0f} us")
+    print(f"all classes: {sum(means):.0f} us, of which starts {len(means) * start:.0f} us")
+    print(f"one start, and what each class takes above one: {sum(means) - (len(means) - 1) * start:.0f} us")
 
 
 def main():
     parser = argparse.ArgumentParser(description=__doc__, formatter_class=argparse.RawDescriptionHelpFormatter)
     parser.add_argument("--program", required=True)
-    parser.add_argument("--count", type=int, default=2000)
+    parser.add_argument("--count", type=int, default=1000)
+    parser.add_argument("--rounds", type=int, default=5)
     chosen = parser.parse_args()
-    for name, entries in KINDS.items():
-        with tempfile.TemporaryDirectory() as folder:
-            file = Path(folder, "stream")
-            file.write_text("".join(stream(entries, chosen.count)), encoding="ascii")
-            for option in ([], ["--infer"]):
-                words = [str(file), "--jobs", "1", "--program", os.path.abspath(chosen.program), *option]
-                print(f"{name} {' '.join(option)}: {chosen.count / seconds(words):.0f} a second", flush=True)
+    program = os.path.abspath(chosen.program)
+    rates(program, chosen.count, chosen.rounds)
+    runs(program, KINDS["half of the entries 1"], 10 * chosen.rounds)
 
 
 if __name__ == "__main__":

@@ -8,7 +8,7 @@ import signal
 import tempfile
 import time
 from collections.abc import Iterator, Sequence
-from contextlib import contextmanager
+from contextlib import contextmanager, suppress
 from functools import cache
 
 from ..errors import BadText, CmrError, ProgramFault, TimeLimitReached
@@ -63,12 +63,18 @@ def ask(program: str, words: Sequence[str], text: int, said: str, time_limit: fl
     try:
         printed = _printed(reading, process, time_limit)
     except BaseException:
-        os.kill(process, signal.SIGKILL)
-        os.waitpid(process, 0)
+        _end(process)
         raise
     finally:
         os.close(reading)
     return _verdict(*printed, said)
+
+
+def _end(process: int) -> None:
+    """Ends a run, which may have ended just now."""
+    with suppress(ProcessLookupError, ChildProcessError):
+        os.kill(process, signal.SIGKILL)
+        os.waitpid(process, 0)
 
 
 @cache

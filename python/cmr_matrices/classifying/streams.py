@@ -12,6 +12,7 @@ import sys
 from collections.abc import Iterable, Iterator
 from contextlib import ExitStack
 from dataclasses import dataclass
+from itertools import islice
 from pathlib import Path
 from typing import BinaryIO, Literal
 
@@ -116,7 +117,7 @@ def texts_of(stream: BinaryIO, form: Format) -> Iterator[tuple[int, bytes, bool]
             yield start, words.text(False), False
             words.begin()
         entries = 3 * counts[2] if form == "sparse" else rows * columns
-        is_short = any(words.next() is None or words.is_cut for _ in range(entries))
+        is_short = not words.take(entries)
         if max(rows, columns) <= _LINES:
             yield start, words.text(is_short), words.is_cut
         if words.is_cut:
@@ -163,9 +164,20 @@ class _Words:
             if not self._read():
                 self.has_ended = True
                 return None
-        self.start, self.end = self._base + found.start(), self._base + found.end()
-        self.word = found[0]
+        self._stand_at(found)
         return self.word
+
+    def take(self, count: int) -> bool:
+        """Takes so many words, and says whether they are there, each of them whole."""
+        left = count
+        while left and self.next() is not None and not self.is_cut:
+            left -= 1
+            last = None
+            for last in islice(self._places, left):
+                left -= 1
+            if last is not None:
+                self._stand_at(last)
+        return not left
 
     def begin(self) -> None:
         """Lets a text begin at the last word."""
@@ -177,6 +189,10 @@ class _Words:
         """The text up to the last word, or up to the end of the stream."""
         end = len(self._piece) if to_the_end else self.end - self._base
         return b"".join([*self._kept, self._piece[self._from : max(end, self._from)]])[: TEXT_LIMIT + 1]
+
+    def _stand_at(self, found: re.Match[bytes]) -> None:
+        self.start, self.end = self._base + found.start(), self._base + found.end()
+        self.word = found[0]
 
     def _read(self) -> bool:
         """Takes the next piece, and says whether there was one."""
