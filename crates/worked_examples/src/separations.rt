@@ -137,10 +137,10 @@ fn long_three_separation(rt: HostRuntime) -> Result<(), Fail> {
     Ok(())
 }
 
-// A path beside the lines of the connectors, in a matrix so large that several workers share a block of seeds. Side one takes in
+// A path beside the lines of the connectors, in a matrix with many lines of zeros. Side one takes in
 // all of the path, or a row of zeros where that comes first.
 #[test]
-fn shared_blocks(rt: HostRuntime) -> Result<(), Fail> {
+fn paths_beside_connectors(rt: HostRuntime) -> Result<(), Fail> {
     for (text, expected) in [
         // The two other lines are the last columns.
         (
@@ -170,9 +170,9 @@ fn shared_blocks(rt: HostRuntime) -> Result<(), Fail> {
     Ok(())
 }
 
-// Of the concentrated form several workers share the rows i. The first good one is among the last rows, or there is none.
+// Of the concentrated form the first good row i is among the last rows, or there is none.
 #[test]
-fn shared_rows(rt: HostRuntime) -> Result<(), Fail> {
+fn last_rows(rt: HostRuntime) -> Result<(), Fail> {
     for (text, expected) in [
         (
             "150 150 8/147 147 1/147 148 1/148 147 1/149 147 1/149 149 1/149 150 1/150 148 1/150 149 -1/",
