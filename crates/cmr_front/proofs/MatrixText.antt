@@ -1,7 +1,13 @@
 -- Tools that read one matrix text.
-use Rattle.std.proofs.Common.{◌≡◌, ℕ, List, [], ◌∷◌, Ok, Err, length, map, get_or, ap, sym, subst, refl, arith}
-use Rattle.cmr_base.specs.Matrix.{Matrix}
+use Rattle.std.proofs.Common.{◌≡◌, ℕ, Bool, true, List, [], ◌∷◌, Ok, Err, length, map, get_or, ap, sym, subst, refl, arith}
+use Rattle.cmr_base.specs.Matrix.{Matrix, IsMatrix}
+use Rattle.cmr_base.specs.Trees.{IsBinary}
+use Rattle.text_fields.specs.Words.{text_of}
+use Rattle.matrix_text.proofs.BinaryTexts.{dense_binary, sparse_binary}
+use Rattle.matrix_text.proofs.ReadMatrices.{dense_is_matrix, sparse_is_matrix}
 use Rattle.cmr_front.specs.declared.input.Text.{Text}
+use Rattle.cmr_front.specs.declared.matrix_file.MatrixForm.{MatrixForm}
+use Rattle.cmr_front.specs.declared.matrix_file.MatrixForm.TheVariants.{Dense, Sparse}
 use Rattle.cmr_front.specs.declared.outcome.FaultKind.TheVariants as faults
 use Rattle.cmr_front.specs.declared.outcome.Outcome.{Outcome}
 use Rattle.cmr_front.specs.declared.outcome.Stop.{Stop}
@@ -14,6 +20,16 @@ use Rattle.cmr_front.specs.Status.{answer_status}
 use Rattle.cmr_front.specs.Stopped.{StopsText}
 use Rattle.cmr_front.specs.Tool.{IsDecision, IsLawful}
 use Rattle.cmr_front.proofs.Texts.{answered, fault_reported, one_of_text, read_reported}
+
+-- what is read is a matrix within the limits
+pub read_is_matrix : (form : MatrixForm) (binary : Bool) (bytes : List ℕ) (m : Matrix) → matrix_in form binary bytes ≡ Ok m → IsMatrix m
+read_is_matrix Dense binary bytes m read = dense_is_matrix binary (text_of bytes) m read
+read_is_matrix Sparse binary bytes m read = sparse_is_matrix binary (text_of bytes) m read
+
+-- and one of zeros and ones where it is read as 0/1
+pub read_is_binary : (form : MatrixForm) (bytes : List ℕ) (m : Matrix) → matrix_in form true bytes ≡ Ok m → IsBinary m
+read_is_binary Dense bytes m read = dense_binary true (text_of bytes) (Ok m) read refl
+read_is_binary Sparse bytes m read = sparse_binary true (text_of bytes) (Ok m) read refl
 
 -- the text of a list of one
 pub one_text : (ts : List Text) (t : Text) → length ts ≡ 1 → t ≡ get_or ts 0 t → map bytes_of ts ≡ bytes_of t ∷ []

@@ -10,19 +10,24 @@ use Rattle.graph_text.specs.Reading.{IsGraph}
 use Rattle.graph_text.proofs.ReadAgain.{graph_again}
 use Rattle.graph_text.proofs.TextLengths.{graph_text_within}
 use Rattle.graph_text.proofs.WrittenEdges.{written_is_text}
-use Rattle.cmr_front.specs.Inputs.{Given, and_then, given, texts}
-use Rattle.cmr_front.specs.MatrixText.{matrix_file}
+use Rattle.cmr_front.specs.declared.matrix_file.MatrixForm.{MatrixForm}
+use Rattle.cmr_front.specs.declared.outcome.FaultKind.TheVariants as faults
+use Rattle.cmr_front.specs.Inputs.{Given, and_then, given, not_there, texts, too_much}
+use Rattle.cmr_front.specs.MatrixText.{matrix_file, matrix_in}
 use Rattle.cmr_front.specs.Report.{File, Held, Report, asked_file, with_files}
-use Rattle.cmr_front.specs.Run.{ReportsGiven}
+use Rattle.cmr_front.specs.Run.{ReportsGiven, ReportsHeld}
+use Rattle.cmr_front.proofs.MatrixText.{read_is_binary, read_is_matrix}
 use Rattle.cmr_front.proofs.Statuses.{status_of}
+use Rattle.cmr_front.proofs.Texts.{answered}
 use Rattle.cmr_reach.proofs.WayBack.{read_whole, same_name}
 use Rattle.cmr_tools.specs.declared.options.Property.{Property}
+use Rattle.cmr_tools.specs.declared.options.Property.TheVariants.{Graphic, Network}
 use Rattle.cmr_front.specs.declared.status.Answer.TheVariants.{Yes}
 use Rattle.cmr_front.specs.Status.{answer_status}
-use Rattle.cmr_tools.specs.GraphicNetwork.{IsTestable, Shows, TestDecides, yes, no, tested_matrix, written_graph}
+use Rattle.cmr_tools.specs.GraphicNetwork.{IsTestable, Shows, TestDecides, is_binary, yes, no, path_tool, tested_matrix, written_graph}
 use Rattle.cmr_tools.specs.Words.GraphicNetwork.{TestOrder}
-use Rattle.cmr_tools.specs.GraphMatrix.{IsMatrixOf, graph_matrix_report, graph_matrix_tool}
-use Rattle.cmr_tools.specs.Laws.{FileGivesMatrix, GivesMatrix, GraphFilesGiveBack, GraphsGiveBack}
+use Rattle.cmr_tools.specs.GraphMatrix.{IsMatrixOf, either_tool, graph_matrix_report, graph_matrix_tool}
+use Rattle.cmr_tools.specs.Laws.{FileGivesMatrix, GivesMatrix, GraphFilesGiveBack, GraphsGiveBack, HeldGraphsGiveBack}
 use Rattle.cmr_tools.proofs.GraphicNetworkAnswers.{shown_network}
 use Rattle.cmr_tools.proofs.GraphMatrixAnswers.{one_graph_matrix}
 
@@ -74,3 +79,33 @@ pub graph_files_give_back : GraphFilesGiveBack
 graph_files_give_back p o m report name held is testable plain asked decides status =
     let written = is_written p o m report name plain asked decides status in
     subst (λ (files : List File). FileGivesMatrix p name (with_files held files) m) (sym written.files) (file_gives p written.net m name held is testable written.shows)
+
+-- ---- from the text of the matrix
+
+-- what was read is tested
+read_is_testable : (p : Property) (form : MatrixForm) (bytes : List ℕ) (m : Matrix) → matrix_in form (is_binary p) bytes ≡ Ok m → IsTestable p m
+read_is_testable Graphic form bytes m read = read_is_binary form bytes m read
+read_is_testable Network form bytes m read = tt
+
+-- a yes comes of one text, which stands for a matrix
+matrix_read : (p : Property) (o : TestOrder) (read : Given) (report : Report) → ReportsGiven (path_tool p o) read report → report.status ≡ answer_status Yes
+    → (bytes : List ℕ) × (read ≡ texts (bytes ∷ [])) × (m : Matrix) × (matrix_in o.form (is_binary p) bytes ≡ Ok m) × TestDecides p o m report
+matrix_read p o (not_there name) report reports status = absurd reports
+matrix_read p o (too_much name) report reports status = let s = status_of report _ reports in absurd (omega arith)
+matrix_read p o (texts []) report reports status = absurd reports
+matrix_read p o (texts (bytes ∷ [])) report reports status =
+    let found = answered faults.Matrix o.file (TestDecides p o) (matrix_in o.form (is_binary p) bytes) report Yes reports status in
+    (bytes, refl, found.0, found.1, found.2)
+matrix_read p o (texts (bytes ∷ other ∷ others)) report reports status = absurd reports
+
+pub held_graphs_give_back : HeldGraphsGiveBack
+held_graphs_give_back p o name held report tests plain asked reports status =
+    let tested = subst (λ (from_graph : Bool). ReportsHeld (either_tool from_graph (graph_matrix_tool p o.file) (path_tool p o)) held report) tests reports in
+    let read = matrix_read p o (given held (matrix_file o.file ∷ [])) report tested status in
+    record {
+      matrix_text = read.0;
+      held_text = read.1;
+      matrix = read.2;
+      matrix_is = read.3;
+      gives_back = graph_files_give_back p o read.2 report name held (read_is_matrix o.form (is_binary p) read.0 read.2 read.3) (read_is_testable p o.form read.0 read.2 read.3) plain asked read.4 status;
+    }

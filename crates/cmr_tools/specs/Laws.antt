@@ -1,17 +1,18 @@
 -- Laws on what the tools report.
-use Rattle.std.specs.Prelude.{◌≡◌, ℕ, false, List, [], ◌∷◌, Some, Contains, map}
+use Rattle.std.specs.Prelude.{◌≡◌, ℕ, false, List, [], ◌∷◌, Some, Ok, Contains, map}
 use Rattle.cmr_base.specs.Matrix.{Matrix, IsMatrix}
 use Rattle.cmr_front.specs.declared.outcome.FaultKind.{FaultKind}
 use Rattle.cmr_front.specs.declared.status.Answer.TheVariants.{Yes}
 use Rattle.cmr_front.specs.declared.status.Failure.TheVariants.{Text}
-use Rattle.cmr_front.specs.Inputs.{InputFile}
+use Rattle.cmr_front.specs.Inputs.{InputFile, given, texts}
+use Rattle.cmr_front.specs.MatrixText.{matrix_file, matrix_in}
 use Rattle.cmr_front.specs.Outcome.{bad_text}
 use Rattle.cmr_front.specs.Report.{Held, Report, with_files}
 use Rattle.cmr_front.specs.Run.{ReportsHeld}
 use Rattle.cmr_front.specs.Status.{answer_status, failure_status}
 use Rattle.cmr_tools.specs.declared.options.Property.{Property}
-use Rattle.cmr_tools.specs.GraphMatrix.{graph_matrix_report, graph_matrix_tool}
-use Rattle.cmr_tools.specs.GraphicNetwork.{IsTestable, TestDecides}
+use Rattle.cmr_tools.specs.GraphMatrix.{graph_matrix_report, graph_matrix_tool, test_tool}
+use Rattle.cmr_tools.specs.GraphicNetwork.{IsTestable, TestDecides, is_binary}
 use Rattle.cmr_tools.specs.Tools.{tool_of}
 use Rattle.cmr_tools.specs.Words.{Order}
 use Rattle.cmr_tools.specs.Words.GraphicNetwork.{TestOrder}
@@ -36,6 +37,19 @@ FileGivesMatrix p name held m = ReportsHeld (graph_matrix_tool p name) held (gra
 abbrev pub GraphFilesGiveBack : Type 0
 GraphFilesGiveBack = (p : Property) (o : TestOrder) (m : Matrix) (report : Report) (name : List ℕ) (held : Held) → IsMatrix m → IsTestable p m → o.transposed ≡ false → o.graph ≡ Some name
     → TestDecides p o m report → report.status ≡ answer_status Yes → FileGivesMatrix p name (with_files held report.files) m
+
+-- The file that was read holds a matrix, and with `-c` the file of the graph, once it stands there, gives this matrix.
+pub record IsGivenBack (p : Property) (o : TestOrder) (name : List ℕ) (held : Held) (report : Report) : Type 0 where
+  pub matrix_text : List ℕ
+  pub held_text : given held (matrix_file o.file ∷ []) ≡ texts (matrix_text ∷ [])
+  pub matrix : Matrix
+  pub matrix_is : matrix_in o.form (is_binary p) matrix_text ≡ Ok matrix
+  pub gives_back : FileGivesMatrix p name (with_files held report.files) matrix
+
+-- the same from what the names hold before: whatever the tool reports there
+abbrev pub HeldGraphsGiveBack : Type 0
+HeldGraphsGiveBack = (p : Property) (o : TestOrder) (name : List ℕ) (held : Held) (report : Report) → o.from_graph ≡ false → o.transposed ≡ false → o.graph ≡ Some name
+    → ReportsHeld (test_tool p o) held report → report.status ≡ answer_status Yes → IsGivenBack p o name held report
 
 -- the line on the text of one of these files
 pub record IsFaultOfFile (files : List InputFile) (report : Report) : Type 0 where

@@ -1,12 +1,18 @@
 //! Laws over the definitions alone. Each is a function that does nothing: its contract is the law.
-ghost use Rattle.cmr_tools.specs.Laws.{FaultsAreOfFiles, GraphFilesGiveBack, GraphsGiveBack};
+ghost use Rattle.cmr_tools.specs.Laws.{
+  FaultsAreOfFiles,
+  GraphFilesGiveBack,
+  GraphsGiveBack,
+  HeldGraphsGiveBack,
+};
 
 /// Where `graphic` or `network` says yes of a matrix and writes a graph, but not with `-t`, the same tool with `-c` writes
 /// from that graph the canonical dense text of the matrix, and can report nothing else. It does so from the text, and from
-/// the file once the text stands in it.
+/// the file once the text stands in it; there the matrix is the one whose text was held by the file that was read.
 pub fn graphs_give_back()
     ensures texts { GraphsGiveBack }
     ensures files { GraphFilesGiveBack }
+    ensures held { HeldGraphsGiveBack }
 {}
 
 /// Whatever texts a tool decides on, a report with the status of a text at fault is the line on a file that the tool reads.

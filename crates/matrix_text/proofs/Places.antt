@@ -29,7 +29,7 @@ pub record AreHeld (height width : ℕ) (taken : List Bool) (cells : List ℤ) (
   pub values : (row column : ℕ) → row < height → column < width → get_or cells (row * width + column) (pos 0) ≡ value_at triples (row + 1) (column + 1)
   pub small : (k : ℕ) → IsEntry (get_or cells k (pos 0))
 
-zero_small : IsEntry (pos 0)
+pub zero_small : IsEntry (pos 0)
 zero_small = record { low = omega (arith, ints); high = omega (arith, ints) }
 
 zeros_small : (n k : ℕ) → IsEntry (get_or (replicate n (pos 0)) k (pos 0))

@@ -178,7 +178,7 @@ three_words : (a b c : ℕ × List ℕ) (words x y rest : List (ℕ × List ℕ)
 three_words a b c words x y rest e f g = rw (e, f, g) refl
 
 -- what is read is a sparse text
-sparse_found : (binary : Bool) (text : Text) (m : Matrix) → sparse binary text ≡ Ok m → IsSparse binary (texts_of text.words) m
+pub sparse_found : (binary : Bool) (text : Text) (m : Matrix) → sparse binary text ≡ Ok m → IsSparse binary (texts_of text.words) m
 sparse_found binary text m h =
     let a = bind_ok (field Short (limited MAX_ROWS TooManyRows) text) (λ (height : ℕ × Text). field Short (limited MAX_COLUMNS TooManyColumns) height.1 >>= λ width. field Short count width.1 >>= λ n. matrix_by_triples binary height.0 width.0 n.0 n.1 >>= λ matrix. ended Extra matrix.0 matrix.1) m h in
     let b = bind_ok (field Short (limited MAX_COLUMNS TooManyColumns) a.0.1) (λ (width : ℕ × Text). field Short count width.1 >>= λ n. matrix_by_triples binary a.0.0 width.0 n.0 n.1 >>= λ matrix. ended Extra matrix.0 matrix.1) m a.2 in
