@@ -25,9 +25,9 @@ first_of_corners-requires-clause-inside c =
     let here : has_column c.in_ok-columns.columns.items c.in-Some.j ≡ true = ap (λ (xs : List ℕ). has_column xs c.in-Some.j) (sym c.deref-in-loop-j.ensures.value) ∙ c.in-Some.ensures.2 in
     record {
       row_one = c.requires.corner.0;
-      column_one = c.requires.corner.1.0;
-      row_two = c.requires.corner.1.1;
-      column_two = nonzero_in m c.args.k c.in-Some.j c.columns-columns.ensures.shape c.requires.corner.1.1 (c.in_ok-columns.ensures.yes c.in-Some.j here);
+      column_one = c.requires.corner.1;
+      row_two = c.requires.corner.2;
+      column_two = nonzero_in m c.args.k c.in-Some.j c.columns-columns.ensures.shape c.requires.corner.2 (c.in_ok-columns.ensures.yes c.in-Some.j here);
     }
 
 pub first_of_corners-requires-clause-corners : goal.first_of_corners-requires-clause-corners
@@ -52,7 +52,7 @@ loop-j-preserved c =
     (λ x e. subst (λ (xs : List ℕ). (support m c.args.k x ≡ false) ⊎ (has_column xs x ≡ false)) c.deref-2.ensures.value (c.in_ok-columns.ensures.no x e)) c.loop-j.invariant.0
     (λ x a l. ap (λ (xs : List ℕ). has_column xs x) (sym c.deref-in-loop-j.ensures.value) ∙ c.in-Some.ensures.3 x a l) in
     let few : c.in-Some.j + 1 ≤ 1024 =
-    let l = nonzero_in m c.args.k c.in-Some.j c.columns-columns.ensures.shape c.requires.corner.1.1 (c.in_ok-columns.ensures.yes c.in-Some.j (ap (λ (xs : List ℕ). has_column xs c.in-Some.j) (sym c.deref-in-loop-j.ensures.value) ∙ c.in-Some.ensures.2)) in
+    let l = nonzero_in m c.args.k c.in-Some.j c.columns-columns.ensures.shape c.requires.corner.2 (c.in_ok-columns.ensures.yes c.in-Some.j (ap (λ (xs : List ℕ). has_column xs c.in-Some.j) (sym c.deref-in-loop-j.ensures.value) ∙ c.in-Some.ensures.2)) in
     let w = c.columns-columns.ensures.shape.width_in in
     omega arith in
     (none_more m (3 ∷ c.args.i ∷ c.args.p ∷ c.args.k ∷ []) c.in-Some.j c.in_ok-three.field-0 before c.in_default-2.is c.in_ok-three.ensures.none, c.in_ok-three.ensures.candidates, few)
