@@ -13,7 +13,7 @@ use Rattle.text_fields.proofs.Results.{bind_ok}
 use Rattle.matrix_text.specs.Kinds.{text_kind}
 use Rattle.matrix_text.specs.Values.{allowed, entry_in}
 use Rattle.matrix_text.specs.Dense.{dense}
-use Rattle.matrix_text.specs.Sparse.{matrix_of_triples, sparse, value_at}
+use Rattle.matrix_text.specs.Sparse.{sparse, value_at}
 use Rattle.matrix_text.proofs.DenseTexts.{dense_found}
 use Rattle.matrix_text.proofs.Places.{zero_small}
 use Rattle.matrix_text.proofs.SparseTexts.{sparse_found}
