@@ -46,7 +46,7 @@ least_is_fault m lines is = elim (cases_lt m.width (height m)) [
 
 -- and so is the cycle fault
 pub cycle_is_fault : (m : Matrix) (lines : LineSet) → IsMatrix m → IsCycleFault m lines.rows lines.columns → IsFaultOf m lines
-cycle_is_fault m lines shape is = record { row_set = is.row_set; column_set = is.column_set; balance_fault = cycle_fault_unbalanced m shape lines.rows lines.columns is }
+cycle_is_fault m lines shape is = record { row_set = is.row_set; column_set = is.column_set; balance_fault = cycle_fault_unbalanced m (is_ternary m shape) lines.rows lines.columns is }
 
 -- all decompositions within a budget and with so many pivots say yes, or none does
 pub undecomposed : (budget pivots : ℕ) (m : Matrix) (tree : Tree) → IsTreeFor (height m) m.width tree → IsShapeWith budget pivots m tree → ¬ (verdict_of tree ≡ verdicts.Yes) → ¬ (IsDecomposed budget pivots m)
