@@ -49,13 +49,6 @@ set-rows_of (suc n) w cells (suc r) c v hr hc =
     let later : w ≤ w + (r * w + c) = omega arith in
     rw (e, take-set-le, drop-set-add) (ap (λ rows. take w cells ∷ rows) (set-rows_of n w (drop w cells) r c v (omega arith) hc))
 
-pub nonzeros-rows_of : (n w : ℕ) (cells : List ℤ) → length cells ≡ n * w → nonzeros_of (rows_of n w cells) ≡ count_by is_nonzero cells
-nonzeros-rows_of zero w [] e = refl
-nonzeros-rows_of zero w (x ∷ cells) e = absurd (omega (arith, zero-mul w))
-nonzeros-rows_of (suc n) w cells e =
-    ap (λ k. count_by is_nonzero (take w cells) + k) (nonzeros-rows_of n w (drop w cells) (omega (arith, suc-mul n w, length-drop w cells)))
-    ∙ sum_by-take-drop _ cells w
-
 pub replicate-rows_of : (n w : ℕ) (z : ℤ) → rows_of n w (replicate (n * w) z) ≡ replicate n (replicate w z)
 replicate-rows_of zero w z = refl
 replicate-rows_of (suc n) w z =

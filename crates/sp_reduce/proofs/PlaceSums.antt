@@ -131,18 +131,6 @@ module _ (number : ℕ → ℕ) (marks : List Bool) (size own place : ℕ) (befo
 
 -- ---- the marks
 
-pub no_marks : (size : ℕ) → AreMarks size [] (replicate size false)
-no_marks size = record {
-  long = length-replicate size false;
-  exact = λ k. ((λ e. true≢false (sym e ∙ unmarked k)), (λ h. absurd h));
-}
-  where
-    unmarked : (k : ℕ) → get_or (replicate size false) k false ≡ false
-    unmarked k = elim (cases_lt k size) [
-      | inl h ↦ get_or-replicate size k false false h
-      | inr past ↦ let long = length-replicate size false in get_or_past (replicate size false) k false (omega (arith, long, past))
-    ]
-
 pub one_marked : (size : ℕ) (lines : List ℕ) (marks : List Bool) (i : ℕ) → i < length lines → get_or lines i 0 < size → AreMarks size (take i lines) marks → AreMarks size (take (i + 1) lines) (set marks (get_or lines i 0) true)
 one_marked size lines marks i h small are = record {
   long = length-set marks line true ∙ are.long;

@@ -27,26 +27,11 @@ tree_is node = fold_out-Node (Finding × Trees) Tree Trees kind_step node_step l
 pub said_empty : said kind.Empty ≡ (Empty, NoTrees)
 said_empty = ap said (sym kind.rolls-Empty) ∙ fold-roll-Kind (Finding × Trees) Tree Trees kind_step node_step list_step open'.Empty
 
-pub said_r10 : said kind.R10 ≡ (R10, NoTrees)
-said_r10 = ap said (sym kind.rolls-R10) ∙ fold-roll-Kind (Finding × Trees) Tree Trees kind_step node_step list_step open'.R10
-
-pub said_enumerated : said kind.Enumerated ≡ (Enumerated, NoTrees)
-said_enumerated = ap said (sym kind.rolls-Enumerated) ∙ fold-roll-Kind (Finding × Trees) Tree Trees kind_step node_step list_step open'.Enumerated
-
-pub said_undecided : said kind.Undecided ≡ (Undecided, NoTrees)
-said_undecided = ap said (sym kind.rolls-Undecided) ∙ fold-roll-Kind (Finding × Trees) Tree Trees kind_step node_step list_step open'.Undecided
-
 pub said_cycle : (fault : LineSet) → said (kind.Cycle fault) ≡ (Cycle fault, NoTrees)
 said_cycle fault = ap said (sym (kind.rolls-Cycle fault)) ∙ fold-roll-Kind (Finding × Trees) Tree Trees kind_step node_step list_step (open'.Cycle fault)
 
 pub said_violator : (fault : LineSet) → said (kind.Violator fault) ≡ (Violator fault, NoTrees)
 said_violator fault = ap said (sym (kind.rolls-Violator fault)) ∙ fold-roll-Kind (Finding × Trees) Tree Trees kind_step node_step list_step (open'.Violator fault)
-
-pub said_network : (found : net.Network) → said (kind.Network found) ≡ (Network found, NoTrees)
-said_network found = ap said (sym (kind.rolls-Network found)) ∙ fold-roll-Kind (Finding × Trees) Tree Trees kind_step node_step list_step (open'.Network found)
-
-pub said_conetwork : (found : net.Network) → said (kind.Conetwork found) ≡ (Conetwork found, NoTrees)
-said_conetwork found = ap said (sym (kind.rolls-Conetwork found)) ∙ fold-roll-Kind (Finding × Trees) Tree Trees kind_step node_step list_step (open'.Conetwork found)
 
 pub said_reduced : (steps : ItemList Line) (child : Box Node Global) → said (kind.Reduced steps child) ≡ (Reduced steps, one_tree (tree_of child.value))
 said_reduced steps child = ap said (sym (kind.rolls-Reduced steps child)) ∙ fold-roll-Kind (Finding × Trees) Tree Trees kind_step node_step list_step (open'.Reduced steps child)
