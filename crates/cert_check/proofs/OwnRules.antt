@@ -1,5 +1,5 @@
 -- The first rule that a node breaks by what it says, by the tests of its kind.
-use Rattle.std.proofs.Common.{◌≡◌, ◌≢◌, pos, Some, ◌<◌, ◌≤◌, ◌∙◌, min, length, map, ap, ◌↔◌, IsTrue, ℕ, Bool, true, false, Contains, Option, None, refl, sym, subst, arith}
+use Rattle.std.proofs.Common.{◌≡◌, ◌≢◌, pos, ◌<◌, ◌≤◌, ◌∙◌, min, length, map, ap, ◌↔◌, IsTrue, ℕ, Bool, true, false, Contains, Option, None, refl, sym, subst, arith}
 use Rattle.std.proofs.lemmas.List.{length-map}
 use Rattle.std.specs.declared.alloc.Global.{Global}
 use Rattle.std.specs.declared.boxed.Box.{Box}
@@ -9,17 +9,16 @@ use Rattle.cmr_base.specs.declared.separation.Three.{Three}
 use Rattle.cmr_base.specs.Separations.{first_is_flat, second_is_flat}
 use Rattle.tree_type.specs.Sides.{HasConnector}
 use Rattle.cmr_base.specs.declared.network.Network as net
-use Rattle.cmr_base.specs.Matrix.{Matrix, height, entry, transposed}
-use Rattle.cmr_base.specs.Violator.{IsViolator, HasNoViolator}
+use Rattle.cmr_base.specs.Matrix.{Matrix, height, entry}
+use Rattle.cmr_base.specs.Violator.{HasNoViolator}
 use Rattle.cmr_base.specs.CyclePlaces.{HasNoCycleFault}
 use Rattle.cmr_base.specs.R10.{IsR10}
-use Rattle.cmr_base.specs.Trees.{Reproduces}
 use Rattle.tree_type.specs.declared.refusal.Rule.{Rule}
 use Rattle.tree_type.specs.declared.refusal.Rule.TheVariants as rule
-use Rattle.tree_type.specs.Trees.{Finding, Empty, Cycle, Network, Conetwork, R10, Enumerated, TwoSum, ThreeSum, Violator, Undecided, Pivoted, Trees, Branch, NoTrees, two_trees, one_tree, tree_of}
+use Rattle.tree_type.specs.Trees.{Finding, Cycle, R10, Enumerated, TwoSum, ThreeSum, Violator, Pivoted, Trees, Branch, NoTrees, two_trees, one_tree, tree_of}
 use Rattle.tree_type.specs.declared.tree.Node.{Node}
 use Rattle.tree_type.specs.declared.tree.Kind.{Kind}
-use Rattle.tree_type.specs.Invariant.{AreLines, size_of}
+use Rattle.tree_type.specs.Invariant.{AreLines}
 use Rattle.tree_type.specs.Places.{lines_of_each}
 use Rattle.tree_type.specs.Soundness.{part, Demands, rule_number}
 use Rattle.tree_type.specs.declared.tree.Kind.TheVariants as kind

@@ -1,12 +1,11 @@
 -- Cells that are laid out row by row, and the rows that they make.
 use Rattle.std.proofs.Common.{◌≡◌, ◌<◌, ◌≤◌, ◌*◌, ◌+◌, ◌-◌, ◌∙◌, ℕ, zero, suc, ℤ, pos, List, [], ◌∷◌, length, take, drop, get_or, set, refl, ap, sym, subst, inl, inr, zero-add, arith}
-use Rattle.std.specs.Prelude.{count_by, replicate}
+use Rattle.std.specs.Prelude.{replicate}
 use Rattle.std.proofs.lemmas.List.{get_or-take, get_or-drop, length-take-le, length-drop, take-replicate, drop-replicate, take-set-le, drop-set-lt, drop-set-add, drop-drop, get_or_past, length-take}
-use Rattle.std.proofs.lemmas.List.Sums.{sum_by-take-drop}
 use Rattle.std.proofs.lemmas.Bool.{cases_lt}
 use Rattle.std.proofs.Math.Seq.{take-set-lt}
 use Rattle.std.proofs.Math.Nat.{suc-mul, zero-mul}
-use Rattle.cmr_base.specs.Matrix.{rows_of, nonzeros_of, is_nonzero}
+use Rattle.cmr_base.specs.Matrix.{rows_of}
 
 pub length-rows_of : (n w : ℕ) (cells : List ℤ) → length (rows_of n w cells) ≡ n
 length-rows_of zero w cells = refl

@@ -1,11 +1,11 @@
 -- Runs of numbers in rows, one for each worker.
-use Rattle.std.proofs.Common.{ℕ, ◌≡◌, ◌<◌, ◌≤◌, ◌↔◌, ◌+◌, ◌-◌, ◌*◌, ◌/◌, ◌%◌, inl, inr, min, Option, Some, None, subst, ap, arith}
+use Rattle.std.proofs.Common.{ℕ, ◌≡◌, ◌<◌, ◌≤◌, ◌↔◌, ◌+◌, ◌-◌, ◌*◌, ◌/◌, ◌%◌, inl, inr, Option, Some, None, ap, arith}
 use Rattle.std.proofs.lemmas.Bool.{cases_lt}
 use Rattle.std.proofs.lemmas.Nat.{div-add-mod'}
-use Rattle.std.proofs.Math.Nat.{mul-le-mul_left, mul_comm, mod-lt, lt-div-mul-add, div-lt_iff_lt-mul, div-mul-le_self}
+use Rattle.std.proofs.Math.Nat.{mod-lt, lt-div-mul-add, div-lt_iff_lt-mul, div-mul-le_self}
 use Rattle.first_hit.specs.declared.round.Round.{Round}
 use Rattle.first_hit.specs.First.{NoneBetween, IsFirst}
-use Rattle.first_hit.specs.Runs.{IsFirstInRuns, IsRound, NoneInRows, lesser, run_start}
+use Rattle.first_hit.specs.Runs.{IsFirstInRuns, IsRound, NoneInRows, run_start}
 
 -- ---- the whole round
 

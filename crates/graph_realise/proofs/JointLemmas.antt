@@ -1,8 +1,8 @@
 -- The parts of rows and of columns.
-use Rattle.std.proofs.Common.{true, ◌≡◌, ◌≢◌, ◌<◌, ◌≤◌, ◌+◌, ◌++◌, ◌∙◌, ◌↔◌, ℕ, ◌&&◌, ◌||◌, not, refl, Bool, false, List, [], ◌∷◌, length, get_or, set, sym, ap, subst, arith, ◌⊎◌, inl, inr, Option, Some, None}
+use Rattle.std.proofs.Common.{true, ◌≡◌, ◌≢◌, ◌<◌, ◌≤◌, ◌+◌, ◌++◌, ◌∙◌, ◌↔◌, ℕ, ◌&&◌, ◌||◌, not, refl, Bool, false, List, [], ◌∷◌, length, get_or, sym, ap, subst, arith, ◌⊎◌, inl, inr, Option, Some, None}
 use Rattle.std.specs.Prelude.{slice_index_or}
 use Rattle.std.proofs.lemmas.Bool.{cases_lt}
-use Rattle.std.proofs.lemmas.List.{get_or_past, get_or-set_same, get_or-set_other}
+use Rattle.std.proofs.lemmas.List.{get_or_past}
 use Rattle.cmr_base.specs.Members.{IsIn}
 use Rattle.cmr_base.specs.Splits.{AreParts}
 use Rattle.bridge_split.proofs.PartWalks.{no_number, same_number}

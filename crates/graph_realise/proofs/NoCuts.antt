@@ -4,8 +4,6 @@ use Rattle.cmr_base.specs.Members.{IsIn}
 use Rattle.cmr_base.specs.Splits.{Splits, Agree, HasNoThree, IsOddClosed}
 use Rattle.cmr_base.specs.Cuts.{HasCuts}
 use Rattle.cmr_base.proofs.RowLists.{no_not, bool_same}
-use Rattle.bridge_split.specs.SplitCases.{HasThree, IsSplitCase}
-use Rattle.bridge_split.specs.declared.splitting.SplitCase.TheVariants.{AllConnected, OddCycle}
 use Rattle.graph_realise.proofs.MiddleArcs.{middle, between_splits, linked_side}
 use Rattle.graph_realise.proofs.AgreeingParts.{across, Pair, pair_agrees}
 use Rattle.graph_realise.proofs.PartLists.{IsWholePart, is_whole, linked_same}

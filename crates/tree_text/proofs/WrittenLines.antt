@@ -1,10 +1,10 @@
 -- Lines of a tree's text, word by word.
 use Rattle.std.proofs.Common.{◌≡◌, ◌<◌, ◌∙◌, ◌++◌, ◌∷◌, [], ℕ, List, false, length, get_or, map, drop, ◌+◌, append_assoc, refl, ap, sym, arith}
-use Rattle.std.specs.Prelude.{fold, codes}
+use Rattle.std.specs.Prelude.{fold}
 use Rattle.std.specs.Fmt.{decimal}
 use Rattle.std.specs.List.{flat_map}
 use Rattle.std.proofs.lemmas.List.Sums.{fold-append}
-use Rattle.std.proofs.lemmas.List.{append-nil, drop_more}
+use Rattle.std.proofs.lemmas.List.{drop_more}
 use Rattle.cmr_base.specs.declared.network.Network as net
 use Rattle.cmr_base.specs.declared.network.Pair.{Pair}
 use Rattle.text_fields.specs.Written.{Draft, with_word, with_end, with_line, text_line, text_of_lines}
