@@ -5,12 +5,12 @@ ghost use Rattle.cmr_base.specs.LineSets.{first_lines};
 ghost use Rattle.cmr_base.specs.Planes.{has_bit, words_for};
 ghost use Rattle.cmr_base.specs.ColumnSets.{has_column, Denies, HasCommon, IsApart, IsWithin};
 
-use crate::{Memory, words_for};
+use crate::{MAX_COLUMNS, Memory, words_for};
 use std::alloc::Global;
 
 /// The empty set for a matrix with so many columns.
 pub fn empty_set(alloc: Global, columns: u32) -> Result<Vec<u64>, Memory>
-    requires { columns ≤ 1000 }
+    requires { columns ≤ MAX_COLUMNS }
     ensures size { IfOk result (λ set. length set.items ≡ words_for columns) }
     ensures none { IfOk result (λ set. (column : ℕ) → has_column set.items column ≡ false) }
 {

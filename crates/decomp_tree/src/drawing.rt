@@ -7,7 +7,7 @@ ghost use Rattle.tree_type.specs.Soundness.{IsSound};
 ghost use Rattle.decomp_tree.specs.PivotedShapes.{IsShapeWith, pivots_within};
 
 use crate::settling::{Search, draw_root};
-use cmr_base::{LineSet, Matrix, Memory};
+use cmr_base::{LineSet, MAX_LINES, Matrix, Memory};
 use std::alloc::Global;
 use std::thread::Threads;
 use tree_type::DecTree;
@@ -29,7 +29,7 @@ pub fn decompose<R: Threads + Sync>(
     pivots: u32,
     workers: u32,
 ) -> Result<DecTree, Memory>
-    requires limit { limit ≤ 24 }
+    requires limit { limit ≤ MAX_LINES }
     requires workers { (1 ≤ workers) × (workers ≤ 64) }
     ensures rows { IfOk result (λ tree. tree.rows ≡ height matrix.now) }
     ensures columns { IfOk result (λ tree. tree.columns ≡ matrix.now.width) }

@@ -15,7 +15,7 @@ use crate::faults::{certain_fault, certain_fault_transposed, fault_from};
 use crate::naming::{named_parts, named_set, named_steps, named_three, named_two};
 use crate::obstructions::Obstruction;
 use crate::seen::{Seen, above_one, above_two, leaf};
-use cmr_base::{LineSet, Matrix, Memory, RowsAndColumns, Three, Two};
+use cmr_base::{LineSet, MAX_LINES, Matrix, Memory, RowsAndColumns, Three, Two};
 use leaf_enumerate::{Search, least_violator};
 use network_orient::orientation_of;
 use r10_leaf::is_r10;
@@ -37,7 +37,7 @@ pub fn look<R: Threads + Sync>(
     limit: u32,
     workers: u32,
 ) -> Result<Seen, Memory>
-    requires limit { limit ≤ 24 }
+    requires limit { limit ≤ MAX_LINES }
     requires workers { (1 ≤ workers) × (workers ≤ 64) }
     requires shape { IsMatrix matrix.now }
     requires rows { IsRowSet matrix.now lines.now.rows }
@@ -65,7 +65,7 @@ fn look_filled<R: Threads + Sync>(
     limit: u32,
     workers: u32,
 ) -> Result<Seen, Memory>
-    requires limit { limit ≤ 24 }
+    requires limit { limit ≤ MAX_LINES }
     requires workers { (1 ≤ workers) × (workers ≤ 64) }
     requires shape { IsMatrix matrix.now }
     requires rows { IsRowSet matrix.now lines.now.rows }
@@ -96,7 +96,7 @@ fn look_unclear<R: Threads + Sync>(
     limit: u32,
     workers: u32,
 ) -> Result<Seen, Memory>
-    requires limit { limit ≤ 24 }
+    requires limit { limit ≤ MAX_LINES }
     requires workers { (1 ≤ workers) × (workers ≤ 64) }
     requires shape { IsMatrix matrix.now }
     requires rows { IsRowSet matrix.now lines.now.rows }
@@ -149,7 +149,7 @@ fn look_irreducible<R: Threads + Sync>(
     limit: u32,
     workers: u32,
 ) -> Result<Seen, Memory>
-    requires limit { limit ≤ 24 }
+    requires limit { limit ≤ MAX_LINES }
     requires workers { (1 ≤ workers) × (workers ≤ 64) }
     requires shape { IsMatrix matrix.now }
     requires rows { IsRowSet matrix.now lines.now.rows }
@@ -181,7 +181,7 @@ fn look_connected<R: Threads + Sync>(
     limit: u32,
     workers: u32,
 ) -> Result<Seen, Memory>
-    requires limit { limit ≤ 24 }
+    requires limit { limit ≤ MAX_LINES }
     requires workers { (1 ≤ workers) × (workers ≤ 64) }
     requires shape { IsMatrix matrix.now }
     requires rows { IsRowSet matrix.now lines.now.rows }
@@ -207,7 +207,7 @@ fn look_tested<R: Threads + Sync>(
     limit: u32,
     workers: u32,
 ) -> Result<Seen, Memory>
-    requires limit { limit ≤ 24 }
+    requires limit { limit ≤ MAX_LINES }
     requires workers { (1 ≤ workers) × (workers ≤ 64) }
     requires shape { IsMatrix matrix.now }
     requires rows { IsRowSet matrix.now lines.now.rows }
@@ -236,7 +236,7 @@ fn look_transposed<R: Threads + Sync>(
     limit: u32,
     workers: u32,
 ) -> Result<Seen, Memory>
-    requires limit { limit ≤ 24 }
+    requires limit { limit ≤ MAX_LINES }
     requires workers { (1 ≤ workers) × (workers ≤ 64) }
     requires shape { IsMatrix matrix.now }
     requires rows { IsRowSet matrix.now lines.now.rows }
@@ -266,7 +266,7 @@ fn look_no_network<R: Threads + Sync>(
     limit: u32,
     workers: u32,
 ) -> Result<Seen, Memory>
-    requires limit { limit ≤ 24 }
+    requires limit { limit ≤ MAX_LINES }
     requires workers { (1 ≤ workers) × (workers ≤ 64) }
     requires shape { IsMatrix matrix.now }
     requires rows { IsRowSet matrix.now lines.now.rows }
@@ -313,7 +313,7 @@ fn look_separated<R: Threads + Sync>(
     limit: u32,
     workers: u32,
 ) -> Result<Seen, Memory>
-    requires limit { limit ≤ 24 }
+    requires limit { limit ≤ MAX_LINES }
     requires workers { (1 ≤ workers) × (workers ≤ 64) }
     requires shape { IsMatrix matrix.now }
     requires rows { IsRowSet matrix.now lines.now.rows }
@@ -341,7 +341,7 @@ fn look_faultless<R: Threads + Sync>(
     limit: u32,
     workers: u32,
 ) -> Result<Seen, Memory>
-    requires limit { limit ≤ 24 }
+    requires limit { limit ≤ MAX_LINES }
     requires workers { (1 ≤ workers) × (workers ≤ 64) }
     requires shape { IsMatrix matrix.now }
     requires rows { IsRowSet matrix.now lines.now.rows }
@@ -365,7 +365,7 @@ fn seen_two(
     found: &Two,
     _limit: u32,
 ) -> Result<Seen, Memory>
-    requires limit { _limit ≤ 24 }
+    requires limit { _limit ≤ MAX_LINES }
     requires shape { IsMatrix _matrix.now }
     requires rows { IsRowSet _matrix.now lines.now.rows }
     requires columns { IsColumnSet _matrix.now lines.now.columns }
@@ -387,7 +387,7 @@ fn seen_three(
     found: &Three,
     _limit: u32,
 ) -> Result<Seen, Memory>
-    requires limit { _limit ≤ 24 }
+    requires limit { _limit ≤ MAX_LINES }
     requires shape { IsMatrix _matrix.now }
     requires rows { IsRowSet _matrix.now lines.now.rows }
     requires columns { IsColumnSet _matrix.now lines.now.columns }
@@ -412,7 +412,7 @@ fn look_last<R: Threads + Sync>(
     limit: u32,
     workers: u32,
 ) -> Result<Seen, Memory>
-    requires limit { limit ≤ 24 }
+    requires limit { limit ≤ MAX_LINES }
     requires workers { (1 ≤ workers) × (workers ≤ 64) }
     requires shape { IsMatrix matrix.now }
     requires rows { IsRowSet matrix.now lines.now.rows }
