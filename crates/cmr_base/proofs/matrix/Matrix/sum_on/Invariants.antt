@@ -2,7 +2,7 @@ use Rattle.std.proofs.Common.{◌≡◌, ◌*◌, ◌+ℤ◌, ◌≤ℤ◌, pos,
 use Rattle.cmr_base.specs.declared.limits.TheConstants.{MAX_COLUMNS}
 use Rattle.cmr_base.specs.Matrix.{entry}
 use Rattle.cmr_base.specs.Sums.{sum_over}
-use Rattle.cmr_base.proofs.matrix.Matrix.sum.Given as goal
+use Rattle.cmr_base.proofs.matrix.Matrix.sum_on.Given as goal
 
 -- the sum so far and that of the rest are all
 abbrev pub invariant-loop-row : goal.invariant-loop-row
