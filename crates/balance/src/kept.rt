@@ -7,7 +7,7 @@ ghost use Rattle.cmr_base.specs.Members.{IsIn};
 ghost use Rattle.cmr_base.specs.Sums.{sum_over};
 ghost use Rattle.balance.specs.Kept.{AreAlike, AreKept, AreKeptBelow, IsCandidate, IsLeastAlike};
 
-use cmr_base::{Indices, Matrix, Memory};
+use cmr_base::{Indices, MAX_ROWS, Matrix, Memory};
 use parity::is_two_mod_four;
 use std::alloc::Global;
 
@@ -56,7 +56,7 @@ pub fn is_candidate(matrix: &Matrix, rows: &[u32], column: u32) -> bool
 fn has_alike(matrix: &Matrix, rows: &[u32], columns: &[u32], column: u32) -> bool
     requires matrix { IsMatrix matrix.now }
     requires rows { AllBelow (height matrix.now) rows.now }
-    requires few { length rows.now ≤ 1000 }
+    requires few { length rows.now ≤ MAX_ROWS }
     requires columns { AllBelow matrix.now.width columns.now }
     requires column { column < matrix.now.width }
     ensures { IsTrue result
@@ -74,7 +74,7 @@ fn has_alike(matrix: &Matrix, rows: &[u32], columns: &[u32], column: u32) -> boo
 fn are_alike(matrix: &Matrix, rows: &[u32], first: u32, second: u32) -> bool
     requires matrix { IsMatrix matrix.now }
     requires rows { AllBelow (height matrix.now) rows.now }
-    requires few { length rows.now ≤ 1000 }
+    requires few { length rows.now ≤ MAX_ROWS }
     requires first { first < matrix.now.width }
     requires second { second < matrix.now.width }
     ensures { IsTrue result ↔ AreAlike matrix.now rows.now first second }

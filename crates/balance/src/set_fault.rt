@@ -7,7 +7,7 @@ ghost use Rattle.balance.specs.BalanceFaults.{column_nonzeros, row_nonzeros, IsB
 ghost use Rattle.balance.specs.Kept.{AreKept, MakeFault};
 
 use crate::kept::{is_candidate, kept_columns};
-use cmr_base::{Indices, Matrix, Memory};
+use cmr_base::{Indices, MAX_COLUMNS, MAX_ROWS, Matrix, Memory};
 use parity::is_two_mod_four;
 use std::alloc::Global;
 
@@ -35,8 +35,8 @@ pub fn fault_columns(
 fn is_fault(matrix: &Matrix, rows: &[u32], columns: &[u32]) -> bool
     requires rows { AllBelow (height matrix.now) rows.now }
     requires columns { AllBelow matrix.now.width columns.now }
-    requires few_rows { length rows.now ≤ 1000 }
-    requires few_columns { length columns.now ≤ 1000 }
+    requires few_rows { length rows.now ≤ MAX_ROWS }
+    requires few_columns { length columns.now ≤ MAX_COLUMNS }
     ensures { IsTrue result ↔ IsBalanceFault (entry matrix.now) rows.now columns.now }
 {
     have_two_in_rows(matrix, rows, columns)
