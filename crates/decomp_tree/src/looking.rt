@@ -25,7 +25,7 @@ use r10_leaf::is_r10;
 use sp_reduce::{FirstLook, Reduction, first_look, reduce};
 use std::alloc::Global;
 use std::thread::Threads;
-use three_sep::three_separation;
+use three_sep::three_separation_of;
 use tree_type::{Finding, three_one, three_two, two_one, two_two};
 use two_sep::{components_of, two_separation_of};
 
@@ -259,7 +259,7 @@ fn look_faultless<R: Threads + Sync>(rt: &R, alloc: Global, node: &Node<'_>) -> 
     requires faultless { HasNoCycleFault (entry (inner_of node.now)) }
     ensures { IfOk result (IsSeenAt node.now) }
 {
-    if let Some(three) = three_separation(rt, alloc, node.inner.by_rows(), node.workers)? {
+    if let Some(three) = three_separation_of(alloc, node.inner)? {
         return seen_three(alloc, node, &three);
     }
     look_last(rt, alloc, node)

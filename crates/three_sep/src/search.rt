@@ -40,8 +40,18 @@ pub fn three_separation<R: Threads + Sync>(
     ensures { IfOk result (λ found. MatchOption found (HasNoThreeSeparation matrix.now)
         (λ three. IsFirstThreeSeparation matrix.now three)) }
 {
-    let views = RowsAndColumns::new(alloc, matrix)?;
-    Search::new(alloc, &views)?.first(alloc, &views)
+    three_separation_of(alloc, &RowsAndColumns::new(alloc, matrix)?)
+}
+
+/// The same, of a matrix by its rows and its columns.
+pub fn three_separation_of(
+    alloc: Global,
+    matrix: &RowsAndColumns<'_>,
+) -> Result<Option<Three>, Memory>
+    ensures { IfOk result (λ found. MatchOption found (HasNoThreeSeparation matrix.now)
+        (λ three. IsFirstThreeSeparation matrix.now three)) }
+{
+    Search::new(alloc, matrix)?.first(alloc, matrix)
 }
 
 /// How many corners are tried before groups are looked for, so that an early find does not pay for them.
