@@ -1,6 +1,8 @@
 -- Breadth-first trees over the numbers below a count, in which D joins each number to its parent.
 use Rattle.std.specs.Prelude.{◌≡◌, ◌≢◌, ◌<◌, ◌≤◌, ◌+◌, ◌*◌, ◌%◌, ◌++◌, ℕ, suc, Bool, true, List, [], ◌∷◌, length, slice_index, slice_index_or}
 use Rattle.cmr_base.specs.Members.{IsIn, IsDistinct}
+use Rattle.cmr_base.specs.declared.limits.TheConstants.{MAX_ROWS}
+use Rattle.bridge_split.specs.declared.forest.TheConstants.{UNREACHED}
 use Rattle.bridge_split.specs.declared.cuts.CutTable.{CutTable}
 use Rattle.bridge_split.specs.Cutting.{disagree}
 
@@ -11,7 +13,7 @@ pub record Extends (before after : List ℕ) : Type 0 where
 
 -- the depth of a number, and where it was not reached
 abbrev pub depth_at : List ℕ → ℕ → ℕ
-depth_at depths x = slice_index_or depths x 4294967295
+depth_at depths x = slice_index_or depths x UNREACHED
 
 abbrev pub parent_at : List ℕ → ℕ → ℕ
 parent_at parents x = slice_index_or parents x 0
@@ -29,10 +31,10 @@ module _ (D : ℕ → ℕ → Bool) (count : ℕ) where
     pub inside : (x : ℕ) → IsIn x reached → x < count
     pub once : IsDistinct reached
     pub low : (p : ℕ) → p < length reached → depth (slice_index reached p) ≤ p
-    pub unreached : (x : ℕ) → ¬ (IsIn x reached) → depth x ≡ 4294967295
+    pub unreached : (x : ℕ) → ¬ (IsIn x reached) → depth x ≡ UNREACHED
     pub top : (x : ℕ) → IsIn x reached → depth x ≡ 0 → root x ≡ x
     pub up : (x : ℕ) → IsIn x reached → 0 < depth x → IsIn (parent x) reached × (depth x ≡ suc (depth (parent x))) × (D x (parent x) ≡ true) × (root x ≡ root (parent x))
-    pub few : count ≤ 1000
+    pub few : count ≤ MAX_ROWS
 
   -- y was reached, and the depths of x and y are of two parities
   pub record IsSettled (depth : ℕ → ℕ) (reached : List ℕ) (x y : ℕ) : Type 0 where
@@ -90,7 +92,7 @@ abbrev pub joins : CutTable → ℕ → ℕ → Bool
 joins table = disagree table.cuts.items table.count
 
 pub record IsSquare (table : CutTable) : Type 0 where
-  pub few : table.count ≤ 1000
+  pub few : table.count ≤ MAX_ROWS
   pub size : length table.cuts.items ≡ table.count * table.count
 
 -- room for the depths and parents of all

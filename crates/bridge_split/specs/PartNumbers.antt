@@ -7,6 +7,7 @@ use Rattle.cmr_base.specs.Planes.{words_for}
 use Rattle.cmr_base.specs.Splits.{AreJoined, AreLinked, Splits}
 use Rattle.cmr_base.specs.Trees.{support}
 use Rattle.cmr_base.specs.ColumnSets.{has_column}
+use Rattle.cmr_base.specs.declared.limits.TheConstants.{MAX_ROWS}
 
 -- the number of a row's part, if it has one
 abbrev pub number_at : List (Option ℕ) → ℕ → Option ℕ
@@ -62,7 +63,7 @@ module _ (M : ℕ → ℕ → Bool) (S : List ℕ) (i : ℕ) where
     pub joined : (j k : ℕ) → IsIn j S → IsIn k S → j ≢ i → k ≢ i → AreJoined M i j k → part j ≡ part k
     pub filled : (a : ℕ) → a < count → (k : ℕ) × IsIn k S × (k ≢ i) × (part k ≡ Some a)
     pub ordered : (k a b : ℕ) → part k ≡ Some b → a < b → (j : ℕ) × IsIn j S × (j ≢ i) × (part j ≡ Some a) × (j < k)
-    pub few : count ≤ 1000
+    pub few : count ≤ MAX_ROWS
 
   module _ (part : ℕ → Option ℕ) where
     -- rows of S have the numbers below count, those of one number are linked, and an earlier number has an earlier row
@@ -71,7 +72,7 @@ module _ (M : ℕ → ℕ → Bool) (S : List ℕ) (i : ℕ) where
       pub linked : (j k a : ℕ) → part j ≡ Some a → part k ≡ Some a → AreLinked M S i j k
       pub filled : (a : ℕ) → a < count → (k : ℕ) × (part k ≡ Some a)
       pub ordered : (k a : ℕ) → IsIn k S → k ≢ i → a < count → IsPast a (part k) → (j : ℕ) × (part j ≡ Some a) × (j < k)
-      pub few : count ≤ 1000
+      pub few : count ≤ MAX_ROWS
 
     -- the rows that are joined to one with a number below count have its number
     abbrev pub AreClosed : ℕ → Type 0

@@ -7,7 +7,7 @@ ghost use Rattle.cmr_base.specs.ColumnSets.{has_column};
 ghost use Rattle.bridge_split.specs.Counting.{AreCounts, HasWords};
 
 use cmr_base::columns::{add_common, next_column};
-use cmr_base::{Matrix, Memory, words_for};
+use cmr_base::{MAX_COLUMNS, Matrix, Memory, words_for};
 use std::alloc::Global;
 
 /// The columns with one nonzero or more in some rows, with two or more, and with three or more.
@@ -21,7 +21,7 @@ pub struct Counts {
 impl Counts {
     // The counts over no rows.
     fn new(alloc: Global, columns: u32) -> Result<Counts, Memory>
-        requires { columns ≤ 1000 }
+        requires { columns ≤ MAX_COLUMNS }
         ensures words { IfOk result (HasWords columns) }
         ensures once { IfOk result (λ counts. (column : ℕ)
             → has_column counts.once.items column ≡ false) }

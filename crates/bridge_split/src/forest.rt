@@ -34,7 +34,7 @@ impl Forest {
             HasTreeRoom count forest.depth.items forest.parent.items) }
         ensures reached { IfOk result (λ forest. forest.reached.items ≡ []) }
         ensures unreached { IfOk result (λ forest. (x : ℕ)
-            → depth_at forest.depth.items x ≡ 4294967295) }
+            → depth_at forest.depth.items x ≡ UNREACHED) }
     {
         Ok(Forest {
             depth: vec![in alloc; UNREACHED; count]?,
@@ -48,7 +48,7 @@ impl Forest {
         requires table { IsSquare table.now }
         requires room { HasTreeRoom table.now.count self.old.depth.items self.old.parent.items }
         requires reached { self.old.reached.items ≡ [] }
-        requires unreached { (x : ℕ) → depth_at self.old.depth.items x ≡ 4294967295 }
+        requires unreached { (x : ℕ) → depth_at self.old.depth.items x ≡ UNREACHED }
         ensures room { OnOk result (HasTreeRoom table.now.count self.new.depth.items
             self.new.parent.items) }
         ensures found { IfOk result (λ found. MatchOption found
@@ -72,7 +72,7 @@ impl Forest {
         requires table { IsSquare table.now }
         requires room { HasTreeRoom table.now.count self.old.depth.items self.old.parent.items }
         requires root { root < table.now.count }
-        requires unreached { depth_at self.old.depth.items root ≡ 4294967295 }
+        requires unreached { depth_at self.old.depth.items root ≡ UNREACHED }
         requires grown { IsGrown (joins table.now) table.now.count (depth_at self.old.depth.items)
             (parent_at self.old.parent.items) self.old.reached.items }
         ensures room { OnOk result (HasTreeRoom table.now.count self.new.depth.items

@@ -6,10 +6,10 @@ ghost use Rattle.cmr_base.specs.Matrix.{height};
 ghost use Rattle.cmr_base.specs.Members.{IsIn};
 ghost use Rattle.cmr_base.specs.Trees.{support};
 ghost use Rattle.cmr_base.specs.ColumnSets.{has_column};
-ghost use Rattle.bridge_split.specs.PartNumbers.{AreNumbered, ArePassed, HasRoom, IsBetween, IsLeft, IsTouched, IsWalking, Keeps, left_in, number_at};
+ghost use Rattle.bridge_split.specs.PartNumbers.{AreNumbered, HasRoom, IsBetween, IsLeft, IsNumbering, IsTouched, IsWalking, Keeps, left_in, number_at};
 
 use cmr_base::columns::{add_outside, meets};
-use cmr_base::{Matrix, Memory, words_for};
+use cmr_base::{MAX_ROWS, Matrix, Memory, words_for};
 use std::alloc::Global;
 
 /// The parts into which rows fall without one of them. The room is taken once for all rows of a matrix.
@@ -74,14 +74,10 @@ impl PartWalk {
         requires rows { AllBelow (height matrix.now) rows.now }
         requires rising { IsStrictlyIncreasing rows.now }
         requires row { row < height matrix.now }
-        requires room { HasRoom matrix.now self.old.part.items self.old.reached.items }
         requires place { place < length rows.now }
-        requires few { number < 1000 }
+        requires numbering { IsNumbering matrix.now rows.now row number place self.old.part.items
+            self.old.reached.items }
         requires left { IsLeft row (number_at self.old.part.items) (slice_index rows.now place) }
-        requires passed { ArePassed (support matrix.now) rows.now row
-            (number_at self.old.part.items) place }
-        requires between { IsBetween (support matrix.now) rows.now row
-            (number_at self.old.part.items) number }
         ensures room { HasRoom matrix.now self.new.part.items self.new.reached.items }
         ensures keeps { Keeps (number_at self.old.part.items) (number_at self.new.part.items) }
         ensures first { number_at self.new.part.items (slice_index rows.now place) ≡ Some number }
@@ -107,7 +103,7 @@ impl PartWalk {
     // Goes once over the rows and meets those that are not 0 in a column that was reached by then. It says how many they are.
     fn meet_touched(&mut self, matrix: &Matrix, rows: &[u32], row: u32, number: u32) -> u32
         requires rows { AllBelow (height matrix.now) rows.now }
-        requires few { length rows.now ≤ 1000 }
+        requires few { length rows.now ≤ MAX_ROWS }
         requires row { row < height matrix.now }
         requires room { HasRoom matrix.now self.old.part.items self.old.reached.items }
         requires walk { IsWalking (support matrix.now) rows.now row (number_at self.old.part.items)

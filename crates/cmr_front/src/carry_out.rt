@@ -1,6 +1,7 @@
 // Carrying out what a tool decided.
 ghost use Rattle.std.specs.Prelude.{◌≡◌, ◌≢◌, ◌≤◌, ◌<◌, ◌⊎◌, ℕ, List, [], ◌∷◌, IfErr, IsOk, IsTrue, OnErr, OnOk, length, map, slice_get};
 ghost use Rattle.cmr_io.specs.Causes.{HasCause, Rose};
+ghost use Rattle.cmr_io.specs.Kept.{KeepsStanding};
 ghost use Rattle.cmr_io.specs.Whole.{StaysOrHoldsFront};
 ghost use Rattle.cmr_front.specs.Report.{File, with_file, with_files};
 ghost use Rattle.cmr_front.specs.Status.{answer_status, failure_status};
@@ -129,9 +130,7 @@ fn write_output_file<S: Shelf>(shelf: &mut S, file: &OutputFile<'_>) -> Result<(
     ensures ready { IsTrue (S.is_calm shelf.old)
         → HasRooms (S.room shelf.old) (file_of file.now ∷ []) → IsOk result }
     ensures reads { S.reads shelf.new ≡ S.reads shelf.old }
-    ensures room { (other : List ℕ) → S.room shelf.new other ≡ S.room shelf.old other }
-    ensures tells { S.tells shelf.new ≡ S.tells shelf.old }
-    ensures calm { IsTrue (S.is_calm shelf.old) → IsTrue (S.is_calm shelf.new) }
+    ensures standing { KeepsStanding S.tells S.is_calm S.room shelf.old shelf.new }
     ensures cause { HasCause (S.faults shelf.old) (S.faults shelf.new) result }
 {
     write_file(shelf, file.name, &file.bytes)

@@ -1,7 +1,8 @@
 // Reading the files of a tool.
-ghost use Rattle.std.specs.Prelude.{◌≡◌, ◌≢◌, ◌≤◌, ℕ, List, IfOk, IfErr, IsTrue, Ok, OnOk, OnErr, length, map};
+ghost use Rattle.std.specs.Prelude.{◌≡◌, ◌≢◌, ◌≤◌, IfOk, IfErr, IsTrue, Ok, OnOk, OnErr, length, map};
 ghost use Rattle.cmr_io.specs.Calls.{next_number};
 ghost use Rattle.cmr_io.specs.Causes.{Rose};
+ghost use Rattle.cmr_io.specs.Kept.{KeepsNames};
 ghost use Rattle.cmr_front.specs.Inputs.{bytes_of, given, input_file, most_bytes, reading, texts, whole};
 ghost use Rattle.cmr_front.specs.Outcome.{stop_report};
 ghost use Rattle.cmr_front.specs.Status.{failure_status};
@@ -66,10 +67,7 @@ pub fn read_inputs<'a, S: Shelf>(
         (between (S.reads shelf.old) (S.reads shelf.new)) (S.failed shelf.new)) }
     ensures cause { IfErr result (λ stop. (stop_report stop).status ≡ failure_status Device
         → Rose (S.faults shelf.old) (S.faults shelf.new)) }
-    ensures content { (other : List ℕ) → S.content shelf.new other ≡ S.content shelf.old other }
-    ensures room { (other : List ℕ) → S.room shelf.new other ≡ S.room shelf.old other }
-    ensures tells { S.tells shelf.new ≡ S.tells shelf.old }
-    ensures calm { IsTrue (S.is_calm shelf.old) → IsTrue (S.is_calm shelf.new) }
+    ensures kept { KeepsNames S.content S.tells S.is_calm S.room shelf.old shelf.new }
     ensures later { S.faults shelf.old ≤ S.faults shelf.new }
 {
     let mut read = Vec::new(alloc);
@@ -100,10 +98,7 @@ fn read_input<'a, S: Shelf>(
         (S.tells shelf.old) (S.is_calm shelf.old)) }
     ensures cause { IfErr result (λ stop. (stop_report stop).status ≡ failure_status Device
         → Rose (S.faults shelf.old) (S.faults shelf.new)) }
-    ensures content { (other : List ℕ) → S.content shelf.new other ≡ S.content shelf.old other }
-    ensures room { (other : List ℕ) → S.room shelf.new other ≡ S.room shelf.old other }
-    ensures tells { S.tells shelf.new ≡ S.tells shelf.old }
-    ensures calm { IsTrue (S.is_calm shelf.old) → IsTrue (S.is_calm shelf.new) }
+    ensures kept { KeepsNames S.content S.tells S.is_calm S.room shelf.old shelf.new }
     ensures later { S.faults shelf.old ≤ S.faults shelf.new }
 {
     let name = input.name;

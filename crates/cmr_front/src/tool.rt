@@ -1,7 +1,8 @@
 // The shape that all tools have.
-ghost use Rattle.std.specs.Prelude.{◌≡◌, ◌≤◌, ℕ, List, IfOk, IsTrue, length, map};
+ghost use Rattle.std.specs.Prelude.{◌≡◌, ◌≤◌, IfOk, IsTrue, length, map};
 ghost use Rattle.std.specs.Thread.{IsSync};
 ghost use Rattle.cmr_io.specs.Causes.{Rose};
+ghost use Rattle.cmr_io.specs.Kept.{KeepsNames};
 ghost use Rattle.cmr_front.specs.Ending.{devices, standing};
 ghost use Rattle.cmr_front.specs.Inputs.{bytes_of, input_file};
 ghost use Rattle.cmr_front.specs.Outcome.{ended_report};
@@ -82,10 +83,7 @@ fn examine<'a, R: Threads + Sync, S: Shelf, T: Tool<'a>>(
         result }
     ensures cause { (ended_report result).status ≡ failure_status Device
         → Rose (S.faults shelf.old) (S.faults shelf.new) }
-    ensures content { (other : List ℕ) → S.content shelf.new other ≡ S.content shelf.old other }
-    ensures room { (other : List ℕ) → S.room shelf.new other ≡ S.room shelf.old other }
-    ensures tells { S.tells shelf.new ≡ S.tells shelf.old }
-    ensures calm { IsTrue (S.is_calm shelf.old) → IsTrue (S.is_calm shelf.new) }
+    ensures kept { KeepsNames S.content S.tells S.is_calm S.room shelf.old shelf.new }
     ensures later { S.faults shelf.old ≤ S.faults shelf.new }
 {
     let inputs = match tool.inputs(alloc) {

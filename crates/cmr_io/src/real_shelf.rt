@@ -1,9 +1,10 @@
 //! The files of the system and standard input: the edge, of whose bytes nothing is claimed.
 
-ghost use Rattle.std.specs.Prelude.{◌≡◌, ◌≤◌, ◌<◌, [], false, true, None, IsTrue, IfOk, OnErr, is_err, is_ok, length};
+ghost use Rattle.std.specs.Prelude.{◌≡◌, ◌≤◌, [], false, true, None, IsTrue, IfOk, is_err, is_ok, length};
 ghost use Rattle.cmr_io.specs.Causes.{HasCause, Rose};
 ghost use Rattle.cmr_io.specs.Calls.{counted, next_number};
-ghost use Rattle.cmr_io.specs.Reads.{after_piece};
+ghost use Rattle.cmr_io.specs.Pieces.{TakesFront};
+ghost use Rattle.cmr_io.specs.Reads.{after_next};
 ghost use Rattle.cmr_io.specs.FileShelf.{new_shelf};
 
 use crate::device::{Failed, Shelf};
@@ -125,9 +126,7 @@ impl<R: Files + Input> Shelf for RealShelf<'_, R> {
         ensures within { IfOk result (λ count. count ≤ length into.new) }
         ensures begun { self.new.reading ≡ true }
         ensures writing { self.new.writing ≡ self.old.writing }
-        ensures reads { IfOk result (λ count. self.new.reads
-            ≡ after_piece self.old.reads (length into.new) count) }
-        ensures reads_stay { OnErr result (self.new.reads ≡ self.old.reads) }
+        ensures reads { self.new.reads ≡ after_next self.old.reads (length into.new) result }
         ensures failed { self.new.failed ≡ is_err result }
         ensures cause { HasCause self.old.faults self.new.faults result }
     {
@@ -165,8 +164,7 @@ impl<R: Files + Input> Shelf for RealShelf<'_, R> {
     fn put(&mut self, piece: &[u8]) -> Result<usize, Failed>
         requires { IsTrue self.old.writing }
         ensures count { self.new.faults ≡ counted result self.old.faults }
-        ensures within { IfOk result (λ count. count ≤ length piece.now) }
-        ensures some { IfOk result (λ count. 0 < length piece.now → 0 < count) }
+        ensures taken { IfOk result (TakesFront piece.now) }
         ensures begun { self.new.writing ≡ true }
         ensures reading { self.new.reading ≡ self.old.reading }
         ensures reads { self.new.reads ≡ self.old.reads }

@@ -2,6 +2,7 @@ ghost use Rattle.std.specs.Prelude.{◌≡◌, ◌≤◌, ◌<◌, IfOk, OnErr, 
 ghost use Rattle.std.specs.Io.KnownBytes.{Keeps, Appends, Consumes, IsAtEnd};
 ghost use Rattle.cmr_io.specs.Causes.{HasCause};
 ghost use Rattle.cmr_io.specs.Calls.{counted};
+ghost use Rattle.cmr_io.specs.Pieces.{TakesFront};
 
 use crate::device::Failed;
 use crate::fault_count::FaultCount;
@@ -38,8 +39,7 @@ pub fn write_counted<W: Write>(
     piece: &[u8],
     faults: &mut FaultCount,
 ) -> Result<usize, Failed>
-    ensures within { IfOk result (λ count. count ≤ length piece.now) }
-    ensures some { IfOk result (λ count. 0 < length piece.now → 0 < count) }
+    ensures front { IfOk result (TakesFront piece.now) }
     ensures taken { IfOk result (λ count.
         Appends (W.contents writer.old) (W.contents writer.new) (take count piece.now)) }
     ensures err { OnErr result (Keeps (W.contents writer.old) (W.contents writer.new)) }

@@ -1,6 +1,7 @@
-ghost use Rattle.std.specs.Prelude.{◌≡◌, ◌≤◌, ◌<◌, [], false, IfOk, length};
+ghost use Rattle.std.specs.Prelude.{◌≡◌, [], false, IfOk};
 ghost use Rattle.cmr_io.specs.Causes.{HasCause};
 ghost use Rattle.cmr_io.specs.Calls.{counted};
+ghost use Rattle.cmr_io.specs.Pieces.{TakesFront};
 
 use crate::device::{Failed, Sink};
 use crate::fault_count::FaultCount;
@@ -50,8 +51,7 @@ impl<W: Write + Drop> Sink for StdSink<W> {
 
     fn put(&mut self, piece: &[u8]) -> Result<usize, Failed>
         ensures count { self.new ≡ counted result self.old }
-        ensures within { IfOk result (λ count. count ≤ length piece.now) }
-        ensures some { IfOk result (λ count. 0 < length piece.now → 0 < count) }
+        ensures taken { IfOk result (TakesFront piece.now) }
         ensures cause { HasCause self.old self.new result }
     {
         write_counted(&mut self.writer, piece, &mut self.faults)

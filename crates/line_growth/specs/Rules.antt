@@ -1,12 +1,13 @@
 -- Rules of what stands between the lines of a set and the other lines, and the lines that they pull into the set.
 use Rattle.std.specs.Prelude.{◌<◌, ◌-◌, cond, nat_lt, ℕ, ℤ, Bool, false}
 use Rattle.cmr_base.specs.Differences.{differ}
-use Rattle.cmr_base.specs.Matrix.{Matrix, height, entry}
+use Rattle.cmr_base.specs.Matrix.{Matrix, IsEntry, height, entry}
 use Rattle.cmr_base.specs.Separations.{zeros, product_at}
 use Rattle.line_growth.specs.declared.rule.Block.{Block}
 use Rattle.line_growth.specs.declared.rule.Block.TheVariants.{Zero, Product}
 use Rattle.line_growth.specs.declared.rule.Direction.{Direction}
 use Rattle.line_growth.specs.declared.rule.Direction.TheVariants.{Forwards, Backwards}
+use Rattle.line_growth.specs.declared.rule.Multiple.{Multiple}
 use Rattle.line_growth.specs.declared.rule.Rule.{Rule}
 
 abbrev pub block_entry : (ℕ → ℕ → ℤ) → Block → ℕ → ℕ → ℤ
@@ -23,6 +24,11 @@ lower_of m rule = block_entry (entry m) rule.lower
 abbrev pub IsBlockOf : Matrix → Block → Type 0
 IsBlockOf m Zero = Unit {0}
 IsBlockOf m (Product place) = (place.row < height m) × (place.column < m.width)
+
+-- a multiple of a row of the matrix
+pub record IsMultipleOf (m : Matrix) (multiple : Multiple) : Type 0 where
+  pub model : multiple.model < height m
+  pub factor : IsEntry multiple.factor
 
 pub record IsRuleOf (m : Matrix) (rule : Rule) : Type 0 where
   pub upper : IsBlockOf m rule.upper

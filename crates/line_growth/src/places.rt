@@ -8,7 +8,7 @@ ghost use Rattle.line_growth.specs.FoundPlaces.{HaveSize, HaveAdded};
 
 use crate::rule::Multiple;
 use cmr_base::columns::{clear_set, empty_set, outside};
-use cmr_base::{Matrix, Memory};
+use cmr_base::{MAX_COLUMNS, Matrix, Memory};
 use std::alloc::Global;
 
 /// The places that were seen, as words.
@@ -20,7 +20,7 @@ pub struct Places {
 impl Places {
     /// Room for so many places, none of which was seen.
     pub fn new(alloc: Global, count: u32) -> Result<Places, Memory>
-        requires { count ≤ 1000 }
+        requires { count ≤ MAX_COLUMNS }
         ensures size { IfOk result (HaveSize count) }
         ensures none { IfOk result (λ places. (place : ℕ)
             → has_column places.seen.items place ≡ false) }

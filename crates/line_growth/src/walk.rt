@@ -2,16 +2,16 @@
 ghost use Rattle.std.specs.Prelude.{◌≡◌, ◌<◌, ◌≤◌, ◌+◌, ◌++◌, ℕ, Bool, List, ◌∷◌, [], true, length, slice_set, slice_index_or, IfOk, OnOk};
 ghost use Rattle.cmr_base.specs.Differences.{differs_at};
 ghost use Rattle.cmr_base.specs.LineSets.{AllBelow};
-ghost use Rattle.cmr_base.specs.Matrix.{height, IsEntry};
-ghost use Rattle.line_growth.specs.Rules.{IsRuleOf, pulls_along};
+ghost use Rattle.cmr_base.specs.Matrix.{height};
+ghost use Rattle.line_growth.specs.Rules.{IsMultipleOf, IsRuleOf, pulls_along};
 ghost use Rattle.cmr_base.specs.Planes.{has_bit};
 ghost use Rattle.line_growth.specs.Reaching.{AreMeeting, AreReached, AreReaching, AreStarting, LeadsTo, LeadsToBits, is_marked};
-ghost use Rattle.line_growth.specs.FoundPlaces.{AreSeen, HaveSize};
+ghost use Rattle.line_growth.specs.FoundPlaces.{AreSeen, HaveSeen, HaveSize};
 
 use crate::places::Places;
 use crate::rule::{Direction, Multiple, Rule};
 use cmr_base::columns::next_column;
-use cmr_base::{Matrix, Memory, RowsAndColumns};
+use cmr_base::{MAX_COLUMNS, MAX_ROWS, Matrix, Memory, RowsAndColumns};
 use std::alloc::Global;
 
 /// Marks the lines that are pulled in, one after another, from some lines on; backwards, the lines from which these lines
@@ -54,7 +54,7 @@ struct Walk {
 
 impl Walk {
     fn from_starts(alloc: Global, size: usize, starts: &[u32]) -> Result<Walk, Memory>
-        requires size { size ≤ 2000 }
+        requires size { size ≤ MAX_ROWS + MAX_COLUMNS }
         requires starts { AllBelow size starts.now }
         ensures { IfOk result (λ walk. (leads : ℕ → ℕ → Bool)
             → AreStarting size leads starts.now walk.marks.items walk.met.items
@@ -118,12 +118,11 @@ impl Walk {
         requires head { head < length self.old.met.items }
         requires below { AllBelow (height matrix.now + matrix.now.width) self.old.met.items }
         requires marks { length self.old.marks.items ≡ height matrix.now + matrix.now.width }
-        requires row_size { HaveSize (height matrix.now) seen_rows.old }
-        requires column_size { HaveSize matrix.now.width seen_columns.old }
-        requires rows { AreSeen seen_rows.old 0 self.old.marks.items }
-        requires columns { AreSeen seen_columns.old (height matrix.now) self.old.marks.items }
-        ensures row_size { HaveSize (height matrix.now) seen_rows.new }
-        ensures column_size { HaveSize matrix.now.width seen_columns.new }
+        requires rows { HaveSeen (height matrix.now) seen_rows.old 0 self.old.marks.items }
+        requires columns { HaveSeen matrix.now.width seen_columns.old (height matrix.now)
+            self.old.marks.items }
+        ensures sizes { HaveSize (height matrix.now) seen_rows.new
+            × HaveSize matrix.now.width seen_columns.new }
         ensures rows { OnOk result (AreSeen seen_rows.new 0 self.new.marks.items) }
         ensures columns { OnOk result (AreSeen seen_columns.new (height matrix.now)
             self.new.marks.items) }
@@ -161,13 +160,11 @@ impl Walk {
         seen: &mut Places,
     ) -> Result<(), Memory>
         requires row { row < height matrix.now }
-        requires model { multiple.model < height matrix.now }
-        requires factor { IsEntry multiple.factor }
-        requires first { first ≤ 1000 }
+        requires multiple { IsMultipleOf matrix.now multiple }
+        requires first { first ≤ MAX_ROWS }
         requires head { head < length self.old.met.items }
         requires marks { first + matrix.now.width ≤ length self.old.marks.items }
-        requires size { HaveSize matrix.now.width seen.old }
-        requires seen { AreSeen seen.old first self.old.marks.items }
+        requires seen { HaveSeen matrix.now.width seen.old first self.old.marks.items }
         ensures size { HaveSize matrix.now.width seen.new }
         ensures seen { OnOk result (AreSeen seen.new first self.new.marks.items) }
         ensures grows { OnOk result ((line : ℕ) → is_marked self.old.marks.items line ≡ true
@@ -195,7 +192,7 @@ impl Walk {
 
     // Meets the lines of the bits of a word, which have the numbers from `first` on.
     fn meet_word(&mut self, first: u32, word: u64) -> Result<(), Memory>
-        requires first { first ≤ 2000 }
+        requires first { first ≤ MAX_ROWS + MAX_COLUMNS }
         requires marks { (k : ℕ) → k < 64 → has_bit word k ≡ true
             → first + k < length self.old.marks.items }
         ensures size { OnOk result (length self.new.marks.items ≡ length self.old.marks.items) }

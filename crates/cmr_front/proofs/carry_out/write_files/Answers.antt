@@ -1,4 +1,5 @@
 use Rattle.std.proofs.Common.{◌∙◌, arith}
+use Rattle.cmr_io.proofs.KeptLemmas.{keeps_on}
 use Rattle.cmr_front.specs.Outcome.{file_of}
 use Rattle.cmr_front.proofs.Files.{one_more, there, left_at, room_at}
 use Rattle.cmr_front.proofs.carry_out.write_files.Goals as goal
@@ -9,12 +10,10 @@ loop-place-preserved g c =
     let before = c.loop-place.invariant in
     let wrote = c.in_default.ensures in
     record {
-      written = λ told name. wrote.whole (before.tells ∙ told) name
+      written = λ told name. wrote.whole (before.standing.telling ∙ told) name
           ∙ one_more (S.content c.args.shelf.now) (S.content c.loop-place.shelf) c.args.files.now c.loop-place.place c.index-files-place.result name c.loop-place-test.true c.index-files-place.is (before.written told name);
-      room = λ name. wrote.room name ∙ before.room name;
       reads = wrote.reads ∙ before.reads;
-      tells = wrote.tells ∙ before.tells;
-      calm = λ calm. wrote.calm (before.calm calm);
+      standing = keeps_on before.standing wrote.standing;
       later = omega (arith, wrote.cause.later, before.later);
     }
 
@@ -28,7 +27,7 @@ returns-in-Err-clause-left g c =
       file_of file,
       there files place file c.loop-place-test.true c.index-files-place.is,
       (λ told.
-          let told' = before.tells ∙ told in
+          let told' = before.standing.telling ∙ told in
           left_at (S.content c.args.shelf.now) (S.content c.loop-place.shelf) (S.content c.write_output_file.new.shelf) files place file
           (before.written told) (c.in-Err.ensures.others told') (c.in-Err.ensures.front told')),
     )
@@ -37,5 +36,5 @@ pub returns-in-Err-clause-ready : goal.returns-in-Err-clause-ready
 returns-in-Err-clause-ready g c = λ calm rooms.
     let S = g.S.Shelf in
     let before = c.loop-place.invariant in
-    c.in-Err.ensures.ready (before.calm calm)
-    (room_at (S.room c.args.shelf.now) (S.room c.loop-place.shelf) c.args.files.now c.loop-place.place c.index-files-place.result c.loop-place-test.true c.index-files-place.is before.room rooms)
+    c.in-Err.ensures.ready (before.standing.calm calm)
+    (room_at (S.room c.args.shelf.now) (S.room c.loop-place.shelf) c.args.files.now c.loop-place.place c.index-files-place.result c.loop-place-test.true c.index-files-place.is before.standing.rooms rooms)

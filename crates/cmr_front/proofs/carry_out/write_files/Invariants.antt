@@ -1,4 +1,5 @@
 use Rattle.std.proofs.Common.{◌≡◌, ◌≤◌, ℕ, List, IsTrue, map, take}
+use Rattle.cmr_io.specs.Kept.{KeepsStanding}
 use Rattle.cmr_front.specs.Report.{with_files}
 use Rattle.cmr_front.specs.Outcome.{file_of}
 use Rattle.cmr_front.proofs.carry_out.write_files.Given as goal
@@ -9,9 +10,7 @@ invariant-loop-place g l =
     let S = g.S.Shelf in
     record {
       written : IsTrue (S.tells l.fn.shelf) → (name : List ℕ) → S.content l.shelf name ≡ with_files (S.content l.fn.shelf) (map file_of (take l.place l.files)) name;
-      room : (name : List ℕ) → S.room l.shelf name ≡ S.room l.fn.shelf name;
       reads : S.reads l.shelf ≡ S.reads l.fn.shelf;
-      tells : S.tells l.shelf ≡ S.tells l.fn.shelf;
-      calm : IsTrue (S.is_calm l.fn.shelf) → IsTrue (S.is_calm l.shelf);
+      standing : KeepsStanding S.tells S.is_calm S.room l.fn.shelf l.shelf;
       later : S.faults l.fn.shelf ≤ S.faults l.shelf;
     }

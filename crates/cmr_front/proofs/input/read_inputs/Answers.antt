@@ -1,4 +1,5 @@
 use Rattle.std.proofs.Common.{◌∙◌, ◌∷◌, [], map, arith, ap, length, length-append}
+use Rattle.cmr_io.proofs.KeptLemmas.{keeps_names_on}
 use Rattle.cmr_front.specs.Inputs.{bytes_of}
 use Rattle.cmr_front.specs.Unread.{HaveEnded, between}
 use Rattle.cmr_front.proofs.Inputs.{one_more_ended, stopped_at, texts_more}
@@ -15,7 +16,7 @@ returns-in-Err-clause-stopped g c =
     let ended : HaveEnded c.loop-input.input-index (between (S.reads shelf) (S.reads after)) = rw c.in-Err.ensures.not_ended before.ended in
     stopped_at (S.content shelf) (S.content mid) (S.tells shelf) (S.tells mid) (S.is_calm shelf) (S.is_calm mid) c.args.inputs.now c.loop-input.input-index (map bytes_of c.loop-input.read.items)
     (between (S.reads shelf) (S.reads after)) (S.failed after) stop
-    c.loop-input-test.true before.content (λ told. before.tells ∙ told) before.calm before.given ended c.in-Err.ensures.failed c.in-Err.ensures.stopped
+    c.loop-input-test.true before.kept.names (λ told. before.kept.standing.telling ∙ told) before.kept.standing.calm before.given ended c.in-Err.ensures.failed c.in-Err.ensures.stopped
 
 pub loop-input-preserved : goal.loop-input-preserved
 loop-input-preserved g c =
@@ -26,12 +27,9 @@ loop-input-preserved g c =
     let read = c.in-Ok.ensures in
     record {
       given = λ told. texts_more (S.content shelf) (S.content mid) c.args.inputs.now c.loop-input.input-index c.loop-input.read.items c.push.new.self.items c.in-Ok.text
-          c.loop-input-test.true before.content (before.given told) (read.whole (before.tells ∙ told)) c.in-Ok-push.ensures.items;
+          c.loop-input-test.true before.kept.names (before.given told) (read.whole (before.kept.standing.telling ∙ told)) c.in-Ok-push.ensures.items;
       count = omega (arith, before.count, ap length c.in-Ok-push.ensures.items, length-append c.loop-input.read.items (c.in-Ok.text ∷ []));
       ended = one_more_ended (S.reads shelf).ends (S.reads mid).ends (S.reads c.read_input.new.shelf).ends c.loop-input.input-index before.ended read.ended;
-      content = λ other. read.content other ∙ before.content other;
-      room = λ other. read.room other ∙ before.room other;
-      tells = read.tells ∙ before.tells;
-      calm = λ calm. read.calm (before.calm calm);
+      kept = keeps_names_on before.kept read.kept;
       later = omega (arith, read.later, before.later);
     }

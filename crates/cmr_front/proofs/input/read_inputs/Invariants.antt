@@ -1,4 +1,5 @@
 use Rattle.std.proofs.Common.{◌≡◌, ◌≤◌, ℕ, List, IsTrue, length, map, take}
+use Rattle.cmr_io.specs.Kept.{KeepsNames}
 use Rattle.cmr_front.specs.Inputs.{bytes_of, given, input_file, texts}
 use Rattle.cmr_front.specs.Unread.{HaveEnded, between}
 use Rattle.cmr_front.proofs.input.read_inputs.Given as goal
@@ -11,9 +12,6 @@ invariant-loop-input g l =
       given : IsTrue (S.tells l.fn.shelf) → given (S.content l.fn.shelf) (map input_file (take l.input-index l.inputs)) ≡ texts (map bytes_of l.read.items);
       count : length l.read.items ≡ l.input-index;
       ended : HaveEnded l.input-index (between (S.reads l.fn.shelf) (S.reads l.shelf));
-      content : (other : List ℕ) → S.content l.shelf other ≡ S.content l.fn.shelf other;
-      room : (other : List ℕ) → S.room l.shelf other ≡ S.room l.fn.shelf other;
-      tells : S.tells l.shelf ≡ S.tells l.fn.shelf;
-      calm : IsTrue (S.is_calm l.fn.shelf) → IsTrue (S.is_calm l.shelf);
+      kept : KeepsNames S.content S.tells S.is_calm S.room l.fn.shelf l.shelf;
       later : S.faults l.fn.shelf ≤ S.faults l.shelf;
     }

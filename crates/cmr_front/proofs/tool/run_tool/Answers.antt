@@ -24,7 +24,7 @@ returns-clause-runs g c =
       lawful = c.requires.lawful;
       told = g.met.S.Shelf.calm_tells shelf;
       ends = read.ensures.ends;
-      content = read.ensures.content;
+      content = read.ensures.kept.names;
       later = read.ensures.later;
       refused = λ none. absurd none;
       cause = read.ensures.cause;
@@ -33,9 +33,9 @@ returns-clause-runs g c =
       carried_out = subst (λ told. CarriesOut read.result (telling told (O.tells out) (E.tells err))
           (devices (S.content read.new.shelf) (S.reads read.new.shelf) (S.failed read.new.shelf) (S.faults read.new.shelf) (O.got out) (O.faults out) (E.got err) (E.faults err))
           (devices (S.content done.new.shelf) (S.reads done.new.shelf) (S.failed done.new.shelf) (S.faults done.new.shelf) (O.got done.new.out) (O.faults done.new.out) (E.got done.new.err) (E.faults done.new.err)) done.result)
-          read.ensures.tells done.ensures.carried_out;
+          read.ensures.kept.standing.telling done.ensures.carried_out;
       given = done.ensures.status;
-      ready = λ room. done.ensures.ready (record { shelf = read.ensures.calm room.shelf; output = room.output; rooms = subst (λ rooms. HasRooms rooms (ended_report read.result).files) (sym (pointwise (S.room read.new.shelf) (S.room shelf) read.ensures.room)) room.rooms; room = room.room });
+      ready = λ room. done.ensures.ready (record { shelf = read.ensures.kept.standing.calm room.shelf; output = room.output; rooms = subst (λ rooms. HasRooms rooms (ended_report read.result).files) (sym (pointwise (S.room read.new.shelf) (S.room shelf) read.ensures.kept.standing.rooms)) room.rooms; room = room.room });
       stopped = done.ensures.stopped;
       reads = done.ensures.reads;
       failed = done.ensures.failed;

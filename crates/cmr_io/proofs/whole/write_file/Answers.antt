@@ -1,5 +1,6 @@
 use Rattle.std.proofs.Common.{◌≡◌, ◌++◌, List, ℕ, Some, take, arith, ◌∙◌, true, ap, subst}
 use Rattle.std.proofs.lemmas.List.{length-drop}
+use Rattle.cmr_io.proofs.KeptLemmas.{keeps_on}
 use Rattle.cmr_io.proofs.WholeLemmas.{rest, take-more}
 use Rattle.cmr_io.proofs.whole.write_file.Goals as goal
 
@@ -12,22 +13,20 @@ rest-preserved g c =
     let done = c.rest.done in
     let count = c.in_ok-done.field-0 in
     let got = λ (told : S.tells c.args.shelf.now ≡ true).
-    put.taken (before.tells ∙ told)
+    (put.written (before.standing.telling ∙ told)).taken
     ∙ ap (λ xs. xs ++ take count (rest bytes done)) (before.got told)
     ∙ take-more bytes done count in
     record {
-      within = omega (arith, put.within, length-drop done bytes);
-      writing = put.begun;
-      reading = put.reading ∙ before.reading;
+      within = omega (arith, put.taken.within, length-drop done bytes);
+      writing = put.begun.writing ∙ before.writing;
+      reading = put.begun.reading ∙ before.reading;
       target = λ told. put.target ∙ before.target told;
       got = got;
       holds = λ told.
-          subst (λ (name : List ℕ). S.content c.put.new.self name ≡ Some (S.got c.put.new.self)) (before.target told) (put.holds (before.tells ∙ told))
+          subst (λ (name : List ℕ). S.content c.put.new.self name ≡ Some (S.got c.put.new.self)) (before.target told) (put.written (before.standing.telling ∙ told)).holds
           ∙ ap Some (got told);
-      others = λ told other ne. put.others other (λ e. ne (e ∙ before.target told)) ∙ before.others told other ne;
-      rooms = λ other. put.rooms other ∙ before.rooms other;
+      others = λ told other ne. put.kept.others other (λ e. ne (e ∙ before.target told)) ∙ before.others told other ne;
       reads = put.reads ∙ before.reads;
-      tells = put.tells ∙ before.tells;
-      calm = λ calm. put.calm (before.calm calm);
-      later = omega (arith, put.cause.later, before.later);
+      standing = keeps_on before.standing put.kept.standing;
+      later = omega (arith, put.counted.cause.later, before.later);
     }

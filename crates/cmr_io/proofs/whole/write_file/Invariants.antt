@@ -1,4 +1,5 @@
 use Rattle.std.proofs.Common.{◌≡◌, ◌≢◌, ◌-◌, ◌≤◌, ℕ, List, IsTrue, Some, true, false, length, take}
+use Rattle.cmr_io.specs.Kept.{KeepsStanding}
 use Rattle.cmr_io.proofs.whole.write_file.Given as goal
 
 abbrev pub invariant-rest : goal.invariant-rest
@@ -12,10 +13,8 @@ invariant-rest g l =
       got : IsTrue (S.tells l.fn.shelf) → S.got l.shelf ≡ take l.done l.bytes;
       holds : IsTrue (S.tells l.fn.shelf) → S.content l.shelf l.name ≡ Some (take l.done l.bytes);
       others : IsTrue (S.tells l.fn.shelf) → (n : List ℕ) → n ≢ l.name → S.content l.shelf n ≡ S.content l.fn.shelf n;
-      rooms : (n : List ℕ) → S.room l.shelf n ≡ S.room l.fn.shelf n;
       reads : S.reads l.shelf ≡ S.reads l.fn.shelf;
-      tells : S.tells l.shelf ≡ S.tells l.fn.shelf;
-      calm : IsTrue (S.is_calm l.fn.shelf) → IsTrue (S.is_calm l.shelf);
+      standing : KeepsStanding S.tells S.is_calm S.room l.fn.shelf l.shelf;
       later : S.faults l.fn.shelf ≤ S.faults l.shelf;
     }
 

@@ -45,8 +45,8 @@ loop-head-preserved c =
     record {
       reaching = c.in_ok-meet_led.ensures.reaching c.args.starts.now
           (exchanged_reaching (height m + m.width) (pulls_along m c.args.rule c.args.direction) c.args.starts.now c.loop-head.walk c.take_last.new.self c.loop-head.head c.loop-head.invariant.reaching c.take_last.ensures.marks c.take_last.ensures.met);
-      row_size = c.in_ok-meet_led.ensures.row_size;
-      column_size = c.in_ok-meet_led.ensures.column_size;
+      row_size = c.in_ok-meet_led.ensures.sizes.0;
+      column_size = c.in_ok-meet_led.ensures.sizes.1;
       rows = c.in_ok-meet_led.ensures.rows;
       columns = c.in_ok-meet_led.ensures.columns;
     }

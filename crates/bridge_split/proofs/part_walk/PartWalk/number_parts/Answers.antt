@@ -2,7 +2,6 @@ use Rattle.std.proofs.Common.{◌≡◌, ◌+◌, ℕ, sym, subst, arith, inl, i
 use Rattle.std.proofs.lemmas.Bool.{cases_eq}
 use Rattle.cmr_base.specs.Matrix.{height}
 use Rattle.cmr_base.specs.Trees.{support}
-use Rattle.cmr_base.proofs.Parts.{length-rising}
 use Rattle.cmr_base.proofs.Places.{members_below}
 use Rattle.bridge_split.specs.PartNumbers.{number_at, IsNumbering}
 use Rattle.bridge_split.specs.declared.part_walk.PartWalk.{PartWalk}
@@ -13,13 +12,6 @@ use Rattle.bridge_split.proofs.part_walk.PartWalk.number_parts.Goals.{then-is_le
 
 pub walk_from-requires-clause-row : goal.walk_from-requires-clause-row
 walk_from-requires-clause-row c = members_below (height c.args.matrix.now) c.args.rows.now c.requires.rows c.args.row c.requires.row
-
-pub walk_from-requires-clause-few : goal.walk_from-requires-clause-few
-walk_from-requires-clause-few c =
-    let g = length-rising c.args.rows.now (height c.args.matrix.now) c.requires.rising c.requires.rows in
-    let h = c.requires.room.matrix.height_in in
-    let f = c.loop-place.invariant.fewer in
-    let l = c.loop-place-test.true in omega (arith, g, h, f, l)
 
 pub loop-place-preserved : goal.loop-place-preserved
 loop-place-preserved c =

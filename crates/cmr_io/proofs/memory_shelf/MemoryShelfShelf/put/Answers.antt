@@ -7,9 +7,11 @@ use Rattle.cmr_io.proofs.FileLemmas.{content_in-got, room_in-full}
 use Rattle.cmr_io.proofs.LimitLemmas.{up_to-zero}
 use Rattle.cmr_io.proofs.memory_shelf.MemoryShelfShelf.put.Goals as goal
 
-pub returns-in_err-step-clause-holds : goal.returns-in_err-step-clause-holds
-returns-in_err-step-clause-holds c =
-    content_in-got c.args.self.now.files.items c.args.self.now.begun c.requires c.args.self.now.writable
+pub returns-in_err-step-clause-written : goal.returns-in_err-step-clause-written
+returns-in_err-step-clause-written c = record {
+  taken = search rules;
+  holds = content_in-got c.args.self.now.files.items c.args.self.now.begun c.requires c.args.self.now.writable;
+}
 
 pub put-count-requires-clause-within : goal.put-count-requires-clause-within
 put-count-requires-clause-within c = c.args.self.now.in_range c.in-Write.file (ap file_begun c.in-Write.is)

@@ -1,5 +1,5 @@
 -- What a shelf that tells nothing and is never calm ensures beyond its own clauses.
-use Rattle.std.proofs.Common.{refl, arith}
+use Rattle.std.proofs.Common.{◌∙◌, sym, refl, arith}
 use Rattle.cmr_io.proofs.real_shelf.RealShelfShelf.TheImpl.Goals as goal
 
 pub begin_read-tells : goal.begin_read-tells
@@ -8,32 +8,21 @@ begin_read-tells g c = record {
   ended = c.ensures.ended;
   left = grind arith;
   ready = grind arith;
-  content = λ other. refl;
-  rooms = λ other. refl;
+  kept = record { names = λ name. refl; standing = record { telling = refl; calm = λ calm. calm; rooms = λ name. refl } };
   reads = c.ensures.reads;
-  failed = c.ensures.failed;
-  tells = refl;
-  calm = λ calm. calm;
-  cause = c.ensures.cause;
+  counted = record { last = c.ensures.failed; cause = c.ensures.cause };
 }
 
 pub next-tells : goal.next-tells
 next-tells g c = record {
   within = c.ensures.within;
   given = grind arith;
-  end = grind arith;
   err = grind arith;
   ready = grind arith;
-  begun = c.ensures.begun;
-  writing = c.ensures.writing;
-  content = λ other. refl;
-  rooms = λ other. refl;
+  begun = record { reading = c.ensures.begun ∙ sym c.requires; writing = c.ensures.writing };
+  kept = record { names = λ name. refl; standing = record { telling = refl; calm = λ calm. calm; rooms = λ name. refl } };
   reads = c.ensures.reads;
-  reads_stay = c.ensures.reads_stay;
-  failed = c.ensures.failed;
-  tells = refl;
-  calm = λ calm. calm;
-  cause = c.ensures.cause;
+  counted = record { last = c.ensures.failed; cause = c.ensures.cause };
 }
 
 pub begin_write-tells : goal.begin_write-tells
@@ -41,35 +30,21 @@ begin_write-tells g c = record {
   begun = c.ensures.begun;
   ended = c.ensures.ended;
   emptied = grind arith;
-  target = grind arith;
-  got = grind arith;
   err = grind arith;
   ready = grind arith;
-  others = λ other ne. refl;
-  rooms = λ other. refl;
+  kept = record { others = λ name ne. refl; standing = record { telling = refl; calm = λ calm. calm; rooms = λ name. refl } };
   reads = c.ensures.reads;
-  failed = c.ensures.failed;
-  tells = refl;
-  calm = λ calm. calm;
-  cause = c.ensures.cause;
+  counted = record { last = c.ensures.failed; cause = c.ensures.cause };
 }
 
 pub put-tells : goal.put-tells
 put-tells g c = record {
-  within = c.ensures.within;
-  some = c.ensures.some;
-  taken = grind arith;
-  err = grind arith;
-  holds = grind arith;
+  taken = c.ensures.taken;
+  written = grind arith;
   ready = grind arith;
-  begun = c.ensures.begun;
-  reading = c.ensures.reading;
+  begun = record { reading = c.ensures.reading; writing = c.ensures.begun ∙ sym c.requires };
   target = refl;
-  others = λ other ne. refl;
-  rooms = λ other. refl;
+  kept = record { others = λ name ne. refl; standing = record { telling = refl; calm = λ calm. calm; rooms = λ name. refl } };
   reads = c.ensures.reads;
-  failed = c.ensures.failed;
-  tells = refl;
-  calm = λ calm. calm;
-  cause = c.ensures.cause;
+  counted = record { last = c.ensures.failed; cause = c.ensures.cause };
 }

@@ -27,7 +27,7 @@ meet_word-requires-clause-marks c = λ k l e.
     let m = c.args.matrix.now in
     let column = 64 * c.loop-block.block + k in
     let t = found_passes (has_bit c.unseen-word.result k) (differs_at m c.args.row c.args.multiple.factor c.args.multiple.model column) (has_column c.loop-block.seen.seen.items column) (c.unseen-word.ensures k l) e in
-    let w = difference_in m c.args.row c.args.multiple.factor c.args.multiple.model column c.columns-columns.ensures.shape c.requires.row c.requires.model t in
+    let w = difference_in m c.args.row c.args.multiple.factor c.args.multiple.model column c.columns-columns.ensures.shape c.requires.row c.requires.multiple.model t in
     let same = c.loop-block.invariant.marks in
     let r = c.requires.marks in
     omega arith
@@ -91,7 +91,7 @@ loop-block-preserved c =
                 subst (λ (ms : List Bool). AreMeeting size leads starts ms now.met.items head from) (sym marks)
                 (subst (λ (xs : List ℕ). AreMeeting size leads starts w.meet_word.new.self.marks.items xs head from) (sym met)
                 (met_on leads starts old.marks.items w.meet_word.new.self.marks.items old.met.items w.meet_word.new.self.met.items (length old.marks.items) size (first + 64 * block) word head from so.marks (w.in_ok-meet_word.ensures.reaching leads starts head from)
-                (λ k l e. let column = 64 * block + k in let into = to.into column (difference_in m c.args.row c.args.multiple.factor c.args.multiple.model column c.columns-columns.ensures.shape c.requires.row c.requires.model (passes k l e)) (passes k l e) in
+                (λ k l e. let column = 64 * block + k in let into = to.into column (difference_in m c.args.row c.args.multiple.factor c.args.multiple.model column c.columns-columns.ensures.shape c.requires.row c.requires.multiple.model (passes k l e)) (passes k l e) in
                 ((let a = into.0 in omega arith), subst (λ (x : ℕ). leads from x ≡ true) (sym (regrouped first block k)) into.1))
                 (so.meeting leads starts to r)));
           }
@@ -120,7 +120,7 @@ returns-clause-reaching c = λ leads starts to r.
     let test = differs_at m c.args.row c.args.multiple.factor c.args.multiple.model in
     let so = c.loop-block.invariant in
     let size = so.size.seen in
-    let s = c.requires.size.seen in
+    let s = c.requires.seen.size.seen in
     let e = c.blocks-block-end.ensures in
     let l = c.loop-block-test.false in
     meeting_ends (length c.args.self.now.marks.items) leads starts c.args.head (get_or c.args.self.now.met.items c.args.head 0) c.args.first m.width test

@@ -18,8 +18,11 @@ line_is xs head line l e = get_or_default xs head 0 line l ∙ sym e
 pub meet_differences-requires-else-line-rows-clause-row : goal.meet_differences-requires-else-line-rows-clause-row
 meet_differences-requires-else-line-rows-clause-row c = in_columns c.args.matrix.now c.by_columns.result.now _ c.by_columns.ensures.matrix (let e = c.rows-rows.ensures.rows in let l = c.if-line-rows.false in let below = c.requires.below c.args.head c.requires.head in let here = line_is c.args.self.now.met.items c.args.head c.index-line.result.now c.requires.head c.index-line.ensures in omega arith)
 
-pub meet_differences-requires-else-line-rows-clause-model : goal.meet_differences-requires-else-line-rows-clause-model
-meet_differences-requires-else-line-rows-clause-model c = in_columns c.args.matrix.now c.by_columns.result.now _ c.by_columns.ensures.matrix c.column-multiple.ensures.model
+pub meet_differences-requires-else-line-rows-clause-multiple : goal.meet_differences-requires-else-line-rows-clause-multiple
+meet_differences-requires-else-line-rows-clause-multiple c = record {
+  model = in_columns c.args.matrix.now c.by_columns.result.now _ c.by_columns.ensures.matrix c.column-multiple.ensures.model;
+  factor = c.column-multiple.ensures.factor;
+}
 
 pub returns-in_ok-meet_differences-clause-reaching : goal.returns-in_ok-meet_differences-clause-reaching
 returns-in_ok-meet_differences-clause-reaching c = λ starts r.
