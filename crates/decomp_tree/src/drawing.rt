@@ -7,16 +7,13 @@ ghost use Rattle.tree_type.specs.Soundness.{IsSound};
 ghost use Rattle.decomp_tree.specs.PivotedShapes.{IsShapeWith, pivots_within};
 
 use crate::settling::{Search, draw_root};
-use cmr_base::{LineSet, MAX_LINES, Matrix, Memory};
+use cmr_base::{LineSet, MAX_DEPTH, MAX_LINES, Matrix, Memory};
 use std::alloc::Global;
 use std::thread::Threads;
 use tree_type::DecTree;
 
 // The state from which the first pivot on the way to a node is drawn.
 const FIRST_STATE: u32 = 1;
-
-// The most lines of a matrix, which are as many as the levels below the root of a tree may be.
-const MAX_LEVELS: u32 = 2000;
 
 /// The decomposition of the matrix, by the first case that applies at each node. `limit` is the most lines that the
 /// shorter side of a matrix may have whose row sets are tried one after another. Where nothing decides, at most `pivots`
@@ -47,5 +44,5 @@ pub fn decompose<R: Threads + Sync>(
 fn pivots_within(matrix: &Matrix, pivots: u32) -> u32
     ensures { result ≡ pivots_within matrix.now pivots }
 {
-    pivots.min(MAX_LEVELS - (matrix.rows() + matrix.columns()))
+    pivots.min(MAX_DEPTH - (matrix.rows() + matrix.columns()))
 }

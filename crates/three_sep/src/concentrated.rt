@@ -22,7 +22,7 @@ use crate::pulled::is_second_pulled;
 use crate::search::{leaves_second, separation_of};
 use crate::side::Side;
 use cmr_base::columns::{add_common, empty_set, meets, next_column};
-use cmr_base::{Form, Line, Memory, RowsAndColumns, Three};
+use cmr_base::{Form, Line, MAX_COLUMNS, Memory, RowsAndColumns, Three};
 use cuts::Corners;
 use std::alloc::Global;
 
@@ -376,13 +376,13 @@ fn is_good(
 // The first column from one on in which a row is not 0.
 fn next_nonzero(views: &RowsAndColumns<'_>, row: u32, from: u32) -> Option<u32>
     requires row { row < height views.now }
-    requires from { from ≤ 1000 }
+    requires from { from ≤ MAX_COLUMNS }
     ensures first { MatchOption result
         ((column : ℕ) → from ≤ column → support views.now row column ≡ false)
         (λ next. (from ≤ next)
         × (next < views.now.width)
         × ((column : ℕ) → from ≤ column → column < next → support views.now row column ≡ false)) }
-    ensures small { IfSome result (λ next. next < 1000) }
+    ensures small { IfSome result (λ next. next < MAX_COLUMNS) }
 {
     views.by_rows().next_nonzero(row, from)
 }
