@@ -1,5 +1,5 @@
 // Drafts that are settled: cycle faults are looked for late, from the root down, and pivots are made where nothing decides.
-ghost use Rattle.std.specs.Prelude.{◌≡◌, ◌≢◌, ◌≤◌, ◌<◌, ◌^◌, ◌++◌, ◌∷◌, [], true, length, map, IfOk, OnOk};
+ghost use Rattle.std.specs.Prelude.{◌≡◌, ◌≤◌, ◌<◌, ◌^◌, ◌++◌, ◌∷◌, [], length, map, IfOk, OnOk};
 ghost use Rattle.cmr_base.specs.Matrix.{IsMatrix};
 ghost use Rattle.cmr_base.specs.LineSets.{IsRowSet, IsColumnSet};
 ghost use Rattle.tree_type.specs.Trees.{Branch, Cycle, NoTrees, tree_of, trees_from};

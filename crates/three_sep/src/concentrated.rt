@@ -1,5 +1,5 @@
 // The first good seed of the concentrated form.
-ghost use Rattle.std.specs.Prelude.{◌≡◌, ◌≢◌, ◌<◌, ◌≤◌, ◌+◌, ◌++◌, ◌∷◌, [], ◌↔◌, ◌⊎◌, ℕ, List, length, pos, true, false, IsTrue, IfOk, OnOk, IfSome, IfNone, MatchOption};
+ghost use Rattle.std.specs.Prelude.{◌≡◌, ◌≢◌, ◌<◌, ◌≤◌, ◌+◌, ◌++◌, ◌∷◌, [], ◌↔◌, ◌⊎◌, ℕ, length, pos, true, false, IsTrue, IfOk, OnOk, IfSome, IfNone, MatchOption};
 ghost use Rattle.cmr_base.specs.declared.line.Line.{Line};
 ghost use Rattle.cmr_base.specs.declared.line.Line.TheVariants.{Row, Column};
 ghost use Rattle.cmr_base.specs.declared.separation.Form.TheVariants.{Concentrated};
@@ -12,16 +12,18 @@ ghost use Rattle.cmr_base.specs.Seeds.{IsLine};
 ghost use Rattle.cmr_base.specs.Trees.{support};
 ghost use Rattle.three_sep.specs.Sides.{AreInside, HasRoom, HasSize, set_of};
 ghost use Rattle.three_sep.specs.Searches.{HasNoGood, IsFirstOf, LeavesSecond, corner_front};
-ghost use Rattle.three_sep.specs.Concentrated.{AreConcentratedCorners, AreCandidates, AreHeldBy, ArePlaced, HasNoLeaving, IsFirstPair, IsFirstRow, IsGrowingFor, IsLeastFor, IsNoOtherColumn, IsOtherColumn, IsOtherRow, all_front, first_lines, first_of, second_of, turned as turned_connectors};
+ghost use Rattle.three_sep.specs.Concentrated.{AreConcentratedCorners, AreCandidates, ArePlaced, HasNoLeaving, IsFirstPair, IsFirstRow, IsGrowingFor, IsLeastFor, IsNoOtherColumn, IsOtherColumn, IsOtherRow, all_front, first_lines, first_of, second_of, turned as turned_connectors};
 
 use crate::connectors::Connectors;
-use crate::held::{add_column, has_column, held_columns, remove_column};
+use crate::held::held_columns;
 use crate::independent::columns_of;
 use crate::others::{is_beside, line_at};
 use crate::pulled::is_second_pulled;
 use crate::search::{leaves_second, separation_of};
 use crate::side::Side;
-use cmr_base::columns::{add_common, empty_set, meets, next_column};
+use cmr_base::columns::{
+    add_column, add_common, empty_set, has_column, meets, next_column, remove_column,
+};
 use cmr_base::{Form, Line, MAX_COLUMNS, Memory, RowsAndColumns, Three};
 use cuts::Corners;
 use std::alloc::Global;

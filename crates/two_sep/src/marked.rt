@@ -1,5 +1,5 @@
 // Marks of lines: the rows from 0 on, and the columns behind them.
-ghost use Rattle.std.specs.Prelude.{◌≡◌, ◌≤◌, ◌+◌, ◌<◌, ℕ, filter, length, IfOk};
+ghost use Rattle.std.specs.Prelude.{◌≡◌, ◌≤◌, ◌+◌, ◌<◌, filter, length, IfOk};
 ghost use Rattle.cmr_base.specs.LineSets.{first_lines};
 ghost use Rattle.line_growth.specs.Reaching.{is_marked, unmarked};
 
