@@ -8,7 +8,7 @@ ghost use Rattle.cmr_base.specs.Matrix.{entry, height, transposed};
 ghost use Rattle.cmr_base.specs.Planes.{words_for};
 ghost use Rattle.cmr_base.specs.Signing.{IsSign};
 ghost use Rattle.cmr_base.specs.Separations.{core_determinant};
-ghost use Rattle.cmr_base.specs.Seeds.{IsLine};
+ghost use Rattle.cmr_base.specs.Seeds.{IsLine, form_number};
 ghost use Rattle.cmr_base.specs.Trees.{support};
 ghost use Rattle.three_sep.specs.Sides.{AreInside, HasRoom, HasSize, set_of};
 ghost use Rattle.three_sep.specs.Searches.{HasNoGood, IsFirstOf, LeavesSecond, corner_front};
@@ -33,8 +33,10 @@ pub fn first_concentrated(
     alloc: Global,
     views: &RowsAndColumns<'_>,
 ) -> Result<Option<Three>, Memory>
-    ensures first { IfOk result (λ answer. IfSome answer (IsFirstOf views.now (3 ∷ []))) }
-    ensures none { IfOk result (λ answer. IfNone answer (HasNoGood views.now (3 ∷ []))) }
+    ensures first { IfOk result (λ answer.
+        IfSome answer (IsFirstOf views.now (form_number Concentrated ∷ []))) }
+    ensures none { IfOk result (λ answer.
+        IfNone answer (HasNoGood views.now (form_number Concentrated ∷ []))) }
 {
     let turned = RowsAndColumns::new(alloc, views.by_columns())?;
     first_of_rows(alloc, views, &turned)
@@ -47,8 +49,10 @@ fn first_of_rows(
     turned: &RowsAndColumns<'_>,
 ) -> Result<Option<Three>, Memory>
     requires turned { turned.now ≡ transposed views.now }
-    ensures first { IfOk result (λ answer. IfSome answer (IsFirstOf views.now (3 ∷ []))) }
-    ensures none { IfOk result (λ answer. IfNone answer (HasNoGood views.now (3 ∷ []))) }
+    ensures first { IfOk result (λ answer.
+        IfSome answer (IsFirstOf views.now (form_number Concentrated ∷ []))) }
+    ensures none { IfOk result (λ answer.
+        IfNone answer (HasNoGood views.now (form_number Concentrated ∷ []))) }
 {
     for i in 0..views.rows() {
         if let Some(three) = first_of_row(alloc, views, turned, i)? {
@@ -67,8 +71,10 @@ fn first_of_row(
 ) -> Result<Option<Three>, Memory>
     requires turned { turned.now ≡ transposed views.now }
     requires row { i < height views.now }
-    ensures first { IfOk result (λ answer. IfSome answer (IsFirstOf views.now (3 ∷ i ∷ []))) }
-    ensures none { IfOk result (λ answer. IfNone answer (HasNoGood views.now (3 ∷ i ∷ []))) }
+    ensures first { IfOk result (λ answer.
+        IfSome answer (IsFirstOf views.now (form_number Concentrated ∷ i ∷ []))) }
+    ensures none { IfOk result (λ answer.
+        IfNone answer (HasNoGood views.now (form_number Concentrated ∷ i ∷ []))) }
 {
     let mut candidates = candidates_for(alloc, views, i)?;
     for p in 0..views.columns() {
@@ -122,9 +128,9 @@ fn first_of_corner(
     requires nonzero { entry views.now i p ≢ pos 0 }
     ensures candidates { OnOk result (AreCandidates views.now i candidates.new.items) }
     ensures first { IfOk result (λ answer.
-        IfSome answer (IsFirstOf views.now (3 ∷ i ∷ p ∷ []))) }
+        IfSome answer (IsFirstOf views.now (form_number Concentrated ∷ i ∷ p ∷ []))) }
     ensures none { IfOk result (λ answer.
-        IfNone answer (HasNoGood views.now (3 ∷ i ∷ p ∷ []))) }
+        IfNone answer (HasNoGood views.now (form_number Concentrated ∷ i ∷ p ∷ []))) }
 {
     let _columns = views.columns();
     if !has_candidate(candidates) {
@@ -154,9 +160,9 @@ fn first_of_second_row(
     requires nonzero { entry views.now i p ≢ pos 0 }
     ensures candidates { OnOk result (AreCandidates views.now i candidates.new.items) }
     ensures first { IfOk result (λ answer.
-        IfSome answer (IsFirstOf views.now (3 ∷ i ∷ p ∷ k ∷ []))) }
+        IfSome answer (IsFirstOf views.now (form_number Concentrated ∷ i ∷ p ∷ k ∷ []))) }
     ensures none { IfOk result (λ answer.
-        IfNone answer (HasNoGood views.now (3 ∷ i ∷ p ∷ k ∷ []))) }
+        IfNone answer (HasNoGood views.now (form_number Concentrated ∷ i ∷ p ∷ k ∷ []))) }
 {
     let _columns = views.columns();
     if !meets(candidates, columns_of(views, k)) {
