@@ -1,56 +1,57 @@
--- Rows with different numbers are not alike.
-use Rattle.std.proofs.Common.{ℕ, ◌+◌, ◌++◌, List, [], ◌∷◌, ◌≡◌, ◌≢◌, ◌<◌, ◌∙◌, sym, ap, subst, arith, ◌⊎◌, inl, inr, length, get_or, length-append}
-use Rattle.std.proofs.lemmas.Bool.{cases_eq}
-use Rattle.std.proofs.lemmas.List.{get_or_append_left}
-use Rattle.std.proofs.Math.Seq.{get_or-append_seam}
-use Rattle.cmr_base.specs.ColumnSets.{HasCommon}
-use Rattle.cmr_base.specs.Matrix.{Matrix, height, row_of, is_nonzero, transposed, IsMatrix}
-use Rattle.cmr_base.specs.Planes.{words_for, words_of}
-use Rattle.cmr_base.proofs.ColumnWords.{words_columns}
-use Rattle.cmr_base.proofs.Parts.{height-transposed}
-use Rattle.cuts.specs.Classes.{AreClassNumbers, AreNumbered, IsNumber, Meets}
-use Rattle.cuts.specs.Digests.{digest_at, digest_of}
-use Rattle.cuts.proofs.DigestLemmas.{rows_unlike}
+-- Numbers of lines when a line is added to the set.
+use Rattle.std.proofs.Common.{ℕ, Bool, true, false, List, ◌≡◌, ◌∙◌, sym, ap, subst, inl, inr, get_or, length}
+use Rattle.std.specs.Int.Bits.{bit_xor}
+use Rattle.cmr_base.specs.ColumnSets.{has_column}
+use Rattle.cmr_base.specs.Matrix.{Matrix, height, is_nonzero, transposed, IsMatrix}
+use Rattle.cmr_base.specs.Planes.{words_for}
+use Rattle.cmr_base.specs.Trees.{support}
+use Rattle.cmr_base.proofs.Booleans.{not_both, two_cases}
+use Rattle.cmr_base.proofs.Parts.{entry-transposed, height-transposed}
+use Rattle.cuts.specs.Classes.{AreClassNumbers, AreNumbers}
 
-pub numbered_more : (m : Matrix) (crossing classes after : List ℕ) (row class : ℕ) → AreNumbered m crossing row classes → after ≡ classes ++ class ∷ [] → IsNumber m crossing row class → AreNumbered m crossing (row + 1) after
-numbered_more m crossing classes after row class so is here = record {
-  size = ap length is ∙ length-append classes (class ∷ []) ∙ (let k = so.size in omega (arith, k));
-  values = λ r l. elim (cases_eq r row) [
-    | inl q ↦ last r (q ∙ sym so.size) q
-    | inr d ↦ old r (omega (arith, l, d))
+-- the lines that are not 0 on a new one get a weight more
+pub numbers_more : (nonzero : ℕ → ℕ → Bool) (size : ℕ) (set after numbers values : List ℕ) (line weight : ℕ) → AreNumbers nonzero size set numbers → ((a : ℕ) → has_column set a ≡ true → has_column after a ≡ true) → has_column after line ≡ true
+    → ((x : ℕ) → nonzero line x ≡ true → get_or values x 0 ≡ bit_xor (get_or numbers x 0) weight) → ((x : ℕ) → nonzero line x ≡ false → get_or values x 0 ≡ get_or numbers x 0) → AreNumbers nonzero size after values
+numbers_more nonzero size set after numbers values line weight so kept here changed same = record {
+  met = λ x l n. elim (two_cases (nonzero line x)) [
+    | inl t ↦ (line, here, t)
+    | inr f ↦ let (a, h, t) = so.met x l (λ z. n (same x f ∙ z)) in (a, kept a h, t)
+  ];
+  apart = λ x y lx ly d. elim (two_cases (nonzero line x)) [
+    | inl t ↦ elim (two_cases (nonzero line y)) [
+      | inl u ↦ let (a, h, b) = so.apart x y lx ly (λ e. d (changed x t ∙ ap (λ (z : ℕ). bit_xor z weight) e ∙ sym (changed y u))) in (a, kept a h, b)
+      | inr g ↦ (line, here, λ e. not_both (nonzero line y) (sym e ∙ t) g)
+    ]
+    | inr f ↦ elim (two_cases (nonzero line y)) [
+      | inl u ↦ (line, here, λ e. not_both (nonzero line x) (e ∙ u) f)
+      | inr g ↦ let (a, h, b) = so.apart x y lx ly (λ e. d (same x f ∙ e ∙ sym (same y g))) in (a, kept a h, b)
+    ]
   ];
 }
-  where
-    last : (r : ℕ) → r ≡ length classes → r ≡ row → IsNumber m crossing r (get_or after r 0)
-    last r e q =
-        let at : get_or after r 0 ≡ class = ap (λ (xs : List ℕ). get_or xs r 0) is ∙ ap (λ (z : ℕ). get_or (classes ++ class ∷ []) z 0) e ∙ get_or-append_seam classes class [] 0 in
-        subst (λ (z : ℕ). IsNumber m crossing z (get_or after r 0)) (sym q) (subst (IsNumber m crossing row) (sym at) here)
 
-    old : (r : ℕ) → r < row → IsNumber m crossing r (get_or after r 0)
-    old r l =
-        let at : get_or after r 0 ≡ get_or classes r 0 = ap (λ (xs : List ℕ). get_or xs r 0) is ∙ get_or_append_left classes (class ∷ []) 0 r (let k = so.size in omega (arith, k, l)) in
-        subst (IsNumber m crossing r) (sym at) (so.values r l)
+-- what is not 0 said in another way
+pub numbers_as : (one other : ℕ → ℕ → Bool) (n size : ℕ) (set numbers : List ℕ) → ((a x : ℕ) → one a x ≡ other a x) → n ≡ size → AreNumbers one n set numbers → AreNumbers other size set numbers
+numbers_as one other n size set numbers same long so = subst (λ (k : ℕ). AreNumbers other k set numbers) long (record {
+  met = λ x l d. let (a, h, t) = so.met x l d in (a, h, sym (same a x) ∙ t);
+  apart = λ x y lx ly d. let (a, h, u) = so.apart x y lx ly d in (a, h, λ e. u (same a x ∙ e ∙ sym (same a y)));
+})
 
-pub told_by_numbers : (m : Matrix) (crossing classes : List ℕ) (before : ℕ) → IsMatrix m → before ≡ height m → AreNumbered m crossing before classes → AreClassNumbers m crossing classes
-told_by_numbers m crossing classes before is end so = record {
-  met = λ r l n. (number r l n).0;
-  apart = λ r s lr ls nr ns d. rows_unlike m crossing r s is lr ls (λ e. d ((number r lr nr).1 ∙ e ∙ sym (number s ls ns).1));
-}
-  where
-    number : (r : ℕ) → r < height m → get_or classes r 0 ≢ 0 → Meets m crossing r × (get_or classes r 0 ≡ digest_at m crossing r)
-    number r l n = elim (so.values r (omega (arith, l, end))) [
-      | inl z ↦ absurd (n z)
-      | inr is ↦ is
-    ]
+turned : (m : Matrix) → IsMatrix m → (a x : ℕ) → support (transposed m) x a ≡ support m a x
+turned m is a x = ap is_nonzero (entry-transposed m a x is)
 
-pub number_of_words : (m : Matrix) (crossing words : List ℕ) (row class : ℕ) → IsMatrix m → row < height m → words ≡ words_of (words_for m.width) is_nonzero (row_of m row)
-    → (class ≡ 0) ⊎ (HasCommon words crossing × (class ≡ digest_of words crossing)) → IsNumber m crossing row class
-number_of_words m crossing words row class is l same (inl z) = inl z
-number_of_words m crossing words row class is l same (inr ((column, in_row, in_set), value)) =
-    inr ((column, in_set, sym (words_columns m row words same is l column) ∙ in_row), value ∙ ap (λ (v : List ℕ). digest_of v crossing) same)
+-- numbers of the columns as those of the rows of the transposed matrix, and back
+pub of_columns : (m : Matrix) (rows numbers : List ℕ) → IsMatrix m → AreNumbers (support m) m.width rows numbers → AreClassNumbers (transposed m) rows numbers
+of_columns m rows numbers is = numbers_as (support m) (λ a x. support (transposed m) x a) m.width (height (transposed m)) rows numbers (λ a x. sym (turned m is a x)) (sym (height-transposed m))
 
-pub class_numbers_as : (m m' : Matrix) (crossing crossing' classes : List ℕ) → m ≡ m' → crossing ≡ crossing' → AreClassNumbers m crossing classes → AreClassNumbers m' crossing' classes
-class_numbers_as m m' crossing crossing' classes em ec h = subst (λ (z : Matrix). AreClassNumbers z crossing' classes) em (subst (λ (v : List ℕ). AreClassNumbers m v classes) ec h)
+pub to_columns : (m : Matrix) (rows numbers : List ℕ) → IsMatrix m → AreClassNumbers (transposed m) rows numbers → AreNumbers (support m) m.width rows numbers
+to_columns m rows numbers is = numbers_as (λ a x. support (transposed m) x a) (support m) (height (transposed m)) m.width rows numbers (turned m is) (height-transposed m)
+
+-- numbers of the rows for the columns as rows of the transposed matrix, and back
+pub of_rows : (m : Matrix) (columns numbers : List ℕ) (width : ℕ) → IsMatrix m → width ≡ height m → AreNumbers (support (transposed m)) width columns numbers → AreClassNumbers m columns numbers
+of_rows m columns numbers width is long = numbers_as (support (transposed m)) (λ a x. support m x a) width (height m) columns numbers (λ a x. turned m is x a) long
+
+pub to_rows : (m : Matrix) (columns numbers : List ℕ) (width : ℕ) → IsMatrix m → width ≡ height m → AreClassNumbers m columns numbers → AreNumbers (support (transposed m)) width columns numbers
+to_rows m columns numbers width is long = numbers_as (λ a x. support m x a) (support (transposed m)) (height m) width columns numbers (λ a x. sym (turned m is x a)) (sym long)
 
 -- words for the columns, as words for the rows of the transposed matrix
 pub wide_words : (m by_columns : Matrix) (words items : List ℕ) → by_columns ≡ transposed m → words ≡ items → length items ≡ words_for m.width → length words ≡ words_for (height by_columns)

@@ -250,7 +250,7 @@ unlike_rows : (m : Matrix) (rows columns classes : List ℕ) → IsMatrix m → 
 unlike_rows m rows columns classes is so r s lr ls nr ns d = record {
   met_one = let (c, h, t) = so.met r lr nr in (c, column_in m r c is lr t, h, t);
   met_two = let (c, h, t) = so.met s ls ns in (c, column_in m s c is ls t, h, t);
-  differ = let (c, h, n) = so.apart r s lr ls nr ns d in (c, width_of c n, h, n);
+  differ = let (c, h, n) = so.apart r s lr ls d in (c, width_of c n, h, n);
 }
   where
     width_of : (c : ℕ) → support m r c ≢ support m s c → c < m.width
@@ -265,7 +265,7 @@ unlike_columns : (m : Matrix) (rows columns classes : List ℕ) → IsMatrix m �
 unlike_columns m rows columns classes is so c d lc ld nc nd n = record {
   met_one = met c lc nc;
   met_two = met d ld nd;
-  differ = let (r, h, u) = so.apart c d (tall c lc) (tall d ld) nc nd n in (r, height_of r u, h, λ e. u (turned c r ∙ e ∙ sym (turned d r)));
+  differ = let (r, h, u) = so.apart c d (tall c lc) (tall d ld) n in (r, height_of r u, h, λ e. u (turned c r ∙ e ∙ sym (turned d r)));
 }
   where
     tall : (x : ℕ) → x < m.width → x < height (transposed m)
@@ -318,6 +318,17 @@ columns_halved m rows columns patterns H1 H2 is so adds1 adds2 = halved_by_unlik
     unlike (Row r) (Column c) lr lc hr hc = absurd (not_both false hr refl)
     unlike (Column c) (Row r) lc lr hc hr = absurd (not_both false hr refl)
     unlike (Row r) (Row s) lr ls hr hs = absurd (not_both false hr refl)
+
+-- with fewer lines that are known
+pub covers_less : (m : Matrix) (H K P less_one less_two : Lines) → AreWithin m less_one H → AreWithin m less_two K → Covers m less_one less_two P → Covers m H K P
+covers_less m H K P less_one less_two one two h T w = h T (record { cut = w.cut; one = λ x l e. w.one x l (one x l e); two = λ x l e. w.two x l (two x l e) })
+
+-- two sides that have at most these lines more
+pub halved_within : (m : Matrix) (H one other more_one more_other : Lines) → IsHalved m H one other → AddsAtMost m more_one H one → AddsAtMost m more_other H other → IsHalved m H more_one more_other
+halved_within m H one other more_one more_other halved adds1 adds2 T cut within = elim (halved T cut within) [
+  | inl h ↦ inl (λ x l e. elim (adds1 x l e) [ inl old ↦ within x l old | inr new ↦ h x l new ])
+  | inr h ↦ inr (λ x l e. elim (adds2 x l e) [ inl old ↦ within x l old | inr new ↦ h x l new ])
+]
 
 -- the patterns of the lines beside a set show that few can be on the other side
 pub patterns_few : (m : Matrix) (lines : LineWords) (patterns : LinePatterns) → IsMatrix m → HasPatterns m lines patterns → patterns.rows.most + patterns.columns.most < 4 → LeavesFew m (set_of lines)

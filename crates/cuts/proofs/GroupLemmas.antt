@@ -11,7 +11,7 @@ use Rattle.cuts.specs.declared.line_words.LineWords.{LineWords}
 use Rattle.cuts.specs.Covers.{AddsAtMost, AreOnOneSide, AreWithin, Covers, GetName, IsLineOf, words_set}
 use Rattle.cuts.specs.Cuts.{HoldTogether, IsCut, name_of}
 use Rattle.cuts.specs.LineSets.{set_of}
-use Rattle.cuts.proofs.CoverLemmas.{covers_more, group_of_covers}
+use Rattle.cuts.proofs.CoverLemmas.{covers_less, covers_more, group_of_covers}
 
 -- ---- names
 
@@ -89,11 +89,12 @@ none_among lines rows columns (Row r) = rows r
 none_among lines rows columns (Column c) = columns c
 
 -- two searches: with the lines of a name in side one, and with these in side two
-pub covered_group : {E : Type 0} (m : Matrix) (groups : Groups) (name : ℕ) (line : Line) (none one group more P1 P2 : Lines) (second : Result Bool E) → IsLineOf m line → HoldTogether (IsCut m) m groups → ((x : Line) → none x ≡ false)
-    → ((x : Line) → IsLineOf m x → one x ≡ true → (none x ≡ true) ⊎ (x ≡ line)) → ((x : Line) → IsLineOf m x → group x ≡ true → name_of m groups x ≡ name) → AddsAtMost m more one group
-    → Covers m more none P1 → OnOk second (AreWithin m P1 P2) → IfOk second (λ covered. covered ≡ true → Covers m one group P2) → IfOk second (λ covered. covered ≡ true → AreOnOneSide m line P2)
-covered_group m groups name line none one group more P1 P2 (Ok covered) lx together empty only named adds h1 within h2 = λ e.
+pub covered_group : {E : Type 0} (m : Matrix) (groups : Groups) (name : ℕ) (line : Line) (none one group nothing first second more P1 P2 : Lines) (found : Result Bool E) → IsLineOf m line → HoldTogether (IsCut m) m groups → ((x : Line) → none x ≡ false)
+    → ((x : Line) → IsLineOf m x → one x ≡ true → (none x ≡ true) ⊎ (x ≡ line)) → ((x : Line) → IsLineOf m x → group x ≡ true → name_of m groups x ≡ name) → AreWithin m nothing none → AreWithin m first one → AreWithin m second group
+    → AddsAtMost m more first group → Covers m more nothing P1 → OnOk found (AreWithin m P1 P2) → IfOk found (λ covered. covered ≡ true → Covers m first second P2) → IfOk found (λ covered. covered ≡ true → AreOnOneSide m line P2)
+covered_group m groups name line none one group nothing first second more P1 P2 (Ok covered) lx together empty only named in_none in_one in_group adds h1 within h2 = λ e.
     group_of_covers m groups name one group more none P2 line lx
     (λ x l h. elim (only x l h) [ inl old ↦ absurd (not_both (none x) old (empty x)) | inr same ↦ same ])
-    together named adds (λ x l. empty x) (covers_more m more none P1 P2 within h1) (h2 e)
-covered_group m groups name line none one group more P1 P2 (Err e) lx together empty only named adds h1 within h2 = h2
+    together named (λ x l t. elim (adds x l t) [ inl old ↦ inl (in_one x l old) | inr new ↦ inr new ]) (λ x l. empty x)
+    (covers_less m more none P2 more nothing (λ x l t. t) in_none (covers_more m more nothing P1 P2 within h1)) (covers_less m one group P2 first second in_one in_group (h2 e))
+covered_group m groups name line none one group nothing first second more P1 P2 (Err e) lx together empty only named in_none in_one in_group adds h1 within h2 = h2

@@ -1,9 +1,8 @@
 pub mod WordLemmas
 pub mod CutLemmas
-pub mod DigestLemmas
 pub mod ClassLemmas
 pub mod CoverLemmas
 pub mod PatternLemmas
-pub mod LinePatternLemmas
+pub mod SideLemmas
 pub mod GroupLemmas
 pub mod FinderLemmas

@@ -1,23 +1,11 @@
--- Words that differ, and products whose supports are told by one factor.
-use Rattle.std.proofs.Common.{ℕ, ◌+◌, ◌*◌, true, List, ◌≡◌, ◌≢◌, ◌∙◌, sym, ap, refl, arith, inl, inr, get_or, ℤ, pos, ◌*ℤ◌}
-use Rattle.cmr_base.specs.ColumnSets.{has_column}
-use Rattle.cmr_base.specs.Matrix.{Matrix, is_nonzero, IsEntry}
+-- Products whose supports are told by one factor.
+use Rattle.std.proofs.Common.{true, ◌≡◌, ◌≢◌, ◌∙◌, sym, ap, refl, arith, inl, inr, ℤ, pos, ◌*ℤ◌}
+use Rattle.cmr_base.specs.Matrix.{is_nonzero, IsEntry}
 use Rattle.cmr_base.specs.Signing.{IsSign}
-use Rattle.cmr_base.specs.Trees.{support}
 use Rattle.cmr_base.proofs.Booleans.{is_zero, nonzero_is, zero_is}
 use Rattle.cmr_base.proofs.SignEntries.{sign_of_entry}
-use Rattle.cmr_base.proofs.ColumnWords.{column_at}
 use Rattle.cmr_base.proofs.Integers.{sums, products}
 use Rattle.cmr_base.proofs.RowLists.{two_cases}
-use Rattle.cuts.specs.Digests.{DifferWithin}
-
-pub column_differs : (one two within : List ℕ) (block : ℕ) → DifferWithin (get_or one block 0) (get_or two block 0) (get_or within block 0)
-    → (c : ℕ) × (has_column within c ≡ true) × (has_column one c ≢ has_column two c)
-column_differs one two within block (k, l, w, d) = (64 * block + k, column_at within block k l ∙ w, λ e. d (sym (column_at one block k l) ∙ e ∙ column_at two block k l))
-
-pub support_differs : (m : Matrix) (r s : ℕ) (one two crossing : List ℕ) → ((c : ℕ) → has_column one c ≡ support m r c) → ((c : ℕ) → has_column two c ≡ support m s c)
-    → (c : ℕ) × (has_column crossing c ≡ true) × (has_column one c ≢ has_column two c) → (c : ℕ) × (has_column crossing c ≡ true) × (support m r c ≢ support m s c)
-support_differs m r s one two crossing er es (c, h, d) = (c, h, λ e. d (er c ∙ e ∙ sym (es c)))
 
 times_sign : (a b e : ℤ) → IsSign a → IsSign b → IsSign e → is_nonzero (a *ℤ (b *ℤ e)) ≡ true
 times_sign a b e (inl x) (inl y) (inl z) = rw (x, y, z) refl

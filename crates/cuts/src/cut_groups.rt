@@ -11,6 +11,7 @@ use crate::cut_search::CutSearch;
 use crate::groups::Groups;
 use crate::line_words::LineWords;
 use crate::next_line::next_line;
+use crate::sides::Side;
 use cmr_base::{Line, Memory, RowsAndColumns};
 use std::alloc::Global;
 
@@ -140,9 +141,12 @@ fn is_covered(
     let none = LineWords::new(alloc, views)?;
     let one = none.with_line(alloc, views, line)?;
     let group = groups.lines(alloc, views, name)?;
-    let more = one.with_lines(alloc, views, &group)?;
-    if !search.search(alloc, views, &more, &none, depth)? {
+    let nothing = Side::of(alloc, views, &none)?;
+    let first = Side::of(alloc, views, &one)?;
+    let second = Side::of(alloc, views, &group)?;
+    let more = first.grown(alloc, views, &group)?;
+    if !search.search(alloc, views, &more, &nothing, depth)? {
         return Ok(false);
     }
-    search.search(alloc, views, &one, &group, depth)
+    search.search(alloc, views, &first, &second, depth)
 }

@@ -2,10 +2,12 @@
 ghost use Rattle.std.specs.Prelude.{◌≡◌, true, IfOk, OnOk};
 ghost use Rattle.cuts.specs.Covers.{AreWithin, Covers};
 ghost use Rattle.cuts.specs.LineSets.{HasWords, set_of};
+ghost use Rattle.cuts.specs.Sides.{HasNumbers};
 
 use crate::line_patterns::LinePatterns;
 use crate::line_words::LineWords;
 use crate::next_line::next_line;
+use crate::sides::Side;
 use cmr_base::{Memory, RowsAndColumns};
 use std::alloc::Global;
 
@@ -23,39 +25,40 @@ impl CutSearch {
         &mut self,
         alloc: Global,
         views: &RowsAndColumns<'_>,
-        one: &LineWords,
-        two: &LineWords,
+        one: &Side,
+        two: &Side,
         depth: u32,
     ) -> Result<bool, Memory>
         requires parted { HasWords views.now self.old.parted }
-        requires one { HasWords views.now one.now }
-        requires two { HasWords views.now two.now }
+        requires one { HasNumbers views.now one.now }
+        requires two { HasNumbers views.now two.now }
         ensures size { OnOk result (HasWords views.now self.new.parted) }
         ensures more { OnOk result (AreWithin views.now (set_of self.old.parted)
             (set_of self.new.parted)) }
         ensures covers { IfOk result (λ covered. covered ≡ true
-            → Covers views.now (set_of one.now) (set_of two.now) (set_of self.new.parted)) }
+            → Covers views.now (set_of one.now.lines) (set_of two.now.lines)
+            (set_of self.new.parted)) }
     {
-        if one.meets(views, two) {
+        if one.lines.meets(views, &two.lines) {
             return Ok(true);
         }
-        if self.parted.have_all(views, one) {
+        if self.parted.have_all(views, &one.lines) {
             return Ok(true);
         }
         if depth == 0 || self.states == 0 {
             return Ok(false);
         }
         self.states -= 1;
-        let near = LinePatterns::of(alloc, views, one, two)?;
-        if near.are_few(views, one) {
+        let near = LinePatterns::of(alloc, views, one, &two.lines)?;
+        if near.are_few(views, &one.lines) {
             return Ok(true);
         }
-        if near.have_one_class() && one.are_four(views) {
-            self.parted.add_rest(views, one);
+        if near.have_one_class() && one.lines.are_four(views) {
+            self.parted.add_rest(views, &one.lines);
             return Ok(true);
         }
-        let far = LinePatterns::of(alloc, views, two, one)?;
-        if far.are_few(views, two) {
+        let far = LinePatterns::of(alloc, views, two, &one.lines)?;
+        if far.are_few(views, &two.lines) {
             return Ok(true);
         }
         if let Some(halves) = near.halves(alloc, views, one, far.lighter())? {
@@ -70,8 +73,8 @@ impl CutSearch {
             }
             return self.search(alloc, views, one, &halves.other, depth - 1);
         }
-        let Some(line) = next_line(views, one, two, &self.parted) else {
-            self.parted.add_rest(views, one);
+        let Some(line) = next_line(views, &one.lines, &two.lines, &self.parted) else {
+            self.parted.add_rest(views, &one.lines);
             return Ok(true);
         };
         let more_two = two.with_line(alloc, views, line)?;

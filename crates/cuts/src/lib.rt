@@ -1,7 +1,6 @@
 //! Cuts of a matrix, and groups of lines that no cut parts.
 #![tactic(auto)]
 
-mod classes;
 mod corners;
 mod cut_groups;
 mod cut_search;
@@ -11,6 +10,7 @@ mod line_patterns;
 mod line_words;
 mod next_line;
 mod patterns;
+mod sides;
 mod words;
 
 pub use corners::Corners;

@@ -4,17 +4,19 @@ ghost use Rattle.cmr_base.specs.Separations.{Lines};
 ghost use Rattle.cuts.specs.Covers.{Covers, IsHalved};
 ghost use Rattle.cuts.specs.LineSets.{HasWords, set_of};
 ghost use Rattle.cuts.specs.Patterns.{HasPatterns};
+ghost use Rattle.cuts.specs.Sides.{AreHalves, HasNumbers};
 
 use crate::line_words::LineWords;
 use crate::patterns::Patterns;
+use crate::sides::Side;
 use cmr_base::{Memory, RowsAndColumns};
 use std::alloc::Global;
 
-/// Two larger sets of lines.
+/// Two larger sides.
 #[derive(Drop)]
 pub struct Halves {
-    pub one: LineWords,
-    pub other: LineWords,
+    pub one: Side,
+    pub other: Side,
 }
 
 /// Patterns of the rows on the columns of a side, and of the columns on its rows.
@@ -25,30 +27,31 @@ pub struct LinePatterns {
 }
 
 impl LinePatterns {
-    /// Those of the lines that are not among some. Others are on the other side.
+    /// Those of the lines that are not on a side. Others are on the other side.
     pub fn of(
         alloc: Global,
         views: &RowsAndColumns<'_>,
-        lines: &LineWords,
+        side: &Side,
         far: &LineWords,
     ) -> Result<LinePatterns, Memory>
-        requires lines { HasWords views.now lines.now }
+        requires side { HasNumbers views.now side.now }
         requires far { HasWords views.now far.now }
-        ensures { IfOk result (HasPatterns views.now lines.now) }
+        ensures { IfOk result (HasPatterns views.now side.now.lines) }
     {
+        let lines = &side.lines;
         let rows = Patterns::of(
             alloc,
-            views.by_rows(),
+            views.rows(),
+            &side.row_numbers,
             &lines.rows,
             &far.rows,
-            &lines.columns,
         )?;
         let columns = Patterns::of(
             alloc,
-            views.by_columns(),
+            views.columns(),
+            &side.column_numbers,
             &lines.columns,
             &far.columns,
-            &lines.rows,
         )?;
         Ok(LinePatterns { rows, columns })
     }
@@ -79,23 +82,21 @@ impl LinePatterns {
         &self,
         alloc: Global,
         views: &RowsAndColumns<'_>,
-        lines: &LineWords,
+        side: &Side,
         least: u32,
     ) -> Result<Option<Halves>, Memory>
-        requires lines { HasWords views.now lines.now }
-        requires patterns { HasPatterns views.now lines.now self.now }
-        ensures { IfOk result (λ found. MatchOption found (Unit {0}) (λ halves. HasWords views.now
-            halves.one
-            × HasWords views.now halves.other
-            × IsHalved views.now (set_of lines.now) (set_of halves.one) (set_of halves.other))) }
+        requires side { HasNumbers views.now side.now }
+        requires patterns { HasPatterns views.now side.now.lines self.now }
+        ensures { IfOk result (λ found.
+            MatchOption found (Unit {0}) (AreHalves views.now side.now)) }
     {
         if self.have_one_class() || self.lighter() < least {
             return Ok(None);
         }
         if self.rows.heaps.lighter >= self.columns.heaps.lighter {
-            Ok(Some(self.halves_by_rows(alloc, views, lines)?))
+            Ok(Some(self.halves_by_rows(alloc, views, side)?))
         } else {
-            Ok(Some(self.halves_by_columns(alloc, views, lines)?))
+            Ok(Some(self.halves_by_columns(alloc, views, side)?))
         }
     }
 
@@ -103,37 +104,58 @@ impl LinePatterns {
         &self,
         alloc: Global,
         views: &RowsAndColumns<'_>,
-        lines: &LineWords,
+        side: &Side,
     ) -> Result<Halves, Memory>
-        requires lines { HasWords views.now lines.now }
-        requires patterns { HasPatterns views.now lines.now self.now }
-        ensures { IfOk result (λ halves. HasWords views.now halves.one
-            × HasWords views.now halves.other
-            × IsHalved views.now (set_of lines.now) (set_of halves.one) (set_of halves.other)) }
+        requires side { HasNumbers views.now side.now }
+        requires patterns { HasPatterns views.now side.now.lines self.now }
+        ensures { IfOk result (AreHalves views.now side.now) }
     {
         let _shape = views.rows();
+        let lines = &side.lines;
         let one = lines.with_rows(alloc, views, &self.rows, true)?;
         let other = lines.with_rows(alloc, views, &self.rows, false)?;
-        Ok(Halves { one, other })
+        grown_halves(alloc, views, side, &one, &other)
     }
 
     fn halves_by_columns(
         &self,
         alloc: Global,
         views: &RowsAndColumns<'_>,
-        lines: &LineWords,
+        side: &Side,
     ) -> Result<Halves, Memory>
-        requires lines { HasWords views.now lines.now }
-        requires patterns { HasPatterns views.now lines.now self.now }
-        ensures { IfOk result (λ halves. HasWords views.now halves.one
-            × HasWords views.now halves.other
-            × IsHalved views.now (set_of lines.now) (set_of halves.one) (set_of halves.other)) }
+        requires side { HasNumbers views.now side.now }
+        requires patterns { HasPatterns views.now side.now.lines self.now }
+        ensures { IfOk result (AreHalves views.now side.now) }
     {
         let _shape = views.rows();
+        let lines = &side.lines;
         let one = lines.with_columns(alloc, views, &self.columns, true)?;
         let other = lines.with_columns(alloc, views, &self.columns, false)?;
-        Ok(Halves { one, other })
+        grown_halves(alloc, views, side, &one, &other)
     }
+}
+
+// A side with each of two sets of lines, of which one is on its side of a cut.
+fn grown_halves(
+    alloc: Global,
+    views: &RowsAndColumns<'_>,
+    side: &Side,
+    one: &LineWords,
+    other: &LineWords,
+) -> Result<Halves, Memory>
+    requires side { HasNumbers views.now side.now }
+    requires one { HasWords views.now one.now }
+    requires other { HasWords views.now other.now }
+    requires halved { IsHalved views.now (set_of side.now.lines) (set_of one.now)
+        (set_of other.now) }
+    ensures { IfOk result (AreHalves views.now side.now) }
+{
+    let more_one = side.grown(alloc, views, one)?;
+    let more_other = side.grown(alloc, views, other)?;
+    Ok(Halves {
+        one: more_one,
+        other: more_other,
+    })
 }
 
 // Whether a sum is below four.

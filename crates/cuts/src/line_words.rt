@@ -10,7 +10,7 @@ ghost use Rattle.cuts.specs.LineSets.{HasWords, columns_heap, is_in_heap, rows_h
 use crate::heaps::Heaps;
 use crate::patterns::Patterns;
 use crate::words::{add_line, has_line};
-use cmr_base::columns::{add_set, empty_set};
+use cmr_base::columns::{add_set, empty_set, meets};
 use cmr_base::{Line, Memory, RowsAndColumns};
 use std::alloc::Global;
 
@@ -109,25 +109,6 @@ impl LineWords {
         Ok(lines)
     }
 
-    /// The lines and others.
-    pub fn with_lines(
-        &self,
-        alloc: Global,
-        views: &RowsAndColumns<'_>,
-        others: &LineWords,
-    ) -> Result<LineWords, Memory>
-        requires size { HasWords views.now self.now }
-        requires others { HasWords views.now others.now }
-        ensures size { IfOk result (HasWords views.now) }
-        ensures lines { IfOk result (λ lines.
-            AddsAtMost views.now (set_of lines) (set_of self.now) (set_of others.now)) }
-    {
-        let mut lines = self.copied(alloc, views)?;
-        add_set(&mut lines.rows, &others.rows);
-        add_set(&mut lines.columns, &others.columns);
-        Ok(lines)
-    }
-
     /// Whether there are four lines or more.
     pub fn are_four(&self, views: &RowsAndColumns<'_>) -> bool
         requires { HasWords views.now self.now }
@@ -218,6 +199,9 @@ fn share_line(one: &[u64], two: &[u64], lines: u32) -> bool
     ensures { result ≡ true
         → (x : ℕ) × (x < lines) × (has_column one.now x ≡ true) × (has_column two.now x ≡ true) }
 {
+    if !meets(one, two) {
+        return false;
+    }
     for line in 0..lines {
         if has_line(one, line) && has_line(two, line) {
             return true;

@@ -1,15 +1,12 @@
 // Patterns of the rows that are not on a side, on the columns that are.
 ghost use Rattle.std.specs.Prelude.{◌≡◌, ◌<◌, ◌≤◌, ◌+◌, ◌⊎◌, ℕ, List, length, slice_index_or, cond, nat_eq, IfOk};
 ghost use Rattle.std.specs.List.Sorted.{IsNonDecreasing};
-ghost use Rattle.cmr_base.specs.Matrix.{height};
 ghost use Rattle.cmr_base.specs.Planes.{words_for};
-ghost use Rattle.cuts.specs.Classes.{AreClassNumbers};
 ghost use Rattle.cuts.specs.Patterns.{AreAtMostBeside, AreAtMostListed, AreOpen, AreShort, IsCounted};
 
-use crate::classes::classes_of;
 use crate::heaps::{Heaps, heaps_of};
 use crate::words::has_line;
-use cmr_base::{Matrix, Memory};
+use cmr_base::Memory;
 use std::alloc::Global;
 
 /// Classes of the rows, how many rows that are not among some are at most in class 0 and in one other, and two heaps of
@@ -22,29 +19,27 @@ pub struct Patterns {
 }
 
 impl Patterns {
-    /// Those of the rows that are not among `own`, on the columns `crossing`. Rows `far` are on the other side.
+    /// Those of the rows that are not among `own`, which have these numbers. Rows `far` are on the other side.
     pub fn of(
         alloc: Global,
-        matrix: &Matrix,
+        rows: u32,
+        numbers: &[u64],
         own: &[u64],
         far: &[u64],
-        crossing: &[u64],
     ) -> Result<Patterns, Memory>
-        requires own { length own.now ≡ words_for (height matrix.now) }
-        requires far { length far.now ≡ words_for (height matrix.now) }
-        requires crossing { length crossing.now ≡ words_for matrix.now.width }
-        ensures size { IfOk result (λ patterns. length patterns.classes.items ≡ height matrix.now) }
-        ensures unlike { IfOk result (λ patterns.
-            AreClassNumbers matrix.now crossing.now patterns.classes.items) }
+        requires rows { rows ≤ 1000 }
+        requires numbers { length numbers.now ≡ rows }
+        requires own { length own.now ≡ words_for rows }
+        requires far { length far.now ≡ words_for rows }
+        ensures classes { IfOk result (λ patterns. patterns.classes.items ≡ numbers.now) }
         ensures most { IfOk result (λ patterns.
-            AreAtMostBeside own.now patterns.classes.items (height matrix.now) patterns.most) }
+            AreAtMostBeside own.now numbers.now rows patterns.most) }
     {
-        let classes = classes_of(alloc, matrix, crossing)?;
-        let sorted = sorted_classes(alloc, matrix.rows(), &classes, own)?;
+        let sorted = sorted_classes(alloc, rows, numbers, own)?;
         let most = most_alike(&sorted);
-        let heaps = heaps_of(&sorted, pinned_class(matrix.rows(), &classes, own, far));
+        let heaps = heaps_of(&sorted, pinned_class(rows, numbers, own, far));
         Ok(Patterns {
-            classes,
+            classes: Vec::from_slice(alloc, numbers)?,
             most,
             heaps,
         })

@@ -1,10 +1,8 @@
 // Lines of one kind as words.
 ghost use Rattle.std.specs.Prelude.{◌≡◌, ◌<◌, ◌/◌, ◌⊎◌, ℕ, true, length};
 ghost use Rattle.cmr_base.specs.ColumnSets.{has_column};
-ghost use Rattle.cuts.specs.Digests.{digest_of};
 
 use cmr_base::{has_bit, with_bit};
-use digests::mixed;
 
 /// Adds a line.
 pub fn add_line(lines: &mut Vec<u64>, line: u32)
@@ -26,16 +24,4 @@ pub fn has_line(lines: &[u64], line: u32) -> bool
     ensures { result ≡ has_column lines.now line }
 {
     has_bit(lines[line as usize / 64], line % 64)
-}
-
-/// One number for what some words have in common with others.
-pub fn digest_of(words: &[u64], within: &[u64]) -> u64
-    requires { length within.now ≡ length words.now }
-    ensures { result ≡ digest_of words.now within.now }
-{
-    let mut digest = 0;
-    for block in 0..words.len() {
-        digest = mixed(digest, words[block] & within[block]);
-    }
-    digest
 }

@@ -1,43 +1,43 @@
 use Rattle.std.proofs.Common.{MatchOption, Option, subst}
 use Rattle.cuts.specs.declared.line_patterns.Halves.{Halves}
-use Rattle.cuts.specs.Covers.{IsHalved}
-use Rattle.cuts.specs.LineSets.{HasWords, set_of}
+use Rattle.cuts.specs.LineSets.{set_of}
+use Rattle.cuts.specs.Sides.{AreHalves}
 use Rattle.cuts.proofs.CoverLemmas.{covers_both, covers_halves, covers_halves_beside, covers_line}
 use Rattle.cuts.proofs.cut_search.CutSearch.+search.Goals as goal
 
 pub returns-then-are_few-clause-covers : goal.returns-then-are_few-clause-covers
-returns-then-are_few-clause-covers t c = λ e. c.are_few.ensures.near c.if-are_few.true (set_of c.args.two.now) (set_of c.args.self.now.parted)
+returns-then-are_few-clause-covers t c = λ e. c.are_few.ensures.near c.if-are_few.true (set_of c.args.two.now.lines) (set_of c.args.self.now.parted)
 
 pub returns-then-are_few-2-clause-covers : goal.returns-then-are_few-2-clause-covers
-returns-then-are_few-2-clause-covers t c = λ e. c.are_few-2.ensures.far c.if-are_few-2.true (set_of c.args.one.now) (set_of c.args.self.now.parted)
+returns-then-are_few-2-clause-covers t c = λ e. c.are_few-2.ensures.far c.if-are_few-2.true (set_of c.args.one.now.lines) (set_of c.args.self.now.parted)
 
 pub returns-in-Some-clause-covers : goal.returns-in-Some-clause-covers
 returns-in-Some-clause-covers t c =
     let m = c.args.views.now in
-    let one = c.args.one.now in
-    let two = c.args.two.now in
+    let one = c.args.one.now.lines in
+    let two = c.args.two.now.lines in
     let halves = c.in-Some.halves in
-    let found = subst (λ (v : Option Halves). MatchOption v (Unit {0}) (λ halves. HasWords m halves.one × HasWords m halves.other × IsHalved m (set_of one) (set_of halves.one) (set_of halves.other))) c.in-Some.is c.in_ok-halves.ensures in
-    covers_both m (set_of one) (set_of two) (set_of halves.one) (set_of two) (set_of halves.other) (set_of two) (set_of c.search.new.self.parted) (set_of c.search-in-Some.new.self.parted) c.search-in-Some.result
-    (λ P. covers_halves m (set_of one) (set_of two) P (set_of halves.one) (set_of halves.other) found.2) (c.in_ok-search.ensures.covers c.if-not-branch.false) c.search-in-Some.ensures.more c.search-in-Some.ensures.covers
+    let found = subst (λ (v : Option Halves). MatchOption v (Unit {0}) (AreHalves m c.args.one.now)) c.in-Some.is c.in_ok-halves.ensures in
+    covers_both m (set_of one) (set_of two) (set_of halves.one.lines) (set_of two) (set_of halves.other.lines) (set_of two) (set_of c.search.new.self.parted) (set_of c.search-in-Some.new.self.parted) c.search-in-Some.result
+    (λ P. covers_halves m (set_of one) (set_of two) P (set_of halves.one.lines) (set_of halves.other.lines) found.halved) (c.in_ok-search.ensures.covers c.if-not-branch.false) c.search-in-Some.ensures.more c.search-in-Some.ensures.covers
 
 pub returns-in-Some-2-clause-covers : goal.returns-in-Some-2-clause-covers
 returns-in-Some-2-clause-covers t c =
     let m = c.args.views.now in
-    let one = c.args.one.now in
-    let two = c.args.two.now in
+    let one = c.args.one.now.lines in
+    let two = c.args.two.now.lines in
     let halves = c.in-Some-2.halves in
-    let found = subst (λ (v : Option Halves). MatchOption v (Unit {0}) (λ halves. HasWords m halves.one × HasWords m halves.other × IsHalved m (set_of two) (set_of halves.one) (set_of halves.other))) c.in-Some-2.is c.in_ok-halves-2.ensures in
-    covers_both m (set_of one) (set_of two) (set_of one) (set_of halves.one) (set_of one) (set_of halves.other) (set_of c.search-in-Some-2.new.self.parted) _ c.search-in-Some-2-2.result
-    (λ P. covers_halves_beside m (set_of one) (set_of two) P (set_of halves.one) (set_of halves.other) found.2) (c.in_ok-search-2.ensures.covers c.if-not-branch-2.false) c.search-in-Some-2-2.ensures.more c.search-in-Some-2-2.ensures.covers
+    let found = subst (λ (v : Option Halves). MatchOption v (Unit {0}) (AreHalves m c.args.two.now)) c.in-Some-2.is c.in_ok-halves-2.ensures in
+    covers_both m (set_of one) (set_of two) (set_of one) (set_of halves.one.lines) (set_of one) (set_of halves.other.lines) (set_of c.search-in-Some-2.new.self.parted) _ c.search-in-Some-2-2.result
+    (λ P. covers_halves_beside m (set_of one) (set_of two) P (set_of halves.one.lines) (set_of halves.other.lines) found.halved) (c.in_ok-search-2.ensures.covers c.if-not-branch-2.false) c.search-in-Some-2-2.ensures.more c.search-in-Some-2-2.ensures.covers
 
 pub returns-clause-covers : goal.returns-clause-covers
 returns-clause-covers t c =
     let m = c.args.views.now in
-    let one = c.args.one.now in
-    let two = c.args.two.now in
-    let more_one = c.in_ok-more_one.more_one in
-    let more_two = c.in_ok-more_two.more_two in
+    let one = c.args.one.now.lines in
+    let two = c.args.two.now.lines in
+    let more_one = c.in_ok-more_one.more_one.lines in
+    let more_two = c.in_ok-more_two.more_two.lines in
     covers_both m (set_of one) (set_of two) (set_of one) (set_of more_two) (set_of more_one) (set_of two) (set_of c.search-2.new.self.parted) _ c.search-3.result
     (λ P h2 h1. covers_line m (set_of one) (set_of two) P (set_of more_one) (set_of more_two) c.in-Some-next_line.line c.in-Some-next_line.ensures c.in_ok-more_one.ensures.lines c.in_ok-more_two.ensures.lines h1 h2)
     (c.in_ok-search-3.ensures.covers c.if-not-branch-3.false) c.search-3.ensures.more c.search-3.ensures.covers

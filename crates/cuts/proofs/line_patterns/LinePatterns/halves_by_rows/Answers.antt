@@ -2,12 +2,8 @@ use Rattle.cuts.specs.LineSets.{set_of}
 use Rattle.cuts.proofs.CoverLemmas.{rows_halved}
 use Rattle.cuts.proofs.line_patterns.LinePatterns.halves_by_rows.Goals as goal
 
-pub returns : goal.returns
-returns c =
+pub grown_halves-requires-clause-halved : goal.grown_halves-requires-clause-halved
+grown_halves-requires-clause-halved c =
     let m = c.args.views.now in
-    let lines = c.args.lines.now in (
-      c.in_ok-one.ensures.size,
-      c.in_ok-other.ensures.size,
-      rows_halved m lines.rows.items lines.columns.items c.args.self.now.rows (set_of c.in_ok-one.one) (set_of c.in_ok-other.other) c.rows-shape.ensures.shape c.requires.patterns.rows
-          c.in_ok-one.ensures.lines c.in_ok-other.ensures.lines,
-    )
+    let lines = c.args.side.now.lines in
+    rows_halved m lines.rows.items lines.columns.items c.args.self.now.rows (set_of c.in_ok-one.one) (set_of c.in_ok-other.other) c.rows-shape.ensures.shape c.requires.patterns.rows c.in_ok-one.ensures.lines c.in_ok-other.ensures.lines

@@ -1,0 +1,31 @@
+-- Sides of a cut with the numbers of the lines that cross them.
+use Rattle.std.specs.Prelude.{◌≡◌, length}
+use Rattle.cmr_base.specs.Matrix.{Matrix, height, transposed}
+use Rattle.cmr_base.specs.Planes.{words_for}
+use Rattle.cmr_base.specs.Trees.{support}
+use Rattle.cuts.specs.declared.line_patterns.Halves.{Halves}
+use Rattle.cuts.specs.declared.sides.NumberedSet.{NumberedSet}
+use Rattle.cuts.specs.declared.sides.Side.{Side}
+use Rattle.cuts.specs.Classes.{AreClassNumbers, AreNumbers}
+use Rattle.cuts.specs.Covers.{IsHalved}
+use Rattle.cuts.specs.LineSets.{HasWords, set_of}
+
+-- a set of rows, and numbers of the columns for it
+pub record HasSetNumbers (m : Matrix) (rows : NumberedSet) : Type 0 where
+  pub set_size : length rows.set.items ≡ words_for (height m)
+  pub size : length rows.numbers.items ≡ m.width
+  pub numbers : AreNumbers (support m) m.width rows.set.items rows.numbers.items
+
+-- numbers of the rows for the columns of the side, and of the columns for its rows
+pub record HasNumbers (m : Matrix) (side : Side) : Type 0 where
+  pub lines : HasWords m side.lines
+  pub row_size : length side.row_numbers.items ≡ height m
+  pub column_size : length side.column_numbers.items ≡ m.width
+  pub rows : AreClassNumbers m side.lines.columns.items side.row_numbers.items
+  pub columns : AreClassNumbers (transposed m) side.lines.rows.items side.column_numbers.items
+
+-- two larger sides: a cut that has the lines of the side in side one has those of one of them there
+pub record AreHalves (m : Matrix) (side : Side) (halves : Halves) : Type 0 where
+  pub one : HasNumbers m halves.one
+  pub other : HasNumbers m halves.other
+  pub halved : IsHalved m (set_of side.lines) (set_of halves.one.lines) (set_of halves.other.lines)

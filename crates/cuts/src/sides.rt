@@ -1,0 +1,172 @@
+// Sides of a cut while they grow, with a number for each line of what it has on the lines of the side that cross it.
+ghost use Rattle.std.specs.Prelude.{◌≡◌, ◌<◌, ◌≤◌, ◌⊎◌, ℕ, true, false, length, slice_index_or, IfOk};
+ghost use Rattle.std.specs.Int.Bits.{bit_xor};
+ghost use Rattle.cmr_base.specs.ColumnSets.{has_column};
+ghost use Rattle.cmr_base.specs.Matrix.{height};
+ghost use Rattle.cmr_base.specs.Planes.{words_for};
+ghost use Rattle.cmr_base.specs.Trees.{support};
+ghost use Rattle.cmr_base.specs.declared.line.Line.{Line};
+ghost use Rattle.cuts.specs.Classes.{AreNumbers};
+ghost use Rattle.cuts.specs.Covers.{AddsAtMost, IsLineOf};
+ghost use Rattle.cuts.specs.LineSets.{HasWords, set_of};
+ghost use Rattle.cuts.specs.Sides.{HasNumbers, HasSetNumbers};
+
+use crate::line_words::LineWords;
+use crate::words::{add_line, has_line};
+use cmr_base::columns::next_column;
+use cmr_base::{Line, Matrix, Memory, RowsAndColumns};
+use digests::mixed;
+use std::alloc::Global;
+
+/// Lines of one side, a number for each row of what it has in the columns of the side, and one for each column of what it
+/// has in the rows of the side. Lines that are alike there have one number.
+#[derive(Drop)]
+pub struct Side {
+    pub lines: LineWords,
+    pub row_numbers: Vec<u64>,
+    pub column_numbers: Vec<u64>,
+}
+
+impl Side {
+    /// Some lines.
+    pub fn of(alloc: Global, views: &RowsAndColumns<'_>, lines: &LineWords) -> Result<Side, Memory>
+        requires { HasWords views.now lines.now }
+        ensures numbers { IfOk result (HasNumbers views.now) }
+        ensures lines { IfOk result (λ side. (x : Line) → IsLineOf views.now x
+            → set_of side.lines x ≡ true → set_of lines.now x ≡ true) }
+    {
+        let none = Side {
+            lines: LineWords::new(alloc, views)?,
+            row_numbers: vec![in alloc; 0u64; views.rows() as usize]?,
+            column_numbers: vec![in alloc; 0u64; views.columns() as usize]?,
+        };
+        none.grown(alloc, views, lines)
+    }
+
+    /// The lines and others.
+    pub fn grown(
+        &self,
+        alloc: Global,
+        views: &RowsAndColumns<'_>,
+        lines: &LineWords,
+    ) -> Result<Side, Memory>
+        requires numbers { HasNumbers views.now self.now }
+        requires lines { HasWords views.now lines.now }
+        ensures numbers { IfOk result (HasNumbers views.now) }
+        ensures lines { IfOk result (λ side.
+            AddsAtMost views.now (set_of side.lines) (set_of self.now.lines) (set_of lines.now)) }
+    {
+        let rows = grown_set(
+            alloc,
+            &self.lines.rows,
+            &self.column_numbers,
+            views.by_rows(),
+            &lines.rows,
+        )?;
+        let columns = grown_set(
+            alloc,
+            &self.lines.columns,
+            &self.row_numbers,
+            views.by_columns(),
+            &lines.columns,
+        )?;
+        Ok(Side {
+            lines: LineWords {
+                rows: rows.set,
+                columns: columns.set,
+            },
+            row_numbers: columns.numbers,
+            column_numbers: rows.numbers,
+        })
+    }
+
+    /// The lines and one more.
+    pub fn with_line(
+        &self,
+        alloc: Global,
+        views: &RowsAndColumns<'_>,
+        line: Line,
+    ) -> Result<Side, Memory>
+        requires numbers { HasNumbers views.now self.now }
+        requires line { IsLineOf views.now line }
+        ensures numbers { IfOk result (HasNumbers views.now) }
+        ensures lines { IfOk result (λ side. (x : Line) → IsLineOf views.now x
+            → set_of side.lines x ≡ true → (set_of self.now.lines x ≡ true) ⊎ (x ≡ line)) }
+    {
+        let lines = self.lines.with_line(alloc, views, line)?;
+        self.grown(alloc, views, &lines)
+    }
+}
+
+// A set of rows, and a number for each column of what it has in them.
+#[derive(Drop)]
+pub struct NumberedSet {
+    pub set: Vec<u64>,
+    pub numbers: Vec<u64>,
+}
+
+// A set of rows and others, with the numbers of the columns.
+fn grown_set(
+    alloc: Global,
+    set: &[u64],
+    numbers: &[u64],
+    matrix: &Matrix,
+    rows: &[u64],
+) -> Result<NumberedSet, Memory>
+    requires set { length set.now ≡ words_for (height matrix.now) }
+    requires rows { length rows.now ≡ words_for (height matrix.now) }
+    requires size { length numbers.now ≡ matrix.now.width }
+    requires numbers { AreNumbers (support matrix.now) matrix.now.width set.now numbers.now }
+    ensures numbers { IfOk result (HasSetNumbers matrix.now) }
+    ensures only { IfOk result (λ grown. (x : ℕ) → has_column grown.set.items x ≡ true
+        → (has_column set.now x ≡ true) ⊎ (has_column rows.now x ≡ true)) }
+{
+    let mut grown = NumberedSet {
+        set: Vec::from_slice(alloc, set)?,
+        numbers: Vec::from_slice(alloc, numbers)?,
+    };
+    for row in 0..matrix.rows() {
+        if has_line(rows, row) && !has_line(set, row) {
+            add_row(&mut grown, matrix, row);
+        }
+    }
+    Ok(grown)
+}
+
+// Adds a row, and to the numbers of the columns what they have in it.
+fn add_row(grown: &mut NumberedSet, matrix: &Matrix, row: u32)
+    requires row { row < height matrix.now }
+    requires numbers { HasSetNumbers matrix.now grown.old }
+    ensures numbers { HasSetNumbers matrix.now grown.new }
+    ensures only { (x : ℕ) → has_column grown.new.set.items x ≡ true
+        → (x ≡ row) ⊎ (has_column grown.old.set.items x ≡ true) }
+{
+    let _columns = matrix.columns();
+    let words = matrix.support_words(row);
+    add_weight(&mut grown.numbers, words, weight_of(row));
+    add_line(&mut grown.set, row);
+}
+
+// What a line adds to the numbers of those that are not 0 on it.
+fn weight_of(line: u32) -> u64 {
+    let number = u64::from(line) | 1 << 32;
+    mixed(mixed(mixed(0, number), number), number)
+}
+
+// Adds a weight to the numbers of some lines.
+fn add_weight(numbers: &mut Vec<u64>, lines: &[u64], weight: u64)
+    requires few { length lines.now ≤ 16 }
+    requires inside { (x : ℕ) → has_column lines.now x ≡ true → x < length numbers.old.items }
+    ensures size { length numbers.new.items ≡ length numbers.old.items }
+    ensures changed { (x : ℕ) → has_column lines.now x ≡ true
+        → slice_index_or numbers.new.items x 0
+        ≡ bit_xor (slice_index_or numbers.old.items x 0) weight }
+    ensures same { (x : ℕ) → has_column lines.now x ≡ false
+        → slice_index_or numbers.new.items x 0 ≡ slice_index_or numbers.old.items x 0 }
+{
+    let mut from = 0;
+    while let Some(line) = next_column(lines, from) {
+        numbers[line as usize] ^= weight;
+        from = line + 1;
+    }
+}
