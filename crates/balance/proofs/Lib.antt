@@ -9,3 +9,4 @@ pub mod AlikeColumns
 pub mod KeptColumns
 pub mod KeptSteps
 pub mod FaultNumbers
+mod LeastFaults

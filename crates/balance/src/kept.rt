@@ -1,13 +1,14 @@
 // The columns that may make a fault with a set of rows.
-ghost use Rattle.std.specs.Prelude.{◌≡◌, ◌<◌, ◌≤◌, ◌↔◌, ◌+ℤ◌, ℕ, IfOk, IsTrue, length};
+ghost use Rattle.std.specs.Prelude.{◌≡◌, ◌<◌, ◌≤◌, ◌↔◌, ℕ, IfOk, IsTrue, length};
 ghost use Rattle.std.specs.List.{AllByRecursion};
 ghost use Rattle.cmr_base.specs.LineSets.{AllBelow, IsRowSet};
 ghost use Rattle.cmr_base.specs.Matrix.{entry, height, is_nonzero, IsMatrix};
 ghost use Rattle.cmr_base.specs.Members.{IsIn};
-ghost use Rattle.cmr_base.specs.Sums.{sum_over, IsTwoModFour};
+ghost use Rattle.cmr_base.specs.Sums.{sum_over};
 ghost use Rattle.balance.specs.Kept.{AreAlike, AreKept, AreKeptBelow, IsCandidate, IsLeastAlike};
 
-use cmr_base::{Indices, Matrix, Memory};
+use cmr_base::{Indices, MAX_ROWS, Matrix, Memory};
+use parity::is_two_mod_four;
 use std::alloc::Global;
 
 /// Of the columns with exactly two nonzeros in these rows, and of those that are alike, the least ones.
@@ -44,27 +45,18 @@ pub fn is_candidate(matrix: &Matrix, rows: &[u32], column: u32) -> bool
 {
     let mut count = 0usize;
     for row in rows {
-        if is_nonzero(matrix, *row, column) {
+        if matrix.is_nonzero(*row, column) {
             count += 1;
         }
     }
     count == 2
 }
 
-/// Whether the entry in a row and a column is not 0.
-pub fn is_nonzero(matrix: &Matrix, row: u32, column: u32) -> bool
-    requires row { row < height matrix.now }
-    requires column { column < matrix.now.width }
-    ensures { result ≡ is_nonzero (entry matrix.now row column) }
-{
-    matrix.entry(row, column) != 0
-}
-
 // Whether one of some columns is alike a column.
 fn has_alike(matrix: &Matrix, rows: &[u32], columns: &[u32], column: u32) -> bool
     requires matrix { IsMatrix matrix.now }
     requires rows { AllBelow (height matrix.now) rows.now }
-    requires few { length rows.now ≤ 1000 }
+    requires few { length rows.now ≤ MAX_ROWS }
     requires columns { AllBelow matrix.now.width columns.now }
     requires column { column < matrix.now.width }
     ensures { IsTrue result
@@ -82,7 +74,7 @@ fn has_alike(matrix: &Matrix, rows: &[u32], columns: &[u32], column: u32) -> boo
 fn are_alike(matrix: &Matrix, rows: &[u32], first: u32, second: u32) -> bool
     requires matrix { IsMatrix matrix.now }
     requires rows { AllBelow (height matrix.now) rows.now }
-    requires few { length rows.now ≤ 1000 }
+    requires few { length rows.now ≤ MAX_ROWS }
     requires first { first < matrix.now.width }
     requires second { second < matrix.now.width }
     ensures { IsTrue result ↔ AreAlike matrix.now rows.now first second }
@@ -104,18 +96,11 @@ fn join_same_rows(matrix: &Matrix, rows: &[u32], first: u32, second: u32) -> boo
         rows.now }
 {
     for row in rows {
-        let is_first = is_nonzero(matrix, *row, first);
-        let is_second = is_nonzero(matrix, *row, second);
+        let is_first = matrix.is_nonzero(*row, first);
+        let is_second = matrix.is_nonzero(*row, second);
         if is_first != is_second {
             return false;
         }
     }
     true
-}
-
-/// Whether a sum is 2 modulo 4.
-pub fn is_two_mod_four(sum: i32) -> bool
-    ensures { IsTrue result ↔ IsTwoModFour sum }
-{
-    sum.rem_euclid(4) == 2
 }

@@ -3,12 +3,12 @@ ghost use Rattle.std.specs.Prelude.{◌≡◌, ◌<◌, ◌≤◌, ◌↔◌, If
 ghost use Rattle.std.specs.List.{AllByRecursion};
 ghost use Rattle.cmr_base.specs.LineSets.{AllBelow, IsRowSet};
 ghost use Rattle.cmr_base.specs.Matrix.{entry, height, IsMatrix};
-ghost use Rattle.cmr_base.specs.Sums.{sum_over};
 ghost use Rattle.balance.specs.BalanceFaults.{column_nonzeros, row_nonzeros, IsBalanceFault};
 ghost use Rattle.balance.specs.Kept.{AreKept, MakeFault};
 
-use crate::kept::{is_candidate, is_nonzero, is_two_mod_four, kept_columns};
-use cmr_base::{Indices, Matrix, Memory};
+use crate::kept::{is_candidate, kept_columns};
+use cmr_base::{Indices, MAX_COLUMNS, MAX_ROWS, Matrix, Memory};
+use parity::is_two_mod_four;
 use std::alloc::Global;
 
 /// The columns that are kept for these rows, where they are a fault with them.
@@ -35,13 +35,13 @@ pub fn fault_columns(
 fn is_fault(matrix: &Matrix, rows: &[u32], columns: &[u32]) -> bool
     requires rows { AllBelow (height matrix.now) rows.now }
     requires columns { AllBelow matrix.now.width columns.now }
-    requires few_rows { length rows.now ≤ 1000 }
-    requires few_columns { length columns.now ≤ 1000 }
+    requires few_rows { length rows.now ≤ MAX_ROWS }
+    requires few_columns { length columns.now ≤ MAX_COLUMNS }
     ensures { IsTrue result ↔ IsBalanceFault (entry matrix.now) rows.now columns.now }
 {
     have_two_in_rows(matrix, rows, columns)
         && have_two_in_columns(matrix, rows, columns)
-        && is_two_mod_four(whole_sum(matrix, rows, columns))
+        && is_two_mod_four(matrix.sum_on(rows, columns))
 }
 
 fn have_two_in_rows(matrix: &Matrix, rows: &[u32], columns: &[u32]) -> bool
@@ -66,7 +66,7 @@ fn has_two(matrix: &Matrix, row: u32, columns: &[u32]) -> bool
 {
     let mut count = 0usize;
     for column in columns {
-        if is_nonzero(matrix, row, *column) {
+        if matrix.is_nonzero(row, *column) {
             count += 1;
         }
     }
@@ -87,19 +87,4 @@ fn have_two_in_columns(matrix: &Matrix, rows: &[u32], columns: &[u32]) -> bool
         }
     }
     true
-}
-
-fn whole_sum(matrix: &Matrix, rows: &[u32], columns: &[u32]) -> i32
-    requires rows { AllBelow (height matrix.now) rows.now }
-    requires columns { AllBelow matrix.now.width columns.now }
-    requires few_rows { length rows.now ≤ 1000 }
-    requires few_columns { length columns.now ≤ 1000 }
-    ensures { result ≡ sum_over rows.now (λ row.
-        sum_over columns.now (λ column. entry matrix.now row column)) }
-{
-    let mut sum = 0i32;
-    for row in rows {
-        sum += matrix.row_sum(*row, columns);
-    }
-    sum
 }

@@ -1,5 +1,5 @@
 -- The first rule that a node breaks by what it says, by the tests of its kind.
-use Rattle.std.proofs.Common.{◌≡◌, ◌≢◌, pos, Some, ◌<◌, ◌≤◌, ◌∙◌, min, length, map, ap, ◌↔◌, IsTrue, ℕ, Bool, true, false, Contains, Option, None, refl, sym, subst, arith}
+use Rattle.std.proofs.Common.{◌≡◌, ◌≢◌, pos, ◌<◌, ◌≤◌, ◌∙◌, min, length, map, ap, ◌↔◌, IsTrue, ℕ, Bool, true, false, Contains, Option, None, refl, sym, subst, arith}
 use Rattle.std.proofs.lemmas.List.{length-map}
 use Rattle.std.specs.declared.alloc.Global.{Global}
 use Rattle.std.specs.declared.boxed.Box.{Box}
@@ -9,17 +9,16 @@ use Rattle.cmr_base.specs.declared.separation.Three.{Three}
 use Rattle.cmr_base.specs.Separations.{first_is_flat, second_is_flat}
 use Rattle.tree_type.specs.Sides.{HasConnector}
 use Rattle.cmr_base.specs.declared.network.Network as net
-use Rattle.cmr_base.specs.Matrix.{Matrix, height, entry, transposed}
-use Rattle.cmr_base.specs.Violator.{IsViolator, HasNoViolator}
+use Rattle.cmr_base.specs.Matrix.{Matrix, height, entry}
+use Rattle.cmr_base.specs.Violator.{HasNoViolator}
 use Rattle.cmr_base.specs.CyclePlaces.{HasNoCycleFault}
 use Rattle.cmr_base.specs.R10.{IsR10}
-use Rattle.cmr_base.specs.Trees.{Reproduces}
 use Rattle.tree_type.specs.declared.refusal.Rule.{Rule}
 use Rattle.tree_type.specs.declared.refusal.Rule.TheVariants as rule
-use Rattle.tree_type.specs.Trees.{Finding, Empty, Cycle, Network, Conetwork, R10, Enumerated, TwoSum, ThreeSum, Violator, Undecided, Pivoted, Trees, Branch, NoTrees, two_trees, one_tree, tree_of}
+use Rattle.tree_type.specs.Trees.{Finding, Cycle, R10, Enumerated, TwoSum, ThreeSum, Violator, Pivoted, Trees, Branch, NoTrees, two_trees, one_tree, tree_of}
 use Rattle.tree_type.specs.declared.tree.Node.{Node}
 use Rattle.tree_type.specs.declared.tree.Kind.{Kind}
-use Rattle.tree_type.specs.Invariant.{AreLines, size_of}
+use Rattle.tree_type.specs.Invariant.{AreLines}
 use Rattle.tree_type.specs.Places.{lines_of_each}
 use Rattle.tree_type.specs.Soundness.{part, Demands, rule_number}
 use Rattle.tree_type.specs.declared.tree.Kind.TheVariants as kind
@@ -84,73 +83,6 @@ own_pivot m node place child e stands own = go (subst (λ tree. IsOwnRule m tree
 
 -- ---- one rule
 
-pub empty_says : (m : Matrix) (lines : LineSet) (yes : Bool) → IsTrue yes ↔ (size_of lines ≡ 0) → Says m lines Empty (unless yes rule.NotEmpty)
-empty_says m lines true h children = kept
-  where
-    kept : (broken : Rule) → Demands broken m lines Empty children
-    kept rule.NotEmpty = h.0 refl
-    kept _ = tt
-empty_says m lines false h children = (false_not h, before)
-  where
-    before : (earlier : Rule) → rule_number earlier < rule_number rule.NotEmpty → Demands earlier m lines Empty children
-    before rule.NotEmpty l = absurd (omega (arith, l))
-    before _ l = tt
-
-pub cycle_says : (m : Matrix) (lines fault : LineSet) (yes : Bool) → IsTrue yes ↔ IsViolator (entry m) fault.rows fault.columns → Says m lines (Cycle fault) (unless yes rule.NotViolator)
-cycle_says m lines fault true h children = kept
-  where
-    kept : (broken : Rule) → Demands broken m lines (Cycle fault) children
-    kept rule.NotViolator = h.0 refl
-    kept _ = tt
-cycle_says m lines fault false h children = (false_not h, before)
-  where
-    before : (earlier : Rule) → rule_number earlier < rule_number rule.NotViolator → Demands earlier m lines (Cycle fault) children
-    before rule.NotViolator l = absurd (omega (arith, l))
-    before _ l = tt
-
-pub violator_says : (m : Matrix) (lines fault : LineSet) (yes : Bool) → IsTrue yes ↔ IsViolator (entry m) fault.rows fault.columns → Says m lines (Violator fault) (unless yes rule.NotViolator)
-violator_says m lines fault true h children = kept
-  where
-    kept : (broken : Rule) → Demands broken m lines (Violator fault) children
-    kept rule.NotViolator = h.0 refl
-    kept _ = tt
-violator_says m lines fault false h children = (false_not h, before)
-  where
-    before : (earlier : Rule) → rule_number earlier < rule_number rule.NotViolator → Demands earlier m lines (Violator fault) children
-    before rule.NotViolator l = absurd (omega (arith, l))
-    before _ l = tt
-
-pub network_says : (m : Matrix) (lines : LineSet) (n : net.Network) (yes : Bool) → IsTrue yes ↔ Reproduces n (part m lines) → Says m lines (Network n) (unless yes rule.NotNetwork)
-network_says m lines n true h children = kept
-  where
-    kept : (broken : Rule) → Demands broken m lines (Network n) children
-    kept rule.NotNetwork = h.0 refl
-    kept _ = tt
-network_says m lines n false h children = (false_not h, before)
-  where
-    before : (earlier : Rule) → rule_number earlier < rule_number rule.NotNetwork → Demands earlier m lines (Network n) children
-    before rule.NotNetwork l = absurd (omega (arith, l))
-    before _ l = tt
-
-pub conetwork_says : (m : Matrix) (lines : LineSet) (n : net.Network) (yes : Bool) → IsTrue yes ↔ Reproduces n (transposed (part m lines)) → Says m lines (Conetwork n) (unless yes rule.NotNetwork)
-conetwork_says m lines n true h children = kept
-  where
-    kept : (broken : Rule) → Demands broken m lines (Conetwork n) children
-    kept rule.NotNetwork = h.0 refl
-    kept _ = tt
-conetwork_says m lines n false h children = (false_not h, before)
-  where
-    before : (earlier : Rule) → rule_number earlier < rule_number rule.NotNetwork → Demands earlier m lines (Conetwork n) children
-    before rule.NotNetwork l = absurd (omega (arith, l))
-    before _ l = tt
-
-pub undecided_says : (m : Matrix) (lines : LineSet) → Says m lines Undecided None
-undecided_says m lines children = kept
-  where
-    kept : (broken : Rule) → Demands broken m lines Undecided children
-    kept rule.Size = tt
-    kept _ = tt
-
 pub few_lines : (a b rows columns least : ℕ) → a ≡ rows → b ≡ columns → least ≡ min a b → least ≤ 24 → min rows columns ≤ 24
 few_lines a b rows columns least e f g h = subst (λ n. min rows n ≤ 24) f (subst (λ n. min n b ≤ 24) e (subst (λ n. n ≤ 24) g h))
 
@@ -191,13 +123,6 @@ r10_says m lines whole b e is h = go b (subst IsR10 e is) (subst (λ p. IsTrue b
         before rule.NotR10 l = is
         before rule.CycleFault l = absurd (omega (arith, l))
         before _ l = tt
-
-pub zero_says : (m : Matrix) (lines : LineSet) (place : PivotPlace) → entry m place.row place.column ≡ pos 0 → Says m lines (Pivoted place) (Some rule.NotPivot)
-zero_says m lines place zero children = (λ keeps. keeps.0 zero, before)
-  where
-    before : (earlier : Rule) → rule_number earlier < rule_number rule.NotPivot → Demands earlier m lines (Pivoted place) children
-    before rule.NotPivot l = absurd (omega (arith, l))
-    before _ l = tt
 
 pub pivot_says : (m : Matrix) (lines : LineSet) (place : PivotPlace) (yes : Bool) → entry m place.row place.column ≢ pos 0 → IsTrue yes ↔ IsTernaryPivot m lines place → Says m lines (Pivoted place) (unless yes rule.NotPivot)
 pivot_says m lines place true nonzero h children = kept

@@ -37,9 +37,6 @@ even-add a b (k, e) (l, f) = (k +ℤ l, omega (arith, sums))
 pub even-sub : (a b : ℤ) → IsEven a → IsEven b → IsEven (a -ℤ b)
 even-sub a b (k, e) (l, f) = (k -ℤ l, omega (arith, sums))
 
-pub even-mul_left : (a b : ℤ) → IsEven a → IsEven (a *ℤ b)
-even-mul_left a b (k, e) = (k *ℤ b, rw e (simp products))
-
 pub even-mul_right : (a b : ℤ) → IsEven b → IsEven (a *ℤ b)
 even-mul_right a b (k, e) = (a *ℤ k, rw e (simp products))
 
@@ -49,9 +46,6 @@ even_by_difference a b (k, e) (l, f) = (l -ℤ k, omega (arith, sums))
 
 pub odd_by_difference : (a b : ℤ) → IsEven (a -ℤ b) → IsOdd a → IsOdd b
 odd_by_difference a b (k, e) (l, f) = (l -ℤ k, omega (arith, sums))
-
-pub four-add : (a b : ℤ) → IsFour a → IsFour b → IsFour (a +ℤ b)
-four-add a b (k, e) (l, f) = (k +ℤ l, omega (arith, sums))
 
 pub four-double : (a : ℤ) → IsEven a → IsFour (a +ℤ a)
 four-double a (k, e) = (k, omega (arith, sums))

@@ -1,5 +1,5 @@
 -- Rising lists of numbers, and the rising list of what stands an odd number of times in a list.
-use Rattle.std.proofs.Common.{◌≡◌, ◌≢◌, ◌<◌, ◌≤◌, ◌+◌, ◌⊎◌, inl, inr, ℕ, zero, suc, Bool, true, false, cond, nat_eq, nat_lt, ℤ, pos, ◌+ℤ◌, ◌-ℤ◌, List, [], ◌∷◌, length, take, get_or, map, refl, ap, sym, subst, arith}
+use Rattle.std.proofs.Common.{◌≡◌, ◌≢◌, ◌<◌, ◌≤◌, ◌+◌, ◌⊎◌, inl, inr, ℕ, zero, suc, Bool, true, false, cond, nat_eq, nat_lt, ℤ, pos, ◌+ℤ◌, ◌-ℤ◌, List, [], ◌∷◌, length, take, get_or, refl, ap, sym, subst, arith}
 use Rattle.std.specs.List.{AllByRecursion, range_with_len}
 use Rattle.std.specs.List.Sorted.{IsStrictlyIncreasing}
 use Rattle.std.proofs.lemmas.Bool.{cases_eq}
@@ -210,12 +210,3 @@ row_set_short m rows rises inside = let short = rising_short 0 (height m) rows (
 pub rises-range : (first count high : ℕ) → high ≡ first + count → RisesIn first high (range_with_len first count)
 rises-range first zero high e = tt
 rises-range first (suc count) high e = (omega arith, omega arith, rises-range (first + 1) count high (omega arith))
-
--- a rising function of rising numbers
-pub rises-map : (f : ℕ → ℕ) (low high from top : ℕ) (xs : List ℕ) → ((x y : ℕ) → x < y → y < high → f x < f y) → ((x : ℕ) → x < high → f x < top) → ((x : ℕ) → low ≤ x → x < high → from ≤ f x) → RisesIn low high xs → RisesIn from top (map f xs)
-rises-map f low high from top [] up below above rises = tt
-rises-map f low high from top (x ∷ xs) up below above rises = (
-  above x rises.0 rises.1,
-  below x rises.1,
-  rises-map f (x + 1) high (f x + 1) top xs up below (λ y h l. let higher : x < y = omega arith in omega (arith, up x y higher l)) rises.2,
-)

@@ -1,12 +1,11 @@
 -- Cells that are laid out row by row, and the rows that they make.
 use Rattle.std.proofs.Common.{◌≡◌, ◌<◌, ◌≤◌, ◌*◌, ◌+◌, ◌-◌, ◌∙◌, ℕ, zero, suc, ℤ, pos, List, [], ◌∷◌, length, take, drop, get_or, set, refl, ap, sym, subst, inl, inr, zero-add, arith}
-use Rattle.std.specs.Prelude.{count_by, replicate}
+use Rattle.std.specs.Prelude.{replicate}
 use Rattle.std.proofs.lemmas.List.{get_or-take, get_or-drop, length-take-le, length-drop, take-replicate, drop-replicate, take-set-le, drop-set-lt, drop-set-add, drop-drop, get_or_past, length-take}
-use Rattle.std.proofs.lemmas.List.Sums.{sum_by-take-drop}
 use Rattle.std.proofs.lemmas.Bool.{cases_lt}
 use Rattle.std.proofs.Math.Seq.{take-set-lt}
 use Rattle.std.proofs.Math.Nat.{suc-mul, zero-mul}
-use Rattle.cmr_base.specs.Matrix.{rows_of, nonzeros_of, is_nonzero}
+use Rattle.cmr_base.specs.Matrix.{rows_of}
 
 pub length-rows_of : (n w : ℕ) (cells : List ℤ) → length (rows_of n w cells) ≡ n
 length-rows_of zero w cells = refl
@@ -48,13 +47,6 @@ set-rows_of (suc n) w cells (suc r) c v hr hc =
     let e : suc r * w + c ≡ w + (r * w + c) = omega (arith, suc-mul r w) in
     let later : w ≤ w + (r * w + c) = omega arith in
     rw (e, take-set-le, drop-set-add) (ap (λ rows. take w cells ∷ rows) (set-rows_of n w (drop w cells) r c v (omega arith) hc))
-
-pub nonzeros-rows_of : (n w : ℕ) (cells : List ℤ) → length cells ≡ n * w → nonzeros_of (rows_of n w cells) ≡ count_by is_nonzero cells
-nonzeros-rows_of zero w [] e = refl
-nonzeros-rows_of zero w (x ∷ cells) e = absurd (omega (arith, zero-mul w))
-nonzeros-rows_of (suc n) w cells e =
-    ap (λ k. count_by is_nonzero (take w cells) + k) (nonzeros-rows_of n w (drop w cells) (omega (arith, suc-mul n w, length-drop w cells)))
-    ∙ sum_by-take-drop _ cells w
 
 pub replicate-rows_of : (n w : ℕ) (z : ℤ) → rows_of n w (replicate (n * w) z) ≡ replicate n (replicate w z)
 replicate-rows_of zero w z = refl

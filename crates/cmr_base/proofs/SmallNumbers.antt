@@ -65,10 +65,6 @@ double_fits x y a b = small_fits 4 (to_z w8 (of_z w8 x) *ℤ to_z w8 (of_z w8 y)
 pub double_kept : (x y : ℤ) → IsBounded 2 x → IsBounded 2 y → to_z w8 (of_z w8 (to_z w8 (of_z w8 x) *ℤ to_z w8 (of_z w8 y))) ≡ x *ℤ y
 double_kept x y a b = ap (λ (z : ℤ). to_z w8 (of_z w8 z)) (product_same 2 2 x y (omega arith) (omega arith) a b) ∙ small_as_byte 4 (x *ℤ y) (omega arith) (bounded_double 2 x y a b)
 
--- a product with an entry
-pub by_entry_fits : (x y : ℤ) → IsBounded 4 x → IsEntry y → FitsSigned w8 (to_z w8 (of_z w8 x) *ℤ to_z w8 (of_z w8 y))
-by_entry_fits x y a b = small_fits 4 (to_z w8 (of_z w8 x) *ℤ to_z w8 (of_z w8 y)) (omega arith) (subst (IsBounded 4) (sym (product_same 4 1 x y (omega arith) (omega arith) a (entry_is_small y b))) (bounded_by_entry 4 x y a b))
-
 pub by_entry_kept : (x y : ℤ) → IsBounded 4 x → IsEntry y → to_z w8 (of_z w8 (to_z w8 (of_z w8 x) *ℤ to_z w8 (of_z w8 y))) ≡ x *ℤ y
 by_entry_kept x y a b = ap (λ (z : ℤ). to_z w8 (of_z w8 z)) (product_same 4 1 x y (omega arith) (omega arith) a (entry_is_small y b)) ∙ small_as_byte 4 (x *ℤ y) (omega arith) (bounded_by_entry 4 x y a b)
 

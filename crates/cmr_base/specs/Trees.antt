@@ -94,9 +94,6 @@ HasGraphicSupport m = (net : Network) × ReproducesSupport net m
 abbrev pub IsGraphic : Matrix → Type 0
 IsGraphic m = IsBinary m × HasGraphicSupport m
 
-abbrev pub IsCographic : Matrix → Type 0
-IsCographic m = IsGraphic (transposed m)
-
 abbrev pub IsNetworkMatrix : Matrix → Type 0
 IsNetworkMatrix m = (net : Network) × Reproduces net m
 

@@ -1,16 +1,16 @@
 //! Sets of columns as words: column c is in a set where the bit 2^(c mod 64) of word c / 64 is 1.
 
-ghost use Rattle.std.specs.Prelude.{◌≡◌, ◌<◌, ◌≤◌, ◌*◌, ◌↔◌, ◌⊎◌, ◌&&◌, ◌||◌, not, ℕ, true, false, length, count_by, IfOk, IsTrue, MatchOption};
+ghost use Rattle.std.specs.Prelude.{◌≡◌, ◌<◌, ◌≤◌, ◌*◌, ◌/◌, ◌↔◌, ◌⊎◌, ◌&&◌, ◌||◌, not, ℕ, true, false, length, count_by, IfOk, IsTrue, MatchOption};
 ghost use Rattle.cmr_base.specs.LineSets.{first_lines};
 ghost use Rattle.cmr_base.specs.Planes.{has_bit, words_for};
 ghost use Rattle.cmr_base.specs.ColumnSets.{has_column, Denies, HasCommon, IsApart, IsWithin};
 
-use crate::{Memory, words_for};
+use crate::{MAX_COLUMNS, Memory, has_bit, with_bit, words_for};
 use std::alloc::Global;
 
 /// The empty set for a matrix with so many columns.
 pub fn empty_set(alloc: Global, columns: u32) -> Result<Vec<u64>, Memory>
-    requires { columns ≤ 1000 }
+    requires { columns ≤ MAX_COLUMNS }
     ensures size { IfOk result (λ set. length set.items ≡ words_for columns) }
     ensures none { IfOk result (λ set. (column : ℕ) → has_column set.items column ≡ false) }
 {
@@ -23,6 +23,42 @@ pub fn clear_set(set: &mut Vec<u64>)
     ensures none { (column : ℕ) → has_column set.new.items column ≡ false }
 {
     set.fill(0);
+}
+
+/// Whether a column is in a set.
+pub fn has_column(set: &[u64], column: u32) -> bool
+    requires { column / 64 < length set.now }
+    ensures { result ≡ has_column set.now column }
+{
+    has_bit(set[column as usize / 64], column % 64)
+}
+
+/// Adds a column to a set.
+pub fn add_column(set: &mut Vec<u64>, column: u32)
+    requires { column / 64 < length set.old.items }
+    ensures size { length set.new.items ≡ length set.old.items }
+    ensures only { (x : ℕ) → has_column set.new.items x ≡ true
+        → (x ≡ column) ⊎ (has_column set.old.items x ≡ true) }
+    ensures here { has_column set.new.items column ≡ true }
+    ensures kept { (x : ℕ) → has_column set.old.items x ≡ true
+        → has_column set.new.items x ≡ true }
+{
+    let place = column as usize / 64;
+    set[place] = with_bit(set[place], column % 64, true);
+}
+
+/// Takes a column out of a set.
+pub fn remove_column(set: &mut Vec<u64>, column: u32)
+    requires { column / 64 < length set.old.items }
+    ensures size { length set.new.items ≡ length set.old.items }
+    ensures only { (x : ℕ) → has_column set.new.items x ≡ false
+        → (x ≡ column) ⊎ (has_column set.old.items x ≡ false) }
+    ensures here { has_column set.new.items column ≡ false }
+    ensures kept { (x : ℕ) → has_column set.old.items x ≡ false
+        → has_column set.new.items x ≡ false }
+{
+    let place = column as usize / 64;
+    set[place] = with_bit(set[place], column % 64, false);
 }
 
 /// Adds the columns of another set.

@@ -16,6 +16,17 @@ impl Matrix {
         let columns = lines.columns.as_slice();
         prove!(rows.len() <= self.rows() as usize);
         prove!(columns.len() <= self.columns() as usize);
+        self.sum_on(rows, columns)
+    }
+
+    /// The sum of the entries of the submatrix on these rows and columns.
+    pub fn sum_on(&self, rows: &[u32], columns: &[u32]) -> i32
+        requires rows { AllBelow (height self.now) rows.now }
+        requires columns { AllBelow self.now.width columns.now }
+        requires few_rows { length rows.now ≤ MAX_ROWS }
+        requires few_columns { length columns.now ≤ MAX_COLUMNS }
+        ensures { result ≡ submatrix_sum self.now rows.now columns.now }
+    {
         let mut sum = 0i32;
         for row in rows {
             sum += self.row_sum(*row, columns);

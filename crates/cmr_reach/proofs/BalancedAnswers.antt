@@ -14,8 +14,8 @@ use Rattle.decomp_tree.specs.PivotedShapes.{IsShapeWith}
 use Rattle.decomp_tree.proofs.OneVerdict.{one_verdict}
 use Rattle.cert_check.specs.Laws.{Tells}
 use Rattle.cert_check.proofs.SoundTrees.{tells}
-use Rattle.balance.specs.declared.search.BalanceSearch.{BalanceSearch}
-use Rattle.balance.specs.declared.search.BalanceSearch.TheVariants.{Clean, Found, TooMany}
+use Rattle.leaf_enumerate.specs.declared.search.Search.{Search}
+use Rattle.leaf_enumerate.specs.declared.search.Search.TheVariants.{Clean, Found, TooMany}
 use Rattle.balance.specs.BalanceFaults.{IsBalanced, IsLeastFault}
 use Rattle.balance.specs.Searched.{HasSearchedFaults}
 use Rattle.balance.proofs.FaultLaws.{cycle_fault_unbalanced, free_is_balanced}
@@ -61,7 +61,7 @@ balanced_by_tree m shape tree is sound says = free_is_balanced m (is_ternary m s
 
 -- ---- one status
 
-same_found : (o : BalancedOrder) (m : Matrix) (a b : BalanceSearch) → HasSearchedFaults m o.lines a → HasSearchedFaults m o.lines b → (search_report o m a).status ≡ (search_report o m b).status
+same_found : (o : BalancedOrder) (m : Matrix) (a b : Search) → HasSearchedFaults m o.lines a → HasSearchedFaults m o.lines b → (search_report o m a).status ≡ (search_report o m b).status
 same_found o m Clean Clean f g = refl
 same_found o m Clean (Found lines) f g = let is = least_is_fault m lines g.1 in absurd (f.1 lines.rows lines.columns is.row_set is.column_set is.balance_fault)
 same_found o m Clean (TooMany shorter) f g = let l = f.0 in let a = g.0 in let e = g.1 in absurd (omega arith)
@@ -104,7 +104,7 @@ module _ (o : BalancedOrder) (m : Matrix) where
   says_open is Undecided e = is
   says_open is Refused e = absurd (omega arith)
 
-  says_found : IsUntold o.lines o.pivots m → (found : BalanceSearch) → HasSearchedFaults m o.lines found → (answer : Answer) → (search_report o m found).status ≡ answer_status answer → BalancedMeans o m answer
+  says_found : IsUntold o.lines o.pivots m → (found : Search) → HasSearchedFaults m o.lines found → (answer : Answer) → (search_report o m found).status ≡ answer_status answer → BalancedMeans o m answer
   says_found untold Clean has answer e = says_yes has.1 answer e
   says_found untold (Found lines) has answer e = says_no lines (least_is_fault m lines has.1) answer e
   says_found untold (TooMany shorter) has answer e = says_open (record { untold = untold; above = subst (λ n. o.lines < n) has.1 has.0 }) answer e

@@ -3,8 +3,8 @@ use Rattle.std.proofs.Common.{◌≡◌, ℕ, List}
 use Rattle.cmr_base.specs.Matrix.{Matrix}
 use Rattle.sign_tool.specs.declared.signing.SetSigning.{SetSigning}
 use Rattle.sign_tool.specs.declared.signing.SetSigning.TheVariants.{Signed, Violated}
-use Rattle.balance.specs.declared.search.BalanceSearch.{BalanceSearch}
-use Rattle.balance.specs.declared.search.BalanceSearch.TheVariants.{Clean, Found, TooMany}
+use Rattle.leaf_enumerate.specs.declared.search.Search.{Search}
+use Rattle.leaf_enumerate.specs.declared.search.Search.TheVariants.{Clean, Found, TooMany}
 use Rattle.cmr_front.specs.declared.status.Answer.TheVariants.{Yes, No, Undecided}
 use Rattle.cmr_front.specs.declared.status.Failure.TheVariants.{Text}
 use Rattle.cmr_front.specs.Report.{Report}
@@ -21,7 +21,7 @@ signed_answers m rows (Violated lines) r e is = answered_or_failed r.status No T
 pub sign_answers : (m : Matrix) (rows : List ℕ) (r : Report) → SignDecides m rows r → r.status ≡ failure_status Text → ⊥
 sign_answers m rows r d is = signed_answers m rows d.answer r d.report_is is
 
-search_answers : (o : BalancedOrder) (m : Matrix) (found : BalanceSearch) (r : Report) → r ≡ search_report o m found → r.status ≡ failure_status Text → ⊥
+search_answers : (o : BalancedOrder) (m : Matrix) (found : Search) (r : Report) → r ≡ search_report o m found → r.status ≡ failure_status Text → ⊥
 search_answers o m Clean r e is = answered_or_failed r.status Yes Text (status_of r _ e) is
 search_answers o m (Found fault) r e is = answered_or_failed r.status No Text (status_of r _ e) is
 search_answers o m (TooMany shorter) r e is = answered_or_failed r.status Undecided Text (status_of r _ e) is

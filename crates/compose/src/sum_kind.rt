@@ -4,7 +4,7 @@ ghost use Rattle.cmr_base.specs.Matrix.{height};
 ghost use Rattle.compose.specs.Kinds.{kind_of, HaveSum, lost_rows, lost_columns, IsCauseOf};
 ghost use Rattle.compose.specs.Kinds.{sum_of as the_sum_of};
 
-use cmr_base::{Form, Matrix};
+use cmr_base::{Form, MAX_COLUMNS, MAX_ROWS, Matrix};
 use std::alloc::Global;
 use sum_ops::{SumError, concentrated_sum, delta_sum, mixed_sum, one_sum, two_sum, y_sum};
 
@@ -67,8 +67,8 @@ pub fn sum_of(
     first: &Matrix,
     second: &Matrix,
 ) -> Result<Matrix, SumError>
-    requires rows { height first.now + height second.now ≤ 1000 + lost_rows kind }
-    requires columns { first.now.width + second.now.width ≤ 1000 + lost_columns kind }
+    requires rows { height first.now + height second.now ≤ MAX_ROWS + lost_rows kind }
+    requires columns { first.now.width + second.now.width ≤ MAX_COLUMNS + lost_columns kind }
     ensures sum { IfOk result (λ sum. sum ≡ the_sum_of kind first.now second.now) }
     ensures connected { IfOk result (λ _. HaveSum kind first.now second.now) }
     ensures cause { IfErr result (IsCauseOf kind first.now second.now) }

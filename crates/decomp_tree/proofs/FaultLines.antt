@@ -18,6 +18,10 @@ lines_of_lines a b c x y = record {
   columns = λ column h. y.columns column (x.columns column h);
 }
 
+-- lines of others are lines of themselves
+pub lines_of_lines_of : (lines parent : LineSet) → AreLinesOf lines parent → AreLinesOf lines lines
+lines_of_lines_of lines parent are = record { rows_rise = are.rows_rise; columns_rise = are.columns_rise; rows = λ row h. h; columns = λ column h. h }
+
 -- all lines are among themselves
 pub lines_themselves : (m : Matrix) (lines : LineSet) → AreLines m lines → AreLinesOf lines lines
 lines_themselves m lines are = record { rows_rise = are.rows.rising; columns_rise = are.columns.rising; rows = λ row h. h; columns = λ column h. h }

@@ -16,7 +16,7 @@ use Rattle.tree_type.specs.Verdicts.{Verdict, Yes, No, Open, verdict_of}
 use Rattle.decomp_tree.specs.Seen.{IsFalling, AreFalling, IsDrawn}
 use Rattle.decomp_tree.specs.Refined.{Refines, AllRefine}
 use Rattle.decomp_tree.specs.PivotedShapes.{IsTakenBack, IsFoundAt, IsFound, IsDrawnWith, HasFaultAmong, undecided}
-use Rattle.decomp_tree.proofs.FaultLines.{fault_among}
+use Rattle.decomp_tree.proofs.FaultLines.{fault_among, lines_of_lines_of}
 use Rattle.decomp_tree.proofs.RefinedTrees.{RefinedNode, replaced, kept, refined_node, count_refined, refined_lines}
 
 -- ---- lines
@@ -101,9 +101,6 @@ lines_among m lines fault rows columns among = record {
   columns = λ column h. all_contained (Contains lines.columns) fault.columns column among.columns h;
 }
 
-themselves : (lines parent : LineSet) → AreLinesOf lines parent → AreLinesOf lines lines
-themselves lines parent are = record { rows_rise = are.rows_rise; columns_rise = are.columns_rise; rows = λ row h. h; columns = λ column h. h }
-
 module _ (limit : ℕ) where
   abbrev IsWithin : ℕ → Type 0
   IsWithin pivots = (state : ℕ) (m : Matrix) (lines : LineSet) (tree : Tree) (parent : LineSet) (levels : ℕ) → IsFound limit pivots state m lines tree → AreLinesOf lines parent → size_of lines + pivots < levels → IsTreeWithin parent levels tree
@@ -120,7 +117,7 @@ module _ (limit : ℕ) where
     told_within next place at after d tree told = go (verdict_of after) among told
       where
         after_within : IsTreeWithin lines (levels - 1) after
-        after_within = drawn_within pivots below next (pivoted_part m lines place) lines after lines (levels - 1) d (themselves lines parent are) (omega (arith, l))
+        after_within = drawn_within pivots below next (pivoted_part m lines place) lines after lines (levels - 1) d (lines_of_lines_of lines parent are) (omega (arith, l))
 
         among : HasFaultAmong lines (verdict_of after)
         among = subst (λ some. HasFaultAmong some (verdict_of after)) (drawn_with_lines limit pivots next (pivoted_part m lines place) lines after d) (fault_among lines (levels - 1) after after_within)

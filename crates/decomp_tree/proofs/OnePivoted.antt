@@ -21,6 +21,7 @@ use Rattle.decomp_tree.specs.Seen.{IsDrawn}
 use Rattle.decomp_tree.specs.Refined.{is_undecided, Refines, AllRefine}
 use Rattle.decomp_tree.specs.PivotedLaws.{OnePivotedShape}
 use Rattle.decomp_tree.specs.PivotedShapes.{AreBefore, IsTakenBack, IsFoundAt, IsFound, IsDrawnWith, all_lines, pivots_within}
+use Rattle.decomp_tree.proofs.FaultLines.{lines_of_lines_of}
 use Rattle.decomp_tree.proofs.OneTree.{one_tree}
 use Rattle.decomp_tree.proofs.PlainVerdicts.{verdict_plain}
 use Rattle.decomp_tree.proofs.RefinedTrees.{RefinedNode, replaced, kept, refined_node}
@@ -44,10 +45,6 @@ undecided_plain (Pivoted place) = refl
 
 undecided_same : (f g : Finding) → plain f ≡ plain g → is_undecided f ≡ is_undecided g
 undecided_same f g e = sym (undecided_plain f) ∙ ap is_undecided e ∙ undecided_plain g
-
--- lines of others are lines of themselves
-lines_of_lines_of : (lines parent : LineSet) → AreLinesOf lines parent → AreLinesOf lines lines
-lines_of_lines_of lines parent are = record { rows_rise = are.rows_rise; columns_rise = are.columns_rise; rows = λ row h. h; columns = λ column h. h }
 
 module _ (Stands : LineSet → Tree → Type 0) (same : (lines : LineSet) → AreLinesOf lines lines → (tree other : Tree) → Stands lines tree → Stands lines other → plain_tree tree ≡ plain_tree other) where
   mutual

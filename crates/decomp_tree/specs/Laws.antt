@@ -1,5 +1,6 @@
 -- Laws of decompositions.
 use Rattle.std.specs.Prelude.{◌≤◌, ℕ}
+use Rattle.cmr_base.specs.declared.limits.TheConstants.{MAX_LINES}
 use Rattle.cmr_base.specs.Matrix.{Matrix, height, IsMatrix}
 use Rattle.tree_type.specs.Trees.{Tree}
 use Rattle.tree_type.specs.Invariant.{IsTreeFor}
@@ -8,4 +9,4 @@ use Rattle.decomp_tree.specs.Shapes.{IsShape}
 
 -- a decomposition keeps all rules
 abbrev pub ShapesAreSound : Type 0
-ShapesAreSound = (limit : ℕ) → limit ≤ 24 → (m : Matrix) → IsMatrix m → (tree : Tree) → IsTreeFor (height m) m.width tree → IsShape limit m tree → IsSoundTree m (height m) m.width tree
+ShapesAreSound = (limit : ℕ) → limit ≤ MAX_LINES → (m : Matrix) → IsMatrix m → (tree : Tree) → IsTreeFor (height m) m.width tree → IsShape limit m tree → IsSoundTree m (height m) m.width tree

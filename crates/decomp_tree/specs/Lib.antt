@@ -1,6 +1,7 @@
 pub mod Shapes
 pub mod Laws
 pub mod Seen
+pub mod Nodes
 pub mod Fronts
 pub mod Sketches
 pub mod PlainTrees

@@ -1,5 +1,6 @@
 -- Laws of decompositions that make pivots where nothing else decides.
 use Rattle.std.specs.Prelude.{◌≡◌, ◌≤◌, ℕ, Some}
+use Rattle.cmr_base.specs.declared.limits.TheConstants.{MAX_LINES}
 use Rattle.cmr_base.specs.declared.line_set.LineSet.{LineSet}
 use Rattle.cmr_base.specs.Matrix.{Matrix, height, IsMatrix}
 use Rattle.tree_type.specs.Trees.{Tree}
@@ -17,7 +18,7 @@ PivotedShapesAreTrees = (limit pivots : ℕ) (m : Matrix) (tree : Tree) → IsMa
 -- they keep all rules
 abbrev pub PivotedShapesAreSound : Type 0
 PivotedShapesAreSound =
-    (limit pivots : ℕ) (m : Matrix) (tree : Tree) → limit ≤ 24 → IsMatrix m → IsShapeWith limit pivots m tree → IsSoundTree m (height m) m.width tree
+    (limit pivots : ℕ) (m : Matrix) (tree : Tree) → limit ≤ MAX_LINES → IsMatrix m → IsShapeWith limit pivots m tree → IsSoundTree m (height m) m.width tree
 
 -- two of them differ at most in what their networks say
 abbrev pub OnePivotedShape : Type 0

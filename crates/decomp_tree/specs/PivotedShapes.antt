@@ -1,5 +1,6 @@
 -- The shape of a decomposition that makes pivots where nothing else decides.
 use Rattle.std.specs.Prelude.{◌≡◌, ◌+◌, ◌-◌, ◌++◌, ◌⊎◌, ℕ, zero, suc, min, List, [], ◌∷◌, Option, Some, None}
+use Rattle.cmr_base.specs.declared.limits.TheConstants.{MAX_DEPTH}
 use Rattle.cmr_base.specs.declared.line_set.LineSet.{LineSet}
 use Rattle.cmr_base.specs.Matrix.{Matrix, height}
 use Rattle.cmr_base.specs.LineSets.{IsRowSet, IsColumnSet, first_lines}
@@ -63,7 +64,7 @@ pub record IsDrawnWith (limit pivots state : ℕ) (m : Matrix) (lines : LineSet)
 
 -- so many pivots that no node stands deeper than 2,000, also where each line is a level
 abbrev pub pivots_within : Matrix → ℕ → ℕ
-pivots_within m pivots = min pivots (2000 - (height m + m.width))
+pivots_within m pivots = min pivots (MAX_DEPTH - (height m + m.width))
 
 abbrev pub all_lines : Matrix → LineSet
 all_lines m = record { rows = first_lines (height m); columns = first_lines m.width }

@@ -13,7 +13,7 @@ use crate::faults::keeps_free;
 use crate::looking::look;
 use crate::obstructions::Obstruction;
 use crate::seen::Seen;
-use cmr_base::{LineSet, LineSetList, Matrix, Memory, RowsAndColumns};
+use cmr_base::{LineSet, LineSetList, MAX_LINES, Matrix, Memory, RowsAndColumns};
 use std::alloc::Global;
 use std::thread::Threads;
 use tree_type::{Finding, copy_of};
@@ -45,7 +45,7 @@ pub fn draft_root<R: Threads + Sync>(
     limit: u32,
     workers: u32,
 ) -> Result<Draft, Memory>
-    requires limit { limit ≤ 24 }
+    requires limit { limit ≤ MAX_LINES }
     requires workers { (1 ≤ workers) × (workers ≤ 64) }
     requires shape { IsMatrix matrix.now }
     requires rows { IsRowSet matrix.now lines.now.rows }
@@ -84,7 +84,7 @@ pub fn draw<R: Threads + Sync>(
     workers: u32,
     drafts: &mut Vec<Draft>,
 ) -> Result<(), Memory>
-    requires limit { limit ≤ 24 }
+    requires limit { limit ≤ MAX_LINES }
     requires workers { (1 ≤ workers) × (workers ≤ 64) }
     requires shape { IsMatrix matrix.now }
     requires rows { IsRowSet matrix.now lines.now.rows }
@@ -123,7 +123,7 @@ fn front_of<R: Threads + Sync>(
     limit: u32,
     workers: u32,
 ) -> Result<Box<Front>, Memory>
-    requires limit { limit ≤ 24 }
+    requires limit { limit ≤ MAX_LINES }
     requires workers { (1 ≤ workers) × (workers ≤ 64) }
     requires shape { IsMatrix matrix.now }
     requires rows { IsRowSet matrix.now lines.now.rows }

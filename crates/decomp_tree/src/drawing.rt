@@ -1,22 +1,18 @@
 // The tree of a matrix.
 ghost use Rattle.std.specs.Prelude.{◌≡◌, ◌≤◌, IfOk};
-ghost use Rattle.cmr_base.specs.Matrix.{height, IsMatrix};
-ghost use Rattle.cmr_base.specs.LineSets.{IsRowSet, IsColumnSet};
+ghost use Rattle.cmr_base.specs.Matrix.{height};
 ghost use Rattle.tree_type.specs.Trees.{tree_of};
 ghost use Rattle.tree_type.specs.Soundness.{IsSound};
 ghost use Rattle.decomp_tree.specs.PivotedShapes.{IsShapeWith, pivots_within};
 
 use crate::settling::{Search, draw_root};
-use cmr_base::{LineSet, Matrix, Memory};
+use cmr_base::{LineSet, MAX_DEPTH, MAX_LINES, Matrix, Memory};
 use std::alloc::Global;
 use std::thread::Threads;
 use tree_type::DecTree;
 
 // The state from which the first pivot on the way to a node is drawn.
 const FIRST_STATE: u32 = 1;
-
-// The most lines of a matrix, which are as many as the levels below the root of a tree may be.
-const MAX_LEVELS: u32 = 2000;
 
 /// The decomposition of the matrix, by the first case that applies at each node. `limit` is the most lines that the
 /// shorter side of a matrix may have whose row sets are tried one after another. Where nothing decides, at most `pivots`
@@ -29,7 +25,7 @@ pub fn decompose<R: Threads + Sync>(
     pivots: u32,
     workers: u32,
 ) -> Result<DecTree, Memory>
-    requires limit { limit ≤ 24 }
+    requires limit { limit ≤ MAX_LINES }
     requires workers { (1 ≤ workers) × (workers ≤ 64) }
     ensures rows { IfOk result (λ tree. tree.rows ≡ height matrix.now) }
     ensures columns { IfOk result (λ tree. tree.columns ≡ matrix.now.width) }
@@ -47,5 +43,5 @@ pub fn decompose<R: Threads + Sync>(
 fn pivots_within(matrix: &Matrix, pivots: u32) -> u32
     ensures { result ≡ pivots_within matrix.now pivots }
 {
-    pivots.min(MAX_LEVELS - (matrix.rows() + matrix.columns()))
+    pivots.min(MAX_DEPTH - (matrix.rows() + matrix.columns()))
 }

@@ -7,6 +7,7 @@ mod faults;
 pub mod laws;
 mod looking;
 mod naming;
+mod node;
 mod obstructions;
 mod seen;
 mod settling;

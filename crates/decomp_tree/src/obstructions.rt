@@ -7,7 +7,7 @@ ghost use Rattle.tree_type.specs.Sides.{is_among};
 ghost use Rattle.tree_type.specs.Soundness.{part};
 ghost use Rattle.decomp_tree.specs.Obstructions.{IsKnown, IsNoNetwork, IsSomeOf, HasNoGraphicSupport};
 
-use cmr_base::{Indices, LineSet, Matrix, Memory};
+use cmr_base::{Indices, LineSet, MAX_COLUMNS, MAX_ROWS, Matrix, Memory};
 use network_orient::has_graphic_support;
 use std::alloc::Global;
 use tree_type::{Finding, copy_of};
@@ -112,7 +112,7 @@ fn size_of(_matrix: &Matrix, lines: &LineSet) -> u32
     requires shape { IsMatrix _matrix.now }
     requires rows { IsRowSet _matrix.now lines.now.rows }
     requires columns { IsColumnSet _matrix.now lines.now.columns }
-    ensures { result ≤ 2000 }
+    ensures { result ≤ MAX_ROWS + MAX_COLUMNS }
 {
     lines.size()
 }

@@ -1,5 +1,5 @@
 // Drafts that are settled: cycle faults are looked for late, from the root down, and pivots are made where nothing decides.
-ghost use Rattle.std.specs.Prelude.{◌≡◌, ◌≢◌, ◌≤◌, ◌<◌, ◌^◌, ◌++◌, ◌∷◌, [], true, length, map, IfOk, OnOk};
+ghost use Rattle.std.specs.Prelude.{◌≡◌, ◌≤◌, ◌<◌, ◌^◌, ◌++◌, ◌∷◌, [], length, map, IfOk, OnOk};
 ghost use Rattle.cmr_base.specs.Matrix.{IsMatrix};
 ghost use Rattle.cmr_base.specs.LineSets.{IsRowSet, IsColumnSet};
 ghost use Rattle.tree_type.specs.Trees.{Branch, Cycle, NoTrees, tree_of, trees_from};
@@ -12,7 +12,7 @@ ghost use Rattle.decomp_tree.specs.Sketches.{IsDrafted, lines_of_sketch, sketch_
 use crate::drafts::{Draft, Front, draft_root};
 use crate::faults::late_fault;
 use crate::taking_back::{leaf, taken_back};
-use cmr_base::{LineSet, Matrix, Memory};
+use cmr_base::{LineSet, MAX_LINES, Matrix, Memory};
 use pivots::{PivotedPart, drawn_place, pivot_part};
 use std::alloc::Global;
 use std::thread::Threads;
@@ -37,7 +37,7 @@ pub fn draw_root<R: Threads + Sync>(
     pivots: u32,
     state: u32,
 ) -> Result<Node, Memory>
-    requires limit { search.limit ≤ 24 }
+    requires limit { search.limit ≤ MAX_LINES }
     requires workers { (1 ≤ search.workers) × (search.workers ≤ 64) }
     requires state { state < 2 ^ 31 }
     requires shape { IsMatrix matrix.now }
@@ -69,7 +69,7 @@ fn settle<R: Threads + Sync>(
     state: u32,
     nodes: &mut Vec<Node>,
 ) -> Result<(), Memory>
-    requires limit { search.limit ≤ 24 }
+    requires limit { search.limit ≤ MAX_LINES }
     requires workers { (1 ≤ search.workers) × (search.workers ≤ 64) }
     requires state { state < 2 ^ 31 }
     requires shape { IsMatrix matrix.now }
@@ -125,7 +125,7 @@ fn find<R: Threads + Sync>(
     pivots: u32,
     state: u32,
 ) -> Result<Node, Memory>
-    requires limit { search.limit ≤ 24 }
+    requires limit { search.limit ≤ MAX_LINES }
     requires workers { (1 ≤ search.workers) × (search.workers ≤ 64) }
     requires state { state < 2 ^ 31 }
     requires shape { IsMatrix matrix.now }

@@ -1,71 +1,11 @@
 -- Runs of numbers in rows, one for each worker.
-use Rattle.std.proofs.Common.{ℕ, ◌≡◌, ◌<◌, ◌≤◌, ◌↔◌, ◌+◌, ◌-◌, ◌*◌, ◌/◌, ◌%◌, inl, inr, min, Option, Some, None, subst, ap, arith}
+use Rattle.std.proofs.Common.{ℕ, ◌≡◌, ◌<◌, ◌≤◌, ◌↔◌, ◌+◌, ◌-◌, ◌*◌, ◌/◌, ◌%◌, inl, inr, Option, Some, None, ap, arith}
 use Rattle.std.proofs.lemmas.Bool.{cases_lt}
 use Rattle.std.proofs.lemmas.Nat.{div-add-mod'}
-use Rattle.std.proofs.Math.Nat.{mul-le-mul_left, mul_comm, mod-lt, lt-div-mul-add, div-lt_iff_lt-mul, div-mul-le_self}
+use Rattle.std.proofs.Math.Nat.{mod-lt, lt-div-mul-add, div-lt_iff_lt-mul, div-mul-le_self}
 use Rattle.first_hit.specs.declared.round.Round.{Round}
 use Rattle.first_hit.specs.First.{NoneBetween, IsFirst}
-use Rattle.first_hit.specs.Runs.{IsFirstInRuns, IsRound, NoneInRows, lesser, run_start}
-
--- ---- more workers
-
-none_in_both : (holds : ℕ → Type 0) (round : Round) (low middle high one two bound : ℕ) → bound ≤ one → bound ≤ two
-    → NoneInRows holds round round.rows low middle one → NoneInRows holds round round.rows middle high two → NoneInRows holds round round.rows low high bound
-none_in_both holds round low middle high one two bound b c front back row worker k r l h s e under = elim (cases_lt worker middle) [
-  | inl less ↦ front row worker k r l less s e (omega arith)
-  | inr past ↦ back row worker k r past h s e (omega arith)
-]
-
-pub joined : (holds : ℕ → Type 0) (round : Round) (low middle high : ℕ) (front back : Option ℕ)
-    → IsFirstInRuns holds round low middle front → IsFirstInRuns holds round middle high back → IsFirstInRuns holds round low high (lesser front back)
-joined holds round low middle high None None f b = none_in_both holds round low middle high round.to round.to round.to (omega arith) (omega arith) f b
-joined holds round low middle high None (Some k) f b = (b.0, b.1, b.2, none_in_both holds round low middle high round.to k k (omega (arith, b.1)) (omega arith) f b.3)
-joined holds round low middle high (Some k) None f b = (f.0, f.1, f.2, none_in_both holds round low middle high k round.to k (omega arith) (omega (arith, f.1)) f.3 b)
-joined holds round low middle high (Some k) (Some l) f b = elim (cases_lt k l) [
-  | inl less ↦
-      let e : min k l ≡ k = omega arith in
-      rw e (f.0, f.1, f.2, none_in_both holds round low middle high k l k (omega arith) (omega arith) f.3 b.3)
-  | inr past ↦
-      let e : min k l ≡ l = omega arith in
-      rw e (b.0, b.1, b.2, none_in_both holds round low middle high k l l (omega arith) (omega arith) f.3 b.3)
-]
-
--- ---- more rows
-
--- each row's run begins after the one of the row before ends
-run_after : (round : Round) (row later worker : ℕ) → 1 ≤ round.workers → row < later → run_start round row worker + round.run ≤ run_start round later worker
-run_after round row later worker some less =
-    let next : row + 1 ≤ later = omega arith in
-    let rows : round.workers * (row + 1) ≤ round.workers * later = mul-le-mul_left round.workers next in
-    let places : (row * round.workers + worker) + 1 ≤ later * round.workers + worker = omega (arith, mul_comm round.workers (row + 1), mul_comm round.workers later, rows) in
-    let runs : round.run * ((row * round.workers + worker) + 1) ≤ round.run * (later * round.workers + worker) = mul-le-mul_left round.run places in
-    omega (arith, runs, mul_comm round.run ((row * round.workers + worker) + 1), mul_comm round.run (later * round.workers + worker))
-
-pub more_rows : (holds : ℕ → Type 0) (round : Round) (row worker bound : ℕ) → NoneInRows holds round row worker (worker + 1) bound
-    → ((k : ℕ) → run_start round row worker ≤ k → k < run_start round row worker + round.run → k < bound → ¬ (holds k)) → NoneInRows holds round (row + 1) worker (worker + 1) bound
-more_rows holds round row worker bound before here row' worker' k r l h s e under = elim (cases_lt row' row) [
-  | inl less ↦ before row' worker' k less l h s e under
-  | inr past ↦
-      let same_row : row' ≡ row = omega arith in
-      let same_worker : worker' ≡ worker = omega arith in
-      here k (subst (λ (a : ℕ). run_start round row a ≤ k) same_worker (subst (λ (a : ℕ). run_start round a worker' ≤ k) same_row s))
-      (subst (λ (a : ℕ). k < run_start round row a + round.run) same_worker (subst (λ (a : ℕ). k < run_start round a worker' + round.run) same_row e)) under
-]
-
-pub found_in_row : (holds : ℕ → Type 0) (round : Round) (row worker k : ℕ) → 1 ≤ round.workers → NoneInRows holds round row worker (worker + 1) round.to → k < round.to
-    → k < run_start round row worker + round.run → NoneBetween holds (run_start round row worker) k → NoneInRows holds round round.rows worker (worker + 1) k
-found_in_row holds round row worker k some before small inside here row' worker' n r l h s e under =
-    let same_worker : worker' ≡ worker = omega arith in
-    let starts : run_start round row' worker ≤ n = subst (λ (a : ℕ). run_start round row' a ≤ n) same_worker s in
-    elim (cases_lt row' row) [
-      | inl less ↦ before row' worker' n less l h s e (omega arith)
-      | inr past ↦ elim (cases_lt row row') [
-        | inl later ↦ let after = run_after round row row' worker some later in λ _. omega arith
-        | inr not_later ↦
-            let same : row' ≡ row = omega arith in
-            here n (subst (λ (a : ℕ). run_start round a worker ≤ n) same starts) under
-      ]
-    ]
+use Rattle.first_hit.specs.Runs.{IsFirstInRuns, IsRound, NoneInRows, run_start}
 
 -- ---- the whole round
 

@@ -1,6 +1,6 @@
 -- Drawn numbers, one after another.
 use Rattle.std.proofs.Common.{◌≡◌, ◌<◌, ◌≤◌, ◌+◌, ◌-◌, ◌*◌, ◌/◌, ◌%◌, ◌^◌, ◌∙◌, ◌++◌, ℕ, zero, suc, List, [], ◌∷◌, length, get_or, refl, ap, sym, subst, arith}
-use Rattle.std.proofs.lemmas.List.{append_assoc, append-nil}
+use Rattle.std.proofs.lemmas.List.{append_assoc}
 use Rattle.std.proofs.lemmas.Nat.{mod_below}
 use Rattle.std.proofs.Math.Nat.{suc-mul, zero-mul}
 use Rattle.generate.specs.Draws.{next_state, draw, draws}
@@ -12,11 +12,6 @@ pub record AreDrawn (n bound step state : ℕ) (k bound' state' : ℕ) (drawn : 
   pub low_state : state' < 2 ^ 31
   pub low : 1 ≤ bound'
   pub high : bound' ≤ 1001 + k
-
-pub none_drawn : (n bound step state : ℕ) → state < 2 ^ 31 → 1 ≤ bound → bound ≤ 1001 → AreDrawn n bound step state 0 bound state []
-none_drawn n bound step state h low high =
-    let e : n - 0 ≡ n = omega arith in
-    record { numbers_are = ap (λ (count : ℕ). (draws count bound step state).0) e; state_is = ap (λ (count : ℕ). (draws count bound step state).1) e; low_state = h; low = low; high = omega arith }
 
 pub one_drawn : (n bound step state k bound' state' : ℕ) (numbers : List ℕ) → step ≤ 1 → k < n → AreDrawn n bound step state k bound' state' numbers → next_state state' < 2 ^ 31
     → AreDrawn n bound step state (k + 1) (bound' + step) (next_state state') (numbers ++ (next_state state' / 1024) % bound' ∷ [])
@@ -39,18 +34,6 @@ drawn_on n bound step state k bound' state' number new numbers numbers' few h be
     (subst (λ (now : ℕ). AreDrawn n bound step state (k + 1) (bound' + step) now (numbers ++ number ∷ [])) (sym f)
     (subst (λ (x : ℕ). AreDrawn n bound step state (k + 1) (bound' + step) (next_state state') (numbers ++ x ∷ [])) (sym e)
     (one_drawn n bound step state k bound' state' numbers few h before (subst (λ (now : ℕ). now < 2 ^ 31) f low))))
-
-pub record AreAll (n bound step state state' : ℕ) (drawn : List ℕ) : Type 0 where
-  pub numbers_are : drawn ≡ (draws n bound step state).0
-  pub state_is : state' ≡ (draws n bound step state).1
-
-pub all_drawn : (n bound step state k bound' state' : ℕ) (numbers : List ℕ) → n ≤ k → AreDrawn n bound step state k bound' state' numbers → AreAll n bound step state state' numbers
-all_drawn n bound step state k bound' state' numbers h before =
-    let e : n - k ≡ 0 = omega (arith, h) in
-    record {
-      numbers_are = sym (append-nil numbers) ∙ ap (λ (count : ℕ). numbers ++ (draws count bound' step state').0) (sym e) ∙ before.numbers_are;
-      state_is = ap (λ (count : ℕ). (draws count bound' step state').1) (sym e) ∙ before.state_is;
-    }
 
 -- ---- how many, and how great
 

@@ -5,7 +5,7 @@ ghost use Rattle.generate.specs.declared.making.MakeKind.TheVariants.{TwoSum};
 
 use crate::networks::generated_network;
 use crate::sums::generated_sum;
-use cmr_base::{Matrix, Memory};
+use cmr_base::{MAX_ROWS, Matrix, Memory};
 use std::alloc::Global;
 
 /// What is generated.
@@ -18,7 +18,7 @@ pub enum MakeKind {
 /// The matrix of a kind, a size and a number.
 pub fn make(alloc: Global, what: MakeKind, size: u32, number: u32) -> Result<Matrix, Memory>
     requires positive { 1 ≤ size }
-    requires size { size ≤ 1000 }
+    requires size { size ≤ MAX_ROWS }
     requires sum_size { what ≡ TwoSum → size ≤ 249 }
     requires number { number < 2 ^ 31 }
     ensures { IfOk result (IsGenerated what size number) }

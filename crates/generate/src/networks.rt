@@ -3,12 +3,12 @@ ghost use Rattle.std.specs.Prelude.{◌≡◌, ◌≤◌, ◌<◌, ◌+◌, ◌^
 ghost use Rattle.generate.specs.Generated.{arcs_to, pairs_of, generated_network};
 
 use crate::draws::draw;
-use cmr_base::{Memory, Network, Pair, PairList};
+use cmr_base::{MAX_COLUMNS, MAX_ROWS, Memory, Network, Pair, PairList};
 use std::alloc::Global;
 
 /// A random recursive tree of so many arcs, and as many random walks.
 pub fn generated_network(alloc: Global, size: u32, number: u32) -> Result<Network, Memory>
-    requires size { size ≤ 1000 }
+    requires size { size ≤ MAX_ROWS }
     requires number { number < 2 ^ 31 }
     ensures { IfOk result (λ network. network ≡ generated_network size number) }
 {
@@ -22,7 +22,7 @@ pub fn generated_network(alloc: Global, size: u32, number: u32) -> Result<Networ
 
 // An arc from each of these nodes to the next new node.
 fn arcs_from(alloc: Global, tails: &[u32]) -> Result<PairList, Memory>
-    requires { length tails.now ≤ 1000 }
+    requires { length tails.now ≤ MAX_ROWS }
     ensures { IfOk result (λ arcs. arcs ≡ arcs_to 1 tails.now) }
 {
     let mut arcs = PairList::new(alloc);
@@ -37,7 +37,7 @@ fn arcs_from(alloc: Global, tails: &[u32]) -> Result<PairList, Memory>
 
 // Each two of these nodes.
 fn pairs_of(alloc: Global, nodes: &[u32], count: u32) -> Result<PairList, Memory>
-    requires count { count ≤ 1000 }
+    requires count { count ≤ MAX_COLUMNS }
     requires nodes { length nodes.now ≡ count + count }
     ensures { IfOk result (λ walks. walks ≡ pairs_of nodes.now) }
 {

@@ -5,7 +5,7 @@ ghost use Rattle.generate.specs.Signs.{sign_of};
 ghost use Rattle.generate.specs.Generated.{circulant, circulant_sum, negated_rows, generated_sum};
 
 use crate::draws::draw;
-use cmr_base::{Matrix, Memory};
+use cmr_base::{Matrix, Memory, product};
 use std::alloc::Global;
 
 /// The two-sum of so many R10 matrices, with rows that are negated by chance.
@@ -82,15 +82,6 @@ fn push_multiple(cells: &mut Vec<i8>, factor: i8, matrix: &Matrix, row: u32) -> 
         cells.push(product(factor, matrix.entry(row, column)))?;
     }
     Ok(())
-}
-
-fn product(first: i8, second: i8) -> i8
-    requires first { IsEntry first }
-    requires second { IsEntry second }
-    ensures value { result ≡ first *ℤ second }
-    ensures small { IsEntry result }
-{
-    first * second
 }
 
 // The rows whose number is 1 negated.

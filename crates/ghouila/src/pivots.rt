@@ -5,7 +5,7 @@ ghost use Rattle.cmr_base.specs.LineSets.{AllBelow, IsRowSet};
 ghost use Rattle.cmr_base.specs.Signing.{IsSign};
 ghost use Rattle.ghouila.specs.Pivot.{IsOutside, reduced, IsTernaryRow, IsPivot, HasNoPivot, IsFirstPivot, ArePivotColumns, IsFirstTwo, IsSquareViolator, HasSquareViolator, KeepsOthers, PivotsRows};
 
-use cmr_base::{MAX_COLUMNS, Matrix};
+use cmr_base::{MAX_COLUMNS, Matrix, product};
 
 /// Where a pivot is made: the place of the row among the rows that are left, and the column.
 #[derive(Debug, Clone, Copy)]
@@ -140,15 +140,6 @@ fn is_entry(z: i8) -> bool
     ensures { IsTrue result ↔ IsEntry z }
 {
     -1 <= z && z <= 1
-}
-
-fn product(a: i8, b: i8) -> i8
-    requires first { IsEntry a }
-    requires second { IsEntry b }
-    ensures value { result ≡ a *ℤ b }
-    ensures small { IsEntry result }
-{
-    a * b
 }
 
 fn reduced(entry: i8, factor: i8, top: i8) -> i8

@@ -121,15 +121,6 @@ filled_same values table row same = record {
   left = λ column l. refl;
 }
 
--- the ends at the other side of the row's arc stay
-pub unused_end : (M : ℕ → ℕ → Bool) (joint : Joint) (r own : ℕ) (old : ArcSides) (end : Bool) (column : ℕ) → differ end (branch_at joint.branches.items own).end ≡ true → end_in old end r column ≡ is_used M joint r own old end column
-unused_end M joint r own old end column e = sym (ap (λ (d : Bool). end_in old end r column || (not d && (M r column && M joint.row column))) e ∙ or_false (end_in old end r column))
-
--- and those at this side get the common columns
-pub used_end : (M : ℕ → ℕ → Bool) (joint : Joint) (r own : ℕ) (old : ArcSides) (end : Bool) (column : ℕ) → differ end (branch_at joint.branches.items own).end ≡ false
-    → (end_in old end r column || M r column && M joint.row column) ≡ is_used M joint r own old end column
-used_end M joint r own old end column e = sym (ap (λ (d : Bool). end_in old end r column || (not d && (M r column && M joint.row column))) e)
-
 pub filled_as : (values values' : ℕ → Bool) (old new : Grid) (row : ℕ) → ((column : ℕ) → values column ≡ values' column) → IsRowFilled values old new row old.width → IsRowFilled values' old new row old.width
 filled_as values values' old new row same f = record { rows = f.rows; done = λ column l w. f.done column l w ∙ same column; left = f.left }
 

@@ -1,8 +1,8 @@
 -- The parts of rows and of columns.
-use Rattle.std.proofs.Common.{true, ◌≡◌, ◌≢◌, ◌<◌, ◌≤◌, ◌+◌, ◌++◌, ◌∙◌, ◌↔◌, ℕ, ◌&&◌, ◌||◌, not, refl, Bool, false, List, [], ◌∷◌, length, get_or, set, sym, ap, subst, arith, ◌⊎◌, inl, inr, Option, Some, None}
+use Rattle.std.proofs.Common.{true, ◌≡◌, ◌≢◌, ◌<◌, ◌≤◌, ◌+◌, ◌++◌, ◌∙◌, ◌↔◌, ℕ, ◌&&◌, ◌||◌, not, refl, Bool, false, List, [], ◌∷◌, length, get_or, sym, ap, subst, arith, ◌⊎◌, inl, inr, Option, Some, None}
 use Rattle.std.specs.Prelude.{slice_index_or}
 use Rattle.std.proofs.lemmas.Bool.{cases_lt}
-use Rattle.std.proofs.lemmas.List.{get_or_past, get_or-set_same, get_or-set_other}
+use Rattle.std.proofs.lemmas.List.{get_or_past}
 use Rattle.cmr_base.specs.Members.{IsIn}
 use Rattle.cmr_base.specs.Splits.{AreParts}
 use Rattle.bridge_split.proofs.PartWalks.{no_number, same_number}
@@ -126,24 +126,6 @@ rows_same In row rows so none x = (λ h. let k = (so x).0 h in let l = k.0 in (o
     below : In x → (x < row) ⊎ (row ≤ x) → x < row + 1 → x < row
     below h (inl l) m = l
     below h (inr l) m = let e : x ≡ row = omega arith in absurd (none (subst In e h))
-
--- a new number in the list of all
-pub set_inside : (numbers : List (Option ℕ)) (rows : List ℕ) (index number : ℕ) → get_or rows index 0 < length numbers → ((k : ℕ) → k < index → number_at numbers (get_or rows k 0) ≡ Some number)
-    → (k : ℕ) → k < index + 1 → number_at (set numbers (get_or rows index 0) (Some number)) (get_or rows k 0) ≡ Some number
-set_inside numbers rows index number l so k m = pick (same_or_not (get_or rows k 0) (get_or rows index 0)) (cases_lt k index)
-  where
-    here : number_at (set numbers (get_or rows index 0) (Some number)) (get_or rows index 0) ≡ Some number
-    here = get_or-set_same numbers (get_or rows index 0) (Some number) None l
-
-    pick : (get_or rows k 0 ≡ get_or rows index 0) ⊎ (get_or rows k 0 ≢ get_or rows index 0) → (k < index) ⊎ (index ≤ k) → number_at (set numbers (get_or rows index 0) (Some number)) (get_or rows k 0) ≡ Some number
-    pick (inl e) q = ap (number_at (set numbers (get_or rows index 0) (Some number))) e ∙ here
-    pick (inr n) (inl q) = get_or-set_other numbers (get_or rows index 0) (get_or rows k 0) (Some number) None n ∙ so k q
-    pick (inr n) (inr q) = let e : k ≡ index = omega arith in ap (λ (z : ℕ). number_at (set numbers (get_or rows index 0) (Some number)) (get_or rows z 0)) e ∙ here
-
-pub set_outside : (old numbers : List (Option ℕ)) (rows : List ℕ) (index : ℕ) (value : Option ℕ) → ((row : ℕ) → ((k : ℕ) → k < index → get_or rows k 0 ≢ row) → number_at numbers row ≡ number_at old row)
-    → (row : ℕ) → ((k : ℕ) → k < index + 1 → get_or rows k 0 ≢ row) → number_at (set numbers (get_or rows index 0) value) row ≡ number_at old row
-set_outside old numbers rows index value so row n =
-    get_or-set_other numbers (get_or rows index 0) row value None (λ e. n index (omega arith) (sym e)) ∙ so row (λ k l. n k (omega arith))
 
 -- a row with a number is one of them
 pub numbered_row : (i size : ℕ) (numbers : List (Option ℕ)) (part count x : ℕ) → i < size → size ≤ count → length numbers ≤ count → (x ≡ i) ⊎ (number_at numbers x ≡ Some part) → x < count

@@ -4,8 +4,6 @@ use Rattle.cmr_base.specs.Members.{IsIn}
 use Rattle.cmr_base.specs.Splits.{Splits, Agree, HasNoThree, IsOddClosed}
 use Rattle.cmr_base.specs.Cuts.{HasCuts}
 use Rattle.cmr_base.proofs.RowLists.{no_not, bool_same}
-use Rattle.bridge_split.specs.SplitCases.{HasThree, IsSplitCase}
-use Rattle.bridge_split.specs.declared.splitting.SplitCase.TheVariants.{AllConnected, OddCycle}
 use Rattle.graph_realise.proofs.MiddleArcs.{middle, between_splits, linked_side}
 use Rattle.graph_realise.proofs.AgreeingParts.{across, Pair, pair_agrees}
 use Rattle.graph_realise.proofs.PartLists.{IsWholePart, is_whole, linked_same}
@@ -75,15 +73,3 @@ module _ (M : ℕ → ℕ → Bool) (S : List ℕ) (K : HasCuts M (λ r. IsIn r 
 
       last : side_at (O.half + O.half) ≡ not (side_at 0)
       last = turn (O.half + O.half) 0 (let e = O.odd in omega arith) (let e = O.odd in omega arith) (O.closed (O.half + O.half) (sym O.odd))
-
--- ---- the cases of a split that refuse
-
-pub three_refused : (M : ℕ → ℕ → Bool) (S : List ℕ) (column : ℕ) → HasThree M S column → ((row : ℕ) → ¬ (Splits M S row)) → ¬ (HasCuts M (λ r. IsIn r S))
-three_refused M S column three none K =
-    no_three M S K none column three.one three.two three.three three.one_in three.two_in three.three_in three.nonzero.0 three.nonzero.1 three.nonzero.2 three.apart.0 three.apart.1 three.apart.2
-
-pub all_connected_refused : (M : ℕ → ℕ → Bool) (S : List ℕ) (column : ℕ) → IsSplitCase M S (AllConnected column) → ¬ (HasCuts M (λ r. IsIn r S))
-all_connected_refused M S column h = three_refused M S column h.0.here h.1
-
-pub odd_cycle_refused : (M : ℕ → ℕ → Bool) (S : List ℕ) (row : ℕ) (cycle : List (List ℕ)) → IsSplitCase M S (OddCycle row cycle) → ¬ (HasCuts M (λ r. IsIn r S))
-odd_cycle_refused M S row cycle h K = no_odd M S K row h.1.splits.here cycle h.2

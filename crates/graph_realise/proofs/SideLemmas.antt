@@ -20,12 +20,6 @@ keeps_row_same a row = record { arcs = λ other. refl; ends = λ end column. ref
 
 -- ---- the rows of a list
 
-pub redrawn_none : (P : ℕ → ArcSides → Type 0) (rows : List ℕ) (sides : ArcSides) → AreRedrawn P rows 0 sides sides
-redrawn_none P rows sides = record {
-  done = λ k l. absurd (omega arith);
-  kept = λ r h. keeps_row_same sides r;
-}
-
 -- one row more
 pub redrawn_more : (P : ℕ → ArcSides → Type 0) (same : (r : ℕ) (a b : ArcSides) → KeepsRow a b r → P r a → P r b) (rows : List ℕ) (count : ℕ) (old now new : ArcSides)
     → AreRedrawn P rows count old now → KeepsOthers now new (get_or rows count 0) → P (get_or rows count 0) new → AreRedrawn P rows (count + 1) old new

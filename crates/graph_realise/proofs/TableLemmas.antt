@@ -4,7 +4,6 @@ use Rattle.std.specs.Int.{bit_at}
 use Rattle.std.proofs.lemmas.Bool.{cases_lt}
 use Rattle.std.proofs.lemmas.Bool.Decides.{nat_tests}
 use Rattle.std.proofs.lemmas.Nat.{mul-add-lt}
-use Rattle.std.proofs.lemmas.Nat.Bits.{bit_at-zero}
 use Rattle.std.proofs.lemmas.List.{get_or-set_same, get_or-set_other}
 use Rattle.std.proofs.Math.Nat.{mul-le-mul_right, suc-mul}
 use Rattle.cmr_base.specs.MatrixLayout.{is_in}
@@ -21,14 +20,6 @@ cell_inside table row column l = ap (λ (b : Bool). cond b (is_in (words_for tab
 
 pub cell_past : (table : Grid) (row column : ℕ) → table.width ≤ column → cell table row column ≡ false
 cell_past table row column l = ap (λ (b : Bool). cond b (is_in (words_for table.width) table.words row column) false) (is_not_lt column table.width l)
-
--- a table without values
-pub none_in : (table : Grid) → ((k : ℕ) → get_or table.words k 0 ≡ 0) → (row column : ℕ) → cell table row column ≡ false
-none_in table zeros row column = go (cases_lt column table.width)
-  where
-    go : (column < table.width) ⊎ (table.width ≤ column) → cell table row column ≡ false
-    go (inl l) = cell_inside table row column l ∙ ap (λ word. has_bit word (column % 64)) (zeros (row * words_for table.width + column / 64)) ∙ ap (λ bit. eqb bit 1) (bit_at-zero (column % 64))
-    go (inr l) = cell_past table row column l
 
 -- each pair of a row and a block has its own place
 earlier_row : (w r s c d : ℕ) → r < s → c < w → r * w + c < s * w + d
@@ -48,25 +39,6 @@ other_place w r s c d hc hd n e = go (cases_lt r s)
 
 other_block : (w r c d : ℕ) → c ≢ d → r * w + c ≢ r * w + d
 other_block w r c d n e = n (omega arith)
-
-pub place_inside : (a : Inside) (table : Grid) (row block : ℕ) → grid_of a ≡ table → IsLaidOut a → row < table.height → 64 * block < table.width → row * words_for a.width + block < length a.words.items
-place_inside a table row block e laid hr hb =
-    let rows : table.height ≡ a.height = ap (λ (t : Grid). t.height) (sym e) in
-    let columns : table.width ≡ a.width = ap (λ (t : Grid). t.width) (sym e) in
-    let inside : block < words_for a.width = omega arith in
-    omega (arith, laid.whole, mul-add-lt row (words_for a.width) block a.height (omega arith) inside)
-
--- the bits of a word are cells
-pub word_is : (a : Inside) (table : Grid) (row block word : ℕ) → grid_of a ≡ table → word ≡ get_or a.words.items (row * words_for a.width + block) 0
-    → (k : ℕ) → k < 64 → 64 * block + k < table.width → has_bit word k ≡ cell table row (64 * block + k)
-word_is a table row block word e is k small inside =
-    subst (λ (t : Grid). 64 * block + k < t.width → has_bit word k ≡ cell t row (64 * block + k)) e
-    (λ l.
-    ap (λ n. has_bit n k) is
-    ∙ sym (cell_inside (grid_of a) row (64 * block + k) l
-    ∙ ap (λ b. has_bit (get_or a.words.items (row * words_for a.width + b) 0) ((64 * block + k) % 64)) (block_of block k small)
-    ∙ ap (λ p. has_bit (get_or a.words.items (row * words_for a.width + block) 0) p) (place_of block k small)))
-    inside
 
 -- one word changed in the layout
 pub word_set : (table new : Grid) (row block word : ℕ) → length table.words ≡ table.height * words_for table.width → row < table.height → 64 * block < table.width
@@ -132,31 +104,6 @@ keeps_rows_trans a b c row h k = record {
   width = k.width ∙ h.width;
   others = λ r column n. k.others r column n ∙ h.others r column n;
 }
-
-pub filled_none : (values : ℕ → Bool) (table : Grid) (row : ℕ) → IsRowFilled values table table row 0
-filled_none values table row = record {
-  rows = record { height = refl; width = refl; others = λ r column n. refl };
-  done = λ column l w. absurd (omega arith);
-  left = λ column l. refl;
-}
-
-pub filled_more : (values : ℕ → Bool) (old now new : Grid) (row column : ℕ) (value : Bool) → IsRowFilled values old now row column → IsCellSet now new row column value → value ≡ values column
-    → IsRowFilled values old new row (column + 1)
-filled_more values old now new row column value so s e = record {
-  rows = keeps_rows_trans old now new row so.rows s.rows;
-  done = λ c l w. pick c (cases_lt c column) l w;
-  left = λ c l. s.others c (above c l) ∙ so.left c (omega arith);
-}
-  where
-    above : (c : ℕ) → column + 1 ≤ c → c ≢ column
-    above c l e = omega arith
-
-    before : (c : ℕ) → c < column → c ≢ column
-    before c l e = omega arith
-
-    pick : (c : ℕ) → (c < column) ⊎ (column ≤ c) → c < column + 1 → c < old.width → cell new row c ≡ values c
-    pick c (inl l) k w = s.others c (before c l) ∙ so.done c l w
-    pick c (inr l) k w = let q : c ≡ column = omega arith in ap (cell new row) q ∙ s.here ∙ e ∙ ap values (sym q)
 
 -- 64 columns more
 pub filled_word : (values : ℕ → Bool) (old now new : Grid) (row block word : ℕ) → IsRowFilled values old now row (64 * block) → IsWordSet now new row block word

@@ -1,5 +1,6 @@
 -- A row and the parts of the others: what is known of them, and the tree that they make.
 use Rattle.std.specs.Prelude.{◌≡◌, ◌≢◌, ◌<◌, ◌≤◌, ◌⊎◌, ◌==◌, ◌&&◌, ◌||◌, not, nat_lt, if◌then◌else◌, ℕ, Bool, true, false, List, [], length, slice_index, slice_index_or, Option, Some, None}
+use Rattle.cmr_base.specs.declared.limits.TheConstants.{MAX_ROWS}
 use Rattle.cmr_base.specs.Cuts.{differ}
 use Rattle.cmr_base.specs.LineSets.{AllBelow}
 use Rattle.cmr_base.specs.Matrix.{Matrix, height}
@@ -73,7 +74,7 @@ pub record IsJointOf (M : ℕ → ℕ → Bool) (m n i : ℕ) (parts : List (Lis
   pub own_blocks : AreBlocksOf (M i) n joint.row_blocks
   pub row_marks : AreMarks joint.part_of.items (length parts) joint.row_marks
   pub column_marks : AreMarks joint.part_with.items (length parts) joint.column_marks
-  pub few : length parts ≤ 1000
+  pub few : length parts ≤ MAX_ROWS
 
 -- numbers and columns that are in range
 pub record FitsJoint (m n : ℕ) (joint : Joint) : Type 0 where
@@ -85,7 +86,7 @@ pub record FitsJoint (m n : ℕ) (joint : Joint) : Type 0 where
   pub commons : (a column : ℕ) → (branch_at joint.branches.items a).common ≡ Some column → column < n
   pub row_marks : AreMarks joint.part_of.items (length joint.branches.items) joint.row_marks
   pub column_marks : AreMarks joint.part_with.items (length joint.branches.items) joint.column_marks
-  pub few : length joint.branches.items ≤ 1000
+  pub few : length joint.branches.items ≤ MAX_ROWS
 
 -- the tables have a row for the arc, and the marks a line for the part
 pub record IsLineFor (joint : Joint) (sides : ArcSides) (arc part : ℕ) : Type 0 where
@@ -94,7 +95,7 @@ pub record IsLineFor (joint : Joint) (sides : ArcSides) (arc part : ℕ) : Type 
   pub last : arc < sides.last.height
   pub rows : part < joint.row_marks.height
   pub columns : part < joint.column_marks.height
-  pub few : part < 1000
+  pub few : part < MAX_ROWS
   pub rows_wide : joint.row_marks.width ≡ sides.arcs.width
   pub columns_wide : joint.column_marks.width ≡ sides.first.width
   pub ends_wide : sides.last.width ≡ sides.first.width

@@ -10,7 +10,7 @@ ghost use Rattle.graph_realise.specs.Orders.{IsOrder};
 ghost use Rattle.graph_realise.specs.SideTables.{AreTablesOf, side_in, end_in};
 
 use crate::arc_sides::ArcSides;
-use cmr_base::{Matrix, Memory, Network, Pair, PairList};
+use cmr_base::{MAX_ROWS, Matrix, Memory, Network, Pair, PairList};
 use std::alloc::Global;
 
 /// A spot in a tree: where an arc lies, or the first or the last end of a column.
@@ -123,7 +123,7 @@ fn node_of(matrix: &Matrix, sides: &ArcSides, near: &[bool], order: &[u32], spot
     requires tables { AreTablesOf matrix.now sides.now }
     requires near { AreNear sides.now (height matrix.now) near.now }
     requires order { AllBelow (height matrix.now) order.now }
-    requires few { length order.now ≤ 1000 }
+    requires few { length order.now ≤ MAX_ROWS }
     requires spot { IsSpotIn (height matrix.now) matrix.now.width spot }
     ensures { result ≡ node_of (grown (is_beyond sides.now) order.now) (is_past sides.now spot) }
 {
@@ -145,7 +145,7 @@ fn grown_arcs(
     requires tables { AreTablesOf matrix.now sides.now }
     requires near { AreNear sides.now (height matrix.now) near.now }
     requires order { AllBelow (height matrix.now) order.now }
-    requires few { length order.now ≤ 1000 }
+    requires few { length order.now ≤ MAX_ROWS }
     ensures { IfOk result (λ arcs. arcs ≡ arcs_by (side_in sides.now) (end_in sides.now) order.now
         (height matrix.now)) }
 {
@@ -161,7 +161,7 @@ fn arc_of(matrix: &Matrix, sides: &ArcSides, near: &[bool], order: &[u32], row: 
     requires tables { AreTablesOf matrix.now sides.now }
     requires near { AreNear sides.now (height matrix.now) near.now }
     requires order { AllBelow (height matrix.now) order.now }
-    requires few { length order.now ≤ 1000 }
+    requires few { length order.now ≤ MAX_ROWS }
     requires row { row < height matrix.now }
     ensures { result ≡ turned (end_in sides.now true row 0)
         (pair_of (grown (is_beyond sides.now) order.now) row) }
@@ -182,7 +182,7 @@ fn pair_of(matrix: &Matrix, sides: &ArcSides, near: &[bool], order: &[u32], row:
     requires tables { AreTablesOf matrix.now sides.now }
     requires near { AreNear sides.now (height matrix.now) near.now }
     requires order { AllBelow (height matrix.now) order.now }
-    requires few { length order.now ≤ 1000 }
+    requires few { length order.now ≤ MAX_ROWS }
     requires row { row < height matrix.now }
     ensures { result ≡ pair_of (grown (is_beyond sides.now) order.now) row }
 {
@@ -207,7 +207,7 @@ fn grown_walks(
     requires tables { AreTablesOf matrix.now sides.now }
     requires near { AreNear sides.now (height matrix.now) near.now }
     requires order { AllBelow (height matrix.now) order.now }
-    requires few { length order.now ≤ 1000 }
+    requires few { length order.now ≤ MAX_ROWS }
     ensures { IfOk result (λ walks. walks ≡ walks_by (side_in sides.now) (end_in sides.now)
         order.now matrix.now.width) }
 {

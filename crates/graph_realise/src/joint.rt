@@ -14,7 +14,7 @@ ghost use Rattle.graph_realise.specs.Tables.{AreBlocksOf};
 use crate::branches::{Branch, branches_at};
 use crate::table::Table;
 use cmr_base::columns::{add_common, add_outside, clear_set, empty_set, next_column};
-use cmr_base::{Indices, Matrix, Memory, PartList, SideList, words_for};
+use cmr_base::{Indices, MAX_ROWS, Matrix, Memory, PartList, SideList, words_for};
 use std::alloc::Global;
 
 /// A row and the parts of the others: the part of each row, the branches that the parts are, and for each column that the
@@ -68,7 +68,7 @@ impl Joint {
 
     /// The row with a part.
     pub fn rows_with(&self, alloc: Global, part: usize) -> Result<Indices, Memory>
-        requires few { length self.now.part_of.items ≤ 1000 }
+        requires few { length self.now.part_of.items ≤ MAX_ROWS }
         requires row { self.now.row < length self.now.part_of.items }
         ensures rising { IfOk result IsStrictlyIncreasing }
         ensures rows { IfOk result (λ rows. (x : ℕ) → IsIn x rows
@@ -223,8 +223,8 @@ fn number_columns(columns: &[u64], number: Option<usize>, numbers: &mut Vec<Opti
 
 // For each part the lines that have its number.
 fn marks_of(alloc: Global, numbers: &[Option<usize>], count: usize) -> Result<Table, Memory>
-    requires few { count ≤ 1000 }
-    requires lines { length numbers.now ≤ 1000 }
+    requires few { count ≤ MAX_ROWS }
+    requires lines { length numbers.now ≤ MAX_ROWS }
     requires numbers { (line part : ℕ) → number_at numbers.now line ≡ Some part → part < count }
     ensures { IfOk result (AreMarks numbers.now count) }
 {

@@ -7,7 +7,7 @@ ghost use Rattle.cmr_base.specs.ColumnSets.{has_column};
 ghost use Rattle.graph_realise.specs.Tables.{cell, AreBlocksOf, IsCellSet, IsRowFilled, IsWordSet};
 
 use cmr_base::columns::outside;
-use cmr_base::{Matrix, Memory, has_bit, with_bit, words_for};
+use cmr_base::{MAX_COLUMNS, MAX_ROWS, Matrix, Memory, has_bit, with_bit, words_for};
 use std::alloc::Global;
 use std::marker::Model;
 
@@ -34,8 +34,8 @@ impl Model for Table {
 impl Table {
     /// The table in which nothing holds.
     pub fn new(alloc: Global, height: u32, width: u32) -> Result<Table, Memory>
-        requires height { height ≤ 1000 }
-        requires width { width ≤ 1000 }
+        requires height { height ≤ MAX_ROWS }
+        requires width { width ≤ MAX_COLUMNS }
         ensures height { IfOk result (λ table. table.height ≡ height) }
         ensures width { IfOk result (λ table. table.width ≡ width) }
         ensures none { IfOk result (λ table. (row column : ℕ) → cell table row column ≡ false) }

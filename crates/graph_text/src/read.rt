@@ -192,7 +192,7 @@ fn element_in(word: &[u8], edges: &Edges) -> Result<Element, GraphKind>
 
 // Whether a word is the name of a line.
 fn is_named(word: &[u8], letter: u8, line: usize) -> bool
-    requires { line ≤ 1000 }
+    requires { line ≤ MAX_ROWS }
     ensures { result ≡ bytes_eq word.now (line_name letter line) }
 {
     let mut digits = Buffer::new();

@@ -1,1 +1,2 @@
 pub mod RowSets
+mod LeastViolators

@@ -7,7 +7,7 @@ use Rattle.cmr_base.specs.Violator.{HasNoColumnSet, HasNoViolator, IsLeastByRows
 use Rattle.cmr_base.proofs.RisingLists.{row_set_rises}
 use Rattle.cmr_base.proofs.SetNumbers.{number_of_numbered, numbered_same, row_set-numbered, set_number-lt}
 use Rattle.first_hit.specs.First.{NoneBetween}
-use Rattle.leaf_enumerate.specs.RowProbes.{HasColumnSet}
+use Rattle.leaf_enumerate.specs.RowSets.{HasColumnSet}
 
 -- a row set with a column set has its number
 pub has_column_set : (m : Matrix) (rows columns : List ℕ) → IsRowSet m rows → IsColumnSet m columns → IsViolator (entry m) rows columns → HasColumnSet m (set_number rows)

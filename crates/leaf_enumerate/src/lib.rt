@@ -1,7 +1,13 @@
-//! Violators of small matrices, by trying the row sets one after another.
+//! The least submatrix of a kind in matrices with a short side, by trying the sets of that side one after another: of
+//! violators, and of what other crates look for.
 #![tactic(auto)]
 
 mod row_probe;
+mod row_sets;
 mod search;
+mod sought;
+mod violators;
 
-pub use search::{Search, least_violator};
+pub use row_sets::row_set;
+pub use search::{Search, least_submatrix, least_violator};
+pub use sought::Sought;

@@ -1,21 +1,23 @@
-ghost use Rattle.std.specs.Prelude.{◌≡◌, ◌≤◌, IfOk, IfSome, IfNone};
-ghost use Rattle.cmr_base.specs.Matrix.{height, transposed, IsMatrix};
-ghost use Rattle.cmr_base.specs.Violator.{HasNoViolator, IsLeastByColumns, IsLeastByRows, IsLeastViolator};
-ghost use Rattle.leaf_enumerate.specs.Searched.{HasSearched, shorter_side};
+// The least submatrix of a kind, by the sets of the shorter side.
+ghost use Rattle.std.specs.Prelude.{◌≡◌, ◌≤◌, ◌^◌, IfOk, IfSome, IfNone};
+ghost use Rattle.cmr_base.specs.Matrix.{height, transposed};
+ghost use Rattle.first_hit.specs.First.{NoneBetween};
+ghost use Rattle.leaf_enumerate.specs.Searched.{HasSearched, HasSearchedFor, HoldsNowhere, IsLeastOf, shorter_side};
 
 use crate::row_probe::RowProbe;
+use crate::sought::Sought;
+use crate::violators::Violators;
 use cmr_base::{LineSet, MAX_LINES, Matrix, Memory, set_count};
 use first_hit::first_hit;
-use parity::first_column_set;
 use std::alloc::Global;
 use std::thread::Threads;
 
-/// What a search for violators finds.
+/// What a search for the least submatrix of a kind finds.
 #[derive(Debug, Drop)]
 pub enum Search {
-    /// There is no violator.
+    /// There is none.
     Clean,
-    /// The least violator.
+    /// The least one.
     Found(LineSet),
     /// The shorter side, which this is, has more lines than the limit.
     TooMany { shorter: u32 },
@@ -35,60 +37,55 @@ pub fn least_violator<R: Threads + Sync>(
     requires workers { (1 ≤ workers) × (workers ≤ 64) }
     ensures { IfOk result (HasSearched matrix.now limit) }
 {
+    let _rows = matrix.rows();
+    least_submatrix(rt, alloc, matrix, &Violators, limit, workers)
+}
+
+/// The least submatrix of a kind in a matrix whose shorter side has at most `limit` lines. The sets of the shorter side,
+/// rows in a tie, are asked by rising number. The answer is the same for every number of workers. The time doubles with
+/// each line of the shorter side.
+pub fn least_submatrix<R: Threads + Sync, S: Sought>(
+    rt: &R,
+    alloc: Global,
+    matrix: &Matrix,
+    sought: &S,
+    limit: u32,
+    workers: u32,
+) -> Result<Search, Memory>
+    requires limit { limit ≤ MAX_LINES }
+    requires workers { (1 ≤ workers) × (workers ≤ 64) }
+    ensures { IfOk result (HasSearchedFor (S.holds sought.now) (S.is_least sought.now) matrix.now
+        limit) }
+{
     let shorter = matrix.rows().min(matrix.columns());
     if shorter > limit {
         return Ok(Search::TooMany { shorter });
     }
-    match least(rt, alloc, matrix, workers)? {
+    match least(rt, alloc, matrix, sought, workers)? {
         Some(lines) => Ok(Search::Found(lines)),
         None => Ok(Search::Clean),
     }
 }
 
-fn least<R: Threads + Sync>(
+fn least<R: Threads + Sync, S: Sought>(
     rt: &R,
     alloc: Global,
     matrix: &Matrix,
+    sought: &S,
     workers: u32,
 ) -> Result<Option<LineSet>, Memory>
     requires few { shorter_side matrix.now ≤ MAX_LINES }
     requires workers { (1 ≤ workers) × (workers ≤ 64) }
-    ensures least { IfOk result (λ answer.
-        IfSome answer (λ lines. IsLeastViolator matrix.now lines.rows lines.columns)) }
-    ensures none { IfOk result (λ answer. IfNone answer (HasNoViolator matrix.now)) }
+    ensures least { IfOk result (λ answer. IfSome answer (λ lines.
+        IsLeastOf (S.is_least sought.now) matrix.now lines.rows lines.columns)) }
+    ensures none { IfOk result (λ answer.
+        IfNone answer (HoldsNowhere (S.holds sought.now) matrix.now)) }
 {
     if matrix.rows() <= matrix.columns() {
-        least_by_rows(rt, alloc, matrix, workers)
-    } else {
-        least_by_columns(rt, alloc, matrix, workers)
+        return least_by_rows(rt, alloc, matrix, sought, workers);
     }
-}
-
-// The transposed matrix.
-fn turned(alloc: Global, matrix: &Matrix) -> Result<Matrix, Memory>
-    ensures value { IfOk result (λ turned. turned ≡ transposed matrix.now) }
-    ensures few { IfOk result (λ turned. height turned ≡ matrix.now.width) }
-{
-    let turned = matrix.transposed(alloc)?;
-    Ok(turned)
-}
-
-// The violator with the least column set, and among these the one with the least row set.
-fn least_by_columns<R: Threads + Sync>(
-    rt: &R,
-    alloc: Global,
-    matrix: &Matrix,
-    workers: u32,
-) -> Result<Option<LineSet>, Memory>
-    requires few { matrix.now.width ≤ MAX_LINES }
-    requires shape { IsMatrix matrix.now }
-    requires workers { (1 ≤ workers) × (workers ≤ 64) }
-    ensures least { IfOk result (λ answer.
-        IfSome answer (λ lines. IsLeastByColumns matrix.now lines.rows lines.columns)) }
-    ensures none { IfOk result (λ answer. IfNone answer (HasNoViolator matrix.now)) }
-{
-    let turned = turned(alloc, matrix)?;
-    match least_by_rows(rt, alloc, &turned, workers)? {
+    let transposed = matrix.transposed(alloc)?;
+    match least_by_rows(rt, alloc, &transposed, sought, workers)? {
         Some(lines) => Ok(Some(LineSet {
             rows: lines.columns,
             columns: lines.rows,
@@ -100,30 +97,25 @@ fn least_by_columns<R: Threads + Sync>(
 /// How many row sets are gone through sooner than other workers are started.
 const FEW_SETS: u64 = 2048;
 
-// The violator with the least row set, and among these the one with the least column set.
-fn least_by_rows<R: Threads + Sync>(
+// The one with the least row set, and among these the one with the least column set.
+fn least_by_rows<R: Threads + Sync, S: Sought>(
     rt: &R,
     alloc: Global,
     matrix: &Matrix,
+    sought: &S,
     workers: u32,
 ) -> Result<Option<LineSet>, Memory>
     requires few { height matrix.now ≤ MAX_LINES }
     requires workers { (1 ≤ workers) × (workers ≤ 64) }
-    ensures least { IfOk result (λ answer.
-        IfSome answer (λ lines. IsLeastByRows matrix.now lines.rows lines.columns)) }
-    ensures none { IfOk result (λ answer. IfNone answer (HasNoViolator matrix.now)) }
+    ensures least { IfOk result (λ answer. IfSome answer (λ lines.
+        S.is_least sought.now matrix.now lines.rows lines.columns)) }
+    ensures none { IfOk result (λ answer. IfNone answer (NoneBetween
+        (S.holds sought.now matrix.now) 0 (2 ^ height matrix.now))) }
 {
-    let probe = RowProbe { matrix };
     let total = set_count(matrix.rows());
     let workers = if total <= FEW_SETS { 1 } else { workers };
-    match first_hit(rt, alloc, workers, total, &probe)? {
-        Some(number) => {
-            let rows = probe.rows_at(alloc, number)?;
-            match first_column_set(alloc, matrix, &rows)? {
-                Some(columns) => Ok(Some(LineSet { rows, columns })),
-                None => Ok(None),
-            }
-        }
+    match first_hit(rt, alloc, workers, total, &RowProbe { matrix, sought })? {
+        Some(number) => Ok(Some(sought.lines(alloc, matrix, number)?)),
         None => Ok(None),
     }
 }

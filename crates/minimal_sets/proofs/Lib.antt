@@ -1,5 +1,4 @@
 pub mod GreedyRuns
 pub mod RunLemmas
 pub mod Passes
-pub mod FewLines
 pub mod Searches

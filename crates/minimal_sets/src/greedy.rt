@@ -7,7 +7,7 @@ ghost use Rattle.cmr_base.specs.GreedySets.{IsHereditary, IsGreedyFrom, IsGreedy
 ghost use Rattle.minimal_sets.specs.Runs.{lines_between, rows_left, columns_left, is_outside};
 
 use crate::property::Property;
-use cmr_base::{Indices, LineSet, Matrix, Memory};
+use cmr_base::{Indices, LineSet, MAX_COLUMNS, MAX_ROWS, Matrix, Memory};
 use std::alloc::Global;
 
 /// The lines of a minimal submatrix that lacks a property: all lines are gone through once, rows first, and each is left
@@ -83,10 +83,10 @@ fn without_run(
     from: u32,
     count: u32,
 ) -> Result<LineSet, Memory>
-    requires height { height ≤ 1000 }
-    requires few { from + count ≤ 2000 }
+    requires height { height ≤ MAX_ROWS }
+    requires few { from + count ≤ MAX_ROWS + MAX_COLUMNS }
     requires rows { AllBelow height lines.now.rows }
-    requires columns { AllBelow 1000 lines.now.columns }
+    requires columns { AllBelow MAX_COLUMNS lines.now.columns }
     ensures rows { IfOk result (λ fewer. fewer.rows ≡ rows_left lines.now.rows
         (lines_between height from count)) }
     ensures columns { IfOk result (λ fewer. fewer.columns
@@ -109,9 +109,9 @@ fn outside(
     count: u32,
 ) -> Result<Indices, Memory>
     requires rising { IsStrictlyIncreasing numbers.now }
-    requires small { AllBelow 1000 numbers.now }
-    requires before { before ≤ 1000 }
-    requires few { from + count ≤ 2000 }
+    requires small { AllBelow MAX_ROWS numbers.now }
+    requires before { before ≤ MAX_ROWS }
+    requires few { from + count ≤ MAX_ROWS + MAX_COLUMNS }
     ensures { IfOk result (λ indices. indices ≡ filter (is_outside before from count) numbers.now) }
 {
     let mut indices = Indices::new(alloc);

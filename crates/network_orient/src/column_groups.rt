@@ -6,7 +6,7 @@ ghost use Rattle.cmr_base.specs.Signing.{IsSign};
 ghost use Rattle.cmr_base.specs.Supports.{HaveOneSupport};
 ghost use Rattle.network_orient.specs.SignedGroups.{AreSignedGroups, IsCoarser, IsMerged, IsRowJoined, IsRowTurned, group_of, sign_of, row_sign_by};
 
-use cmr_base::{Matrix, Memory};
+use cmr_base::{Matrix, Memory, product};
 use std::alloc::Global;
 
 /// A group for each column, and a sign for each that is right up to one factor for all columns of a group.
@@ -184,14 +184,4 @@ fn first_nonzero(matrix: &Matrix, row: u32) -> Option<u32>
         (λ column. (column < matrix.now.width) × (entry matrix.now row column ≢ pos 0)) }
 {
     matrix.next_nonzero(row, 0)
-}
-
-fn product(first: i8, second: i8) -> i8
-    requires first { IsEntry first }
-    requires second { IsEntry second }
-    ensures value { result ≡ first *ℤ second }
-    ensures small { IsEntry result }
-    ensures sign { IsSign first → IsSign second → IsSign result }
-{
-    first * second
 }

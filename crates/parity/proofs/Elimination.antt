@@ -42,10 +42,6 @@ pub reduced-append : (es fs : List Equation) (number : ℕ) → reduced (es ++ f
 reduced-append [] fs number = refl
 reduced-append (e ∷ es) fs number = reduced-append es fs (cleared_by e number)
 
-reduced-zero : (es : List Equation) → reduced es 0 ≡ 0
-reduced-zero [] = refl
-reduced-zero (e ∷ es) = ap (reduced es) (cleared_clear e 0 (bit_at-zero e.pivot)) ∙ reduced-zero es
-
 -- adding equations that hold for a set changes no parity of what is common with it
 common-reduced : (es : List Equation) (number set : ℕ) → AllByRecursion (λ e. common e.columns set ≡ 0) es → common (reduced es number) set ≡ common number set
 common-reduced [] number set hold = refl

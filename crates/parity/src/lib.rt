@@ -9,4 +9,4 @@ mod violator;
 mod words;
 
 pub use column_search::{ColumnSearch, first_column_set};
-pub use violator::is_violator;
+pub use violator::{is_two_mod_four, is_violator};

@@ -62,7 +62,8 @@ fn is_even(sum: i32) -> bool
     sum.rem_euclid(2) == 0
 }
 
-fn is_two_mod_four(sum: i32) -> bool
+/// Whether a sum is 2 modulo 4.
+pub fn is_two_mod_four(sum: i32) -> bool
     ensures { IsTrue result ↔ IsTwoModFour sum }
 {
     sum.rem_euclid(4) == 2

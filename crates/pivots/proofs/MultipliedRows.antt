@@ -43,10 +43,3 @@ multiplied_more before now row column k value row_in k_in other small e h =
       ];
       ahead = λ j l. entry-with_entry_other_column now row k value inside j (omega arith) ∙ h.ahead j (omega arith);
     }
-
--- the multiplier stays
-pub factor_stays : (before now : Matrix) (row column k : ℕ) → IsMultiplied before now row column k → entry now row column ≡ entry before row column
-factor_stays before now row column k h = elim (cases_lt column k) [
-  | inl lt ↦ h.done column lt ∙ entry_there (entry before) row column
-  | inr ge ↦ h.ahead column ge
-]

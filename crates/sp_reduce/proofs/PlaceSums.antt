@@ -1,8 +1,8 @@
 -- Sums over places, and how they change where one place more passes a test.
-use Rattle.std.proofs.Common.{◌≡◌, ◌≢◌, ◌<◌, ◌≤◌, ◌+◌, ◌*◌, ◌&&◌, ◌∙◌, ◌↔◌, inl, inr, ℕ, suc, Bool, true, false, cond, List, [], ◌∷◌, ◌++◌, length, get_or, set, take, replicate, sum_by, true≢false, refl, ap, sym, subst, arith}
+use Rattle.std.proofs.Common.{◌≡◌, ◌≢◌, ◌<◌, ◌≤◌, ◌+◌, ◌*◌, ◌&&◌, ◌∙◌, ◌↔◌, inl, inr, ℕ, suc, Bool, true, false, cond, List, [], ◌∷◌, ◌++◌, length, get_or, set, take, sum_by, refl, ap, sym, subst, arith}
 use Rattle.std.specs.List.Sorted.{IsStrictlyIncreasing}
-use Rattle.std.proofs.lemmas.Bool.{cases_eq, cases_lt}
-use Rattle.std.proofs.lemmas.List.{get_or-set_other, get_or-set_same, get_or_past, get_or-replicate, length-replicate, length-set, take_more}
+use Rattle.std.proofs.lemmas.Bool.{cases_eq}
+use Rattle.std.proofs.lemmas.List.{get_or-set_other, get_or-set_same, length-set, take_more}
 use Rattle.std.proofs.lemmas.List.FromFn.{length-range_with_len}
 use Rattle.std.proofs.lemmas.List.Sums.{sum_by-cons}
 use Rattle.cmr_base.specs.LineSets.{first_lines, without}
@@ -130,18 +130,6 @@ module _ (number : ℕ → ℕ) (marks : List Bool) (size own place : ℕ) (befo
       ]
 
 -- ---- the marks
-
-pub no_marks : (size : ℕ) → AreMarks size [] (replicate size false)
-no_marks size = record {
-  long = length-replicate size false;
-  exact = λ k. ((λ e. true≢false (sym e ∙ unmarked k)), (λ h. absurd h));
-}
-  where
-    unmarked : (k : ℕ) → get_or (replicate size false) k false ≡ false
-    unmarked k = elim (cases_lt k size) [
-      | inl h ↦ get_or-replicate size k false false h
-      | inr past ↦ let long = length-replicate size false in get_or_past (replicate size false) k false (omega (arith, long, past))
-    ]
 
 pub one_marked : (size : ℕ) (lines : List ℕ) (marks : List Bool) (i : ℕ) → i < length lines → get_or lines i 0 < size → AreMarks size (take i lines) marks → AreMarks size (take (i + 1) lines) (set marks (get_or lines i 0) true)
 one_marked size lines marks i h small are = record {

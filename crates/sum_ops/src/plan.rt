@@ -6,7 +6,7 @@ ghost use Rattle.cmr_base.specs.MatrixSums.{filled};
 ghost use Rattle.sum_ops.specs.Plans.{Fits, entries_of, lower_entry, rows_of, columns_of};
 
 use crate::spread::Spread;
-use cmr_base::{Matrix, Memory, product};
+use cmr_base::{MAX_COLUMNS, MAX_ROWS, Matrix, Memory, product};
 use std::alloc::Global;
 
 /// The block below the first matrix: zero, the product of column 0 of the second matrix with the next row of the first, or
@@ -35,8 +35,8 @@ impl Plan {
     /// The matrix of the four blocks.
     pub fn sum(self, alloc: Global, first: &Matrix, second: &Matrix) -> Result<Matrix, Memory>
         requires fits { Fits self first.now second.now }
-        requires rows { rows_of self second.now ≤ 1000 }
-        requires columns { columns_of self second.now ≤ 1000 }
+        requires rows { rows_of self second.now ≤ MAX_ROWS }
+        requires columns { columns_of self second.now ≤ MAX_COLUMNS }
         ensures blocks { IfOk result (λ sum. sum ≡ filled (rows_of self second.now)
             (columns_of self second.now) (entries_of self first.now second.now)) }
         ensures small { IfOk result HasTernaryEntries }

@@ -10,13 +10,13 @@ ghost use Rattle.sum_ops.specs.Corners.{HaveOneCorner};
 use crate::SumError;
 use crate::corners::{first_corner, last_corner};
 use crate::plan::{LowerBlock, Plan};
-use cmr_base::{Matrix, Memory};
+use cmr_base::{MAX_COLUMNS, MAX_ROWS, Matrix, Memory};
 use std::alloc::Global;
 
 /// The one-sum: the two matrices as diagonal blocks.
 pub fn one_sum(alloc: Global, first: &Matrix, second: &Matrix) -> Result<Matrix, Memory>
-    requires rows { height first.now + height second.now ≤ 1000 }
-    requires columns { first.now.width + second.now.width ≤ 1000 }
+    requires rows { height first.now + height second.now ≤ MAX_ROWS }
+    requires columns { first.now.width + second.now.width ≤ MAX_COLUMNS }
     ensures { IfOk result (λ sum. sum ≡ the_one_sum first.now second.now) }
 {
     let plan = Plan {
@@ -109,9 +109,9 @@ fn corner_sum(
     second: &Matrix,
 ) -> Result<Matrix, SumError>
     requires rows { height first.now + height second.now
-        ≤ 1000 + (connecting_rows second_flat + connecting_rows first_flat) }
+        ≤ MAX_ROWS + (connecting_rows second_flat + connecting_rows first_flat) }
     requires columns { first.now.width + second.now.width
-        ≤ 1000 + (connecting_columns second_flat + connecting_columns first_flat) }
+        ≤ MAX_COLUMNS + (connecting_columns second_flat + connecting_columns first_flat) }
     ensures sum { IfOk result (λ sum. sum ≡ the_corner_sum first_flat second_flat first.now
         second.now) }
     ensures defined { IfOk result (λ _. HaveCornerSum first_flat second_flat first.now second.now) }

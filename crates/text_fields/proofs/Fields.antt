@@ -93,10 +93,6 @@ fields_ok {A} short parse (suc n) before text values rest h =
       count = ap suc later.count;
     }
 
--- a word that stands for a value is read as a field
-pub field_again : {A K : Type 0} (short : K) (parse : List ℕ → Result A K) (size : ℕ) (word : ℕ × List ℕ) (words : List (ℕ × List ℕ)) (x : A) → parse word.1 ≡ Ok x → field short parse (record { size = size; words = word ∷ words }) ≡ Ok (x, record { size = size; words = words })
-field_again short parse size word words x h = rw h refl
-
 -- words that spell values are read as fields
 pub fields_again : {A K : Type 0} (short : K) (parse : List ℕ → Result A K) (size : ℕ) (words later : List (ℕ × List ℕ)) (before values : List A) → Spell parse (texts_of words) values
     → times (another short parse) (length values) before (record { size = size; words = words ++ later }) ≡ Ok (before ++ values, record { size = size; words = later })

@@ -1,5 +1,5 @@
 -- Good seeds of the concentrated form.
-use Rattle.std.proofs.Common.{ℕ, ℤ, pos, ◌+◌, ◌<◌, ◌≤◌, ◌*ℤ◌, ◌+ℤ◌, ◌-ℤ◌, Bool, true, false, not, List, [], ◌∷◌, ◌++◌, ◌≡◌, ◌≢◌, ◌∙◌, sym, ap, refl, arith, subst, ◌⊎◌, inl, inr, length, Option, Some, None, IfSome}
+use Rattle.std.proofs.Common.{ℕ, ℤ, pos, ◌+◌, ◌<◌, ◌≤◌, ◌*ℤ◌, ◌+ℤ◌, ◌-ℤ◌, Bool, true, false, not, List, [], ◌∷◌, ◌++◌, ◌≡◌, ◌≢◌, ◌∙◌, sym, ap, refl, arith, subst, ◌⊎◌, inl, inr, length, Option, Some, IfSome}
 use Rattle.std.proofs.lemmas.Bool.{cases_lt}
 use Rattle.cmr_base.specs.declared.line.Line.{Line}
 use Rattle.cmr_base.specs.declared.line.Line.TheVariants.{Row, Column}
@@ -9,7 +9,7 @@ use Rattle.cmr_base.specs.ColumnSets.{has_column}
 use Rattle.cmr_base.specs.Matrix.{Matrix, height, entry, transposed, IsMatrix}
 use Rattle.cmr_base.specs.LineSets as sets
 use Rattle.cmr_base.specs.Signing.{IsSign}
-use Rattle.cmr_base.specs.Separations.{Lines, zeros, spread_at, core_determinant, AreConcentrated, AreOn, IsThreeSeparation, connector_lines}
+use Rattle.cmr_base.specs.Separations.{Lines, zeros, spread_at, core_determinant, IsThreeSeparation}
 use Rattle.cmr_base.specs.Separations as base
 use Rattle.cmr_base.specs.Seeds.{IsLine, line_number}
 use Rattle.cmr_base.proofs.Integers.{sums, products}
@@ -20,24 +20,27 @@ use Rattle.cmr_base.proofs.Booleans.{false_is, not_both, true_is, zero_is}
 use Rattle.cuts.specs.declared.corners.Corners.{Corners}
 use Rattle.three_sep.specs.declared.connectors.Connectors.{Connectors}
 use Rattle.three_sep.specs.NumberedSeeds.{Among, IsGoodSeed, Seed, connector, inside, seed_key}
-use Rattle.three_sep.specs.Sides.{AreInside, IsClosedBy}
+use Rattle.three_sep.specs.Sides.{IsClosedBy}
 use Rattle.three_sep.specs.Searches.{BeginsWith, HasNoGood, HasNoneBelow, IsFirstOf, LeavesSecond, corner_front}
 use Rattle.cmr_base.specs.Trees.{support}
 use Rattle.three_sep.specs.Concentrated.{AreCandidates, AreConcentratedCorners, ArePlaced, HasNoLeaving, HasNoneBetween, IsFirstPair, IsHeldBy, IsLeastFor, IsNoOtherColumn, IsOtherColumn, IsOtherRow, TellsClosedFor, all_front, first_lines, first_of, second_of, turned}
 use Rattle.three_sep.proofs.SideLemmas.{outside_less}
 use Rattle.three_sep.proofs.SearchLemmas.{enough_lines, good_inside, level_found, lines_of_connector, none_of_connector, seed_at, seed_from_all, seed_from_first, seed_from_second, seed_is}
-use Rattle.three_sep.proofs.SeedForms.{closed_to, good_numbered, good_three, seed_with}
+use Rattle.three_sep.proofs.SeedFacts.{SeedFacts, closed_to, facts, good_seed}
 use Rattle.three_sep.proofs.SpreadLemmas.{spread_parts, spread_same}
 use Rattle.three_sep.proofs.TurnedLemmas.{closed_turned, has_turned, leaves_turned, no_turned, turned_side}
 
 -- ---- what a good seed says
 
-module _ (m : Matrix) (c : Corners) (q o : ℕ) (x : Line) (S : Lines) (g : IsGoodSeed (height m) m.width (entry m) (seed_at Concentrated c q o x) S) where
+module _ (m : Matrix) (c : Corners) (q o : ℕ) (x : Line) (S : Lines) (good : IsGoodSeed m (seed_at Concentrated c q o x) S) where
+  g : SeedFacts m (seed_at Concentrated c q o x) S
+  g = facts m (seed_at Concentrated c q o x) S good
+
   row_in : c.i < height m
-  row_in = g.connectors.first_lines (Row c.i) (inl refl)
+  row_in = g.first_lines (Row c.i) (inl refl)
 
   column_in : c.j < m.width
-  column_in = g.connectors.second_lines (Column c.j) (inr (inl refl))
+  column_in = g.second_lines (Column c.j) (inr (inl refl))
 
   row_one : S (Row c.i) ≡ true
   row_one = g.side.has (Row c.i) (inr (inl refl))
@@ -110,8 +113,7 @@ module _ (m : Matrix) (c : Corners) (q o : ℕ) (x : Line) (S : Lines) (g : IsGo
     separation_elsewhere : IsThreeSeparation (entry m) (sets.first_lines (height m)) (sets.first_lines m.width) S Concentrated (first_of d) (second_of d)
     separation_elsewhere =
         let on : (y : Line) → IsLine (height m) m.width y → _ = has_line_from_line (height m) m.width in
-        let own = three_separation_of_seed (height m) m.width (entry m) Concentrated (record { row = c.i; column = c.p; other = q }) (record { row = c.k; column = c.j; other = o }) x S
-        (good_three (height m) m.width (entry m) Concentrated (record { row = c.i; column = c.p; other = q }) (record { row = c.k; column = c.j; other = o }) x S g) in
+        let own = three_separation_of_seed (height m) m.width (entry m) Concentrated (record { row = c.i; column = c.p; other = q }) (record { row = c.k; column = c.j; other = o }) x S good in
         record {
           one = (
             (has_line_from_line (height m) m.width (Row d.corners.i) placed.corners.row_one, ap (λ (z : ℕ). S (Row z)) same_row ∙ row_one),
@@ -132,43 +134,42 @@ module _ (m : Matrix) (c : Corners) (q o : ℕ) (x : Line) (S : Lines) (g : IsGo
     -- so there is a good seed with them
     some_elsewhere : HasNoGood m (all_front d) → ⊥
     some_elsewhere none =
-        let (y, T, good) = good_three_seed (height m) m.width (entry m) Concentrated (first_of d) (second_of d) S separation_elsewhere in
-        none (seed_with Concentrated (first_of d) (second_of d) y) T (refl, (refl, (refl, (refl, (refl, (refl, (refl, tt)))))))
-        (good_numbered (height m) m.width (entry m) Concentrated (first_of d) (second_of d) y T good)
+        let (y, T, other) = good_three_seed (height m) m.width (entry m) Concentrated (first_of d) (second_of d) S separation_elsewhere in
+        none (record { form = Concentrated; first = first_of d; second = second_of d; line = y }) T (refl, (refl, (refl, (refl, (refl, (refl, (refl, tt))))))) other
 
 -- ---- what is passed over
 
-between_seed : (s : Seed) (i j : ℕ) → s.form ≡ Concentrated → s.i ≡ i → s.j ≡ j → s ≡ seed_at Concentrated (record { i = i; p = s.p; k = s.k; j = j }) s.q s.o s.x
-between_seed s i j ef ei ej = seed_is s Concentrated i s.p s.k j s.q s.o s.x (sym ef) (sym ei) refl refl (sym ej) refl refl refl
+between_seed : (s : Seed) (i j : ℕ) → s.form ≡ Concentrated → s.first.row ≡ i → s.second.column ≡ j → s ≡ seed_at Concentrated (record { i = i; p = s.first.column; k = s.second.row; j = j }) s.first.other s.second.other s.line
+between_seed s i j ef ei ej = seed_is s Concentrated i s.first.column s.second.row j s.first.other s.second.other s.line (sym ef) (sym ei) refl refl (sym ej) refl refl refl
 
 module _ (m : Matrix) where
-  at_seed : (s : Seed) (S : Lines) (t : Seed) → s ≡ t → IsGoodSeed (height m) m.width (entry m) s S → IsGoodSeed (height m) m.width (entry m) t S
-  at_seed s S t e g = subst (λ (z : Seed). IsGoodSeed (height m) m.width (entry m) z S) e g
+  at_seed : (s : Seed) (S : Lines) (t : Seed) → s ≡ t → IsGoodSeed m s S → IsGoodSeed m t S
+  at_seed s S t e g = subst (λ (z : Seed). IsGoodSeed m z S) e g
 
   -- where two connectors are in no good seed, no others with their row i and column j are
   pub none_between : (d : Connectors) → ArePlaced m d → AreConcentratedCorners (entry m) d.corners → IsOtherColumn (entry m) d.corners d.q → IsOtherRow (entry m) d → HasNoGood m (all_front d) → HasNoneBetween m d.corners.i d.corners.j
   none_between d placed corners column row none s S ef ei ej g =
-      let c : Corners = record { i = d.corners.i; p = s.p; k = s.k; j = d.corners.j } in
-      some_elsewhere m c s.q s.o s.x S (at_seed s S (seed_at Concentrated c s.q s.o s.x) (between_seed s d.corners.i d.corners.j ef ei ej) g) d placed refl refl corners column row none
+      let c : Corners = record { i = d.corners.i; p = s.first.column; k = s.second.row; j = d.corners.j } in
+      some_elsewhere m c s.first.other s.second.other s.line S (at_seed s S (seed_at Concentrated c s.first.other s.second.other s.line) (between_seed s d.corners.i d.corners.j ef ei ej) g) d placed refl refl corners column row none
 
   -- a column that is in side one with row i
   pub none_at_held : (i j : ℕ) → IsHeldBy m i j → HasNoneBetween m i j
   none_at_held i j held s S ef ei ej g0 =
-      let c : Corners = record { i = i; p = s.p; k = s.k; j = j } in
-      let g = at_seed s S (seed_at Concentrated c s.q s.o s.x) (between_seed s i j ef ei ej) g0 in
-      not_both (S (Column j)) (held (record { corners = c; q = s.q; o = s.o }) S g.side.closed (row_one m c s.q s.o s.x S g)) (column_two m c s.q s.o s.x S g)
+      let c : Corners = record { i = i; p = s.first.column; k = s.second.row; j = j } in
+      let g = at_seed s S (seed_at Concentrated c s.first.other s.second.other s.line) (between_seed s i j ef ei ej) g0 in
+      not_both (S (Column j)) (held (record { corners = c; q = s.first.other; o = s.second.other }) S (facts m (seed_at Concentrated c s.first.other s.second.other s.line) S g).side.closed (row_one m c s.first.other s.second.other s.line S g)) (column_two m c s.first.other s.second.other s.line S g)
 
   pub no_corner : (i p : ℕ) → entry m i p ≡ pos 0 → HasNoGood m (3 ∷ i ∷ p ∷ [])
-  no_corner i p e s S h g = g.connectors.values.first_corner (rw (sym h.1.0, sym h.1.1.0) e)
+  no_corner i p e s S h g = g.0.values.first_corner (rw (sym h.1.0, sym h.1.1.0) e)
 
   pub no_second_corner : (i p k j : ℕ) → entry m k j ≡ pos 0 → HasNoGood m (3 ∷ i ∷ p ∷ k ∷ j ∷ [])
-  no_second_corner i p k j e s S h g = g.connectors.values.second_corner (rw (sym h.1.1.1.0, sym h.1.1.1.1.0) e)
+  no_second_corner i p k j e s S h g = g.0.values.second_corner (rw (sym h.1.1.1.0, sym h.1.1.1.1.0) e)
 
   pub no_candidate : (i p k j : ℕ) → HasNoneBetween m i j → HasNoGood m (3 ∷ i ∷ p ∷ k ∷ j ∷ [])
   no_candidate i p k j none s S h g = none s S (sym (form_is Concentrated s.form h.0)) (sym h.1.0) (sym h.1.1.1.1.0) g
 
   pub no_candidates : (i p : ℕ) (candidates : List ℕ) → AreCandidates m i candidates → ((j : ℕ) → has_column candidates j ≡ false) → HasNoGood m (3 ∷ i ∷ p ∷ [])
-  no_candidates i p candidates are none s S h g = are.others s.j (good_inside m s S g).column_two (none s.j) s S (sym (form_is Concentrated s.form h.0)) (sym h.1.0) refl g
+  no_candidates i p candidates are none s S h g = are.others s.second.column (good_inside m s S g).column_two (none s.second.column) s S (sym (form_is Concentrated s.form h.0)) (sym h.1.0) refl g
 
   zero_determinant : (x y z w : ℤ) → x ≡ pos 0 → y ≡ pos 0 → ¬ (IsSign (x *ℤ w -ℤ y *ℤ z))
   zero_determinant x y z w ex ey (inl e) = let k : x *ℤ w -ℤ y *ℤ z ≡ pos 0 = rw (ex, ey) (simp products (omega (arith, sums))) in let l = sym k ∙ e in absurd (omega (arith, sums))
@@ -176,11 +177,11 @@ module _ (m : Matrix) where
 
   pub no_column : (c : Corners) (q : ℕ) → IsNoOtherColumn (entry m) c q → HasNoGood m (corner_front Concentrated c ++ q ∷ [])
   no_column c q refused s S h g0 =
-      let g = at_seed s S (seed_at Concentrated c q s.o s.x) (seed_from_first m Concentrated c q s h) g0 in
+      let g = at_seed s S (seed_at Concentrated c q s.second.other s.line) (seed_from_first m Concentrated c q s h) g0 in
       elim refused [
-        | inl l ↦ let r = g.connectors.values.tied.columns_rise in absurd (omega arith)
-        | inr (inl e) ↦ g.connectors.values.tied.first_other e
-        | inr (inr (ep, eq)) ↦ zero_determinant (entry m c.k c.p) (entry m c.k q) (entry m s.o c.p) (entry m s.o q) ep eq g.connectors.values.tied.determinant
+        | inl l ↦ let r = g.0.values.tied.columns_rise in absurd (omega arith)
+        | inr (inl e) ↦ g.0.values.tied.first_other e
+        | inr (inr (ep, eq)) ↦ zero_determinant (entry m c.k c.p) (entry m c.k q) (entry m s.second.other c.p) (entry m s.second.other q) ep eq g.0.values.tied.determinant
       ]
 
   -- columns up to p, and columns in which row i is 0
@@ -197,64 +198,65 @@ module _ (m : Matrix) where
     abbrev seed_here : Line → Seed
     seed_here x = seed_at Concentrated d.corners d.q d.o x
 
-    good_here : (s : Seed) (S : Lines) → BeginsWith (all_front d) (seed_key (height m) s) → IsGoodSeed (height m) m.width (entry m) s S → IsGoodSeed (height m) m.width (entry m) (seed_here s.x) S
-    good_here s S h g = at_seed s S (seed_here s.x) (seed_from_second m Concentrated d.corners d.q d.o s h) g
+    good_here : (s : Seed) (S : Lines) → BeginsWith (all_front d) (seed_key m s) → IsGoodSeed m s S → IsGoodSeed m (seed_here s.line) S
+    good_here s S h g = at_seed s S (seed_here s.line) (seed_from_second m Concentrated d.corners d.q d.o s h) g
 
     pub no_row : ¬ (IsOtherRow (entry m) d) → HasNoGood m (all_front d)
-    no_row refused s S h g0 = let g = good_here s S h g0 in refused (record { rises = g.connectors.values.tied.rows_rise; nonzero = g.connectors.values.tied.second_other; determinant = g.connectors.values.tied.determinant })
+    no_row refused s S h g0 = let g = good_here s S h g0 in refused (record { rises = g.0.values.tied.rows_rise; nonzero = g.0.values.tied.second_other; determinant = g.0.values.tied.determinant })
 
-    leaves_here : (x : Line) (S : Lines) → IsGoodSeed (height m) m.width (entry m) (seed_here x) S → LeavesSecond m d.corners (Row d.o) S
-    leaves_here x S g = record { row = g.two (Row d.corners.k) (inl refl); column = g.two (Column d.corners.j) (inr (inl refl)); other = g.two (Row d.o) (inr (inr (inl refl))); enough = g.enough }
+    leaves_here : (x : Line) (S : Lines) → IsGoodSeed m (seed_here x) S → LeavesSecond m d.corners (Row d.o) S
+    leaves_here x S g0 = let g = facts m (seed_here x) S g0 in record { row = g.two (Row d.corners.k) (inl refl); column = g.two (Column d.corners.j) (inr (inl refl)); other = g.two (Row d.o) (inr (inr (inl refl))); enough = g.enough }
 
     pub no_leaving : HasNoLeaving m d (first_lines d) → HasNoGood m (all_front d)
-    no_leaving refused s S h g0 = let g = good_here s S h g0 in refused S g.side.closed (λ y a. g.side.has y (inr a)) (leaves_here s.x S g)
+    no_leaving refused s S h g0 = let good = good_here s S h g0 in let g = facts m (seed_here s.line) S good in refused S g.side.closed (λ y a. g.side.has y (inr a)) (leaves_here s.line S good)
 
-    four_here : (x : Line) (S : Lines) → IsGoodSeed (height m) m.width (entry m) (seed_here x) S → 4 ≤ inside (height m) m.width S
-    four_here x S g = enough_lines (height m) m.width true d.corners.i d.corners.p d.q x S (λ e. let l = g.connectors.values.tied.columns_rise in omega (arith, e)) g.line g.connectors.first_lines g.beside_first g.side.has
+    four_here : (x : Line) (S : Lines) → IsGoodSeed m (seed_here x) S → 4 ≤ inside (height m) m.width S
+    four_here x S good = let g = facts m (seed_here x) S good in enough_lines (height m) m.width true d.corners.i d.corners.p d.q x S (λ e. let l = good.0.values.tied.columns_rise in omega (arith, e)) g.line g.first_lines g.beside_first g.side.has
 
     -- nor does any in the transposed matrix
     pub no_left : IsMatrix m → HasNoLeaving (transposed m) (turned d) (first_lines (turned d)) → HasNoGood m (all_front d)
     no_left is refused s S h g0 =
-        let g = good_here s S h g0 in
-        no_turned m is d S refused g.side.closed (λ y a. g.side.has y (inr a)) (leaves_here s.x S g)
-        (four_here s.x S g)
+        let good = good_here s S h g0 in
+        let g = facts m (seed_here s.line) S good in
+        no_turned m is d S refused g.side.closed (λ y a. g.side.has y (inr a)) (leaves_here s.line S good)
+        (four_here s.line S good)
 
     -- a row that can be on neither side
     pub no_refused : IsMatrix m → (row : ℕ) → HasNoLeaving m d (Row row ∷ first_lines d) → HasNoLeaving (transposed m) (turned d) (Column row ∷ first_lines (turned d)) → HasNoGood m (all_front d)
     no_refused is row one two s S h g0 =
-        let g = good_here s S h g0 in
+        let good = good_here s S h g0 in
+        let g = facts m (seed_here s.line) S good in
         elim (two_cases (S (Row row))) [
-          | inl e ↦ one S g.side.closed (λ y a. elim a [ inl f ↦ ap S f ∙ e | inr b ↦ g.side.has y (inr b) ]) (leaves_here s.x S g)
+          | inl e ↦ one S g.side.closed (λ y a. elim a [ inl f ↦ ap S f ∙ e | inr b ↦ g.side.has y (inr b) ]) (leaves_here s.line S good)
           | inr e ↦
-              two (turned_side m is d S) (closed_turned m is d S g.side.closed) (λ y a. elim a [ inl f ↦ ap (turned_side m is d S) f ∙ ap not e | inr b ↦ has_turned m is d S (leaves_here s.x S g) y b ])
-              (leaves_turned m is d S (λ y a. g.side.has y (inr a)) (four_here s.x S g))
+              two (turned_side m is d S) (closed_turned m is d S g.side.closed) (λ y a. elim a [ inl f ↦ ap (turned_side m is d S) f ∙ ap not e | inr b ↦ has_turned m is d S (leaves_here s.line S good) y b ])
+              (leaves_turned m is d S (λ y a. g.side.has y (inr a)) (four_here s.line S good))
         ]
 
     pub no_line : (place : ℕ) (x : Line) → IsLine (height m) m.width x → line_number (height m) x ≡ place → HasNoLeaving m d (x ∷ first_lines d) → HasNoGood m (all_front d ++ place ∷ [])
     no_line place x lx number refused s S h g0 =
-        let g = at_seed s S (seed_here x) (seed_from_all m Concentrated d.corners d.q d.o place x s lx g0.line number h) g0 in
-        refused S g.side.closed g.side.has (leaves_here x S g)
+        let good = at_seed s S (seed_here x) (seed_from_all m Concentrated d.corners d.q d.o place x s lx g0.1.line number h) g0 in
+        let g = facts m (seed_here x) S good in
+        refused S g.side.closed g.side.has (leaves_here x S good)
 
     pub concentrated_good : (x : Line) (S : Lines) → ArePlaced m d → AreConcentratedCorners (entry m) d.corners → IsOtherColumn (entry m) d.corners d.q → IsOtherRow (entry m) d → IsLine (height m) m.width x
         → ¬ (Among (connector true d.corners.i d.corners.p d.q) x) → ¬ (Among (connector false d.corners.k d.corners.j d.o) x) → IsLeastFor m d (x ∷ first_lines d) S → LeavesSecond m d.corners (Row d.o) S
-        → IsGoodSeed (height m) m.width (entry m) (seed_here x) S
-    concentrated_good x S placed corners column row lx b1 b2 least leaves = record {
-      connectors = record {
-        values = record {
-          first_corner = corners.first;
-          second_corner = corners.second;
-          tied = record { first_other = column.nonzero; second_other = row.nonzero; columns_rise = column.rises; rows_rise = row.rises; determinant = row.determinant };
-        };
-        first_lines = lines_of_connector (height m) m.width true d.corners.i d.corners.p d.q placed.corners.row_one placed.corners.column_one placed.first_other;
-        second_lines = lines_of_connector (height m) m.width false d.corners.k d.corners.j d.o placed.corners.row_two placed.corners.column_two placed.second_other;
+        → IsGoodSeed m (seed_here x) S
+    concentrated_good x S placed corners column row lx b1 b2 least leaves = good_seed m (seed_here x) S (record {
+      values = record {
+        first_corner = corners.first;
+        second_corner = corners.second;
+        tied = record { first_other = column.nonzero; second_other = row.nonzero; columns_rise = column.rises; rows_rise = row.rises; determinant = row.determinant };
       };
+      first_lines = lines_of_connector (height m) m.width true d.corners.i d.corners.p d.q placed.corners.row_one placed.corners.column_one placed.first_other;
+      second_lines = lines_of_connector (height m) m.width false d.corners.k d.corners.j d.o placed.corners.row_two placed.corners.column_two placed.second_other;
       line = lx;
       beside_first = b1;
       beside_second = b2;
       side = record { closed = least.closed; has = least.has; least = λ T closed has y l e. least.least T closed has y e };
       two = none_of_connector false d.corners.k d.corners.j d.o S leaves.row leaves.column leaves.other;
       enough = leaves.enough;
-    }
+    })
 
 -- ---- candidates
 
@@ -297,7 +299,7 @@ none_between_seconds m i p k from j columns candidates are others before none b 
 
 -- row k is 0 in each candidate
 pub no_common : (m : Matrix) (i p k : ℕ) (candidates : List ℕ) → AreCandidates m i candidates → ((x : ℕ) → (support m k x ≡ false) ⊎ (has_column candidates x ≡ false)) → HasNoGood m (3 ∷ i ∷ p ∷ k ∷ [])
-no_common m i p k candidates are none s S h g = no_second m i p k s.j candidates are (none s.j) s S (h.0, (h.1.0, (h.1.1.0, (h.1.1.1.0, (refl, tt))))) g
+no_common m i p k candidates are none s S h g = no_second m i p k s.second.column candidates are (none s.second.column) s S (h.0, (h.1.0, (h.1.1.0, (h.1.1.1.0, (refl, tt))))) g
 
 -- ---- the first connectors with two corners
 

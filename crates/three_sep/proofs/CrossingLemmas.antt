@@ -4,25 +4,27 @@ use Rattle.cmr_base.specs.declared.line.Line.{Line}
 use Rattle.cmr_base.specs.declared.separation.Connector.{Connector}
 use Rattle.cmr_base.specs.declared.separation.Form.{Form}
 use Rattle.cmr_base.specs.declared.separation.Form.TheVariants.{Delta, YForm, Mixed, Concentrated}
-use Rattle.cmr_base.specs.Separations.{Lines, product_at, upper_block, lower_block, first_is_flat, second_is_flat}
+use Rattle.cmr_base.specs.Matrix.{Matrix, height, entry}
+use Rattle.cmr_base.specs.Separations.{Lines, connector_lines, product_at, upper_block, lower_block, first_is_flat, second_is_flat}
 use Rattle.cmr_base.specs.Separations as base
 use Rattle.cmr_base.specs.Seeds.{IsLine}
-use Rattle.three_sep.specs.NumberedSeeds.{Among, AreCorners, HasNone, IsCrossing, IsFirstOther, IsGoodSeed, IsSecondOther, IsSide, Seed, first_connector, first_of, outside, second_connector, second_of}
+use Rattle.three_sep.specs.NumberedSeeds.{Among, AreCorners, HasNone, IsCrossing, IsFirstOther, IsSecondOther, Seed, outside}
+use Rattle.three_sep.proofs.SeedFacts.{IsSide, SeedFacts}
 
 pub record AreCrossingConnectors (m n : ℕ) (M : ℕ → ℕ → ℤ) (s : Seed) : Type 0 where
-  pub corners : AreCorners M s.i s.p s.k s.j
-  pub first_other : IsFirstOther (first_is_flat s.form) M s.i s.p s.k s.j s.q
-  pub second_other : IsSecondOther (second_is_flat s.form) M s.i s.p s.k s.j s.o
-  pub first_lines : (x : Line) → Among (first_connector s) x → IsLine m n x
-  pub second_lines : (x : Line) → Among (second_connector s) x → IsLine m n x
+  pub corners : AreCorners M s.first.row s.first.column s.second.row s.second.column
+  pub first_other : IsFirstOther (first_is_flat s.form) M s.first.row s.first.column s.second.row s.second.column s.first.other
+  pub second_other : IsSecondOther (second_is_flat s.form) M s.first.row s.first.column s.second.row s.second.column s.second.other
+  pub first_lines : (x : Line) → Among (connector_lines (first_is_flat s.form) s.first) x → IsLine m n x
+  pub second_lines : (x : Line) → Among (connector_lines (second_is_flat s.form) s.second) x → IsLine m n x
 
 pub record IsGoodCrossing (m n : ℕ) (M : ℕ → ℕ → ℤ) (s : Seed) (S : Lines) : Type 0 where
   pub connectors : AreCrossingConnectors m n M s
-  pub line : IsLine m n s.x
-  pub beside_first : ¬ (Among (first_connector s) s.x)
-  pub beside_second : ¬ (Among (second_connector s) s.x)
-  pub side : IsSide m n M (product_at M s.i s.j) (product_at M s.k s.p) (s.x ∷ first_connector s) S
-  pub two : HasNone S (second_connector s)
+  pub line : IsLine m n s.line
+  pub beside_first : ¬ (Among (connector_lines (first_is_flat s.form) s.first) s.line)
+  pub beside_second : ¬ (Among (connector_lines (second_is_flat s.form) s.second) s.line)
+  pub side : IsSide m n M (product_at M s.first.row s.second.column) (product_at M s.second.row s.first.column) (s.line ∷ connector_lines (first_is_flat s.form) s.first) S
+  pub two : HasNone S (connector_lines (second_is_flat s.form) s.second)
   pub enough : 4 ≤ outside m n S
 
 module _ (M : ℕ → ℕ → ℤ) (one two : Connector) where
@@ -64,35 +66,33 @@ module _ (M : ℕ → ℕ → ℤ) (one two : Connector) where
     side_to Mixed c side = side
     side_to Concentrated c side = absurd c
 
-module _ (m n : ℕ) (M : ℕ → ℕ → ℤ) (s : Seed) (S : Lines) (crossing : IsCrossing s.form) where
-  pub as_crossing : IsGoodSeed m n M s S → IsGoodCrossing m n M s S
+module _ (m : Matrix) (s : Seed) (S : Lines) (crossing : IsCrossing s.form) where
+  pub as_crossing : SeedFacts m s S → IsGoodCrossing (height m) m.width (entry m) s S
   as_crossing g = record {
     connectors = record {
-      corners = corners_from M (first_of s) (second_of s) s.form crossing g.connectors.values;
-      first_other = first_other_from M (first_of s) (second_of s) s.form crossing g.connectors.values;
-      second_other = second_other_from M (first_of s) (second_of s) s.form crossing g.connectors.values;
-      first_lines = g.connectors.first_lines;
-      second_lines = g.connectors.second_lines;
+      corners = corners_from (entry m) s.first s.second s.form crossing g.values;
+      first_other = first_other_from (entry m) s.first s.second s.form crossing g.values;
+      second_other = second_other_from (entry m) s.first s.second s.form crossing g.values;
+      first_lines = g.first_lines;
+      second_lines = g.second_lines;
     };
     line = g.line;
     beside_first = g.beside_first;
     beside_second = g.beside_second;
-    side = side_from M (first_of s) (second_of s) m n (s.x ∷ first_connector s) S s.form crossing g.side;
+    side = side_from (entry m) s.first s.second (height m) m.width (s.line ∷ connector_lines (first_is_flat s.form) s.first) S s.form crossing g.side;
     two = g.two;
     enough = g.enough;
   }
 
-  pub as_good : IsGoodCrossing m n M s S → IsGoodSeed m n M s S
+  pub as_good : IsGoodCrossing (height m) m.width (entry m) s S → SeedFacts m s S
   as_good g = record {
-    connectors = record {
-      values = values_to M (first_of s) (second_of s) s.form crossing g.connectors.corners g.connectors.first_other g.connectors.second_other;
-      first_lines = g.connectors.first_lines;
-      second_lines = g.connectors.second_lines;
-    };
+    values = values_to (entry m) s.first s.second s.form crossing g.connectors.corners g.connectors.first_other g.connectors.second_other;
+    first_lines = g.connectors.first_lines;
+    second_lines = g.connectors.second_lines;
     line = g.line;
     beside_first = g.beside_first;
     beside_second = g.beside_second;
-    side = side_to M (first_of s) (second_of s) m n (s.x ∷ first_connector s) S s.form crossing g.side;
+    side = side_to (entry m) s.first s.second (height m) m.width (s.line ∷ connector_lines (first_is_flat s.form) s.first) S s.form crossing g.side;
     two = g.two;
     enough = g.enough;
   }

@@ -3,6 +3,7 @@ pub mod SideLemmas
 pub mod RoomLemmas
 pub mod StartLemmas
 pub mod CutLemmas
+pub mod SeedFacts
 pub mod CrossingLemmas
 pub mod SpreadLemmas
 pub mod NumberLemmas

@@ -28,6 +28,7 @@ use Rattle.cuts.specs.Cuts.{IsCutAt, IsCut, HasNames, HoldTogether, name_of}
 use Rattle.three_sep.specs.Cuts.{HasNoCutAt}
 use Rattle.three_sep.specs.Searches.{BeginsWith, HasNoGood, HoldsFirst, IsFirstOf, HasNoneBelow, corner_front, line_count, other_line, HasNoColumn, HasNoRow, LacksColumn, LacksRow, LeavesSecond, IsNoSecondRow, IsNoSecondColumn}
 use Rattle.three_sep.proofs.CrossingLemmas.{IsGoodCrossing, as_crossing, as_good}
+use Rattle.three_sep.proofs.SeedFacts.{facts, good_seed}
 use Rattle.three_sep.proofs.SideLemmas.{outside_less}
 use Rattle.three_sep.proofs.CutLemmas.{has_size}
 
@@ -137,30 +138,30 @@ corner_other true r c o = inr (inr (inl refl))
 corner_other false r c o = inr (inr (inl refl))
 
 abbrev pub corners_of : Seed → Corners
-corners_of s = record { i = s.i; p = s.p; k = s.k; j = s.j }
+corners_of s = record { i = s.first.row; p = s.first.column; k = s.second.row; j = s.second.column }
 
 -- the side of a good seed is a cut
 pub good_is_cut_at : (m : Matrix) (s : Seed) (S : Lines) → IsGoodCrossing (height m) m.width (entry m) s S → IsCutAt m (corners_of s) S
 good_is_cut_at m s S g = record {
   closed = g.side.closed;
-  row_one = g.side.has (Row s.i) (inr (corner_row (first_is_flat s.form) s.i s.p s.q));
-  column_one = g.side.has (Column s.p) (inr (corner_column (first_is_flat s.form) s.i s.p s.q));
-  row_two = g.two (Row s.k) (corner_row (second_is_flat s.form) s.k s.j s.o);
-  column_two = g.two (Column s.j) (corner_column (second_is_flat s.form) s.k s.j s.o);
-  enough_one = enough_lines (height m) m.width (first_is_flat s.form) s.i s.p s.q s.x S (not_twice (entry m) (first_is_flat s.form) s.i s.p s.k s.j s.q g.connectors.corners.first g.connectors.first_other) g.line g.connectors.first_lines g.beside_first g.side.has;
+  row_one = g.side.has (Row s.first.row) (inr (corner_row (first_is_flat s.form) s.first.row s.first.column s.first.other));
+  column_one = g.side.has (Column s.first.column) (inr (corner_column (first_is_flat s.form) s.first.row s.first.column s.first.other));
+  row_two = g.two (Row s.second.row) (corner_row (second_is_flat s.form) s.second.row s.second.column s.second.other);
+  column_two = g.two (Column s.second.column) (corner_column (second_is_flat s.form) s.second.row s.second.column s.second.other);
+  enough_one = enough_lines (height m) m.width (first_is_flat s.form) s.first.row s.first.column s.first.other s.line S (not_twice (entry m) (first_is_flat s.form) s.first.row s.first.column s.second.row s.second.column s.first.other g.connectors.corners.first g.connectors.first_other) g.line g.connectors.first_lines g.beside_first g.side.has;
   enough_two = g.enough;
 }
 
-pub good_inside : (m : Matrix) (s : Seed) (S : Lines) → IsGoodSeed (height m) m.width (entry m) s S → AreInside m (corners_of s)
-good_inside m s S g = record {
-  row_one = g.connectors.first_lines (Row s.i) (corner_row (first_is_flat s.form) s.i s.p s.q);
-  column_one = g.connectors.first_lines (Column s.p) (corner_column (first_is_flat s.form) s.i s.p s.q);
-  row_two = g.connectors.second_lines (Row s.k) (corner_row (second_is_flat s.form) s.k s.j s.o);
-  column_two = g.connectors.second_lines (Column s.j) (corner_column (second_is_flat s.form) s.k s.j s.o);
+pub good_inside : (m : Matrix) (s : Seed) (S : Lines) → IsGoodSeed m s S → AreInside m (corners_of s)
+good_inside m s S g0 = let g = facts m s S g0 in record {
+  row_one = g.first_lines (Row s.first.row) (corner_row (first_is_flat s.form) s.first.row s.first.column s.first.other);
+  column_one = g.first_lines (Column s.first.column) (corner_column (first_is_flat s.form) s.first.row s.first.column s.first.other);
+  row_two = g.second_lines (Row s.second.row) (corner_row (second_is_flat s.form) s.second.row s.second.column s.second.other);
+  column_two = g.second_lines (Column s.second.column) (corner_column (second_is_flat s.form) s.second.row s.second.column s.second.other);
 }
 
-pub good_is_cut : (m : Matrix) (s : Seed) (S : Lines) → IsCrossing s.form → IsGoodSeed (height m) m.width (entry m) s S → IsCut m S
-good_is_cut m s S crossing g0 = let g = as_crossing (height m) m.width (entry m) s S crossing g0 in record { corners = corners_of s; are_inside = good_inside m s S g0; right = g.connectors.corners.right; below = g.connectors.corners.below; cut = good_is_cut_at m s S g }
+pub good_is_cut : (m : Matrix) (s : Seed) (S : Lines) → IsCrossing s.form → IsGoodSeed m s S → IsCut m S
+good_is_cut m s S crossing g0 = let g = as_crossing m s S crossing (facts m s S g0) in record { corners = corners_of s; are_inside = good_inside m s S g0; right = g.connectors.corners.right; below = g.connectors.corners.below; cut = good_is_cut_at m s S g }
 
 -- ---- fronts
 
@@ -186,9 +187,9 @@ not_before (x ∷ xs) (y ∷ ys) (z ∷ zs) a b hb ha l (inl low) = let e = hb.0
 not_before (x ∷ xs) (y ∷ ys) (z ∷ zs) a b hb ha l (inr same) = not_before xs ys zs a b hb.1 ha.1 l same.1
 
 pub level_ends : (m : Matrix) (front : List ℕ) (bound : ℕ) → length front < 8 → HasNoneBelow m front bound
-    → ((s : Seed) (S : Lines) (b : ℕ) → IsGoodSeed (height m) m.width (entry m) s S → BeginsWith (front ++ b ∷ []) (seed_key (height m) s) → b < bound) → HasNoGood m front
+    → ((s : Seed) (S : Lines) (b : ℕ) → IsGoodSeed m s S → BeginsWith (front ++ b ∷ []) (seed_key m s) → b < bound) → HasNoGood m front
 level_ends m front bound short none within s S begins good =
-    let (b, h) = next_number front (seed_key (height m) s) begins (omega arith) in
+    let (b, h) = next_number front (seed_key m s) begins (omega arith) in
     none b (within s S b good h) s S h good
 
 pub none_below_more : (m : Matrix) (front : List ℕ) (a : ℕ) → HasNoneBelow m front a → HasNoGood m (front ++ a ∷ []) → HasNoneBelow m front (a + 1)
@@ -201,15 +202,15 @@ pub level_found : (m : Matrix) (front : List ℕ) (a : ℕ) (three : Three) → 
 level_found m front a three short before found = record {
   x = found.x;
   side = found.side;
-  begins = begins_shorter front (seed_key (height m) (seed_of three found.x)) a found.begins;
+  begins = begins_shorter front (seed_key m (seed_of three found.x)) a found.begins;
   good = found.good;
   first = λ other T begins good.
-      let (b, h) = next_number front (seed_key (height m) other) begins (omega arith) in
+      let (b, h) = next_number front (seed_key m other) begins (omega arith) in
       elim (cases_lt b a) [
         | inl l ↦ absurd (before b l other T h good)
         | inr ge ↦ elim (same_or_not b a) [
-          | inl e ↦ found.first other T (subst (λ (z : ℕ). BeginsWith (front ++ z ∷ []) (seed_key (height m) other)) e h) good
-          | inr n ↦ not_before front (seed_key (height m) other) (seed_key (height m) (seed_of three found.x)) a b h found.begins (omega (arith, n))
+          | inl e ↦ found.first other T (subst (λ (z : ℕ). BeginsWith (front ++ z ∷ []) (seed_key m other)) e h) good
+          | inr n ↦ not_before front (seed_key m other) (seed_key m (seed_of three found.x)) a b h found.begins (omega (arith, n))
         ]
       ];
   lines = found.lines;
@@ -218,25 +219,25 @@ level_found m front a three short before found = record {
 -- ---- seeds by their fronts
 
 abbrev pub seed_at : Form → Corners → ℕ → ℕ → Line → Seed
-seed_at form c q o x = record { form = form; i = c.i; p = c.p; k = c.k; j = c.j; q = q; o = o; x = x }
+seed_at form c q o x = record { form = form; first = record { row = c.i; column = c.p; other = q }; second = record { row = c.k; column = c.j; other = o }; line = x }
 
-pub seed_is : (s : Seed) (kind : Form) (i p k j q o : ℕ) (x : Line) → kind ≡ s.form → i ≡ s.i → p ≡ s.p → k ≡ s.k → j ≡ s.j → q ≡ s.q → o ≡ s.o → x ≡ s.x
-    → s ≡ record { form = kind; i = i; p = p; k = k; j = j; q = q; o = o; x = x }
+pub seed_is : (s : Seed) (kind : Form) (i p k j q o : ℕ) (x : Line) → kind ≡ s.form → i ≡ s.first.row → p ≡ s.first.column → k ≡ s.second.row → j ≡ s.second.column → q ≡ s.first.other → o ≡ s.second.other → x ≡ s.line
+    → s ≡ record { form = kind; first = record { row = i; column = p; other = q }; second = record { row = k; column = j; other = o }; line = x }
 seed_is s kind i p k j q o x e1 e2 e3 e4 e5 e6 e7 e8 = rw (e1, e2, e3, e4, e5, e6, e7, e8) refl
 
-pub seed_from_corners : (m : Matrix) (form : Form) (c : Corners) (s : Seed) → BeginsWith (corner_front form c) (seed_key (height m) s) → s ≡ seed_at form c s.q s.o s.x
-seed_from_corners m form c s h = seed_is s form c.i c.p c.k c.j s.q s.o s.x (form_is form s.form h.0) h.1.0 h.1.1.0 h.1.1.1.0 h.1.1.1.1.0 refl refl refl
+pub seed_from_corners : (m : Matrix) (form : Form) (c : Corners) (s : Seed) → BeginsWith (corner_front form c) (seed_key m s) → s ≡ seed_at form c s.first.other s.second.other s.line
+seed_from_corners m form c s h = seed_is s form c.i c.p c.k c.j s.first.other s.second.other s.line (form_is form s.form h.0) h.1.0 h.1.1.0 h.1.1.1.0 h.1.1.1.1.0 refl refl refl
 
-pub seed_from_first : (m : Matrix) (form : Form) (c : Corners) (q : ℕ) (s : Seed) → BeginsWith (corner_front form c ++ q ∷ []) (seed_key (height m) s) → s ≡ seed_at form c q s.o s.x
-seed_from_first m form c q s h = seed_is s form c.i c.p c.k c.j q s.o s.x (form_is form s.form h.0) h.1.0 h.1.1.0 h.1.1.1.0 h.1.1.1.1.0 h.1.1.1.1.1.0 refl refl
+pub seed_from_first : (m : Matrix) (form : Form) (c : Corners) (q : ℕ) (s : Seed) → BeginsWith (corner_front form c ++ q ∷ []) (seed_key m s) → s ≡ seed_at form c q s.second.other s.line
+seed_from_first m form c q s h = seed_is s form c.i c.p c.k c.j q s.second.other s.line (form_is form s.form h.0) h.1.0 h.1.1.0 h.1.1.1.0 h.1.1.1.1.0 h.1.1.1.1.1.0 refl refl
 
-pub seed_from_second : (m : Matrix) (form : Form) (c : Corners) (q o : ℕ) (s : Seed) → BeginsWith (corner_front form c ++ q ∷ o ∷ []) (seed_key (height m) s) → s ≡ seed_at form c q o s.x
-seed_from_second m form c q o s h = seed_is s form c.i c.p c.k c.j q o s.x (form_is form s.form h.0) h.1.0 h.1.1.0 h.1.1.1.0 h.1.1.1.1.0 h.1.1.1.1.1.0 h.1.1.1.1.1.1.0 refl
+pub seed_from_second : (m : Matrix) (form : Form) (c : Corners) (q o : ℕ) (s : Seed) → BeginsWith (corner_front form c ++ q ∷ o ∷ []) (seed_key m s) → s ≡ seed_at form c q o s.line
+seed_from_second m form c q o s h = seed_is s form c.i c.p c.k c.j q o s.line (form_is form s.form h.0) h.1.0 h.1.1.0 h.1.1.1.0 h.1.1.1.1.0 h.1.1.1.1.1.0 h.1.1.1.1.1.1.0 refl
 
-pub seed_from_all : (m : Matrix) (form : Form) (c : Corners) (q o place : ℕ) (x : Line) (s : Seed) → IsLine (height m) m.width x → IsLine (height m) m.width s.x → line_number (height m) x ≡ place
-    → BeginsWith (corner_front form c ++ q ∷ o ∷ place ∷ []) (seed_key (height m) s) → s ≡ seed_at form c q o x
+pub seed_from_all : (m : Matrix) (form : Form) (c : Corners) (q o place : ℕ) (x : Line) (s : Seed) → IsLine (height m) m.width x → IsLine (height m) m.width s.line → line_number (height m) x ≡ place
+    → BeginsWith (corner_front form c ++ q ∷ o ∷ place ∷ []) (seed_key m s) → s ≡ seed_at form c q o x
 seed_from_all m form c q o place x s lx ls e h =
-    seed_is s form c.i c.p c.k c.j q o x (form_is form s.form h.0) h.1.0 h.1.1.0 h.1.1.1.0 h.1.1.1.1.0 h.1.1.1.1.1.0 h.1.1.1.1.1.1.0 (line_is (height m) m.width x s.x lx ls (e ∙ h.1.1.1.1.1.1.1.0))
+    seed_is s form c.i c.p c.k c.j q o x (form_is form s.form h.0) h.1.0 h.1.1.0 h.1.1.1.0 h.1.1.1.1.0 h.1.1.1.1.1.0 h.1.1.1.1.1.1.0 (line_is (height m) m.width x s.line lx ls (e ∙ h.1.1.1.1.1.1.1.0))
 
 -- ---- what is passed over
 
@@ -244,8 +245,8 @@ module _ (m : Matrix) (form : Form) (crossing : IsCrossing form) where
   is_crossing : (s : Seed) → form_number form ≡ form_number s.form → IsCrossing s.form
   is_crossing s e = subst IsCrossing (form_is form s.form e) crossing
 
-  crossing_seed : (s : Seed) (S : Lines) → form_number form ≡ form_number s.form → IsGoodSeed (height m) m.width (entry m) s S → IsGoodCrossing (height m) m.width (entry m) s S
-  crossing_seed s S e = as_crossing (height m) m.width (entry m) s S (is_crossing s e)
+  crossing_seed : (s : Seed) (S : Lines) → form_number form ≡ form_number s.form → IsGoodSeed m s S → IsGoodCrossing (height m) m.width (entry m) s S
+  crossing_seed s S e g = as_crossing m s S (is_crossing s e) (facts m s S g)
 
   pub no_good_corner : (i p : ℕ) → entry m i p ≡ pos 0 → HasNoGood m (form_number form ∷ i ∷ p ∷ [])
   no_good_corner i p e s S h g = (crossing_seed s S h.0 g).connectors.corners.first (rw (sym h.1.0, sym h.1.1.0) e)
@@ -255,62 +256,62 @@ module _ (m : Matrix) (form : Form) (crossing : IsCrossing form) where
   no_good_whole groups i names hold one s S h g0 =
       let cut = good_is_cut_at m s S (crossing_seed s S h.0 g0) in
       let within = good_inside m s S g0 in
-      let li : s.i < length groups.names.items = let l = within.row_one in omega (arith, names, l) in
-      let lk : s.k < length groups.names.items = let l = within.row_two in omega (arith, names, l) in
-      not_both (S (Row s.i)) cut.row_one (hold S (good_is_cut m s S (is_crossing s h.0) g0) (Row s.i) (Row s.k) within.row_one within.row_two (one s.i s.k li lk) ∙ cut.row_two)
+      let li : s.first.row < length groups.names.items = let l = within.row_one in omega (arith, names, l) in
+      let lk : s.second.row < length groups.names.items = let l = within.row_two in omega (arith, names, l) in
+      not_both (S (Row s.first.row)) cut.row_one (hold S (good_is_cut m s S (is_crossing s h.0) g0) (Row s.first.row) (Row s.second.row) within.row_one within.row_two (one s.first.row s.second.row li lk) ∙ cut.row_two)
 
   module _ (groups : Groups) (hold : HoldTogether (IsCut m) m groups) where
     -- the other line of a flat or tall connector and the corner that it is to be apart from
-    first_apart : (s : Seed) (S : Lines) → form_number form ≡ form_number s.form → IsGoodSeed (height m) m.width (entry m) s S → (y : Line) → S y ≡ false → IsLine (height m) m.width y
-        → name_of m groups (other_line (first_is_flat s.form) s.q) ≢ name_of m groups y
+    first_apart : (s : Seed) (S : Lines) → form_number form ≡ form_number s.form → IsGoodSeed m s S → (y : Line) → S y ≡ false → IsLine (height m) m.width y
+        → name_of m groups (other_line (first_is_flat s.form) s.first.other) ≢ name_of m groups y
     first_apart s S e g0 y out ly same =
-        let x = other_line (first_is_flat s.form) s.q in
-        let among = corner_other (first_is_flat s.form) s.i s.p s.q in
-        not_both (S x) (g0.side.has x (inr among)) (hold S (good_is_cut m s S (is_crossing s e) g0) x y (g0.connectors.first_lines x among) ly same ∙ out)
+        let x = other_line (first_is_flat s.form) s.first.other in
+        let among = corner_other (first_is_flat s.form) s.first.row s.first.column s.first.other in
+        not_both (S x) ((facts m s S g0).side.has x (inr among)) (hold S (good_is_cut m s S (is_crossing s e) g0) x y ((facts m s S g0).first_lines x among) ly same ∙ out)
 
-    second_apart : (s : Seed) (S : Lines) → form_number form ≡ form_number s.form → IsGoodSeed (height m) m.width (entry m) s S → (y : Line) → S y ≡ true → IsLine (height m) m.width y
-        → name_of m groups (other_line (second_is_flat s.form) s.o) ≢ name_of m groups y
+    second_apart : (s : Seed) (S : Lines) → form_number form ≡ form_number s.form → IsGoodSeed m s S → (y : Line) → S y ≡ true → IsLine (height m) m.width y
+        → name_of m groups (other_line (second_is_flat s.form) s.second.other) ≢ name_of m groups y
     second_apart s S e g0 y within ly same =
-        let x = other_line (second_is_flat s.form) s.o in
-        let among = corner_other (second_is_flat s.form) s.k s.j s.o in
-        not_both (S x) (hold S (good_is_cut m s S (is_crossing s e) g0) x y (g0.connectors.second_lines x among) ly same ∙ within) (g0.two x among)
+        let x = other_line (second_is_flat s.form) s.second.other in
+        let among = corner_other (second_is_flat s.form) s.second.row s.second.column s.second.other in
+        not_both (S x) (hold S (good_is_cut m s S (is_crossing s e) g0) x y ((facts m s S g0).second_lines x among) ly same ∙ within) ((facts m s S g0).two x among)
 
-    no_first_column : (s : Seed) (S : Lines) → form_number form ≡ form_number s.form → IsGoodSeed (height m) m.width (entry m) s S → first_is_flat s.form ≡ true → HasNoColumn m groups s.i s.k → ⊥
+    no_first_column : (s : Seed) (S : Lines) → form_number form ≡ form_number s.form → IsGoodSeed m s S → first_is_flat s.form ≡ true → HasNoColumn m groups s.first.row s.second.row → ⊥
     no_first_column s S e g0 flat none =
         let g = crossing_seed s S e g0 in
-        let line : IsLine (height m) m.width (other_line true s.q) = subst (λ (z : Bool). IsLine (height m) m.width (other_line z s.q)) flat (g0.connectors.first_lines (other_line (first_is_flat s.form) s.q) (corner_other (first_is_flat s.form) s.i s.p s.q)) in
-        let other = subst (λ (z : Bool). IsFirstOther z (entry m) s.i s.p s.k s.j s.q) flat g.connectors.first_other in
-        first_apart s S e g0 (Row s.k) (good_is_cut_at m s S g).row_two (good_inside m s S g0).row_two
-        (ap (λ (z : Bool). name_of m groups (other_line z s.q)) flat ∙ none s.q line other.0 other.1)
+        let line : IsLine (height m) m.width (other_line true s.first.other) = subst (λ (z : Bool). IsLine (height m) m.width (other_line z s.first.other)) flat ((facts m s S g0).first_lines (other_line (first_is_flat s.form) s.first.other) (corner_other (first_is_flat s.form) s.first.row s.first.column s.first.other)) in
+        let other = subst (λ (z : Bool). IsFirstOther z (entry m) s.first.row s.first.column s.second.row s.second.column s.first.other) flat g.connectors.first_other in
+        first_apart s S e g0 (Row s.second.row) (good_is_cut_at m s S g).row_two (good_inside m s S g0).row_two
+        (ap (λ (z : Bool). name_of m groups (other_line z s.first.other)) flat ∙ none s.first.other line other.0 other.1)
 
-    no_second_column : (s : Seed) (S : Lines) → form_number form ≡ form_number s.form → IsGoodSeed (height m) m.width (entry m) s S → second_is_flat s.form ≡ true → HasNoColumn m groups s.k s.i → ⊥
+    no_second_column : (s : Seed) (S : Lines) → form_number form ≡ form_number s.form → IsGoodSeed m s S → second_is_flat s.form ≡ true → HasNoColumn m groups s.second.row s.first.row → ⊥
     no_second_column s S e g0 flat none =
         let g = crossing_seed s S e g0 in
-        let line : IsLine (height m) m.width (other_line true s.o) = subst (λ (z : Bool). IsLine (height m) m.width (other_line z s.o)) flat (g0.connectors.second_lines (other_line (second_is_flat s.form) s.o) (corner_other (second_is_flat s.form) s.k s.j s.o)) in
-        let other = subst (λ (z : Bool). IsSecondOther z (entry m) s.i s.p s.k s.j s.o) flat g.connectors.second_other in
-        second_apart s S e g0 (Row s.i) (good_is_cut_at m s S g).row_one (good_inside m s S g0).row_one
-        (ap (λ (z : Bool). name_of m groups (other_line z s.o)) flat ∙ none s.o line other.0 other.1)
+        let line : IsLine (height m) m.width (other_line true s.second.other) = subst (λ (z : Bool). IsLine (height m) m.width (other_line z s.second.other)) flat ((facts m s S g0).second_lines (other_line (second_is_flat s.form) s.second.other) (corner_other (second_is_flat s.form) s.second.row s.second.column s.second.other)) in
+        let other = subst (λ (z : Bool). IsSecondOther z (entry m) s.first.row s.first.column s.second.row s.second.column s.second.other) flat g.connectors.second_other in
+        second_apart s S e g0 (Row s.first.row) (good_is_cut_at m s S g).row_one (good_inside m s S g0).row_one
+        (ap (λ (z : Bool). name_of m groups (other_line z s.second.other)) flat ∙ none s.second.other line other.0 other.1)
 
-    no_first_row : (s : Seed) (S : Lines) → form_number form ≡ form_number s.form → IsGoodSeed (height m) m.width (entry m) s S → first_is_flat s.form ≡ false → HasNoRow m groups s.p s.j → ⊥
+    no_first_row : (s : Seed) (S : Lines) → form_number form ≡ form_number s.form → IsGoodSeed m s S → first_is_flat s.form ≡ false → HasNoRow m groups s.first.column s.second.column → ⊥
     no_first_row s S e g0 tall none =
         let g = crossing_seed s S e g0 in
-        let line : IsLine (height m) m.width (other_line false s.q) = subst (λ (z : Bool). IsLine (height m) m.width (other_line z s.q)) tall (g0.connectors.first_lines (other_line (first_is_flat s.form) s.q) (corner_other (first_is_flat s.form) s.i s.p s.q)) in
-        let other = subst (λ (z : Bool). IsFirstOther z (entry m) s.i s.p s.k s.j s.q) tall g.connectors.first_other in
-        first_apart s S e g0 (Column s.j) (good_is_cut_at m s S g).column_two (good_inside m s S g0).column_two
-        (ap (λ (z : Bool). name_of m groups (other_line z s.q)) tall ∙ none s.q line other.0 other.1)
+        let line : IsLine (height m) m.width (other_line false s.first.other) = subst (λ (z : Bool). IsLine (height m) m.width (other_line z s.first.other)) tall ((facts m s S g0).first_lines (other_line (first_is_flat s.form) s.first.other) (corner_other (first_is_flat s.form) s.first.row s.first.column s.first.other)) in
+        let other = subst (λ (z : Bool). IsFirstOther z (entry m) s.first.row s.first.column s.second.row s.second.column s.first.other) tall g.connectors.first_other in
+        first_apart s S e g0 (Column s.second.column) (good_is_cut_at m s S g).column_two (good_inside m s S g0).column_two
+        (ap (λ (z : Bool). name_of m groups (other_line z s.first.other)) tall ∙ none s.first.other line other.0 other.1)
 
-    no_second_row : (s : Seed) (S : Lines) → form_number form ≡ form_number s.form → IsGoodSeed (height m) m.width (entry m) s S → second_is_flat s.form ≡ false → HasNoRow m groups s.j s.p → ⊥
+    no_second_row : (s : Seed) (S : Lines) → form_number form ≡ form_number s.form → IsGoodSeed m s S → second_is_flat s.form ≡ false → HasNoRow m groups s.second.column s.first.column → ⊥
     no_second_row s S e g0 tall none =
         let g = crossing_seed s S e g0 in
-        let line : IsLine (height m) m.width (other_line false s.o) = subst (λ (z : Bool). IsLine (height m) m.width (other_line z s.o)) tall (g0.connectors.second_lines (other_line (second_is_flat s.form) s.o) (corner_other (second_is_flat s.form) s.k s.j s.o)) in
-        let other = subst (λ (z : Bool). IsSecondOther z (entry m) s.i s.p s.k s.j s.o) tall g.connectors.second_other in
-        second_apart s S e g0 (Column s.p) (good_is_cut_at m s S g).column_one (good_inside m s S g0).column_one
-        (ap (λ (z : Bool). name_of m groups (other_line z s.o)) tall ∙ none s.o line other.0 other.1)
+        let line : IsLine (height m) m.width (other_line false s.second.other) = subst (λ (z : Bool). IsLine (height m) m.width (other_line z s.second.other)) tall ((facts m s S g0).second_lines (other_line (second_is_flat s.form) s.second.other) (corner_other (second_is_flat s.form) s.second.row s.second.column s.second.other)) in
+        let other = subst (λ (z : Bool). IsSecondOther z (entry m) s.first.row s.first.column s.second.row s.second.column s.second.other) tall g.connectors.second_other in
+        second_apart s S e g0 (Column s.first.column) (good_is_cut_at m s S g).column_one (good_inside m s S g0).column_one
+        (ap (λ (z : Bool). name_of m groups (other_line z s.second.other)) tall ∙ none s.second.other line other.0 other.1)
 
     lacks_column : (i p k : ℕ) → LacksColumn m groups form i k → HasNoGood m (form_number form ∷ i ∷ p ∷ k ∷ [])
     lacks_column i p k lacks s S h g0 =
         let kind = form_is form s.form h.0 in
-        let here : LacksColumn m groups s.form s.i s.k = rw (sym kind, sym h.1.0, sym h.1.1.1.0) lacks in
+        let here : LacksColumn m groups s.form s.first.row s.second.row = rw (sym kind, sym h.1.0, sym h.1.1.1.0) lacks in
         elim here [
           | inl none ↦ no_first_column s S h.0 g0 none.0 none.1
           | inr none ↦ no_second_column s S h.0 g0 none.0 none.1
@@ -319,7 +320,7 @@ module _ (m : Matrix) (form : Form) (crossing : IsCrossing form) where
     lacks_row : (i p k j : ℕ) → LacksRow m groups form p j → HasNoGood m (form_number form ∷ i ∷ p ∷ k ∷ j ∷ [])
     lacks_row i p k j lacks s S h g0 =
         let kind = form_is form s.form h.0 in
-        let here : LacksRow m groups s.form s.p s.j = rw (sym kind, sym h.1.1.0, sym h.1.1.1.1.0) lacks in
+        let here : LacksRow m groups s.form s.first.column s.second.column = rw (sym kind, sym h.1.1.0, sym h.1.1.1.1.0) lacks in
         elim here [
           | inl none ↦ no_first_row s S h.0 g0 none.0 none.1
           | inr none ↦ no_second_row s S h.0 g0 none.0 none.1
@@ -334,8 +335,8 @@ module _ (m : Matrix) (form : Form) (crossing : IsCrossing form) where
       let T = hold S (good_is_cut m s S (is_crossing s h.0) g0) in
       elim no_row [
         | inl e ↦ g.connectors.corners.below (rw (sym h.1.1.0, sym h.1.1.1.0) e)
-        | inr (inl e) ↦ not_both (S (Row s.i)) cut.row_one (T (Row s.i) (Row s.k) within.row_one within.row_two (rw (sym h.1.0, sym h.1.1.1.0) e) ∙ cut.row_two)
-        | inr (inr e) ↦ not_both (S (Column s.p)) cut.column_one (T (Column s.p) (Row s.k) within.column_one within.row_two (rw (sym h.1.1.0, sym h.1.1.1.0) e) ∙ cut.row_two)
+        | inr (inl e) ↦ not_both (S (Row s.first.row)) cut.row_one (T (Row s.first.row) (Row s.second.row) within.row_one within.row_two (rw (sym h.1.0, sym h.1.1.1.0) e) ∙ cut.row_two)
+        | inr (inr e) ↦ not_both (S (Column s.first.column)) cut.column_one (T (Column s.first.column) (Row s.second.row) within.column_one within.row_two (rw (sym h.1.1.0, sym h.1.1.1.0) e) ∙ cut.row_two)
       ]
 
   pub no_good_second_column : (groups : Groups) (i p k j : ℕ) → HoldTogether (IsCut m) m groups → IsNoSecondColumn m groups form i p k j → HasNoGood m (form_number form ∷ i ∷ p ∷ k ∷ j ∷ [])
@@ -348,21 +349,21 @@ module _ (m : Matrix) (form : Form) (crossing : IsCrossing form) where
       elim no_column [
         | inl e ↦ g.connectors.corners.second (rw (sym h.1.1.1.0, sym h.1.1.1.1.0) e)
         | inr (inl e) ↦ g.connectors.corners.right (rw (sym h.1.0, sym h.1.1.1.1.0) e)
-        | inr (inr (inl e)) ↦ not_both (S (Row s.i)) cut.row_one (T (Row s.i) (Column s.j) within.row_one within.column_two (rw (sym h.1.0, sym h.1.1.1.1.0) e) ∙ cut.column_two)
-        | inr (inr (inr e)) ↦ not_both (S (Column s.p)) cut.column_one (T (Column s.p) (Column s.j) within.column_one within.column_two (rw (sym h.1.1.0, sym h.1.1.1.1.0) e) ∙ cut.column_two)
+        | inr (inr (inl e)) ↦ not_both (S (Row s.first.row)) cut.row_one (T (Row s.first.row) (Column s.second.column) within.row_one within.column_two (rw (sym h.1.0, sym h.1.1.1.1.0) e) ∙ cut.column_two)
+        | inr (inr (inr e)) ↦ not_both (S (Column s.first.column)) cut.column_one (T (Column s.first.column) (Column s.second.column) within.column_one within.column_two (rw (sym h.1.1.0, sym h.1.1.1.1.0) e) ∙ cut.column_two)
       ]
 
   module _ (c : Corners) where
     pub no_good_corners : HasNoCutAt m c → HasNoGood m (corner_front form c)
     no_good_corners none s S h g =
-        none S (good_is_cut_at m (seed_at form c s.q s.o s.x) S (subst (λ (z : Seed). IsGoodCrossing (height m) m.width (entry m) z S) (seed_from_corners m form c s h) (crossing_seed s S h.0 g)))
+        none S (good_is_cut_at m (seed_at form c s.first.other s.second.other s.line) S (subst (λ (z : Seed). IsGoodCrossing (height m) m.width (entry m) z S) (seed_from_corners m form c s h) (crossing_seed s S h.0 g)))
 
     pub no_good_first : (q : ℕ) → ¬ (IsFirstOther (first_is_flat form) (entry m) c.i c.p c.k c.j q) → HasNoGood m (corner_front form c ++ q ∷ [])
     no_good_first q none s S h g = none (subst (λ (z : Seed). IsGoodCrossing (height m) m.width (entry m) z S) (seed_from_first m form c q s h) (crossing_seed s S h.0 g)).connectors.first_other
 
     module _ (q o : ℕ) where
-      crossing_at : (s : Seed) (S : Lines) → BeginsWith (corner_front form c ++ q ∷ o ∷ []) (seed_key (height m) s) → IsGoodSeed (height m) m.width (entry m) s S
-          → IsGoodCrossing (height m) m.width (entry m) (seed_at form c q o s.x) S
+      crossing_at : (s : Seed) (S : Lines) → BeginsWith (corner_front form c ++ q ∷ o ∷ []) (seed_key m s) → IsGoodSeed m s S
+          → IsGoodCrossing (height m) m.width (entry m) (seed_at form c q o s.line) S
       crossing_at s S h g = subst (λ (z : Seed). IsGoodCrossing (height m) m.width (entry m) z S) (seed_from_second m form c q o s h) (crossing_seed s S h.0 g)
 
       pub no_good_second : ¬ (IsSecondOther (second_is_flat form) (entry m) c.i c.p c.k c.j o) → HasNoGood m (corner_front form c ++ q ∷ o ∷ [])
@@ -378,7 +379,7 @@ module _ (m : Matrix) (form : Form) (crossing : IsCrossing form) where
       pub no_good_line : (place : ℕ) (x : Line) → IsLine (height m) m.width x → line_number (height m) x ≡ place → (L : Lines) → IsLeast m c (x ∷ connector (first_is_flat form) c.i c.p q) L
           → ¬ (LeavesSecond m c (other_line (second_is_flat form) o) L) → HasNoGood m (corner_front form c ++ q ∷ o ∷ place ∷ [])
       no_good_line place x lx number L least unfit s S h g0 =
-          let g = subst (λ (z : Seed). IsGoodCrossing (height m) m.width (entry m) z S) (seed_from_all m form c q o place x s lx g0.line number h) (crossing_seed s S h.0 g0) in
+          let g = subst (λ (z : Seed). IsGoodCrossing (height m) m.width (entry m) z S) (seed_from_all m form c q o place x s lx (facts m s S g0).line number h) (crossing_seed s S h.0 g0) in
           let within : (y : Line) → L y ≡ true → S y ≡ true = least.least S g.side.closed g.side.has in
           let out : (y : Line) → S y ≡ false → L y ≡ false = λ y e. false_is (L y) (λ t. not_both (S y) (within y t) e) in
           unfit (record {
@@ -392,7 +393,7 @@ module _ (m : Matrix) (form : Form) (crossing : IsCrossing form) where
 pub no_good_beside : (m : Matrix) (form : Form) (c : Corners) (q o place : ℕ) (x : Line) → IsLine (height m) m.width x → line_number (height m) x ≡ place
     → Among (connector (first_is_flat form) c.i c.p q) x ⊎ Among (connector (second_is_flat form) c.k c.j o) x → HasNoGood m (corner_front form c ++ q ∷ o ∷ place ∷ [])
 no_good_beside m form c q o place x lx number among s S h g0 =
-    let g = subst (λ (z : Seed). IsGoodSeed (height m) m.width (entry m) z S) (seed_from_all m form c q o place x s lx g0.line number h) g0 in
+    let g = facts m (seed_at form c q o x) S (subst (λ (z : Seed). IsGoodSeed m z S) (seed_from_all m form c q o place x s lx (facts m s S g0).line number h) g0) in
     elim among [ inl a ↦ g.beside_first a | inr a ↦ g.beside_second a ]
 
 -- ---- what is found
@@ -426,8 +427,8 @@ module _ (m : Matrix) (form : Form) (c : Corners) (q o place : ℕ) (x : Line) (
   pub seed_good : IsCrossing form → AreInside m c → AreCorners (entry m) c.i c.p c.k c.j → IsFirstOther (first_is_flat form) (entry m) c.i c.p c.k c.j q → IsSecondOther (second_is_flat form) (entry m) c.i c.p c.k c.j o
       → IsLine (height m) m.width (other_line (first_is_flat form) q) → IsLine (height m) m.width (other_line (second_is_flat form) o) → IsLine (height m) m.width x
       → ¬ (Among (connector (first_is_flat form) c.i c.p q) x) → ¬ (Among (connector (second_is_flat form) c.k c.j o) x) → IsLeast m c (x ∷ connector (first_is_flat form) c.i c.p q) S
-      → LeavesSecond m c (other_line (second_is_flat form) o) S → IsGoodSeed (height m) m.width (entry m) (seed_at form c q o x) S
-  seed_good crossing within corners f1 f2 l1 l2 lx b1 b2 least leaves = as_good (height m) m.width (entry m) (seed_at form c q o x) S crossing (record {
+      → LeavesSecond m c (other_line (second_is_flat form) o) S → IsGoodSeed m (seed_at form c q o x) S
+  seed_good crossing within corners f1 f2 l1 l2 lx b1 b2 least leaves = good_seed m (seed_at form c q o x) S (as_good m (seed_at form c q o x) S crossing (record {
     connectors = record {
       corners = corners;
       first_other = f1;
@@ -441,21 +442,21 @@ module _ (m : Matrix) (form : Form) (c : Corners) (q o place : ℕ) (x : Line) (
     side = record { closed = least.closed; has = least.has; least = λ T closed has y l e. least.least T closed has y e };
     two = none_of_connector (second_is_flat form) c.k c.j o S leaves.row leaves.column leaves.other;
     enough = leaves.enough;
-  })
+  }))
 
   pub three_is : three.form ≡ form → three.first ≡ record { row = c.i; column = c.p; other = q } → three.second ≡ record { row = c.k; column = c.j; other = o } → seed_of three x ≡ seed_at form c q o x
   three_is e1 e2 e3 = rw (e1, e2, e3) refl
 
-  pub found_here : seed_of three x ≡ seed_at form c q o x → IsGoodSeed (height m) m.width (entry m) (seed_at form c q o x) S → IsLine (height m) m.width x → line_number (height m) x ≡ place
+  pub found_here : seed_of three x ≡ seed_at form c q o x → IsGoodSeed m (seed_at form c q o x) S → IsLine (height m) m.width x → line_number (height m) x ≡ place
       → HasLines (height m) m.width S three.side.rows three.side.columns → IsFirstOf m (corner_front form c ++ q ∷ o ∷ place ∷ []) three
   found_here e good lx number lines = record {
     x = x;
     side = S;
-    begins = subst (λ (z : Seed). BeginsWith (corner_front form c ++ q ∷ o ∷ place ∷ []) (seed_key (height m) z)) (sym e) (refl, (refl, (refl, (refl, (refl, (refl, (refl, (sym number, tt))))))));
-    good = subst (λ (z : Seed). IsGoodSeed (height m) m.width (entry m) z S) (sym e) good;
+    begins = subst (λ (z : Seed). BeginsWith (corner_front form c ++ q ∷ o ∷ place ∷ []) (seed_key m z)) (sym e) (refl, (refl, (refl, (refl, (refl, (refl, (refl, (sym number, tt))))))));
+    good = subst (λ (z : Seed). IsGoodSeed m z S) (sym e) good;
     first = λ other T begins g before.
-        not_before_itself (seed_key (height m) other)
-        (subst (λ (z : Seed). IsBefore (seed_key (height m) other) (seed_key (height m) z)) (e ∙ sym (seed_from_all m form c q o place x other lx g.line number begins)) before);
+        not_before_itself (seed_key m other)
+        (subst (λ (z : Seed). IsBefore (seed_key m other) (seed_key m z)) (e ∙ sym (seed_from_all m form c q o place x other lx (facts m other T g).line number begins)) before);
     lines = lines;
   }
 
@@ -553,21 +554,21 @@ pub below_line : (m : Matrix) (flat : Bool) (b : ℕ) → b < line_count m flat 
 below_line m true b l = l
 below_line m false b l = l
 
-pub first_below : (m : Matrix) (form : Form) (c : Corners) (s : Seed) (S : Lines) (b : ℕ) → IsGoodSeed (height m) m.width (entry m) s S → BeginsWith (corner_front form c ++ b ∷ []) (seed_key (height m) s)
+pub first_below : (m : Matrix) (form : Form) (c : Corners) (s : Seed) (S : Lines) (b : ℕ) → IsGoodSeed m s S → BeginsWith (corner_front form c ++ b ∷ []) (seed_key m s)
     → b < line_count m (first_is_flat form)
 first_below m form c s S b g0 h =
-    let g = subst (λ (z : Seed). IsGoodSeed (height m) m.width (entry m) z S) (seed_from_first m form c b s h) g0 in
-    line_below m (first_is_flat form) b (g.connectors.first_lines (other_line (first_is_flat form) b) (corner_other (first_is_flat form) c.i c.p b))
+    let g = facts m (seed_at form c b s.second.other s.line) S (subst (λ (z : Seed). IsGoodSeed m z S) (seed_from_first m form c b s h) g0) in
+    line_below m (first_is_flat form) b (g.first_lines (other_line (first_is_flat form) b) (corner_other (first_is_flat form) c.i c.p b))
 
-pub second_below : (m : Matrix) (form : Form) (c : Corners) (q : ℕ) (s : Seed) (S : Lines) (b : ℕ) → IsGoodSeed (height m) m.width (entry m) s S → BeginsWith (corner_front form c ++ q ∷ b ∷ []) (seed_key (height m) s)
+pub second_below : (m : Matrix) (form : Form) (c : Corners) (q : ℕ) (s : Seed) (S : Lines) (b : ℕ) → IsGoodSeed m s S → BeginsWith (corner_front form c ++ q ∷ b ∷ []) (seed_key m s)
     → b < line_count m (second_is_flat form)
 second_below m form c q s S b g0 h =
-    let g = subst (λ (z : Seed). IsGoodSeed (height m) m.width (entry m) z S) (seed_from_second m form c q b s h) g0 in
-    line_below m (second_is_flat form) b (g.connectors.second_lines (other_line (second_is_flat form) b) (corner_other (second_is_flat form) c.k c.j b))
+    let g = facts m (seed_at form c q b s.line) S (subst (λ (z : Seed). IsGoodSeed m z S) (seed_from_second m form c q b s h) g0) in
+    line_below m (second_is_flat form) b (g.second_lines (other_line (second_is_flat form) b) (corner_other (second_is_flat form) c.k c.j b))
 
 pub place_below : (m : Matrix) (kind : Form) (c : Corners) (q o rows columns : ℕ) → rows ≡ height m → columns ≡ m.width
-    → (s : Seed) (S : Lines) (b : ℕ) → IsGoodSeed (height m) m.width (entry m) s S → BeginsWith (corner_front kind c ++ q ∷ o ∷ b ∷ []) (seed_key (height m) s) → b < rows + columns
-place_below m kind c q o rows columns er ec s S b g h = go s.x g.line h.1.1.1.1.1.1.1.0
+    → (s : Seed) (S : Lines) (b : ℕ) → IsGoodSeed m s S → BeginsWith (corner_front kind c ++ q ∷ o ∷ b ∷ []) (seed_key m s) → b < rows + columns
+place_below m kind c q o rows columns er ec s S b g h = go s.line (facts m s S g).line h.1.1.1.1.1.1.1.0
   where
     go : (x : Line) → IsLine (height m) m.width x → b ≡ line_number (height m) x → b < rows + columns
     go (Row r) l e = omega arith

@@ -112,7 +112,7 @@ AreHeldBy m i set = (column : ℕ) → set column ≡ true → IsHeldBy m i colu
 
 -- no good seed of the form has row i and column j
 abbrev pub HasNoneBetween : Matrix → ℕ → ℕ → Type 0
-HasNoneBetween m i j = (s : Seed) (S : Lines) → s.form ≡ Concentrated → s.i ≡ i → s.j ≡ j → ¬ (IsGoodSeed (height m) m.width (entry m) s S)
+HasNoneBetween m i j = (s : Seed) (S : Lines) → s.form ≡ Concentrated → s.first.row ≡ i → s.second.column ≡ j → ¬ (IsGoodSeed m s S)
 
 -- each column that is no candidate is in no good seed with row i
 pub record AreCandidates (m : Matrix) (i : ℕ) (candidates : List ℕ) : Type 0 where

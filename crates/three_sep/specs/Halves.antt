@@ -1,5 +1,6 @@
 -- The rows, or the columns, of a side that grows.
 use Rattle.std.specs.Prelude.{◌≡◌, ◌<◌, ◌≤◌, ◌+◌, ◌⊎◌, ◌+ℤ◌, ◌*ℤ◌, ℕ, ℤ, pos, Bool, true, false, not, List, length, slice_index_or}
+use Rattle.cmr_base.specs.declared.limits.TheConstants.{MAX_ROWS}
 use Rattle.cmr_base.specs.Planes.{has_bit}
 use Rattle.cmr_base.specs.Seeds.{count as number_of_lines}
 use Rattle.cmr_base.specs.ColumnSets.{has_column}
@@ -12,14 +13,14 @@ is_in half line = slice_index_or half.inside.items line false
 
 -- room for so many lines
 pub record HasPlaces (count : ℕ) (half : Half) : Type 0 where
-  pub few : count ≤ 1000
+  pub few : count ≤ MAX_ROWS
   pub size : length half.inside.items ≡ count
   pub words : HaveSize count half.seen
 
 -- of so many lines some are in the side, and what is left are the others
 pub record IsHalf (count : ℕ) (half : Half) : Type 0 where
   pub size : length half.inside.items ≡ count
-  pub few : count ≤ 1000
+  pub few : count ≤ MAX_ROWS
   pub words : HaveSize count half.seen
   pub seen_in : (line : ℕ) → has_column half.seen.seen.items line ≡ true → is_in half line ≡ true
   pub fresh_in : (line : ℕ) → IsIn line half.fresh.items → line < count

@@ -22,15 +22,15 @@ BeginsWith (x ∷ xs) (y ∷ ys) = (x ≡ y) × BeginsWith xs ys
 
 -- no seed that begins so is good
 abbrev pub HasNoGood : Matrix → List ℕ → Type 0
-HasNoGood m front = (s : Seed) (S : Lines) → BeginsWith front (seed_key (height m) s) → ¬ (IsGoodSeed (height m) m.width (entry m) s S)
+HasNoGood m front = (s : Seed) (S : Lines) → BeginsWith front (seed_key m s) → ¬ (IsGoodSeed m s S)
 
 -- the separation of the first good one of the seeds that begin so
 pub record IsFirstOf (m : Matrix) (front : List ℕ) (three : Three) : Type 0 where
   pub x : Line
   pub side : Lines
-  pub begins : BeginsWith front (seed_key (height m) (seed_of three x))
-  pub good : IsGoodSeed (height m) m.width (entry m) (seed_of three x) side
-  pub first : (other : Seed) (T : Lines) → BeginsWith front (seed_key (height m) other) → IsGoodSeed (height m) m.width (entry m) other T → ¬ (IsBefore (seed_key (height m) other) (seed_key (height m) (seed_of three x)))
+  pub begins : BeginsWith front (seed_key m (seed_of three x))
+  pub good : IsGoodSeed m (seed_of three x) side
+  pub first : (other : Seed) (T : Lines) → BeginsWith front (seed_key m other) → IsGoodSeed m other T → ¬ (IsBefore (seed_key m other) (seed_key m (seed_of three x)))
   pub lines : HasLines (height m) m.width side three.side.rows three.side.columns
 
 -- no seed that begins so and goes on with a lesser number is good

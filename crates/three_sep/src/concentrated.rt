@@ -1,5 +1,5 @@
 // The first good seed of the concentrated form.
-ghost use Rattle.std.specs.Prelude.{◌≡◌, ◌≢◌, ◌<◌, ◌≤◌, ◌+◌, ◌++◌, ◌∷◌, [], ◌↔◌, ◌⊎◌, ℕ, List, length, pos, true, false, IsTrue, IfOk, OnOk, IfSome, IfNone, MatchOption};
+ghost use Rattle.std.specs.Prelude.{◌≡◌, ◌≢◌, ◌<◌, ◌≤◌, ◌+◌, ◌++◌, ◌∷◌, [], ◌↔◌, ◌⊎◌, ℕ, length, pos, true, false, IsTrue, IfOk, OnOk, IfSome, IfNone, MatchOption};
 ghost use Rattle.cmr_base.specs.declared.line.Line.{Line};
 ghost use Rattle.cmr_base.specs.declared.line.Line.TheVariants.{Row, Column};
 ghost use Rattle.cmr_base.specs.declared.separation.Form.TheVariants.{Concentrated};
@@ -8,21 +8,23 @@ ghost use Rattle.cmr_base.specs.Matrix.{entry, height, transposed};
 ghost use Rattle.cmr_base.specs.Planes.{words_for};
 ghost use Rattle.cmr_base.specs.Signing.{IsSign};
 ghost use Rattle.cmr_base.specs.Separations.{core_determinant};
-ghost use Rattle.cmr_base.specs.Seeds.{IsLine};
+ghost use Rattle.cmr_base.specs.Seeds.{IsLine, form_number};
 ghost use Rattle.cmr_base.specs.Trees.{support};
 ghost use Rattle.three_sep.specs.Sides.{AreInside, HasRoom, HasSize, set_of};
 ghost use Rattle.three_sep.specs.Searches.{HasNoGood, IsFirstOf, LeavesSecond, corner_front};
-ghost use Rattle.three_sep.specs.Concentrated.{AreConcentratedCorners, AreCandidates, AreHeldBy, ArePlaced, HasNoLeaving, IsFirstPair, IsFirstRow, IsGrowingFor, IsLeastFor, IsNoOtherColumn, IsOtherColumn, IsOtherRow, all_front, first_lines, first_of, second_of, turned as turned_connectors};
+ghost use Rattle.three_sep.specs.Concentrated.{AreConcentratedCorners, AreCandidates, ArePlaced, HasNoLeaving, IsFirstPair, IsFirstRow, IsGrowingFor, IsLeastFor, IsNoOtherColumn, IsOtherColumn, IsOtherRow, all_front, first_lines, first_of, second_of, turned as turned_connectors};
 
 use crate::connectors::Connectors;
-use crate::held::{add_column, has_column, held_columns, remove_column};
+use crate::held::held_columns;
 use crate::independent::columns_of;
 use crate::others::{is_beside, line_at};
 use crate::pulled::is_second_pulled;
 use crate::search::{leaves_second, separation_of};
 use crate::side::Side;
-use cmr_base::columns::{add_common, empty_set, meets, next_column};
-use cmr_base::{Form, Line, Memory, RowsAndColumns, Three};
+use cmr_base::columns::{
+    add_column, add_common, empty_set, has_column, meets, next_column, remove_column,
+};
+use cmr_base::{Form, Line, MAX_COLUMNS, Memory, RowsAndColumns, Three};
 use cuts::Corners;
 use std::alloc::Global;
 
@@ -31,8 +33,10 @@ pub fn first_concentrated(
     alloc: Global,
     views: &RowsAndColumns<'_>,
 ) -> Result<Option<Three>, Memory>
-    ensures first { IfOk result (λ answer. IfSome answer (IsFirstOf views.now (3 ∷ []))) }
-    ensures none { IfOk result (λ answer. IfNone answer (HasNoGood views.now (3 ∷ []))) }
+    ensures first { IfOk result (λ answer.
+        IfSome answer (IsFirstOf views.now (form_number Concentrated ∷ []))) }
+    ensures none { IfOk result (λ answer.
+        IfNone answer (HasNoGood views.now (form_number Concentrated ∷ []))) }
 {
     let turned = RowsAndColumns::new(alloc, views.by_columns())?;
     first_of_rows(alloc, views, &turned)
@@ -45,8 +49,10 @@ fn first_of_rows(
     turned: &RowsAndColumns<'_>,
 ) -> Result<Option<Three>, Memory>
     requires turned { turned.now ≡ transposed views.now }
-    ensures first { IfOk result (λ answer. IfSome answer (IsFirstOf views.now (3 ∷ []))) }
-    ensures none { IfOk result (λ answer. IfNone answer (HasNoGood views.now (3 ∷ []))) }
+    ensures first { IfOk result (λ answer.
+        IfSome answer (IsFirstOf views.now (form_number Concentrated ∷ []))) }
+    ensures none { IfOk result (λ answer.
+        IfNone answer (HasNoGood views.now (form_number Concentrated ∷ []))) }
 {
     for i in 0..views.rows() {
         if let Some(three) = first_of_row(alloc, views, turned, i)? {
@@ -65,8 +71,10 @@ fn first_of_row(
 ) -> Result<Option<Three>, Memory>
     requires turned { turned.now ≡ transposed views.now }
     requires row { i < height views.now }
-    ensures first { IfOk result (λ answer. IfSome answer (IsFirstOf views.now (3 ∷ i ∷ []))) }
-    ensures none { IfOk result (λ answer. IfNone answer (HasNoGood views.now (3 ∷ i ∷ []))) }
+    ensures first { IfOk result (λ answer.
+        IfSome answer (IsFirstOf views.now (form_number Concentrated ∷ i ∷ []))) }
+    ensures none { IfOk result (λ answer.
+        IfNone answer (HasNoGood views.now (form_number Concentrated ∷ i ∷ []))) }
 {
     let mut candidates = candidates_for(alloc, views, i)?;
     for p in 0..views.columns() {
@@ -120,9 +128,9 @@ fn first_of_corner(
     requires nonzero { entry views.now i p ≢ pos 0 }
     ensures candidates { OnOk result (AreCandidates views.now i candidates.new.items) }
     ensures first { IfOk result (λ answer.
-        IfSome answer (IsFirstOf views.now (3 ∷ i ∷ p ∷ []))) }
+        IfSome answer (IsFirstOf views.now (form_number Concentrated ∷ i ∷ p ∷ []))) }
     ensures none { IfOk result (λ answer.
-        IfNone answer (HasNoGood views.now (3 ∷ i ∷ p ∷ []))) }
+        IfNone answer (HasNoGood views.now (form_number Concentrated ∷ i ∷ p ∷ []))) }
 {
     let _columns = views.columns();
     if !has_candidate(candidates) {
@@ -152,9 +160,9 @@ fn first_of_second_row(
     requires nonzero { entry views.now i p ≢ pos 0 }
     ensures candidates { OnOk result (AreCandidates views.now i candidates.new.items) }
     ensures first { IfOk result (λ answer.
-        IfSome answer (IsFirstOf views.now (3 ∷ i ∷ p ∷ k ∷ []))) }
+        IfSome answer (IsFirstOf views.now (form_number Concentrated ∷ i ∷ p ∷ k ∷ []))) }
     ensures none { IfOk result (λ answer.
-        IfNone answer (HasNoGood views.now (3 ∷ i ∷ p ∷ k ∷ []))) }
+        IfNone answer (HasNoGood views.now (form_number Concentrated ∷ i ∷ p ∷ k ∷ []))) }
 {
     let _columns = views.columns();
     if !meets(candidates, columns_of(views, k)) {
@@ -376,13 +384,13 @@ fn is_good(
 // The first column from one on in which a row is not 0.
 fn next_nonzero(views: &RowsAndColumns<'_>, row: u32, from: u32) -> Option<u32>
     requires row { row < height views.now }
-    requires from { from ≤ 1000 }
+    requires from { from ≤ MAX_COLUMNS }
     ensures first { MatchOption result
         ((column : ℕ) → from ≤ column → support views.now row column ≡ false)
         (λ next. (from ≤ next)
         × (next < views.now.width)
         × ((column : ℕ) → from ≤ column → column < next → support views.now row column ≡ false)) }
-    ensures small { IfSome result (λ next. next < 1000) }
+    ensures small { IfSome result (λ next. next < MAX_COLUMNS) }
 {
     views.by_rows().next_nonzero(row, from)
 }

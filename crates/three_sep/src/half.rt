@@ -8,7 +8,7 @@ ghost use Rattle.three_sep.specs.Halves.{Agrees, AgreesWithSum, AreSame, HasAdde
 
 use crate::connectors::times;
 use cmr_base::columns::next_column;
-use cmr_base::{Matrix, Memory};
+use cmr_base::{MAX_ROWS, Matrix, Memory};
 use line_growth::Places;
 use std::alloc::Global;
 
@@ -64,7 +64,7 @@ pub struct Half {
 impl Half {
     /// Room for so many lines, all of them outside.
     pub fn new(alloc: Global, size: u32) -> Result<Half, Memory>
-        requires { size ≤ 1000 }
+        requires { size ≤ MAX_ROWS }
         ensures { IfOk result (HasPlaces size) }
     {
         Ok(Half {
@@ -149,7 +149,7 @@ impl Half {
     // Takes in the lines of the bits of a word, which have the numbers from `first` on.
     fn add_word(&mut self, first: u32, word: u64) -> Result<(), Memory>
         requires half { IsHalf (length self.old.inside.items) self.old }
-        requires first { first ≤ 1000 }
+        requires first { first ≤ MAX_ROWS }
         requires lines { (k : ℕ) → k < 64 → has_bit word k ≡ true
             → first + k < length self.old.inside.items }
         ensures taken { OnOk result ((k : ℕ) → k < 64 → has_bit word k ≡ true

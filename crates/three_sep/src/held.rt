@@ -1,13 +1,13 @@
 // Columns that are in side one with a row, in each good seed of the concentrated form.
-ghost use Rattle.std.specs.Prelude.{◌≡◌, ◌<◌, ◌/◌, ◌⊎◌, ℕ, true, false, length, IfOk};
+ghost use Rattle.std.specs.Prelude.{◌≡◌, ◌<◌, ℕ, true, false, length, IfOk};
 ghost use Rattle.cmr_base.specs.ColumnSets.{has_column};
 ghost use Rattle.cmr_base.specs.Matrix.{height};
 ghost use Rattle.cmr_base.specs.Planes.{words_for};
 ghost use Rattle.three_sep.specs.Concentrated.{AreHeldBy};
 
 use crate::independent::{are_three_independent, columns_of};
-use cmr_base::columns::{add_set, empty_set};
-use cmr_base::{Memory, RowsAndColumns, has_bit, with_bit};
+use cmr_base::columns::{add_column, add_set, empty_set, has_column};
+use cmr_base::{Memory, RowsAndColumns};
 use std::alloc::Global;
 
 /// Columns that are in side one of each good seed of the form with row i: those in which row i is not 0, and each column
@@ -53,37 +53,4 @@ fn add_forced(
         }
     }
     grows
-}
-
-/// Adds a column to a set.
-pub fn add_column(set: &mut Vec<u64>, column: u32)
-    requires { column / 64 < length set.old.items }
-    ensures size { length set.new.items ≡ length set.old.items }
-    ensures only { (x : ℕ) → has_column set.new.items x ≡ true
-        → (x ≡ column) ⊎ (has_column set.old.items x ≡ true) }
-    ensures here { has_column set.new.items column ≡ true }
-    ensures kept { (x : ℕ) → has_column set.old.items x ≡ true
-        → has_column set.new.items x ≡ true }
-{
-    let block = column as usize / 64;
-    set[block] = with_bit(set[block], column % 64, true);
-}
-
-/// Takes a column out of a set.
-pub fn remove_column(set: &mut Vec<u64>, column: u32)
-    requires { column / 64 < length set.old.items }
-    ensures size { length set.new.items ≡ length set.old.items }
-    ensures only { (x : ℕ) → has_column set.new.items x ≡ false
-        → (x ≡ column) ⊎ (has_column set.old.items x ≡ false) }
-{
-    let block = column as usize / 64;
-    set[block] = with_bit(set[block], column % 64, false);
-}
-
-/// Whether a column is in a set.
-pub fn has_column(set: &[u64], column: u32) -> bool
-    requires { column / 64 < length set.now }
-    ensures { result ≡ has_column set.now column }
-{
-    has_bit(set[column as usize / 64], column % 64)
 }

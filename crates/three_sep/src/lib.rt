@@ -14,4 +14,4 @@ mod side;
 mod spread_side;
 
 pub use cmr_base::{Connector, Form, Three};
-pub use search::three_separation;
+pub use search::{three_separation, three_separation_of};

@@ -1,13 +1,12 @@
 // The first good seed.
 ghost use Rattle.std.specs.Prelude.{◌≡◌, ◌≢◌, ◌<◌, ◌≤◌, ◌++◌, ◌∷◌, [], ◌↔◌, ℕ, List, pos, true, false, IsTrue, IfOk, OnOk, IfSome, IfNone, MatchOption};
 ghost use Rattle.cmr_base.specs.declared.line.Line.{Line};
-ghost use Rattle.cmr_base.specs.declared.line.Line.TheVariants.{Row, Column};
-ghost use Rattle.cmr_base.specs.Matrix.{height, entry, IsMatrix};
+ghost use Rattle.cmr_base.specs.Matrix.{height, entry};
 ghost use Rattle.std.specs.List.Sorted.{IsStrictlyIncreasing};
 ghost use Rattle.cmr_base.specs.Members.{IsIn};
 ghost use Rattle.three_sep.specs.Halves.{IsHalf, is_in};
 ghost use Rattle.cmr_base.specs.Separations.{first_is_flat, second_is_flat};
-ghost use Rattle.cmr_base.specs.Seeds.{line_number, IsLine, form_number};
+ghost use Rattle.cmr_base.specs.Seeds.{IsLine, form_number};
 ghost use Rattle.three_sep.specs.NumberedSeeds.{HasLines, IsCrossing, IsFirstOther, IsSecondOther};
 ghost use Rattle.three_sep.specs.ThreeSeparations.{HasNoThreeSeparation, IsFirstThreeSeparation};
 ghost use Rattle.three_sep.specs.Sides.{AreInside, HasRoom, IsGrowing, IsLeast, set_of};
@@ -40,8 +39,18 @@ pub fn three_separation<R: Threads + Sync>(
     ensures { IfOk result (λ found. MatchOption found (HasNoThreeSeparation matrix.now)
         (λ three. IsFirstThreeSeparation matrix.now three)) }
 {
-    let views = RowsAndColumns::new(alloc, matrix)?;
-    Search::new(alloc, &views)?.first(alloc, &views)
+    three_separation_of(alloc, &RowsAndColumns::new(alloc, matrix)?)
+}
+
+/// The same, of a matrix by its rows and its columns.
+pub fn three_separation_of(
+    alloc: Global,
+    matrix: &RowsAndColumns<'_>,
+) -> Result<Option<Three>, Memory>
+    ensures { IfOk result (λ found. MatchOption found (HasNoThreeSeparation matrix.now)
+        (λ three. IsFirstThreeSeparation matrix.now three)) }
+{
+    Search::new(alloc, matrix)?.first(alloc, matrix)
 }
 
 /// How many corners are tried before groups are looked for, so that an early find does not pay for them.

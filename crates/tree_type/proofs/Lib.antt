@@ -1,6 +1,5 @@
 pub mod Forests
 mod Examples
-pub mod EmptyTree
 pub mod NodeTrees
 pub mod PlacedLines
 pub mod OneRefusal

@@ -15,7 +15,7 @@ use Rattle.tree_type.specs.declared.tree.Kind.{Kind}
 use Rattle.tree_type.specs.declared.tree.Kind.TheFolds.{fold-Kind, fold-roll-Kind}
 use Rattle.tree_type.specs.declared.tree.Kind.TheOpen as open'
 use Rattle.tree_type.specs.declared.tree.Kind.TheVariants as kind
-use Rattle.tree_type.specs.Trees.{Finding, Empty, Cycle, Reduced, OneSum, Network, Conetwork, R10, TwoSum, ThreeSum, Enumerated, Violator, Undecided, Pivoted, Tree, Trees, Branch, NoTrees, one_tree, two_trees, kind_step, node_step, list_step, tree_of, trees_of}
+use Rattle.tree_type.specs.Trees.{Finding, Empty, Cycle, Reduced, OneSum, TwoSum, ThreeSum, Violator, Pivoted, Tree, Trees, Branch, NoTrees, one_tree, two_trees, kind_step, node_step, list_step, tree_of, trees_of}
 
 -- what a kind says, and the trees of the children
 abbrev pub said : Kind → Finding × Trees
@@ -27,26 +27,11 @@ tree_is node = fold_out-Node (Finding × Trees) Tree Trees kind_step node_step l
 pub said_empty : said kind.Empty ≡ (Empty, NoTrees)
 said_empty = ap said (sym kind.rolls-Empty) ∙ fold-roll-Kind (Finding × Trees) Tree Trees kind_step node_step list_step open'.Empty
 
-pub said_r10 : said kind.R10 ≡ (R10, NoTrees)
-said_r10 = ap said (sym kind.rolls-R10) ∙ fold-roll-Kind (Finding × Trees) Tree Trees kind_step node_step list_step open'.R10
-
-pub said_enumerated : said kind.Enumerated ≡ (Enumerated, NoTrees)
-said_enumerated = ap said (sym kind.rolls-Enumerated) ∙ fold-roll-Kind (Finding × Trees) Tree Trees kind_step node_step list_step open'.Enumerated
-
-pub said_undecided : said kind.Undecided ≡ (Undecided, NoTrees)
-said_undecided = ap said (sym kind.rolls-Undecided) ∙ fold-roll-Kind (Finding × Trees) Tree Trees kind_step node_step list_step open'.Undecided
-
 pub said_cycle : (fault : LineSet) → said (kind.Cycle fault) ≡ (Cycle fault, NoTrees)
 said_cycle fault = ap said (sym (kind.rolls-Cycle fault)) ∙ fold-roll-Kind (Finding × Trees) Tree Trees kind_step node_step list_step (open'.Cycle fault)
 
 pub said_violator : (fault : LineSet) → said (kind.Violator fault) ≡ (Violator fault, NoTrees)
 said_violator fault = ap said (sym (kind.rolls-Violator fault)) ∙ fold-roll-Kind (Finding × Trees) Tree Trees kind_step node_step list_step (open'.Violator fault)
-
-pub said_network : (found : net.Network) → said (kind.Network found) ≡ (Network found, NoTrees)
-said_network found = ap said (sym (kind.rolls-Network found)) ∙ fold-roll-Kind (Finding × Trees) Tree Trees kind_step node_step list_step (open'.Network found)
-
-pub said_conetwork : (found : net.Network) → said (kind.Conetwork found) ≡ (Conetwork found, NoTrees)
-said_conetwork found = ap said (sym (kind.rolls-Conetwork found)) ∙ fold-roll-Kind (Finding × Trees) Tree Trees kind_step node_step list_step (open'.Conetwork found)
 
 pub said_reduced : (steps : ItemList Line) (child : Box Node Global) → said (kind.Reduced steps child) ≡ (Reduced steps, one_tree (tree_of child.value))
 said_reduced steps child = ap said (sym (kind.rolls-Reduced steps child)) ∙ fold-roll-Kind (Finding × Trees) Tree Trees kind_step node_step list_step (open'.Reduced steps child)

@@ -2,6 +2,7 @@
 use Rattle.std.specs.Prelude.{◌≡◌, ◌≤◌, ◌<◌, ◌+◌, ◌-◌, ℕ, length, Contains}
 use Rattle.std.specs.List.{AllByRecursion}
 use Rattle.std.specs.List.Sorted.{IsStrictlyIncreasing}
+use Rattle.cmr_base.specs.declared.limits.TheConstants.{MAX_COLUMNS, MAX_ROWS}
 use Rattle.cmr_base.specs.declared.line_set.LineSet.{LineSet}
 use Rattle.cmr_base.specs.declared.network.Network as net
 use Rattle.cmr_base.specs.Matrix.{Matrix}
@@ -69,8 +70,8 @@ abbrev mutual
 
 -- a tree for a matrix of at most 1,000 rows and columns, whose nodes stand no deeper than 2,000
 pub record IsTreeFor (rows columns : ℕ) (tree : Tree) : Type 0 where
-  pub rows_in : rows ≤ 1000
-  pub columns_in : columns ≤ 1000
+  pub rows_in : rows ≤ MAX_ROWS
+  pub columns_in : columns ≤ MAX_COLUMNS
   pub root_rows : AllBelow rows (lines_of tree).rows
   pub root_columns : AllBelow columns (lines_of tree).columns
   pub nodes : IsTreeWithin (lines_of tree) 2001 tree

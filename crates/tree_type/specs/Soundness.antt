@@ -1,6 +1,7 @@
 -- The rules of decomposition trees, and the first node that breaks one.
 use Rattle.std.specs.Prelude.{◌≡◌, ◌≢◌, ◌≤◌, ◌<◌, ◌&&◌, true, false, ℕ, ℤ, pos, min, List, [], ◌∷◌, ◌++◌, length, count_by, Contains, IsSome}
 use Rattle.std.specs.List.{AllByRecursion, list_any}
+use Rattle.cmr_base.specs.declared.limits.TheConstants.{MAX_LINES}
 use Rattle.cmr_base.specs.declared.line.Line.{Line}
 use Rattle.cmr_base.specs.declared.line_set.LineSet.{LineSet}
 use Rattle.cmr_base.specs.Matrix.{Matrix, height, entry, transposed}
@@ -69,7 +70,7 @@ Demands rule.BadConnector m lines (ThreeSum three) children = AreConnectors (ent
 Demands rule.CornerSign m lines (ThreeSum three) children = HasCornerSign (entry m) three
 Demands rule.BadBlock m lines (TwoSum two) children = AreTwoBlocks (entry m) (sides lines two.side) two.row two.column
 Demands rule.BadBlock m lines (ThreeSum three) children = AreThreeBlocks (entry m) (sides lines three.side) three
-Demands rule.TooMany m lines Enumerated children = min (length lines.rows) (length lines.columns) ≤ 24
+Demands rule.TooMany m lines Enumerated children = min (length lines.rows) (length lines.columns) ≤ MAX_LINES
 Demands rule.NotClean m lines Enumerated children = HasNoViolator (part m lines)
 Demands rule.NotPivot m lines (Pivoted place) children = (entry m place.row place.column ≢ pos 0) × IsTernaryPivot m lines place
 Demands other m lines finding children = Unit {0}

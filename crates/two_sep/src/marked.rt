@@ -1,9 +1,9 @@
 // Marks of lines: the rows from 0 on, and the columns behind them.
-ghost use Rattle.std.specs.Prelude.{◌≡◌, ◌≤◌, ◌+◌, ◌<◌, ℕ, filter, length, IfOk};
+ghost use Rattle.std.specs.Prelude.{◌≡◌, ◌≤◌, ◌+◌, ◌<◌, filter, length, IfOk};
 ghost use Rattle.cmr_base.specs.LineSets.{first_lines};
 ghost use Rattle.line_growth.specs.Reaching.{is_marked, unmarked};
 
-use cmr_base::{Indices, LineSet, Memory};
+use cmr_base::{Indices, LineSet, MAX_COLUMNS, MAX_ROWS, Memory};
 use std::alloc::Global;
 
 /// How many lines have no mark.
@@ -21,8 +21,8 @@ pub fn count_unmarked(marks: &[bool]) -> usize
 
 /// The set of the lines with marks, where there are so many rows.
 pub fn marked_set(alloc: Global, marks: &[bool], rows: u32, columns: u32) -> Result<LineSet, Memory>
-    requires rows { rows ≤ 1000 }
-    requires columns { columns ≤ 1000 }
+    requires rows { rows ≤ MAX_ROWS }
+    requires columns { columns ≤ MAX_COLUMNS }
     requires count { length marks.now ≡ rows + columns }
     ensures rows { IfOk result (λ lines. lines.rows ≡ filter (λ row. is_marked marks.now row)
         (first_lines rows)) }
@@ -36,9 +36,9 @@ pub fn marked_set(alloc: Global, marks: &[bool], rows: u32, columns: u32) -> Res
 }
 
 fn marked_from(alloc: Global, marks: &[bool], first: u32, count: u32) -> Result<Indices, Memory>
-    requires first { first ≤ 1000 }
+    requires first { first ≤ MAX_ROWS }
     requires within { first + count ≤ length marks.now }
-    requires few { count ≤ 1000 }
+    requires few { count ≤ MAX_COLUMNS }
     ensures { IfOk result (λ lines. lines ≡ filter (λ line. is_marked marks.now (first + line))
         (first_lines count)) }
 {

@@ -1,6 +1,6 @@
 // The least violator and the least balance fault, by the sets of the shorter side.
 use crate::given::{bytes, is_text, lines_text, matrix, row_text, sparse};
-use balance::{BalanceSearch, least_balance_fault};
+use balance::least_balance_fault;
 use cmr_base::Matrix;
 use leaf_enumerate::{Search, least_violator};
 use std::alloc::Global;
@@ -45,14 +45,6 @@ fn violators(rt: HostRuntime) -> Result<(), Fail> {
     Ok(())
 }
 
-fn balance_text(alloc: Global, search: &BalanceSearch) -> Result<Vec<u8>, Fail> {
-    match search {
-        BalanceSearch::Clean => bytes(alloc, "clean/"),
-        BalanceSearch::Found(lines) => lines_text(alloc, lines),
-        BalanceSearch::TooMany { shorter } => row_text(alloc, "too many", &[*shorter]),
-    }
-}
-
 fn balance_fault<R: Threads + Sync + Abort + AllocGlobal>(
     rt: &R,
     matrix: &Matrix,
@@ -61,7 +53,7 @@ fn balance_fault<R: Threads + Sync + Abort + AllocGlobal>(
 ) -> Result<Vec<u8>, Fail> {
     assert!(rt; limit <= 24 && workers >= 1 && workers <= 64);
     let found = least_balance_fault(rt, rt.alloc(), matrix, limit, workers)?;
-    balance_text(rt.alloc(), &found)
+    search_text(rt.alloc(), &found)
 }
 
 // The rows and columns of a balance fault have two nonzeros each, and its sum is 2 modulo 4.

@@ -18,7 +18,7 @@ ghost use Rattle.tree_type.specs.Verdicts.{verdict_of};
 
 use crate::faults::{fault_outcome, open_outcome, yes_outcome};
 use crate::options::BalancedOptions;
-use balance::{BalanceSearch, least_balance_fault};
+use balance::{Search, least_balance_fault};
 use camion_sign::cycle_fault;
 use cmr_base::{MAX_ROWS, Matrix, Memory};
 use cmr_front::input::{Input, Text};
@@ -159,15 +159,15 @@ fn search_outcome<'a>(
     alloc: Global,
     options: &BalancedOptions<'a>,
     matrix: &Matrix,
-    found: &BalanceSearch,
+    found: &Search,
 ) -> Result<Outcome<'a>, Memory>
     requires { HasSearchedFaults matrix.now options.now.lines found.now }
     ensures { IfOk result (λ outcome. outcome_report outcome
         ≡ search_report (balanced_order_of options.now) matrix.now found.now) }
 {
     match found {
-        BalanceSearch::Clean => yes_outcome(alloc, LABEL),
-        BalanceSearch::Found(fault) => fault_outcome(alloc, LABEL, options.fault, matrix, fault),
-        BalanceSearch::TooMany { .. } => open_outcome(alloc, LABEL, matrix),
+        Search::Clean => yes_outcome(alloc, LABEL),
+        Search::Found(fault) => fault_outcome(alloc, LABEL, options.fault, matrix, fault),
+        Search::TooMany { .. } => open_outcome(alloc, LABEL, matrix),
     }
 }

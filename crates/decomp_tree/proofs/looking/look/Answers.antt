@@ -1,8 +1,6 @@
-use Rattle.std.proofs.Common.{◌≡◌, ◌∙◌, IfOk, List, ℕ, ap, sym, subst}
-use Rattle.cmr_base.specs.Matrix.{Matrix, height, IsMatrix}
-use Rattle.cmr_base.specs.LineSets.{IsRowSet, IsColumnSet}
+use Rattle.std.proofs.Common.{◌≡◌, ◌∙◌, ap, sym, subst}
+use Rattle.cmr_base.specs.Matrix.{Matrix, height}
 use Rattle.tree_type.specs.Soundness.{part}
-use Rattle.decomp_tree.specs.Obstructions.{IsKnown}
 use Rattle.decomp_tree.specs.Shapes.{HasNoLines}
 use Rattle.decomp_tree.specs.Seen.{IsSeen}
 use Rattle.decomp_tree.proofs.Said.{none_first, none_next, none_after_fault, seen_empty}

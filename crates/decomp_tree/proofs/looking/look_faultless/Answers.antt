@@ -2,13 +2,13 @@ use Rattle.std.proofs.Common.{Option, MatchOption, subst}
 use Rattle.cmr_base.specs.declared.separation.Three.{Three}
 use Rattle.cmr_base.specs.Matrix.{Matrix}
 use Rattle.three_sep.specs.ThreeSeparations.{HasNoThreeSeparation, IsFirstThreeSeparation}
-use Rattle.tree_type.specs.Soundness.{part}
 use Rattle.decomp_tree.specs.Shapes.{IsThreeSum}
 use Rattle.decomp_tree.proofs.Said.{none_next}
+use Rattle.decomp_tree.specs.Nodes.{inner_of}
 use Rattle.decomp_tree.proofs.looking.look_faultless.Goals as goal
 
 pub look_last-requires-clause-none : goal.look_last-requires-clause-none
 look_last-requires-clause-none g c =
-    let n = part c.args.matrix.now c.args.lines.now in
-    let no_three = subst (λ (k : Matrix). HasNoThreeSeparation k) c.requires.inner (subst (λ (o : Option Three). MatchOption o (HasNoThreeSeparation c.args.inner.now) (λ three. IsFirstThreeSeparation c.args.inner.now three)) c.in_default.is c.in_ok-three.ensures) in
-    λ κs lives. none_next c.args.limit n IsThreeSum c.requires.none (λ w. no_three w.0 w.1 w.2 w.3 w.4)
+    let n = inner_of c.args.node.now in
+    let no_three = subst (λ (k : Matrix). HasNoThreeSeparation k) c.requires.node.inner (subst (λ (o : Option Three). MatchOption o (HasNoThreeSeparation c.args.node.now.inner.now) (λ three. IsFirstThreeSeparation c.args.node.now.inner.now three)) c.in_default.is c.in_ok-three.ensures) in
+    λ κs lives. none_next c.args.node.now.limit n IsThreeSum c.requires.none (λ w. no_three w.0 w.1 w.2 w.3 w.4)

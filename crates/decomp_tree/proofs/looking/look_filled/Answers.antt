@@ -1,13 +1,13 @@
 use Rattle.std.proofs.Common.{false, subst}
 use Rattle.cmr_base.specs.Matrix.{Matrix}
 use Rattle.sp_reduce.specs.Digests.{HasNoReducibleLine}
-use Rattle.tree_type.specs.Soundness.{part}
 use Rattle.decomp_tree.specs.Shapes.{IsReducible}
 use Rattle.decomp_tree.proofs.Said.{none_next, none_reducible}
+use Rattle.decomp_tree.specs.Nodes.{inner_of}
 use Rattle.decomp_tree.proofs.looking.look_filled.Goals as goal
 
 pub look_irreducible-requires-clause-none : goal.look_irreducible-requires-clause-none
 look_irreducible-requires-clause-none g c =
-    let n = part c.args.matrix.now c.args.lines.now in
-    let none = subst (λ (k : Matrix). HasNoReducibleLine false k) c.requires.inner (c.in_ok-first_look.ensures c.in-Irreducible.is false) in
-    λ κs lives. none_next c.args.limit n IsReducible c.requires.none (none_reducible c.args.limit n none)
+    let n = inner_of c.args.node.now in
+    let none = subst (λ (k : Matrix). HasNoReducibleLine false k) c.requires.node.inner (c.in_ok-first_look.ensures c.in-Irreducible.is false) in
+    λ κs lives. none_next c.args.node.now.limit n IsReducible c.requires.none (none_reducible c.args.node.now.limit n none)

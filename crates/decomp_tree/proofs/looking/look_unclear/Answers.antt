@@ -1,5 +1,4 @@
-use Rattle.std.proofs.Common.{◌≡◌, ◌≤◌, ◌∙◌, false, List, [], ◌∷◌, length, ap, sym, subst, arith}
-use Rattle.cmr_base.specs.declared.line.Step.{Step}
+use Rattle.std.proofs.Common.{◌∙◌, false, ap, sym, arith}
 use Rattle.cmr_base.specs.Matrix.{Matrix}
 use Rattle.cmr_base.specs.Reductions.{removal}
 use Rattle.tree_type.specs.Soundness.{part}
@@ -9,9 +8,9 @@ use Rattle.decomp_tree.proofs.looking.look_unclear.Goals as goal
 
 pub look_irreducible-requires-clause-none : goal.look_irreducible-requires-clause-none
 look_irreducible-requires-clause-none g c =
-    let m = c.args.matrix.now in
-    let lines = c.args.lines.now in
+    let m = c.args.node.now.matrix.now in
+    let lines = c.args.node.now.lines.now in
     let empty = empty_from_length c.in_ok-reduction.reduction.steps (let l = c.if-len-gt0.false in let e = c.len.ensures in omega (arith, l, e)) in
-    let removed = ap (λ (n : Matrix). (removal false n).steps) (sym (c.by_rows.ensures.matrix ∙ c.requires.inner)) ∙ sym c.in_ok-reduction.ensures.steps ∙ empty in
-    λ κs lives. none_next c.args.limit (part m lines) IsReducible c.requires.none
-    (not_reducible c.args.limit m c.requires.shape lines (record { rows = c.requires.rows; columns = c.requires.columns }) removed)
+    let removed = ap (λ (n : Matrix). (removal false n).steps) (sym (c.by_rows.ensures.matrix ∙ c.requires.node.inner)) ∙ sym c.in_ok-reduction.ensures.steps ∙ empty in
+    λ κs lives. none_next c.args.node.now.limit (part m lines) IsReducible c.requires.none
+    (not_reducible c.args.node.now.limit m c.requires.node.shape lines c.requires.node.lines removed)

@@ -1,0 +1,57 @@
+// Violators as what is looked for.
+ghost use Rattle.std.specs.Prelude.{◌≡◌, IfOk};
+ghost use Rattle.cmr_base.specs.LineSets.{IsRowSet, set_numbered};
+ghost use Rattle.cmr_base.specs.Matrix.{height};
+ghost use Rattle.cmr_base.specs.Violator.{IsLeastByRows};
+ghost use Rattle.leaf_enumerate.specs.RowSets.{HasColumnSet};
+
+use crate::row_sets::row_set;
+use crate::sought::Sought;
+use cmr_base::{LineSet, Matrix, Memory, write_set};
+use parity::{ColumnSearch, first_column_set};
+use std::alloc::Global;
+
+/// Violators: a row set holds where it makes one with some column set.
+#[derive(Clone, Copy)]
+pub struct Violators;
+
+impl Sought for Violators {
+    ghost holds = { λ sought m number. HasColumnSet m number };
+
+    ghost is_least = { λ sought m rows columns. IsLeastByRows m rows columns };
+
+    fn hit(&self, alloc: Global, matrix: &Matrix, number: u64) -> Result<bool, Memory> {
+        let rows = row_set(alloc, matrix, number)?;
+        let columns = first_column_set(alloc, matrix, &rows)?;
+        Ok(columns.is_some())
+    }
+
+    // The room for a search is taken once.
+    fn first(
+        &self,
+        alloc: Global,
+        matrix: &Matrix,
+        from: u64,
+        to: u64,
+    ) -> Result<Option<u64>, Memory> {
+        let count = matrix.rows();
+        let mut search = ColumnSearch::new(alloc, matrix)?;
+        let mut set = Vec::with_capacity(alloc, count as usize)?;
+        for number in from..to {
+            write_set(&mut set, count, number)?;
+            let has = search.has(&set)?;
+            if has {
+                return Ok(Some(number));
+            }
+        }
+        Ok(None)
+    }
+
+    fn lines(&self, alloc: Global, matrix: &Matrix, number: u64) -> Result<LineSet, Memory> {
+        let rows = row_set(alloc, matrix, number)?;
+        match first_column_set(alloc, matrix, &rows)? {
+            Some(columns) => Ok(LineSet { rows, columns }),
+            None => unreachable!(),
+        }
+    }
+}
