@@ -3,7 +3,9 @@ use Rattle.std.specs.Prelude.{◌≡◌, ◌≢◌, ◌<◌, ◌≤◌, ◌⊎�
 use Rattle.cmr_base.specs.declared.limits.TheConstants.{MAX_ROWS}
 use Rattle.cmr_base.specs.Cuts.{differ}
 use Rattle.cmr_base.specs.LineSets.{AllBelow}
+use Rattle.cmr_base.specs.Matrix.{Matrix, height}
 use Rattle.cmr_base.specs.Members.{IsIn}
+use Rattle.cmr_base.specs.Trees.{support}
 pub use Rattle.bridge_split.specs.PartNumbers.{number_at, is_number as is_part}
 use Rattle.graph_realise.specs.Branches.{AreBranches, branch_at}
 use Rattle.graph_realise.specs.Merging.{Hanging, heavier, spot, merged_lies, turned_side, turned_lies}
@@ -106,6 +108,12 @@ pub record IsClearBeside (M : ℕ → ℕ → Bool) (joint : Joint) (sides : Arc
 -- no part is named for a column that the row has
 abbrev pub AreOff : (ℕ → ℕ → Bool) → Joint → Type 0
 AreOff M joint = (column : ℕ) → M joint.row column ≡ true → number_at joint.part_with.items column ≡ None
+
+-- it fits this matrix, is off the row's columns, and has the row's blocks
+pub record FitsMatrix (m : Matrix) (joint : Joint) : Type 0 where
+  pub fits : FitsJoint (height m) m.width joint
+  pub off : AreOff (support m) joint
+  pub blocks : AreBlocksOf (support m joint.row) m.width joint.row_blocks
 
 -- the end of the row's arc where a part is
 abbrev pub end_of : Joint → Option ℕ → Bool

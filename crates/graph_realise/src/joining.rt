@@ -5,7 +5,7 @@ ghost use Rattle.cmr_base.specs.LineSets.{AllBelow};
 ghost use Rattle.cmr_base.specs.Matrix.{height};
 ghost use Rattle.cmr_base.specs.Members.{IsIn};
 ghost use Rattle.cmr_base.specs.Trees.{support};
-ghost use Rattle.graph_realise.specs.Joints.{AreChosen, AreHung, AreOff, FitsJoint, IsArcJoined, IsClearBeside, IsLineFor, hanging_of, is_at_first, is_used, number_at};
+ghost use Rattle.graph_realise.specs.Joints.{AreChosen, AreHung, FitsJoint, FitsMatrix, IsArcJoined, IsClearBeside, IsLineFor, hanging_of, is_at_first, is_used, number_at};
 ghost use Rattle.graph_realise.specs.Merging.{spot};
 ghost use Rattle.graph_realise.specs.SideTables.{AreTablesOf, IsArcChanged, KeepsOthers, KeepsOutside, side_in, end_in};
 ghost use Rattle.graph_realise.specs.Tables.{cell, AreBlocksOf, IsRowFilled};
@@ -19,12 +19,9 @@ use cmr_base::{Indices, Matrix};
 /// side `false`.
 pub fn join(matrix: &Matrix, rows: &Indices, joint: &Joint, sides: &mut ArcSides)
     requires rows { AllBelow (height matrix.now) rows.now }
-    requires joint { FitsJoint (height matrix.now) matrix.now.width joint.now }
+    requires joint { FitsMatrix matrix.now joint.now }
     requires numbered { (r : ℕ) → IsIn r rows.now → r ≢ joint.now.row
         → number_at joint.now.part_of.items r ≢ None }
-    requires off { AreOff (support matrix.now) joint.now }
-    requires blocks { AreBlocksOf (support matrix.now joint.now.row) matrix.now.width
-        joint.now.row_blocks }
     requires tables { AreTablesOf matrix.now sides.old }
     requires clear { (r : ℕ) → IsIn r rows.now → r ≢ joint.now.row
         → IsClearBeside (support matrix.now) joint.now sides.old r }
@@ -44,10 +41,7 @@ pub fn join(matrix: &Matrix, rows: &Indices, joint: &Joint, sides: &mut ArcSides
 
 // The arc of the row itself: the parts at its first end lie on its side `true`, and so do the first ends of its columns.
 fn join_row(matrix: &Matrix, joint: &Joint, sides: &mut ArcSides)
-    requires joint { FitsJoint (height matrix.now) matrix.now.width joint.now }
-    requires off { AreOff (support matrix.now) joint.now }
-    requires blocks { AreBlocksOf (support matrix.now joint.now.row) matrix.now.width
-        joint.now.row_blocks }
+    requires joint { FitsMatrix matrix.now joint.now }
     requires tables { AreTablesOf matrix.now sides.old }
     ensures tables { AreTablesOf matrix.now sides.new }
     ensures joined { IsArcJoined (support matrix.now) joint.now sides.old sides.new joint.now.row }
@@ -107,10 +101,7 @@ fn join_arc(matrix: &Matrix, joint: &Joint, arc: u32, sides: &mut ArcSides)
     requires arc { arc < height matrix.now }
     requires other { arc ≢ joint.now.row }
     requires part { number_at joint.now.part_of.items arc ≢ None }
-    requires joint { FitsJoint (height matrix.now) matrix.now.width joint.now }
-    requires off { AreOff (support matrix.now) joint.now }
-    requires blocks { AreBlocksOf (support matrix.now joint.now.row) matrix.now.width
-        joint.now.row_blocks }
+    requires joint { FitsMatrix matrix.now joint.now }
     requires tables { AreTablesOf matrix.now sides.old }
     requires clear { IsClearBeside (support matrix.now) joint.now sides.old arc }
     ensures tables { AreTablesOf matrix.now sides.new }
@@ -136,10 +127,7 @@ fn keep_part(
 )
     requires row { joint.now.row < height matrix.now }
     requires own { number_at joint.now.part_of.items arc ≡ Some own }
-    requires joint { FitsJoint (height matrix.now) matrix.now.width joint.now }
-    requires off { AreOff (support matrix.now) joint.now }
-    requires blocks { AreBlocksOf (support matrix.now joint.now.row) matrix.now.width
-        joint.now.row_blocks }
+    requires joint { FitsMatrix matrix.now joint.now }
     requires tables { AreTablesOf matrix.now sides.old }
     requires line { IsLineFor joint.now sides.old arc own }
     requires turned { is_turned ≡ side_in sides.old arc joint.now.row }

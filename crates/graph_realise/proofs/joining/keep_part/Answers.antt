@@ -8,4 +8,4 @@ returns-then-is_turned c = part_turned (support c.args.matrix.now) c.args.joint.
 pub returns-else-is_turned : goal.returns-else-is_turned
 returns-else-is_turned c =
     part_stays (support c.args.matrix.now) c.args.joint.now c.args.arc c.args.own c.args.matrix.now c.args.sides.now c.take_out.new.self c.take_out-else-is_turned.new.self c.args.is_turned c.if-is_turned.false c.requires.turned
-    c.requires.own c.requires.joint c.requires.off c.requires.tables c.requires.clear c.take_out.ensures c.take_out-else-is_turned.ensures (c.requires.joint.row_parts c.args.arc c.args.own c.requires.own)
+    c.requires.own c.requires.joint.fits c.requires.joint.off c.requires.tables c.requires.clear c.take_out.ensures c.take_out-else-is_turned.ensures (c.requires.joint.fits.row_parts c.args.arc c.args.own c.requires.own)

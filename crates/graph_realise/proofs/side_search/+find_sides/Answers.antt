@@ -53,19 +53,6 @@ join_parts-new-requires-clause-disjoint t c = parts_disjoint (support c.args.mat
 pub join_parts-new-requires-clause-few : goal.join_parts-new-requires-clause-few
 join_parts-new-requires-clause-few t c = parts_few (support c.args.matrix.now) c.args.rows.now c.args.split.now.row c.args.split.now.parts c.requires.split.parts (height c.args.matrix.now) c.requires.rows
 
-pub join_parts-join-requires-clause-off : goal.join_parts-join-requires-clause-off
-join_parts-join-requires-clause-off t c =
-    let m = c.args.matrix.now in
-    let short = nonzero_in_range m c.in_ok-joint.ensures.shape.rectangular in
-    named_off (support m) (height m) m.width short c.args.rows.now (members_below (height m) c.args.rows.now c.requires.rows) c.args.split.now.row c.requires.split.here c.args.split.now.parts
-    c.requires.split.parts c.args.ends.now c.requires.ends c.in_ok-joint.joint c.in_ok-joint.ensures.joint
-
-pub join_parts-join-requires-clause-blocks : goal.join_parts-join-requires-clause-blocks
-join_parts-join-requires-clause-blocks t c =
-    let m = c.args.matrix.now in
-    let J = c.in_ok-joint.ensures.joint in
-    subst (λ (r : ℕ). AreBlocksOf (support m r) m.width c.in_ok-joint.joint.row_blocks) (sym J.row) J.own_blocks
-
 pub join_parts-rows_with-requires-clause-row : goal.join_parts-rows_with-requires-clause-row
 join_parts-rows_with-requires-clause-row t c =
     let J = c.in_ok-joint.ensures.joint in
@@ -157,8 +144,16 @@ join_parts-loop-place-preserved t c =
 pub join_parts-join-requires-clause-joint : goal.join_parts-join-requires-clause-joint
 join_parts-join-requires-clause-joint t c =
     let m = c.args.matrix.now in
-    fits (support m) (height m) m.width (nonzero_in_range m c.in_ok-joint.ensures.shape.rectangular) c.args.rows.now (members_below (height m) c.args.rows.now c.requires.rows) c.args.split.now.row c.requires.split.here c.args.split.now.parts
-    c.requires.split.parts c.args.ends.now c.requires.ends c.in_ok-joint.joint c.in_ok-joint.ensures.joint
+    let short = nonzero_in_range m c.in_ok-joint.ensures.shape.rectangular in
+    let below = members_below (height m) c.args.rows.now c.requires.rows in
+    let J = c.in_ok-joint.ensures.joint in
+    record {
+      fits = fits (support m) (height m) m.width short c.args.rows.now below c.args.split.now.row c.requires.split.here c.args.split.now.parts
+          c.requires.split.parts c.args.ends.now c.requires.ends c.in_ok-joint.joint J;
+      off = named_off (support m) (height m) m.width short c.args.rows.now below c.args.split.now.row c.requires.split.here c.args.split.now.parts
+          c.requires.split.parts c.args.ends.now c.requires.ends c.in_ok-joint.joint J;
+      blocks = subst (λ (r : ℕ). AreBlocksOf (support m r) m.width c.in_ok-joint.joint.row_blocks) (sym J.row) J.own_blocks;
+    }
 
 pub join_parts-join-requires-clause-numbered : goal.join_parts-join-requires-clause-numbered
 join_parts-join-requires-clause-numbered t c =
