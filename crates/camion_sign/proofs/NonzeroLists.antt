@@ -1,6 +1,7 @@
 -- The places of the nonzeros of a row.
-use Rattle.std.proofs.Common.{ℕ, zero, suc, ◌+◌, Bool, true, false, cond, List, [], ◌∷◌, ◌≡◌, ◌≢◌, ◌<◌, ◌≤◌, ℤ, pos, length, get_or, map, inl, inr, ◌∙◌, sym, ap, refl, arith, subst, zero-add}
-use Rattle.std.proofs.lemmas.List.{get_or-map}
+use Rattle.std.proofs.Common.{ℕ, zero, suc, ◌+◌, ◌-◌, ◌++◌, Bool, true, false, cond, List, [], ◌∷◌, ◌≡◌, ◌≢◌, ◌<◌, ◌≤◌, ℤ, pos, length, get_or, map, drop, drop-cons, append_assoc, inl, inr, ◌∙◌, sym, ap, refl, arith, subst, zero-add}
+use Rattle.std.proofs.lemmas.Bool.{cases_lt, true≢false}
+use Rattle.std.proofs.lemmas.List.{append-nil, get_or-drop, get_or-map, get_or_past}
 use Rattle.std.proofs.lemmas.List.FromFn.{length-map-range_with_len}
 use Rattle.cmr_base.specs.Matrix.{Matrix, height, row_of, column_of, entry, IsMatrix, transposed, is_nonzero}
 use Rattle.cmr_base.specs.Members.{IsIn}
@@ -71,3 +72,56 @@ pub of_column : (m : Matrix) (lists : List (List ℕ)) (column : ℕ) → IsMatr
 of_column m lists column is e l =
     subst (AreNonzeros (λ row. entry m row column)) (sym (ap (λ (ls : List (List ℕ)). get_or ls column []) e ∙ get_or-map (nonzeros_from 0) (transposed m).rows column [] [] (omega (arith, length-map-range_with_len (column_of m) 0 m.width))))
     (are_nonzeros (λ row. entry m row column) (row_of (transposed m) column) (λ j. entry-transposed m j column is))
+
+-- ---- one nonzero after another
+
+-- a nonzero stands in the line
+in_line : (line : List ℤ) (place : ℕ) → is_nonzero (get_or line place (pos 0)) ≡ true → place < length line
+in_line line place e = elim (cases_lt place (length line)) [
+  | inl h ↦ h
+  | inr past ↦ absurd (true≢false (sym e ∙ ap is_nonzero (get_or_past line place (pos 0) past)))
+]
+
+-- a place of the line begins what is left from there on
+from_place : (line : List ℤ) (place : ℕ) (b : Bool) → place < length line → is_nonzero (get_or line place (pos 0)) ≡ b
+    → nonzeros_from place (drop place line) ≡ cond b (place ∷ nonzeros_from (place + 1) (drop (place + 1) line)) (nonzeros_from (place + 1) (drop (place + 1) line))
+from_place line place b l e =
+    let next : suc place ≡ place + 1 = omega arith in
+    ap (nonzeros_from place) (drop-cons line place (pos 0) l)
+    ∙ ap (λ (t : Bool). cond t (place ∷ nonzeros_from (place + 1) (drop (suc place) line)) (nonzeros_from (place + 1) (drop (suc place) line))) e
+    ∙ ap (λ (n : ℕ). cond b (place ∷ nonzeros_from (place + 1) (drop n line)) (nonzeros_from (place + 1) (drop n line))) next
+
+-- zeros are passed over
+zeros_passed : (line : List ℤ) (d from next : ℕ) → next ≡ from + d → next < length line → ((j : ℕ) → from ≤ j → j < next → is_nonzero (get_or line j (pos 0)) ≡ false)
+    → nonzeros_from from (drop from line) ≡ nonzeros_from next (drop next line)
+zeros_passed line zero from next e l none = let same : from ≡ next = omega (arith, e) in ap (λ (n : ℕ). nonzeros_from n (drop n line)) same
+zeros_passed line (suc d) from next e l none =
+    from_place line from false (omega (arith, e, l)) (none from (omega arith) (omega (arith, e)))
+    ∙ zeros_passed line d (from + 1) next (omega (arith, e)) l (λ j a b. none j (omega (arith, a)) b)
+
+-- zeros alone have no places
+none_left : (line : List ℤ) (place : ℕ) → ((j : ℕ) → is_nonzero (get_or line j (pos 0)) ≡ false) → nonzeros_from place line ≡ []
+none_left [] place none = refl
+none_left (z ∷ line) place none =
+    ap (λ (t : Bool). cond t (place ∷ nonzeros_from (place + 1) line) (nonzeros_from (place + 1) line)) (none 0)
+    ∙ none_left line (place + 1) (λ j. none (suc j))
+
+-- the places so far, with those of what is left, where the next nonzero comes to them
+pub one_more : (line : List ℤ) (from next : ℕ) (old new whole : List ℕ) → from ≤ next → is_nonzero (get_or line next (pos 0)) ≡ true
+    → ((j : ℕ) → from ≤ j → j < next → is_nonzero (get_or line j (pos 0)) ≡ false) → new ≡ old ++ next ∷ [] → old ++ nonzeros_from from (drop from line) ≡ whole
+    → new ++ nonzeros_from (next + 1) (drop (next + 1) line) ≡ whole
+one_more line from next old new whole l e none is h =
+    let later = nonzeros_from (next + 1) (drop (next + 1) line) in
+    let inside = in_line line next e in
+    ap (λ (xs : List ℕ). xs ++ later) is
+    ∙ append_assoc old (next ∷ []) later
+    ∙ ap (λ (xs : List ℕ). old ++ xs) (sym (zeros_passed line (next - from) from next (omega (arith, l)) inside none ∙ from_place line next true inside e))
+    ∙ h
+
+-- and where there is no next one
+pub no_more : (line : List ℤ) (from : ℕ) (old whole : List ℕ) → ((j : ℕ) → from ≤ j → is_nonzero (get_or line j (pos 0)) ≡ false)
+    → old ++ nonzeros_from from (drop from line) ≡ whole → old ≡ whole
+no_more line from old whole none h =
+    sym (append-nil old)
+    ∙ ap (λ (xs : List ℕ). old ++ xs) (sym (none_left (drop from line) from (λ j. ap is_nonzero (get_or-drop from line j (pos 0)) ∙ none (from + j) (omega arith))))
+    ∙ h

@@ -60,10 +60,10 @@ fn push_nonzeros(places: &mut Vec<u32>, matrix: &Matrix, row: u32) -> Result<(),
     ensures { OnOk result (places.new.items
         ≡ places.old.items ++ nonzeros_from 0 (row_of matrix.now row)) }
 {
-    for column in 0..matrix.columns() {
-        if matrix.entry(row, column) != 0 {
-            places.push(column)?;
-        }
+    let mut from = 0;
+    'columns: while let Some(column) = matrix.next_nonzero(row, from) {
+        places.push(column)?;
+        from = column + 1;
     }
     Ok(())
 }
