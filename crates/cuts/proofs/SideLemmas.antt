@@ -1,19 +1,21 @@
 -- Sides with the numbers of the lines that cross them, of the numbers for their rows and for their columns.
-use Rattle.std.proofs.Common.{ℕ, List, true, ◌≡◌, ◌⊎◌, ◌∙◌, sym, ap, refl, subst, inl, inr, length}
+use Rattle.std.proofs.Common.{ℕ, Bool, List, true, false, ◌≡◌, ◌⊎◌, ◌∙◌, sym, ap, refl, subst, inl, inr, length, slice_index_or}
 use Rattle.cmr_base.specs.declared.line.Line.{Line}
 use Rattle.cmr_base.specs.declared.line.Line.TheVariants.{Row, Column}
 use Rattle.cmr_base.specs.ColumnSets.{has_column}
 use Rattle.cmr_base.specs.Matrix.{Matrix, height, transposed, IsMatrix}
 use Rattle.cmr_base.specs.Planes.{words_for}
 use Rattle.cmr_base.specs.Trees.{support}
+use Rattle.cmr_base.proofs.Booleans.{not_both}
 use Rattle.cmr_base.proofs.Parts.{height-transposed}
 use Rattle.cuts.specs.declared.line_patterns.LinePatterns.{LinePatterns}
 use Rattle.cuts.specs.declared.line_words.LineWords.{LineWords}
+use Rattle.cuts.specs.declared.patterns.Patterns.{Patterns}
 use Rattle.cuts.specs.declared.sides.NumberedSet.{NumberedSet}
 use Rattle.cuts.specs.declared.sides.Side.{Side}
 use Rattle.cuts.specs.Classes.{AreClassNumbers, AreNumbers}
 use Rattle.cuts.specs.Covers.{words_set}
-use Rattle.cuts.specs.LineSets.{set_of}
+use Rattle.cuts.specs.LineSets.{columns_heap, is_in_heap, rows_heap, set_of}
 use Rattle.cuts.specs.Patterns.{AreAtMostBeside, HasPatterns}
 use Rattle.cuts.specs.Sides.{HasNumbers, HasSetNumbers}
 use Rattle.cuts.proofs.ClassLemmas.{of_columns, of_rows}
@@ -45,6 +47,16 @@ grown_lines before others rows columns r0 r1 c0 c1 e0 e1 f0 f1 hr hc (Column c) 
   | inl a ↦ inl (sym (ap (λ (v : List ℕ). has_column v c) f0) ∙ a)
   | inr b ↦ inr (sym (ap (λ (v : List ℕ). has_column v c) f1) ∙ b)
 ]
+
+pub heap_rows : (patterns : Patterns) (inside : Bool) (before after columns : List ℕ) → ((r : ℕ) → has_column before r ≡ false) → ((c : ℕ) → has_column columns c ≡ false)
+    → ((x : ℕ) → has_column after x ≡ true → (has_column before x ≡ true) ⊎ (is_in_heap patterns.heaps (slice_index_or patterns.classes.items x 0) inside ≡ true)) → (x : Line) → words_set after columns x ≡ true → rows_heap patterns inside x ≡ true
+heap_rows patterns inside before after columns none empty only (Row r) t = elim (only r t) [ inl old ↦ absurd (not_both (has_column before r) old (none r)) | inr h ↦ h ]
+heap_rows patterns inside before after columns none empty only (Column c) t = absurd (not_both (has_column columns c) t (empty c))
+
+pub heap_columns : (patterns : Patterns) (inside : Bool) (before after rows : List ℕ) → ((c : ℕ) → has_column before c ≡ false) → ((r : ℕ) → has_column rows r ≡ false)
+    → ((x : ℕ) → has_column after x ≡ true → (has_column before x ≡ true) ⊎ (is_in_heap patterns.heaps (slice_index_or patterns.classes.items x 0) inside ≡ true)) → (x : Line) → words_set rows after x ≡ true → columns_heap patterns inside x ≡ true
+heap_columns patterns inside before after rows none empty only (Column c) t = elim (only c t) [ inl old ↦ absurd (not_both (has_column before c) old (none c)) | inr h ↦ h ]
+heap_columns patterns inside before after rows none empty only (Row r) t = absurd (not_both (has_column rows r) t (empty r))
 
 beside : (own own' numbers numbers' : List ℕ) (size size' most : ℕ) → own ≡ own' → numbers ≡ numbers' → size ≡ size' → AreAtMostBeside own numbers size most → AreAtMostBeside own' numbers' size' most
 beside own own' numbers numbers' size size' most eo en es h =

@@ -18,21 +18,40 @@ pub fn heaps_of(sorted: &[u64], pinned: u64) -> Heaps {
     if pinned == 0 {
         return middle_heaps(sorted);
     }
-    let others = sorted
-        .iter()
-        .filter(|class| **class != 0 && **class != pinned)
-        .count();
     Heaps {
         low: pinned,
         high: pinned,
-        lighter: if others == 0 { 0 } else { PINNED },
+        lighter: if has_other(sorted, pinned) { PINNED } else { 0 },
     }
+}
+
+// Whether there is a class beside one.
+fn has_other(sorted: &[u64], pinned: u64) -> bool {
+    for class in sorted {
+        if *class != 0 && *class != pinned {
+            return true;
+        }
+    }
+    false
+}
+
+// How many numbers before the first class there are.
+fn zeros_of(sorted: &[u64]) -> usize {
+    for place in 0..sorted.len() {
+        if sorted[place] != 0 {
+            return place;
+        }
+    }
+    sorted.len()
 }
 
 // The heaps below and above the step that is nearest to the middle.
 fn middle_heaps(sorted: &[u64]) -> Heaps {
-    let zeros = sorted.iter().filter(|class| **class == 0).count();
+    let zeros = zeros_of(sorted);
     let middle = zeros / 2 + sorted.len() / 2;
+    if is_one_class(sorted, zeros) {
+        return no_heaps();
+    }
     for away in 0..sorted.len() {
         if is_step(sorted, middle.saturating_sub(away)) {
             return heaps_before(sorted, middle.saturating_sub(away), zeros);
@@ -41,11 +60,21 @@ fn middle_heaps(sorted: &[u64]) -> Heaps {
             return heaps_before(sorted, middle.saturating_add(away), zeros);
         }
     }
+    no_heaps()
+}
+
+// What tells that there are no two heaps.
+fn no_heaps() -> Heaps {
     Heaps {
         low: 0,
         high: 0,
         lighter: 0,
     }
+}
+
+// Whether the numbers from the first class on are alike.
+fn is_one_class(sorted: &[u64], zeros: usize) -> bool {
+    zeros >= sorted.len() || sorted[zeros] == sorted[sorted.len() - 1]
 }
 
 // Whether the number before a place is a class, and the one there another.

@@ -111,9 +111,8 @@ impl LinePatterns {
         ensures { IfOk result (AreHalves views.now side.now) }
     {
         let _shape = views.rows();
-        let lines = &side.lines;
-        let one = lines.with_rows(alloc, views, &self.rows, true)?;
-        let other = lines.with_rows(alloc, views, &self.rows, false)?;
+        let one = LineWords::of_rows(alloc, views, &self.rows, true)?;
+        let other = LineWords::of_rows(alloc, views, &self.rows, false)?;
         grown_halves(alloc, views, side, &one, &other)
     }
 
@@ -128,9 +127,8 @@ impl LinePatterns {
         ensures { IfOk result (AreHalves views.now side.now) }
     {
         let _shape = views.rows();
-        let lines = &side.lines;
-        let one = lines.with_columns(alloc, views, &self.columns, true)?;
-        let other = lines.with_columns(alloc, views, &self.columns, false)?;
+        let one = LineWords::of_columns(alloc, views, &self.columns, true)?;
+        let other = LineWords::of_columns(alloc, views, &self.columns, false)?;
         grown_halves(alloc, views, side, &one, &other)
     }
 }

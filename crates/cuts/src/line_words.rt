@@ -4,7 +4,7 @@ ghost use Rattle.cmr_base.specs.ColumnSets.{has_column};
 ghost use Rattle.cmr_base.specs.Matrix.{height};
 ghost use Rattle.cmr_base.specs.Planes.{words_for};
 ghost use Rattle.cmr_base.specs.declared.line.Line.{Line};
-ghost use Rattle.cuts.specs.Covers.{AddsAtMost, AreWithin, IsLineOf};
+ghost use Rattle.cuts.specs.Covers.{AreWithin, IsLineOf};
 ghost use Rattle.cuts.specs.LineSets.{HasWords, columns_heap, is_in_heap, rows_heap, set_of};
 
 use crate::heaps::Heaps;
@@ -50,40 +50,36 @@ impl LineWords {
         Ok(lines)
     }
 
-    /// The lines and the rows of one heap of classes, or of the other.
-    pub fn with_rows(
-        &self,
+    /// The rows of one heap of classes, or of the other.
+    pub fn of_rows(
         alloc: Global,
         views: &RowsAndColumns<'_>,
         patterns: &Patterns,
         inside: bool,
     ) -> Result<LineWords, Memory>
-        requires size { HasWords views.now self.now }
-        requires classes { length patterns.now.classes.items ≡ height views.now }
+        requires { length patterns.now.classes.items ≡ height views.now }
         ensures size { IfOk result (HasWords views.now) }
-        ensures lines { IfOk result (λ lines.
-            AddsAtMost views.now (set_of lines) (set_of self.now) (rows_heap patterns.now inside)) }
+        ensures lines { IfOk result (λ lines. (x : Line) → IsLineOf views.now x
+            → set_of lines x ≡ true → rows_heap patterns.now inside x ≡ true) }
     {
-        let mut lines = self.copied(alloc, views)?;
+        let mut lines = LineWords::new(alloc, views)?;
         add_heap(&mut lines.rows, views.rows(), patterns, inside);
         Ok(lines)
     }
 
-    /// The lines and the columns of one heap of classes, or of the other.
-    pub fn with_columns(
-        &self,
+    /// The columns of one heap of classes, or of the other.
+    pub fn of_columns(
         alloc: Global,
         views: &RowsAndColumns<'_>,
         patterns: &Patterns,
         inside: bool,
     ) -> Result<LineWords, Memory>
-        requires size { HasWords views.now self.now }
-        requires classes { length patterns.now.classes.items ≡ views.now.width }
+        requires { length patterns.now.classes.items ≡ views.now.width }
         ensures size { IfOk result (HasWords views.now) }
-        ensures lines { IfOk result (λ lines. AddsAtMost views.now (set_of lines) (set_of self.now)
-            (columns_heap patterns.now inside)) }
+        ensures lines { IfOk result (λ lines. (x : Line) → IsLineOf views.now x
+            → set_of lines x ≡ true → columns_heap patterns.now inside x ≡ true) }
     {
-        let mut lines = self.copied(alloc, views)?;
+        let mut lines = LineWords::new(alloc, views)?;
         add_heap(&mut lines.columns, views.columns(), patterns, inside);
         Ok(lines)
     }

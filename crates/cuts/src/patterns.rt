@@ -7,6 +7,7 @@ ghost use Rattle.cuts.specs.Patterns.{AreAtMostBeside, AreAtMostListed, AreOpen,
 use crate::heaps::{Heaps, heaps_of};
 use crate::words::has_line;
 use cmr_base::Memory;
+use cmr_base::columns::next_column;
 use std::alloc::Global;
 
 /// Classes of the rows, how many rows that are not among some are at most in class 0 and in one other, and two heaps of
@@ -48,14 +49,17 @@ impl Patterns {
 
 // The class of a row of the other side, or 0 if none has a class.
 fn pinned_class(rows: u32, classes: &[u64], own: &[u64], far: &[u64]) -> u64
+    requires rows { rows ≤ 1000 }
     requires classes { length classes.now ≡ rows }
     requires own { length own.now ≡ words_for rows }
     requires far { length far.now ≡ words_for rows }
 {
-    for row in 0..rows {
-        if has_line(far, row) && !has_line(own, row) && classes[row as usize] != 0 {
+    let mut from = 0;
+    while let Some(row) = next_column(far, from) {
+        if row < rows && !has_line(own, row) && classes[row as usize] != 0 {
             return classes[row as usize];
         }
+        from = row + 1;
     }
     0
 }

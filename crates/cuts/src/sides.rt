@@ -93,8 +93,10 @@ impl Side {
         ensures lines { IfOk result (λ side. (x : Line) → IsLineOf views.now x
             → set_of side.lines x ≡ true → (set_of self.now.lines x ≡ true) ⊎ (x ≡ line)) }
     {
-        let lines = self.lines.with_line(alloc, views, line)?;
-        self.grown(alloc, views, &lines)
+        let none = LineWords::new(alloc, views)?;
+        let lines = none.with_line(alloc, views, line)?;
+        let side = self.grown(alloc, views, &lines)?;
+        Ok(side)
     }
 }
 
@@ -121,14 +123,17 @@ fn grown_set(
     ensures only { IfOk result (λ grown. (x : ℕ) → has_column grown.set.items x ≡ true
         → (has_column set.now x ≡ true) ⊎ (has_column rows.now x ≡ true)) }
 {
+    let count = matrix.rows();
     let mut grown = NumberedSet {
         set: Vec::from_slice(alloc, set)?,
         numbers: Vec::from_slice(alloc, numbers)?,
     };
-    for row in 0..matrix.rows() {
-        if has_line(rows, row) && !has_line(set, row) {
+    let mut from = 0;
+    while let Some(row) = next_column(rows, from) {
+        if row < count && !has_line(set, row) {
             add_row(&mut grown, matrix, row);
         }
+        from = row + 1;
     }
     Ok(grown)
 }
