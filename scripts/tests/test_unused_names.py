@@ -22,6 +22,9 @@ repeats_itself x = repeats_itself x
 
 pub cited_above : (x : ℕ) → IsUsed x
 cited_above x = x
+
+pub named_in_code : (x : ℕ) → IsUsed x
+named_in_code x = x
 """
 # A name that another file defines and cites.
 APART = """\
@@ -78,6 +81,7 @@ fn lonely() {
     unused_above();
 }
 
+#[tactic(auto, using(crate::proofs::Lemmas::named_in_code))]
 fn counted() -> u32 {
     1
 }
@@ -125,7 +129,7 @@ high/proofs/work/Answers.antt:9: left_over: cited nowhere
 high/proofs/Above.antt:9: another: cited nowhere
 low/src/parts.rt:10: unused_above: exported, and called by no other crate
 low/src/parts.rt:14: lonely: called nowhere
-low/src/parts.rt:26: stand_still: called nowhere
+low/src/parts.rt:27: stand_still: called nowhere
 """
 DECISIONS = """\
 # Decisions

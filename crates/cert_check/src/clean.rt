@@ -3,13 +3,13 @@ ghost use Rattle.std.specs.Prelude.{◌≡◌, ◌≤◌, ◌↔◌, min, IfOk, 
 ghost use Rattle.cmr_base.specs.Matrix.{height, IsMatrix};
 ghost use Rattle.cmr_base.specs.Violator.{HasNoViolator};
 
-use cmr_base::{Matrix, Memory, set_count, write_set};
+use cmr_base::{MAX_LINES, Matrix, Memory, set_count, write_set};
 use parity::ColumnSearch;
 use std::alloc::Global;
 
 /// Whether no submatrix is a violator. All sets of the shorter side are tried.
 pub fn is_clean(alloc: Global, matrix: &Matrix) -> Result<bool, Memory>
-    requires { min (height matrix.now) matrix.now.width ≤ 24 }
+    requires { min (height matrix.now) matrix.now.width ≤ MAX_LINES }
     ensures { IfOk result (λ yes. IsTrue yes ↔ HasNoViolator matrix.now) }
 {
     if matrix.rows() <= matrix.columns() {
@@ -20,7 +20,7 @@ pub fn is_clean(alloc: Global, matrix: &Matrix) -> Result<bool, Memory>
 }
 
 fn is_clean_by_columns(alloc: Global, matrix: &Matrix) -> Result<bool, Memory>
-    requires few { matrix.now.width ≤ 24 }
+    requires few { matrix.now.width ≤ MAX_LINES }
     requires shape { IsMatrix matrix.now }
     ensures { IfOk result (λ yes. IsTrue yes ↔ HasNoViolator matrix.now) }
 {
@@ -29,7 +29,7 @@ fn is_clean_by_columns(alloc: Global, matrix: &Matrix) -> Result<bool, Memory>
 }
 
 fn is_clean_by_rows(alloc: Global, matrix: &Matrix) -> Result<bool, Memory>
-    requires { height matrix.now ≤ 24 }
+    requires { height matrix.now ≤ MAX_LINES }
     ensures { IfOk result (λ yes. IsTrue yes ↔ HasNoViolator matrix.now) }
 {
     let count = matrix.rows();

@@ -5,6 +5,7 @@ use Rattle.cmr_front.specs.declared.input.InputKind.{InputKind}
 use Rattle.cmr_front.specs.declared.input.InputKind.TheVariants.{MatrixText, Evidence}
 use Rattle.cmr_front.specs.declared.input.Text.{Text}
 use Rattle.cmr_front.specs.Report.{Held}
+use Rattle.cmr_base.specs.declared.limits.TheConstants.{MAX_EVIDENCE, MAX_TEXT}
 
 -- a file that is read
 pub record InputFile : Type 0 where
@@ -20,8 +21,8 @@ bytes_of text = text.bytes.items
 
 -- the most bytes that it may have: 16 MiB and 256 MiB
 abbrev pub most_bytes : InputKind → ℕ
-most_bytes MatrixText = 16777216
-most_bytes Evidence = 268435456
+most_bytes MatrixText = MAX_TEXT
+most_bytes Evidence = MAX_EVIDENCE
 
 -- a file that is not there, one above its limit, or all that it holds
 pub data Reading : Type 0 where

@@ -1,10 +1,10 @@
 -- Lines of a tree's text, word by word.
 use Rattle.std.proofs.Common.{◌≡◌, ◌<◌, ◌∙◌, ◌++◌, ◌∷◌, [], ℕ, List, false, length, get_or, map, drop, ◌+◌, append_assoc, refl, ap, sym, arith}
-use Rattle.std.specs.Prelude.{fold}
+use Rattle.std.specs.Prelude.{fold, codes}
 use Rattle.std.specs.Fmt.{decimal}
 use Rattle.std.specs.List.{flat_map}
 use Rattle.std.proofs.lemmas.List.Sums.{fold-append}
-use Rattle.std.proofs.lemmas.List.{drop_more}
+use Rattle.std.proofs.lemmas.List.{append-nil, drop_more}
 use Rattle.cmr_base.specs.declared.network.Network as net
 use Rattle.cmr_base.specs.declared.network.Pair.{Pair}
 use Rattle.text_fields.specs.Written.{Draft, with_word, with_end, with_line, text_line, text_of_lines}
@@ -55,6 +55,11 @@ walks_some n some = later_words (flat_map pair_words n.arcs) n.walks some
 pub one_sum_line : (node : Node) (children : NodeList) → node.kind ≡ kind.OneSum children → (decimal (length (nodes_in children)) ∷ []) ∷ [] ≡ own_line (tree_of node)
 one_sum_line node children is =
     sym (ap own_line (tree_is node ∙ ap (λ (s : Finding × Trees). Branch node.lines s.0 s.1) (ap said is ∙ said_one_sum children)) ∙ ap (λ n. (decimal n ∷ []) ∷ []) (count_is children))
+
+-- the lines of a node with two children
+pub both_written : (start : Draft) (front one two : List (List (List ℕ))) → fold with_line (fold with_line (fold with_line start front) one) two ≡ fold with_line start (front ++ (one ++ (two ++ [])))
+both_written start front one two =
+    sym (fold-append with_line start front (one ++ (two ++ [])) ∙ fold-append with_line (fold with_line start front) one (two ++ []) ∙ ap (fold with_line (fold with_line (fold with_line start front) one)) (append-nil two))
 
 -- the lines of one more child
 pub child_written : (start : Draft) (nodes : List Node) (i : ℕ) (after : Draft) (total : Draft) (node : Node) → i < length nodes → node ≡ get_or nodes i node

@@ -14,7 +14,8 @@ use crate::kind_word::KindWord;
 use crate::value::Sizes;
 use crate::{TreeError, field};
 use cmr_base::{
-    Connector, Form, Indices, Line, LineList, LineSet, Network, Pair, PairList, Three, Two,
+    Connector, Form, Indices, Line, LineList, LineSet, MAX_COLUMNS, MAX_ROWS, Network, Pair,
+    PairList, Three, Two,
 };
 use std::alloc::Global;
 use text_fields::Words;
@@ -120,7 +121,7 @@ fn read_network(
     arcs: &Indices,
     walks: &Indices,
 ) -> Result<Network, TreeError>
-    requires { length arcs.now ≤ 1000 }
+    requires { length arcs.now ≤ MAX_ROWS }
     ensures { Reads (λ net. net) words.new result
         (network (length arcs.now) (length walks.now) words.old) }
 {
@@ -198,8 +199,8 @@ pub fn read_own_part(
     lines: &LineSet,
     kind: KindWord,
 ) -> Result<OwnPart, TreeError>
-    requires rows { length lines.now.rows ≤ 1000 }
-    requires columns { length lines.now.columns ≤ 1000 }
+    requires rows { length lines.now.rows ≤ MAX_ROWS }
+    requires columns { length lines.now.columns ≤ MAX_COLUMNS }
     ensures read { Reads own_shown words.new result (own_part sizes lines.now kind words.old) }
     ensures children { IfOk result (λ own. HasChildren (finding_shown own.finding) own.children) }
 {
@@ -249,8 +250,8 @@ pub fn read_front(
     header: Header,
     parent: Option<&LineSet>,
 ) -> Result<Box<Front>, TreeError>
-    requires rows { header.sizes.rows ≤ 1000 }
-    requires columns { header.sizes.columns ≤ 1000 }
+    requires rows { header.sizes.rows ≤ MAX_ROWS }
+    requires columns { header.sizes.columns ≤ MAX_COLUMNS }
     ensures read { Reads (λ front. front_shown front.value) words.new result
         (front header (option_copied parent.entry) words.old) }
     ensures children { IfOk result (λ front.

@@ -42,8 +42,8 @@ fn read_root(
     header: Header,
     levels: u32,
 ) -> Result<Node, TreeError>
-    requires rows { header.sizes.rows ≤ 1000 }
-    requires columns { header.sizes.columns ≤ 1000 }
+    requires rows { header.sizes.rows ≤ MAX_ROWS }
+    requires columns { header.sizes.columns ≤ MAX_COLUMNS }
     ensures { Reads tree_of words.new result (node header levels None words.old) }
 {
     let mut roots = Vec::new(alloc);
@@ -64,8 +64,8 @@ fn read_node(
     levels: u32,
     nodes: &mut Vec<Node>,
 ) -> Result<(), TreeError>
-    requires rows { header.sizes.rows ≤ 1000 }
-    requires columns { header.sizes.columns ≤ 1000 }
+    requires rows { header.sizes.rows ≤ MAX_ROWS }
+    requires columns { header.sizes.columns ≤ MAX_COLUMNS }
     ensures { Reads
         (λ x. map tree_of nodes.new.items)
         words.new result

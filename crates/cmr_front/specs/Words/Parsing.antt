@@ -9,6 +9,7 @@ use Rattle.clap.specs.ValueTests.{is_signed_in}
 use Rattle.cmr_front.specs.declared.matrix_file.MatrixForm.{MatrixForm}
 use Rattle.cmr_front.specs.declared.matrix_file.MatrixForm.TheVariants.{Dense, Sparse}
 use Rattle.cmr_front.specs.Words.Reading.{◌>>=◌}
+use Rattle.cmr_base.specs.declared.limits.TheConstants.{MAX_LINES}
 
 abbrev pub is_dash : Text → Bool
 is_dash word = bytes_eq word (codes "-")
@@ -56,7 +57,7 @@ number_from least most text = if is_signed_in (pos least) (pos most) text
 
 -- L is 0 to 24, and 14 where it is left out
 abbrev pub lines_in : List Row → Option ℕ
-lines_in rows = option_map_or (number_from 0 24) (first_of (codes "lines") rows) (Some 14)
+lines_in rows = option_map_or (number_from 0 MAX_LINES) (first_of (codes "lines") rows) (Some 14)
 
 -- K is 0 to 100, and 0 where it is left out
 abbrev pub pivots_in : List Row → Option ℕ
