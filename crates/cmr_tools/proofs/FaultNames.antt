@@ -39,28 +39,28 @@ use Rattle.cmr_reach.specs.Words.Camion.{CamionOrder}
 use Rattle.cmr_reach.specs.Words.Compose.{ComposeOrder}
 use Rattle.cmr_reach.specs.Words.Parts.{PartsOrder}
 use Rattle.cmr_reach.specs.Words.Sign.{SignOrder}
-use Rattle.cmr_tools.specs.declared.options.Property.{Property}
-use Rattle.cmr_tools.specs.declared.tools.check.EvidenceKind.{EvidenceKind}
-use Rattle.cmr_tools.specs.declared.tools.check.EvidenceKind.TheVariants as kinds
-use Rattle.cmr_tools.specs.Check as check
-use Rattle.cmr_tools.specs.Check.{ChainDecides, CheckReportsBy, EvidenceReports, TreeDecides, ViolatorDecides, accepted_report, evidence_kind, is_of_support}
-use Rattle.cmr_tools.specs.Generate.{GenerateDecides, generate_report}
-use Rattle.cmr_tools.specs.GraphMatrix.{GraphDecides, either_tool, graph_matrix_tool}
-use Rattle.cmr_tools.specs.GraphicNetwork as test
-use Rattle.cmr_tools.specs.GraphicNetwork.{TestDecides, path_tool, test_source}
+use Rattle.cmr_unimodular.specs.declared.options.Property.{Property}
+use Rattle.cmr_unimodular.specs.declared.tools.check.EvidenceKind.{EvidenceKind}
+use Rattle.cmr_unimodular.specs.declared.tools.check.EvidenceKind.TheVariants as kinds
+use Rattle.cmr_unimodular.specs.Check as check
+use Rattle.cmr_unimodular.specs.Check.{ChainDecides, CheckReportsBy, EvidenceReports, TreeDecides, ViolatorDecides, accepted_report, evidence_kind, is_of_support}
+use Rattle.cmr_unimodular.specs.Generate.{GenerateDecides, generate_report}
+use Rattle.cmr_unimodular.specs.GraphMatrix.{GraphDecides, either_tool, graph_matrix_tool}
+use Rattle.cmr_unimodular.specs.GraphicNetwork as test
+use Rattle.cmr_unimodular.specs.GraphicNetwork.{TestDecides, path_tool, test_source}
 use Rattle.cmr_tools.specs.Laws.{FaultsAreOfFiles, IsFaultOfFile}
-use Rattle.cmr_tools.specs.Regular.{RegularDecides, regular_source}
-use Rattle.cmr_tools.specs.SeriesParallel as series
-use Rattle.cmr_tools.specs.SeriesParallel.{SeriesParallelDecides, series_parallel_source}
-use Rattle.cmr_tools.specs.Tu.{tu_source, tu_verdict}
-use Rattle.cmr_tools.specs.Upgrade.{UpgradeDecides}
-use Rattle.cmr_tools.specs.Verdict.{Decides, answer_of, verdict_in}
+use Rattle.cmr_unimodular.specs.Regular.{RegularDecides, regular_source}
+use Rattle.cmr_unimodular.specs.SeriesParallel as series
+use Rattle.cmr_unimodular.specs.SeriesParallel.{SeriesParallelDecides, series_parallel_source}
+use Rattle.cmr_unimodular.specs.Tu.{tu_source, tu_verdict}
+use Rattle.cmr_unimodular.specs.Upgrade.{UpgradeDecides}
+use Rattle.cmr_unimodular.specs.Verdict.{Decides, answer_of, verdict_in}
 use Rattle.cmr_tools.specs.Words as order
 use Rattle.cmr_tools.specs.Words.{Order}
-use Rattle.cmr_tools.specs.Words.Check.{CheckOrder}
-use Rattle.cmr_tools.specs.Words.Generate.{GenerateOrder}
-use Rattle.cmr_tools.specs.Words.GraphicNetwork.{TestOrder}
-use Rattle.cmr_tools.specs.Words.SeriesParallel.{SeriesParallelOrder}
+use Rattle.cmr_unimodular.specs.Words.Check.{CheckOrder}
+use Rattle.cmr_unimodular.specs.Words.Generate.{GenerateOrder}
+use Rattle.cmr_unimodular.specs.Words.GraphicNetwork.{TestOrder}
+use Rattle.cmr_unimodular.specs.Words.SeriesParallel.{SeriesParallelOrder}
 
 abbrev IsOfText : Report → Type 0
 IsOfText report = report.status ≡ failure_status Text

@@ -4,28 +4,28 @@ use Rattle.std.specs.Str.{bytes_eq}
 use Rattle.clap.specs.Words.{Row, Text, first_of}
 use Rattle.cmr_front.specs.declared.matrix_file.MatrixForm.{MatrixForm}
 use Rattle.cmr_tools.specs.Tools.{tool_of}
-use Rattle.cmr_tools.specs.declared.options.Property.TheVariants.{Graphic, Network}
+use Rattle.cmr_unimodular.specs.declared.options.Property.TheVariants.{Graphic, Network}
 use Rattle.cmr_tools.specs.Words.{Order, order, tu, regular, series_parallel, test, generate, check, upgrade, camion, sign, balanced, parts, compose}
 use Rattle.cmr_front.specs.Words.Parsing.{fault_in, file_in, form_in, lines_in, matches_in, matches_with_input, number_from, pivots_in, workers_in}
 use Rattle.cmr_front.specs.Words.Reading.{◌>>=◌}
 use Rattle.generate.specs.declared.making.MakeKind.{MakeKind}
-use Rattle.cmr_tools.specs.Generate.{IsInRange}
-use Rattle.cmr_tools.specs.Regular.{regular_tool}
-use Rattle.cmr_tools.specs.Tu.{tu_tool}
-use Rattle.cmr_tools.specs.Words.Generate.{GenerateOrder, generate_app, generate_order, generate_order_in, kind_in, most_size, number_in, size_in}
-use Rattle.cmr_tools.specs.Words.Check.{check_order}
-use Rattle.cmr_tools.specs.Words.Upgrade.{upgrade_order}
-use Rattle.cmr_tools.specs.Words.Regular.{RegularOrder, regular_app, regular_order, regular_order_in}
-use Rattle.cmr_tools.specs.Words.SeriesParallel.{series_parallel_order}
-use Rattle.cmr_tools.specs.Words.GraphicNetwork.{test_order}
-use Rattle.cmr_tools.proofs.GraphMatrixAnswers.{test_in_ranges}
+use Rattle.cmr_unimodular.specs.Generate.{IsInRange}
+use Rattle.cmr_unimodular.specs.Regular.{regular_tool}
+use Rattle.cmr_unimodular.specs.Tu.{tu_tool}
+use Rattle.cmr_unimodular.specs.Words.Generate.{GenerateOrder, generate_app, generate_order, generate_order_in, kind_in, most_size, number_in, size_in}
+use Rattle.cmr_unimodular.specs.Words.Check.{check_order}
+use Rattle.cmr_unimodular.specs.Words.Upgrade.{upgrade_order}
+use Rattle.cmr_unimodular.specs.Words.Regular.{RegularOrder, regular_app, regular_order, regular_order_in}
+use Rattle.cmr_unimodular.specs.Words.SeriesParallel.{series_parallel_order}
+use Rattle.cmr_unimodular.specs.Words.GraphicNetwork.{test_order}
+use Rattle.cmr_unimodular.proofs.GraphMatrixAnswers.{test_in_ranges}
 use Rattle.cmr_reach.specs.Words.Balanced.{balanced_order}
 use Rattle.cmr_reach.specs.Words.Camion.{camion_order}
 use Rattle.cmr_reach.specs.Words.Compose.{compose_order}
 use Rattle.cmr_reach.specs.Words.Parts.{parts_order}
 use Rattle.cmr_reach.specs.Words.Sign.{sign_order}
 use Rattle.cmr_reach.proofs.BalancedAnswers.{balanced_order-ranges}
-use Rattle.cmr_tools.specs.Words.Tu.{TuOrder, tu_app, tu_order, tu_order_in}
+use Rattle.cmr_unimodular.specs.Words.Tu.{TuOrder, tu_app, tu_order, tu_order_in}
 use Rattle.cmr_front.proofs.Numbers.{lines_in-le, number_from-between, pivots_in-le, workers_in-between}
 
 -- the numbers that words of `tu` name

@@ -10,12 +10,12 @@ use Rattle.cmr_front.specs.Outcome.{bad_text}
 use Rattle.cmr_front.specs.Report.{Held, Report, with_files}
 use Rattle.cmr_front.specs.Run.{ReportsHeld}
 use Rattle.cmr_front.specs.Status.{answer_status, failure_status}
-use Rattle.cmr_tools.specs.declared.options.Property.{Property}
-use Rattle.cmr_tools.specs.GraphMatrix.{graph_matrix_report, graph_matrix_tool, test_tool}
-use Rattle.cmr_tools.specs.GraphicNetwork.{IsTestable, TestDecides, is_binary}
+use Rattle.cmr_unimodular.specs.declared.options.Property.{Property}
+use Rattle.cmr_unimodular.specs.GraphMatrix.{graph_matrix_report, graph_matrix_tool, test_tool}
+use Rattle.cmr_unimodular.specs.GraphicNetwork.{IsTestable, TestDecides, is_binary}
 use Rattle.cmr_tools.specs.Tools.{tool_of}
 use Rattle.cmr_tools.specs.Words.{Order}
-use Rattle.cmr_tools.specs.Words.GraphicNetwork.{TestOrder}
+use Rattle.cmr_unimodular.specs.Words.GraphicNetwork.{TestOrder}
 
 -- With `-c` a text gives the matrix, and no other report.
 abbrev pub GivesMatrix : Property → List ℕ → Matrix → Type 0

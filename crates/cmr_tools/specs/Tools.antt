@@ -1,19 +1,19 @@
 -- The tools that an order can name.
 use Rattle.std.specs.Prelude.{Option, Some, None}
 use Rattle.cmr_front.specs.Run.{Ordered, nothing, work}
-use Rattle.cmr_tools.specs.Generate.{generate_tool}
-use Rattle.cmr_tools.specs.Check.{check_tool}
-use Rattle.cmr_tools.specs.Upgrade.{upgrade_tool}
-use Rattle.cmr_tools.specs.GraphMatrix.{test_tool}
-use Rattle.cmr_tools.specs.Regular.{regular_tool}
-use Rattle.cmr_tools.specs.SeriesParallel.{series_parallel_tool}
+use Rattle.cmr_unimodular.specs.Generate.{generate_tool}
+use Rattle.cmr_unimodular.specs.Check.{check_tool}
+use Rattle.cmr_unimodular.specs.Upgrade.{upgrade_tool}
+use Rattle.cmr_unimodular.specs.GraphMatrix.{test_tool}
+use Rattle.cmr_unimodular.specs.Regular.{regular_tool}
+use Rattle.cmr_unimodular.specs.SeriesParallel.{series_parallel_tool}
 use Rattle.cmr_front.specs.Tool.{Tool}
 use Rattle.cmr_reach.specs.Balanced.{balanced_tool}
 use Rattle.cmr_reach.specs.Camion.{camion_tool}
 use Rattle.cmr_reach.specs.Compose.{compose_tool}
 use Rattle.cmr_reach.specs.Parts.{parts_tool}
 use Rattle.cmr_reach.specs.Sign.{sign_tool}
-use Rattle.cmr_tools.specs.Tu.{tu_tool}
+use Rattle.cmr_unimodular.specs.Tu.{tu_tool}
 use Rattle.cmr_tools.specs.Words.{Order, tu, regular, series_parallel, test, generate, check, upgrade, camion, sign, balanced, parts, compose}
 
 abbrev pub tool_of : Order → Tool

@@ -1,29 +1,22 @@
 -- What the words of the command line order.
-pub mod Check
-pub mod Upgrade
-pub mod SeriesParallel
-pub mod GraphicNetwork
-pub mod Tu
-pub mod Regular
-pub mod Generate
 use Rattle.std.specs.Prelude.{ℕ, List, [], ◌∷◌, Option, Some, None, option_map, if◌then◌else◌, codes}
 use Rattle.std.specs.Str.{bytes_eq}
-use Rattle.cmr_tools.specs.declared.options.Command.{Command}
-use Rattle.cmr_tools.specs.declared.options.Command.TheVariants as command
-use Rattle.cmr_tools.specs.declared.options.Property.{Property}
-use Rattle.cmr_tools.specs.declared.options.Property.TheVariants.{Graphic, Network}
-use Rattle.cmr_tools.specs.Words.Check.{CheckOrder, check_order, check_order_of}
-use Rattle.cmr_tools.specs.Words.Upgrade.{UpgradeOrder, upgrade_order, upgrade_order_of}
-use Rattle.cmr_tools.specs.Words.SeriesParallel.{SeriesParallelOrder, series_parallel_order, series_parallel_order_of}
-use Rattle.cmr_tools.specs.Words.GraphicNetwork.{TestOrder, test_order, test_order_of}
+use Rattle.cmr_tools.specs.declared.words.Command.{Command}
+use Rattle.cmr_tools.specs.declared.words.Command.TheVariants as command
+use Rattle.cmr_unimodular.specs.declared.options.Property.{Property}
+use Rattle.cmr_unimodular.specs.declared.options.Property.TheVariants.{Graphic, Network}
+use Rattle.cmr_unimodular.specs.Words.Check.{CheckOrder, check_order, check_order_of}
+use Rattle.cmr_unimodular.specs.Words.Upgrade.{UpgradeOrder, upgrade_order, upgrade_order_of}
+use Rattle.cmr_unimodular.specs.Words.SeriesParallel.{SeriesParallelOrder, series_parallel_order, series_parallel_order_of}
+use Rattle.cmr_unimodular.specs.Words.GraphicNetwork.{TestOrder, test_order, test_order_of}
 use Rattle.cmr_reach.specs.Words.Balanced.{BalancedOrder, balanced_order, balanced_order_of}
 use Rattle.cmr_reach.specs.Words.Camion.{CamionOrder, camion_order, camion_order_of}
 use Rattle.cmr_reach.specs.Words.Compose.{ComposeOrder, compose_order, compose_order_of}
 use Rattle.cmr_reach.specs.Words.Parts.{PartsOrder, parts_order, parts_order_of}
 use Rattle.cmr_reach.specs.Words.Sign.{SignOrder, sign_order, sign_order_of}
-use Rattle.cmr_tools.specs.Words.Tu.{TuOrder, tu_order, tu_order_of}
-use Rattle.cmr_tools.specs.Words.Regular.{RegularOrder, regular_order, regular_order_of}
-use Rattle.cmr_tools.specs.Words.Generate.{GenerateOrder, generate_order, generate_order_of}
+use Rattle.cmr_unimodular.specs.Words.Tu.{TuOrder, tu_order, tu_order_of}
+use Rattle.cmr_unimodular.specs.Words.Regular.{RegularOrder, regular_order, regular_order_of}
+use Rattle.cmr_unimodular.specs.Words.Generate.{GenerateOrder, generate_order, generate_order_of}
 
 -- a tool with its options
 pub data Order : Type 0 where

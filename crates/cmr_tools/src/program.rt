@@ -7,21 +7,16 @@ ghost use Rattle.cmr_tools.specs.Tools.{ordered, tool_of};
 ghost use Rattle.cmr_tools.specs.Words.{Order, order, order_of};
 ghost use Rattle.cmr_front.specs.declared.status.Answer.{Answer};
 
-use crate::options::Command;
-use crate::tools::check::check;
-use crate::tools::generated::generate_and_run;
-use crate::tools::graphic_network::test_property;
-use crate::tools::regular::regular;
-use crate::tools::series_parallel::series_parallel;
-use crate::tools::tu::tu;
-use crate::tools::upgrade::upgrade;
-use crate::words::read_words;
+use crate::words::{Command, read_words};
 use cmr_base::WordList;
 use cmr_front::carry_out::carry_out;
 use cmr_front::outcome::Stop;
 use cmr_front::words::WordsError;
 use cmr_io::{Shelf, Sink};
 use cmr_reach::{balanced, camion, compose, parts, sign_rows};
+use cmr_unimodular::{
+    check, generate_and_run, regular, series_parallel, test_property, tu, upgrade,
+};
 use std::alloc::Global;
 use std::thread::Threads;
 
