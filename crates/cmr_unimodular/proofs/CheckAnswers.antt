@@ -31,17 +31,17 @@ use Rattle.tree_type.proofs.OneRefusal.{sound_unbroken}
 use Rattle.cmr_front.specs.declared.outcome.FaultKind.TheVariants as faults
 use Rattle.cmr_front.specs.declared.status.Answer.{Answer}
 use Rattle.cmr_front.specs.declared.status.Answer.TheVariants.{Yes, No, Undecided, Refused}
+use Rattle.cmr_front.specs.declared.status.Failure.TheVariants.{Text}
 use Rattle.cmr_front.specs.MatrixText.{matrix_in}
 use Rattle.cmr_front.specs.Report.{Report}
-use Rattle.cmr_front.specs.Status.{answer_status}
-use Rattle.cmr_front.specs.Tool.{IsLawful}
-use Rattle.cmr_front.proofs.Statuses.{status_of}
+use Rattle.cmr_front.specs.Status.{answer_status, failure_status}
+use Rattle.cmr_front.specs.Tool.{IsFaultOfFile, IsLawful}
+use Rattle.cmr_front.proofs.Statuses.{IsAnswered, status_of}
 use Rattle.cmr_front.specs.Evidence.{IsSoundFor, evidence_files}
-use Rattle.cmr_front.proofs.Texts.{answered, one_of_text, pair_lawful}
+use Rattle.cmr_front.proofs.Texts.{answered, one_of_text, pair_lawful, fault_of_last, fault_of_text}
 use Rattle.cmr_unimodular.specs.declared.tools.check.EvidenceKind.{EvidenceKind}
 use Rattle.cmr_unimodular.specs.declared.tools.check.EvidenceKind.TheVariants as kinds
-use Rattle.cmr_unimodular.specs.Check.{ChainDecides, ChainMeans, CheckMeans, CheckReports, EvidenceMeans, EvidenceReports, ShowsIrregular, TreeDecides, TreeMeans, ViolatorDecides, ViolatorMeans, accepted, refused, accepted_report, check_tool, evidence_kind, is_of_support}
-use Rattle.cmr_unimodular.specs.Words.Check.{CheckOrder}
+use Rattle.cmr_unimodular.specs.Check.{ChainDecides, ChainMeans, CheckMeans, CheckReports, EvidenceMeans, EvidenceReports, ShowsIrregular, TreeDecides, TreeMeans, ViolatorDecides, ViolatorMeans, accepted, refused, accepted_report, check_tool, evidence_kind, is_of_support, CheckOrder}
 use Rattle.cmr_unimodular.proofs.UnimodularAnswers.{unimodular, not_unimodular}
 
 -- ---- what a verdict says
@@ -156,6 +156,25 @@ chain_says a c r No (refused step not e) is = let s = status_of r _ e in absurd 
 chain_says a c r Undecided (refused step not e) is = let s = status_of r _ e in absurd (omega arith)
 chain_says a c r Refused (refused step not e) is = (step, not)
 
+-- ---- what is decided is an answer
+
+accepted_answers : (m : Matrix) (v : Verdict) (r : Report) → r ≡ accepted_report m v → IsAnswered r
+accepted_answers m verdicts.Yes r e = (Yes, status_of r _ e)
+accepted_answers m (verdicts.No fault) r e = (No, status_of r _ e)
+accepted_answers m (verdicts.Open lines) r e = (Undecided, status_of r _ e)
+
+tree_answers : (m : Matrix) (t : PlainTree) (r : Report) → TreeDecides m t r → IsAnswered r
+tree_answers m t r (accepted sound tells e) = accepted_answers m (verdict_of t.root) r e
+tree_answers m t r (refused path broken not e) = (Refused, status_of r _ e)
+
+violator_answers : (m : Matrix) (lines : LineSet) (r : Report) → ViolatorDecides m lines r → IsAnswered r
+violator_answers m lines r (accepted refuted e) = accepted_answers m (verdicts.No lines) r e
+violator_answers m lines r (refused not e) = (Refused, status_of r _ e)
+
+chain_answers : (a : Matrix) (c : SizedChain) (r : Report) → ChainDecides a c r → IsAnswered r
+chain_answers a c r (accepted signs shows e) = (No, status_of r _ e)
+chain_answers a c r (refused step broken e) = (Refused, status_of r _ e)
+
 -- ---- both texts
 
 module _ (file : List ℕ) where
@@ -187,5 +206,15 @@ module _ (o : CheckOrder) where
       let found = answered faults.Matrix o.matrix (λ m. EvidenceReports o.evidence kind m evidence) (matrix_in o.form (is_of_support kind) matrix) r answer a is in
       (found.0, found.1, evidence_says o.evidence kind evidence found.0 r answer found.2 is)
 
+  evidence_fault : (kind : EvidenceKind) (m : Matrix) (evidence : List ℕ) (r : Report) → EvidenceReports o.evidence kind m evidence r → r.status ≡ failure_status Text → IsFaultOfFile (evidence_files o.matrix o.evidence) r
+  evidence_fault kinds.Tree m evidence = fault_of_last faults.Tree o.evidence (TreeDecides m) (evidence_files o.matrix o.evidence) (1, omega arith, refl) (tree_answers m) (tree (text_of evidence))
+  evidence_fault kinds.Chain m evidence = fault_of_last faults.Chain o.evidence (ChainDecides m) (evidence_files o.matrix o.evidence) (1, omega arith, refl) (chain_answers m) (chain (text_of evidence))
+  evidence_fault kinds.Violator m evidence = fault_of_last faults.Matrix o.evidence (ViolatorDecides m) (evidence_files o.matrix o.evidence) (1, omega arith, refl) (violator_answers m) (submatrix (height m) m.width (text_of evidence))
+
+  fault : (matrix evidence : List ℕ) (r : Report) → CheckReports o matrix evidence r → r.status ≡ failure_status Text → IsFaultOfFile (evidence_files o.matrix o.evidence) r
+  fault matrix evidence =
+      let kind = evidence_kind evidence in
+      fault_of_text faults.Matrix o.matrix (λ m. EvidenceReports o.evidence kind m evidence) (evidence_files o.matrix o.evidence) (0, omega arith, refl) (λ m. evidence_fault kind m evidence) (matrix_in o.form (is_of_support kind) matrix)
+
 pub check_lawful : (o : CheckOrder) → IsLawful (check_tool o)
-check_lawful o = pair_lawful (CheckReports o) (CheckMeans o) (one o) (says o) (evidence_files o.matrix o.evidence)
+check_lawful o = pair_lawful (CheckReports o) (CheckMeans o) (one o) (says o) (evidence_files o.matrix o.evidence) (fault o)

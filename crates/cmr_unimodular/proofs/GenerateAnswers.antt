@@ -1,5 +1,5 @@
 -- What the answers of `generate` say of the matrix that is made.
-use Rattle.std.proofs.Common.{◌≡◌, ◌<◌, ◌≤◌, ◌∙◌, ℕ, Result, Ok, Err, sym, subst, arith}
+use Rattle.std.proofs.Common.{◌≡◌, ◌<◌, ◌≤◌, ◌∙◌, ℕ, Result, Ok, Err, sym, subst, arith, ◌^◌, List, Option, Some, None, refl, codes}
 use Rattle.std.specs.Prelude.{IfOk}
 use Rattle.cmr_base.specs.declared.memory.Memory.{Memory}
 use Rattle.cmr_base.specs.declared.network.Network.{Network as Net}
@@ -16,12 +16,15 @@ use Rattle.cmr_front.specs.Outcome.{outcome_report}
 use Rattle.cmr_front.specs.Report.{Report}
 use Rattle.cmr_front.specs.Status.{answer_status}
 use Rattle.cmr_front.specs.Tool.{IsLawful}
-use Rattle.cmr_front.proofs.Statuses.{status_of}
-use Rattle.cmr_unimodular.specs.Generate.{GenerateDecides, GenerateMeans, IsMade, generate_report, generate_tool, generate_verdict}
+use Rattle.cmr_front.proofs.Statuses.{IsAnswered, no_fault, status_of}
+use Rattle.cmr_unimodular.specs.Generate.{GenerateDecides, GenerateMeans, IsMade, generate_report, generate_tool, generate_verdict, GenerateOrder, most_size, IsInRange, generate_app, generate_order, generate_order_in, kind_in, number_in, size_in}
 use Rattle.cmr_unimodular.specs.Verdict.{Decides, answer_of, verdict_in}
-use Rattle.cmr_unimodular.specs.Words.Generate.{GenerateOrder, most_size}
 use Rattle.cmr_unimodular.proofs.OneVerdict.{one_verdict}
 use Rattle.cmr_unimodular.proofs.UnimodularAnswers.{unimodular_means}
+use Rattle.clap.specs.Words.{Row, Text, first_of}
+use Rattle.cmr_front.specs.Words.Reading.{◌>>=◌}
+use Rattle.cmr_front.specs.Words.Parsing.{lines_in, matches_in, number_from, pivots_in, workers_in}
+use Rattle.cmr_front.proofs.Numbers.{lines_in-le, number_from-between, pivots_in-le, workers_in-between}
 
 -- ---- one matrix is made
 
@@ -72,5 +75,54 @@ says o r answer d is =
     let status : answer_status (answer_of (verdict_in v.tree)) ≡ answer_status answer = sym (status_of d.told _ v.report_is) ∙ sym (status_of r _ d.report_is) ∙ is in
     (d.made, d.is_made, unimodular_means o.lines o.pivots d.made v.tree v.decomposition v.told answer status)
 
+answers : (o : GenerateOrder) (r : Report) → GenerateDecides o r → IsAnswered r
+answers o r d = (answer_of (verdict_in d.verdict.tree), status_of r _ d.report_is ∙ status_of d.told _ d.verdict.report_is)
+
 pub generate_lawful : (o : GenerateOrder) → IsLawful (generate_tool o)
-generate_lawful o = record { one_status = λ bytes. one_status o; means = λ bytes. says o }
+generate_lawful o = record { one_status = λ bytes. one_status o; means = λ bytes. says o; at_fault = λ bytes r d is. absurd (no_fault r (answers o r d) is) }
+
+-- the numbers that words of `generate` name
+size_in-range : (what : MakeKind) (rows : List Row) (size : ℕ) → size_in what rows ≡ Some size → (1 ≤ size) × (size ≤ most_size what)
+size_in-range what rows size e = go (first_of (codes "size") rows) e
+  where
+    go : (text : Option Text) → (text >>= number_from 1 (most_size what)) ≡ Some size → (1 ≤ size) × (size ≤ most_size what)
+    go None e = cc
+    go (Some text) e = number_from-between 1 (most_size what) text size e
+
+number_in-range : (rows : List Row) (number : ℕ) → number_in rows ≡ Some number → number < 2 ^ 31
+number_in-range rows number e = go (first_of (codes "number") rows) e
+  where
+    go : (text : Option Text) → (text >>= number_from 0 2147483647) ≡ Some number → number < 2 ^ 31
+    go None e = cc
+    go (Some text) e = let within = number_from-between 0 2147483647 text number e in omega arith
+
+pub generate_order-ranges : (words : List Text) (o : GenerateOrder) → generate_order words ≡ Some o → IsInRange o
+generate_order-ranges words o e = go (matches_in generate_app words) e
+  where
+    order_with : MakeKind → Option (List ℕ) → ℕ → ℕ → ℕ → ℕ → ℕ → GenerateOrder
+    order_with what output size number lines pivots workers = record { what = what; size = size; number = number; lines = lines; pivots = pivots; workers = workers; output = output }
+
+    of_values : (what : MakeKind) (output : Option (List ℕ)) (size number lines pivots workers : Option ℕ)
+        → ((n : ℕ) → size ≡ Some n → (1 ≤ n) × (n ≤ most_size what)) → ((n : ℕ) → number ≡ Some n → n < 2 ^ 31) → ((n : ℕ) → lines ≡ Some n → n ≤ 24)
+        → ((n : ℕ) → pivots ≡ Some n → n ≤ 100) → ((n : ℕ) → workers ≡ Some n → (1 ≤ n) × (n ≤ 64))
+        → (size >>= (λ s. number >>= (λ n. lines >>= (λ l. pivots >>= (λ p. workers >>= (λ w. Some (order_with what output s n l p w))))))) ≡ Some o → IsInRange o
+    of_values what output None number lines pivots workers of_size of_number of_lines of_pivots of_workers e = cc
+    of_values what output (Some s) None lines pivots workers of_size of_number of_lines of_pivots of_workers e = cc
+    of_values what output (Some s) (Some n) None pivots workers of_size of_number of_lines of_pivots of_workers e = cc
+    of_values what output (Some s) (Some n) (Some l) None workers of_size of_number of_lines of_pivots of_workers e = cc
+    of_values what output (Some s) (Some n) (Some l) (Some p) None of_size of_number of_lines of_pivots of_workers e = cc
+    of_values what output (Some s) (Some n) (Some l) (Some p) (Some w) of_size of_number of_lines of_pivots of_workers e =
+        let same : order_with what output s n l p w ≡ o = cc in
+        subst IsInRange same
+        (record { positive = (of_size s refl).0; size = (of_size s refl).1; number = of_number n refl; lines = of_lines l refl; pivots = of_pivots p refl; workers = of_workers w refl })
+
+    of_kind : (what : Option MakeKind) (rows : List Row)
+        → (what >>= (λ k. size_in k rows >>= (λ s. number_in rows >>= (λ n. lines_in rows >>= (λ l. pivots_in rows >>= (λ p. workers_in rows >>= (λ w. Some (order_with k (first_of (codes "output") rows) s n l p w)))))))) ≡ Some o → IsInRange o
+    of_kind None rows e = cc
+    of_kind (Some k) rows e =
+        of_values k (first_of (codes "output") rows) (size_in k rows) (number_in rows) (lines_in rows) (pivots_in rows) (workers_in rows)
+        (size_in-range k rows) (number_in-range rows) (lines_in-le rows) (pivots_in-le rows) (workers_in-between rows) e
+
+    go : (rows : Option (List Row)) → (rows >>= generate_order_in) ≡ Some o → IsInRange o
+    go None e = cc
+    go (Some rows) e = of_kind (kind_in rows) rows e

@@ -14,11 +14,11 @@ use Rattle.cmr_front.specs.Status.{answer_status}
 use Rattle.cmr_front.specs.Tool.{HasOneReport, IsLawful}
 use Rattle.cmr_front.proofs.GraphFile.{graph_lawful, one_report_of_graph}
 use Rattle.cmr_front.proofs.Statuses.{status_of}
-use Rattle.cmr_unimodular.specs.declared.options.Property.{Property}
-use Rattle.cmr_unimodular.specs.declared.options.Property.TheVariants.{Graphic, Network}
-use Rattle.cmr_unimodular.specs.GraphicNetwork.{IsTestable, Shows, path_tool}
+use Rattle.cmr_unimodular.specs.declared.tools.graphic_network.Property.{Property}
+use Rattle.cmr_unimodular.specs.declared.tools.graphic_network.Property.TheVariants.{Graphic, Network}
+use Rattle.cmr_unimodular.specs.GraphicNetwork.{IsTestable, Shows, path_tool, TestOrder}
 use Rattle.cmr_unimodular.specs.GraphMatrix.{GraphDecides, GraphMeans, IsMatrixOf, either_tool, graph_matrix_report, graph_matrix_tool, test_tool}
-use Rattle.cmr_unimodular.specs.Words.GraphicNetwork.{TestOrder}
+use Rattle.cmr_unimodular.proofs.GraphicNetworkAnswers.{path_lawful}
 
 -- a matrix that was made from a network
 pub matrix_made : (p : Property) (net : SizedNetwork) (r : Result Matrix Memory) → IfOk r IsMatrix → IfOk r (λ m. height m ≡ net.rows) → IfOk r (λ m. m.width ≡ net.columns) → IfOk r (IsTestable p) → IfOk r (Shows p net.net)
@@ -44,10 +44,18 @@ says p net r Undecided (m, is, e) at = let s = status_of r _ e in absurd (omega 
 says p net r Refused (m, is, e) at = let s = status_of r _ e in absurd (omega arith)
 
 pub graph_matrix_lawful : (p : Property) (file : List ℕ) → IsLawful (graph_matrix_tool p file)
-graph_matrix_lawful p file = graph_lawful file (GraphDecides p) (GraphMeans p) (λ net r s a b. ap (λ (report : Report). report.status) (one_report p net r s a b)) (says p)
+graph_matrix_lawful p file = graph_lawful file (GraphDecides p) (GraphMeans p) (λ net r s a b. ap (λ (report : Report). report.status) (one_report p net r s a b)) (says p) (λ net r made. (Yes, status_of r _ made.2))
 
 pub one_graph_matrix : (p : Property) (file : List ℕ) → HasOneReport (graph_matrix_tool p file)
 one_graph_matrix p file = one_report_of_graph file (GraphDecides p) (GraphMeans p) (one_report p)
+
+-- with `-c` or without
+pub test_lawful : (p : Property) (o : TestOrder) → IsLawful (test_tool p o)
+test_lawful p o = go o.from_graph
+  where
+    go : (b : Bool) → IsLawful (either_tool b (graph_matrix_tool p o.file) (path_tool p o))
+    go true = graph_matrix_lawful p o.file
+    go false = path_lawful p o
 
 -- the tools have no numbers
 pub test_in_ranges : (p : Property) (o : TestOrder) → (test_tool p o).InRanges

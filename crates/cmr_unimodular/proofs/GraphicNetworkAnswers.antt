@@ -9,19 +9,18 @@ use Rattle.cmr_base.specs.LineSets.{AllBelow}
 use Rattle.cmr_base.specs.Trees.{HasGraphicSupport, IsGraphic, IsNetworkOf, ReproducesSupport}
 use Rattle.cmr_base.specs.GreedySets.{IsGreedySet, IsMinimalWithout}
 use Rattle.cmr_base.proofs.Parts.{height-transposed}
-use Rattle.cmr_unimodular.specs.declared.options.Property.{Property}
-use Rattle.cmr_unimodular.specs.declared.options.Property.TheVariants.{Graphic, Network}
+use Rattle.cmr_unimodular.specs.declared.tools.graphic_network.Property.{Property}
+use Rattle.cmr_unimodular.specs.declared.tools.graphic_network.Property.TheVariants.{Graphic, Network}
 use Rattle.cmr_front.specs.declared.status.Answer.{Answer}
 use Rattle.cmr_front.specs.declared.status.Answer.TheVariants.{Yes, No, Undecided, Refused}
-use Rattle.cmr_unimodular.specs.GraphicNetwork.{Has, IsTestable, Shows, TestDecides, TestMeans, yes, no, path_tool, test_source, tested_lines, tested_matrix}
+use Rattle.cmr_unimodular.specs.GraphicNetwork.{Has, IsTestable, Shows, TestDecides, TestMeans, yes, no, path_tool, test_source, tested_lines, tested_matrix, TestOrder}
 use Rattle.cmr_front.specs.Minimal.{IsMinimalAsked, IsMinimalSet}
 use Rattle.cmr_front.specs.Report.{Report}
 use Rattle.cmr_front.specs.Status.{answer_status}
-use Rattle.cmr_unimodular.specs.Words.GraphicNetwork.{TestOrder}
 use Rattle.cmr_unimodular.proofs.TransposedBinary.{transposed_binary}
 use Rattle.cmr_front.proofs.MatrixText.{lawful}
 use Rattle.cmr_front.specs.Tool.{IsLawful}
-use Rattle.cmr_front.proofs.Statuses.{status_of}
+use Rattle.cmr_front.proofs.Statuses.{IsAnswered, status_of}
 
 -- ---- a matrix that is testable
 
@@ -84,5 +83,9 @@ says p o m r No (no minimal lacks e) is = (minimal, lacks)
 says p o m r Undecided (no minimal lacks e) is = let s = status_of r _ e in absurd (omega arith)
 says p o m r Refused (no minimal lacks e) is = let s = status_of r _ e in absurd (omega arith)
 
+answers : (p : Property) (o : TestOrder) (m : Matrix) (r : Report) → TestDecides p o m r → IsAnswered r
+answers p o m r (yes net shown e) = (Yes, status_of r _ e)
+answers p o m r (no minimal lacks e) = (No, status_of r _ e)
+
 pub path_lawful : (p : Property) (o : TestOrder) → IsLawful (path_tool p o)
-path_lawful p o = lawful (test_source p o) (TestDecides p o) (TestMeans p o) (says p o) (Unit {0}) (one_status p o)
+path_lawful p o = lawful (test_source p o) (TestDecides p o) (TestMeans p o) (says p o) (Unit {0}) (one_status p o) (answers p o)

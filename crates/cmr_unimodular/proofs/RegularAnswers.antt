@@ -1,5 +1,5 @@
 -- What the answers of `regular` say of the matrix.
-use Rattle.std.proofs.Common.{◌≡◌, ◌∙◌, ℕ, List, Result, Ok, Err, refl, sym, subst, arith}
+use Rattle.std.proofs.Common.{◌≡◌, ◌∙◌, ℕ, List, Result, Ok, Err, refl, sym, subst, arith, ◌≤◌, Option, Some, None, codes}
 use Rattle.std.specs.Prelude.{IfOk}
 use Rattle.cmr_base.specs.declared.memory.Memory.{Memory}
 use Rattle.cmr_base.specs.declared.line_set.LineSet.{LineSet}
@@ -22,32 +22,36 @@ use Rattle.cmr_front.specs.Status.{answer_status}
 use Rattle.cmr_front.specs.Tool.{IsLawful}
 use Rattle.cmr_front.proofs.MatrixText.{lawful}
 use Rattle.cmr_front.proofs.Statuses.{status_of}
-use Rattle.cmr_unimodular.specs.Regular.{HasLinesIn, IsSigned, RegularDecides, RegularMeans, RegularSays, chain_with, regular_report, regular_source, regular_tool, regular_verdict}
+use Rattle.cmr_unimodular.specs.Regular.{HasLinesIn, IsSigned, RegularDecides, RegularMeans, RegularSays, chain_with, regular_report, regular_source, regular_tool, regular_verdict, RegularOrder, regular_app, regular_order, regular_order_in}
 use Rattle.cmr_unimodular.specs.Tu.{UnimodularMeans}
 use Rattle.cmr_unimodular.specs.Verdict.{Decides, IsDecomposition, IsTold, answer_of, verdict_in, verdict_report}
-use Rattle.cmr_unimodular.specs.Words.Regular.{RegularOrder}
 use Rattle.cmr_unimodular.proofs.OneSigning.{one_signing}
 use Rattle.cmr_unimodular.proofs.OneVerdict.{one_verdict}
 use Rattle.cmr_unimodular.proofs.UnimodularAnswers.{unimodular_means}
+use Rattle.clap.specs.Words.{Row, Text, first_of}
+use Rattle.cmr_front.specs.declared.matrix_file.MatrixForm.{MatrixForm}
+use Rattle.cmr_front.specs.Words.Reading.{◌>>=◌}
+use Rattle.cmr_front.specs.Words.Parsing.{fault_in, file_in, matches_with_input}
+use Rattle.cmr_front.proofs.Numbers.{with_numbers}
 
 -- ---- the chain
 
 -- a violator of the signed matrix has its lines in the matrix
-pub lines_in : (a signed : Matrix) (steps : List SignStep) (v : Verdict) → IsSigned a steps signed → Tells signed v → HasLinesIn (height a) a.width v
-lines_in a signed steps verdicts.Yes is right = tt
-lines_in a signed steps (verdicts.No fault) is right = (
+pub lines_in_matrix : (a signed : Matrix) (steps : List SignStep) (v : Verdict) → IsSigned a steps signed → Tells signed v → HasLinesIn (height a) a.width v
+lines_in_matrix a signed steps verdicts.Yes is right = tt
+lines_in_matrix a signed steps (verdicts.No fault) is right = (
   (λ k l. let r = right.row_set.in_range k l in let h = is.one_support.height_same in omega arith),
   (λ k l. let r = right.column_set.in_range k l in let w = is.one_support.width_same in omega arith),
 )
-lines_in a signed steps (verdicts.Open lines) is right = tt
+lines_in_matrix a signed steps (verdicts.Open lines) is right = tt
 
 sound : (a signed : Matrix) (steps : List SignStep) (fault : LineSet) → IsSigned a steps signed → IsRefuted signed fault → IsSoundChain a (chain_with a steps fault) signed
 sound a signed steps fault is right = record {
   sizes = (refl, refl);
   steps = is.chain;
   violator = record {
-    row_set = record { rising = right.row_set.rising; in_range = (lines_in a signed steps (verdicts.No fault) is right).0 };
-    column_set = record { rising = right.column_set.rising; in_range = (lines_in a signed steps (verdicts.No fault) is right).1 };
+    row_set = record { rising = right.row_set.rising; in_range = (lines_in_matrix a signed steps (verdicts.No fault) is right).0 };
+    column_set = record { rising = right.column_set.rising; in_range = (lines_in_matrix a signed steps (verdicts.No fault) is right).1 };
     all_signed = λ i j h g one. is.by_camion.all_signed i j one;
     violator = right.violator;
   };
@@ -92,7 +96,7 @@ says o a r answer d is =
     (d.steps, d.signed, d.signing, says_signed o a d.signed d.steps d.signing answer (unimodular_means o.lines o.pivots d.signed d.tree d.decomposition d.told answer status))
 
 pub regular_lawful : (o : RegularOrder) → IsLawful (regular_tool o)
-regular_lawful o = lawful (regular_source o) (RegularDecides o) (RegularMeans o) (says o) _ (one_status o)
+regular_lawful o = lawful (regular_source o) (RegularDecides o) (RegularMeans o) (says o) _ (one_status o) (λ a r d. (answer_of (verdict_in d.tree), status_of r _ d.report_is))
 
 -- the violator of a no
 pub fault_lines : (rows columns : ℕ) (v : Verdict) (fault : LineSet) → v ≡ verdicts.No fault → HasLinesIn rows columns v → AreLinesIn rows columns fault
@@ -108,3 +112,24 @@ reported o a signed steps tree (Err memory) signing decomposition told is = tt
 pub chain_written : (a : Matrix) (steps : List SignStep) (violator fault : LineSet) (rows columns : ℕ) → violator ≡ fault → rows ≡ height a → columns ≡ a.width
     → chain_text (record { chain = record { steps = steps; violator = violator }; rows = rows; columns = columns }) ≡ chain_text (chain_with a steps fault)
 chain_written a steps violator fault rows columns e f g = rw (e, f, g) refl
+
+-- the numbers that words of `regular` name
+pub regular_order-ranges : (words : List Text) (o : RegularOrder) → regular_order words ≡ Some o → (regular_tool o).InRanges
+regular_order-ranges words o e = go (matches_with_input regular_app words) e
+  where
+    order_with : List Row → MatrixForm → ℕ → ℕ → ℕ → RegularOrder
+    order_with rows form lines pivots workers = record {
+      form = form;
+      lines = lines;
+      pivots = pivots;
+      workers = workers;
+      tree = first_of (codes "tree") rows;
+      fault = fault_in rows;
+      signed = first_of (codes "output") rows;
+      chain = first_of (codes "chain") rows;
+      file = file_in rows;
+    }
+
+    go : (rows : Option (List Row)) → (rows >>= regular_order_in) ≡ Some o → (regular_tool o).InRanges
+    go None e = cc
+    go (Some rows) e = with_numbers (λ (x : RegularOrder). (regular_tool x).InRanges) (order_with rows) rows o (λ form lines pivots workers few bound some. (few, bound, some.0, some.1)) e

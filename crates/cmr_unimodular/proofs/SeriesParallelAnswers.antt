@@ -14,11 +14,10 @@ use Rattle.cmr_front.specs.declared.status.Answer.{Answer}
 use Rattle.cmr_front.specs.declared.status.Answer.TheVariants.{Yes, No, Undecided, Refused}
 use Rattle.cmr_front.specs.Report.{Report}
 use Rattle.cmr_front.specs.Status.{answer_status}
-use Rattle.cmr_unimodular.specs.SeriesParallel.{SeriesParallelDecides, SeriesParallelMeans, yes, no, series_parallel_source, series_parallel_tool}
-use Rattle.cmr_unimodular.specs.Words.SeriesParallel.{SeriesParallelOrder}
+use Rattle.cmr_unimodular.specs.SeriesParallel.{SeriesParallelDecides, SeriesParallelMeans, yes, no, series_parallel_source, series_parallel_tool, SeriesParallelOrder}
 use Rattle.cmr_front.proofs.MatrixText.{lawful}
 use Rattle.cmr_front.specs.Tool.{IsLawful}
-use Rattle.cmr_front.proofs.Statuses.{status_of}
+use Rattle.cmr_front.proofs.Statuses.{IsAnswered, status_of}
 
 record IsLeft (R C : List ℕ) (rows columns : List ℕ) : Type 0 where
   rows_in : IsWithin rows R
@@ -74,5 +73,9 @@ says o m r No (no minimal lacks e) is = (minimal, lacks)
 says o m r Undecided (no minimal lacks e) is = let s = status_of r _ e in absurd (omega arith)
 says o m r Refused (no minimal lacks e) is = let s = status_of r _ e in absurd (omega arith)
 
+answers : (o : SeriesParallelOrder) (m : Matrix) (r : Report) → SeriesParallelDecides o m r → IsAnswered r
+answers o m r (yes has e) = (Yes, status_of r _ e)
+answers o m r (no minimal lacks e) = (No, status_of r _ e)
+
 pub series_parallel_lawful : (o : SeriesParallelOrder) → IsLawful (series_parallel_tool o)
-series_parallel_lawful o = lawful (series_parallel_source o) (SeriesParallelDecides o) (SeriesParallelMeans o) (says o) (Unit {0}) (one_status o)
+series_parallel_lawful o = lawful (series_parallel_source o) (SeriesParallelDecides o) (SeriesParallelMeans o) (says o) (Unit {0}) (one_status o) (answers o)

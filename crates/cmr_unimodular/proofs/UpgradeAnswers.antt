@@ -10,8 +10,7 @@ use Rattle.cmr_front.specs.Status.{answer_status}
 use Rattle.cmr_front.specs.Tool.{HasOneReport, IsLawful}
 use Rattle.cmr_front.proofs.Statuses.{status_of}
 use Rattle.cmr_front.proofs.TreeFile.{one_report_of_tree, tree_lawful}
-use Rattle.cmr_unimodular.specs.Upgrade.{UpgradeDecides, UpgradeMeans, upgrade_tool}
-use Rattle.cmr_unimodular.specs.Words.Upgrade.{UpgradeOrder}
+use Rattle.cmr_unimodular.specs.Upgrade.{UpgradeDecides, UpgradeMeans, upgrade_tool, UpgradeOrder}
 
 says : (file bytes : List ℕ) (t : PlainTree) (r : Report) (answer : Answer) → tree (text_of bytes) ≡ Ok t → UpgradeDecides file t r → r.status ≡ answer_status answer → UpgradeMeans t answer
 says file bytes t r Yes read e is = written_again (text_of bytes) t read
@@ -20,7 +19,7 @@ says file bytes t r Undecided read e is = let s = status_of r _ e in absurd (ome
 says file bytes t r Refused read e is = let s = status_of r _ e in absurd (omega arith)
 
 pub upgrade_lawful : (o : UpgradeOrder) → IsLawful (upgrade_tool o)
-upgrade_lawful o = tree_lawful o.evidence (UpgradeDecides o.tree) UpgradeMeans (λ t r s a b. ap (λ report. report.status) (a ∙ sym b)) (says o.tree)
+upgrade_lawful o = tree_lawful o.evidence (UpgradeDecides o.tree) UpgradeMeans (λ t r s a b. ap (λ report. report.status) (a ∙ sym b)) (says o.tree) (λ t r e. (Yes, status_of r _ e))
 
 pub upgrade_has_one_report : (o : UpgradeOrder) → HasOneReport (upgrade_tool o)
 upgrade_has_one_report o = one_report_of_tree o.evidence (UpgradeDecides o.tree) UpgradeMeans (λ t r s a b. a ∙ sym b)

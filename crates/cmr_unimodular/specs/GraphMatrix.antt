@@ -9,9 +9,8 @@ use Rattle.cmr_front.specs.GraphText.{graph_tool}
 use Rattle.cmr_front.specs.Report.{Report}
 use Rattle.cmr_front.specs.Status.{answer_status}
 use Rattle.cmr_front.specs.Tool.{Tool}
-use Rattle.cmr_unimodular.specs.declared.options.Property.{Property}
-use Rattle.cmr_unimodular.specs.GraphicNetwork.{IsTestable, Shows, path_tool}
-use Rattle.cmr_unimodular.specs.Words.GraphicNetwork.{TestOrder}
+use Rattle.cmr_unimodular.specs.declared.tools.graphic_network.Property.{Property}
+use Rattle.cmr_unimodular.specs.GraphicNetwork.{IsTestable, Shows, path_tool, TestOrder}
 
 -- the matrix for which a network shows the property
 pub record IsMatrixOf (p : Property) (net : SizedNetwork) (m : Matrix) : Type 0 where

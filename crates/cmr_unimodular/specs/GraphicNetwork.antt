@@ -1,20 +1,78 @@
--- What `graphic` and `network` report, and what their answers mean.
-use Rattle.std.specs.Prelude.{◌≡◌, ◌++◌, ℕ, Bool, true, false, List, [], Option, option_map, codes}
+-- What the words of `graphic` and `network` order, what they report, and what their answers mean.
+use Rattle.std.specs.Prelude.{◌≡◌, ◌++◌, ℕ, Bool, true, false, List, [], Option, option_map, codes, ◌&&◌, ◌||◌, if◌then◌else◌, is_some, ◌∷◌, Some, None}
 use Rattle.cmr_base.specs.Matrix.{Matrix, transposed}
 use Rattle.cmr_base.specs.Trees.{IsBinary, IsGraphic, IsNetworkMatrix, Reproduces, ReproducesSupport}
 use Rattle.cmr_base.specs.declared.line_set.LineSet.{LineSet}
 use Rattle.cmr_base.specs.declared.network.Network.{Network as Net}
-use Rattle.cmr_unimodular.specs.declared.options.Property.{Property}
-use Rattle.cmr_unimodular.specs.declared.options.Property.TheVariants.{Graphic, Network}
+use Rattle.cmr_unimodular.specs.declared.tools.graphic_network.Property.{Property}
+use Rattle.cmr_unimodular.specs.declared.tools.graphic_network.Property.TheVariants.{Graphic, Network}
 use Rattle.cmr_front.specs.declared.status.Answer.{Answer}
 use Rattle.cmr_front.specs.declared.status.Answer.TheVariants.{Yes, No, Undecided, Refused}
-use Rattle.cmr_unimodular.specs.Words.GraphicNetwork.{TestOrder}
 use Rattle.cmr_front.specs.MatrixText.{Source, matrix_tool, source}
 use Rattle.graph_text.specs.GraphTexts.{graph_text, transposed_graph_text}
 use Rattle.cmr_front.specs.Minimal.{IsMinimalAsked, minimal_file, minimal_line}
 use Rattle.cmr_front.specs.Report.{Report, asked_file}
 use Rattle.cmr_front.specs.Status.{answer_status}
 use Rattle.cmr_front.specs.Tool.{Tool}
+use Rattle.clap.specs.Words.{App, Row, Text, first_of}
+use Rattle.cmr_front.specs.declared.matrix_file.MatrixForm.{MatrixForm}
+use Rattle.cmr_unimodular.specs.declared.tools.graphic_network.TestOptions.{TestOptions}
+use Rattle.cmr_front.specs.Words.Arguments.{file_rule, form_rule, from_graph_rule, graph_rule, minimal_rule, tool_app, transposed_rule}
+use Rattle.cmr_front.specs.Words.Parsing.{file_in, form_in, has_flag, matches_with_input}
+use Rattle.cmr_front.specs.Words.Reading.{◌>>=◌}
+
+-- ---- the words
+
+-- the options of `graphic` and of `network`
+pub record TestOrder : Type 0 where
+  pub form : MatrixForm
+  pub transposed : Bool
+  pub minimal : Option (List ℕ)
+  pub graph : Option (List ℕ)
+  pub from_graph : Bool
+  pub file : List ℕ
+
+-- the tool that tests a property
+abbrev pub tool_name : Property → Text
+tool_name Graphic = codes "graphic"
+tool_name Network = codes "network"
+
+-- [-i FORMAT] [-t] [-N FILE] [-G FILE] [FILE], or -c [FILE]
+abbrev pub test_app : Property → App
+test_app property = tool_app (tool_name property) (form_rule ∷ transposed_rule ∷ minimal_rule ∷ graph_rule ∷ from_graph_rule ∷ file_rule ∷ [])
+
+-- an option stands there that says how a matrix is tested
+abbrev pub is_test_asked : List Row → Bool
+is_test_asked rows =
+    is_some (first_of (codes "format") rows) || has_flag (codes "transposed") rows || is_some (first_of (codes "minimal") rows) || is_some (first_of (codes "graph") rows)
+
+-- `-c` stands beside none of these options
+abbrev pub test_order_in : List Row → Option TestOrder
+test_order_in rows = if has_flag (codes "from-graph") rows && is_test_asked rows
+    then None
+    else (form_in rows >>= λ form. Some (record {
+      form = form;
+      transposed = has_flag (codes "transposed") rows;
+      minimal = first_of (codes "minimal") rows;
+      graph = first_of (codes "graph") rows;
+      from_graph = has_flag (codes "from-graph") rows;
+      file = file_in rows;
+    }))
+
+abbrev pub test_order : Property → List Text → Option TestOrder
+test_order property words = matches_with_input (test_app property) words >>= test_order_in
+
+abbrev pub test_order_of : TestOptions → TestOrder
+test_order_of options = record {
+  form = options.form;
+  transposed = options.transposed;
+  minimal = option_map (λ name. name.now) options.minimal;
+  graph = option_map (λ name. name.now) options.graph;
+  from_graph = options.from_graph;
+  file = options.file.now;
+}
+
+-- ---- the reports
 
 -- a matrix has the property
 abbrev pub Has : Property → Matrix → Type 0

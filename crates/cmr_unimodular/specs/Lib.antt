@@ -1,4 +1,3 @@
-pub mod Words
 pub mod Outline
 pub mod Verdict
 pub mod Tu

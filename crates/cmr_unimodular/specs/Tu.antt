@@ -1,5 +1,5 @@
--- What `tu` reports, and what its answers mean.
-use Rattle.std.specs.Prelude.{◌≡◌, ◌≤◌, ℕ, false, List, codes, length}
+-- What the words of `tu` order, what it reports, and what its answers mean.
+use Rattle.std.specs.Prelude.{◌≡◌, ◌≤◌, ℕ, false, List, codes, length, [], ◌∷◌, Option, Some, option_map}
 use Rattle.cmr_base.specs.Matrix.{Matrix, entry, IsEntry}
 use Rattle.cmr_base.specs.Determinants.{HasUnimodularMinors, determinant}
 use Rattle.cmr_base.specs.LineSets.{IsRowSet, IsColumnSet}
@@ -14,7 +14,52 @@ use Rattle.cert_check.specs.Laws.{IsRefuted}
 use Rattle.tree_type.specs.Trees.{SizedTree}
 use Rattle.tree_type.specs.Verdicts as verdicts
 use Rattle.cmr_base.specs.declared.line_set.LineSet.{LineSet}
-use Rattle.cmr_unimodular.specs.Words.Tu.{TuOrder}
+use Rattle.clap.specs.Words.{App, Row, Text, first_of}
+use Rattle.cmr_front.specs.declared.matrix_file.MatrixForm.{MatrixForm}
+use Rattle.cmr_unimodular.specs.declared.tools.tu.TuOptions.{TuOptions}
+use Rattle.cmr_front.specs.Words.Arguments.{fault_rule, file_rule, form_rule, lines_rule, pivots_rule, tool_app, tree_rule, workers_rule}
+use Rattle.cmr_front.specs.Words.Parsing.{fault_in, file_in, form_in, lines_in, matches_with_input, pivots_in, workers_in}
+use Rattle.cmr_front.specs.Words.Reading.{◌>>=◌}
+
+-- ---- the words
+
+-- the options of `tu`
+pub record TuOrder : Type 0 where
+  pub form : MatrixForm
+  pub lines : ℕ
+  pub pivots : ℕ
+  pub workers : ℕ
+  pub tree : Option (List ℕ)
+  pub fault : Option (List ℕ)
+  pub file : List ℕ
+
+-- [-i FORMAT] [--lines L] [--pivots K] [-w N] [-D FILE] [-E FILE] [FILE]
+abbrev pub tu_app : App
+tu_app = tool_app (codes "tu") (form_rule ∷ lines_rule ∷ pivots_rule ∷ workers_rule ∷ tree_rule ∷ fault_rule ∷ file_rule ∷ [])
+
+abbrev pub tu_order_in : List Row → Option TuOrder
+tu_order_in rows = do
+  form ← form_in rows
+  lines ← lines_in rows
+  pivots ← pivots_in rows
+  workers ← workers_in rows
+  Some (record { form = form; lines = lines; pivots = pivots; workers = workers; tree = first_of (codes "tree") rows; fault = fault_in rows; file = file_in rows })
+
+abbrev pub tu_order : List Text → Option TuOrder
+tu_order words = matches_with_input tu_app words >>= tu_order_in
+
+abbrev pub tu_order_of : TuOptions → TuOrder
+tu_order_of options = record {
+  form = options.form;
+  lines = options.lines;
+  pivots = options.pivots;
+  workers = options.workers;
+  tree = option_map (λ name. name.now) options.tree;
+  fault = option_map (λ name. name.now) options.fault;
+  file = options.file.now;
+}
+
+-- ---- the reports
 
 abbrev pub tu_verdict : TuOrder → VerdictOrder
 tu_verdict o = record { label = codes "totally unimodular"; lines = o.lines; pivots = o.pivots; tree = o.tree; fault = o.fault }

@@ -1,7 +1,7 @@
-// The tools.
+//! The tools, each with its options and its words.
 pub mod check;
-pub mod generated;
-pub mod graph_matrix;
+pub mod generate;
+mod graph_matrix;
 pub mod graphic_network;
 pub mod regular;
 pub mod series_parallel;

@@ -1,44 +1,93 @@
-// Checking evidence on a matrix: a decomposition tree, a chain of signs, or a violator.
-ghost use Rattle.std.specs.Prelude.{◌≡◌, IfOk, IsTrue};
-ghost use Rattle.cmr_base.specs.LineSets.{AllBelow, IsColumnSet, IsRowSet};
-ghost use Rattle.cmr_base.specs.Matrix.{Matrix, height};
-ghost use Rattle.cmr_base.specs.Trees.{IsBinary};
+//! Checking evidence on a matrix: a decomposition tree, a chain of signs, or a violator.
+ghost use Rattle.camion_sign.specs.Chains.{IsSoundChain};
 ghost use Rattle.cert_check.specs.Laws.{Tells};
+ghost use Rattle.clap.specs.Words.{app_of, found_of, rows_of};
+ghost use Rattle.std.specs.Prelude.{◌≡◌, IfOk, IsTrue};
 ghost use Rattle.tree_text.specs.Reading.{plain};
 ghost use Rattle.tree_type.specs.Soundness.{IsSound};
 ghost use Rattle.tree_type.specs.Verdicts.{verdict_shown};
-ghost use Rattle.camion_sign.specs.Chains.{IsSoundChain};
-ghost use Rattle.cmr_front.specs.Ending.{devices, standing};
+ghost use Rattle.cmr_base.specs.LineSets.{AllBelow, IsColumnSet, IsRowSet};
+ghost use Rattle.cmr_base.specs.Matrix.{Matrix, height};
+ghost use Rattle.cmr_base.specs.Trees.{IsBinary};
 ghost use Rattle.cmr_front.specs.Outcome.{outcome_report};
-ghost use Rattle.cmr_front.specs.Run.{Means, Runs, work};
+ghost use Rattle.cmr_front.specs.Run.{Means, RunsOver, work};
 ghost use Rattle.cmr_front.specs.Status.{answer_status};
 ghost use Rattle.cmr_front.specs.Tool.{IsDecision};
+ghost use Rattle.cmr_front.specs.Words.Reading.{Gives};
 ghost use Rattle.cmr_front.specs.declared.status.Answer.{Answer};
-ghost use Rattle.cmr_unimodular.specs.Check.{ChainDecides, CheckReportsBy, EvidenceReports, TreeDecides, ViolatorDecides, accepted_report, check_tool, evidence_kind, irregular_report, is_of_support, kind_named, refused_report, refused_step_report, said};
-ghost use Rattle.cmr_unimodular.specs.Words.Check.{check_order_of};
+ghost use Rattle.cmr_unimodular.specs.Check.{ChainDecides, CheckReportsBy, EvidenceReports, TreeDecides, ViolatorDecides, accepted_report, check_app, check_order, check_order_in, check_order_of, check_tool, evidence_kind, irregular_report, is_of_support, kind_named, refused_report, refused_step_report, said};
 ghost use Rattle.cmr_unimodular.specs.declared.tools.check.EvidenceKind.TheVariants as kinds;
 
-use crate::options::CheckOptions;
 use camion_sign::{SizedChain, chain_signs, check_chain};
 use cert_check::accept;
-use cmr_base::{LineSet, Matrix, Memory, PathList};
+use clap::{ArgMatches, Command};
+use cmr_base::{LineSet, Matrix, Memory, PathList, Word};
 use cmr_front::evidence_file::{
     evidence_inputs, read_chain_file, read_submatrix_file, read_tree_file,
 };
 use cmr_front::input::{Input, Text};
-use cmr_front::matrix_file::read_matrix;
+use cmr_front::matrix_file::{MatrixForm, read_matrix};
 use cmr_front::outcome::{Outcome, Stop};
 use cmr_front::printed::{push_open_line, push_violator_line};
 use cmr_front::refusal_line::push_refusal_line;
 use cmr_front::status::Answer;
 use cmr_front::tool::{Tool, run_tool};
+use cmr_front::words::arguments::{EVIDENCE, MATRIX};
+use cmr_front::words::parsing::{form_in, matches_in, operand_in};
+use cmr_front::words::{WordsError, arguments};
 use cmr_io::{Shelf, Sink};
 use itoa::Buffer;
 use parity::is_violator;
-use std::alloc::Global;
+use std::alloc::{AllocError, Global};
 use std::thread::Threads;
 use text_fields::Words;
 use tree_type::{DecTree, Rule, VerdictOf, verdict};
+
+/// What `check` is asked to do. A file of the name `-` is standard input.
+#[derive(Clone, Copy, Debug, PartialEq, Eq)]
+pub struct CheckOptions<'a> {
+    /// The form of the matrix text.
+    pub form: MatrixForm,
+    /// The file that holds the matrix text.
+    pub matrix: &'a str,
+    /// The file that holds the evidence.
+    pub evidence: &'a str,
+}
+
+fn check_command<'a>(alloc: Global) -> Result<Command<'a>, AllocError>
+    ensures { IfOk result (λ c. app_of c ≡ check_app) }
+{
+    let bare = arguments::bare_command(alloc, "check");
+    let with_form = arguments::add(bare, arguments::form_option(alloc))?;
+    let with_matrix = arguments::add(with_form, arguments::operand(alloc, MATRIX))?;
+    arguments::add(with_matrix, arguments::operand(alloc, EVIDENCE))
+}
+
+fn options_in<'a>(matches: &ArgMatches<'a>) -> Result<CheckOptions<'a>, WordsError>
+    ensures { Gives check_order_of result (check_order_in (rows_of (found_of matches.now))) }
+{
+    let form = form_in(matches)?;
+    let matrix = match operand_in(matches, MATRIX) {
+        Ok(matrix) => matrix,
+        Err(error) => return Err(error),
+    };
+    match operand_in(matches, EVIDENCE) {
+        Ok(evidence) => Ok(CheckOptions {
+            form,
+            matrix,
+            evidence,
+        }),
+        Err(error) => Err(error),
+    }
+}
+
+/// The options that the words behind `check` give: `[-i FORMAT] MATRIX EVIDENCE`.
+pub fn read_check<'a>(alloc: Global, words: &'a [Word]) -> Result<CheckOptions<'a>, WordsError>
+    ensures { Gives check_order_of result (check_order words.now) }
+{
+    let matches = matches_in(check_command(alloc)?, words)?;
+    options_in(&matches)
+}
 
 /// Does what `run` does on the words of `check`, and answers the status.
 pub fn check<R: Threads + Sync, S: Shelf, O: Sink, E: Sink>(
@@ -49,15 +98,9 @@ pub fn check<R: Threads + Sync, S: Shelf, O: Sink, E: Sink>(
     out: &mut O,
     err: &mut E,
 ) -> u8
-    ensures runs { Runs
+    ensures runs { RunsOver S.Shelf O.Sink E.Sink
         (work (check_tool (check_order_of options.now)))
-        (standing (S.tells shelf.old) (O.tells out.old) (E.tells err.old) (S.is_calm shelf.old)
-        (S.room shelf.old) (O.is_calm out.old) (O.room out.old))
-        (devices (S.content shelf.old) (S.reads shelf.old) (S.failed shelf.old) (S.faults shelf.old)
-        (O.got out.old) (O.faults out.old) (E.got err.old) (E.faults err.old))
-        (devices (S.content shelf.new) (S.reads shelf.new) (S.failed shelf.new) (S.faults shelf.new)
-        (O.got out.new) (O.faults out.new) (E.got err.new) (E.faults err.new))
-        result }
+        shelf.old out.old err.old shelf.new out.new err.new result }
     ensures means { IsTrue (S.tells shelf.old) → (answer : Answer) → result ≡ answer_status answer
         → Means (check_tool (check_order_of options.now)) (S.content shelf.old) answer }
 {

@@ -6,7 +6,7 @@ ghost use Rattle.cmr_front.specs.Outcome.{outcome_report};
 ghost use Rattle.cmr_front.specs.Tool.{IsDecision};
 ghost use Rattle.cmr_unimodular.specs.GraphMatrix.{GraphDecides, IsMatrixOf, graph_matrix_tool};
 
-use crate::options::Property;
+use crate::tools::graphic_network::Property;
 use cmr_base::{MAX_COLUMNS, MAX_ROWS, Matrix, Memory};
 use cmr_front::graph_file::read_graph_file;
 use cmr_front::input::{Input, Text};

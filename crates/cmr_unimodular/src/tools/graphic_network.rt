@@ -1,36 +1,128 @@
-// Testing whether the columns of a matrix are paths of a tree, with or without directions, and writing the matrix of such a
-// tree.
-ghost use Rattle.std.specs.Prelude.{◌≡◌, ◌++◌, IfOk, IfSome, IsSomeAnd, IsTrue, MatchOption, OnOk, length, map, option_map};
+//! Testing whether the columns of a matrix are paths of a tree, with or without directions, and writing the matrix of such a
+//! tree.
+ghost use Rattle.clap.specs.Words.{app_of, found_of, rows_of};
+ghost use Rattle.std.specs.Prelude.{◌++◌, ◌≡◌, IfOk, IfSome, IsSomeAnd, IsTrue, MatchOption, OnOk, length, map, option_map};
 ghost use Rattle.cmr_base.specs.LineSets.{AllBelow};
 ghost use Rattle.cmr_base.specs.Matrix.{height};
-ghost use Rattle.cmr_front.specs.Ending.{devices, standing};
-ghost use Rattle.cmr_unimodular.specs.GraphicNetwork.{Has, IsTestable, Shows, TestDecides, is_binary, path_tool, property_name, test_no, test_yes, tested_lines, tested_matrix, written_graph};
-ghost use Rattle.cmr_unimodular.specs.GraphMatrix.{test_tool};
 ghost use Rattle.cmr_front.specs.Minimal.{IsMinimalAsked, IsMinimalSet};
 ghost use Rattle.cmr_front.specs.Outcome.{file_of, outcome_report};
 ghost use Rattle.cmr_front.specs.Report.{asked_file};
-ghost use Rattle.cmr_front.specs.Run.{Means, Runs, work};
+ghost use Rattle.cmr_front.specs.Run.{Means, RunsOver, work};
 ghost use Rattle.cmr_front.specs.Status.{answer_status};
-ghost use Rattle.cmr_unimodular.specs.Words.GraphicNetwork.{test_order_of};
-ghost use Rattle.cmr_unimodular.specs.declared.options.Property.TheVariants as properties;
+ghost use Rattle.cmr_front.specs.Words.Reading.{Gives};
 ghost use Rattle.cmr_front.specs.declared.status.Answer.{Answer};
+ghost use Rattle.cmr_unimodular.specs.GraphMatrix.{test_tool};
+ghost use Rattle.cmr_unimodular.specs.GraphicNetwork.{Has, IsTestable, Shows, TestDecides, is_binary, is_test_asked, path_tool, property_name, test_app, test_no, test_order, test_order_in, test_order_of, test_yes, tested_lines, tested_matrix, tool_name, written_graph};
+ghost use Rattle.cmr_unimodular.specs.declared.tools.graphic_network.Property.TheVariants as properties;
 
-use crate::options::{Property, TestOptions};
 use crate::tools::graph_matrix::GraphMatrix;
-use cmr_base::{LineSet, Matrix, Memory, Network};
+use clap::{ArgMatches, Command};
+use cmr_base::{LineSet, Matrix, Memory, Network, Word};
 use cmr_front::asked::push_minimal;
 use cmr_front::input::{Input, Text};
-use cmr_front::matrix_file::{matrix_input, read_matrix};
+use cmr_front::matrix_file::{MatrixForm, matrix_input, read_matrix};
 use cmr_front::outcome::{Outcome, OutputFile, Stop};
 use cmr_front::printed::push_minimal_line;
 use cmr_front::status::Answer;
 use cmr_front::tool::{Tool, run_tool};
+use cmr_front::words::arguments::{FORMAT, FROM_GRAPH, GRAPH, MINIMAL, TRANSPOSED};
+use cmr_front::words::parsing::{file_in, form_in, has_flag, matches_with_input, value_in};
+use cmr_front::words::{WordsError, arguments};
 use cmr_io::{Shelf, Sink};
 use graph_realise::{minimal_not_graphic, realise};
 use graph_text::{write_graph, write_transposed_graph};
 use network_orient::{minimal_not_network, orient};
-use std::alloc::Global;
+use std::alloc::{AllocError, Global};
 use std::thread::Threads;
+
+/// What `graphic` and `network` test.
+#[derive(Clone, Copy, Debug, PartialEq, Eq)]
+pub enum Property {
+    /// The matrix is 0/1, and its columns are paths of a tree.
+    Graphic,
+    /// The columns are directed paths of a tree.
+    Network,
+}
+
+/// What `graphic` or `network` is asked to do. A file of the name `-` is standard input where it is read.
+#[derive(Clone, Copy, Debug, PartialEq, Eq)]
+pub struct TestOptions<'a> {
+    /// The form of the matrix text, dense where a graph text is read.
+    pub form: MatrixForm,
+    /// Whether the transposed matrix is tested.
+    pub transposed: bool,
+    /// The file that gets a minimal submatrix without the property, where there is one.
+    pub minimal: Option<&'a str>,
+    /// The file that gets a graph that shows the property, where there is one.
+    pub graph: Option<&'a str>,
+    /// Whether a graph text is read and its matrix written, and nothing tested. No other option then stands beside it.
+    pub from_graph: bool,
+    /// The file that holds the matrix text or the graph text.
+    pub file: &'a str,
+}
+
+fn tool_name<'a>(property: Property) -> &'a str
+    ensures { result.now ≡ tool_name property }
+{
+    match property {
+        Property::Graphic => "graphic",
+        Property::Network => "network",
+    }
+}
+
+fn test_command<'a>(alloc: Global, property: Property) -> Result<Command<'a>, AllocError>
+    ensures { IfOk result (λ c. app_of c ≡ test_app property) }
+{
+    let bare = arguments::bare_command(alloc, tool_name(property));
+    let with_form = arguments::add(bare, arguments::form_option(alloc))?;
+    let with_transposed = arguments::add(with_form, arguments::transposed_flag(alloc))?;
+    let with_minimal = arguments::add(with_transposed, arguments::minimal_option(alloc))?;
+    let with_graph = arguments::add(with_minimal, arguments::graph_option(alloc))?;
+    let with_from_graph = arguments::add(with_graph, arguments::from_graph_flag(alloc))?;
+    arguments::add(with_from_graph, arguments::file_operand(alloc))
+}
+
+// Whether an option of the test of a matrix stands among the words, be it with the value that it has where it is left out.
+fn is_test_asked(matches: &ArgMatches<'_>) -> bool
+    ensures { result ≡ is_test_asked (rows_of (found_of matches.now)) }
+{
+    value_in(matches, FORMAT).is_some()
+        || has_flag(matches, TRANSPOSED)
+        || value_in(matches, MINIMAL).is_some()
+        || value_in(matches, GRAPH).is_some()
+}
+
+fn options_in<'a>(matches: &ArgMatches<'a>) -> Result<TestOptions<'a>, WordsError>
+    ensures { Gives test_order_of result (test_order_in (rows_of (found_of matches.now))) }
+{
+    let from_graph = has_flag(matches, FROM_GRAPH);
+    if from_graph && is_test_asked(matches) {
+        return Err(WordsError::Refused);
+    }
+    Ok(TestOptions {
+        form: form_in(matches)?,
+        transposed: has_flag(matches, TRANSPOSED),
+        minimal: value_in(matches, MINIMAL),
+        graph: value_in(matches, GRAPH),
+        from_graph,
+        file: file_in(matches),
+    })
+}
+
+/// The options that the words behind `graphic` or `network` give:
+/// `[-i FORMAT] [-t] [-N FILE] [-G FILE] [FILE]`, or `-c [FILE]`.
+pub fn read_test<'a>(
+    alloc: Global,
+    property: Property,
+    words: &'a [Word],
+) -> Result<TestOptions<'a>, WordsError>
+    ensures value { Gives test_order_of result (test_order property words.now) }
+    ensures ranges { IfOk result (λ options.
+        (test_tool property (test_order_of options)).InRanges) }
+{
+    let matches = matches_with_input(test_command(alloc, property)?, words)?;
+    options_in(&matches)
+}
 
 /// Does what `run` does on the words of `graphic`, and answers the status.
 pub fn graphic<R: Threads + Sync, S: Shelf, O: Sink, E: Sink>(
@@ -41,15 +133,9 @@ pub fn graphic<R: Threads + Sync, S: Shelf, O: Sink, E: Sink>(
     out: &mut O,
     err: &mut E,
 ) -> u8
-    ensures runs { Runs
+    ensures runs { RunsOver S.Shelf O.Sink E.Sink
         (work (test_tool properties.Graphic (test_order_of options.now)))
-        (standing (S.tells shelf.old) (O.tells out.old) (E.tells err.old) (S.is_calm shelf.old)
-        (S.room shelf.old) (O.is_calm out.old) (O.room out.old))
-        (devices (S.content shelf.old) (S.reads shelf.old) (S.failed shelf.old) (S.faults shelf.old)
-        (O.got out.old) (O.faults out.old) (E.got err.old) (E.faults err.old))
-        (devices (S.content shelf.new) (S.reads shelf.new) (S.failed shelf.new) (S.faults shelf.new)
-        (O.got out.new) (O.faults out.new) (E.got err.new) (E.faults err.new))
-        result }
+        shelf.old out.old err.old shelf.new out.new err.new result }
     ensures means { IsTrue (S.tells shelf.old) → (answer : Answer) → result ≡ answer_status answer
         → Means (test_tool properties.Graphic (test_order_of options.now)) (S.content shelf.old)
         answer }
@@ -66,15 +152,9 @@ pub fn network<R: Threads + Sync, S: Shelf, O: Sink, E: Sink>(
     out: &mut O,
     err: &mut E,
 ) -> u8
-    ensures runs { Runs
+    ensures runs { RunsOver S.Shelf O.Sink E.Sink
         (work (test_tool properties.Network (test_order_of options.now)))
-        (standing (S.tells shelf.old) (O.tells out.old) (E.tells err.old) (S.is_calm shelf.old)
-        (S.room shelf.old) (O.is_calm out.old) (O.room out.old))
-        (devices (S.content shelf.old) (S.reads shelf.old) (S.failed shelf.old) (S.faults shelf.old)
-        (O.got out.old) (O.faults out.old) (E.got err.old) (E.faults err.old))
-        (devices (S.content shelf.new) (S.reads shelf.new) (S.failed shelf.new) (S.faults shelf.new)
-        (O.got out.new) (O.faults out.new) (E.got err.new) (E.faults err.new))
-        result }
+        shelf.old out.old err.old shelf.new out.new err.new result }
     ensures means { IsTrue (S.tells shelf.old) → (answer : Answer) → result ≡ answer_status answer
         → Means (test_tool properties.Network (test_order_of options.now)) (S.content shelf.old)
         answer }
@@ -92,15 +172,9 @@ pub fn test_property<R: Threads + Sync, S: Shelf, O: Sink, E: Sink>(
     out: &mut O,
     err: &mut E,
 ) -> u8
-    ensures runs { Runs
+    ensures runs { RunsOver S.Shelf O.Sink E.Sink
         (work (test_tool property (test_order_of options.now)))
-        (standing (S.tells shelf.old) (O.tells out.old) (E.tells err.old) (S.is_calm shelf.old)
-        (S.room shelf.old) (O.is_calm out.old) (O.room out.old))
-        (devices (S.content shelf.old) (S.reads shelf.old) (S.failed shelf.old) (S.faults shelf.old)
-        (O.got out.old) (O.faults out.old) (E.got err.old) (E.faults err.old))
-        (devices (S.content shelf.new) (S.reads shelf.new) (S.failed shelf.new) (S.faults shelf.new)
-        (O.got out.new) (O.faults out.new) (E.got err.new) (E.faults err.new))
-        result }
+        shelf.old out.old err.old shelf.new out.new err.new result }
     ensures means { IsTrue (S.tells shelf.old) → (answer : Answer) → result ≡ answer_status answer
         → Means (test_tool property (test_order_of options.now)) (S.content shelf.old) answer }
 {

@@ -1,35 +1,104 @@
-// Testing whether a 0/1 matrix has a totally unimodular signing.
-ghost use Rattle.std.specs.Prelude.{◌≡◌, ◌≤◌, ◌*◌, ◌++◌, IfOk, IsTrue, OnOk, length, map, option_map};
-ghost use Rattle.std.specs.List.{AllByRecursion};
+//! Testing whether a 0/1 matrix has a totally unimodular signing.
 ghost use Rattle.camion_sign.specs.ChainTexts.{AreLinesIn, IsStepIn, chain_text};
 ghost use Rattle.cert_check.specs.Laws.{Tells};
+ghost use Rattle.clap.specs.Words.{app_of, found_of, rows_of};
+ghost use Rattle.std.specs.List.{AllByRecursion};
+ghost use Rattle.std.specs.Prelude.{◌*◌, ◌++◌, ◌≡◌, ◌≤◌, IfOk, IsTrue, OnOk, length, map, option_map};
+ghost use Rattle.tree_type.specs.Verdicts.{verdict_shown};
 ghost use Rattle.cmr_base.specs.Matrix.{height};
 ghost use Rattle.cmr_base.specs.Trees.{IsBinary};
-ghost use Rattle.cmr_front.specs.Ending.{devices, standing};
 ghost use Rattle.cmr_front.specs.Outcome.{file_of, outcome_report};
 ghost use Rattle.cmr_front.specs.Report.{asked_file};
-ghost use Rattle.cmr_front.specs.Run.{Means, Runs, work};
+ghost use Rattle.cmr_front.specs.Run.{Means, RunsOver, work};
 ghost use Rattle.cmr_front.specs.Status.{answer_status};
-ghost use Rattle.cmr_unimodular.specs.Regular.{RegularDecides, HasLinesIn, IsSigned, chain_file, chain_with, regular_report, regular_tool, regular_verdict};
-ghost use Rattle.cmr_unimodular.specs.Verdict.{IsDecomposition, IsTold, verdict_in, verdict_order_of, verdict_report};
-ghost use Rattle.cmr_unimodular.specs.Words.Regular.{regular_order_of};
+ghost use Rattle.cmr_front.specs.Words.Reading.{Gives};
 ghost use Rattle.cmr_front.specs.declared.status.Answer.{Answer};
-ghost use Rattle.tree_type.specs.Verdicts.{verdict_shown};
+ghost use Rattle.cmr_unimodular.specs.Regular.{HasLinesIn, IsSigned, RegularDecides, chain_file, chain_with, regular_app, regular_order, regular_order_in, regular_order_of, regular_report, regular_tool, regular_verdict};
+ghost use Rattle.cmr_unimodular.specs.Verdict.{IsDecomposition, IsTold, verdict_in, verdict_order_of, verdict_report};
 
-use crate::options::RegularOptions;
 use crate::verdict::{VerdictOptions, report_tree};
 use camion_sign::{Chain, SignStepList, sign, write_chain};
-use cmr_base::{Indices, LineSet, Matrix, Memory};
+use clap::{ArgMatches, Command};
+use cmr_base::{Indices, LineSet, Matrix, Memory, Word};
 use cmr_front::asked::push_matrix;
 use cmr_front::input::{Input, Text};
-use cmr_front::matrix_file::{matrix_input, read_matrix};
+use cmr_front::matrix_file::{MatrixForm, matrix_input, read_matrix};
 use cmr_front::outcome::{Outcome, OutputFile, Stop};
 use cmr_front::tool::{Tool, run_tool};
+use cmr_front::words::arguments::{CHAIN, OUTPUT, TREE};
+use cmr_front::words::parsing::{
+    fault_in, file_in, form_in, lines_in, matches_with_input, pivots_in, value_in, workers_in,
+};
+use cmr_front::words::{WordsError, arguments};
 use cmr_io::{Shelf, Sink};
 use decomp_tree::decompose;
-use std::alloc::Global;
+use std::alloc::{AllocError, Global};
 use std::thread::Threads;
 use tree_type::{DecTree, VerdictOf, verdict};
+
+/// What `regular` is asked to do. A file of the name `-` is standard input where it is read.
+#[derive(Clone, Copy, Debug, PartialEq, Eq)]
+pub struct RegularOptions<'a> {
+    /// The form of the matrix text.
+    pub form: MatrixForm,
+    /// The most lines on the shorter side of a part that is searched whole where nothing else decides it, 0 to 24.
+    pub lines: u32,
+    /// The most pivots on the way to a part where nothing else decides it, 0 to 100.
+    pub pivots: u32,
+    /// How many workers share the searches, 1 to 64. The answer is the same for each number.
+    pub workers: u32,
+    /// The file that gets the decomposition tree of the signed matrix.
+    pub tree: Option<&'a str>,
+    /// The file that gets the violator of the signed matrix where there is one.
+    pub fault: Option<&'a str>,
+    /// The file that gets the signed matrix.
+    pub signed: Option<&'a str>,
+    /// The file that gets the chain of signs with the violator, where there is one.
+    pub chain: Option<&'a str>,
+    /// The file that holds the matrix text.
+    pub file: &'a str,
+}
+
+fn regular_command<'a>(alloc: Global) -> Result<Command<'a>, AllocError>
+    ensures { IfOk result (λ c. app_of c ≡ regular_app) }
+{
+    let bare = arguments::bare_command(alloc, "regular");
+    let with_form = arguments::add(bare, arguments::form_option(alloc))?;
+    let with_lines = arguments::add(with_form, arguments::lines_option(alloc))?;
+    let with_pivots = arguments::add(with_lines, arguments::pivots_option(alloc))?;
+    let with_workers = arguments::add(with_pivots, arguments::workers_option(alloc))?;
+    let with_tree = arguments::add(with_workers, arguments::tree_option(alloc))?;
+    let with_fault = arguments::add(with_tree, arguments::fault_option(alloc))?;
+    let with_output = arguments::add(with_fault, arguments::output_option(alloc))?;
+    let with_chain = arguments::add(with_output, arguments::chain_option(alloc))?;
+    arguments::add(with_chain, arguments::file_operand(alloc))
+}
+
+fn options_in<'a>(matches: &ArgMatches<'a>) -> Result<RegularOptions<'a>, WordsError>
+    ensures { Gives regular_order_of result (regular_order_in (rows_of (found_of matches.now))) }
+{
+    Ok(RegularOptions {
+        form: form_in(matches)?,
+        lines: lines_in(matches)?,
+        pivots: pivots_in(matches)?,
+        workers: workers_in(matches)?,
+        tree: value_in(matches, TREE),
+        fault: fault_in(matches),
+        signed: value_in(matches, OUTPUT),
+        chain: value_in(matches, CHAIN),
+        file: file_in(matches),
+    })
+}
+
+/// The options that the words behind `regular` give:
+/// `[-i FORMAT] [--lines L] [--pivots K] [-w N] [-D FILE] [-E FILE] [-M FILE] [-C FILE] [FILE]`.
+pub fn read_regular<'a>(alloc: Global, words: &'a [Word]) -> Result<RegularOptions<'a>, WordsError>
+    ensures value { Gives regular_order_of result (regular_order words.now) }
+    ensures ranges { IfOk result (λ options. (regular_tool (regular_order_of options)).InRanges) }
+{
+    let matches = matches_with_input(regular_command(alloc)?, words)?;
+    options_in(&matches)
+}
 
 /// Does what `run` does on the words of `regular`, and answers the status.
 pub fn regular<R: Threads + Sync, S: Shelf, O: Sink, E: Sink>(
@@ -43,15 +112,9 @@ pub fn regular<R: Threads + Sync, S: Shelf, O: Sink, E: Sink>(
     requires lines { options.now.lines ≤ 24 }
     requires pivots { options.now.pivots ≤ 100 }
     requires workers { (1 ≤ options.now.workers) × (options.now.workers ≤ 64) }
-    ensures runs { Runs
+    ensures runs { RunsOver S.Shelf O.Sink E.Sink
         (work (regular_tool (regular_order_of options.now)))
-        (standing (S.tells shelf.old) (O.tells out.old) (E.tells err.old) (S.is_calm shelf.old)
-        (S.room shelf.old) (O.is_calm out.old) (O.room out.old))
-        (devices (S.content shelf.old) (S.reads shelf.old) (S.failed shelf.old) (S.faults shelf.old)
-        (O.got out.old) (O.faults out.old) (E.got err.old) (E.faults err.old))
-        (devices (S.content shelf.new) (S.reads shelf.new) (S.failed shelf.new) (S.faults shelf.new)
-        (O.got out.new) (O.faults out.new) (E.got err.new) (E.faults err.new))
-        result }
+        shelf.old out.old err.old shelf.new out.new err.new result }
     ensures means { IsTrue (S.tells shelf.old) → (answer : Answer) → result ≡ answer_status answer
         → Means (regular_tool (regular_order_of options.now)) (S.content shelf.old) answer }
 {

@@ -1,30 +1,87 @@
-// Testing whether a matrix is series-parallel.
-ghost use Rattle.std.specs.Prelude.{◌≡◌, ◌++◌, IfOk, IfSome, IsTrue, OnOk, map, option_map};
+//! Testing whether a matrix is series-parallel.
+ghost use Rattle.clap.specs.Words.{app_of, found_of, rows_of};
+ghost use Rattle.std.specs.Prelude.{◌++◌, ◌≡◌, IfOk, IfSome, IsTrue, OnOk, map, option_map};
 ghost use Rattle.cmr_base.specs.LineSets.{AllBelow};
 ghost use Rattle.cmr_base.specs.Matrix.{height};
 ghost use Rattle.cmr_base.specs.Reductions.{IsSeriesParallel};
-ghost use Rattle.cmr_front.specs.Ending.{devices, standing};
 ghost use Rattle.cmr_front.specs.Minimal.{IsMinimalAsked};
 ghost use Rattle.cmr_front.specs.Outcome.{file_of, outcome_report};
-ghost use Rattle.cmr_front.specs.Run.{Means, Runs, work};
-ghost use Rattle.cmr_unimodular.specs.SeriesParallel.{IsReduced, SeriesParallelDecides, no_output, property_name, reduction_files, series_parallel_no, series_parallel_yes, series_parallel_tool};
+ghost use Rattle.cmr_front.specs.Run.{Means, RunsOver, work};
 ghost use Rattle.cmr_front.specs.Status.{answer_status};
-ghost use Rattle.cmr_unimodular.specs.Words.SeriesParallel.{series_parallel_order_of};
+ghost use Rattle.cmr_front.specs.Words.Reading.{Gives};
 ghost use Rattle.cmr_front.specs.declared.status.Answer.{Answer};
+ghost use Rattle.cmr_unimodular.specs.SeriesParallel.{IsReduced, SeriesParallelDecides, no_output, property_name, reduction_files, series_parallel_app, series_parallel_no, series_parallel_order, series_parallel_order_in, series_parallel_order_of, series_parallel_tool, series_parallel_yes};
 
-use crate::options::SpOptions;
-use cmr_base::{LineSet, Matrix, Memory};
+use clap::{ArgMatches, Command};
+use cmr_base::{LineSet, Matrix, Memory, Word};
 use cmr_front::asked::{push_minimal, push_steps, push_submatrix};
 use cmr_front::input::{Input, Text};
-use cmr_front::matrix_file::{matrix_input, read_matrix};
+use cmr_front::matrix_file::{MatrixForm, matrix_input, read_matrix};
 use cmr_front::outcome::{Outcome, OutputFile, Stop};
 use cmr_front::printed::{push_line_set, push_minimal_line};
 use cmr_front::status::Answer;
 use cmr_front::tool::{Tool, run_tool};
+use cmr_front::words::arguments::{BINARY, MINIMAL, REST, STEPS};
+use cmr_front::words::parsing::{file_in, form_in, has_flag, matches_with_input, value_in};
+use cmr_front::words::{WordsError, arguments};
 use cmr_io::{Shelf, Sink};
 use sp_reduce::{Reduction, minimal_not_sp, reduce};
-use std::alloc::Global;
+use std::alloc::{AllocError, Global};
 use std::thread::Threads;
+
+/// What `series-parallel` is asked to do. A file of the name `-` is standard input where it is read.
+#[derive(Clone, Copy, Debug, PartialEq, Eq)]
+pub struct SpOptions<'a> {
+    /// The form of the matrix text.
+    pub form: MatrixForm,
+    /// Whether the matrix is 0/1. A line is then not reducible as the negative of another.
+    pub binary: bool,
+    /// The file that gets a minimal submatrix that is not series-parallel, where there is one.
+    pub minimal: Option<&'a str>,
+    /// The file that gets the list of reductions.
+    pub steps: Option<&'a str>,
+    /// The file that gets what the reductions leave.
+    pub rest: Option<&'a str>,
+    /// The file that holds the matrix text.
+    pub file: &'a str,
+}
+
+fn series_parallel_command<'a>(alloc: Global) -> Result<Command<'a>, AllocError>
+    ensures { IfOk result (λ c. app_of c ≡ series_parallel_app) }
+{
+    let bare = arguments::bare_command(alloc, "series-parallel");
+    let with_form = arguments::add(bare, arguments::form_option(alloc))?;
+    let with_binary = arguments::add(with_form, arguments::binary_flag(alloc))?;
+    let with_minimal = arguments::add(with_binary, arguments::minimal_option(alloc))?;
+    let with_steps = arguments::add(with_minimal, arguments::steps_option(alloc))?;
+    let with_rest = arguments::add(with_steps, arguments::rest_option(alloc))?;
+    arguments::add(with_rest, arguments::file_operand(alloc))
+}
+
+fn options_in<'a>(matches: &ArgMatches<'a>) -> Result<SpOptions<'a>, WordsError>
+    ensures { Gives series_parallel_order_of result (series_parallel_order_in
+        (rows_of (found_of matches.now))) }
+{
+    Ok(SpOptions {
+        form: form_in(matches)?,
+        binary: has_flag(matches, BINARY),
+        minimal: value_in(matches, MINIMAL),
+        steps: value_in(matches, STEPS),
+        rest: value_in(matches, REST),
+        file: file_in(matches),
+    })
+}
+
+/// The options that the words behind `series-parallel` give: `[-i FORMAT] [-b] [-N FILE] [-S FILE] [-R FILE] [FILE]`.
+pub fn read_series_parallel<'a>(
+    alloc: Global,
+    words: &'a [Word],
+) -> Result<SpOptions<'a>, WordsError>
+    ensures { Gives series_parallel_order_of result (series_parallel_order words.now) }
+{
+    let matches = matches_with_input(series_parallel_command(alloc)?, words)?;
+    options_in(&matches)
+}
 
 /// Does what `run` does on the words of `series-parallel`, and answers the status.
 pub fn series_parallel<R: Threads + Sync, S: Shelf, O: Sink, E: Sink>(
@@ -35,15 +92,9 @@ pub fn series_parallel<R: Threads + Sync, S: Shelf, O: Sink, E: Sink>(
     out: &mut O,
     err: &mut E,
 ) -> u8
-    ensures runs { Runs
+    ensures runs { RunsOver S.Shelf O.Sink E.Sink
         (work (series_parallel_tool (series_parallel_order_of options.now)))
-        (standing (S.tells shelf.old) (O.tells out.old) (E.tells err.old) (S.is_calm shelf.old)
-        (S.room shelf.old) (O.is_calm out.old) (O.room out.old))
-        (devices (S.content shelf.old) (S.reads shelf.old) (S.failed shelf.old) (S.faults shelf.old)
-        (O.got out.old) (O.faults out.old) (E.got err.old) (E.faults err.old))
-        (devices (S.content shelf.new) (S.reads shelf.new) (S.failed shelf.new) (S.faults shelf.new)
-        (O.got out.new) (O.faults out.new) (E.got err.new) (E.faults err.new))
-        result }
+        shelf.old out.old err.old shelf.new out.new err.new result }
     ensures means { IsTrue (S.tells shelf.old) → (answer : Answer) → result ≡ answer_status answer
         → Means
         (series_parallel_tool (series_parallel_order_of options.now))

@@ -1,24 +1,85 @@
-// Testing total unimodularity.
+//! Testing total unimodularity.
+ghost use Rattle.clap.specs.Words.{app_of, found_of, rows_of};
 ghost use Rattle.std.specs.Prelude.{◌≡◌, ◌≤◌, IfOk, IsTrue};
-ghost use Rattle.cmr_front.specs.Ending.{devices, standing};
 ghost use Rattle.cmr_front.specs.Outcome.{outcome_report};
-ghost use Rattle.cmr_front.specs.Run.{Means, Runs, work};
+ghost use Rattle.cmr_front.specs.Run.{Means, RunsOver, work};
 ghost use Rattle.cmr_front.specs.Status.{answer_status};
-ghost use Rattle.cmr_unimodular.specs.Tu.{tu_verdict, tu_tool};
-ghost use Rattle.cmr_unimodular.specs.Verdict.{verdict_order_of};
-ghost use Rattle.cmr_unimodular.specs.Words.Tu.{tu_order_of};
+ghost use Rattle.cmr_front.specs.Words.Reading.{Gives};
 ghost use Rattle.cmr_front.specs.declared.status.Answer.{Answer};
+ghost use Rattle.cmr_unimodular.specs.Tu.{tu_app, tu_order, tu_order_in, tu_order_of, tu_tool, tu_verdict};
+ghost use Rattle.cmr_unimodular.specs.Verdict.{verdict_order_of};
 
-use crate::options::TuOptions;
 use crate::verdict::{VerdictOptions, give_verdict};
-use cmr_base::Memory;
+use clap::{ArgMatches, Command};
+use cmr_base::{Memory, Word};
 use cmr_front::input::{Input, Text};
-use cmr_front::matrix_file::{matrix_input, read_matrix};
+use cmr_front::matrix_file::{MatrixForm, matrix_input, read_matrix};
 use cmr_front::outcome::{Outcome, Stop};
 use cmr_front::tool::{Tool, run_tool};
+use cmr_front::words::arguments::TREE;
+use cmr_front::words::parsing::{
+    fault_in, file_in, form_in, lines_in, matches_with_input, pivots_in, value_in, workers_in,
+};
+use cmr_front::words::{WordsError, arguments};
 use cmr_io::{Shelf, Sink};
-use std::alloc::Global;
+use std::alloc::{AllocError, Global};
 use std::thread::Threads;
+
+/// What `tu` is asked to do. A file of the name `-` is standard input.
+#[derive(Clone, Copy, Debug, PartialEq, Eq)]
+pub struct TuOptions<'a> {
+    /// The form of the matrix text.
+    pub form: MatrixForm,
+    /// The most lines on the shorter side of a part that is searched whole where nothing else decides it, 0 to 24.
+    pub lines: u32,
+    /// The most pivots on the way to a part where nothing else decides it, 0 to 100.
+    pub pivots: u32,
+    /// How many workers share the searches, 1 to 64. The answer is the same for each number.
+    pub workers: u32,
+    /// The file that gets the decomposition tree.
+    pub tree: Option<&'a str>,
+    /// The file that gets the violator where there is one.
+    pub fault: Option<&'a str>,
+    /// The file that holds the matrix text.
+    pub file: &'a str,
+}
+
+fn tu_command<'a>(alloc: Global) -> Result<Command<'a>, AllocError>
+    ensures { IfOk result (λ c. app_of c ≡ tu_app) }
+{
+    let bare = arguments::bare_command(alloc, "tu");
+    let with_form = arguments::add(bare, arguments::form_option(alloc))?;
+    let with_lines = arguments::add(with_form, arguments::lines_option(alloc))?;
+    let with_pivots = arguments::add(with_lines, arguments::pivots_option(alloc))?;
+    let with_workers = arguments::add(with_pivots, arguments::workers_option(alloc))?;
+    let with_tree = arguments::add(with_workers, arguments::tree_option(alloc))?;
+    let with_fault = arguments::add(with_tree, arguments::fault_option(alloc))?;
+    arguments::add(with_fault, arguments::file_operand(alloc))
+}
+
+fn options_in<'a>(matches: &ArgMatches<'a>) -> Result<TuOptions<'a>, WordsError>
+    ensures { Gives tu_order_of result (tu_order_in (rows_of (found_of matches.now))) }
+{
+    Ok(TuOptions {
+        form: form_in(matches)?,
+        lines: lines_in(matches)?,
+        pivots: pivots_in(matches)?,
+        workers: workers_in(matches)?,
+        tree: value_in(matches, TREE),
+        fault: fault_in(matches),
+        file: file_in(matches),
+    })
+}
+
+/// The options that the words behind `tu` give:
+/// `[-i FORMAT] [--lines L] [--pivots K] [-w N] [-D FILE] [-E FILE] [FILE]`.
+pub fn read_tu<'a>(alloc: Global, words: &'a [Word]) -> Result<TuOptions<'a>, WordsError>
+    ensures value { Gives tu_order_of result (tu_order words.now) }
+    ensures ranges { IfOk result (λ options. (tu_tool (tu_order_of options)).InRanges) }
+{
+    let matches = matches_with_input(tu_command(alloc)?, words)?;
+    options_in(&matches)
+}
 
 /// Does what `run` does on the words of `tu`, and answers the status.
 pub fn tu<R: Threads + Sync, S: Shelf, O: Sink, E: Sink>(
@@ -32,15 +93,9 @@ pub fn tu<R: Threads + Sync, S: Shelf, O: Sink, E: Sink>(
     requires lines { options.now.lines ≤ 24 }
     requires pivots { options.now.pivots ≤ 100 }
     requires workers { (1 ≤ options.now.workers) × (options.now.workers ≤ 64) }
-    ensures runs { Runs
+    ensures runs { RunsOver S.Shelf O.Sink E.Sink
         (work (tu_tool (tu_order_of options.now)))
-        (standing (S.tells shelf.old) (O.tells out.old) (E.tells err.old) (S.is_calm shelf.old)
-        (S.room shelf.old) (O.is_calm out.old) (O.room out.old))
-        (devices (S.content shelf.old) (S.reads shelf.old) (S.failed shelf.old) (S.faults shelf.old)
-        (O.got out.old) (O.faults out.old) (E.got err.old) (E.faults err.old))
-        (devices (S.content shelf.new) (S.reads shelf.new) (S.failed shelf.new) (S.faults shelf.new)
-        (O.got out.new) (O.faults out.new) (E.got err.new) (E.faults err.new))
-        result }
+        shelf.old out.old err.old shelf.new out.new err.new result }
     ensures means { IsTrue (S.tells shelf.old) → (answer : Answer) → result ≡ answer_status answer
         → Means (tu_tool (tu_order_of options.now)) (S.content shelf.old) answer }
 {

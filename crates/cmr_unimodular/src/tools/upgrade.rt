@@ -1,29 +1,73 @@
-// Writing a decomposition tree anew, in its canonical text.
+//! Writing a decomposition tree anew, in its canonical text.
+ghost use Rattle.clap.specs.Words.{app_of, found_of, rows_of};
 ghost use Rattle.std.specs.Prelude.{◌≡◌, IfOk, IsTrue};
 ghost use Rattle.tree_text.specs.Reading.{plain};
-ghost use Rattle.cmr_front.specs.Ending.{devices, standing};
 ghost use Rattle.cmr_front.specs.Evidence.{ReportsTree};
 ghost use Rattle.cmr_front.specs.Outcome.{outcome_report};
-ghost use Rattle.cmr_front.specs.Run.{Means, Runs, work};
+ghost use Rattle.cmr_front.specs.Run.{Means, RunsOver, work};
 ghost use Rattle.cmr_front.specs.Status.{answer_status};
 ghost use Rattle.cmr_front.specs.Tool.{HasOneReport, IsDecision};
+ghost use Rattle.cmr_front.specs.Words.Reading.{Gives};
 ghost use Rattle.cmr_front.specs.declared.status.Answer.{Answer};
-ghost use Rattle.cmr_unimodular.specs.Upgrade.{UpgradeDecides, upgrade_report, upgrade_tool, upgraded_line};
-ghost use Rattle.cmr_unimodular.specs.Words.Upgrade.{upgrade_order_of};
+ghost use Rattle.cmr_unimodular.specs.Upgrade.{UpgradeDecides, upgrade_app, upgrade_order, upgrade_order_in, upgrade_order_of, upgrade_report, upgrade_tool, upgraded_line};
 
-use crate::options::UpgradeOptions;
-use cmr_base::Memory;
+use clap::{ArgMatches, Command};
+use cmr_base::{Memory, Word};
 use cmr_front::evidence_file::{evidence_input, read_tree_file};
 use cmr_front::input::{Input, Text};
 use cmr_front::outcome::{Outcome, OutputFile, Stop};
 use cmr_front::status::Answer;
 use cmr_front::tool::{Tool, run_tool};
+use cmr_front::words::arguments::{EVIDENCE, TREE};
+use cmr_front::words::parsing::{matches_in, operand_in};
+use cmr_front::words::{WordsError, arguments};
 use cmr_io::{Shelf, Sink};
 use itoa::Buffer;
-use std::alloc::Global;
+use std::alloc::{AllocError, Global};
 use std::thread::Threads;
 use tree_text::write_tree;
 use tree_type::{DecTree, count_nodes};
+
+/// What `upgrade` is asked to do. A file of the name `-` is standard input where it is read.
+#[derive(Clone, Copy, Debug, PartialEq, Eq)]
+pub struct UpgradeOptions<'a> {
+    /// The file that holds the tree text, of any version.
+    pub evidence: &'a str,
+    /// The file that gets the canonical text.
+    pub tree: &'a str,
+}
+
+fn upgrade_command<'a>(alloc: Global) -> Result<Command<'a>, AllocError>
+    ensures { IfOk result (λ c. app_of c ≡ upgrade_app) }
+{
+    let bare = arguments::bare_command(alloc, "upgrade");
+    let with_evidence = arguments::add(bare, arguments::operand(alloc, EVIDENCE))?;
+    arguments::add(
+        with_evidence,
+        arguments::required(arguments::tree_option(alloc)),
+    )
+}
+
+fn options_in<'a>(matches: &ArgMatches<'a>) -> Result<UpgradeOptions<'a>, WordsError>
+    ensures { Gives upgrade_order_of result (upgrade_order_in (rows_of (found_of matches.now))) }
+{
+    let evidence = match operand_in(matches, EVIDENCE) {
+        Ok(evidence) => evidence,
+        Err(error) => return Err(error),
+    };
+    match operand_in(matches, TREE) {
+        Ok(tree) => Ok(UpgradeOptions { evidence, tree }),
+        Err(error) => Err(error),
+    }
+}
+
+/// The options that the words behind `upgrade` give: `EVIDENCE -D FILE`.
+pub fn read_upgrade<'a>(alloc: Global, words: &'a [Word]) -> Result<UpgradeOptions<'a>, WordsError>
+    ensures { Gives upgrade_order_of result (upgrade_order words.now) }
+{
+    let matches = matches_in(upgrade_command(alloc)?, words)?;
+    options_in(&matches)
+}
 
 /// Does what `run` does on the words of `upgrade`, and answers the status.
 pub fn upgrade<R: Threads + Sync, S: Shelf, O: Sink, E: Sink>(
@@ -34,15 +78,9 @@ pub fn upgrade<R: Threads + Sync, S: Shelf, O: Sink, E: Sink>(
     out: &mut O,
     err: &mut E,
 ) -> u8
-    ensures runs { Runs
+    ensures runs { RunsOver S.Shelf O.Sink E.Sink
         (work (upgrade_tool (upgrade_order_of options.now)))
-        (standing (S.tells shelf.old) (O.tells out.old) (E.tells err.old) (S.is_calm shelf.old)
-        (S.room shelf.old) (O.is_calm out.old) (O.room out.old))
-        (devices (S.content shelf.old) (S.reads shelf.old) (S.failed shelf.old) (S.faults shelf.old)
-        (O.got out.old) (O.faults out.old) (E.got err.old) (E.faults err.old))
-        (devices (S.content shelf.new) (S.reads shelf.new) (S.failed shelf.new) (S.faults shelf.new)
-        (O.got out.new) (O.faults out.new) (E.got err.new) (E.faults err.new))
-        result }
+        shelf.old out.old err.old shelf.new out.new err.new result }
     ensures means { IsTrue (S.tells shelf.old) → (answer : Answer) → result ≡ answer_status answer
         → Means (upgrade_tool (upgrade_order_of options.now)) (S.content shelf.old) answer }
     ensures one { HasOneReport (upgrade_tool (upgrade_order_of options.now)) }

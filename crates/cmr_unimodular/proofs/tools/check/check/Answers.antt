@@ -1,5 +1,5 @@
 use Rattle.std.proofs.Common.{refl}
-use Rattle.cmr_unimodular.specs.Words.Check.{check_order_of}
+use Rattle.cmr_unimodular.specs.Check.{check_order_of}
 use Rattle.cmr_unimodular.proofs.CheckAnswers.{check_lawful}
 use Rattle.cmr_unimodular.proofs.tools.check.check.Goals as goal
 

@@ -1,7 +1,7 @@
 use Rattle.std.proofs.Common.{refl, subst, sym}
 use Rattle.std.specs.Prelude.{IfOk}
-use Rattle.cmr_unimodular.specs.declared.options.Property.{Property}
-use Rattle.cmr_unimodular.specs.declared.options.Property.TheVariants.{Graphic, Network}
+use Rattle.cmr_unimodular.specs.declared.tools.graphic_network.Property.{Property}
+use Rattle.cmr_unimodular.specs.declared.tools.graphic_network.Property.TheVariants.{Graphic, Network}
 use Rattle.cmr_unimodular.specs.GraphMatrix.{IsMatrixOf}
 use Rattle.cmr_unimodular.proofs.GraphMatrixAnswers.{all_testable, matrix_made}
 use Rattle.cmr_unimodular.proofs.tools.graph_matrix.shown_matrix.Goals as goal

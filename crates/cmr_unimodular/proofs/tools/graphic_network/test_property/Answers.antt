@@ -1,5 +1,5 @@
 use Rattle.std.proofs.Common.{rules, refl}
-use Rattle.cmr_unimodular.specs.Words.GraphicNetwork.{test_order_of}
+use Rattle.cmr_unimodular.specs.GraphicNetwork.{test_order_of}
 use Rattle.cmr_unimodular.proofs.GraphMatrixAnswers.{graph_matrix_lawful, runs_test}
 use Rattle.cmr_unimodular.proofs.GraphicNetworkAnswers.{path_lawful}
 use Rattle.cmr_unimodular.proofs.tools.graphic_network.test_property.Goals as goal

@@ -1,5 +1,5 @@
 use Rattle.std.proofs.Common.{rules, refl}
-use Rattle.cmr_unimodular.specs.Words.Regular.{regular_order_of}
+use Rattle.cmr_unimodular.specs.Regular.{regular_order_of}
 use Rattle.cmr_unimodular.proofs.RegularAnswers.{regular_lawful}
 use Rattle.cmr_unimodular.proofs.tools.regular.regular.Goals as goal
 

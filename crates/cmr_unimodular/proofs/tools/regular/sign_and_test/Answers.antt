@@ -1,6 +1,6 @@
 use Rattle.std.proofs.Common.{◌∙◌, ap}
 use Rattle.cmr_unimodular.specs.Verdict.{verdict_report}
-use Rattle.cmr_unimodular.specs.Words.Regular.{regular_order_of}
+use Rattle.cmr_unimodular.specs.Regular.{regular_order_of}
 use Rattle.cmr_unimodular.proofs.RegularAnswers.{reported}
 use Rattle.cmr_unimodular.proofs.tools.regular.sign_and_test.Goals as goal
 

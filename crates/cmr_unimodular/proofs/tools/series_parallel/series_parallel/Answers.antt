@@ -1,5 +1,5 @@
 use Rattle.std.proofs.Common.{rules, refl}
-use Rattle.cmr_unimodular.specs.Words.SeriesParallel.{series_parallel_order_of}
+use Rattle.cmr_unimodular.specs.SeriesParallel.{series_parallel_order_of}
 use Rattle.cmr_unimodular.proofs.SeriesParallelAnswers.{series_parallel_lawful}
 use Rattle.cmr_unimodular.proofs.tools.series_parallel.series_parallel.Goals as goal
 

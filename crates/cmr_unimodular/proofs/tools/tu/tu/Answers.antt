@@ -1,5 +1,5 @@
 use Rattle.std.proofs.Common.{rules, refl}
-use Rattle.cmr_unimodular.specs.Words.Tu.{tu_order_of}
+use Rattle.cmr_unimodular.specs.Tu.{tu_order_of}
 use Rattle.cmr_unimodular.proofs.TuAnswers.{tu_lawful}
 use Rattle.cmr_unimodular.proofs.tools.tu.tu.Goals as goal
 

@@ -1,5 +1,5 @@
 use Rattle.std.proofs.Common.{refl}
-use Rattle.cmr_unimodular.specs.Words.Upgrade.{upgrade_order_of}
+use Rattle.cmr_unimodular.specs.Upgrade.{upgrade_order_of}
 use Rattle.cmr_unimodular.proofs.UpgradeAnswers.{upgrade_has_one_report, upgrade_lawful}
 use Rattle.cmr_unimodular.proofs.tools.upgrade.upgrade.Goals as goal
 
