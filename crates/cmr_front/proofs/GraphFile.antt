@@ -1,5 +1,5 @@
 -- Tools that read one graph text.
-use Rattle.std.proofs.Common.{◌≡◌, ℕ, List, Result, Err, ap₂, subst}
+use Rattle.std.proofs.Common.{◌≡◌, ℕ, List, [], ◌∷◌, Result, Err, ap₂, subst, refl, arith}
 use Rattle.text_fields.specs.Reading.{Fault}
 use Rattle.text_fields.specs.Words.{text_of}
 use Rattle.graph_text.specs.declared.error.GraphKind.{GraphKind}
@@ -18,7 +18,8 @@ use Rattle.cmr_front.specs.Status.{answer_status}
 use Rattle.cmr_front.specs.Texts.{ReportsText}
 use Rattle.cmr_front.specs.Tool.{HasOneReport, IsDecision, IsLawful}
 use Rattle.cmr_front.proofs.OneText.{one_report_of_one, text_lawful}
-use Rattle.cmr_front.proofs.Texts.{answered, one_of_text, one_report_of_text}
+use Rattle.cmr_front.proofs.Statuses.{IsAnswered}
+use Rattle.cmr_front.proofs.Texts.{answered, fault_of_last, one_of_text, one_report_of_text}
 
 module _ (file : List ℕ) (Decides : SizedNetwork → Report → Type 0) where
   -- a text at fault
@@ -37,13 +38,15 @@ module _ (file : List ℕ) (Decides : SizedNetwork → Report → Type 0) where
 
   -- the tool is lawful where its decisions on networks are
   pub graph_lawful : (Says : SizedNetwork → Answer → Type 0) → ((net : SizedNetwork) (r s : Report) → Decides net r → Decides net s → r.status ≡ s.status)
-      → ((net : SizedNetwork) (r : Report) (answer : Answer) → Decides net r → r.status ≡ answer_status answer → Says net answer) → IsLawful (graph_tool file Decides Says)
-  graph_lawful Says one says =
+      → ((net : SizedNetwork) (r : Report) (answer : Answer) → Decides net r → r.status ≡ answer_status answer → Says net answer)
+      → ((net : SizedNetwork) (r : Report) → Decides net r → IsAnswered r) → IsLawful (graph_tool file Decides Says)
+  graph_lawful Says one says answers =
       text_lawful (ReportsGraph file Decides) (SaysOfGraph Says)
       (λ bytes r s a b. let t = together bytes r s a b in one_of_text faults.Graph file Decides one t.0 r s t.1 t.2)
       (λ bytes r answer a is. let found = answered faults.Graph file Decides a.0 r answer a.2 is in
       (found.0, subst (IsGraph (text_of bytes)) found.1 a.1, says found.0 r answer found.2 is))
       (matrix_file file)
+      (λ bytes r a is. fault_of_last faults.Graph file Decides (matrix_file file ∷ []) (0, omega arith, refl) answers a.0 r a.2 is)
 
   -- it has one report where its decisions on networks have one
   pub one_report_of_graph : (Says : SizedNetwork → Answer → Type 0) → ((net : SizedNetwork) (r s : Report) → Decides net r → Decides net s → r ≡ s) → HasOneReport (graph_tool file Decides Says)

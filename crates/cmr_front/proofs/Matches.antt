@@ -1,5 +1,6 @@
 -- What `clap` promises of a parse, as what the command makes of the words.
 use Rattle.std.proofs.Common.{◌≡◌, ◌≢◌, inl, inr, refl, List, [], ◌∷◌, Option, Some, None, Result, Ok, Err, true, false, map, subst}
+use Rattle.std.specs.Prelude.{IfOk}
 use Rattle.std.specs.List.{list_any}
 use Rattle.std.specs.Result.{IsErrAnd}
 use Rattle.std.proofs.lemmas.Bool.{and_parts}
@@ -54,3 +55,9 @@ pub Gives-matches_with_input : {X Y : Type 0} (view : X → Y) (a b : App) (word
 Gives-matches_with_input view a b words rows f r same found read =
     let taken : matches_with_input b words ≡ Some rows = subst (λ (x : App). matches_with_input x words ≡ Some rows) same found in
     rw taken read
+
+-- what is given is as all that is defined is
+pub as_defined : {X Y : Type 0} (view : X → Y) (P : Y → Type 0) (r : Result X WordsError) (defined : Option Y) → Gives view r defined → ((y : Y) → defined ≡ Some y → P y) → IfOk r (λ x. P (view x))
+as_defined view P (Ok x) defined gives each = each (view x) gives
+as_defined view P (Err Refused) defined gives each = tt
+as_defined view P (Err Memory) defined gives each = tt

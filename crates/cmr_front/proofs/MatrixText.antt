@@ -12,14 +12,16 @@ use Rattle.cmr_front.specs.declared.outcome.FaultKind.TheVariants as faults
 use Rattle.cmr_front.specs.declared.outcome.Outcome.{Outcome}
 use Rattle.cmr_front.specs.declared.outcome.Stop.{Stop}
 use Rattle.cmr_front.specs.declared.status.Answer.{Answer}
+use Rattle.cmr_front.specs.declared.status.Failure.TheVariants as failures
 use Rattle.cmr_front.specs.Inputs.{bytes_of}
-use Rattle.cmr_front.specs.MatrixText.{Source, ReportsMatrix, SaysOfMatrix, matrix_in, matrix_tool}
+use Rattle.cmr_front.specs.MatrixText.{Source, ReportsMatrix, SaysOfMatrix, matrix_file, matrix_in, matrix_tool}
 use Rattle.cmr_front.specs.Outcome.{outcome_report}
 use Rattle.cmr_front.specs.Report.{Report}
-use Rattle.cmr_front.specs.Status.{answer_status}
+use Rattle.cmr_front.specs.Status.{answer_status, failure_status}
 use Rattle.cmr_front.specs.Stopped.{StopsText}
-use Rattle.cmr_front.specs.Tool.{IsDecision, IsLawful}
-use Rattle.cmr_front.proofs.Texts.{answered, fault_reported, one_of_text, read_reported}
+use Rattle.cmr_front.specs.Tool.{IsDecision, IsFaultOfFile, IsLawful}
+use Rattle.cmr_front.proofs.Statuses.{IsAnswered}
+use Rattle.cmr_front.proofs.Texts.{answered, fault_of_last, fault_reported, one_of_text, read_reported}
 
 -- what is read is a matrix within the limits
 pub read_is_matrix : (form : MatrixForm) (binary : Bool) (bytes : List ℕ) (m : Matrix) → matrix_in form binary bytes ≡ Ok m → IsMatrix m
@@ -56,6 +58,12 @@ module _ (s : Source) (Decides : Matrix → Report → Type 0) where
   one_status one (bytes ∷ []) r t a b = one_of_text faults.Matrix s.file Decides one (matrix_in s.form s.binary bytes) r t a b
   one_status one (bytes ∷ other ∷ others) r t a b = absurd a
 
+  at_fault : ((m : Matrix) (r : Report) → Decides m r → IsAnswered r) → (bytes : List (List ℕ)) (r : Report) → ReportsMatrix s Decides bytes r → r.status ≡ failure_status failures.Text
+      → IsFaultOfFile (matrix_file s.file ∷ []) r
+  at_fault answers [] r d is = absurd d
+  at_fault answers (bytes ∷ []) r d is = fault_of_last faults.Matrix s.file Decides (matrix_file s.file ∷ []) (0, omega arith, refl) answers (matrix_in s.form s.binary bytes) r d is
+  at_fault answers (bytes ∷ other ∷ others) r d is = absurd d
+
   module _ (Says : Matrix → Answer → Type 0) (says : (m : Matrix) (r : Report) (answer : Answer) → Decides m r → r.status ≡ answer_status answer → Says m answer) where
     means : (bytes : List (List ℕ)) (r : Report) (answer : Answer) → ReportsMatrix s Decides bytes r → r.status ≡ answer_status answer → SaysOfMatrix s Says bytes answer
     means [] r answer a is = absurd a
@@ -64,6 +72,7 @@ module _ (s : Source) (Decides : Matrix → Report → Type 0) where
         (bytes, refl, found.0, found.1, says found.0 r answer found.2 is)
     means (bytes ∷ other ∷ others) r answer a is = absurd a
 
-    -- the tool is lawful where its decisions are
-    pub lawful : (InRanges : Type 0) → ((m : Matrix) (r t : Report) → Decides m r → Decides m t → r.status ≡ t.status) → IsLawful (matrix_tool s InRanges Decides Says)
-    lawful InRanges one = record { one_status = one_status one; means = means }
+    -- the tool is lawful where its decisions are answers, and lawful
+    pub lawful : (InRanges : Type 0) → ((m : Matrix) (r t : Report) → Decides m r → Decides m t → r.status ≡ t.status) → ((m : Matrix) (r : Report) → Decides m r → IsAnswered r)
+        → IsLawful (matrix_tool s InRanges Decides Says)
+    lawful InRanges one answers = record { one_status = one_status one; means = means; at_fault = at_fault answers }

@@ -9,7 +9,9 @@ use Rattle.clap.specs.Values.{IsSignedIn}
 use Rattle.clap.specs.ValueTests.{is_signed_in}
 use Rattle.clap.specs.declared.builder.value_parser.ValueParser.TheVariants as vp
 use Rattle.clap.proofs.ValueTestLemmas.{Accepts-accepts, accepts-Accepts}
-use Rattle.cmr_front.specs.Words.Parsing.{lines_in, number_from, pivots_in, workers_in}
+use Rattle.cmr_front.specs.declared.matrix_file.MatrixForm.{MatrixForm}
+use Rattle.cmr_front.specs.Words.Parsing.{form_in, lines_in, number_from, pivots_in, workers_in}
+use Rattle.cmr_front.specs.Words.Reading.{◌>>=◌}
 
 number_from-some : (least most : ℕ) (text : List ℕ) → IsSignedIn (pos least) (pos most) text → number_from least most text ≡ Some (digits_value 10 (without_leading_sign text))
 number_from-some least most text h = ap (λ (b : Bool). cond b (Some (digits_value 10 (without_leading_sign text))) None) (Accepts-accepts false (vp.Signed (pos least) (pos most)) text h)
@@ -71,3 +73,20 @@ workers_in-between rows workers e = go (first_of (codes "workers") rows) e
     go : (text : Option Text) → option_map_or (number_from 1 64) text (Some 1) ≡ Some workers → (1 ≤ workers) × (workers ≤ 64)
     go None e = let same : 1 ≡ workers = cc in (omega arith, omega arith)
     go (Some text) e = number_from-between 1 64 text workers e
+
+-- what is made of the form and of these three numbers
+pub with_numbers : {O : Type 0} (P : O → Type 0) (make : MatrixForm → ℕ → ℕ → ℕ → O) (rows : List Row) (o : O)
+    → ((form : MatrixForm) (lines pivots workers : ℕ) → lines ≤ 24 → pivots ≤ 100 → (1 ≤ workers) × (workers ≤ 64) → P (make form lines pivots workers))
+    → (form_in rows >>= (λ f. lines_in rows >>= (λ l. pivots_in rows >>= (λ p. workers_in rows >>= (λ w. Some (make f l p w)))))) ≡ Some o → P o
+with_numbers {O} P make rows o each e = go (form_in rows) (lines_in rows) (pivots_in rows) (workers_in rows) (lines_in-le rows) (pivots_in-le rows) (workers_in-between rows) e
+  where
+    go : (form : Option MatrixForm) (lines pivots workers : Option ℕ) → ((n : ℕ) → lines ≡ Some n → n ≤ 24) → ((n : ℕ) → pivots ≡ Some n → n ≤ 100)
+        → ((n : ℕ) → workers ≡ Some n → (1 ≤ n) × (n ≤ 64))
+        → (form >>= (λ f. lines >>= (λ l. pivots >>= (λ p. workers >>= (λ w. Some (make f l p w)))))) ≡ Some o → P o
+    go None lines pivots workers few bound some e = cc
+    go (Some f) None pivots workers few bound some e = cc
+    go (Some f) (Some l) None workers few bound some e = cc
+    go (Some f) (Some l) (Some p) None few bound some e = cc
+    go (Some f) (Some l) (Some p) (Some w) few bound some e =
+        let same : make f l p w ≡ o = cc in
+        subst P same (each f l p w (few l refl) (bound p refl) (some w refl))

@@ -4,11 +4,12 @@ use Rattle.cmr_front.specs.declared.input.Text.{Text}
 use Rattle.cmr_front.specs.declared.outcome.Outcome.{Outcome}
 use Rattle.cmr_front.specs.declared.outcome.Stop.{Stop}
 use Rattle.cmr_front.specs.declared.status.Answer.{Answer}
+use Rattle.cmr_front.specs.declared.status.Failure.TheVariants as failures
 use Rattle.cmr_front.specs.Inputs.{InputFile, bytes_of}
 use Rattle.cmr_front.specs.OneText.{ReportsOne, SaysOfOne, text_tool}
 use Rattle.cmr_front.specs.Report.{Report}
-use Rattle.cmr_front.specs.Status.{answer_status}
-use Rattle.cmr_front.specs.Tool.{HasOneReport, IsDecision, IsLawful}
+use Rattle.cmr_front.specs.Status.{answer_status, failure_status}
+use Rattle.cmr_front.specs.Tool.{HasOneReport, IsDecision, IsFaultOfFile, IsLawful}
 use Rattle.cmr_front.proofs.MatrixText.{one_text}
 
 module _ (On : List ℕ → Report → Type 0) where
@@ -32,6 +33,12 @@ module _ (On : List ℕ → Report → Type 0) where
     means (bytes ∷ []) r answer a is = (bytes, refl, says bytes r answer a is)
     means (bytes ∷ other ∷ texts) r answer a is = absurd a
 
-    -- the tool is lawful where what it says of the text is
-    pub text_lawful : (file : InputFile) → IsLawful (text_tool file On Says)
-    text_lawful file = record { one_status = one_status; means = means }
+    module _ (file : InputFile) (fault : (bytes : List ℕ) (r : Report) → On bytes r → r.status ≡ failure_status failures.Text → IsFaultOfFile (file ∷ []) r) where
+      at_fault : (texts : List (List ℕ)) (r : Report) → ReportsOne On texts r → r.status ≡ failure_status failures.Text → IsFaultOfFile (file ∷ []) r
+      at_fault [] r d is = absurd d
+      at_fault (bytes ∷ []) r d is = fault bytes r d is
+      at_fault (bytes ∷ other ∷ texts) r d is = absurd d
+
+      -- the tool is lawful where what it says of the text is
+      pub text_lawful : IsLawful (text_tool file On Says)
+      text_lawful = record { one_status = one_status; means = means; at_fault = at_fault }

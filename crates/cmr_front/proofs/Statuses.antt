@@ -28,3 +28,11 @@ answered_or_failed status answer failure a f = go (answer_outside answer) (failu
     go : (answer_status answer ≤ 1) ⊎ (6 ≤ answer_status answer) → (2 ≤ failure_status failure) × (failure_status failure ≤ 5) → ⊥
     go (inl low) between = omega arith
     go (inr high) between = omega arith
+
+-- the status is one of an answer
+abbrev pub IsAnswered : Report → Type 0
+IsAnswered r = (answer : Answer) × (r.status ≡ answer_status answer)
+
+-- and so the report is no line on a text
+pub no_fault : (r : Report) → IsAnswered r → r.status ≡ failure_status Text → ⊥
+no_fault r (answer, is) fault = answered_or_failed r.status answer Text is fault

@@ -1,5 +1,6 @@
 -- What is reported on a text, and on two of them.
 use Rattle.std.proofs.Common.{◌≡◌, ◌∙◌, ℕ, List, [], ◌∷◌, Result, Ok, Err, length, map, get_or, ap₂, sym, subst, refl, arith}
+use Rattle.std.specs.Prelude.{Contains}
 use Rattle.text_fields.specs.Reading.{Fault}
 use Rattle.cmr_front.specs.declared.input.Text.{Text}
 use Rattle.cmr_front.specs.declared.outcome.FaultKind.{FaultKind}
@@ -11,11 +12,11 @@ use Rattle.cmr_front.specs.declared.status.Failure.TheVariants as failures
 use Rattle.cmr_front.specs.Inputs.{InputFile, bytes_of}
 use Rattle.cmr_front.specs.Outcome.{bad_text}
 use Rattle.cmr_front.specs.Report.{Report}
-use Rattle.cmr_front.specs.Status.{answer_status}
+use Rattle.cmr_front.specs.Status.{answer_status, failure_status}
 use Rattle.cmr_front.specs.Stopped.{StopsText}
 use Rattle.cmr_front.specs.Texts.{ReportsPair, ReportsText, SaysOfPair, pair_tool}
-use Rattle.cmr_front.specs.Tool.{HasOneReport, IsDecision, IsLawful}
-use Rattle.cmr_front.proofs.Statuses.{answered_or_failed, status_of}
+use Rattle.cmr_front.specs.Tool.{HasOneReport, IsDecision, IsFaultOfFile, IsLawful}
+use Rattle.cmr_front.proofs.Statuses.{IsAnswered, answered_or_failed, no_fault, status_of}
 
 module _ {A K : Type 0} (kind_of : K → FaultKind) (file : List ℕ) (Decides : A → Report → Type 0) where
   -- what is decided on what a text stands for
@@ -45,6 +46,18 @@ module _ {A K : Type 0} (kind_of : K → FaultKind) (file : List ℕ) (Decides :
   pub answered : (read : Result A (Fault K)) (r : Report) (answer : Answer) → ReportsText kind_of file Decides read r → r.status ≡ answer_status answer → (x : A) × (read ≡ Ok x) × Decides x r
   answered (Ok x) r answer d is = (x, refl, d)
   answered (Err fault) r answer e is = absurd (answered_or_failed r.status answer failures.Text is (status_of r _ e))
+
+  -- a text at fault is that of its file, where what is decided on what a text stands for names one of the files too
+  pub fault_of_text : (files : List InputFile) → Contains (map (λ (f : InputFile). f.name) files) file
+      → ((x : A) (r : Report) → Decides x r → r.status ≡ failure_status failures.Text → IsFaultOfFile files r)
+      → (read : Result A (Fault K)) (r : Report) → ReportsText kind_of file Decides read r → r.status ≡ failure_status failures.Text → IsFaultOfFile files r
+  fault_of_text files named behind (Ok x) r d is = behind x r d is
+  fault_of_text files named behind (Err fault) r e is = record { name = file; kind = kind_of fault.0; place = fault.1; is_read = named; report_is = e }
+
+  -- and where that is an answer
+  pub fault_of_last : (files : List InputFile) → Contains (map (λ (f : InputFile). f.name) files) file → ((x : A) (r : Report) → Decides x r → IsAnswered r)
+      → (read : Result A (Fault K)) (r : Report) → ReportsText kind_of file Decides read r → r.status ≡ failure_status failures.Text → IsFaultOfFile files r
+  fault_of_last files named answers = fault_of_text files named (λ x r d is. absurd (no_fault r (answers x r d) is))
 
 -- ---- two texts
 
@@ -80,6 +93,13 @@ module _ (On : List ℕ → List ℕ → Report → Type 0) where
     means (first ∷ second ∷ []) r answer a is = (first, second, refl, says first second r answer a is)
     means (first ∷ second ∷ third ∷ texts) r answer a is = absurd a
 
-    -- the tool is lawful where what it says of two texts is
-    pub pair_lawful : (files : List InputFile) → IsLawful (pair_tool files On Says)
-    pair_lawful files = record { one_status = one_status; means = means }
+    module _ (files : List InputFile) (fault : (first second : List ℕ) (r : Report) → On first second r → r.status ≡ failure_status failures.Text → IsFaultOfFile files r) where
+      at_fault : (texts : List (List ℕ)) (r : Report) → ReportsPair On texts r → r.status ≡ failure_status failures.Text → IsFaultOfFile files r
+      at_fault [] r d is = absurd d
+      at_fault (first ∷ []) r d is = absurd d
+      at_fault (first ∷ second ∷ []) r d is = fault first second r d is
+      at_fault (first ∷ second ∷ third ∷ texts) r d is = absurd d
+
+      -- the tool is lawful where what it says of two texts is
+      pub pair_lawful : IsLawful (pair_tool files On Says)
+      pair_lawful = record { one_status = one_status; means = means; at_fault = at_fault }

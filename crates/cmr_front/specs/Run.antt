@@ -1,6 +1,8 @@
 -- What a run reports, how it ends, and what its answer means.
 use Rattle.std.specs.Prelude.{◌≡◌, ◌⊎◌, ℕ, Bool, IsTrue, List, [], length, Result, Ok, Err}
 use Rattle.cmr_io.specs.Causes.{Rose}
+use Rattle.cmr_io.specs.declared.device.Shelf as shelves
+use Rattle.cmr_io.specs.declared.device.Sink as sinks
 use Rattle.cmr_front.specs.declared.outcome.FaultKind.{FaultKind}
 use Rattle.cmr_front.specs.declared.outcome.Outcome.{Outcome}
 use Rattle.cmr_front.specs.declared.outcome.Stop.{Stop}
@@ -10,7 +12,7 @@ use Rattle.cmr_front.specs.declared.status.Failure.TheVariants as failures
 use Rattle.cmr_front.specs.Inputs.{Given, given, not_there, too_much, texts}
 use Rattle.cmr_front.specs.Report.{Held, Report}
 use Rattle.cmr_front.specs.Outcome.{bad_text, bad_words, cannot_read, out_of_memory, outcome_report, too_long}
-use Rattle.cmr_front.specs.Ending.{Devices, Standing, IsDelivered, IsReadyFor, IsCarriedOut, telling_of}
+use Rattle.cmr_front.specs.Ending.{Devices, Standing, IsDelivered, IsReadyFor, IsCarriedOut, devices, standing, telling_of}
 use Rattle.cmr_front.specs.Status.{IsStatus, answer_status, failure_status}
 use Rattle.cmr_front.specs.Tool.{Tool}
 use Rattle.cmr_front.specs.Unread.{Between, between, HaveEnded, IsNameAt, IsUnread}
@@ -87,6 +89,15 @@ pub record Runs (ordered : Ordered) (standing : Standing) (before after : Device
   -- a device is the cause only where a call of the shelf or of standard output failed
   pub device : status ≡ failure_status failures.Device → Rose before.shelf_faults after.shelf_faults ⊎ Rose before.output_faults after.output_faults
   pub statuses : IsStatus status
+
+-- The same over a shelf, standard output and standard error, from what stands on them before the run to what stands there after it.
+abbrev pub RunsOver : {S O E : Type 0} → shelves.Ghosts S → sinks.Ghosts O → sinks.Ghosts E → Ordered → S → O → E → S → O → E → ℕ → Type 0
+RunsOver s o e ordered shelf out err shelf_after out_after err_after status =
+    Runs ordered
+    (standing (s.tells shelf) (o.tells out) (e.tells err) (s.is_calm shelf) (s.room shelf) (o.is_calm out) (o.room out))
+    (devices (s.content shelf) (s.reads shelf) (s.failed shelf) (s.faults shelf) (o.got out) (o.faults out) (e.got err) (e.faults err))
+    (devices (s.content shelf_after) (s.reads shelf_after) (s.failed shelf_after) (s.faults shelf_after) (o.got out_after) (o.faults out_after) (e.got err_after) (e.faults err_after))
+    status
 
 -- What an outcome or a stop says for what is ordered, before anything is written: it is a report, but for a file that
 -- cannot be read, and for want of memory.

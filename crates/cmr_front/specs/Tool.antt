@@ -1,13 +1,15 @@
 -- What a tool is, with its options.
-use Rattle.std.specs.Prelude.{◌≡◌, ℕ, List, Result, Ok, Err}
+use Rattle.std.specs.Prelude.{◌≡◌, ℕ, List, Contains, map, Result, Ok, Err}
+use Rattle.cmr_front.specs.declared.outcome.FaultKind.{FaultKind}
 use Rattle.cmr_front.specs.declared.outcome.Outcome.{Outcome}
 use Rattle.cmr_front.specs.declared.outcome.Stop.{Stop}
 use Rattle.cmr_front.specs.declared.outcome.Stop.TheVariants as stops
 use Rattle.cmr_front.specs.declared.status.Answer.{Answer}
+use Rattle.cmr_front.specs.declared.status.Failure.TheVariants.{Text}
 use Rattle.cmr_front.specs.Inputs.{InputFile}
 use Rattle.cmr_front.specs.Outcome.{bad_text, outcome_report}
 use Rattle.cmr_front.specs.Report.{Report}
-use Rattle.cmr_front.specs.Status.{answer_status}
+use Rattle.cmr_front.specs.Status.{answer_status, failure_status}
 
 pub record Tool : Type 1 where
   -- the files that it reads, in order
@@ -19,10 +21,20 @@ pub record Tool : Type 1 where
   -- what an answer says of these texts
   pub Means : List (List ℕ) → Answer → Type 0
 
--- What is asked of each tool: all that it can report has one status, and a report with an answer means what the answer says.
+-- the line on the text of one of these files
+pub record IsFaultOfFile (files : List InputFile) (report : Report) : Type 0 where
+  pub name : List ℕ
+  pub kind : FaultKind
+  pub place : ℕ
+  pub is_read : Contains (map (λ file. file.name) files) name
+  pub report_is : report ≡ bad_text name kind place
+
+-- What is asked of each tool: all that it can report has one status, a report with an answer means what the answer says, and
+-- one with the status of a text at fault is the line on a file that the tool reads.
 pub record IsLawful (tool : Tool) : Type 0 where
   pub one_status : (bytes : List (List ℕ)) (r s : Report) → tool.Reports bytes r → tool.Reports bytes s → r.status ≡ s.status
   pub means : (bytes : List (List ℕ)) (r : Report) (answer : Answer) → tool.Reports bytes r → r.status ≡ answer_status answer → tool.Means bytes answer
+  pub at_fault : (bytes : List (List ℕ)) (r : Report) → tool.Reports bytes r → r.status ≡ failure_status Text → IsFaultOfFile tool.inputs r
 
 -- The texts determine the whole report.
 abbrev pub HasOneReport : Tool → Type 0

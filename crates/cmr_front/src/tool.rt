@@ -3,10 +3,9 @@ ghost use Rattle.std.specs.Prelude.{◌≡◌, ◌≤◌, IfOk, IsTrue, length, 
 ghost use Rattle.std.specs.Thread.{IsSync};
 ghost use Rattle.cmr_io.specs.Causes.{Rose};
 ghost use Rattle.cmr_io.specs.Kept.{KeepsNames};
-ghost use Rattle.cmr_front.specs.Ending.{devices, standing};
 ghost use Rattle.cmr_front.specs.Inputs.{bytes_of, input_file};
 ghost use Rattle.cmr_front.specs.Outcome.{ended_report};
-ghost use Rattle.cmr_front.specs.Run.{Ends, Means, Runs, work};
+ghost use Rattle.cmr_front.specs.Run.{Ends, Means, RunsOver, work};
 ghost use Rattle.cmr_front.specs.Status.{answer_status, failure_status};
 ghost use Rattle.cmr_front.specs.Tool as tools;
 ghost use Rattle.cmr_front.specs.Tool.{IsDecision, IsLawful};
@@ -55,15 +54,9 @@ pub fn run_tool<'a, R: Threads + Sync, S: Shelf, O: Sink, E: Sink, T: Tool<'a>>(
 ) -> u8
     requires ranges { (T.tool tool.now).InRanges }
     requires lawful { IsLawful (T.tool tool.now) }
-    ensures runs { Runs
+    ensures runs { RunsOver S.Shelf O.Sink E.Sink
         (work (T.tool tool.now))
-        (standing (S.tells shelf.old) (O.tells out.old) (E.tells err.old) (S.is_calm shelf.old)
-        (S.room shelf.old) (O.is_calm out.old) (O.room out.old))
-        (devices (S.content shelf.old) (S.reads shelf.old) (S.failed shelf.old) (S.faults shelf.old)
-        (O.got out.old) (O.faults out.old) (E.got err.old) (E.faults err.old))
-        (devices (S.content shelf.new) (S.reads shelf.new) (S.failed shelf.new) (S.faults shelf.new)
-        (O.got out.new) (O.faults out.new) (E.got err.new) (E.faults err.new))
-        result }
+        shelf.old out.old err.old shelf.new out.new err.new result }
     ensures means { IsTrue (S.tells shelf.old) → (answer : Answer) → result ≡ answer_status answer
         → Means (T.tool tool.now) (S.content shelf.old) answer }
 {

@@ -25,14 +25,13 @@ use Rattle.cmr_front.specs.Report.{Report}
 use Rattle.cmr_front.specs.Status.{answer_status}
 use Rattle.cmr_front.specs.Tool.{IsLawful}
 use Rattle.cmr_front.proofs.MatrixText.{lawful}
-use Rattle.cmr_front.proofs.Statuses.{status_of}
-use Rattle.cmr_reach.specs.Balanced.{BalancedDecides, BalancedMeans, IsDecomposed, IsFaultOf, IsInRanges, IsUndecided, IsUntold, balanced_source, balanced_tool, cycle, decomposed, search_report, searched}
+use Rattle.cmr_front.proofs.Statuses.{IsAnswered, status_of}
+use Rattle.cmr_reach.specs.Balanced.{BalancedDecides, BalancedMeans, IsDecomposed, IsFaultOf, IsInRanges, IsUndecided, IsUntold, balanced_source, balanced_tool, cycle, decomposed, search_report, searched, BalancedOrder, balanced_app, balanced_order, balanced_order_in}
 use Rattle.clap.specs.Words.{Row, Text}
 use Rattle.cmr_front.specs.declared.matrix_file.MatrixForm.{MatrixForm}
-use Rattle.cmr_front.specs.Words.Parsing.{fault_in, file_in, form_in, lines_in, matches_with_input, pivots_in, workers_in}
+use Rattle.cmr_front.specs.Words.Parsing.{fault_in, file_in, matches_with_input}
 use Rattle.cmr_front.specs.Words.Reading.{◌>>=◌}
-use Rattle.cmr_front.proofs.Numbers.{lines_in-le, pivots_in-le, workers_in-between}
-use Rattle.cmr_reach.specs.Words.Balanced.{BalancedOrder, balanced_app, balanced_order, balanced_order_in}
+use Rattle.cmr_front.proofs.Numbers.{with_numbers}
 use Rattle.cmr_reach.proofs.CamionAnswers.{not_both}
 
 -- ---- faults
@@ -114,25 +113,28 @@ says o m r answer (cycle fault is bad e) status = says_no o m fault bad answer (
 says o m r answer (decomposed none tree balanced e) status = says_yes o m balanced answer (sym (status_of r _ e) ∙ status)
 says o m r answer (searched untold found has e) status = says_found o m untold found has answer (sym (status_of r _ e) ∙ status)
 
+-- ---- what is decided is an answer
+
+search_answers : (o : BalancedOrder) (m : Matrix) (found : Search) (r : Report) → r ≡ search_report o m found → IsAnswered r
+search_answers o m Clean r e = (Yes, status_of r _ e)
+search_answers o m (Found fault) r e = (No, status_of r _ e)
+search_answers o m (TooMany shorter) r e = (Undecided, status_of r _ e)
+
+answers : (o : BalancedOrder) (m : Matrix) (r : Report) → BalancedDecides o m r → IsAnswered r
+answers o m r (cycle fault found bad e) = (No, status_of r _ e)
+answers o m r (decomposed none tree all e) = (Yes, status_of r _ e)
+answers o m r (searched untold found has e) = search_answers o m found r e
+
 pub balanced_lawful : (o : BalancedOrder) → IsLawful (balanced_tool o)
-balanced_lawful o = lawful (balanced_source o) (BalancedDecides o) (BalancedMeans o) (says o) (IsInRanges o) (one_status o)
+balanced_lawful o = lawful (balanced_source o) (BalancedDecides o) (BalancedMeans o) (says o) (IsInRanges o) (one_status o) (answers o)
 
 -- the numbers that words of `balanced` name are in their ranges
 pub balanced_order-ranges : (words : List Text) (o : BalancedOrder) → balanced_order words ≡ Some o → IsInRanges o
 balanced_order-ranges words o e = go (matches_with_input balanced_app words) e
   where
-    of_values : (form : Option MatrixForm) (lines pivots workers : Option ℕ) (rows : List Row) → ((n : ℕ) → lines ≡ Some n → n ≤ 24) → ((n : ℕ) → pivots ≡ Some n → n ≤ 100)
-        → ((n : ℕ) → workers ≡ Some n → (1 ≤ n) × (n ≤ 64))
-        → (form >>= (λ f. lines >>= (λ l. pivots >>= (λ p. workers >>= (λ w. Some (record { form = f; lines = l; pivots = p; workers = w; fault = fault_in rows; file = file_in rows })))))) ≡ Some o
-        → IsInRanges o
-    of_values None lines pivots workers rows few bound some e = cc
-    of_values (Some f) None pivots workers rows few bound some e = cc
-    of_values (Some f) (Some l) None workers rows few bound some e = cc
-    of_values (Some f) (Some l) (Some p) None rows few bound some e = cc
-    of_values (Some f) (Some l) (Some p) (Some w) rows few bound some e =
-        let same : ◌≡◌ {A = BalancedOrder} (record { form = f; lines = l; pivots = p; workers = w; fault = fault_in rows; file = file_in rows }) o = cc in
-        subst IsInRanges same (record { lines = few l refl; pivots = bound p refl; some = (some w refl).0; workers = (some w refl).1 })
+    order_with : List Row → MatrixForm → ℕ → ℕ → ℕ → BalancedOrder
+    order_with rows form lines pivots workers = record { form = form; lines = lines; pivots = pivots; workers = workers; fault = fault_in rows; file = file_in rows }
 
     go : (rows : Option (List Row)) → (rows >>= balanced_order_in) ≡ Some o → IsInRanges o
     go None e = cc
-    go (Some rows) e = of_values (form_in rows) (lines_in rows) (pivots_in rows) (workers_in rows) rows (lines_in-le rows) (pivots_in-le rows) (workers_in-between rows) e
+    go (Some rows) e = with_numbers IsInRanges (order_with rows) rows o (λ form lines pivots workers few bound some. record { lines = few; pivots = bound; some = some.0; workers = some.1 }) e

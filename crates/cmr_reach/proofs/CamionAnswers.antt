@@ -9,9 +9,8 @@ use Rattle.cmr_front.specs.Report.{Report}
 use Rattle.cmr_front.specs.Status.{answer_status}
 use Rattle.cmr_front.specs.Tool.{IsLawful}
 use Rattle.cmr_front.proofs.MatrixText.{lawful}
-use Rattle.cmr_front.proofs.Statuses.{status_of}
-use Rattle.cmr_reach.specs.Camion.{CamionDecides, CamionMeans, camion_source, camion_tool, no, yes}
-use Rattle.cmr_reach.specs.Words.Camion.{CamionOrder}
+use Rattle.cmr_front.proofs.Statuses.{IsAnswered, status_of}
+use Rattle.cmr_reach.specs.Camion.{CamionDecides, CamionMeans, camion_source, camion_tool, no, yes, CamionOrder}
 
 -- a matrix with a cycle fault is not without one
 pub not_both : (m : Matrix) (fault : LineSet) → HasNoCycleFault (entry m) → IsCycleFault m fault.rows fault.columns → ⊥
@@ -33,5 +32,9 @@ says o m r No (no fault lines e) is = (fault, lines)
 says o m r Undecided (no fault lines e) is = let s = status_of r _ e in absurd (omega arith)
 says o m r Refused (no fault lines e) is = let s = status_of r _ e in absurd (omega arith)
 
+answers : (o : CamionOrder) (m : Matrix) (r : Report) → CamionDecides o m r → IsAnswered r
+answers o m r (yes none e) = (Yes, status_of r _ e)
+answers o m r (no fault is e) = (No, status_of r _ e)
+
 pub camion_lawful : (o : CamionOrder) → IsLawful (camion_tool o)
-camion_lawful o = lawful (camion_source o) (CamionDecides o) CamionMeans (says o) (Unit {0}) (one_status o)
+camion_lawful o = lawful (camion_source o) (CamionDecides o) CamionMeans (says o) (Unit {0}) (one_status o) (answers o)

@@ -12,18 +12,18 @@ use Rattle.compose.specs.Kinds.{HaveSum, IsCauseOf, sum_of}
 use Rattle.sum_ops.specs.declared.error.SumError.TheVariants as errors
 use Rattle.cmr_front.specs.declared.status.Answer.{Answer}
 use Rattle.cmr_front.specs.declared.status.Answer.TheVariants.{Yes, No, Undecided, Refused}
+use Rattle.cmr_front.specs.declared.status.Failure.TheVariants.{Text}
 use Rattle.cmr_front.specs.declared.outcome.FaultKind.TheVariants as faults
 use Rattle.cmr_front.specs.MatrixText.{matrix_in}
 use Rattle.cmr_front.specs.Report.{Report}
-use Rattle.cmr_front.specs.Status.{answer_status}
+use Rattle.cmr_front.specs.Status.{answer_status, failure_status}
 use Rattle.cmr_front.specs.Texts.{ReportsText}
-use Rattle.cmr_front.specs.Tool.{HasOneReport, IsLawful}
-use Rattle.cmr_front.proofs.Statuses.{status_of}
-use Rattle.cmr_front.proofs.Texts.{answered, one_report_of_pair, one_report_of_text, pair_lawful}
-use Rattle.cmr_reach.specs.declared.tools.composed.Obstacle.{Obstacle}
-use Rattle.cmr_reach.specs.declared.tools.composed.Obstacle.TheVariants.{TooManyRows, TooManyColumns, BadConnector, BadEntry}
-use Rattle.cmr_reach.specs.Compose.{ComposeDecides, ComposeMeans, ComposeReports, ComposeSays, IsComposed, IsObstacle, composed, refused, compose_files, compose_tool, obstacle_report}
-use Rattle.cmr_reach.specs.Words.Compose.{ComposeOrder}
+use Rattle.cmr_front.specs.Tool.{HasOneReport, IsFaultOfFile, IsLawful}
+use Rattle.cmr_front.proofs.Statuses.{IsAnswered, status_of}
+use Rattle.cmr_front.proofs.Texts.{answered, one_report_of_pair, one_report_of_text, pair_lawful, fault_of_last, fault_of_text}
+use Rattle.cmr_reach.specs.declared.tools.compose.Obstacle.{Obstacle}
+use Rattle.cmr_reach.specs.declared.tools.compose.Obstacle.TheVariants.{TooManyRows, TooManyColumns, BadConnector, BadEntry}
+use Rattle.cmr_reach.specs.Compose.{ComposeDecides, ComposeMeans, ComposeReports, ComposeSays, IsComposed, IsObstacle, composed, refused, compose_files, compose_tool, obstacle_report, ComposeOrder}
 
 -- ---- one report
 
@@ -88,8 +88,18 @@ says o first second r answer reports is =
     let other = answered faults.Matrix o.second (ComposeDecides o found.0) (matrix_in o.form false second) r answer found.2 is in
     (found.0, found.1, (other.0, other.1, says_of_matrices o found.0 other.0 r answer other.2 is))
 
+answers : (o : ComposeOrder) (first second : Matrix) (r : Report) → ComposeDecides o first second r → IsAnswered r
+answers o first second r (composed is e) = (Yes, status_of r _ e)
+answers o first second r (refused obstacle not e) = (Refused, status_of r _ e)
+
+fault : (o : ComposeOrder) (first second : List ℕ) (r : Report) → ComposeReports o first second r → r.status ≡ failure_status Text → IsFaultOfFile (compose_files o) r
+fault o first second =
+    fault_of_text faults.Matrix o.first (λ a. ReportsText faults.Matrix o.second (ComposeDecides o a) (matrix_in o.form false second)) (compose_files o) (0, omega arith, refl)
+    (λ a. fault_of_last faults.Matrix o.second (ComposeDecides o a) (compose_files o) (1, omega arith, refl) (answers o a) (matrix_in o.form false second))
+    (matrix_in o.form false first)
+
 pub compose_lawful : (o : ComposeOrder) → IsLawful (compose_tool o)
-compose_lawful o = pair_lawful (ComposeReports o) (ComposeSays o) (λ first second r s a b. ap (λ report. report.status) (one o first second r s a b)) (says o) (compose_files o)
+compose_lawful o = pair_lawful (ComposeReports o) (ComposeSays o) (λ first second r s a b. ap (λ report. report.status) (one o first second r s a b)) (says o) (compose_files o) (fault o)
 
 -- ---- why there is no sum
 

@@ -1,7 +1,6 @@
 pub mod CamionAnswers
 pub mod SignAnswers
 pub mod BalancedAnswers
-pub mod Decisions
 pub mod ComposeAnswers
 pub mod PartsAnswers
 pub mod RootSums

@@ -1,5 +1,5 @@
 -- What the answers of `parts` say of the matrix and of the tree.
-use Rattle.std.proofs.Common.{◌≡◌, ◌∙◌, inl, inr, ℕ, List, map, length, false, ap, ap₂, sym, subst, arith, Ok}
+use Rattle.std.proofs.Common.{◌≡◌, ◌∙◌, inl, inr, ℕ, List, map, length, false, ap, ap₂, sym, subst, arith, Ok, refl}
 use Rattle.std.proofs.lemmas.List.{length-map}
 use Rattle.cmr_base.specs.LineSets.{submatrix}
 use Rattle.cmr_base.specs.Matrix.{Matrix, IsMatrix, entry, height}
@@ -18,20 +18,19 @@ use Rattle.cmr_front.specs.declared.matrix_file.MatrixForm.{MatrixForm}
 use Rattle.cmr_front.specs.declared.matrix_file.MatrixForm.TheVariants.{Dense}
 use Rattle.cmr_front.specs.declared.status.Answer.{Answer}
 use Rattle.cmr_front.specs.declared.status.Answer.TheVariants.{Yes, No, Undecided, Refused}
+use Rattle.cmr_front.specs.declared.status.Failure.TheVariants.{Text}
 use Rattle.cmr_front.specs.declared.outcome.FaultKind.TheVariants as faults
 use Rattle.cmr_front.specs.Evidence.{ReportsTree, evidence_files}
 use Rattle.cmr_front.specs.MatrixText.{matrix_in}
 use Rattle.cmr_front.specs.Refusals.{refusal_line}
 use Rattle.cmr_front.specs.Report.{Report}
-use Rattle.cmr_front.specs.Status.{answer_status}
+use Rattle.cmr_front.specs.Status.{answer_status, failure_status}
 use Rattle.cmr_front.specs.Texts.{ReportsText}
-use Rattle.cmr_front.specs.Tool.{HasOneReport, IsLawful}
-use Rattle.cmr_front.proofs.Statuses.{status_of}
-use Rattle.cmr_front.proofs.Texts.{answered, one_report_of_pair, one_report_of_text, pair_lawful, read_reported}
-use Rattle.cmr_reach.specs.Compose.{ComposeDecides, IsComposed, composed, composed_report}
-use Rattle.cmr_reach.specs.Parts.{AreComposedTo, AreParts, IsSumOf, PartsDecides, PartsMean, PartsReports, PartsSay, parted, other_root, refused, parts_report, parts_tool, root_of, root_word, said_refused}
-use Rattle.cmr_reach.specs.Words.Compose.{ComposeOrder}
-use Rattle.cmr_reach.specs.Words.Parts.{PartsOrder}
+use Rattle.cmr_front.specs.Tool.{HasOneReport, IsFaultOfFile, IsLawful}
+use Rattle.cmr_front.proofs.Statuses.{IsAnswered, status_of}
+use Rattle.cmr_front.proofs.Texts.{answered, one_report_of_pair, one_report_of_text, pair_lawful, read_reported, fault_of_last, fault_of_text}
+use Rattle.cmr_reach.specs.Compose.{ComposeDecides, IsComposed, composed, composed_report, ComposeOrder}
+use Rattle.cmr_reach.specs.Parts.{AreComposedTo, AreParts, IsSumOf, PartsDecides, PartsMean, PartsReports, PartsSay, parted, other_root, refused, parts_report, parts_tool, root_of, root_word, said_refused, PartsOrder}
 use Rattle.cmr_reach.proofs.ComposeAnswers.{read_again}
 
 -- ---- one report
@@ -124,5 +123,16 @@ says o matrix evidence r answer reports is =
     let read = answered faults.Tree o.tree (PartsDecides o found.0) (tree (text_of evidence)) r answer found.2 is in
     (found.0, found.1, (read.0, read.1, says_of_tree o found.0 read.0 r answer read.2 is))
 
+answers : (o : PartsOrder) (m : Matrix) (t : PlainTree) (r : Report) → PartsDecides o m t r → IsAnswered r
+answers o m t r (parted sound kind both are e) = (Yes, status_of r _ e)
+answers o m t r (other_root sound none e) = (Refused, status_of r _ e)
+answers o m t r (refused path broken is e) = (Refused, status_of r _ e)
+
+fault : (o : PartsOrder) (matrix evidence : List ℕ) (r : Report) → PartsReports o matrix evidence r → r.status ≡ failure_status Text → IsFaultOfFile (evidence_files o.matrix o.tree) r
+fault o matrix evidence =
+    fault_of_text faults.Matrix o.matrix (λ m. ReportsTree o.tree (PartsDecides o m) evidence) (evidence_files o.matrix o.tree) (0, omega arith, refl)
+    (λ m. fault_of_last faults.Tree o.tree (PartsDecides o m) (evidence_files o.matrix o.tree) (1, omega arith, refl) (answers o m) (tree (text_of evidence)))
+    (matrix_in o.form false matrix)
+
 pub parts_lawful : (o : PartsOrder) → IsLawful (parts_tool o)
-parts_lawful o = pair_lawful (PartsReports o) (PartsSay o) (λ matrix evidence r s a b. ap (λ report. report.status) (one o matrix evidence r s a b)) (says o) (evidence_files o.matrix o.tree)
+parts_lawful o = pair_lawful (PartsReports o) (PartsSay o) (λ matrix evidence r s a b. ap (λ report. report.status) (one o matrix evidence r s a b)) (says o) (evidence_files o.matrix o.tree) (fault o)

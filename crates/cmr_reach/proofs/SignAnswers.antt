@@ -1,5 +1,5 @@
 -- What the answers of `sign` say of the matrix and the rows.
-use Rattle.std.proofs.Common.{◌≡◌, ◌∙◌, ℕ, List, false, ap, sym, arith}
+use Rattle.std.proofs.Common.{◌≡◌, ◌∙◌, ℕ, List, false, ap, sym, arith, refl}
 use Rattle.cmr_base.specs.declared.line_set.LineSet.{LineSet}
 use Rattle.cmr_base.specs.Matrix.{Matrix}
 use Rattle.cmr_base.specs.Signing.{IsTotallyUnimodular}
@@ -10,17 +10,17 @@ use Rattle.sign_tool.specs.declared.signing.SetSigning.TheVariants.{Signed, Viol
 use Rattle.sign_tool.proofs.OneAnswer.{answers_are_one}
 use Rattle.cmr_front.specs.declared.status.Answer.{Answer}
 use Rattle.cmr_front.specs.declared.status.Answer.TheVariants.{Yes, No, Undecided, Refused}
+use Rattle.cmr_front.specs.declared.status.Failure.TheVariants.{Text}
 use Rattle.cmr_front.specs.declared.outcome.FaultKind.TheVariants as faults
 use Rattle.cmr_front.specs.MatrixText.{matrix_in}
 use Rattle.cmr_front.specs.Report.{Report}
-use Rattle.cmr_front.specs.Status.{answer_status}
+use Rattle.cmr_front.specs.Status.{answer_status, failure_status}
 use Rattle.cmr_front.specs.Texts.{ReportsText}
-use Rattle.cmr_front.specs.Tool.{HasOneReport, IsLawful}
-use Rattle.cmr_front.proofs.Statuses.{status_of}
-use Rattle.cmr_front.proofs.Texts.{answered, one_report_of_pair, one_report_of_text, pair_lawful}
+use Rattle.cmr_front.specs.Tool.{HasOneReport, IsFaultOfFile, IsLawful}
+use Rattle.cmr_front.proofs.Statuses.{IsAnswered, status_of}
+use Rattle.cmr_front.proofs.Texts.{answered, one_report_of_pair, one_report_of_text, pair_lawful, fault_of_last, fault_of_text}
 use Rattle.cmr_reach.specs.RowSet.{lines_in}
-use Rattle.cmr_reach.specs.Sign.{IsAnswerFor, SignDecides, SignMeans, SignReports, SignSays, sign_files, sign_report, sign_tool}
-use Rattle.cmr_reach.specs.Words.Sign.{SignOrder}
+use Rattle.cmr_reach.specs.Sign.{IsAnswerFor, SignDecides, SignMeans, SignReports, SignSays, sign_files, sign_report, sign_tool, SignOrder}
 
 -- ---- one report
 
@@ -58,5 +58,17 @@ says o matrix rows r answer reports is =
     let decided = named.2 in
     (found.0, found.1, (named.0, named.1, says_of_answer found.0 named.0.rows decided.answer decided.is_answer answer (sym (status_of r _ decided.report_is) ∙ is)))
 
+-- ---- what is decided is an answer
+
+report_answers : (m : Matrix) (rows : List ℕ) (answer : SetSigning) (r : Report) → r ≡ sign_report m rows answer → IsAnswered r
+report_answers m rows (Signed signs steps) r e = (Yes, status_of r _ e)
+report_answers m rows (Violated lines) r e = (No, status_of r _ e)
+
+fault : (o : SignOrder) (matrix rows : List ℕ) (r : Report) → SignReports o matrix rows r → r.status ≡ failure_status Text → IsFaultOfFile (sign_files o) r
+fault o matrix rows =
+    fault_of_text faults.Matrix o.matrix (λ m. ReportsText faults.Matrix o.rows (λ lines. SignDecides m lines.rows) (lines_in m rows)) (sign_files o) (0, omega arith, refl)
+    (λ m. fault_of_last faults.Matrix o.rows (λ lines. SignDecides m lines.rows) (sign_files o) (1, omega arith, refl) (λ lines r d. report_answers m lines.rows d.answer r d.report_is) (lines_in m rows))
+    (matrix_in o.form false matrix)
+
 pub sign_lawful : (o : SignOrder) → IsLawful (sign_tool o)
-sign_lawful o = pair_lawful (SignReports o) (SignSays o) (λ matrix rows r s a b. ap (λ report. report.status) (one o matrix rows r s a b)) (says o) (sign_files o)
+sign_lawful o = pair_lawful (SignReports o) (SignSays o) (λ matrix rows r s a b. ap (λ report. report.status) (one o matrix rows r s a b)) (says o) (sign_files o) (fault o)

@@ -22,9 +22,8 @@ use Rattle.cmr_front.specs.Status.{answer_status}
 use Rattle.cmr_front.proofs.Statuses.{status_of}
 use Rattle.cmr_front.proofs.Texts.{answered}
 use Rattle.cmr_reach.specs.Compose.{compose_tool, composed_report}
-use Rattle.cmr_reach.specs.Parts.{AreParts, PartsDecides, PartsReports, parted, other_root, refused, parts_report, parts_tool, root_of, root_word}
+use Rattle.cmr_reach.specs.Parts.{AreParts, PartsDecides, PartsReports, parted, other_root, refused, parts_report, parts_tool, root_of, root_word, PartsOrder}
 use Rattle.cmr_reach.specs.WayBack.{PartsComposeBack, back_order}
-use Rattle.cmr_reach.specs.Words.Parts.{PartsOrder}
 use Rattle.cmr_reach.proofs.PartsAnswers.{composed_to}
 use Rattle.cmr_reach.proofs.TextLengths.{dense_text_within}
 

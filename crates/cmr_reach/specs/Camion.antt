@@ -1,5 +1,5 @@
--- What `camion` reports, and what its answers mean.
-use Rattle.std.specs.Prelude.{◌≡◌, ℕ, false, List, codes}
+-- What the words of `camion` order, what it reports, and what its answers mean.
+use Rattle.std.specs.Prelude.{◌≡◌, ℕ, false, List, codes, [], ◌∷◌, Option, Some, option_map}
 use Rattle.cmr_base.specs.declared.line_set.LineSet.{LineSet}
 use Rattle.cmr_base.specs.Matrix.{Matrix, entry}
 use Rattle.cmr_base.specs.CyclePlaces.{HasNoCycleFault, IsCycleFault}
@@ -9,7 +9,41 @@ use Rattle.cmr_front.specs.MatrixText.{Source, matrix_tool, source}
 use Rattle.cmr_front.specs.Report.{Report}
 use Rattle.cmr_front.specs.Tool.{Tool}
 use Rattle.cmr_reach.specs.Faults.{fault_report, yes_report}
-use Rattle.cmr_reach.specs.Words.Camion.{CamionOrder}
+use Rattle.clap.specs.Words.{App, Row, Text}
+use Rattle.cmr_front.specs.declared.matrix_file.MatrixForm.{MatrixForm}
+use Rattle.cmr_front.specs.Words.Arguments.{fault_rule, file_rule, form_rule, tool_app}
+use Rattle.cmr_front.specs.Words.Parsing.{fault_in, file_in, form_in, matches_with_input}
+use Rattle.cmr_front.specs.Words.Reading.{◌>>=◌}
+use Rattle.cmr_reach.specs.declared.tools.camion.CamionOptions.{CamionOptions}
+
+-- ---- the words
+
+-- the options of `camion`
+pub record CamionOrder : Type 0 where
+  pub form : MatrixForm
+  pub fault : Option (List ℕ)
+  pub file : List ℕ
+
+-- [-i FORMAT] [-E FILE] [FILE]
+abbrev pub camion_app : App
+camion_app = tool_app (codes "camion") (form_rule ∷ fault_rule ∷ file_rule ∷ [])
+
+abbrev pub camion_order_in : List Row → Option CamionOrder
+camion_order_in rows = do
+  form ← form_in rows
+  Some (record { form = form; fault = fault_in rows; file = file_in rows })
+
+abbrev pub camion_order : List Text → Option CamionOrder
+camion_order words = matches_with_input camion_app words >>= camion_order_in
+
+abbrev pub camion_order_of : CamionOptions → CamionOrder
+camion_order_of options = record {
+  form = options.form;
+  fault = option_map (λ name. name.now) options.fault;
+  file = options.file.now;
+}
+
+-- ---- the reports
 
 abbrev pub camion_label : List ℕ
 camion_label = codes "camion"

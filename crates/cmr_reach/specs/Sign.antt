@@ -1,4 +1,4 @@
--- What `sign` reports, and what its answers mean.
+-- What the words of `sign` order, what it reports, and what its answers mean.
 use Rattle.std.specs.Prelude.{◌≡◌, ◌+◌, ◌++◌, ℕ, ℤ, pos, negsuc, false, List, [], ◌∷◌, Option, Some, None, Ok, codes}
 use Rattle.std.specs.Fmt.{decimal}
 use Rattle.cmr_base.specs.declared.line_set.LineSet.{LineSet}
@@ -21,7 +21,37 @@ use Rattle.cmr_front.specs.Status.{answer_status}
 use Rattle.cmr_front.specs.Texts.{ReportsText, pair_tool}
 use Rattle.cmr_front.specs.Tool.{Tool}
 use Rattle.cmr_reach.specs.RowSet.{lines_in}
-use Rattle.cmr_reach.specs.Words.Sign.{SignOrder}
+use Rattle.clap.specs.Words.{App, Row, Text, first_of}
+use Rattle.cmr_front.specs.declared.matrix_file.MatrixForm.{MatrixForm}
+use Rattle.cmr_front.specs.Words.Arguments.{form_rule, operand_rule, tool_app}
+use Rattle.cmr_front.specs.Words.Parsing.{form_in, matches_in}
+use Rattle.cmr_front.specs.Words.Reading.{◌>>=◌}
+use Rattle.cmr_reach.specs.declared.tools.sign.SignOptions.{SignOptions}
+
+-- ---- the words
+
+-- the options of `sign`
+pub record SignOrder : Type 0 where
+  pub form : MatrixForm
+  pub matrix : List ℕ
+  pub rows : List ℕ
+
+-- [-i FORMAT] MATRIX ROWS
+abbrev pub sign_app : App
+sign_app = tool_app (codes "sign") (form_rule ∷ operand_rule (codes "matrix") ∷ operand_rule (codes "rows") ∷ [])
+
+abbrev pub sign_order_in : List Row → Option SignOrder
+sign_order_in values = do
+  form ← form_in values
+  matrix ← first_of (codes "matrix") values
+  rows ← first_of (codes "rows") values
+  Some (record { form = form; matrix = matrix; rows = rows })
+
+abbrev pub sign_order : List Text → Option SignOrder
+sign_order words = matches_in sign_app words >>= sign_order_in
+
+abbrev pub sign_order_of : SignOptions → SignOrder
+sign_order_of options = record { form = options.form; matrix = options.matrix.now; rows = options.rows.now }
 
 -- ---- what is printed
 

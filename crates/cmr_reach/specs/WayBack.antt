@@ -15,10 +15,8 @@ use Rattle.cmr_front.specs.MatrixText.{matrix_in}
 use Rattle.cmr_front.specs.Report.{Held, Report, with_files}
 use Rattle.cmr_front.specs.Run.{ReportsHeld}
 use Rattle.cmr_front.specs.Status.{answer_status}
-use Rattle.cmr_reach.specs.Compose.{compose_tool, composed_report}
-use Rattle.cmr_reach.specs.Parts.{AreParts, parts_lines, parts_tool, root_of, root_word}
-use Rattle.cmr_reach.specs.Words.Compose.{ComposeOrder}
-use Rattle.cmr_reach.specs.Words.Parts.{PartsOrder}
+use Rattle.cmr_reach.specs.Compose.{compose_tool, composed_report, ComposeOrder}
+use Rattle.cmr_reach.specs.Parts.{AreParts, parts_lines, parts_tool, root_of, root_word, PartsOrder}
 
 -- what `compose` is asked: the sum of this kind of the two files, into a file of this name
 abbrev pub back_order : PartsOrder → SumKind → List ℕ → ComposeOrder

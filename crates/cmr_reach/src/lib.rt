@@ -3,14 +3,4 @@
 
 mod faults;
 pub mod laws;
-mod options;
-mod tools;
-pub mod words;
-
-pub use compose::SumKind;
-pub use options::{BalancedOptions, CamionOptions, ComposeOptions, PartsOptions, SignOptions};
-pub use tools::balanced::balanced;
-pub use tools::camion::camion;
-pub use tools::composed::compose;
-pub use tools::parted::parts;
-pub use tools::sign::sign_rows;
+pub mod tools;

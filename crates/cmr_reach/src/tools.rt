@@ -1,6 +1,6 @@
-// The tools.
+//! The tools, each with its options and its words.
 pub mod balanced;
 pub mod camion;
-pub mod composed;
-pub mod parted;
+pub mod compose;
+pub mod parts;
 pub mod sign;

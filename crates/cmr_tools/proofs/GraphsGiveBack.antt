@@ -20,16 +20,15 @@ use Rattle.cmr_front.proofs.MatrixText.{read_is_binary, read_is_matrix}
 use Rattle.cmr_front.proofs.Statuses.{status_of}
 use Rattle.cmr_front.proofs.Texts.{answered}
 use Rattle.cmr_reach.proofs.WayBack.{read_whole, same_name}
-use Rattle.cmr_tools.specs.declared.options.Property.{Property}
-use Rattle.cmr_tools.specs.declared.options.Property.TheVariants.{Graphic, Network}
+use Rattle.cmr_unimodular.specs.declared.tools.graphic_network.Property.{Property}
+use Rattle.cmr_unimodular.specs.declared.tools.graphic_network.Property.TheVariants.{Graphic, Network}
 use Rattle.cmr_front.specs.declared.status.Answer.TheVariants.{Yes}
 use Rattle.cmr_front.specs.Status.{answer_status}
-use Rattle.cmr_tools.specs.GraphicNetwork.{IsTestable, Shows, TestDecides, is_binary, yes, no, path_tool, tested_matrix, written_graph}
-use Rattle.cmr_tools.specs.Words.GraphicNetwork.{TestOrder}
-use Rattle.cmr_tools.specs.GraphMatrix.{IsMatrixOf, either_tool, graph_matrix_report, graph_matrix_tool}
+use Rattle.cmr_unimodular.specs.GraphicNetwork.{IsTestable, Shows, TestDecides, is_binary, yes, no, path_tool, tested_matrix, written_graph, TestOrder}
+use Rattle.cmr_unimodular.specs.GraphMatrix.{IsMatrixOf, either_tool, graph_matrix_report, graph_matrix_tool}
 use Rattle.cmr_tools.specs.Laws.{FileGivesMatrix, GivesMatrix, GraphFilesGiveBack, GraphsGiveBack, HeldGraphsGiveBack}
-use Rattle.cmr_tools.proofs.GraphicNetworkAnswers.{shown_network}
-use Rattle.cmr_tools.proofs.GraphMatrixAnswers.{one_graph_matrix}
+use Rattle.cmr_unimodular.proofs.GraphicNetworkAnswers.{shown_network}
+use Rattle.cmr_unimodular.proofs.GraphMatrixAnswers.{one_graph_matrix}
 
 gives_matrix : (p : Property) (net : Net) (m : Matrix) → IsMatrix m → IsTestable p m → Shows p net m → GivesMatrix p (graph_text net) m
 gives_matrix p net m is testable shows file =

@@ -1,21 +1,18 @@
 -- Laws on what the tools report.
-use Rattle.std.specs.Prelude.{◌≡◌, ℕ, false, List, [], ◌∷◌, Some, Ok, Contains, map}
+use Rattle.std.specs.Prelude.{◌≡◌, ℕ, false, List, [], ◌∷◌, Some, Ok}
 use Rattle.cmr_base.specs.Matrix.{Matrix, IsMatrix}
-use Rattle.cmr_front.specs.declared.outcome.FaultKind.{FaultKind}
 use Rattle.cmr_front.specs.declared.status.Answer.TheVariants.{Yes}
 use Rattle.cmr_front.specs.declared.status.Failure.TheVariants.{Text}
-use Rattle.cmr_front.specs.Inputs.{InputFile, given, texts}
+use Rattle.cmr_front.specs.Inputs.{given, texts}
 use Rattle.cmr_front.specs.MatrixText.{matrix_file, matrix_in}
-use Rattle.cmr_front.specs.Outcome.{bad_text}
 use Rattle.cmr_front.specs.Report.{Held, Report, with_files}
 use Rattle.cmr_front.specs.Run.{ReportsHeld}
 use Rattle.cmr_front.specs.Status.{answer_status, failure_status}
-use Rattle.cmr_tools.specs.declared.options.Property.{Property}
-use Rattle.cmr_tools.specs.GraphMatrix.{graph_matrix_report, graph_matrix_tool, test_tool}
-use Rattle.cmr_tools.specs.GraphicNetwork.{IsTestable, TestDecides, is_binary}
-use Rattle.cmr_tools.specs.Tools.{tool_of}
-use Rattle.cmr_tools.specs.Words.{Order}
-use Rattle.cmr_tools.specs.Words.GraphicNetwork.{TestOrder}
+use Rattle.cmr_unimodular.specs.declared.tools.graphic_network.Property.{Property}
+use Rattle.cmr_unimodular.specs.GraphMatrix.{graph_matrix_report, graph_matrix_tool, test_tool}
+use Rattle.cmr_unimodular.specs.GraphicNetwork.{IsTestable, TestDecides, is_binary, TestOrder}
+use Rattle.cmr_front.specs.Tool.{IsFaultOfFile}
+use Rattle.cmr_tools.specs.Words.{Order, tool_of}
 
 -- With `-c` a text gives the matrix, and no other report.
 abbrev pub GivesMatrix : Property → List ℕ → Matrix → Type 0
@@ -50,14 +47,6 @@ pub record IsGivenBack (p : Property) (o : TestOrder) (name : List ℕ) (held : 
 abbrev pub HeldGraphsGiveBack : Type 0
 HeldGraphsGiveBack = (p : Property) (o : TestOrder) (name : List ℕ) (held : Held) (report : Report) → o.from_graph ≡ false → o.transposed ≡ false → o.graph ≡ Some name
     → ReportsHeld (test_tool p o) held report → report.status ≡ answer_status Yes → IsGivenBack p o name held report
-
--- the line on the text of one of these files
-pub record IsFaultOfFile (files : List InputFile) (report : Report) : Type 0 where
-  pub name : List ℕ
-  pub kind : FaultKind
-  pub place : ℕ
-  pub is_read : Contains (map (λ file. file.name) files) name
-  pub report_is : report ≡ bad_text name kind place
 
 -- whatever texts a tool decides on, a report with the status of a text at fault is the line on a file that the tool reads
 abbrev pub FaultsAreOfFiles : Type 0

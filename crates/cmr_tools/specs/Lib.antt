@@ -1,13 +1,2 @@
 pub mod Words
-pub mod Outline
-pub mod Verdict
-pub mod Tu
-pub mod Regular
-pub mod Generate
-pub mod SeriesParallel
-pub mod GraphicNetwork
-pub mod GraphMatrix
 pub mod Laws
-pub mod Check
-pub mod Upgrade
-pub mod Tools

@@ -1,29 +1,25 @@
--- What the words of the command line order.
-pub mod Check
-pub mod Upgrade
-pub mod SeriesParallel
-pub mod GraphicNetwork
-pub mod Tu
-pub mod Regular
-pub mod Generate
+-- What the words of the command line order: a tool with its options.
 use Rattle.std.specs.Prelude.{ℕ, List, [], ◌∷◌, Option, Some, None, option_map, if◌then◌else◌, codes}
 use Rattle.std.specs.Str.{bytes_eq}
-use Rattle.cmr_tools.specs.declared.options.Command.{Command}
-use Rattle.cmr_tools.specs.declared.options.Command.TheVariants as command
-use Rattle.cmr_tools.specs.declared.options.Property.{Property}
-use Rattle.cmr_tools.specs.declared.options.Property.TheVariants.{Graphic, Network}
-use Rattle.cmr_tools.specs.Words.Check.{CheckOrder, check_order, check_order_of}
-use Rattle.cmr_tools.specs.Words.Upgrade.{UpgradeOrder, upgrade_order, upgrade_order_of}
-use Rattle.cmr_tools.specs.Words.SeriesParallel.{SeriesParallelOrder, series_parallel_order, series_parallel_order_of}
-use Rattle.cmr_tools.specs.Words.GraphicNetwork.{TestOrder, test_order, test_order_of}
-use Rattle.cmr_reach.specs.Words.Balanced.{BalancedOrder, balanced_order, balanced_order_of}
-use Rattle.cmr_reach.specs.Words.Camion.{CamionOrder, camion_order, camion_order_of}
-use Rattle.cmr_reach.specs.Words.Compose.{ComposeOrder, compose_order, compose_order_of}
-use Rattle.cmr_reach.specs.Words.Parts.{PartsOrder, parts_order, parts_order_of}
-use Rattle.cmr_reach.specs.Words.Sign.{SignOrder, sign_order, sign_order_of}
-use Rattle.cmr_tools.specs.Words.Tu.{TuOrder, tu_order, tu_order_of}
-use Rattle.cmr_tools.specs.Words.Regular.{RegularOrder, regular_order, regular_order_of}
-use Rattle.cmr_tools.specs.Words.Generate.{GenerateOrder, generate_order, generate_order_of}
+use Rattle.cmr_tools.specs.declared.command.Command.{Command}
+use Rattle.cmr_tools.specs.declared.command.Command.TheVariants as command
+use Rattle.cmr_unimodular.specs.declared.tools.graphic_network.Property.{Property}
+use Rattle.cmr_unimodular.specs.declared.tools.graphic_network.Property.TheVariants.{Graphic, Network}
+use Rattle.cmr_unimodular.specs.Check.{CheckOrder, check_order, check_order_of, check_tool}
+use Rattle.cmr_unimodular.specs.Upgrade.{UpgradeOrder, upgrade_order, upgrade_order_of, upgrade_tool}
+use Rattle.cmr_unimodular.specs.SeriesParallel.{SeriesParallelOrder, series_parallel_order, series_parallel_order_of, series_parallel_tool}
+use Rattle.cmr_unimodular.specs.GraphicNetwork.{TestOrder, test_order, test_order_of}
+use Rattle.cmr_reach.specs.Balanced.{BalancedOrder, balanced_order, balanced_order_of, balanced_tool}
+use Rattle.cmr_reach.specs.Camion.{CamionOrder, camion_order, camion_order_of, camion_tool}
+use Rattle.cmr_reach.specs.Compose.{ComposeOrder, compose_order, compose_order_of, compose_tool}
+use Rattle.cmr_reach.specs.Parts.{PartsOrder, parts_order, parts_order_of, parts_tool}
+use Rattle.cmr_reach.specs.Sign.{SignOrder, sign_order, sign_order_of, sign_tool}
+use Rattle.cmr_unimodular.specs.Tu.{TuOrder, tu_order, tu_order_of, tu_tool}
+use Rattle.cmr_unimodular.specs.Regular.{RegularOrder, regular_order, regular_order_of, regular_tool}
+use Rattle.cmr_unimodular.specs.Generate.{GenerateOrder, generate_order, generate_order_of, generate_tool}
+use Rattle.cmr_front.specs.Run.{Ordered, nothing, work}
+use Rattle.cmr_unimodular.specs.GraphMatrix.{test_tool}
+use Rattle.cmr_front.specs.Tool.{Tool}
 
 -- a tool with its options
 pub data Order : Type 0 where
@@ -39,6 +35,21 @@ pub data Order : Type 0 where
   balanced : BalancedOrder → Order
   parts : PartsOrder → Order
   compose : ComposeOrder → Order
+
+-- what it reads, reports and means
+abbrev pub tool_of : Order → Tool
+tool_of (tu o) = tu_tool o
+tool_of (regular o) = regular_tool o
+tool_of (series_parallel o) = series_parallel_tool o
+tool_of (test p o) = test_tool p o
+tool_of (generate o) = generate_tool o
+tool_of (check o) = check_tool o
+tool_of (upgrade o) = upgrade_tool o
+tool_of (camion o) = camion_tool o
+tool_of (sign o) = sign_tool o
+tool_of (balanced o) = balanced_tool o
+tool_of (parts o) = parts_tool o
+tool_of (compose o) = compose_tool o
 
 -- the first word names the tool, which takes the others; nothing where the words are refused
 abbrev pub order : List (List ℕ) → Option Order
@@ -58,6 +69,11 @@ order (tool ∷ words) =
     else if bytes_eq tool (codes "parts") then option_map parts (parts_order words)
     else if bytes_eq tool (codes "compose") then option_map compose (compose_order words)
     else None
+
+-- what is ordered: nothing where the words are refused
+abbrev pub ordered : Option Order → Ordered
+ordered None = nothing
+ordered (Some order) = work (tool_of order)
 
 abbrev pub order_of : Command → Order
 order_of (command.Tu options) = tu (tu_order_of options)

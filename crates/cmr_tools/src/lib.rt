@@ -1,26 +1,17 @@
-//! The tools of the program, and the one call that it makes.
+//! The words of the command line with all tools, and the one call that the program makes.
 #![tactic(auto)]
 
+mod command;
 pub mod laws;
-mod options;
-mod outline;
 mod program;
-mod tools;
-mod verdict;
-mod words;
 
 pub use cmr_front::matrix_file::MatrixForm;
 pub use cmr_front::status::{Answer, Failure};
-pub use generate::MakeKind;
-pub use options::{
-    CheckOptions, GenerateOptions, RegularOptions, SpOptions, TestOptions, TuOptions,
-    UpgradeOptions,
-};
+pub use cmr_unimodular::tools::check::{CheckOptions, check};
+pub use cmr_unimodular::tools::generate::{GenerateOptions, MakeKind, generate_and_run};
+pub use cmr_unimodular::tools::graphic_network::{TestOptions, graphic, network};
+pub use cmr_unimodular::tools::regular::{RegularOptions, regular};
+pub use cmr_unimodular::tools::series_parallel::{SpOptions, series_parallel};
+pub use cmr_unimodular::tools::tu::{TuOptions, tu};
+pub use cmr_unimodular::tools::upgrade::{UpgradeOptions, upgrade};
 pub use program::run;
-pub use tools::check::check;
-pub use tools::generated::generate_and_run;
-pub use tools::graphic_network::{graphic, network};
-pub use tools::regular::regular;
-pub use tools::series_parallel::series_parallel;
-pub use tools::tu::tu;
-pub use tools::upgrade::upgrade;

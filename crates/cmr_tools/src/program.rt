@@ -1,27 +1,16 @@
 // The call that the program makes.
 ghost use Rattle.std.specs.Prelude.{◌≡◌, Some, IsTrue};
-ghost use Rattle.cmr_front.specs.Ending.{devices, standing};
-ghost use Rattle.cmr_front.specs.Run.{Means, Runs, work};
+ghost use Rattle.cmr_front.specs.Run.{Means, RunsOver};
 ghost use Rattle.cmr_front.specs.Status.{answer_status};
-ghost use Rattle.cmr_tools.specs.Tools.{ordered, tool_of};
-ghost use Rattle.cmr_tools.specs.Words.{Order, order, order_of};
+ghost use Rattle.cmr_tools.specs.Words.{Order, order, ordered, tool_of};
 ghost use Rattle.cmr_front.specs.declared.status.Answer.{Answer};
 
-use crate::options::Command;
-use crate::tools::check::check;
-use crate::tools::generated::generate_and_run;
-use crate::tools::graphic_network::test_property;
-use crate::tools::regular::regular;
-use crate::tools::series_parallel::series_parallel;
-use crate::tools::tu::tu;
-use crate::tools::upgrade::upgrade;
-use crate::words::read_words;
+use crate::command::{obey, read_words};
 use cmr_base::WordList;
 use cmr_front::carry_out::carry_out;
 use cmr_front::outcome::Stop;
 use cmr_front::words::WordsError;
 use cmr_io::{Shelf, Sink};
-use cmr_reach::{balanced, camion, compose, parts, sign_rows};
 use std::alloc::Global;
 use std::thread::Threads;
 
@@ -36,15 +25,9 @@ pub fn run<R: Threads + Sync, S: Shelf, O: Sink, E: Sink>(
     out: &mut O,
     err: &mut E,
 ) -> u8
-    ensures runs { Runs
+    ensures runs { RunsOver S.Shelf O.Sink E.Sink
         (ordered (order words.now))
-        (standing (S.tells shelf.old) (O.tells out.old) (E.tells err.old) (S.is_calm shelf.old)
-        (S.room shelf.old) (O.is_calm out.old) (O.room out.old))
-        (devices (S.content shelf.old) (S.reads shelf.old) (S.failed shelf.old) (S.faults shelf.old)
-        (O.got out.old) (O.faults out.old) (E.got err.old) (E.faults err.old))
-        (devices (S.content shelf.new) (S.reads shelf.new) (S.failed shelf.new) (S.faults shelf.new)
-        (O.got out.new) (O.faults out.new) (E.got err.new) (E.faults err.new))
-        result }
+        shelf.old out.old err.old shelf.new out.new err.new result }
     ensures means { IsTrue (S.tells shelf.old) → (o : Order) → order words.now ≡ Some o
         → (answer : Answer) → result ≡ answer_status answer
         → Means (tool_of o) (S.content shelf.old) answer }
@@ -53,44 +36,5 @@ pub fn run<R: Threads + Sync, S: Shelf, O: Sink, E: Sink>(
         Ok(command) => obey(rt, alloc, &command, shelf, out, err),
         Err(WordsError::Refused) => carry_out(&Err(Stop::BadWords), shelf, out, err),
         Err(WordsError::Memory) => carry_out(&Err(Stop::Memory), shelf, out, err),
-    }
-}
-
-fn obey<R: Threads + Sync, S: Shelf, O: Sink, E: Sink>(
-    rt: &R,
-    alloc: Global,
-    command: &Command<'_>,
-    shelf: &mut S,
-    out: &mut O,
-    err: &mut E,
-) -> u8
-    requires { (tool_of (order_of command.now)).InRanges }
-    ensures runs { Runs
-        (work (tool_of (order_of command.now)))
-        (standing (S.tells shelf.old) (O.tells out.old) (E.tells err.old) (S.is_calm shelf.old)
-        (S.room shelf.old) (O.is_calm out.old) (O.room out.old))
-        (devices (S.content shelf.old) (S.reads shelf.old) (S.failed shelf.old) (S.faults shelf.old)
-        (O.got out.old) (O.faults out.old) (E.got err.old) (E.faults err.old))
-        (devices (S.content shelf.new) (S.reads shelf.new) (S.failed shelf.new) (S.faults shelf.new)
-        (O.got out.new) (O.faults out.new) (E.got err.new) (E.faults err.new))
-        result }
-    ensures means { IsTrue (S.tells shelf.old) → (answer : Answer) → result ≡ answer_status answer
-        → Means (tool_of (order_of command.now)) (S.content shelf.old) answer }
-{
-    match command {
-        Command::Tu(options) => tu(rt, alloc, options, shelf, out, err),
-        Command::Regular(options) => regular(rt, alloc, options, shelf, out, err),
-        Command::SeriesParallel(options) => series_parallel(rt, alloc, options, shelf, out, err),
-        Command::Test(property, options) => {
-            test_property(rt, alloc, *property, options, shelf, out, err)
-        }
-        Command::Generate(options) => generate_and_run(rt, alloc, options, shelf, out, err),
-        Command::Check(options) => check(rt, alloc, options, shelf, out, err),
-        Command::Upgrade(options) => upgrade(rt, alloc, options, shelf, out, err),
-        Command::Camion(options) => camion(rt, alloc, options, shelf, out, err),
-        Command::Sign(options) => sign_rows(rt, alloc, options, shelf, out, err),
-        Command::Balanced(options) => balanced(rt, alloc, options, shelf, out, err),
-        Command::Parts(options) => parts(rt, alloc, options, shelf, out, err),
-        Command::Compose(options) => compose(rt, alloc, options, shelf, out, err),
     }
 }

@@ -1,37 +1,95 @@
-// Testing whether a matrix is balanced.
-ghost use Rattle.std.specs.Prelude.{◌≡◌, ◌≤◌, IfOk, IsTrue, false, true};
-ghost use Rattle.cmr_base.specs.CyclePlaces.{HasNoCycleFault};
-ghost use Rattle.cmr_base.specs.Matrix.{entry, IsMatrix};
+//! Testing whether a matrix is balanced.
 ghost use Rattle.balance.specs.BalanceFaults.{IsBalanced};
 ghost use Rattle.balance.specs.Searched.{HasSearchedFaults};
-ghost use Rattle.cmr_front.specs.Ending.{devices, standing};
-ghost use Rattle.cmr_front.specs.Outcome.{outcome_report};
-ghost use Rattle.cmr_front.specs.Run.{Means, Runs, work};
-ghost use Rattle.cmr_front.specs.Status.{answer_status};
-ghost use Rattle.cmr_front.specs.declared.status.Answer.{Answer};
-ghost use Rattle.cmr_reach.specs.Balanced.{BalancedDecides, IsDecomposed, IsInRanges, IsUntold, balanced_tool, search_report};
-ghost use Rattle.cmr_reach.specs.Words.Balanced.{balanced_order_of};
+ghost use Rattle.clap.specs.Words.{app_of, found_of, rows_of};
+ghost use Rattle.std.specs.Prelude.{◌≡◌, ◌≤◌, IfOk, IsTrue, false, true};
 ghost use Rattle.tree_type.specs.Invariant.{IsDecTree};
 ghost use Rattle.tree_type.specs.Trees.{tree_of};
 ghost use Rattle.tree_type.specs.Verdicts as verdicts;
 ghost use Rattle.tree_type.specs.Verdicts.{verdict_of};
+ghost use Rattle.cmr_base.specs.CyclePlaces.{HasNoCycleFault};
+ghost use Rattle.cmr_base.specs.Matrix.{IsMatrix, entry};
+ghost use Rattle.cmr_front.specs.Outcome.{outcome_report};
+ghost use Rattle.cmr_front.specs.Run.{Means, RunsOver, work};
+ghost use Rattle.cmr_front.specs.Status.{answer_status};
+ghost use Rattle.cmr_front.specs.Words.Reading.{Gives};
+ghost use Rattle.cmr_front.specs.declared.status.Answer.{Answer};
+ghost use Rattle.cmr_reach.specs.Balanced.{BalancedDecides, IsDecomposed, IsInRanges, IsUntold, balanced_app, balanced_order, balanced_order_in, balanced_order_of, balanced_tool, search_report};
 
 use crate::faults::{fault_outcome, open_outcome, yes_outcome};
-use crate::options::BalancedOptions;
 use balance::{Search, least_balance_fault};
 use camion_sign::cycle_fault;
-use cmr_base::{MAX_ROWS, Matrix, Memory};
+use clap::{ArgMatches, Command};
+use cmr_base::{MAX_ROWS, Matrix, Memory, Word};
 use cmr_front::input::{Input, Text};
-use cmr_front::matrix_file::{matrix_input, read_matrix};
+use cmr_front::matrix_file::{MatrixForm, matrix_input, read_matrix};
 use cmr_front::outcome::{Outcome, Stop};
 use cmr_front::tool::{Tool, run_tool};
+use cmr_front::words::parsing::{
+    fault_in, file_in, form_in, lines_in, matches_with_input, pivots_in, workers_in,
+};
+use cmr_front::words::{WordsError, arguments};
 use cmr_io::{Shelf, Sink};
 use decomp_tree::decompose;
-use std::alloc::Global;
+use std::alloc::{AllocError, Global};
 use std::thread::Threads;
 use tree_type::{DecTree, VerdictOf, verdict};
 
+/// What `balanced` is asked to do. A file of the name `-` is standard input.
+#[derive(Clone, Copy, Debug, PartialEq, Eq)]
+pub struct BalancedOptions<'a> {
+    /// The form of the matrix text.
+    pub form: MatrixForm,
+    /// The most lines on the shorter side of what is searched whole, 0 to 24.
+    pub lines: u32,
+    /// The most pivots of the decomposition on the way to a node where nothing else decides it, 0 to 100.
+    pub pivots: u32,
+    /// How many workers share a search, 1 to 64. The answer does not depend on it.
+    pub workers: u32,
+    /// The file that gets the fault where there is one.
+    pub fault: Option<&'a str>,
+    /// The file that holds the matrix text.
+    pub file: &'a str,
+}
+
 const LABEL: &[u8] = b"balanced";
+
+fn balanced_command<'a>(alloc: Global) -> Result<Command<'a>, AllocError>
+    ensures { IfOk result (λ c. app_of c ≡ balanced_app) }
+{
+    let bare = arguments::bare_command(alloc, "balanced");
+    let with_form = arguments::add(bare, arguments::form_option(alloc))?;
+    let with_lines = arguments::add(with_form, arguments::lines_option(alloc))?;
+    let with_pivots = arguments::add(with_lines, arguments::pivots_option(alloc))?;
+    let with_workers = arguments::add(with_pivots, arguments::workers_option(alloc))?;
+    let with_fault = arguments::add(with_workers, arguments::fault_option(alloc))?;
+    arguments::add(with_fault, arguments::file_operand(alloc))
+}
+
+fn options_in<'a>(matches: &ArgMatches<'a>) -> Result<BalancedOptions<'a>, WordsError>
+    ensures { Gives balanced_order_of result (balanced_order_in (rows_of (found_of matches.now))) }
+{
+    Ok(BalancedOptions {
+        form: form_in(matches)?,
+        lines: lines_in(matches)?,
+        pivots: pivots_in(matches)?,
+        workers: workers_in(matches)?,
+        fault: fault_in(matches),
+        file: file_in(matches),
+    })
+}
+
+/// The options that the words behind `balanced` give: `[-i FORMAT] [--lines L] [--pivots K] [-w N] [-E FILE] [FILE]`.
+pub fn read_balanced<'a>(
+    alloc: Global,
+    words: &'a [Word],
+) -> Result<BalancedOptions<'a>, WordsError>
+    ensures value { Gives balanced_order_of result (balanced_order words.now) }
+    ensures ranges { IfOk result (λ options. (balanced_tool (balanced_order_of options)).InRanges) }
+{
+    let matches = matches_with_input(balanced_command(alloc)?, words)?;
+    options_in(&matches)
+}
 
 /// Does what `run` does on the words of `balanced`, and answers the status.
 #[tactic(auto, using(crate::proofs::BalancedAnswers::balanced_lawful))]
@@ -44,15 +102,9 @@ pub fn balanced<R: Threads + Sync, S: Shelf, O: Sink, E: Sink>(
     err: &mut E,
 ) -> u8
     requires { IsInRanges (balanced_order_of options.now) }
-    ensures runs { Runs
+    ensures runs { RunsOver S.Shelf O.Sink E.Sink
         (work (balanced_tool (balanced_order_of options.now)))
-        (standing (S.tells shelf.old) (O.tells out.old) (E.tells err.old) (S.is_calm shelf.old)
-        (S.room shelf.old) (O.is_calm out.old) (O.room out.old))
-        (devices (S.content shelf.old) (S.reads shelf.old) (S.failed shelf.old) (S.faults shelf.old)
-        (O.got out.old) (O.faults out.old) (E.got err.old) (E.faults err.old))
-        (devices (S.content shelf.new) (S.reads shelf.new) (S.failed shelf.new) (S.faults shelf.new)
-        (O.got out.new) (O.faults out.new) (E.got err.new) (E.faults err.new))
-        result }
+        shelf.old out.old err.old shelf.new out.new err.new result }
     ensures means { IsTrue (S.tells shelf.old) → (answer : Answer) → result ≡ answer_status answer
         → Means (balanced_tool (balanced_order_of options.now)) (S.content shelf.old) answer }
 {

@@ -1,24 +1,64 @@
-// Camion's test: whether a matrix has no cycle fault.
+//! Camion's test: whether a matrix has no cycle fault.
+ghost use Rattle.clap.specs.Words.{app_of, found_of, rows_of};
 ghost use Rattle.std.specs.Prelude.{◌≡◌, IfOk, IsTrue};
-ghost use Rattle.cmr_front.specs.Ending.{devices, standing};
 ghost use Rattle.cmr_front.specs.Outcome.{outcome_report};
-ghost use Rattle.cmr_front.specs.Run.{Means, Runs, work};
+ghost use Rattle.cmr_front.specs.Run.{Means, RunsOver, work};
 ghost use Rattle.cmr_front.specs.Status.{answer_status};
+ghost use Rattle.cmr_front.specs.Words.Reading.{Gives};
 ghost use Rattle.cmr_front.specs.declared.status.Answer.{Answer};
-ghost use Rattle.cmr_reach.specs.Camion.{CamionDecides, camion_tool};
-ghost use Rattle.cmr_reach.specs.Words.Camion.{camion_order_of};
+ghost use Rattle.cmr_reach.specs.Camion.{CamionDecides, camion_app, camion_order, camion_order_in, camion_order_of, camion_tool};
 
 use crate::faults::{fault_outcome, yes_outcome};
-use crate::options::CamionOptions;
 use camion_sign::cycle_fault;
-use cmr_base::{Matrix, Memory};
+use clap::{ArgMatches, Command};
+use cmr_base::{Matrix, Memory, Word};
 use cmr_front::input::{Input, Text};
-use cmr_front::matrix_file::{matrix_input, read_matrix};
+use cmr_front::matrix_file::{MatrixForm, matrix_input, read_matrix};
 use cmr_front::outcome::{Outcome, Stop};
 use cmr_front::tool::{Tool, run_tool};
+use cmr_front::words::parsing::{fault_in, file_in, form_in, matches_with_input};
+use cmr_front::words::{WordsError, arguments};
 use cmr_io::{Shelf, Sink};
-use std::alloc::Global;
+use std::alloc::{AllocError, Global};
 use std::thread::Threads;
+
+/// What `camion` is asked to do. A file of the name `-` is standard input.
+#[derive(Clone, Copy, Debug, PartialEq, Eq)]
+pub struct CamionOptions<'a> {
+    /// The form of the matrix text.
+    pub form: MatrixForm,
+    /// The file that gets the cycle fault where there is one.
+    pub fault: Option<&'a str>,
+    /// The file that holds the matrix text.
+    pub file: &'a str,
+}
+
+fn camion_command<'a>(alloc: Global) -> Result<Command<'a>, AllocError>
+    ensures { IfOk result (λ c. app_of c ≡ camion_app) }
+{
+    let bare = arguments::bare_command(alloc, "camion");
+    let with_form = arguments::add(bare, arguments::form_option(alloc))?;
+    let with_fault = arguments::add(with_form, arguments::fault_option(alloc))?;
+    arguments::add(with_fault, arguments::file_operand(alloc))
+}
+
+fn options_in<'a>(matches: &ArgMatches<'a>) -> Result<CamionOptions<'a>, WordsError>
+    ensures { Gives camion_order_of result (camion_order_in (rows_of (found_of matches.now))) }
+{
+    Ok(CamionOptions {
+        form: form_in(matches)?,
+        fault: fault_in(matches),
+        file: file_in(matches),
+    })
+}
+
+/// The options that the words behind `camion` give: `[-i FORMAT] [-E FILE] [FILE]`.
+pub fn read_camion<'a>(alloc: Global, words: &'a [Word]) -> Result<CamionOptions<'a>, WordsError>
+    ensures { Gives camion_order_of result (camion_order words.now) }
+{
+    let matches = matches_with_input(camion_command(alloc)?, words)?;
+    options_in(&matches)
+}
 
 /// Does what `run` does on the words of `camion`, and answers the status.
 #[tactic(auto, using(crate::proofs::CamionAnswers::camion_lawful))]
@@ -30,15 +70,9 @@ pub fn camion<R: Threads + Sync, S: Shelf, O: Sink, E: Sink>(
     out: &mut O,
     err: &mut E,
 ) -> u8
-    ensures runs { Runs
+    ensures runs { RunsOver S.Shelf O.Sink E.Sink
         (work (camion_tool (camion_order_of options.now)))
-        (standing (S.tells shelf.old) (O.tells out.old) (E.tells err.old) (S.is_calm shelf.old)
-        (S.room shelf.old) (O.is_calm out.old) (O.room out.old))
-        (devices (S.content shelf.old) (S.reads shelf.old) (S.failed shelf.old) (S.faults shelf.old)
-        (O.got out.old) (O.faults out.old) (E.got err.old) (E.faults err.old))
-        (devices (S.content shelf.new) (S.reads shelf.new) (S.failed shelf.new) (S.faults shelf.new)
-        (O.got out.new) (O.faults out.new) (E.got err.new) (E.faults err.new))
-        result }
+        shelf.old out.old err.old shelf.new out.new err.new result }
     ensures means { IsTrue (S.tells shelf.old) → (answer : Answer) → result ≡ answer_status answer
         → Means (camion_tool (camion_order_of options.now)) (S.content shelf.old) answer }
 {

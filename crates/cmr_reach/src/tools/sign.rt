@@ -1,34 +1,79 @@
-// Signing a given set of rows.
-ghost use Rattle.std.specs.Prelude.{◌≡◌, ◌+◌, ◌++◌, IfOk, IsTrue, OnOk, codes, length};
+//! Signing a given set of rows.
+ghost use Rattle.clap.specs.Words.{app_of, found_of, rows_of};
 ghost use Rattle.std.specs.Fmt.{decimal};
+ghost use Rattle.std.specs.Prelude.{◌++◌, ◌+◌, ◌≡◌, IfOk, IsTrue, OnOk, codes, length};
 ghost use Rattle.cmr_base.specs.LineSets.{AllBelow};
 ghost use Rattle.cmr_base.specs.Matrix.{height};
-ghost use Rattle.cmr_front.specs.Ending.{devices, standing};
 ghost use Rattle.cmr_front.specs.Outcome.{outcome_report};
-ghost use Rattle.cmr_front.specs.Run.{Means, Runs, work};
+ghost use Rattle.cmr_front.specs.Run.{Means, RunsOver, work};
 ghost use Rattle.cmr_front.specs.Status.{answer_status};
 ghost use Rattle.cmr_front.specs.Texts.{ReportsText};
 ghost use Rattle.cmr_front.specs.Tool.{HasOneReport, IsDecision};
+ghost use Rattle.cmr_front.specs.Words.Reading.{Gives};
 ghost use Rattle.cmr_front.specs.declared.outcome.FaultKind.TheVariants as faults;
 ghost use Rattle.cmr_front.specs.declared.status.Answer.{Answer};
 ghost use Rattle.cmr_reach.specs.RowSet.{lines_in};
-ghost use Rattle.cmr_reach.specs.Sign.{IsAnswerFor, SignDecides, SignReports, sign_lines, sign_mark, sign_report, sign_tool, signed_report, step_lines, step_words, violated_report};
-ghost use Rattle.cmr_reach.specs.Words.Sign.{sign_order_of};
+ghost use Rattle.cmr_reach.specs.Sign.{IsAnswerFor, SignDecides, SignReports, sign_app, sign_lines, sign_mark, sign_order, sign_order_in, sign_order_of, sign_report, sign_tool, signed_report, step_lines, step_words, violated_report};
 
-use crate::options::SignOptions;
-use cmr_base::{Indices, LineSet, Matrix, Memory, SignList};
+use clap::{ArgMatches, Command};
+use cmr_base::{Indices, LineSet, Matrix, Memory, SignList, Word};
 use cmr_front::evidence_file::read_submatrix_file;
 use cmr_front::input::{Input, InputKind, Text};
-use cmr_front::matrix_file::{matrix_input, read_matrix};
+use cmr_front::matrix_file::{MatrixForm, matrix_input, read_matrix};
 use cmr_front::outcome::{Outcome, Stop};
 use cmr_front::printed::push_violator_line;
 use cmr_front::status::Answer;
 use cmr_front::tool::{Tool, run_tool};
+use cmr_front::words::arguments::{MATRIX, ROWS};
+use cmr_front::words::parsing::{form_in, matches_in, operand_in};
+use cmr_front::words::{WordsError, arguments};
 use cmr_io::{Shelf, Sink};
 use itoa::Buffer;
 use sign_tool::{Pivot, PivotList, SetSigning, sign_set};
-use std::alloc::Global;
+use std::alloc::{AllocError, Global};
 use std::thread::Threads;
+
+/// What `sign` is asked to do.
+#[derive(Clone, Copy, Debug, PartialEq, Eq)]
+pub struct SignOptions<'a> {
+    /// The form of the matrix text.
+    pub form: MatrixForm,
+    /// The file that holds the matrix text.
+    pub matrix: &'a str,
+    /// The file that holds a submatrix text, whose rows are the set that is signed.
+    pub rows: &'a str,
+}
+
+fn sign_command<'a>(alloc: Global) -> Result<Command<'a>, AllocError>
+    ensures { IfOk result (λ c. app_of c ≡ sign_app) }
+{
+    let bare = arguments::bare_command(alloc, "sign");
+    let with_form = arguments::add(bare, arguments::form_option(alloc))?;
+    let with_matrix = arguments::add(with_form, arguments::operand(alloc, MATRIX))?;
+    arguments::add(with_matrix, arguments::operand(alloc, ROWS))
+}
+
+fn options_in<'a>(matches: &ArgMatches<'a>) -> Result<SignOptions<'a>, WordsError>
+    ensures { Gives sign_order_of result (sign_order_in (rows_of (found_of matches.now))) }
+{
+    let form = form_in(matches)?;
+    let matrix = match operand_in(matches, MATRIX) {
+        Ok(matrix) => matrix,
+        Err(error) => return Err(error),
+    };
+    match operand_in(matches, ROWS) {
+        Ok(rows) => Ok(SignOptions { form, matrix, rows }),
+        Err(error) => Err(error),
+    }
+}
+
+/// The options that the words behind `sign` give: `[-i FORMAT] MATRIX ROWS`.
+pub fn read_sign<'a>(alloc: Global, words: &'a [Word]) -> Result<SignOptions<'a>, WordsError>
+    ensures { Gives sign_order_of result (sign_order words.now) }
+{
+    let matches = matches_in(sign_command(alloc)?, words)?;
+    options_in(&matches)
+}
 
 /// Does what `run` does on the words of `sign`, and answers the status.
 pub fn sign_rows<R: Threads + Sync, S: Shelf, O: Sink, E: Sink>(
@@ -39,15 +84,9 @@ pub fn sign_rows<R: Threads + Sync, S: Shelf, O: Sink, E: Sink>(
     out: &mut O,
     err: &mut E,
 ) -> u8
-    ensures runs { Runs
+    ensures runs { RunsOver S.Shelf O.Sink E.Sink
         (work (sign_tool (sign_order_of options.now)))
-        (standing (S.tells shelf.old) (O.tells out.old) (E.tells err.old) (S.is_calm shelf.old)
-        (S.room shelf.old) (O.is_calm out.old) (O.room out.old))
-        (devices (S.content shelf.old) (S.reads shelf.old) (S.failed shelf.old) (S.faults shelf.old)
-        (O.got out.old) (O.faults out.old) (E.got err.old) (E.faults err.old))
-        (devices (S.content shelf.new) (S.reads shelf.new) (S.failed shelf.new) (S.faults shelf.new)
-        (O.got out.new) (O.faults out.new) (E.got err.new) (E.faults err.new))
-        result }
+        shelf.old out.old err.old shelf.new out.new err.new result }
     ensures means { IsTrue (S.tells shelf.old) → (answer : Answer) → result ≡ answer_status answer
         → Means (sign_tool (sign_order_of options.now)) (S.content shelf.old) answer }
     ensures one { HasOneReport (sign_tool (sign_order_of options.now)) }

@@ -1,12 +1,10 @@
 use Rattle.std.proofs.Common.{◌≡◌, None, Err, refl, subst, sym, inl, arith}
 use Rattle.cmr_front.specs.declared.outcome.Stop.TheVariants as stops
-use Rattle.cmr_tools.specs.Words.{order, order_of}
+use Rattle.cmr_tools.specs.Words.{order, order_of, ordered}
 use Rattle.cmr_front.specs.Words.Reading.{Gives}
 use Rattle.cmr_front.specs.Ending.{devices, standing}
 use Rattle.cmr_front.specs.Run.{IsNothing}
 use Rattle.cmr_front.proofs.Endings.{IsLawfulOrder, runs}
-use Rattle.cmr_tools.specs.Tools.{ordered}
-use Rattle.cmr_tools.proofs.OrderLines.{in_ranges}
 use Rattle.cmr_tools.proofs.program.run.Goals as goal
 
 pub returns-in-Err-Refused-clause-runs : goal.returns-in-Err-Refused-clause-runs
@@ -18,7 +16,7 @@ returns-in-Err-Refused-clause-runs g c =
     let out = c.args.out.now in
     let err = c.args.err.now in
     let done = c.carry_out in
-    let e : order c.args.words.now ≡ None = subst (λ f. Gives order_of (Err f) (order c.args.words.now)) c.in-Err-Refused.field-0-is c.in-Err-Refused.ensures in
+    let e : order c.args.words.now ≡ None = subst (λ f. Gives order_of (Err f) (order c.args.words.now)) c.in-Err-Refused.field-0-is c.in-Err-Refused.ensures.value in
     runs (ordered (order c.args.words.now))
     (standing (S.tells shelf) (O.tells out) (E.tells err) (S.is_calm shelf) (S.room shelf) (O.is_calm out) (O.room out))
     (S.content shelf) (S.content shelf) (S.reads shelf) (S.reads shelf) (S.failed shelf) (S.failed shelf) (S.faults shelf) (S.faults shelf) (O.got out) (O.faults out) (E.got err) (E.faults err) (Err stops.BadWords)
@@ -41,6 +39,3 @@ returns-in-Err-Refused-clause-runs g c =
       failed = done.ensures.failed;
       later = done.ensures.later;
     })
-
-pub obey-requires-after_bounds : goal.obey-requires-after_bounds
-obey-requires-after_bounds g c κs within = in_ranges c.args.words.now (order_of c.in-Ok.command) c.in-Ok.ensures

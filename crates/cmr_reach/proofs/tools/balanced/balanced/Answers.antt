@@ -1,5 +1,5 @@
 use Rattle.std.proofs.Common.{refl}
-use Rattle.cmr_reach.specs.Words.Balanced.{balanced_order_of}
+use Rattle.cmr_reach.specs.Balanced.{balanced_order_of}
 use Rattle.cmr_reach.proofs.BalancedAnswers.{balanced_lawful}
 use Rattle.cmr_reach.proofs.tools.balanced.balanced.Goals as goal
 

@@ -1,5 +1,5 @@
 use Rattle.std.proofs.Common.{refl}
-use Rattle.cmr_reach.specs.Words.Camion.{camion_order_of}
+use Rattle.cmr_reach.specs.Camion.{camion_order_of}
 use Rattle.cmr_reach.proofs.CamionAnswers.{camion_lawful}
 use Rattle.cmr_reach.proofs.tools.camion.camion.Goals as goal
 

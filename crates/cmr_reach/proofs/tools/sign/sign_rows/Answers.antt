@@ -1,5 +1,5 @@
 use Rattle.std.proofs.Common.{refl}
-use Rattle.cmr_reach.specs.Words.Sign.{sign_order_of}
+use Rattle.cmr_reach.specs.Sign.{sign_order_of}
 use Rattle.cmr_reach.proofs.SignAnswers.{sign_has_one_report, sign_lawful}
 use Rattle.cmr_reach.proofs.tools.sign.sign_rows.Goals as goal
 

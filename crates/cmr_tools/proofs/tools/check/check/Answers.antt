@@ -1,7 +1,0 @@
-use Rattle.std.proofs.Common.{refl}
-use Rattle.cmr_tools.specs.Words.Check.{check_order_of}
-use Rattle.cmr_tools.proofs.CheckAnswers.{check_lawful}
-use Rattle.cmr_tools.proofs.tools.check.check.Goals as goal
-
-pub run_tool-requires-sync-R : goal.run_tool-requires-sync-R
-run_tool-requires-sync-R g c κs within = (c.type_bounds.sync-R, ((refl, tt), (tt, check_lawful (check_order_of c.args.options.now))))

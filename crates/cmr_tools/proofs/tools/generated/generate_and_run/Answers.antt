@@ -1,7 +1,0 @@
-use Rattle.std.proofs.Common.{rules, refl}
-use Rattle.cmr_tools.specs.Words.Generate.{generate_order_of}
-use Rattle.cmr_tools.proofs.GenerateAnswers.{generate_lawful}
-use Rattle.cmr_tools.proofs.tools.generated.generate_and_run.Goals as goal
-
-pub run_tool-requires-sync-R : goal.run_tool-requires-sync-R
-run_tool-requires-sync-R g c κs within = (search rules, ((refl, tt), (c.requires, generate_lawful (generate_order_of c.args.options.now))))

@@ -1,7 +1,0 @@
-use Rattle.std.proofs.Common.{rules, refl}
-use Rattle.cmr_tools.specs.Words.SeriesParallel.{series_parallel_order_of}
-use Rattle.cmr_tools.proofs.SeriesParallelAnswers.{series_parallel_lawful}
-use Rattle.cmr_tools.proofs.tools.series_parallel.series_parallel.Goals as goal
-
-pub run_tool-requires-sync-R : goal.run_tool-requires-sync-R
-run_tool-requires-sync-R g c κs within = (search rules, ((refl, tt), (tt, series_parallel_lawful (series_parallel_order_of c.args.options.now))))

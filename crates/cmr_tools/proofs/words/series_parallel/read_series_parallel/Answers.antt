@@ -1,9 +1,0 @@
-use Rattle.clap.specs.Words.{app_of, found_of, rows_of}
-use Rattle.cmr_tools.specs.Words.SeriesParallel.{series_parallel_app, series_parallel_order_in, series_parallel_order_of}
-use Rattle.cmr_front.proofs.Matches.{Gives-matches_with_input}
-use Rattle.cmr_tools.proofs.words.series_parallel.read_series_parallel.Goals as goal
-
-pub returns : goal.returns
-returns c =
-    Gives-matches_with_input series_parallel_order_of (app_of c.in_ok-series_parallel_command.field-0) series_parallel_app c.args.words.now (rows_of (found_of c.in_ok-matches.matches)) series_parallel_order_in c.options_in.result
-    c.in_ok-series_parallel_command.ensures c.in_ok-matches.ensures c.options_in.ensures

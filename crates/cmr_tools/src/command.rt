@@ -1,0 +1,121 @@
+//! A tool with its options: how it is read from the words of the command line, and how it is carried out. The first word
+//! names the tool, and `clap` reads the others, but for a last word `-`, which says that the tool reads standard input.
+ghost use Rattle.std.specs.Prelude.{◌≡◌, IfOk, IsTrue};
+ghost use Rattle.cmr_front.specs.Run.{Means, RunsOver, work};
+ghost use Rattle.cmr_front.specs.Status.{answer_status};
+ghost use Rattle.cmr_front.specs.Words.Reading.{Gives};
+ghost use Rattle.cmr_front.specs.declared.status.Answer.{Answer};
+ghost use Rattle.cmr_tools.specs.Words.{order, order_of, tool_of};
+
+use cmr_base::WordList;
+use cmr_front::words::WordsError;
+use cmr_io::{Shelf, Sink};
+use cmr_reach::tools::balanced::{BalancedOptions, balanced, read_balanced};
+use cmr_reach::tools::camion::{CamionOptions, camion, read_camion};
+use cmr_reach::tools::compose::{ComposeOptions, compose, read_compose};
+use cmr_reach::tools::parts::{PartsOptions, parts, read_parts};
+use cmr_reach::tools::sign::{SignOptions, read_sign, sign_rows};
+use cmr_unimodular::tools::check::{CheckOptions, check, read_check};
+use cmr_unimodular::tools::generate::{GenerateOptions, generate_and_run, read_generate};
+use cmr_unimodular::tools::graphic_network::{Property, TestOptions, read_test, test_property};
+use cmr_unimodular::tools::regular::{RegularOptions, read_regular, regular};
+use cmr_unimodular::tools::series_parallel::{SpOptions, read_series_parallel, series_parallel};
+use cmr_unimodular::tools::tu::{TuOptions, read_tu, tu};
+use cmr_unimodular::tools::upgrade::{UpgradeOptions, read_upgrade, upgrade};
+use std::alloc::Global;
+use std::thread::Threads;
+
+/// A tool with its options.
+#[derive(Clone, Copy, Debug, PartialEq, Eq)]
+pub enum Command<'a> {
+    /// Tests whether a matrix is totally unimodular.
+    Tu(TuOptions<'a>),
+    /// Tests whether a 0/1 matrix has a totally unimodular signing.
+    Regular(RegularOptions<'a>),
+    /// Tests whether a matrix is series-parallel.
+    SeriesParallel(SpOptions<'a>),
+    /// Tests whether the columns of a matrix are paths of a tree.
+    Test(Property, TestOptions<'a>),
+    /// Makes a matrix from a number, and tests whether it is totally unimodular.
+    Generate(GenerateOptions<'a>),
+    /// Checks evidence on a matrix.
+    Check(CheckOptions<'a>),
+    /// Writes a decomposition tree anew, in its canonical text.
+    Upgrade(UpgradeOptions<'a>),
+    /// Tests whether a matrix has no cycle fault.
+    Camion(CamionOptions<'a>),
+    /// Signs a given set of rows.
+    Sign(SignOptions<'a>),
+    /// Tests whether a matrix is balanced.
+    Balanced(BalancedOptions<'a>),
+    /// Writes the two matrices of which the root of a decomposition tree is a sum.
+    Parts(PartsOptions<'a>),
+    /// Writes a sum of two matrices.
+    Compose(ComposeOptions<'a>),
+}
+
+/// The command that the words give.
+pub fn read_words<'a>(alloc: Global, words: &'a WordList) -> Result<Command<'a>, WordsError>
+    ensures value { Gives order_of result (order words.now) }
+    ensures ranges { IfOk result (λ command. (tool_of (order_of command)).InRanges) }
+{
+    let Some((tool, rest)) = words.as_slice().split_first() else {
+        return Err(WordsError::Refused);
+    };
+    match tool.text() {
+        "tu" => Ok(Command::Tu(read_tu(alloc, rest)?)),
+        "regular" => Ok(Command::Regular(read_regular(alloc, rest)?)),
+        "series-parallel" => Ok(Command::SeriesParallel(read_series_parallel(alloc, rest)?)),
+        "graphic" => {
+            let options = read_test(alloc, Property::Graphic, rest)?;
+            Ok(Command::Test(Property::Graphic, options))
+        }
+        "network" => {
+            let options = read_test(alloc, Property::Network, rest)?;
+            Ok(Command::Test(Property::Network, options))
+        }
+        "generate" => Ok(Command::Generate(read_generate(alloc, rest)?)),
+        "check" => Ok(Command::Check(read_check(alloc, rest)?)),
+        "upgrade" => Ok(Command::Upgrade(read_upgrade(alloc, rest)?)),
+        "camion" => Ok(Command::Camion(read_camion(alloc, rest)?)),
+        "sign" => Ok(Command::Sign(read_sign(alloc, rest)?)),
+        "balanced" => Ok(Command::Balanced(read_balanced(alloc, rest)?)),
+        "parts" => Ok(Command::Parts(read_parts(alloc, rest)?)),
+        "compose" => Ok(Command::Compose(read_compose(alloc, rest)?)),
+        _ => Err(WordsError::Refused),
+    }
+}
+
+/// Carries out a command, and answers the status.
+pub fn obey<R: Threads + Sync, S: Shelf, O: Sink, E: Sink>(
+    rt: &R,
+    alloc: Global,
+    command: &Command<'_>,
+    shelf: &mut S,
+    out: &mut O,
+    err: &mut E,
+) -> u8
+    requires { (tool_of (order_of command.now)).InRanges }
+    ensures runs { RunsOver S.Shelf O.Sink E.Sink
+        (work (tool_of (order_of command.now)))
+        shelf.old out.old err.old shelf.new out.new err.new result }
+    ensures means { IsTrue (S.tells shelf.old) → (answer : Answer) → result ≡ answer_status answer
+        → Means (tool_of (order_of command.now)) (S.content shelf.old) answer }
+{
+    match command {
+        Command::Tu(options) => tu(rt, alloc, options, shelf, out, err),
+        Command::Regular(options) => regular(rt, alloc, options, shelf, out, err),
+        Command::SeriesParallel(options) => series_parallel(rt, alloc, options, shelf, out, err),
+        Command::Test(property, options) => {
+            test_property(rt, alloc, *property, options, shelf, out, err)
+        }
+        Command::Generate(options) => generate_and_run(rt, alloc, options, shelf, out, err),
+        Command::Check(options) => check(rt, alloc, options, shelf, out, err),
+        Command::Upgrade(options) => upgrade(rt, alloc, options, shelf, out, err),
+        Command::Camion(options) => camion(rt, alloc, options, shelf, out, err),
+        Command::Sign(options) => sign_rows(rt, alloc, options, shelf, out, err),
+        Command::Balanced(options) => balanced(rt, alloc, options, shelf, out, err),
+        Command::Parts(options) => parts(rt, alloc, options, shelf, out, err),
+        Command::Compose(options) => compose(rt, alloc, options, shelf, out, err),
+    }
+}

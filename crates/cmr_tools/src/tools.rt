@@ -1,9 +1,0 @@
-// The tools.
-pub mod check;
-pub mod generated;
-pub mod graph_matrix;
-pub mod graphic_network;
-pub mod regular;
-pub mod series_parallel;
-pub mod tu;
-pub mod upgrade;

@@ -1,0 +1,16 @@
+pub mod TransposedBinary
+pub mod OneVerdict
+pub mod OtherDeterminants
+pub mod Outlines
+pub mod OpenParts
+pub mod Told
+pub mod UnimodularAnswers
+pub mod TuAnswers
+pub mod GenerateAnswers
+pub mod OneSigning
+pub mod RegularAnswers
+pub mod CheckAnswers
+pub mod UpgradeAnswers
+pub mod SeriesParallelAnswers
+pub mod GraphicNetworkAnswers
+pub mod GraphMatrixAnswers

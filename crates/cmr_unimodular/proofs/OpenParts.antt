@@ -1,0 +1,31 @@
+-- The lines that a decomposition leaves open.
+use Rattle.std.proofs.Common.{◌≡◌, inl, inr, ℕ, min, Some, arith}
+use Rattle.std.proofs.lemmas.Bool.{cases_lt}
+use Rattle.cmr_base.specs.declared.line_set.LineSet.{LineSet}
+use Rattle.cmr_base.specs.Matrix.{Matrix, height, IsMatrix}
+use Rattle.tree_type.specs.Soundness.{part}
+use Rattle.tree_type.specs.Trees.{Tree}
+use Rattle.tree_type.specs.Verdicts.{first_in, open_at}
+use Rattle.decomp_tree.specs.PivotedShapes.{IsShapeWith}
+use Rattle.decomp_tree.specs.Shapes.{HasFault, IsReducible, IsApart, IsNetwork, IsConetwork, IsR10Matrix, IsTwoSum, IsThreeSum, IsShort, IsLeft, IsFirstCase}
+use Rattle.decomp_tree.proofs.OpenNodes.{open_case}
+use Rattle.cmr_unimodular.specs.Verdict.{IsLeftOpen, IsOpenPart}
+
+left_open : (budget : ℕ) (n : Matrix) → IsFirstCase budget n IsLeft → IsLeftOpen budget n
+left_open budget n is = record {
+  no_fault = λ row first last path fault. is.first HasFault (omega arith) (row, first, last, path, fault);
+  irreducible = is.first IsReducible (omega arith);
+  connected = is.first IsApart (omega arith);
+  no_network = is.first IsNetwork (omega arith);
+  no_conetwork = is.first IsConetwork (omega arith);
+  no_r10 = is.first IsR10Matrix (omega arith);
+  no_two_separation = λ i j side separates. is.first IsTwoSum (omega arith) (i, j, side, separates);
+  no_three_separation = λ form first second side separates. is.first IsThreeSum (omega arith) (form, first, second, side, separates);
+  above = elim (cases_lt budget (min (height n) n.width)) [ inl less ↦ less | inr short ↦ absurd (is.first IsShort (omega arith) short) ];
+}
+
+-- the lines of the first undecided node
+pub open_part : (budget pivots : ℕ) (m : Matrix) (tree : Tree) (lines : LineSet) → IsMatrix m → IsShapeWith budget pivots m tree → first_in open_at tree ≡ Some lines → IsOpenPart budget m lines
+open_part budget pivots m tree lines is shape found =
+    let case = open_case budget pivots m tree lines is shape found in
+    record { are_lines = case.0; left = left_open budget (part m lines) case.1 }

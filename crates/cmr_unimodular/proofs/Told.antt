@@ -1,0 +1,44 @@
+-- What a decomposition tells is so.
+use Rattle.std.proofs.Common.{◌≡◌, ◌∙◌, ℕ, length, Option, Some, None, refl, ap, sym, subst}
+use Rattle.std.proofs.lemmas.List.FromFn.{length-range_with_len}
+use Rattle.cmr_base.specs.declared.line_set.LineSet.{LineSet}
+use Rattle.cmr_base.specs.LineSets.{AllBelow}
+use Rattle.cmr_base.specs.Matrix.{Matrix, height, IsMatrix}
+use Rattle.decomp_tree.specs.PivotedShapes.{IsShapeWith}
+use Rattle.decomp_tree.proofs.PivotedRoots.{root_is_whole}
+use Rattle.tree_type.specs.declared.tree.Node.{Node}
+use Rattle.tree_type.specs.Trees.{SizedTree, tree_of}
+use Rattle.tree_type.specs.Verdicts as verdicts
+use Rattle.tree_type.specs.Verdicts.{Verdict, fault_at, first_in, open_at, verdict_from}
+use Rattle.cert_check.specs.Laws.{Tells}
+use Rattle.cert_check.proofs.Answering.{lines_is}
+use Rattle.cert_check.proofs.SoundTrees.{tells}
+use Rattle.cmr_unimodular.specs.Verdict.{IsDecomposition, IsTold, verdict_in}
+use Rattle.cmr_unimodular.proofs.OpenParts.{open_part}
+
+open_from : (fault undecided : Option LineSet) (lines : LineSet) → verdict_from fault undecided ≡ verdicts.Open lines → undecided ≡ Some lines
+open_from None None lines e = cc
+open_from None (Some found) lines e = cc
+open_from (Some fault) undecided lines e = cc
+
+pub told : (budget pivots : ℕ) (m : Matrix) → IsMatrix m → (tree : SizedTree) → IsDecomposition budget pivots m tree → IsTold budget m (verdict_in tree)
+told budget pivots m is tree d = go (verdict_in tree) refl (tells m is tree.rows tree.columns (tree_of tree.root) d.is_tree d.sound)
+  where
+    go : (v : Verdict) → verdict_in tree ≡ v → Tells m v → IsTold budget m v
+    go verdicts.Yes e right = right
+    go (verdicts.No fault) e right = right
+    go (verdicts.Open lines) e right =
+        let root = tree_of tree.root in
+        open_part budget pivots m root lines is d.shape (open_from (first_in fault_at root) (first_in open_at root) lines e)
+
+-- the root of a decomposition has all rows
+pub root_height : (budget pivots : ℕ) (m : Matrix) (root : Node) → IsShapeWith budget pivots m (tree_of root) → length root.lines.rows ≡ height m
+root_height budget pivots m root shape =
+    ap (λ (lines : LineSet). length lines.rows) (sym (lines_is root)) ∙ ap length (root_is_whole budget pivots m (tree_of root) shape).0 ∙ length-range_with_len 0 (height m)
+
+-- the fault that a verdict names has lines of the matrix
+pub fault_rows : (m : Matrix) (v : Verdict) (fault : LineSet) → v ≡ verdicts.No fault → Tells m v → AllBelow (height m) fault.rows
+fault_rows m v fault e right = (subst (Tells m) e right).row_set.in_range
+
+pub fault_columns : (m : Matrix) (v : Verdict) (fault : LineSet) → v ≡ verdicts.No fault → Tells m v → AllBelow m.width fault.columns
+fault_columns m v fault e right = (subst (Tells m) e right).column_set.in_range

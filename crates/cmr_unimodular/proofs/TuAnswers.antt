@@ -1,0 +1,35 @@
+-- What the answers of `tu` say of the matrix.
+use Rattle.std.proofs.Common.{◌≡◌, ◌∙◌, sym, ℕ, List, Option, Some, None, codes}
+use Rattle.cmr_base.specs.Matrix.{Matrix}
+use Rattle.cmr_front.specs.declared.status.Answer.{Answer}
+use Rattle.cmr_front.specs.Report.{Report}
+use Rattle.cmr_front.specs.Status.{answer_status}
+use Rattle.cmr_front.specs.Tool.{IsLawful}
+use Rattle.cmr_front.proofs.MatrixText.{lawful}
+use Rattle.cmr_front.proofs.Statuses.{status_of}
+use Rattle.cmr_unimodular.specs.Tu.{TuMeans, tu_tool, tu_verdict, tu_source, TuOrder, tu_app, tu_order, tu_order_in}
+use Rattle.cmr_unimodular.specs.Verdict.{Decides, answer_of, verdict_in}
+use Rattle.cmr_unimodular.proofs.OneVerdict.{one_verdict}
+use Rattle.cmr_unimodular.proofs.UnimodularAnswers.{unimodular_means}
+use Rattle.clap.specs.Words.{Row, Text, first_of}
+use Rattle.cmr_front.specs.declared.matrix_file.MatrixForm.{MatrixForm}
+use Rattle.cmr_front.specs.Words.Reading.{◌>>=◌}
+use Rattle.cmr_front.specs.Words.Parsing.{fault_in, file_in, matches_with_input}
+use Rattle.cmr_front.proofs.Numbers.{with_numbers}
+
+says : (o : TuOrder) (m : Matrix) (r : Report) (answer : Answer) → Decides (tu_verdict o) m r → r.status ≡ answer_status answer → TuMeans o m answer
+says o m r answer d is = unimodular_means o.lines o.pivots m d.tree d.decomposition d.told answer (sym (status_of r _ d.report_is) ∙ is)
+
+pub tu_lawful : (o : TuOrder) → IsLawful (tu_tool o)
+tu_lawful o = lawful (tu_source o) (Decides (tu_verdict o)) (TuMeans o) (says o) _ (one_verdict (tu_verdict o)) (λ m r d. (answer_of (verdict_in d.tree), status_of r _ d.report_is))
+
+-- the numbers that words of `tu` name
+pub tu_order-ranges : (words : List Text) (o : TuOrder) → tu_order words ≡ Some o → (tu_tool o).InRanges
+tu_order-ranges words o e = go (matches_with_input tu_app words) e
+  where
+    order_with : List Row → MatrixForm → ℕ → ℕ → ℕ → TuOrder
+    order_with rows form lines pivots workers = record { form = form; lines = lines; pivots = pivots; workers = workers; tree = first_of (codes "tree") rows; fault = fault_in rows; file = file_in rows }
+
+    go : (rows : Option (List Row)) → (rows >>= tu_order_in) ≡ Some o → (tu_tool o).InRanges
+    go None e = cc
+    go (Some rows) e = with_numbers (λ (x : TuOrder). (tu_tool x).InRanges) (order_with rows) rows o (λ form lines pivots workers few bound some. (few, bound, some.0, some.1)) e

@@ -1,0 +1,56 @@
+use Rattle.std.proofs.Common.{rules, ◌≡◌, ◌∙◌, ◌+◌, ◌++◌, map, ap, sym, subst}
+use Rattle.std.proofs.lemmas.Result.{on_ok_weaker}
+use Rattle.tree_type.specs.declared.tree.Node.{the_lemmas}
+use Rattle.tree_type.specs.Trees.{tree_of, trees_from, nodes_in, Reduced, OneSum, NoTrees, one_tree}
+use Rattle.cert_check.proofs.Answering.{reduced_is}
+use Rattle.cert_check.proofs.Children.{one_sum_is}
+use Rattle.cmr_unimodular.specs.Outline.{AreAtDepth, IsAtDepth, outline_from, outline_below}
+use Rattle.cmr_unimodular.proofs.Outlines.{below, child_outlined, first_below, front_outlined, next_below, one_sum_below, rest_below, sum_is, two_outlined}
+use Rattle.cmr_unimodular.proofs.outline.+push_node.Goals as goal
+
+pub push_node-requires : goal.push_node-requires
+push_node-requires t c =
+    let node = c.args.node.now in
+    let depth = c.args.depth in
+    let child = tree_of c.in-Reduced.child.value in (
+      search (rules, the_lemmas),
+      subst (λ n. IsAtDepth (depth + 1) (tree_of n)) (sym c.deref.ensures)
+          (first_below (depth + 1) child NoTrees (below depth (tree_of node) node.lines (Reduced c.in-Reduced.steps) (one_tree child) (reduced_is node c.in-Reduced.steps c.in-Reduced.child c.in-Reduced.is) c.requires)),
+    )
+
+pub loop-child-init : goal.loop-child-init
+loop-child-init t c =
+    let node = c.args.node.now in
+    let depth = c.args.depth in
+    let nodes = nodes_in c.in-OneSum.children in record {
+      whole = subst (λ ns. c.push_node_line.new.text.items ++ outline_below (depth + 1) (trees_from (map tree_of ns)) ≡ c.args.text.now.items ++ outline_from depth (tree_of node)) (sym c.as_slice-child-items.ensures.items)
+          (front_outlined depth c.args.text.now.items c.push_node_line.new.text.items node OneSum (trees_from (map tree_of nodes)) (one_sum_is node c.in-OneSum.children c.in-OneSum.is) c.in_ok-push_node_line.ensures);
+      left = subst (λ ns. AreAtDepth (depth + 1) (trees_from (map tree_of ns))) (sym c.as_slice-child-items.ensures.items) (one_sum_below depth node c.in-OneSum.children c.in-OneSum.is c.requires);
+    }
+
+pub push_node-requires-in-loop-child : goal.push_node-requires-in-loop-child
+push_node-requires-in-loop-child t c = (
+  search (rules, the_lemmas),
+  next_below (c.args.depth + 1) c.as_slice-child-items.result.now c.loop-child.child-index c.child-item.result c.loop-child-test.true c.child-item.is c.loop-child.invariant.left,
+)
+
+pub loop-child-preserved : goal.loop-child-preserved
+loop-child-preserved t c =
+    let nodes = c.as_slice-child-items.result.now in
+    let i = c.loop-child.child-index in record {
+      whole = child_outlined (c.args.depth + 1) nodes i c.child-item.result c.loop-child-test.true c.child-item.is c.loop-child.text.items c.push_node-in-loop-child.new.text.items _ c.in_ok-push_node-in-OneSum.ensures c.loop-child.invariant.whole;
+      left = rest_below (c.args.depth + 1) nodes i c.child-item.result c.loop-child-test.true c.child-item.is c.loop-child.invariant.left;
+    }
+
+pub returns-in_ok-push_node-in-TwoSum : goal.returns-in_ok-push_node-in-TwoSum
+returns-in_ok-push_node-in-TwoSum t c =
+    let depth = c.args.depth in
+    let node = c.args.node.now in
+    let one = c.in-TwoSum.one_child in
+    let two = c.in-TwoSum.two_child in
+    let sum = sum_is node one two c.in-TwoSum.is in
+    on_ok_weaker c.push_node-in-TwoSum-2.result
+    (λ second. second ∙ ap (λ n. c.push_node-in-TwoSum.new.text.items ++ outline_from (depth + 1) (tree_of n)) c.deref-in-TwoSum-2.ensures
+    ∙ two_outlined depth c.args.text.now.items c.push_node_line.new.text.items c.push_node-in-TwoSum.new.text.items node sum.0 (tree_of one.value) (tree_of two.value) sum.1 c.in_ok-push_node_line.ensures
+    (c.in_ok-push_node-in-TwoSum.ensures ∙ ap (λ n. c.push_node_line.new.text.items ++ outline_from (depth + 1) (tree_of n)) c.deref-in-TwoSum.ensures))
+    c.push_node-in-TwoSum-2.ensures

@@ -1,0 +1,7 @@
+use Rattle.std.proofs.Common.{refl}
+use Rattle.cmr_unimodular.specs.Check.{check_order_of}
+use Rattle.cmr_unimodular.proofs.CheckAnswers.{check_lawful}
+use Rattle.cmr_unimodular.proofs.tools.check.check.Goals as goal
+
+pub run_tool-requires-sync-R : goal.run_tool-requires-sync-R
+run_tool-requires-sync-R g c κs within = (c.type_bounds.sync-R, ((refl, tt), (tt, check_lawful (check_order_of c.args.options.now))))

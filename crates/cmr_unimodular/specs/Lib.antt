@@ -1,0 +1,10 @@
+pub mod Outline
+pub mod Verdict
+pub mod Tu
+pub mod Regular
+pub mod Generate
+pub mod SeriesParallel
+pub mod GraphicNetwork
+pub mod GraphMatrix
+pub mod Check
+pub mod Upgrade

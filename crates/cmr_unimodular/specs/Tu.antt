@@ -1,0 +1,103 @@
+-- What the words of `tu` order, what it reports, and what its answers mean.
+use Rattle.std.specs.Prelude.{◌≡◌, ◌≤◌, ℕ, false, List, codes, length, [], ◌∷◌, Option, Some, option_map}
+use Rattle.cmr_base.specs.Matrix.{Matrix, entry, IsEntry}
+use Rattle.cmr_base.specs.Determinants.{HasUnimodularMinors, determinant}
+use Rattle.cmr_base.specs.LineSets.{IsRowSet, IsColumnSet}
+use Rattle.cmr_base.specs.Signing.{IsTotallyUnimodular}
+use Rattle.ghouila.specs.IntegralLaws.{HasIntegralVertices}
+use Rattle.cmr_front.specs.declared.status.Answer.{Answer}
+use Rattle.cmr_front.specs.declared.status.Answer.TheVariants.{Yes, No, Undecided, Refused}
+use Rattle.cmr_front.specs.MatrixText.{Source, matrix_tool, source}
+use Rattle.cmr_front.specs.Tool.{Tool}
+use Rattle.cmr_unimodular.specs.Verdict.{VerdictOrder, Decides, IsDecomposition, IsOpenPart, verdict_in}
+use Rattle.cert_check.specs.Laws.{IsRefuted}
+use Rattle.tree_type.specs.Trees.{SizedTree}
+use Rattle.tree_type.specs.Verdicts as verdicts
+use Rattle.cmr_base.specs.declared.line_set.LineSet.{LineSet}
+use Rattle.clap.specs.Words.{App, Row, Text, first_of}
+use Rattle.cmr_front.specs.declared.matrix_file.MatrixForm.{MatrixForm}
+use Rattle.cmr_unimodular.specs.declared.tools.tu.TuOptions.{TuOptions}
+use Rattle.cmr_front.specs.Words.Arguments.{fault_rule, file_rule, form_rule, lines_rule, pivots_rule, tool_app, tree_rule, workers_rule}
+use Rattle.cmr_front.specs.Words.Parsing.{fault_in, file_in, form_in, lines_in, matches_with_input, pivots_in, workers_in}
+use Rattle.cmr_front.specs.Words.Reading.{◌>>=◌}
+
+-- ---- the words
+
+-- the options of `tu`
+pub record TuOrder : Type 0 where
+  pub form : MatrixForm
+  pub lines : ℕ
+  pub pivots : ℕ
+  pub workers : ℕ
+  pub tree : Option (List ℕ)
+  pub fault : Option (List ℕ)
+  pub file : List ℕ
+
+-- [-i FORMAT] [--lines L] [--pivots K] [-w N] [-D FILE] [-E FILE] [FILE]
+abbrev pub tu_app : App
+tu_app = tool_app (codes "tu") (form_rule ∷ lines_rule ∷ pivots_rule ∷ workers_rule ∷ tree_rule ∷ fault_rule ∷ file_rule ∷ [])
+
+abbrev pub tu_order_in : List Row → Option TuOrder
+tu_order_in rows = do
+  form ← form_in rows
+  lines ← lines_in rows
+  pivots ← pivots_in rows
+  workers ← workers_in rows
+  Some (record { form = form; lines = lines; pivots = pivots; workers = workers; tree = first_of (codes "tree") rows; fault = fault_in rows; file = file_in rows })
+
+abbrev pub tu_order : List Text → Option TuOrder
+tu_order words = matches_with_input tu_app words >>= tu_order_in
+
+abbrev pub tu_order_of : TuOptions → TuOrder
+tu_order_of options = record {
+  form = options.form;
+  lines = options.lines;
+  pivots = options.pivots;
+  workers = options.workers;
+  tree = option_map (λ name. name.now) options.tree;
+  fault = option_map (λ name. name.now) options.fault;
+  file = options.file.now;
+}
+
+-- ---- the reports
+
+abbrev pub tu_verdict : TuOrder → VerdictOrder
+tu_verdict o = record { label = codes "totally unimodular"; lines = o.lines; pivots = o.pivots; tree = o.tree; fault = o.fault }
+
+abbrev pub tu_source : TuOrder → Source
+tu_source o = source o.form false o.file
+
+-- Each set of rows has a signing, each square submatrix the determinant -1, 0 or 1, and for every integral b the vertices of
+-- A x ≤ b, x ≥ 0 are integral.
+pub record IsUnimodular (m : Matrix) : Type 0 where
+  pub signings : IsTotallyUnimodular m
+  pub minors : HasUnimodularMinors m
+  pub vertices : HasIntegralVertices m
+
+-- a square submatrix whose determinant is none of -1, 0 and 1
+pub record HasOtherDeterminant (m : Matrix) : Type 0 where
+  pub rows : List ℕ
+  pub columns : List ℕ
+  pub row_set : IsRowSet m rows
+  pub column_set : IsColumnSet m columns
+  pub square : length rows ≡ length columns
+  pub determinant : ¬ (IsEntry (determinant (entry m) rows columns))
+
+-- these lines are a violator, whose rows have no signing
+pub record IsNotUnimodular (m : Matrix) (fault : LineSet) : Type 0 where
+  pub refuted : IsRefuted m fault
+  pub minor : HasOtherDeterminant m
+
+-- A yes comes with a tree that the checker accepts; a no with a violator that it names; undecided with a submatrix that is
+-- neither recognised nor separated, whose shorter side exceeds the budget.
+abbrev pub UnimodularMeans : ℕ → ℕ → Matrix → Answer → Type 0
+UnimodularMeans budget pivots m Yes = (tree : SizedTree) × IsDecomposition budget pivots m tree × (verdict_in tree ≡ verdicts.Yes) × IsUnimodular m
+UnimodularMeans budget pivots m No = (tree : SizedTree) × IsDecomposition budget pivots m tree × (fault : LineSet) × (verdict_in tree ≡ verdicts.No fault) × IsNotUnimodular m fault
+UnimodularMeans budget pivots m Undecided = (tree : SizedTree) × IsDecomposition budget pivots m tree × (lines : LineSet) × (verdict_in tree ≡ verdicts.Open lines) × IsOpenPart budget m lines
+UnimodularMeans budget pivots m Refused = ⊥
+
+abbrev pub TuMeans : TuOrder → Matrix → Answer → Type 0
+TuMeans o = UnimodularMeans o.lines o.pivots
+
+abbrev pub tu_tool : TuOrder → Tool
+tu_tool o = matrix_tool (tu_source o) ((o.lines ≤ 24) × (o.pivots ≤ 100) × (1 ≤ o.workers) × (o.workers ≤ 64)) (Decides (tu_verdict o)) (TuMeans o)

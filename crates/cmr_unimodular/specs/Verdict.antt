@@ -1,0 +1,125 @@
+-- What is reported on total unimodularity, under the label of a tool and within a budget of lines.
+use Rattle.std.specs.Prelude.{◌≡◌, ◌<◌, ◌++◌, ℕ, min, List, [], Option, option_map, codes}
+use Rattle.cmr_base.specs.declared.line_set.LineSet.{LineSet}
+use Rattle.cmr_base.specs.Matrix.{Matrix, height, entry}
+use Rattle.cmr_base.specs.CyclePlaces.{HasNoCycleFault}
+use Rattle.cmr_base.specs.LineSets.{submatrix_sum}
+use Rattle.cmr_base.specs.R10.{IsR10}
+use Rattle.cmr_base.specs.Trees.{IsNetworkMatrix, IsConetworkMatrix}
+use Rattle.matrix_text.specs.Canonical.{submatrix_text}
+use Rattle.two_sep.specs.FirstSeeds.{HasNoTwoSeparation}
+use Rattle.three_sep.specs.ThreeSeparations.{HasNoThreeSeparation}
+use Rattle.tree_type.specs.Invariant.{AreLines, IsDecTree}
+use Rattle.tree_type.specs.Soundness.{IsSound, part}
+use Rattle.tree_type.specs.Trees.{SizedTree, tree_of}
+use Rattle.tree_type.specs.Verdicts as verdicts
+use Rattle.tree_type.specs.Verdicts.{Verdict, verdict_of}
+use Rattle.tree_text.specs.Canonical.{tree_text}
+use Rattle.decomp_tree.specs.Shapes.{Applies, IsApart, IsReducible}
+use Rattle.decomp_tree.specs.PivotedShapes.{IsShapeWith}
+use Rattle.cert_check.specs.Laws.{Tells}
+use Rattle.cmr_front.specs.declared.status.Answer.{Answer}
+use Rattle.cmr_front.specs.declared.status.Answer.TheVariants.{Yes, No, Undecided}
+use Rattle.cmr_unimodular.specs.declared.verdict.VerdictOptions.{VerdictOptions}
+use Rattle.cmr_unimodular.specs.Outline.{outline_from}
+use Rattle.cmr_front.specs.Printed.{open_line, violator_line}
+use Rattle.cmr_front.specs.Report.{File, Report, asked_file}
+use Rattle.cmr_front.specs.Status.{answer_status}
+
+-- The label of the verdict, the most lines on the shorter side of what is searched whole, the most pivots on the way to a node,
+-- and the files of the tree and of a violator.
+pub record VerdictOrder : Type 0 where
+  pub label : List ℕ
+  pub lines : ℕ
+  pub pivots : ℕ
+  pub tree : Option (List ℕ)
+  pub fault : Option (List ℕ)
+
+abbrev pub verdict_order_of : VerdictOptions → VerdictOrder
+verdict_order_of options = record {
+  label = options.label.now;
+  lines = options.lines;
+  pivots = options.pivots;
+  tree = option_map (λ name. name.now) options.tree;
+  fault = option_map (λ name. name.now) options.fault;
+}
+
+-- ---- the tree
+
+-- A tree for the matrix of the stated shape, which keeps all rules of the checker.
+pub record IsDecomposition (budget pivots : ℕ) (m : Matrix) (tree : SizedTree) : Type 0 where
+  pub rows : tree.rows ≡ height m
+  pub columns : tree.columns ≡ m.width
+  pub is_tree : IsDecTree tree
+  pub shape : IsShapeWith budget pivots m (tree_of tree.root)
+  pub sound : IsSound m tree
+
+abbrev pub verdict_in : SizedTree → Verdict
+verdict_in tree = verdict_of (tree_of tree.root)
+
+-- What a budget leaves open: a matrix that is neither recognised nor separated, whose shorter side has more lines.
+pub record IsLeftOpen (budget : ℕ) (m : Matrix) : Type 0 where
+  pub no_fault : HasNoCycleFault (entry m)
+  pub irreducible : ¬ (Applies budget m IsReducible)
+  pub connected : ¬ (Applies budget m IsApart)
+  pub no_network : ¬ (IsNetworkMatrix m)
+  pub no_conetwork : ¬ (IsConetworkMatrix m)
+  pub no_r10 : ¬ (IsR10 m)
+  pub no_two_separation : HasNoTwoSeparation m
+  pub no_three_separation : HasNoThreeSeparation m
+  pub above : budget < min (height m) m.width
+
+-- these lines of the matrix make a submatrix that is left open
+pub record IsOpenPart (budget : ℕ) (m : Matrix) (lines : LineSet) : Type 0 where
+  pub are_lines : AreLines m lines
+  pub left : IsLeftOpen budget (part m lines)
+
+-- ---- the report
+
+abbrev pub answer_of : Verdict → Answer
+answer_of verdicts.Yes = Yes
+answer_of (verdicts.No fault) = No
+answer_of (verdicts.Open lines) = Undecided
+
+abbrev pub answer_word : Verdict → List ℕ
+answer_word verdicts.Yes = codes ": yes\n"
+answer_word (verdicts.No fault) = codes ": no\n"
+answer_word (verdicts.Open lines) = codes ": undecided\n"
+
+-- the violator that a no names, and the lines that are left open
+abbrev pub named_line : Matrix → Verdict → List ℕ
+named_line m verdicts.Yes = []
+named_line m (verdicts.No fault) = violator_line fault.rows fault.columns (submatrix_sum m fault.rows fault.columns)
+named_line m (verdicts.Open lines) = open_line lines.rows lines.columns
+
+abbrev pub verdict_output : List ℕ → Matrix → SizedTree → List ℕ
+verdict_output label m tree = label ++ answer_word (verdict_in tree) ++ named_line m (verdict_in tree) ++ outline_from 0 (tree_of tree.root)
+
+abbrev pub fault_file : Option (List ℕ) → Matrix → Verdict → List File
+fault_file name m verdicts.Yes = []
+fault_file name m (verdicts.No fault) = asked_file name (submatrix_text (height m) m.width fault)
+fault_file name m (verdicts.Open lines) = []
+
+abbrev pub tree_file : Option (List ℕ) → SizedTree → List File
+tree_file name tree = asked_file name (tree_text tree.rows tree.columns (tree_of tree.root))
+
+abbrev pub verdict_report : VerdictOrder → Matrix → SizedTree → Report
+verdict_report o m tree = record {
+  status = answer_status (answer_of (verdict_in tree));
+  output = verdict_output o.label m tree;
+  error = [];
+  files = tree_file o.tree tree ++ fault_file o.fault m (verdict_in tree);
+}
+
+-- what a verdict says of the matrix
+abbrev pub IsTold : ℕ → Matrix → Verdict → Type 0
+IsTold budget m verdicts.Yes = Tells m verdicts.Yes
+IsTold budget m (verdicts.No fault) = Tells m (verdicts.No fault)
+IsTold budget m (verdicts.Open lines) = IsOpenPart budget m lines
+
+-- on a matrix: by a decomposition, of which there are several where networks are, since the nodes of a network have any numbers
+pub record Decides (o : VerdictOrder) (m : Matrix) (report : Report) : Type 0 where
+  pub tree : SizedTree
+  pub decomposition : IsDecomposition o.lines o.pivots m tree
+  pub told : IsTold o.lines m (verdict_in tree)
+  pub report_is : report ≡ verdict_report o m tree

@@ -1,0 +1,9 @@
+//! The tools, each with its options and its words.
+pub mod check;
+pub mod generate;
+mod graph_matrix;
+pub mod graphic_network;
+pub mod regular;
+pub mod series_parallel;
+pub mod tu;
+pub mod upgrade;

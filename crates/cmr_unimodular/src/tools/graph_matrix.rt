@@ -1,0 +1,92 @@
+// The matrix of a graph text.
+ghost use Rattle.std.specs.Prelude.{◌≡◌, ◌≤◌, IfOk};
+ghost use Rattle.cmr_base.specs.Trees.{IsNetworkOf};
+ghost use Rattle.cmr_front.specs.GraphText.{ReportsGraph};
+ghost use Rattle.cmr_front.specs.Outcome.{outcome_report};
+ghost use Rattle.cmr_front.specs.Tool.{IsDecision};
+ghost use Rattle.cmr_unimodular.specs.GraphMatrix.{GraphDecides, IsMatrixOf, graph_matrix_tool};
+
+use crate::tools::graphic_network::Property;
+use cmr_base::{MAX_COLUMNS, MAX_ROWS, Matrix, Memory};
+use cmr_front::graph_file::read_graph_file;
+use cmr_front::input::{Input, Text};
+use cmr_front::matrix_file::matrix_input;
+use cmr_front::outcome::{Outcome, Stop};
+use cmr_front::status::Answer;
+use cmr_front::tool::Tool;
+use graph_text::{SizedNetwork, matrix_of};
+use matrix_text::write_dense;
+use std::alloc::Global;
+use std::thread::Threads;
+
+/// A graph text, and the property that its graph is to show of the matrix that is written.
+#[derive(Clone, Copy, Debug)]
+pub struct GraphMatrix<'a> {
+    pub property: Property,
+    pub file: &'a str,
+}
+
+impl<'a> Tool<'a> for GraphMatrix<'a> {
+    ghost tool = { λ graph. graph_matrix_tool graph.property graph.file.now };
+
+    fn inputs(&self, alloc: Global) -> Result<Vec<Input<'a>>, Memory> {
+        matrix_input(alloc, self.file)
+    }
+
+    fn decide<R: Threads + Sync>(
+        &self,
+        _rt: &R,
+        alloc: Global,
+        texts: &[Text],
+    ) -> Result<Outcome<'a>, Stop<'a>> {
+        matrix_of_text(alloc, self.property, self.file, &texts[0].bytes)
+    }
+}
+
+fn matrix_of_text<'a>(
+    alloc: Global,
+    property: Property,
+    file: &'a str,
+    bytes: &[u8],
+) -> Result<Outcome<'a>, Stop<'a>>
+    ensures { IsDecision (ReportsGraph file.entry.now (GraphDecides property) bytes.now) result }
+{
+    let sized = match read_graph_file(alloc, file, bytes) {
+        Ok(sized) => sized,
+        Err(stop) => return Err(stop),
+    };
+    match written(alloc, property, &sized) {
+        Ok(outcome) => Ok(outcome),
+        Err(Memory) => Err(Stop::Memory),
+    }
+}
+
+fn written<'a>(
+    alloc: Global,
+    property: Property,
+    sized: &SizedNetwork,
+) -> Result<Outcome<'a>, Memory>
+    requires rows { sized.now.rows ≤ MAX_ROWS }
+    requires columns { sized.now.columns ≤ MAX_COLUMNS }
+    requires network { IsNetworkOf sized.now.net sized.now.rows sized.now.columns }
+    ensures { IfOk result (λ outcome. GraphDecides property sized.now (outcome_report outcome)) }
+{
+    let matrix = shown_matrix(alloc, property, sized)?;
+    Ok(Outcome {
+        answer: Answer::Yes,
+        output: write_dense(alloc, &matrix)?,
+        files: Vec::new(alloc),
+    })
+}
+
+fn shown_matrix(alloc: Global, property: Property, sized: &SizedNetwork) -> Result<Matrix, Memory>
+    requires rows { sized.now.rows ≤ MAX_ROWS }
+    requires columns { sized.now.columns ≤ MAX_COLUMNS }
+    requires network { IsNetworkOf sized.now.net sized.now.rows sized.now.columns }
+    ensures { IfOk result (IsMatrixOf property sized.now) }
+{
+    match property {
+        Property::Graphic => matrix_of(alloc, &sized.net, sized.rows, sized.columns, false),
+        Property::Network => matrix_of(alloc, &sized.net, sized.rows, sized.columns, true),
+    }
+}

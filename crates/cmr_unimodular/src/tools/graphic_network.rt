@@ -1,0 +1,435 @@
+//! Testing whether the columns of a matrix are paths of a tree, with or without directions, and writing the matrix of such a
+//! tree.
+ghost use Rattle.clap.specs.Words.{app_of, found_of, rows_of};
+ghost use Rattle.std.specs.Prelude.{◌++◌, ◌≡◌, IfOk, IfSome, IsSomeAnd, IsTrue, MatchOption, OnOk, length, map, option_map};
+ghost use Rattle.cmr_base.specs.LineSets.{AllBelow};
+ghost use Rattle.cmr_base.specs.Matrix.{height};
+ghost use Rattle.cmr_front.specs.Minimal.{IsMinimalAsked, IsMinimalSet};
+ghost use Rattle.cmr_front.specs.Outcome.{file_of, outcome_report};
+ghost use Rattle.cmr_front.specs.Report.{asked_file};
+ghost use Rattle.cmr_front.specs.Run.{Means, RunsOver, work};
+ghost use Rattle.cmr_front.specs.Status.{answer_status};
+ghost use Rattle.cmr_front.specs.Words.Reading.{Gives};
+ghost use Rattle.cmr_front.specs.declared.status.Answer.{Answer};
+ghost use Rattle.cmr_unimodular.specs.GraphMatrix.{test_tool};
+ghost use Rattle.cmr_unimodular.specs.GraphicNetwork.{Has, IsTestable, Shows, TestDecides, is_binary, is_test_asked, path_tool, property_name, test_app, test_no, test_order, test_order_in, test_order_of, test_yes, tested_lines, tested_matrix, tool_name, written_graph};
+ghost use Rattle.cmr_unimodular.specs.declared.tools.graphic_network.Property.TheVariants as properties;
+
+use crate::tools::graph_matrix::GraphMatrix;
+use clap::{ArgMatches, Command};
+use cmr_base::{LineSet, Matrix, Memory, Network, Word};
+use cmr_front::asked::push_minimal;
+use cmr_front::input::{Input, Text};
+use cmr_front::matrix_file::{MatrixForm, matrix_input, read_matrix};
+use cmr_front::outcome::{Outcome, OutputFile, Stop};
+use cmr_front::printed::push_minimal_line;
+use cmr_front::status::Answer;
+use cmr_front::tool::{Tool, run_tool};
+use cmr_front::words::arguments::{FORMAT, FROM_GRAPH, GRAPH, MINIMAL, TRANSPOSED};
+use cmr_front::words::parsing::{file_in, form_in, has_flag, matches_with_input, value_in};
+use cmr_front::words::{WordsError, arguments};
+use cmr_io::{Shelf, Sink};
+use graph_realise::{minimal_not_graphic, realise};
+use graph_text::{write_graph, write_transposed_graph};
+use network_orient::{minimal_not_network, orient};
+use std::alloc::{AllocError, Global};
+use std::thread::Threads;
+
+/// What `graphic` and `network` test.
+#[derive(Clone, Copy, Debug, PartialEq, Eq)]
+pub enum Property {
+    /// The matrix is 0/1, and its columns are paths of a tree.
+    Graphic,
+    /// The columns are directed paths of a tree.
+    Network,
+}
+
+/// What `graphic` or `network` is asked to do. A file of the name `-` is standard input where it is read.
+#[derive(Clone, Copy, Debug, PartialEq, Eq)]
+pub struct TestOptions<'a> {
+    /// The form of the matrix text, dense where a graph text is read.
+    pub form: MatrixForm,
+    /// Whether the transposed matrix is tested.
+    pub transposed: bool,
+    /// The file that gets a minimal submatrix without the property, where there is one.
+    pub minimal: Option<&'a str>,
+    /// The file that gets a graph that shows the property, where there is one.
+    pub graph: Option<&'a str>,
+    /// Whether a graph text is read and its matrix written, and nothing tested. No other option then stands beside it.
+    pub from_graph: bool,
+    /// The file that holds the matrix text or the graph text.
+    pub file: &'a str,
+}
+
+fn tool_name<'a>(property: Property) -> &'a str
+    ensures { result.now ≡ tool_name property }
+{
+    match property {
+        Property::Graphic => "graphic",
+        Property::Network => "network",
+    }
+}
+
+fn test_command<'a>(alloc: Global, property: Property) -> Result<Command<'a>, AllocError>
+    ensures { IfOk result (λ c. app_of c ≡ test_app property) }
+{
+    let bare = arguments::bare_command(alloc, tool_name(property));
+    let with_form = arguments::add(bare, arguments::form_option(alloc))?;
+    let with_transposed = arguments::add(with_form, arguments::transposed_flag(alloc))?;
+    let with_minimal = arguments::add(with_transposed, arguments::minimal_option(alloc))?;
+    let with_graph = arguments::add(with_minimal, arguments::graph_option(alloc))?;
+    let with_from_graph = arguments::add(with_graph, arguments::from_graph_flag(alloc))?;
+    arguments::add(with_from_graph, arguments::file_operand(alloc))
+}
+
+// Whether an option of the test of a matrix stands among the words, be it with the value that it has where it is left out.
+fn is_test_asked(matches: &ArgMatches<'_>) -> bool
+    ensures { result ≡ is_test_asked (rows_of (found_of matches.now)) }
+{
+    value_in(matches, FORMAT).is_some()
+        || has_flag(matches, TRANSPOSED)
+        || value_in(matches, MINIMAL).is_some()
+        || value_in(matches, GRAPH).is_some()
+}
+
+fn options_in<'a>(matches: &ArgMatches<'a>) -> Result<TestOptions<'a>, WordsError>
+    ensures { Gives test_order_of result (test_order_in (rows_of (found_of matches.now))) }
+{
+    let from_graph = has_flag(matches, FROM_GRAPH);
+    if from_graph && is_test_asked(matches) {
+        return Err(WordsError::Refused);
+    }
+    Ok(TestOptions {
+        form: form_in(matches)?,
+        transposed: has_flag(matches, TRANSPOSED),
+        minimal: value_in(matches, MINIMAL),
+        graph: value_in(matches, GRAPH),
+        from_graph,
+        file: file_in(matches),
+    })
+}
+
+/// The options that the words behind `graphic` or `network` give:
+/// `[-i FORMAT] [-t] [-N FILE] [-G FILE] [FILE]`, or `-c [FILE]`.
+pub fn read_test<'a>(
+    alloc: Global,
+    property: Property,
+    words: &'a [Word],
+) -> Result<TestOptions<'a>, WordsError>
+    ensures value { Gives test_order_of result (test_order property words.now) }
+    ensures ranges { IfOk result (λ options.
+        (test_tool property (test_order_of options)).InRanges) }
+{
+    let matches = matches_with_input(test_command(alloc, property)?, words)?;
+    options_in(&matches)
+}
+
+/// Does what `run` does on the words of `graphic`, and answers the status.
+pub fn graphic<R: Threads + Sync, S: Shelf, O: Sink, E: Sink>(
+    rt: &R,
+    alloc: Global,
+    options: &TestOptions<'_>,
+    shelf: &mut S,
+    out: &mut O,
+    err: &mut E,
+) -> u8
+    ensures runs { RunsOver S.Shelf O.Sink E.Sink
+        (work (test_tool properties.Graphic (test_order_of options.now)))
+        shelf.old out.old err.old shelf.new out.new err.new result }
+    ensures means { IsTrue (S.tells shelf.old) → (answer : Answer) → result ≡ answer_status answer
+        → Means (test_tool properties.Graphic (test_order_of options.now)) (S.content shelf.old)
+        answer }
+{
+    test_property(rt, alloc, Property::Graphic, options, shelf, out, err)
+}
+
+/// Does what `run` does on the words of `network`, and answers the status.
+pub fn network<R: Threads + Sync, S: Shelf, O: Sink, E: Sink>(
+    rt: &R,
+    alloc: Global,
+    options: &TestOptions<'_>,
+    shelf: &mut S,
+    out: &mut O,
+    err: &mut E,
+) -> u8
+    ensures runs { RunsOver S.Shelf O.Sink E.Sink
+        (work (test_tool properties.Network (test_order_of options.now)))
+        shelf.old out.old err.old shelf.new out.new err.new result }
+    ensures means { IsTrue (S.tells shelf.old) → (answer : Answer) → result ≡ answer_status answer
+        → Means (test_tool properties.Network (test_order_of options.now)) (S.content shelf.old)
+        answer }
+{
+    test_property(rt, alloc, Property::Network, options, shelf, out, err)
+}
+
+/// Does what `run` does on the words of the tool that tests a property, and answers the status.
+pub fn test_property<R: Threads + Sync, S: Shelf, O: Sink, E: Sink>(
+    rt: &R,
+    alloc: Global,
+    property: Property,
+    options: &TestOptions<'_>,
+    shelf: &mut S,
+    out: &mut O,
+    err: &mut E,
+) -> u8
+    ensures runs { RunsOver S.Shelf O.Sink E.Sink
+        (work (test_tool property (test_order_of options.now)))
+        shelf.old out.old err.old shelf.new out.new err.new result }
+    ensures means { IsTrue (S.tells shelf.old) → (answer : Answer) → result ≡ answer_status answer
+        → Means (test_tool property (test_order_of options.now)) (S.content shelf.old) answer }
+{
+    if options.from_graph {
+        let graph = GraphMatrix {
+            property,
+            file: options.file,
+        };
+        run_tool(rt, alloc, &graph, shelf, out, err)
+    } else {
+        let test = PathTest {
+            property,
+            options: *options,
+        };
+        run_tool(rt, alloc, &test, shelf, out, err)
+    }
+}
+
+// The test of a property.
+#[derive(Clone, Copy, Debug)]
+struct PathTest<'a> {
+    property: Property,
+    options: TestOptions<'a>,
+}
+
+impl<'a> Tool<'a> for PathTest<'a> {
+    ghost tool = { λ test. path_tool test.property (test_order_of test.options) };
+
+    fn inputs(&self, alloc: Global) -> Result<Vec<Input<'a>>, Memory> {
+        matrix_input(alloc, self.options.file)
+    }
+
+    fn decide<R: Threads + Sync>(
+        &self,
+        _rt: &R,
+        alloc: Global,
+        texts: &[Text],
+    ) -> Result<Outcome<'a>, Stop<'a>> {
+        let options = &self.options;
+        let binary = is_binary(self.property);
+        let matrix = match read_matrix(alloc, options.file, options.form, binary, &texts[0].bytes) {
+            Ok(matrix) => matrix,
+            Err(stop) => return Err(stop),
+        };
+        match test(alloc, self.property, options, &matrix) {
+            Ok(outcome) => Ok(outcome),
+            Err(Memory) => Err(Stop::Memory),
+        }
+    }
+}
+
+fn is_binary(property: Property) -> bool
+    ensures { result ≡ is_binary property }
+{
+    match property {
+        Property::Graphic => true,
+        Property::Network => false,
+    }
+}
+
+fn test<'a>(
+    alloc: Global,
+    property: Property,
+    options: &TestOptions<'a>,
+    matrix: &Matrix,
+) -> Result<Outcome<'a>, Memory>
+    requires { IsTestable property matrix.now }
+    ensures { IfOk result (λ outcome.
+        TestDecides property (test_order_of options.now) matrix.now (outcome_report outcome)) }
+{
+    if options.transposed {
+        let transposed = matrix.transposed(alloc)?;
+        decide(alloc, property, options, matrix, &transposed)
+    } else {
+        decide(alloc, property, options, matrix, matrix)
+    }
+}
+
+fn decide<'a>(
+    alloc: Global,
+    property: Property,
+    options: &TestOptions<'a>,
+    matrix: &Matrix,
+    tested: &Matrix,
+) -> Result<Outcome<'a>, Memory>
+    requires is_tested { tested.now ≡ tested_matrix options.now.transposed matrix.now }
+    requires testable { IsTestable property tested.now }
+    ensures { IfOk result (λ outcome.
+        TestDecides property (test_order_of options.now) matrix.now (outcome_report outcome)) }
+{
+    if let Some(network) = find_network(alloc, property, tested)? {
+        return yes(alloc, property, options, tested, &network);
+    }
+    let minimal = asked_minimal(alloc, property, options, tested)?;
+    no(alloc, property, options, matrix, &minimal)
+}
+
+fn find_network(
+    alloc: Global,
+    property: Property,
+    matrix: &Matrix,
+) -> Result<Option<Network>, Memory>
+    requires { IsTestable property matrix.now }
+    ensures { IfOk result (λ found.
+        MatchOption found (¬ (Has property matrix.now)) (λ net. Shows property net matrix.now)) }
+{
+    match property {
+        Property::Graphic => realise(alloc, matrix),
+        Property::Network => orient(alloc, matrix),
+    }
+}
+
+fn yes<'a>(
+    alloc: Global,
+    property: Property,
+    options: &TestOptions<'a>,
+    tested: &Matrix,
+    network: &Network,
+) -> Result<Outcome<'a>, Memory>
+    requires { Shows property network.now tested.now }
+    ensures { IfOk result (λ outcome. outcome_report outcome
+        ≡ test_yes property (test_order_of options.now) network.now) }
+{
+    let mut output = property_name(property, options.transposed).to_vec(alloc)?;
+    output.extend_from_slice(b": yes\n")?;
+    let mut files = Vec::new(alloc);
+    push_graph(alloc, &mut files, options, tested, network)?;
+    Ok(Outcome {
+        answer: Answer::Yes,
+        output,
+        files,
+    })
+}
+
+fn push_graph<'a>(
+    alloc: Global,
+    files: &mut Vec<OutputFile<'a>>,
+    options: &TestOptions<'a>,
+    tested: &Matrix,
+    network: &Network,
+) -> Result<(), Memory>
+    requires rows { length network.now.arcs ≡ height tested.now }
+    requires columns { length network.now.walks ≡ tested.now.width }
+    ensures { OnOk result (map file_of files.new.items
+        ≡ map file_of files.old.items
+        ++ asked_file (option_map (λ name. name.now) options.now.graph)
+        (written_graph options.now.transposed network.now)) }
+{
+    if let Some(name) = options.graph {
+        let bytes = write_tested(alloc, options.transposed, tested, network)?;
+        files.push(OutputFile { name, bytes })?;
+    }
+    Ok(())
+}
+
+// The text of a network for the matrix that is tested.
+fn write_tested(
+    alloc: Global,
+    transposed: bool,
+    tested: &Matrix,
+    network: &Network,
+) -> Result<Vec<u8>, Memory>
+    requires rows { length network.now.arcs ≡ height tested.now }
+    requires columns { length network.now.walks ≡ tested.now.width }
+    ensures { IfOk result (λ text. text.items ≡ written_graph transposed network.now) }
+{
+    if transposed {
+        write_transposed_graph(alloc, network, tested.columns(), tested.rows())
+    } else {
+        write_graph(alloc, network, tested.rows(), tested.columns())
+    }
+}
+
+fn no<'a>(
+    alloc: Global,
+    property: Property,
+    options: &TestOptions<'a>,
+    matrix: &Matrix,
+    minimal: &Option<LineSet>,
+) -> Result<Outcome<'a>, Memory>
+    requires rows { IfSome minimal.now (λ lines. AllBelow (height matrix.now) lines.rows) }
+    requires columns { IfSome minimal.now (λ lines. AllBelow matrix.now.width lines.columns) }
+    ensures { IfOk result (λ outcome. outcome_report outcome
+        ≡ test_no property (test_order_of options.now) matrix.now minimal.now) }
+{
+    let mut output = property_name(property, options.transposed).to_vec(alloc)?;
+    output.extend_from_slice(b": no\n")?;
+    push_minimal_line(&mut output, minimal)?;
+    let mut files = Vec::new(alloc);
+    push_minimal(alloc, &mut files, options.minimal, matrix, minimal)?;
+    Ok(Outcome {
+        answer: Answer::No,
+        output,
+        files,
+    })
+}
+
+// The lines of the matrix that is given which make a minimal submatrix without the property.
+fn asked_minimal(
+    alloc: Global,
+    property: Property,
+    options: &TestOptions<'_>,
+    tested: &Matrix,
+) -> Result<Option<LineSet>, Memory>
+    requires testable { IsTestable property tested.now }
+    requires lacks { ¬ (Has property tested.now) }
+    ensures { IfOk result (λ found. IsMinimalAsked (Has property) tested.now
+        (option_map (λ name. name.now) options.now.minimal)
+        (option_map (tested_lines options.now.transposed) found)) }
+{
+    if options.minimal.is_none() {
+        return Ok(None);
+    }
+    match find_minimal(alloc, property, tested)? {
+        Some(lines) => Ok(Some(given_lines(options.transposed, lines))),
+        None => Ok(None),
+    }
+}
+
+fn find_minimal(
+    alloc: Global,
+    property: Property,
+    matrix: &Matrix,
+) -> Result<Option<LineSet>, Memory>
+    requires testable { IsTestable property matrix.now }
+    requires lacks { ¬ (Has property matrix.now) }
+    ensures { IfOk result (λ found. IsSomeAnd found (IsMinimalSet (Has property) matrix.now)) }
+{
+    match property {
+        Property::Graphic => minimal_not_graphic(alloc, matrix),
+        Property::Network => minimal_not_network(alloc, matrix),
+    }
+}
+
+// Lines of the matrix that is tested as lines of the one that is given.
+fn given_lines(transposed: bool, lines: LineSet) -> LineSet
+    ensures { tested_lines transposed result ≡ lines }
+{
+    if transposed {
+        LineSet {
+            rows: lines.columns,
+            columns: lines.rows,
+        }
+    } else {
+        lines
+    }
+}
+
+fn property_name(property: Property, transposed: bool) -> &'static [u8]
+    ensures { result.now ≡ property_name property transposed }
+{
+    match (property, transposed) {
+        (Property::Graphic, false) => b"graphic",
+        (Property::Graphic, true) => b"cographic",
+        (Property::Network, false) => b"network",
+        (Property::Network, true) => b"conetwork",
+    }
+}

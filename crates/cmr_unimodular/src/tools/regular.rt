@@ -1,0 +1,320 @@
+//! Testing whether a 0/1 matrix has a totally unimodular signing.
+ghost use Rattle.camion_sign.specs.ChainTexts.{AreLinesIn, IsStepIn, chain_text};
+ghost use Rattle.cert_check.specs.Laws.{Tells};
+ghost use Rattle.clap.specs.Words.{app_of, found_of, rows_of};
+ghost use Rattle.std.specs.List.{AllByRecursion};
+ghost use Rattle.std.specs.Prelude.{◌*◌, ◌++◌, ◌≡◌, ◌≤◌, IfOk, IsTrue, OnOk, length, map, option_map};
+ghost use Rattle.tree_type.specs.Verdicts.{verdict_shown};
+ghost use Rattle.cmr_base.specs.Matrix.{height};
+ghost use Rattle.cmr_base.specs.Trees.{IsBinary};
+ghost use Rattle.cmr_front.specs.Outcome.{file_of, outcome_report};
+ghost use Rattle.cmr_front.specs.Report.{asked_file};
+ghost use Rattle.cmr_front.specs.Run.{Means, RunsOver, work};
+ghost use Rattle.cmr_front.specs.Status.{answer_status};
+ghost use Rattle.cmr_front.specs.Words.Reading.{Gives};
+ghost use Rattle.cmr_front.specs.declared.status.Answer.{Answer};
+ghost use Rattle.cmr_unimodular.specs.Regular.{HasLinesIn, IsSigned, RegularDecides, chain_file, chain_with, regular_app, regular_order, regular_order_in, regular_order_of, regular_report, regular_tool, regular_verdict};
+ghost use Rattle.cmr_unimodular.specs.Verdict.{IsDecomposition, IsTold, verdict_in, verdict_order_of, verdict_report};
+
+use crate::verdict::{VerdictOptions, report_tree};
+use camion_sign::{Chain, SignStepList, sign, write_chain};
+use clap::{ArgMatches, Command};
+use cmr_base::{Indices, LineSet, Matrix, Memory, Word};
+use cmr_front::asked::push_matrix;
+use cmr_front::input::{Input, Text};
+use cmr_front::matrix_file::{MatrixForm, matrix_input, read_matrix};
+use cmr_front::outcome::{Outcome, OutputFile, Stop};
+use cmr_front::tool::{Tool, run_tool};
+use cmr_front::words::arguments::{CHAIN, OUTPUT, TREE};
+use cmr_front::words::parsing::{
+    fault_in, file_in, form_in, lines_in, matches_with_input, pivots_in, value_in, workers_in,
+};
+use cmr_front::words::{WordsError, arguments};
+use cmr_io::{Shelf, Sink};
+use decomp_tree::decompose;
+use std::alloc::{AllocError, Global};
+use std::thread::Threads;
+use tree_type::{DecTree, VerdictOf, verdict};
+
+/// What `regular` is asked to do. A file of the name `-` is standard input where it is read.
+#[derive(Clone, Copy, Debug, PartialEq, Eq)]
+pub struct RegularOptions<'a> {
+    /// The form of the matrix text.
+    pub form: MatrixForm,
+    /// The most lines on the shorter side of a part that is searched whole where nothing else decides it, 0 to 24.
+    pub lines: u32,
+    /// The most pivots on the way to a part where nothing else decides it, 0 to 100.
+    pub pivots: u32,
+    /// How many workers share the searches, 1 to 64. The answer is the same for each number.
+    pub workers: u32,
+    /// The file that gets the decomposition tree of the signed matrix.
+    pub tree: Option<&'a str>,
+    /// The file that gets the violator of the signed matrix where there is one.
+    pub fault: Option<&'a str>,
+    /// The file that gets the signed matrix.
+    pub signed: Option<&'a str>,
+    /// The file that gets the chain of signs with the violator, where there is one.
+    pub chain: Option<&'a str>,
+    /// The file that holds the matrix text.
+    pub file: &'a str,
+}
+
+fn regular_command<'a>(alloc: Global) -> Result<Command<'a>, AllocError>
+    ensures { IfOk result (λ c. app_of c ≡ regular_app) }
+{
+    let bare = arguments::bare_command(alloc, "regular");
+    let with_form = arguments::add(bare, arguments::form_option(alloc))?;
+    let with_lines = arguments::add(with_form, arguments::lines_option(alloc))?;
+    let with_pivots = arguments::add(with_lines, arguments::pivots_option(alloc))?;
+    let with_workers = arguments::add(with_pivots, arguments::workers_option(alloc))?;
+    let with_tree = arguments::add(with_workers, arguments::tree_option(alloc))?;
+    let with_fault = arguments::add(with_tree, arguments::fault_option(alloc))?;
+    let with_output = arguments::add(with_fault, arguments::output_option(alloc))?;
+    let with_chain = arguments::add(with_output, arguments::chain_option(alloc))?;
+    arguments::add(with_chain, arguments::file_operand(alloc))
+}
+
+fn options_in<'a>(matches: &ArgMatches<'a>) -> Result<RegularOptions<'a>, WordsError>
+    ensures { Gives regular_order_of result (regular_order_in (rows_of (found_of matches.now))) }
+{
+    Ok(RegularOptions {
+        form: form_in(matches)?,
+        lines: lines_in(matches)?,
+        pivots: pivots_in(matches)?,
+        workers: workers_in(matches)?,
+        tree: value_in(matches, TREE),
+        fault: fault_in(matches),
+        signed: value_in(matches, OUTPUT),
+        chain: value_in(matches, CHAIN),
+        file: file_in(matches),
+    })
+}
+
+/// The options that the words behind `regular` give:
+/// `[-i FORMAT] [--lines L] [--pivots K] [-w N] [-D FILE] [-E FILE] [-M FILE] [-C FILE] [FILE]`.
+pub fn read_regular<'a>(alloc: Global, words: &'a [Word]) -> Result<RegularOptions<'a>, WordsError>
+    ensures value { Gives regular_order_of result (regular_order words.now) }
+    ensures ranges { IfOk result (λ options. (regular_tool (regular_order_of options)).InRanges) }
+{
+    let matches = matches_with_input(regular_command(alloc)?, words)?;
+    options_in(&matches)
+}
+
+/// Does what `run` does on the words of `regular`, and answers the status.
+pub fn regular<R: Threads + Sync, S: Shelf, O: Sink, E: Sink>(
+    rt: &R,
+    alloc: Global,
+    options: &RegularOptions<'_>,
+    shelf: &mut S,
+    out: &mut O,
+    err: &mut E,
+) -> u8
+    requires lines { options.now.lines ≤ 24 }
+    requires pivots { options.now.pivots ≤ 100 }
+    requires workers { (1 ≤ options.now.workers) × (options.now.workers ≤ 64) }
+    ensures runs { RunsOver S.Shelf O.Sink E.Sink
+        (work (regular_tool (regular_order_of options.now)))
+        shelf.old out.old err.old shelf.new out.new err.new result }
+    ensures means { IsTrue (S.tells shelf.old) → (answer : Answer) → result ≡ answer_status answer
+        → Means (regular_tool (regular_order_of options.now)) (S.content shelf.old) answer }
+{
+    run_tool(rt, alloc, options, shelf, out, err)
+}
+
+impl<'a> Tool<'a> for RegularOptions<'a> {
+    ghost tool = { λ options. regular_tool (regular_order_of options) };
+
+    fn inputs(&self, alloc: Global) -> Result<Vec<Input<'a>>, Memory> {
+        matrix_input(alloc, self.file)
+    }
+
+    fn decide<R: Threads + Sync>(
+        &self,
+        rt: &R,
+        alloc: Global,
+        texts: &[Text],
+    ) -> Result<Outcome<'a>, Stop<'a>> {
+        let matrix = match read_matrix(alloc, self.file, self.form, true, &texts[0].bytes) {
+            Ok(matrix) => matrix,
+            Err(stop) => return Err(stop),
+        };
+        match sign_and_test(rt, alloc, self, &matrix) {
+            Ok(outcome) => Ok(outcome),
+            Err(Memory) => Err(Stop::Memory),
+        }
+    }
+}
+
+fn sign_and_test<'a, R: Threads + Sync>(
+    rt: &R,
+    alloc: Global,
+    options: &RegularOptions<'a>,
+    matrix: &Matrix,
+) -> Result<Outcome<'a>, Memory>
+    requires lines { options.now.lines ≤ 24 }
+    requires workers { (1 ≤ options.now.workers) × (options.now.workers ≤ 64) }
+    requires binary { IsBinary matrix.now }
+    ensures { IfOk result (λ outcome.
+        RegularDecides (regular_order_of options.now) matrix.now (outcome_report outcome)) }
+{
+    let signing = signing_of(alloc, matrix)?;
+    let tree = decomposed(rt, alloc, &signing.signed, options)?;
+    let told = report_tree(alloc, &verdict_options(options), &signing.signed, &tree)?;
+    with_signing(alloc, options, matrix, signing, &tree, told)
+}
+
+// A signed matrix, and the steps that signed it.
+#[derive(Drop)]
+struct SignedMatrix {
+    signed: Matrix,
+    steps: SignStepList,
+}
+
+fn signing_of(alloc: Global, matrix: &Matrix) -> Result<SignedMatrix, Memory>
+    requires { IsBinary matrix.now }
+    ensures signed { IfOk result (λ signing. IsSigned matrix.now signing.steps signing.signed) }
+    ensures few { IfOk result (λ signing. length signing.steps
+        ≤ height matrix.now * matrix.now.width) }
+    ensures steps { IfOk result (λ signing.
+        AllByRecursion (IsStepIn (height matrix.now) matrix.now.width) signing.steps) }
+{
+    let (signed, steps) = sign(alloc, matrix)?;
+    let rows = matrix.rows();
+    let signed_rows = signed.rows();
+    prove!(signed_rows == rows);
+    Ok(SignedMatrix { signed, steps })
+}
+
+// A decomposition, whose verdict is right.
+fn decomposed<R: Threads + Sync>(
+    rt: &R,
+    alloc: Global,
+    matrix: &Matrix,
+    options: &RegularOptions<'_>,
+) -> Result<DecTree, Memory>
+    requires lines { options.now.lines ≤ 24 }
+    requires workers { (1 ≤ options.now.workers) × (options.now.workers ≤ 64) }
+    ensures decomposition { IfOk result (IsDecomposition options.now.lines options.now.pivots
+        matrix.now) }
+    ensures told { IfOk result (λ tree. IsTold options.now.lines matrix.now (verdict_in tree)) }
+    ensures tells { IfOk result (λ tree. Tells matrix.now (verdict_in tree)) }
+{
+    let tree = decompose(
+        rt,
+        alloc,
+        matrix,
+        options.lines,
+        options.pivots,
+        options.workers,
+    )?;
+    let root = tree.root();
+    let rows = matrix.rows();
+    prove!(root.lines.rows.len() == rows as usize);
+    Ok(tree)
+}
+
+fn verdict_options<'a>(options: &RegularOptions<'a>) -> VerdictOptions<'a>
+    ensures { verdict_order_of result ≡ regular_verdict (regular_order_of options.now) }
+{
+    VerdictOptions {
+        label: b"regular",
+        lines: options.lines,
+        pivots: options.pivots,
+        workers: options.workers,
+        tree: options.tree,
+        fault: options.fault,
+    }
+}
+
+// The files of the signed matrix and of the chain behind those of the verdict.
+fn with_signing<'a>(
+    alloc: Global,
+    options: &RegularOptions<'a>,
+    matrix: &Matrix,
+    signing: SignedMatrix,
+    tree: &DecTree,
+    told: Outcome<'a>,
+) -> Result<Outcome<'a>, Memory>
+    requires signed { IsSigned matrix.now signing.steps signing.signed }
+    requires few { length signing.steps ≤ height matrix.now * matrix.now.width }
+    requires steps { AllByRecursion (IsStepIn (height matrix.now) matrix.now.width) signing.steps }
+    requires tells { Tells signing.signed (verdict_in tree.now) }
+    requires told { outcome_report told
+        ≡ verdict_report (regular_verdict (regular_order_of options.now)) signing.signed tree.now }
+    ensures { IfOk result (λ outcome. outcome_report outcome
+        ≡ regular_report (regular_order_of options.now) matrix.now signing.steps signing.signed
+        tree.now) }
+{
+    let mut files = told.files;
+    push_matrix(alloc, &mut files, options.signed, &signing.signed)?;
+    push_chain(
+        alloc,
+        &mut files,
+        options.chain,
+        matrix,
+        signing.steps,
+        &verdict(tree),
+    )?;
+    Ok(Outcome {
+        answer: told.answer,
+        output: told.output,
+        files,
+    })
+}
+
+// Appends the file of the chain, where the verdict is no.
+fn push_chain<'a>(
+    alloc: Global,
+    files: &mut Vec<OutputFile<'a>>,
+    name: Option<&'a str>,
+    matrix: &Matrix,
+    steps: SignStepList,
+    verdict: &VerdictOf<'_>,
+) -> Result<(), Memory>
+    requires few { length steps ≤ height matrix.now * matrix.now.width }
+    requires steps { AllByRecursion (IsStepIn (height matrix.now) matrix.now.width) steps }
+    requires lines { HasLinesIn (height matrix.now) matrix.now.width (verdict_shown verdict.now) }
+    ensures { OnOk result (map file_of files.new.items
+        ≡ map file_of files.old.items
+        ++ chain_file (option_map (λ name. name.now) name.entry) matrix.now steps
+        (verdict_shown verdict.now)) }
+{
+    match verdict {
+        VerdictOf::No(fault) => push_chain_with(alloc, files, name, matrix, steps, fault),
+        VerdictOf::Yes | VerdictOf::Undecided(_) => Ok(()),
+    }
+}
+
+fn push_chain_with<'a>(
+    alloc: Global,
+    files: &mut Vec<OutputFile<'a>>,
+    name: Option<&'a str>,
+    matrix: &Matrix,
+    steps: SignStepList,
+    fault: &LineSet,
+) -> Result<(), Memory>
+    requires few { length steps ≤ height matrix.now * matrix.now.width }
+    requires steps { AllByRecursion (IsStepIn (height matrix.now) matrix.now.width) steps }
+    requires lines { AreLinesIn (height matrix.now) matrix.now.width fault.now }
+    ensures { OnOk result (map file_of files.new.items
+        ≡ map file_of files.old.items
+        ++ asked_file (option_map (λ name. name.now) name.entry)
+        (chain_text (chain_with matrix.now steps fault.now))) }
+{
+    if let Some(name) = name {
+        let violator = copied(alloc, fault)?;
+        let chain = Chain { steps, violator };
+        let bytes = write_chain(alloc, &chain, matrix.rows(), matrix.columns())?;
+        files.push(OutputFile { name, bytes })?;
+    }
+    Ok(())
+}
+
+fn copied(alloc: Global, lines: &LineSet) -> Result<LineSet, Memory>
+    ensures { IfOk result (λ copy. copy ≡ lines.now) }
+{
+    Ok(LineSet {
+        rows: Indices::of(alloc, lines.rows.as_slice())?,
+        columns: Indices::of(alloc, lines.columns.as_slice())?,
+    })
+}

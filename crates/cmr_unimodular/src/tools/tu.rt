@@ -1,0 +1,141 @@
+//! Testing total unimodularity.
+ghost use Rattle.clap.specs.Words.{app_of, found_of, rows_of};
+ghost use Rattle.std.specs.Prelude.{◌≡◌, ◌≤◌, IfOk, IsTrue};
+ghost use Rattle.cmr_front.specs.Outcome.{outcome_report};
+ghost use Rattle.cmr_front.specs.Run.{Means, RunsOver, work};
+ghost use Rattle.cmr_front.specs.Status.{answer_status};
+ghost use Rattle.cmr_front.specs.Words.Reading.{Gives};
+ghost use Rattle.cmr_front.specs.declared.status.Answer.{Answer};
+ghost use Rattle.cmr_unimodular.specs.Tu.{tu_app, tu_order, tu_order_in, tu_order_of, tu_tool, tu_verdict};
+ghost use Rattle.cmr_unimodular.specs.Verdict.{verdict_order_of};
+
+use crate::verdict::{VerdictOptions, give_verdict};
+use clap::{ArgMatches, Command};
+use cmr_base::{Memory, Word};
+use cmr_front::input::{Input, Text};
+use cmr_front::matrix_file::{MatrixForm, matrix_input, read_matrix};
+use cmr_front::outcome::{Outcome, Stop};
+use cmr_front::tool::{Tool, run_tool};
+use cmr_front::words::arguments::TREE;
+use cmr_front::words::parsing::{
+    fault_in, file_in, form_in, lines_in, matches_with_input, pivots_in, value_in, workers_in,
+};
+use cmr_front::words::{WordsError, arguments};
+use cmr_io::{Shelf, Sink};
+use std::alloc::{AllocError, Global};
+use std::thread::Threads;
+
+/// What `tu` is asked to do. A file of the name `-` is standard input.
+#[derive(Clone, Copy, Debug, PartialEq, Eq)]
+pub struct TuOptions<'a> {
+    /// The form of the matrix text.
+    pub form: MatrixForm,
+    /// The most lines on the shorter side of a part that is searched whole where nothing else decides it, 0 to 24.
+    pub lines: u32,
+    /// The most pivots on the way to a part where nothing else decides it, 0 to 100.
+    pub pivots: u32,
+    /// How many workers share the searches, 1 to 64. The answer is the same for each number.
+    pub workers: u32,
+    /// The file that gets the decomposition tree.
+    pub tree: Option<&'a str>,
+    /// The file that gets the violator where there is one.
+    pub fault: Option<&'a str>,
+    /// The file that holds the matrix text.
+    pub file: &'a str,
+}
+
+fn tu_command<'a>(alloc: Global) -> Result<Command<'a>, AllocError>
+    ensures { IfOk result (λ c. app_of c ≡ tu_app) }
+{
+    let bare = arguments::bare_command(alloc, "tu");
+    let with_form = arguments::add(bare, arguments::form_option(alloc))?;
+    let with_lines = arguments::add(with_form, arguments::lines_option(alloc))?;
+    let with_pivots = arguments::add(with_lines, arguments::pivots_option(alloc))?;
+    let with_workers = arguments::add(with_pivots, arguments::workers_option(alloc))?;
+    let with_tree = arguments::add(with_workers, arguments::tree_option(alloc))?;
+    let with_fault = arguments::add(with_tree, arguments::fault_option(alloc))?;
+    arguments::add(with_fault, arguments::file_operand(alloc))
+}
+
+fn options_in<'a>(matches: &ArgMatches<'a>) -> Result<TuOptions<'a>, WordsError>
+    ensures { Gives tu_order_of result (tu_order_in (rows_of (found_of matches.now))) }
+{
+    Ok(TuOptions {
+        form: form_in(matches)?,
+        lines: lines_in(matches)?,
+        pivots: pivots_in(matches)?,
+        workers: workers_in(matches)?,
+        tree: value_in(matches, TREE),
+        fault: fault_in(matches),
+        file: file_in(matches),
+    })
+}
+
+/// The options that the words behind `tu` give:
+/// `[-i FORMAT] [--lines L] [--pivots K] [-w N] [-D FILE] [-E FILE] [FILE]`.
+pub fn read_tu<'a>(alloc: Global, words: &'a [Word]) -> Result<TuOptions<'a>, WordsError>
+    ensures value { Gives tu_order_of result (tu_order words.now) }
+    ensures ranges { IfOk result (λ options. (tu_tool (tu_order_of options)).InRanges) }
+{
+    let matches = matches_with_input(tu_command(alloc)?, words)?;
+    options_in(&matches)
+}
+
+/// Does what `run` does on the words of `tu`, and answers the status.
+pub fn tu<R: Threads + Sync, S: Shelf, O: Sink, E: Sink>(
+    rt: &R,
+    alloc: Global,
+    options: &TuOptions<'_>,
+    shelf: &mut S,
+    out: &mut O,
+    err: &mut E,
+) -> u8
+    requires lines { options.now.lines ≤ 24 }
+    requires pivots { options.now.pivots ≤ 100 }
+    requires workers { (1 ≤ options.now.workers) × (options.now.workers ≤ 64) }
+    ensures runs { RunsOver S.Shelf O.Sink E.Sink
+        (work (tu_tool (tu_order_of options.now)))
+        shelf.old out.old err.old shelf.new out.new err.new result }
+    ensures means { IsTrue (S.tells shelf.old) → (answer : Answer) → result ≡ answer_status answer
+        → Means (tu_tool (tu_order_of options.now)) (S.content shelf.old) answer }
+{
+    run_tool(rt, alloc, options, shelf, out, err)
+}
+
+impl<'a> Tool<'a> for TuOptions<'a> {
+    ghost tool = { λ options. tu_tool (tu_order_of options) };
+
+    fn inputs(&self, alloc: Global) -> Result<Vec<Input<'a>>, Memory> {
+        matrix_input(alloc, self.file)
+    }
+
+    fn decide<R: Threads + Sync>(
+        &self,
+        rt: &R,
+        alloc: Global,
+        texts: &[Text],
+    ) -> Result<Outcome<'a>, Stop<'a>> {
+        let matrix = match read_matrix(alloc, self.file, self.form, false, &texts[0].bytes) {
+            Ok(matrix) => matrix,
+            Err(stop) => return Err(stop),
+        };
+        match give_verdict(rt, alloc, &verdict_options(self), &matrix) {
+            Ok(outcome) => Ok(outcome),
+            Err(Memory) => Err(Stop::Memory),
+        }
+    }
+}
+
+fn verdict_options<'a>(options: &TuOptions<'a>) -> VerdictOptions<'a>
+    ensures order { verdict_order_of result ≡ tu_verdict (tu_order_of options.now) }
+    ensures workers { result.workers ≡ options.now.workers }
+{
+    VerdictOptions {
+        label: b"totally unimodular",
+        lines: options.lines,
+        pivots: options.pivots,
+        workers: options.workers,
+        tree: options.tree,
+        fault: options.fault,
+    }
+}

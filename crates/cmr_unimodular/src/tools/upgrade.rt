@@ -1,0 +1,150 @@
+//! Writing a decomposition tree anew, in its canonical text.
+ghost use Rattle.clap.specs.Words.{app_of, found_of, rows_of};
+ghost use Rattle.std.specs.Prelude.{◌≡◌, IfOk, IsTrue};
+ghost use Rattle.tree_text.specs.Reading.{plain};
+ghost use Rattle.cmr_front.specs.Evidence.{ReportsTree};
+ghost use Rattle.cmr_front.specs.Outcome.{outcome_report};
+ghost use Rattle.cmr_front.specs.Run.{Means, RunsOver, work};
+ghost use Rattle.cmr_front.specs.Status.{answer_status};
+ghost use Rattle.cmr_front.specs.Tool.{HasOneReport, IsDecision};
+ghost use Rattle.cmr_front.specs.Words.Reading.{Gives};
+ghost use Rattle.cmr_front.specs.declared.status.Answer.{Answer};
+ghost use Rattle.cmr_unimodular.specs.Upgrade.{UpgradeDecides, upgrade_app, upgrade_order, upgrade_order_in, upgrade_order_of, upgrade_report, upgrade_tool, upgraded_line};
+
+use clap::{ArgMatches, Command};
+use cmr_base::{Memory, Word};
+use cmr_front::evidence_file::{evidence_input, read_tree_file};
+use cmr_front::input::{Input, Text};
+use cmr_front::outcome::{Outcome, OutputFile, Stop};
+use cmr_front::status::Answer;
+use cmr_front::tool::{Tool, run_tool};
+use cmr_front::words::arguments::{EVIDENCE, TREE};
+use cmr_front::words::parsing::{matches_in, operand_in};
+use cmr_front::words::{WordsError, arguments};
+use cmr_io::{Shelf, Sink};
+use itoa::Buffer;
+use std::alloc::{AllocError, Global};
+use std::thread::Threads;
+use tree_text::write_tree;
+use tree_type::{DecTree, count_nodes};
+
+/// What `upgrade` is asked to do. A file of the name `-` is standard input where it is read.
+#[derive(Clone, Copy, Debug, PartialEq, Eq)]
+pub struct UpgradeOptions<'a> {
+    /// The file that holds the tree text, of any version.
+    pub evidence: &'a str,
+    /// The file that gets the canonical text.
+    pub tree: &'a str,
+}
+
+fn upgrade_command<'a>(alloc: Global) -> Result<Command<'a>, AllocError>
+    ensures { IfOk result (λ c. app_of c ≡ upgrade_app) }
+{
+    let bare = arguments::bare_command(alloc, "upgrade");
+    let with_evidence = arguments::add(bare, arguments::operand(alloc, EVIDENCE))?;
+    arguments::add(
+        with_evidence,
+        arguments::required(arguments::tree_option(alloc)),
+    )
+}
+
+fn options_in<'a>(matches: &ArgMatches<'a>) -> Result<UpgradeOptions<'a>, WordsError>
+    ensures { Gives upgrade_order_of result (upgrade_order_in (rows_of (found_of matches.now))) }
+{
+    let evidence = match operand_in(matches, EVIDENCE) {
+        Ok(evidence) => evidence,
+        Err(error) => return Err(error),
+    };
+    match operand_in(matches, TREE) {
+        Ok(tree) => Ok(UpgradeOptions { evidence, tree }),
+        Err(error) => Err(error),
+    }
+}
+
+/// The options that the words behind `upgrade` give: `EVIDENCE -D FILE`.
+pub fn read_upgrade<'a>(alloc: Global, words: &'a [Word]) -> Result<UpgradeOptions<'a>, WordsError>
+    ensures { Gives upgrade_order_of result (upgrade_order words.now) }
+{
+    let matches = matches_in(upgrade_command(alloc)?, words)?;
+    options_in(&matches)
+}
+
+/// Does what `run` does on the words of `upgrade`, and answers the status.
+pub fn upgrade<R: Threads + Sync, S: Shelf, O: Sink, E: Sink>(
+    rt: &R,
+    alloc: Global,
+    options: &UpgradeOptions<'_>,
+    shelf: &mut S,
+    out: &mut O,
+    err: &mut E,
+) -> u8
+    ensures runs { RunsOver S.Shelf O.Sink E.Sink
+        (work (upgrade_tool (upgrade_order_of options.now)))
+        shelf.old out.old err.old shelf.new out.new err.new result }
+    ensures means { IsTrue (S.tells shelf.old) → (answer : Answer) → result ≡ answer_status answer
+        → Means (upgrade_tool (upgrade_order_of options.now)) (S.content shelf.old) answer }
+    ensures one { HasOneReport (upgrade_tool (upgrade_order_of options.now)) }
+{
+    run_tool(rt, alloc, options, shelf, out, err)
+}
+
+impl<'a> Tool<'a> for UpgradeOptions<'a> {
+    ghost tool = { λ options. upgrade_tool (upgrade_order_of options) };
+
+    fn inputs(&self, alloc: Global) -> Result<Vec<Input<'a>>, Memory> {
+        evidence_input(alloc, self.evidence)
+    }
+
+    fn decide<R: Threads + Sync>(
+        &self,
+        _rt: &R,
+        alloc: Global,
+        texts: &[Text],
+    ) -> Result<Outcome<'a>, Stop<'a>> {
+        upgrade_text(alloc, self, &texts[0].bytes)
+    }
+}
+
+fn upgrade_text<'a>(
+    alloc: Global,
+    options: &UpgradeOptions<'a>,
+    evidence: &[u8],
+) -> Result<Outcome<'a>, Stop<'a>>
+    ensures { IsDecision
+        (ReportsTree options.now.evidence.now (UpgradeDecides options.now.tree.now) evidence.now)
+        result }
+{
+    let tree = match read_tree_file(alloc, options.evidence, evidence) {
+        Ok(tree) => tree,
+        Err(stop) => return Err(stop),
+    };
+    match upgraded(alloc, options.tree, &tree) {
+        Ok(outcome) => Ok(outcome),
+        Err(Memory) => Err(Stop::Memory),
+    }
+}
+
+fn upgraded<'a>(alloc: Global, name: &'a str, tree: &DecTree) -> Result<Outcome<'a>, Memory>
+    ensures { IfOk result (λ outcome. outcome_report outcome
+        ≡ upgrade_report name.entry.now (plain tree.now)) }
+{
+    let bytes = write_tree(alloc, tree)?;
+    let output = upgraded_line(alloc, count_nodes(tree))?;
+    let mut files = Vec::new(alloc);
+    files.push(OutputFile { name, bytes })?;
+    Ok(Outcome {
+        answer: Answer::Yes,
+        output,
+        files,
+    })
+}
+
+fn upgraded_line(alloc: Global, nodes: u64) -> Result<Vec<u8>, Memory>
+    ensures { IfOk result (λ text. text.items ≡ upgraded_line nodes) }
+{
+    let mut buffer = Buffer::new();
+    let mut text = b"upgraded: ".to_vec(alloc)?;
+    text.extend_from_slice(buffer.format(nodes).as_bytes())?;
+    text.extend_from_slice(b" nodes\n")?;
+    Ok(text)
+}

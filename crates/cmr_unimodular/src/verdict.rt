@@ -1,0 +1,176 @@
+// The verdict on total unimodularity, from a decomposition.
+ghost use Rattle.std.specs.Prelude.{◌≡◌, ◌≤◌, ◌++◌, IfOk, OnOk, map, option_map};
+ghost use Rattle.cert_check.specs.Laws.{Tells};
+ghost use Rattle.cmr_front.specs.Outcome.{file_of, outcome_report};
+ghost use Rattle.cmr_unimodular.specs.Verdict.{Decides, answer_of, answer_word, fault_file, named_line, tree_file, verdict_in, verdict_order_of, verdict_output, verdict_report};
+ghost use Rattle.tree_type.specs.Trees.{tree_of};
+ghost use Rattle.tree_type.specs.Verdicts.{verdict_shown};
+
+use crate::outline::push_outline;
+use cmr_base::{Matrix, Memory};
+use cmr_front::asked::push_submatrix;
+use cmr_front::outcome::{Outcome, OutputFile};
+use cmr_front::printed::{push_open_line, push_violator_line};
+use cmr_front::status::Answer;
+use decomp_tree::decompose;
+use std::alloc::Global;
+use std::thread::Threads;
+use tree_text::write_tree;
+use tree_type::{DecTree, VerdictOf, verdict};
+
+/// Under which label a verdict is given, within which budget and with how many pivots, and which files it has.
+#[derive(Clone, Copy, Debug)]
+pub struct VerdictOptions<'a> {
+    /// What is said of the matrix.
+    pub label: &'static [u8],
+    /// The most lines on the shorter side of what is searched whole, 0 to 24.
+    pub lines: u32,
+    /// The most pivots on the way to a node where nothing else decides it.
+    pub pivots: u32,
+    /// How many workers share the searches, 1 to 64.
+    pub workers: u32,
+    /// The file that gets the tree.
+    pub tree: Option<&'a str>,
+    /// The file that gets the violator where there is one.
+    pub fault: Option<&'a str>,
+}
+
+/// Decides whether a matrix is totally unimodular, by its decomposition. A no names the fault of the first node in preorder
+/// that has one, and where there is none, undecided names the lines of the first undecided node.
+pub fn give_verdict<'a, R: Threads + Sync>(
+    rt: &R,
+    alloc: Global,
+    options: &VerdictOptions<'a>,
+    matrix: &Matrix,
+) -> Result<Outcome<'a>, Memory>
+    requires lines { options.now.lines ≤ 24 }
+    requires workers { (1 ≤ options.now.workers) × (options.now.workers ≤ 64) }
+    ensures { IfOk result (λ outcome.
+        Decides (verdict_order_of options.now) matrix.now (outcome_report outcome)) }
+{
+    let tree = decompose(
+        rt,
+        alloc,
+        matrix,
+        options.lines,
+        options.pivots,
+        options.workers,
+    )?;
+    let root = tree.root();
+    let rows = matrix.rows();
+    prove!(root.lines.rows.len() == rows as usize);
+    report_tree(alloc, options, matrix, &tree)
+}
+
+/// The report of a tree whose verdict is right.
+pub fn report_tree<'a>(
+    alloc: Global,
+    options: &VerdictOptions<'a>,
+    matrix: &Matrix,
+    tree: &DecTree,
+) -> Result<Outcome<'a>, Memory>
+    requires { Tells matrix.now (verdict_in tree.now) }
+    ensures { IfOk result (λ outcome. outcome_report outcome
+        ≡ verdict_report (verdict_order_of options.now) matrix.now tree.now) }
+{
+    let found = verdict(tree);
+    let output = verdict_text(alloc, options.label, matrix, &found, tree)?;
+    let mut files = Vec::new(alloc);
+    push_tree(alloc, &mut files, options.tree, tree)?;
+    push_fault(alloc, &mut files, options.fault, matrix, &found)?;
+    Ok(Outcome {
+        answer: answer_of(&found),
+        output,
+        files,
+    })
+}
+
+fn answer_of(verdict: &VerdictOf<'_>) -> Answer
+    ensures { result ≡ answer_of (verdict_shown verdict.now) }
+{
+    match verdict {
+        VerdictOf::Yes => Answer::Yes,
+        VerdictOf::No(_) => Answer::No,
+        VerdictOf::Undecided(_) => Answer::Undecided,
+    }
+}
+
+fn answer_word(verdict: &VerdictOf<'_>) -> &'static [u8]
+    ensures { result.now ≡ answer_word (verdict_shown verdict.now) }
+{
+    match verdict {
+        VerdictOf::Yes => b": yes\n",
+        VerdictOf::No(_) => b": no\n",
+        VerdictOf::Undecided(_) => b": undecided\n",
+    }
+}
+
+fn verdict_text(
+    alloc: Global,
+    label: &[u8],
+    matrix: &Matrix,
+    verdict: &VerdictOf<'_>,
+    tree: &DecTree,
+) -> Result<Vec<u8>, Memory>
+    requires tells { Tells matrix.now (verdict_shown verdict.now) }
+    requires shown { verdict_shown verdict.now ≡ verdict_in tree.now }
+    ensures { IfOk result (λ text. text.items ≡ verdict_output label.now matrix.now tree.now) }
+{
+    let mut text = label.to_vec(alloc)?;
+    text.extend_from_slice(answer_word(verdict))?;
+    push_named_line(&mut text, matrix, verdict)?;
+    push_outline(&mut text, tree)?;
+    Ok(text)
+}
+
+fn push_named_line(
+    text: &mut Vec<u8>,
+    matrix: &Matrix,
+    verdict: &VerdictOf<'_>,
+) -> Result<(), Memory>
+    requires { Tells matrix.now (verdict_shown verdict.now) }
+    ensures { OnOk result (text.new.items
+        ≡ text.old.items ++ named_line matrix.now (verdict_shown verdict.now)) }
+{
+    match verdict {
+        VerdictOf::Yes => Ok(()),
+        VerdictOf::No(fault) => push_violator_line(text, fault, matrix.sum(fault)),
+        VerdictOf::Undecided(lines) => push_open_line(text, lines),
+    }
+}
+
+fn push_tree<'a>(
+    alloc: Global,
+    files: &mut Vec<OutputFile<'a>>,
+    name: Option<&'a str>,
+    tree: &DecTree,
+) -> Result<(), Memory>
+    ensures { OnOk result (map file_of files.new.items
+        ≡ map file_of files.old.items
+        ++ tree_file (option_map (λ name. name.now) name.entry) tree.now) }
+{
+    if let Some(name) = name {
+        let bytes = write_tree(alloc, tree)?;
+        files.push(OutputFile { name, bytes })?;
+    }
+    Ok(())
+}
+
+fn push_fault<'a>(
+    alloc: Global,
+    files: &mut Vec<OutputFile<'a>>,
+    name: Option<&'a str>,
+    matrix: &Matrix,
+    verdict: &VerdictOf<'_>,
+) -> Result<(), Memory>
+    requires { Tells matrix.now (verdict_shown verdict.now) }
+    ensures { OnOk result (map file_of files.new.items
+        ≡ map file_of files.old.items
+        ++ fault_file (option_map (λ name. name.now) name.entry) matrix.now
+        (verdict_shown verdict.now)) }
+{
+    match verdict {
+        VerdictOf::No(fault) => push_submatrix(alloc, files, name, matrix, fault),
+        VerdictOf::Yes | VerdictOf::Undecided(_) => Ok(()),
+    }
+}
