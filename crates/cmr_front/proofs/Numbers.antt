@@ -12,6 +12,7 @@ use Rattle.clap.proofs.ValueTestLemmas.{Accepts-accepts, accepts-Accepts}
 use Rattle.cmr_front.specs.declared.matrix_file.MatrixForm.{MatrixForm}
 use Rattle.cmr_front.specs.Words.Parsing.{form_in, lines_in, number_from, pivots_in, workers_in}
 use Rattle.cmr_front.specs.Words.Reading.{◌>>=◌}
+use Rattle.cmr_base.specs.declared.limits.TheConstants.{MAX_LINES}
 
 number_from-some : (least most : ℕ) (text : List ℕ) → IsSignedIn (pos least) (pos most) text → number_from least most text ≡ Some (digits_value 10 (without_leading_sign text))
 number_from-some least most text h = ap (λ (b : Bool). cond b (Some (digits_value 10 (without_leading_sign text))) None) (Accepts-accepts false (vp.Signed (pos least) (pos most)) text h)
@@ -53,12 +54,12 @@ number_from-between least most text n e = go (is_signed_in (pos least) (pos most
     go false is e = cc
 
 -- the lines, the pivots and the workers that words name
-pub lines_in-le : (rows : List Row) (lines : ℕ) → lines_in rows ≡ Some lines → lines ≤ 24
+pub lines_in-le : (rows : List Row) (lines : ℕ) → lines_in rows ≡ Some lines → lines ≤ MAX_LINES
 lines_in-le rows lines e = go (first_of (codes "lines") rows) e
   where
-    go : (text : Option Text) → option_map_or (number_from 0 24) text (Some 14) ≡ Some lines → lines ≤ 24
+    go : (text : Option Text) → option_map_or (number_from 0 MAX_LINES) text (Some 14) ≡ Some lines → lines ≤ MAX_LINES
     go None e = let same : 14 ≡ lines = cc in omega arith
-    go (Some text) e = (number_from-between 0 24 text lines e).1
+    go (Some text) e = (number_from-between 0 MAX_LINES text lines e).1
 
 pub pivots_in-le : (rows : List Row) (pivots : ℕ) → pivots_in rows ≡ Some pivots → pivots ≤ 100
 pivots_in-le rows pivots e = go (first_of (codes "pivots") rows) e
@@ -76,11 +77,11 @@ workers_in-between rows workers e = go (first_of (codes "workers") rows) e
 
 -- what is made of the form and of these three numbers
 pub with_numbers : {O : Type 0} (P : O → Type 0) (make : MatrixForm → ℕ → ℕ → ℕ → O) (rows : List Row) (o : O)
-    → ((form : MatrixForm) (lines pivots workers : ℕ) → lines ≤ 24 → pivots ≤ 100 → (1 ≤ workers) × (workers ≤ 64) → P (make form lines pivots workers))
+    → ((form : MatrixForm) (lines pivots workers : ℕ) → lines ≤ MAX_LINES → pivots ≤ 100 → (1 ≤ workers) × (workers ≤ 64) → P (make form lines pivots workers))
     → (form_in rows >>= (λ f. lines_in rows >>= (λ l. pivots_in rows >>= (λ p. workers_in rows >>= (λ w. Some (make f l p w)))))) ≡ Some o → P o
 with_numbers {O} P make rows o each e = go (form_in rows) (lines_in rows) (pivots_in rows) (workers_in rows) (lines_in-le rows) (pivots_in-le rows) (workers_in-between rows) e
   where
-    go : (form : Option MatrixForm) (lines pivots workers : Option ℕ) → ((n : ℕ) → lines ≡ Some n → n ≤ 24) → ((n : ℕ) → pivots ≡ Some n → n ≤ 100)
+    go : (form : Option MatrixForm) (lines pivots workers : Option ℕ) → ((n : ℕ) → lines ≡ Some n → n ≤ MAX_LINES) → ((n : ℕ) → pivots ≡ Some n → n ≤ 100)
         → ((n : ℕ) → workers ≡ Some n → (1 ≤ n) × (n ≤ 64))
         → (form >>= (λ f. lines >>= (λ l. pivots >>= (λ p. workers >>= (λ w. Some (make f l p w)))))) ≡ Some o → P o
     go None lines pivots workers few bound some e = cc

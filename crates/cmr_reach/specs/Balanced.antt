@@ -1,5 +1,6 @@
 -- What the words of `balanced` order, what it reports, and what its answers mean.
 use Rattle.std.specs.Prelude.{◌≡◌, ◌<◌, ◌≤◌, ℕ, false, List, codes, [], ◌∷◌, Option, Some, option_map}
+use Rattle.cmr_base.specs.declared.limits.TheConstants.{MAX_LINES}
 use Rattle.cmr_base.specs.declared.line_set.LineSet.{LineSet}
 use Rattle.cmr_base.specs.Matrix.{Matrix, height, entry}
 use Rattle.cmr_base.specs.CyclePlaces.{HasNoCycleFault, IsCycleFault}
@@ -112,7 +113,7 @@ BalancedMeans o m Refused = ⊥
 
 -- the ranges of its numbers
 pub record IsInRanges (o : BalancedOrder) : Type 0 where
-  pub lines : o.lines ≤ 24
+  pub lines : o.lines ≤ MAX_LINES
   pub pivots : o.pivots ≤ 100
   pub some : 1 ≤ o.workers
   pub workers : o.workers ≤ 64

@@ -1,6 +1,7 @@
 -- What the words of `compose` order, what it reports on two matrices, and what its answers mean.
 use Rattle.std.specs.Prelude.{◌≡◌, ◌≤◌, ◌+◌, ◌++◌, ℕ, false, List, [], ◌∷◌, Ok, codes, Option, Some, None, if◌then◌else◌}
 use Rattle.std.specs.Fmt.{decimal}
+use Rattle.cmr_base.specs.declared.limits.TheConstants.{MAX_COLUMNS, MAX_ROWS}
 use Rattle.cmr_base.specs.Matrix.{Matrix, HasTernaryEntries, IsMatrix, height, nonzeros_of}
 use Rattle.text_fields.specs.Words.{text_of}
 use Rattle.matrix_text.specs.Canonical.{dense_text}
@@ -80,10 +81,10 @@ compose_order_of options = record {
 
 -- The sum would have at most as many rows and columns as a matrix may have: those of both matrices without the ones that it loses.
 abbrev pub HaveFewRows : SumKind → Matrix → Matrix → Type 0
-HaveFewRows kind first second = height first + height second ≤ 1000 + lost_rows kind
+HaveFewRows kind first second = height first + height second ≤ MAX_ROWS + lost_rows kind
 
 abbrev pub HaveFewColumns : SumKind → Matrix → Matrix → Type 0
-HaveFewColumns kind first second = first.width + second.width ≤ 1000 + lost_columns kind
+HaveFewColumns kind first second = first.width + second.width ≤ MAX_COLUMNS + lost_columns kind
 
 -- the sum is defined, and a matrix
 pub record IsComposed (kind : SumKind) (first second : Matrix) : Type 0 where

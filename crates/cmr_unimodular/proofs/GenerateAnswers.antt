@@ -1,6 +1,7 @@
 -- What the answers of `generate` say of the matrix that is made.
 use Rattle.std.proofs.Common.{◌≡◌, ◌<◌, ◌≤◌, ◌∙◌, ℕ, Result, Ok, Err, sym, subst, arith, ◌^◌, List, Option, Some, None, refl, codes}
 use Rattle.std.specs.Prelude.{IfOk}
+use Rattle.cmr_base.specs.declared.limits.TheConstants.{MAX_LINES, MAX_ROWS}
 use Rattle.cmr_base.specs.declared.memory.Memory.{Memory}
 use Rattle.cmr_base.specs.declared.network.Network.{Network as Net}
 use Rattle.cmr_base.specs.Matrix.{Matrix, height, entry, IsMatrix}
@@ -56,7 +57,7 @@ reported o m told (Ok outcome) generated verdict is shape = record { made = m; i
 reported o m told (Err memory) generated verdict is shape = tt
 
 -- the greatest sizes
-pub size_low : (what : MakeKind) (size : ℕ) → size ≤ most_size what → size ≤ 1000
+pub size_low : (what : MakeKind) (size : ℕ) → size ≤ most_size what → size ≤ MAX_ROWS
 size_low Network size h = h
 size_low TwoSum size h = omega arith
 
@@ -103,7 +104,7 @@ generate_order-ranges words o e = go (matches_in generate_app words) e
     order_with what output size number lines pivots workers = record { what = what; size = size; number = number; lines = lines; pivots = pivots; workers = workers; output = output }
 
     of_values : (what : MakeKind) (output : Option (List ℕ)) (size number lines pivots workers : Option ℕ)
-        → ((n : ℕ) → size ≡ Some n → (1 ≤ n) × (n ≤ most_size what)) → ((n : ℕ) → number ≡ Some n → n < 2 ^ 31) → ((n : ℕ) → lines ≡ Some n → n ≤ 24)
+        → ((n : ℕ) → size ≡ Some n → (1 ≤ n) × (n ≤ most_size what)) → ((n : ℕ) → number ≡ Some n → n < 2 ^ 31) → ((n : ℕ) → lines ≡ Some n → n ≤ MAX_LINES)
         → ((n : ℕ) → pivots ≡ Some n → n ≤ 100) → ((n : ℕ) → workers ≡ Some n → (1 ≤ n) × (n ≤ 64))
         → (size >>= (λ s. number >>= (λ n. lines >>= (λ l. pivots >>= (λ p. workers >>= (λ w. Some (order_with what output s n l p w))))))) ≡ Some o → IsInRange o
     of_values what output None number lines pivots workers of_size of_number of_lines of_pivots of_workers e = cc

@@ -1,6 +1,7 @@
 -- What the words of `generate` order, what it reports, and what its answers mean.
 use Rattle.std.specs.Prelude.{◌≡◌, ◌≤◌, ◌<◌, ◌^◌, ◌++◌, ℕ, List, [], None, codes, ◌∷◌, Option, Some, if◌then◌else◌, option_map}
 use Rattle.std.specs.Fmt.{decimal}
+use Rattle.cmr_base.specs.declared.limits.TheConstants.{MAX_LINES, MAX_ROWS}
 use Rattle.cmr_base.specs.Matrix.{Matrix, height, nonzeros_of, IsMatrix}
 use Rattle.matrix_text.specs.Canonical.{dense_text}
 use Rattle.generate.specs.declared.making.MakeKind.{MakeKind}
@@ -44,7 +45,7 @@ kind_in rows = first_of (codes "kind") rows >>= kind_named
 
 -- the greatest SIZE, with which the matrix has at most 1000 rows and columns
 abbrev pub most_size : MakeKind → ℕ
-most_size Network = 1000
+most_size Network = MAX_ROWS
 most_size TwoSum = 249
 
 -- SIZE
@@ -124,7 +125,7 @@ pub record IsInRange (o : GenerateOrder) : Type 0 where
   pub positive : 1 ≤ o.size
   pub size : o.size ≤ most_size o.what
   pub number : o.number < 2 ^ 31
-  pub lines : o.lines ≤ 24
+  pub lines : o.lines ≤ MAX_LINES
   pub pivots : o.pivots ≤ 100
   pub workers : (1 ≤ o.workers) × (o.workers ≤ 64)
 

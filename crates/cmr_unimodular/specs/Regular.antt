@@ -1,5 +1,6 @@
 -- What the words of `regular` order, what it reports, and what its answers mean.
 use Rattle.std.specs.Prelude.{◌≡◌, ◌≤◌, ◌++◌, ℕ, true, List, [], Option, codes, ◌∷◌, Some, option_map}
+use Rattle.cmr_base.specs.declared.limits.TheConstants.{MAX_LINES}
 use Rattle.cmr_base.specs.Matrix.{Matrix, height, IsMatrix, IsTernary}
 use Rattle.cmr_base.specs.Supports.{HaveOneSupport}
 use Rattle.cmr_base.specs.Trees.{IsBinary}
@@ -157,4 +158,4 @@ abbrev pub RegularMeans : RegularOrder → Matrix → Answer → Type 0
 RegularMeans o a answer = (steps : List SignStep) × (signed : Matrix) × IsSigned a steps signed × RegularSays o a steps signed answer
 
 abbrev pub regular_tool : RegularOrder → Tool
-regular_tool o = matrix_tool (regular_source o) ((o.lines ≤ 24) × (o.pivots ≤ 100) × (1 ≤ o.workers) × (o.workers ≤ 64)) (RegularDecides o) (RegularMeans o)
+regular_tool o = matrix_tool (regular_source o) ((o.lines ≤ MAX_LINES) × (o.pivots ≤ 100) × (1 ≤ o.workers) × (o.workers ≤ 64)) (RegularDecides o) (RegularMeans o)

@@ -1,5 +1,6 @@
 -- What the words of `tu` order, what it reports, and what its answers mean.
 use Rattle.std.specs.Prelude.{◌≡◌, ◌≤◌, ℕ, false, List, codes, length, [], ◌∷◌, Option, Some, option_map}
+use Rattle.cmr_base.specs.declared.limits.TheConstants.{MAX_LINES}
 use Rattle.cmr_base.specs.Matrix.{Matrix, entry, IsEntry}
 use Rattle.cmr_base.specs.Determinants.{HasUnimodularMinors, determinant}
 use Rattle.cmr_base.specs.LineSets.{IsRowSet, IsColumnSet}
@@ -100,4 +101,4 @@ abbrev pub TuMeans : TuOrder → Matrix → Answer → Type 0
 TuMeans o = UnimodularMeans o.lines o.pivots
 
 abbrev pub tu_tool : TuOrder → Tool
-tu_tool o = matrix_tool (tu_source o) ((o.lines ≤ 24) × (o.pivots ≤ 100) × (1 ≤ o.workers) × (o.workers ≤ 64)) (Decides (tu_verdict o)) (TuMeans o)
+tu_tool o = matrix_tool (tu_source o) ((o.lines ≤ MAX_LINES) × (o.pivots ≤ 100) × (1 ≤ o.workers) × (o.workers ≤ 64)) (Decides (tu_verdict o)) (TuMeans o)

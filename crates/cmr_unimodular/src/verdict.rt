@@ -7,7 +7,7 @@ ghost use Rattle.tree_type.specs.Trees.{tree_of};
 ghost use Rattle.tree_type.specs.Verdicts.{verdict_shown};
 
 use crate::outline::push_outline;
-use cmr_base::{Matrix, Memory};
+use cmr_base::{MAX_LINES, Matrix, Memory};
 use cmr_front::asked::push_submatrix;
 use cmr_front::outcome::{Outcome, OutputFile};
 use cmr_front::printed::{push_open_line, push_violator_line};
@@ -43,7 +43,7 @@ pub fn give_verdict<'a, R: Threads + Sync>(
     options: &VerdictOptions<'a>,
     matrix: &Matrix,
 ) -> Result<Outcome<'a>, Memory>
-    requires lines { options.now.lines ≤ 24 }
+    requires lines { options.now.lines ≤ MAX_LINES }
     requires workers { (1 ≤ options.now.workers) × (options.now.workers ≤ 64) }
     ensures { IfOk result (λ outcome.
         Decides (verdict_order_of options.now) matrix.now (outcome_report outcome)) }

@@ -9,15 +9,13 @@ use crate::matrix_file::MatrixForm;
 use crate::words::WordsError;
 use crate::words::arguments::{FAULT, FILE, FORMAT, LINES, PIVOTS, WORKERS};
 use clap::{ArgMatches, Command};
-use cmr_base::Word;
+use cmr_base::{MAX_LINES, Word};
 
 // The word that stands for standard input.
 const DASH: &str = "-";
 
-// L where it is left out, and the most that it may be.
+// L where it is left out.
 const USUAL_LINES: u32 = 14;
-
-const MOST_LINES: u32 = 24;
 
 // K where it is left out, and the most that it may be.
 const USUAL_PIVOTS: u32 = 0;
@@ -123,7 +121,7 @@ pub fn lines_in(matches: &ArgMatches<'_>) -> Result<u32, WordsError>
 {
     match value_in(matches, LINES) {
         None => Ok(USUAL_LINES),
-        Some(text) => number_from(0, MOST_LINES, text).ok_or(WordsError::Refused),
+        Some(text) => number_from(0, MAX_LINES, text).ok_or(WordsError::Refused),
     }
 }
 

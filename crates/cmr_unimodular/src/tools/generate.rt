@@ -12,7 +12,7 @@ ghost use Rattle.cmr_unimodular.specs.Verdict.{verdict_order_of};
 
 use crate::verdict::{VerdictOptions, give_verdict};
 use clap::{ArgMatches, Command};
-use cmr_base::{Matrix, Memory, Word};
+use cmr_base::{MAX_ROWS, Matrix, Memory, Word};
 use cmr_front::asked::push_matrix;
 use cmr_front::input::{Input, Text};
 use cmr_front::outcome::{Outcome, Stop};
@@ -85,7 +85,7 @@ fn most_size(what: MakeKind) -> u32
     ensures { result ≡ most_size what }
 {
     match what {
-        MakeKind::Network => 1000,
+        MakeKind::Network => MAX_ROWS,
         MakeKind::TwoSum => 249,
     }
 }

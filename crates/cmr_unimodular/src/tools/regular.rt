@@ -19,7 +19,7 @@ ghost use Rattle.cmr_unimodular.specs.Verdict.{IsDecomposition, IsTold, verdict_
 use crate::verdict::{VerdictOptions, report_tree};
 use camion_sign::{Chain, SignStepList, sign, write_chain};
 use clap::{ArgMatches, Command};
-use cmr_base::{Indices, LineSet, Matrix, Memory, Word};
+use cmr_base::{Indices, LineSet, MAX_LINES, Matrix, Memory, Word};
 use cmr_front::asked::push_matrix;
 use cmr_front::input::{Input, Text};
 use cmr_front::matrix_file::{MatrixForm, matrix_input, read_matrix};
@@ -109,7 +109,7 @@ pub fn regular<R: Threads + Sync, S: Shelf, O: Sink, E: Sink>(
     out: &mut O,
     err: &mut E,
 ) -> u8
-    requires lines { options.now.lines ≤ 24 }
+    requires lines { options.now.lines ≤ MAX_LINES }
     requires pivots { options.now.pivots ≤ 100 }
     requires workers { (1 ≤ options.now.workers) × (options.now.workers ≤ 64) }
     ensures runs { RunsOver S.Shelf O.Sink E.Sink
@@ -151,7 +151,7 @@ fn sign_and_test<'a, R: Threads + Sync>(
     options: &RegularOptions<'a>,
     matrix: &Matrix,
 ) -> Result<Outcome<'a>, Memory>
-    requires lines { options.now.lines ≤ 24 }
+    requires lines { options.now.lines ≤ MAX_LINES }
     requires workers { (1 ≤ options.now.workers) × (options.now.workers ≤ 64) }
     requires binary { IsBinary matrix.now }
     ensures { IfOk result (λ outcome.
@@ -192,7 +192,7 @@ fn decomposed<R: Threads + Sync>(
     matrix: &Matrix,
     options: &RegularOptions<'_>,
 ) -> Result<DecTree, Memory>
-    requires lines { options.now.lines ≤ 24 }
+    requires lines { options.now.lines ≤ MAX_LINES }
     requires workers { (1 ≤ options.now.workers) × (options.now.workers ≤ 64) }
     ensures decomposition { IfOk result (IsDecomposition options.now.lines options.now.pivots
         matrix.now) }

@@ -11,7 +11,7 @@ ghost use Rattle.cmr_unimodular.specs.Verdict.{verdict_order_of};
 
 use crate::verdict::{VerdictOptions, give_verdict};
 use clap::{ArgMatches, Command};
-use cmr_base::{Memory, Word};
+use cmr_base::{MAX_LINES, Memory, Word};
 use cmr_front::input::{Input, Text};
 use cmr_front::matrix_file::{MatrixForm, matrix_input, read_matrix};
 use cmr_front::outcome::{Outcome, Stop};
@@ -90,7 +90,7 @@ pub fn tu<R: Threads + Sync, S: Shelf, O: Sink, E: Sink>(
     out: &mut O,
     err: &mut E,
 ) -> u8
-    requires lines { options.now.lines ≤ 24 }
+    requires lines { options.now.lines ≤ MAX_LINES }
     requires pivots { options.now.pivots ≤ 100 }
     requires workers { (1 ≤ options.now.workers) × (options.now.workers ≤ 64) }
     ensures runs { RunsOver S.Shelf O.Sink E.Sink
