@@ -54,6 +54,16 @@ pub enum Stop<'a> {
     Memory,
 }
 
+impl From<cmr_base::Memory> for Stop<'_> {
+    ghost use Rattle.cmr_front.specs.declared.outcome.Stop.TheVariants.{Memory};
+
+    ghost from_gives = { λ _ stop. stop ≡ Memory };
+
+    fn from(_: cmr_base::Memory) -> Self {
+        Stop::Memory
+    }
+}
+
 impl Stop<'_> {
     ghost use Rattle.cmr_front.specs.Outcome.{stop_report};
     ghost use Rattle.cmr_front.specs.Status.{failure_status};

@@ -124,14 +124,8 @@ impl<'a> Tool<'a> for BalancedOptions<'a> {
         alloc: Global,
         texts: &[Text],
     ) -> Result<Outcome<'a>, Stop<'a>> {
-        let matrix = match read_matrix(alloc, self.file, self.form, false, &texts[0].bytes) {
-            Ok(matrix) => matrix,
-            Err(stop) => return Err(stop),
-        };
-        match test(rt, alloc, self, &matrix) {
-            Ok(outcome) => Ok(outcome),
-            Err(Memory) => Err(Stop::Memory),
-        }
+        let matrix = read_matrix(alloc, self.file, self.form, false, &texts[0].bytes)?;
+        Ok(test(rt, alloc, self, &matrix)?)
     }
 }
 

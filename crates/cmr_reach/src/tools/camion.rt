@@ -92,14 +92,8 @@ impl<'a> Tool<'a> for CamionOptions<'a> {
         alloc: Global,
         texts: &[Text],
     ) -> Result<Outcome<'a>, Stop<'a>> {
-        let matrix = match read_matrix(alloc, self.file, self.form, false, &texts[0].bytes) {
-            Ok(matrix) => matrix,
-            Err(stop) => return Err(stop),
-        };
-        match test(alloc, self, &matrix) {
-            Ok(outcome) => Ok(outcome),
-            Err(Memory) => Err(Stop::Memory),
-        }
+        let matrix = read_matrix(alloc, self.file, self.form, false, &texts[0].bytes)?;
+        Ok(test(alloc, self, &matrix)?)
     }
 }
 

@@ -165,10 +165,7 @@ fn decide_on<'a>(
         (ComposeReports (compose_order_of options.now) first.now second.now)
         result }
 {
-    let first = match read_matrix(alloc, options.first, options.form, false, first) {
-        Ok(first) => first,
-        Err(stop) => return Err(stop),
-    };
+    let first = read_matrix(alloc, options.first, options.form, false, first)?;
     decide_on_second(alloc, options, &first, second)
 }
 
@@ -184,14 +181,8 @@ fn decide_on_second<'a>(
         (matrix_in options.now.form false second.now))
         result }
 {
-    let second = match read_matrix(alloc, options.second, options.form, false, second) {
-        Ok(second) => second,
-        Err(stop) => return Err(stop),
-    };
-    match compose_matrices(alloc, options, first, &second) {
-        Ok(outcome) => Ok(outcome),
-        Err(Memory) => Err(Stop::Memory),
-    }
+    let second = read_matrix(alloc, options.second, options.form, false, second)?;
+    Ok(compose_matrices(alloc, options, first, &second)?)
 }
 
 fn compose_matrices<'a>(

@@ -150,10 +150,7 @@ fn decide_on<'a>(
 ) -> Result<Outcome<'a>, Stop<'a>>
     ensures { IsDecision (PartsReports (parts_order_of options.now) matrix.now tree.now) result }
 {
-    let matrix = match read_matrix(alloc, options.matrix, options.form, false, matrix) {
-        Ok(matrix) => matrix,
-        Err(stop) => return Err(stop),
-    };
+    let matrix = read_matrix(alloc, options.matrix, options.form, false, matrix)?;
     decide_on_tree(alloc, options, &matrix, tree)
 }
 
@@ -168,14 +165,8 @@ fn decide_on_tree<'a>(
         tree.now)
         result }
 {
-    let tree = match read_tree_file(alloc, options.tree, tree) {
-        Ok(tree) => tree,
-        Err(stop) => return Err(stop),
-    };
-    match check_and_part(alloc, options, matrix, &tree) {
-        Ok(outcome) => Ok(outcome),
-        Err(Memory) => Err(Stop::Memory),
-    }
+    let tree = read_tree_file(alloc, options.tree, tree)?;
+    Ok(check_and_part(alloc, options, matrix, &tree)?)
 }
 
 fn check_and_part<'a>(

@@ -124,10 +124,7 @@ fn decide_on<'a>(
 ) -> Result<Outcome<'a>, Stop<'a>>
     ensures { IsDecision (SignReports (sign_order_of options.now) matrix.now rows.now) result }
 {
-    let matrix = match read_matrix(alloc, options.matrix, options.form, false, matrix) {
-        Ok(matrix) => matrix,
-        Err(stop) => return Err(stop),
-    };
+    let matrix = read_matrix(alloc, options.matrix, options.form, false, matrix)?;
     decide_on_rows(alloc, options.rows, &matrix, rows)
 }
 
@@ -142,14 +139,8 @@ fn decide_on_rows<'a>(
         (lines_in matrix.now rows.now))
         result }
 {
-    let lines = match read_submatrix_file(alloc, file, rows, matrix.rows(), matrix.columns()) {
-        Ok(lines) => lines,
-        Err(stop) => return Err(stop),
-    };
-    match sign(alloc, matrix, &lines.rows) {
-        Ok(outcome) => Ok(outcome),
-        Err(Memory) => Err(Stop::Memory),
-    }
+    let lines = read_submatrix_file(alloc, file, rows, matrix.rows(), matrix.columns())?;
+    Ok(sign(alloc, matrix, &lines.rows)?)
 }
 
 fn sign<'a>(alloc: Global, matrix: &Matrix, rows: &Indices) -> Result<Outcome<'a>, Memory>

@@ -148,10 +148,7 @@ fn decide_on<'a>(
 {
     let kind = evidence_kind(evidence);
     let binary = is_of_support(kind);
-    let matrix = match read_matrix(alloc, options.matrix, options.form, binary, matrix) {
-        Ok(matrix) => matrix,
-        Err(stop) => return Err(stop),
-    };
+    let matrix = read_matrix(alloc, options.matrix, options.form, binary, matrix)?;
     decide_by_kind(alloc, options.evidence, kind, &matrix, evidence)
 }
 
@@ -215,14 +212,8 @@ fn decide_tree<'a>(
         (EvidenceReports file.entry.now kinds.Tree matrix.now evidence.now)
         result }
 {
-    let tree = match read_tree_file(alloc, file, evidence) {
-        Ok(tree) => tree,
-        Err(stop) => return Err(stop),
-    };
-    match check_tree(alloc, matrix, &tree) {
-        Ok(outcome) => Ok(outcome),
-        Err(Memory) => Err(Stop::Memory),
-    }
+    let tree = read_tree_file(alloc, file, evidence)?;
+    Ok(check_tree(alloc, matrix, &tree)?)
 }
 
 fn check_tree<'a>(alloc: Global, matrix: &Matrix, tree: &DecTree) -> Result<Outcome<'a>, Memory>
@@ -260,14 +251,8 @@ fn decide_violator<'a>(
 {
     let rows = matrix.rows();
     let columns = matrix.columns();
-    let lines = match read_submatrix_file(alloc, file, evidence, rows, columns) {
-        Ok(lines) => lines,
-        Err(stop) => return Err(stop),
-    };
-    match check_violator(alloc, matrix, &lines) {
-        Ok(outcome) => Ok(outcome),
-        Err(Memory) => Err(Stop::Memory),
-    }
+    let lines = read_submatrix_file(alloc, file, evidence, rows, columns)?;
+    Ok(check_violator(alloc, matrix, &lines)?)
 }
 
 fn check_violator<'a>(
@@ -298,14 +283,8 @@ fn decide_chain<'a>(
         (EvidenceReports file.entry.now kinds.Chain matrix.now evidence.now)
         result }
 {
-    let chain = match read_chain_file(alloc, file, evidence) {
-        Ok(chain) => chain,
-        Err(stop) => return Err(stop),
-    };
-    match check_steps(alloc, matrix, &chain) {
-        Ok(outcome) => Ok(outcome),
-        Err(Memory) => Err(Stop::Memory),
-    }
+    let chain = read_chain_file(alloc, file, evidence)?;
+    Ok(check_steps(alloc, matrix, &chain)?)
 }
 
 fn check_steps<'a>(

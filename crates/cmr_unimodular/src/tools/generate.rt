@@ -167,10 +167,7 @@ impl<'a> Tool<'a> for GenerateOptions<'a> {
         alloc: Global,
         _texts: &[Text],
     ) -> Result<Outcome<'a>, Stop<'a>> {
-        match make_and_test(rt, alloc, self) {
-            Ok(outcome) => Ok(outcome),
-            Err(Memory) => Err(Stop::Memory),
-        }
+        Ok(make_and_test(rt, alloc, self)?)
     }
 }
 

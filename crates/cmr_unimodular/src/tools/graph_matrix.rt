@@ -51,14 +51,8 @@ fn matrix_of_text<'a>(
 ) -> Result<Outcome<'a>, Stop<'a>>
     ensures { IsDecision (ReportsGraph file.entry.now (GraphDecides property) bytes.now) result }
 {
-    let sized = match read_graph_file(alloc, file, bytes) {
-        Ok(sized) => sized,
-        Err(stop) => return Err(stop),
-    };
-    match written(alloc, property, &sized) {
-        Ok(outcome) => Ok(outcome),
-        Err(Memory) => Err(Stop::Memory),
-    }
+    let sized = read_graph_file(alloc, file, bytes)?;
+    Ok(written(alloc, property, &sized)?)
 }
 
 fn written<'a>(

@@ -215,14 +215,8 @@ impl<'a> Tool<'a> for PathTest<'a> {
     ) -> Result<Outcome<'a>, Stop<'a>> {
         let options = &self.options;
         let binary = is_binary(self.property);
-        let matrix = match read_matrix(alloc, options.file, options.form, binary, &texts[0].bytes) {
-            Ok(matrix) => matrix,
-            Err(stop) => return Err(stop),
-        };
-        match test(alloc, self.property, options, &matrix) {
-            Ok(outcome) => Ok(outcome),
-            Err(Memory) => Err(Stop::Memory),
-        }
+        let matrix = read_matrix(alloc, options.file, options.form, binary, &texts[0].bytes)?;
+        Ok(test(alloc, self.property, options, &matrix)?)
     }
 }
 

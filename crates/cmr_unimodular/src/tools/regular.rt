@@ -134,14 +134,8 @@ impl<'a> Tool<'a> for RegularOptions<'a> {
         alloc: Global,
         texts: &[Text],
     ) -> Result<Outcome<'a>, Stop<'a>> {
-        let matrix = match read_matrix(alloc, self.file, self.form, true, &texts[0].bytes) {
-            Ok(matrix) => matrix,
-            Err(stop) => return Err(stop),
-        };
-        match sign_and_test(rt, alloc, self, &matrix) {
-            Ok(outcome) => Ok(outcome),
-            Err(Memory) => Err(Stop::Memory),
-        }
+        let matrix = read_matrix(alloc, self.file, self.form, true, &texts[0].bytes)?;
+        Ok(sign_and_test(rt, alloc, self, &matrix)?)
     }
 }
 

@@ -115,14 +115,8 @@ impl<'a> Tool<'a> for TuOptions<'a> {
         alloc: Global,
         texts: &[Text],
     ) -> Result<Outcome<'a>, Stop<'a>> {
-        let matrix = match read_matrix(alloc, self.file, self.form, false, &texts[0].bytes) {
-            Ok(matrix) => matrix,
-            Err(stop) => return Err(stop),
-        };
-        match give_verdict(rt, alloc, &verdict_options(self), &matrix) {
-            Ok(outcome) => Ok(outcome),
-            Err(Memory) => Err(Stop::Memory),
-        }
+        let matrix = read_matrix(alloc, self.file, self.form, false, &texts[0].bytes)?;
+        Ok(give_verdict(rt, alloc, &verdict_options(self), &matrix)?)
     }
 }
 

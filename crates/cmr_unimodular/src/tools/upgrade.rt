@@ -114,14 +114,8 @@ fn upgrade_text<'a>(
         (ReportsTree options.now.evidence.now (UpgradeDecides options.now.tree.now) evidence.now)
         result }
 {
-    let tree = match read_tree_file(alloc, options.evidence, evidence) {
-        Ok(tree) => tree,
-        Err(stop) => return Err(stop),
-    };
-    match upgraded(alloc, options.tree, &tree) {
-        Ok(outcome) => Ok(outcome),
-        Err(Memory) => Err(Stop::Memory),
-    }
+    let tree = read_tree_file(alloc, options.evidence, evidence)?;
+    Ok(upgraded(alloc, options.tree, &tree)?)
 }
 
 fn upgraded<'a>(alloc: Global, name: &'a str, tree: &DecTree) -> Result<Outcome<'a>, Memory>
