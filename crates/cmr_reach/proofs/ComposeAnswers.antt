@@ -21,8 +21,8 @@ use Rattle.cmr_front.specs.Texts.{ReportsText}
 use Rattle.cmr_front.specs.Tool.{HasOneReport, IsFaultOfFile, IsLawful}
 use Rattle.cmr_front.proofs.Statuses.{IsAnswered, status_of}
 use Rattle.cmr_front.proofs.Texts.{answered, one_report_of_pair, one_report_of_text, pair_lawful, fault_of_last, fault_of_text}
-use Rattle.cmr_reach.specs.declared.tools.compose.Obstacle.{Obstacle}
-use Rattle.cmr_reach.specs.declared.tools.compose.Obstacle.TheVariants.{TooManyRows, TooManyColumns, BadConnector, BadEntry}
+use Rattle.cmr_reach.specs.declared.tools.compose_tool.Obstacle.{Obstacle}
+use Rattle.cmr_reach.specs.declared.tools.compose_tool.Obstacle.TheVariants.{TooManyRows, TooManyColumns, BadConnector, BadEntry}
 use Rattle.cmr_reach.specs.Compose.{ComposeDecides, ComposeMeans, ComposeReports, ComposeSays, IsComposed, IsObstacle, composed, refused, compose_files, compose_tool, obstacle_report, ComposeOrder}
 
 -- ---- one report

@@ -17,10 +17,10 @@ use Rattle.cmr_front.specs.Report.{Report}
 use Rattle.cmr_front.specs.Status.{answer_status}
 use Rattle.cmr_front.specs.Texts.{ReportsText, pair_tool}
 use Rattle.cmr_front.specs.Tool.{Tool}
-use Rattle.cmr_reach.specs.declared.tools.compose.Composition.{Composition}
-use Rattle.cmr_reach.specs.declared.tools.compose.Composition.TheVariants.{Sum, Without}
-use Rattle.cmr_reach.specs.declared.tools.compose.Obstacle.{Obstacle}
-use Rattle.cmr_reach.specs.declared.tools.compose.Obstacle.TheVariants.{TooManyRows, TooManyColumns, BadConnector, BadEntry}
+use Rattle.cmr_reach.specs.declared.tools.compose_tool.Composition.{Composition}
+use Rattle.cmr_reach.specs.declared.tools.compose_tool.Composition.TheVariants.{Sum, Without}
+use Rattle.cmr_reach.specs.declared.tools.compose_tool.Obstacle.{Obstacle}
+use Rattle.cmr_reach.specs.declared.tools.compose_tool.Obstacle.TheVariants.{TooManyRows, TooManyColumns, BadConnector, BadEntry}
 use Rattle.std.specs.Str.{bytes_eq}
 use Rattle.clap.specs.Words.{App, Row, Text, first_of}
 use Rattle.compose.specs.declared.sum_kind.SumKind.TheVariants.{One, Two, Delta, YForm, Mixed, Concentrated}
@@ -28,7 +28,7 @@ use Rattle.cmr_front.specs.declared.matrix_file.MatrixForm.{MatrixForm}
 use Rattle.cmr_front.specs.Words.Arguments.{form_rule, operand_rule, output_rule, required, tool_app}
 use Rattle.cmr_front.specs.Words.Parsing.{form_in, matches_in}
 use Rattle.cmr_front.specs.Words.Reading.{◌>>=◌}
-use Rattle.cmr_reach.specs.declared.tools.compose.ComposeOptions.{ComposeOptions}
+use Rattle.cmr_reach.specs.declared.tools.compose_tool.ComposeOptions.{ComposeOptions}
 
 -- ---- the words
 

@@ -1,6 +1,6 @@
 //! The tools, each with its options and its words.
 pub mod balanced;
 pub mod camion;
-pub mod compose;
+pub mod compose_tool;
 pub mod parts;
 pub mod sign;

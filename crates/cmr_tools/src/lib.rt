@@ -8,7 +8,7 @@ mod program;
 pub use cmr_front::matrix_file::MatrixForm;
 pub use cmr_front::status::{Answer, Failure};
 pub use cmr_unimodular::tools::check::{CheckOptions, check};
-pub use cmr_unimodular::tools::generate::{GenerateOptions, MakeKind, generate_and_run};
+pub use cmr_unimodular::tools::generate_tool::{GenerateOptions, MakeKind, generate_and_run};
 pub use cmr_unimodular::tools::graphic_network::{TestOptions, graphic, network};
 pub use cmr_unimodular::tools::regular::{RegularOptions, regular};
 pub use cmr_unimodular::tools::series_parallel::{SpOptions, series_parallel};

@@ -1,6 +1,6 @@
 //! The tools, each with its options and its words.
 pub mod check;
-pub mod generate;
+pub mod generate_tool;
 mod graph_matrix;
 pub mod graphic_network;
 pub mod regular;

@@ -1,7 +1,7 @@
 use Rattle.std.proofs.Common.{subst}
 use Rattle.std.proofs.lemmas.Result.{IfOk-weaker}
 use Rattle.cmr_reach.specs.Compose.{IsComposition, refused}
-use Rattle.cmr_reach.proofs.tools.compose.compose_matrices.Goals as goal
+use Rattle.cmr_reach.proofs.tools.compose_tool.compose_matrices.Goals as goal
 
 pub returns-in-Without : goal.returns-in-Without
 returns-in-Without c =

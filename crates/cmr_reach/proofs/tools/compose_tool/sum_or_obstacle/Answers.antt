@@ -1,7 +1,7 @@
 use Rattle.std.proofs.Common.{subst, arith}
 use Rattle.compose.specs.Kinds.{IsCauseOf}
 use Rattle.cmr_reach.proofs.ComposeAnswers.{not_ternary}
-use Rattle.cmr_reach.proofs.tools.compose.sum_or_obstacle.Goals as goal
+use Rattle.cmr_reach.proofs.tools.compose_tool.sum_or_obstacle.Goals as goal
 
 pub returns-in-Err-BadEntry : goal.returns-in-Err-BadEntry
 returns-in-Err-BadEntry c =

@@ -1,7 +1,7 @@
 use Rattle.std.proofs.Common.{◌∙◌, ap₂}
 use Rattle.std.proofs.lemmas.Result.{IfOk-weaker}
 use Rattle.clap.specs.Words.{with_rule}
-use Rattle.cmr_unimodular.proofs.tools.generate.generate_command.Goals as goal
+use Rattle.cmr_unimodular.proofs.tools.generate_tool.generate_command.Goals as goal
 
 pub returns : goal.returns
 returns c =

@@ -2,7 +2,7 @@ use Rattle.std.proofs.Common.{◌∙◌, ap₂, ap}
 use Rattle.std.proofs.lemmas.Result.{IfOk-weaker}
 use Rattle.clap.specs.Words.{with_rule}
 use Rattle.cmr_front.specs.Words.Arguments.{required}
-use Rattle.cmr_reach.proofs.tools.compose.compose_command.Goals as goal
+use Rattle.cmr_reach.proofs.tools.compose_tool.compose_command.Goals as goal
 
 pub returns : goal.returns
 returns c =

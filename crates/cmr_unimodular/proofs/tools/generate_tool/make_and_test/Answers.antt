@@ -3,7 +3,7 @@ use Rattle.cmr_front.specs.Outcome.{outcome_report}
 use Rattle.cmr_unimodular.specs.Verdict.{Decides}
 use Rattle.cmr_unimodular.specs.Generate.{generate_order_of}
 use Rattle.cmr_unimodular.proofs.GenerateAnswers.{reported, size_low, sum_size_low}
-use Rattle.cmr_unimodular.proofs.tools.generate.make_and_test.Goals as goal
+use Rattle.cmr_unimodular.proofs.tools.generate_tool.make_and_test.Goals as goal
 
 pub make-requires-clause-size : goal.make-requires-clause-size
 make-requires-clause-size g c = size_low c.args.options.now.what c.args.options.now.size c.requires.size

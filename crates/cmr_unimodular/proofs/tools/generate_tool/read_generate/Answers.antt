@@ -1,7 +1,7 @@
 use Rattle.clap.specs.Words.{app_of, found_of, rows_of}
 use Rattle.cmr_unimodular.specs.Generate.{generate_app, generate_order_in, generate_order_of, generate_order, generate_tool}
 use Rattle.cmr_front.proofs.Matches.{Gives-matches_in, as_defined}
-use Rattle.cmr_unimodular.proofs.tools.generate.read_generate.Goals as goal
+use Rattle.cmr_unimodular.proofs.tools.generate_tool.read_generate.Goals as goal
 use Rattle.cmr_unimodular.proofs.GenerateAnswers.{generate_order-ranges}
 
 pub returns-clause-value : goal.returns-clause-value

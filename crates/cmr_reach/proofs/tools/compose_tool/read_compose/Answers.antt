@@ -1,7 +1,7 @@
 use Rattle.clap.specs.Words.{app_of, found_of, rows_of}
 use Rattle.cmr_front.proofs.Matches.{Gives-matches_in}
 use Rattle.cmr_reach.specs.Compose.{compose_app, compose_order_in, compose_order_of}
-use Rattle.cmr_reach.proofs.tools.compose.read_compose.Goals as goal
+use Rattle.cmr_reach.proofs.tools.compose_tool.read_compose.Goals as goal
 
 pub returns : goal.returns
 returns c =
