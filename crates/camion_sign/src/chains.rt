@@ -14,7 +14,7 @@ ghost use Rattle.camion_sign.specs.Chains.{HasTwoEach, IsFirstBroken, IsSignedVi
 ghost use Rattle.camion_sign.specs.ChainStates.{AllSignedBut, IsOpenBut, AreLabels, HasFollowed};
 
 use crate::step::{SignStep, SizedChain};
-use cmr_base::{Indices, LineSet, Matrix, Memory};
+use cmr_base::{Indices, LineSet, Matrix, Memory, join_labels, own_labels};
 use parity::is_violator;
 use std::alloc::Global;
 
@@ -68,7 +68,7 @@ fn follow(alloc: Global, matrix: &Matrix, steps: &[SignStep]) -> Result<Followed
     ensures shape { IfOk result (λ followed. IsMatrix matrix.now) }
 {
     let mut signs = Matrix::zero(alloc, matrix.rows(), matrix.columns())?;
-    let mut labels = first_labels(alloc, matrix)?;
+    let mut labels = own_labels(alloc, matrix.rows() + matrix.columns())?;
     for kept in 0..steps.len() {
         match sign_of_step(matrix, &signs, &labels, &steps[kept]) {
             Some(sign) => give_sign(matrix, &mut signs, &mut labels, &steps[kept], sign),
@@ -79,19 +79,6 @@ fn follow(alloc: Global, matrix: &Matrix, steps: &[SignStep]) -> Result<Followed
         signs,
         kept: steps.len(),
     })
-}
-
-// A label of its own for each line.
-fn first_labels(alloc: Global, matrix: &Matrix) -> Result<Vec<u32>, Memory>
-    ensures { IfOk result (λ labels. (length labels.items ≡ height matrix.now + matrix.now.width)
-        × ((k : ℕ) → k < length labels.items → slice_index labels.items k ≡ k)) }
-{
-    let count = matrix.rows() + matrix.columns();
-    let mut labels = Vec::with_capacity(alloc, count as usize)?;
-    for label in 0..count {
-        labels.push(label)?;
-    }
-    Ok(labels)
 }
 
 fn give_sign(matrix: &Matrix, signs: &mut Matrix, labels: &mut Vec<u32>, step: &SignStep, sign: i8)
@@ -124,15 +111,9 @@ fn join(labels: &mut Vec<u32>, row: usize, column: usize)
         (slice_index labels.old.items row) label)
         labels.old.items }
 {
-    let new = labels[row];
-    let old = labels[column];
-    if new != old {
-        for place in 0..labels.len() {
-            if labels[place] == old {
-                labels[place] = new;
-            }
-        }
-    }
+    let kept = labels[row];
+    let gone = labels[column];
+    join_labels(labels, gone, kept);
 }
 
 // The sign of a step that keeps its rule.

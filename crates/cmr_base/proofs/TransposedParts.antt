@@ -1,10 +1,10 @@
 -- The transposed matrix of a submatrix.
 use Rattle.std.proofs.Common.{◌≡◌, ◌<◌, ◌∙◌, ℕ, List, length, map, get_or, sym, arith}
 use Rattle.std.proofs.lemmas.List.{length-map}
-use Rattle.cmr_base.specs.Matrix.{Matrix, entry, transposed, IsTernary}
+use Rattle.cmr_base.specs.Matrix.{Matrix, entry, transposed, IsMatrix, IsTernary}
 use Rattle.cmr_base.specs.LineSets.{submatrix}
 use Rattle.cmr_base.proofs.CopiedRows.{same_matrix}
-use Rattle.cmr_base.proofs.Parts.{entry-submatrix, entry-turned, height-transposed, is_ternary-submatrix, is_ternary-transposed}
+use Rattle.cmr_base.proofs.Parts.{entry-submatrix, entry-turned, height-transposed, is_matrix-transposed, is_ternary-submatrix, is_ternary-transposed}
 
 module _ (m : Matrix) (rows columns : List ℕ) (is : IsTernary m) where
   -- it is a submatrix of the transposed matrix, with rows and columns exchanged
@@ -29,3 +29,10 @@ module _ (m : Matrix) (rows columns : List ℕ) (is : IsTernary m) where
 
       long : length (submatrix (transposed m) columns rows).rows ≡ length columns
       long = length-map columns (λ column. map (entry (transposed m) column) rows)
+
+-- transposed twice, a matrix is what it was
+pub transposed-twice : (m : Matrix) → IsMatrix m → transposed (transposed m) ≡ m
+transposed-twice m is =
+    let turned = is_matrix-transposed m is in
+    same_matrix (transposed (transposed m)) m (is_matrix-transposed (transposed m) turned).rectangular is.rectangular (height-transposed (transposed m)) (height-transposed m)
+    (λ row column l k. entry-turned (transposed m) column row turned.rectangular ∙ entry-turned m row column is.rectangular)

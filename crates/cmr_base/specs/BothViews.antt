@@ -8,4 +8,4 @@ matrix_of a = a.rows.now
 
 pub record AreTransposed (a : Inside) : Type 0 where
   pub is_matrix : IsMatrix a.rows.now
-  pub columns_are : a.columns ≡ transposed a.rows.now
+  pub columns_are : a.columns.now ≡ transposed a.rows.now

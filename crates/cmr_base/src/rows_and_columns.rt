@@ -11,7 +11,7 @@ use std::marker::Model;
 #[derive(Drop)]
 pub struct RowsAndColumns<'a> {
     rows: &'a Matrix,
-    columns: Matrix,
+    columns: &'a Matrix,
 }
 
 impl<'a> Model for RowsAndColumns<'a> {
@@ -27,46 +27,28 @@ impl<'a> Model for RowsAndColumns<'a> {
 }
 
 impl<'a> RowsAndColumns<'a> {
-    /// The rows and the columns of a matrix.
-    pub fn new(alloc: Global, matrix: &'a Matrix) -> Result<RowsAndColumns<'a>, Memory>
-        ensures { IfOk result (λ both. both ≡ matrix.entry.now) }
-    {
-        let columns = matrix.transposed(alloc)?;
-        let _rows = matrix.rows();
-        Ok(RowsAndColumns {
-            rows: matrix,
-            columns,
-        })
-    }
-
-    /// The same where the columns are at hand, so that nothing is transposed.
-    pub fn of_both(rows: &'a Matrix, columns: Matrix) -> RowsAndColumns<'a>
-        requires { columns ≡ transposed rows.now }
+    /// A matrix by its rows and by its columns, which are the rows of its transposed matrix.
+    pub fn of(rows: &'a Matrix, columns: &'a Matrix) -> RowsAndColumns<'a>
+        requires { columns.now ≡ transposed rows.now }
         ensures { result ≡ rows.entry.now }
     {
         let _rows = rows.rows();
         RowsAndColumns { rows, columns }
     }
 
-    /// The rows and the columns of a part that was made already. Its columns are taken from the columns of the whole
-    /// matrix, so that nothing is transposed.
-    pub fn of_part<'b>(
-        &self,
-        alloc: Global,
-        part: &'b Matrix,
-        lines: &LineSet,
-    ) -> Result<RowsAndColumns<'b>, Memory>
-        requires rows { AllBelow (height self.now) lines.now.rows }
-        requires columns { AllBelow self.now.width lines.now.columns }
-        requires part { part.now ≡ submatrix self.now lines.now.rows lines.now.columns }
-        ensures { IfOk result (λ both. both ≡ part.entry.now) }
+    /// The transposed matrix: its rows are the columns.
+    pub fn turned(&self) -> RowsAndColumns<'a>
+        ensures { result ≡ transposed self.now }
     {
-        let columns = self.columns_of(alloc, lines)?;
-        Ok(RowsAndColumns::of_both(part, columns))
+        let _rows = self.rows.rows();
+        RowsAndColumns {
+            rows: self.columns,
+            columns: self.rows,
+        }
     }
 
-    // The transposed submatrix on some lines.
-    fn columns_of(&self, alloc: Global, lines: &LineSet) -> Result<Matrix, Memory>
+    /// The submatrix on some lines, transposed. It is taken from the columns, so that nothing is transposed.
+    pub fn columns_of(&self, alloc: Global, lines: &LineSet) -> Result<Matrix, Memory>
         requires rows { AllBelow (height self.now) lines.now.rows }
         requires columns { AllBelow self.now.width lines.now.columns }
         ensures { IfOk result (λ columns. columns ≡ transposed (submatrix self.now lines.now.rows
@@ -126,7 +108,7 @@ impl<'a> RowsAndColumns<'a> {
         ensures shape { IsMatrix self.now }
     {
         let _rows = self.rows.rows();
-        &self.columns
+        self.columns
     }
 }
 

@@ -55,7 +55,8 @@ pub fn draft_root<R: Threads + Sync>(
 {
     let mut drafts = Vec::new(alloc);
     let unknown = Obstruction::unknown(matrix);
-    let both = RowsAndColumns::new(alloc, matrix)?;
+    let columns = matrix.transposed(alloc)?;
+    let both = RowsAndColumns::of(matrix, &columns);
     draw(
         rt,
         alloc,

@@ -53,7 +53,8 @@ pub fn look<R: Threads + Sync>(
     if part.rows() == 0 && part.columns() == 0 {
         return Ok(leaf(alloc, Finding::Empty));
     }
-    let inner = matrix.of_part(alloc, &part, lines)?;
+    let columns = matrix.columns_of(alloc, lines)?;
+    let inner = RowsAndColumns::of(&part, &columns);
     let node = Node {
         matrix: whole,
         lines,

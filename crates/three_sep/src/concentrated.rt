@@ -38,8 +38,7 @@ pub fn first_concentrated(
     ensures none { IfOk result (λ answer.
         IfNone answer (HasNoGood views.now (form_number Concentrated ∷ []))) }
 {
-    let turned = RowsAndColumns::new(alloc, views.by_columns())?;
-    first_of_rows(alloc, views, &turned)
+    first_of_rows(alloc, views, &views.turned())
 }
 
 // The rows i.

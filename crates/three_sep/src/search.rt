@@ -39,7 +39,8 @@ pub fn three_separation<R: Threads + Sync>(
     ensures { IfOk result (λ found. MatchOption found (HasNoThreeSeparation matrix.now)
         (λ three. IsFirstThreeSeparation matrix.now three)) }
 {
-    three_separation_of(alloc, &RowsAndColumns::new(alloc, matrix)?)
+    let columns = matrix.transposed(alloc)?;
+    three_separation_of(alloc, &RowsAndColumns::of(matrix, &columns))
 }
 
 /// The same, of a matrix by its rows and its columns.

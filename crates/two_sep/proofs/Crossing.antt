@@ -113,9 +113,12 @@ module _ (m : Matrix) where
 
     -- a nonzero without good seed joins its labels
     pub passed_joined : row < height m → column < m.width → entry m row column ≢ pos 0 → HasNoGoodSeed m row column
-        → (joined : List ℕ) → length joined ≡ length labels → ((k : ℕ) → k < length labels → get_or joined k 0 ≡ cond (nat_eq (get_or labels k 0) (get_or labels row 0)) (get_or labels (height m + column) 0) (get_or labels k 0))
+        → (joined : List ℕ) → joined ≡ map (λ label. cond (nat_eq label (get_or labels row 0)) (get_or labels (height m + column) 0) label) labels
         → ArePassed m row (column + 1) joined
-    passed_joined lr lc nonzero none joined count is =
+    passed_joined lr lc nonzero none joined made =
+        let new = λ (label : ℕ). cond (nat_eq label (get_or labels row 0)) (get_or labels (height m + column) 0) label in
+        let count : length joined ≡ length labels = ap (λ (xs : List ℕ). length xs) made ∙ length-map new labels in
+        let is : (k : ℕ) → k < length labels → get_or joined k 0 ≡ new (get_or labels k 0) = λ k l. ap (λ (xs : List ℕ). get_or xs k 0) made ∙ get_or-map new labels k 0 0 l in
         let here = together_from_none m p.matrix row column lr lc nonzero none in
         record {
           matrix = p.matrix;

@@ -12,7 +12,8 @@ use std::alloc::Global;
 pub fn components(alloc: Global, matrix: &Matrix) -> Result<LineSetList, Memory>
     ensures { IfOk result (AreComponents matrix.now) }
 {
-    components_of(alloc, &RowsAndColumns::new(alloc, matrix)?)
+    let columns = matrix.transposed(alloc)?;
+    components_of(alloc, &RowsAndColumns::of(matrix, &columns))
 }
 
 /// The same, of a matrix by its rows and its columns.

@@ -3,10 +3,9 @@ ghost use Rattle.std.specs.Prelude.{◌≡◌, ◌≤◌, ◌<◌, ◌+◌, IfOk
 ghost use Rattle.cmr_base.specs.Matrix.{height};
 ghost use Rattle.two_sep.specs.FirstSeeds.{HasNoTwoSeparation, IsFirstTwoSeparation, ArePassed};
 
-use crate::labels::{join_labels, own_labels};
 use crate::marked::marked_set;
 use crate::seeds::first_good_side;
-use cmr_base::{Matrix, Memory, RowsAndColumns, Two};
+use cmr_base::{Matrix, Memory, RowsAndColumns, Two, join_labels, own_labels};
 use std::alloc::Global;
 
 /// The two-separation of the first good seed, in the order of the rows, columns and lines of seeds; `None` where the matrix
@@ -16,7 +15,8 @@ pub fn two_separation(alloc: Global, matrix: &Matrix) -> Result<Option<Two>, Mem
     ensures { IfOk result (λ found. MatchOption found (HasNoTwoSeparation matrix.now)
         (λ two. IsFirstTwoSeparation matrix.now two)) }
 {
-    two_separation_of(alloc, &RowsAndColumns::new(alloc, matrix)?)
+    let columns = matrix.transposed(alloc)?;
+    two_separation_of(alloc, &RowsAndColumns::of(matrix, &columns))
 }
 
 /// The same, of a matrix by its rows and its columns.

@@ -1,4 +1,4 @@
-use Rattle.std.proofs.Common.{◌≡◌, ◌<◌, ◌+◌, ◌∙◌, filter, ap, ap₂, sym, subst, arith, List, ℕ, Bool, get_or, inl, inr, Option, MatchOption, Vec, Global, length, cond, nat_eq, of_z, w8}
+use Rattle.std.proofs.Common.{◌≡◌, ◌<◌, ◌+◌, ◌∙◌, filter, map, ap, ap₂, sym, subst, arith, List, ℕ, Bool, get_or, inl, inr, Option, MatchOption, Vec, Global, length, cond, nat_eq, of_z, w8}
 use Rattle.std.proofs.lemmas.List.{get_or_default}
 use Rattle.cmr_base.specs.Matrix.{height}
 use Rattle.cmr_base.specs.LineSets.{first_lines}
@@ -40,8 +40,7 @@ loop-column-preserved c =
           let none = subst (λ (o : Option (Vec Bool Global)). MatchOption o (HasNoGoodSeed m i j) (λ side. IsFirstGoodSide m i j side.items)) w.in_default.is w.in_ok-side.ensures in
           let same = ap (λ v. v.items) w.labels-is in
           passed_joined m i j labels p c.requires.row column_in (λ e. w.if-entry-ne0.true (ap (of_z w8) (w.entry.ensures.value ∙ e))) none c.if-label-other.labels.items
-          (ap (λ (xs : List ℕ). length xs) same ∙ w.join_labels.ensures.count)
-          (λ k l. ap (λ (xs : List ℕ). get_or xs k 0) same ∙ w.join_labels.ensures.joined k l ∙ ap₂ (λ (a b : ℕ). cond (nat_eq (get_or labels k 0) a) b (get_or labels k 0)) (sym label) (sym other))
+          (same ∙ w.join_labels.ensures ∙ ap₂ (λ (a b : ℕ). map (λ l. cond (nat_eq l a) b l) labels) (sym label) (sym other))
       | else-label-other w ↦
           subst (λ (xs : List ℕ). ArePassed m i (j + 1) xs) (sym (ap (λ v. v.items) w.labels-is))
           (passed_on m i j labels p c.requires.row column_in

@@ -1,6 +1,6 @@
 use Rattle.std.proofs.Common.{◌∙◌, ◌++◌, ◌∷◌, [], ap, sym, List, ℕ, zero-add}
 use Rattle.cmr_base.proofs.LineSetLemmas.{range_more}
-use Rattle.two_sep.proofs.labels.own_labels.Goals as goal
+use Rattle.cmr_base.proofs.labels.own_labels.Goals as goal
 
 pub loop-line-preserved : goal.loop-line-preserved
 loop-line-preserved c =

@@ -1,8 +1,8 @@
-// Labels of lines: lines of one label are on one side of every two-separation.
-ghost use Rattle.std.specs.Prelude.{◌≡◌, ◌<◌, if◌then◌else◌, nat_eq, ℕ, length, slice_index_or, IfOk};
+// Labels of lines: joined lines have one label.
+ghost use Rattle.std.specs.Prelude.{◌≡◌, cond, nat_eq, map, IfOk};
 ghost use Rattle.std.specs.List.{range_with_len};
 
-use cmr_base::Memory;
+use crate::Memory;
 use std::alloc::Global;
 
 /// A label of its own for each line.
@@ -18,11 +18,8 @@ pub fn own_labels(alloc: Global, size: u32) -> Result<Vec<u32>, Memory>
 
 /// Gives the label `kept` to all lines of the label `gone`.
 pub fn join_labels(labels: &mut Vec<u32>, gone: u32, kept: u32)
-    ensures count { length labels.new.items ≡ length labels.old.items }
-    ensures joined { (k : ℕ) → k < length labels.old.items
-        → slice_index_or labels.new.items k 0
-        ≡ (if nat_eq (slice_index_or labels.old.items k 0) gone then kept else slice_index_or
-        labels.old.items k 0) }
+    ensures { labels.new.items
+        ≡ map (λ label. cond (nat_eq label gone) kept label) labels.old.items }
 {
     for place in 0..labels.len() {
         if labels[place] == gone {
