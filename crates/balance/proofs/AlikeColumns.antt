@@ -15,7 +15,7 @@ use Rattle.cmr_base.proofs.Parity.{IsFour, even-add, four-double, two_mod_four_n
 use Rattle.cmr_base.proofs.RisingLists.{row_set_rises, column_set_rises, rising_column_set, rising_below}
 use Rattle.cmr_base.proofs.RowLists.{in_filter, search_rows}
 use Rattle.cmr_base.proofs.SumLaws.{sum_over_same, sum_over-add, sum_over-exchange}
-use Rattle.cmr_base.proofs.Booleans.{not_is, is_zero}
+use Rattle.cmr_base.proofs.Booleans.{not_is, is_zero, zero_is}
 use Rattle.cmr_base.proofs.SignEntries.{sign_is_nonzero}
 use Rattle.ghouila.proofs.SignProducts.{sign_nonzero}
 use Rattle.ghouila.proofs.SignedSums.{zero_or_sign}
@@ -122,17 +122,14 @@ module _ (m : Matrix) (small : (i j : ℕ) → IsEntry (entry m i j)) (R C : Lis
       column_part : (j : ℕ) → ((i : ℕ) → IsIn i R → is_nonzero (entry m i c) ≡ false → entry m i j ≡ pos 0) → sum_over (filter (λ i. is_nonzero (entry m i c)) R) (λ i. entry m i j) ≡ sum_over R (λ i. entry m i j)
       column_part j zeros = sum_part (λ i. is_nonzero (entry m i c)) R (λ i. entry m i j) zeros
 
-      zero_of : (z : ℤ) → IsEntry z → is_nonzero z ≡ false → z ≡ pos 0
-      zero_of z h e = elim (zero_or_sign z h) [ inl k ↦ k | inr k ↦ absurd (false≢true (sym e ∙ sign_is_nonzero z k)) ]
-
       first : sum_over (filter (λ i. is_nonzero (entry m i c)) R) (λ i. sum_over (filter (added (only c) d) C) (λ j. entry m i j)) ≡ sum_over R (λ i. entry m i d) +ℤ sum_over R (λ i. entry m i c)
       first =
           sum_over-exchange (filter (λ i. is_nonzero (entry m i c)) R) (filter (added (only c) d) C) (λ i j. entry m i j)
           ∙ sum_added (only c) d m.width C (λ j. sum_over (filter (λ i. is_nonzero (entry m i c)) R) (λ i. entry m i j)) (column_set_rises m C column_set) d_in
           (not_added (λ j. false) c d refl (λ e. apart (sym e)))
           ∙ plain (sum_over (filter (λ i. is_nonzero (entry m i c)) R) (λ i. entry m i d)) (sum_over (filter (only c) C) (λ j. sum_over (filter (λ i. is_nonzero (entry m i c)) R) (λ i. entry m i j))) (sum_over R (λ i. entry m i d)) (sum_over R (λ i. entry m i c))
-          (column_part d (λ i h e. zero_of (entry m i d) (small i d) (sym (same i h) ∙ e)))
-          (sum_only c m.width C (λ j. sum_over (filter (λ i. is_nonzero (entry m i c)) R) (λ i. entry m i j)) (column_set_rises m C column_set) c_in ∙ column_part c (λ i h e. zero_of (entry m i c) (small i c) e))
+          (column_part d (λ i h e. zero_is (entry m i d) (sym (same i h) ∙ e)))
+          (sum_only c m.width C (λ j. sum_over (filter (λ i. is_nonzero (entry m i c)) R) (λ i. entry m i j)) (column_set_rises m C column_set) c_in ∙ column_part c (λ i h e. zero_is (entry m i c) e))
         where
           plain : (a b x y : ℤ) → a ≡ x → b ≡ y → a +ℤ b ≡ x +ℤ y
           plain a b x y e g = omega (arith, sums)

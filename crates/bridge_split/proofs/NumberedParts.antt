@@ -7,7 +7,7 @@ use Rattle.std.proofs.lemmas.List.Kept.{IsStrictlyIncreasing-filter}
 use Rattle.cmr_base.specs.Members.{IsIn}
 use Rattle.cmr_base.specs.Splits.{LeadsTo, AreLinked, AreParts}
 use Rattle.cmr_base.proofs.ListsWithout.{place_of, IsPlaceOf, place_is}
-use Rattle.cmr_base.proofs.Members.{in_at}
+use Rattle.cmr_base.proofs.Members.{in_at, some_in}
 use Rattle.cmr_base.proofs.Submatrices.{increasing_places}
 use Rattle.cmr_base.proofs.RowLists.{is_eq, filter_in, in_filter}
 use Rattle.bridge_split.specs.PartNumbers.{is_number, number_at, numbered_rows, numbered_parts, AreNumbered}
@@ -31,10 +31,6 @@ first_least xs rises x h = go (place_is x xs h)
       | inl e ↦ let f : get_or xs 0 0 ≡ x = ap (λ (v : ℕ). get_or xs v 0) (sym e) ∙ p.there in omega arith
       | inr n ↦ let l = increasing_places xs 0 (place_of x xs) rises (omega arith) p.in_range in let f = p.there in omega arith
     ]
-
-pub some_in : (x : ℕ) (xs : List ℕ) → IsIn x xs → 0 < length xs
-some_in x [] h = absurd h
-some_in x (y ∷ ys) h = omega arith
 
 module _ (M : ℕ → ℕ → Bool) (S : List ℕ) (i : ℕ) (rises : IsStrictlyIncreasing S) (numbers : List (Option ℕ)) (count : ℕ) (n : AreNumbered M S i (number_at numbers) count) where
   -- rows of one part have one number

@@ -14,19 +14,19 @@ IsUncutIn M columns j = ((column : ℕ) → columns column ≡ true → M j colu
 abbrev pub AreUncutIn : (ℕ → ℕ → Bool) → (ℕ → Bool) → List ℕ → Type 0
 AreUncutIn M columns rows = (j : ℕ) → IsIn j rows → IsUncutIn M columns j
 
--- in the middle of the rows of a part: the bits of a word are common columns of a block, and have those of the rows before a place
-pub record IsCollectingWord (M : ℕ → ℕ → Bool) (i : ℕ) (part : List ℕ) (block word place : ℕ) : Type 0 where
-  pub into : (k : ℕ) → k < 64 → has_bit word k ≡ true → IsCommon M i part (64 * block + k)
-  pub from : (p k : ℕ) → p < place → k < 64 → M i (64 * block + k) ≡ true → M (slice_index part p) (64 * block + k) ≡ true → has_bit word k ≡ true
+-- in the middle of the rows of a part: the bits of a word are common columns of a chunk, and have those of the rows before a place
+pub record IsCollectingWord (M : ℕ → ℕ → Bool) (i : ℕ) (part : List ℕ) (chunk word place : ℕ) : Type 0 where
+  pub into : (k : ℕ) → k < 64 → has_bit word k ≡ true → IsCommon M i part (64 * chunk + k)
+  pub from : (p k : ℕ) → p < place → k < 64 → M i (64 * chunk + k) ≡ true → M (slice_index part p) (64 * chunk + k) ≡ true → has_bit word k ≡ true
 
--- the bits of a word are the common columns of a block
+-- the bits of a word are the common columns of a chunk
 abbrev pub IsCommonWord : (ℕ → ℕ → Bool) → ℕ → List ℕ → ℕ → ℕ → Type 0
-IsCommonWord M i part block word = (k : ℕ) → k < 64 → (has_bit word k ≡ true) ↔ IsCommon M i part (64 * block + k)
+IsCommonWord M i part chunk word = (k : ℕ) → k < 64 → (has_bit word k ≡ true) ↔ IsCommon M i part (64 * chunk + k)
 
--- the first words of a set have the common columns of their blocks
-pub record AreCommonWords (m : Matrix) (i : ℕ) (part set : List ℕ) (block : ℕ) : Type 0 where
+-- the first words of a set have the common columns of their chunks
+pub record AreCommonWords (m : Matrix) (i : ℕ) (part set : List ℕ) (chunk : ℕ) : Type 0 where
   pub size : length set ≡ words_for m.width
-  pub right : (column : ℕ) → column < 64 * block → (has_column set column ≡ true) ↔ IsCommon (support m) i part column
+  pub right : (column : ℕ) → column < 64 * chunk → (has_column set column ≡ true) ↔ IsCommon (support m) i part column
 
 abbrev pub part_at : List (List ℕ) → ℕ → List ℕ
 part_at parts a = slice_index_or parts a []

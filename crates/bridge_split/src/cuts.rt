@@ -78,27 +78,27 @@ pub fn set_common(matrix: &Matrix, row: u32, part: &Indices, common: &mut Vec<u6
     ensures common { (column : ℕ) → (has_column common.new.items column ≡ true)
         ↔ IsCommon (support matrix.now) row part.now column }
 {
-    for block in 0..common.len() {
-        common[block] = common_word(matrix, row, part, block as u32);
+    for chunk in 0..common.len() {
+        common[chunk] = common_word(matrix, row, part, chunk as u32);
     }
 }
 
-// The columns of a block that `row` has in common with some row of the part. The rows are gone through until all columns of
+// The columns of a chunk that `row` has in common with some row of the part. The rows are gone through until all columns of
 // `row` there were met.
-fn common_word(matrix: &Matrix, row: u32, part: &Indices, block: u32) -> u64
+fn common_word(matrix: &Matrix, row: u32, part: &Indices, chunk: u32) -> u64
     requires shape { IsMatrix matrix.now }
     requires row { row < height matrix.now }
     requires rows { AllBelow (height matrix.now) part.now }
-    requires block { 64 * block < matrix.now.width }
-    ensures { IsCommonWord (support matrix.now) row part.now block result }
+    requires chunk { 64 * chunk < matrix.now.width }
+    ensures { IsCommonWord (support matrix.now) row part.now chunk result }
 {
-    let own = matrix.support_word(row, block);
+    let own = matrix.support_word(row, chunk);
     let mut common = 0;
     for other in part.as_slice() {
         if common == own {
             return common;
         }
-        common |= own & matrix.support_word(*other, block);
+        common |= own & matrix.support_word(*other, chunk);
     }
     common
 }

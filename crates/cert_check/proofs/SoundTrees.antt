@@ -32,7 +32,7 @@ use Rattle.cert_check.proofs.PivotedMatrices.{lines_after, free_pivoted, pivoted
 some_is_none : {A B : Type 0} (x : A) → Some x ≡ None → B
 some_is_none x e = true_is_false (ap is_some e)
 
-none_or : {A : Type 0} (a b : Option A) → option_or a b ≡ None → (a ≡ None) × (b ≡ None)
+pub none_or : {A : Type 0} (a b : Option A) → option_or a b ≡ None → (a ≡ None) × (b ≡ None)
 none_or None b e = (refl, e)
 none_or (Some x) b e = some_is_none x e
 

@@ -1,12 +1,18 @@
 -- What tests of numbers and of entries say, and Booleans made of them.
 use mir.Val.{bool_byte}
 use Rattle.std.proofs.Common.{◌≡◌, ◌≢◌, ◌<◌, ◌≤◌, ◌&&◌, ◌||◌, ◌∙◌, ◌⊎◌, inl, inr, ℕ, zero, suc, ℤ, pos, negsuc, Bool, true, false, not, cond, nat_eq, nat_lt, refl, ap, arith}
+use Rattle.std.specs.Prelude.{◌↔◌, IsTrue}
 use Rattle.std.proofs.lemmas.Bool.{true≢false, cases_lt}
 use Rattle.std.proofs.lemmas.Bool.Decides.{nat_tests}
 use Rattle.std.proofs.lemmas.Int.{ints}
 use Rattle.cmr_base.specs.Matrix.{is_nonzero}
 
 -- ---- Booleans
+
+-- neither of two tests holds
+pub not_either : (a b : Bool) → (a || b) ≡ false → (a ≡ false) × (b ≡ false)
+not_either true b h = absurd (cc)
+not_either false b h = (refl, h)
 
 pub true_is_false : {A : Type 0} → true ≡ false → A
 true_is_false e = absurd (true≢false e)
@@ -125,6 +131,9 @@ self_eq n = grind arith
 
 pub is_eq : (a b : ℕ) → a ≡ b → nat_eq a b ≡ true
 is_eq a b e = ap (λ (z : ℕ). nat_eq z b) e ∙ self_eq b
+
+pub eq_test : (m k : ℕ) → IsTrue (nat_eq m k) ↔ (m ≡ k)
+eq_test m k = (λ h. grind (arith, nat_tests), λ h. grind (arith, nat_tests))
 
 pub eq_turned : (a b : ℕ) → nat_eq a b ≡ nat_eq b a
 eq_turned a b = grind (arith, nat_tests)

@@ -16,17 +16,17 @@ use Rattle.cmr_base.proofs.FirstBits.{first_by_bits, none_by_bits}
 use Rattle.cmr_base.proofs.RowLists.{is_eq, is_ne, same_or_not}
 use Rattle.std.specs.Prelude.{◌↔◌}
 use Rattle.cmr_base.specs.ColumnSets.{has_column, Denies, HasCommon, IsApart, IsWithin, IsAdded}
-use Rattle.cmr_base.proofs.WordBits.{has_bit-and, has_bit-not, has_bit-or, has_bit-zero, bit_at_block}
+use Rattle.cmr_base.proofs.WordBits.{has_bit-and, has_bit-not, has_bit-or, has_bit-zero, bit_at_chunk}
 
--- a column by its block and its place there
-pub block_of : (block k : ℕ) → k < 64 → (64 * block + k) / 64 ≡ block
-block_of block k l = omega arith
+-- a column by its chunk and its place there
+pub chunk_of : (chunk k : ℕ) → k < 64 → (64 * chunk + k) / 64 ≡ chunk
+chunk_of chunk k l = omega arith
 
-pub place_of : (block k : ℕ) → k < 64 → (64 * block + k) % 64 ≡ k
-place_of block k l = omega arith
+pub place_of : (chunk k : ℕ) → k < 64 → (64 * chunk + k) % 64 ≡ k
+place_of chunk k l = omega arith
 
-pub column_at : (words : List ℕ) (block k : ℕ) → k < 64 → has_column words (64 * block + k) ≡ has_bit (get_or words block 0) k
-column_at words block k l = ap (λ b. has_bit (get_or words b 0) ((64 * block + k) % 64)) (block_of block k l) ∙ ap (has_bit (get_or words block 0)) (place_of block k l)
+pub column_at : (words : List ℕ) (chunk k : ℕ) → k < 64 → has_column words (64 * chunk + k) ≡ has_bit (get_or words chunk 0) k
+column_at words chunk k l = ap (λ b. has_bit (get_or words b 0) ((64 * chunk + k) % 64)) (chunk_of chunk k l) ∙ ap (has_bit (get_or words chunk 0)) (place_of chunk k l)
 
 -- no column is past the last word
 pub none_past : (words : List ℕ) (column : ℕ) → 64 * length words ≤ column → has_column words column ≡ false
@@ -46,7 +46,7 @@ row_columns m row is l column = go (cases_lt (column / 64) (words_for m.width))
     go : (column / 64 < words_for m.width) ⊎ (words_for m.width ≤ column / 64) → has_column (words_of (words_for m.width) is_nonzero (row_of m row)) column ≡ support m row column
     go (inl k) =
         ap (λ word. has_bit word (column % 64)) (word-words_of (words_for m.width) is_nonzero (row_of m row) (column / 64) k)
-        ∙ bit_at_block m row (column / 64) (column % 64) (omega arith) ∙ ap (support m row) same
+        ∙ bit_at_chunk m row (column / 64) (column % 64) (omega arith) ∙ ap (support m row) same
     go (inr k) =
         none_past (words_of (words_for m.width) is_nonzero (row_of m row)) column (let e = length-words_of (words_for m.width) is_nonzero (row_of m row) in omega arith)
         ∙ sym (past k (support m row column) refl)
@@ -64,38 +64,38 @@ module _ (test : ℕ → Bool) (before : List ℕ) where
   pub added_none : IsAdded test before before 0
   added_none = record { size = refl; done = λ column l. absurd (omega arith); left = λ column l. refl }
 
-  pub added_word : (after : List ℕ) (block old word : ℕ) → IsAdded test before after block → block < length after → old ≡ get_or after block old → ((k : ℕ) → k < 64 → has_bit word k ≡ test (64 * block + k))
-      → IsAdded test before (set after block (bit_or old word)) (block + 1)
-  added_word after block old word a l is bits = record {
-    size = length-set after block (bit_or old word) ∙ a.size;
-    done = λ column h. go column h (cases_lt column (64 * block));
+  pub added_word : (after : List ℕ) (chunk old word : ℕ) → IsAdded test before after chunk → chunk < length after → old ≡ get_or after chunk old → ((k : ℕ) → k < 64 → has_bit word k ≡ test (64 * chunk + k))
+      → IsAdded test before (set after chunk (bit_or old word)) (chunk + 1)
+  added_word after chunk old word a l is bits = record {
+    size = length-set after chunk (bit_or old word) ∙ a.size;
+    done = λ column h. go column h (cases_lt column (64 * chunk));
     left = λ column h. other column (λ e. absurd (omega arith)) ∙ a.left column (omega arith);
   }
     where
       after' : List ℕ
-      after' = set after block (bit_or old word)
+      after' = set after chunk (bit_or old word)
 
-      other : (column : ℕ) → (column / 64 ≡ block → ⊥) → has_column after' column ≡ has_column after column
-      other column n = ap (λ w. has_bit w (column % 64)) (get_or-set_other after block (column / 64) (bit_or old word) 0 n)
+      other : (column : ℕ) → (column / 64 ≡ chunk → ⊥) → has_column after' column ≡ has_column after column
+      other column n = ap (λ w. has_bit w (column % 64)) (get_or-set_other after chunk (column / 64) (bit_or old word) 0 n)
 
-      here : (k : ℕ) → k < 64 → has_column after' (64 * block + k) ≡ (has_column before (64 * block + k) || test (64 * block + k))
+      here : (k : ℕ) → k < 64 → has_column after' (64 * chunk + k) ≡ (has_column before (64 * chunk + k) || test (64 * chunk + k))
       here k s =
-          column_at after' block k s
-          ∙ ap (λ w. has_bit w k) (get_or-set_same after block (bit_or old word) 0 l)
+          column_at after' chunk k s
+          ∙ ap (λ w. has_bit w k) (get_or-set_same after chunk (bit_or old word) 0 l)
           ∙ has_bit-or old word k
-          ∙ ap₂ (λ a b. a || b) (ap (λ w. has_bit w k) (is ∙ get_or_default after block old 0 l) ∙ sym (column_at after block k s) ∙ a.left (64 * block + k) (omega arith)) (bits k s)
+          ∙ ap₂ (λ a b. a || b) (ap (λ w. has_bit w k) (is ∙ get_or_default after chunk old 0 l) ∙ sym (column_at after chunk k s) ∙ a.left (64 * chunk + k) (omega arith)) (bits k s)
 
-      go : (column : ℕ) → column < 64 * (block + 1) → (column < 64 * block) ⊎ (64 * block ≤ column) → has_column after' column ≡ (has_column before column || test column)
+      go : (column : ℕ) → column < 64 * (chunk + 1) → (column < 64 * chunk) ⊎ (64 * chunk ≤ column) → has_column after' column ≡ (has_column before column || test column)
       go column h (inl k) = other column (λ e. absurd (omega arith)) ∙ a.done column k
       go column h (inr k) =
-          let at : 64 * block + column % 64 ≡ column = omega arith in
+          let at : 64 * chunk + column % 64 ≡ column = omega arith in
           subst (λ x. has_column after' x ≡ (has_column before x || test x)) at (here (column % 64) (omega arith))
 
-  pub added_all : (after : List ℕ) (block : ℕ) → IsAdded test before after block → length before ≤ block → ((column : ℕ) → 64 * length before ≤ column → test column ≡ false)
+  pub added_all : (after : List ℕ) (chunk : ℕ) → IsAdded test before after chunk → length before ≤ chunk → ((column : ℕ) → 64 * length before ≤ column → test column ≡ false)
       → (column : ℕ) → has_column after column ≡ (has_column before column || test column)
-  added_all after block a l none column = go (cases_lt column (64 * block))
+  added_all after chunk a l none column = go (cases_lt column (64 * chunk))
     where
-      go : (column < 64 * block) ⊎ (64 * block ≤ column) → has_column after column ≡ (has_column before column || test column)
+      go : (column < 64 * chunk) ⊎ (64 * chunk ≤ column) → has_column after column ≡ (has_column before column || test column)
       go (inl k) = a.done column k
       go (inr k) = a.left column k ∙ sym (ap (λ t. has_column before column || t) (none column (omega arith)) ∙ or_false (has_column before column))
 
@@ -152,32 +152,32 @@ is_part_word a b fa fb all =
 
 -- ---- word after word
 
-pub in_block : (column block : ℕ) → 64 * block ≤ column → column < 64 * (block + 1) → 64 * block + column % 64 ≡ column
-in_block column block l h = omega arith
+pub in_chunk : (column chunk : ℕ) → 64 * chunk ≤ column → column < 64 * (chunk + 1) → 64 * chunk + column % 64 ≡ column
+in_chunk column chunk l h = omega arith
 
-module _ (one two : List ℕ) (block : ℕ) where
-  pub unshared : ((k : ℕ) → k < 64 * block → has_column one k ≡ true → has_column two k ≡ false) → ((k : ℕ) → k < 64 → has_bit (get_or one block 0) k ≡ true → has_bit (get_or two block 0) k ≡ true → ⊥)
-      → (k : ℕ) → k < 64 * (block + 1) → has_column one k ≡ true → has_column two k ≡ false
-  unshared so none k h a = elim (cases_lt k (64 * block)) [
+module _ (one two : List ℕ) (chunk : ℕ) where
+  pub unshared : ((k : ℕ) → k < 64 * chunk → has_column one k ≡ true → has_column two k ≡ false) → ((k : ℕ) → k < 64 → has_bit (get_or one chunk 0) k ≡ true → has_bit (get_or two chunk 0) k ≡ true → ⊥)
+      → (k : ℕ) → k < 64 * (chunk + 1) → has_column one k ≡ true → has_column two k ≡ false
+  unshared so none k h a = elim (cases_lt k (64 * chunk)) [
     | inl l ↦ so k l a
     | inr l ↦
-        let at = in_block k block l h in
+        let at = in_chunk k chunk l h in
         let small : k % 64 < 64 = omega arith in
-        pick (has_column two k) refl (λ b. none (k % 64) small (sym (column_at one block (k % 64) small) ∙ ap (has_column one) at ∙ a) (sym (column_at two block (k % 64) small) ∙ ap (has_column two) at ∙ b))
+        pick (has_column two k) refl (λ b. none (k % 64) small (sym (column_at one chunk (k % 64) small) ∙ ap (has_column one) at ∙ a) (sym (column_at two chunk (k % 64) small) ∙ ap (has_column two) at ∙ b))
   ]
     where
       pick : (t : Bool) → has_column two k ≡ t → (t ≡ true → ⊥) → t ≡ false
       pick true e n = absurd (n refl)
       pick false e n = refl
 
-  pub within_more : ((k : ℕ) → k < 64 * block → has_column one k ≡ true → has_column two k ≡ true) → ((k : ℕ) → k < 64 → has_bit (get_or one block 0) k ≡ true → has_bit (get_or two block 0) k ≡ true)
-      → (k : ℕ) → k < 64 * (block + 1) → has_column one k ≡ true → has_column two k ≡ true
-  within_more so all k h a = elim (cases_lt k (64 * block)) [
+  pub within_more : ((k : ℕ) → k < 64 * chunk → has_column one k ≡ true → has_column two k ≡ true) → ((k : ℕ) → k < 64 → has_bit (get_or one chunk 0) k ≡ true → has_bit (get_or two chunk 0) k ≡ true)
+      → (k : ℕ) → k < 64 * (chunk + 1) → has_column one k ≡ true → has_column two k ≡ true
+  within_more so all k h a = elim (cases_lt k (64 * chunk)) [
     | inl l ↦ so k l a
     | inr l ↦
-        let at = in_block k block l h in
+        let at = in_chunk k chunk l h in
         let small : k % 64 < 64 = omega arith in
-        ap (has_column two) (sym at) ∙ column_at two block (k % 64) small ∙ all (k % 64) small (sym (column_at one block (k % 64) small) ∙ ap (has_column one) at ∙ a)
+        ap (has_column two) (sym at) ∙ column_at two chunk (k % 64) small ∙ all (k % 64) small (sym (column_at one chunk (k % 64) small) ∙ ap (has_column one) at ∙ a)
   ]
 
 -- ---- the next column of a set

@@ -68,47 +68,47 @@ minus_bits (pos (suc zero)) (negsuc (suc n)) a b = too_small n b
 minus_bits (negsuc zero) (pos (suc (suc n))) a b = too_large n b
 minus_bits (negsuc zero) (negsuc (suc n)) a b = too_small n b
 
-module _ (m : Matrix) (row model block i : ℕ) (is : IsMatrix m) (low : i < 64) where
+module _ (m : Matrix) (row model chunk i : ℕ) (is : IsMatrix m) (low : i < 64) where
   abbrev own : ℤ
-  own = entry m row (64 * block + i)
+  own = entry m row (64 * chunk + i)
 
   abbrev other : ℤ
-  other = entry m model (64 * block + i)
+  other = entry m model (64 * chunk + i)
 
-  support_bit : bit_at (word_of is_nonzero (row_of m row) block) i ≡ bit (is_nonzero (entry m row (64 * block + i)))
-  support_bit = bit-word_of is_nonzero (row_of m row) block i refl low
+  support_bit : bit_at (word_of is_nonzero (row_of m row) chunk) i ≡ bit (is_nonzero (entry m row (64 * chunk + i)))
+  support_bit = bit-word_of is_nonzero (row_of m row) chunk i refl low
 
-  minus_bit : bit_at (word_of is_minus (row_of m row) block) i ≡ bit (is_minus (entry m row (64 * block + i)))
-  minus_bit = bit-word_of is_minus (row_of m row) block i refl low
+  minus_bit : bit_at (word_of is_minus (row_of m row) chunk) i ≡ bit (is_minus (entry m row (64 * chunk + i)))
+  minus_bit = bit-word_of is_minus (row_of m row) chunk i refl low
 
-  other_support_bit : bit_at (word_of is_nonzero (row_of m model) block) i ≡ bit (is_nonzero (entry m model (64 * block + i)))
-  other_support_bit = bit-word_of is_nonzero (row_of m model) block i refl low
+  other_support_bit : bit_at (word_of is_nonzero (row_of m model) chunk) i ≡ bit (is_nonzero (entry m model (64 * chunk + i)))
+  other_support_bit = bit-word_of is_nonzero (row_of m model) chunk i refl low
 
-  other_minus_bit : bit_at (word_of is_minus (row_of m model) block) i ≡ bit (is_minus (entry m model (64 * block + i)))
-  other_minus_bit = bit-word_of is_minus (row_of m model) block i refl low
+  other_minus_bit : bit_at (word_of is_minus (row_of m model) chunk) i ≡ bit (is_minus (entry m model (64 * chunk + i)))
+  other_minus_bit = bit-word_of is_minus (row_of m model) chunk i refl low
 
-  pub bit_without : bit_at (word_of is_nonzero (row_of m row) block) i ≡ bit (differs_at m row (pos 0) model (64 * block + i))
-  bit_without = support_bit ∙ zero_bits (entry m row (64 * block + i)) (is.small row (64 * block + i)) ∙ ap (λ (z : ℤ). bit (differ (entry m row (64 * block + i)) z)) (sym (nothing (entry m model (64 * block + i))))
+  pub bit_without : bit_at (word_of is_nonzero (row_of m row) chunk) i ≡ bit (differs_at m row (pos 0) model (64 * chunk + i))
+  bit_without = support_bit ∙ zero_bits (entry m row (64 * chunk + i)) (is.small row (64 * chunk + i)) ∙ ap (λ (z : ℤ). bit (differ (entry m row (64 * chunk + i)) z)) (sym (nothing (entry m model (64 * chunk + i))))
     where
       nothing : (z : ℤ) → pos 0 *ℤ z ≡ pos 0
       nothing z = simp products
 
-  pub bit_same : bit_at (bit_or (bit_xor (word_of is_nonzero (row_of m row) block) (word_of is_nonzero (row_of m model) block)) (bit_xor (word_of is_minus (row_of m row) block) (word_of is_minus (row_of m model) block))) i
-      ≡ bit (differs_at m row (pos 1) model (64 * block + i))
+  pub bit_same : bit_at (bit_or (bit_xor (word_of is_nonzero (row_of m row) chunk) (word_of is_nonzero (row_of m model) chunk)) (bit_xor (word_of is_minus (row_of m row) chunk) (word_of is_minus (row_of m model) chunk))) i
+      ≡ bit (differs_at m row (pos 1) model (64 * chunk + i))
   bit_same =
-      bit_at_or (bit_xor (word_of is_nonzero (row_of m row) block) (word_of is_nonzero (row_of m model) block)) (bit_xor (word_of is_minus (row_of m row) block) (word_of is_minus (row_of m model) block)) i
-      ∙ ap₂ max (bit_at_xor (word_of is_nonzero (row_of m row) block) (word_of is_nonzero (row_of m model) block) i ∙ ap₂ (λ (a b : ℕ). (a + b) % 2) support_bit other_support_bit)
-      (bit_at_xor (word_of is_minus (row_of m row) block) (word_of is_minus (row_of m model) block) i ∙ ap₂ (λ (a b : ℕ). (a + b) % 2) minus_bit other_minus_bit)
-      ∙ plus_bits (entry m row (64 * block + i)) (entry m model (64 * block + i)) (is.small row (64 * block + i)) (is.small model (64 * block + i))
+      bit_at_or (bit_xor (word_of is_nonzero (row_of m row) chunk) (word_of is_nonzero (row_of m model) chunk)) (bit_xor (word_of is_minus (row_of m row) chunk) (word_of is_minus (row_of m model) chunk)) i
+      ∙ ap₂ max (bit_at_xor (word_of is_nonzero (row_of m row) chunk) (word_of is_nonzero (row_of m model) chunk) i ∙ ap₂ (λ (a b : ℕ). (a + b) % 2) support_bit other_support_bit)
+      (bit_at_xor (word_of is_minus (row_of m row) chunk) (word_of is_minus (row_of m model) chunk) i ∙ ap₂ (λ (a b : ℕ). (a + b) % 2) minus_bit other_minus_bit)
+      ∙ plus_bits (entry m row (64 * chunk + i)) (entry m model (64 * chunk + i)) (is.small row (64 * chunk + i)) (is.small model (64 * chunk + i))
 
-  pub bit_negated : bit_at (bit_or (bit_xor (word_of is_nonzero (row_of m row) block) (word_of is_nonzero (row_of m model) block)) (bit_xor (word_of is_minus (row_of m row) block) (bit_xor (word_of is_nonzero (row_of m model) block) (word_of is_minus (row_of m model) block)))) i
-      ≡ bit (differs_at m row (negsuc 0) model (64 * block + i))
+  pub bit_negated : bit_at (bit_or (bit_xor (word_of is_nonzero (row_of m row) chunk) (word_of is_nonzero (row_of m model) chunk)) (bit_xor (word_of is_minus (row_of m row) chunk) (bit_xor (word_of is_nonzero (row_of m model) chunk) (word_of is_minus (row_of m model) chunk)))) i
+      ≡ bit (differs_at m row (negsuc 0) model (64 * chunk + i))
   bit_negated =
-      bit_at_or (bit_xor (word_of is_nonzero (row_of m row) block) (word_of is_nonzero (row_of m model) block)) (bit_xor (word_of is_minus (row_of m row) block) (bit_xor (word_of is_nonzero (row_of m model) block) (word_of is_minus (row_of m model) block))) i
-      ∙ ap₂ max (bit_at_xor (word_of is_nonzero (row_of m row) block) (word_of is_nonzero (row_of m model) block) i ∙ ap₂ (λ (a b : ℕ). (a + b) % 2) support_bit other_support_bit)
-      (bit_at_xor (word_of is_minus (row_of m row) block) (bit_xor (word_of is_nonzero (row_of m model) block) (word_of is_minus (row_of m model) block)) i
-      ∙ ap₂ (λ (a b : ℕ). (a + b) % 2) minus_bit (bit_at_xor (word_of is_nonzero (row_of m model) block) (word_of is_minus (row_of m model) block) i ∙ ap₂ (λ (a b : ℕ). (a + b) % 2) other_support_bit other_minus_bit))
-      ∙ minus_bits (entry m row (64 * block + i)) (entry m model (64 * block + i)) (is.small row (64 * block + i)) (is.small model (64 * block + i))
+      bit_at_or (bit_xor (word_of is_nonzero (row_of m row) chunk) (word_of is_nonzero (row_of m model) chunk)) (bit_xor (word_of is_minus (row_of m row) chunk) (bit_xor (word_of is_nonzero (row_of m model) chunk) (word_of is_minus (row_of m model) chunk))) i
+      ∙ ap₂ max (bit_at_xor (word_of is_nonzero (row_of m row) chunk) (word_of is_nonzero (row_of m model) chunk) i ∙ ap₂ (λ (a b : ℕ). (a + b) % 2) support_bit other_support_bit)
+      (bit_at_xor (word_of is_minus (row_of m row) chunk) (bit_xor (word_of is_nonzero (row_of m model) chunk) (word_of is_minus (row_of m model) chunk)) i
+      ∙ ap₂ (λ (a b : ℕ). (a + b) % 2) minus_bit (bit_at_xor (word_of is_nonzero (row_of m model) chunk) (word_of is_minus (row_of m model) chunk) i ∙ ap₂ (λ (a b : ℕ). (a + b) % 2) other_support_bit other_minus_bit))
+      ∙ minus_bits (entry m row (64 * chunk + i)) (entry m model (64 * chunk + i)) (is.small row (64 * chunk + i)) (is.small model (64 * chunk + i))
 
 -- what the tests of a factor mean
 pub factor_one : (x : ℤ) → IsEntry x → of_z w8 x ≡ 1 → x ≡ pos 1

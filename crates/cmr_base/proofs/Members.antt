@@ -12,6 +12,10 @@ use Rattle.cmr_base.proofs.Booleans.{eq_of, is_ne, ne_of}
 abbrev pub IsWithin : List ℕ → List ℕ → Type 0
 IsWithin xs ys = (x : ℕ) → IsIn x xs → IsIn x ys
 
+pub some_in : (x : ℕ) (xs : List ℕ) → IsIn x xs → 0 < length xs
+some_in x [] h = absurd h
+some_in x (y ∷ ys) h = omega arith
+
 pub all_in : (P : ℕ → Type 0) (xs : List ℕ) → AllByRecursion P xs → (x : ℕ) → IsIn x xs → P x
 all_in P [] h x g = absurd g
 all_in P (y ∷ ys) h x (inl e) = subst P (sym e) h.0

@@ -40,9 +40,9 @@ plane-zero test rows columns words none =
     words_from_bits words test (replicate rows (replicate columns (pos 0))) (replicate (rows * words) 0) none
     (length-replicate (rows * words) 0 ∙ ap (λ n. n * words) (sym (length-replicate rows (replicate columns (pos 0)))))
     (λ k. omega (arith, get_or-replicated {A = ℕ} (rows * words) k 0))
-    (λ row block place in_height in_words small.
-    ap (λ word. bit_at word place) (get_or-replicated {A = ℕ} (rows * words) (row * words + block) 0) ∙ bit_at-zero place
-    ∙ sym (ap (λ z. cond (test z) 1 0) (zero_entry rows columns row (64 * block + place) (omega (arith, in_height, length-replicate rows (replicate columns (pos 0))))) ∙ ap (λ (b : Bool). cond b 1 0) none))
+    (λ row chunk place in_height in_words small.
+    ap (λ word. bit_at word place) (get_or-replicated {A = ℕ} (rows * words) (row * words + chunk) 0) ∙ bit_at-zero place
+    ∙ sym (ap (λ z. cond (test z) 1 0) (zero_entry rows columns row (64 * chunk + place) (omega (arith, in_height, length-replicate rows (replicate columns (pos 0))))) ∙ ap (λ (b : Bool). cond b 1 0) none))
 
 -- the bits of words, counted
 sum_by-cons : {X : Type 0} (f : X → ℕ) (x : X) (xs : List X) → sum_by f (x ∷ xs) ≡ f x + sum_by f xs
@@ -84,22 +84,22 @@ module _ (m : Matrix) (test : ℤ → Bool) (plane : List ℕ) (row column : ℕ
   abbrev after : List ℕ
   after = set plane (row * words_for m.width + column / 64) word
 
-  block_in : column / 64 < words_for m.width
-  block_in = omega arith
+  chunk_in : column / 64 < words_for m.width
+  chunk_in = omega arith
 
   inside : place < length plane
-  inside = omega (arith, length-plane m test plane plane_is, mul-add-lt row (words_for m.width) (column / 64) (height m) row_in block_in)
+  inside = omega (arith, length-plane m test plane plane_is, mul-add-lt row (words_for m.width) (column / 64) (height m) row_in chunk_in)
 
-  old_bit : (r block k : ℕ) → r < height m → block < words → k < 64 → bit_at (get_or plane (r * words + block) 0) k ≡ cond (test (entry m r (64 * block + k))) 1 0
-  old_bit r block k in_height in_words small =
-      ap (λ (ws : List ℕ). bit_at (get_or ws (r * words + block) 0) k) plane_is
-      ∙ ap (λ n. bit_at n k) (word-rows words test m.rows r block in_height in_words)
-      ∙ bit-word_of test (get_or m.rows r []) block k none small
+  old_bit : (r chunk k : ℕ) → r < height m → chunk < words → k < 64 → bit_at (get_or plane (r * words + chunk) 0) k ≡ cond (test (entry m r (64 * chunk + k))) 1 0
+  old_bit r chunk k in_height in_words small =
+      ap (λ (ws : List ℕ). bit_at (get_or ws (r * words + chunk) 0) k) plane_is
+      ∙ ap (λ n. bit_at n k) (word-rows words test m.rows r chunk in_height in_words)
+      ∙ bit-word_of test (get_or m.rows r []) chunk k none small
 
-  kept : (r block k : ℕ) → r < height m → block < words → k < 64 → r * words + block ≢ place → entry (with_entry m row column value) r (64 * block + k) ≡ entry m r (64 * block + k)
-      → bit_at (get_or after (r * words + block) 0) k ≡ cond (test (entry (with_entry m row column value) r (64 * block + k))) 1 0
-  kept r block k in_height in_words small other same =
-      ap (λ n. bit_at n k) (get_or-set_other plane place (r * words + block) word 0 other) ∙ old_bit r block k in_height in_words small
+  kept : (r chunk k : ℕ) → r < height m → chunk < words → k < 64 → r * words + chunk ≢ place → entry (with_entry m row column value) r (64 * chunk + k) ≡ entry m r (64 * chunk + k)
+      → bit_at (get_or after (r * words + chunk) 0) k ≡ cond (test (entry (with_entry m row column value) r (64 * chunk + k))) 1 0
+  kept r chunk k in_height in_words small other same =
+      ap (λ n. bit_at n k) (get_or-set_other plane place (r * words + chunk) word 0 other) ∙ old_bit r chunk k in_height in_words small
       ∙ ap (λ z. cond (test z) 1 0) (sym same)
 
   bit_of : (b : Bool) (n k : ℕ) → has_bit n k ≡ b → bit_at n k ≡ cond b 1 0
@@ -112,25 +112,25 @@ module _ (m : Matrix) (test : ℤ → Bool) (plane : List ℕ) (row column : ℕ
       ap (λ n. bit_at word n) e ∙ bit_of (test value) word (column % 64) here
       ∙ ap (λ z. cond (test z) 1 0) (sym (entry-with_entry_same m row column value row_in is column_in) ∙ ap (λ n. entry (with_entry m row column value) row n) (sym at))
   in_word k small (inr other) =
-      others k small other ∙ old_bit row (column / 64) k row_in block_in small
+      others k small other ∙ old_bit row (column / 64) k row_in chunk_in small
       ∙ ap (λ z. cond (test z) 1 0) (sym (entry-with_entry_other_column m row column value row_in (64 * (column / 64) + k) (λ e. other (omega arith))))
 
-  in_row : (block k : ℕ) → block < words → k < 64 → (block ≡ column / 64) ⊎ (block ≢ column / 64) → bit_at (get_or after (row * words + block) 0) k ≡ cond (test (entry (with_entry m row column value) row (64 * block + k))) 1 0
-  in_row block k in_words small (inl e) =
+  in_row : (chunk k : ℕ) → chunk < words → k < 64 → (chunk ≡ column / 64) ⊎ (chunk ≢ column / 64) → bit_at (get_or after (row * words + chunk) 0) k ≡ cond (test (entry (with_entry m row column value) row (64 * chunk + k))) 1 0
+  in_row chunk k in_words small (inl e) =
       subst (λ b. bit_at (get_or after (row * words + b) 0) k ≡ cond (test (entry (with_entry m row column value) row (64 * b + k))) 1 0) (sym e)
       (ap (λ n. bit_at n k) (get_or-set_same plane place word 0 inside) ∙ in_word k small (cases_eq k (column % 64)))
-  in_row block k in_words small (inr other) =
-      kept row block k row_in in_words small (λ e. other (omega arith))
-      (entry-with_entry_other_column m row column value row_in (64 * block + k) (λ e. other (omega arith)))
+  in_row chunk k in_words small (inr other) =
+      kept row chunk k row_in in_words small (λ e. other (omega arith))
+      (entry-with_entry_other_column m row column value row_in (64 * chunk + k) (λ e. other (omega arith)))
 
-  each : (r block k : ℕ) → r < height m → block < words → k < 64 → (r ≡ row) ⊎ (r ≢ row) → bit_at (get_or after (r * words + block) 0) k ≡ cond (test (entry (with_entry m row column value) r (64 * block + k))) 1 0
-  each r block k in_height in_words small (inl e) =
-      subst (λ n. bit_at (get_or after (n * words + block) 0) k ≡ cond (test (entry (with_entry m row column value) n (64 * block + k))) 1 0) (sym e)
-      (in_row block k in_words small (cases_eq block (column / 64)))
-  each r block k in_height in_words small (inr other) =
-      kept r block k in_height in_words small
-      (λ e. other (sym (div-mul-add r words block in_words) ∙ ap (λ n. n / words) e ∙ div-mul-add row words (column / 64) block_in))
-      (entry-with_entry_other_row m row column value r (64 * block + k) other)
+  each : (r chunk k : ℕ) → r < height m → chunk < words → k < 64 → (r ≡ row) ⊎ (r ≢ row) → bit_at (get_or after (r * words + chunk) 0) k ≡ cond (test (entry (with_entry m row column value) r (64 * chunk + k))) 1 0
+  each r chunk k in_height in_words small (inl e) =
+      subst (λ n. bit_at (get_or after (n * words + chunk) 0) k ≡ cond (test (entry (with_entry m row column value) n (64 * chunk + k))) 1 0) (sym e)
+      (in_row chunk k in_words small (cases_eq chunk (column / 64)))
+  each r chunk k in_height in_words small (inr other) =
+      kept r chunk k in_height in_words small
+      (λ e. other (sym (div-mul-add r words chunk in_words) ∙ ap (λ n. n / words) e ∙ div-mul-add row words (column / 64) chunk_in))
+      (entry-with_entry_other_row m row column value r (64 * chunk + k) other)
 
   all_words : (k : ℕ) → (k ≡ place) ⊎ (k ≢ place) → get_or after k 0 < 2 ^ 64
   all_words k (inl e) = subst (λ n. get_or after n 0 < 2 ^ 64) (sym e) (subst (λ n. n < 2 ^ 64) (sym (get_or-set_same plane place word 0 inside)) fits)
@@ -142,4 +142,4 @@ module _ (m : Matrix) (test : ℤ → Bool) (plane : List ℕ) (row column : ℕ
       words_from_bits words test (with_entry m row column value).rows after none
       (length-set plane place word ∙ length-plane m test plane plane_is ∙ ap (λ n. n * words) (sym (height-with_entry m row column value)))
       (λ k. all_words k (cases_eq k place))
-      (λ r block k in_height in_words small. each r block k (omega (arith, in_height, height-with_entry m row column value)) in_words small (cases_eq r row))
+      (λ r chunk k in_height in_words small. each r chunk k (omega (arith, in_height, height-with_entry m row column value)) in_words small (cases_eq r row))

@@ -103,31 +103,31 @@ take_capped zs from to e h = elim (cases_lt (length zs) (from + 64)) [
 ]
 
 -- one word of a row
-pub word-words_of : (count : ℕ) (test : ℤ → Bool) (zs : List ℤ) (block : ℕ) → block < count → get_or (words_of count test zs) block 0 ≡ word_of test zs block
-word-words_of zero test zs block h = absurd (omega arith)
+pub word-words_of : (count : ℕ) (test : ℤ → Bool) (zs : List ℤ) (chunk : ℕ) → chunk < count → get_or (words_of count test zs) chunk 0 ≡ word_of test zs chunk
+word-words_of zero test zs chunk h = absurd (omega arith)
 word-words_of (suc count) test zs zero h = refl
-word-words_of (suc count) test zs (suc block) h =
-    let further : 64 + 64 * block ≡ 64 * suc block = omega arith in
-    word-words_of count test (drop 64 zs) block (omega arith)
-    ∙ ap (λ (rest : List ℤ). bits_of test (take 64 rest)) (drop-drop (64 * block) 64 zs ∙ ap (λ n. drop n zs) further)
+word-words_of (suc count) test zs (suc chunk) h =
+    let further : 64 + 64 * chunk ≡ 64 * suc chunk = omega arith in
+    word-words_of count test (drop 64 zs) chunk (omega arith)
+    ∙ ap (λ (rest : List ℤ). bits_of test (take 64 rest)) (drop-drop (64 * chunk) 64 zs ∙ ap (λ n. drop n zs) further)
 
-pub word-rows : (words : ℕ) (test : ℤ → Bool) (rows : List (List ℤ)) (row block : ℕ) → row < length rows → block < words → get_or (flat_map (words_of words test) rows) (row * words + block) 0 ≡ word_of test (get_or rows row []) block
-word-rows words test rows row block in_rows in_words =
-    sym (get_or-drop (row * words) (flat_map (words_of words test) rows) block 0)
-    ∙ sym (get_or-take words (drop (row * words) (flat_map (words_of words test) rows)) block 0 in_words)
-    ∙ ap (λ (ws : List ℕ). get_or ws block 0) (row_at (words_of words test) words rows row (length-words_of words test) in_rows)
-    ∙ word-words_of words test (get_or rows row []) block in_words
+pub word-rows : (words : ℕ) (test : ℤ → Bool) (rows : List (List ℤ)) (row chunk : ℕ) → row < length rows → chunk < words → get_or (flat_map (words_of words test) rows) (row * words + chunk) 0 ≡ word_of test (get_or rows row []) chunk
+word-rows words test rows row chunk in_rows in_words =
+    sym (get_or-drop (row * words) (flat_map (words_of words test) rows) chunk 0)
+    ∙ sym (get_or-take words (drop (row * words) (flat_map (words_of words test) rows)) chunk 0 in_words)
+    ∙ ap (λ (ws : List ℕ). get_or ws chunk 0) (row_at (words_of words test) words rows row (length-words_of words test) in_rows)
+    ∙ word-words_of words test (get_or rows row []) chunk in_words
 
 -- one bit of a word
-pub bit-word_of : (test : ℤ → Bool) (zs : List ℤ) (block place : ℕ) → test (pos 0) ≡ false → place < 64 → bit_at (word_of test zs block) place ≡ cond (test (get_or zs (64 * block + place) (pos 0))) 1 0
-bit-word_of test zs block place none small =
-    bit_at-bits_of test (take 64 (drop (64 * block) zs)) place none
-    ∙ ap (λ z. cond (test z) 1 0) (get_or-take 64 (drop (64 * block) zs) place (pos 0) small ∙ get_or-drop (64 * block) zs place (pos 0))
+pub bit-word_of : (test : ℤ → Bool) (zs : List ℤ) (chunk place : ℕ) → test (pos 0) ≡ false → place < 64 → bit_at (word_of test zs chunk) place ≡ cond (test (get_or zs (64 * chunk + place) (pos 0))) 1 0
+bit-word_of test zs chunk place none small =
+    bit_at-bits_of test (take 64 (drop (64 * chunk) zs)) place none
+    ∙ ap (λ z. cond (test z) 1 0) (get_or-take 64 (drop (64 * chunk) zs) place (pos 0) small ∙ get_or-drop (64 * chunk) zs place (pos 0))
 
-pub word_of-lt : (test : ℤ → Bool) (zs : List ℤ) (block : ℕ) → word_of test zs block < 2 ^ 64
-word_of-lt test zs block =
-    let part = take 64 (drop (64 * block) zs) in
-    let short : length part ≤ 64 = omega (arith, length-take 64 (drop (64 * block) zs)) in
+pub word_of-lt : (test : ℤ → Bool) (zs : List ℤ) (chunk : ℕ) → word_of test zs chunk < 2 ^ 64
+word_of-lt test zs chunk =
+    let part = take 64 (drop (64 * chunk) zs) in
+    let short : length part ≤ 64 = omega (arith, length-take 64 (drop (64 * chunk) zs)) in
     omega (arith, bits_of-lt test part, pow_mono short)
 
 fit_both : (xs ys : List ℕ) → ((k : ℕ) → get_or xs k 0 < 2 ^ 64) → ((k : ℕ) → get_or ys k 0 < 2 ^ 64) → (k : ℕ) → get_or (xs ++ ys) k 0 < 2 ^ 64
@@ -159,7 +159,7 @@ in_rows words test rows row column none in_height in_words =
 
 -- words that have the bits of some rows are their words
 pub words_from_each : (words : ℕ) (test : ℤ → Bool) (rows : List (List ℤ)) (flat : List ℕ) → length flat ≡ length rows * words
-    → ((row block : ℕ) → row < length rows → block < words → get_or flat (row * words + block) 0 ≡ word_of test (get_or rows row []) block)
+    → ((row chunk : ℕ) → row < length rows → chunk < words → get_or flat (row * words + chunk) 0 ≡ word_of test (get_or rows row []) chunk)
     → flat ≡ flat_map (words_of words test) rows
 words_from_each words test rows flat long each =
     same_number_lists flat (flat_map (words_of words test) rows) (long ∙ sym (length-rows (words_of words test) words rows (length-words_of words test))) (λ k h. at k h (cases_eq words 0))
@@ -174,12 +174,12 @@ words_from_each words test rows flat long each =
         (each (k / words) (k % words) in_height (mod-lt k above) ∙ sym (word-rows words test rows (k / words) (k % words) in_height (mod-lt k above)))
 
 pub words_from_bits : (words : ℕ) (test : ℤ → Bool) (rows : List (List ℤ)) (flat : List ℕ) → test (pos 0) ≡ false → length flat ≡ length rows * words → ((k : ℕ) → get_or flat k 0 < 2 ^ 64)
-    → ((row block place : ℕ) → row < length rows → block < words → place < 64 → bit_at (get_or flat (row * words + block) 0) place ≡ cond (test (get_or (get_or rows row []) (64 * block + place) (pos 0))) 1 0)
+    → ((row chunk place : ℕ) → row < length rows → chunk < words → place < 64 → bit_at (get_or flat (row * words + chunk) 0) place ≡ cond (test (get_or (get_or rows row []) (64 * chunk + place) (pos 0))) 1 0)
     → flat ≡ flat_map (words_of words test) rows
 words_from_bits words test rows flat none long are_words each =
-    words_from_each words test rows flat long (λ row block in_height in_words.
-    same_from_bits_below 64 (get_or flat (row * words + block) 0) (word_of test (get_or rows row []) block) (are_words (row * words + block)) (word_of-lt test (get_or rows row []) block)
-    (λ place small. each row block place in_height in_words small ∙ sym (bit-word_of test (get_or rows row []) block place none small)))
+    words_from_each words test rows flat long (λ row chunk in_height in_words.
+    same_from_bits_below 64 (get_or flat (row * words + chunk) 0) (word_of test (get_or rows row []) chunk) (are_words (row * words + chunk)) (word_of-lt test (get_or rows row []) chunk)
+    (λ place small. each row chunk place in_height in_words small ∙ sym (bit-word_of test (get_or rows row []) chunk place none small)))
 
 -- an entry by its bits
 value_is : (z : ℤ) → IsEntry z → value_of (is_nonzero z) (is_minus z) ≡ z

@@ -74,10 +74,10 @@ module _ (width : ℕ) (plane rows columns : List ℕ) where
 
   taken : (row c : ℕ) → c < 64 * words_for width → has_column (take (words_for width) (drop (row * words_for width) plane)) c ≡ has_column plane (64 * (row * words_for width) + c)
   taken row c l =
-      let block : row * words_for width + c / 64 ≡ (64 * (row * words_for width) + c) / 64 = omega arith in
+      let chunk : row * words_for width + c / 64 ≡ (64 * (row * words_for width) + c) / 64 = omega arith in
       let place : c % 64 ≡ (64 * (row * words_for width) + c) % 64 = omega arith in
       ap (λ w. has_bit w (c % 64)) (get_or-take (words_for width) (drop (row * words_for width) plane) (c / 64) 0 (omega arith) ∙ get_or-drop (row * words_for width) plane (c / 64) 0)
-      ∙ ap₂ (λ b p. has_bit (get_or plane b 0) p) block place
+      ∙ ap₂ (λ b p. has_bit (get_or plane b 0) p) chunk place
 
   module _ (count : ℕ) (made after : List ℕ) (so : IsPlaneChosen width plane rows columns count made) (inside : count < length rows) (below : AllBelow width columns)
       (row : IsRowChosen (take (words_for width) (drop (get_or rows count 0 * words_for width) plane)) columns (64 * (count * words_for (length columns))) (length columns) made after) where
@@ -140,9 +140,9 @@ module _ (m : Matrix) (test : ℤ → Bool) (none : test (pos 0) ≡ false) (row
       let column = get_or columns k 0 in
       let low = in_height i l in
       let inside = in_width k h in
-      let block : (64 * (row * words_for m.width) + column) / 64 ≡ row * words_for m.width + column / 64 = omega arith in
+      let chunk : (64 * (row * words_for m.width) + column) / 64 ≡ row * words_for m.width + column / 64 = omega arith in
       let place : (64 * (row * words_for m.width) + column) % 64 ≡ column % 64 = omega arith in
-      ap₂ (λ b p. has_bit (get_or plane b 0) p) block place
+      ap₂ (λ b p. has_bit (get_or plane b 0) p) chunk place
       ∙ ap (λ (ws : List ℕ). is_in (words_for m.width) ws row column) is
       ∙ in_rows (words_for m.width) test m.rows row column none low (omega arith)
       ∙ ap test (sym (entry-submatrix m rows columns i k l h))
@@ -159,7 +159,7 @@ module _ (m : Matrix) (test : ℤ → Bool) (none : test (pos 0) ≡ false) (row
   pub chosen_words : made ≡ flat_map (words_of (words_for (length columns)) test) (submatrix m rows columns).rows
   chosen_words =
       words_from_bits (words_for (length columns)) test part.rows made none (all.long ∙ ap (λ n. n * words_for (length columns)) (sym high)) all.are_words
-      (λ row block place l b small.
-      let at : 64 * (row * words_for (length columns)) + (64 * block + place) ≡ 64 * (row * words_for (length columns) + block) + place = omega arith in
-      bit_from (get_or made (row * words_for (length columns) + block) 0) place (test (entry part row (64 * block + place)))
-      (sym (column_at made (row * words_for (length columns) + block) place small) ∙ ap (has_column made) (sym at) ∙ in_made row (64 * block + place) (omega (arith, l, high)) (omega (arith, b, small))))
+      (λ row chunk place l b small.
+      let at : 64 * (row * words_for (length columns)) + (64 * chunk + place) ≡ 64 * (row * words_for (length columns) + chunk) + place = omega arith in
+      bit_from (get_or made (row * words_for (length columns) + chunk) 0) place (test (entry part row (64 * chunk + place)))
+      (sym (column_at made (row * words_for (length columns) + chunk) place small) ∙ ap (has_column made) (sym at) ∙ in_made row (64 * chunk + place) (omega (arith, l, high)) (omega (arith, b, small))))

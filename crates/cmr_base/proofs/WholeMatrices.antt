@@ -17,13 +17,3 @@ whole_submatrix m is = ap (λ rows. record { rows = rows; width = length (first_
 
 pub all_lines_make : (m : Matrix) (R C : List ℕ) → IsMatrix m → R ≡ first_lines (height m) → C ≡ first_lines m.width → submatrix m R C ≡ m
 all_lines_make m R C is r c = ap₂ (submatrix m) r c ∙ whole_submatrix m is
-
--- matrices of one size with the same entries
-pub same_matrix : (m n : Matrix) → IsMatrix m → IsMatrix n → height m ≡ height n → m.width ≡ n.width → ((row column : ℕ) → row < height m → column < m.width → entry m row column ≡ entry n row column) → m ≡ n
-same_matrix m n is_m is_n high wide entries = ap₂ (λ rows width. let x : Matrix = record { rows = rows; width = width } in x) rows wide
-  where
-    long : (row : ℕ) → row < height m → length (row_of m row) ≡ length (row_of n row)
-    long row l = is_m.rectangular row l ∙ wide ∙ sym (is_n.rectangular row (omega arith))
-
-    rows : m.rows ≡ n.rows
-    rows = ext_get_or [] m.rows n.rows high (λ row l. ext_get_or (pos 0) (row_of m row) (row_of n row) (long row l) (λ column k. let w = is_m.rectangular row l in entries row column l (omega arith)))

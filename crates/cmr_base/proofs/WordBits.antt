@@ -46,5 +46,5 @@ pub no_bit : (word k : ℕ) → word ≡ 0 → has_bit word k ≡ true → ⊥
 no_bit word k none e = not_both (has_bit word k) e (ap (λ (w : ℕ). has_bit w k) none ∙ has_bit-zero k)
 
 -- a bit of a word of a matrix's row
-pub bit_at_block : (m : Matrix) (row block k : ℕ) → k < 64 → has_bit (word_of is_nonzero (row_of m row) block) k ≡ support m row (64 * block + k)
-bit_at_block m row block k small = ap (λ n. eqb n 1) (bit-word_of is_nonzero (row_of m row) block k refl small) ∙ one_bit (support m row (64 * block + k))
+pub bit_at_chunk : (m : Matrix) (row chunk k : ℕ) → k < 64 → has_bit (word_of is_nonzero (row_of m row) chunk) k ≡ support m row (64 * chunk + k)
+bit_at_chunk m row chunk k small = ap (λ n. eqb n 1) (bit-word_of is_nonzero (row_of m row) chunk k refl small) ∙ one_bit (support m row (64 * chunk + k))

@@ -22,8 +22,8 @@ abbrev pub Denies : Bool → Type 0 → Type 0
 Denies true P = ¬ P
 Denies false P = P
 
--- in the middle of the words: the columns that pass a test are added below a block, and none from there on
-pub record IsAdded (test : ℕ → Bool) (before after : List ℕ) (block : ℕ) : Type 0 where
+-- in the middle of the words: the columns that pass a test are added below a chunk, and none from there on
+pub record IsAdded (test : ℕ → Bool) (before after : List ℕ) (chunk : ℕ) : Type 0 where
   pub size : length after ≡ length before
-  pub done : (column : ℕ) → column < 64 * block → has_column after column ≡ (has_column before column || test column)
-  pub left : (column : ℕ) → 64 * block ≤ column → has_column after column ≡ has_column before column
+  pub done : (column : ℕ) → column < 64 * chunk → has_column after column ≡ (has_column before column || test column)
+  pub left : (column : ℕ) → 64 * chunk ≤ column → has_column after column ≡ has_column before column

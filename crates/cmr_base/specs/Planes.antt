@@ -18,7 +18,7 @@ words_for columns = (columns + 63) / 64
 
 -- a word of the bits of a row, with 0 at places past its end
 abbrev pub word_of : (ℤ → Bool) → List ℤ → ℕ → ℕ
-word_of test zs block = bits_of test (take 64 (drop (64 * block) zs))
+word_of test zs chunk = bits_of test (take 64 (drop (64 * chunk) zs))
 
 -- so many words of the bits of a row
 abbrev pub words_of : ℕ → (ℤ → Bool) → List ℤ → List ℕ

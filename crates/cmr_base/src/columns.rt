@@ -69,8 +69,8 @@ pub fn add_set(set: &mut Vec<u64>, other: &[u64])
         → has_column set.new.items column
         ≡ (has_column set.old.items column || has_column other.now column) }
 {
-    for block in 0..set.len() {
-        set[block] |= other[block];
+    for chunk in 0..set.len() {
+        set[chunk] |= other[chunk];
     }
 }
 
@@ -84,8 +84,8 @@ pub fn add_common(set: &mut Vec<u64>, one: &[u64], two: &[u64])
         ≡ (has_column set.old.items column
         || (has_column one.now column && has_column two.now column)) }
 {
-    for block in 0..set.len() {
-        set[block] |= one[block] & two[block];
+    for chunk in 0..set.len() {
+        set[chunk] |= one[chunk] & two[chunk];
     }
 }
 
@@ -99,8 +99,8 @@ pub fn add_outside(set: &mut Vec<u64>, one: &[u64], other: &[u64])
         ≡ (has_column set.old.items column
         || (has_column one.now column && not (has_column other.now column))) }
 {
-    for block in 0..set.len() {
-        set[block] |= outside(one[block], other[block]);
+    for chunk in 0..set.len() {
+        set[chunk] |= outside(one[chunk], other[chunk]);
     }
 }
 
@@ -116,8 +116,8 @@ pub fn meets(one: &[u64], two: &[u64]) -> bool
     requires { length one.now ≡ length two.now }
     ensures { IsTrue result ↔ HasCommon one.now two.now }
 {
-    for block in 0..one.len() {
-        if share_bit(one[block], two[block]) {
+    for chunk in 0..one.len() {
+        if share_bit(one[chunk], two[chunk]) {
             return true;
         }
     }
@@ -129,8 +129,8 @@ pub fn is_within(one: &[u64], two: &[u64]) -> bool
     requires { length one.now ≡ length two.now }
     ensures { IsTrue result ↔ IsWithin one.now two.now }
 {
-    for block in 0..one.len() {
-        if !is_part(one[block], two[block]) {
+    for chunk in 0..one.len() {
+        if !is_part(one[chunk], two[chunk]) {
             return false;
         }
     }

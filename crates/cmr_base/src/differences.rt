@@ -6,25 +6,25 @@ ghost use Rattle.cmr_base.specs.Differences.{differs_at};
 use crate::Matrix;
 
 impl Matrix {
-    /// The bits of the 64 columns of a block in which a row is not `factor` times the row `model`.
+    /// The bits of the 64 columns of a chunk in which a row is not `factor` times the row `model`.
     // Two entries differ where one of them is 0 alone, or -1 alone, and the negative of a row is -1 where it is not 0 and the
     // row is not -1.
-    pub fn difference_word(&self, row: u32, factor: i8, model: u32, block: u32) -> u64
+    pub fn difference_word(&self, row: u32, factor: i8, model: u32, chunk: u32) -> u64
         requires row { row < height self.now }
         requires model { model < height self.now }
         requires factor { IsEntry factor }
-        requires block { 64 * block < self.now.width }
+        requires chunk { 64 * chunk < self.now.width }
         ensures { (i : ℕ) → i < 64
-            → bit_at result i ≡ cond (differs_at self.now row factor model (64 * block + i)) 1 0 }
+            → bit_at result i ≡ cond (differs_at self.now row factor model (64 * chunk + i)) 1 0 }
     {
         let _rows = self.rows();
-        let support = self.support_word(row, block);
+        let support = self.support_word(row, chunk);
         if factor == 0 {
             return support;
         }
-        let minus = self.minus_word(row, block);
-        let other_support = self.support_word(model, block);
-        let other_minus = self.minus_word(model, block);
+        let minus = self.minus_word(row, chunk);
+        let other_support = self.support_word(model, chunk);
+        let other_minus = self.minus_word(model, chunk);
         if factor == 1 {
             (support ^ other_support) | (minus ^ other_minus)
         } else {

@@ -88,6 +88,24 @@ impl Matrix {
         })
     }
 
+    /// A copy of the matrix.
+    pub fn copy(&self, alloc: Global) -> Result<Matrix, Memory>
+        ensures copy { IfOk result (λ copy. copy ≡ self.now) }
+        ensures shape { IsMatrix self.now }
+    {
+        let _rows = self.rows();
+        let mut support = Vec::new(alloc);
+        support.extend_from_slice(&self.support)?;
+        let mut minus = Vec::new(alloc);
+        minus.extend_from_slice(&self.minus)?;
+        Ok(Matrix {
+            rows: self.rows,
+            columns: self.columns,
+            support,
+            minus,
+        })
+    }
+
     /// How many rows there are.
     pub fn rows(&self) -> u32
         ensures rows { result ≡ height self.now }
@@ -117,26 +135,26 @@ impl Matrix {
         value_of(is_nonzero, is_minus)
     }
 
-    /// Where a row is not 0, in the 64 columns of a block: column c is the bit 2^(c mod 64) of block c / 64. Places past
+    /// Where a row is not 0, in the 64 columns of a chunk: column c is the bit 2^(c mod 64) of chunk c / 64. Places past
     /// the last column have no bit.
-    pub fn support_word(&self, row: u32, block: u32) -> u64
+    pub fn support_word(&self, row: u32, chunk: u32) -> u64
         requires row { row < height self.now }
-        requires block { 64 * block < self.now.width }
-        ensures { result ≡ word_of is_nonzero (row_of self.now row) block }
+        requires chunk { 64 * chunk < self.now.width }
+        ensures { result ≡ word_of is_nonzero (row_of self.now row) chunk }
     {
-        self.support[place_of(self.columns, row, 64 * block)]
+        self.support[place_of(self.columns, row, 64 * chunk)]
     }
 
     /// Where a row is -1, in the same columns. Each of its bits is one of the support too.
-    pub fn minus_word(&self, row: u32, block: u32) -> u64
+    pub fn minus_word(&self, row: u32, chunk: u32) -> u64
         requires row { row < height self.now }
-        requires block { 64 * block < self.now.width }
-        ensures { result ≡ word_of is_minus (row_of self.now row) block }
+        requires chunk { 64 * chunk < self.now.width }
+        ensures { result ≡ word_of is_minus (row_of self.now row) chunk }
     {
-        self.minus[place_of(self.columns, row, 64 * block)]
+        self.minus[place_of(self.columns, row, 64 * chunk)]
     }
 
-    /// The words of a row's support, block by block.
+    /// The words of a row's support, chunk by chunk.
     pub fn support_words(&self, row: u32) -> &[u64]
         requires { row < height self.now }
         ensures { result.now ≡ words_of (words_for self.now.width) is_nonzero
@@ -145,7 +163,7 @@ impl Matrix {
         row_words(&self.support, row, words_for(self.columns))
     }
 
-    /// The words of the columns in which a row is -1, block by block.
+    /// The words of the columns in which a row is -1, chunk by chunk.
     pub fn minus_words(&self, row: u32) -> &[u64]
         requires { row < height self.now }
         ensures { result.now ≡ words_of (words_for self.now.width) is_minus (row_of self.now row) }

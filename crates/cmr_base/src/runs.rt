@@ -122,13 +122,13 @@ fn bits_from(words: &[u64], column: u32, count: u32) -> u64
     requires inside { column + count ≤ 64 * length words.now }
     ensures { (k : ℕ) → k < count → has_bit result k ≡ has_column words.now (column + k) }
 {
-    let block = column as usize / 64;
+    let chunk = column as usize / 64;
     let shift = column % 64;
-    let low = words[block] >> shift;
+    let low = words[chunk] >> shift;
     if shift + count <= 64 {
         return low;
     }
-    low | (words[block + 1] << (64 - shift))
+    low | (words[chunk + 1] << (64 - shift))
 }
 
 // The first so many bits of a word.

@@ -13,11 +13,7 @@ use Rattle.cmr_io.specs.MemoryShelf.{target_by, got_by}
 use Rattle.cmr_io.specs.declared.memory_shelf.Begun.{Begun}
 use Rattle.cmr_io.specs.declared.memory_shelf.Begun.TheVariants.{Nothing, Read, Write}
 use borrow.Author.Tests.{leb-true}
-use Rattle.cmr_base.proofs.Booleans.{not_is, and_is}
-
-neither : (a b : Bool) → (a || b) ≡ false → (a ≡ false) × (b ≡ false)
-neither true b h = absurd (cc)
-neither false b h = (refl, h)
+use Rattle.cmr_base.proofs.Booleans.{not_is, and_is, not_either}
 
 is_other : (bytes name other : List ℕ) → bytes_eq bytes name ≡ true → other ≢ name → bytes_eq bytes other ≡ false
 is_other bytes name other h ne =
@@ -49,7 +45,7 @@ IsFirst-set name (x ∷ files) (suc i) file old h is same = (h.0, IsFirst-set na
 pub of_first-none : {A : Type 0} → (view : File → Option A) (name : List ℕ) (files : List File) → has_name name files ≡ false → of_first view files name ≡ None
 of_first-none view name [] h = refl
 of_first-none view name (file ∷ files) h =
-    let p = neither (is_named name file) (has_name name files) h in
+    let p = not_either (is_named name file) (has_name name files) h in
     rw p.0 (of_first-none view name files p.1)
 
 -- what the first file with a name shows
@@ -83,7 +79,7 @@ of_first-set_same view name (x ∷ files) (suc i) file old lt is same shown = rw
 pub of_first-push : {A : Type 0} → (view : File → Option A) (name : List ℕ) (files : List File) (file : File) → has_name name files ≡ false → name_of file ≡ name → of_first view (files ++ file ∷ []) name ≡ view file
 of_first-push view name [] file none same = rw ((bytes_eq-Decides (name_of file) name).1 same) refl
 of_first-push view name (x ∷ files) file none same =
-    let p = neither (is_named name x) (has_name name files) none in
+    let p = not_either (is_named name x) (has_name name files) none in
     rw p.0 (of_first-push view name files file p.1 same)
 
 pub of_first-push_other : {A : Type 0} → (view : File → Option A) (name other : List ℕ) (files : List File) (file : File) → other ≢ name → name_of file ≡ name → of_first view (files ++ file ∷ []) other ≡ of_first view files other

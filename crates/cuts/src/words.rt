@@ -14,8 +14,8 @@ pub fn add_line(lines: &mut Vec<u64>, line: u32)
     ensures kept { (x : ℕ) → has_column lines.old.items x ≡ true
         → has_column lines.new.items x ≡ true }
 {
-    let block = line as usize / 64;
-    lines[block] = with_bit(lines[block], line % 64, true);
+    let chunk = line as usize / 64;
+    lines[chunk] = with_bit(lines[chunk], line % 64, true);
 }
 
 /// Whether a line is among some.

@@ -1,15 +1,11 @@
 -- Trees that say yes, which alone may stand below pivots.
 use Rattle.std.proofs.Common.{◌≡◌, ◌⊎◌, inl, inr, List, [], ◌∷◌, Option, Some, None, refl, sym, subst}
-use Rattle.std.specs.Option.{option_or}
 use Rattle.cmr_base.specs.declared.line_set.LineSet.{LineSet}
 use Rattle.tree_type.specs.Trees.{Finding, Empty, Cycle, Reduced, OneSum, Network, Conetwork, R10, TwoSum, ThreeSum, Enumerated, Violator, Undecided, Pivoted, Tree, Trees, Branch, MoreTrees}
 use Rattle.tree_type.specs.Places.{MadePivot}
 use Rattle.tree_type.specs.Soundness.{MayStand}
+use Rattle.cert_check.proofs.SoundTrees.{none_or}
 use Rattle.tree_type.specs.Verdicts.{Yes, first_in, first_among, fault_at, open_at, verdict_from, verdict_of}
-
-pub both_none : {A : Type 0} (a b : Option A) → option_or a b ≡ None → (a ≡ None) × (b ≡ None)
-both_none None b e = (refl, e)
-both_none (Some x) b e = absurd (cc)
 
 -- no node of the tree names a fault, and none is undecided
 abbrev pub SaysYes : Tree → Type 0
@@ -49,7 +45,7 @@ yes_here (last ∷ pivots) lines (Pivoted place) e f = tt
 pub may_stand : (pivots : List MadePivot) (lines : LineSet) (finding : Finding) (trees : Trees) → MayBelow pivots (Branch lines finding trees) → MayStand pivots finding
 may_stand pivots lines finding trees (inl e) = subst (λ ps. MayStand ps finding) (sym e) tt
 may_stand pivots lines finding trees (inr says) =
-    yes_here pivots lines finding (both_none (fault_at lines finding) (first_among fault_at trees) says.0).0 (both_none (open_at lines finding) (first_among open_at trees) says.1).0
+    yes_here pivots lines finding (none_or (fault_at lines finding) (first_among fault_at trees) says.0).0 (none_or (open_at lines finding) (first_among open_at trees) says.1).0
 
 abbrev pub AllMayBelow : List MadePivot → Trees → Type 0
 AllMayBelow pivots trees = (pivots ≡ []) ⊎ AllSayYes trees
@@ -57,13 +53,13 @@ AllMayBelow pivots trees = (pivots ≡ []) ⊎ AllSayYes trees
 pub may_children : (pivots : List MadePivot) (lines : LineSet) (finding : Finding) (trees : Trees) → MayBelow pivots (Branch lines finding trees) → AllMayBelow pivots trees
 may_children pivots lines finding trees (inl e) = inl e
 may_children pivots lines finding trees (inr says) = inr (
-  (both_none (fault_at lines finding) (first_among fault_at trees) says.0).1,
-  (both_none (open_at lines finding) (first_among open_at trees) says.1).1,
+  (none_or (fault_at lines finding) (first_among fault_at trees) says.0).1,
+  (none_or (open_at lines finding) (first_among open_at trees) says.1).1,
 )
 
 pub may_first : (pivots : List MadePivot) (tree : Tree) (trees : Trees) → AllMayBelow pivots (MoreTrees tree trees) → MayBelow pivots tree × AllMayBelow pivots trees
 may_first pivots tree trees (inl e) = (inl e, inl e)
 may_first pivots tree trees (inr says) =
-    let faults = both_none (first_in fault_at tree) (first_among fault_at trees) says.0 in
-    let lefts = both_none (first_in open_at tree) (first_among open_at trees) says.1 in
+    let faults = none_or (first_in fault_at tree) (first_among fault_at trees) says.0 in
+    let lefts = none_or (first_in open_at tree) (first_among open_at trees) says.1 in
     (inr (faults.0, lefts.0), inr (faults.1, lefts.1))

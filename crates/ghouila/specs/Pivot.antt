@@ -33,10 +33,10 @@ pub record IsPivot (m : Matrix) (rows : List ℕ) (place column : ℕ) : Type 0 
 abbrev pub HasNoPivot : Matrix → List ℕ → ℕ → Type 0
 HasNoPivot m rows column = AllByRecursion (λ row. entry m row column ≡ pos 0) rows ⊎ IsOdd (sum_over rows (λ row. entry m row column))
 
--- the bits of a word are the columns of a block of 64 that have a pivot
-pub record ArePivotColumns (m : Matrix) (rows : List ℕ) (block word : ℕ) : Type 0 where
-  pub pivots : (i : ℕ) → i < 64 → has_bit word i ≡ true → (place : ℕ) × IsPivot m rows place (64 * block + i)
-  pub others : (i : ℕ) → i < 64 → has_bit word i ≡ false → HasNoPivot m rows (64 * block + i)
+-- the bits of a word are the columns of a chunk of 64 that have a pivot
+pub record ArePivotColumns (m : Matrix) (rows : List ℕ) (chunk word : ℕ) : Type 0 where
+  pub pivots : (i : ℕ) → i < 64 → has_bit word i ≡ true → (place : ℕ) × IsPivot m rows place (64 * chunk + i)
+  pub others : (i : ℕ) → i < 64 → has_bit word i ≡ false → HasNoPivot m rows (64 * chunk + i)
 
 -- four signs, in two rows and two columns, whose product is -1: alone they are a violator
 pub record IsSquareViolator (a p q x : ℤ) : Type 0 where

@@ -65,19 +65,12 @@ pub fn sign_by_steps(alloc: Global, matrix: &Matrix, rows: &Indices) -> Result<S
     ensures run { IfOk result (λ run. IsAnswerOfRun matrix.now rows.now run.steps run.signing) }
     ensures rising { OnOk result (IsStrictlyIncreasing rows.now) }
 {
-    let mut work = copy_of(alloc, matrix)?;
+    let mut work = matrix.copy(alloc)?;
     let left = copy_of_rows(alloc, rows)?;
     let mut steps = PivotList::new(alloc);
     let outcome = sign_left(alloc, &mut work, left, &mut steps)?;
     let signing = named(alloc, matrix, rows, outcome)?;
     Ok(SignRun { steps, signing })
-}
-
-fn copy_of(alloc: Global, matrix: &Matrix) -> Result<Matrix, Memory>
-    ensures { IfOk result (λ work. work ≡ matrix.now) }
-{
-    let lines = LineSet::all(alloc, matrix.rows(), matrix.columns())?;
-    matrix.part(alloc, &lines)
 }
 
 fn copy_of_rows(alloc: Global, rows: &Indices) -> Result<Vec<u32>, Memory>

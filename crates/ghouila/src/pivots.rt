@@ -30,11 +30,11 @@ pub fn first_pivot(work: &Matrix, left: &[u32]) -> Option<PivotPlace>
         → HasNoPivot work.now left.now column) }
     ensures shape { IsMatrix work.now }
 {
-    let blocks = (work.columns() + 63) / 64;
-    for block in 0..blocks {
-        let columns = pivot_columns(work, left, block);
+    let chunks = (work.columns() + 63) / 64;
+    for chunk in 0..chunks {
+        let columns = pivot_columns(work, left, chunk);
         if columns != 0 {
-            let column = 64 * block + columns.trailing_zeros();
+            let column = 64 * chunk + columns.trailing_zeros();
             let place = pivot_in(work, left, column)?;
             return Some(PivotPlace { place, column });
         }
@@ -42,17 +42,17 @@ pub fn first_pivot(work: &Matrix, left: &[u32]) -> Option<PivotPlace>
     None
 }
 
-// The columns of a block, by their bits, with an even number, at least two, of nonzeros in the rows left.
-fn pivot_columns(work: &Matrix, left: &[u32], block: u32) -> u64
+// The columns of a chunk, by their bits, with an even number, at least two, of nonzeros in the rows left.
+fn pivot_columns(work: &Matrix, left: &[u32], chunk: u32) -> u64
     requires shape { IsMatrix work.now }
     requires rows { AllBelow (height work.now) left.now }
-    requires block { 64 * block < work.now.width }
-    ensures { ArePivotColumns work.now left.now block result }
+    requires chunk { 64 * chunk < work.now.width }
+    ensures { ArePivotColumns work.now left.now chunk result }
 {
     let mut some = 0u64;
     let mut odd = 0u64;
     for row in left {
-        let word = work.support_word(*row, block);
+        let word = work.support_word(*row, chunk);
         some |= word;
         odd ^= word;
     }

@@ -23,4 +23,4 @@ pub mod JoinLemmas
 pub mod SearchLemmas
 pub mod OrderLemmas
 pub mod AllRows
-pub mod BlockLemmas
+pub mod ChunkLemmas

@@ -10,7 +10,7 @@ pub use Rattle.bridge_split.specs.PartNumbers.{number_at, is_number as is_part}
 use Rattle.graph_realise.specs.Branches.{AreBranches, branch_at}
 use Rattle.graph_realise.specs.Merging.{Hanging, heavier, spot, merged_lies, turned_side, turned_lies}
 use Rattle.graph_realise.specs.SideTables.{side_in, end_in, IsArcChanged}
-use Rattle.graph_realise.specs.Tables.{AreBlocksOf, Grid, cell}
+use Rattle.graph_realise.specs.Tables.{AreChunksOf, Grid, cell}
 use Rattle.graph_realise.specs.declared.arc_sides.ArcSides.{ArcSides}
 use Rattle.graph_realise.specs.declared.joint.Joint.{Joint}
 
@@ -71,7 +71,7 @@ pub record IsJointOf (M : ℕ → ℕ → Bool) (m n i : ℕ) (parts : List (Lis
   pub numbered : AreNumbered parts (length parts) joint.part_of.items
   pub branches : AreBranches M n i parts ends (length parts) joint.branches.items
   pub with_columns : (column : ℕ) → IsNamed M i parts (length parts) column (number_at joint.part_with.items column)
-  pub own_blocks : AreBlocksOf (M i) n joint.row_blocks
+  pub own_chunks : AreChunksOf (M i) n joint.row_chunks
   pub row_marks : AreMarks joint.part_of.items (length parts) joint.row_marks
   pub column_marks : AreMarks joint.part_with.items (length parts) joint.column_marks
   pub few : length parts ≤ MAX_ROWS
@@ -109,11 +109,11 @@ pub record IsClearBeside (M : ℕ → ℕ → Bool) (joint : Joint) (sides : Arc
 abbrev pub AreOff : (ℕ → ℕ → Bool) → Joint → Type 0
 AreOff M joint = (column : ℕ) → M joint.row column ≡ true → number_at joint.part_with.items column ≡ None
 
--- it fits this matrix, is off the row's columns, and has the row's blocks
+-- it fits this matrix, is off the row's columns, and has the row's chunks
 pub record FitsMatrix (m : Matrix) (joint : Joint) : Type 0 where
   pub fits : FitsJoint (height m) m.width joint
   pub off : AreOff (support m) joint
-  pub blocks : AreBlocksOf (support m joint.row) m.width joint.row_blocks
+  pub chunks : AreChunksOf (support m joint.row) m.width joint.row_chunks
 
 -- the end of the row's arc where a part is
 abbrev pub end_of : Joint → Option ℕ → Bool

@@ -27,22 +27,22 @@ pub record IsCellSet (old new : Grid) (row column : ℕ) (value : Bool) : Type 0
   pub others : (c : ℕ) → c ≢ column → cell new row c ≡ cell old row c
 
 -- 64 cells of a row have the bits of a word
-pub record IsWordSet (old new : Grid) (row block word : ℕ) : Type 0 where
+pub record IsWordSet (old new : Grid) (row chunk word : ℕ) : Type 0 where
   pub rows : KeepsOtherRows old new row
-  pub here : (k : ℕ) → k < 64 → 64 * block + k < old.width → cell new row (64 * block + k) ≡ has_bit word k
-  pub others : (c : ℕ) → c / 64 ≢ block → cell new row c ≡ cell old row c
+  pub here : (k : ℕ) → k < 64 → 64 * chunk + k < old.width → cell new row (64 * chunk + k) ≡ has_bit word k
+  pub others : (c : ℕ) → c / 64 ≢ chunk → cell new row c ≡ cell old row c
 
--- a rising list of blocks of columns that has those of all columns of a set
-pub record AreBlocksOf (columns : ℕ → Bool) (width : ℕ) (blocks : List ℕ) : Type 0 where
-  pub rising : IsStrictlyIncreasing blocks
-  pub inside : (k : ℕ) → k < length blocks → 64 * slice_index blocks k < width
-  pub all : (column : ℕ) → columns column ≡ true → IsIn (column / 64) blocks
+-- a rising list of chunks of columns that has those of all columns of a set
+pub record AreChunksOf (columns : ℕ → Bool) (width : ℕ) (chunks : List ℕ) : Type 0 where
+  pub rising : IsStrictlyIncreasing chunks
+  pub inside : (k : ℕ) → k < length chunks → 64 * slice_index chunks k < width
+  pub all : (column : ℕ) → columns column ≡ true → IsIn (column / 64) chunks
 
--- the columns of one row in the first blocks of a list have the values of a function, so many of them
-pub record AreBlocksFilled (values : ℕ → Bool) (old new : Grid) (row : ℕ) (blocks : List ℕ) (count : ℕ) : Type 0 where
+-- the columns of one row in the first chunks of a list have the values of a function, so many of them
+pub record AreChunksFilled (values : ℕ → Bool) (old new : Grid) (row : ℕ) (chunks : List ℕ) (count : ℕ) : Type 0 where
   pub rows : KeepsOtherRows old new row
-  pub done : (k column : ℕ) → k < count → column / 64 ≡ slice_index blocks k → column < old.width → cell new row column ≡ values column
-  pub left : (column : ℕ) → ((k : ℕ) → k < count → column / 64 ≢ slice_index blocks k) → cell new row column ≡ cell old row column
+  pub done : (k column : ℕ) → k < count → column / 64 ≡ slice_index chunks k → column < old.width → cell new row column ≡ values column
+  pub left : (column : ℕ) → ((k : ℕ) → k < count → column / 64 ≢ slice_index chunks k) → cell new row column ≡ cell old row column
 
 -- the first columns of one row have the values of a function, so many of them
 pub record IsRowFilled (values : ℕ → Bool) (old new : Grid) (row count : ℕ) : Type 0 where

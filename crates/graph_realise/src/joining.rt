@@ -8,7 +8,7 @@ ghost use Rattle.cmr_base.specs.Trees.{support};
 ghost use Rattle.graph_realise.specs.Joints.{AreChosen, AreHung, FitsJoint, FitsMatrix, IsArcJoined, IsClearBeside, IsLineFor, hanging_of, is_at_first, is_used, number_at};
 ghost use Rattle.graph_realise.specs.Merging.{spot};
 ghost use Rattle.graph_realise.specs.SideTables.{AreTablesOf, IsArcChanged, KeepsOthers, KeepsOutside, side_in, end_in};
-ghost use Rattle.graph_realise.specs.Tables.{cell, AreBlocksOf, IsRowFilled};
+ghost use Rattle.graph_realise.specs.Tables.{cell, AreChunksOf, IsRowFilled};
 
 use crate::arc_sides::ArcSides;
 use crate::branches::Branch;
@@ -82,8 +82,8 @@ fn add_parts_at_first(matrix: &Matrix, joint: &Joint, sides: &mut ArcSides)
 // Puts the first ends of the row's columns on the side `true` of its arc.
 fn add_first_ends(matrix: &Matrix, joint: &Joint, sides: &mut ArcSides)
     requires row { joint.now.row < height matrix.now }
-    requires blocks { AreBlocksOf (support matrix.now joint.now.row) matrix.now.width
-        joint.now.row_blocks }
+    requires chunks { AreChunksOf (support matrix.now joint.now.row) matrix.now.width
+        joint.now.row_chunks }
     requires tables { AreTablesOf matrix.now sides.old }
     ensures { IsArcChanged
         (λ other. side_in sides.old joint.now.row other)
@@ -92,8 +92,8 @@ fn add_first_ends(matrix: &Matrix, joint: &Joint, sides: &mut ArcSides)
         sides.old sides.new joint.now.row }
 {
     let row = joint.row;
-    let blocks = joint.row_blocks.as_slice();
-    sides.first.add_common(row, matrix, row, row, blocks);
+    let chunks = joint.row_chunks.as_slice();
+    sides.first.add_common(row, matrix, row, row, chunks);
 }
 
 // The arc of another row. Its sides are kept within its part, and each other part lies on the side where it hangs.
@@ -142,9 +142,9 @@ fn keep_part(
     if is_turned {
         turn_part(joint, arc, own, sides);
     } else {
-        let blocks = joint.row_blocks.as_slice();
-        sides.first.take_out(arc, matrix, joint.row, blocks);
-        sides.last.take_out(arc, matrix, joint.row, blocks);
+        let chunks = joint.row_chunks.as_slice();
+        sides.first.take_out(arc, matrix, joint.row, chunks);
+        sides.last.take_out(arc, matrix, joint.row, chunks);
     }
 }
 
@@ -210,17 +210,17 @@ fn add_used(matrix: &Matrix, joint: &Joint, arc: u32, own: usize, sides: &mut Ar
     requires arc { arc < height matrix.now }
     requires own { own < length joint.now.branches.items }
     requires row { joint.now.row < height matrix.now }
-    requires blocks { AreBlocksOf (support matrix.now joint.now.row) matrix.now.width
-        joint.now.row_blocks }
+    requires chunks { AreChunksOf (support matrix.now joint.now.row) matrix.now.width
+        joint.now.row_chunks }
     requires tables { AreTablesOf matrix.now sides.old }
     ensures { IsArcChanged (λ other. side_in sides.old arc other)
         (is_used (support matrix.now) joint.now arc own sides.old) sides.old sides.new arc }
 {
-    let blocks = joint.row_blocks.as_slice();
+    let chunks = joint.row_chunks.as_slice();
     if joint.branches[own].end {
-        sides.first.add_common(arc, matrix, arc, joint.row, blocks);
+        sides.first.add_common(arc, matrix, arc, joint.row, chunks);
     } else {
-        sides.last.add_common(arc, matrix, arc, joint.row, blocks);
+        sides.last.add_common(arc, matrix, arc, joint.row, chunks);
     }
 }
 

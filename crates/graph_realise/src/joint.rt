@@ -9,7 +9,7 @@ ghost use Rattle.cmr_base.specs.Trees.{support};
 ghost use Rattle.cmr_base.specs.ColumnSets.{has_column};
 ghost use Rattle.graph_realise.specs.Joints.{AreInRows, AreMarks, AreNumbered, AreOfRows, IsJointOf, IsNamed, number_at};
 ghost use Rattle.graph_realise.specs.Numbers.{AreDisjoint};
-ghost use Rattle.graph_realise.specs.Tables.{AreBlocksOf};
+ghost use Rattle.graph_realise.specs.Tables.{AreChunksOf};
 
 use crate::branches::{Branch, branches_at};
 use crate::table::Table;
@@ -18,7 +18,7 @@ use cmr_base::{Indices, MAX_ROWS, Matrix, Memory, PartList, SideList, words_for}
 use std::alloc::Global;
 
 /// A row and the parts of the others: the part of each row, the branches that the parts are, and for each column that the
-/// row does not have the part that has it. The blocks are those of 64 columns in which the row is not 0. The tables have a
+/// row does not have the part that has it. The chunks are those of 64 columns in which the row is not 0. The tables have a
 /// line for each part, which marks its rows and these columns.
 #[derive(Debug, Drop)]
 pub struct Joint {
@@ -26,7 +26,7 @@ pub struct Joint {
     pub part_of: Vec<Option<usize>>,
     pub branches: Vec<Branch>,
     pub part_with: Vec<Option<usize>>,
-    pub row_blocks: Indices,
+    pub row_chunks: Indices,
     pub row_marks: Table,
     pub column_marks: Table,
 }
@@ -52,7 +52,7 @@ impl Joint {
         let part_of = parts_of_rows(alloc, matrix, parts)?;
         let part_with = parts_with_columns(alloc, matrix, row, parts)?;
         let branches = branches_at(alloc, matrix, row, parts, ends)?;
-        let row_blocks = blocks_of_row(alloc, matrix, row)?;
+        let row_chunks = chunks_of_row(alloc, matrix, row)?;
         let row_marks = marks_of(alloc, &part_of, parts.len())?;
         let column_marks = marks_of(alloc, &part_with, parts.len())?;
         Ok(Joint {
@@ -60,7 +60,7 @@ impl Joint {
             part_of,
             branches,
             part_with,
-            row_blocks,
+            row_chunks,
             row_marks,
             column_marks,
         })
@@ -148,18 +148,18 @@ fn parts_with_columns(
     Ok(numbers)
 }
 
-// The blocks of 64 columns in which a row is not 0.
-fn blocks_of_row(alloc: Global, matrix: &Matrix, row: u32) -> Result<Indices, Memory>
+// The chunks of 64 columns in which a row is not 0.
+fn chunks_of_row(alloc: Global, matrix: &Matrix, row: u32) -> Result<Indices, Memory>
     requires { row < height matrix.now }
-    ensures { IfOk result (AreBlocksOf (support matrix.now row) matrix.now.width) }
+    ensures { IfOk result (AreChunksOf (support matrix.now row) matrix.now.width) }
 {
-    let mut blocks = Indices::new(alloc);
-    for block in 0..words_for(matrix.columns()) as u32 {
-        if matrix.support_word(row, block) != 0 {
-            blocks.push(block)?;
+    let mut chunks = Indices::new(alloc);
+    for chunk in 0..words_for(matrix.columns()) as u32 {
+        if matrix.support_word(row, chunk) != 0 {
+            chunks.push(chunk)?;
         }
     }
-    Ok(blocks)
+    Ok(chunks)
 }
 
 // No number for each of so many columns.

@@ -4,7 +4,7 @@ ghost use Rattle.cmr_base.specs.Matrix.{height};
 ghost use Rattle.cmr_base.specs.Planes.{has_bit, words_for};
 ghost use Rattle.cmr_base.specs.Trees.{support};
 ghost use Rattle.cmr_base.specs.ColumnSets.{has_column};
-ghost use Rattle.graph_realise.specs.Tables.{cell, AreBlocksOf, IsCellSet, IsRowFilled, IsWordSet};
+ghost use Rattle.graph_realise.specs.Tables.{cell, AreChunksOf, IsCellSet, IsRowFilled, IsWordSet};
 
 use cmr_base::columns::outside;
 use cmr_base::{MAX_COLUMNS, MAX_ROWS, Matrix, Memory, has_bit, with_bit, words_for};
@@ -62,9 +62,9 @@ impl Table {
         requires column { column < self.old.width }
         ensures { IsCellSet self.old self.new row column value }
     {
-        let block = column / 64;
-        let word = with_bit(self.word(row, block), column % 64, value);
-        self.set_word(row, block, word);
+        let chunk = column / 64;
+        let word = with_bit(self.word(row, chunk), column % 64, value);
+        self.set_word(row, chunk, word);
     }
 
     /// Turns the values in the columns that are marked in a line of another table into their opposites, and clears all
@@ -77,27 +77,27 @@ impl Table {
             (λ column. cell marks.now line column && not (cell self.old row column))
             self.old self.new row self.old.width }
     {
-        for block in 0..self.blocks() {
-            let word = outside(marks.word(line, block), self.word(row, block));
-            self.set_word(row, block, word);
+        for chunk in 0..self.chunks() {
+            let word = outside(marks.word(line, chunk), self.word(row, chunk));
+            self.set_word(row, chunk, word);
         }
     }
 
-    /// Clears the values of the row in the columns in which a row of a matrix is not 0. The blocks have all these columns.
-    pub fn take_out(&mut self, row: u32, matrix: &Matrix, other: u32, blocks: &[u32])
+    /// Clears the values of the row in the columns in which a row of a matrix is not 0. The chunks have all these columns.
+    pub fn take_out(&mut self, row: u32, matrix: &Matrix, other: u32, chunks: &[u32])
         requires row { row < self.old.height }
         requires other { other < height matrix.now }
         requires width { matrix.now.width ≡ self.old.width }
-        requires blocks { AreBlocksOf (support matrix.now other) matrix.now.width blocks.now }
+        requires chunks { AreChunksOf (support matrix.now other) matrix.now.width chunks.now }
         ensures { IsRowFilled
             (λ column. cell self.old row column && not (support matrix.now other column))
             self.old self.new row self.old.width }
     {
-        for block in blocks {
-            let word = self.word(row, *block);
-            let gone = matrix.support_word(other, *block);
+        for chunk in chunks {
+            let word = self.word(row, *chunk);
+            let gone = matrix.support_word(other, *chunk);
             if word & gone != 0 {
-                self.set_word(row, *block, outside(word, gone));
+                self.set_word(row, *chunk, outside(word, gone));
             }
         }
     }
@@ -111,29 +111,29 @@ impl Table {
             (λ column. cell self.old row column || cell marks.now line column)
             self.old self.new row self.old.width }
     {
-        for block in 0..self.blocks() {
-            let word = self.word(row, block) | marks.word(line, block);
-            self.set_word(row, block, word);
+        for chunk in 0..self.chunks() {
+            let word = self.word(row, chunk) | marks.word(line, chunk);
+            self.set_word(row, chunk, word);
         }
     }
 
-    /// Sets the values of the row in the columns in which two rows of a matrix are not 0. The blocks have all columns of
+    /// Sets the values of the row in the columns in which two rows of a matrix are not 0. The chunks have all columns of
     /// the other row.
-    pub fn add_common(&mut self, row: u32, matrix: &Matrix, one: u32, other: u32, blocks: &[u32])
+    pub fn add_common(&mut self, row: u32, matrix: &Matrix, one: u32, other: u32, chunks: &[u32])
         requires row { row < self.old.height }
         requires one { one < height matrix.now }
         requires other { other < height matrix.now }
         requires width { matrix.now.width ≡ self.old.width }
-        requires blocks { AreBlocksOf (support matrix.now other) matrix.now.width blocks.now }
+        requires chunks { AreChunksOf (support matrix.now other) matrix.now.width chunks.now }
         ensures { IsRowFilled
             (λ column. cell self.old row column
             || support matrix.now one column && support matrix.now other column)
             self.old self.new row self.old.width }
     {
-        for block in blocks {
-            let common = matrix.support_word(one, *block) & matrix.support_word(other, *block);
+        for chunk in chunks {
+            let common = matrix.support_word(one, *chunk) & matrix.support_word(other, *chunk);
             if common != 0 {
-                self.set_word(row, *block, self.word(row, *block) | common);
+                self.set_word(row, *chunk, self.word(row, *chunk) | common);
             }
         }
     }
@@ -143,8 +143,8 @@ impl Table {
         requires { row < self.old.height }
         ensures { IsRowFilled (λ column. false) self.old self.new row self.old.width }
     {
-        for block in 0..self.blocks() {
-            self.set_word(row, block, 0);
+        for chunk in 0..self.chunks() {
+            self.set_word(row, chunk, 0);
         }
     }
 
@@ -157,9 +157,9 @@ impl Table {
             (λ column. has_column one.now column && has_column two.now column)
             self.old self.new row self.old.width }
     {
-        for block in 0..self.blocks() {
-            let word = one[block as usize] & two[block as usize];
-            self.set_word(row, block, word);
+        for chunk in 0..self.chunks() {
+            let word = one[chunk as usize] & two[chunk as usize];
+            self.set_word(row, chunk, word);
         }
     }
 
@@ -172,33 +172,33 @@ impl Table {
             (λ column. has_column one.now column && not (has_column other.now column))
             self.old self.new row self.old.width }
     {
-        for block in 0..self.blocks() {
-            let word = one[block as usize] & !other[block as usize];
-            self.set_word(row, block, word);
+        for chunk in 0..self.chunks() {
+            let word = one[chunk as usize] & !other[chunk as usize];
+            self.set_word(row, chunk, word);
         }
     }
 
     // How many words a row has.
-    fn blocks(&self) -> u32
+    fn chunks(&self) -> u32
         ensures { result ≡ words_for self.now.width }
     {
         (self.width + 63) / 64
     }
 
-    fn word(&self, row: u32, block: u32) -> u64
+    fn word(&self, row: u32, chunk: u32) -> u64
         requires row { row < self.now.height }
-        requires block { 64 * block < self.now.width }
-        ensures { (k : ℕ) → k < 64 → 64 * block + k < self.now.width
-            → has_bit result k ≡ cell self.now row (64 * block + k) }
+        requires chunk { 64 * chunk < self.now.width }
+        ensures { (k : ℕ) → k < 64 → 64 * chunk + k < self.now.width
+            → has_bit result k ≡ cell self.now row (64 * chunk + k) }
     {
-        self.words[row as usize * words_for(self.width) + block as usize]
+        self.words[row as usize * words_for(self.width) + chunk as usize]
     }
 
-    fn set_word(&mut self, row: u32, block: u32, word: u64)
+    fn set_word(&mut self, row: u32, chunk: u32, word: u64)
         requires row { row < self.old.height }
-        requires block { 64 * block < self.old.width }
-        ensures { IsWordSet self.old self.new row block word }
+        requires chunk { 64 * chunk < self.old.width }
+        ensures { IsWordSet self.old self.new row chunk word }
     {
-        self.words[row as usize * words_for(self.width) + block as usize] = word;
+        self.words[row as usize * words_for(self.width) + chunk as usize] = word;
     }
 }

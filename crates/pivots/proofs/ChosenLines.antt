@@ -9,6 +9,7 @@ use Rattle.cmr_base.proofs.Booleans.{true_is_false}
 use Rattle.cmr_base.proofs.LineSetLemmas.{taken_below}
 use Rattle.cmr_base.proofs.ListsWithout.{place_of, place_is}
 use Rattle.cmr_base.proofs.Members.{in_at}
+use Rattle.cmr_base.proofs.RowLists.{filter_in, in_filter}
 use Rattle.pivots.specs.ChosenLines.{with_line}
 
 -- ---- members
@@ -27,25 +28,6 @@ in_back : (x : ℕ) (xs ys : List ℕ) → IsIn x ys → IsIn x (xs ++ ys)
 in_back x [] ys h = h
 in_back x (y ∷ xs) ys h = inr (in_back x xs ys h)
 
-pub filter_in : (p : ℕ → Bool) (x : ℕ) (xs : List ℕ) → IsIn x (filter p xs) → IsIn x xs × (p x ≡ true)
-filter_in p x [] h = absurd h
-filter_in p x (y ∷ ys) h = go (p y) refl h (λ k. filter_in p x ys k)
-  where
-    go : (b : Bool) → p y ≡ b → IsIn x (cond b (y ∷ filter p ys) (filter p ys)) → (IsIn x (filter p ys) → IsIn x ys × (p x ≡ true)) → ((x ≡ y) ⊎ IsIn x ys) × (p x ≡ true)
-    go true e (inl q) k = (inl q, ap p q ∙ e)
-    go true e (inr h) k = let r = k h in (inr r.0, r.1)
-    go false e h k = let r = k h in (inr r.0, r.1)
-
-pub in_filter : (p : ℕ → Bool) (x : ℕ) (xs : List ℕ) → IsIn x xs → p x ≡ true → IsIn x (filter p xs)
-in_filter p x [] h e = absurd h
-in_filter p x (y ∷ ys) h e = go (p y) refl h (λ k. in_filter p x ys k e)
-  where
-    go : (b : Bool) → p y ≡ b → (x ≡ y) ⊎ IsIn x ys → (IsIn x ys → IsIn x (filter p ys)) → IsIn x (cond b (y ∷ filter p ys) (filter p ys))
-    go true f (inl q) k = inl q
-    go true f (inr h) k = inr (k h)
-    go false f (inl q) k = true_is_false (sym e ∙ ap p q ∙ f)
-    go false f (inr h) k = k h
-
 pub above_members : (x : ℕ) (xs : List ℕ) → ((y : ℕ) → IsIn y xs → y < x) → IsAbove x xs
 above_members x xs h k l = h (get_or xs k 0) (in_at xs k l)
 
@@ -55,25 +37,25 @@ members_above x xs above y h = let p = place_is y xs h in subst (λ (z : ℕ). z
 -- ---- the lines below a bound, and those above it
 
 pub low_member : (x bound : ℕ) (xs : List ℕ) → IsIn x (filter (λ y. nat_lt y bound) xs) → IsIn x xs × (x < bound)
-low_member x bound xs h = let r = filter_in (λ y. nat_lt y bound) x xs h in (r.0, less x bound r.1)
+low_member x bound xs h = let r = in_filter (λ y. nat_lt y bound) x xs h in (r.0, less x bound r.1)
   where
     less : (x n : ℕ) → nat_lt x n ≡ true → x < n
     less x n e = grind (arith, nat_tests)
 
 pub high_member : (x bound : ℕ) (xs : List ℕ) → IsIn x (filter (λ y. nat_lt bound y) xs) → IsIn x xs × (bound < x)
-high_member x bound xs h = let r = filter_in (λ y. nat_lt bound y) x xs h in (r.0, less bound x r.1)
+high_member x bound xs h = let r = in_filter (λ y. nat_lt bound y) x xs h in (r.0, less bound x r.1)
   where
     less : (x n : ℕ) → nat_lt x n ≡ true → x < n
     less x n e = grind (arith, nat_tests)
 
 low_is_member : (x bound : ℕ) (xs : List ℕ) → IsIn x xs → x < bound → IsIn x (filter (λ y. nat_lt y bound) xs)
-low_is_member x bound xs h l = in_filter (λ y. nat_lt y bound) x xs h (test x bound l)
+low_is_member x bound xs h l = filter_in (λ y. nat_lt y bound) x xs h (test x bound l)
   where
     test : (x n : ℕ) → x < n → nat_lt x n ≡ true
     test x n l = grind (arith, nat_tests)
 
 high_is_member : (x bound : ℕ) (xs : List ℕ) → IsIn x xs → bound < x → IsIn x (filter (λ y. nat_lt bound y) xs)
-high_is_member x bound xs h l = in_filter (λ y. nat_lt bound y) x xs h (test bound x l)
+high_is_member x bound xs h l = filter_in (λ y. nat_lt bound y) x xs h (test bound x l)
   where
     test : (x n : ℕ) → x < n → nat_lt x n ≡ true
     test x n l = grind (arith, nat_tests)
@@ -84,7 +66,7 @@ pub next_above : (made lines : List ℕ) (bound i : ℕ) → IsStrictlyIncreasin
 next_above made lines bound i rises inside higher low = above_members (get_or lines i 0) (made ++ filter (λ y. nat_lt bound y) (take i lines))
     (λ y h. elim (in_either y made (filter (λ y. nat_lt bound y) (take i lines)) h) [
       | inl k ↦ let l = low y k in omega arith
-      | inr k ↦ taken_before y (filter_in (λ y. nat_lt bound y) y (take i lines) k).0
+      | inr k ↦ taken_before y (in_filter (λ y. nat_lt bound y) y (take i lines) k).0
     ])
   where
     taken_before : (y : ℕ) → IsIn y (take i lines) → y < get_or lines i 0

@@ -9,7 +9,7 @@ use Rattle.std.proofs.lemmas.Nat.{mod_below}
 use Rattle.cmr_base.specs.declared.line_set.LineSet.{LineSet}
 use Rattle.cmr_base.specs.Matrix.{Matrix, entry, is_nonzero}
 use Rattle.cmr_base.specs.Members.{IsIn}
-use Rattle.cmr_base.proofs.Booleans.{true_is_false}
+use Rattle.cmr_base.proofs.Booleans.{zero_is}
 use Rattle.cmr_base.proofs.Lists.{all-append, all-map}
 use Rattle.cmr_base.proofs.ListsWithout.{in_from_contains, contains_from_in}
 use Rattle.cmr_base.proofs.Members.{all_of_members}
@@ -18,7 +18,8 @@ use Rattle.pivots.specs.declared.drawn.DrawnPlace.{DrawnPlace}
 use Rattle.pivots.specs.declared.place.PivotPlace.{PivotPlace}
 use Rattle.pivots.specs.DrawnPlaces.{row_places, places_on, drawn_place}
 use Rattle.pivots.specs.PivotedParts.{IsPlaceIn}
-use Rattle.pivots.proofs.ChosenLines.{filter_in, in_filter}
+use Rattle.cmr_base.proofs.Members.{some_in}
+use Rattle.cmr_base.proofs.RowLists.{filter_in, in_filter}
 
 -- ---- items by their numbers
 
@@ -64,15 +65,11 @@ module _ (m : Matrix) (rows columns : List ℕ) (k left : ℕ) (inside : k < len
 
 -- ---- where there is none
 
-some_member : (x : ℕ) (xs : List ℕ) → IsIn x xs → 0 < length xs
-some_member x [] h = absurd h
-some_member x (y ∷ ys) h = omega arith
-
 module _ (m : Matrix) (columns : List ℕ) (i j : ℕ) (there : IsIn j columns) (nonzero : is_nonzero (entry m i j) ≡ true) where
   some_in_row : 0 < length (row_places m columns i)
   some_in_row =
       let made = length-map (filter (λ column. is_nonzero (entry m i column)) columns) (λ (column : ℕ). let place : PivotPlace = record { row = i; column = column } in place) in
-      let some = some_member j (filter (λ column. is_nonzero (entry m i column)) columns) (in_filter (λ column. is_nonzero (entry m i column)) j columns there nonzero) in
+      let some = some_in j (filter (λ column. is_nonzero (entry m i column)) columns) (filter_in (λ column. is_nonzero (entry m i column)) j columns there nonzero) in
       subst (λ n. 0 < n) (sym made) some
 
   some_place : (rows : List ℕ) → IsIn i rows → 0 < length (places_on m rows columns)
@@ -86,16 +83,11 @@ module _ (m : Matrix) (columns : List ℕ) (i j : ℕ) (there : IsIn j columns) 
       let some = some_place xs h in
       omega (arith, both, some)
 
-zero_of : (z : ℤ) → is_nonzero z ≡ false → z ≡ pos 0
-zero_of (pos zero) e = refl
-zero_of (pos (suc n)) e = true_is_false e
-zero_of (negsuc n) e = true_is_false e
-
 pub none_placed : (m : Matrix) (rows columns : List ℕ) → length (places_on m rows columns) ≡ 0 → (i j : ℕ) → Contains rows i → Contains columns j → entry m i j ≡ pos 0
 none_placed m rows columns none i j i_in j_in = go (is_nonzero (entry m i j)) refl
   where
     go : (b : Bool) → is_nonzero (entry m i j) ≡ b → entry m i j ≡ pos 0
-    go false e = zero_of (entry m i j) e
+    go false e = zero_is (entry m i j) e
     go true e = absurd (let some = some_place m columns i j (in_from_contains columns j j_in) e rows (in_from_contains rows i i_in) in omega (arith, none, some))
 
 -- ---- the place that is drawn
@@ -110,7 +102,7 @@ all_nonzeros m rows columns [] all = tt
 all_nonzeros m rows columns (x ∷ xs) all = all-append (IsNonzeroOf m rows columns) (row_places m columns x) (places_on m xs columns)
     (all-map (IsNonzeroOf m rows columns) (λ (column : ℕ). let place : PivotPlace = record { row = x; column = column } in place) (filter (λ column. is_nonzero (entry m x column)) columns)
     (all_of_members (λ column. IsNonzeroOf m rows columns (record { row = x; column = column })) (filter (λ column. is_nonzero (entry m x column)) columns)
-    (λ j h. let r = filter_in (λ column. is_nonzero (entry m x column)) j columns h in record { row_in = all.0; column_in = r.0; nonzero = r.1 })))
+    (λ j h. let r = in_filter (λ column. is_nonzero (entry m x column)) j columns h in record { row_in = all.0; column_in = r.0; nonzero = r.1 })))
     (all_nonzeros m rows columns xs all.1)
 
 module _ (m : Matrix) (lines : LineSet) (state : ℕ) where

@@ -15,7 +15,7 @@ use Rattle.cmr_base.proofs.Booleans.{true_is_false}
 use Rattle.cmr_base.proofs.Entries.{height-with_entry, entry-with_entry_same, entry-with_entry_other_column, entry-with_entry_other_row, is_matrix-with_entry}
 use Rattle.cmr_base.proofs.ListedLines.{has_line_from_listed, listed_from_has_line}
 use Rattle.cmr_base.proofs.ListsWithout.{in_from_contains}
-use Rattle.cmr_base.proofs.Places.{contained_below, placed_before}
+use Rattle.cmr_base.proofs.Places.{contained_below, each_more, placed_before}
 use Rattle.cmr_base.proofs.RisingLists.{RisesIn, rising_row_set, rising_column_set}
 use Rattle.ghouila.specs.PivotLaws.{pivot_entry}
 use Rattle.ghouila.proofs.PivotLaws.{filled_again}
@@ -29,12 +29,6 @@ use Rattle.pivots.proofs.PivotEntries.{two_is_violator}
 -- what holds of each item of a list holds of what it contains
 each_contained : (P : ℕ → Type 0) (xs : List ℕ) (k : ℕ) → length xs ≤ k → ((p : ℕ) → p < k → P (get_or xs p 0)) → (x : ℕ) → Contains xs x → P x
 each_contained P xs k whole each x (p, l, e) = subst P (get_or_default xs p 0 x l ∙ e) (each p (omega arith))
-
-one_more : (P : ℕ → Type 0) (k : ℕ) → ((p : ℕ) → p < k → P p) → P k → (p : ℕ) → p < k + 1 → P p
-one_more P k each last p h = elim (cases_lt p k) [
-  | inl lt ↦ each p lt
-  | inr ge ↦ let same : k ≡ p = omega arith in subst P same last
-]
 
 -- ---- one row
 
@@ -58,8 +52,8 @@ module _ (m before : Matrix) (columns : List ℕ) (place : PivotPlace) (row : �
     shape = is_matrix-with_entry now row column value row_in small h.shape;
     same_height = height-with_entry now row column value ∙ h.same_height;
     same_width = h.same_width;
-    entries = one_more (λ p. entry (with_entry now row column value) row (get_or columns p 0) ≡ after (get_or columns p 0)) k earlier there;
-    small = one_more (λ p. IsEntry (after (get_or columns p 0))) k h.small (subst IsEntry e small);
+    entries = each_more (λ p. entry (with_entry now row column value) row (get_or columns p 0) ≡ after (get_or columns p 0)) k earlier there;
+    small = each_more (λ p. IsEntry (after (get_or columns p 0))) k h.small (subst IsEntry e small);
     others = kept;
   }
     where
@@ -136,8 +130,8 @@ module _ (m : Matrix) (lines : LineSet) (place : PivotPlace) where
     shape = row.shape;
     same_height = row.same_height ∙ h.same_height;
     same_width = row.same_width ∙ h.same_width;
-    entries = one_more (λ p. (j : ℕ) → Contains lines.columns j → entry next (get_or lines.rows p 0) j ≡ pivot_entry (entry m) place.row place.column (get_or lines.rows p 0) j) k earlier row.entries;
-    small = one_more (λ p. (j : ℕ) → Contains lines.columns j → IsEntry (pivot_entry (entry m) place.row place.column (get_or lines.rows p 0) j)) k h.small row.small;
+    entries = each_more (λ p. (j : ℕ) → Contains lines.columns j → entry next (get_or lines.rows p 0) j ≡ pivot_entry (entry m) place.row place.column (get_or lines.rows p 0) j) k earlier row.entries;
+    small = each_more (λ p. (j : ℕ) → Contains lines.columns j → IsEntry (pivot_entry (entry m) place.row place.column (get_or lines.rows p 0) j)) k h.small row.small;
     others = kept;
   }
     where

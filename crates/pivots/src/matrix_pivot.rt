@@ -38,7 +38,7 @@ pub fn pivot(alloc: Global, matrix: &Matrix, row: u32, column: u32) -> Result<Pi
             columns: two_lines(alloc, column, two.column)?,
         }));
     }
-    let mut work = copy_of(alloc, matrix)?;
+    let mut work = matrix.copy(alloc)?;
     make_pivot(&mut work, left, row, column);
     multiply_row(&mut work, row, column);
     Ok(Pivoted::Ternary(work))
@@ -51,14 +51,6 @@ fn other_rows(alloc: Global, matrix: &Matrix, row: u32) -> Result<Indices, Memor
 {
     let lines = LineSet::all(alloc, matrix.rows(), 0)?;
     Ok(lines.without_row(alloc, row)?.rows)
-}
-
-pub(crate) fn copy_of(alloc: Global, matrix: &Matrix) -> Result<Matrix, Memory>
-    ensures copy { IfOk result (λ work. work ≡ matrix.now) }
-    ensures shape { IsMatrix matrix.now }
-{
-    let lines = LineSet::all(alloc, matrix.rows(), matrix.columns())?;
-    matrix.part(alloc, &lines)
 }
 
 // Multiplies the other entries of a row by one of them.

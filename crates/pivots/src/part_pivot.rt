@@ -7,7 +7,7 @@ ghost use Rattle.pivots.specs.PivotedParts.{IsPlaceIn, IsPivotedPart};
 ghost use Rattle.pivots.specs.PivotedRows.{IsPivotedRow, IsFirstTwoOfRow};
 
 use crate::PivotPlace;
-use crate::matrix_pivot::{copy_of, two_lines};
+use crate::matrix_pivot::two_lines;
 use cmr_base::{LineSet, Matrix, Memory, product};
 use std::alloc::Global;
 
@@ -35,7 +35,7 @@ pub fn pivot_part(
     requires place { IsPlaceIn matrix.now lines.now place }
     ensures { IfOk result (IsPivotedPart matrix.now lines.now place) }
 {
-    let mut work = copy_of(alloc, matrix)?;
+    let mut work = matrix.copy(alloc)?;
     let columns = lines.columns.as_slice();
     for row in lines.rows.as_slice() {
         if let Some(column) = pivot_row(matrix, &mut work, columns, place, *row) {

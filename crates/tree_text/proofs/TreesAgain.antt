@@ -2,6 +2,7 @@
 use Rattle.std.proofs.Common.{◌≡◌, ◌<◌, ◌≤◌, ◌+◌, ◌-◌, ◌∙◌, ℕ, suc, Bool, true, false, List, [], ◌∷◌, ◌++◌, ◌||◌, length, map, get_or, Contains, Option, Some, None, Ok, refl, ap, ap₂, sym, subst, append_assoc, zero-le, arith}
 use Rattle.std.specs.Prelude.{option_map}
 use Rattle.std.proofs.lemmas.Bool.{true≢false}
+use Rattle.cmr_base.proofs.Booleans.{not_either}
 use Rattle.std.specs.List.{AllByRecursion, flat_map}
 use Rattle.std.specs.List.Sorted.{IsStrictlyIncreasing}
 use Rattle.std.specs.Fmt.{decimal}
@@ -255,19 +256,15 @@ mutual
   all_known_with_pivots NoTrees = tt
   all_known_with_pivots (MoreTrees tree trees) = (known_with_pivots tree, all_known_with_pivots trees)
 
-neither : (a b : Bool) → (a || b) ≡ false → (a ≡ false) × (b ≡ false)
-neither true b e = absurd (true≢false e)
-neither false b e = (refl, e)
-
 mutual
   known_without : (tree : Tree) → has_pivot tree ≡ false → IsKnown version.Two tree
   known_without (Branch lines finding trees) none =
-      let each = neither (is_pivot finding) (have_pivot trees) none in (most_words finding each.0, all_known_without trees each.1)
+      let each = not_either (is_pivot finding) (have_pivot trees) none in (most_words finding each.0, all_known_without trees each.1)
 
   all_known_without : (trees : Trees) → have_pivot trees ≡ false → AreKnown version.Two trees
   all_known_without NoTrees none = tt
   all_known_without (MoreTrees tree trees) none =
-      let each = neither (has_pivot tree) (have_pivot trees) none in (known_without tree each.0, all_known_without trees each.1)
+      let each = not_either (has_pivot tree) (have_pivot trees) none in (known_without tree each.0, all_known_without trees each.1)
 
 -- a tree is written in a version that has a word for each of its nodes
 known : (tree : Tree) → IsKnown (version_of tree) tree

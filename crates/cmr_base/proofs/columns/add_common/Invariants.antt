@@ -2,5 +2,5 @@ use Rattle.std.proofs.Common.{◌&&◌}
 use Rattle.cmr_base.specs.ColumnSets.{has_column, IsAdded}
 use Rattle.cmr_base.proofs.columns.add_common.Given as goal
 
-abbrev pub invariant-loop-block : goal.invariant-loop-block
-invariant-loop-block l = IsAdded (λ column. has_column l.one column && has_column l.two column) l.initial.set.items l.set.items l.block
+abbrev pub invariant-loop-chunk : goal.invariant-loop-chunk
+invariant-loop-chunk l = IsAdded (λ column. has_column l.one column && has_column l.two column) l.initial.set.items l.set.items l.chunk

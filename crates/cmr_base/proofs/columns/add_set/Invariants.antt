@@ -1,5 +1,5 @@
 use Rattle.cmr_base.specs.ColumnSets.{has_column, IsAdded}
 use Rattle.cmr_base.proofs.columns.add_set.Given as goal
 
-abbrev pub invariant-loop-block : goal.invariant-loop-block
-invariant-loop-block l = IsAdded (λ column. has_column l.other column) l.initial.set.items l.set.items l.block
+abbrev pub invariant-loop-chunk : goal.invariant-loop-chunk
+invariant-loop-chunk l = IsAdded (λ column. has_column l.other column) l.initial.set.items l.set.items l.chunk

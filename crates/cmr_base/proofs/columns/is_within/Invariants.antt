@@ -2,5 +2,5 @@ use Rattle.std.proofs.Common.{◌≡◌, ◌<◌, ◌*◌, ℕ, true}
 use Rattle.cmr_base.specs.ColumnSets.{has_column}
 use Rattle.cmr_base.proofs.columns.is_within.Given as goal
 
-abbrev pub invariant-loop-block : goal.invariant-loop-block
-invariant-loop-block l = (k : ℕ) → k < 64 * l.block → has_column l.one k ≡ true → has_column l.two k ≡ true
+abbrev pub invariant-loop-chunk : goal.invariant-loop-chunk
+invariant-loop-chunk l = (k : ℕ) → k < 64 * l.chunk → has_column l.one k ≡ true → has_column l.two k ≡ true

@@ -7,21 +7,21 @@ pub returns-then-share_bit : goal.returns-then-share_bit
 returns-then-share_bit c =
     let one = c.args.one.now in
     let two = c.args.two.now in
-    let block = c.loop-block.block in
+    let chunk = c.loop-chunk.chunk in
     let s = c.if-share_bit.ensures.0 refl in (
-      (λ e. (64 * block + s.0, column_at one block s.0 s.1 ∙ s.2, column_at two block s.0 s.1 ∙ s.3)),
+      (λ e. (64 * chunk + s.0, column_at one chunk s.0 s.1 ∙ s.2, column_at two chunk s.0 s.1 ∙ s.3)),
       (λ h. refl),
     )
 
-pub loop-block-preserved : goal.loop-block-preserved
-loop-block-preserved c = unshared c.args.one.now c.args.two.now c.loop-block.block c.loop-block.invariant (λ k s a b. true≢false (sym (c.if-share_bit.ensures.1 (k, s, a, b))))
+pub loop-chunk-preserved : goal.loop-chunk-preserved
+loop-chunk-preserved c = unshared c.args.one.now c.args.two.now c.loop-chunk.chunk c.loop-chunk.invariant (λ k s a b. true≢false (sym (c.if-share_bit.ensures.1 (k, s, a, b))))
 
 pub returns : goal.returns
 returns c =
-    let l = c.loop-block-test.false in (
+    let l = c.loop-chunk-test.false in (
       (λ e. cc),
-      (λ (column, a, b). elim (cases_lt column (64 * c.loop-block.block)) [
-        | inl h ↦ absurd (true≢false (sym b ∙ c.loop-block.invariant column h a))
+      (λ (column, a, b). elim (cases_lt column (64 * c.loop-chunk.chunk)) [
+        | inl h ↦ absurd (true≢false (sym b ∙ c.loop-chunk.invariant column h a))
         | inr h ↦ absurd (true≢false (sym a ∙ none_past c.args.one.now column (omega arith)))
       ]),
     )

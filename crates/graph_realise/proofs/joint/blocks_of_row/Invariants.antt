@@ -1,6 +1,6 @@
 use Rattle.cmr_base.specs.Trees.{support}
-use Rattle.graph_realise.proofs.BlockLemmas.{AreBlocksTo}
-use Rattle.graph_realise.proofs.joint.blocks_of_row.Given as goal
+use Rattle.graph_realise.proofs.ChunkLemmas.{AreChunksTo}
+use Rattle.graph_realise.proofs.joint.chunks_of_row.Given as goal
 
-abbrev pub invariant-loop-block : goal.invariant-loop-block
-invariant-loop-block l = AreBlocksTo (support l.matrix l.row) l.matrix.width l.blocks l.block
+abbrev pub invariant-loop-chunk : goal.invariant-loop-chunk
+invariant-loop-chunk l = AreChunksTo (support l.matrix l.row) l.matrix.width l.chunks l.chunk

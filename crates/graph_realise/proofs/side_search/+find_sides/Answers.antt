@@ -5,7 +5,7 @@ use Rattle.cmr_base.specs.Splits.{HasNoThree, Splits}
 use Rattle.cmr_base.specs.Trees.{support}
 use Rattle.bridge_split.specs.SplitCases.{AreSidesOf}
 use Rattle.graph_realise.specs.Searches.{IsSearch, IsSplit}
-use Rattle.graph_realise.specs.Tables.{AreBlocksOf}
+use Rattle.graph_realise.specs.Tables.{AreChunksOf}
 use Rattle.graph_realise.proofs.NoCuts.{no_odd}
 use Rattle.bridge_split.proofs.SidesOfParts.{parts_few}
 use Rattle.graph_realise.proofs.SearchLemmas.{all_numbered, clear_more, fits, joined_clear, joined_cuts, kept_more, named_off, none_more, others_more, whole_more, parts_disjoint, parts_in_rows, some_three, with_below, with_fewer}
@@ -152,7 +152,7 @@ join_parts-join-requires-clause-joint t c =
           c.requires.split.parts c.args.ends.now c.requires.ends c.in_ok-joint.joint J;
       off = named_off (support m) (height m) m.width short c.args.rows.now below c.args.split.now.row c.requires.split.here c.args.split.now.parts
           c.requires.split.parts c.args.ends.now c.requires.ends c.in_ok-joint.joint J;
-      blocks = subst (λ (r : ℕ). AreBlocksOf (support m r) m.width c.in_ok-joint.joint.row_blocks) (sym J.row) J.own_blocks;
+      chunks = subst (λ (r : ℕ). AreChunksOf (support m r) m.width c.in_ok-joint.joint.row_chunks) (sym J.row) J.own_chunks;
     }
 
 pub join_parts-join-requires-clause-numbered : goal.join_parts-join-requires-clause-numbered

@@ -9,7 +9,7 @@ use Rattle.pivots.proofs.PivotedRows.{rows_begun, rows_go_on, rows_ended, first_
 use Rattle.pivots.proofs.part_pivot.pivot_part.Goals as goal
 
 pub loop-row-init : goal.loop-row-init
-loop-row-init c = rows_begun c.args.matrix.now c.args.lines.now c.args.place c.in_ok-work.work c.in_ok-work.ensures.copy c.copy_of.ensures.shape
+loop-row-init c = rows_begun c.args.matrix.now c.args.lines.now c.args.place c.in_ok-work.work c.in_ok-work.ensures.copy c.copy.ensures.shape
 
 pub pivot_row-requires-clause-columns : goal.pivot_row-requires-clause-columns
 pivot_row-requires-clause-columns c = subst (IsColumnSet c.args.matrix.now) (sym c.as_slice-columns.ensures.items) c.requires.columns
@@ -31,7 +31,7 @@ two_lines-requires c =
     let same = c.as_slice-row-items.ensures.items in
     let inside : c.loop-row.row-index < length c.args.lines.now.rows = omega (arith, ap length same) in
     subst (λ (rows : List ℕ). c.args.place.row ≢ get_or rows c.loop-row.row-index 0) (sym same)
-    (first_two_apart c.args.matrix.now c.args.lines.now c.args.place c.copy_of.ensures.shape c.requires.rows c.requires.columns c.requires.place (get_or c.args.lines.now.rows c.loop-row.row-index 0) c.in-Some.column
+    (first_two_apart c.args.matrix.now c.args.lines.now c.args.place c.copy.ensures.shape c.requires.rows c.requires.columns c.requires.place (get_or c.args.lines.now.rows c.loop-row.row-index 0) c.in-Some.column
     (Contains-get_or c.args.lines.now.rows c.loop-row.row-index 0 inside)
     (first_two_of c.args.matrix.now c.args.lines.now c.args.place c.as_slice-row-items.result.now c.as_slice-columns.result.now c.loop-row.row-index c.in-Some.column c.as_slice-row-items.ensures.items c.as_slice-columns.ensures.items c.in-Some.ensures.some)).0
 
@@ -39,7 +39,7 @@ pub two_lines-requires-in-Some : goal.two_lines-requires-in-Some
 two_lines-requires-in-Some c =
     let same = c.as_slice-row-items.ensures.items in
     let inside : c.loop-row.row-index < length c.args.lines.now.rows = omega (arith, ap length same) in
-    (first_two_apart c.args.matrix.now c.args.lines.now c.args.place c.copy_of.ensures.shape c.requires.rows c.requires.columns c.requires.place (get_or c.args.lines.now.rows c.loop-row.row-index 0) c.in-Some.column
+    (first_two_apart c.args.matrix.now c.args.lines.now c.args.place c.copy.ensures.shape c.requires.rows c.requires.columns c.requires.place (get_or c.args.lines.now.rows c.loop-row.row-index 0) c.in-Some.column
     (Contains-get_or c.args.lines.now.rows c.loop-row.row-index 0 inside)
     (first_two_of c.args.matrix.now c.args.lines.now c.args.place c.as_slice-row-items.result.now c.as_slice-columns.result.now c.loop-row.row-index c.in-Some.column c.as_slice-row-items.ensures.items c.as_slice-columns.ensures.items c.in-Some.ensures.some)).1
 
@@ -47,7 +47,7 @@ pub returns-in-Some : goal.returns-in-Some
 returns-in-Some c =
     let same = c.as_slice-row-items.ensures.items in
     let inside : c.loop-row.row-index < length c.args.lines.now.rows = omega (arith, ap length same) in
-    shows_first_two c.args.matrix.now c.args.lines.now c.args.place c.copy_of.ensures.shape c.requires.rows c.requires.columns c.requires.place
+    shows_first_two c.args.matrix.now c.args.lines.now c.args.place c.copy.ensures.shape c.requires.rows c.requires.columns c.requires.place
     c.loop-row.work c.loop-row.row-index c.in-Some.column c.in_ok-two_lines.field-0 c.in_ok-two_lines-2.field-0 inside c.loop-row.invariant
     (first_two_of c.args.matrix.now c.args.lines.now c.args.place c.as_slice-row-items.result.now c.as_slice-columns.result.now c.loop-row.row-index c.in-Some.column c.as_slice-row-items.ensures.items c.as_slice-columns.ensures.items c.in-Some.ensures.some)
     (c.in_ok-two_lines.ensures ∙ ap (λ (rows : List ℕ). two_lines c.args.place.row (get_or rows c.loop-row.row-index 0)) same) c.in_ok-two_lines-2.ensures

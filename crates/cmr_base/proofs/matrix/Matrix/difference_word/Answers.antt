@@ -9,17 +9,17 @@ use Rattle.cmr_base.proofs.matrix.Matrix.difference_word.Goals as goal
 pub returns-then-factor-eq0 : goal.returns-then-factor-eq0
 returns-then-factor-eq0 c = λ i low.
     ap (λ (word : ℕ). bit_at word i) c.support_word-support.ensures
-    ∙ bit_without c.args.self.now c.args.row c.args.model c.args.block i c.rows-rows.ensures.shape low
-    ∙ ap (λ (f : ℤ). cond (differs_at c.args.self.now c.args.row f c.args.model (64 * c.args.block + i)) 1 0) (sym (zero_byte c.args.factor c.requires.factor c.if-factor-eq0.true))
+    ∙ bit_without c.args.self.now c.args.row c.args.model c.args.chunk i c.rows-rows.ensures.shape low
+    ∙ ap (λ (f : ℤ). cond (differs_at c.args.self.now c.args.row f c.args.model (64 * c.args.chunk + i)) 1 0) (sym (zero_byte c.args.factor c.requires.factor c.if-factor-eq0.true))
 
 pub returns-then-factor-eq1 : goal.returns-then-factor-eq1
 returns-then-factor-eq1 c = λ i low.
     ap₂ (λ (s t : ℕ). bit_at (bit_or s t) i) (ap₂ bit_xor c.support_word-support.ensures c.support_word-other_support.ensures) (ap₂ bit_xor c.minus_word-minus.ensures c.minus_word-other_minus.ensures)
-    ∙ bit_same c.args.self.now c.args.row c.args.model c.args.block i c.rows-rows.ensures.shape low
-    ∙ ap (λ (f : ℤ). cond (differs_at c.args.self.now c.args.row f c.args.model (64 * c.args.block + i)) 1 0) (sym (factor_one c.args.factor c.requires.factor c.if-factor-eq1.true))
+    ∙ bit_same c.args.self.now c.args.row c.args.model c.args.chunk i c.rows-rows.ensures.shape low
+    ∙ ap (λ (f : ℤ). cond (differs_at c.args.self.now c.args.row f c.args.model (64 * c.args.chunk + i)) 1 0) (sym (factor_one c.args.factor c.requires.factor c.if-factor-eq1.true))
 
 pub returns-else-factor-eq1 : goal.returns-else-factor-eq1
 returns-else-factor-eq1 c = λ i low.
     ap₂ (λ (s t : ℕ). bit_at (bit_or s t) i) (ap₂ bit_xor c.support_word-support.ensures c.support_word-other_support.ensures) (ap₂ bit_xor c.minus_word-minus.ensures (ap₂ bit_xor c.support_word-other_support.ensures c.minus_word-other_minus.ensures))
-    ∙ bit_negated c.args.self.now c.args.row c.args.model c.args.block i c.rows-rows.ensures.shape low
-    ∙ ap (λ (f : ℤ). cond (differs_at c.args.self.now c.args.row f c.args.model (64 * c.args.block + i)) 1 0) (sym (factor_minus c.args.factor c.requires.factor c.if-factor-eq0.false c.if-factor-eq1.false))
+    ∙ bit_negated c.args.self.now c.args.row c.args.model c.args.chunk i c.rows-rows.ensures.shape low
+    ∙ ap (λ (f : ℤ). cond (differs_at c.args.self.now c.args.row f c.args.model (64 * c.args.chunk + i)) 1 0) (sym (factor_minus c.args.factor c.requires.factor c.if-factor-eq0.false c.if-factor-eq1.false))

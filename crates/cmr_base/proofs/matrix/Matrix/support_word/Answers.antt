@@ -13,7 +13,7 @@ pub index-requires : goal.index-requires
 index-requires c =
     let a = c.self.inside in
     let planes = are_planes a c.args.self.now c.self.view_is c.self.invariant in
-    omega (arith, a.support.ok, c.place_of.ensures, place_in a c.args.self.now is_nonzero a.support.items c.args.row (64 * c.args.block) c.self.view_is planes.support_is c.requires.row c.requires.block)
+    omega (arith, a.support.ok, c.place_of.ensures, place_in a c.args.self.now is_nonzero a.support.items c.args.row (64 * c.args.chunk) c.self.view_is planes.support_is c.requires.row c.requires.chunk)
 
 pub returns : goal.returns
 returns c =
@@ -21,12 +21,12 @@ returns c =
     let m = c.args.self.now in
     let planes = are_planes a m c.self.view_is c.self.invariant in
     let wide = width_is a m c.self.view_is in
-    let block : 64 * c.args.block / 64 ≡ c.args.block = omega arith in
-    let within : c.args.block < words_for m.width = omega (arith, c.requires.block) in
-    let inside = place_in a m is_nonzero a.support.items c.args.row (64 * c.args.block) c.self.view_is planes.support_is c.requires.row c.requires.block in
-    let place : c.place_of.result ≡ c.args.row * words_for m.width + c.args.block =
-    c.place_of.ensures ∙ ap (λ (n : ℕ). c.args.row * words_for a.columns + n) block ∙ ap (λ (n : ℕ). c.args.row * words_for n + c.args.block) (sym wide) in
+    let chunk : 64 * c.args.chunk / 64 ≡ c.args.chunk = omega arith in
+    let within : c.args.chunk < words_for m.width = omega (arith, c.requires.chunk) in
+    let inside = place_in a m is_nonzero a.support.items c.args.row (64 * c.args.chunk) c.self.view_is planes.support_is c.requires.row c.requires.chunk in
+    let place : c.place_of.result ≡ c.args.row * words_for m.width + c.args.chunk =
+    c.place_of.ensures ∙ ap (λ (n : ℕ). c.args.row * words_for a.columns + n) chunk ∙ ap (λ (n : ℕ). c.args.row * words_for n + c.args.chunk) (sym wide) in
     get_or_read a.support.items c.place_of.result c.index.result.now (omega (arith, c.place_of.ensures, inside)) c.index.ensures 0
     ∙ ap (λ (n : ℕ). get_or a.support.items n 0) place
-    ∙ ap (λ (ws : List ℕ). get_or ws (c.args.row * words_for m.width + c.args.block) 0) planes.support_is
-    ∙ word-rows (words_for m.width) is_nonzero m.rows c.args.row c.args.block c.requires.row within
+    ∙ ap (λ (ws : List ℕ). get_or ws (c.args.row * words_for m.width + c.args.chunk) 0) planes.support_is
+    ∙ word-rows (words_for m.width) is_nonzero m.rows c.args.row c.args.chunk c.requires.row within

@@ -6,16 +6,16 @@ use Rattle.cmr_base.proofs.WordBits.{has_bit-and}
 use Rattle.graph_realise.proofs.TableLemmas.{filled_word, filled_row}
 use Rattle.graph_realise.proofs.table.Table.fill_common.Goals as goal
 
-pub loop-block-preserved : goal.loop-block-preserved
-loop-block-preserved c =
-    let block = c.loop-block.block in
+pub loop-chunk-preserved : goal.loop-chunk-preserved
+loop-chunk-preserved c =
+    let chunk = c.loop-chunk.chunk in
     let one = c.args.one.now in
     let two = c.args.two.now in
     let values : ℕ → Bool = λ column. has_column one column && has_column two column in
-    filled_word values c.args.self.now c.loop-block.self c.set_word.new.self c.args.row block (bit_and (get_or one block 0) (get_or two block 0)) c.loop-block.invariant c.set_word.ensures
-    (λ k small inside. has_bit-and (get_or one block 0) (get_or two block 0) k ∙ ap₂ (λ a b. a && b) (sym (column_at one block k small)) (sym (column_at two block k small)))
+    filled_word values c.args.self.now c.loop-chunk.self c.set_word.new.self c.args.row chunk (bit_and (get_or one chunk 0) (get_or two chunk 0)) c.loop-chunk.invariant c.set_word.ensures
+    (λ k small inside. has_bit-and (get_or one chunk 0) (get_or two chunk 0) k ∙ ap₂ (λ a b. a && b) (sym (column_at one chunk k small)) (sym (column_at two chunk k small)))
 
 pub returns : goal.returns
 returns c =
-    let end = c.loop-block-test.false in
-    filled_row (λ column. has_column c.args.one.now column && has_column c.args.two.now column) c.args.self.now c.loop-block.self c.args.row c.loop-block.block (omega (arith, end, c.blocks-block-end.ensures)) c.loop-block.invariant
+    let end = c.loop-chunk-test.false in
+    filled_row (λ column. has_column c.args.one.now column && has_column c.args.two.now column) c.args.self.now c.loop-chunk.self c.args.row c.loop-chunk.chunk (omega (arith, end, c.chunks-chunk-end.ensures)) c.loop-chunk.invariant

@@ -3,5 +3,5 @@ use Rattle.cmr_base.specs.ColumnSets.{has_column}
 use Rattle.graph_realise.specs.Tables.{IsRowFilled}
 use Rattle.graph_realise.proofs.table.Table.fill_common.Given as goal
 
-abbrev pub invariant-loop-block : goal.invariant-loop-block
-invariant-loop-block l = IsRowFilled (λ column. has_column l.one column && has_column l.two column) l.initial.self l.self l.row (64 * l.block)
+abbrev pub invariant-loop-chunk : goal.invariant-loop-chunk
+invariant-loop-chunk l = IsRowFilled (λ column. has_column l.one column && has_column l.two column) l.initial.self l.self l.row (64 * l.chunk)

@@ -5,4 +5,4 @@ use Rattle.graph_realise.proofs.table.Table.set_word.Goals as goal
 pub returns : goal.returns
 returns c =
     rw c.words_for.ensures
-    (set_laid_out c.self.inside c.args.self.now _ c.args.row c.args.block c.args.word c.self.view_is c.self.invariant c.requires.row c.requires.block refl)
+    (set_laid_out c.self.inside c.args.self.now _ c.args.row c.args.chunk c.args.word c.self.view_is c.self.invariant c.requires.row c.requires.chunk refl)
