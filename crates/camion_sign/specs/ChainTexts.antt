@@ -6,6 +6,7 @@ use Rattle.cmr_base.specs.LineSets.{AllBelow}
 use Rattle.cmr_base.specs.declared.line_set.LineSet.{LineSet}
 use Rattle.text_fields.specs.Words.{Text}
 use Rattle.text_fields.specs.Result.{◌>>=◌}
+use Rattle.cmr_base.specs.declared.limits.TheConstants.{MAX_COLUMNS, MAX_ROWS}
 use Rattle.text_fields.specs.Limits as limits
 pub use Rattle.text_fields.specs.LineNumbers.{last_number, number_of_line, set_words as line_set_words}
 use Rattle.text_fields.specs.Reading.{Fault, field, times, ended}
@@ -83,8 +84,8 @@ abbrev pub chain : Text → Result SizedChain (Fault ChainKind)
 chain text = do
   form ← field Short (word_in (codes "cmr-chain") WrongVersion) text
   version ← field Short (word_in (codes "1") WrongVersion) form.1
-  height ← field Short (limited 1000) version.1
-  width ← field Short (limited 1000) height.1
+  height ← field Short (limited MAX_ROWS) version.1
+  width ← field Short (limited MAX_COLUMNS) height.1
   count ← field Short (limited (height.0 * width.0)) width.1
   steps ← times (another_step height.0 width.0) count.0 [] count.1
   name ← field Short (word_in (codes "violator") UnknownStep) steps.1

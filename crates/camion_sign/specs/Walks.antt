@@ -5,6 +5,7 @@ use Rattle.cmr_base.specs.Matrix.{Matrix, height, entry, IsMatrix}
 use Rattle.cmr_base.specs.CyclePlaces.{IsPath}
 use Rattle.cmr_base.specs.Sums.{IsTwoModFour}
 use Rattle.camion_sign.specs.declared.walk.Step.{Step}
+use Rattle.camion_sign.specs.declared.walk.TheConstants.{UNREACHED}
 use Rattle.camion_sign.specs.declared.walk.Walk.{Walk}
 use Rattle.camion_sign.specs.Trails.{IsBefore, IsUpTo, IsTrail, trail_end, trail_sum}
 
@@ -34,7 +35,7 @@ abbrev pub step_at : List Step → ℕ → Step
 step_at steps place = slice_index_or steps place (record { column = 0; row = 0; before = 0; is_two = false })
 
 abbrev pub place_in : List ℕ → ℕ → ℕ
-place_in places column = slice_index_or places column 4294967295
+place_in places column = slice_index_or places column UNREACHED
 
 abbrev pub progress : List Step → List ℕ → List Bool → Progress
 progress steps places used = record {
@@ -55,8 +56,8 @@ module _ (M : ℕ → ℕ → ℤ) (t c n : ℕ) (s : Progress) (key : ℕ → L
     pub start : key 0 ≡ []
     pub inside : (j : ℕ) → j < s.count → s.column j < n
     pub placed : (j : ℕ) → j < s.count → s.place (s.column j) ≡ j
-    pub listed : (x : ℕ) → s.place x < 4294967295 → (s.place x < s.count) × (s.column (s.place x) ≡ x)
-    pub topped : (x : ℕ) → s.place x ≤ 4294967295
+    pub listed : (x : ℕ) → s.place x < UNREACHED → (s.place x < s.count) × (s.column (s.place x) ≡ x)
+    pub topped : (x : ℕ) → s.place x ≤ UNREACHED
     pub sorted : (i j : ℕ) → i < j → j < s.count → IsBefore (key i) (key j)
     pub trail : (j : ℕ) → j < s.count → IsTrail M t c (key j)
     pub ends : (j : ℕ) → j < s.count → trail_end c (key j) ≡ s.column j
@@ -70,14 +71,14 @@ module _ (M : ℕ → ℕ → ℤ) (t c n : ℕ) (s : Progress) (key : ℕ → L
 
   -- the column was reached by a trail that is not after this one
   abbrev pub IsMet : ℕ → List ℕ → Type 0
-  IsMet x lines = (s.place x < 4294967295) × IsUpTo (key (s.place x)) lines
+  IsMet x lines = (s.place x < UNREACHED) × IsUpTo (key (s.place x)) lines
 
   -- those before place h are done; what comes next comes by this row or a later one, and this column or a later one
   pub record IsFront (h : ℕ) (Next : ℕ → ℕ → Type 0) : Type 0 where
     pub queue : IsQueue
     pub fits : h ≤ s.count
     pub done : (i r x : ℕ) → i < h → Goes i → r < t → M r (s.column i) ≢ pos 0 → M r x ≢ pos 0 → IsMet x (key i ++ r ∷ x ∷ [])
-    pub gone : (r x : ℕ) → s.used r ≡ true → M r x ≢ pos 0 → (s.place x < 4294967295) × (h < s.count → IsUpTo (key (s.place x)) (key h ++ r ∷ x ∷ []))
+    pub gone : (r x : ℕ) → s.used r ≡ true → M r x ≢ pos 0 → (s.place x < UNREACHED) × (h < s.count → IsUpTo (key (s.place x)) (key h ++ r ∷ x ∷ []))
     pub front : (j r x : ℕ) → j < s.count → h < s.count → Next r x → IsBefore (key j) (key h ++ r ∷ x ∷ [])
 
   -- nothing that a trail can still reach comes before what was reached
@@ -106,7 +107,7 @@ pub record IsOpen (m : Matrix) (t h : ℕ) (walk : Walk) : Type 0 where
 pub record GrowsFrom (old new : Walk) : Type 0 where
   pub longer : length old.steps.items ≤ length new.steps.items
   pub steps : (j : ℕ) → j < length old.steps.items → step_at new.steps.items j ≡ step_at old.steps.items j
-  pub places : (x : ℕ) → place_in old.places.items x < 4294967295 → place_in new.places.items x < 4294967295
+  pub places : (x : ℕ) → place_in old.places.items x < UNREACHED → place_in new.places.items x < UNREACHED
 
 -- in the middle of the columns that row r meets, from the step at place h: the first k are reached
 pub record IsReaching (m : Matrix) (t c h r : ℕ) (columns : List ℕ) (k : ℕ) (from : Step) (old walk : Walk) : Type 0 where
@@ -126,7 +127,7 @@ IsUntouched m t x = (r : ℕ) → r < t → entry m r x ≢ pos 0 → ⊥
 
 -- each column between c and `pending` that row t meets is reached, or no walk can reach it
 abbrev pub NoneWaits : Matrix → ℕ → ℕ → ℕ → List ℕ → Type 0
-NoneWaits m t c pending places = (d : ℕ) → c < d → d < pending → entry m t d ≢ pos 0 → (place_in places d ≢ 4294967295) ⊎ IsUntouched m t d
+NoneWaits m t c pending places = (d : ℕ) → c < d → d < pending → entry m t d ≢ pos 0 → (place_in places d ≢ UNREACHED) ⊎ IsUntouched m t d
 
 -- in the middle of the rows that the column at place h meets: the first k are gone through
 pub record IsSpreading (m : Matrix) (t c h : ℕ) (rows : List ℕ) (k pending : ℕ) (old walk : Walk) : Type 0 where
@@ -158,5 +159,5 @@ pub record HasWalked (m : Matrix) (t c : ℕ) (walk : Walk) : Type 0 where
   pub fits : FitsMatrix m walk
   pub key : ℕ → List ℕ
   pub queue : IsQueue (entry m) t c m.width (progress walk.steps.items walk.places.items walk.used.items) key
-  pub least : (d : ℕ) (lines : List ℕ) → place_in walk.places.items d < 4294967295 → IsTrail (entry m) t c lines → trail_end c lines ≡ d → IsUpTo (key (place_in walk.places.items d)) lines
-  pub none : (d : ℕ) (lines : List ℕ) → c < d → entry m t d ≢ pos 0 → place_in walk.places.items d ≡ 4294967295 → IsPath (entry m) t c d lines → ⊥
+  pub least : (d : ℕ) (lines : List ℕ) → place_in walk.places.items d < UNREACHED → IsTrail (entry m) t c lines → trail_end c lines ≡ d → IsUpTo (key (place_in walk.places.items d)) lines
+  pub none : (d : ℕ) (lines : List ℕ) → c < d → entry m t d ≢ pos 0 → place_in walk.places.items d ≡ UNREACHED → IsPath (entry m) t c d lines → ⊥

@@ -83,8 +83,8 @@ fn put_step(text: &mut Writer, step: &SignStep, rows: u32, columns: u32) -> Resu
 
 // A word, and the numbers of a row and of a column.
 fn put_place(text: &mut Writer, word: &[u8], row: u32, column: u32) -> Result<(), Memory>
-    requires row { row < 1000 }
-    requires column { column < 1000 }
+    requires row { row < MAX_ROWS }
+    requires column { column < MAX_COLUMNS }
     ensures { OnOk result (text.new ≡ fold with_word text.old (word.now ∷ number_of_line row
         ∷ number_of_line column ∷ [])) }
 {
@@ -123,7 +123,7 @@ fn put_line_set(text: &mut Writer, lines: &LineSet, rows: u32, columns: u32) -> 
 }
 
 fn put_lines(text: &mut Writer, lines: &Indices) -> Result<(), Memory>
-    requires { AllBelow 1000 lines.now }
+    requires { AllBelow MAX_ROWS lines.now }
     ensures { OnOk result (text.new ≡ fold with_word text.old (map number_of_line lines.now)) }
 {
     for line in lines.as_slice() {

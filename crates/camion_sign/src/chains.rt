@@ -14,7 +14,7 @@ ghost use Rattle.camion_sign.specs.Chains.{HasTwoEach, IsFirstBroken, IsSignedVi
 ghost use Rattle.camion_sign.specs.ChainStates.{AllSignedBut, IsOpenBut, AreLabels, HasFollowed};
 
 use crate::step::{SignStep, SizedChain};
-use cmr_base::{Indices, LineSet, Matrix, Memory, join_labels, own_labels};
+use cmr_base::{Indices, LineSet, MAX_COLUMNS, MAX_ROWS, Matrix, Memory, join_labels, own_labels};
 use parity::is_violator;
 use std::alloc::Global;
 
@@ -236,7 +236,7 @@ fn have_two_each(matrix: &Matrix, lines: &LineSet) -> bool
 fn have_two_in_rows(matrix: &Matrix, rows: &[u32], columns: &[u32]) -> bool
     requires rows { AllBelow (height matrix.now) rows.now }
     requires columns { AllBelow matrix.now.width columns.now }
-    requires few { length columns.now ≤ 1000 }
+    requires few { length columns.now ≤ MAX_COLUMNS }
     ensures { IsTrue result
         ↔ AllByRecursion
         (λ row. sum_over columns.now (λ column. entry matrix.now row column) ≡ pos 2)
@@ -253,7 +253,7 @@ fn have_two_in_rows(matrix: &Matrix, rows: &[u32], columns: &[u32]) -> bool
 fn have_two_in_columns(matrix: &Matrix, rows: &[u32], columns: &[u32]) -> bool
     requires rows { AllBelow (height matrix.now) rows.now }
     requires columns { AllBelow matrix.now.width columns.now }
-    requires few { length rows.now ≤ 1000 }
+    requires few { length rows.now ≤ MAX_ROWS }
     ensures { IsTrue result
         ↔ AllByRecursion
         (λ column. sum_over rows.now (λ row. entry matrix.now row column) ≡ pos 2)

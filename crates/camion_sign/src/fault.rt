@@ -8,7 +8,7 @@ ghost use Rattle.network_orient.specs.FirstRows.{HasNoFaultBefore};
 
 use crate::reach::{Start, flipped, walk_from};
 use crate::support::Support;
-use crate::walk::Walk;
+use crate::walk::{UNREACHED, Walk};
 use cmr_base::{Matrix, Memory};
 use network_orient::rows_without_fault;
 use std::alloc::Global;
@@ -137,7 +137,7 @@ fn is_fault(support: &Support<'_>, walk: &Walk, start: Start, last: u32) -> bool
     requires width { last < support.now.width }
     requires first { entry support.now start.row start.column ≢ pos 0 }
     requires walked { HasWalked support.now start.row start.column walk.now }
-    ensures reached { IsTrue result → place_in walk.now.places.items last < 4294967295 }
+    ensures reached { IsTrue result → place_in walk.now.places.items last < UNREACHED }
     ensures fault { IsTrue result
         ↔ ((path : List ℕ) × IsFaultAt (entry support.now) start.row start.column last path) }
 {
@@ -162,7 +162,7 @@ pub fn path_to(
     requires first { entry support.now start.row start.column ≢ pos 0 }
     requires last { entry support.now start.row last ≢ pos 0 }
     requires walked { HasWalked support.now start.row start.column walk.now }
-    requires reached { place_in walk.now.places.items last < 4294967295 }
+    requires reached { place_in walk.now.places.items last < UNREACHED }
     ensures { IfOk result (λ lines.
         IsCyclePlace (entry support.now) start.row start.column last lines.items) }
 {

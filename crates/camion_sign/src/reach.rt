@@ -4,7 +4,7 @@ ghost use Rattle.cmr_base.specs.Matrix.{height, entry};
 ghost use Rattle.camion_sign.specs.Walks.{FitsMatrix, IsWalking, IsOpen, GrowsFrom, HasSettled, HasWalked, IsUntouched, NoneWaits, step_at, place_in, flip};
 
 use crate::support::Support;
-use crate::walk::{Step, Walk};
+use crate::walk::{Step, UNREACHED, Walk};
 use cmr_base::Memory;
 use std::alloc::Global;
 
@@ -116,7 +116,7 @@ fn first_waiting(support: &Support<'_>, walk: &Walk, start: Start, from: u32) ->
     ensures from { from ≤ result }
     ensures width { result ≤ support.now.width }
     ensures waits { (d : ℕ) → from ≤ d → d < result → entry support.now start.row d ≢ pos 0
-        → (place_in walk.now.places.items d ≢ 4294967295) ⊎ IsUntouched support.now start.row d }
+        → (place_in walk.now.places.items d ≢ UNREACHED) ⊎ IsUntouched support.now start.row d }
 {
     for column in from..support.columns() {
         if support.entry(start.row, column) != 0

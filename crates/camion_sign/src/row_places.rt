@@ -10,7 +10,7 @@ use crate::cycle_lines::{columns_of_cycle, rows_of_cycle};
 use crate::fault::path_to;
 use crate::reach::{Start, walk_from};
 use crate::support::Support;
-use crate::walk::Walk;
+use crate::walk::{UNREACHED, Walk};
 use cmr_base::{LineSet, Matrix, Memory};
 use std::alloc::Global;
 
@@ -222,8 +222,8 @@ fn note_places(support: &Support<'_>, walk: &Walk, start: Start, links: &mut Mat
 fn place_mark(walk: &Walk, last: u32) -> i8
     requires { last < length walk.now.places.items }
     ensures small { IsEntry result }
-    ensures reached { result ≢ pos 0 → place_in walk.now.places.items last ≢ 4294967295 }
-    ensures unreached { result ≡ pos 0 → place_in walk.now.places.items last ≡ 4294967295 }
+    ensures reached { result ≢ pos 0 → place_in walk.now.places.items last ≢ UNREACHED }
+    ensures unreached { result ≡ pos 0 → place_in walk.now.places.items last ≡ UNREACHED }
 {
     if walk.has_reached(last) { 1 } else { 0 }
 }

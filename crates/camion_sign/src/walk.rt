@@ -2,11 +2,11 @@
 ghost use Rattle.std.specs.Prelude.{◌≡◌, ◌<◌, ◌≤◌, ◌++◌, [], ◌∷◌, IfOk, OnOk, IsTrue, length, replicate, slice_set, false};
 ghost use Rattle.camion_sign.specs.Walks.{place_in};
 
-use cmr_base::Memory;
+use cmr_base::{MAX_COLUMNS, Memory};
 use std::alloc::Global;
 
-// The place of a column that was not reached.
-const UNREACHED: u32 = 4_294_967_295;
+/// The place of a column that was not reached.
+pub const UNREACHED: u32 = 4_294_967_295;
 
 /// A column that was reached.
 #[derive(Clone, Copy)]
@@ -48,7 +48,7 @@ impl Walk {
         ensures steps { OnOk result (self.new.steps.items
             ≡ record { column = column; row = 0; before = 0; is_two = false } ∷ []) }
         ensures places { OnOk result (self.new.places.items
-            ≡ slice_set (replicate (length self.old.places.items) 4294967295) column 0) }
+            ≡ slice_set (replicate (length self.old.places.items) UNREACHED) column 0) }
         ensures used { OnOk result (self.new.used.items
             ≡ replicate (length self.old.used.items) false) }
     {
@@ -68,8 +68,8 @@ impl Walk {
     /// Whether a column was reached.
     pub fn has_reached(&self, column: u32) -> bool
         requires { column < length self.now.places.items }
-        ensures yes { IsTrue result → place_in self.now.places.items column < 4294967295 }
-        ensures no { result ≡ false → place_in self.now.places.items column ≡ 4294967295 }
+        ensures yes { IsTrue result → place_in self.now.places.items column < UNREACHED }
+        ensures no { result ≡ false → place_in self.now.places.items column ≡ UNREACHED }
     {
         self.places[column as usize] < UNREACHED
     }
@@ -77,7 +77,7 @@ impl Walk {
     /// Adds a column that was reached.
     pub fn reach(&mut self, step: Step) -> Result<(), Memory>
         requires column { step.column < length self.old.places.items }
-        requires few { length self.old.steps.items ≤ 1000 }
+        requires few { length self.old.steps.items ≤ MAX_COLUMNS }
         ensures steps { OnOk result (self.new.steps.items ≡ self.old.steps.items ++ step ∷ []) }
         ensures places { OnOk result (self.new.places.items
             ≡ slice_set self.old.places.items step.column (length self.old.steps.items)) }

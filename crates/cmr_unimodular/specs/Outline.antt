@@ -1,5 +1,6 @@
 -- The outline of a decomposition: a line for each node.
 use Rattle.std.specs.Prelude.{◌≤◌, ◌+◌, ◌++◌, ℕ, List, [], length, codes}
+use Rattle.cmr_base.specs.declared.limits.TheConstants.{MAX_DEPTH}
 use Rattle.std.specs.Fmt.{decimal}
 use Rattle.cmr_base.specs.declared.line_set.LineSet.{LineSet}
 use Rattle.pivots.specs.declared.place.PivotPlace.{PivotPlace}
@@ -49,11 +50,11 @@ pub record IsAtDepth (depth : ℕ) (tree : Tree) : Type 0 where
   pub parent : LineSet
   pub levels : ℕ
   pub within : IsTreeWithin parent levels tree
-  pub few : depth + levels ≤ 2001
+  pub few : depth + levels ≤ MAX_DEPTH + 1
 
 -- children of one node at this depth
 pub record AreAtDepth (depth : ℕ) (trees : Trees) : Type 0 where
   pub parent : LineSet
   pub levels : ℕ
   pub within : AreTreesWithin parent levels trees
-  pub few : depth + levels ≤ 2001
+  pub few : depth + levels ≤ MAX_DEPTH + 1

@@ -10,9 +10,8 @@ ghost use Rattle.cuts.specs.Cuts.{HasNames, name_of};
 ghost use Rattle.cuts.specs.LineSets.{HasWords, set_of};
 
 use crate::line_words::LineWords;
-use crate::words::{add_line, has_line};
-use cmr_base::columns::empty_set;
-use cmr_base::{Line, Memory, RowsAndColumns};
+use cmr_base::columns::{add_column, empty_set, has_column};
+use cmr_base::{Line, MAX_ROWS, Memory, RowsAndColumns};
 use std::alloc::Global;
 
 /// A name for the group of each line, the rows first.
@@ -118,8 +117,8 @@ fn lines_named(
     count: u32,
     name: u32,
 ) -> Result<Vec<u64>, Memory>
-    requires from { from ≤ 1000 }
-    requires count { count ≤ 1000 }
+    requires from { from ≤ MAX_ROWS }
+    requires count { count ≤ MAX_ROWS }
     requires names { from + count ≤ length names.now }
     ensures size { IfOk result (λ lines. length lines.items ≡ words_for count) }
     ensures named { IfOk result (λ lines. (x : ℕ) → has_column lines.items x ≡ true
@@ -128,7 +127,7 @@ fn lines_named(
     let mut lines = empty_set(alloc, count)?;
     for line in 0..count {
         if names[(from + line) as usize] == name {
-            add_line(&mut lines, line);
+            add_column(&mut lines, line);
         }
     }
     Ok(lines)
@@ -136,8 +135,8 @@ fn lines_named(
 
 // Gives a name to those of so many lines that are not among some. The first of the lines has the name at a place.
 fn rename_others(names: &mut Vec<u32>, from: u32, count: u32, kept: &[u64], name: u32)
-    requires from { from ≤ 1000 }
-    requires count { count ≤ 1000 }
+    requires from { from ≤ MAX_ROWS }
+    requires count { count ≤ MAX_ROWS }
     requires names { from + count ≤ length names.old.items }
     requires kept { length kept.now ≡ words_for count }
     ensures size { length names.new.items ≡ length names.old.items }
@@ -150,7 +149,7 @@ fn rename_others(names: &mut Vec<u32>, from: u32, count: u32, kept: &[u64], name
         → slice_index_or names.new.items k 0 ≡ slice_index_or names.old.items k 0 }
 {
     for line in 0..count {
-        if !has_line(kept, line) {
+        if !has_column(kept, line) {
             names[(from + line) as usize] = name;
         }
     }

@@ -11,7 +11,6 @@ mod line_words;
 mod next_line;
 mod patterns;
 mod sides;
-mod words;
 
 pub use corners::Corners;
 pub use cut_groups::groups_of;

@@ -9,8 +9,7 @@ ghost use Rattle.cuts.specs.LineSets.{HasWords, columns_heap, is_in_heap, rows_h
 
 use crate::heaps::Heaps;
 use crate::patterns::Patterns;
-use crate::words::{add_line, has_line};
-use cmr_base::columns::{add_set, empty_set, meets};
+use cmr_base::columns::{add_column, add_set, empty_set, has_column, meets};
 use cmr_base::{Line, Memory, RowsAndColumns};
 use std::alloc::Global;
 
@@ -99,8 +98,8 @@ impl LineWords {
     {
         let mut lines = self.copied(alloc, views)?;
         match line {
-            Line::Row(row) => add_line(&mut lines.rows, row),
-            Line::Column(column) => add_line(&mut lines.columns, column),
+            Line::Row(row) => add_column(&mut lines.rows, row),
+            Line::Column(column) => add_column(&mut lines.columns, column),
         }
         Ok(lines)
     }
@@ -168,7 +167,7 @@ fn have_others(set: &[u64], lines: u32, own: &[u64]) -> bool
         → has_column set.now x ≡ true }
 {
     for line in 0..lines {
-        if !has_line(own, line) && !has_line(set, line) {
+        if !has_column(own, line) && !has_column(set, line) {
             return false;
         }
     }
@@ -181,7 +180,7 @@ fn count_others(set: &[u64], lines: u32) -> u32
 {
     let mut count = 0u32;
     for line in 0..lines {
-        if !has_line(set, line) {
+        if !has_column(set, line) {
             count = count.saturating_add(1);
         }
     }
@@ -199,7 +198,7 @@ fn share_line(one: &[u64], two: &[u64], lines: u32) -> bool
         return false;
     }
     for line in 0..lines {
-        if has_line(one, line) && has_line(two, line) {
+        if has_column(one, line) && has_column(two, line) {
             return true;
         }
     }
@@ -216,8 +215,8 @@ fn add_others(set: &mut Vec<u64>, lines: u32, own: &[u64])
         → has_column set.new.items x ≡ true }
 {
     for line in 0..lines {
-        if !has_line(own, line) {
-            add_line(set, line);
+        if !has_column(own, line) {
+            add_column(set, line);
         }
     }
 }
@@ -234,7 +233,7 @@ fn add_heap(set: &mut Vec<u64>, lines: u32, patterns: &Patterns, inside: bool)
 {
     for line in 0..lines {
         if is_in_heap(&patterns.heaps, patterns.classes[line as usize], inside) {
-            add_line(set, line);
+            add_column(set, line);
         }
     }
 }

@@ -6,8 +6,7 @@ ghost use Rattle.cuts.specs.Covers.{IsLineOf};
 ghost use Rattle.cuts.specs.LineSets.{HasWords};
 
 use crate::line_words::LineWords;
-use crate::words::has_line;
-use cmr_base::columns::meets;
+use cmr_base::columns::{has_column, meets};
 use cmr_base::{Line, Matrix, RowsAndColumns};
 
 /// What a line counts more than one with more nonzeros if it crosses a line of side one, and if it is not yet parted.
@@ -76,8 +75,8 @@ fn next_row(
 {
     let mut best = Candidate { line: 0, value: 0 };
     for row in 0..matrix.rows() {
-        if !has_line(one, row) && !has_line(two, row) {
-            let value = value_of(matrix.support_words(row), crossing, has_line(parted, row));
+        if !has_column(one, row) && !has_column(two, row) {
+            let value = value_of(matrix.support_words(row), crossing, has_column(parted, row));
             if value > best.value {
                 best = Candidate { line: row, value };
             }

@@ -5,9 +5,8 @@ ghost use Rattle.cmr_base.specs.Planes.{words_for};
 ghost use Rattle.cuts.specs.Patterns.{AreAtMostBeside, AreAtMostListed, AreOpen, AreShort, IsCounted};
 
 use crate::heaps::{Heaps, heaps_of};
-use crate::words::has_line;
-use cmr_base::Memory;
-use cmr_base::columns::next_column;
+use cmr_base::columns::{has_column, next_column};
+use cmr_base::{MAX_ROWS, Memory};
 use std::alloc::Global;
 
 /// Classes of the rows, how many rows that are not among some are at most in class 0 and in one other, and two heaps of
@@ -28,7 +27,7 @@ impl Patterns {
         own: &[u64],
         far: &[u64],
     ) -> Result<Patterns, Memory>
-        requires rows { rows ≤ 1000 }
+        requires rows { rows ≤ MAX_ROWS }
         requires numbers { length numbers.now ≡ rows }
         requires own { length own.now ≡ words_for rows }
         requires far { length far.now ≡ words_for rows }
@@ -49,14 +48,14 @@ impl Patterns {
 
 // The class of a row of the other side, or 0 if none has a class.
 fn pinned_class(rows: u32, classes: &[u64], own: &[u64], far: &[u64]) -> u64
-    requires rows { rows ≤ 1000 }
+    requires rows { rows ≤ MAX_ROWS }
     requires classes { length classes.now ≡ rows }
     requires own { length own.now ≡ words_for rows }
     requires far { length far.now ≡ words_for rows }
 {
     let mut from = 0;
     while let Some(row) = next_column(far, from) {
-        if row < rows && !has_line(own, row) && classes[row as usize] != 0 {
+        if row < rows && !has_column(own, row) && classes[row as usize] != 0 {
             return classes[row as usize];
         }
         from = row + 1;
@@ -71,11 +70,11 @@ fn sorted_classes(
     classes: &[u64],
     own: &[u64],
 ) -> Result<Vec<u64>, Memory>
-    requires rows { rows ≤ 1000 }
+    requires rows { rows ≤ MAX_ROWS }
     requires classes { length classes.now ≡ rows }
     requires own { length own.now ≡ words_for rows }
     ensures rising { IfOk result (λ sorted. IsNonDecreasing sorted.items) }
-    ensures few { IfOk result (λ sorted. length sorted.items ≤ 1000) }
+    ensures few { IfOk result (λ sorted. length sorted.items ≤ MAX_ROWS) }
     ensures listed { IfOk result (λ sorted. AreOpen own.now classes.now rows sorted.items) }
 {
     let mut numbers = open_classes(alloc, rows, classes, own)?;
@@ -85,15 +84,15 @@ fn sorted_classes(
 
 // The classes of the rows that are not among some.
 fn open_classes(alloc: Global, rows: u32, numbers: &[u64], own: &[u64]) -> Result<Vec<u64>, Memory>
-    requires rows { rows ≤ 1000 }
+    requires rows { rows ≤ MAX_ROWS }
     requires numbers { length numbers.now ≡ rows }
     requires own { length own.now ≡ words_for rows }
-    ensures few { IfOk result (λ classes. length classes.items ≤ 1000) }
+    ensures few { IfOk result (λ classes. length classes.items ≤ MAX_ROWS) }
     ensures listed { IfOk result (λ classes. AreOpen own.now numbers.now rows classes.items) }
 {
     let mut found = Vec::with_capacity(alloc, rows as usize)?;
     for row in 0..rows {
-        if !has_line(own, row) {
+        if !has_column(own, row) {
             found.push(numbers[row as usize])?;
         }
     }
@@ -103,7 +102,7 @@ fn open_classes(alloc: Global, rows: u32, numbers: &[u64], own: &[u64]) -> Resul
 // How many numbers are at most 0 or equal to one.
 fn most_alike(sorted: &[u64]) -> u32
     requires rising { IsNonDecreasing sorted.now }
-    requires few { length sorted.now ≤ 1000 }
+    requires few { length sorted.now ≤ MAX_ROWS }
     ensures { AreAtMostListed sorted.now result }
 {
     let mut runs = Runs {
@@ -130,7 +129,7 @@ struct Runs {
 
 // The same with the next number.
 fn runs_with(runs: Runs, class: u64) -> Runs
-    requires { AreShort runs 1000 }
+    requires { AreShort runs MAX_ROWS }
     ensures { (sorted : List ℕ) (place : ℕ) → IsNonDecreasing sorted → place < length sorted
         → slice_index_or sorted place 0 ≡ class → IsCounted sorted place runs
         → IsCounted sorted (place + 1) result }
@@ -154,7 +153,7 @@ fn runs_with(runs: Runs, class: u64) -> Runs
 
 // How many are equal to a number then.
 fn run_with(runs: Runs, class: u64) -> u32
-    requires { AreShort runs 1000 }
+    requires { AreShort runs MAX_ROWS }
     ensures { result ≡ cond (nat_eq class runs.last) (runs.run + 1) 1 }
 {
     if class == runs.last { runs.run + 1 } else { 1 }

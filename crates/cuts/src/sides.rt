@@ -12,8 +12,7 @@ ghost use Rattle.cuts.specs.LineSets.{HasWords, set_of};
 ghost use Rattle.cuts.specs.Sides.{HasNumbers, HasSetNumbers};
 
 use crate::line_words::LineWords;
-use crate::words::{add_line, has_line};
-use cmr_base::columns::next_column;
+use cmr_base::columns::{add_column, has_column, next_column};
 use cmr_base::{Line, Matrix, Memory, RowsAndColumns};
 use digests::mixed;
 use std::alloc::Global;
@@ -130,7 +129,7 @@ fn grown_set(
     };
     let mut from = 0;
     while let Some(row) = next_column(rows, from) {
-        if row < count && !has_line(set, row) {
+        if row < count && !has_column(set, row) {
             add_row(&mut grown, matrix, row);
         }
         from = row + 1;
@@ -149,7 +148,7 @@ fn add_row(grown: &mut NumberedSet, matrix: &Matrix, row: u32)
     let _columns = matrix.columns();
     let words = matrix.support_words(row);
     add_weight(&mut grown.numbers, words, weight_of(row));
-    add_line(&mut grown.set, row);
+    add_column(&mut grown.set, row);
 }
 
 // What a line adds to the numbers of those that are not 0 on it.

@@ -1,5 +1,5 @@
 -- The runs of numbers that the workers of a round go through.
-use Rattle.std.specs.Prelude.{ℕ, ◌<◌, ◌≤◌, ◌+◌, ◌*◌, min, Option, Some, None}
+use Rattle.std.specs.Prelude.{ℕ, ◌<◌, ◌≤◌, ◌+◌, ◌*◌, ◌^◌, min, Option, Some, None}
 use Rattle.first_hit.specs.declared.round.Round.{Round}
 
 -- where a worker's run of a row begins: a row has one run for each worker, in their order
@@ -10,7 +10,7 @@ run_start round row worker = round.from + (row * round.workers + worker) * round
 pub record IsRound (round : Round) : Type 0 where
   pub ordered : round.from ≤ round.to
   pub workers : (1 ≤ round.workers) × (round.workers ≤ 64)
-  pub run : (1 ≤ round.run) × (round.run ≤ 4294967296)
+  pub run : (1 ≤ round.run) × (round.run ≤ 2 ^ 32)
   pub rows : round.rows ≤ 256
   pub covered : round.to ≤ round.from + round.rows * round.workers * round.run
 

@@ -1,5 +1,5 @@
 // Questions about numbers.
-ghost use Rattle.std.specs.Prelude.{◌≤◌, ◌↔◌, ℕ, IsTrue, IfOk};
+ghost use Rattle.std.specs.Prelude.{◌≤◌, ◌^◌, ◌↔◌, ℕ, IsTrue, IfOk};
 ghost use Rattle.first_hit.specs.First.{IsFirst, NoneBetween};
 
 use cmr_base::Memory;
@@ -30,7 +30,7 @@ pub trait Probe: Sync {
 
     /// How many numbers in a row one worker asks at a time.
     fn run(&self) -> u64
-        ensures { (1 ≤ result) × (result ≤ 4294967296) }
+        ensures { (1 ≤ result) × (result ≤ 2 ^ 32) }
     {
         64
     }

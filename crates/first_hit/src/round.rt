@@ -1,5 +1,5 @@
 // A round of the search: a range of numbers that the workers share out.
-ghost use Rattle.std.specs.Prelude.{◌≡◌, ◌<◌, ◌≤◌, ◌+◌, IfOk};
+ghost use Rattle.std.specs.Prelude.{◌≡◌, ◌<◌, ◌≤◌, ◌+◌, ◌^◌, IfOk};
 ghost use Rattle.first_hit.specs.First.{IsFirst};
 ghost use Rattle.first_hit.specs.Runs.{IsFirstInRuns, IsRound};
 
@@ -23,7 +23,7 @@ impl Round {
     pub fn new(from: u64, total: u64, workers: u64, run: u64, rows: u64) -> Round
         requires left { from < total }
         requires workers { (1 ≤ workers) × (workers ≤ 64) }
-        requires run { (1 ≤ run) × (run ≤ 4294967296) }
+        requires run { (1 ≤ run) × (run ≤ 2 ^ 32) }
         requires rows { (1 ≤ rows) × (rows ≤ 256) }
         ensures round { IsRound result }
         ensures from { result.from ≡ from }

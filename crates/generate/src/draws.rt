@@ -1,8 +1,8 @@
 // Numbers that are drawn one after another from a state.
-ghost use Rattle.std.specs.Prelude.{◌≡◌, ◌≤◌, ◌<◌, ◌^◌, IfOk};
+ghost use Rattle.std.specs.Prelude.{◌≡◌, ◌≤◌, ◌<◌, ◌+◌, ◌*◌, ◌^◌, IfOk};
 ghost use Rattle.generate.specs.Draws.{next_state, draw, draws};
 
-use cmr_base::Memory;
+use cmr_base::{MAX_ROWS, Memory};
 use std::alloc::Global;
 
 /// Drawn numbers, and the state after them.
@@ -46,9 +46,9 @@ fn next_state(state: u32) -> u32
 /// So many numbers, the first below a bound, each next one below a bound that is greater by a step.
 pub fn draw(alloc: Global, count: u32, bound: u32, step: u32, state: u32) -> Result<Drawn, Memory>
     requires bound { 1 ≤ bound }
-    requires low_bound { bound ≤ 1001 }
+    requires low_bound { bound ≤ MAX_ROWS + 1 }
     requires step { step ≤ 1 }
-    requires count { count ≤ 2000 }
+    requires count { count ≤ 2 * MAX_ROWS }
     requires state { state < 2 ^ 31 }
     ensures numbers { IfOk result (λ drawn. drawn.numbers.items
         ≡ (draws count bound step state).0) }

@@ -7,7 +7,7 @@ ghost use Rattle.sp_reduce.specs.Sides.{weight};
 ghost use Rattle.sp_reduce.specs.Tallies.{AreMarks, AreTallies, AreWeights};
 
 use crate::kind::Kind;
-use cmr_base::{Matrix, Memory};
+use cmr_base::{MAX_ROWS, Matrix, Memory};
 use std::alloc::Global;
 
 // For each line of a kind, the count of its nonzeros in marked crossing lines, and the sum of the weights of these
@@ -19,9 +19,9 @@ pub struct Tallies {
 }
 
 pub fn weight(number: u32) -> u64
-    requires { number < 1000 }
+    requires { number < MAX_ROWS }
     ensures value { result ≡ weight number }
-    ensures small { result ≤ 1000 ^ 5 }
+    ensures small { result ≤ MAX_ROWS ^ 5 }
 {
     (u64::from(number) + 1).pow(5)
 }
@@ -83,9 +83,9 @@ impl Tallies {
     fn add(&mut self, line: u32, is_marked: bool, weight: u64)
         requires in_counts { line < length self.old.counts.items }
         requires in_sums { line < length self.old.sums.items }
-        requires few { slice_index self.old.counts.items line ≤ 1000 }
-        requires light { slice_index self.old.sums.items line ≤ 1000 * 1000 ^ 5 }
-        requires small { weight ≤ 1000 ^ 5 }
+        requires few { slice_index self.old.counts.items line ≤ MAX_ROWS }
+        requires light { slice_index self.old.sums.items line ≤ MAX_ROWS * MAX_ROWS ^ 5 }
+        requires small { weight ≤ MAX_ROWS ^ 5 }
         ensures counts { self.new.counts.items
             ≡ set self.old.counts.items line (slice_index self.old.counts.items line
             + (if is_marked then 1 else 0)) }
@@ -99,7 +99,7 @@ impl Tallies {
 
 // The weight of each marked line, and 0 for the others.
 fn weights_of(alloc: Global, marks: &[bool]) -> Result<Vec<u64>, Memory>
-    requires { length marks.now ≤ 1000 }
+    requires { length marks.now ≤ MAX_ROWS }
     ensures { IfOk result (λ weights. AreWeights marks.now weights.items) }
 {
     let mut weights = Vec::with_capacity(alloc, marks.len())?;
@@ -110,9 +110,9 @@ fn weights_of(alloc: Global, marks: &[bool]) -> Result<Vec<u64>, Memory>
 }
 
 fn weight_if(counts: bool, number: u32) -> u64
-    requires { number < 1000 }
+    requires { number < MAX_ROWS }
     ensures value { result ≡ (if counts then weight number else 0) }
-    ensures small { result ≤ 1000 ^ 5 }
+    ensures small { result ≤ MAX_ROWS ^ 5 }
 {
     if counts { weight(number) } else { 0 }
 }

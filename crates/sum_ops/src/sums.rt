@@ -33,8 +33,8 @@ pub fn one_sum(alloc: Global, first: &Matrix, second: &Matrix) -> Result<Matrix,
 /// The two-sum `[A ab; 0 B]` of `[A a]` and `[b; B]`. There is none where the first matrix has no column or the second
 /// no row.
 pub fn two_sum(alloc: Global, first: &Matrix, second: &Matrix) -> Result<Matrix, SumError>
-    requires rows { height first.now + height second.now ≤ 1001 }
-    requires columns { first.now.width + second.now.width ≤ 1001 }
+    requires rows { height first.now + height second.now ≤ MAX_ROWS + 1 }
+    requires columns { first.now.width + second.now.width ≤ MAX_COLUMNS + 1 }
     ensures sum { IfOk result (λ sum. sum ≡ the_two_sum first.now second.now) }
     ensures defined { IfOk result (λ _. HaveTwoSum first.now second.now) }
     ensures cause { IfErr result (IsCause (HaveTwoSum first.now second.now)) }

@@ -1,6 +1,6 @@
 -- Reading a tree text: the tree that it stands for, or its first fault.
-use Rattle.std.specs.Prelude.{◌++◌, if◌then◌else◌, ℕ, zero, suc, Bool, List, [], ◌∷◌, length, Option, Some, None, option_map, Result, Ok, Err}
-use Rattle.cmr_base.specs.declared.limits.TheConstants.{MAX_COLUMNS, MAX_ROWS}
+use Rattle.std.specs.Prelude.{◌+◌, ◌++◌, if◌then◌else◌, ℕ, zero, suc, Bool, List, [], ◌∷◌, length, Option, Some, None, option_map, Result, Ok, Err}
+use Rattle.cmr_base.specs.declared.limits.TheConstants.{MAX_COLUMNS, MAX_DEPTH, MAX_ROWS}
 use Rattle.cmr_base.specs.declared.line_set.LineSet.{LineSet}
 use Rattle.cmr_base.specs.declared.network.Network as net
 use Rattle.cmr_base.specs.declared.network.Pair.{Pair}
@@ -167,5 +167,5 @@ tree text = do
   version ← field Short (version_in title.0) title.1
   rows ← field Short (limited MAX_ROWS) version.1
   columns ← field Short (limited MAX_COLUMNS) rows.1
-  root ← node (record { version = version.0; sizes = record { rows = rows.0; columns = columns.0 } }) 2001 None columns.1
+  root ← node (record { version = version.0; sizes = record { rows = rows.0; columns = columns.0 } }) (MAX_DEPTH + 1) None columns.1
   ended Extra (record { rows = rows.0; columns = columns.0; root = root.0 }) root.1

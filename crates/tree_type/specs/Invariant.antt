@@ -2,7 +2,7 @@
 use Rattle.std.specs.Prelude.{◌≡◌, ◌≤◌, ◌<◌, ◌+◌, ◌-◌, ℕ, length, Contains}
 use Rattle.std.specs.List.{AllByRecursion}
 use Rattle.std.specs.List.Sorted.{IsStrictlyIncreasing}
-use Rattle.cmr_base.specs.declared.limits.TheConstants.{MAX_COLUMNS, MAX_ROWS}
+use Rattle.cmr_base.specs.declared.limits.TheConstants.{MAX_COLUMNS, MAX_DEPTH, MAX_ROWS}
 use Rattle.cmr_base.specs.declared.line_set.LineSet.{LineSet}
 use Rattle.cmr_base.specs.declared.network.Network as net
 use Rattle.cmr_base.specs.Matrix.{Matrix}
@@ -74,7 +74,7 @@ pub record IsTreeFor (rows columns : ℕ) (tree : Tree) : Type 0 where
   pub columns_in : columns ≤ MAX_COLUMNS
   pub root_rows : AllBelow rows (lines_of tree).rows
   pub root_columns : AllBelow columns (lines_of tree).columns
-  pub nodes : IsTreeWithin (lines_of tree) 2001 tree
+  pub nodes : IsTreeWithin (lines_of tree) (MAX_DEPTH + 1) tree
 
 -- what every decomposition tree is
 abbrev pub IsDecTree : SizedTree → Type 0

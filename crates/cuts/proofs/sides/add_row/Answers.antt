@@ -26,8 +26,8 @@ pub returns-clause-numbers : goal.returns-clause-numbers
 returns-clause-numbers c =
     let m = c.args.matrix.now in
     let words = words_columns m c.args.row c.support_words-words.result.now c.support_words-words.ensures c.columns-columns.ensures.shape c.requires.row in record {
-      set_size = c.add_line.ensures.size ∙ c.requires.numbers.set_size;
+      set_size = c.add_column.ensures.size ∙ c.requires.numbers.set_size;
       size = c.add_weight.ensures.size ∙ c.requires.numbers.size;
-      numbers = numbers_more (support m) m.width c.args.grown.now.set.items c.add_line.new.lines.items c.args.grown.now.numbers.items c.add_weight.new.numbers.items c.args.row c.weight_of.result c.requires.numbers.numbers
-          c.add_line.ensures.kept c.add_line.ensures.here (λ x t. c.add_weight.ensures.changed x (words x ∙ t)) (λ x f. c.add_weight.ensures.same x (words x ∙ f));
+      numbers = numbers_more (support m) m.width c.args.grown.now.set.items c.add_column.new.set.items c.args.grown.now.numbers.items c.add_weight.new.numbers.items c.args.row c.weight_of.result c.requires.numbers.numbers
+          c.add_column.ensures.kept c.add_column.ensures.here (λ x t. c.add_weight.ensures.changed x (words x ∙ t)) (λ x f. c.add_weight.ensures.same x (words x ∙ f));
     }
