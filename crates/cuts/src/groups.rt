@@ -11,7 +11,7 @@ ghost use Rattle.cuts.specs.LineSets.{HasWords, set_of};
 
 use crate::line_words::LineWords;
 use cmr_base::columns::{add_column, empty_set, has_column};
-use cmr_base::{Line, MAX_ROWS, Memory, RowsAndColumns};
+use cmr_base::{Line, MAX_ROWS, Memory, RowsAndColumns, own_labels};
 use std::alloc::Global;
 
 /// A name for the group of each line, the rows first.
@@ -27,11 +27,7 @@ impl Groups {
         ensures apart { IfOk result (λ groups. (k : ℕ) → k < height views.now + views.now.width
             → slice_index_or groups.names.items k 0 ≡ k) }
     {
-        let count = views.rows() + views.columns();
-        let mut names = Vec::with_capacity(alloc, count as usize)?;
-        for name in 0..count {
-            names.push(name)?;
-        }
+        let names = own_labels(alloc, views.rows() + views.columns())?;
         Ok(Groups { names })
     }
 

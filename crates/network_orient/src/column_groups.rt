@@ -6,7 +6,7 @@ ghost use Rattle.cmr_base.specs.Signing.{IsSign};
 ghost use Rattle.cmr_base.specs.Supports.{HaveOneSupport};
 ghost use Rattle.network_orient.specs.SignedGroups.{AreSignedGroups, IsCoarser, IsMerged, IsRowJoined, IsRowTurned, group_of, sign_of, row_sign_by};
 
-use cmr_base::{Matrix, Memory, product};
+use cmr_base::{Matrix, Memory, own_labels, product};
 use std::alloc::Global;
 
 /// A group for each column, and a sign for each that is right up to one factor for all columns of a group.
@@ -37,12 +37,8 @@ impl ColumnGroups {
         ensures groups { IfOk result (λ all. all.groups.items ≡ first_lines columns) }
         ensures signs { IfOk result (λ all. all.signs.items ≡ replicate columns (pos 1)) }
     {
-        let mut groups = Vec::with_capacity(alloc, columns as usize)?;
-        for column in 0..columns {
-            groups.push(column)?;
-        }
         Ok(ColumnGroups {
-            groups,
+            groups: own_labels(alloc, columns)?,
             signs: vec![in alloc; 1i8; columns as usize]?,
         })
     }
