@@ -6,12 +6,12 @@ use Rattle.ghouila.proofs.NamedRows.{named_right}
 use Rattle.ghouila.proofs.by_pivots.sign_by_steps.Goals as goal
 
 pub sign_left-requires : goal.sign_left-requires
-sign_left-requires c = subst (λ (m : Matrix). IsRowSet m c.in_ok-left.left.items) (sym c.in_ok-work.ensures)
+sign_left-requires c = subst (λ (m : Matrix). IsRowSet m c.in_ok-left.left.items) (sym c.in_ok-work.ensures.copy)
     (subst (IsRowSet c.args.matrix.now) (sym c.in_ok-left.ensures.items) (record { rising = c.in_ok-left.ensures.rising; in_range = c.requires }))
 
 pub returns-clause-right : goal.returns-clause-right
 returns-clause-right c =
     let outcome = c.in_ok-outcome.outcome in
     named_right c.args.matrix.now c.args.rows.now outcome c.in_ok-signing.signing
-    (subst (λ (m : Matrix). IsOutcome m c.args.rows.now outcome) c.in_ok-work.ensures (subst (λ (rows : List ℕ). IsOutcome c.in_ok-work.work rows outcome) c.in_ok-left.ensures.items c.in_ok-outcome.ensures.found))
+    (subst (λ (m : Matrix). IsOutcome m c.args.rows.now outcome) c.in_ok-work.ensures.copy (subst (λ (rows : List ℕ). IsOutcome c.in_ok-work.work rows outcome) c.in_ok-left.ensures.items c.in_ok-outcome.ensures.found))
     c.in_ok-signing.ensures
