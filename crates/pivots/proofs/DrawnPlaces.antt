@@ -9,7 +9,7 @@ use Rattle.std.proofs.lemmas.Nat.{mod_below}
 use Rattle.cmr_base.specs.declared.line_set.LineSet.{LineSet}
 use Rattle.cmr_base.specs.Matrix.{Matrix, entry, is_nonzero}
 use Rattle.cmr_base.specs.Members.{IsIn}
-use Rattle.cmr_base.proofs.Booleans.{zero_is}
+use Rattle.cmr_base.proofs.Booleans.{true_is_false, zero_is}
 use Rattle.cmr_base.proofs.Lists.{all-append, all-map}
 use Rattle.cmr_base.proofs.ListsWithout.{in_from_contains, contains_from_in}
 use Rattle.cmr_base.proofs.Members.{all_of_members}
