@@ -3,7 +3,6 @@ use Rattle.std.proofs.Common.{◌≡◌, ◌∙◌, ◌++◌, ℕ, suc, List, []
 use Rattle.std.proofs.lemmas.List.{length-map}
 use Rattle.cmr_base.specs.declared.line_set.LineSet.{LineSet}
 use Rattle.cmr_base.specs.Matrix.{Matrix}
-use Rattle.cmr_base.specs.LineSets.{IsRowSet, IsColumnSet}
 use Rattle.tree_type.specs.Invariant.{AreLines, HasChildren}
 use Rattle.tree_type.proofs.PlacedLines.{lines_within}
 use Rattle.tree_type.specs.declared.tree.Node.{Node}
@@ -13,11 +12,8 @@ use Rattle.decomp_tree.specs.Seen.{AreFewer, AreDrawn}
 use Rattle.decomp_tree.specs.PivotedShapes.{IsBehind}
 use Rattle.decomp_tree.specs.Sketches.{sketch_of, lines_of_sketch, IsDrafted, IsDraftedBehind}
 
-pub child_rows : (m : Matrix) (lines child : LineSet) → AreLines m lines → AreFewer lines child → IsRowSet m child.rows
-child_rows m lines child are fewer = (lines_within m child lines fewer.among are).rows
-
-pub child_columns : (m : Matrix) (lines child : LineSet) → AreLines m lines → AreFewer lines child → IsColumnSet m child.columns
-child_columns m lines child are fewer = (lines_within m child lines fewer.among are).columns
+pub child_lines : (m : Matrix) (lines child : LineSet) → AreLines m lines → AreFewer lines child → AreLines m child
+child_lines m lines child are fewer = lines_within m child lines fewer.among are
 
 -- what one thing is made of is the only one that was made
 only_made : {A B : Type 0} (f : A → B) (others : List A) (root : A) (made : B) → map f (others ++ root ∷ []) ≡ made ∷ [] → f root ≡ made

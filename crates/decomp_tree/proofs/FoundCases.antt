@@ -41,8 +41,8 @@ module _ (limit pivots state : ℕ) (m : Matrix) (lines : LineSet) where
         found_there tree some (inr (made.ternary, found, (there.shape, there.drawn, there.refines), told))
 
     -- the lines are lines of the matrix after the pivot
-    pub lines_made : (after : Matrix) → IsMadePart m lines drawn.place after → IsRowSet m lines.rows → IsColumnSet m lines.columns → AreLines after lines
-    lines_made after made rows columns = subst (λ n. AreLines n lines) (sym made.is) (lines_pivoted m lines drawn.place lines (record { rows = rows; columns = columns }))
+    pub lines_made : (after : Matrix) → IsMadePart m lines drawn.place after → AreLines m lines → AreLines after lines
+    lines_made after made are = subst (λ n. AreLines n lines) (sym made.is) (lines_pivoted m lines drawn.place lines are)
 
 -- a fault of a decomposition has lines of its root
 pub fault_drawn : (limit pivots state : ℕ) (m : Matrix) (lines : LineSet) (tree : Tree) → AreLines m lines → IsDrawnWith limit pivots state m lines tree → HasFaultAmong lines (verdict_of tree)

@@ -69,9 +69,9 @@ module _ (m : Matrix) (is : IsMatrix m) where
   no_network_with own lines o are rows columns =
       let inner = is_ternary-submatrix m lines.rows lines.columns ternary in (
         (λ net. o.none.0 (inherited_from_hereditary HasGraphicSupport graphic_support_hereditary m ternary lines.rows lines.columns own.rows own.columns
-            are.rows.rising are.columns.rising o.row_set.rising o.column_set.rising rows columns ((signed_graphic (part m lines) inner).0 net).0)),
+            are.rows.rising are.columns.rising o.are_lines.rows.rising o.are_lines.columns.rising rows columns ((signed_graphic (part m lines) inner).0 net).0)),
         (λ net. o.none.1 (inherited_from_hereditary (λ n. HasGraphicSupport (transposed n)) cographic_hereditary m ternary lines.rows lines.columns own.rows own.columns
-            are.rows.rising are.columns.rising o.row_set.rising o.column_set.rising rows columns ((signed_graphic (transposed (part m lines)) (is_ternary-transposed (part m lines) inner)).0 net).0)),
+            are.rows.rising are.columns.rising o.are_lines.rows.rising o.are_lines.columns.rising rows columns ((signed_graphic (transposed (part m lines)) (is_ternary-transposed (part m lines) inner)).0 net).0)),
       )
 
 pub within_all : (set xs : List ℕ) → AllByRecursion (λ line. is_among set line ≡ true) xs → IsWithin xs set

@@ -18,11 +18,11 @@ use Rattle.decomp_tree.proofs.OnePivoted.{all_themselves}
 use Rattle.decomp_tree.proofs.FaultLines.{lines_themselves}
 use Rattle.decomp_tree.proofs.FoundTrees.{drawn_with_lines, drawn_with_within}
 use Rattle.decomp_tree.proofs.FoundSound.{drawn_with_sound}
-use Rattle.decomp_tree.proofs.Roots.{root_rows, root_columns}
+use Rattle.decomp_tree.proofs.Roots.{root_lines}
 use Rattle.decomp_tree.proofs.RefinedTrees.{RefinedNode, replaced, kept, refined_node}
 
 pub all_are_lines : (m : Matrix) → IsMatrix m → AreLines m (all_lines m)
-all_are_lines m is = record { rows = root_rows m is (all_lines m) refl refl; columns = root_columns m is (all_lines m) refl refl }
+all_are_lines m is = root_lines m is (all_lines m) refl refl
 
 -- the root has all lines
 pub root_is_whole : (limit pivots : ℕ) (m : Matrix) (tree : Tree) → IsShapeWith limit pivots m tree → ((lines_of tree).rows ≡ first_lines (height m)) × ((lines_of tree).columns ≡ first_lines m.width)

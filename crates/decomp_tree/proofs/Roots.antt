@@ -5,10 +5,11 @@ use Rattle.cmr_base.specs.Matrix.{Matrix, height, IsMatrix}
 use Rattle.cmr_base.specs.LineSets.{IsRowSet, IsColumnSet, first_lines}
 use Rattle.cmr_base.proofs.ListsWithout.{in-get_or}
 use Rattle.cmr_base.proofs.RemovedLines.{first_lines_increase, first_lines_in}
+use Rattle.tree_type.specs.Invariant.{AreLines}
 
 module _ (m : Matrix) (is : IsMatrix m) (lines : LineSet) (rows : lines.rows ≡ first_lines (height m)) (columns : lines.columns ≡ first_lines m.width) where
-  pub root_rows : IsRowSet m lines.rows
-  root_rows = subst (IsRowSet m) (sym rows) (record { rising = first_lines_increase (height m); in_range = λ k l. first_lines_in (height m) (get_or (first_lines (height m)) k 0) (in-get_or (first_lines (height m)) k l) })
-
-  pub root_columns : IsColumnSet m lines.columns
-  root_columns = subst (IsColumnSet m) (sym columns) (record { rising = first_lines_increase m.width; in_range = λ k l. first_lines_in m.width (get_or (first_lines m.width) k 0) (in-get_or (first_lines m.width) k l) })
+  pub root_lines : AreLines m lines
+  root_lines = record {
+    rows = subst (IsRowSet m) (sym rows) (record { rising = first_lines_increase (height m); in_range = λ k l. first_lines_in (height m) (get_or (first_lines (height m)) k 0) (in-get_or (first_lines (height m)) k l) });
+    columns = subst (IsColumnSet m) (sym columns) (record { rising = first_lines_increase m.width; in_range = λ k l. first_lines_in m.width (get_or (first_lines m.width) k 0) (in-get_or (first_lines m.width) k l) });
+  }

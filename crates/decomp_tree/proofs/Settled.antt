@@ -100,8 +100,8 @@ module _ (limit : ℕ) (m : Matrix) where
       drawn_node limit m lines (Cycle fault) [] [] said (said.searched refl) tt
 
   module _ (draft : Draft) (drafted : IsDrafted limit m (sketch_of draft)) where
-    pub lines_in : IsRowSet m (lines_of_sketch (sketch_of draft)).rows → IsColumnSet m (lines_of_sketch (sketch_of draft)).columns → AreLines m (front_in draft).lines
-    lines_in rows columns = subst (AreLines m) (lines_are draft) (record { rows = rows; columns = columns })
+    pub lines_in : AreLines m (lines_of_sketch (sketch_of draft)) → AreLines m (front_in draft).lines
+    lines_in are = subst (AreLines m) (lines_are draft) are
 
     pub none_if_free : (is_free_in draft) ≡ true → HasNoneAmong m (front_in draft).lines
     none_if_free e = (parts_of limit m draft drafted).1 e

@@ -3,9 +3,9 @@ use Rattle.std.specs.Prelude.{◌<◌, ℕ, List, length, slice_index, IfSome}
 use Rattle.std.specs.List.Sorted.{IsStrictlyIncreasing}
 use Rattle.cmr_base.specs.declared.line_set.LineSet.{LineSet}
 use Rattle.cmr_base.specs.Matrix.{Matrix, transposed}
-use Rattle.cmr_base.specs.LineSets.{IsRowSet, IsColumnSet}
 use Rattle.cmr_base.specs.Members.{IsIn}
 use Rattle.cmr_base.specs.Trees.{HasGraphicSupport, IsNetworkMatrix, IsConetworkMatrix}
+use Rattle.tree_type.specs.Invariant.{AreLines}
 use Rattle.tree_type.specs.Soundness.{part}
 use Rattle.decomp_tree.specs.declared.obstructions.Obstruction.{Obstruction}
 
@@ -19,8 +19,7 @@ IsNoNetwork m = (¬ (IsNetworkMatrix m)) × (¬ (IsConetworkMatrix m))
 
 -- the submatrix on these lines has no graphic support
 pub record IsObstruction (m : Matrix) (lines : LineSet) : Type 0 where
-  pub row_set : IsRowSet m lines.rows
-  pub column_set : IsColumnSet m lines.columns
+  pub are_lines : AreLines m lines
   pub none : HasNoGraphicSupport (part m lines)
 
 abbrev pub IsKnown : Matrix → Obstruction → Type 0

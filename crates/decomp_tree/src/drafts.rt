@@ -2,18 +2,19 @@
 ghost use Rattle.std.specs.Prelude.{◌≡◌, ◌≤◌, ◌++◌, ◌∷◌, ◌&&◌, [], map, IfOk, OnOk};
 ghost use Rattle.std.specs.List.{list_all};
 ghost use Rattle.cmr_base.specs.Matrix.{IsMatrix};
-ghost use Rattle.cmr_base.specs.LineSets.{IsRowSet, IsColumnSet};
+ghost use Rattle.tree_type.specs.Invariant.{AreLines};
 ghost use Rattle.tree_type.specs.Findings.{finding_shown};
 ghost use Rattle.decomp_tree.specs.Seen.{keeps_free};
 ghost use Rattle.decomp_tree.specs.Fronts.{IsFront};
 ghost use Rattle.decomp_tree.specs.Obstructions.{IsKnown};
 ghost use Rattle.decomp_tree.specs.Sketches.{Sketched, sketch_of, sketches_from, is_free_in, lines_of_sketch, IsDrafted, IsDraftedBehind};
 
+use crate::budget::Budget;
 use crate::faults::keeps_free;
 use crate::looking::look;
 use crate::obstructions::Obstruction;
 use crate::seen::Seen;
-use cmr_base::{LineSet, LineSetList, MAX_LINES, Matrix, Memory, RowsAndColumns};
+use cmr_base::{LineSet, LineSetList, Matrix, Memory, RowsAndColumns};
 use std::alloc::Global;
 use std::thread::Threads;
 use tree_type::{Finding, copy_of};
@@ -42,31 +43,18 @@ pub fn draft_root<R: Threads + Sync>(
     alloc: Global,
     matrix: &Matrix,
     lines: &LineSet,
-    limit: u32,
-    workers: u32,
+    budget: Budget,
 ) -> Result<Draft, Memory>
-    requires limit { limit ≤ MAX_LINES }
-    requires workers { (1 ≤ workers) × (workers ≤ 64) }
     requires shape { IsMatrix matrix.now }
-    requires rows { IsRowSet matrix.now lines.now.rows }
-    requires columns { IsColumnSet matrix.now lines.now.columns }
+    requires lines { AreLines matrix.now lines.now }
     ensures lines { IfOk result (λ drawn. lines_of_sketch (sketch_of drawn) ≡ lines.now) }
-    ensures drafted { IfOk result (λ drawn. IsDrafted limit matrix.now (sketch_of drawn)) }
+    ensures drafted { IfOk result (λ drawn. IsDrafted budget.limit matrix.now (sketch_of drawn)) }
 {
     let mut drafts = Vec::new(alloc);
     let unknown = Obstruction::unknown(matrix);
     let columns = matrix.transposed(alloc)?;
     let both = RowsAndColumns::of(matrix, &columns);
-    draw(
-        rt,
-        alloc,
-        &both,
-        lines,
-        &unknown,
-        limit,
-        workers,
-        &mut drafts,
-    )?;
+    draw(rt, alloc, &both, lines, &unknown, budget, &mut drafts)?;
     let Some(drawn) = drafts.pop() else {
         unreachable!()
     };
@@ -81,34 +69,21 @@ pub fn draw<R: Threads + Sync>(
     matrix: &RowsAndColumns<'_>,
     lines: &LineSet,
     obstruction: &Obstruction,
-    limit: u32,
-    workers: u32,
+    budget: Budget,
     drafts: &mut Vec<Draft>,
 ) -> Result<(), Memory>
-    requires limit { limit ≤ MAX_LINES }
-    requires workers { (1 ≤ workers) × (workers ≤ 64) }
     requires shape { IsMatrix matrix.now }
-    requires rows { IsRowSet matrix.now lines.now.rows }
-    requires columns { IsColumnSet matrix.now lines.now.columns }
+    requires lines { AreLines matrix.now lines.now }
     requires known { IsKnown matrix.now obstruction.now }
     requires sought { obstruction.now.sought ≤ 4000 }
-    ensures { OnOk result (IsDraftedBehind limit matrix.now lines.now
+    ensures { OnOk result (IsDraftedBehind budget.limit matrix.now lines.now
         (map sketch_of drafts.old.items) (map sketch_of drafts.new.items)) }
 {
-    let front = front_of(rt, alloc, matrix, lines, obstruction, limit, workers)?;
+    let front = front_of(rt, alloc, matrix, lines, obstruction, budget)?;
     let mut children = Vec::new(alloc);
     for child in front.children.as_slice() {
         let known = obstruction.in_child(alloc, matrix.by_rows(), &front.finding, child)?;
-        draw(
-            rt,
-            alloc,
-            matrix,
-            child,
-            &known,
-            limit,
-            workers,
-            &mut children,
-        )?;
+        draw(rt, alloc, matrix, child, &known, budget, &mut children)?;
     }
     push_draft(alloc, front, children, drafts)?;
     Ok(())
@@ -121,18 +96,14 @@ fn front_of<R: Threads + Sync>(
     matrix: &RowsAndColumns<'_>,
     lines: &LineSet,
     obstruction: &Obstruction,
-    limit: u32,
-    workers: u32,
+    budget: Budget,
 ) -> Result<Box<Front>, Memory>
-    requires limit { limit ≤ MAX_LINES }
-    requires workers { (1 ≤ workers) × (workers ≤ 64) }
     requires shape { IsMatrix matrix.now }
-    requires rows { IsRowSet matrix.now lines.now.rows }
-    requires columns { IsColumnSet matrix.now lines.now.columns }
+    requires lines { AreLines matrix.now lines.now }
     requires known { IsKnown matrix.now obstruction.now }
-    ensures { IfOk result (λ front. IsFront limit matrix.now lines.now front.value) }
+    ensures { IfOk result (λ front. IsFront budget.limit matrix.now lines.now front.value) }
 {
-    let Seen { finding, children } = look(rt, alloc, matrix, lines, obstruction, limit, workers)?;
+    let Seen { finding, children } = look(rt, alloc, matrix, lines, obstruction, budget)?;
     let front = Front {
         lines: copy_of(alloc, lines)?,
         finding,

@@ -2,7 +2,7 @@
 ghost use Rattle.std.specs.Prelude.{◌≡◌, true, MatchOption, IfOk, IfSome, IsTrue};
 ghost use Rattle.cmr_base.specs.Matrix.{entry, transposed, IsMatrix};
 ghost use Rattle.cmr_base.specs.CyclePlaces.{HasNoCycleFault};
-ghost use Rattle.cmr_base.specs.LineSets.{IsRowSet, IsColumnSet};
+ghost use Rattle.tree_type.specs.Invariant.{AreLines};
 ghost use Rattle.tree_type.specs.Soundness.{part};
 ghost use Rattle.tree_type.specs.Findings.{finding_shown};
 ghost use Rattle.decomp_tree.specs.Seen.{HasNoneAmong, IsNamedFault, is_unsearched, keeps_free};
@@ -27,8 +27,7 @@ pub fn fault_from(
     first: u32,
 ) -> Result<Option<LineSet>, Memory>
     requires shape { IsMatrix _matrix.now }
-    requires rows { IsRowSet _matrix.now lines.now.rows }
-    requires columns { IsColumnSet _matrix.now lines.now.columns }
+    requires lines { AreLines _matrix.now lines.now }
     requires inner { inner.now ≡ part _matrix.now lines.now }
     requires passed { HasNoFaultBefore inner.now first }
     ensures { IfOk result (λ found. MatchOption found
@@ -52,8 +51,7 @@ pub fn certain_fault(
     of_rows: &Orientation,
 ) -> Result<Option<LineSet>, Memory>
     requires shape { IsMatrix matrix.now }
-    requires rows { IsRowSet matrix.now lines.now.rows }
-    requires columns { IsColumnSet matrix.now lines.now.columns }
+    requires lines { AreLines matrix.now lines.now }
     requires inner { inner.now ≡ part matrix.now lines.now }
     requires of_rows { IsOrientation inner.now of_rows.now }
     ensures { IfOk result (λ found. IfSome found (IsNamedFault matrix.now lines.now)) }
@@ -73,8 +71,7 @@ pub fn certain_fault_transposed(
     of_columns: &Orientation,
 ) -> Result<Option<LineSet>, Memory>
     requires shape { IsMatrix matrix.now }
-    requires rows { IsRowSet matrix.now lines.now.rows }
-    requires columns { IsColumnSet matrix.now lines.now.columns }
+    requires lines { AreLines matrix.now lines.now }
     requires inner { inner.now ≡ part matrix.now lines.now }
     requires of_columns { IsOrientation (transposed inner.now) of_columns.now }
     ensures { IfOk result (λ found. IfSome found (IsNamedFault matrix.now lines.now)) }
@@ -98,8 +95,7 @@ pub fn late_fault(
     is_free: bool,
 ) -> Result<Option<LineSet>, Memory>
     requires shape { IsMatrix matrix.now }
-    requires rows { IsRowSet matrix.now lines.now.rows }
-    requires columns { IsColumnSet matrix.now lines.now.columns }
+    requires lines { AreLines matrix.now lines.now }
     requires free { IsTrue is_free → HasNoneAmong matrix.now lines.now }
     ensures { IfOk result (λ found. MatchOption found
         (HasNoLateFault matrix.now lines.now (finding_shown finding.now))
@@ -121,8 +117,7 @@ fn fault_of(
     inner: &Matrix,
 ) -> Result<Option<LineSet>, Memory>
     requires shape { IsMatrix _matrix.now }
-    requires rows { IsRowSet _matrix.now lines.now.rows }
-    requires columns { IsColumnSet _matrix.now lines.now.columns }
+    requires lines { AreLines _matrix.now lines.now }
     requires inner { inner.now ≡ part _matrix.now lines.now }
     ensures { IfOk result (λ found. MatchOption found
         (HasNoCycleFault (entry (part _matrix.now lines.now)))

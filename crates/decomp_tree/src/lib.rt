@@ -1,6 +1,7 @@
 //! Decompositions of matrices.
 #![tactic(auto)]
 
+mod budget;
 mod drafts;
 mod drawing;
 mod faults;

@@ -1,24 +1,25 @@
 // The first case that applies to some lines.
-ghost use Rattle.std.specs.Prelude.{◌≡◌, ◌≤◌, ◌<◌, false, length, IfOk};
+ghost use Rattle.std.specs.Prelude.{◌≡◌, ◌<◌, false, length, IfOk};
 ghost use Rattle.cmr_base.specs.Matrix.{entry, IsMatrix};
 ghost use Rattle.cmr_base.specs.CyclePlaces.{HasNoCycleFault};
 ghost use Rattle.cmr_base.specs.R10.{IsR10};
-ghost use Rattle.cmr_base.specs.LineSets.{IsRowSet, IsColumnSet};
+ghost use Rattle.tree_type.specs.Invariant.{AreLines};
 ghost use Rattle.cmr_base.specs.Reductions.{removal};
 ghost use Rattle.tree_type.specs.Soundness.{part};
 ghost use Rattle.two_sep.specs.FirstSeeds.{IsFirstTwoSeparation};
 ghost use Rattle.three_sep.specs.ThreeSeparations.{IsFirstThreeSeparation};
 ghost use Rattle.decomp_tree.specs.Obstructions.{IsKnown};
-ghost use Rattle.decomp_tree.specs.Nodes.{HasNoCaseBefore, IsNode, IsSeenAt, inner_of};
+ghost use Rattle.decomp_tree.specs.Nodes.{HasNoCaseBefore, IsSeenAt, inner_of};
 ghost use Rattle.decomp_tree.specs.Seen.{IsSeen};
 ghost use Rattle.decomp_tree.specs.Shapes.{IsApart, IsConetwork, IsNetwork, IsR10Matrix, IsReducible, IsShort, IsThreeSum, IsTwoSum};
 
+use crate::budget::Budget;
 use crate::faults::{certain_fault, certain_fault_transposed, fault_from};
 use crate::naming::{named_parts, named_set, named_steps, named_three, named_two};
 use crate::node::Node;
 use crate::obstructions::Obstruction;
 use crate::seen::{Seen, above_one, above_two, leaf};
-use cmr_base::{LineSet, MAX_LINES, Matrix, Memory, RowsAndColumns, Three, Two};
+use cmr_base::{LineSet, Matrix, Memory, RowsAndColumns, Three, Two};
 use leaf_enumerate::{Search, least_violator};
 use network_orient::orientation_of;
 use r10_leaf::is_r10;
@@ -37,16 +38,12 @@ pub fn look<R: Threads + Sync>(
     matrix: &RowsAndColumns<'_>,
     lines: &LineSet,
     obstruction: &Obstruction,
-    limit: u32,
-    workers: u32,
+    budget: Budget,
 ) -> Result<Seen, Memory>
-    requires limit { limit ≤ MAX_LINES }
-    requires workers { (1 ≤ workers) × (workers ≤ 64) }
     requires shape { IsMatrix matrix.now }
-    requires rows { IsRowSet matrix.now lines.now.rows }
-    requires columns { IsColumnSet matrix.now lines.now.columns }
+    requires lines { AreLines matrix.now lines.now }
     requires known { IsKnown matrix.now obstruction.now }
-    ensures { IfOk result (IsSeen limit matrix.now lines.now) }
+    ensures { IfOk result (IsSeen budget.limit matrix.now lines.now) }
 {
     let whole = matrix.by_rows();
     let part = whole.part(alloc, lines)?;
@@ -59,8 +56,7 @@ pub fn look<R: Threads + Sync>(
         matrix: whole,
         lines,
         inner: &inner,
-        limit,
-        workers,
+        budget,
     };
     look_filled(rt, alloc, &node, obstruction)
 }
@@ -72,7 +68,6 @@ fn look_filled<R: Threads + Sync>(
     node: &Node<'_>,
     obstruction: &Obstruction,
 ) -> Result<Seen, Memory>
-    requires node { IsNode node.now }
     requires none { HasNoCaseBefore IsReducible node.now }
     requires known { IsKnown node.now.matrix.now obstruction.now }
     ensures { IfOk result (IsSeenAt node.now) }
@@ -90,7 +85,6 @@ fn look_unclear<R: Threads + Sync>(
     node: &Node<'_>,
     obstruction: &Obstruction,
 ) -> Result<Seen, Memory>
-    requires node { IsNode node.now }
     requires none { HasNoCaseBefore IsReducible node.now }
     requires known { IsKnown node.now.matrix.now obstruction.now }
     ensures { IfOk result (IsSeenAt node.now) }
@@ -104,7 +98,6 @@ fn look_unclear<R: Threads + Sync>(
 
 // The removed lines, and those that are left.
 fn seen_reduced(alloc: Global, node: &Node<'_>, reduction: &Reduction) -> Result<Seen, Memory>
-    requires node { IsNode node.now }
     requires none { HasNoCaseBefore IsReducible node.now }
     requires some { 0 < length reduction.now.steps }
     requires steps { reduction.now.steps ≡ (removal false (inner_of node.now)).steps }
@@ -126,7 +119,6 @@ fn look_irreducible<R: Threads + Sync>(
     node: &Node<'_>,
     obstruction: &Obstruction,
 ) -> Result<Seen, Memory>
-    requires node { IsNode node.now }
     requires none { HasNoCaseBefore IsApart node.now }
     requires known { IsKnown node.now.matrix.now obstruction.now }
     ensures { IfOk result (IsSeenAt node.now) }
@@ -149,7 +141,6 @@ fn look_connected<R: Threads + Sync>(
     node: &Node<'_>,
     obstruction: &Obstruction,
 ) -> Result<Seen, Memory>
-    requires node { IsNode node.now }
     requires none { HasNoCaseBefore IsNetwork node.now }
     requires known { IsKnown node.now.matrix.now obstruction.now }
     ensures { IfOk result (IsSeenAt node.now) }
@@ -162,7 +153,6 @@ fn look_connected<R: Threads + Sync>(
 
 // The same by tests. Where there must be a cycle fault one is looked for.
 fn look_tested<R: Threads + Sync>(rt: &R, alloc: Global, node: &Node<'_>) -> Result<Seen, Memory>
-    requires node { IsNode node.now }
     requires none { HasNoCaseBefore IsNetwork node.now }
     ensures { IfOk result (IsSeenAt node.now) }
 {
@@ -188,7 +178,6 @@ fn look_transposed<R: Threads + Sync>(
     alloc: Global,
     node: &Node<'_>,
 ) -> Result<Seen, Memory>
-    requires node { IsNode node.now }
     requires none { HasNoCaseBefore IsConetwork node.now }
     ensures { IfOk result (IsSeenAt node.now) }
 {
@@ -215,7 +204,6 @@ fn look_no_network<R: Threads + Sync>(
     alloc: Global,
     node: &Node<'_>,
 ) -> Result<Seen, Memory>
-    requires node { IsNode node.now }
     requires none { HasNoCaseBefore IsR10Matrix node.now }
     ensures { IfOk result (IsSeenAt node.now) }
 {
@@ -227,7 +215,6 @@ fn look_no_network<R: Threads + Sync>(
 
 // An R10 matrix, which has no violator but where it has a cycle fault.
 fn look_r10(alloc: Global, node: &Node<'_>) -> Result<Seen, Memory>
-    requires node { IsNode node.now }
     requires none { HasNoCaseBefore IsR10Matrix node.now }
     requires r10 { IsR10 (inner_of node.now) }
     ensures { IfOk result (IsSeenAt node.now) }
@@ -240,7 +227,6 @@ fn look_r10(alloc: Global, node: &Node<'_>) -> Result<Seen, Memory>
 
 // The cases of a matrix that is no network matrix, no transposed one and no R10.
 fn look_separated<R: Threads + Sync>(rt: &R, alloc: Global, node: &Node<'_>) -> Result<Seen, Memory>
-    requires node { IsNode node.now }
     requires none { HasNoCaseBefore IsTwoSum node.now }
     ensures { IfOk result (IsSeenAt node.now) }
 {
@@ -255,7 +241,6 @@ fn look_separated<R: Threads + Sync>(rt: &R, alloc: Global, node: &Node<'_>) -> 
 
 // The cases of a matrix without two-separation and without cycle fault.
 fn look_faultless<R: Threads + Sync>(rt: &R, alloc: Global, node: &Node<'_>) -> Result<Seen, Memory>
-    requires node { IsNode node.now }
     requires none { HasNoCaseBefore IsThreeSum node.now }
     requires faultless { HasNoCycleFault (entry (inner_of node.now)) }
     ensures { IfOk result (IsSeenAt node.now) }
@@ -268,7 +253,6 @@ fn look_faultless<R: Threads + Sync>(rt: &R, alloc: Global, node: &Node<'_>) -> 
 
 // A two-separation, and the lines of the children.
 fn seen_two(alloc: Global, node: &Node<'_>, found: &Two) -> Result<Seen, Memory>
-    requires node { IsNode node.now }
     requires none { HasNoCaseBefore IsTwoSum node.now }
     requires found { IsFirstTwoSeparation (inner_of node.now) found.now }
     ensures { IfOk result (IsSeenAt node.now) }
@@ -281,7 +265,6 @@ fn seen_two(alloc: Global, node: &Node<'_>, found: &Two) -> Result<Seen, Memory>
 
 // A three-separation, and the lines of the children.
 fn seen_three(alloc: Global, node: &Node<'_>, found: &Three) -> Result<Seen, Memory>
-    requires node { IsNode node.now }
     requires none { HasNoCaseBefore IsThreeSum node.now }
     requires faultless { HasNoCycleFault (entry (inner_of node.now)) }
     requires found { IsFirstThreeSeparation (inner_of node.now) found.now }
@@ -295,12 +278,17 @@ fn seen_three(alloc: Global, node: &Node<'_>, found: &Three) -> Result<Seen, Mem
 
 // The cases of a matrix without separation.
 fn look_last<R: Threads + Sync>(rt: &R, alloc: Global, node: &Node<'_>) -> Result<Seen, Memory>
-    requires node { IsNode node.now }
     requires none { HasNoCaseBefore IsShort node.now }
     requires faultless { HasNoCycleFault (entry (inner_of node.now)) }
     ensures { IfOk result (IsSeenAt node.now) }
 {
-    let finding = match least_violator(rt, alloc, node.inner.by_rows(), node.limit, node.workers)? {
+    let finding = match least_violator(
+        rt,
+        alloc,
+        node.inner.by_rows(),
+        node.budget.limit(),
+        node.budget.workers(),
+    )? {
         Search::Found(found) => Finding::Violator(named_set(alloc, node.lines, &found)?),
         Search::Clean => Finding::Enumerated,
         Search::TooMany { .. } => Finding::Undecided,

@@ -1,13 +1,20 @@
 // What is looked at.
+ghost use Rattle.std.specs.Prelude.{◌≡◌};
+ghost use Rattle.cmr_base.specs.Matrix.{IsMatrix};
+ghost use Rattle.tree_type.specs.Invariant.{AreLines};
+ghost use Rattle.tree_type.specs.Soundness.{part};
+
+use crate::budget::Budget;
 use cmr_base::{LineSet, Matrix, RowsAndColumns};
 
-/// Some lines of a matrix, the submatrix on them, and how leaves are searched: sets of at most `limit` lines are gone
-/// through, shared by the workers.
+/// Some lines of a matrix, the submatrix on them, and how much may be searched there.
 #[derive(Clone, Copy)]
 pub struct Node<'a> {
     pub matrix: &'a Matrix,
     pub lines: &'a LineSet,
     pub inner: &'a RowsAndColumns<'a>,
-    pub limit: u32,
-    pub workers: u32,
+    pub budget: Budget,
+    ghost shape: { IsMatrix matrix.now },
+    ghost are_lines: { AreLines matrix.now lines.now },
+    ghost inner_is: { inner.now ≡ part matrix.now lines.now },
 }

@@ -2,7 +2,7 @@
 ghost use Rattle.std.specs.Prelude.{◌≡◌, ◌≤◌, ◌+◌, true, drop, length, take, IfOk, IsTrue};
 ghost use Rattle.std.specs.List.{AllByRecursion};
 ghost use Rattle.cmr_base.specs.Matrix.{IsMatrix};
-ghost use Rattle.cmr_base.specs.LineSets.{IsRowSet, IsColumnSet};
+ghost use Rattle.tree_type.specs.Invariant.{AreLines};
 ghost use Rattle.tree_type.specs.Sides.{is_among};
 ghost use Rattle.tree_type.specs.Soundness.{part};
 ghost use Rattle.decomp_tree.specs.Obstructions.{IsKnown, IsNoNetwork, IsSomeOf, HasNoGraphicSupport};
@@ -44,8 +44,7 @@ impl Obstruction {
     pub fn stands_in(&self, _matrix: &Matrix, lines: &LineSet) -> bool
         requires shape { IsMatrix _matrix.now }
         requires known { IsKnown _matrix.now self.now }
-        requires rows { IsRowSet _matrix.now lines.now.rows }
-        requires columns { IsColumnSet _matrix.now lines.now.columns }
+        requires lines { AreLines _matrix.now lines.now }
         ensures { IsTrue result → IsNoNetwork (part _matrix.now lines.now) }
     {
         if let Some(own) = &self.lines {
@@ -65,8 +64,7 @@ impl Obstruction {
     ) -> Result<Obstruction, Memory>
         requires shape { IsMatrix matrix.now }
         requires known { IsKnown matrix.now self.now }
-        requires rows { IsRowSet matrix.now child.now.rows }
-        requires columns { IsColumnSet matrix.now child.now.columns }
+        requires lines { AreLines matrix.now child.now }
         requires sought { self.now.sought ≤ 4000 }
         ensures known { IfOk result (IsKnown matrix.now) }
         ensures sought { IfOk result (λ obstruction. obstruction.sought ≤ 4000) }
@@ -110,8 +108,7 @@ fn is_two_sum(finding: &Finding) -> bool {
 // How many lines there are.
 fn size_of(_matrix: &Matrix, lines: &LineSet) -> u32
     requires shape { IsMatrix _matrix.now }
-    requires rows { IsRowSet _matrix.now lines.now.rows }
-    requires columns { IsColumnSet _matrix.now lines.now.columns }
+    requires lines { AreLines _matrix.now lines.now }
     ensures { result ≤ MAX_ROWS + MAX_COLUMNS }
 {
     lines.size()
@@ -169,8 +166,7 @@ fn obstruction_in(
     size: u32,
 ) -> Result<Obstruction, Memory>
     requires shape { IsMatrix matrix.now }
-    requires rows { IsRowSet matrix.now lines.now.rows }
-    requires columns { IsColumnSet matrix.now lines.now.columns }
+    requires lines { AreLines matrix.now lines.now }
     requires size { size ≤ 4000 }
     ensures known { IfOk result (IsKnown matrix.now) }
     ensures sought { IfOk result (λ obstruction. obstruction.sought ≤ 4000) }

@@ -1,29 +1,22 @@
 // Drafts that are settled: cycle faults are looked for late, from the root down, and pivots are made where nothing decides.
-ghost use Rattle.std.specs.Prelude.{◌≡◌, ◌≤◌, ◌<◌, ◌^◌, ◌++◌, ◌∷◌, [], length, map, IfOk, OnOk};
+ghost use Rattle.std.specs.Prelude.{◌≡◌, ◌<◌, ◌^◌, ◌++◌, ◌∷◌, [], length, map, IfOk, OnOk};
 ghost use Rattle.cmr_base.specs.Matrix.{IsMatrix};
-ghost use Rattle.cmr_base.specs.LineSets.{IsRowSet, IsColumnSet};
 ghost use Rattle.tree_type.specs.Trees.{Branch, Cycle, NoTrees, tree_of, trees_from};
-ghost use Rattle.tree_type.specs.Invariant.{HasChildren};
+ghost use Rattle.tree_type.specs.Invariant.{AreLines, HasChildren};
 ghost use Rattle.tree_type.specs.Findings.{finding_shown};
 ghost use Rattle.decomp_tree.specs.PivotedShapes.{IsBehind, IsDrawnWith, IsFound};
 ghost use Rattle.decomp_tree.specs.Refined.{is_undecided};
 ghost use Rattle.decomp_tree.specs.Sketches.{IsDrafted, lines_of_sketch, sketch_of};
 
+use crate::budget::Budget;
 use crate::drafts::{Draft, Front, draft_root};
 use crate::faults::late_fault;
 use crate::taking_back::{leaf, taken_back};
-use cmr_base::{LineSet, MAX_LINES, Matrix, Memory};
+use cmr_base::{LineSet, Matrix, Memory};
 use pivots::{PivotedPart, drawn_place, pivot_part};
 use std::alloc::Global;
 use std::thread::Threads;
 use tree_type::{Finding, Node, join_node};
-
-/// The most lines on the shorter side of what is searched whole, 0 to 24, and how many workers share the searches, 1 to 64.
-#[derive(Clone, Copy, Debug)]
-pub struct Search {
-    pub limit: u32,
-    pub workers: u32,
-}
 
 /// The tree of the submatrix on these lines. It is drawn first as if no submatrix had a cycle fault, since where nothing
 /// below a node has a violator, none stands among its lines and none need be looked for.
@@ -33,22 +26,19 @@ pub fn draw_root<R: Threads + Sync>(
     alloc: Global,
     matrix: &Matrix,
     lines: &LineSet,
-    search: Search,
+    budget: Budget,
     pivots: u32,
     state: u32,
 ) -> Result<Node, Memory>
-    requires limit { search.limit ≤ MAX_LINES }
-    requires workers { (1 ≤ search.workers) × (search.workers ≤ 64) }
     requires state { state < 2 ^ 31 }
     requires shape { IsMatrix matrix.now }
-    requires rows { IsRowSet matrix.now lines.now.rows }
-    requires columns { IsColumnSet matrix.now lines.now.columns }
+    requires lines { AreLines matrix.now lines.now }
     ensures { IfOk result (λ node.
-        IsDrawnWith search.limit pivots state matrix.now lines.now (tree_of node)) }
+        IsDrawnWith budget.limit pivots state matrix.now lines.now (tree_of node)) }
 {
-    let drawn = draft_root(rt, alloc, matrix, lines, search.limit, search.workers)?;
+    let drawn = draft_root(rt, alloc, matrix, lines, budget)?;
     let mut roots = Vec::new(alloc);
-    settle(rt, alloc, matrix, drawn, search, pivots, state, &mut roots)?;
+    settle(rt, alloc, matrix, drawn, budget, pivots, state, &mut roots)?;
     let Some(root) = roots.pop() else {
         unreachable!()
     };
@@ -64,20 +54,17 @@ fn settle<R: Threads + Sync>(
     alloc: Global,
     matrix: &Matrix,
     drawn: Draft,
-    search: Search,
+    budget: Budget,
     pivots: u32,
     state: u32,
     nodes: &mut Vec<Node>,
 ) -> Result<(), Memory>
-    requires limit { search.limit ≤ MAX_LINES }
-    requires workers { (1 ≤ search.workers) × (search.workers ≤ 64) }
     requires state { state < 2 ^ 31 }
     requires shape { IsMatrix matrix.now }
-    requires rows { IsRowSet matrix.now (lines_of_sketch (sketch_of drawn)).rows }
-    requires columns { IsColumnSet matrix.now (lines_of_sketch (sketch_of drawn)).columns }
-    requires drafted { IsDrafted search.limit matrix.now (sketch_of drawn) }
+    requires lines { AreLines matrix.now (lines_of_sketch (sketch_of drawn)) }
+    requires drafted { IsDrafted budget.limit matrix.now (sketch_of drawn) }
     ensures { OnOk result (IsBehind
-        (IsDrawnWith search.limit pivots state matrix.now (lines_of_sketch (sketch_of drawn)))
+        (IsDrawnWith budget.limit pivots state matrix.now (lines_of_sketch (sketch_of drawn)))
         (map tree_of nodes.old.items)
         (map tree_of nodes.new.items)) }
 {
@@ -87,7 +74,7 @@ fn settle<R: Threads + Sync>(
         return Ok(());
     }
     if is_undecided(&front.finding) {
-        let found = find(rt, alloc, matrix, &front.lines, search, pivots, state)?;
+        let found = find(rt, alloc, matrix, &front.lines, budget, pivots, state)?;
         nodes.push(found)?;
         return Ok(());
     }
@@ -98,7 +85,7 @@ fn settle<R: Threads + Sync>(
             alloc,
             matrix,
             child,
-            search,
+            budget,
             pivots,
             state,
             &mut children,
@@ -121,18 +108,15 @@ fn find<R: Threads + Sync>(
     alloc: Global,
     matrix: &Matrix,
     lines: &LineSet,
-    search: Search,
+    budget: Budget,
     pivots: u32,
     state: u32,
 ) -> Result<Node, Memory>
-    requires limit { search.limit ≤ MAX_LINES }
-    requires workers { (1 ≤ search.workers) × (search.workers ≤ 64) }
     requires state { state < 2 ^ 31 }
     requires shape { IsMatrix matrix.now }
-    requires rows { IsRowSet matrix.now lines.now.rows }
-    requires columns { IsColumnSet matrix.now lines.now.columns }
+    requires lines { AreLines matrix.now lines.now }
     ensures { IfOk result (λ node.
-        IsFound search.limit pivots state matrix.now lines.now (tree_of node)) }
+        IsFound budget.limit pivots state matrix.now lines.now (tree_of node)) }
 {
     if pivots == 0 {
         return leaf(alloc, lines, Finding::Undecided);
@@ -143,7 +127,7 @@ fn find<R: Threads + Sync>(
     match pivot_part(alloc, matrix, lines, drawn.place)? {
         PivotedPart::Violated(fault) => leaf(alloc, lines, Finding::Violator(fault)),
         PivotedPart::Ternary(after) => {
-            let tree = draw_root(rt, alloc, &after, lines, search, pivots - 1, drawn.state)?;
+            let tree = draw_root(rt, alloc, &after, lines, budget, pivots - 1, drawn.state)?;
             taken_back(alloc, matrix, lines, drawn.place, tree)
         }
     }

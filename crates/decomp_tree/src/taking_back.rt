@@ -1,9 +1,8 @@
 // What the tree of a submatrix after a pivot says of the submatrix.
 ghost use Rattle.std.specs.Prelude.{◌≡◌, IfOk};
-ghost use Rattle.cmr_base.specs.LineSets.{IsRowSet, IsColumnSet};
 ghost use Rattle.pivots.specs.PivotedParts.{IsPlaceIn};
 ghost use Rattle.tree_type.specs.Trees.{Branch, NoTrees, Pivoted, one_tree, tree_of};
-ghost use Rattle.tree_type.specs.Invariant.{HasChildren};
+ghost use Rattle.tree_type.specs.Invariant.{AreLines, HasChildren};
 ghost use Rattle.tree_type.specs.Findings.{finding_shown};
 ghost use Rattle.tree_type.specs.Verdicts.{verdict_of};
 ghost use Rattle.decomp_tree.specs.PivotedShapes.{IsTakenBack, HasFaultAmong};
@@ -22,8 +21,7 @@ pub fn taken_back(
     place: PivotPlace,
     after: Node,
 ) -> Result<Node, Memory>
-    requires rows { IsRowSet matrix.now lines.now.rows }
-    requires columns { IsColumnSet matrix.now lines.now.columns }
+    requires lines { AreLines matrix.now lines.now }
     requires place { IsPlaceIn matrix.now lines.now place }
     requires fault { HasFaultAmong lines.now (verdict_of (tree_of after)) }
     ensures { IfOk result (λ node. IsTakenBack matrix.now lines.now place (tree_of after)

@@ -4,16 +4,12 @@ use Rattle.tree_type.specs.Trees.{SizedTree, tree_of}
 use Rattle.tree_type.specs.Soundness.{IsSoundTree}
 use Rattle.decomp_tree.specs.PivotedShapes.{IsShapeWith}
 use Rattle.decomp_tree.proofs.PivotedRoots.{whole_shape, whole_sound, whole_tree}
-use Rattle.decomp_tree.proofs.Roots.{root_rows, root_columns}
+use Rattle.decomp_tree.proofs.Roots.{root_lines}
 use Rattle.decomp_tree.proofs.drawing.decompose.Goals as goal
 
-pub draw_root-requires-clause-rows : goal.draw_root-requires-clause-rows
-draw_root-requires-clause-rows g c =
-    λ κs lives. root_rows c.args.matrix.now c.rows.ensures.shape c.in_ok-lines.lines (c.in_ok-lines.ensures.rows ∙ ap first_lines c.rows.ensures.rows) (c.in_ok-lines.ensures.columns ∙ ap first_lines c.columns.ensures.columns)
-
-pub draw_root-requires-clause-columns : goal.draw_root-requires-clause-columns
-draw_root-requires-clause-columns g c =
-    λ κs lives. root_columns c.args.matrix.now c.rows.ensures.shape c.in_ok-lines.lines (c.in_ok-lines.ensures.rows ∙ ap first_lines c.rows.ensures.rows) (c.in_ok-lines.ensures.columns ∙ ap first_lines c.columns.ensures.columns)
+pub draw_root-requires-clause-lines : goal.draw_root-requires-clause-lines
+draw_root-requires-clause-lines g c =
+    λ κs lives. root_lines c.args.matrix.now c.rows.ensures.shape c.in_ok-lines.lines (c.in_ok-lines.ensures.rows ∙ ap first_lines c.rows.ensures.rows) (c.in_ok-lines.ensures.columns ∙ ap first_lines c.columns.ensures.columns)
 
 pub make-requires : goal.make-requires
 make-requires g c =

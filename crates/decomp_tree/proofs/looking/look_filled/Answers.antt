@@ -9,5 +9,5 @@ use Rattle.decomp_tree.proofs.looking.look_filled.Goals as goal
 pub look_irreducible-requires-clause-none : goal.look_irreducible-requires-clause-none
 look_irreducible-requires-clause-none g c =
     let n = inner_of c.args.node.now in
-    let none = subst (λ (k : Matrix). HasNoReducibleLine false k) c.requires.node.inner (c.in_ok-first_look.ensures c.in-Irreducible.is false) in
-    λ κs lives. none_next c.args.node.now.limit n IsReducible c.requires.none (none_reducible c.args.node.now.limit n none)
+    let none = subst (λ (k : Matrix). HasNoReducibleLine false k) c.args.node.now.inner_is (c.in_ok-first_look.ensures c.in-Irreducible.is false) in
+    λ κs lives. none_next c.args.node.now.budget.limit n IsReducible c.requires.none (none_reducible c.args.node.now.budget.limit n none)

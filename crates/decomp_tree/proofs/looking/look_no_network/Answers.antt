@@ -7,10 +7,10 @@ use Rattle.decomp_tree.specs.Nodes.{inner_of}
 use Rattle.decomp_tree.proofs.looking.look_no_network.Goals as goal
 
 pub look_r10-requires-clause-r10 : goal.look_r10-requires-clause-r10
-look_r10-requires-clause-r10 g c = subst IsR10 (c.by_rows.ensures.matrix ∙ c.requires.node.inner) (c.is_r10.ensures.0 c.if-is_r10.true)
+look_r10-requires-clause-r10 g c = subst IsR10 (c.by_rows.ensures.matrix ∙ c.args.node.now.inner_is) (c.is_r10.ensures.0 c.if-is_r10.true)
 
 pub look_separated-requires-clause-none : goal.look_separated-requires-clause-none
 look_separated-requires-clause-none g c =
     let n = inner_of c.args.node.now in
-    let no_r10 : ¬ (IsR10 n) = (λ (is : IsR10 n). true≢false (sym (c.is_r10.ensures.1 (subst IsR10 (sym (c.by_rows.ensures.matrix ∙ c.requires.node.inner)) is)) ∙ c.if-is_r10.false)) in
-    λ κs lives. none_next c.args.node.now.limit n IsR10Matrix c.requires.none no_r10
+    let no_r10 : ¬ (IsR10 n) = (λ (is : IsR10 n). true≢false (sym (c.is_r10.ensures.1 (subst IsR10 (sym (c.by_rows.ensures.matrix ∙ c.args.node.now.inner_is)) is)) ∙ c.if-is_r10.false)) in
+    λ κs lives. none_next c.args.node.now.budget.limit n IsR10Matrix c.requires.none no_r10

@@ -10,5 +10,5 @@ returns-in-Some c all =
     let own = c.in-Some.own in
     no_network_with m c.requires.shape own c.args.lines.now
     (subst (λ (o : Option LineSet). IfSome o (IsObstruction m)) c.in-Some.is c.requires.known)
-    (record { rows = c.requires.rows; columns = c.requires.columns })
+    c.requires.lines
     (within_all c.args.lines.now.rows own.rows (c.has_lines.ensures.rows all)) (within_all c.args.lines.now.columns own.columns (c.has_lines.ensures.columns all))
