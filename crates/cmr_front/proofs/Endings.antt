@@ -1,5 +1,6 @@
 -- How a run ends, from what was decided and how that was carried out.
-use Rattle.std.proofs.Common.{◌≡◌, ◌≤◌, ◌⊎◌, ◌∙◌, ℕ, Bool, IsTrue, List, length, Result, Ok, Err, sym, subst, inl, inr, arith, refl}
+use Rattle.std.proofs.Common.{◌≡◌, ◌≤◌, ◌⊎◌, ◌∙◌, ℕ, Bool, IsTrue, List, length, Result, Ok, Err, ap, sym, subst, inl, inr, arith, refl}
+use Rattle.std.proofs.lemmas.List.{append-nil}
 use Rattle.std.specs.Prelude.{IfErr, OnErr}
 use Rattle.cmr_io.specs.Causes.{Rose}
 use Rattle.cmr_io.specs.Reads.{Reads}
@@ -12,11 +13,11 @@ use Rattle.cmr_front.specs.Ending.{Devices, Standing, Telling, devices, telling_
 use Rattle.cmr_front.specs.Inputs.{Given, given, not_there, too_much, texts}
 use Rattle.cmr_front.specs.Outcome.{ended_report, outcome_report, bad_words, too_long, bad_text, stop_report}
 use Rattle.cmr_front.specs.Report.{Held, Report}
-use Rattle.cmr_front.specs.Run.{Ordered, nothing, work, IsNothing, Reports, ReportsGiven, Means, gives_answer, names_fault, names_too_long, CannotRead, HasEnded, reported, unread, no_memory, Ends, Runs}
+use Rattle.cmr_front.specs.Run.{Ordered, nothing, work, IsNothing, Reports, ReportsGiven, Means, BeginsInOrder, gives_answer, names_fault, names_too_long, CannotRead, HasEnded, reported, unread, no_memory, Ends, Runs}
 use Rattle.cmr_front.specs.Status.{IsStatus, answer_status, failure_status}
 use Rattle.cmr_front.specs.Tool.{IsDecision, IsLawful, Tool}
 use Rattle.cmr_front.specs.Stopped.{StopsInputs}
-use Rattle.cmr_front.specs.Unread.{Between, between, HaveEnded}
+use Rattle.cmr_front.specs.Unread.{AreAllRead, Between, between}
 use Rattle.cmr_front.proofs.Statuses.{answered_or_failed, status_of}
 
 pub pointwise : {A B : Type 0} (f g : A → B) → ((x : A) → f x ≡ g x) → f ≡ g
@@ -65,7 +66,7 @@ has_ended (work tool) standing (Err stops.BadWords) before after status ends don
 has_ended ordered standing (Err (stops.TooLong name)) before after status ends done cause = reported (too_long name.now) ends.0 ends.1 (delivered done.0 done.1)
 has_ended ordered standing (Err (stops.BadText name kind place)) before after status ends done cause = reported (bad_text name.now kind place) ends.0 ends.1 (delivered done.0 done.1)
 has_ended ordered standing (Err (stops.CannotRead name)) before after status ends done cause = unread name.now ends (cause refl) done.0 done.1
-has_ended ordered standing (Err stops.Memory) before after status ends done cause = no_memory done.0 done.1
+has_ended ordered standing (Err stops.Memory) before after status ends done cause = no_memory ends done.0 done.1
 
 -- an end is that of a carrying out that leaves the reads, and where it is a stop the last call, as they were
 ends_after : (ordered : Ordered) (held : Held) (tells calm : Bool) (before mid after : Reads) (failed still : Bool) (ended : Result Outcome Stop) → after ≡ mid → OnErr ended (still ≡ failed)
@@ -101,6 +102,11 @@ seen_from ended tells held read reads mid_reads failed mid_failed before mid out
         → CarriesOut ended tells (devices held mid_reads mid_failed mid output out error err) after status → CarriesOut ended tells (devices held reads failed before output out error err) after status
     later (Ok outcome) after status done = carried (outcome_report outcome) after status done
     later (Err stop) after status done = (done.0, record { files = done.1.files; output = done.1.output; error = done.1.error })
+
+-- no read is begun where the reads are as they were
+pub none_begun : (ordered : Ordered) (before after : Reads) → after ≡ before → BeginsInOrder ordered (between before after)
+none_begun nothing before after same = same
+none_begun (work tool) before after same = (0, ap (λ (reads : Reads). reads.names) same ∙ sym (append-nil before.names))
 
 -- all reports of an ordered have one status
 one_of_given : (tool : Tool) → IsLawful tool → (read : Given) (r s : Report) → ReportsGiven tool read r → ReportsGiven tool read s → r.status ≡ s.status
@@ -225,7 +231,7 @@ means tool law standing held reads failed ended mid after status ends (inr cut) 
 -- ---- what is decided on what was read
 
 pub decided_ends : (tool : Tool) (held : Held) (tells calm : Bool) (reads : Between) (failed : Bool) (bytes : List (List ℕ)) (ended : Result Outcome Stop) → length bytes ≡ length tool.inputs
-    → HaveEnded (length tool.inputs) reads → (IsTrue tells → given held tool.inputs ≡ texts bytes) → IsDecision (tool.Reports bytes) ended → Ends (work tool) held tells calm reads failed ended
+    → AreAllRead tool.inputs reads → (IsTrue tells → given held tool.inputs ≡ texts bytes) → IsDecision (tool.Reports bytes) ended → Ends (work tool) held tells calm reads failed ended
 decided_ends tool held tells calm reads failed bytes (Ok outcome) count all read d =
     (gives_answer outcome.answer refl refl bytes count d all, λ told. subst (λ g. ReportsGiven tool g (outcome_report outcome)) (sym (read told)) d)
 decided_ends tool held tells calm reads failed bytes (Err stops.BadWords) count all read d = absurd d
@@ -233,7 +239,7 @@ decided_ends tool held tells calm reads failed bytes (Err (stops.TooLong name)) 
 decided_ends tool held tells calm reads failed bytes (Err (stops.BadText name kind place)) count all read d =
     (names_fault name.now kind place refl bytes count d all, λ told. subst (λ g. ReportsGiven tool g (bad_text name.now kind place)) (sym (read told)) d)
 decided_ends tool held tells calm reads failed bytes (Err (stops.CannotRead name)) count all read d = absurd d
-decided_ends tool held tells calm reads failed bytes (Err stops.Memory) count all read d = tt
+decided_ends tool held tells calm reads failed bytes (Err stops.Memory) count all read d = (length tool.inputs, all.have_begun)
 
 pub stopped_ends : (tool : Tool) (held : Held) (tells calm : Bool) (reads : Between) (failed : Bool) (stop : Stop) → StopsInputs tool.inputs held tells calm reads failed stop
     → Ends (work tool) held tells calm reads failed (Err stop)
@@ -242,4 +248,4 @@ stopped_ends tool held tells calm reads failed (stops.TooLong name) h =
     (names_too_long h.0 name.now h.1 refl h.2, λ told. subst (λ g. ReportsGiven tool g (too_long name.now)) (sym (h.3 told)) refl)
 stopped_ends tool held tells calm reads failed (stops.BadText name kind place) h = absurd h
 stopped_ends tool held tells calm reads failed (stops.CannotRead name) h = h
-stopped_ends tool held tells calm reads failed stops.Memory h = tt
+stopped_ends tool held tells calm reads failed stops.Memory h = h

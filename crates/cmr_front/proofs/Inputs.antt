@@ -1,6 +1,6 @@
 -- What reading some files one after another comes to.
 use Rattle.std.proofs.Common.{◌≡◌, ◌<◌, ◌+◌, ◌++◌, ◌∙◌, ℕ, zero, suc, Bool, IsTrue, List, [], ◌∷◌, length, map, take, get_or, ap, sym, subst, refl, arith, add-one}
-use Rattle.std.proofs.lemmas.List.{map-append}
+use Rattle.std.proofs.lemmas.List.{append_assoc, map-append}
 use Rattle.cmr_front.specs.declared.input.Input.{Input}
 use Rattle.cmr_front.specs.declared.input.InputKind.TheVariants.{MatrixText}
 use Rattle.cmr_front.specs.declared.input.Text.{Text}
@@ -9,10 +9,11 @@ use Rattle.cmr_front.specs.declared.outcome.Stop.TheVariants as stops
 use Rattle.cmr_front.specs.Report.{Held}
 use Rattle.cmr_front.specs.Inputs.{InputFile, Given, Reading, and_then, bytes_of, given, input_file, most_bytes, missing, above_limit, whole, not_there, too_much, texts, reading, reading_of, with_text}
 use Rattle.cmr_io.specs.Calls.{next_number, up_to_last}
+use Rattle.cmr_io.specs.Reads.{Reads}
 use Rattle.cmr_front.specs.Outcome.{stop_report}
 use Rattle.cmr_front.specs.Status.{failure_status}
 use Rattle.cmr_front.specs.Stopped.{StopsInputs, StopsReading}
-use Rattle.cmr_front.specs.Unread.{Between, HaveEnded, IsNameAt}
+use Rattle.cmr_front.specs.Unread.{AreRead, Between, between, HaveBegun, IsNameAt}
 use Rattle.cmr_front.specs.declared.status.Failure.TheVariants as failures
 
 -- what a place beyond the last one holds
@@ -99,6 +100,22 @@ texts_more held mid inputs k old new text h same before here more =
 pub one_more_ended : (before mid after k : ℕ) → up_to_last mid ≡ up_to_last (before + k) → after ≡ next_number mid → up_to_last after ≡ up_to_last (before + (k + 1))
 one_more_ended before mid after k so_far more = omega (arith, so_far, more)
 
+abbrev pub names_of : List Input → List (List ℕ)
+names_of inputs = map (λ (file : InputFile). file.name) (map input_file inputs)
+
+one_name_more : (inputs : List Input) (k : ℕ) → k < length inputs → take k (names_of inputs) ++ (file_at inputs k).name ∷ [] ≡ take (suc k) (names_of inputs)
+one_name_more [] k h = absurd (omega arith)
+one_name_more (input ∷ inputs) zero h = refl
+one_name_more (input ∷ inputs) (suc k) h = ap (λ (names : List (List ℕ)). input.name.now ∷ names) (one_name_more inputs k (omega arith))
+
+-- one read more was begun, that of the next file
+pub one_more_begun : (before mid after : Reads) (inputs : List Input) (k : ℕ) → k < length inputs → HaveBegun (map input_file inputs) k (between before mid)
+    → after.names ≡ mid.names ++ (file_at inputs k).name ∷ [] → HaveBegun (map input_file inputs) (k + 1) (between before after)
+one_more_begun before mid after inputs k h so_far more =
+    more ∙ ap (λ (names : List (List ℕ)). names ++ (file_at inputs k).name ∷ []) so_far
+    ∙ append_assoc before.names (take k (names_of inputs)) ((file_at inputs k).name ∷ [])
+    ∙ ap (λ (names : List (List ℕ)). before.names ++ names) (one_name_more inputs k h ∙ ap (λ (n : ℕ). take n (names_of inputs)) (sym (add-one k)))
+
 -- the files before the first one that stops
 take_files : (inputs : List Input) (k : ℕ) → take k (map input_file inputs) ≡ map input_file (take k inputs)
 take_files [] zero = refl
@@ -108,24 +125,24 @@ take_files (input ∷ inputs) (suc k) = ap (λ (files : List InputFile). input_f
 
 module _ (held mid : Held) (tells tells' calm calm' : Bool) (inputs : List Input) (k : ℕ) (before : List (List ℕ)) (reads : Between) (failed : Bool) where
   pub stopped_at : (stop : Stop) → k < length inputs → ((name : List ℕ) → mid name ≡ held name) → (IsTrue tells → IsTrue tells') → (IsTrue calm → IsTrue calm')
-      → (IsTrue tells → given held (map input_file (take k inputs)) ≡ texts before) → HaveEnded k reads → ((stop_report stop).status ≡ failure_status failures.Device → IsTrue failed)
+      → (IsTrue tells → given held (map input_file (take k inputs)) ≡ texts before) → AreRead (map input_file inputs) (k + 1) k reads → ((stop_report stop).status ≡ failure_status failures.Device → IsTrue failed)
       → StopsReading (file_at inputs k) mid tells' calm' stop → StopsInputs (map input_file inputs) held tells calm reads failed stop
-  stopped_at stops.BadWords h same told is_calm read ended cause stopped = stopped
-  stopped_at (stops.CannotRead name) h same told is_calm read ended cause stopped = record {
+  stopped_at stops.BadWords h same told is_calm read up_to cause stopped = stopped
+  stopped_at (stops.CannotRead name) h same told is_calm read up_to cause stopped = record {
     place = k;
     named = subst (IsNameAt (map input_file inputs) k) (sym stopped.0) (name_at inputs k h);
-    ended = ended;
+    read = up_to;
     cause = cause refl;
     there = λ t. (before, ap (given held) (take_files inputs k) ∙ read t);
     missing = λ t c.
         stops_unread held inputs k before h (read t) (same_reading held mid same (file_at inputs k) ∙ stopped.1 (told t) (is_calm c)) ∙ ap not_there (sym stopped.0);
   }
-  stopped_at (stops.TooLong name) h same told is_calm read ended cause stopped = (
+  stopped_at (stops.TooLong name) h same told is_calm read up_to cause stopped = (
     k,
     subst (IsNameAt (map input_file inputs) k) (sym stopped.0) (name_at inputs k h),
-    ended,
+    up_to,
     (λ t.
         stops_above held inputs k before h (read t) (same_reading held mid same (file_at inputs k) ∙ stopped.1 (told t)) ∙ ap too_much (sym stopped.0)),
   )
-  stopped_at (stops.BadText name kind place) h same told is_calm read ended cause stopped = stopped
-  stopped_at stops.Memory h same told is_calm read ended cause stopped = tt
+  stopped_at (stops.BadText name kind place) h same told is_calm read up_to cause stopped = stopped
+  stopped_at stops.Memory h same told is_calm read up_to cause stopped = (k + 1, up_to.have_begun)

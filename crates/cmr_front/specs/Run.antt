@@ -1,5 +1,5 @@
 -- What a run reports, how it ends, and what its answer means.
-use Rattle.std.specs.Prelude.{◌≡◌, ◌⊎◌, ℕ, Bool, IsTrue, List, [], length, Result, Ok, Err}
+use Rattle.std.specs.Prelude.{◌≡◌, ◌+◌, ◌⊎◌, ℕ, Bool, IsTrue, List, [], length, Result, Ok, Err}
 use Rattle.cmr_io.specs.Causes.{Rose}
 use Rattle.cmr_io.specs.declared.device.Shelf as shelves
 use Rattle.cmr_io.specs.declared.device.Sink as sinks
@@ -15,7 +15,7 @@ use Rattle.cmr_front.specs.Outcome.{bad_text, bad_words, cannot_read, out_of_mem
 use Rattle.cmr_front.specs.Ending.{Devices, Standing, IsDelivered, IsReadyFor, IsCarriedOut, devices, standing, telling_of}
 use Rattle.cmr_front.specs.Status.{IsStatus, answer_status, failure_status}
 use Rattle.cmr_front.specs.Tool.{Tool}
-use Rattle.cmr_front.specs.Unread.{Between, between, HaveEnded, IsNameAt, IsUnread}
+use Rattle.cmr_front.specs.Unread.{AreAllRead, AreRead, Between, between, HaveBegun, IsNameAt, IsUnread}
 
 -- what the words order: nothing where they are refused, or a tool with its options
 pub data Ordered : Type 1 where
@@ -50,15 +50,20 @@ abbrev pub CannotRead : Ordered → Held → Bool → Bool → Between → Bool 
 CannotRead nothing held tells calm reads failed name = ⊥
 CannotRead (work tool) held tells calm reads failed name = IsUnread tool.inputs held tells calm reads failed name
 
+-- the reads that were begun are those of the first files of the order, in their order and each once
+abbrev pub BeginsInOrder : Ordered → Between → Type 0
+BeginsInOrder nothing reads = reads.after ≡ reads.before
+BeginsInOrder (work tool) reads = (count : ℕ) × HaveBegun tool.inputs count reads
+
 -- What a tool reports whatever the shelf tells: an answer without a line of standard error or a fault, on some texts, one
--- for each file, and then so many reads came to their ends; or that one of its files is too long, and then as many came to
--- their ends as stand before it.
+-- for each file, and then the reads of all files were begun, in order and each once, and came to their ends; or that one of
+-- its files is too long, and then its read was begun last, and as many came to their ends as stand before it.
 pub data IsReportOf (tool : Tool) (reads : Between) (report : Report) : Type 0 where
   gives_answer : (answer : Answer) → report.status ≡ answer_status answer → report.error ≡ [] → (bytes : List (List ℕ)) → length bytes ≡ length tool.inputs → tool.Reports bytes report
-      → HaveEnded (length tool.inputs) reads → IsReportOf tool reads report
+      → AreAllRead tool.inputs reads → IsReportOf tool reads report
   names_fault : (name : List ℕ) (kind : FaultKind) (place : ℕ) → report ≡ bad_text name kind place → (bytes : List (List ℕ)) → length bytes ≡ length tool.inputs → tool.Reports bytes report
-      → HaveEnded (length tool.inputs) reads → IsReportOf tool reads report
-  names_too_long : (place : ℕ) (name : List ℕ) → IsNameAt tool.inputs place name → report ≡ too_long name → HaveEnded place reads → IsReportOf tool reads report
+      → AreAllRead tool.inputs reads → IsReportOf tool reads report
+  names_too_long : (place : ℕ) (name : List ℕ) → IsNameAt tool.inputs place name → report ≡ too_long name → AreRead tool.inputs (place + 1) place reads → IsReportOf tool reads report
 
 -- what is reported whatever the shelf tells
 abbrev pub ReportsSome : Ordered → Between → Report → Type 0
@@ -71,7 +76,7 @@ pub data HasEnded (ordered : Ordered) (standing : Standing) (before after : Devi
   reported : (report : Report) → ReportsSome ordered (between before.reads after.reads) report → (IsTrue standing.shelf_tells → Reports ordered before.held report) → IsCarriedOut report (telling_of standing) before after status → HasEnded ordered standing before after status
   unread : (name : List ℕ) → CannotRead ordered before.held standing.shelf_tells standing.shelf_is_calm (between before.reads after.reads) after.failed name → Rose before.shelf_faults after.shelf_faults
       → status ≡ failure_status failures.Device → IsDelivered (cannot_read name) (telling_of standing) before after → HasEnded ordered standing before after status
-  no_memory : status ≡ failure_status failures.Memory → IsDelivered out_of_memory (telling_of standing) before after → HasEnded ordered standing before after status
+  no_memory : BeginsInOrder ordered (between before.reads after.reads) → status ≡ failure_status failures.Memory → IsDelivered out_of_memory (telling_of standing) before after → HasEnded ordered standing before after status
 
 -- What is promised of a run, whatever is ordered.
 pub record Runs (ordered : Ordered) (standing : Standing) (before after : Devices) (status : ℕ) : Type 0 where
@@ -107,4 +112,4 @@ Ends ordered held tells calm reads failed (Err stops.BadWords) = IsNothing order
 Ends ordered held tells calm reads failed (Err (stops.CannotRead name)) = CannotRead ordered held tells calm reads failed name.now
 Ends ordered held tells calm reads failed (Err (stops.TooLong name)) = ReportsSome ordered reads (too_long name.now) × (IsTrue tells → Reports ordered held (too_long name.now))
 Ends ordered held tells calm reads failed (Err (stops.BadText name kind place)) = ReportsSome ordered reads (bad_text name.now kind place) × (IsTrue tells → Reports ordered held (bad_text name.now kind place))
-Ends ordered held tells calm reads failed (Err stops.Memory) = Unit {0}
+Ends ordered held tells calm reads failed (Err stops.Memory) = BeginsInOrder ordered reads

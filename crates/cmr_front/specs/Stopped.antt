@@ -1,12 +1,12 @@
 -- Why a run has no outcome.
-use Rattle.std.specs.Prelude.{◌≡◌, ℕ, List, Bool, IsTrue, Result, Err}
+use Rattle.std.specs.Prelude.{◌≡◌, ◌+◌, ℕ, List, Bool, IsTrue, Result, Err}
 use Rattle.text_fields.specs.Reading.{Fault}
 use Rattle.cmr_front.specs.declared.outcome.FaultKind.{FaultKind}
 use Rattle.cmr_front.specs.declared.outcome.Stop.{Stop}
 use Rattle.cmr_front.specs.declared.outcome.Stop.TheVariants as stops
 use Rattle.cmr_front.specs.Report.{Held}
 use Rattle.cmr_front.specs.Inputs.{InputFile, given, too_much, reading, missing, above_limit}
-use Rattle.cmr_front.specs.Unread.{Between, HaveEnded, IsNameAt, IsUnread}
+use Rattle.cmr_front.specs.Unread.{AreRead, Between, HaveBegun, IsNameAt, IsUnread}
 
 -- what a stop says of a file that was to be read, where the shelf tells its bytes and is calm
 abbrev pub StopsReading : InputFile → Held → Bool → Bool → Stop → Type 0
@@ -21,9 +21,9 @@ abbrev pub StopsInputs : List InputFile → Held → Bool → Bool → Between �
 StopsInputs files held tells calm reads failed stops.BadWords = ⊥
 StopsInputs files held tells calm reads failed (stops.CannotRead name) = IsUnread files held tells calm reads failed name.now
 StopsInputs files held tells calm reads failed (stops.TooLong name) =
-    (place : ℕ) × IsNameAt files place name.now × HaveEnded place reads × (IsTrue tells → given held files ≡ too_much name.now)
+    (place : ℕ) × IsNameAt files place name.now × AreRead files (place + 1) place reads × (IsTrue tells → given held files ≡ too_much name.now)
 StopsInputs files held tells calm reads failed (stops.BadText name kind place) = ⊥
-StopsInputs files held tells calm reads failed stops.Memory = Unit {0}
+StopsInputs files held tells calm reads failed stops.Memory = (count : ℕ) × HaveBegun files count reads
 
 -- what a stop says of a text that was read, whose faults are of this kind
 abbrev pub StopsText : {A K : Type 0} → (K → FaultKind) → List ℕ → Result A (Fault K) → Stop → Type 0

@@ -1,11 +1,11 @@
 -- How far the files of a tool were read, and which one could not be.
-use Rattle.std.specs.Prelude.{◌≡◌, ◌+◌, ℕ, Bool, IsTrue, List, Some, map, slice_get, take}
+use Rattle.std.specs.Prelude.{◌≡◌, ◌+◌, ◌++◌, ℕ, Bool, IsTrue, List, Some, length, map, slice_get, take}
 use Rattle.cmr_io.specs.Calls.{up_to_last}
 use Rattle.cmr_io.specs.Reads.{Reads}
 use Rattle.cmr_front.specs.Inputs.{InputFile, given, not_there, texts}
 use Rattle.cmr_front.specs.Report.{Held}
 
--- what all reads of a shelf have given before and after
+-- the reads of a shelf before and after
 pub record Between : Type 0 where
   pub before : Reads
   pub after : Reads
@@ -17,17 +17,31 @@ between before after = record { before = before; after = after }
 abbrev pub HaveEnded : ℕ → Between → Type 0
 HaveEnded count reads = up_to_last reads.after.ends ≡ up_to_last (reads.before.ends + count)
 
+-- the reads that were begun are those of so many files, the first ones, in their order and each once
+abbrev pub HaveBegun : List InputFile → ℕ → Between → Type 0
+HaveBegun files count reads = reads.after.names ≡ reads.before.names ++ take count (map (λ file. file.name) files)
+
+-- The reads of so many of the files were begun, of the first ones, in their order and each once, and no other read was; and so
+-- many came to their ends.
+pub record AreRead (files : List InputFile) (begun ended : ℕ) (reads : Between) : Type 0 where
+  pub have_begun : HaveBegun files begun reads
+  pub have_ended : HaveEnded ended reads
+
+-- those of all files were, and each came to its end
+abbrev pub AreAllRead : List InputFile → Between → Type 0
+AreAllRead files reads = AreRead files (length files) (length files) reads
+
 -- the file at a place has this name
 abbrev pub IsNameAt : List InputFile → ℕ → List ℕ → Type 0
 IsNameAt files place name = slice_get (map (λ file. file.name) files) place ≡ Some name
 
--- A file could not be read: as many reads came to their ends as files stand before it, and then a call failed, which was
--- the last. Where the shelf tells its bytes, those before it are there and within their limits; where the shelf is calm,
--- it is not there.
+-- A file could not be read: its read was begun last, as many reads came to their ends as files stand before it, and then
+-- a call failed, which was the last. Where the shelf tells its bytes, those before it are there and within their
+-- limits; where the shelf is calm, it is not there.
 pub record IsUnread (files : List InputFile) (held : Held) (tells calm : Bool) (reads : Between) (failed : Bool) (name : List ℕ) : Type 0 where
   pub place : ℕ
   pub named : IsNameAt files place name
-  pub ended : HaveEnded place reads
+  pub read : AreRead files (place + 1) place reads
   pub cause : IsTrue failed
   pub there : IsTrue tells → (bytes : List (List ℕ)) × (given held (take place files) ≡ texts bytes)
   pub missing : IsTrue tells → IsTrue calm → given held files ≡ not_there name

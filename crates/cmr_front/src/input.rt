@@ -1,5 +1,5 @@
 // Reading the files of a tool.
-ghost use Rattle.std.specs.Prelude.{◌≡◌, ◌≢◌, ◌≤◌, IfOk, IfErr, IsTrue, Ok, OnOk, OnErr, length, map};
+ghost use Rattle.std.specs.Prelude.{◌≡◌, ◌≢◌, ◌≤◌, ◌++◌, [], ◌∷◌, IfOk, IfErr, IsTrue, Ok, OnOk, OnErr, length, map};
 ghost use Rattle.cmr_io.specs.Calls.{next_number};
 ghost use Rattle.cmr_io.specs.Causes.{Rose};
 ghost use Rattle.cmr_io.specs.Kept.{KeepsNames};
@@ -7,7 +7,7 @@ ghost use Rattle.cmr_front.specs.Inputs.{bytes_of, given, input_file, most_bytes
 ghost use Rattle.cmr_front.specs.Outcome.{stop_report};
 ghost use Rattle.cmr_front.specs.Status.{failure_status};
 ghost use Rattle.cmr_front.specs.Stopped.{StopsInputs, StopsReading};
-ghost use Rattle.cmr_front.specs.Unread.{HaveEnded, between};
+ghost use Rattle.cmr_front.specs.Unread.{AreAllRead, between};
 ghost use Rattle.cmr_front.specs.declared.status.Failure.TheVariants.{Device};
 
 use crate::outcome::Stop;
@@ -60,7 +60,7 @@ pub fn read_inputs<'a, S: Shelf>(
         → given (S.content shelf.old) (map input_file inputs.now)
         ≡ texts (map bytes_of read.items)) }
     ensures count { IfOk result (λ read. length read.items ≡ length inputs.now) }
-    ensures ended { OnOk result (HaveEnded (length inputs.now)
+    ensures ended { OnOk result (AreAllRead (map input_file inputs.now)
         (between (S.reads shelf.old) (S.reads shelf.new))) }
     ensures stopped { IfErr result (StopsInputs (map input_file inputs.now)
         (S.content shelf.old) (S.tells shelf.old) (S.is_calm shelf.old)
@@ -90,6 +90,8 @@ fn read_input<'a, S: Shelf>(
 ) -> Result<Text, Stop<'a>>
     ensures whole { IfOk result (λ text. IsTrue (S.tells shelf.old)
         → reading (S.content shelf.old) (input_file input.entry) ≡ whole (bytes_of text)) }
+    ensures begun { (S.reads shelf.new).names
+        ≡ (S.reads shelf.old).names ++ input.entry.name.now ∷ [] }
     ensures ended { OnOk result ((S.reads shelf.new).ends ≡ next_number (S.reads shelf.old).ends) }
     ensures not_ended { OnErr result ((S.reads shelf.new).ends ≡ (S.reads shelf.old).ends) }
     ensures failed { IfErr result (λ stop. (stop_report stop).status ≡ failure_status Device

@@ -29,6 +29,7 @@ pub record Counts {A : Type 0} (most : ℕ) (begun : Bool) (before after : Reads
   pub too_many : IsErrOf result TooLong → up_to_last after.bytes ≡ up_to_last (before.bytes + (most + 1))
   -- none too many, where a call failed
   pub few : IsErrOf result ReadFault → after.bytes ≤ before.bytes + most
-  -- in every outcome; and nothing, where no read could be begun
+  -- in every outcome; and nothing, where no read could be begun; and no other read is begun
   pub taken : after.bytes ≤ before.bytes + (most + 1)
   pub none : begun ≡ false → after ≡ before
+  pub names : after.names ≡ before.names

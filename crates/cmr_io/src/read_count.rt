@@ -1,12 +1,14 @@
 ghost use Rattle.std.specs.Prelude.{◌≡◌};
-ghost use Rattle.cmr_io.specs.Reads.{no_reads, after_piece};
+ghost use Rattle.cmr_io.specs.Reads.{no_reads, after_begun, after_piece};
 
+use crate::begun_names::BegunNames;
 use std::marker::Model;
 
-/// How many bytes all reads have given, and how many reads have come to their ends. Each count starts at 0, and
-/// stays at the last value of a `u64`.
+/// Which reads were begun, how many bytes all reads have given, and how many have come to their ends. Each count
+/// starts at 0, and stays at the last value of a `u64`.
 #[derive(Debug, Drop)]
 pub struct ReadCount {
+    names: BegunNames,
     bytes: u64,
     ends: u64,
 }
@@ -16,7 +18,7 @@ impl Model for ReadCount {
 
     ghost Value = { Reads };
 
-    ghost view = { λ count. record { bytes = count.bytes; ends = count.ends } };
+    ghost view = { λ count. record { names = count.names.names; bytes = count.bytes; ends = count.ends } };
 }
 
 impl ReadCount {
@@ -24,7 +26,18 @@ impl ReadCount {
     pub fn new() -> Self
         ensures { result ≡ no_reads }
     {
-        ReadCount { bytes: 0, ends: 0 }
+        ReadCount {
+            names: BegunNames::new(),
+            bytes: 0,
+            ends: 0,
+        }
+    }
+
+    /// A read of a name is begun.
+    pub fn begin(&mut self, name: &str)
+        ensures { self.new ≡ after_begun self.old name.now }
+    {
+        self.names.add(name.as_bytes());
     }
 
     /// So many bytes were given, where there was so much room.

@@ -4,7 +4,7 @@ ghost use Rattle.std.specs.Prelude.{◌≡◌, ◌≤◌, [], false, true, None,
 ghost use Rattle.cmr_io.specs.Causes.{HasCause, Rose};
 ghost use Rattle.cmr_io.specs.Calls.{counted, next_number};
 ghost use Rattle.cmr_io.specs.Pieces.{TakesFront};
-ghost use Rattle.cmr_io.specs.Reads.{after_next};
+ghost use Rattle.cmr_io.specs.Reads.{after_begun, after_next};
 ghost use Rattle.cmr_io.specs.FileShelf.{new_shelf};
 
 use crate::device::{Failed, Shelf};
@@ -25,7 +25,7 @@ pub enum Open<F, I> {
 }
 
 /// The files of the system. The name `-`, where it is read, is standard input. Contracts see whether a
-/// read or a write is begun, how much all reads have given, whether the last call failed, and the count of faults.
+/// read or a write is begun, which reads were begun and how much all have given, whether the last call failed, and the count of faults.
 #[derive(Drop)]
 pub struct RealShelf<'a, R: Files + Input> {
     rt: &'a R,
@@ -101,10 +101,11 @@ impl<R: Files + Input> Shelf for RealShelf<'_, R> {
         ensures count { self.new.faults ≡ counted result self.old.faults }
         ensures begun { self.new.reading ≡ is_ok result }
         ensures ended { self.new.writing ≡ false }
-        ensures reads { self.new.reads ≡ self.old.reads }
+        ensures reads { self.new.reads ≡ after_begun self.old.reads name.now }
         ensures failed { self.new.failed ≡ is_err result }
         ensures cause { HasCause self.old.faults self.new.faults result }
     {
+        self.reads.begin(name);
         self.failed = false;
         if name == "-" {
             self.opened = Open::Input(self.rt.reader());

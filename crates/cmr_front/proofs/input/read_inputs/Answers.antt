@@ -1,8 +1,8 @@
-use Rattle.std.proofs.Common.{◌∙◌, ◌∷◌, [], map, arith, ap, length, length-append}
+use Rattle.std.proofs.Common.{◌∙◌, ◌∷◌, ◌+◌, [], map, arith, ap, length, length-append}
 use Rattle.cmr_io.proofs.KeptLemmas.{keeps_names_on}
-use Rattle.cmr_front.specs.Inputs.{bytes_of}
-use Rattle.cmr_front.specs.Unread.{HaveEnded, between}
-use Rattle.cmr_front.proofs.Inputs.{one_more_ended, stopped_at, texts_more}
+use Rattle.cmr_front.specs.Inputs.{bytes_of, input_file}
+use Rattle.cmr_front.specs.Unread.{AreRead, between}
+use Rattle.cmr_front.proofs.Inputs.{one_more_begun, one_more_ended, stopped_at, texts_more}
 use Rattle.cmr_front.proofs.input.read_inputs.Goals as goal
 
 pub returns-in-Err-clause-stopped : goal.returns-in-Err-clause-stopped
@@ -13,10 +13,13 @@ returns-in-Err-clause-stopped g c =
     let before = c.loop-input.invariant in
     let after = c.read_input.new.shelf in
     let stop = c.in-Err.stop in
-    let ended : HaveEnded c.loop-input.input-index (between (S.reads shelf) (S.reads after)) = rw c.in-Err.ensures.not_ended before.ended in
+    let up_to : AreRead (map input_file c.args.inputs.now) (c.loop-input.input-index + 1) c.loop-input.input-index (between (S.reads shelf) (S.reads after)) = record {
+      have_begun = one_more_begun (S.reads shelf) (S.reads mid) (S.reads after) c.args.inputs.now c.loop-input.input-index c.loop-input-test.true before.ended.have_begun c.read_input.ensures.begun;
+      have_ended = rw c.in-Err.ensures.not_ended before.ended.have_ended;
+    } in
     stopped_at (S.content shelf) (S.content mid) (S.tells shelf) (S.tells mid) (S.is_calm shelf) (S.is_calm mid) c.args.inputs.now c.loop-input.input-index (map bytes_of c.loop-input.read.items)
     (between (S.reads shelf) (S.reads after)) (S.failed after) stop
-    c.loop-input-test.true before.kept.names (λ told. before.kept.standing.telling ∙ told) before.kept.standing.calm before.given ended c.in-Err.ensures.failed c.in-Err.ensures.stopped
+    c.loop-input-test.true before.kept.names (λ told. before.kept.standing.telling ∙ told) before.kept.standing.calm before.given up_to c.in-Err.ensures.failed c.in-Err.ensures.stopped
 
 pub loop-input-preserved : goal.loop-input-preserved
 loop-input-preserved g c =
@@ -29,7 +32,10 @@ loop-input-preserved g c =
       given = λ told. texts_more (S.content shelf) (S.content mid) c.args.inputs.now c.loop-input.input-index c.loop-input.read.items c.push.new.self.items c.in-Ok.text
           c.loop-input-test.true before.kept.names (before.given told) (read.whole (before.kept.standing.telling ∙ told)) c.in-Ok-push.ensures.items;
       count = omega (arith, before.count, ap length c.in-Ok-push.ensures.items, length-append c.loop-input.read.items (c.in-Ok.text ∷ []));
-      ended = one_more_ended (S.reads shelf).ends (S.reads mid).ends (S.reads c.read_input.new.shelf).ends c.loop-input.input-index before.ended read.ended;
+      ended = record {
+        have_begun = one_more_begun (S.reads shelf) (S.reads mid) (S.reads c.read_input.new.shelf) c.args.inputs.now c.loop-input.input-index c.loop-input-test.true before.ended.have_begun read.begun;
+        have_ended = one_more_ended (S.reads shelf).ends (S.reads mid).ends (S.reads c.read_input.new.shelf).ends c.loop-input.input-index before.ended.have_ended read.ended;
+      };
       kept = keeps_names_on before.kept read.kept;
       later = omega (arith, read.later, before.later);
     }

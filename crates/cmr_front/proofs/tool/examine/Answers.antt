@@ -4,7 +4,7 @@ use Rattle.cmr_front.specs.declared.input.Input.{Input}
 use Rattle.cmr_front.specs.declared.input.Text.{Text}
 use Rattle.cmr_front.specs.Inputs.{InputFile, bytes_of, given, input_file, texts}
 use Rattle.cmr_front.specs.Stopped.{StopsInputs}
-use Rattle.cmr_front.specs.Unread.{HaveEnded, between}
+use Rattle.cmr_front.specs.Unread.{AreAllRead, between}
 use Rattle.cmr_front.proofs.Endings.{decided_ends, stopped_ends}
 use Rattle.cmr_front.proofs.tool.examine.Goals as goal
 
@@ -20,7 +20,7 @@ returns-in-Ok-read_inputs-clause-ends g c =
     let read = c.deref-in-Ok-read_inputs.result.now in
     let same : map input_file inputs ≡ tool.inputs = ap (map input_file) c.deref.ensures.value ∙ c.in-Ok.ensures in
     let reads = between (S.reads shelf) (S.reads c.read_inputs.new.shelf) in
-    let all : HaveEnded (length tool.inputs) reads = subst (λ count. HaveEnded count reads) (sym (length-map inputs input_file) ∙ ap length same) c.in-Ok-read_inputs.ensures.ended in
+    let all : AreAllRead tool.inputs reads = subst (λ (files : List InputFile). AreAllRead files reads) same c.in-Ok-read_inputs.ensures.ended in
     decided_ends tool (S.content shelf) (S.tells shelf) (S.is_calm shelf) reads (S.failed c.read_inputs.new.shelf) (map bytes_of read) c.decide.result
     (one_for_each read inputs tool.inputs (ap length c.deref-in-Ok-read_inputs.ensures.value ∙ c.in-Ok-read_inputs.ensures.count) same)
     all
