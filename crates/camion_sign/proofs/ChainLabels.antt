@@ -1,8 +1,6 @@
 -- Labels of lines as a list, and what the check of a step finds out by them.
 use Rattle.std.proofs.Common.{◌≡◌, ◌≢◌, ◌∙◌, ◌<◌, ◌↔◌, ◌+◌, ℕ, ℤ, pos, Bool, true, false, not, cond, nat_eq, List, [], ◌∷◌, map, length, get_or, inl, inr, refl, sym, ap, subst, arith}
-use Rattle.std.specs.List.{range_with_len}
 use Rattle.std.proofs.lemmas.List.{get_or-map, length-map}
-use Rattle.std.proofs.lemmas.List.FromFn.{length-range_with_len, get_or-range_with_len}
 use Rattle.cmr_base.specs.Matrix.{Matrix, height, entry, with_entry, IsMatrix}
 use Rattle.cmr_base.specs.Signing.{IsSign}
 use Rattle.cmr_base.specs.declared.line.Line.{Line}
@@ -11,35 +9,14 @@ use Rattle.cmr_base.proofs.RowLists.{is_eq, is_ne, eq_of}
 use Rattle.cmr_base.proofs.Booleans.{true_is_false}
 use Rattle.ghouila.proofs.SignProducts.{sign_nonzero}
 use Rattle.ghouila.proofs.SignsUnique.{row_in, column_in}
-use Rattle.camion_sign.specs.SignSteps.{AreSigns, IsUnsignedOne, unsigned}
+use Rattle.camion_sign.specs.SignSteps.{AreSigns, IsUnsignedOne}
 use Rattle.camion_sign.specs.Chains.{AreJoined, JoinsTo, AreLinked, IsFreeStep}
 use Rattle.camion_sign.specs.ChainStates.{AreLabels, IsLineOf, label_place, label_in}
-use Rattle.camion_sign.proofs.ChainViolators.{entry-unsigned}
 use Rattle.camion_sign.proofs.GivenSigns.{HasOneMore, one_more, signs_more, here_or, keeps, joined_on, links_more}
 
 place_inside : (a : Matrix) (labels : List ℕ) (x : Line) → length labels ≡ height a + a.width → IsLineOf a x → label_place a x < length labels
 place_inside a labels (Row row) e l = omega arith
 place_inside a labels (Column column) e l = omega arith
-
--- with a label of its own for each line, no entry is signed
-pub own_labels_are : (a : Matrix) (labels : List ℕ) → labels ≡ range_with_len 0 (height a + a.width) → AreLabels a (unsigned a) labels
-own_labels_are a labels made = record {
-  one_each = ap length made ∙ length-range_with_len 0 (height a + a.width);
-  joined = λ row column nonzero. absurd (nonzero (entry-unsigned a row column));
-  linked = λ x y x_in y_in same. ([], one_place x y x_in y_in (sym (label x x_in) ∙ same ∙ label y y_in));
-}
-  where
-    label : (x : Line) → IsLineOf a x → label_in a labels x ≡ label_place a x
-    label x x_in =
-        ap (λ ls. get_or ls (label_place a x) 0) made
-        ∙ (let l = place_inside a labels x (ap length made ∙ length-range_with_len 0 (height a + a.width)) x_in in let e = ap length made ∙ length-range_with_len 0 (height a + a.width) in
-        get_or-range_with_len 0 (height a + a.width) (label_place a x) 0 (omega arith))
-
-    one_place : (x y : Line) → IsLineOf a x → IsLineOf a y → label_place a x ≡ label_place a y → x ≡ y
-    one_place (Row row) (Row other) x_in y_in e = ap Row e
-    one_place (Row row) (Column column) x_in y_in e = absurd (omega arith)
-    one_place (Column column) (Row row) x_in y_in e = absurd (omega arith)
-    one_place (Column column) (Column other) x_in y_in e = ap Column (omega arith)
 
 -- linked lines have one label
 one_label : (a s : Matrix) (labels : List ℕ) → AreLabels a s labels → (x y : Line) → AreJoined s x y → label_in a labels x ≡ label_in a labels y

@@ -68,7 +68,7 @@ fn follow(alloc: Global, matrix: &Matrix, steps: &[SignStep]) -> Result<Followed
     ensures shape { IfOk result (λ followed. IsMatrix matrix.now) }
 {
     let mut signs = Matrix::zero(alloc, matrix.rows(), matrix.columns())?;
-    let mut labels = own_labels(alloc, matrix.rows() + matrix.columns())?;
+    let mut labels = first_labels(alloc, matrix)?;
     for kept in 0..steps.len() {
         match sign_of_step(matrix, &signs, &labels, &steps[kept]) {
             Some(sign) => give_sign(matrix, &mut signs, &mut labels, &steps[kept], sign),
@@ -79,6 +79,14 @@ fn follow(alloc: Global, matrix: &Matrix, steps: &[SignStep]) -> Result<Followed
         signs,
         kept: steps.len(),
     })
+}
+
+// A label of its own for each line.
+fn first_labels(alloc: Global, matrix: &Matrix) -> Result<Vec<u32>, Memory>
+    ensures { IfOk result (λ labels. (length labels.items ≡ height matrix.now + matrix.now.width)
+        × ((k : ℕ) → k < length labels.items → slice_index labels.items k ≡ k)) }
+{
+    own_labels(alloc, matrix.rows() + matrix.columns())
 }
 
 fn give_sign(matrix: &Matrix, signs: &mut Matrix, labels: &mut Vec<u32>, step: &SignStep, sign: i8)
