@@ -103,11 +103,6 @@ seen_from ended tells held read reads mid_reads failed mid_failed before mid out
     later (Ok outcome) after status done = carried (outcome_report outcome) after status done
     later (Err stop) after status done = (done.0, record { files = done.1.files; output = done.1.output; error = done.1.error })
 
--- no read is begun where the reads are as they were
-pub none_begun : (ordered : Ordered) (before after : Reads) → after ≡ before → BeginsInOrder ordered (between before after)
-none_begun nothing before after same = same
-none_begun (work tool) before after same = (0, ap (λ (reads : Reads). reads.names) same ∙ sym (append-nil before.names))
-
 -- all reports of an ordered have one status
 one_of_given : (tool : Tool) → IsLawful tool → (read : Given) (r s : Report) → ReportsGiven tool read r → ReportsGiven tool read s → r.status ≡ s.status
 one_of_given tool law (not_there name) r s a b = absurd a
