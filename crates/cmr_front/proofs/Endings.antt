@@ -103,6 +103,24 @@ seen_from ended tells held read reads mid_reads failed mid_failed before mid out
     later (Ok outcome) after status done = carried (outcome_report outcome) after status done
     later (Err stop) after status done = (done.0, record { files = done.1.files; output = done.1.output; error = done.1.error })
 
+-- no read is begun where the reads are as they were
+pub none_begun : (ordered : Ordered) (before after : Reads) → after ≡ before → BeginsInOrder ordered (between before after)
+none_begun nothing before after same = same
+none_begun (work tool) before after same = (0, ap (λ (reads : Reads). reads.names) same ∙ sym (append-nil before.names))
+
+-- memory is refused before a read is begun, whatever is ordered
+pub refused_memory : (ordered : Ordered) (standing : Standing) (before after : Devices) (status : ℕ) → after.reads ≡ before.reads
+    → CarriesOut (Err stops.Memory) (telling_of standing) before after status → Runs ordered standing before after status
+refused_memory ordered standing before after status same done = record {
+  ended = no_memory (none_begun ordered before.reads after.reads same) done.0 done.1;
+  complete = λ told report is. inr (inr done.0);
+  ready = λ report is room. inr done.0;
+  refused = λ none. inr done.0;
+  refused_only = λ words. absurd (omega (arith, words, done.0));
+  device = λ device. absurd (omega (arith, device, done.0));
+  statuses = inr (failures.Memory, done.0);
+}
+
 -- all reports of an ordered have one status
 one_of_given : (tool : Tool) → IsLawful tool → (read : Given) (r s : Report) → ReportsGiven tool read r → ReportsGiven tool read s → r.status ≡ s.status
 one_of_given tool law (not_there name) r s a b = absurd a
