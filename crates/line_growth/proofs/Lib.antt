@@ -1,5 +1,4 @@
-pub mod WalkSteps
-pub mod GrownLines
-mod Multiples
-mod Exchanges
-pub mod FoundLemmas
+pub mod LineSteps
+pub mod Sums
+pub mod FilteredLines
+pub mod SetSteps

@@ -1,3 +1,3 @@
 pub mod Rules
-pub mod Reaching
-pub mod FoundPlaces
+pub mod GrowingLines
+pub mod GrowingSets

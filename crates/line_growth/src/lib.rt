@@ -1,10 +1,9 @@
 //! The least set of lines that has some lines and in which no line outside breaks a rule.
 #![tactic(auto)]
 
-mod places;
+mod growing_lines;
+mod growing_set;
 mod rule;
-mod walk;
 
-pub use places::Places;
-pub use rule::{Block, Direction, Multiple, Place, Rule};
-pub use walk::reach;
+pub use growing_set::{GrowingSet, line_at};
+pub use rule::{Block, Place, Rule, SpreadLines, Sum};

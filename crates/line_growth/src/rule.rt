@@ -1,10 +1,11 @@
 // Rules of what stands between the lines of a set and the other lines.
-ghost use Rattle.std.specs.Prelude.{◌≡◌, ◌<◌, ◌*ℤ◌, ℕ};
-ghost use Rattle.cmr_base.specs.Differences.{differ, differs_at};
+ghost use Rattle.std.specs.Prelude.{◌≡◌, ◌<◌, ◌*ℤ◌, ◌↔◌, ℕ, pos, true, IsTrue, MatchOption};
+ghost use Rattle.cmr_base.specs.Cores.{IsBounded};
 ghost use Rattle.cmr_base.specs.Matrix.{Matrix, height, entry, transposed, IsEntry};
-ghost use Rattle.line_growth.specs.Rules.{IsBlockOf, IsRuleOf, block_entry, row_block, column_block};
+ghost use Rattle.line_growth.specs.declared.rule.Block.TheVariants.{Spread};
+ghost use Rattle.line_growth.specs.Rules.{IsBlockOf, IsMultiple, IsSpreadOf, IsSumOf, block_entry, exchanged, sum_at};
 
-use cmr_base::{RowsAndColumns, product};
+use cmr_base::{Core, Factors, Matrix, RowsAndColumns, product};
 
 /// A row and a column.
 #[derive(Clone, Copy, Debug)]
@@ -13,11 +14,24 @@ pub struct Place {
     pub column: u32,
 }
 
-/// What a block is to be: zero, or the product of the column and the row of a place, times the entry there.
+/// Two rows and two columns, with the entries where they cross and the determinant of these.
+#[derive(Clone, Copy, Debug)]
+pub struct SpreadLines {
+    pub upper: u32,
+    pub lower: u32,
+    pub left: u32,
+    pub right: u32,
+    pub core: Core,
+    pub determinant: i8,
+}
+
+/// What a block is to be: zero, or the product of the column and the row of a place, times the entry there, or what two
+/// columns and two rows make.
 #[derive(Clone, Copy, Debug)]
 pub enum Block {
     Zero,
     Product(Place),
+    Spread(SpreadLines),
 }
 
 /// The block of the rows inside and the columns outside, and that of the rows outside and the columns inside.
@@ -27,18 +41,89 @@ pub struct Rule {
     pub lower: Block,
 }
 
-/// Whether lines are followed to those that they pull in, or to those by which they are pulled in.
-#[derive(Clone, Copy, Debug)]
-pub enum Direction {
-    Forwards,
-    Backwards,
-}
-
-/// A multiple of a line: what another line of its kind is to be.
+/// A multiple of a line.
 #[derive(Clone, Copy, Debug)]
 pub struct Multiple {
     pub factor: i8,
     pub model: u32,
+}
+
+/// The sum of multiples of two lines: what another line of their kind is to be.
+#[derive(Clone, Copy, Debug)]
+pub struct Sum {
+    pub factors: Factors,
+    pub first: u32,
+    pub other: u32,
+}
+
+impl SpreadLines {
+    /// The rows `upper` and `lower` and the columns `left` and `right` of a matrix.
+    pub fn at(
+        matrix: &RowsAndColumns<'_>,
+        upper: u32,
+        lower: u32,
+        left: u32,
+        right: u32,
+    ) -> SpreadLines
+        requires upper { upper < height matrix.now }
+        requires lower { lower < height matrix.now }
+        requires left { left < matrix.now.width }
+        requires right { right < matrix.now.width }
+        ensures rows { (result.upper ≡ upper) × (result.lower ≡ lower) }
+        ensures columns { (result.left ≡ left) × (result.right ≡ right) }
+        ensures spread { IsSpreadOf matrix.now result }
+    {
+        let core = Core::at(matrix.by_rows(), upper, lower, left, right);
+        SpreadLines {
+            upper,
+            lower,
+            left,
+            right,
+            core,
+            determinant: core.determinant(),
+        }
+    }
+
+    // What a row is to be, as a sum of the two rows.
+    fn row(self, matrix: &RowsAndColumns<'_>, row: u32) -> Sum
+        requires spread { IsSpreadOf matrix.now self }
+        requires row { row < height matrix.now }
+        ensures sum { IsSumOf matrix.now result }
+        ensures value { (column : ℕ) → sum_at matrix.now result column
+            ≡ block_entry (entry matrix.now) (Spread self) row column }
+    {
+        let first = matrix.entry(row, self.left);
+        let other = matrix.entry(row, self.right);
+        Sum {
+            factors: self.core.factors(self.determinant, first, other),
+            first: self.upper,
+            other: self.lower,
+        }
+    }
+
+    // What a column is to be, as a sum of the two columns.
+    fn column(self, matrix: &RowsAndColumns<'_>, column: u32) -> Sum
+        requires spread { IsSpreadOf matrix.now self }
+        requires column { column < matrix.now.width }
+        ensures sum { IsSumOf (transposed matrix.now) result }
+        ensures value { (row : ℕ) → sum_at (transposed matrix.now) result row
+            ≡ block_entry (entry matrix.now) (Spread self) row column }
+    {
+        let _rows = matrix.rows();
+        let turned = Core {
+            x: self.core.x,
+            y: self.core.z,
+            z: self.core.y,
+            w: self.core.w,
+        };
+        let first = matrix.entry(self.upper, column);
+        let other = matrix.entry(self.lower, column);
+        Sum {
+            factors: turned.factors(self.determinant, first, other),
+            first: self.left,
+            other: self.right,
+        }
+    }
 }
 
 impl Place {
@@ -55,73 +140,130 @@ impl Place {
     }
 }
 
+impl Multiple {
+    // The multiple, and nothing of another line.
+    fn alone(self) -> Sum
+        requires { IsEntry self.factor }
+        ensures { (matrix : Matrix) → self.model < height matrix → IsSumOf matrix result
+            × ((column : ℕ) → sum_at matrix result column
+            ≡ self.factor *ℤ entry matrix self.model column) }
+    {
+        Sum {
+            factors: Factors {
+                first: self.factor,
+                other: 0,
+            },
+            first: self.model,
+            other: self.model,
+        }
+    }
+}
+
+impl Sum {
+    /// Whether the entry of a row in a column is that of the sum.
+    pub fn is_at(self, matrix: &Matrix, row: u32, column: u32) -> bool
+        requires sum { IsSumOf matrix.now self }
+        requires row { row < height matrix.now }
+        requires column { column < matrix.now.width }
+        ensures { IsTrue result ↔ (entry matrix.now row column ≡ sum_at matrix.now self column) }
+    {
+        let first = matrix.entry(self.first, column);
+        let other = matrix.entry(self.other, column);
+        matrix.entry(row, column) == self.factors.entry(first, other)
+    }
+
+    /// The same as a multiple of one line, where one of the factors is 0 and the other -1, 0 or 1.
+    pub fn as_multiple(self) -> Option<Multiple>
+        requires first { IsBounded 4 self.factors.first }
+        requires other { IsBounded 4 self.factors.other }
+        ensures { MatchOption result (Unit {0}) (IsMultiple self) }
+    {
+        let Factors { first, other } = self.factors;
+        if is_zero(other) && is_entry(first) {
+            return Some(Multiple {
+                factor: first,
+                model: self.first,
+            });
+        }
+        if is_zero(first) && is_entry(other) {
+            return Some(Multiple {
+                factor: other,
+                model: self.other,
+            });
+        }
+        None
+    }
+}
+
+fn is_zero(factor: i8) -> bool
+    ensures { result ≡ true → factor ≡ pos 0 }
+{
+    factor == 0
+}
+
+fn is_entry(factor: i8) -> bool
+    ensures { result ≡ true → IsEntry factor }
+{
+    -1 <= factor && factor <= 1
+}
+
 impl Block {
     /// What a row of the block is to be.
-    pub fn row(self, matrix: &RowsAndColumns<'_>, row: u32) -> Multiple
+    pub fn row(self, matrix: &RowsAndColumns<'_>, row: u32) -> Sum
         requires block { IsBlockOf matrix.now self }
         requires row { row < height matrix.now }
-        ensures model { result.model < height matrix.now }
-        ensures factor { IsEntry result.factor }
-        ensures differences { (column : ℕ)
-            → differs_at matrix.now row result.factor result.model column
-            ≡ differ (entry matrix.now row column)
-            (block_entry (entry matrix.now) self row column) }
+        ensures sum { IsSumOf matrix.now result }
+        ensures value { (column : ℕ) → sum_at matrix.now result column
+            ≡ block_entry (entry matrix.now) self row column }
     {
         match self {
             Block::Zero => Multiple {
                 factor: 0,
                 model: row,
-            },
+            }
+            .alone(),
             Block::Product(place) => Multiple {
                 factor: place.factor(matrix, matrix.entry(row, place.column)),
                 model: place.row,
-            },
+            }
+            .alone(),
+            Block::Spread(lines) => lines.row(matrix, row),
         }
     }
 
     /// What a column of the block is to be.
-    pub fn column(self, matrix: &RowsAndColumns<'_>, column: u32) -> Multiple
+    pub fn column(self, matrix: &RowsAndColumns<'_>, column: u32) -> Sum
         requires block { IsBlockOf matrix.now self }
         requires column { column < matrix.now.width }
-        ensures model { result.model < matrix.now.width }
-        ensures factor { IsEntry result.factor }
-        ensures differences { (row : ℕ)
-            → differs_at (transposed matrix.now) column result.factor result.model row
-            ≡ differ (entry matrix.now row column)
-            (block_entry (entry matrix.now) self row column) }
+        ensures sum { IsSumOf (transposed matrix.now) result }
+        ensures value { (row : ℕ) → sum_at (transposed matrix.now) result row
+            ≡ block_entry (entry matrix.now) self row column }
     {
         let _rows = matrix.rows();
         match self {
             Block::Zero => Multiple {
                 factor: 0,
                 model: column,
-            },
+            }
+            .alone(),
             Block::Product(place) => Multiple {
                 factor: place.factor(matrix, matrix.entry(place.row, column)),
                 model: place.column,
-            },
+            }
+            .alone(),
+            Block::Spread(lines) => lines.column(matrix, column),
         }
     }
 }
 
 impl Rule {
-    /// The block in which a row leads to columns.
-    pub fn row_block(self, direction: Direction) -> Block
-        ensures { result ≡ row_block self direction }
+    /// With the blocks exchanged: what pulls a line in by the rule is what the line pulls in by this one.
+    pub fn exchanged(self) -> Rule
+        ensures { result ≡ exchanged self }
     {
-        match direction {
-            Direction::Forwards => self.upper,
-            Direction::Backwards => self.lower,
-        }
-    }
-
-    /// The block in which a column leads to rows.
-    pub fn column_block(self, direction: Direction) -> Block
-        ensures { result ≡ column_block self direction }
-    {
-        match direction {
-            Direction::Forwards => self.lower,
-            Direction::Backwards => self.upper,
+        Rule {
+            upper: self.lower,
+            lower: self.upper,
         }
     }
 }

@@ -6,7 +6,7 @@ use Rattle.cmr_base.specs.declared.line.Line.TheVariants.{Row, Column}
 use Rattle.cmr_base.specs.declared.separation.Form.TheVariants.{Concentrated}
 use Rattle.cmr_base.specs.declared.separation.Three.{Three}
 use Rattle.cmr_base.specs.ColumnSets.{has_column}
-use Rattle.cmr_base.specs.Matrix.{Matrix, height, entry, transposed, IsMatrix}
+use Rattle.cmr_base.specs.Matrix.{Matrix, height, entry}
 use Rattle.cmr_base.specs.LineSets as sets
 use Rattle.cmr_base.specs.Signing.{IsSign}
 use Rattle.cmr_base.specs.Separations.{Lines, zeros, spread_at, core_determinant, IsThreeSeparation}
@@ -19,16 +19,17 @@ use Rattle.cmr_base.proofs.SeedLemmas.{good_three_seed, three_separation_of_seed
 use Rattle.cmr_base.proofs.Booleans.{false_is, not_both, true_is, zero_is}
 use Rattle.cuts.specs.declared.corners.Corners.{Corners}
 use Rattle.three_sep.specs.declared.connectors.Connectors.{Connectors}
-use Rattle.three_sep.specs.NumberedSeeds.{Among, IsGoodSeed, Seed, connector, inside, seed_key}
-use Rattle.three_sep.specs.Sides.{IsClosedBy}
-use Rattle.three_sep.specs.Searches.{BeginsWith, HasNoGood, HasNoneBelow, IsFirstOf, LeavesSecond, corner_front}
+use Rattle.three_sep.specs.NumberedSeeds.{IsGoodSeed, Seed, seed_key}
+use Rattle.cuts.specs.Cuts.{IsClosedBy}
+use Rattle.line_growth.specs.declared.rule.Rule.{Rule}
+use Rattle.line_growth.specs.Rules.{IsRuleOf, lower_of, upper_of}
+use Rattle.three_sep.specs.Connectors.{AreConnectorsOf, ArePlaced, all_front, first_of, second_of}
+use Rattle.three_sep.specs.Searches.{BeginsWith, HasNoGood, HasNoneBelow, IsFirstOf, corner_front}
 use Rattle.cmr_base.specs.Trees.{support}
-use Rattle.three_sep.specs.Concentrated.{AreCandidates, AreConcentratedCorners, ArePlaced, HasNoLeaving, HasNoneBetween, IsFirstPair, IsHeldBy, IsLeastFor, IsNoOtherColumn, IsOtherColumn, IsOtherRow, TellsClosedFor, all_front, first_lines, first_of, second_of, turned}
-use Rattle.three_sep.proofs.SideLemmas.{outside_less}
-use Rattle.three_sep.proofs.SearchLemmas.{enough_lines, good_inside, level_found, lines_of_connector, none_of_connector, seed_at, seed_from_all, seed_from_first, seed_from_second, seed_is}
-use Rattle.three_sep.proofs.SeedFacts.{SeedFacts, closed_to, facts, good_seed}
+use Rattle.three_sep.specs.Concentrated.{AreCandidates, AreConcentratedCorners, HasNoneBetween, IsFirstPair, IsHeldBy, IsNoOtherColumn, IsOtherColumn, IsOtherRow}
+use Rattle.three_sep.proofs.SearchLemmas.{good_inside, level_found, seed_at, seed_from_first, seed_from_second, seed_is}
+use Rattle.three_sep.proofs.SeedFacts.{SeedFacts, closed_to, facts}
 use Rattle.three_sep.proofs.SpreadLemmas.{spread_parts, spread_same}
-use Rattle.three_sep.proofs.TurnedLemmas.{closed_turned, has_turned, leaves_turned, no_turned, turned_side}
 
 -- ---- what a good seed says
 
@@ -132,7 +133,7 @@ module _ (m : Matrix) (c : Corners) (q o : ℕ) (x : Line) (S : Lines) (good : I
         }
 
     -- so there is a good seed with them
-    some_elsewhere : HasNoGood m (all_front d) → ⊥
+    some_elsewhere : HasNoGood m (all_front Concentrated d) → ⊥
     some_elsewhere none =
         let (y, T, other) = good_three_seed (height m) m.width (entry m) Concentrated (first_of d) (second_of d) S separation_elsewhere in
         none (record { form = Concentrated; first = first_of d; second = second_of d; line = y }) T (refl, (refl, (refl, (refl, (refl, (refl, (refl, tt))))))) other
@@ -147,7 +148,7 @@ module _ (m : Matrix) where
   at_seed s S t e g = subst (λ (z : Seed). IsGoodSeed m z S) e g
 
   -- where two connectors are in no good seed, no others with their row i and column j are
-  pub none_between : (d : Connectors) → ArePlaced m d → AreConcentratedCorners (entry m) d.corners → IsOtherColumn (entry m) d.corners d.q → IsOtherRow (entry m) d → HasNoGood m (all_front d) → HasNoneBetween m d.corners.i d.corners.j
+  pub none_between : (d : Connectors) → ArePlaced m d → AreConcentratedCorners (entry m) d.corners → IsOtherColumn (entry m) d.corners d.q → IsOtherRow (entry m) d → HasNoGood m (all_front Concentrated d) → HasNoneBetween m d.corners.i d.corners.j
   none_between d placed corners column row none s S ef ei ej g =
       let c : Corners = record { i = d.corners.i; p = s.first.column; k = s.second.row; j = d.corners.j } in
       some_elsewhere m c s.first.other s.second.other s.line S (at_seed s S (seed_at Concentrated c s.first.other s.second.other s.line) (between_seed s d.corners.i d.corners.j ef ei ej) g) d placed refl refl corners column row none
@@ -198,65 +199,29 @@ module _ (m : Matrix) where
     abbrev seed_here : Line → Seed
     seed_here x = seed_at Concentrated d.corners d.q d.o x
 
-    good_here : (s : Seed) (S : Lines) → BeginsWith (all_front d) (seed_key m s) → IsGoodSeed m s S → IsGoodSeed m (seed_here s.line) S
+    good_here : (s : Seed) (S : Lines) → BeginsWith (all_front Concentrated d) (seed_key m s) → IsGoodSeed m s S → IsGoodSeed m (seed_here s.line) S
     good_here s S h g = at_seed s S (seed_here s.line) (seed_from_second m Concentrated d.corners d.q d.o s h) g
 
-    pub no_row : ¬ (IsOtherRow (entry m) d) → HasNoGood m (all_front d)
+    pub no_row : ¬ (IsOtherRow (entry m) d) → HasNoGood m (all_front Concentrated d)
     no_row refused s S h g0 = let g = good_here s S h g0 in refused (record { rises = g.0.values.tied.rows_rise; nonzero = g.0.values.tied.second_other; determinant = g.0.values.tied.determinant })
 
-    leaves_here : (x : Line) (S : Lines) → IsGoodSeed m (seed_here x) S → LeavesSecond m d.corners (Row d.o) S
-    leaves_here x S g0 = let g = facts m (seed_here x) S g0 in record { row = g.two (Row d.corners.k) (inl refl); column = g.two (Column d.corners.j) (inr (inl refl)); other = g.two (Row d.o) (inr (inr (inl refl))); enough = g.enough }
-
-    pub no_leaving : HasNoLeaving m d (first_lines d) → HasNoGood m (all_front d)
-    no_leaving refused s S h g0 = let good = good_here s S h g0 in let g = facts m (seed_here s.line) S good in refused S g.side.closed (λ y a. g.side.has y (inr a)) (leaves_here s.line S good)
-
-    four_here : (x : Line) (S : Lines) → IsGoodSeed m (seed_here x) S → 4 ≤ inside (height m) m.width S
-    four_here x S good = let g = facts m (seed_here x) S good in enough_lines (height m) m.width true d.corners.i d.corners.p d.q x S (λ e. let l = good.0.values.tied.columns_rise in omega (arith, e)) g.line g.first_lines g.beside_first g.side.has
-
-    -- nor does any in the transposed matrix
-    pub no_left : IsMatrix m → HasNoLeaving (transposed m) (turned d) (first_lines (turned d)) → HasNoGood m (all_front d)
-    no_left is refused s S h g0 =
-        let good = good_here s S h g0 in
-        let g = facts m (seed_here s.line) S good in
-        no_turned m is d S refused g.side.closed (λ y a. g.side.has y (inr a)) (leaves_here s.line S good)
-        (four_here s.line S good)
-
-    -- a row that can be on neither side
-    pub no_refused : IsMatrix m → (row : ℕ) → HasNoLeaving m d (Row row ∷ first_lines d) → HasNoLeaving (transposed m) (turned d) (Column row ∷ first_lines (turned d)) → HasNoGood m (all_front d)
-    no_refused is row one two s S h g0 =
-        let good = good_here s S h g0 in
-        let g = facts m (seed_here s.line) S good in
-        elim (two_cases (S (Row row))) [
-          | inl e ↦ one S g.side.closed (λ y a. elim a [ inl f ↦ ap S f ∙ e | inr b ↦ g.side.has y (inr b) ]) (leaves_here s.line S good)
-          | inr e ↦
-              two (turned_side m is d S) (closed_turned m is d S g.side.closed) (λ y a. elim a [ inl f ↦ ap (turned_side m is d S) f ∙ ap not e | inr b ↦ has_turned m is d S (leaves_here s.line S good) y b ])
-              (leaves_turned m is d S (λ y a. g.side.has y (inr a)) (four_here s.line S good))
-        ]
-
-    pub no_line : (place : ℕ) (x : Line) → IsLine (height m) m.width x → line_number (height m) x ≡ place → HasNoLeaving m d (x ∷ first_lines d) → HasNoGood m (all_front d ++ place ∷ [])
-    no_line place x lx number refused s S h g0 =
-        let good = at_seed s S (seed_here x) (seed_from_all m Concentrated d.corners d.q d.o place x s lx g0.1.line number h) g0 in
-        let g = facts m (seed_here x) S good in
-        refused S g.side.closed g.side.has (leaves_here x S good)
-
-    pub concentrated_good : (x : Line) (S : Lines) → ArePlaced m d → AreConcentratedCorners (entry m) d.corners → IsOtherColumn (entry m) d.corners d.q → IsOtherRow (entry m) d → IsLine (height m) m.width x
-        → ¬ (Among (connector true d.corners.i d.corners.p d.q) x) → ¬ (Among (connector false d.corners.k d.corners.j d.o) x) → IsLeastFor m d (x ∷ first_lines d) S → LeavesSecond m d.corners (Row d.o) S
-        → IsGoodSeed m (seed_here x) S
-    concentrated_good x S placed corners column row lx b1 b2 least leaves = good_seed m (seed_here x) S (record {
-      values = record {
-        first_corner = corners.first;
-        second_corner = corners.second;
-        tied = record { first_other = column.nonzero; second_other = row.nonzero; columns_rise = column.rises; rows_rise = row.rises; determinant = row.determinant };
-      };
-      first_lines = lines_of_connector (height m) m.width true d.corners.i d.corners.p d.q placed.corners.row_one placed.corners.column_one placed.first_other;
-      second_lines = lines_of_connector (height m) m.width false d.corners.k d.corners.j d.o placed.corners.row_two placed.corners.column_two placed.second_other;
-      line = lx;
-      beside_first = b1;
-      beside_second = b2;
-      side = record { closed = least.closed; has = least.has; least = λ T closed has y l e. least.least T closed has y e };
-      two = none_of_connector false d.corners.k d.corners.j d.o S leaves.row leaves.column leaves.other;
-      enough = leaves.enough;
-    })
+-- the connectors with their rule
+pub spread_connectors : (m : Matrix) (rule : Rule) (d : Connectors) → ArePlaced m d → AreConcentratedCorners (entry m) d.corners → IsOtherColumn (entry m) d.corners d.q → IsOtherRow (entry m) d → IsRuleOf m rule → upper_of m rule ≡ zeros
+    → lower_of m rule ≡ spread_at (entry m) (first_of d) (second_of d) → AreConnectorsOf m Concentrated rule d
+spread_connectors m rule d placed corners column row is upper lower = record {
+  pair = record {
+    values = record {
+      first_corner = corners.first;
+      second_corner = corners.second;
+      tied = record { first_other = column.nonzero; second_other = row.nonzero; columns_rise = column.rises; rows_rise = row.rises; determinant = row.determinant };
+    };
+    first_lines = (placed.corners.row_one, (placed.corners.column_one, (placed.first_other, tt)));
+    second_lines = (placed.corners.row_two, (placed.corners.column_two, (placed.second_other, tt)));
+  };
+  inside = is;
+  upper = upper;
+  lower = lower;
+}
 
 -- ---- candidates
 
@@ -304,35 +269,13 @@ no_common m i p k candidates are none s S h g = no_second m i p k s.second.colum
 -- ---- the first connectors with two corners
 
 module _ (m : Matrix) (c : Corners) (d : Connectors) (is : IsFirstPair m c d) where
-  pub pair_found : (o : Option Three) (three : Three) → o ≡ Some three → IfSome o (IsFirstOf m (all_front d)) → IsFirstOf m (corner_front Concentrated c) three
+  pub pair_found : (o : Option Three) (three : Three) → o ≡ Some three → IfSome o (IsFirstOf m (all_front Concentrated d)) → IsFirstOf m (corner_front Concentrated c) three
   pair_found o three e h =
       let here : IsFirstOf m (corner_front Concentrated c ++ d.q ∷ d.o ∷ []) three =
-      subst (λ (z : Corners). IsFirstOf m (corner_front Concentrated z ++ d.q ∷ d.o ∷ []) three) is.corners (subst (λ (z : Option Three). IfSome z (IsFirstOf m (all_front d))) e h) in
+      subst (λ (z : Corners). IsFirstOf m (corner_front Concentrated z ++ d.q ∷ d.o ∷ []) three) is.corners (subst (λ (z : Option Three). IfSome z (IsFirstOf m (all_front Concentrated d))) e h) in
       level_found m (corner_front Concentrated c) d.q three (omega arith) is.columns (level_found m (corner_front Concentrated c ++ d.q ∷ []) d.o three (omega arith) is.rows here)
 
-  pub none_at_pair : AreConcentratedCorners (entry m) c → HasNoGood m (all_front d) → HasNoneBetween m c.i c.j
+  pub none_at_pair : AreConcentratedCorners (entry m) c → HasNoGood m (all_front Concentrated d) → HasNoneBetween m c.i c.j
   none_at_pair corners none =
       subst (λ (z : Corners). HasNoneBetween m z.i z.j) is.corners
       (none_between m d is.placed (subst (λ (z : Corners). AreConcentratedCorners (entry m) z) (sym is.corners) corners) is.column is.row none)
-
--- ---- what a closed side tells
-
-module _ (m : Matrix) (d : Connectors) (start : List Line) where
-  pub told_few_leaving : (closed : Bool) (S : Lines) → TellsClosedFor m d start closed S → closed ≡ false → HasNoLeaving m d start
-  told_few_leaving true S h e = absurd (not_both true refl e)
-  told_few_leaving false S h e = h
-
-  pub told_least : (closed : Bool) (S : Lines) → TellsClosedFor m d start closed S → closed ≡ true → IsLeastFor m d start S
-  told_least true S h e = h
-  told_least false S h e = absurd (not_both false e refl)
-
-  pub least_leaving : (S : Lines) → IsLeastFor m d start S → ¬ (LeavesSecond m d.corners (Row d.o) S) → HasNoLeaving m d start
-  least_leaving S least unfit T closed has leaves =
-      let within : (y : Line) → S y ≡ true → T y ≡ true = least.least T closed has in
-      let out : (y : Line) → T y ≡ false → S y ≡ false = λ y e. false_is (S y) (λ t. not_both (T y) (within y t) e) in
-      unfit (record {
-        row = out (Row d.corners.k) leaves.row;
-        column = out (Column d.corners.j) leaves.column;
-        other = out (Row d.o) leaves.other;
-        enough = let a = outside_less (height m) m.width S T within in let b = leaves.enough in omega arith;
-      })

@@ -1,5 +1,5 @@
 -- Good seeds of the forms of which both blocks are products.
-use Rattle.std.proofs.Common.{ℕ, ℤ, ◌≤◌, List, ◌∷◌}
+use Rattle.std.proofs.Common.{ℕ, ℤ, ◌≡◌, ◌≤◌, List, ◌∷◌, refl}
 use Rattle.cmr_base.specs.declared.line.Line.{Line}
 use Rattle.cmr_base.specs.declared.separation.Connector.{Connector}
 use Rattle.cmr_base.specs.declared.separation.Form.{Form}
@@ -46,7 +46,19 @@ module _ (M : ℕ → ℕ → ℤ) (one two : Connector) where
   second_other_from Mixed c v = v.tied.second_tied
   second_other_from Concentrated c v = absurd c
 
-  values_to : (form : Form) → IsCrossing form → AreCorners M one.row one.column two.row two.column → IsFirstOther (first_is_flat form) M one.row one.column two.row two.column one.other
+  pub upper_crossing : (form : Form) → IsCrossing form → upper_block M form one two ≡ product_at M one.row two.column
+  upper_crossing Delta c = refl
+  upper_crossing YForm c = refl
+  upper_crossing Mixed c = refl
+  upper_crossing Concentrated c = absurd c
+
+  pub lower_crossing : (form : Form) → IsCrossing form → lower_block M form one two ≡ product_at M two.row one.column
+  lower_crossing Delta c = refl
+  lower_crossing YForm c = refl
+  lower_crossing Mixed c = refl
+  lower_crossing Concentrated c = absurd c
+
+  pub values_to : (form : Form) → IsCrossing form → AreCorners M one.row one.column two.row two.column → IsFirstOther (first_is_flat form) M one.row one.column two.row two.column one.other
       → IsSecondOther (second_is_flat form) M one.row one.column two.row two.column two.other → base.AreConnectors M form one two
   values_to Delta c v f s = record { first_corner = v.first; second_corner = v.second; tied = record { upper = v.right; lower = v.below; first_tied = f; second_tied = s } }
   values_to YForm c v f s = record { first_corner = v.first; second_corner = v.second; tied = record { upper = v.right; lower = v.below; first_tied = f; second_tied = s } }

@@ -1,19 +1,19 @@
 -- Columns that are in side one with a row.
-use Rattle.std.proofs.Common.{ℕ, ℤ, pos, ◌<◌, ◌*ℤ◌, ◌+ℤ◌, ◌&&◌, ◌||◌, Bool, true, false, not, List, ◌≡◌, ◌≢◌, ◌∙◌, sym, refl, subst, ◌⊎◌, inl, inr}
+use Rattle.std.proofs.Common.{ℕ, ℤ, pos, ◌<◌, ◌*ℤ◌, ◌+ℤ◌, ◌-ℤ◌, ◌&&◌, ◌||◌, Bool, true, false, not, List, ◌≡◌, ◌≢◌, ◌∙◌, sym, refl, subst, ◌⊎◌, inl, inr}
 use Rattle.cmr_base.specs.declared.line.Line.TheVariants.{Row, Column}
 use Rattle.cmr_base.specs.Matrix.{Matrix, height, entry, IsMatrix}
 use Rattle.cmr_base.specs.Signing.{IsSign}
-use Rattle.cmr_base.specs.Separations.{Lines, zeros, spread_at}
+use Rattle.cmr_base.specs.Separations.{Lines, core_determinant, spread_at, zeros}
 use Rattle.cmr_base.specs.Trees.{support}
 use Rattle.cmr_base.proofs.Booleans.{and_is, false_is, nonzero_is, not_both, not_is, true_is, zero_is}
 use Rattle.cmr_base.proofs.NextNonzeros.{column_in as nonzero_in}
 use Rattle.cmr_base.proofs.SignEntries.{sign_of_entry}
 use Rattle.three_sep.specs.declared.connectors.Connectors.{Connectors}
-use Rattle.three_sep.specs.Sides.{IsClosedBy}
+use Rattle.cuts.specs.Cuts.{IsClosedBy}
+use Rattle.three_sep.specs.Connectors.{first_of, second_of}
 use Rattle.three_sep.specs.Independent.{AreIndependent, outside_one, outside_two}
-use Rattle.three_sep.specs.Concentrated.{AreHeldBy, IsHeldBy, first_of, second_of}
+use Rattle.three_sep.specs.Concentrated.{AreHeldBy, IsHeldBy}
 use Rattle.three_sep.proofs.SpreadLemmas.{no_triangle, spread_parts}
-use Rattle.three_sep.proofs.SpreadSideLemmas.{determinant, part_first, part_other}
 
 -- ---- sets of columns
 
@@ -26,6 +26,16 @@ and_false true b e = inl e
 and_false false b e = inr refl
 
 -- ---- columns that are held
+
+module _ (m : Matrix) (d : Connectors) where
+  abbrev determinant : ℤ
+  determinant = core_determinant (entry m) (first_of d) (second_of d)
+
+  abbrev part_first : ℕ → ℤ
+  part_first column = determinant *ℤ (entry m d.o d.q *ℤ entry m d.corners.k column -ℤ entry m d.corners.k d.q *ℤ entry m d.o column)
+
+  abbrev part_other : ℕ → ℤ
+  part_other column = determinant *ℤ (entry m d.corners.k d.corners.p *ℤ entry m d.o column -ℤ entry m d.o d.corners.p *ℤ entry m d.corners.k column)
 
 module _ (m : Matrix) (is : IsMatrix m) where
   -- the columns of a row

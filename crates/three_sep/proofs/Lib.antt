@@ -1,16 +1,9 @@
-pub mod HalfLemmas
-pub mod SideLemmas
-pub mod RoomLemmas
-pub mod StartLemmas
-pub mod CutLemmas
 pub mod SeedFacts
 pub mod CrossingLemmas
 pub mod SpreadLemmas
-pub mod NumberLemmas
-pub mod SpreadSideLemmas
 pub mod SearchLemmas
+pub mod SideLemmas
 pub mod SeedForms
-pub mod TurnedLemmas
 pub mod PulledLemmas
 pub mod HeldLemmas
 pub mod ConcentratedLemmas

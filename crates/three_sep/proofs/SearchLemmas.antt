@@ -1,19 +1,13 @@
 -- The search for the first good seed, level by level.
-use Rattle.std.proofs.Common.{ℕ, zero, suc, ◌+◌, Bool, true, false, cond, not, List, [], ◌∷◌, ◌++◌, ◌≡◌, ◌≢◌, ◌<◌, ◌≤◌, ◌∙◌, ◌↔◌, sym, ap, refl, arith, subst, ◌⊎◌, inl, inr, length, get_or, nat_eq, ℤ, pos, Option, Some, None, Result, Ok, Err, IfOk, IfSome, IfNone}
+use Rattle.std.proofs.Common.{ℕ, zero, suc, ◌+◌, Bool, true, false, List, [], ◌∷◌, ◌++◌, ◌≡◌, ◌≢◌, ◌<◌, ◌≤◌, ◌∙◌, sym, ap, refl, arith, subst, ◌⊎◌, inl, inr, length, get_or, ℤ, pos, Option, Some, None, Result, Ok, Err, IfOk, IfSome, IfNone}
 use Rattle.std.proofs.lemmas.Bool.{cases_lt}
 use Rattle.cmr_base.specs.declared.line.Line.{Line}
 use Rattle.cmr_base.specs.declared.line.Line.TheVariants.{Row, Column}
 use Rattle.cmr_base.specs.Matrix.{Matrix, height, entry}
-use Rattle.cmr_base.specs.ColumnSets.{has_column}
-use Rattle.cmr_base.specs.Members.{IsIn, IsDistinct}
-use Rattle.cmr_base.proofs.Members.{in-append}
-use Rattle.cmr_base.proofs.RowLists.{two_cases, is_eq, is_ne, same_or_not}
-use Rattle.cmr_base.proofs.Booleans.{false_is, not_both}
-use Rattle.cmr_base.proofs.SeedLemmas.{line_is, form_is}
-use Rattle.cmr_base.proofs.LineCounts.{count_same}
-use Rattle.three_sep.specs.declared.half.Half.{Half}
-use Rattle.three_sep.specs.declared.side.Side.{Side}
-use Rattle.three_sep.specs.declared.search.Search.{Search}
+use Rattle.cmr_base.proofs.RowLists.{same_or_not}
+use Rattle.cmr_base.proofs.Booleans.{not_both}
+use Rattle.cmr_base.proofs.SeedLemmas.{line_is, form_is, three_separation_of_seed}
+use Rattle.cmr_base.proofs.LineCounts.{inside_is}
 use Rattle.cuts.specs.declared.groups.Groups.{Groups}
 use Rattle.cuts.specs.declared.corners.Corners.{Corners}
 use Rattle.cmr_base.specs.declared.separation.Form.{Form}
@@ -21,109 +15,13 @@ use Rattle.cmr_base.specs.declared.separation.Form.TheVariants.{Delta, YForm, Mi
 use Rattle.cmr_base.specs.declared.separation.Three.{Three}
 use Rattle.cmr_base.specs.Separations.{Lines, first_is_flat, second_is_flat}
 use Rattle.cmr_base.specs.Seeds.{IsLine, form_number, line_number, IsBefore}
-use Rattle.three_sep.specs.NumberedSeeds.{Seed, Among, HasAll, HasNone, count, inside, connector, IsFirstOther, IsSecondOther, AreCorners, IsCrossing, IsGoodSeed, seed_key, HasLines, seed_of}
-use Rattle.three_sep.specs.Halves.{is_in, IsHalf, AreSame}
-use Rattle.three_sep.specs.Sides.{set_of, HasRoom, HasSize, AreInside, IsGrowing, IsGrowingBy, IsLeast, start_lines}
-use Rattle.cuts.specs.Cuts.{IsCutAt, IsCut, HasNames, HoldTogether, name_of}
-use Rattle.three_sep.specs.Cuts.{HasNoCutAt}
-use Rattle.three_sep.specs.Searches.{BeginsWith, HasNoGood, HoldsFirst, IsFirstOf, HasNoneBelow, corner_front, line_count, other_line, HasNoColumn, HasNoRow, LacksColumn, LacksRow, LeavesSecond, IsNoSecondRow, IsNoSecondColumn}
-use Rattle.three_sep.proofs.CrossingLemmas.{IsGoodCrossing, as_crossing, as_good}
-use Rattle.three_sep.proofs.SeedFacts.{facts, good_seed}
-use Rattle.three_sep.proofs.SideLemmas.{outside_less}
-use Rattle.three_sep.proofs.CutLemmas.{has_size}
+use Rattle.three_sep.specs.NumberedSeeds.{Seed, Among, connector, IsFirstOther, IsSecondOther, IsCrossing, IsGoodSeed, seed_key, HasLines, seed_of}
+use Rattle.cuts.specs.Cuts.{AreInside, IsCutAt, IsCut, HasNames, HoldTogether, name_of}
+use Rattle.three_sep.specs.Searches.{BeginsWith, HasNoGood, IsFirstOf, HasNoneBelow, corner_front, line_count, other_line, HasNoColumn, HasNoRow, LacksColumn, LacksRow, IsNoSecondRow, IsNoSecondColumn}
+use Rattle.three_sep.proofs.CrossingLemmas.{IsGoodCrossing, as_crossing}
+use Rattle.three_sep.proofs.SeedFacts.{facts}
 
--- ---- four lines
-
-abbrev pub minus : (ℕ → Bool) → ℕ → ℕ → Bool
-minus test x y = cond (nat_eq y x) false (test y)
-
-pub unfold_other : (test : ℕ → Bool) (x y : ℕ) → y ≢ x → minus test x y ≡ test y
-unfold_other test x y n = rw (is_ne y x n) refl
-
-pub unfold_same : (test : ℕ → Bool) (x y : ℕ) → y ≡ x → minus test x y ≡ false
-unfold_same test x y e = rw (is_eq y x e) refl
-
-pub count_minus : (test : ℕ → Bool) (x size : ℕ) → x < size → test x ≡ true → count test size ≡ suc (count (minus test x) size)
-count_minus test x zero l e = absurd (omega arith)
-count_minus test x (suc k) l e = elim (same_or_not k x) [
-  | inl same ↦
-      rw (unfold_same test x k same, ap test same ∙ e)
-      (ap suc (count_same test (minus test x) k (λ y low. sym (unfold_other test x y (λ h. omega arith)))))
-  | inr n ↦ rw (unfold_other test x k n) (elim (two_cases (test k)) [
-    | inl t ↦ rw t (ap suc (count_minus test x k (omega (arith, n)) e))
-    | inr f ↦ rw f (count_minus test x k (omega (arith, n)) e)
-  ])
-]
-
-pub count_least : (test : ℕ → Bool) (size : ℕ) (xs : List ℕ) → IsDistinct xs → ((x : ℕ) → IsIn x xs → (x < size) × (test x ≡ true)) → length xs ≤ count test size
-count_least test size [] d h = omega arith
-count_least test size (x ∷ xs) d h =
-    let here = h x (inl refl) in
-    let rest = count_least (minus test x) size xs d.1 (λ y g. ((h y (inr g)).0, unfold_other test x y (λ e. d.0 (subst (λ (z : ℕ). IsIn z xs) e g)) ∙ (h y (inr g)).1)) in
-    let e = count_minus test x size here.0 here.1 in
-    omega arith
-
-four_lines : (m n : ℕ) (S : Lines) (rows columns : List ℕ) → IsDistinct rows → IsDistinct columns → ((r : ℕ) → IsIn r rows → (r < m) × (S (Row r) ≡ true)) → ((c : ℕ) → IsIn c columns → (c < n) × (S (Column c) ≡ true))
-    → length rows + length columns ≡ 4 → 4 ≤ inside m n S
-four_lines m n S rows columns dr dc hr hc e = let a = count_least (λ r. S (Row r)) m rows dr hr in let b = count_least (λ c. S (Column c)) n columns dc hc in omega arith
-
-in_one : (P : ℕ → Type 0) (a : ℕ) → P a → (x : ℕ) → IsIn x (a ∷ []) → P x
-in_one P a pa x (inl e) = subst P (sym e) pa
-in_one P a pa x (inr h) = absurd h
-
-in_two : (P : ℕ → Type 0) (a b : ℕ) → P a → P b → (x : ℕ) → IsIn x (a ∷ b ∷ []) → P x
-in_two P a b pa pb x (inl e) = subst P (sym e) pa
-in_two P a b pa pb x (inr h) = in_one P b pb x h
-
-in_three : (P : ℕ → Type 0) (a b c : ℕ) → P a → P b → P c → (x : ℕ) → IsIn x (a ∷ b ∷ c ∷ []) → P x
-in_three P a b c pa pb pc x (inl e) = subst P (sym e) pa
-in_three P a b c pa pb pc x (inr h) = in_two P b c pb pc x h
-
-two_apart : (a b : ℕ) → a ≢ b → IsDistinct (a ∷ b ∷ [])
-two_apart a b n = ((λ h. elim h [ inl e ↦ n e | inr g ↦ g ]), ((λ h. h), tt))
-
-three_apart : (a b c : ℕ) → a ≢ b → a ≢ c → b ≢ c → IsDistinct (a ∷ b ∷ c ∷ [])
-three_apart a b c n1 n2 n3 = ((λ h. elim h [ inl e ↦ n1 e | inr g ↦ elim g [ inl e ↦ n2 e | inr k ↦ k ] ]), two_apart b c n3)
-
-one_apart : (a : ℕ) → IsDistinct (a ∷ [])
-one_apart a = ((λ h. h), tt)
-
--- the two lines of one kind of a connector are not the same
-abbrev pub IsNotTwice : Bool → ℕ → ℕ → ℕ → Type 0
-IsNotTwice true i p q = p ≢ q
-IsNotTwice false i p q = i ≢ q
-
-not_twice : (M : ℕ → ℕ → ℤ) (flat : Bool) (i p k j q : ℕ) → M i p ≢ pos 0 → IsFirstOther flat M i p k j q → IsNotTwice flat i p q
-not_twice M true i p k j q n other = λ e. n (ap (λ (z : ℕ). M i z) e ∙ other.0)
-not_twice M false i p k j q n other = λ e. n (ap (λ (z : ℕ). M z p) e ∙ other.0)
-
--- a connector and a line beside it
-pub enough_lines : (m n : ℕ) (flat : Bool) (i p q : ℕ) (x : Line) (S : Lines) → IsNotTwice flat i p q → IsLine m n x → ((y : Line) → Among (connector flat i p q) y → IsLine m n y)
-    → ¬ (Among (connector flat i p q) x) → HasAll S (x ∷ connector flat i p q) → 4 ≤ inside m n S
-enough_lines m n true i p q (Row r) S apart l lines beside has =
-    let P : ℕ → Type 0 = λ z. (z < m) × (S (Row z) ≡ true) in
-    let Q : ℕ → Type 0 = λ z. (z < n) × (S (Column z) ≡ true) in
-    four_lines m n S (r ∷ i ∷ []) (p ∷ q ∷ []) (two_apart r i (λ e. beside (inl (ap Row e)))) (two_apart p q apart)
-    (in_two P r i (l, has (Row r) (inl refl)) (lines (Row i) (inl refl), has (Row i) (inr (inl refl))))
-    (in_two Q p q (lines (Column p) (inr (inl refl)), has (Column p) (inr (inr (inl refl)))) (lines (Column q) (inr (inr (inl refl))), has (Column q) (inr (inr (inr (inl refl)))))) refl
-enough_lines m n true i p q (Column c) S apart l lines beside has =
-    let P : ℕ → Type 0 = λ z. (z < m) × (S (Row z) ≡ true) in
-    let Q : ℕ → Type 0 = λ z. (z < n) × (S (Column z) ≡ true) in
-    four_lines m n S (i ∷ []) (c ∷ p ∷ q ∷ []) (one_apart i) (three_apart c p q (λ e. beside (inr (inl (ap Column e)))) (λ e. beside (inr (inr (inl (ap Column e))))) apart)
-    (in_one P i (lines (Row i) (inl refl), has (Row i) (inr (inl refl))))
-    (in_three Q c p q (l, has (Column c) (inl refl)) (lines (Column p) (inr (inl refl)), has (Column p) (inr (inr (inl refl)))) (lines (Column q) (inr (inr (inl refl))), has (Column q) (inr (inr (inr (inl refl)))))) refl
-enough_lines m n false i p q (Row r) S apart l lines beside has =
-    let P : ℕ → Type 0 = λ z. (z < m) × (S (Row z) ≡ true) in
-    let Q : ℕ → Type 0 = λ z. (z < n) × (S (Column z) ≡ true) in
-    four_lines m n S (r ∷ i ∷ q ∷ []) (p ∷ []) (three_apart r i q (λ e. beside (inl (ap Row e))) (λ e. beside (inr (inr (inl (ap Row e))))) apart) (one_apart p)
-    (in_three P r i q (l, has (Row r) (inl refl)) (lines (Row i) (inl refl), has (Row i) (inr (inl refl))) (lines (Row q) (inr (inr (inl refl))), has (Row q) (inr (inr (inr (inl refl))))))
-    (in_one Q p (lines (Column p) (inr (inl refl)), has (Column p) (inr (inr (inl refl))))) refl
-enough_lines m n false i p q (Column c) S apart l lines beside has =
-    let P : ℕ → Type 0 = λ z. (z < m) × (S (Row z) ≡ true) in
-    let Q : ℕ → Type 0 = λ z. (z < n) × (S (Column z) ≡ true) in
-    four_lines m n S (i ∷ q ∷ []) (c ∷ p ∷ []) (two_apart i q apart) (two_apart c p (λ e. beside (inr (inl (ap Column e)))))
-    (in_two P i q (lines (Row i) (inl refl), has (Row i) (inr (inl refl))) (lines (Row q) (inr (inr (inl refl))), has (Row q) (inr (inr (inr (inl refl))))))
-    (in_two Q c p (l, has (Column c) (inl refl)) (lines (Column p) (inr (inl refl)), has (Column p) (inr (inr (inl refl))))) refl
+-- ---- good seeds as cuts
 
 corner_row : (flat : Bool) (r c o : ℕ) → Among (connector flat r c o) (Row r)
 corner_row true r c o = inl refl
@@ -141,14 +39,14 @@ abbrev pub corners_of : Seed → Corners
 corners_of s = record { i = s.first.row; p = s.first.column; k = s.second.row; j = s.second.column }
 
 -- the side of a good seed is a cut
-pub good_is_cut_at : (m : Matrix) (s : Seed) (S : Lines) → IsGoodCrossing (height m) m.width (entry m) s S → IsCutAt m (corners_of s) S
-good_is_cut_at m s S g = record {
+pub good_is_cut_at : (m : Matrix) (s : Seed) (S : Lines) → IsGoodCrossing (height m) m.width (entry m) s S → IsGoodSeed m s S → IsCutAt m (corners_of s) S
+good_is_cut_at m s S g g0 = record {
   closed = g.side.closed;
   row_one = g.side.has (Row s.first.row) (inr (corner_row (first_is_flat s.form) s.first.row s.first.column s.first.other));
   column_one = g.side.has (Column s.first.column) (inr (corner_column (first_is_flat s.form) s.first.row s.first.column s.first.other));
   row_two = g.two (Row s.second.row) (corner_row (second_is_flat s.form) s.second.row s.second.column s.second.other);
   column_two = g.two (Column s.second.column) (corner_column (second_is_flat s.form) s.second.row s.second.column s.second.other);
-  enough_one = enough_lines (height m) m.width (first_is_flat s.form) s.first.row s.first.column s.first.other s.line S (not_twice (entry m) (first_is_flat s.form) s.first.row s.first.column s.second.row s.second.column s.first.other g.connectors.corners.first g.connectors.first_other) g.line g.connectors.first_lines g.beside_first g.side.has;
+  enough_one = let a = inside_is (height m) m.width S in let b = (three_separation_of_seed (height m) m.width (entry m) s.form s.first s.second s.line S g0).enough.one in omega arith;
   enough_two = g.enough;
 }
 
@@ -161,7 +59,7 @@ good_inside m s S g0 = let g = facts m s S g0 in record {
 }
 
 pub good_is_cut : (m : Matrix) (s : Seed) (S : Lines) → IsCrossing s.form → IsGoodSeed m s S → IsCut m S
-good_is_cut m s S crossing g0 = let g = as_crossing m s S crossing (facts m s S g0) in record { corners = corners_of s; are_inside = good_inside m s S g0; right = g.connectors.corners.right; below = g.connectors.corners.below; cut = good_is_cut_at m s S g }
+good_is_cut m s S crossing g0 = let g = as_crossing m s S crossing (facts m s S g0) in record { corners = corners_of s; are_inside = good_inside m s S g0; right = g.connectors.corners.right; below = g.connectors.corners.below; cut = good_is_cut_at m s S g g0 }
 
 -- ---- fronts
 
@@ -254,7 +152,7 @@ module _ (m : Matrix) (form : Form) (crossing : IsCrossing form) where
   pub no_good_whole : (groups : Groups) (i : ℕ) → HasNames m groups → HoldTogether (IsCut m) m groups
       → ((k l : ℕ) → k < length groups.names.items → l < length groups.names.items → get_or groups.names.items k 0 ≡ get_or groups.names.items l 0) → HasNoGood m (form_number form ∷ i ∷ [])
   no_good_whole groups i names hold one s S h g0 =
-      let cut = good_is_cut_at m s S (crossing_seed s S h.0 g0) in
+      let cut = good_is_cut_at m s S (crossing_seed s S h.0 g0) g0 in
       let within = good_inside m s S g0 in
       let li : s.first.row < length groups.names.items = let l = within.row_one in omega (arith, names, l) in
       let lk : s.second.row < length groups.names.items = let l = within.row_two in omega (arith, names, l) in
@@ -281,7 +179,7 @@ module _ (m : Matrix) (form : Form) (crossing : IsCrossing form) where
         let g = crossing_seed s S e g0 in
         let line : IsLine (height m) m.width (other_line true s.first.other) = subst (λ (z : Bool). IsLine (height m) m.width (other_line z s.first.other)) flat ((facts m s S g0).first_lines (other_line (first_is_flat s.form) s.first.other) (corner_other (first_is_flat s.form) s.first.row s.first.column s.first.other)) in
         let other = subst (λ (z : Bool). IsFirstOther z (entry m) s.first.row s.first.column s.second.row s.second.column s.first.other) flat g.connectors.first_other in
-        first_apart s S e g0 (Row s.second.row) (good_is_cut_at m s S g).row_two (good_inside m s S g0).row_two
+        first_apart s S e g0 (Row s.second.row) (good_is_cut_at m s S g g0).row_two (good_inside m s S g0).row_two
         (ap (λ (z : Bool). name_of m groups (other_line z s.first.other)) flat ∙ none s.first.other line other.0 other.1)
 
     no_second_column : (s : Seed) (S : Lines) → form_number form ≡ form_number s.form → IsGoodSeed m s S → second_is_flat s.form ≡ true → HasNoColumn m groups s.second.row s.first.row → ⊥
@@ -289,7 +187,7 @@ module _ (m : Matrix) (form : Form) (crossing : IsCrossing form) where
         let g = crossing_seed s S e g0 in
         let line : IsLine (height m) m.width (other_line true s.second.other) = subst (λ (z : Bool). IsLine (height m) m.width (other_line z s.second.other)) flat ((facts m s S g0).second_lines (other_line (second_is_flat s.form) s.second.other) (corner_other (second_is_flat s.form) s.second.row s.second.column s.second.other)) in
         let other = subst (λ (z : Bool). IsSecondOther z (entry m) s.first.row s.first.column s.second.row s.second.column s.second.other) flat g.connectors.second_other in
-        second_apart s S e g0 (Row s.first.row) (good_is_cut_at m s S g).row_one (good_inside m s S g0).row_one
+        second_apart s S e g0 (Row s.first.row) (good_is_cut_at m s S g g0).row_one (good_inside m s S g0).row_one
         (ap (λ (z : Bool). name_of m groups (other_line z s.second.other)) flat ∙ none s.second.other line other.0 other.1)
 
     no_first_row : (s : Seed) (S : Lines) → form_number form ≡ form_number s.form → IsGoodSeed m s S → first_is_flat s.form ≡ false → HasNoRow m groups s.first.column s.second.column → ⊥
@@ -297,7 +195,7 @@ module _ (m : Matrix) (form : Form) (crossing : IsCrossing form) where
         let g = crossing_seed s S e g0 in
         let line : IsLine (height m) m.width (other_line false s.first.other) = subst (λ (z : Bool). IsLine (height m) m.width (other_line z s.first.other)) tall ((facts m s S g0).first_lines (other_line (first_is_flat s.form) s.first.other) (corner_other (first_is_flat s.form) s.first.row s.first.column s.first.other)) in
         let other = subst (λ (z : Bool). IsFirstOther z (entry m) s.first.row s.first.column s.second.row s.second.column s.first.other) tall g.connectors.first_other in
-        first_apart s S e g0 (Column s.second.column) (good_is_cut_at m s S g).column_two (good_inside m s S g0).column_two
+        first_apart s S e g0 (Column s.second.column) (good_is_cut_at m s S g g0).column_two (good_inside m s S g0).column_two
         (ap (λ (z : Bool). name_of m groups (other_line z s.first.other)) tall ∙ none s.first.other line other.0 other.1)
 
     no_second_row : (s : Seed) (S : Lines) → form_number form ≡ form_number s.form → IsGoodSeed m s S → second_is_flat s.form ≡ false → HasNoRow m groups s.second.column s.first.column → ⊥
@@ -305,7 +203,7 @@ module _ (m : Matrix) (form : Form) (crossing : IsCrossing form) where
         let g = crossing_seed s S e g0 in
         let line : IsLine (height m) m.width (other_line false s.second.other) = subst (λ (z : Bool). IsLine (height m) m.width (other_line z s.second.other)) tall ((facts m s S g0).second_lines (other_line (second_is_flat s.form) s.second.other) (corner_other (second_is_flat s.form) s.second.row s.second.column s.second.other)) in
         let other = subst (λ (z : Bool). IsSecondOther z (entry m) s.first.row s.first.column s.second.row s.second.column s.second.other) tall g.connectors.second_other in
-        second_apart s S e g0 (Column s.first.column) (good_is_cut_at m s S g).column_one (good_inside m s S g0).column_one
+        second_apart s S e g0 (Column s.first.column) (good_is_cut_at m s S g g0).column_one (good_inside m s S g0).column_one
         (ap (λ (z : Bool). name_of m groups (other_line z s.second.other)) tall ∙ none s.second.other line other.0 other.1)
 
     lacks_column : (i p k : ℕ) → LacksColumn m groups form i k → HasNoGood m (form_number form ∷ i ∷ p ∷ k ∷ [])
@@ -330,7 +228,7 @@ module _ (m : Matrix) (form : Form) (crossing : IsCrossing form) where
   no_good_second_row groups i p k hold (inl lacks) s S h g0 = lacks_column groups hold i p k lacks s S h g0
   no_good_second_row groups i p k hold (inr no_row) s S h g0 =
       let g = crossing_seed s S h.0 g0 in
-      let cut = good_is_cut_at m s S g in
+      let cut = good_is_cut_at m s S g g0 in
       let within = good_inside m s S g0 in
       let T = hold S (good_is_cut m s S (is_crossing s h.0) g0) in
       elim no_row [
@@ -343,7 +241,7 @@ module _ (m : Matrix) (form : Form) (crossing : IsCrossing form) where
   no_good_second_column groups i p k j hold (inl lacks) s S h g0 = lacks_row groups hold i p k j lacks s S h g0
   no_good_second_column groups i p k j hold (inr no_column) s S h g0 =
       let g = crossing_seed s S h.0 g0 in
-      let cut = good_is_cut_at m s S g in
+      let cut = good_is_cut_at m s S g g0 in
       let within = good_inside m s S g0 in
       let T = hold S (good_is_cut m s S (is_crossing s h.0) g0) in
       elim no_column [
@@ -354,10 +252,6 @@ module _ (m : Matrix) (form : Form) (crossing : IsCrossing form) where
       ]
 
   module _ (c : Corners) where
-    pub no_good_corners : HasNoCutAt m c → HasNoGood m (corner_front form c)
-    no_good_corners none s S h g =
-        none S (good_is_cut_at m (seed_at form c s.first.other s.second.other s.line) S (subst (λ (z : Seed). IsGoodCrossing (height m) m.width (entry m) z S) (seed_from_corners m form c s h) (crossing_seed s S h.0 g)))
-
     pub no_good_first : (q : ℕ) → ¬ (IsFirstOther (first_is_flat form) (entry m) c.i c.p c.k c.j q) → HasNoGood m (corner_front form c ++ q ∷ [])
     no_good_first q none s S h g = none (subst (λ (z : Seed). IsGoodCrossing (height m) m.width (entry m) z S) (seed_from_first m form c q s h) (crossing_seed s S h.0 g)).connectors.first_other
 
@@ -369,26 +263,6 @@ module _ (m : Matrix) (form : Form) (crossing : IsCrossing form) where
       pub no_good_second : ¬ (IsSecondOther (second_is_flat form) (entry m) c.i c.p c.k c.j o) → HasNoGood m (corner_front form c ++ q ∷ o ∷ [])
       no_good_second none s S h g = none (crossing_at s S h g).connectors.second_other
 
-      -- the first connector's closed side has the second's other line
-      pub no_good_held : (L : Lines) → IsLeast m c (connector (first_is_flat form) c.i c.p q) L → L (other_line (second_is_flat form) o) ≡ true → HasNoGood m (corner_front form c ++ q ∷ o ∷ [])
-      no_good_held L least held s S h g0 =
-          let g = crossing_at s S h g0 in
-          not_both (S (other_line (second_is_flat form) o)) (least.least S g.side.closed (λ x a. g.side.has x (inr a)) (other_line (second_is_flat form) o) held)
-          (g.two (other_line (second_is_flat form) o) (corner_other (second_is_flat form) c.k c.j o))
-
-      pub no_good_line : (place : ℕ) (x : Line) → IsLine (height m) m.width x → line_number (height m) x ≡ place → (L : Lines) → IsLeast m c (x ∷ connector (first_is_flat form) c.i c.p q) L
-          → ¬ (LeavesSecond m c (other_line (second_is_flat form) o) L) → HasNoGood m (corner_front form c ++ q ∷ o ∷ place ∷ [])
-      no_good_line place x lx number L least unfit s S h g0 =
-          let g = subst (λ (z : Seed). IsGoodCrossing (height m) m.width (entry m) z S) (seed_from_all m form c q o place x s lx (facts m s S g0).line number h) (crossing_seed s S h.0 g0) in
-          let within : (y : Line) → L y ≡ true → S y ≡ true = least.least S g.side.closed g.side.has in
-          let out : (y : Line) → S y ≡ false → L y ≡ false = λ y e. false_is (L y) (λ t. not_both (S y) (within y t) e) in
-          unfit (record {
-            row = out (Row c.k) (g.two (Row c.k) (corner_row (second_is_flat form) c.k c.j o));
-            column = out (Column c.j) (g.two (Column c.j) (corner_column (second_is_flat form) c.k c.j o));
-            other = out (other_line (second_is_flat form) o) (g.two (other_line (second_is_flat form) o) (corner_other (second_is_flat form) c.k c.j o));
-            enough = let a = outside_less (height m) m.width L S within in let b = g.enough in omega arith;
-          })
-
 -- a line of one of the connectors
 pub no_good_beside : (m : Matrix) (form : Form) (c : Corners) (q o place : ℕ) (x : Line) → IsLine (height m) m.width x → line_number (height m) x ≡ place
     → Among (connector (first_is_flat form) c.i c.p q) x ⊎ Among (connector (second_is_flat form) c.k c.j o) x → HasNoGood m (corner_front form c ++ q ∷ o ∷ place ∷ [])
@@ -398,52 +272,12 @@ no_good_beside m form c q o place x lx number among s S h g0 =
 
 -- ---- what is found
 
-pub lines_of_connector : (m n : ℕ) (flat : Bool) (r c o : ℕ) → r < m → c < n → IsLine m n (other_line flat o) → (x : Line) → Among (connector flat r c o) x → IsLine m n x
-lines_of_connector m n true r c o lr lc lo x (inl e) = subst (IsLine m n) (sym e) lr
-lines_of_connector m n true r c o lr lc lo x (inr (inl e)) = subst (IsLine m n) (sym e) lc
-lines_of_connector m n true r c o lr lc lo x (inr (inr (inl e))) = subst (IsLine m n) (sym e) lo
-lines_of_connector m n true r c o lr lc lo x (inr (inr (inr h))) = absurd h
-lines_of_connector m n false r c o lr lc lo x (inl e) = subst (IsLine m n) (sym e) lr
-lines_of_connector m n false r c o lr lc lo x (inr (inl e)) = subst (IsLine m n) (sym e) lc
-lines_of_connector m n false r c o lr lc lo x (inr (inr (inl e))) = subst (IsLine m n) (sym e) lo
-lines_of_connector m n false r c o lr lc lo x (inr (inr (inr h))) = absurd h
-
-pub none_of_connector : (flat : Bool) (r c o : ℕ) (S : Lines) → S (Row r) ≡ false → S (Column c) ≡ false → S (other_line flat o) ≡ false → HasNone S (connector flat r c o)
-none_of_connector true r c o S er ec eo x (inl e) = ap S e ∙ er
-none_of_connector true r c o S er ec eo x (inr (inl e)) = ap S e ∙ ec
-none_of_connector true r c o S er ec eo x (inr (inr (inl e))) = ap S e ∙ eo
-none_of_connector true r c o S er ec eo x (inr (inr (inr h))) = absurd h
-none_of_connector false r c o S er ec eo x (inl e) = ap S e ∙ er
-none_of_connector false r c o S er ec eo x (inr (inl e)) = ap S e ∙ ec
-none_of_connector false r c o S er ec eo x (inr (inr (inl e))) = ap S e ∙ eo
-none_of_connector false r c o S er ec eo x (inr (inr (inr h))) = absurd h
-
 not_before_itself : (ys : List ℕ) → ¬ (IsBefore ys ys)
 not_before_itself [] h = h
 not_before_itself (y ∷ ys) (inl l) = omega arith
 not_before_itself (y ∷ ys) (inr h) = not_before_itself ys h.1
 
 module _ (m : Matrix) (form : Form) (c : Corners) (q o place : ℕ) (x : Line) (S : Lines) (three : Three) where
-  pub seed_good : IsCrossing form → AreInside m c → AreCorners (entry m) c.i c.p c.k c.j → IsFirstOther (first_is_flat form) (entry m) c.i c.p c.k c.j q → IsSecondOther (second_is_flat form) (entry m) c.i c.p c.k c.j o
-      → IsLine (height m) m.width (other_line (first_is_flat form) q) → IsLine (height m) m.width (other_line (second_is_flat form) o) → IsLine (height m) m.width x
-      → ¬ (Among (connector (first_is_flat form) c.i c.p q) x) → ¬ (Among (connector (second_is_flat form) c.k c.j o) x) → IsLeast m c (x ∷ connector (first_is_flat form) c.i c.p q) S
-      → LeavesSecond m c (other_line (second_is_flat form) o) S → IsGoodSeed m (seed_at form c q o x) S
-  seed_good crossing within corners f1 f2 l1 l2 lx b1 b2 least leaves = good_seed m (seed_at form c q o x) S (as_good m (seed_at form c q o x) S crossing (record {
-    connectors = record {
-      corners = corners;
-      first_other = f1;
-      second_other = f2;
-      first_lines = lines_of_connector (height m) m.width (first_is_flat form) c.i c.p q within.row_one within.column_one l1;
-      second_lines = lines_of_connector (height m) m.width (second_is_flat form) c.k c.j o within.row_two within.column_two l2;
-    };
-    line = lx;
-    beside_first = b1;
-    beside_second = b2;
-    side = record { closed = least.closed; has = least.has; least = λ T closed has y l e. least.least T closed has y e };
-    two = none_of_connector (second_is_flat form) c.k c.j o S leaves.row leaves.column leaves.other;
-    enough = leaves.enough;
-  }))
-
   pub three_is : three.form ≡ form → three.first ≡ record { row = c.i; column = c.p; other = q } → three.second ≡ record { row = c.k; column = c.j; other = o } → seed_of three x ≡ seed_at form c q o x
   three_is e1 e2 e3 = rw (e1, e2, e3) refl
 
@@ -459,52 +293,6 @@ module _ (m : Matrix) (form : Form) (c : Corners) (q o place : ℕ) (x : Line) (
         (subst (λ (z : Seed). IsBefore (seed_key m other) (seed_key m z)) (e ∙ sym (seed_from_all m form c q o place x other lx (facts m other T g).line number begins)) before);
     lines = lines;
   }
-
--- ---- copies
-
-pub half_same : (size : ℕ) (one two : Half) → AreSame one two → IsHalf size two → IsHalf size one
-half_same size one two same w =
-    let is : (x : ℕ) → is_in one x ≡ is_in two x = λ x. ap (λ (v : List Bool). get_or v x false) same.inside in
-    record {
-      size = ap (λ (v : List Bool). length v) same.inside ∙ w.size;
-      few = w.few;
-      words = record { few = w.few; seen = ap (λ (v : List ℕ). length v) same.seen ∙ w.words.seen };
-      seen_in = λ x e. is x ∙ w.seen_in x (sym (ap (λ (v : List ℕ). has_column v x) same.seen) ∙ e);
-      fresh_in = λ x h. w.fresh_in x (subst (λ (v : List ℕ). IsIn x v) same.fresh h);
-      fresh_inside = λ x h. is x ∙ w.fresh_inside x (subst (λ (v : List ℕ). IsIn x v) same.fresh h);
-      left = same.left ∙ w.left ∙ count_same (λ x. not (is_in two x)) (λ x. not (is_in one x)) size (λ x l. ap not (sym (is x)));
-    }
-
-pub room_same : (m : Matrix) (one two : Side) → AreSame one.rows two.rows → AreSame one.columns two.columns → HasRoom m two → HasRoom m one
-room_same m one two rows columns w = record { rows = half_same (height m) one.rows two.rows rows w.rows; columns = half_same m.width one.columns two.columns columns w.columns }
-
-pub growing_same : (m : Matrix) (upper lower : ℕ → ℕ → ℤ) (start : List Line) (one two : Side) → AreSame one.rows two.rows → AreSame one.columns two.columns → IsGrowingBy m upper lower start two → IsGrowingBy m upper lower start one
-growing_same m upper lower start one two rows columns g = record {
-  has = λ x h. is x ∙ g.has x h;
-  least = λ T closed has x e. g.least T closed has x (sym (is x) ∙ e);
-  right = λ r k lr lk er ek. elim (g.right r k lr lk (sym (is (Row r)) ∙ er) (sym (is (Column k)) ∙ ek)) [ inl h ↦ inl (subst (λ (v : List ℕ). IsIn r v) (sym rows.fresh) h) | inr e ↦ inr e ];
-  below = λ r k lr lk er ek. elim (g.below r k lr lk (sym (is (Row r)) ∙ er) (sym (is (Column k)) ∙ ek)) [ inl h ↦ inl (subst (λ (v : List ℕ). IsIn k v) (sym columns.fresh) h) | inr e ↦ inr e ];
-}
-  where
-    is : (x : Line) → set_of one x ≡ set_of two x
-    is (Row r) = ap (λ (v : List Bool). get_or v r false) rows.inside
-    is (Column k) = ap (λ (v : List Bool). get_or v k false) columns.inside
-
--- the side of the first connector after the other one has grown
-pub held_kept : (m : Matrix) (form : Form) (c : Corners) (q : ℕ) (before after : Search) → HoldsFirst m form c q before → after.side ≡ before.side → after.groups ≡ before.groups → HasRoom m after.grown → HoldsFirst m form c q after
-held_kept m form c q before after held side groups room = record {
-  kept = record {
-    side = subst (λ (z : Side). HasSize m z) (sym side) held.kept.side;
-    grown = has_size m after.grown room;
-    names = subst (λ (z : Groups). HasNames m z) (sym groups) held.kept.names;
-    together = subst (λ (z : Groups). HoldTogether (IsCut m) m z) (sym groups) held.kept.together;
-  };
-  line = held.line;
-  other = held.other;
-  room = subst (λ (z : Side). HasRoom m z) (sym side) held.room;
-  growing = subst (λ (z : Side). IsGrowing m c (connector (first_is_flat form) c.i c.p q) z) (sym side) held.growing;
-  least = subst (λ (z : Side). IsLeast m c (connector (first_is_flat form) c.i c.p q) (set_of z)) (sym side) held.least;
-}
 
 -- ---- all forms
 
@@ -573,39 +361,3 @@ place_below m kind c q o rows columns er ec s S b g h = go s.line (facts m s S g
     go : (x : Line) → IsLine (height m) m.width x → b ≡ line_number (height m) x → b < rows + columns
     go (Row r) l e = omega arith
     go (Column k) l e = omega arith
-
-pub start_is : (c : Corners) (form : Form) (flat : Bool) (q : ℕ) (line : Line) → flat ≡ first_is_flat form → line ≡ other_line flat q → start_lines c line ≡ connector (first_is_flat form) c.i c.p q
-start_is c form flat q line ef el = ap (λ (z : Line). start_lines c z) (el ∙ ap (λ (z : Bool). other_line z q) ef) ∙ go (first_is_flat form)
-  where
-    go : (b : Bool) → start_lines c (other_line b q) ≡ connector b c.i c.p q
-    go true = refl
-    go false = refl
-
--- ---- lists of lines
-
-abbrev pub AreFirst : (ℕ → Bool) → List ℕ → ℕ → Type 0
-AreFirst test lines bound = (x : ℕ) → IsIn x lines ↔ ((x < bound) × (test x ≡ true))
-
-pub indices_more : (test : ℕ → Bool) (before after : List ℕ) (line : ℕ) → AreFirst test before line → test line ≡ true → after ≡ before ++ line ∷ [] → AreFirst test after (line + 1)
-indices_more test before after line w t e x = (to, from)
-  where
-    to : IsIn x after → (x < line + 1) × (test x ≡ true)
-    to h = elim ((in-append before line x).0 (subst (λ (z : List ℕ). IsIn x z) e h)) [
-      | inl g ↦ let k = (w x).0 g in (let l = k.0 in omega arith, k.1)
-      | inr f ↦ (omega arith, ap test f ∙ t)
-    ]
-
-    from : (x < line + 1) × (test x ≡ true) → IsIn x after
-    from h = subst (λ (z : List ℕ). IsIn x z) (sym e) ((in-append before line x).1 (elim (same_or_not x line) [ inl f ↦ inr f | inr n ↦ inl ((w x).1 (let l = h.0 in omega (arith, n), h.1)) ]))
-
-pub indices_less : (test : ℕ → Bool) (before after : List ℕ) (line : ℕ) → AreFirst test before line → test line ≡ false → after ≡ before → AreFirst test after (line + 1)
-indices_less test before after line w t e x = (to, from)
-  where
-    to : IsIn x after → (x < line + 1) × (test x ≡ true)
-    to h = let k = (w x).0 (subst (λ (z : List ℕ). IsIn x z) e h) in (let l = k.0 in omega arith, k.1)
-
-    from : (x < line + 1) × (test x ≡ true) → IsIn x after
-    from h = subst (λ (z : List ℕ). IsIn x z) (sym e) ((w x).1 (elim (same_or_not x line) [ inl f ↦ absurd (not_both (test x) h.1 (ap test f ∙ t)) | inr n ↦ let l = h.0 in omega (arith, n) ], h.1))
-
-pub indices_all : (test : ℕ → Bool) (lines : List ℕ) (line bound : ℕ) → AreFirst test lines line → line ≡ bound → AreFirst test lines bound
-indices_all test lines line bound w e = subst (λ (z : ℕ). AreFirst test lines z) e w

@@ -21,7 +21,7 @@ among_from_all P [] h x a = absurd a
 among_from_all P (y ∷ ys) h x (inl e) = subst P (sym e) h.0
 among_from_all P (y ∷ ys) h x (inr a) = among_from_all P ys h.1 x a
 
-other_lines : (x : Line) (xs : List Line) → ¬ (Among xs x) → AllByRecursion (λ y. x ≢ y) xs
+pub other_lines : (x : Line) (xs : List Line) → ¬ (Among xs x) → AllByRecursion (λ y. x ≢ y) xs
 other_lines x xs h = all_from_among (λ y. x ≢ y) xs (λ y a e. h (subst (λ (z : Line). Among xs z) (sym e) a))
 
 not_among : (x : Line) (xs : List Line) → AllByRecursion (λ y. x ≢ y) xs → ¬ (Among xs x)

@@ -1,271 +1,210 @@
--- A side that grows, step by step.
-use Rattle.std.proofs.Common.{ℕ, ◌+◌, Bool, true, false, not, List, [], ◌∷◌, ◌≡◌, ◌<◌, ◌≤◌, ◌∙◌, sym, ap, refl, arith, subst, ◌⊎◌, inl, inr, length, get_or, ℤ, pos, ◌*ℤ◌, w8, of_z, to_z}
-use mathlib.Core.Path.{ap₂}
+-- What a side tells that grows from the lines of one connector and is to leave those of another.
+use Rattle.std.proofs.Common.{ℕ, ℤ, ◌≤◌, Bool, true, false, not, List, [], ◌∷◌, ◌++◌, ◌≡◌, ◌∙◌, sym, ap, refl, arith, subst, ◌⊎◌, inl, inr, filter}
+use Rattle.std.specs.List.{AllByRecursion}
+use Rattle.std.proofs.lemmas.List.Kept.{IsStrictlyIncreasing-filter}
 use Rattle.cmr_base.specs.declared.line.Line.{Line}
 use Rattle.cmr_base.specs.declared.line.Line.TheVariants.{Row, Column}
-use Rattle.cmr_base.proofs.Parts.{entry-transposed, height-transposed}
-use Rattle.cmr_base.specs.Matrix.{transposed, IsMatrix, Matrix, height, row_of, entry, IsEntry}
-use Rattle.cmr_base.specs.Members.{IsIn}
-use Rattle.cmr_base.proofs.Integers.{mul_assoc, mul_comm}
-use Rattle.cmr_base.proofs.Booleans.{false_is, not_both, true_is}
-use Rattle.cmr_base.proofs.EntryBytes.{kept_entry}
-use Rattle.cmr_base.proofs.SeedLemmas.{count_grows}
-use Rattle.three_sep.specs.declared.half.Half.{Half}
-use Rattle.three_sep.specs.declared.side.Side.{Side}
+use Rattle.cmr_base.specs.declared.separation.Form.{Form}
+use Rattle.cmr_base.specs.declared.separation.Form.TheVariants.{Concentrated}
+use Rattle.cmr_base.specs.LineSets.{first_lines}
+use Rattle.cmr_base.specs.Matrix.{Matrix, height, entry}
+use Rattle.cmr_base.specs.Separations.{AreEnough, Lines, connector_lines, count_in, first_is_flat, opposite, product_at, second_is_flat, lower_block, upper_block}
+use Rattle.cmr_base.specs.Seeds.{HasAll, IsGrown, IsLine, line_number}
+use Rattle.cmr_base.proofs.Booleans.{not_both, not_false, not_is, not_not}
+use Rattle.cmr_base.proofs.LineCounts.{count_same, inside_is}
+use Rattle.cmr_base.proofs.Lists.{all_weaker}
+use Rattle.cmr_base.proofs.RemovedLines.{first_lines_increase, first_lines_in, in_first_lines}
+use Rattle.cmr_base.proofs.RowLists.{filter_in, in_filter, two_cases}
+use Rattle.cmr_base.proofs.SeedLemmas.{three_separation_of_seed}
 use Rattle.cuts.specs.declared.corners.Corners.{Corners}
-use Rattle.cmr_base.specs.Separations.{Lines, product_at}
-use Rattle.three_sep.specs.NumberedSeeds.{Among, HasAll, outside}
-use Rattle.three_sep.specs.Halves.{is_in, HasPulled, HasAdded, HasTaken, Agrees}
-use Rattle.three_sep.proofs.HalfLemmas.{count_most}
-use Rattle.three_sep.specs.Sides.{set_of, HasRoom, IsClosedBy, IsGrowingBy, IsGrowing, IsLeastBy, LeavesFewBy}
+use Rattle.line_growth.specs.declared.rule.Rule.{Rule}
+use Rattle.line_growth.specs.GrowingSets.{HasNoLeaving, HasNone, IsClosedIn, IsLeaving, Leaves}
+use Rattle.line_growth.specs.Rules.{IsRuleOf, exchanged, lower_of, upper_of}
+use Rattle.three_sep.specs.declared.connectors.Connectors.{Connectors}
+use Rattle.three_sep.specs.Connectors.{AreConnectorsOf, AreInside, HasNoneParting, all_front, first_of, firsts, lines_at, rule_of, second_of, seconds}
+use Rattle.three_sep.specs.NumberedSeeds.{Among, HasLines, IsCrossing, IsFirstOther, IsGoodSeed, IsSecondOther, Seed, connector, seed_key}
+use Rattle.three_sep.specs.Searches.{BeginsWith, HasCorners, HasNoGood, corner_front, held_lines, other_line}
+use Rattle.three_sep.proofs.CrossingLemmas.{lower_crossing, upper_crossing, values_to}
+use Rattle.three_sep.proofs.SeedFacts.{other_lines}
+use Rattle.three_sep.proofs.SearchLemmas.{seed_at, seed_from_all, seed_from_corners, seed_from_first, seed_from_second}
 
--- ---- counts
+-- ---- separations that do not exist
 
--- what is not in the greater set is not in the smaller one
-pub not_grows : (a b : Bool) → (a ≡ true → b ≡ true) → not b ≡ true → not a ≡ true
-not_grows true true h e = e
-not_grows true false h e = absurd (not_both false (h refl) refl)
-not_grows false b h e = refl
+module _ (m : Matrix) (rule : Rule) (first second : List Line) where
+  pub none_leaving : HasNoLeaving m rule first second 4 → HasNoneParting m rule first second
+  none_leaving none T closed has out enough = none T closed has (record { none = out; enough = enough.two })
 
-pub outside_less : (m n : ℕ) (S T : Lines) → ((x : Line) → S x ≡ true → T x ≡ true) → outside m n T ≤ outside m n S
-outside_less m n S T h =
-    let a = count_grows (λ r. not (T (Row r))) (λ r. not (S (Row r))) m (λ x l e. not_grows (S (Row x)) (T (Row x)) (h (Row x)) e) in
-    let b = count_grows (λ c. not (T (Column c))) (λ c. not (S (Column c))) n (λ x l e. not_grows (S (Column x)) (T (Column x)) (h (Column x)) e) in
-    omega arith
+  twice : (T : Lines) → count_in (opposite (opposite T)) (first_lines (height m)) (first_lines m.width) ≡ count_in T (first_lines (height m)) (first_lines m.width)
+  twice T =
+      let a = inside_is (height m) m.width (opposite (opposite T)) in
+      let b = inside_is (height m) m.width T in
+      let r = count_same (λ x. not (not (T (Row x)))) (λ x. T (Row x)) (height m) (λ x l. not_not (T (Row x))) in
+      let c = count_same (λ x. not (not (T (Column x)))) (λ x. T (Column x)) m.width (λ x l. not_not (T (Column x))) in
+      omega arith
 
-pub outside_left : (m : Matrix) (side : Side) → HasRoom m side → outside (height m) m.width (set_of side) ≡ side.rows.left + side.columns.left
-outside_left m side w = let a = w.rows.left in let b = w.columns.left in omega arith
+  -- the other side is closed by the rule with the blocks exchanged
+  other_closed : (T : Lines) → IsClosedIn m (upper_of m rule) (lower_of m rule) T → IsClosedIn m (upper_of m (exchanged rule)) (lower_of m (exchanged rule)) (opposite T)
+  other_closed T closed = record {
+    right = λ r c hr hc er ec. closed.below r c hr hc (not_is (T (Row r)) er) (not_false (T (Column c)) ec);
+    below = λ r c hr hc er ec. closed.right r c hr hc (not_false (T (Row r)) er) (not_is (T (Column c)) ec);
+  }
 
-pub left_few : (m : Matrix) (side : Side) → HasRoom m side → side.rows.left + side.columns.left ≤ 2000
-left_few m side w =
-    let a = count_most (λ line. not (is_in side.rows line)) (height m) in
-    let b = count_most (λ line. not (is_in side.columns line)) m.width in
-    let c = w.rows.left in
-    let d = w.columns.left in
-    let e = w.rows.few in
-    let f = w.columns.few in
-    omega arith
+  other_has : (T : Lines) (lines : List Line) → HasNone T lines → HasAll (opposite T) lines
+  other_has T lines none = all_weaker (λ x. T x ≡ false) (λ x. not (T x) ≡ true) (λ x e. ap not e) lines none
 
--- ---- pulls
+  other_leaves : (T : Lines) → HasAll T first → AreEnough (first_lines (height m)) (first_lines m.width) T 4 → Leaves m first 4 (opposite T)
+  other_leaves T has enough = record {
+    none = all_weaker (λ x. T x ≡ true) (λ x. not (T x) ≡ false) (λ x e. ap not e) first has;
+    enough = let a = twice T in let b = enough.one in omega arith;
+  }
 
--- a multiple of the corner's line follows the rule of products
-pub right_rule : (m : Matrix) (i j r k : ℕ) (factor : ℤ) → factor ≡ entry m r j *ℤ entry m i j → entry m r k ≡ factor *ℤ entry m i k → entry m r k ≡ product_at (entry m) i j r k
-right_rule m i j r k factor e h = h ∙ ap (λ (z : ℤ). z *ℤ entry m i k) e ∙ mul_assoc (entry m r j) (entry m i j) (entry m i k) ∙ ap (λ (z : ℤ). entry m r j *ℤ z) (mul_comm (entry m i j) (entry m i k))
+  pub none_left : HasNoLeaving m (exchanged rule) second first 4 → HasNoneParting m rule first second
+  none_left none T closed has out enough = none (opposite T) (other_closed T closed) (other_has T second out) (other_leaves T has enough)
 
-pub rule_right : (m : Matrix) (i j r k : ℕ) (factor : ℤ) → factor ≡ entry m r j *ℤ entry m i j → entry m r k ≡ product_at (entry m) i j r k → entry m r k ≡ factor *ℤ entry m i k
-rule_right m i j r k factor e h = h ∙ sym (ap (λ (z : ℤ). z *ℤ entry m i k) e ∙ mul_assoc (entry m r j) (entry m i j) (entry m i k) ∙ ap (λ (z : ℤ). entry m r j *ℤ z) (mul_comm (entry m i j) (entry m i k)))
-
--- for columns: the factor is the product of entries in row k, the model is column p
-pub below_rule : (m : Matrix) (k p r c : ℕ) (factor : ℤ) → factor ≡ entry m k c *ℤ entry m k p → entry m r c ≡ factor *ℤ entry m r p → entry m r c ≡ product_at (entry m) k p r c
-below_rule m k p r c factor e h = h ∙ ap (λ (z : ℤ). z *ℤ entry m r p) e ∙ mul_comm (entry m k c *ℤ entry m k p) (entry m r p)
-
-pub rule_below : (m : Matrix) (k p r c : ℕ) (factor : ℤ) → factor ≡ entry m k c *ℤ entry m k p → entry m r c ≡ product_at (entry m) k p r c → entry m r c ≡ factor *ℤ entry m r p
-rule_below m k p r c factor e h = h ∙ sym (ap (λ (z : ℤ). z *ℤ entry m r p) e ∙ mul_comm (entry m k c *ℤ entry m k p) (entry m r p))
-
--- the pulls of a row
-module _ (m : Matrix) (upper lower : ℕ → ℕ → ℤ) (before after : Side) (taken : Half) (row : ℕ) (agrees : ℕ → Type 0)
-    (t : HasTaken (height m) row before.rows taken) (rows : after.rows ≡ taken) (w : HasPulled m.width agrees before.columns after.columns)
-    (agrees_of : (k : ℕ) → entry m row k ≡ upper row k → agrees k) (of_agrees : (k : ℕ) → agrees k → entry m row k ≡ upper row k) (start : List Line) (g : IsGrowingBy m upper lower start before) where
-  row_same : (r : ℕ) → is_in after.rows r ≡ is_in before.rows r
-  row_same r = ap (λ v. is_in v r) rows ∙ ap (λ v. get_or v.items r false) t.inside_same
-
-  column_out : (k : ℕ) → is_in after.columns k ≡ false → is_in before.columns k ≡ false
-  column_out k e = false_is (is_in before.columns k) (λ h. not_both (is_in after.columns k) (w.kept k h) e)
-
-  row_has : (x : Line) → Among start x → set_of after x ≡ true
-  row_has (Row r) h = row_same r ∙ g.has (Row r) h
-  row_has (Column k) h = w.kept k (g.has (Column k) h)
-
-  row_least : (T : Lines) → IsClosedBy m upper lower T → HasAll T start → (x : Line) → set_of after x ≡ true → T x ≡ true
-  row_least T closed has (Row r) e = g.least T closed has (Row r) (sym (row_same r) ∙ e)
-  row_least T closed has (Column k) e = elim (w.only k e) [
-    | inl h ↦ g.least T closed has (Column k) h
-    | inr h ↦ true_is (T (Column k)) (λ out. h.1 (agrees_of k (closed.right row k t.line_in h.0 (g.least T closed has (Row row) t.line_inside) out)))
+  -- a line that can be on neither side
+  pub none_refused : (x : Line) → HasNoLeaving m rule (x ∷ first) second 4 → HasNoLeaving m (exchanged rule) (x ∷ second) first 4 → HasNoneParting m rule first second
+  none_refused x one two T closed has out enough = elim (two_cases (T x)) [
+    | inl e ↦ one T closed (e, has) (record { none = out; enough = enough.two })
+    | inr e ↦ two (opposite T) (other_closed T closed) (ap not e, other_has T second out) (other_leaves T has enough)
   ]
 
-  row_right : (r k : ℕ) → r < height m → k < m.width → set_of after (Row r) ≡ true → set_of after (Column k) ≡ false → IsIn r after.rows.fresh.items ⊎ (entry m r k ≡ upper r k)
-  row_right r k lr lk er ek = elim (g.right r k lr lk (sym (row_same r) ∙ er) (column_out k ek)) [
-    | inl h ↦ elim (t.others r h) [
-      | inl e ↦ inr (subst (λ (z : ℕ). entry m z k ≡ upper z k) (sym e) (of_agrees k (w.agree k lk ek)))
-      | inr h' ↦ inl (subst (λ v. IsIn r v.fresh.items) (sym rows) h')
-    ]
-    | inr e ↦ inr e
-  ]
+-- ---- seeds
 
-  row_below : (r k : ℕ) → r < height m → k < m.width → set_of after (Row r) ≡ false → set_of after (Column k) ≡ true → IsIn k after.columns.fresh.items ⊎ (entry m r k ≡ lower r k)
-  row_below r k lr lk er ek = elim (w.news k ek) [
-    | inl h ↦ elim (g.below r k lr lk (sym (row_same r) ∙ er) h) [ inl h' ↦ inl (w.waits k h') | inr e ↦ inr e ]
-    | inr h ↦ inl h
-  ]
+-- the lines of a connector
+lines_are : (flat : Bool) (row column other : ℕ) → connector flat row column other ≡ lines_at (other_line flat other) row column
+lines_are true row column other = refl
+lines_are false row column other = refl
 
-  pub row_followed : IsGrowingBy m upper lower start after
-  row_followed = record { has = row_has; least = row_least; right = row_right; below = row_below }
+module _ (m : Matrix) (form : Form) (rule : Rule) (d : Connectors) (are : AreConnectorsOf m form rule d) where
+  abbrev c : Corners
+  c = d.corners
 
--- the pulls of a column
-module _ (m : Matrix) (upper lower : ℕ → ℕ → ℤ) (before after : Side) (taken : Half) (column : ℕ) (agrees : ℕ → Type 0)
-    (t : HasTaken m.width column before.columns taken) (columns : after.columns ≡ taken) (w : HasPulled (height m) agrees before.rows after.rows)
-    (agrees_of : (r : ℕ) → entry m r column ≡ lower r column → agrees r) (of_agrees : (r : ℕ) → agrees r → entry m r column ≡ lower r column) (start : List Line) (g : IsGrowingBy m upper lower start before) where
-  column_same : (k : ℕ) → is_in after.columns k ≡ is_in before.columns k
-  column_same k = ap (λ v. is_in v k) columns ∙ ap (λ v. get_or v.items k false) t.inside_same
+  first_is : connector (first_is_flat form) c.i c.p d.q ≡ firsts form d
+  first_is = lines_are (first_is_flat form) c.i c.p d.q
 
-  row_out : (r : ℕ) → is_in after.rows r ≡ false → is_in before.rows r ≡ false
-  row_out r e = false_is (is_in before.rows r) (λ h. not_both (is_in after.rows r) (w.kept r h) e)
+  second_is : connector (second_is_flat form) c.k c.j d.o ≡ seconds form d
+  second_is = lines_are (second_is_flat form) c.k c.j d.o
 
-  column_has : (x : Line) → Among start x → set_of after x ≡ true
-  column_has (Row r) h = w.kept r (g.has (Row r) h)
-  column_has (Column k) h = column_same k ∙ g.has (Column k) h
+  pub seconds_in : AllByRecursion (IsLine (height m) m.width) (seconds form d)
+  seconds_in = subst (λ (xs : List Line). AllByRecursion (IsLine (height m) m.width) xs) second_is are.pair.second_lines
 
-  column_least : (T : Lines) → IsClosedBy m upper lower T → HasAll T start → (x : Line) → set_of after x ≡ true → T x ≡ true
-  column_least T closed has (Column k) e = g.least T closed has (Column k) (sym (column_same k) ∙ e)
-  column_least T closed has (Row r) e = elim (w.only r e) [
-    | inl h ↦ g.least T closed has (Row r) h
-    | inr h ↦ true_is (T (Row r)) (λ out. h.1 (agrees_of r (closed.below r column h.0 t.line_in out (g.least T closed has (Column column) t.line_inside))))
-  ]
+  module _ (x : Line) (S : Lines) (good : IsGoodSeed m (seed_at form c d.q d.o x) S) where
+    closed : IsClosedIn m (upper_of m rule) (lower_of m rule) S
+    closed = subst (λ (u : ℕ → ℕ → ℤ). IsClosedIn m u (lower_of m rule) S) (sym are.upper) (subst (λ (l : ℕ → ℕ → ℤ). IsClosedIn m (upper_block (entry m) form (first_of d) (second_of d)) l S) (sym are.lower) good.1.grown.closed)
 
-  column_right : (r k : ℕ) → r < height m → k < m.width → set_of after (Row r) ≡ true → set_of after (Column k) ≡ false → IsIn r after.rows.fresh.items ⊎ (entry m r k ≡ upper r k)
-  column_right r k lr lk er ek = elim (w.news r er) [
-    | inl h ↦ elim (g.right r k lr lk h (sym (column_same k) ∙ ek)) [ inl h' ↦ inl (w.waits r h') | inr e ↦ inr e ]
-    | inr h ↦ inl h
-  ]
+    has : HasAll S (x ∷ firsts form d)
+    has = subst (λ (xs : List Line). HasAll S (x ∷ xs)) first_is good.1.grown.has
 
-  column_below : (r k : ℕ) → r < height m → k < m.width → set_of after (Row r) ≡ false → set_of after (Column k) ≡ true → IsIn k after.columns.fresh.items ⊎ (entry m r k ≡ lower r k)
-  column_below r k lr lk er ek = elim (g.below r k lr lk (row_out r er) (sym (column_same k) ∙ ek)) [
-    | inl h ↦ elim (t.others k h) [
-      | inl e ↦ inr (subst (λ (z : ℕ). entry m r z ≡ lower r z) (sym e) (of_agrees r (w.agree r lr er)))
-      | inr h' ↦ inl (subst (λ v. IsIn k v.fresh.items) (sym columns) h')
-    ]
-    | inr e ↦ inr e
-  ]
+    none : HasNone S (seconds form d)
+    none = subst (λ (xs : List Line). HasNone S xs) second_is good.1.two
 
-  pub column_followed : IsGrowingBy m upper lower start after
-  column_followed = record { has = column_has; least = column_least; right = column_right; below = column_below }
+    unless : HasNoLeaving m rule (x ∷ firsts form d) (seconds form d) 4 → ⊥
+    unless refused = refused S closed has (record { none = none; enough = good.1.enough })
 
--- ---- one more line
+    unless_parting : HasNoneParting m rule (firsts form d) (seconds form d) → ⊥
+    unless_parting refused = refused S closed has.1 none (three_separation_of_seed (height m) m.width (entry m) form (first_of d) (second_of d) x S good).enough
 
-module _ (m : Matrix) (upper lower : ℕ → ℕ → ℤ) (before after : Side) (start : List Line) (g : IsGrowingBy m upper lower start before) where
-  pub row_added : (row : ℕ) → HasAdded (height m) row before.rows after.rows → after.columns ≡ before.columns → IsGrowingBy m upper lower (Row row ∷ start) after
-  row_added row w columns = record { has = has; least = least; right = right; below = below }
-    where
-      same : (k : ℕ) → is_in after.columns k ≡ is_in before.columns k
-      same k = ap (λ v. is_in v k) columns
+  pub no_good_line : (place : ℕ) (x : Line) → IsLine (height m) m.width x → line_number (height m) x ≡ place → HasNoLeaving m rule (x ∷ firsts form d) (seconds form d) 4 → HasNoGood m (all_front form d ++ place ∷ [])
+  no_good_line place x lx number refused s S h g = unless x S (subst (λ (z : Seed). IsGoodSeed m z S) (seed_from_all m form c d.q d.o place x s lx g.1.line number h) g) refused
 
-      out : (r : ℕ) → is_in after.rows r ≡ false → is_in before.rows r ≡ false
-      out r e = false_is (is_in before.rows r) (λ h. not_both (is_in after.rows r) (w.kept r h) e)
+  pub no_good_parting : HasNoneParting m rule (firsts form d) (seconds form d) → HasNoGood m (all_front form d)
+  no_good_parting refused s S h g = unless_parting s.line S (subst (λ (z : Seed). IsGoodSeed m z S) (seed_from_second m form c d.q d.o s h) g) refused
 
-      has : (x : Line) → Among (Row row ∷ start) x → set_of after x ≡ true
-      has x (inl e) = subst (λ (z : Line). set_of after z ≡ true) (sym e) w.line_in
-      has (Row r) (inr h) = w.kept r (g.has (Row r) h)
-      has (Column k) (inr h) = same k ∙ g.has (Column k) h
+  -- a side that leaves the second connector is that of a good seed
+  pub good_from_leaving : (x : Line) (S : Lines) → IsLine (height m) m.width x → ¬ (Among (connector (first_is_flat form) c.i c.p d.q) x) → ¬ (Among (connector (second_is_flat form) c.k c.j d.o) x)
+      → IsLeaving m rule (x ∷ firsts form d) (seconds form d) 4 S → IsGoodSeed m (seed_at form c d.q d.o x) S
+  good_from_leaving x S lx b1 b2 is = (
+    are.pair,
+    record {
+      line = lx;
+      not_first = other_lines x (connector (first_is_flat form) c.i c.p d.q) b1;
+      not_second = other_lines x (connector (second_is_flat form) c.k c.j d.o) b2;
+      grown = record {
+        closed = subst (λ (u : ℕ → ℕ → ℤ). IsClosedIn m u (lower_block (entry m) form (first_of d) (second_of d)) S) are.upper (subst (λ (l : ℕ → ℕ → ℤ). IsClosedIn m (upper_of m rule) l S) are.lower is.grown.closed);
+        has = subst (λ (xs : List Line). HasAll S (x ∷ xs)) (sym first_is) is.grown.has;
+        least = λ T shut all y l e. is.grown.least T
+            (subst (λ (u : ℕ → ℕ → ℤ). IsClosedIn m u (lower_of m rule) T) (sym are.upper) (subst (λ (k : ℕ → ℕ → ℤ). IsClosedIn m (upper_block (entry m) form (first_of d) (second_of d)) k T) (sym are.lower) shut))
+            (subst (λ (xs : List Line). HasAll T (x ∷ xs)) first_is all) y l e;
+      };
+      two = subst (λ (xs : List Line). HasNone S xs) (sym second_is) is.leaves.none;
+      enough = is.leaves.enough;
+    },
+  )
 
-      least : (T : Lines) → IsClosedBy m upper lower T → HasAll T (Row row ∷ start) → (x : Line) → set_of after x ≡ true → T x ≡ true
-      least T closed all (Column k) e = g.least T closed (λ x h. all x (inr h)) (Column k) (sym (same k) ∙ e)
-      least T closed all (Row r) e = elim (w.only r e) [
-        | inl h ↦ g.least T closed (λ x h. all x (inr h)) (Row r) h
-        | inr h ↦ all (Row r) (inl (ap Row h))
-      ]
+-- ---- the forms of which both blocks are products
 
-      right : (r k : ℕ) → r < height m → k < m.width → set_of after (Row r) ≡ true → set_of after (Column k) ≡ false → IsIn r after.rows.fresh.items ⊎ (entry m r k ≡ upper r k)
-      right r k lr lk er ek = elim (w.news r er) [
-        | inl h ↦ elim (g.right r k lr lk h (sym (same k) ∙ ek)) [ inl h' ↦ inl (w.waits r h') | inr e ↦ inr e ]
-        | inr h ↦ inl h
-      ]
+pub rule_inside : (m : Matrix) (c : Corners) → AreInside m c → IsRuleOf m (rule_of c)
+rule_inside m c inside = record { upper = (inside.row_one, inside.column_two); lower = (inside.row_two, inside.column_one) }
 
-      below : (r k : ℕ) → r < height m → k < m.width → set_of after (Row r) ≡ false → set_of after (Column k) ≡ true → IsIn k after.columns.fresh.items ⊎ (entry m r k ≡ lower r k)
-      below r k lr lk er ek = elim (g.below r k lr lk (out r er) (sym (same k) ∙ ek)) [ inl h' ↦ inl (subst (λ v. IsIn k v.fresh.items) (sym columns) h') | inr e ↦ inr e ]
+module _ (m : Matrix) (form : Form) (crossing : IsCrossing form) (c : Corners) where
+  module _ (q o : ℕ) (x : Line) (S : Lines) (good : IsGoodSeed m (seed_at form c q o x) S) where
+    abbrev d : Connectors
+    d = record { corners = c; q = q; o = o }
 
-  pub column_added : (column : ℕ) → HasAdded m.width column before.columns after.columns → after.rows ≡ before.rows → IsGrowingBy m upper lower (Column column ∷ start) after
-  column_added column w rows = record { has = has; least = least; right = right; below = below }
-    where
-      same : (r : ℕ) → is_in after.rows r ≡ is_in before.rows r
-      same r = ap (λ v. is_in v r) rows
+    crossing_closed : IsClosedIn m (product_at (entry m) c.i c.j) (product_at (entry m) c.k c.p) S
+    crossing_closed = subst (λ (u : ℕ → ℕ → ℤ). IsClosedIn m u (product_at (entry m) c.k c.p) S) (upper_crossing (entry m) (first_of d) (second_of d) form crossing)
+        (subst (λ (l : ℕ → ℕ → ℤ). IsClosedIn m (upper_block (entry m) form (first_of d) (second_of d)) l S) (lower_crossing (entry m) (first_of d) (second_of d) form crossing) good.1.grown.closed)
 
-      out : (k : ℕ) → is_in after.columns k ≡ false → is_in before.columns k ≡ false
-      out k e = false_is (is_in before.columns k) (λ h. not_both (is_in after.columns k) (w.kept k h) e)
+    crossing_has : HasAll S (held_lines form c q)
+    crossing_has = (subst (λ (xs : List Line). HasAll S (x ∷ xs)) (lines_are (first_is_flat form) c.i c.p q) good.1.grown.has).1
 
-      has : (x : Line) → Among (Column column ∷ start) x → set_of after x ≡ true
-      has x (inl e) = subst (λ (z : Line). set_of after z ≡ true) (sym e) w.line_in
-      has (Row r) (inr h) = same r ∙ g.has (Row r) h
-      has (Column k) (inr h) = w.kept k (g.has (Column k) h)
+    crossing_none : HasNone S (lines_at (other_line (second_is_flat form) o) c.k c.j)
+    crossing_none = subst (λ (xs : List Line). HasNone S xs) (lines_are (second_is_flat form) c.k c.j o) good.1.two
 
-      least : (T : Lines) → IsClosedBy m upper lower T → HasAll T (Column column ∷ start) → (x : Line) → set_of after x ≡ true → T x ≡ true
-      least T closed all (Row r) e = g.least T closed (λ x h. all x (inr h)) (Row r) (sym (same r) ∙ e)
-      least T closed all (Column k) e = elim (w.only k e) [
-        | inl h ↦ g.least T closed (λ x h. all x (inr h)) (Column k) h
-        | inr h ↦ all (Column k) (inl (ap Column h))
-      ]
+    corners_none : HasNone S (Row c.k ∷ Column c.j ∷ [])
+    corners_none = (crossing_none.0, (crossing_none.1.0, tt))
 
-      right : (r k : ℕ) → r < height m → k < m.width → set_of after (Row r) ≡ true → set_of after (Column k) ≡ false → IsIn r after.rows.fresh.items ⊎ (entry m r k ≡ upper r k)
-      right r k lr lk er ek = elim (g.right r k lr lk (sym (same r) ∙ er) (out k ek)) [ inl h' ↦ inl (subst (λ v. IsIn r v.fresh.items) (sym rows) h') | inr e ↦ inr e ]
+  pub no_good_corners : HasNoneParting m (rule_of c) (Row c.i ∷ Column c.p ∷ []) (Row c.k ∷ Column c.j ∷ []) → HasNoGood m (corner_front form c)
+  no_good_corners refused s S h g0 =
+      let q = s.first.other in
+      let o = s.second.other in
+      let g = subst (λ (z : Seed). IsGoodSeed m z S) (seed_from_corners m form c s h) g0 in
+      let has = crossing_has q o s.line S g in
+      refused S (crossing_closed q o s.line S g) (has.0, (has.1.0, tt)) (corners_none q o s.line S g)
+      (three_separation_of_seed (height m) m.width (entry m) form (record { row = c.i; column = c.p; other = q }) (record { row = c.k; column = c.j; other = o }) s.line S g).enough
 
-      below : (r k : ℕ) → r < height m → k < m.width → set_of after (Row r) ≡ false → set_of after (Column k) ≡ true → IsIn k after.columns.fresh.items ⊎ (entry m r k ≡ lower r k)
-      below r k lr lk er ek = elim (w.news k ek) [
-        | inl h ↦ elim (g.below r k lr lk (sym (same r) ∙ er) h) [ inl h' ↦ inl (w.waits k h') | inr e ↦ inr e ]
-        | inr h ↦ inl h
-      ]
+  pub no_good_side : (q : ℕ) → HasNoLeaving m (rule_of c) (held_lines form c q) (Row c.k ∷ Column c.j ∷ []) 4 → HasNoGood m (corner_front form c ++ q ∷ [])
+  no_good_side q refused s S h g0 =
+      let o = s.second.other in
+      let g = subst (λ (z : Seed). IsGoodSeed m z S) (seed_from_first m form c q s h) g0 in
+      refused S (crossing_closed q o s.line S g) (crossing_has q o s.line S g) (record { none = corners_none q o s.line S g; enough = g.1.enough })
 
--- ---- the end
+  -- the first connector's closed side has the second's other line
+  pub no_good_held : (q o : ℕ) (L : Lines) → IsGrown (height m) m.width (entry m) (product_at (entry m) c.i c.j) (product_at (entry m) c.k c.p) (held_lines form c q) L → IsLine (height m) m.width (other_line (second_is_flat form) o)
+      → L (other_line (second_is_flat form) o) ≡ true → HasNoGood m (corner_front form c ++ q ∷ o ∷ [])
+  no_good_held q o L least line held s S h g0 =
+      let g = subst (λ (z : Seed). IsGoodSeed m z S) (seed_from_second m form c q o s h) g0 in
+      not_both (S (other_line (second_is_flat form) o)) (least.least S (crossing_closed q o s.line S g) (crossing_has q o s.line S g) (other_line (second_is_flat form) o) line held) (crossing_none q o s.line S g).1.1.0
 
-none_in : (xs : List ℕ) (x : ℕ) → length xs ≡ 0 → ¬ (IsIn x xs)
-none_in [] x e h = h
-none_in (y ∷ ys) x e h = absurd (omega arith)
+  -- two connectors with their rule
+  pub crossing_connectors : (q o : ℕ) → HasCorners m c → IsFirstOther (first_is_flat form) (entry m) c.i c.p c.k c.j q → IsSecondOther (second_is_flat form) (entry m) c.i c.p c.k c.j o → IsLine (height m) m.width (other_line (first_is_flat form) q)
+      → IsLine (height m) m.width (other_line (second_is_flat form) o) → AreConnectorsOf m form (rule_of c) (record { corners = c; q = q; o = o })
+  crossing_connectors q o are first second line_first line_second =
+      let d : Connectors = record { corners = c; q = q; o = o } in
+      record {
+        pair = record {
+          values = values_to (entry m) (first_of d) (second_of d) form crossing are.values first second;
+          first_lines = subst (λ (xs : List Line). AllByRecursion (IsLine (height m) m.width) xs) (sym (lines_are (first_is_flat form) c.i c.p q)) (are.inside.row_one, (are.inside.column_one, (line_first, tt)));
+          second_lines = subst (λ (xs : List Line). AllByRecursion (IsLine (height m) m.width) xs) (sym (lines_are (second_is_flat form) c.k c.j o)) (are.inside.row_two, (are.inside.column_two, (line_second, tt)));
+        };
+        inside = rule_inside m c are.inside;
+        upper = sym (upper_crossing (entry m) (first_of d) (second_of d) form crossing);
+        lower = sym (lower_crossing (entry m) (first_of d) (second_of d) form crossing);
+      }
 
-pub least_when_none_waits : (m : Matrix) (upper lower : ℕ → ℕ → ℤ) (start : List Line) (side : Side) → IsGrowingBy m upper lower start side → length side.rows.fresh.items ≡ 0 → length side.columns.fresh.items ≡ 0 → IsLeastBy m upper lower start (set_of side)
-least_when_none_waits m upper lower start side g nr nc = record {
-  closed = record {
-    right = λ r k lr lk er ek. elim (g.right r k lr lk er ek) [ inl h ↦ absurd (none_in side.rows.fresh.items r nr h) | inr e ↦ e ];
-    below = λ r k lr lk er ek. elim (g.below r k lr lk er ek) [ inl h ↦ absurd (none_in side.columns.fresh.items k nc h) | inr e ↦ e ];
-  };
-  has = g.has;
-  least = g.least;
-}
+-- ---- lists of lines
 
-pub few_left : (m : Matrix) (upper lower : ℕ → ℕ → ℤ) (start : List Line) (side : Side) → HasRoom m side → IsGrowingBy m upper lower start side → side.rows.left + side.columns.left < 4 → LeavesFewBy m upper lower start
-few_left m upper lower start side room g few T closed has =
-    let a = outside_less (height m) m.width (set_of side) T (g.least T closed has) in
-    let b = outside_left m side room in
-    omega arith
-
--- ---- the steps in the words of the code
-
--- a factor as it comes from two entries as bytes
-pub factor_is : (f a b x y : ℤ) → IsEntry f → IsEntry a → IsEntry b → f ≡ to_z w8 (of_z w8 a) *ℤ to_z w8 (of_z w8 b) → a ≡ x → b ≡ y → to_z w8 (of_z w8 f) ≡ x *ℤ y
-factor_is f a b x y hf ha hb e ea eb = kept_entry f hf ∙ e ∙ ap₂ (λ (u v : ℤ). u *ℤ v) (kept_entry a ha ∙ ea) (kept_entry b hb ∙ eb)
-
-pub row_step : (m : Matrix) (c : Corners) (before after : Side) (row : ℕ) (cr cc : ℕ) (entries model : List ℤ) (factor : ℤ) → HasRoom m before → cr ≡ height m → cc ≡ m.width
-    → HasTaken cr row before.rows after.rows → HasPulled cc (Agrees entries factor model) before.columns after.columns → entries ≡ row_of m row → model ≡ row_of m c.i
-    → factor ≡ entry m row c.j *ℤ entry m c.i c.j → (start : List Line) → IsGrowing m c start before → IsGrowing m c start after
-row_step m c before after row cr cc entries model factor room er ec t w ee em fe start g =
-    row_followed m (product_at (entry m) c.i c.j) (product_at (entry m) c.k c.p) before after after.rows row (Agrees (row_of m row) factor (row_of m c.i))
-    (subst (λ (z : ℕ). HasTaken z row before.rows after.rows) er t) refl
-    (subst (λ (z : List ℤ). HasPulled m.width (Agrees z factor (row_of m c.i)) before.columns after.columns) ee
-    (subst (λ (z : List ℤ). HasPulled m.width (Agrees entries factor z) before.columns after.columns) em
-    (subst (λ (z : ℕ). HasPulled z (Agrees entries factor model) before.columns after.columns) ec w)))
-    (λ k. rule_right m c.i c.j row k factor fe) (λ k. right_rule m c.i c.j row k factor fe) start g
-
-pub column_step : (m : Matrix) (c : Corners) (before after : Side) (column : ℕ) (cr cc : ℕ) (entries model : List ℤ) (factor : ℤ) → HasRoom m before → cr ≡ height m → cc ≡ m.width
-    → HasTaken cc column before.columns after.columns → HasPulled cr (Agrees entries factor model) before.rows after.rows → ((r : ℕ) → get_or entries r (pos 0) ≡ entry m r column)
-    → ((r : ℕ) → get_or model r (pos 0) ≡ entry m r c.p) → factor ≡ entry m c.k column *ℤ entry m c.k c.p → (start : List Line) → IsGrowing m c start before → IsGrowing m c start after
-column_step m c before after column cr cc entries model factor room er ec t w ee em fe start g =
-    column_followed m (product_at (entry m) c.i c.j) (product_at (entry m) c.k c.p) before after after.columns column (Agrees entries factor model)
-    (subst (λ (z : ℕ). HasTaken z column before.columns after.columns) ec t) refl
-    (subst (λ (z : ℕ). HasPulled z (Agrees entries factor model) before.rows after.rows) er w)
-    (λ r h. ee r ∙ rule_below m c.k c.p r column factor fe h ∙ ap (λ (z : ℤ). factor *ℤ z) (sym (em r)))
-    (λ r h. below_rule m c.k c.p r column factor fe (sym (ee r) ∙ h ∙ ap (λ (z : ℤ). factor *ℤ z) (em r))) start g
-
-pub row_added_as : (m : Matrix) (upper lower : ℕ → ℕ → ℤ) (before after : Side) (start : List Line) (line : Line) (row cr : ℕ) → line ≡ Row row → cr ≡ height m → IsGrowingBy m upper lower start before
-    → HasAdded cr row before.rows after.rows → after.columns ≡ before.columns → IsGrowingBy m upper lower (line ∷ start) after
-row_added_as m upper lower before after start line row cr is er g w same =
-    subst (λ (z : Line). IsGrowingBy m upper lower (z ∷ start) after) (sym is) (row_added m upper lower before after start g row (subst (λ (z : ℕ). HasAdded z row before.rows after.rows) er w) same)
-
-pub column_added_as : (m : Matrix) (upper lower : ℕ → ℕ → ℤ) (before after : Side) (start : List Line) (line : Line) (column cc : ℕ) → line ≡ Column column → cc ≡ m.width → IsGrowingBy m upper lower start before
-    → HasAdded cc column before.columns after.columns → after.rows ≡ before.rows → IsGrowingBy m upper lower (line ∷ start) after
-column_added_as m upper lower before after start line column cc is ec g w same =
-    subst (λ (z : Line). IsGrowingBy m upper lower (z ∷ start) after) (sym is) (column_added m upper lower before after start g column (subst (λ (z : ℕ). HasAdded z column before.columns after.columns) ec w) same)
-
--- ---- the transposed matrix
-
-pub height_turned : (m n : Matrix) (column : ℕ) → IsMatrix m → n ≡ transposed m → column < m.width → column < height n
-height_turned m n column is e l = subst (λ (k : Matrix). column < height k) (sym e) (let h = height-transposed m in omega arith)
-
-pub turned_entry : (m n : Matrix) (row column : ℕ) → IsMatrix m → n ≡ transposed m → entry n column row ≡ entry m row column
-turned_entry m n row column is e = ap (λ (k : Matrix). entry k column row) e ∙ entry-transposed m row column is
+pub lines_of_filters : (m n : ℕ) (S : Lines) (rows columns : List ℕ) → rows ≡ filter (λ r. S (Row r)) (first_lines m) → columns ≡ filter (λ c. S (Column c)) (first_lines n) → HasLines m n S rows columns
+lines_of_filters m n S rows columns er ec =
+    subst (λ (xs : List ℕ). HasLines m n S xs columns) (sym er) (subst (λ (xs : List ℕ). HasLines m n S (filter (λ r. S (Row r)) (first_lines m)) xs) (sym ec) (record {
+      rows_rising = IsStrictlyIncreasing-filter (λ r. S (Row r)) (first_lines m) (first_lines_increase m);
+      columns_rising = IsStrictlyIncreasing-filter (λ c. S (Column c)) (first_lines n) (first_lines_increase n);
+      rows_are = λ r. (
+        (λ h. let k = in_filter (λ y. S (Row y)) r (first_lines m) h in (first_lines_in m r k.0, k.1)),
+        λ h. filter_in (λ y. S (Row y)) r (first_lines m) (in_first_lines m r h.0) h.1,
+      );
+      columns_are = λ r. (
+        (λ h. let k = in_filter (λ y. S (Column y)) r (first_lines n) h in (first_lines_in n r k.0, k.1)),
+        λ h. filter_in (λ y. S (Column y)) r (first_lines n) (in_first_lines n r h.0) h.1,
+      );
+    }))

@@ -11,10 +11,6 @@ pub spread_parts : (d x y z w row_first row_other column_first column_other : �
     ≡ (d *ℤ (w *ℤ column_first -ℤ y *ℤ column_other)) *ℤ row_first +ℤ (d *ℤ (x *ℤ column_other -ℤ z *ℤ column_first)) *ℤ row_other
 spread_parts d x y z w row_first row_other column_first column_other = simp products (omega (arith, sums))
 
--- the rows and the columns exchanged
-pub spread_turned : (d x y z w row_first row_other column_first column_other : ℤ) → spread d x y z w row_first row_other column_first column_other ≡ spread d x z y w column_first column_other row_first row_other
-spread_turned d x y z w row_first row_other column_first column_other = simp products (omega (arith, sums))
-
 -- minors of products of matrices with two rows and two columns
 minor : (x1 x2 y1 y2 a1 a2 b1 b2 : ℤ) → (a1 *ℤ x1 +ℤ a2 *ℤ x2) *ℤ (b1 *ℤ y1 +ℤ b2 *ℤ y2) -ℤ (b1 *ℤ x1 +ℤ b2 *ℤ x2) *ℤ (a1 *ℤ y1 +ℤ a2 *ℤ y2) ≡ (x1 *ℤ y2 -ℤ x2 *ℤ y1) *ℤ (a1 *ℤ b2 -ℤ a2 *ℤ b1)
 minor x1 x2 y1 y2 a1 a2 b1 b2 = simp products (omega (arith, sums))

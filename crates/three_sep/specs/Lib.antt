@@ -1,9 +1,6 @@
 pub mod NumberedSeeds
-pub mod Numbers
 pub mod ThreeSeparations
-pub mod Halves
-pub mod Sides
+pub mod Connectors
 pub mod Concentrated
 pub mod Independent
-pub mod Cuts
 pub mod Searches

@@ -9,10 +9,10 @@ use Rattle.cuts.specs.declared.corners.Corners.{Corners}
 use Rattle.cuts.specs.declared.groups.Groups.{Groups}
 use Rattle.three_sep.specs.declared.search.Search.{Search}
 use Rattle.cuts.specs.Cuts.{AreInside, HasNames, HoldTogether, IsCut, name_of}
-use Rattle.cmr_base.specs.Separations.{Lines, first_is_flat, second_is_flat}
-use Rattle.cmr_base.specs.Seeds.{IsLine, IsBefore, form_number}
-use Rattle.three_sep.specs.Sides.{HasRoom, HasSize, IsGrowing, IsLeast, set_of}
-use Rattle.three_sep.specs.NumberedSeeds.{Seed, AreCorners, IsGoodSeed, IsFirstOther, HasLines, connector, seed_key, seed_of, outside}
+use Rattle.cmr_base.specs.Separations.{Lines, first_is_flat, product_at, second_is_flat}
+use Rattle.cmr_base.specs.Seeds.{IsLine, IsBefore, IsGrown, form_number}
+use Rattle.line_growth.specs.GrowingSets.{HasRoom, IsGrowing, set_of}
+use Rattle.three_sep.specs.NumberedSeeds.{Seed, AreCorners, IsGoodSeed, IsFirstOther, HasLines, seed_key, seed_of}
 
 -- the list begins with these numbers
 abbrev pub BeginsWith : List ℕ → List ℕ → Type 0
@@ -52,8 +52,8 @@ line_count m false = height m
 
 -- what always holds of a search: the sides have room for the lines of the matrix, and no cut parts a group
 pub record IsSearchOf (m : Matrix) (search : Search) : Type 0 where
-  pub side : HasSize m search.side
-  pub grown : HasSize m search.grown
+  pub side : HasRoom m search.side
+  pub grown : HasRoom m search.grown
   pub names : HasNames m search.groups
   pub together : HoldTogether (IsCut m) m search.groups
 
@@ -68,21 +68,17 @@ pub record HasCorners (m : Matrix) (c : Corners) : Type 0 where
   pub inside : AreInside m c
   pub values : AreCorners (entry m) c.i c.p c.k c.j
 
+-- the lines of the first connector with the other line q
+abbrev pub held_lines : Form → Corners → ℕ → List Line
+held_lines form c q = Row c.i ∷ Column c.p ∷ other_line (first_is_flat form) q ∷ []
+
 -- the side of the search is the closed one of the first connector with the other line q
 pub record HoldsFirst (m : Matrix) (form : Form) (c : Corners) (q : ℕ) (search : Search) : Type 0 where
   pub kept : IsSearchOf m search
   pub line : IsLine (height m) m.width (other_line (first_is_flat form) q)
   pub other : IsFirstOther (first_is_flat form) (entry m) c.i c.p c.k c.j q
-  pub room : HasRoom m search.side
-  pub growing : IsGrowing m c (connector (first_is_flat form) c.i c.p q) search.side
-  pub least : IsLeast m c (connector (first_is_flat form) c.i c.p q) (set_of search.side)
-
--- none of the second connector is in the set, and four lines or more are outside
-pub record LeavesSecond (m : Matrix) (c : Corners) (second : Line) (S : Lines) : Type 0 where
-  pub row : S (Row c.k) ≡ false
-  pub column : S (Column c.j) ≡ false
-  pub other : S second ≡ false
-  pub enough : 4 ≤ outside (height m) m.width S
+  pub growing : IsGrowing m (product_at (entry m) c.i c.j) (product_at (entry m) c.k c.p) (held_lines form c q) search.side
+  pub least : IsGrown (height m) m.width (entry m) (product_at (entry m) c.i c.j) (product_at (entry m) c.k c.p) (held_lines form c q) (set_of search.side)
 
 -- each column that is 0 in one row and not in another is in the group of the other one
 abbrev pub HasNoColumn : Matrix → Groups → ℕ → ℕ → Type 0

@@ -1,31 +1,29 @@
 // The first good seed of the concentrated form.
 ghost use Rattle.std.specs.Prelude.{◌≡◌, ◌≢◌, ◌<◌, ◌≤◌, ◌+◌, ◌++◌, ◌∷◌, [], ◌↔◌, ◌⊎◌, ℕ, length, pos, true, false, IsTrue, IfOk, OnOk, IfSome, IfNone, MatchOption};
-ghost use Rattle.cmr_base.specs.declared.line.Line.{Line};
-ghost use Rattle.cmr_base.specs.declared.line.Line.TheVariants.{Row, Column};
 ghost use Rattle.cmr_base.specs.declared.separation.Form.TheVariants.{Concentrated};
 ghost use Rattle.cmr_base.specs.ColumnSets.{has_column};
-ghost use Rattle.cmr_base.specs.Matrix.{entry, height, transposed};
+ghost use Rattle.cmr_base.specs.Cores.{IsBounded};
+ghost use Rattle.cmr_base.specs.Matrix.{entry, height};
 ghost use Rattle.cmr_base.specs.Planes.{words_for};
 ghost use Rattle.cmr_base.specs.Signing.{IsSign};
 ghost use Rattle.cmr_base.specs.Separations.{core_determinant};
-ghost use Rattle.cmr_base.specs.Seeds.{IsLine, form_number};
+ghost use Rattle.cmr_base.specs.Seeds.{form_number};
 ghost use Rattle.cmr_base.specs.Trees.{support};
-ghost use Rattle.three_sep.specs.Sides.{AreInside, HasRoom, HasSize, set_of};
-ghost use Rattle.three_sep.specs.Searches.{HasNoGood, IsFirstOf, LeavesSecond, corner_front};
-ghost use Rattle.three_sep.specs.Concentrated.{AreConcentratedCorners, AreCandidates, ArePlaced, HasNoLeaving, IsFirstPair, IsFirstRow, IsGrowingFor, IsLeastFor, IsNoOtherColumn, IsOtherColumn, IsOtherRow, all_front, first_lines, first_of, second_of, turned as turned_connectors};
+ghost use Rattle.three_sep.specs.Connectors.{AreInside, ArePlaced, all_front, first_of, second_of};
+ghost use Rattle.three_sep.specs.Searches.{HasNoGood, IsFirstOf, corner_front};
+ghost use Rattle.three_sep.specs.Concentrated.{AreConcentratedCorners, AreCandidates, IsFirstPair, IsFirstRow, IsNoOtherColumn, IsOtherColumn, IsOtherRow};
 
 use crate::connectors::Connectors;
 use crate::held::held_columns;
 use crate::independent::columns_of;
-use crate::others::{is_beside, line_at};
 use crate::pulled::is_second_pulled;
-use crate::search::{leaves_second, separation_of};
-use crate::side::Side;
+use crate::sides::{first_of_lines, leaves, may_part};
 use cmr_base::columns::{
     add_column, add_common, empty_set, has_column, meets, next_column, remove_column,
 };
-use cmr_base::{Form, Line, MAX_COLUMNS, Memory, RowsAndColumns, Three};
+use cmr_base::{Core, Form, Line, MAX_COLUMNS, Memory, RowsAndColumns, Three};
 use cuts::Corners;
+use line_growth::GrowingSet;
 use std::alloc::Global;
 
 /// The separation of the first good seed of the form.
@@ -38,23 +36,18 @@ pub fn first_concentrated(
     ensures none { IfOk result (λ answer.
         IfNone answer (HasNoGood views.now (form_number Concentrated ∷ []))) }
 {
-    first_of_rows(alloc, views, &views.turned())
+    first_of_rows(alloc, views)
 }
 
 // The rows i.
-fn first_of_rows(
-    alloc: Global,
-    views: &RowsAndColumns<'_>,
-    turned: &RowsAndColumns<'_>,
-) -> Result<Option<Three>, Memory>
-    requires turned { turned.now ≡ transposed views.now }
+fn first_of_rows(alloc: Global, views: &RowsAndColumns<'_>) -> Result<Option<Three>, Memory>
     ensures first { IfOk result (λ answer.
         IfSome answer (IsFirstOf views.now (form_number Concentrated ∷ []))) }
     ensures none { IfOk result (λ answer.
         IfNone answer (HasNoGood views.now (form_number Concentrated ∷ []))) }
 {
     for i in 0..views.rows() {
-        if let Some(three) = first_of_row(alloc, views, turned, i)? {
+        if let Some(three) = first_of_row(alloc, views, i)? {
             return Ok(Some(three));
         }
     }
@@ -62,13 +55,7 @@ fn first_of_rows(
 }
 
 // The columns p.
-fn first_of_row(
-    alloc: Global,
-    views: &RowsAndColumns<'_>,
-    turned: &RowsAndColumns<'_>,
-    i: u32,
-) -> Result<Option<Three>, Memory>
-    requires turned { turned.now ≡ transposed views.now }
+fn first_of_row(alloc: Global, views: &RowsAndColumns<'_>, i: u32) -> Result<Option<Three>, Memory>
     requires row { i < height views.now }
     ensures first { IfOk result (λ answer.
         IfSome answer (IsFirstOf views.now (form_number Concentrated ∷ i ∷ []))) }
@@ -78,7 +65,7 @@ fn first_of_row(
     let mut candidates = candidates_for(alloc, views, i)?;
     for p in 0..views.columns() {
         if views.is_nonzero(i, p) {
-            if let Some(three) = first_of_corner(alloc, views, turned, &mut candidates, i, p)? {
+            if let Some(three) = first_of_corner(alloc, views, &mut candidates, i, p)? {
                 return Ok(Some(three));
             }
         }
@@ -116,12 +103,10 @@ fn has_candidate(candidates: &[u64]) -> bool
 fn first_of_corner(
     alloc: Global,
     views: &RowsAndColumns<'_>,
-    turned: &RowsAndColumns<'_>,
     candidates: &mut Vec<u64>,
     i: u32,
     p: u32,
 ) -> Result<Option<Three>, Memory>
-    requires turned { turned.now ≡ transposed views.now }
     requires candidates { AreCandidates views.now i candidates.old.items }
     requires corner { (i < height views.now) × (p < views.now.width) }
     requires nonzero { entry views.now i p ≢ pos 0 }
@@ -136,7 +121,7 @@ fn first_of_corner(
         return Ok(None);
     }
     for k in 0..views.rows() {
-        if let Some(three) = first_of_second_row(alloc, views, turned, candidates, i, p, k)? {
+        if let Some(three) = first_of_second_row(alloc, views, candidates, i, p, k)? {
             return Ok(Some(three));
         }
     }
@@ -147,13 +132,11 @@ fn first_of_corner(
 fn first_of_second_row(
     alloc: Global,
     views: &RowsAndColumns<'_>,
-    turned: &RowsAndColumns<'_>,
     candidates: &mut Vec<u64>,
     i: u32,
     p: u32,
     k: u32,
 ) -> Result<Option<Three>, Memory>
-    requires turned { turned.now ≡ transposed views.now }
     requires candidates { AreCandidates views.now i candidates.old.items }
     requires corner { (i < height views.now) × (p < views.now.width) × (k < height views.now) }
     requires nonzero { entry views.now i p ≢ pos 0 }
@@ -171,7 +154,7 @@ fn first_of_second_row(
     let mut from = 0;
     while let Some(j) = next_column(&columns, from) {
         let corners = Corners { i, p, k, j };
-        if let Some(three) = first_of_corners(alloc, views, turned, candidates, &corners)? {
+        if let Some(three) = first_of_corners(alloc, views, candidates, &corners)? {
             return Ok(Some(three));
         }
         from = j + 1;
@@ -204,11 +187,9 @@ fn second_columns(
 fn first_of_corners(
     alloc: Global,
     views: &RowsAndColumns<'_>,
-    turned: &RowsAndColumns<'_>,
     candidates: &mut Vec<u64>,
     corners: &Corners,
 ) -> Result<Option<Three>, Memory>
-    requires turned { turned.now ≡ transposed views.now }
     requires candidates { AreCandidates views.now corners.now.i candidates.old.items }
     requires inside { AreInside views.now corners.now }
     requires corners { AreConcentratedCorners (entry views.now) corners.now }
@@ -223,7 +204,7 @@ fn first_of_corners(
     let Some(connectors) = first_connectors(views, corners) else {
         return Ok(None);
     };
-    if let Some(three) = first_of_connectors(alloc, views, turned, &connectors)? {
+    if let Some(three) = first_of_connectors(alloc, views, &connectors)? {
         return Ok(Some(three));
     }
     remove_column(candidates, corners.j);
@@ -279,105 +260,44 @@ fn first_other_row(views: &RowsAndColumns<'_>, corners: &Corners, q: u32) -> Opt
 fn first_of_connectors(
     alloc: Global,
     views: &RowsAndColumns<'_>,
-    turned: &RowsAndColumns<'_>,
     connectors: &Connectors,
 ) -> Result<Option<Three>, Memory>
-    requires turned { turned.now ≡ transposed views.now }
     requires placed { ArePlaced views.now connectors.now }
     requires corners { AreConcentratedCorners (entry views.now) connectors.now.corners }
     requires column { IsOtherColumn (entry views.now) connectors.now.corners connectors.now.q }
     requires row { IsOtherRow (entry views.now) connectors.now }
     ensures first { IfOk result (λ answer.
-        IfSome answer (IsFirstOf views.now (all_front connectors.now))) }
+        IfSome answer (IsFirstOf views.now (all_front Concentrated connectors.now))) }
     ensures none { IfOk result (λ answer.
-        IfNone answer (HasNoGood views.now (all_front connectors.now))) }
+        IfNone answer (HasNoGood views.now (all_front Concentrated connectors.now))) }
 {
-    let _rows = views.rows();
-    if is_second_pulled(views, connectors) {
+    let rule = connectors.spread_rule(views);
+    if is_second_pulled(views, rule, connectors) {
         return Ok(None);
     }
-    let mut side = Side::new(alloc, views)?;
-    if !may_part(views, &mut side, connectors)? {
+    let Corners { i, p, k, j } = connectors.corners;
+    let first = [Line::Row(i), Line::Column(p), Line::Column(connectors.q)];
+    let second = [Line::Row(k), Line::Column(j), Line::Row(connectors.o)];
+    let mut side = GrowingSet::new(alloc, views)?;
+    let mut other = GrowingSet::new(alloc, views)?;
+    if !leaves(views, &mut side, rule, &first, &second)? {
         return Ok(None);
     }
-    if !may_be_left(alloc, turned, connectors)? {
+    if !leaves(views, &mut other, rule.exchanged(), &second, &first)? {
         return Ok(None);
     }
-    if !may_separate(alloc, views, turned, connectors)? {
+    if !may_part(views, &mut other, rule, &first, &second)? {
         return Ok(None);
     }
-    first_of_lines(alloc, views, &side, connectors)
-}
-
-// The lines x beside the closed side of the first connector.
-fn first_of_lines(
-    alloc: Global,
-    views: &RowsAndColumns<'_>,
-    side: &Side,
-    connectors: &Connectors,
-) -> Result<Option<Three>, Memory>
-    requires room { HasRoom views.now side.now }
-    requires growing { IsGrowingFor views.now connectors.now (first_lines connectors.now)
-        side.now }
-    requires placed { ArePlaced views.now connectors.now }
-    requires corners { AreConcentratedCorners (entry views.now) connectors.now.corners }
-    requires column { IsOtherColumn (entry views.now) connectors.now.corners connectors.now.q }
-    requires row { IsOtherRow (entry views.now) connectors.now }
-    ensures first { IfOk result (λ answer.
-        IfSome answer (IsFirstOf views.now (all_front connectors.now))) }
-    ensures none { IfOk result (λ answer.
-        IfNone answer (HasNoGood views.now (all_front connectors.now))) }
-{
-    let Connectors { corners, q, o } = *connectors;
-    let mut grown = Side::new(alloc, views)?;
-    for place in 0..views.rows() + views.columns() {
-        let line = line_at(views, place);
-        if is_beside(Form::Concentrated, &corners, q, o, line)
-            && is_good(views, side, &mut grown, connectors, line)?
-        {
-            return Ok(Some(separation_of(
-                alloc,
-                views,
-                &grown,
-                Form::Concentrated,
-                &corners,
-                q,
-                o,
-            )?));
-        }
-    }
-    Ok(None)
-}
-
-// Whether the closed side with one more line leaves the second connector and four lines or more.
-fn is_good(
-    views: &RowsAndColumns<'_>,
-    side: &Side,
-    grown: &mut Side,
-    connectors: &Connectors,
-    line: Line,
-) -> Result<bool, Memory>
-    requires room { HasRoom views.now side.now }
-    requires growing { IsGrowingFor views.now connectors.now (first_lines connectors.now)
-        side.now }
-    requires placed { ArePlaced views.now connectors.now }
-    requires row { IsOtherRow (entry views.now) connectors.now }
-    requires line { IsLine (height views.now) views.now.width line }
-    ensures room { OnOk result (HasRoom views.now grown.new) }
-    ensures yes { IfOk result (λ good. good ≡ true
-        → IsLeastFor views.now connectors.now (line ∷ first_lines connectors.now)
-        (set_of grown.new)
-        × LeavesSecond views.now connectors.now.corners (Row connectors.now.o)
-        (set_of grown.new)) }
-    ensures no { IfOk result (λ good. good ≡ false
-        → HasNoLeaving views.now connectors.now (line ∷ first_lines connectors.now)) }
-{
-    grown.copy(side)?;
-    grown.add(views, line)?;
-    if !grown.spread(views, connectors)? {
-        return Ok(false);
-    }
-    Ok(leaves_second(views, grown, &connectors.corners, Line::Row(connectors.o)))
+    first_of_lines(
+        alloc,
+        views,
+        &side,
+        &mut other,
+        Form::Concentrated,
+        rule,
+        connectors,
+    )
 }
 
 // The first column from one on in which a row is not 0.
@@ -416,124 +336,25 @@ fn is_lower_row(views: &RowsAndColumns<'_>, connectors: &Connectors) -> bool
     if connectors.o <= k || !views.is_nonzero(connectors.o, j) {
         return false;
     }
-    let determinant = connectors.determinant(views);
-    determinant == 1 || determinant == -1
+    has_sign(views, connectors)
 }
 
-// Whether the closed side of the first connector leaves the second one and four lines or more.
-fn may_part(
-    views: &RowsAndColumns<'_>,
-    side: &mut Side,
-    connectors: &Connectors,
-) -> Result<bool, Memory>
-    requires side { HasSize views.now side.old }
-    requires placed { ArePlaced views.now connectors.now }
-    requires determinant { IsSign (core_determinant (entry views.now) (first_of connectors.now)
+// Whether the determinant of the four entries where rows k and o cross columns p and q is 1 or -1.
+fn has_sign(views: &RowsAndColumns<'_>, connectors: &Connectors) -> bool
+    requires { ArePlaced views.now connectors.now }
+    ensures { IsTrue result
+        ↔ IsSign (core_determinant (entry views.now) (first_of connectors.now)
         (second_of connectors.now)) }
-    ensures room { OnOk result (HasRoom views.now side.new) }
-    ensures growing { OnOk result (IsGrowingFor views.now connectors.now
-        (first_lines connectors.now) side.new) }
-    ensures no { IfOk result (λ may. may ≡ false
-        → HasNoLeaving views.now connectors.now (first_lines connectors.now)) }
 {
-    side.start_flat(views, connectors)?;
-    if !side.spread(views, connectors)? {
-        return Ok(false);
-    }
-    Ok(leaves_second(views, side, &connectors.corners, Line::Row(connectors.o)))
+    let Corners { p, k, .. } = connectors.corners;
+    let core = Core::at(views.by_rows(), k, connectors.o, p, connectors.q);
+    is_sign(core.determinant())
 }
 
-// Whether the closed side of the second connector leaves the first one and four lines or more: in the transposed matrix
-// it is the side of a first connector.
-fn may_be_left(
-    alloc: Global,
-    turned: &RowsAndColumns<'_>,
-    connectors: &Connectors,
-) -> Result<bool, Memory>
-    requires placed { ArePlaced turned.now (turned_connectors connectors.now) }
-    requires determinant { IsSign (core_determinant (entry turned.now)
-        (first_of (turned_connectors connectors.now))
-        (second_of (turned_connectors connectors.now))) }
-    ensures no { IfOk result (λ may. may ≡ false
-        → HasNoLeaving turned.now (turned_connectors connectors.now)
-        (first_lines (turned_connectors connectors.now))) }
+// Whether a number is 1 or -1.
+fn is_sign(number: i8) -> bool
+    requires { IsBounded 2 number }
+    ensures { IsTrue result ↔ IsSign number }
 {
-    let mut side = Side::new(alloc, turned)?;
-    may_part(turned, &mut side, &connectors.turned())
-}
-
-// Whether a separation may have the first connector in side one and the second in side two. Some rows are tried: where a
-// row can be on neither side, there is none.
-fn may_separate(
-    alloc: Global,
-    views: &RowsAndColumns<'_>,
-    turned: &RowsAndColumns<'_>,
-    connectors: &Connectors,
-) -> Result<bool, Memory>
-    requires turned { turned.now ≡ transposed views.now }
-    requires placed { ArePlaced views.now connectors.now }
-    requires determinant { IsSign (core_determinant (entry views.now) (first_of connectors.now)
-        (second_of connectors.now)) }
-    ensures { IfOk result (λ may. may ≡ false → HasNoGood views.now (all_front connectors.now)) }
-{
-    let Corners { i, k, .. } = connectors.corners;
-    let mut tries = 3u32;
-    for row in 0..views.rows() {
-        if tries > 0 && row != i && row != k && row != connectors.o {
-            if is_refused(alloc, views, turned, connectors, row)? {
-                return Ok(false);
-            }
-            tries -= 1;
-        }
-    }
-    Ok(true)
-}
-
-// Whether a row can be on neither side.
-fn is_refused(
-    alloc: Global,
-    views: &RowsAndColumns<'_>,
-    turned: &RowsAndColumns<'_>,
-    connectors: &Connectors,
-    row: u32,
-) -> Result<bool, Memory>
-    requires turned { turned.now ≡ transposed views.now }
-    requires placed { ArePlaced views.now connectors.now }
-    requires determinant { IsSign (core_determinant (entry views.now) (first_of connectors.now)
-        (second_of connectors.now)) }
-    requires row { row < height views.now }
-    ensures refused { IfOk result (λ refused. refused ≡ true
-        → HasNoGood views.now (all_front connectors.now)) }
-{
-    let _rows = views.rows();
-    if may_hold(alloc, views, connectors, Line::Row(row))? {
-        return Ok(false);
-    }
-    if may_hold(alloc, turned, &connectors.turned(), Line::Column(row))? {
-        return Ok(false);
-    }
-    Ok(true)
-}
-
-// Whether the closed side of the first connector and a line leaves the second one and four lines or more.
-fn may_hold(
-    alloc: Global,
-    views: &RowsAndColumns<'_>,
-    connectors: &Connectors,
-    line: Line,
-) -> Result<bool, Memory>
-    requires placed { ArePlaced views.now connectors.now }
-    requires determinant { IsSign (core_determinant (entry views.now) (first_of connectors.now)
-        (second_of connectors.now)) }
-    requires line { IsLine (height views.now) views.now.width line }
-    ensures no { IfOk result (λ may. may ≡ false
-        → HasNoLeaving views.now connectors.now (line ∷ first_lines connectors.now)) }
-{
-    let mut side = Side::new(alloc, views)?;
-    side.start_flat(views, connectors)?;
-    side.add(views, line)?;
-    if !side.spread(views, connectors)? {
-        return Ok(false);
-    }
-    Ok(leaves_second(views, &side, &connectors.corners, Line::Row(connectors.o)))
+    number == 1 || number == -1
 }

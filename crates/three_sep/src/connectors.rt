@@ -1,14 +1,15 @@
-ghost use Rattle.std.specs.Prelude.{◌≡◌, ◌≤◌, ◌≤ℤ◌, ◌+ℤ◌, ◌-ℤ◌, ◌*ℤ◌, pos, negsuc, true, false};
-ghost use Rattle.cmr_base.specs.Matrix.{entry, IsEntry};
-ghost use Rattle.cmr_base.specs.Signing.{IsSign};
-ghost use Rattle.cmr_base.specs.Separations.{core_determinant};
-ghost use Rattle.three_sep.specs.Numbers.{IsSmall};
-ghost use Rattle.three_sep.specs.Concentrated.{ArePlaced, first_of, second_of, turned};
+// Two connectors of a seed.
+ghost use Rattle.std.specs.Prelude.{◌≡◌};
+ghost use Rattle.cmr_base.specs.Matrix.{entry};
+ghost use Rattle.cmr_base.specs.Separations.{spread_at, zeros};
+ghost use Rattle.line_growth.specs.Rules.{IsRuleOf, lower_of, upper_of};
+ghost use Rattle.three_sep.specs.Connectors.{ArePlaced, first_of, second_of, rule_of};
 
-use cmr_base::{RowsAndColumns, product};
+use cmr_base::RowsAndColumns;
 use cuts::Corners;
+use line_growth::{Block, Place, Rule, SpreadLines};
 
-/// Two connectors of the concentrated form: row i and columns p and q in side one, rows k and o and column j in side two.
+/// Two connectors: a corner and one more line of each.
 #[derive(Clone, Copy)]
 pub struct Connectors {
     pub corners: Corners,
@@ -17,68 +18,29 @@ pub struct Connectors {
 }
 
 impl Connectors {
-    /// With the sides exchanged, for the transposed matrix.
-    pub fn turned(&self) -> Connectors
-        ensures { result ≡ turned self.now }
-    {
-        let Corners { i, p, k, j } = self.corners;
-        Connectors {
-            corners: Corners {
-                i: j,
-                p: k,
-                k: p,
-                j: i,
-            },
-            q: self.o,
-            o: self.q,
-        }
-    }
-
-    /// The determinant of the four entries where rows k and o cross columns p and q.
-    pub fn determinant(&self, views: &RowsAndColumns<'_>) -> i8
+    /// The rule of the concentrated form: nothing above, and below what the columns p and q and the rows k and o make.
+    pub fn spread_rule(&self, views: &RowsAndColumns<'_>) -> Rule
         requires { ArePlaced views.now self.now }
-        ensures value { result ≡ core_determinant (entry views.now) (first_of self.now)
-            (second_of self.now) }
-        ensures small { IsSmall result }
+        ensures rule { IsRuleOf views.now result }
+        ensures upper { upper_of views.now result ≡ zeros }
+        ensures lower { lower_of views.now result
+            ≡ spread_at (entry views.now) (first_of self.now) (second_of self.now) }
     {
         let Corners { p, k, .. } = self.corners;
-        cross(
-            views.entry(k, p),
-            views.entry(self.o, self.q),
-            views.entry(k, self.q),
-            views.entry(self.o, p),
-        )
+        Rule {
+            upper: Block::Zero,
+            lower: Block::Spread(SpreadLines::at(views, k, self.o, p, self.q)),
+        }
     }
 }
 
-/// The difference of two products of entries.
-pub fn cross(one: i8, other: i8, less_one: i8, less_other: i8) -> i8
-    requires one { IsEntry one }
-    requires other { IsEntry other }
-    requires less_one { IsEntry less_one }
-    requires less_other { IsEntry less_other }
-    ensures value { result ≡ (one *ℤ other) -ℤ (less_one *ℤ less_other) }
-    ensures small { IsSmall result }
+/// The rule of the other forms: both blocks are products.
+pub fn rule_at(corners: &Corners) -> Rule
+    ensures { result ≡ rule_of corners.now }
 {
-    product(one, other) - product(less_one, less_other)
-}
-
-/// A number times a sign.
-pub fn signed(sign: i8, number: i8) -> i8
-    requires sign { IsSign sign }
-    requires number { IsSmall number }
-    ensures value { result ≡ sign *ℤ number }
-    ensures small { IsSmall result }
-{
-    if sign == 1 { number } else { -number }
-}
-
-/// A number times an entry.
-pub fn times(number: i8, entry: i8) -> i8
-    requires number { IsSmall number }
-    requires entry { IsEntry entry }
-    ensures value { result ≡ number *ℤ entry }
-    ensures small { IsSmall result }
-{
-    if entry == 0 { 0 } else { signed(entry, number) }
+    let Corners { i, p, k, j } = *corners;
+    Rule {
+        upper: Block::Product(Place { row: i, column: j }),
+        lower: Block::Product(Place { row: k, column: p }),
+    }
 }

@@ -3,15 +3,12 @@
 
 mod concentrated;
 mod connectors;
-mod corners;
-mod half;
 mod held;
 mod independent;
 mod others;
 mod pulled;
 mod search;
-mod side;
-mod spread_side;
+mod sides;
 
 pub use cmr_base::{Connector, Form, Three};
 pub use search::{three_separation, three_separation_of};

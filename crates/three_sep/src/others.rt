@@ -1,12 +1,11 @@
 // The lines of connectors.
-ghost use Rattle.std.specs.Prelude.{◌≡◌, ◌≢◌, ◌<◌, ◌+◌, ◌⊎◌, pos, true, false};
+ghost use Rattle.std.specs.Prelude.{◌≡◌, ◌≢◌, ◌<◌, ◌⊎◌, pos, true, false};
 ghost use Rattle.cmr_base.specs.Matrix.{height, entry, IsMatrix};
 ghost use Rattle.cmr_base.specs.declared.line.Line.TheVariants.{Row, Column};
 ghost use Rattle.cmr_base.specs.Separations.{first_is_flat, second_is_flat};
-ghost use Rattle.cmr_base.specs.Seeds.{line_number, IsLine};
+ghost use Rattle.cmr_base.specs.Seeds.{IsLine};
 ghost use Rattle.three_sep.specs.NumberedSeeds.{Among, IsFirstOther, IsSecondOther, connector};
-ghost use Rattle.three_sep.specs.Sides.{AreInside};
-ghost use Rattle.cuts.specs.Cuts.{HasNames, name_of};
+ghost use Rattle.cuts.specs.Cuts.{AreInside, HasNames, name_of};
 ghost use Rattle.three_sep.specs.Searches.{HasNoColumn, HasNoRow, LacksColumn, LacksRow, line_count, other_line};
 
 use cmr_base::{Form, Line, RowsAndColumns};
@@ -28,19 +27,6 @@ pub fn line_of(flat: bool, other: u32) -> Line
         Line::Column(other)
     } else {
         Line::Row(other)
-    }
-}
-
-/// The line at a place, the rows first.
-pub fn line_at(views: &RowsAndColumns<'_>, place: u32) -> Line
-    requires { place < height views.now + views.now.width }
-    ensures line { IsLine (height views.now) views.now.width result }
-    ensures number { line_number (height views.now) result ≡ place }
-{
-    if place < views.rows() {
-        Line::Row(place)
-    } else {
-        Line::Column(place - views.rows())
     }
 }
 

@@ -1,28 +1,22 @@
 // The first good seed.
-ghost use Rattle.std.specs.Prelude.{◌≡◌, ◌≢◌, ◌<◌, ◌≤◌, ◌++◌, ◌∷◌, [], ◌↔◌, ℕ, List, pos, true, false, IsTrue, IfOk, OnOk, IfSome, IfNone, MatchOption};
-ghost use Rattle.cmr_base.specs.declared.line.Line.{Line};
+ghost use Rattle.std.specs.Prelude.{◌≡◌, ◌≢◌, ◌<◌, ◌≤◌, ◌++◌, ◌∷◌, [], pos, true, false, IfOk, OnOk, IfSome, IfNone, MatchOption};
 ghost use Rattle.cmr_base.specs.Matrix.{height, entry};
-ghost use Rattle.std.specs.List.Sorted.{IsStrictlyIncreasing};
-ghost use Rattle.cmr_base.specs.Members.{IsIn};
-ghost use Rattle.three_sep.specs.Halves.{IsHalf, is_in};
 ghost use Rattle.cmr_base.specs.Separations.{first_is_flat, second_is_flat};
 ghost use Rattle.cmr_base.specs.Seeds.{IsLine, form_number};
-ghost use Rattle.three_sep.specs.NumberedSeeds.{HasLines, IsCrossing, IsFirstOther, IsSecondOther};
+ghost use Rattle.cuts.specs.Cuts.{AreInside, HasNames};
+ghost use Rattle.three_sep.specs.NumberedSeeds.{IsCrossing, IsSecondOther};
 ghost use Rattle.three_sep.specs.ThreeSeparations.{HasNoThreeSeparation, IsFirstThreeSeparation};
-ghost use Rattle.three_sep.specs.Sides.{AreInside, HasRoom, IsGrowing, IsLeast, set_of};
-ghost use Rattle.cuts.specs.Cuts.{HasNames};
-ghost use Rattle.three_sep.specs.Searches.{HasCorners, HasNoGood, HoldsFirst, IsCorner, IsFirstOf, IsNoSecondColumn, IsNoSecondRow, IsSearchOf, LeavesSecond, corner_front, other_line};
+ghost use Rattle.three_sep.specs.Searches.{HasCorners, HasNoGood, HoldsFirst, IsCorner, IsFirstOf, IsNoSecondColumn, IsNoSecondRow, IsSearchOf, corner_front, other_line};
 
 use crate::concentrated::first_concentrated;
-use crate::corners::may_cut;
-use crate::half::Half;
+use crate::connectors::{Connectors, rule_at};
 use crate::others::{
-    count_of, is_beside, is_first_other, is_second_other, line_at, line_of, may_have_columns,
-    may_have_rows,
+    count_of, is_first_other, is_second_other, line_of, may_have_columns, may_have_rows,
 };
-use crate::side::Side;
-use cmr_base::{Connector, Form, Indices, Line, LineSet, Matrix, Memory, RowsAndColumns, Three};
+use crate::sides::{first_of_lines, leaves, may_part};
+use cmr_base::{Form, Line, Matrix, Memory, RowsAndColumns, Three};
 use cuts::{Corners, Groups, groups_of};
+use line_growth::GrowingSet;
 use std::alloc::Global;
 use std::thread::Threads;
 
@@ -61,8 +55,8 @@ const EARLY: u32 = 100;
 /// looked for once some corners were tried in vain; until then each line is a group.
 #[derive(Drop)]
 pub struct Search {
-    side: Side,
-    grown: Side,
+    side: GrowingSet,
+    grown: GrowingSet,
     groups: Groups,
     tries: u32,
     asked: bool,
@@ -74,8 +68,8 @@ impl Search {
         ensures { IfOk result (IsSearchOf views.now) }
     {
         Ok(Search {
-            side: Side::new(alloc, views)?,
-            grown: Side::new(alloc, views)?,
+            side: GrowingSet::new(alloc, views)?,
+            grown: GrowingSet::new(alloc, views)?,
             groups: Groups::new(alloc, views)?,
             tries: 0,
             asked: false,
@@ -247,7 +241,10 @@ impl Search {
         ensures none { IfOk result (λ answer.
             IfNone answer (HasNoGood views.now (corner_front form corners.now))) }
     {
-        if !may_cut(views, &mut self.side, corners)? {
+        let Corners { i, p, k, j } = *corners;
+        let first = [Line::Row(i), Line::Column(p)];
+        let second = [Line::Row(k), Line::Column(j)];
+        if !may_part(views, &mut self.side, rule_at(corners), &first, &second)? {
             self.tries = self.tries.saturating_add(1);
             return Ok(None);
         }
@@ -261,7 +258,8 @@ impl Search {
         Ok(None)
     }
 
-    // Closes the side of the first connector with the other line q, where it can be that.
+    // Closes the side of the first connector with the other line q, where it can be that and the side leaves the second
+    // corner.
     fn hold_first(
         &mut self,
         views: &RowsAndColumns<'_>,
@@ -269,6 +267,7 @@ impl Search {
         corners: &Corners,
         q: u32,
     ) -> Result<bool, Memory>
+        requires crossing { IsCrossing form }
         requires search { IsSearchOf views.now self.old }
         requires inside { AreInside views.now corners.now }
         requires line { IsLine (height views.now) views.now.width
@@ -277,16 +276,17 @@ impl Search {
         ensures held { IfOk result (λ held. held ≡ true
             → HoldsFirst views.now form corners.now q self.new) }
         ensures no { IfOk result (λ held. held ≡ false
-            → ¬ (IsFirstOther (first_is_flat form) (entry views.now) corners.now.i corners.now.p
-            corners.now.k corners.now.j q)) }
+            → HasNoGood views.now (corner_front form corners.now ++ q ∷ [])) }
     {
         if !is_first_other(views, form, corners, q) {
             return Ok(false);
         }
-        self.side
-            .start(views, corners, line_of(form.first_is_flat(), q))?;
-        self.side.close_all(views, corners)?;
-        Ok(true)
+        let Corners { i, p, k, j } = *corners;
+        let other = line_of(form.first_is_flat(), q);
+        let first = [Line::Row(i), Line::Column(p), other];
+        let second = [Line::Row(k), Line::Column(j)];
+        let held = leaves(views, &mut self.side, rule_at(corners), &first, &second)?;
+        Ok(held)
     }
 
     // The lines o.
@@ -345,7 +345,7 @@ impl Search {
         self.first_of_connectors(alloc, views, form, corners, q, o)
     }
 
-    // The lines x: the rows, then the columns.
+    // The lines x.
     fn first_of_connectors(
         &mut self,
         alloc: Global,
@@ -368,41 +368,21 @@ impl Search {
         ensures none { IfOk result (λ answer.
             IfNone answer (HasNoGood views.now (corner_front form corners.now ++ q ∷ o ∷ []))) }
     {
-        for place in 0..views.rows() + views.columns() {
-            let line = line_at(views, place);
-            if is_beside(form, corners, q, o, line)
-                && self.is_good(views, corners, line_of(form.second_is_flat(), o), line)?
-            {
-                return Ok(Some(separation_of(alloc, views, &self.grown, form, corners, q, o)?));
-            }
-        }
-        Ok(None)
-    }
-
-    // Whether the closed side with one more line leaves the second connector and four lines or more.
-    fn is_good(
-        &mut self,
-        views: &RowsAndColumns<'_>,
-        corners: &Corners,
-        second: Line,
-        line: Line,
-    ) -> Result<bool, Memory>
-        requires room { HasRoom views.now self.old.side }
-        requires inside { AreInside views.now corners.now }
-        requires second { IsLine (height views.now) views.now.width second }
-        requires line { IsLine (height views.now) views.now.width line }
-        ensures kept { (self.new.side ≡ self.old.side) × (self.new.groups ≡ self.old.groups) }
-        ensures room { OnOk result (HasRoom views.now self.new.grown) }
-        ensures least { OnOk result ((start : List Line)
-            → IsGrowing views.now corners.now start self.old.side
-            → IsLeast views.now corners.now (line ∷ start) (set_of self.new.grown)) }
-        ensures good { IfOk result (λ good. IsTrue good
-            ↔ LeavesSecond views.now corners.now second (set_of self.new.grown)) }
-    {
-        self.grown.copy(&self.side)?;
-        self.grown.add(views, line)?;
-        self.grown.close_all(views, corners)?;
-        Ok(leaves_second(views, &self.grown, corners, second))
+        let connectors = Connectors {
+            corners: *corners,
+            q,
+            o,
+        };
+        let rule = rule_at(corners);
+        first_of_lines(
+            alloc,
+            views,
+            &self.side,
+            &mut self.grown,
+            form,
+            rule,
+            &connectors,
+        )
     }
 }
 
@@ -458,79 +438,4 @@ fn is_second_column(
         return false;
     }
     may_have_rows(views, groups, form, p, j)
-}
-
-/// Whether a side leaves the second connector and four lines or more.
-pub fn leaves_second(
-    views: &RowsAndColumns<'_>,
-    side: &Side,
-    corners: &Corners,
-    second: Line,
-) -> bool
-    requires room { HasRoom views.now side.now }
-    requires inside { AreInside views.now corners.now }
-    requires second { IsLine (height views.now) views.now.width second }
-    ensures { IsTrue result ↔ LeavesSecond views.now corners.now second (set_of side.now) }
-{
-    if side.has(views, second) {
-        return false;
-    }
-    if side.rows.has(corners.k) || side.columns.has(corners.j) {
-        return false;
-    }
-    side.rows.left() + side.columns.left() >= 4
-}
-
-/// The separation of a side.
-pub fn separation_of(
-    alloc: Global,
-    views: &RowsAndColumns<'_>,
-    grown: &Side,
-    form: Form,
-    corners: &Corners,
-    q: u32,
-    o: u32,
-) -> Result<Three, Memory>
-    requires { HasRoom views.now grown.now }
-    ensures form { IfOk result (λ three. three.form ≡ form) }
-    ensures first { IfOk result (λ three. three.first
-        ≡ record { row = corners.now.i; column = corners.now.p; other = q }) }
-    ensures second { IfOk result (λ three. three.second
-        ≡ record { row = corners.now.k; column = corners.now.j; other = o }) }
-    ensures lines { IfOk result (λ three. HasLines (height views.now) views.now.width
-        (set_of grown.now) three.side.rows three.side.columns) }
-{
-    Ok(Three {
-        form,
-        side: LineSet {
-            rows: indices_of(alloc, &grown.rows, views.rows())?,
-            columns: indices_of(alloc, &grown.columns, views.columns())?,
-        },
-        first: Connector {
-            row: corners.i,
-            column: corners.p,
-            other: q,
-        },
-        second: Connector {
-            row: corners.k,
-            column: corners.j,
-            other: o,
-        },
-    })
-}
-
-fn indices_of(alloc: Global, half: &Half, count: u32) -> Result<Indices, Memory>
-    requires { IsHalf count half.now }
-    ensures rising { IfOk result IsStrictlyIncreasing }
-    ensures lines { IfOk result (λ lines. (line : ℕ) → IsIn line lines
-        ↔ ((line < count) × (is_in half.now line ≡ true))) }
-{
-    let mut lines = Indices::new(alloc);
-    for line in 0..count {
-        if half.has(line) {
-            lines.push(line)?;
-        }
-    }
-    let _count = lines.len();
-    Ok(lines)
 }

@@ -15,9 +15,8 @@ use Rattle.cmr_base.proofs.ListedLines.{contains_first_lines, first_lines_contai
 use Rattle.cmr_base.proofs.SeedLemmas.{good_two_seed}
 use Rattle.cmr_base.proofs.SignEntries.{sign_of_entry}
 use Rattle.cmr_base.proofs.SignedProducts.{same_product}
-use Rattle.line_growth.specs.Reaching.{numbered}
-use Rattle.line_growth.proofs.GrownLines.{numbered_line}
-use Rattle.two_sep.specs.FirstSeeds.{Separates, HasNoTwoSeparation, HasNoGoodSeed, AreTogether, ArePassed}
+use Rattle.two_sep.specs.FirstSeeds.{Separates, HasNoTwoSeparation, HasNoGoodSeed, AreTogether, ArePassed, line_of}
+use Rattle.two_sep.proofs.LineNumbers.{line_of-row, line_of-column}
 
 first_factor : (g x : ℤ) → g *ℤ x ≢ pos 0 → g ≢ pos 0
 first_factor g x h e = h (ap (λ (z : ℤ). z *ℤ x) e ∙ none x)
@@ -53,11 +52,11 @@ module _ (m : Matrix) (is : IsMatrix m) where
         enough = s.enough;
       }
 
-  at_row : (side : Lines) (r : ℕ) → r < height m → numbered (height m) side r ≡ side (Row r)
-  at_row side r l = numbered_line (height m) m.width (entry m) (λ x y. pos 0) (λ x y. pos 0) side (Row r) l
+  at_row : (side : Lines) (r : ℕ) → r < height m → side (line_of (height m) r) ≡ side (Row r)
+  at_row side r l = ap side (line_of-row (height m) r l)
 
-  at_column : (side : Lines) (c : ℕ) → c < m.width → numbered (height m) side (height m + c) ≡ side (Column c)
-  at_column side c l = numbered_line (height m) m.width (entry m) (λ x y. pos 0) (λ x y. pos 0) side (Column c) l
+  at_column : (side : Lines) (c : ℕ) → c < m.width → side (line_of (height m) (height m + c)) ≡ side (Column c)
+  at_column side c l = ap side (line_of-column (height m) c)
 
   -- the lines of a nonzero without good seed are together
   pub together_from_none : (i j : ℕ) → i < height m → j < m.width → entry m i j ≢ pos 0 → HasNoGoodSeed m i j → AreTogether m i (height m + j)
@@ -83,7 +82,7 @@ module _ (m : Matrix) where
   own_labels_passed is labels e = record {
     matrix = is;
     count = ap (λ (xs : List ℕ). length xs) e ∙ length-range_with_len 0 (height m + m.width);
-    labelled = λ x y hx hy f i j side s. ap (numbered (height m) side) (sym (label x hx) ∙ (f ∙ label y hy));
+    labelled = λ x y hx hy f i j side s. ap (λ (k : ℕ). side (line_of (height m) k)) (sym (label x hx) ∙ (f ∙ label y hy));
     before = λ i j li lj b. absurd (elim b [
       | inl l ↦ (omega arith)
       | inr h ↦ (let l = h.1 in omega arith)
@@ -118,7 +117,7 @@ module _ (m : Matrix) where
         → ArePassed m row (column + 1) joined
     passed_joined lr lc nonzero none joined made =
         let new = λ (label : ℕ). cond (nat_eq label (get_or labels row 0)) (get_or labels (height m + column) 0) label in
-        let count : length joined ≡ length labels = ap (λ (xs : List ℕ). length xs) made ∙ length-map new labels in
+        let count : length joined ≡ length labels = ap (λ (xs : List ℕ). length xs) made ∙ length-map labels new in
         let is : (k : ℕ) → k < length labels → get_or joined k 0 ≡ new (get_or labels k 0) = λ k l. ap (λ (xs : List ℕ). get_or xs k 0) made ∙ get_or-map new labels k 0 0 l in
         let here = together_from_none m p.matrix row column lr lc nonzero none in
         record {

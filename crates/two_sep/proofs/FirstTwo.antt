@@ -13,7 +13,6 @@ use Rattle.cmr_base.proofs.RowLists.{filter_in, in_filter}
 use Rattle.cmr_base.proofs.RemovedLines.{first_lines_increase, in_first_lines, row_set_from_within, column_set_from_within}
 use Rattle.cmr_base.proofs.SeedLemmas.{outside_grows, two_separation_of_seed}
 use Rattle.cmr_base.proofs.Booleans.{same_test}
-use Rattle.line_growth.specs.Reaching.{is_marked, marked_lines}
 use Rattle.two_sep.specs.FirstSeeds.{IsFirstTwoSeparation, IsFirstGoodSide, ArePassed}
 use Rattle.two_sep.proofs.Crossing.{parted}
 
@@ -44,14 +43,14 @@ module _ (m n : ℕ) (M : ℕ → ℕ → ℤ) (i j : ℕ) (S T : Lines) (same :
     },
   )
 
-module _ (m : Matrix) (i j : ℕ) (labels : List ℕ) (p : ArePassed m i j labels) (marks : List Bool) (found : IsFirstGoodSide m i j marks) (rows columns : List ℕ)
-    (rows_are : rows ≡ filter (λ r. is_marked marks r) (first_lines (height m))) (columns_are : columns ≡ filter (λ c. is_marked marks (height m + c)) (first_lines m.width)) where
-  same_lines : (line : Line) → IsLine (height m) m.width line → marked_lines (height m) marks line ≡ listed rows columns line
-  same_lines (Row r) l = sym (ap (λ (xs : List ℕ). list_any (λ y. nat_eq y r) xs) rows_are ∙ listed_filter (λ r. is_marked marks r) (height m) r l)
-  same_lines (Column c) l = sym (ap (λ (xs : List ℕ). list_any (λ y. nat_eq y c) xs) columns_are ∙ listed_filter (λ c. is_marked marks (height m + c)) m.width c l)
+module _ (m : Matrix) (i j : ℕ) (labels : List ℕ) (p : ArePassed m i j labels) (S : Lines) (found : IsFirstGoodSide m i j S) (rows columns : List ℕ)
+    (rows_are : rows ≡ filter (λ r. S (Row r)) (first_lines (height m))) (columns_are : columns ≡ filter (λ c. S (Column c)) (first_lines m.width)) where
+  same_lines : (line : Line) → IsLine (height m) m.width line → S line ≡ listed rows columns line
+  same_lines (Row r) l = sym (ap (λ (xs : List ℕ). list_any (λ y. nat_eq y r) xs) rows_are ∙ listed_filter (λ r. S (Row r)) (height m) r l)
+  same_lines (Column c) l = sym (ap (λ (xs : List ℕ). list_any (λ y. nat_eq y c) xs) columns_are ∙ listed_filter (λ c. S (Column c)) m.width c l)
 
   good : IsGoodTwo (height m) m.width (entry m) i j found.seed (listed rows columns)
-  good = good_same (height m) m.width (entry m) i j (marked_lines (height m) marks) (listed rows columns) same_lines found.seed found.good
+  good = good_same (height m) m.width (entry m) i j S (listed rows columns) same_lines found.seed found.good
 
   none_before : (i' j' : ℕ) (seed : Line) (side : Lines) → IsGoodTwo (height m) m.width (entry m) i' j' seed side → ¬ (IsBefore (two_key (height m) i' j' seed) (two_key (height m) i j found.seed))
   none_before i' j' seed side g (inl l) = earlier (inl l)
@@ -67,8 +66,8 @@ module _ (m : Matrix) (i j : ℕ) (labels : List ℕ) (p : ArePassed m i j label
 
   pub first_two : IsFirstTwoSeparation m (record { side = record { rows = rows; columns = columns }; row = i; column = j })
   first_two = record {
-    row_set = subst (IsRowSet m) (sym rows_are) (row_set_from_within m (filter (λ r. is_marked marks r) (first_lines (height m))) (IsStrictlyIncreasing-filter (λ r. is_marked marks r) (first_lines (height m)) (first_lines_increase (height m))) (λ x h. (in_filter (λ r. is_marked marks r) x (first_lines (height m)) h).0));
-    column_set = subst (IsColumnSet m) (sym columns_are) (column_set_from_within m (filter (λ c. is_marked marks (height m + c)) (first_lines m.width)) (IsStrictlyIncreasing-filter (λ c. is_marked marks (height m + c)) (first_lines m.width) (first_lines_increase m.width)) (λ x h. (in_filter (λ c. is_marked marks (height m + c)) x (first_lines m.width) h).0));
+    row_set = subst (IsRowSet m) (sym rows_are) (row_set_from_within m (filter (λ r. S (Row r)) (first_lines (height m))) (IsStrictlyIncreasing-filter (λ r. S (Row r)) (first_lines (height m)) (first_lines_increase (height m))) (λ x h. (in_filter (λ r. S (Row r)) x (first_lines (height m)) h).0));
+    column_set = subst (IsColumnSet m) (sym columns_are) (column_set_from_within m (filter (λ c. S (Column c)) (first_lines m.width)) (IsStrictlyIncreasing-filter (λ c. S (Column c)) (first_lines m.width) (first_lines_increase m.width)) (λ x h. (in_filter (λ c. S (Column c)) x (first_lines m.width) h).0));
     first = record { seed = found.seed; good = good; first = none_before };
     separates = two_separation_of_seed (height m) m.width (entry m) i j found.seed (listed rows columns) good;
   }

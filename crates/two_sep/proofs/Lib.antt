@@ -1,5 +1,5 @@
-pub mod SeedSteps
-pub mod MarkedLines
-pub mod Crossing
+pub mod LineNumbers
 pub mod FirstTwo
+pub mod SeedSteps
 pub mod PartSteps
+pub mod Crossing

@@ -1,8 +1,7 @@
 -- One more connected part.
-use Rattle.std.proofs.Common.{◌≡◌, ◌<◌, ◌≤◌, ◌+◌, ◌-◌, ◌⊎◌, inl, inr, ◌∙◌, ◌++◌, ◌||◌, not, cond, filter, nat_eq, ℕ, zero, suc, ℤ, Bool, true, false, List, [], ◌∷◌, length, replicate, ap, ap₂, sym, subst, refl, arith}
+use Rattle.std.proofs.Common.{◌≡◌, ◌<◌, ◌≤◌, ◌+◌, ◌-◌, ◌⊎◌, inl, inr, ◌∙◌, ◌++◌, ◌||◌, not, cond, filter, nat_eq, ℕ, zero, suc, ℤ, Bool, true, false, List, [], ◌∷◌, length, ap, ap₂, sym, subst, refl, arith}
 use Rattle.std.specs.List.{list_any}
 use Rattle.std.proofs.lemmas.Bool.{false≢true, cases_lt}
-use Rattle.std.proofs.lemmas.List.{length-replicate, get_or-replicate}
 use Rattle.std.proofs.lemmas.List.Kept.{IsStrictlyIncreasing-filter}
 use Rattle.cmr_base.specs.declared.line.Line.{Line}
 use Rattle.cmr_base.specs.declared.line.Line.TheVariants.{Row, Column}
@@ -12,19 +11,18 @@ use Rattle.cmr_base.specs.LineSets.{IsRowSet, IsColumnSet, first_lines}
 use Rattle.cmr_base.specs.Members.{IsIn}
 use Rattle.cmr_base.specs.Reductions.{HasLine}
 use Rattle.cmr_base.specs.Separations.{Lines, listed, opposite, zeros}
-use Rattle.cmr_base.specs.Seeds.{IsLine, line_number}
 use Rattle.cmr_base.specs.Components.{IsApart, IsComponent, AreComponents, part_at, first_number}
 use Rattle.cmr_base.proofs.ListedLines.{has_line_from_listed, listed_from_has_line, first_lines_contain}
 use Rattle.cmr_base.proofs.ListsWithout.{in_from_contains, contains_from_in}
 use Rattle.cmr_base.proofs.RowLists.{two_cases, in_filter, filter_in}
 use Rattle.cmr_base.proofs.RemovedLines.{first_lines_increase, in_first_lines, row_set_from_within, column_set_from_within}
 use Rattle.cmr_base.proofs.Booleans.{not_is, or_is, or_left, or_right, not_false, false_is}
-use Rattle.line_growth.specs.Rules.{pulls}
-use Rattle.line_growth.specs.Reaching.{is_marked, numbered, IsClosedUnder, unmarked, AreReached}
-use Rattle.line_growth.proofs.GrownLines.{closed_from_marks, numbered_line, numbered_closed}
-use Rattle.two_sep.specs.FoundParts.{HasPartLine, AreFound}
-use Rattle.two_sep.proofs.SeedSteps.{line_of, number_in, number-line_of, line-line_of}
-use Rattle.two_sep.proofs.MarkedLines.{filter_more}
+use Rattle.cmr_base.specs.Seeds.{IsGrown, IsLine, line_number}
+use Rattle.cmr_base.proofs.SeedLemmas.{line_is}
+use Rattle.cmr_base.specs.ColumnSets.{has_column}
+use Rattle.two_sep.specs.FoundParts.{HasPartLine, AreFound, seen_lines}
+use Rattle.two_sep.proofs.LineNumbers.{number_in}
+use Rattle.line_growth.proofs.FilteredLines.{filter_more}
 use Rattle.two_sep.proofs.FirstTwo.{listed_filter}
 
 -- ---- lists
@@ -75,148 +73,104 @@ opposite_apart m n M S s = record {
   below = λ r c hr hc e f. s.right r c hr hc (not_false (S (Row r)) e) (not_is (S (Column c)) f);
 }
 
+-- what was seen before, and a set
+pub seen_joined : (rows columns rows' columns' more_rows more_columns : List ℕ) (S : Lines) → ((r : ℕ) → has_column rows' r ≡ (has_column rows r || has_column more_rows r)) → ((c : ℕ) → has_column columns' c ≡ (has_column columns c || has_column more_columns c))
+    → ((r : ℕ) → has_column more_rows r ≡ S (Row r)) → ((c : ℕ) → has_column more_columns c ≡ S (Column c)) → (x : Line) → seen_lines rows' columns' x ≡ (seen_lines rows columns x || S x)
+seen_joined rows columns rows' columns' more_rows more_columns S added_rows added_columns are_rows are_columns (Row r) = added_rows r ∙ ap (λ (t : Bool). has_column rows r || t) (are_rows r)
+seen_joined rows columns rows' columns' more_rows more_columns S added_rows added_columns are_rows are_columns (Column c) = added_columns c ∙ ap (λ (t : Bool). has_column columns c || t) (are_columns c)
+
 module _ (m : Matrix) where
   abbrev h : ℕ
   h = height m
 
-  abbrev size : ℕ
-  size = height m + m.width
-
-  abbrev leads : ℕ → ℕ → Bool
-  leads = pulls (height m) (entry m) zeros zeros
-
-  pub found_none : (seen : List Bool) → seen ≡ replicate (height m + m.width) false → AreFound m [] seen 0
+  pub found_none : (seen : Lines) → ((line : Line) → seen line ≡ false) → AreFound m [] seen 0
   found_none seen e = record {
-    count = ap (λ (xs : List Bool). length xs) e ∙ length-replicate size false;
     row_sets = λ a l. absurd (omega arith);
     column_sets = λ a l. absurd (omega arith);
     components = λ a l. absurd (omega arith);
-    seen_in = λ line l f. absurd (false≢true (sym (ap (λ (xs : List Bool). is_marked xs (line_number h line)) e ∙ get_or-replicate size (line_number h line) false false (number_in h m.width line l)) ∙ f));
+    seen_in = λ line l f. absurd (false≢true (sym (e line) ∙ f));
     in_seen = λ a line l. absurd (omega arith);
-    passed = λ k l. absurd (omega arith);
+    passed = λ line l k. absurd (omega arith);
     once = λ a b line l. absurd (omega arith);
     ordered = λ a b k l. absurd (omega arith);
     early = λ a l. absurd (omega arith);
   }
 
-  module _ (parts : List LineSet) (seen : List Bool) (number : ℕ) (found : AreFound m parts seen number) where
-    pub found_passes : is_marked seen number ≡ true → AreFound m parts seen (number + 1)
+  module _ (parts : List LineSet) (seen : Lines) (number : ℕ) (found : AreFound m parts seen number) (line : Line) (inside : IsLine (height m) m.width line) (number_is : line_number (height m) line ≡ number) where
+    -- a line with this number is that line
+    line_here : (other : Line) → IsLine h m.width other → number ≤ line_number h other → line_number h other < number + 1 → other ≡ line
+    line_here other l low high = line_is h m.width other line l inside (omega arith)
+
+    pub found_passes : seen line ≡ true → AreFound m parts seen (number + 1)
     found_passes here = record {
-      count = found.count;
       row_sets = found.row_sets;
       column_sets = found.column_sets;
       components = found.components;
       seen_in = found.seen_in;
       in_seen = found.in_seen;
-      passed = λ k l. elim (cases_lt k number) [
-        | inl a ↦ found.passed k a
-        | inr a ↦ let q : k ≡ number = omega arith in ap (is_marked seen) q ∙ here
+      passed = λ other l k. elim (cases_lt (line_number h other) number) [
+        | inl a ↦ found.passed other l a
+        | inr a ↦ ap seen (line_here other l a k) ∙ here
       ];
       once = found.once;
       ordered = found.ordered;
       early = λ a l. let e = found.early a l in omega arith;
     }
 
-    pub found_all : height m + m.width ≤ number → AreComponents m parts
-    found_all full = record {
-      row_sets = found.row_sets;
-      column_sets = found.column_sets;
-      components = found.components;
-      all = λ line l. found.seen_in line l (found.passed (line_number h line) (let a = number_in h m.width line l in omega arith));
-      once = found.once;
-      ordered = found.ordered;
+    -- what was seen is apart from the rest
+    unseen_apart : IsApart h m.width (entry m) (opposite seen)
+    unseen_apart = record {
+      right = λ r c hr hc er ec.
+          let a = found.seen_in (Column c) (first_lines_contain m.width c hc) (not_false (seen (Column c)) ec) in
+          let part = part_at parts a.0 in
+          (found.components a.0 a.1).apart.below r c hr hc
+          (false_is (listed part.rows part.columns (Row r)) (λ t. false≢true (sym (not_is (seen (Row r)) er) ∙ found.in_seen a.0 (Row r) a.1 (has_line_from_listed part.rows part.columns (Row r) t))))
+          (listed_from_has_line part.rows part.columns (Column c) a.2);
+      below = λ r c hr hc er ec.
+          let a = found.seen_in (Row r) (first_lines_contain h r hr) (not_false (seen (Row r)) er) in
+          let part = part_at parts a.0 in
+          (found.components a.0 a.1).apart.right r c hr hc (listed_from_has_line part.rows part.columns (Row r) a.2)
+          (false_is (listed part.rows part.columns (Column c)) (λ t. false≢true (sym (not_is (seen (Column c)) ec) ∙ found.in_seen a.0 (Column c) a.1 (has_line_from_listed part.rows part.columns (Column c) t))));
     }
 
-    -- what was seen is apart from the rest
-    unseen_closed : IsClosedUnder size leads (λ k. not (is_marked seen k))
-    unseen_closed x y lx ly e f = elim (two_cases (is_marked seen y)) [
-      | inr g ↦ ap not g
-      | inl g ↦
-          let line = line_of h y in
-          let is_line = line-line_of h m.width y ly in
-          let a = found.seen_in line is_line (ap (is_marked seen) (number-line_of h y) ∙ g) in
-          let part = part_at parts a.0 in
-          let S = listed part.rows part.columns in
-          let apart = opposite_apart h m.width (entry m) S (found.components a.0 a.1).apart in
-          let out : numbered h (opposite S) x ≡ true =
-          ap (numbered h (opposite S)) (sym (number-line_of h x)) ∙ numbered_line h m.width (entry m) zeros zeros (opposite S) (line_of h x) (line-line_of h m.width x lx)
-          ∙ ap not (false_is (S (line_of h x)) (λ t. false≢true (sym (not_is (is_marked seen x) e) ∙ (ap (is_marked seen) (sym (number-line_of h x)) ∙ found.in_seen a.0 (line_of h x) a.1 (has_line_from_listed part.rows part.columns (line_of h x) t))))) in
-          let far = numbered_closed h m.width (entry m) zeros zeros (opposite S) apart x y lx ly out f in
-          let near : numbered h (opposite S) y ≡ false =
-          ap (numbered h (opposite S)) (sym (number-line_of h y)) ∙ numbered_line h m.width (entry m) zeros zeros (opposite S) line is_line ∙ ap not (listed_from_has_line part.rows part.columns line a.2) in
-          absurd (false≢true (sym near ∙ far))
-    ]
-
-    module _ (inside : number < height m + m.width) (new : is_marked seen number ≡ false) (marks : List Bool) (r : AreReached (height m + m.width) (pulls (height m) (entry m) zeros zeros) 1 (number ∷ []) marks)
-        (part : LineSet) (rows_are : part.rows ≡ filter (λ x. is_marked marks x) (first_lines (height m))) (columns_are : part.columns ≡ filter (λ x. is_marked marks (height m + x)) (first_lines m.width)) where
+    module _ (new : seen line ≡ false) (S : Lines) (grown : IsGrown (height m) m.width (entry m) zeros zeros (line ∷ []) S)
+        (part : LineSet) (rows_are : part.rows ≡ filter (λ x. S (Row x)) (first_lines (height m))) (columns_are : part.columns ≡ filter (λ x. S (Column x)) (first_lines m.width)) where
       abbrev T : Lines
       T = listed part.rows part.columns
 
-      same_lines : (line : Line) → IsLine h m.width line → listed part.rows part.columns line ≡ is_marked marks (line_number h line)
-      same_lines (Row x) l = ap (λ (xs : List ℕ). list_any (λ y. nat_eq y x) xs) rows_are ∙ listed_filter (λ y. is_marked marks y) h x l
-      same_lines (Column x) l = ap (λ (xs : List ℕ). list_any (λ y. nat_eq y x) xs) columns_are ∙ listed_filter (λ y. is_marked marks (h + y)) m.width x l
+      same_lines : (other : Line) → IsLine h m.width other → listed part.rows part.columns other ≡ S other
+      same_lines (Row x) l = ap (λ (xs : List ℕ). list_any (λ y. nat_eq y x) xs) rows_are ∙ listed_filter (λ y. S (Row y)) h x l
+      same_lines (Column x) l = ap (λ (xs : List ℕ). list_any (λ y. nat_eq y x) xs) columns_are ∙ listed_filter (λ y. S (Column y)) m.width x l
+
+      first_in : (n x : ℕ) → IsIn x (first_lines n) → x < n
+      first_in n x i = first_lines_contain n x (contains_from_in (first_lines n) x i)
 
       -- lines that the part has are lines of the matrix
-      in_part : (line : Line) → HasLine part.rows part.columns line → IsLine h m.width line
-      in_part (Row x) k = let i = in_from_contains part.rows x k in first_in h x (in_filter (λ y. is_marked marks y) x (first_lines h) (subst (λ (xs : List ℕ). IsIn x xs) rows_are i)).0
-        where
-          first_in : (n x : ℕ) → IsIn x (first_lines n) → x < n
-          first_in n x i = first_lines_contain n x (contains_from_in (first_lines n) x i)
-      in_part (Column x) k = let i = in_from_contains part.columns x k in first_in m.width x (in_filter (λ y. is_marked marks (h + y)) x (first_lines m.width) (subst (λ (xs : List ℕ). IsIn x xs) columns_are i)).0
-        where
-          first_in : (n x : ℕ) → IsIn x (first_lines n) → x < n
-          first_in n x i = first_lines_contain n x (contains_from_in (first_lines n) x i)
+      in_part : (other : Line) → HasLine part.rows part.columns other → IsLine h m.width other
+      in_part (Row x) k = first_in h x (in_filter (λ y. S (Row y)) x (first_lines h) (subst (λ (xs : List ℕ). IsIn x xs) rows_are (in_from_contains part.rows x k))).0
+      in_part (Column x) k = first_in m.width x (in_filter (λ y. S (Column y)) x (first_lines m.width) (subst (λ (xs : List ℕ). IsIn x xs) columns_are (in_from_contains part.columns x k))).0
 
-      marked_of : (line : Line) → HasLine part.rows part.columns line → is_marked marks (line_number h line) ≡ true
-      marked_of line k = sym (same_lines line (in_part line k)) ∙ listed_from_has_line part.rows part.columns line k
+      inside_of : (other : Line) → HasLine part.rows part.columns other → S other ≡ true
+      inside_of other k = sym (same_lines other (in_part other k)) ∙ listed_from_has_line part.rows part.columns other k
 
-      start : is_marked marks number ≡ true
-      start = r.started number (inl refl)
-
-      only_start : (set : ℕ → Bool) → set number ≡ true → (x : ℕ) → IsIn x (number ∷ []) → set x ≡ true
-      only_start set e x (inl q) = ap set q ∙ e
-      only_start set e x (inr a) = absurd a
-
-      unseen : (x : ℕ) → is_marked marks x ≡ true → is_marked seen x ≡ false
-      unseen x e = not_is (is_marked seen x) (r.within (λ k. not (is_marked seen k)) (only_start (λ k. not (is_marked seen k)) (ap not new)) unseen_closed x e)
-
-      all_marked : unmarked size marks < 1 → (x : ℕ) → x < size → is_marked marks x ≡ true
-      all_marked few x l = elim (two_cases (is_marked marks x)) [
-        | inl e ↦ e
-        | inr e ↦ absurd (let p = first_some (λ y. not (is_marked marks y)) size x l (ap not e) in omega arith)
-      ]
-        where
-          first_some : (p : ℕ → Bool) (n x : ℕ) → x < n → p x ≡ true → 0 < length (filter p (first_lines n))
-          first_some p n x l e = some (filter p (first_lines n)) (filter_in p x (first_lines n) (in_first_lines n x l) e)
-            where
-              some : (xs : List ℕ) → IsIn x xs → 0 < length xs
-              some [] i = absurd i
-              some (y ∷ ys) i = omega arith
-
-      closed : IsClosedUnder size leads (is_marked marks)
-      closed = elim r.closed [
-        | inl c ↦ c
-        | inr few ↦ λ x y lx ly e f. all_marked few y ly
-      ]
+      unseen : (other : Line) → IsLine h m.width other → S other ≡ true → seen other ≡ false
+      unseen other l e = not_is (seen other) (grown.least (opposite seen) unseen_apart (ap not new, tt) other l e)
 
       apart : IsApart h m.width (entry m) T
-      apart = let c = closed_from_marks h m.width (entry m) zeros zeros marks closed in record {
-        right = λ x y hx hy e f. c.right x y hx hy (sym (same_lines (Row x) (first_lines_contain h x hx)) ∙ e) (sym (same_lines (Column y) (first_lines_contain m.width y hy)) ∙ f);
-        below = λ x y hx hy e f. c.below x y hx hy (sym (same_lines (Row x) (first_lines_contain h x hx)) ∙ e) (sym (same_lines (Column y) (first_lines_contain m.width y hy)) ∙ f);
+      apart = record {
+        right = λ x y hx hy e f. grown.closed.right x y hx hy (sym (same_lines (Row x) (first_lines_contain h x hx)) ∙ e) (sym (same_lines (Column y) (first_lines_contain m.width y hy)) ∙ f);
+        below = λ x y hx hy e f. grown.closed.below x y hx hy (sym (same_lines (Row x) (first_lines_contain h x hx)) ∙ e) (sym (same_lines (Column y) (first_lines_contain m.width y hy)) ∙ f);
       }
 
-      within_other : (other : Lines) → IsApart h m.width (entry m) other → other (line_of h number) ≡ true → (line : Line) → IsLine h m.width line → T line ≡ true → other line ≡ true
-      within_other other apart e line l t =
-          sym (numbered_line h m.width (entry m) zeros zeros other line l)
-          ∙ r.within (numbered h other) (only_start (numbered h other) (ap (numbered h other) (sym (number-line_of h number)) ∙ numbered_line h m.width (entry m) zeros zeros other (line_of h number) (line-line_of h m.width number inside) ∙ e))
-          (numbered_closed h m.width (entry m) zeros zeros other apart) (line_number h line) (sym (same_lines line l) ∙ t)
+      within_other : (other : Lines) → IsApart h m.width (entry m) other → other line ≡ true → (x : Line) → IsLine h m.width x → T x ≡ true → other x ≡ true
+      within_other other is_apart e x l t = grown.least other is_apart (e, tt) x l (sym (same_lines x l) ∙ t)
 
       component : IsComponent h m.width (entry m) T
       component = record {
         apart = apart;
-        some = (line_of h number, line-line_of h m.width number inside, same_lines (line_of h number) (line-line_of h m.width number inside) ∙ ap (is_marked marks) (number-line_of h number) ∙ start);
-        least = λ other is_apart some within line l t. elim (two_cases (other (line_of h number))) [
-          | inl e ↦ within_other other is_apart e line l t
+        some = (line, inside, same_lines line inside ∙ grown.has.0);
+        least = λ other is_apart some within x l t. elim (two_cases (other line)) [
+          | inl e ↦ within_other other is_apart e x l t
           | inr e ↦
               let out = within_other (opposite other) (opposite_apart h m.width (entry m) other is_apart) (ap not e) some.0 some.1 (within some.0 some.1 some.2) in
               absurd (false≢true (sym (not_is (other some.0) out) ∙ some.2))
@@ -224,39 +178,43 @@ module _ (m : Matrix) where
       }
 
       first_is : first_number h part ≡ number
-      first_is = go (cases_lt number h)
+      first_is = go line refl
         where
-          before : (k : ℕ) → k < number → is_marked marks k ≡ false
-          before k l = false_is (is_marked marks k) (λ e. false≢true (sym (unseen k e) ∙ found.passed k l))
+          before : (other : Line) → IsLine h m.width other → line_number h other < number → S other ≡ false
+          before other l k = false_is (S other) (λ e. false≢true (sym (unseen other l e) ∙ found.passed other l k))
 
           by_lists : (rows columns : List ℕ) → part.rows ≡ rows → part.columns ≡ columns → first_number h part ≡ first_number h (record { rows = rows; columns = columns })
           by_lists rows columns e f = ap₂ (λ (a b : List ℕ). first_number h (record { rows = a; columns = b })) e f
 
-          go : (number < h) ⊎ (h ≤ number) → first_number h part ≡ number
-          go (inl l) = let f = first_pass (λ x. is_marked marks x) h number l start before in by_lists (number ∷ f.0) part.columns (rows_are ∙ f.1) refl
-          go (inr l) =
-              let back : h + (number - h) ≡ number = omega arith in
-              let f = first_pass (λ x. is_marked marks (h + x)) m.width (number - h) (omega arith) (ap (is_marked marks) back ∙ start) (λ q k. before (h + q) (omega arith)) in
-              by_lists [] ((number - h) ∷ f.0) (rows_are ∙ none_pass (λ x. is_marked marks x) h (λ k a. before k (omega arith))) (columns_are ∙ f.1) ∙ back
+          go : (x : Line) → line ≡ x → first_number h part ≡ number
+          go (Row r) e =
+              let l = subst (λ (z : Line). IsLine h m.width z) e inside in
+              let at : r ≡ number = sym (ap (line_number h) e) ∙ number_is in
+              let f = first_pass (λ x. S (Row x)) h r l (sym (ap S e) ∙ grown.has.0) (λ q k. before (Row q) (omega arith) (omega arith)) in
+              by_lists (r ∷ f.0) part.columns (rows_are ∙ f.1) refl ∙ at
+          go (Column c) e =
+              let l = subst (λ (z : Line). IsLine h m.width z) e inside in
+              let at : h + c ≡ number = sym (ap (line_number h) e) ∙ number_is in
+              let f = first_pass (λ x. S (Column x)) m.width c l (sym (ap S e) ∙ grown.has.0) (λ q k. before (Column q) (omega arith) (omega arith)) in
+              by_lists [] (c ∷ f.0) (rows_are ∙ none_pass (λ x. S (Row x)) h (λ k a. before (Row k) a (omega arith))) (columns_are ∙ f.1) ∙ at
 
       -- the parts with this one
-      pub found_more : (seen' : List Bool) → length seen' ≡ length seen → ((k : ℕ) → is_marked seen' k ≡ (is_marked seen k || is_marked marks k)) → AreFound m (parts ++ part ∷ []) seen' (number + 1)
-      found_more seen' count is = record {
-        count = count ∙ found.count;
-        row_sets = λ a l. each (λ p. IsRowSet m p.rows) found.row_sets (subst (IsRowSet m) (sym rows_are) (row_set_from_within m (filter (λ x. is_marked marks x) (first_lines h)) (IsStrictlyIncreasing-filter (λ x. is_marked marks x) (first_lines h) (first_lines_increase h)) (λ x i. (in_filter (λ x. is_marked marks x) x (first_lines h) i).0))) a l;
-        column_sets = λ a l. each (λ p. IsColumnSet m p.columns) found.column_sets (subst (IsColumnSet m) (sym columns_are) (column_set_from_within m (filter (λ x. is_marked marks (h + x)) (first_lines m.width)) (IsStrictlyIncreasing-filter (λ x. is_marked marks (h + x)) (first_lines m.width) (first_lines_increase m.width)) (λ x i. (in_filter (λ x. is_marked marks (h + x)) x (first_lines m.width) i).0))) a l;
+      pub found_more : (seen' : Lines) → ((x : Line) → seen' x ≡ (seen x || S x)) → AreFound m (parts ++ part ∷ []) seen' (number + 1)
+      found_more seen' is = record {
+        row_sets = λ a l. each (λ p. IsRowSet m p.rows) found.row_sets (subst (IsRowSet m) (sym rows_are) (row_set_from_within m (filter (λ x. S (Row x)) (first_lines h)) (IsStrictlyIncreasing-filter (λ x. S (Row x)) (first_lines h) (first_lines_increase h)) (λ x i. (in_filter (λ x. S (Row x)) x (first_lines h) i).0))) a l;
+        column_sets = λ a l. each (λ p. IsColumnSet m p.columns) found.column_sets (subst (IsColumnSet m) (sym columns_are) (column_set_from_within m (filter (λ x. S (Column x)) (first_lines m.width)) (IsStrictlyIncreasing-filter (λ x. S (Column x)) (first_lines m.width) (first_lines_increase m.width)) (λ x i. (in_filter (λ x. S (Column x)) x (first_lines m.width) i).0))) a l;
         components = λ a l. each (λ p. IsComponent h m.width (entry m) (listed p.rows p.columns)) found.components component a l;
-        seen_in = λ line l e. elim (or_is (is_marked seen (line_number h line)) (is_marked marks (line_number h line)) (sym (is (line_number h line)) ∙ e)) [
-          | inl f ↦ let a = found.seen_in line l f in (a.0, (let k = a.1 in let n = length-more parts part in omega arith), subst (λ p. HasLine p.rows p.columns line) (sym (part_front parts part a.0 a.1)) a.2)
-          | inr f ↦ (length parts, (let n = length-more parts part in omega arith), subst (λ p. HasLine p.rows p.columns line) (sym (part_last parts part)) (has_line_from_listed part.rows part.columns line (same_lines line l ∙ f)))
+        seen_in = λ other l e. elim (or_is (seen other) (S other) (sym (is other) ∙ e)) [
+          | inl f ↦ let a = found.seen_in other l f in (a.0, (let k = a.1 in let n = length-more parts part in omega arith), subst (λ p. HasLine p.rows p.columns other) (sym (part_front parts part a.0 a.1)) a.2)
+          | inr f ↦ (length parts, (let n = length-more parts part in omega arith), subst (λ p. HasLine p.rows p.columns other) (sym (part_last parts part)) (has_line_from_listed part.rows part.columns other (same_lines other l ∙ f)))
         ];
-        in_seen = λ a line l k. elim (old_or_new a l) [
-          | inl b ↦ is (line_number h line) ∙ or_left (is_marked seen (line_number h line)) (is_marked marks (line_number h line)) (found.in_seen a line b (old_line a line b k))
-          | inr b ↦ is (line_number h line) ∙ or_right (is_marked seen (line_number h line)) (is_marked marks (line_number h line)) (marked_of line (new_line a line b k))
+        in_seen = λ a other l k. elim (old_or_new a l) [
+          | inl b ↦ is other ∙ or_left (seen other) (S other) (found.in_seen a other b (old_line a other b k))
+          | inr b ↦ is other ∙ or_right (seen other) (S other) (inside_of other (new_line a other b k))
         ];
-        passed = λ k l. is k ∙ elim (cases_lt k number) [
-          | inl a ↦ or_left (is_marked seen k) (is_marked marks k) (found.passed k a)
-          | inr a ↦ let q : k ≡ number = omega arith in or_right (is_marked seen k) (is_marked marks k) (ap (is_marked marks) q ∙ start)
+        passed = λ other l k. is other ∙ elim (cases_lt (line_number h other) number) [
+          | inl a ↦ or_left (seen other) (S other) (found.passed other l a)
+          | inr a ↦ or_right (seen other) (S other) (ap S (line_here other l a k) ∙ grown.has.0)
         ];
         once = λ a b line la lb i j. elim (old_or_new a la) [
           | inl p ↦ elim (old_or_new b lb) [
@@ -308,4 +266,14 @@ module _ (m : Matrix) where
           new_line a line p k = subst (λ q. HasLine q.rows q.columns line) (at_last a p) k
 
           apart_from : (a b : ℕ) (line : Line) → a < length parts → b ≡ length parts → HasPartLine (parts ++ part ∷ []) a line → HasPartLine (parts ++ part ∷ []) b line → ⊥
-          apart_from a b line p q i j = false≢true (sym (unseen (line_number h line) (marked_of line (new_line b line q j))) ∙ found.in_seen a line p (old_line a line p i))
+          apart_from a b other p q i j = let k = new_line b other q j in false≢true (sym (unseen other (in_part other k) (inside_of other k)) ∙ found.in_seen a other p (old_line a other p i))
+
+  pub found_all : (parts : List LineSet) (seen : Lines) (number : ℕ) → AreFound m parts seen number → height m + m.width ≤ number → AreComponents m parts
+  found_all parts seen number found full = record {
+    row_sets = found.row_sets;
+    column_sets = found.column_sets;
+    components = found.components;
+    all = λ line l. found.seen_in line l (found.passed line l (let a = number_in h m.width line l in omega arith));
+    once = found.once;
+    ordered = found.ordered;
+  }

@@ -1,12 +1,12 @@
 -- Two-separations by their first good seeds.
-use Rattle.std.specs.Prelude.{◌≡◌, ◌≢◌, ◌<◌, ◌+◌, ◌⊎◌, ℕ, pos, Bool, List, length, slice_index_or}
+use Rattle.std.specs.Prelude.{◌≡◌, ◌≢◌, ◌<◌, ◌+◌, ◌-◌, ◌⊎◌, cond, nat_lt, ℕ, pos, Bool, List, length, slice_index_or}
 use Rattle.cmr_base.specs.declared.line.Line.{Line}
+use Rattle.cmr_base.specs.declared.line.Line.TheVariants.{Column, Row}
 use Rattle.cmr_base.specs.declared.separation.Two.{Two}
 use Rattle.cmr_base.specs.Matrix.{Matrix, height, entry, IsMatrix}
 use Rattle.cmr_base.specs.LineSets.{IsRowSet, IsColumnSet, first_lines}
 use Rattle.cmr_base.specs.Separations.{Lines, listed, IsTwoSeparation}
 use Rattle.cmr_base.specs.Seeds.{IsGoodTwo, IsFirstTwo, line_number}
-use Rattle.line_growth.specs.Reaching.{marked_lines, numbered}
 
 -- a two-separation of all lines of the matrix
 abbrev pub Separates : Matrix → Lines → ℕ → ℕ → Type 0
@@ -27,17 +27,20 @@ pub record IsFirstTwoSeparation (m : Matrix) (two : Two) : Type 0 where
 abbrev pub HasNoGoodSeed : Matrix → ℕ → ℕ → Type 0
 HasNoGoodSeed m i j = (seed : Line) (side : Lines) → ¬ (IsGoodTwo (height m) m.width (entry m) i j seed side)
 
--- the marks are the side of the first good seed at (i, j)
-pub record IsFirstGoodSide (m : Matrix) (i j : ℕ) (marks : List Bool) : Type 0 where
-  pub count : length marks ≡ height m + m.width
+-- the set is the side of the first good seed at (i, j)
+pub record IsFirstGoodSide (m : Matrix) (i j : ℕ) (side : Lines) : Type 0 where
   pub seed : Line
-  pub good : IsGoodTwo (height m) m.width (entry m) i j seed (marked_lines (height m) marks)
-  pub first : (other : Line) (side : Lines) → IsGoodTwo (height m) m.width (entry m) i j other side → ¬ (line_number (height m) other < line_number (height m) seed)
+  pub good : IsGoodTwo (height m) m.width (entry m) i j seed side
+  pub first : (other : Line) (side' : Lines) → IsGoodTwo (height m) m.width (entry m) i j other side' → ¬ (line_number (height m) other < line_number (height m) seed)
 
 -- ---- lines that no two-separation parts
 
+-- the line of a number, where there are so many rows
+abbrev pub line_of : ℕ → ℕ → Line
+line_of rows k = cond (nat_lt k rows) (Row k) (Column (k - rows))
+
 abbrev pub AreTogether : Matrix → ℕ → ℕ → Type 0
-AreTogether m x y = (i j : ℕ) (side : Lines) → Separates m side i j → numbered (height m) side x ≡ numbered (height m) side y
+AreTogether m x y = (i j : ℕ) (side : Lines) → Separates m side i j → side (line_of (height m) x) ≡ side (line_of (height m) y)
 
 -- lines of one label are together, and so are the lines of each nonzero before (row, column)
 pub record ArePassed (m : Matrix) (row column : ℕ) (labels : List ℕ) : Type 0 where

@@ -1,27 +1,32 @@
 -- Connected parts that were found one after another.
-use Rattle.std.specs.Prelude.{◌≡◌, ◌<◌, ◌+◌, ℕ, Bool, true, List, length}
+use Rattle.std.specs.Prelude.{◌≡◌, ◌<◌, ℕ, true, List, length}
 use Rattle.cmr_base.specs.declared.line.Line.{Line}
+use Rattle.cmr_base.specs.declared.line.Line.TheVariants.{Column, Row}
 use Rattle.cmr_base.specs.declared.line_set.LineSet.{LineSet}
 use Rattle.cmr_base.specs.Matrix.{Matrix, height, entry}
 use Rattle.cmr_base.specs.LineSets.{IsRowSet, IsColumnSet}
 use Rattle.cmr_base.specs.Reductions.{HasLine}
-use Rattle.cmr_base.specs.Separations.{listed}
+use Rattle.cmr_base.specs.Separations.{Lines, listed}
 use Rattle.cmr_base.specs.Seeds.{IsLine, line_number}
 use Rattle.cmr_base.specs.Components.{IsComponent, part_at, first_number}
-use Rattle.line_growth.specs.Reaching.{is_marked}
+use Rattle.cmr_base.specs.ColumnSets.{has_column}
 
 abbrev pub HasPartLine : List LineSet → ℕ → Line → Type 0
 HasPartLine parts a line = HasLine (part_at parts a).rows (part_at parts a).columns line
 
+-- the lines of two sets of words
+abbrev pub seen_lines : (rows columns : List ℕ) → Lines
+seen_lines rows columns (Row row) = has_column rows row
+seen_lines rows columns (Column column) = has_column columns column
+
 -- the parts of the lines before one, which are those that were seen
-pub record AreFound (m : Matrix) (parts : List LineSet) (seen : List Bool) (number : ℕ) : Type 0 where
-  pub count : length seen ≡ height m + m.width
+pub record AreFound (m : Matrix) (parts : List LineSet) (seen : Lines) (number : ℕ) : Type 0 where
   pub row_sets : (a : ℕ) → a < length parts → IsRowSet m (part_at parts a).rows
   pub column_sets : (a : ℕ) → a < length parts → IsColumnSet m (part_at parts a).columns
   pub components : (a : ℕ) → a < length parts → IsComponent (height m) m.width (entry m) (listed (part_at parts a).rows (part_at parts a).columns)
-  pub seen_in : (line : Line) → IsLine (height m) m.width line → is_marked seen (line_number (height m) line) ≡ true → (a : ℕ) × (a < length parts) × HasPartLine parts a line
-  pub in_seen : (a : ℕ) (line : Line) → a < length parts → HasPartLine parts a line → is_marked seen (line_number (height m) line) ≡ true
-  pub passed : (k : ℕ) → k < number → is_marked seen k ≡ true
+  pub seen_in : (line : Line) → IsLine (height m) m.width line → seen line ≡ true → (a : ℕ) × (a < length parts) × HasPartLine parts a line
+  pub in_seen : (a : ℕ) (line : Line) → a < length parts → HasPartLine parts a line → seen line ≡ true
+  pub passed : (line : Line) → IsLine (height m) m.width line → line_number (height m) line < number → seen line ≡ true
   pub once : (a b : ℕ) (line : Line) → a < length parts → b < length parts → HasPartLine parts a line → HasPartLine parts b line → a ≡ b
   pub ordered : (a b : ℕ) → a < b → b < length parts → first_number (height m) (part_at parts a) < first_number (height m) (part_at parts b)
   pub early : (a : ℕ) → a < length parts → first_number (height m) (part_at parts a) < number

@@ -1,7 +1,6 @@
 //! The connected parts of a matrix, and its two-separations.
 #![tactic(auto)]
 
-mod marked;
 mod parts;
 mod seeds;
 mod separations;

@@ -1,11 +1,16 @@
 // The connected parts of a matrix.
-ghost use Rattle.std.specs.Prelude.{◌≡◌, ◌||◌, ℕ, length, IfOk};
+ghost use Rattle.std.specs.Prelude.{◌≡◌, ◌∷◌, [], length, IfOk, OnOk};
 ghost use Rattle.cmr_base.specs.Components.{AreComponents};
-ghost use Rattle.line_growth.specs.Reaching.{is_marked};
+ghost use Rattle.cmr_base.specs.Matrix.{entry, height};
+ghost use Rattle.cmr_base.specs.Planes.{words_for};
+ghost use Rattle.cmr_base.specs.Seeds.{IsGrown, IsLine};
+ghost use Rattle.cmr_base.specs.Separations.{zeros};
+ghost use Rattle.line_growth.specs.GrowingSets.{HasRoom, set_of};
+ghost use Rattle.two_sep.specs.FoundParts.{seen_lines};
 
-use crate::marked::marked_set;
-use cmr_base::{LineSetList, Matrix, Memory, RowsAndColumns};
-use line_growth::{Block, Direction, Rule, reach};
+use cmr_base::columns::{add_set, empty_set, has_column};
+use cmr_base::{Line, LineSetList, Matrix, Memory, RowsAndColumns};
+use line_growth::{Block, GrowingSet, Rule, line_at};
 use std::alloc::Global;
 
 /// The connected parts, by their first lines: two lines are in one part where nonzeros link them.
@@ -20,34 +25,48 @@ pub fn components(alloc: Global, matrix: &Matrix) -> Result<LineSetList, Memory>
 pub fn components_of(alloc: Global, matrix: &RowsAndColumns<'_>) -> Result<LineSetList, Memory>
     ensures { IfOk result (AreComponents matrix.now) }
 {
-    let rows = matrix.rows();
-    let size = rows + matrix.columns();
-    let rule = Rule {
-        upper: Block::Zero,
-        lower: Block::Zero,
-    };
     let mut parts = LineSetList::new(alloc);
-    let mut seen = vec![in alloc; false; size as usize]?;
-    for line in 0..size {
-        if !seen[line as usize] {
-            let marks = reach(alloc, matrix, rule, Direction::Forwards, &[line], 1)?;
-            parts.push(marked_set(alloc, &marks, rows, matrix.columns())?)?;
-            add_marks(&mut seen, &marks);
+    let mut seen_rows = empty_set(alloc, matrix.rows())?;
+    let mut seen_columns = empty_set(alloc, matrix.columns())?;
+    let mut part = GrowingSet::new(alloc, matrix)?;
+    for place in 0..matrix.rows() + matrix.columns() {
+        let line = line_at(matrix, place);
+        if !is_seen(matrix, &seen_rows, &seen_columns, line) {
+            grow_part(matrix, &mut part, line)?;
+            parts.push(part.line_set(alloc, matrix)?)?;
+            add_set(&mut seen_rows, part.rows(matrix));
+            add_set(&mut seen_columns, part.columns(matrix));
         }
     }
     Ok(parts)
 }
 
-// Marks what has a mark in either list.
-fn add_marks(seen: &mut Vec<bool>, marks: &[bool])
-    requires { length marks.now ≡ length seen.old.items }
-    ensures count { length seen.new.items ≡ length seen.old.items }
-    ensures marks { (k : ℕ)
-        → is_marked seen.new.items k ≡ (is_marked seen.old.items k || is_marked marks.now k) }
+// Whether a line was seen, where these rows and columns were.
+fn is_seen(matrix: &RowsAndColumns<'_>, rows: &[u64], columns: &[u64], line: Line) -> bool
+    requires rows { length rows.now ≡ words_for (height matrix.now) }
+    requires columns { length columns.now ≡ words_for matrix.now.width }
+    requires line { IsLine (height matrix.now) matrix.now.width line }
+    ensures { result ≡ seen_lines rows.now columns.now line }
 {
-    for place in 0..marks.len() {
-        if marks[place] {
-            seen[place] = true;
-        }
+    match line {
+        Line::Row(row) => has_column(rows, row),
+        Line::Column(column) => has_column(columns, column),
     }
+}
+
+// The part of a line.
+fn grow_part(matrix: &RowsAndColumns<'_>, part: &mut GrowingSet, line: Line) -> Result<(), Memory>
+    requires room { HasRoom matrix.now part.old }
+    requires line { IsLine (height matrix.now) matrix.now.width line }
+    ensures room { OnOk result (HasRoom matrix.now part.new) }
+    ensures grown { OnOk result (IsGrown (height matrix.now) matrix.now.width (entry matrix.now)
+        zeros zeros (line ∷ []) (set_of part.new)) }
+{
+    let rule = Rule {
+        upper: Block::Zero,
+        lower: Block::Zero,
+    };
+    part.start(matrix, &[line])?;
+    part.close(matrix, rule, &[], 0)?;
+    Ok(())
 }

@@ -1,11 +1,11 @@
 // The first good seed at a nonzero.
 ghost use Rattle.std.specs.Prelude.{◌≢◌, ◌<◌, pos, IfOk, MatchOption};
 ghost use Rattle.cmr_base.specs.Matrix.{height, entry};
+ghost use Rattle.line_growth.specs.GrowingSets.{HasRoom, set_of};
 ghost use Rattle.two_sep.specs.FirstSeeds.{HasNoGoodSeed, IsFirstGoodSide};
 
-use crate::marked::count_unmarked;
-use cmr_base::{Memory, RowsAndColumns};
-use line_growth::{Block, Direction, Place, Rule, reach};
+use cmr_base::{Line, Memory, RowsAndColumns};
+use line_growth::{Block, GrowingSet, Place, Rule, line_at};
 use std::alloc::Global;
 
 /// The side to which the first good seed at a nonzero grows, `None` where no seed there is good. Where a line grows to all
@@ -15,34 +15,30 @@ pub fn first_good_side(
     matrix: &RowsAndColumns<'_>,
     row: u32,
     column: u32,
-) -> Result<Option<Vec<bool>>, Memory>
+) -> Result<Option<GrowingSet>, Memory>
     requires row { row < height matrix.now }
     requires column { column < matrix.now.width }
     requires nonzero { entry matrix.now row column ≢ pos 0 }
     ensures { IfOk result (λ found. MatchOption found (HasNoGoodSeed matrix.now row column)
-        (λ side. IsFirstGoodSide matrix.now row column side.items)) }
+        (λ side. HasRoom matrix.now side
+        × IsFirstGoodSide matrix.now row column (set_of side))) }
 {
     let rows = matrix.rows();
-    let size = rows + matrix.columns();
     let rule = Rule {
         upper: Block::Zero,
         lower: Block::Product(Place { row, column }),
     };
-    let mut bad = vec![in alloc; false; size as usize]?;
-    for seed in 0..size {
-        if seed != row && seed != rows + column && !bad[seed as usize] {
-            let side = reach(
-                alloc,
-                matrix,
-                rule,
-                Direction::Forwards,
-                &[seed, rows + column],
-                2,
-            )?;
-            if count_unmarked(&side) >= 2 {
+    let mut side = GrowingSet::new(alloc, matrix)?;
+    let mut bad = GrowingSet::new(alloc, matrix)?;
+    for place in 0..rows + matrix.columns() {
+        let seed = line_at(matrix, place);
+        if place != row && place != rows + column && !bad.has(matrix, seed) {
+            side.start(matrix, &[seed, Line::Column(column)])?;
+            if side.close(matrix, rule, &[Line::Row(row)], 2)? {
                 return Ok(Some(side));
             }
-            bad = reach(alloc, matrix, rule, Direction::Backwards, &[seed], 2)?;
+            bad.start(matrix, &[seed])?;
+            bad.close(matrix, rule.exchanged(), &[], 2)?;
         }
     }
     Ok(None)

@@ -3,7 +3,6 @@ ghost use Rattle.std.specs.Prelude.{◌≡◌, ◌≤◌, ◌<◌, ◌+◌, IfOk
 ghost use Rattle.cmr_base.specs.Matrix.{height};
 ghost use Rattle.two_sep.specs.FirstSeeds.{HasNoTwoSeparation, IsFirstTwoSeparation, ArePassed};
 
-use crate::marked::marked_set;
 use crate::seeds::first_good_side;
 use cmr_base::{Matrix, Memory, RowsAndColumns, Two, join_labels, own_labels};
 use std::alloc::Global;
@@ -54,7 +53,7 @@ fn separation_at(
         if label != other && matrix.entry(row, column) != 0 {
             if let Some(side) = first_good_side(alloc, matrix, row, column)? {
                 return Ok(Some(Two {
-                    side: marked_set(alloc, &side, rows, matrix.columns())?,
+                    side: side.line_set(alloc, matrix)?,
                     row,
                     column,
                 }));

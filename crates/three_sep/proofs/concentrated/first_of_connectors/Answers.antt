@@ -1,30 +1,59 @@
-use Rattle.std.proofs.Common.{sym, subst}
+use Rattle.std.proofs.Common.{◌≡◌, ◌<◌, ◌∷◌, [], sym, subst}
+use Rattle.cmr_base.specs.declared.line.Line.TheVariants.{Column, Row}
+use Rattle.cmr_base.specs.declared.separation.Form.TheVariants.{Concentrated}
 use Rattle.cmr_base.specs.Matrix.{Matrix, entry}
-use Rattle.cmr_base.specs.Signing.{IsSign}
-use Rattle.cmr_base.specs.Separations.{core_determinant}
-use Rattle.three_sep.specs.Concentrated.{ArePlaced, HasNoLeaving, first_lines, first_of, second_of, turned}
-use Rattle.three_sep.proofs.ConcentratedLemmas.{no_leaving, no_left}
-use Rattle.three_sep.proofs.TurnedLemmas.{placed_turned, sign_turned}
+use Rattle.cmr_base.specs.Separations.{spread_at, zeros}
+use Rattle.line_growth.specs.declared.rule.Rule.{Rule}
+use Rattle.line_growth.specs.GrowingSets.{HasNoLeaving, TellsClosed, set_of}
+use Rattle.line_growth.specs.Rules.{IsRuleOf, exchanged, lower_of, upper_of}
+use Rattle.three_sep.specs.declared.connectors.Connectors.{Connectors}
+use Rattle.three_sep.specs.Concentrated.{AreConcentratedCorners, IsOtherColumn, IsOtherRow}
+use Rattle.three_sep.specs.Connectors.{AreConnectorsOf, ArePlaced, HasNoneParting, first_of, firsts, second_of, seconds}
+use Rattle.three_sep.proofs.ConcentratedLemmas.{spread_connectors}
+use Rattle.line_growth.proofs.SetSteps.{told_no}
+use Rattle.three_sep.proofs.SideLemmas.{no_good_parting, none_leaving, none_left}
 use Rattle.three_sep.proofs.concentrated.first_of_connectors.Goals as goal
 
+exchanged_rule : (m : Matrix) (rule other : Rule) → other ≡ exchanged rule → IsRuleOf m rule → IsRuleOf m other
+exchanged_rule m rule other e is = subst (IsRuleOf m) (sym e) (record { upper = is.lower; lower = is.upper })
+
 pub returns-then-is_second_pulled-clause-none : goal.returns-then-is_second_pulled-clause-none
-returns-then-is_second_pulled-clause-none c = no_leaving c.args.views.now c.args.connectors.now (c.is_second_pulled.ensures c.if-is_second_pulled.true)
+returns-then-is_second_pulled-clause-none c =
+    let m = c.args.views.now in
+    let d = c.args.connectors.now in
+    let rule = c.spread_rule-rule in
+    no_good_parting m Concentrated rule.result d (spread_connectors m rule.result d c.requires.placed c.requires.corners c.requires.column c.requires.row rule.ensures.rule rule.ensures.upper rule.ensures.lower)
+    (c.is_second_pulled.ensures c.if-is_second_pulled.true)
 
 pub returns-then-not-branch-clause-none : goal.returns-then-not-branch-clause-none
-returns-then-not-branch-clause-none c = no_leaving c.args.views.now c.args.connectors.now (c.in_ok-may_part.ensures.no c.if-not-branch.true)
-
-pub may_be_left-requires-clause-placed : goal.may_be_left-requires-clause-placed
-may_be_left-requires-clause-placed c = subst (λ (z : Matrix). ArePlaced z (turned c.args.connectors.now)) (sym c.requires.turned) (placed_turned c.args.views.now c.rows-rows.ensures.shape c.args.connectors.now c.requires.placed)
-
-pub may_be_left-requires-clause-determinant : goal.may_be_left-requires-clause-determinant
-may_be_left-requires-clause-determinant c =
+returns-then-not-branch-clause-none c =
+    let m = c.args.views.now in
     let d = c.args.connectors.now in
-    subst (λ (z : Matrix). IsSign (core_determinant (entry z) (first_of (turned d)) (second_of (turned d)))) (sym c.requires.turned) (sign_turned c.args.views.now c.rows-rows.ensures.shape d c.requires.row.determinant)
+    let rule = c.spread_rule-rule in
+    no_good_parting m Concentrated rule.result d (spread_connectors m rule.result d c.requires.placed c.requires.corners c.requires.column c.requires.row rule.ensures.rule rule.ensures.upper rule.ensures.lower)
+    (none_leaving m rule.result (firsts Concentrated d) (seconds Concentrated d) (told_no m rule.result (firsts Concentrated d) (seconds Concentrated d) 4 c.in_ok-leaves.field-0 (set_of c.leaves.new.side) c.in_ok-leaves.ensures.told c.if-not-branch.true))
+
+pub leaves-requires-2-clause-rule : goal.leaves-requires-2-clause-rule
+leaves-requires-2-clause-rule c = exchanged_rule c.args.views.now c.spread_rule-rule.result c.exchanged.result c.exchanged.ensures c.spread_rule-rule.ensures.rule
 
 pub returns-then-not-branch-2-clause-none : goal.returns-then-not-branch-2-clause-none
 returns-then-not-branch-2-clause-none c =
+    let m = c.args.views.now in
     let d = c.args.connectors.now in
-    no_left c.args.views.now d c.rows-rows.ensures.shape (subst (λ (z : Matrix). HasNoLeaving z (turned d) (first_lines (turned d))) c.requires.turned (c.in_ok-may_be_left.ensures.no c.if-not-branch-2.true))
+    let rule = c.spread_rule-rule in
+    no_good_parting m Concentrated rule.result d (spread_connectors m rule.result d c.requires.placed c.requires.corners c.requires.column c.requires.row rule.ensures.rule rule.ensures.upper rule.ensures.lower)
+    (none_left m rule.result (firsts Concentrated d) (seconds Concentrated d) (subst (λ (r : Rule). HasNoLeaving m r (seconds Concentrated d) (firsts Concentrated d) 4) c.exchanged.ensures
+    (told_no m c.exchanged.result (seconds Concentrated d) (firsts Concentrated d) 4 c.in_ok-leaves-2.field-0 (set_of c.leaves-2.new.side) c.in_ok-leaves-2.ensures.told c.if-not-branch-2.true)))
 
 pub returns-then-not-branch-3-clause-none : goal.returns-then-not-branch-3-clause-none
-returns-then-not-branch-3-clause-none c = c.in_ok-may_separate.ensures c.if-not-branch-3.true
+returns-then-not-branch-3-clause-none c =
+    let m = c.args.views.now in
+    let d = c.args.connectors.now in
+    let rule = c.spread_rule-rule in
+    no_good_parting m Concentrated rule.result d (spread_connectors m rule.result d c.requires.placed c.requires.corners c.requires.column c.requires.row rule.ensures.rule rule.ensures.upper rule.ensures.lower)
+    (c.in_ok-may_part.ensures.none c.if-not-branch-3.true)
+
+pub first_of_lines-requires-clause-connectors : goal.first_of_lines-requires-clause-connectors
+first_of_lines-requires-clause-connectors c =
+    let rule = c.spread_rule-rule in
+    spread_connectors c.args.views.now rule.result c.args.connectors.now c.requires.placed c.requires.corners c.requires.column c.requires.row rule.ensures.rule rule.ensures.upper rule.ensures.lower

@@ -1,6 +1,8 @@
 use Rattle.std.proofs.Common.{subst, sym}
 use Rattle.cuts.specs.declared.corners.Corners.{Corners}
-use Rattle.three_sep.specs.Concentrated.{AreConcentratedCorners, HasNoneBetween, all_front}
+use Rattle.three_sep.specs.Concentrated.{AreConcentratedCorners, HasNoneBetween}
+use Rattle.three_sep.specs.Connectors.{all_front}
+use Rattle.cmr_base.specs.declared.separation.Form.TheVariants.{Concentrated}
 use Rattle.three_sep.specs.Searches.{HasNoGood}
 use Rattle.cmr_base.specs.Matrix.{entry}
 use Rattle.three_sep.proofs.SearchLemmas.{none_of}
@@ -17,7 +19,7 @@ pub returns-clause-candidates : goal.returns-clause-candidates
 returns-clause-candidates c =
     let m = c.args.views.now in
     let d = c.in-Some.connectors in
-    let none = none_of (HasNoGood m (all_front d)) c.in_ok-three.field-0 c.in_default-2.is c.in_ok-three.ensures.none in
+    let none = none_of (HasNoGood m (all_front Concentrated d)) c.in_ok-three.field-0 c.in_default-2.is c.in_ok-three.ensures.none in
     one_less m c.args.corners.now.i c.args.corners.now.j c.args.candidates.now.items _ c.requires.candidates
     (none_at_pair m c.args.corners.now d c.in-Some.ensures c.requires.corners none) c.remove_column.ensures.size c.remove_column.ensures.only
 
@@ -26,5 +28,5 @@ returns-clause-none c =
     let m = c.args.views.now in
     let d = c.in-Some.connectors in
     let corners = c.args.corners.now in
-    let none = none_of (HasNoGood m (all_front d)) c.in_ok-three.field-0 c.in_default-2.is c.in_ok-three.ensures.none in
+    let none = none_of (HasNoGood m (all_front Concentrated d)) c.in_ok-three.field-0 c.in_default-2.is c.in_ok-three.ensures.none in
     no_candidate m corners.i corners.p corners.k corners.j (none_at_pair m corners d c.in-Some.ensures c.requires.corners none)

@@ -1,34 +1,28 @@
-use Rattle.std.proofs.Common.{◌∙◌, ◌<◌, ℕ, ap, arith}
-use Rattle.cmr_base.specs.Matrix.{height, entry, row_of}
+use Rattle.std.proofs.Common.{◌∙◌, ◌<◌, ℕ, ap, sym, subst, arith}
+use Rattle.cmr_base.specs.Matrix.{Matrix, height, entry, transposed}
 use Rattle.cmr_base.proofs.Booleans.{not_both}
-use Rattle.three_sep.proofs.SideLemmas.{height_turned, turned_entry}
-use Rattle.three_sep.proofs.PulledLemmas.{not_spread}
+use Rattle.cmr_base.proofs.Parts.{entry-transposed, height-transposed}
+use Rattle.line_growth.specs.Rules.{IsSumOf, sum_at}
 use Rattle.three_sep.proofs.pulled.pulls_row.Goals as goal
 
-pub is_sum_at-requires-clause-row : goal.is_sum_at-requires-clause-row
-is_sum_at-requires-clause-row c = height_turned c.args.views.now c.by_columns.result.now c.args.column c.by_columns.ensures.shape c.by_columns.ensures.matrix c.requires.column
+pub is_at-requires-clause-sum : goal.is_at-requires-clause-sum
+is_at-requires-clause-sum c = subst (λ (n : Matrix). IsSumOf n c.column-sum.result) (sym c.by_columns.ensures.matrix) c.column-sum.ensures.sum
 
-pub is_sum_at-requires-clause-one_row : goal.is_sum_at-requires-clause-one_row
-is_sum_at-requires-clause-one_row c = height_turned c.args.views.now c.by_columns.result.now c.part_of_first-one.result.row c.by_columns.ensures.shape c.by_columns.ensures.matrix (let l = c.requires.placed.corners.column_one in let e = c.part_of_first-one.ensures.row in omega arith)
+pub is_at-requires-clause-row : goal.is_at-requires-clause-row
+is_at-requires-clause-row c = subst (λ (n : Matrix). c.args.column < height n) (sym c.by_columns.ensures.matrix) (let h = height-transposed c.args.views.now in let l = c.requires.column in omega arith)
 
-pub is_sum_at-requires-clause-other_row : goal.is_sum_at-requires-clause-other_row
-is_sum_at-requires-clause-other_row c = height_turned c.args.views.now c.by_columns.result.now c.part_of_other-other.result.row c.by_columns.ensures.shape c.by_columns.ensures.matrix (let l = c.requires.placed.first_other in let e = c.part_of_other-other.ensures.row in omega arith)
-
-pub returns-then-not-is_sum_at : goal.returns-then-not-is_sum_at
-returns-then-not-is_sum_at c = λ e.
+pub returns-then-not-is_at : goal.returns-then-not-is_at
+returns-then-not-is_at c = λ e.
     let m = c.args.views.now in
-    let n = c.by_columns.result.now in
     let r = c.loop-row.row in
+    let sum = c.column-sum.result in
     let shape = c.by_columns.ensures.shape in
     let turned = c.by_columns.ensures.matrix in
     let low : r < height m = let l = c.loop-row-test.true in let w = c.rows-row-end.ensures.rows in omega arith in (
       r,
       low,
       c.is_nonzero.ensures.yes c.if-is_nonzero.true,
-      not_spread m c.args.connectors.now c.args.column r (row_of n c.args.column) (row_of n c.part_of_first-one.result.row) (row_of n c.part_of_other-other.result.row)
-          c.part_of_first-one.result.factor c.part_of_other-other.result.factor
-          (turned_entry m n r c.args.column shape turned)
-          (turned_entry m n r c.part_of_first-one.result.row shape turned ∙ ap (λ (z : ℕ). entry m r z) c.part_of_first-one.ensures.row)
-          (turned_entry m n r c.part_of_other-other.result.row shape turned ∙ ap (λ (z : ℕ). entry m r z) c.part_of_other-other.ensures.row)
-          c.part_of_first-one.ensures.factor c.part_of_other-other.ensures.factor (λ agrees. not_both c.is_sum_at.result (c.is_sum_at.ensures.1 agrees) c.if-not-is_sum_at.true),
+      λ same. not_both c.is_at.result (c.is_at.ensures.1 (
+          ap (λ (n : Matrix). entry n c.args.column r) turned ∙ entry-transposed m r c.args.column shape ∙ same ∙ sym (c.column-sum.ensures.value r) ∙ sym (ap (λ (n : Matrix). sum_at n sum r) turned)
+          )) c.if-not-is_at.true,
     )

@@ -1,60 +1,66 @@
-use Rattle.std.proofs.Common.{◌≡◌, ◌≢◌, ◌<◌, ◌+◌, ◌∙◌, ◌∷◌, [], ap, sym, subst, List, Bool, ℕ, false, length, arith}
-use Rattle.std.proofs.lemmas.List.{get_or_default}
-use Rattle.cmr_base.specs.Matrix.{height, entry}
-use Rattle.cmr_base.specs.Separations.{zeros, product_at}
-use Rattle.line_growth.specs.Rules.{pulls}
-use Rattle.line_growth.specs.Reaching.{is_marked, unmarked, AreReached}
-use Rattle.two_sep.proofs.SeedSteps.{seeds_more, row_not_good, column_not_good, none_good, first_found, bad_from_marks, bad_backwards}
+use Rattle.std.proofs.Common.{◌≡◌, ◌≢◌, ◌<◌, ◌+◌, ◌∙◌, ◌∷◌, [], ap, sym, subst, true, ℕ, arith}
+use Rattle.cmr_base.specs.declared.line.Line.{Line}
+use Rattle.cmr_base.specs.declared.line.Line.TheVariants.{Column, Row}
+use Rattle.cmr_base.specs.Matrix.{entry, height}
+use Rattle.cmr_base.specs.Separations.{product_at, zeros}
+use Rattle.line_growth.specs.declared.growing_set.GrowingSet.{GrowingSet}
+use Rattle.line_growth.specs.declared.rule.Rule.{Rule}
+use Rattle.line_growth.specs.GrowingSets.{HasNoLeaving, HasRoom, IsGrowing, TellsClosed, set_of}
+use Rattle.line_growth.specs.Rules.{lower_of, upper_of}
+use Rattle.line_growth.proofs.SetSteps.{told_no, told_yes}
+use Rattle.two_sep.proofs.SeedSteps.{bad_backwards, column_not_good, first_found, none_good, not_good, row_not_good, rule_at, seeds_more}
 use Rattle.two_sep.proofs.seeds.first_good_side.Goals as goal
-use Rattle.two_sep.proofs.seeds.first_good_side.Goals.{then-seed-row+then-seed-rows+then-not-index+in_ok-side+else-count_unmarked-ge2+in_ok-bad-2, else-seed-row, else-seed-row-via-then-seed-row+then-seed-rows+else-not-index, else-seed-row-via-then-seed-row+else-seed-rows, else-seed-row-via-else-seed-row}
+use Rattle.two_sep.proofs.seeds.first_good_side.Goals.{then-place-row+then-place-rows+then-not-has+in_ok-start+in_ok-close+else-branch+in_ok-start-2+in_ok-close-2, else-place-row, else-place-row-via-then-place-row+then-place-rows+else-not-has, else-place-row-via-then-place-row+else-place-rows, else-place-row-via-else-place-row}
 
-pub returns-then-count_unmarked-ge2 : goal.returns-then-count_unmarked-ge2
-returns-then-count_unmarked-ge2 c =
+pub returns-then-branch : goal.returns-then-branch
+returns-then-branch c =
     let m = c.args.matrix.now in
     let i = c.args.row in
     let j = c.args.column in
-    let seed = c.loop-seed.seed in
-    let marks = c.in_ok-side.side.items in
-    let rows = c.rows-rows.ensures.rows in
-    let r = subst (λ (k : ℕ). AreReached (height m + m.width) (pulls (height m) (entry m) zeros (product_at (entry m) i j)) 2 (seed ∷ (k + j) ∷ []) marks) rows c.in_ok-side.ensures in
-    let counted : c.count_unmarked.result ≡ unmarked (height m + m.width) marks = c.count_unmarked.ensures ∙ ap (λ (ms : List Bool). unmarked (length ms) ms) c.deref.ensures.value ∙ ap (λ (k : ℕ). unmarked k marks) r.all in
-    first_found m c.rows-rows.ensures.shape i j c.requires.row c.requires.column c.requires.nonzero seed c.loop-seed.invariant.1 (let a = c.loop-seed-test.true in let b = c.columns.ensures.columns in omega arith) c.if-seed-row.true (λ e. c.if-seed-rows.true (e ∙ ap (λ (k : ℕ). k + j) (sym rows))) marks r
-    (let a = c.if-count_unmarked-ge2.true in omega arith)
+    let seed = c.line_at-seed in
+    let start = seed.result ∷ Column j ∷ [] in
+    let told = c.in_ok-close.ensures.closed start (c.in_ok-start.ensures.growing _ _) in (
+      c.in_ok-close.ensures.room,
+      first_found m i j c.requires.row c.requires.column c.requires.nonzero c.loop-place.place seed.result seed.ensures.line seed.ensures.number c.loop-place.invariant.before c.if-place-row.true
+          (λ e. c.if-place-rows.true (e ∙ ap (λ (k : ℕ). k + j) (sym c.rows-rows.ensures.rows))) (set_of c.close.new.self) (told_yes m (rule_at i j) start (Row i ∷ []) 2 c.in_ok-close.field-0 (set_of c.close.new.self) told c.if-branch.true),
+    )
 
-pub loop-seed-preserved : goal.loop-seed-preserved
-loop-seed-preserved c =
+pub loop-place-preserved : goal.loop-place-preserved
+loop-place-preserved c =
     let m = c.args.matrix.now in
     let i = c.args.row in
     let j = c.args.column in
-    let size = height m + m.width in
-    let seed = c.loop-seed.seed in
-    let is = c.rows-rows.ensures.shape in
+    let place = c.loop-place.place in
+    let so = c.loop-place.invariant in
+    let seed = c.line_at-seed in
     let rows = c.rows-rows.ensures.rows in
-    let inside : seed < size = let a = c.loop-seed-test.true in let b = c.columns.ensures.columns in omega arith in
-    elim c.if-seed-row.branch [
-      | then-seed-row+then-seed-rows+then-not-index+in_ok-side+else-count_unmarked-ge2+in_ok-bad-2 w ↦
-          let marks = w.in_ok-side.side.items in
-          let r = subst (λ (k : ℕ). AreReached size (pulls (height m) (entry m) zeros (product_at (entry m) i j)) 2 (seed ∷ (k + j) ∷ []) marks) rows w.in_ok-side.ensures in
-          let counted : w.count_unmarked.result ≡ unmarked size marks = w.count_unmarked.ensures ∙ ap (λ (ms : List Bool). unmarked (length ms) ms) w.deref.ensures.value ∙ ap (λ (k : ℕ). unmarked k marks) r.all in
-          let few : unmarked size marks < 2 = let a = w.if-count_unmarked-ge2.false in omega arith in
-          let not_column : seed ≢ height m + j = λ e. w.if-seed-rows.true (e ∙ ap (λ (k : ℕ). k + j) (sym rows)) in
-          let back = subst (λ (ms : List Bool). AreReached size (λ x y. pulls (height m) (entry m) zeros (product_at (entry m) i j) y x) 2 (seed ∷ []) ms) (sym (ap (λ v. v.items) w.bad-is)) w.in_ok-bad-2.ensures in (
-            back.all,
-            seeds_more m is i j c.requires.row c.requires.column c.requires.nonzero seed c.loop-seed.invariant.1 (bad_from_marks m is i j c.requires.row c.requires.column c.requires.nonzero seed inside w.if-seed-row.true not_column marks r few),
-            λ k l e. bad_backwards m is i j c.requires.row c.requires.column c.requires.nonzero seed inside w.if-seed-row.true not_column marks r few c.if-seed-row.bad.items back k l e,
-          )
-      | else-seed-row w ↦
-          let same = ap (λ v. v.items) w.bad-is in (
-            ap (λ (ms : List Bool). length ms) same ∙ c.loop-seed.invariant.0,
-            seeds_more m is i j c.requires.row c.requires.column c.requires.nonzero seed c.loop-seed.invariant.1
-                (elim w.else-seed-row.branch [
-                  | else-seed-row-via-then-seed-row+then-seed-rows+else-not-index w' ↦
-                      c.loop-seed.invariant.2 seed inside (get_or_default c.loop-seed.bad.items seed false w'.index.result.now (let e = c.loop-seed.invariant.0 in omega arith) ∙ sym w'.index.ensures ∙ w'.if-not-index.false)
-                  | else-seed-row-via-then-seed-row+else-seed-rows w' ↦ column_not_good m is i j c.requires.row c.requires.column c.requires.nonzero seed (w'.if-seed-rows.false ∙ ap (λ (k : ℕ). k + j) rows)
-                  | else-seed-row-via-else-seed-row w' ↦ row_not_good m is i j c.requires.row c.requires.column c.requires.nonzero seed w'.if-seed-row.false
-                ]),
-            λ k l e. c.loop-seed.invariant.2 k l (ap (λ (ms : List Bool). is_marked ms k) (sym same) ∙ e),
-          )
+    let start = seed.result ∷ Column j ∷ [] in
+    elim c.if-place-row.branch [
+      | then-place-row+then-place-rows+then-not-has+in_ok-start+in_ok-close+else-branch+in_ok-start-2+in_ok-close-2 w ↦
+          let told = w.in_ok-close.ensures.closed start (w.in_ok-start.ensures.growing _ _) in
+          let none : HasNoLeaving m (rule_at i j) start (Row i ∷ []) 2 = told_no m (rule_at i j) start (Row i ∷ []) 2 w.in_ok-close.field-0 (set_of w.close.new.self) told w.if-branch.false in
+          let bad = w.close-then-not-has.new.self in
+          let pulled : IsGrowing m (product_at (entry m) i j) zeros (seed.result ∷ []) bad =
+          subst (λ (r : Rule). IsGrowing m (upper_of m r) (lower_of m r) (seed.result ∷ []) bad) w.exchanged.ensures (w.in_ok-close-2.ensures.growing (seed.result ∷ []) (w.in_ok-start-2.ensures.growing _ _)) in
+          record {
+            side_room = subst (λ (z : GrowingSet). HasRoom m z) (sym w.side-is) w.in_ok-close.ensures.room;
+            bad_room = subst (λ (z : GrowingSet). HasRoom m z) (sym w.bad-is) w.in_ok-close-2.ensures.room;
+            before = seeds_more m i j c.requires.row c.requires.column c.requires.nonzero place seed.result seed.ensures.line seed.ensures.number so.before
+                (not_good m i j c.requires.row c.requires.column c.requires.nonzero place seed.result seed.ensures.line seed.ensures.number none);
+            pulled = λ y l e. bad_backwards m i j c.requires.row c.requires.column c.requires.nonzero place seed.result seed.ensures.line seed.ensures.number none bad pulled y l (ap (λ (z : GrowingSet). set_of z y) (sym w.bad-is) ∙ e);
+          }
+      | else-place-row w ↦ record {
+        side_room = subst (λ (z : GrowingSet). HasRoom m z) (sym w.side-is) so.side_room;
+        bad_room = subst (λ (z : GrowingSet). HasRoom m z) (sym w.bad-is) so.bad_room;
+        before = seeds_more m i j c.requires.row c.requires.column c.requires.nonzero place seed.result seed.ensures.line seed.ensures.number so.before
+            (elim w.else-place-row.branch [
+              | else-place-row-via-then-place-row+then-place-rows+else-not-has w' ↦ so.pulled seed.result seed.ensures.line (sym w'.has.ensures ∙ w'.if-not-has.false)
+              | else-place-row-via-then-place-row+else-place-rows w' ↦
+                  column_not_good m i j c.requires.row c.requires.column c.requires.nonzero place seed.result seed.ensures.line seed.ensures.number (w'.if-place-rows.false ∙ ap (λ (k : ℕ). k + j) rows)
+              | else-place-row-via-else-place-row w' ↦ row_not_good m i j c.requires.row c.requires.column c.requires.nonzero place seed.result seed.ensures.line seed.ensures.number w'.if-place-row.false
+            ]);
+        pulled = λ y l e. so.pulled y l (ap (λ (z : GrowingSet). set_of z y) (sym w.bad-is) ∙ e);
+      }
     ]
 
 pub returns : goal.returns
@@ -62,4 +68,4 @@ returns c =
     let m = c.args.matrix.now in
     let rows = c.rows-rows.ensures.rows in
     let columns = c.columns.ensures.columns in
-    none_good m c.rows-rows.ensures.shape c.args.row c.args.column c.requires.row c.requires.column c.requires.nonzero c.loop-seed.seed (let a = c.loop-seed-test.false in omega arith) c.loop-seed.invariant.1
+    none_good m c.args.row c.args.column c.requires.row c.requires.column c.requires.nonzero c.loop-place.place (let a = c.loop-place-test.false in omega arith) c.loop-place.invariant.before

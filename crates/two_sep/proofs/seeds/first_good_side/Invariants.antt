@@ -1,14 +1,16 @@
-use Rattle.std.proofs.Common.{◌≡◌, ◌<◌, ◌+◌, ℕ, true, length}
-use Rattle.cmr_base.specs.Matrix.{height, entry}
+use Rattle.std.proofs.Common.{◌≡◌, ◌<◌, true}
+use Rattle.cmr_base.specs.declared.line.Line.{Line}
+use Rattle.cmr_base.specs.Matrix.{entry, height}
 use Rattle.cmr_base.specs.Separations.{Lines}
-use Rattle.cmr_base.specs.Seeds.{IsGoodTwo}
-use Rattle.line_growth.specs.Reaching.{is_marked}
-use Rattle.two_sep.proofs.SeedSteps.{line_of}
+use Rattle.cmr_base.specs.Seeds.{IsGoodTwo, IsLine, line_number}
+use Rattle.line_growth.specs.GrowingSets.{HasRoom, set_of}
 use Rattle.two_sep.proofs.seeds.first_good_side.Given as goal
 
--- the seeds so far are not good, and those with a mark are not good either
-abbrev pub invariant-loop-seed : goal.invariant-loop-seed
-invariant-loop-seed l =
-    (length l.bad.items ≡ height l.matrix + l.matrix.width)
-    × ((k : ℕ) → k < l.seed → (side : Lines) → ¬ (IsGoodTwo (height l.matrix) l.matrix.width (entry l.matrix) l.row l.column (line_of (height l.matrix) k) side))
-    × ((k : ℕ) → k < height l.matrix + l.matrix.width → is_marked l.bad.items k ≡ true → (side : Lines) → ¬ (IsGoodTwo (height l.matrix) l.matrix.width (entry l.matrix) l.row l.column (line_of (height l.matrix) k) side))
+-- the seeds so far are not good, and those from which the last of them is pulled in are not good either
+abbrev pub invariant-loop-place : goal.invariant-loop-place
+invariant-loop-place l = record {
+  side_room : HasRoom l.matrix l.side;
+  bad_room : HasRoom l.matrix l.bad;
+  before : (seed : Line) → IsLine (height l.matrix) l.matrix.width seed → line_number (height l.matrix) seed < l.place → (side : Lines) → ¬ (IsGoodTwo (height l.matrix) l.matrix.width (entry l.matrix) l.row l.column seed side);
+  pulled : (seed : Line) → IsLine (height l.matrix) l.matrix.width seed → set_of l.bad seed ≡ true → (side : Lines) → ¬ (IsGoodTwo (height l.matrix) l.matrix.width (entry l.matrix) l.row l.column seed side);
+}

@@ -1,13 +1,22 @@
-use Rattle.std.proofs.Common.{ap, arith, subst, Bool, sym, ◌∙◌}
+use Rattle.std.proofs.Common.{ap, arith, subst, Bool, sym, ◌∙◌, ◌∷◌, []}
+use Rattle.cmr_base.specs.declared.line.Line.TheVariants.{Column, Row}
+use Rattle.line_growth.specs.declared.rule.Rule.{Rule}
+use Rattle.line_growth.specs.Rules.{IsRuleOf}
+use Rattle.three_sep.specs.Connectors.{HasNoneParting}
 use Rattle.three_sep.specs.declared.search.Search.{Search}
 use Rattle.cmr_base.specs.Separations.{first_is_flat}
 use Rattle.three_sep.specs.Searches.{IsSearchOf, corner_front, line_count}
-use Rattle.three_sep.proofs.SearchLemmas.{below_line, found_some, none_more, level_ends, none_below_more, no_good_corners, no_good_first, first_below}
+use Rattle.three_sep.proofs.SearchLemmas.{below_line, found_some, none_more, level_ends, none_below_more, first_below}
+use Rattle.three_sep.proofs.SideLemmas.{no_good_corners, rule_inside}
 use Rattle.three_sep.proofs.search.Search.first_of_corners.Goals as goal
 use Rattle.three_sep.proofs.search.Search.first_of_corners.Goals.{then-branch+in_ok-three+in_default, else-branch}
 
 pub returns-then-not-branch-clause-none : goal.returns-then-not-branch-clause-none
-returns-then-not-branch-clause-none c = no_good_corners c.args.views.now c.args.form c.requires.crossing c.args.corners.now (c.in_ok-may_cut.ensures.none c.if-not-branch.true)
+returns-then-not-branch-clause-none c = no_good_corners c.args.views.now c.args.form c.requires.crossing c.args.corners.now
+    (subst (λ (r : Rule). HasNoneParting c.args.views.now r (Row c.args.corners.now.i ∷ Column c.args.corners.now.p ∷ []) (Row c.args.corners.now.k ∷ Column c.args.corners.now.j ∷ [])) c.rule_at.ensures (c.in_ok-may_part.ensures.none c.if-not-branch.true))
+
+pub may_part-requires-clause-rule : goal.may_part-requires-clause-rule
+may_part-requires-clause-rule c = subst (λ (r : Rule). IsRuleOf c.args.views.now r) (sym c.rule_at.ensures) (rule_inside c.args.views.now c.args.corners.now c.requires.corners.inside)
 
 pub hold_first-requires-clause-line : goal.hold_first-requires-clause-line
 hold_first-requires-clause-line c =
@@ -27,7 +36,7 @@ loop-q-preserved c =
       )
       | else-branch w ↦ (
         subst (λ (s : Search). IsSearchOf m s) (sym w.self-is) c.in_ok-hold_first.ensures.search,
-        none_below_more m front c.loop-q.q c.loop-q.invariant.1 (no_good_first m c.args.form c.requires.crossing c.args.corners.now c.loop-q.q (c.in_ok-hold_first.ensures.no w.if-branch.false)),
+        none_below_more m front c.loop-q.q c.loop-q.invariant.1 (c.in_ok-hold_first.ensures.no w.if-branch.false),
       )
     ]
 

@@ -1,8 +1,9 @@
 use Rattle.std.proofs.Common.{sym, ap, ◌∙◌, Bool}
 use Rattle.cmr_base.specs.declared.line.Line.{Line}
-use Rattle.three_sep.specs.Sides.{set_of}
+use Rattle.line_growth.specs.GrowingSets.{set_of}
 use Rattle.three_sep.specs.Searches.{other_line}
-use Rattle.three_sep.proofs.SearchLemmas.{no_good_second, no_good_held}
+use Rattle.three_sep.proofs.SearchLemmas.{no_good_second}
+use Rattle.three_sep.proofs.SideLemmas.{no_good_held}
 use Rattle.three_sep.proofs.search.Search.first_of_other.Goals as goal
 
 pub returns-then-not-is_second_other-clause-none : goal.returns-then-not-is_second_other-clause-none
@@ -12,5 +13,5 @@ returns-then-not-is_second_other-clause-none c =
 pub returns-then-has-clause-none : goal.returns-then-has-clause-none
 returns-then-has-clause-none c =
     let side = c.args.self.now.side in
-    no_good_held c.args.views.now c.args.form c.requires.crossing c.args.corners.now c.args.q c.args.o (set_of side) c.requires.held.least
+    no_good_held c.args.views.now c.args.form c.requires.crossing c.args.corners.now c.args.q c.args.o (set_of side) c.requires.held.least c.requires.line
     (ap (λ (z : Line). set_of side z) (sym (c.line_of.ensures ∙ ap (λ (z : Bool). other_line z c.args.o) c.second_is_flat.ensures)) ∙ sym c.has.ensures ∙ c.if-has.true)

@@ -1,25 +1,61 @@
-use Rattle.std.proofs.Common.{subst, List}
+use Rattle.std.proofs.Common.{◌≡◌, ◌∙◌, ◌∷◌, [], ℕ, Bool, List, ap, subst, sym}
 use Rattle.cmr_base.specs.declared.line.Line.{Line}
-use Rattle.three_sep.specs.Sides.{IsGrowing, IsLeast, set_of}
-use Rattle.three_sep.proofs.CutLemmas.{has_size}
-use Rattle.three_sep.proofs.SearchLemmas.{start_is}
+use Rattle.cmr_base.specs.declared.line.Line.TheVariants.{Column, Row}
+use Rattle.cmr_base.specs.declared.separation.Form.{Form}
+use Rattle.cmr_base.specs.Matrix.{Matrix, entry}
+use Rattle.cmr_base.specs.Separations.{Lines, product_at}
+use Rattle.cuts.specs.declared.corners.Corners.{Corners}
+use Rattle.line_growth.specs.declared.growing_set.GrowingSet.{GrowingSet}
+use Rattle.line_growth.specs.declared.rule.Rule.{Rule}
+use Rattle.line_growth.specs.GrowingSets.{IsGrowing, TellsClosed, set_of}
+use Rattle.line_growth.specs.Rules.{IsRuleOf, lower_of, upper_of}
+use Rattle.three_sep.specs.Connectors.{rule_of}
+use Rattle.three_sep.specs.Searches.{held_lines, other_line}
+use Rattle.three_sep.proofs.SearchLemmas.{no_good_first}
+use Rattle.line_growth.proofs.SetSteps.{told_no, told_yes}
+use Rattle.three_sep.proofs.SideLemmas.{no_good_side, rule_inside}
 use Rattle.three_sep.proofs.search.Search.hold_first.Goals as goal
+
+pub returns-then-not-is_first_other-clause-no : goal.returns-then-not-is_first_other-clause-no
+returns-then-not-is_first_other-clause-no c = λ e. no_good_first c.args.views.now c.args.form c.requires.crossing c.args.corners.now c.args.q (c.is_first_other.ensures.no c.if-not-is_first_other.true)
+
+pub leaves-requires-clause-rule : goal.leaves-requires-clause-rule
+leaves-requires-clause-rule c = subst (λ (r : Rule). IsRuleOf c.args.views.now r) (sym c.rule_at.ensures) (rule_inside c.args.views.now c.args.corners.now c.requires.inside)
+
+-- the lines with which the side begins
+held_is : (flat known : Bool) (q row column : ℕ) (other : Line) → known ≡ flat → other ≡ other_line known q → Row row ∷ Column column ∷ other ∷ [] ≡ Row row ∷ Column column ∷ other_line flat q ∷ []
+held_is flat known q row column other ef el = ap (λ (z : Line). Row row ∷ Column column ∷ z ∷ []) (el ∙ ap (λ (z : Bool). other_line z q) ef)
+
+module _ (m : Matrix) (form : Form) (d : Corners) (q : ℕ) (rule : Rule) (lines : List Line) (same : rule ≡ rule_of d) (are : lines ≡ held_lines form d q) where
+  growing_as : (side : GrowingSet) → IsGrowing m (upper_of m rule) (lower_of m rule) lines side → IsGrowing m (product_at (entry m) d.i d.j) (product_at (entry m) d.k d.p) (held_lines form d q) side
+  growing_as side g = subst (λ (r : Rule). IsGrowing m (upper_of m r) (lower_of m r) (held_lines form d q) side) same (subst (λ (xs : List Line). IsGrowing m (upper_of m rule) (lower_of m rule) xs side) are g)
+
+  told_as : (out : List Line) (told : Bool) (S : Lines) → TellsClosed m rule lines out 4 told S → TellsClosed m (rule_of d) (held_lines form d q) out 4 told S
+  told_as out told S t = subst (λ (r : Rule). TellsClosed m r (held_lines form d q) out 4 told S) same (subst (λ (xs : List Line). TellsClosed m rule xs out 4 told S) are t)
 
 pub returns-clause-held : goal.returns-clause-held
 returns-clause-held c =
     let m = c.args.views.now in
+    let form = c.args.form in
     let d = c.args.corners.now in
-    let e = start_is d c.args.form c.first_is_flat.result c.args.q c.line_of.result c.first_is_flat.ensures c.line_of.ensures in
-    λ yes. record {
-      kept = record {
-        side = has_size m c.close_all.new.self c.in_ok-close_all.ensures.room;
-        grown = c.requires.search.grown;
-        names = c.requires.search.names;
-        together = c.requires.search.together;
-      };
+    let q = c.args.q in
+    let are = held_is _ _ q d.i d.p _ c.first_is_flat.ensures c.line_of-other.ensures in
+    let side = c.leaves.new.side in
+    λ t. record {
+      kept = record { side = c.in_ok-held.ensures.room; grown = c.requires.search.grown; names = c.requires.search.names; together = c.requires.search.together };
       line = c.requires.line;
-      room = c.in_ok-close_all.ensures.room;
       other = c.is_first_other.ensures.yes c.if-not-is_first_other.false;
-      growing = subst (λ (z : List Line). IsGrowing m d z c.close_all.new.self) e (c.in_ok-close_all.ensures.growing _ c.in_ok-start.ensures.growing);
-      least = subst (λ (z : List Line). IsLeast m d z (set_of c.close_all.new.self)) e (c.in_ok-close_all.ensures.closed _ c.in_ok-start.ensures.growing);
+      growing = growing_as m form d q c.rule_at.result _ c.rule_at.ensures are side c.in_ok-held.ensures.growing;
+      least = (told_yes m (rule_of d) (held_lines form d q) (Row d.k ∷ Column d.j ∷ []) 4 c.in_ok-held.held (set_of side) (told_as m form d q c.rule_at.result _ c.rule_at.ensures are (Row d.k ∷ Column d.j ∷ []) c.in_ok-held.held (set_of side) c.in_ok-held.ensures.told) t).grown;
     }
+
+pub returns-clause-no : goal.returns-clause-no
+returns-clause-no c =
+    let m = c.args.views.now in
+    let form = c.args.form in
+    let d = c.args.corners.now in
+    let q = c.args.q in
+    let are = held_is _ _ q d.i d.p _ c.first_is_flat.ensures c.line_of-other.ensures in
+    let side = c.leaves.new.side in
+    λ t. no_good_side m form c.requires.crossing d q (told_no m (rule_of d) (held_lines form d q) (Row d.k ∷ Column d.j ∷ []) 4 c.in_ok-held.held (set_of side)
+    (told_as m form d q c.rule_at.result _ c.rule_at.ensures are (Row d.k ∷ Column d.j ∷ []) c.in_ok-held.held (set_of side) c.in_ok-held.ensures.told) t)

@@ -1,0 +1,64 @@
+use Rattle.std.proofs.Common.{◌≡◌, ◌*◌, ◌+◌, ◌∙◌, ◌&&◌, not, ◌*ℤ◌, eqb, cond, ℕ, zero, suc, ℤ, pos, negsuc, w8, to_z, Bool, true, false, ap, ap₂, sym, refl, arith, get_or}
+use Rattle.std.proofs.lemmas.List.{get_or_default}
+use Rattle.std.specs.Int.{bit_at}
+use Rattle.cmr_base.specs.Differences.{differ, differs_at}
+use Rattle.cmr_base.specs.Matrix.{entry, is_nonzero, IsEntry}
+use Rattle.cmr_base.specs.Planes.{has_bit}
+use Rattle.cmr_base.proofs.ColumnWords.{column_at, words_long, words_columns}
+use Rattle.cmr_base.proofs.DifferenceWords.{too_large, too_small}
+use Rattle.cmr_base.proofs.Integers.{products}
+use Rattle.cmr_base.proofs.SmallEntries.{entry_as_byte}
+use Rattle.line_growth.proofs.growing_lines.GrowingLines.unlike.Goals as goal
+
+-- a bit by its test
+bit_is : (t : Bool) (bit : ℕ) → bit ≡ cond t 1 0 → eqb bit 1 ≡ t
+bit_is true bit e = rw e refl
+bit_is false bit e = rw e refl
+
+is_nonzero_by : (x : ℤ) → IsEntry x → is_nonzero x ≡ differ x (pos 0)
+is_nonzero_by (pos zero) a = refl
+is_nonzero_by (pos (suc zero)) a = refl
+is_nonzero_by (negsuc zero) a = refl
+is_nonzero_by (pos (suc (suc n))) a = too_large n a
+is_nonzero_by (negsuc (suc n)) a = too_small n a
+
+-- not 0 exactly where it differs from a multiple by 0
+nonzero_differs : (x y : ℤ) → IsEntry x → is_nonzero x ≡ differ x (pos 0 *ℤ y)
+nonzero_differs x y small = is_nonzero_by x small ∙ ap (differ x) (sym (simp products))
+
+pub bounds-words-block : goal.bounds-words-block
+bounds-words-block c =
+    let long = words_long c.args.matrix.now c.args.row c.args.words.now c.requires.words in
+    let l = c.requires.block in
+    let s = c.requires.size in
+    omega arith
+
+pub returns-then-multiple-eq0 : goal.returns-then-multiple-eq0
+returns-then-multiple-eq0 c = λ k s.
+    let m = c.args.matrix.now in
+    let words = c.args.words.now in
+    let inside = c.args.self.now.inside.items in
+    let block = c.args.block in
+    let column = 64 * block + k in
+    let shape = c.rows-rows.ensures.shape in
+    let zero : c.args.multiple.factor ≡ pos 0 = sym (entry_as_byte c.args.multiple.factor c.requires.factor) ∙ ap (to_z w8) c.if-multiple-eq0.true in
+    let differs : has_bit (get_or words block 0) k ≡ differs_at m c.args.row c.args.multiple.factor c.args.multiple.model column =
+    sym (column_at words block k s) ∙ words_columns m c.args.row words c.requires.words shape c.requires.row column
+    ∙ nonzero_differs (entry m c.args.row column) (entry m c.args.multiple.model column) (shape.small c.args.row column) ∙ ap (λ (z : ℤ). differs_at m c.args.row z c.args.multiple.model column) (sym zero) in
+    let own : c.index.result.now ≡ get_or inside block 0 = c.index.ensures ∙ get_or_default inside block c.index.result.now 0 c.requires.block in
+    c.outside.ensures k s ∙ ap₂ (λ a b. a && not b) differs (ap (λ w. has_bit w k) own ∙ sym (column_at inside block k s))
+
+pub returns : goal.returns
+returns c = λ k s.
+    let m = c.args.matrix.now in
+    let factor = c.args.multiple.factor in
+    let model = c.args.multiple.model in
+    let inside = c.args.self.now.inside.items in
+    let block = c.args.block in
+    let word = c.difference_word-word.result in
+    let column = 64 * block + k in
+    let own : c.index-2.result.now ≡ get_or inside block 0 = c.index-2.ensures ∙ get_or_default inside block c.index-2.result.now 0 c.requires.block in
+    let byte = entry_as_byte factor c.requires.factor in
+    let differs : has_bit word k ≡ differs_at m c.args.row factor model column =
+    bit_is (differs_at m c.args.row factor model column) (bit_at word k) (c.difference_word-word.ensures k s ∙ ap (λ z. cond (differs_at m c.args.row z model column) 1 0) byte) in
+    c.outside-2.ensures k s ∙ ap₂ (λ a b. a && not b) differs (ap (λ w. has_bit w k) own ∙ sym (column_at inside block k s))

@@ -1,0 +1,68 @@
+-- Sets of lines that grow until they are closed.
+use Rattle.std.specs.Prelude.{◌≡◌, ◌<◌, ◌≤◌, ◌+◌, ◌⊎◌, ℕ, ℤ, Bool, true, false, List}
+use Rattle.std.specs.List.{AllByRecursion}
+use Rattle.cmr_base.specs.declared.line.Line.{Line}
+use Rattle.cmr_base.specs.declared.line.Line.TheVariants.{Row, Column}
+use Rattle.cmr_base.specs.Matrix.{Matrix, height, entry}
+use Rattle.cmr_base.specs.LineSets.{first_lines}
+use Rattle.cmr_base.specs.Members.{IsIn}
+use Rattle.cmr_base.specs.Separations.{Lines, count_in, opposite}
+use Rattle.cmr_base.specs.Seeds.{HasAll, IsClosed, IsGrown, IsLine}
+use Rattle.line_growth.specs.declared.growing_set.GrowingSet.{GrowingSet}
+use Rattle.line_growth.specs.declared.rule.Rule.{Rule}
+use Rattle.line_growth.specs.GrowingLines.{AreGrowing, is_in, room}
+use Rattle.line_growth.specs.Rules.{lower_of, upper_of}
+
+-- the lines of the set
+abbrev pub set_of : GrowingSet → Lines
+set_of set (Row row) = is_in set.rows row
+set_of set (Column column) = is_in set.columns column
+
+pub record HasRoom (m : Matrix) (set : GrowingSet) : Type 0 where
+  pub rows : AreGrowing (height m) set.rows
+  pub columns : AreGrowing m.width set.columns
+
+-- what is still to be done at most
+abbrev pub work : GrowingSet → ℕ
+work set = room set.rows + room set.columns
+
+-- no line outside breaks a rule with a line inside
+abbrev pub IsClosedIn : Matrix → (upper lower : ℕ → ℕ → ℤ) → Lines → Type 0
+IsClosedIn m upper lower T = IsClosed (height m) m.width (entry m) upper lower T
+
+-- It has the start and is in every closed set that has it, and where a line breaks a rule with a line of it, that one waits.
+pub record IsGrowing (m : Matrix) (upper lower : ℕ → ℕ → ℤ) (start : List Line) (set : GrowingSet) : Type 0 where
+  pub has : HasAll (set_of set) start
+  pub least : (T : Lines) → IsClosedIn m upper lower T → HasAll T start → (x : Line) → IsLine (height m) m.width x → set_of set x ≡ true → T x ≡ true
+  pub right : (r k : ℕ) → r < height m → k < m.width → set_of set (Row r) ≡ true → set_of set (Column k) ≡ false
+      → IsIn r set.rows.fresh.items ⊎ (entry m r k ≡ upper r k)
+  pub below : (r k : ℕ) → r < height m → k < m.width → set_of set (Row r) ≡ false → set_of set (Column k) ≡ true
+      → IsIn k set.columns.fresh.items ⊎ (entry m r k ≡ lower r k)
+
+-- what holds of a start before holds after
+abbrev pub KeepsGrowing : Matrix → (upper lower : ℕ → ℕ → ℤ) → GrowingSet → GrowingSet → Type 0
+KeepsGrowing m upper lower before after = (start : List Line) → IsGrowing m upper lower start before → IsGrowing m upper lower start after
+
+-- ---- what a set leaves
+
+abbrev pub HasNone : Lines → List Line → Type 0
+HasNone S lines = AllByRecursion (λ line. S line ≡ false) lines
+
+-- none of some lines is in the set, and enough are outside
+pub record Leaves (m : Matrix) (out : List Line) (least : ℕ) (S : Lines) : Type 0 where
+  pub none : HasNone S out
+  pub enough : least ≤ count_in (opposite S) (first_lines (height m)) (first_lines m.width)
+
+-- no closed set that has the start leaves so much
+abbrev pub HasNoLeaving : Matrix → Rule → (start out : List Line) → ℕ → Type 0
+HasNoLeaving m rule start out least = (T : Lines) → IsClosedIn m (upper_of m rule) (lower_of m rule) T → HasAll T start → ¬ (Leaves m out least T)
+
+-- the least closed set that has the start, which leaves so much
+pub record IsLeaving (m : Matrix) (rule : Rule) (start out : List Line) (least : ℕ) (S : Lines) : Type 0 where
+  pub grown : IsGrown (height m) m.width (entry m) (upper_of m rule) (lower_of m rule) start S
+  pub leaves : Leaves m out least S
+
+-- whether the set is the least closed one and leaves so much, or no closed one does
+abbrev pub TellsClosed : Matrix → Rule → (start out : List Line) → ℕ → Bool → Lines → Type 0
+TellsClosed m rule start out least true S = IsLeaving m rule start out least S
+TellsClosed m rule start out least false S = HasNoLeaving m rule start out least

@@ -1,0 +1,278 @@
+// A set of lines that grows until it is closed.
+ghost use Rattle.std.specs.Prelude.{◌≡◌, ◌<◌, ◌≤◌, ◌+◌, ◌∷◌, ◌↔◌, [], filter, ℕ, ℤ, List, length, true, false, IsTrue, IfOk, OnOk};
+ghost use Rattle.std.specs.List.{AllByRecursion};
+ghost use Rattle.cmr_base.specs.ColumnSets.{has_column};
+ghost use Rattle.cmr_base.specs.LineSets.{first_lines};
+ghost use Rattle.cmr_base.specs.Matrix.{Matrix, entry, height};
+ghost use Rattle.cmr_base.specs.Planes.{words_for};
+ghost use Rattle.cmr_base.specs.Seeds.{IsLine, line_number, outside};
+ghost use Rattle.cmr_base.specs.declared.line.Line.{Line};
+ghost use Rattle.cmr_base.specs.declared.line.Line.TheVariants.{Row, Column};
+ghost use Rattle.line_growth.specs.Rules.{IsBlockOf, IsRuleOf, block_entry, lower_of, upper_of};
+ghost use Rattle.line_growth.specs.GrowingSets.{HasNone, HasRoom, IsGrowing, KeepsGrowing, TellsClosed, set_of, work};
+
+use crate::growing_lines::GrowingLines;
+use crate::rule::{Block, Rule};
+use cmr_base::{Line, LineSet, Memory, RowsAndColumns};
+use std::alloc::Global;
+
+/// A set of the lines of a matrix. It begins with some lines, and grows by a rule: a line outside that breaks the rule with
+/// a line inside is pulled in.
+#[derive(Drop)]
+pub struct GrowingSet {
+    rows: GrowingLines,
+    columns: GrowingLines,
+}
+
+impl GrowingSet {
+    /// The empty set of the lines of a matrix.
+    pub fn new(alloc: Global, matrix: &RowsAndColumns<'_>) -> Result<GrowingSet, Memory>
+        ensures room { IfOk result (HasRoom matrix.now) }
+        ensures rows { IfOk result (λ set. (row : ℕ) → set_of set (Row row) ≡ false) }
+        ensures columns { IfOk result (λ set. (column : ℕ)
+            → set_of set (Column column) ≡ false) }
+    {
+        Ok(GrowingSet {
+            rows: GrowingLines::new(alloc, matrix.rows())?,
+            columns: GrowingLines::new(alloc, matrix.columns())?,
+        })
+    }
+
+    // Takes all lines out.
+    fn clear(&mut self, matrix: &RowsAndColumns<'_>)
+        requires { HasRoom matrix.now self.old }
+        ensures room { HasRoom matrix.now self.new }
+        ensures growing { (upper lower : ℕ → ℕ → ℤ) → IsGrowing matrix.now upper lower []
+            self.new }
+    {
+        self.rows.clear();
+        self.columns.clear();
+    }
+
+    /// Begins with some lines.
+    pub fn start(&mut self, matrix: &RowsAndColumns<'_>, lines: &[Line]) -> Result<(), Memory>
+        requires room { HasRoom matrix.now self.old }
+        requires lines { AllByRecursion (IsLine (height matrix.now) matrix.now.width) lines.now }
+        ensures room { OnOk result (HasRoom matrix.now self.new) }
+        ensures growing { OnOk result ((upper lower : ℕ → ℕ → ℤ)
+            → IsGrowing matrix.now upper lower lines.now self.new) }
+    {
+        self.clear(matrix);
+        let mut from = lines.len();
+        'lines: while from > 0 {
+            from -= 1;
+            self.add(matrix, lines[from])?;
+        }
+        Ok(())
+    }
+
+    /// Takes a line in.
+    pub fn add(&mut self, matrix: &RowsAndColumns<'_>, line: Line) -> Result<(), Memory>
+        requires room { HasRoom matrix.now self.old }
+        requires line { IsLine (height matrix.now) matrix.now.width line }
+        ensures room { OnOk result (HasRoom matrix.now self.new) }
+        ensures growing { OnOk result ((upper lower : ℕ → ℕ → ℤ) (start : List Line)
+            → IsGrowing matrix.now upper lower start self.old
+            → IsGrowing matrix.now upper lower (line ∷ start) self.new) }
+    {
+        match line {
+            Line::Row(row) => {
+                self.rows.add(row)?;
+                Ok(())
+            }
+            Line::Column(column) => {
+                self.columns.add(column)?;
+                Ok(())
+            }
+        }
+    }
+
+    /// Becomes equal to another.
+    pub fn copy(&mut self, other: &GrowingSet) -> Result<(), Memory>
+        ensures room { OnOk result ((m : Matrix) → HasRoom m other.now → HasRoom m self.new) }
+        ensures growing { OnOk result ((m : Matrix) (upper lower : ℕ → ℕ → ℤ) (start : List Line)
+            → IsGrowing m upper lower start other.now
+            → IsGrowing m upper lower start self.new) }
+    {
+        self.rows.copy(&other.rows)?;
+        self.columns.copy(&other.columns)?;
+        Ok(())
+    }
+
+    /// Grows until it is closed, and says so; or until it has a line of some that are to stay out, or leaves fewer than
+    /// `least`, and says that.
+    pub fn close(
+        &mut self,
+        matrix: &RowsAndColumns<'_>,
+        rule: Rule,
+        out: &[Line],
+        least: u32,
+    ) -> Result<bool, Memory>
+        requires room { HasRoom matrix.now self.old }
+        requires rule { IsRuleOf matrix.now rule }
+        requires out { AllByRecursion (IsLine (height matrix.now) matrix.now.width) out.now }
+        ensures room { OnOk result (HasRoom matrix.now self.new) }
+        ensures growing { OnOk result (KeepsGrowing matrix.now (upper_of matrix.now rule)
+            (lower_of matrix.now rule) self.old self.new) }
+        ensures closed { IfOk result (λ closed. (start : List Line)
+            → IsGrowing matrix.now (upper_of matrix.now rule) (lower_of matrix.now rule) start
+            self.old
+            → TellsClosed matrix.now rule start out.now least closed (set_of self.new)) }
+    {
+        'lines: while self.left(matrix) >= least {
+            if !self.has_none(matrix, out) {
+                return Ok(false);
+            }
+            if self.rows.waiting() + self.columns.waiting() == 0 {
+                return Ok(true);
+            }
+            self.follow(matrix, rule)?;
+        }
+        Ok(false)
+    }
+
+    /// How many lines are outside.
+    pub fn left(&self, matrix: &RowsAndColumns<'_>) -> u32
+        requires { HasRoom matrix.now self.now }
+        ensures { result ≡ outside (height matrix.now) matrix.now.width (set_of self.now) }
+    {
+        self.rows.left() + self.columns.left()
+    }
+
+    /// Whether a line is in the set.
+    pub fn has(&self, matrix: &RowsAndColumns<'_>, line: Line) -> bool
+        requires room { HasRoom matrix.now self.now }
+        requires line { IsLine (height matrix.now) matrix.now.width line }
+        ensures { result ≡ set_of self.now line }
+    {
+        match line {
+            Line::Row(row) => self.rows.has(row),
+            Line::Column(column) => self.columns.has(column),
+        }
+    }
+
+    // Whether none of some lines is in the set.
+    fn has_none(&self, matrix: &RowsAndColumns<'_>, lines: &[Line]) -> bool
+        requires room { HasRoom matrix.now self.now }
+        requires lines { AllByRecursion (IsLine (height matrix.now) matrix.now.width) lines.now }
+        ensures { IsTrue result ↔ HasNone (set_of self.now) lines.now }
+    {
+        for line in lines {
+            if self.has(matrix, *line) {
+                return false;
+            }
+        }
+        true
+    }
+
+    // Follows the pulls of one line that waits.
+    fn follow(&mut self, matrix: &RowsAndColumns<'_>, rule: Rule) -> Result<(), Memory>
+        requires room { HasRoom matrix.now self.old }
+        requires rule { IsRuleOf matrix.now rule }
+        requires waits { 0
+            < length self.old.rows.fresh.items + length self.old.columns.fresh.items }
+        ensures room { OnOk result (HasRoom matrix.now self.new) }
+        ensures growing { OnOk result (KeepsGrowing matrix.now (upper_of matrix.now rule)
+            (lower_of matrix.now rule) self.old self.new) }
+        ensures less { OnOk result (work self.new < work self.old) }
+    {
+        if self.rows_first() {
+            self.follow_row(matrix, rule)
+        } else {
+            self.follow_column(matrix, rule)
+        }
+    }
+
+    // Whether a row is followed next: where fewer rows are left than columns.
+    fn rows_first(&self) -> bool
+        requires { 0 < length self.now.rows.fresh.items + length self.now.columns.fresh.items }
+        ensures row { result ≡ true → 0 < length self.now.rows.fresh.items }
+        ensures column { result ≡ false → 0 < length self.now.columns.fresh.items }
+    {
+        if self.columns.waiting() == 0 {
+            return true;
+        }
+        if self.rows.waiting() == 0 {
+            return false;
+        }
+        self.rows.left() < self.columns.left()
+    }
+
+    fn follow_row(&mut self, matrix: &RowsAndColumns<'_>, rule: Rule) -> Result<(), Memory>
+        requires room { HasRoom matrix.now self.old }
+        requires rule { IsRuleOf matrix.now rule }
+        requires waits { 0 < length self.old.rows.fresh.items }
+        ensures room { OnOk result (HasRoom matrix.now self.new) }
+        ensures growing { OnOk result (KeepsGrowing matrix.now (upper_of matrix.now rule)
+            (lower_of matrix.now rule) self.old self.new) }
+        ensures less { OnOk result (work self.new < work self.old) }
+    {
+        if let Some(row) = self.rows.next() {
+            let sum = rule.upper.row(matrix, row);
+            self.columns.pull(matrix.by_rows(), row, sum)?;
+        }
+        Ok(())
+    }
+
+    fn follow_column(&mut self, matrix: &RowsAndColumns<'_>, rule: Rule) -> Result<(), Memory>
+        requires room { HasRoom matrix.now self.old }
+        requires rule { IsRuleOf matrix.now rule }
+        requires waits { 0 < length self.old.columns.fresh.items }
+        ensures room { OnOk result (HasRoom matrix.now self.new) }
+        ensures growing { OnOk result (KeepsGrowing matrix.now (upper_of matrix.now rule)
+            (lower_of matrix.now rule) self.old self.new) }
+        ensures less { OnOk result (work self.new < work self.old) }
+    {
+        if let Some(column) = self.columns.next() {
+            let sum = rule.lower.column(matrix, column);
+            self.rows.pull(matrix.by_columns(), column, sum)?;
+        }
+        Ok(())
+    }
+
+    /// The rows of the set, as words.
+    pub fn rows(&self, matrix: &RowsAndColumns<'_>) -> &[u64]
+        requires { HasRoom matrix.now self.now }
+        ensures size { length result.now ≡ words_for (height matrix.now) }
+        ensures rows { (row : ℕ) → has_column result.now row ≡ set_of self.now (Row row) }
+    {
+        self.rows.words()
+    }
+
+    /// The columns of the set, as words.
+    pub fn columns(&self, matrix: &RowsAndColumns<'_>) -> &[u64]
+        requires { HasRoom matrix.now self.now }
+        ensures size { length result.now ≡ words_for matrix.now.width }
+        ensures columns { (column : ℕ)
+            → has_column result.now column ≡ set_of self.now (Column column) }
+    {
+        self.columns.words()
+    }
+
+    /// The lines of the set, as lists.
+    pub fn line_set(&self, alloc: Global, matrix: &RowsAndColumns<'_>) -> Result<LineSet, Memory>
+        requires { HasRoom matrix.now self.now }
+        ensures rows { IfOk result (λ lines. lines.rows
+            ≡ filter (λ row. set_of self.now (Row row)) (first_lines (height matrix.now))) }
+        ensures columns { IfOk result (λ lines. lines.columns
+            ≡ filter (λ column. set_of self.now (Column column)) (first_lines matrix.now.width)) }
+    {
+        Ok(LineSet {
+            rows: self.rows.listed(alloc)?,
+            columns: self.columns.listed(alloc)?,
+        })
+    }
+}
+
+/// The line at a place in line order, the rows first.
+pub fn line_at(matrix: &RowsAndColumns<'_>, place: u32) -> Line
+    requires { place < height matrix.now + matrix.now.width }
+    ensures line { IsLine (height matrix.now) matrix.now.width result }
+    ensures number { line_number (height matrix.now) result ≡ place }
+{
+    if place < matrix.rows() {
+        Line::Row(place)
+    } else {
+        Line::Column(place - matrix.rows())
+    }
+}

@@ -1,9 +1,0 @@
-use Rattle.std.proofs.Common.{refl}
-use Rattle.three_sep.proofs.SideLemmas.{row_added_as, column_added_as}
-use Rattle.three_sep.proofs.side.Side.add.Goals as goal
-
-pub returns-in_ok-add-in-Row-clause-growing : goal.returns-in_ok-add-in-Row-clause-growing
-returns-in_ok-add-in-Row-clause-growing c = λ upper lower start g. row_added_as c.args.views.now upper lower c.args.self.now _ start c.args.line c.in-Row.row _ c.in-Row.is c.requires.room.rows.size g c.in_ok-add-in-Row.ensures refl
-
-pub returns-in_ok-add-in-Column-clause-growing : goal.returns-in_ok-add-in-Column-clause-growing
-returns-in_ok-add-in-Column-clause-growing c = λ upper lower start g. column_added_as c.args.views.now upper lower c.args.self.now _ start c.args.line c.in-Column.column _ c.in-Column.is c.requires.room.columns.size g c.in_ok-add-in-Column.ensures refl

@@ -1,0 +1,234 @@
+// Sides that grow from the lines of one connector and leave those of another.
+ghost use Rattle.std.specs.Prelude.{◌≡◌, ◌∷◌, ◌++◌, true, false, List, IfOk, IfSome, IfNone, OnOk};
+ghost use Rattle.std.specs.List.{AllByRecursion};
+ghost use Rattle.cmr_base.specs.declared.line.Line.{Line};
+ghost use Rattle.cmr_base.specs.Matrix.{height};
+ghost use Rattle.cmr_base.specs.Seeds.{IsLine};
+ghost use Rattle.line_growth.specs.GrowingSets.{HasRoom, IsGrowing, TellsClosed, set_of};
+ghost use Rattle.line_growth.specs.Rules.{IsRuleOf, lower_of, upper_of};
+ghost use Rattle.three_sep.specs.Connectors.{AreConnectorsOf, HasNoneParting, all_front, first_of, firsts, second_of};
+ghost use Rattle.three_sep.specs.NumberedSeeds.{HasLines};
+ghost use Rattle.three_sep.specs.Searches.{HasNoGood, IsFirstOf};
+
+use crate::connectors::Connectors;
+use crate::others::{is_beside, line_of};
+use cmr_base::{Connector, Form, Line, Memory, RowsAndColumns, Three};
+use cuts::Corners;
+use line_growth::{GrowingSet, Rule, line_at};
+use std::alloc::Global;
+
+/// How many lines are to be on each side.
+const LEAST: u32 = 4;
+
+/// How many rows are tried.
+const TRIES: u32 = 3;
+
+/// Whether what some lines grow to leaves others, and four lines or more.
+pub fn leaves(
+    views: &RowsAndColumns<'_>,
+    side: &mut GrowingSet,
+    rule: Rule,
+    first: &[Line],
+    second: &[Line],
+) -> Result<bool, Memory>
+    requires room { HasRoom views.now side.old }
+    requires rule { IsRuleOf views.now rule }
+    requires first { AllByRecursion (IsLine (height views.now) views.now.width) first.now }
+    requires second { AllByRecursion (IsLine (height views.now) views.now.width) second.now }
+    ensures room { OnOk result (HasRoom views.now side.new) }
+    ensures growing { OnOk result (IsGrowing views.now (upper_of views.now rule)
+        (lower_of views.now rule) first.now side.new) }
+    ensures told { IfOk result (λ yes. TellsClosed views.now rule first.now second.now 4 yes
+        (set_of side.new)) }
+{
+    side.start(views, first)?;
+    let yes = side.close(views, rule, second, LEAST)?;
+    Ok(yes)
+}
+
+// The same of some lines and one more.
+fn leaves_with(
+    views: &RowsAndColumns<'_>,
+    side: &mut GrowingSet,
+    rule: Rule,
+    first: &[Line],
+    second: &[Line],
+    line: Line,
+) -> Result<bool, Memory>
+    requires room { HasRoom views.now side.old }
+    requires rule { IsRuleOf views.now rule }
+    requires first { AllByRecursion (IsLine (height views.now) views.now.width) first.now }
+    requires second { AllByRecursion (IsLine (height views.now) views.now.width) second.now }
+    requires line { IsLine (height views.now) views.now.width line }
+    ensures room { OnOk result (HasRoom views.now side.new) }
+    ensures told { IfOk result (λ yes. TellsClosed views.now rule (line ∷ first.now) second.now 4
+        yes (set_of side.new)) }
+{
+    side.start(views, first)?;
+    side.add(views, line)?;
+    let yes = side.close(views, rule, second, LEAST)?;
+    Ok(yes)
+}
+
+// The same of a side that has grown, and one more line.
+fn leaves_beside(
+    views: &RowsAndColumns<'_>,
+    side: &GrowingSet,
+    grown: &mut GrowingSet,
+    rule: Rule,
+    second: &[Line],
+    line: Line,
+) -> Result<bool, Memory>
+    requires room { HasRoom views.now side.now }
+    requires rule { IsRuleOf views.now rule }
+    requires second { AllByRecursion (IsLine (height views.now) views.now.width) second.now }
+    requires line { IsLine (height views.now) views.now.width line }
+    ensures room { OnOk result (HasRoom views.now grown.new) }
+    ensures told { IfOk result (λ yes. (first : List Line)
+        → IsGrowing views.now (upper_of views.now rule) (lower_of views.now rule) first side.now
+        → TellsClosed views.now rule (line ∷ first) second.now 4 yes (set_of grown.new)) }
+{
+    grown.copy(side)?;
+    grown.add(views, line)?;
+    let yes = grown.close(views, rule, second, LEAST)?;
+    Ok(yes)
+}
+
+/// Whether a separation may have some lines in side one and others in side two. Some other rows are tried: where a row can
+/// be on neither side, there is none.
+pub fn may_part(
+    views: &RowsAndColumns<'_>,
+    side: &mut GrowingSet,
+    rule: Rule,
+    first: &[Line],
+    second: &[Line],
+) -> Result<bool, Memory>
+    requires room { HasRoom views.now side.old }
+    requires rule { IsRuleOf views.now rule }
+    requires first { AllByRecursion (IsLine (height views.now) views.now.width) first.now }
+    requires second { AllByRecursion (IsLine (height views.now) views.now.width) second.now }
+    ensures room { OnOk result (HasRoom views.now side.new) }
+    ensures none { IfOk result (λ may. may ≡ false
+        → HasNoneParting views.now rule first.now second.now) }
+{
+    let mut tries = TRIES;
+    for row in 0..views.rows() {
+        if tries == 0 {
+            return Ok(true);
+        }
+        if !has_row(first, row) && !has_row(second, row) {
+            if is_refused(views, side, rule, first, second, Line::Row(row))? {
+                return Ok(false);
+            }
+            tries -= 1;
+        }
+    }
+    Ok(true)
+}
+
+// Whether a row is among some lines.
+fn has_row(lines: &[Line], row: u32) -> bool {
+    for line in lines {
+        if let Line::Row(other) = *line {
+            if other == row {
+                return true;
+            }
+        }
+    }
+    false
+}
+
+// Whether a line can be on neither side.
+fn is_refused(
+    views: &RowsAndColumns<'_>,
+    side: &mut GrowingSet,
+    rule: Rule,
+    first: &[Line],
+    second: &[Line],
+    line: Line,
+) -> Result<bool, Memory>
+    requires room { HasRoom views.now side.old }
+    requires rule { IsRuleOf views.now rule }
+    requires first { AllByRecursion (IsLine (height views.now) views.now.width) first.now }
+    requires second { AllByRecursion (IsLine (height views.now) views.now.width) second.now }
+    requires line { IsLine (height views.now) views.now.width line }
+    ensures room { OnOk result (HasRoom views.now side.new) }
+    ensures none { IfOk result (λ refused. refused ≡ true
+        → HasNoneParting views.now rule first.now second.now) }
+{
+    if leaves_with(views, side, rule, first, second, line)? {
+        return Ok(false);
+    }
+    if leaves_with(views, side, rule.exchanged(), second, first, line)? {
+        return Ok(false);
+    }
+    Ok(true)
+}
+
+/// The separation of the first good seed with two connectors: of the lines x beside the side of the first one, the rows
+/// first.
+pub fn first_of_lines(
+    alloc: Global,
+    views: &RowsAndColumns<'_>,
+    side: &GrowingSet,
+    grown: &mut GrowingSet,
+    form: Form,
+    rule: Rule,
+    connectors: &Connectors,
+) -> Result<Option<Three>, Memory>
+    requires room { HasRoom views.now side.now }
+    requires grown { HasRoom views.now grown.old }
+    requires connectors { AreConnectorsOf views.now form rule connectors.now }
+    requires growing { IsGrowing views.now (upper_of views.now rule) (lower_of views.now rule)
+        (firsts form connectors.now) side.now }
+    ensures grown { OnOk result (HasRoom views.now grown.new) }
+    ensures first { IfOk result (λ answer.
+        IfSome answer (IsFirstOf views.now (all_front form connectors.now))) }
+    ensures none { IfOk result (λ answer.
+        IfNone answer (HasNoGood views.now (all_front form connectors.now))) }
+{
+    let Connectors { corners, q, o } = *connectors;
+    let other = line_of(form.second_is_flat(), o);
+    let second = [Line::Row(corners.k), Line::Column(corners.j), other];
+    for place in 0..views.rows() + views.columns() {
+        let line = line_at(views, place);
+        if is_beside(form, &corners, q, o, line)
+            && leaves_beside(views, side, grown, rule, &second, line)?
+        {
+            return Ok(Some(separation_of(alloc, views, grown, form, connectors)?));
+        }
+    }
+    Ok(None)
+}
+
+// The separation of a side.
+fn separation_of(
+    alloc: Global,
+    views: &RowsAndColumns<'_>,
+    grown: &GrowingSet,
+    form: Form,
+    connectors: &Connectors,
+) -> Result<Three, Memory>
+    requires { HasRoom views.now grown.now }
+    ensures form { IfOk result (λ three. three.form ≡ form) }
+    ensures first { IfOk result (λ three. three.first ≡ first_of connectors.now) }
+    ensures second { IfOk result (λ three. three.second ≡ second_of connectors.now) }
+    ensures lines { IfOk result (λ three. HasLines (height views.now) views.now.width
+        (set_of grown.now) three.side.rows three.side.columns) }
+{
+    let Corners { i, p, k, j } = connectors.corners;
+    Ok(Three {
+        form,
+        side: grown.line_set(alloc, views)?,
+        first: Connector {
+            row: i,
+            column: p,
+            other: connectors.q,
+        },
+        second: Connector {
+            row: k,
+            column: j,
+            other: connectors.o,
+        },
+    })
+}

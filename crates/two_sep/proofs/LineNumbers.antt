@@ -1,0 +1,17 @@
+-- Lines by their numbers.
+use Rattle.std.proofs.Common.{◌≡◌, ◌<◌, ◌+◌, ◌-◌, ◌∙◌, ℕ, ap, refl, arith}
+use Rattle.cmr_base.specs.declared.line.Line.{Line}
+use Rattle.cmr_base.specs.declared.line.Line.TheVariants.{Row, Column}
+use Rattle.cmr_base.specs.Seeds.{IsLine, line_number}
+use Rattle.cmr_base.proofs.Booleans.{is_lt, is_not_lt}
+use Rattle.two_sep.specs.FirstSeeds.{line_of}
+
+pub line_of-row : (m r : ℕ) → r < m → line_of m r ≡ Row r
+line_of-row m r l = rw (is_lt r m l) refl
+
+pub line_of-column : (m c : ℕ) → line_of m (m + c) ≡ Column c
+line_of-column m c = let e : (m + c) - m ≡ c = omega arith in rw (is_not_lt (m + c) m (omega arith), e) refl
+
+pub number_in : (m n : ℕ) (line : Line) → IsLine m n line → line_number m line < m + n
+number_in m n (Row r) l = omega arith
+number_in m n (Column c) l = omega arith
