@@ -4,7 +4,7 @@ use Rattle.cmr_tools.specs.Words.{order, order_of, ordered}
 use Rattle.cmr_front.specs.Words.Reading.{Gives}
 use Rattle.cmr_front.specs.Ending.{devices, standing}
 use Rattle.cmr_front.specs.Run.{IsNothing}
-use Rattle.cmr_front.proofs.Endings.{IsLawfulOrder, runs}
+use Rattle.cmr_front.proofs.Endings.{IsLawfulOrder, refused_memory, runs}
 use Rattle.cmr_tools.proofs.program.run.Goals as goal
 
 pub returns-in-Err-Refused-clause-runs : goal.returns-in-Err-Refused-clause-runs
@@ -39,3 +39,18 @@ returns-in-Err-Refused-clause-runs g c =
       failed = done.ensures.failed;
       later = done.ensures.later;
     })
+
+pub returns-in-Err-Memory-clause-runs : goal.returns-in-Err-Memory-clause-runs
+returns-in-Err-Memory-clause-runs g c =
+    let S = g.S.Shelf in
+    let O = g.O.Sink in
+    let E = g.E.Sink in
+    let shelf = c.args.shelf.now in
+    let out = c.args.out.now in
+    let err = c.args.err.now in
+    let done = c.carry_out-in-Err-Memory in
+    refused_memory (ordered (order c.args.words.now))
+    (standing (S.tells shelf) (O.tells out) (E.tells err) (S.is_calm shelf) (S.room shelf) (O.is_calm out) (O.room out))
+    (devices (S.content shelf) (S.reads shelf) (S.failed shelf) (S.faults shelf) (O.got out) (O.faults out) (E.got err) (E.faults err))
+    (devices (S.content done.new.shelf) (S.reads done.new.shelf) (S.failed done.new.shelf) (S.faults done.new.shelf) (O.got done.new.out) (O.faults done.new.out) (E.got done.new.err) (E.faults done.new.err)) done.result
+    done.ensures.reads done.ensures.carried_out
