@@ -1,5 +1,6 @@
 // How much may be searched.
 ghost use Rattle.std.specs.Prelude.{◌≡◌, ◌≤◌};
+ghost use Rattle.cmr_base.specs.declared.limits.TheConstants.{MAX_LINES};
 
 use cmr_base::MAX_LINES;
 

@@ -42,9 +42,8 @@ loop-input-preserved g c =
 
 pub returns-in-Err-push-clause-stopped : goal.returns-in-Err-push-clause-stopped
 returns-in-Err-push-clause-stopped g c =
-    let S = g.S.Shelf in
-    (
+    let S = g.S.Shelf in (
       c.loop-input.input-index + 1,
       one_more_begun (S.reads c.args.shelf.now) (S.reads c.loop-input.shelf) (S.reads c.read_input.new.shelf) c.args.inputs.now c.loop-input.input-index c.loop-input-test.true
-      c.loop-input.invariant.ended.have_begun c.in-Ok.ensures.begun,
+          c.loop-input.invariant.ended.have_begun c.in-Ok.ensures.begun,
     )
