@@ -1,12 +1,12 @@
 -- Matrices after pivots of submatrices.
-use Rattle.std.proofs.Common.{◌≡◌, ◌<◌, ◌∙◌, ℕ, List, [], ◌∷◌, length, get_or, sym, subst}
+use Rattle.std.proofs.Common.{◌≡◌, ◌<◌, ℕ, List, [], ◌∷◌, length, get_or, sym, subst}
 use Rattle.cmr_base.specs.declared.line_set.LineSet.{LineSet}
 use Rattle.cmr_base.specs.Matrix.{Matrix, height, IsMatrix}
 use Rattle.cmr_base.proofs.FilledMatrices.{height-filled}
 use Rattle.pivots.specs.declared.place.PivotPlace.{PivotPlace}
 use Rattle.pivots.specs.PivotedParts.{replaced_entry, pivoted_part, IsPlaceIn, IsTernaryPivot}
 use Rattle.pivots.proofs.PartLaws.{free_before_pivot, part_pivots_stay_matrices}
-use Rattle.tree_type.specs.Trees.{Tree, Branch}
+use Rattle.tree_type.specs.Trees.{Tree}
 use Rattle.tree_type.specs.Invariant.{AreLines}
 use Rattle.tree_type.specs.Places.{MadePivot, matrix_after}
 use Rattle.cert_check.specs.Answers.{Stands}

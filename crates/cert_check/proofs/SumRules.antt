@@ -62,10 +62,10 @@ blocks_are : (M : ℕ → ℕ → ℤ) (s : Sides) (t : Three) (upper lower : �
     → IsTrue made ↔ (AreEntries M s.rows_one s.columns_two upper × AreEntries M s.rows_two s.columns_one lower) → IsTrue made ↔ AreThreeBlocks M s t
 blocks_are M s t upper lower made e f h = (
   (λ yes. let entries = h.0 yes in record {
-    right = subst (AreEntries M s.rows_one s.columns_two) (sym e) entries.0;
-    below = subst (AreEntries M s.rows_two s.columns_one) (sym f) entries.1;
+    upper = subst (AreEntries M s.rows_one s.columns_two) (sym e) entries.0;
+    lower = subst (AreEntries M s.rows_two s.columns_one) (sym f) entries.1;
   }),
-  λ blocks. h.1 (subst (AreEntries M s.rows_one s.columns_two) e blocks.right, subst (AreEntries M s.rows_two s.columns_one) f blocks.below),
+  λ blocks. h.1 (subst (AreEntries M s.rows_one s.columns_two) e blocks.upper, subst (AreEntries M s.rows_two s.columns_one) f blocks.lower),
 )
 
 -- the blocks of rank one of the forms delta, y and mixed
@@ -85,7 +85,7 @@ made_blocks M s t made form h =
 -- ---- lines in range
 
 kept_lines : (n : ℕ) (test : ℕ → Bool) (xs : List ℕ) → AllBelow n xs → AllBelow n (filter test xs)
-kept_lines n test xs below k l = contained_below n xs (get_or (filter test xs) k 0) below (passed test xs (get_or (filter test xs) k 0) (contains_from_in (filter test xs) (get_or (filter test xs) k 0) (in-get_or (filter test xs) k l))).0
+kept_lines n test xs lower k l = contained_below n xs (get_or (filter test xs) k 0) lower (passed test xs (get_or (filter test xs) k 0) (contains_from_in (filter test xs) (get_or (filter test xs) k 0) (in-get_or (filter test xs) k l))).0
 
 pub side_lines : (m : Matrix) (lines side : LineSet) (t u : ℕ → Bool) → AreLines m lines → side.rows ≡ filter t lines.rows → side.columns ≡ filter u lines.columns → AreLines m side
 side_lines m lines side t u are e f = record {

@@ -1,9 +1,9 @@
 -- Rows and columns of zeros into which the entries of another matrix are copied, nonzero by nonzero.
-use Rattle.std.proofs.Common.{◌≡◌, ◌≢◌, ◌<◌, ◌≤◌, ◌+◌, ◌∙◌, ◌⊎◌, inl, inr, ℕ, ℤ, pos, false, List, [], length, map, get_or, set, replicate, refl, ap, ap₂, sym, subst, arith}
+use Rattle.std.proofs.Common.{◌≡◌, ◌≢◌, ◌<◌, ◌≤◌, ◌+◌, ◌∙◌, ◌⊎◌, inl, inr, ℕ, ℤ, pos, false, List, length, map, get_or, set, replicate, refl, ap, sym, subst, arith}
 use Rattle.std.specs.List.Sorted.{IsStrictlyIncreasing}
 use Rattle.std.proofs.lemmas.Bool.{cases_eq, cases_lt}
-use Rattle.std.proofs.lemmas.List.{ext_get_or, get_or-replicate, get_or-set_other, get_or-set_same, length-map, length-replicate, length-set}
-use Rattle.cmr_base.specs.Matrix.{Matrix, height, row_of, entry, with_entry, transposed, IsEntry, IsMatrix, IsRectangular}
+use Rattle.std.proofs.lemmas.List.{get_or-replicate, get_or-set_other, get_or-set_same, length-map, length-replicate, length-set}
+use Rattle.cmr_base.specs.Matrix.{Matrix, height, row_of, entry, with_entry, transposed, IsEntry, IsMatrix}
 use Rattle.cmr_base.specs.CopiedEntries.{ArePlaces, IsEmptyRow, IsRowCopied}
 use Rattle.cmr_base.specs.LineSets.{AllBelow, submatrix}
 use Rattle.cmr_base.specs.Trees.{support}
@@ -13,16 +13,7 @@ use Rattle.cmr_base.proofs.Entries.{height-with_entry, entry-with_entry_same, en
 use Rattle.cmr_base.proofs.Parts.{entry-submatrix, entry-transposed, height-transposed, is_matrix-transposed, is_ternary-submatrix, length-rising}
 use Rattle.cmr_base.proofs.PlaneSteps.{zero_entry}
 use Rattle.cmr_base.proofs.Submatrices.{increasing_places}
-use Rattle.cmr_base.proofs.WholeMatrices.{is_ternary}
-
-pub same_matrix : (m n : Matrix) → IsRectangular m → IsRectangular n → height m ≡ height n → m.width ≡ n.width → ((row column : ℕ) → row < height m → column < m.width → entry m row column ≡ entry n row column) → m ≡ n
-same_matrix m n long_m long_n high wide entries = ap₂ (λ (rows : List (List ℤ)) (width : ℕ). let x : Matrix = record { rows = rows; width = width } in x) rows wide
-  where
-    long : (row : ℕ) → row < height m → length (row_of m row) ≡ length (row_of n row)
-    long row l = long_m row l ∙ wide ∙ sym (long_n row (omega arith))
-
-    rows : m.rows ≡ n.rows
-    rows = ext_get_or [] m.rows n.rows high (λ row l. ext_get_or (pos 0) (row_of m row) (row_of n row) (long row l) (λ column k. let w = long_m row l in entries row column l (omega arith)))
+use Rattle.cmr_base.proofs.WholeMatrices.{is_ternary, same_matrix}
 
 -- ---- places
 

@@ -39,15 +39,15 @@ below_all P (suc k) d = go (d k) (below_all P k d)
     go (inl p) (inr (x, l, h)) = inr (x, omega arith, h)
     go (inl p) (inl h) = inl (λ x l. at_most x p h l)
 
-module _ (m n : ℕ) (M : ℕ → ℕ → ℤ) (right below : ℕ → ℕ → ℤ) where
+module _ (m n : ℕ) (M : ℕ → ℕ → ℤ) (upper lower : ℕ → ℕ → ℤ) where
   abbrev Keeps : Lines → ℕ → ℕ → Type 0
-  Keeps T r c = (T (Row r) ≡ true → T (Column c) ≡ false → M r c ≡ right r c) × (T (Row r) ≡ false → T (Column c) ≡ true → M r c ≡ below r c)
+  Keeps T r c = (T (Row r) ≡ true → T (Column c) ≡ false → M r c ≡ upper r c) × (T (Row r) ≡ false → T (Column c) ≡ true → M r c ≡ lower r c)
 
   keeps : (T : Lines) (r c : ℕ) → Keeps T r c ⊎ (Keeps T r c → ⊥)
-  keeps T r c = go (T (Row r)) (T (Column c)) (int_dec (M r c) (right r c)) (int_dec (M r c) (below r c))
+  keeps T r c = go (T (Row r)) (T (Column c)) (int_dec (M r c) (upper r c)) (int_dec (M r c) (lower r c))
     where
-      go : (s t : Bool) → (M r c ≡ right r c) ⊎ (M r c ≡ right r c → ⊥) → (M r c ≡ below r c) ⊎ (M r c ≡ below r c → ⊥)
-          → ((s ≡ true → t ≡ false → M r c ≡ right r c) × (s ≡ false → t ≡ true → M r c ≡ below r c)) ⊎ ((s ≡ true → t ≡ false → M r c ≡ right r c) × (s ≡ false → t ≡ true → M r c ≡ below r c) → ⊥)
+      go : (s t : Bool) → (M r c ≡ upper r c) ⊎ (M r c ≡ upper r c → ⊥) → (M r c ≡ lower r c) ⊎ (M r c ≡ lower r c → ⊥)
+          → ((s ≡ true → t ≡ false → M r c ≡ upper r c) × (s ≡ false → t ≡ true → M r c ≡ lower r c)) ⊎ ((s ≡ true → t ≡ false → M r c ≡ upper r c) × (s ≡ false → t ≡ true → M r c ≡ lower r c) → ⊥)
       go true true x y = inl (λ e f. absurd (false≢true (sym f)), λ e f. absurd (false≢true (sym e)))
       go false false x y = inl (λ e f. absurd (false≢true e), λ e f. absurd (false≢true f))
       go true false (inl h) y = inl (λ e f. h, λ e f. absurd (false≢true f))
@@ -60,9 +60,9 @@ module _ (m n : ℕ) (M : ℕ → ℕ → ℤ) (right below : ℕ → ℕ → �
     line : Line
     is : IsLine m n line
     out : T line ≡ false
-    forced : (U : Lines) → IsClosed m n M right below U → ((x : Line) → IsLine m n x → T x ≡ true → U x ≡ true) → U line ≡ true
+    forced : (U : Lines) → IsClosed m n M upper lower U → ((x : Line) → IsLine m n x → T x ≡ true → U x ≡ true) → U line ≡ true
 
-  next : (T : Lines) → IsClosed m n M right below T ⊎ Forced T
+  next : (T : Lines) → IsClosed m n M upper lower T ⊎ Forced T
   next T = go (below_all (λ r. (c : ℕ) → c < n → Keeps T r c) m (λ r. each r (below_all (λ c. Keeps T r c) n (λ c. keeps T r c))))
     where
       each : (r : ℕ) → ((c : ℕ) → c < n → Keeps T r c) ⊎ ((c : ℕ) × (c < n) × (Keeps T r c → ⊥)) → ((c : ℕ) → c < n → Keeps T r c) ⊎ (((c : ℕ) → c < n → Keeps T r c) → ⊥)
@@ -76,7 +76,7 @@ module _ (m n : ℕ) (M : ℕ → ℕ → ℤ) (right below : ℕ → ℕ → �
         line = Column c;
         is = k;
         out = f;
-        forced = λ U closed has. yes (U (Column c)) refl (λ g. h (λ _ _. closed.right r c (contains_first_lines m r l) (contains_first_lines n c k) (has (Row r) l e) g, λ g' _. absurd (false≢true (sym g' ∙ e))));
+        forced = λ U closed has. yes (U (Column c)) refl (λ g. h (λ _ _. closed.upper r c (contains_first_lines m r l) (contains_first_lines n c k) (has (Row r) l e) g, λ g' _. absurd (false≢true (sym g' ∙ e))));
       }
         where
           yes : (t : Bool) {u : Bool} → u ≡ t → (u ≡ false → ⊥) → u ≡ true
@@ -86,7 +86,7 @@ module _ (m n : ℕ) (M : ℕ → ℕ → ℤ) (right below : ℕ → ℕ → �
         line = Row r;
         is = l;
         out = e;
-        forced = λ U closed has. yes (U (Row r)) refl (λ g. h (λ g' _. absurd (false≢true (sym e ∙ g')), λ _ _. closed.below r c (contains_first_lines m r l) (contains_first_lines n c k) g (has (Column c) k f)));
+        forced = λ U closed has. yes (U (Row r)) refl (λ g. h (λ g' _. absurd (false≢true (sym e ∙ g')), λ _ _. closed.lower r c (contains_first_lines m r l) (contains_first_lines n c k) g (has (Column c) k f)));
       }
         where
           yes : (t : Bool) {u : Bool} → u ≡ t → (u ≡ false → ⊥) → u ≡ true
@@ -97,8 +97,8 @@ module _ (m n : ℕ) (M : ℕ → ℕ → ℤ) (right below : ℕ → ℕ → �
       column r l (inl h) k = absurd (k h)
       column r l (inr (c, i, h)) k = found r c l i (T (Row r)) (T (Column c)) refl refl h
 
-      go : ((r : ℕ) → r < m → (c : ℕ) → c < n → Keeps T r c) ⊎ ((r : ℕ) × (r < m) × (((c : ℕ) → c < n → Keeps T r c) → ⊥)) → IsClosed m n M right below T ⊎ Forced T
-      go (inl h) = inl (record { right = λ r c l k e f. (h r (first_lines_contain m r l) c (first_lines_contain n c k)).0 e f; below = λ r c l k e f. (h r (first_lines_contain m r l) c (first_lines_contain n c k)).1 e f })
+      go : ((r : ℕ) → r < m → (c : ℕ) → c < n → Keeps T r c) ⊎ ((r : ℕ) × (r < m) × (((c : ℕ) → c < n → Keeps T r c) → ⊥)) → IsClosed m n M upper lower T ⊎ Forced T
+      go (inl h) = inl (record { upper = λ r c l k e f. (h r (first_lines_contain m r l) c (first_lines_contain n c k)).0 e f; lower = λ r c l k e f. (h r (first_lines_contain m r l) c (first_lines_contain n c k)).1 e f })
       go (inr (r, l, h)) = inr (column r l (below_all (λ c. Keeps T r c) n (λ c. keeps T r c)) h)
 
   -- with the line
@@ -130,11 +130,11 @@ module _ (m n : ℕ) (M : ℕ → ℕ → ℤ) (right below : ℕ → ℕ → �
       go true g h = subst P (line_same x y g) p
       go false g h = f h
 
-  grow : (start : List Line) (k : ℕ) (T : Lines) → outside m n T ≤ k → HasAll T start → ((U : Lines) → IsClosed m n M right below U → HasAll U start → (x : Line) → IsLine m n x → T x ≡ true → U x ≡ true)
-      → (S : Lines) × IsGrown m n M right below start S
+  grow : (start : List Line) (k : ℕ) (T : Lines) → outside m n T ≤ k → HasAll T start → ((U : Lines) → IsClosed m n M upper lower U → HasAll U start → (x : Line) → IsLine m n x → T x ≡ true → U x ≡ true)
+      → (S : Lines) × IsGrown m n M upper lower start S
   grow start zero T l has least = go (next T)
     where
-      go : IsClosed m n M right below T ⊎ Forced T → (S : Lines) × IsGrown m n M right below start S
+      go : IsClosed m n M upper lower T ⊎ Forced T → (S : Lines) × IsGrown m n M upper lower start S
       go (inl closed) = (T, record { closed = closed; has = has; least = least })
       go (inr f) = absurd (plain (outside m n T) (outside m n (plus f.line T)) l (fewer f.line T f.is f.out))
         where
@@ -146,7 +146,7 @@ module _ (m n : ℕ) (M : ℕ → ℕ → ℤ) (right below : ℕ → ℕ → �
       plain : (a b k : ℕ) → a ≤ suc k → a ≡ suc b → b ≤ k
       plain a b k l e = omega arith
 
-      go : IsClosed m n M right below T ⊎ Forced T → (Forced T → (S : Lines) × IsGrown m n M right below start S) → (S : Lines) × IsGrown m n M right below start S
+      go : IsClosed m n M upper lower T ⊎ Forced T → (Forced T → (S : Lines) × IsGrown m n M upper lower start S) → (S : Lines) × IsGrown m n M upper lower start S
       go (inl closed) more = (T, record { closed = closed; has = has; least = least })
       go (inr f) more = more f
 
@@ -173,5 +173,5 @@ module _ (m n : ℕ) (M : ℕ → ℕ → ℤ) (right below : ℕ → ℕ → �
       go true f g more = subst (λ y. U y ≡ true) (line_same z x f) has.0
       go false f g more = more g
 
-  pub grown_exists : (start : List Line) → (S : Lines) × IsGrown m n M right below start S
+  pub grown_exists : (start : List Line) → (S : Lines) × IsGrown m n M upper lower start S
   grown_exists start = grow start (outside m n (member start)) (member start) (omega arith) (all_members start) (λ U closed has x l e. members_within start U has x e)

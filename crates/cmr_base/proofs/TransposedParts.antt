@@ -3,7 +3,7 @@ use Rattle.std.proofs.Common.{◌≡◌, ◌<◌, ◌∙◌, ℕ, List, length, 
 use Rattle.std.proofs.lemmas.List.{length-map}
 use Rattle.cmr_base.specs.Matrix.{Matrix, entry, transposed, IsMatrix, IsTernary}
 use Rattle.cmr_base.specs.LineSets.{submatrix}
-use Rattle.cmr_base.proofs.CopiedRows.{same_matrix}
+use Rattle.cmr_base.proofs.WholeMatrices.{same_matrix}
 use Rattle.cmr_base.proofs.Parts.{entry-submatrix, entry-turned, height-transposed, is_matrix-transposed, is_ternary-submatrix, is_ternary-transposed}
 
 module _ (m : Matrix) (rows columns : List ℕ) (is : IsTernary m) where

@@ -7,7 +7,7 @@ use Rattle.cmr_base.specs.declared.network.Network.{Network as Net}
 use Rattle.cmr_base.specs.Matrix.{Matrix, height, entry, IsMatrix}
 use Rattle.cmr_base.specs.Trees.{Reproduces, tail, head}
 use Rattle.cmr_base.proofs.TreeCuts.{one_path}
-use Rattle.graph_text.proofs.OneMatrix.{same_matrix}
+use Rattle.cmr_base.proofs.WholeMatrices.{same_matrix}
 use Rattle.generate.specs.declared.making.MakeKind.{MakeKind}
 use Rattle.generate.specs.declared.making.MakeKind.TheVariants.{Network, TwoSum}
 use Rattle.generate.specs.Generated.{IsGenerated, generated_network}
@@ -42,7 +42,7 @@ one_generated : (what : MakeKind) (size number : ℕ) (m n : Matrix) → IsMatri
 one_generated Network size number m n is_m is_n a b =
     let high = a.0 ∙ sym b.0 in
     let wide = a.1 ∙ sym b.1 in
-    same_matrix m n is_m is_n high wide (same_entry (generated_network size number) m n a.2 b.2 high wide)
+    same_matrix m n is_m.rectangular is_n.rectangular high wide (same_entry (generated_network size number) m n a.2 b.2 high wide)
 one_generated TwoSum size number m n is_m is_n a b = a ∙ sym b
 
 one_made : (o : GenerateOrder) (m n : Matrix) → IsMade o m → IsMade o n → m ≡ n

@@ -1,5 +1,5 @@
 -- What the answers of `regular` say of the matrix.
-use Rattle.std.proofs.Common.{◌≡◌, ◌∙◌, ℕ, List, Result, Ok, Err, refl, sym, subst, arith, ◌≤◌, Option, Some, None, codes}
+use Rattle.std.proofs.Common.{◌≡◌, ◌∙◌, ℕ, List, Result, Ok, Err, refl, sym, subst, arith, Option, Some, None, codes}
 use Rattle.std.specs.Prelude.{IfOk}
 use Rattle.cmr_base.specs.declared.memory.Memory.{Memory}
 use Rattle.cmr_base.specs.declared.line_set.LineSet.{LineSet}

@@ -31,8 +31,8 @@ pub record AreCored (M : ℕ → ℕ → ℤ) (s : Sides) (f g : Connector) : Ty
   pub columns_rise : f.column < f.other
   pub rows_rise : g.row < g.other
   pub determinant : IsSign (core_determinant M f g)
-  pub right : (r c : ℕ) → IsIn r s.rows_one → IsIn c s.columns_two → M r c ≡ pos 0
-  pub below : (r c : ℕ) → IsIn r s.rows_two → IsIn c s.columns_one → M r c ≡ spread_at M f g r c
+  pub upper : (r c : ℕ) → IsIn r s.rows_one → IsIn c s.columns_two → M r c ≡ pos 0
+  pub lower : (r c : ℕ) → IsIn r s.rows_two → IsIn c s.columns_one → M r c ≡ spread_at M f g r c
 
 get_next : (x : ℕ) (xs : List ℕ) (a : ℕ) → get_or (x ∷ xs) (1 + a) 0 ≡ get_or xs a 0
 get_next x xs a = ap (λ (k : ℕ). get_or (x ∷ xs) k 0) (plainly a)
@@ -122,7 +122,7 @@ module _ (m : Matrix) (s : Sides) (f g : Connector) (t : AreCored (entry m) s f 
   core = record {
     g = subst IsSign (sym (core_cell (length A) (length B) 0 0 (here (length A)) (here (length B)) (omega arith) (omega arith))) t.unit_ip;
     h = subst IsSign (sym (core_cell (length A) (length B + 1) 0 1 (here (length A)) refl (omega arith) (omega arith))) t.unit_iq;
-    zero = core_cell (length A) (length B + 2) 0 2 (here (length A)) refl (omega arith) (omega arith) ∙ t.right i j t.row_i t.column_j;
+    zero = core_cell (length A) (length B + 2) 0 2 (here (length A)) refl (omega arith) (omega arith) ∙ t.upper i j t.row_i t.column_j;
     s = subst IsSign (sym (core_cell (length A + 1) (length B + 2) 1 2 refl refl (omega arith) (omega arith))) t.unit_kj;
     t = subst IsSign (sym (core_cell (length A + 2) (length B + 2) 2 2 refl refl (omega arith) (omega arith))) t.unit_oj;
     determinant = subst IsSign (sym (determinant_same
@@ -154,11 +154,11 @@ module _ (m : Matrix) (s : Sides) (f g : Connector) (t : AreCored (entry m) s f 
     above = λ r l. let lr : r < length A = (let e = before_rows in omega arith) in
         F_at r (F.width - 1) (omega arith) (let e = F_width in omega arith)
         ∙ ap₂ M (get_left A (i ∷ k ∷ o ∷ []) r lr) (get_after B (p ∷ q ∷ j ∷ []) (F.width - 1) 2 (let e = F_width in omega arith))
-        ∙ t.right (get_or A r 0) j (in_others (i ∷ []) s.rows_one (get_or A r 0) (in_at A r lr)) t.column_j;
+        ∙ t.upper (get_or A r 0) j (in_others (i ∷ []) s.rows_one (get_or A r 0) (in_at A r lr)) t.column_j;
     right = λ c l h. let inside : c < 3 + length E = omega arith in
         S_at 0 c (omega arith) inside
         ∙ ap (M i) (get_after (p ∷ q ∷ j ∷ []) E c (c - 3) (omega arith))
-        ∙ t.right i (get_or E (c - 3) 0) t.row_i (in_others (j ∷ []) s.columns_two (get_or E (c - 3) 0) (in_at E (c - 3) (later c (length E) l inside)));
+        ∙ t.upper i (get_or E (c - 3) 0) t.row_i (in_others (j ∷ []) s.columns_two (get_or E (c - 3) 0) (in_at E (c - 3) (later c (length E) l inside)));
   }
     where
       later : (c n : ℕ) → 3 ≤ c → c < 3 + n → c - 3 < n
@@ -225,7 +225,7 @@ module _ (m : Matrix) (s : Sides) (f g : Connector) (t : AreCored (entry m) s f 
       (S_at (1 + a) 0 (omega arith) (omega arith) ∙ ap (λ (x : ℕ). M x p) (get_next i (k ∷ o ∷ D) a))
       (S_at (1 + a) 1 (omega arith) (omega arith) ∙ ap (λ (x : ℕ). M x q) (get_next i (k ∷ o ∷ D) a))
       (model (length A + 1) 1 b refl (omega arith) lb) (model (length A + 2) 2 b refl (omega arith) lb)
-      ∙ sym (t.below (get_or (k ∷ o ∷ D) a 0) (get_or columns1 b 0) (rows2_in a la) (columns1_in b lb))
+      ∙ sym (t.lower (get_or (k ∷ o ∷ D) a 0) (get_or columns1 b 0) (rows2_in a la) (columns1_in b lb))
 
   outer : (a b : ℕ) → a < length (k ∷ o ∷ D) → b < length (j ∷ E) → entry S (1 + a) (2 + b) ≡ M (get_or (k ∷ o ∷ D) a 0) (get_or (j ∷ E) b 0)
   outer a b la lb = S_at (1 + a) (2 + b) (omega arith) (omega arith) ∙ ap₂ M (get_next i (k ∷ o ∷ D) a) (get_second p q (j ∷ E) b)
@@ -247,7 +247,7 @@ module _ (m : Matrix) (s : Sides) (f g : Connector) (t : AreCored (entry m) s f 
       ap₂ (λ (x y : ℕ). blocks x y (height F - 3) a b) core_rows core_columns
       ∙ ap (λ (z : ℕ). blocks (length rows1) (length columns1) z a b) before_rows
       ∙ blocks_ordered M rows1 columns1 (k ∷ o ∷ D) (j ∷ E) 1 2 (entry F) zeros (core_block (length A) (entry F) (entry S)) (entry S) inner
-      (λ x y lx ly. sym (t.right (get_or rows1 x 0) (get_or (j ∷ E) y 0) (rows1_in x lx) (columns2_in y ly)))
+      (λ x y lx ly. sym (t.upper (get_or rows1 x 0) (get_or (j ∷ E) y 0) (rows1_in x lx) (columns2_in y ly)))
       lower outer a b (let e = length-append rows1 (k ∷ o ∷ D) in omega arith) (let e = length-append columns1 (j ∷ E) in omega arith))
 
   core_whole : concentrated_sum F S ≡ submatrix m (A ++ (i ∷ k ∷ o ∷ D)) (B ++ (p ∷ q ∷ j ∷ E))

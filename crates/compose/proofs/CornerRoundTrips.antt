@@ -37,8 +37,8 @@ pub record AreCornered (M : ℕ → ℕ → ℤ) (flat1 flat2 : Bool) (s : Sides
   pub unit_kp : IsSign (M g.row f.column)
   pub other1 : IsFirstOther M flat1 s f g
   pub other2 : IsSecondOther M flat2 s f g
-  pub right : (r c : ℕ) → IsIn r s.rows_one → IsIn c s.columns_two → M r c ≡ product_at M f.row g.column r c
-  pub below : (r c : ℕ) → IsIn r s.rows_two → IsIn c s.columns_one → M r c ≡ product_at M g.row f.column r c
+  pub upper : (r c : ℕ) → IsIn r s.rows_one → IsIn c s.columns_two → M r c ≡ product_at M f.row g.column r c
+  pub lower : (r c : ℕ) → IsIn r s.rows_two → IsIn c s.columns_one → M r c ≡ product_at M g.row f.column r c
 
 around : (s x : ℤ) → IsSign s → pos 1 *ℤ (s *ℤ (x *ℤ s)) ≡ x
 around s x u = one_right s (x *ℤ s) ∙ sym (twice_by_sign s x u)
@@ -195,7 +195,7 @@ module _ (m : Matrix) (flat1 flat2 : Bool) (s : Sides) (f g : Connector) (t : Ar
   column_a : (b : Bool) → IsSecondOther M b s f g → (a : ℕ) → a < length R1 → entry (first b) a (length C1) ≡ M (get_or R1 a 0) j
   column_a true other a l =
       entry_of m (lr true) (lc true) a (length C1) (get_or R1 a 0) o (pos 1) (M i o *ℤ M i j) (row1_at true a l) (at_after C1 (signed o (M i o *ℤ M i j) ∷ plain j ∷ []) (length C1) 0 (omega arith))
-      ∙ (ap (λ (z : ℤ). pos 1 *ℤ ((M i o *ℤ M i j) *ℤ z)) (t.right (get_or R1 a 0) o (in_at R1 a l) other.0) ∙ around (M i o *ℤ M i j) (M (get_or R1 a 0) j) (sign-mul (M i o) (M i j) other.2 t.unit_ij))
+      ∙ (ap (λ (z : ℤ). pos 1 *ℤ ((M i o *ℤ M i j) *ℤ z)) (t.upper (get_or R1 a 0) o (in_at R1 a l) other.0) ∙ around (M i o *ℤ M i j) (M (get_or R1 a 0) j) (sign-mul (M i o) (M i j) other.2 t.unit_ij))
   column_a false other a l =
       entry_of m (lr false) (lc false) a (length C1) (get_or R1 a 0) j (pos 1) (pos 1) (row1_at false a l) (at_after C1 (plain j ∷ []) (length C1) 0 (omega arith)) ∙ ones (M (get_or R1 a 0) j)
 
@@ -204,7 +204,7 @@ module _ (m : Matrix) (flat1 flat2 : Bool) (s : Sides) (f g : Connector) (t : Ar
       entry_of m (lr true) (lc true) (length R1) a k (get_or C1 a 0) (pos 1) (pos 1) (at_after R1 (plain k ∷ []) (length R1) 0 (omega arith)) (column1_at true a l) ∙ ones (M k (get_or C1 a 0))
   row_c false other a l =
       entry_of m (lr false) (lc false) (length R1) a o (get_or C1 a 0) (M o p *ℤ M k p) (pos 1) (at_after R1 (signed o (M o p *ℤ M k p) ∷ plain k ∷ []) (length R1) 0 (omega arith)) (column1_at false a l)
-      ∙ (ap (λ (z : ℤ). (M o p *ℤ M k p) *ℤ (pos 1 *ℤ z)) (t.below o (get_or C1 a 0) other.0 (in_at C1 a l)) ∙ pair_cancel (M o p) (M k p) (M k (get_or C1 a 0)) other.2 t.unit_kp)
+      ∙ (ap (λ (z : ℤ). (M o p *ℤ M k p) *ℤ (pos 1 *ℤ z)) (t.lower o (get_or C1 a 0) other.0 (in_at C1 a l)) ∙ pair_cancel (M o p) (M k p) (M k (get_or C1 a 0)) other.2 t.unit_kp)
 
   column_d : (b : Bool) (a : ℕ) → a < length R2 → entry (second b) (connecting_rows b + a) 0 ≡ M k p *ℤ M (get_or R2 a 0) p
   column_d true a l = entry_of m (br true) (bc true) (1 + a) 0 (get_or R2 a 0) p (pos 1) (M k p) (row2_at true a l) refl ∙ one_right (M k p) (M (get_or R2 a 0) p)
@@ -236,7 +236,7 @@ module _ (m : Matrix) (flat1 flat2 : Bool) (s : Sides) (f g : Connector) (t : Ar
     entry_of m (br true) (bc true) 0 1 i q (M i j) (M k q) refl refl ∙ zero_end (M i j) (M k q) (M i q) other.1,
     λ r l h. let e = earlier r (length R2) l h in subst (λ (y : ℕ). entry (second true) y 1 ≡ entry (second true) y 0) (sym e.1)
         (entry_of m (br true) (bc true) (1 + e.0) 1 (get_or R2 e.0 0) q (pos 1) (M k q) (row2_at true e.0 e.2) refl
-        ∙ (ap (λ (z : ℤ). pos 1 *ℤ (M k q *ℤ z)) (t.below (get_or R2 e.0 0) q (in_at R2 e.0 e.2) other.0)
+        ∙ (ap (λ (z : ℤ). pos 1 *ℤ (M k q *ℤ z)) (t.lower (get_or R2 e.0 0) q (in_at R2 e.0 e.2) other.0)
         ∙ (one_right (M k q) (M (get_or R2 e.0 0) p *ℤ (M k q *ℤ M k p)) ∙ (twice_inside (M k q) (M (get_or R2 e.0 0) p) (M k p) other.2 ∙ sym (column_d true e.0 e.2))))),
   )
   second_begins false other = (
@@ -244,7 +244,7 @@ module _ (m : Matrix) (flat1 flat2 : Bool) (s : Sides) (f g : Connector) (t : Ar
     entry_of m (br false) (bc false) 1 0 q p (M q j) (M k p) refl refl ∙ zero_end (M q j) (M k p) (M q p) other.1,
     λ c l h. let e = earlier c (length C2) l h in subst (λ (y : ℕ). entry (second false) 1 y ≡ entry (second false) 0 y) (sym e.1)
         (entry_of m (br false) (bc false) 1 (1 + e.0) q (get_or C2 e.0 0) (M q j) (pos 1) refl (column2_at false e.0 e.2)
-        ∙ (ap (λ (z : ℤ). M q j *ℤ (pos 1 *ℤ z)) (t.right q (get_or C2 e.0 0) other.0 (in_at C2 e.0 e.2))
+        ∙ (ap (λ (z : ℤ). M q j *ℤ (pos 1 *ℤ z)) (t.upper q (get_or C2 e.0 0) other.0 (in_at C2 e.0 e.2))
         ∙ (one_left (M q j) (M q j *ℤ (M i (get_or C2 e.0 0) *ℤ M i j)) ∙ (twice_left (M q j) (M i (get_or C2 e.0 0)) (M i j) other.2 ∙ sym (row_b false e.0 e.2))))),
   )
 
@@ -287,7 +287,7 @@ module _ (m : Matrix) (flat1 flat2 : Bool) (s : Sides) (f g : Connector) (t : Ar
       ∙ blocks_ordered M R1 C1 R2 C2 (connecting_rows flat1) (connecting_columns flat1) (entry F) (λ r c. entry F r (length C1) *ℤ entry S 0 c) (λ r c. entry S r 0 *ℤ entry F (length R1) c) (entry S)
       (first_inner flat2)
       (λ x y lx ly. ap₂ (λ (u v : ℤ). u *ℤ v) (column_a flat2 t.other2 x lx) (row_b flat1 y ly)
-      ∙ (factors_turned (M (get_or R1 x 0) j) (M i j) (M i (get_or C2 y 0)) ∙ sym (t.right (get_or R1 x 0) (get_or C2 y 0) (in_at R1 x lx) (in_at C2 y ly))))
+      ∙ (factors_turned (M (get_or R1 x 0) j) (M i j) (M i (get_or C2 y 0)) ∙ sym (t.upper (get_or R1 x 0) (get_or C2 y 0) (in_at R1 x lx) (in_at C2 y ly))))
       (λ x y lx ly. ap₂ (λ (u v : ℤ). u *ℤ v) (column_d flat1 x lx) (row_c flat2 t.other2 y ly)
-      ∙ (turn_below (M k p) (M (get_or R2 x 0) p) (M k (get_or C1 y 0)) ∙ sym (t.below (get_or R2 x 0) (get_or C1 y 0) (in_at R2 x lx) (in_at C1 y ly))))
+      ∙ (turn_below (M k p) (M (get_or R2 x 0) p) (M k (get_or C1 y 0)) ∙ sym (t.lower (get_or R2 x 0) (get_or C1 y 0) (in_at R2 x lx) (in_at C1 y ly))))
       (second_inner flat1) a b (let e = length-append R1 R2 in omega arith) (let e = length-append C1 C2 in omega arith))

@@ -23,8 +23,8 @@ use Rattle.compose.proofs.CoreRoundTrips.{AreCored, core_round_trip, first_is, s
 pub two_round_trips : TwoRoundTrip
 two_round_trips m two sep =
     let trip = two_round_trip m (sides_of m two.side) two.row two.column
-    (λ r c h k. let a = from_one two.side.rows (first_lines (height m)) r h in let b = from_two two.side.columns (first_lines m.width) c k in sep.blocks.right r c a.0 b.0 a.1 b.1)
-    (λ r c h k. let a = from_two two.side.rows (first_lines (height m)) r h in let b = from_one two.side.columns (first_lines m.width) c k in sep.blocks.below r c a.0 b.0 a.1 b.1) in
+    (λ r c h k. let a = from_one two.side.rows (first_lines (height m)) r h in let b = from_two two.side.columns (first_lines m.width) c k in sep.blocks.upper r c a.0 b.0 a.1 b.1)
+    (λ r c h k. let a = from_two two.side.rows (first_lines (height m)) r h in let b = from_one two.side.columns (first_lines m.width) c k in sep.blocks.lower r c a.0 b.0 a.1 b.1) in
     record { rows = two_first two.side.rows (height m); columns = two_first two.side.columns m.width; connected = trip.0; sum = trip.1 }
 
 module _ (m : Matrix) (side : LineSet) (ternary : HasTernaryEntries m) (f g : Connector) where
@@ -41,10 +41,10 @@ module _ (m : Matrix) (side : LineSet) (ternary : HasTernaryEntries m) (f g : Co
   sign r c h = sign_of_entry (entry m r c) (ternary r c) h
 
   blocks_right : (upper lower : ℕ → ℕ → ℤ) → HasBlocks (entry m) rows columns (listed side.rows side.columns) upper lower → (r c : ℕ) → IsIn r s.rows_one → IsIn c s.columns_two → entry m r c ≡ upper r c
-  blocks_right upper lower blocks r c h k = let a = from_one side.rows rows r h in let b = from_two side.columns columns c k in blocks.right r c a.0 b.0 a.1 b.1
+  blocks_right upper lower blocks r c h k = let a = from_one side.rows rows r h in let b = from_two side.columns columns c k in blocks.upper r c a.0 b.0 a.1 b.1
 
   blocks_below : (upper lower : ℕ → ℕ → ℤ) → HasBlocks (entry m) rows columns (listed side.rows side.columns) upper lower → (r c : ℕ) → IsIn r s.rows_two → IsIn c s.columns_one → entry m r c ≡ lower r c
-  blocks_below upper lower blocks r c h k = let a = from_two side.rows rows r h in let b = from_one side.columns columns c k in blocks.below r c a.0 b.0 a.1 b.1
+  blocks_below upper lower blocks r c h k = let a = from_two side.rows rows r h in let b = from_one side.columns columns c k in blocks.lower r c a.0 b.0 a.1 b.1
 
   other_one : (flat1 flat2 : Bool) → AreOn rows columns (listed side.rows side.columns) true (connector_lines flat1 f) → AreCrossing (entry m) flat1 flat2 f g → IsFirstOther (entry m) flat1 s f g
   other_one true flat2 on x = (to_one side.columns columns f.other on.1.1.0.0 on.1.1.0.1, x.first_tied.0, sign g.row f.other x.first_tied.1)
@@ -85,8 +85,8 @@ module _ (m : Matrix) (side : LineSet) (ternary : HasTernaryEntries m) (f g : Co
     unit_kp = sign g.row f.column x.lower;
     other1 = other_one flat1 flat2 on1 x;
     other2 = other_two flat1 flat2 on2 x;
-    right = blocks_right (product_at (entry m) f.row g.column) (product_at (entry m) g.row f.column) blocks;
-    below = blocks_below (product_at (entry m) f.row g.column) (product_at (entry m) g.row f.column) blocks;
+    upper = blocks_right (product_at (entry m) f.row g.column) (product_at (entry m) g.row f.column) blocks;
+    lower = blocks_below (product_at (entry m) f.row g.column) (product_at (entry m) g.row f.column) blocks;
   }
 
   pub cored : IsThreeSeparation (entry m) rows columns (listed side.rows side.columns) Concentrated f g → AreCored (entry m) s f g
@@ -104,8 +104,8 @@ module _ (m : Matrix) (side : LineSet) (ternary : HasTernaryEntries m) (f g : Co
     columns_rise = sep.connectors.tied.columns_rise;
     rows_rise = sep.connectors.tied.rows_rise;
     determinant = sep.connectors.tied.determinant;
-    right = blocks_right zeros (spread_at (entry m) f g) sep.blocks;
-    below = blocks_below zeros (spread_at (entry m) f g) sep.blocks;
+    upper = blocks_right zeros (spread_at (entry m) f g) sep.blocks;
+    lower = blocks_below zeros (spread_at (entry m) f g) sep.blocks;
   }
 
   pub by_form : (form : Form) → IsThreeSeparation (entry m) rows columns (listed side.rows side.columns) form f g → HaveCornerSign (entry m) form f g → IsRoundTrip (kind_of form) m (arranged m (three_lines (entry m) form s f g))

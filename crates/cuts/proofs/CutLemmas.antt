@@ -23,8 +23,8 @@ outside_other m n T = rw (count_same (λ r. not (not (T (Row r)))) (λ r. T (Row
 
 pub other_closed : (m : Matrix) (c : Corners) (T : Lines) → IsClosedAt m c T → IsClosedAt m (exchanged c) (other_side T)
 other_closed m c T w = record {
-  right = λ r k lr lk er ek. w.below r k lr lk (not_is (T (Row r)) er) (not_false (T (Column k)) ek);
-  below = λ r k lr lk er ek. w.right r k lr lk (not_false (T (Row r)) er) (not_is (T (Column k)) ek);
+  upper = λ r k lr lk er ek. w.lower r k lr lk (not_is (T (Row r)) er) (not_false (T (Column k)) ek);
+  lower = λ r k lr lk er ek. w.upper r k lr lk (not_false (T (Row r)) er) (not_is (T (Column k)) ek);
 }
 
 pub other_cut : (m : Matrix) (c : Corners) (T : Lines) → IsCutAt m c T → IsCutAt m (exchanged c) (other_side T)
@@ -42,7 +42,7 @@ pub other_is_cut : (m : Matrix) (T : Lines) → IsCut m T → IsCut m (other_sid
 other_is_cut m T w = record {
   corners = exchanged w.corners;
   are_inside = record { row_one = w.are_inside.row_two; column_one = w.are_inside.column_two; row_two = w.are_inside.row_one; column_two = w.are_inside.column_one };
-  right = w.below;
-  below = w.right;
+  upper = w.lower;
+  lower = w.upper;
   cut = other_cut m w.corners T w.cut;
 }

@@ -10,8 +10,8 @@ use Rattle.cuts.specs.declared.groups.Groups.{Groups}
 
 -- no line outside breaks a rule with a line inside: the one for rows inside, or the one for columns inside
 pub record IsClosed (m n : ℕ) (M right_rule below_rule : ℕ → ℕ → ℤ) (S : Lines) : Type 0 where
-  pub right : (r c : ℕ) → r < m → c < n → S (Row r) ≡ true → S (Column c) ≡ false → M r c ≡ right_rule r c
-  pub below : (r c : ℕ) → r < m → c < n → S (Row r) ≡ false → S (Column c) ≡ true → M r c ≡ below_rule r c
+  pub upper : (r c : ℕ) → r < m → c < n → S (Row r) ≡ true → S (Column c) ≡ false → M r c ≡ right_rule r c
+  pub lower : (r c : ℕ) → r < m → c < n → S (Row r) ≡ false → S (Column c) ≡ true → M r c ≡ below_rule r c
 
 -- closed for what the entries between the sides are to be
 abbrev pub IsClosedBy : Matrix → (upper lower : ℕ → ℕ → ℤ) → Lines → Type 0
@@ -42,8 +42,8 @@ pub record IsCutAt (m : Matrix) (c : Corners) (T : Lines) : Type 0 where
 pub record IsCut (m : Matrix) (T : Lines) : Type 0 where
   pub corners : Corners
   pub are_inside : AreInside m corners
-  pub right : entry m corners.i corners.j ≢ pos 0
-  pub below : entry m corners.k corners.p ≢ pos 0
+  pub upper : entry m corners.i corners.j ≢ pos 0
+  pub lower : entry m corners.k corners.p ≢ pos 0
   pub cut : IsCutAt m corners T
 
 -- ---- groups

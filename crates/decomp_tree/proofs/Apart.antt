@@ -178,7 +178,7 @@ module _ (m : Matrix) (lines : LineSet) (are : AreLines m lines) (parts : List L
 
       crossing : (a : ℕ) → a < length parts → set_of (part_at parts a) (Row i) ≡ true → (b : Bool) → set_of (part_at parts a) (Column j) ≡ b → set_of (part_at parts a) (Column j) ≡ true
       crossing a l e true f = f
-      crossing a l e false f = absurd (d (sym (entry_in m lines i j h k) ∙ (are_parts.components a l).apart.right i j
+      crossing a l e false f = absurd (d (sym (entry_in m lines i j h k) ∙ (are_parts.components a l).apart.upper i j
           (contains_first_lines (height (part m lines)) i (row_line i h)) (contains_first_lines (length lines.columns) j k) (listed_from_set (part_at parts a) (Row i) e) (not_listed (part_at parts a) (Column j) f)))
 
   filled_part : (p : LineSet) → IsPartOf (part m lines) p → 0 < size_of (set_in lines p)

@@ -23,12 +23,12 @@ module _ (m : Matrix) (some others : Lines) where
 
   both_apart : IsApart (height m) m.width (entry m) some → IsApart (height m) m.width (entry m) others → IsApart (height m) m.width (entry m) one
   both_apart a b = record {
-    right = λ r c h k x y.
+    upper = λ r c h k x y.
         let p = and_parts (some (Row r)) (others (Row r)) x in
-        elim (not_both (some (Column c)) (others (Column c)) y) [ inl e ↦ a.right r c h k p.0 e | inr e ↦ b.right r c h k p.1 e ];
-    below = λ r c h k x y.
+        elim (not_both (some (Column c)) (others (Column c)) y) [ inl e ↦ a.upper r c h k p.0 e | inr e ↦ b.upper r c h k p.1 e ];
+    lower = λ r c h k x y.
         let p = and_parts (some (Column c)) (others (Column c)) y in
-        elim (not_both (some (Row r)) (others (Row r)) x) [ inl e ↦ a.below r c h k e p.0 | inr e ↦ b.below r c h k e p.1 ];
+        elim (not_both (some (Row r)) (others (Row r)) x) [ inl e ↦ a.lower r c h k e p.0 | inr e ↦ b.lower r c h k e p.1 ];
   }
 
   shared : IsComponent (height m) m.width (entry m) some → IsComponent (height m) m.width (entry m) others → (line : Line) → IsLine (height m) m.width line → some line ≡ true → others line ≡ true → HasAllOf m some others

@@ -1,5 +1,5 @@
 -- Drafts as plain values, and a draft from what its root says and from its children.
-use Rattle.std.proofs.Common.{◌≡◌, ◌<◌, ◌≤◌, ◌+◌, ◌∙◌, ◌++◌, ◌&&◌, ℕ, suc, Bool, true, List, [], ◌∷◌, length, map, take, get_or, refl, ap, sym, subst, arith}
+use Rattle.std.proofs.Common.{◌≡◌, ◌<◌, ◌≤◌, ◌+◌, ◌∙◌, ◌++◌, ◌&&◌, ℕ, true, List, [], ◌∷◌, length, map, take, get_or, ap, sym, subst}
 use Rattle.std.proofs.lemmas.List.{take_more}
 use Rattle.std.proofs.Math.Seq.{take-length}
 use Rattle.std.specs.List.{AllByRecursion, list_all}
@@ -12,7 +12,7 @@ use Rattle.decomp_tree.specs.declared.drafts.Draft.{Draft, fold_out-Draft}
 use Rattle.decomp_tree.specs.declared.drafts.Front.{Front}
 use Rattle.decomp_tree.specs.Seen.{HasNoneAmong, keeps_free}
 use Rattle.decomp_tree.specs.Fronts.{IsFront}
-use Rattle.decomp_tree.specs.Sketches.{Sketch, Sketched, Sketches, NoSketches, MoreSketches, sketches_from, draft_step, sketch_of, front_in, is_free_in, drafts_in, lines_of_sketch, IsDrafted, AreDrafted, IsDraftedBehind}
+use Rattle.decomp_tree.specs.Sketches.{Sketch, Sketched, sketches_from, draft_step, sketch_of, front_in, is_free_in, drafts_in, lines_of_sketch, IsDrafted, AreDrafted, IsDraftedBehind}
 use Rattle.decomp_tree.proofs.FreeNodes.{none_by_children}
 
 pub sketch_is : (draft : Draft) → sketch_of draft ≡ Sketched (front_in draft) (is_free_in draft) (sketches_from (map sketch_of (drafts_in draft)))

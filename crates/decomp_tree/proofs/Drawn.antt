@@ -3,18 +3,16 @@ use Rattle.std.proofs.Common.{◌≡◌, ◌<◌, ◌≤◌, ◌-◌, ◌++◌, 
 use Rattle.std.specs.List.{AllByRecursion}
 use Rattle.cmr_base.specs.declared.line_set.LineSet.{LineSet}
 use Rattle.cmr_base.specs.CyclePlaces.{HasNoCycleFault}
-use Rattle.cmr_base.specs.Matrix.{Matrix, height, entry, IsMatrix}
-use Rattle.cmr_base.specs.LineSets.{AllBelow, IsRowSet, IsColumnSet, first_lines}
+use Rattle.cmr_base.specs.Matrix.{Matrix, entry}
 use Rattle.cmr_base.proofs.Lists.{all-append}
-use Rattle.cmr_base.proofs.Parts.{length-rising}
 use Rattle.tree_type.specs.Trees.{Finding, Tree, Branch, trees_from, count_trees}
-use Rattle.tree_type.specs.Invariant.{AreLinesOf, size_of, HasChildren, IsTreeWithin, AreTreesWithin, IsTreeFor}
-use Rattle.tree_type.specs.Places.{AllLines, places_from, places_below, due_child, lines_of_each}
-use Rattle.tree_type.specs.Soundness.{part, IsSoundTree}
-use Rattle.decomp_tree.specs.Shapes.{case_number, IsShapedAt, IsShape, HasParts, set_in}
+use Rattle.tree_type.specs.Invariant.{size_of, HasChildren, AreTreesWithin}
+use Rattle.tree_type.specs.Places.{places_from, places_below, due_child, lines_of_each}
+use Rattle.tree_type.specs.Soundness.{part}
+use Rattle.decomp_tree.specs.Shapes.{case_number, IsShapedAt, HasParts, set_in}
 use Rattle.decomp_tree.specs.Seen.{AreDue, AreFewer, IsSaid, AreFalling, IsDrawn, AreDrawn}
 use Rattle.decomp_tree.proofs.Said.{first_case}
-use Rattle.decomp_tree.proofs.ShapeSound.{no_pivot, shapes_are_sound}
+use Rattle.decomp_tree.proofs.ShapeSound.{no_pivot}
 
 module _ (limit : ℕ) (m : Matrix) where
   lines_drawn : (children : List LineSet) (trees : List Tree) → AreDrawn limit m children trees → lines_of_each (trees_from trees) ≡ children

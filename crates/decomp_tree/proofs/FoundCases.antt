@@ -1,11 +1,10 @@
 -- What pivots find, by cases: no place, a 2, and the tree of the submatrix after the pivot.
-use Rattle.std.proofs.Common.{◌≡◌, ◌≢◌, ◌+◌, ◌-◌, inl, inr, ℕ, zero, suc, Option, Some, None, refl, ap, sym, subst, arith}
+use Rattle.std.proofs.Common.{◌≡◌, ◌≢◌, ◌+◌, ◌-◌, inl, inr, ℕ, suc, Some, None, sym, subst, arith}
 use Rattle.cmr_base.specs.declared.line_set.LineSet.{LineSet}
 use Rattle.cmr_base.specs.Matrix.{Matrix}
-use Rattle.cmr_base.specs.LineSets.{IsRowSet, IsColumnSet}
 use Rattle.pivots.specs.declared.drawn.DrawnPlace.{DrawnPlace}
 use Rattle.pivots.specs.DrawnPlaces.{drawn_place}
-use Rattle.pivots.specs.PivotedParts.{IsMadePart, ShowsFirstTwoIn, pivoted_part}
+use Rattle.pivots.specs.PivotedParts.{IsMadePart, ShowsFirstTwoIn}
 use Rattle.tree_type.specs.Trees.{Tree, Branch, NoTrees, Violator}
 use Rattle.tree_type.specs.Invariant.{AreLines, size_of}
 use Rattle.tree_type.specs.Verdicts.{verdict_of}

@@ -1,9 +1,9 @@
 -- A node has no violator among its lines where none of its children has one, by what it says.
-use Rattle.std.proofs.Common.{◌≡◌, ◌<◌, ◌≤◌, ◌+◌, ◌∙◌, ℕ, Bool, true, false, List, [], ◌∷◌, length, map, refl, ap, sym, subst, arith}
+use Rattle.std.proofs.Common.{◌≡◌, ◌<◌, ◌≤◌, ℕ, true, false, List, [], ◌∷◌, length, map, refl, sym, subst, arith}
 use Rattle.std.proofs.lemmas.Bool.{true≢false}
 use Rattle.std.specs.List.{AllByRecursion}
 use Rattle.cmr_base.specs.declared.line_set.LineSet.{LineSet}
-use Rattle.cmr_base.specs.Matrix.{Matrix, height, entry, IsMatrix}
+use Rattle.cmr_base.specs.Matrix.{Matrix, entry, IsMatrix}
 use Rattle.cmr_base.specs.CyclePlaces.{HasNoCycleFault}
 use Rattle.cmr_base.proofs.Lists.{all_weaker}
 use Rattle.r10_leaf.proofs.FreeR10.{fault_free_r10_has_no_violator}
@@ -14,7 +14,7 @@ use Rattle.cert_check.proofs.OneSums.{free_apart}
 use Rattle.cert_check.proofs.Reductions.{free_reduced}
 use Rattle.tree_type.specs.Trees.{Finding, Empty, Cycle, Reduced, OneSum, Network, Conetwork, R10, TwoSum, ThreeSum, Enumerated, Violator, Undecided}
 use Rattle.tree_type.specs.Invariant.{AreLines, HasChildren}
-use Rattle.tree_type.specs.Places.{Due, These, lines_left}
+use Rattle.tree_type.specs.Places.{These, lines_left}
 use Rattle.tree_type.specs.Soundness.{part, AreApart, HasItsLines}
 use Rattle.tree_type.proofs.PlacedLines.{part_is}
 use Rattle.decomp_tree.specs.Shapes.{Case, HasNoLines, HasFault, IsReducible, IsApart, IsNetwork, IsConetwork, IsR10Matrix, IsTwoSum, IsThreeSum, IsShort, IsLeft, case_number, Applies, Says, line_in, set_in, two_in, three_in, finding_in, HasParts}

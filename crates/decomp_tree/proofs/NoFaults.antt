@@ -1,11 +1,9 @@
 -- Lines among which no violator stands, and cycle faults.
-use Rattle.std.proofs.Common.{◌≡◌, ◌<◌, ℕ, ℤ, List, length, map, Contains, subst}
+use Rattle.std.proofs.Common.{◌<◌, length, map, Contains, subst}
 use Rattle.std.specs.List.{AllByRecursion}
 use Rattle.cmr_base.specs.declared.line_set.LineSet.{LineSet}
 use Rattle.cmr_base.specs.Matrix.{Matrix, height, entry, IsMatrix}
-use Rattle.cmr_base.specs.LineSets.{IsRowSet, IsColumnSet}
 use Rattle.cmr_base.specs.CyclePlaces.{HasNoCycleFault}
-use Rattle.cmr_base.specs.Violator.{IsViolator}
 use Rattle.cmr_base.proofs.Lists.{all_weaker, all-map}
 use Rattle.cmr_base.proofs.RisingLists.{row_set_rises, column_set_rises, rising_below}
 use Rattle.cert_check.proofs.FreeSets.{IsFreeOn}

@@ -1,15 +1,14 @@
 -- Submatrices that have no graphic support, and larger ones.
-use Rattle.std.proofs.Common.{◌≡◌, ◌≢◌, ◌<◌, ◌≤◌, ◌+◌, ◌∙◌, ℕ, zero, suc, ℤ, List, [], ◌∷◌, Bool, true, length, map, get_or, take, drop, Contains, refl, ap, ap₂, sym, subst, arith, inl, inr}
+use Rattle.std.proofs.Common.{◌≡◌, ◌<◌, ◌+◌, ◌∙◌, ℕ, zero, suc, List, [], ◌∷◌, true, length, map, get_or, take, drop, refl, ap, sym, subst, arith, inl, inr}
 use Rattle.std.specs.Prelude.{MatchOption}
 use Rattle.std.specs.List.{AllByRecursion}
 use Rattle.std.specs.List.Sorted.{IsStrictlyIncreasing}
 use Rattle.std.proofs.lemmas.List.{length-map, get_or-take, length-take}
 use Rattle.cmr_base.specs.declared.line_set.LineSet.{LineSet}
 use Rattle.cmr_base.specs.Matrix.{Matrix, height, entry, transposed, is_nonzero, IsMatrix, IsTernary}
-use Rattle.cmr_base.specs.LineSets.{IsRowSet, IsColumnSet, submatrix}
+use Rattle.cmr_base.specs.LineSets.{submatrix}
 use Rattle.cmr_base.specs.GreedySets.{IsHereditary}
 use Rattle.cmr_base.specs.Members.{IsIn}
-use Rattle.cmr_base.specs.declared.network.Network.{Network}
 use Rattle.cmr_base.specs.Trees.{HasGraphicSupport, IsNetworkMatrix, RealisesSupport, Reproduces, support}
 use Rattle.cmr_base.proofs.GraphicMatrices.{support_same, submatrix_has_graphic_support, graphic_support_hereditary}
 use Rattle.cmr_base.proofs.ListsWithout.{in_from_contains, contains_from_in, increasing_tail}

@@ -1,5 +1,5 @@
 -- What a node says of a separation.
-use Rattle.std.proofs.Common.{◌≡◌, ◌<◌, ◌≤◌, ℕ, Bool, true, false, List, [], ◌∷◌, length, refl, arith, subst}
+use Rattle.std.proofs.Common.{◌<◌, ◌≤◌, ℕ, Bool, true, false, [], ◌∷◌, length, refl, subst}
 use Rattle.std.proofs.lemmas.Bool.{true≢false}
 use Rattle.cmr_base.specs.declared.line_set.LineSet.{LineSet}
 use Rattle.cmr_base.specs.declared.separation.Connector.{Connector}

@@ -29,7 +29,7 @@ use Rattle.tree_type.specs.Soundness.{part}
 use Rattle.decomp_tree.specs.Shapes.{numbered, set_in, connector_in, three_in}
 use Rattle.decomp_tree.proofs.Numbered.{entry_in, height_in, among_named, from_inside, from_outside, to_inside, to_outside, counted_all}
 
--- a rising list below a bound has the lines that it lists
+-- a rising list lower a bound has the lines that it lists
 listed_lines : (xs : List ℕ) (bound : ℕ) → IsStrictlyIncreasing xs → ((k : ℕ) → k < length xs → numbered xs k < bound) → xs ≡ filter (λ x. list_any (λ y. nat_eq y x) xs) (first_lines bound)
 listed_lines xs bound rises low = rising_same xs (filter (λ x. list_any (λ y. nat_eq y x) xs) (first_lines bound)) rises
     (IsStrictlyIncreasing-filter (λ x. list_any (λ y. nat_eq y x) xs) (first_lines bound) (first_lines_increase bound))
@@ -109,10 +109,10 @@ module _ (m : Matrix) (lines : LineSet) (are : AreLines m lines) (i j : ℕ) (S 
 
   pub two_blocks : AreTwoBlocks (entry m) (sides lines (side m lines are S)) (numbered lines.rows i) (numbered lines.columns j)
   two_blocks = record {
-    right = right_entries m lines are S (λ r c. pos 0) (λ r c. pos 0)
-        (λ r c h k. separated.blocks.right r c (contains_first_lines (length lines.rows) r h) (contains_first_lines (length lines.columns) c k)) (λ r c h k. refl);
-    below = below_entries m lines are S (product_at (entry m) (numbered lines.rows i) (numbered lines.columns j)) (product_at (entry (part m lines)) i j)
-        (λ r c h k. separated.blocks.below r c (contains_first_lines (length lines.rows) r h) (contains_first_lines (length lines.columns) c k))
+    upper = right_entries m lines are S (λ r c. pos 0) (λ r c. pos 0)
+        (λ r c h k. separated.blocks.upper r c (contains_first_lines (length lines.rows) r h) (contains_first_lines (length lines.columns) c k)) (λ r c h k. refl);
+    lower = below_entries m lines are S (product_at (entry m) (numbered lines.rows i) (numbered lines.columns j)) (product_at (entry (part m lines)) i j)
+        (λ r c h k. separated.blocks.lower r c (contains_first_lines (length lines.rows) r h) (contains_first_lines (length lines.columns) c k))
         (λ r c h k. made m lines are S i j r c row_in column_in h k);
   }
 
@@ -332,10 +332,10 @@ module _ (m : Matrix) (lines : LineSet) (are : AreLines m lines) (t : Three) (S 
 
   pub three_blocks : AreThreeBlocks (entry m) (sides lines (three_in lines t).side) (three_in lines t)
   three_blocks = subst (λ s. AreThreeBlocks (entry m) (sides lines s) (three_in lines t)) (sym side_is) (record {
-    right = right_entries m lines are S (upper_block (entry m) t.form (three_in lines t).first (three_in lines t).second) (upper_block (entry (part m lines)) t.form t.first t.second)
-        (λ r c h k. separated.blocks.right r c (contains_first_lines (length lines.rows) r h) (contains_first_lines (length lines.columns) c k))
+    upper = right_entries m lines are S (upper_block (entry m) t.form (three_in lines t).first (three_in lines t).second) (upper_block (entry (part m lines)) t.form t.first t.second)
+        (λ r c h k. separated.blocks.upper r c (contains_first_lines (length lines.rows) r h) (contains_first_lines (length lines.columns) c k))
         (upper_in m lines are S t.form t.first t.second separated.one separated.two);
-    below = below_entries m lines are S (lower_block (entry m) t.form (three_in lines t).first (three_in lines t).second) (lower_block (entry (part m lines)) t.form t.first t.second)
-        (λ r c h k. separated.blocks.below r c (contains_first_lines (length lines.rows) r h) (contains_first_lines (length lines.columns) c k))
+    lower = below_entries m lines are S (lower_block (entry m) t.form (three_in lines t).first (three_in lines t).second) (lower_block (entry (part m lines)) t.form t.first t.second)
+        (λ r c h k. separated.blocks.lower r c (contains_first_lines (length lines.rows) r h) (contains_first_lines (length lines.columns) c k))
         (lower_in m lines are S t.form t.first t.second separated.one separated.two);
   })

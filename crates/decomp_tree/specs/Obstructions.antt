@@ -1,5 +1,5 @@
 -- Lines by which submatrices are known to be no network matrices.
-use Rattle.std.specs.Prelude.{◌<◌, ℕ, List, length, slice_index, IfSome}
+use Rattle.std.specs.Prelude.{ℕ, List, IfSome}
 use Rattle.std.specs.List.Sorted.{IsStrictlyIncreasing}
 use Rattle.cmr_base.specs.declared.line_set.LineSet.{LineSet}
 use Rattle.cmr_base.specs.Matrix.{Matrix, transposed}

@@ -1,23 +1,13 @@
 -- A network has one matrix.
-use Rattle.std.proofs.Common.{◌≡◌, ◌<◌, ◌∙◌, ◌⊎◌, inl, inr, ℕ, ℤ, pos, true, false, List, [], length, sym, ap, ap₂, subst, arith}
-use Rattle.std.proofs.lemmas.List.{ext_get_or}
-use Rattle.cmr_base.specs.Matrix.{Matrix, height, row_of, entry, is_nonzero, IsMatrix}
+use Rattle.std.proofs.Common.{◌≡◌, ◌<◌, ◌∙◌, ◌⊎◌, inl, inr, ℕ, ℤ, pos, true, false, sym, ap, subst}
+use Rattle.cmr_base.specs.Matrix.{height, entry, is_nonzero}
 use Rattle.cmr_base.specs.Trees.{head, tail, support, IsDirectedPathOf, IsPathOf}
+use Rattle.cmr_base.proofs.WholeMatrices.{same_matrix}
 use Rattle.cmr_base.proofs.TreeTests.{path_by_walk, directed_path_by_walk}
 use Rattle.graph_text.specs.Laws.{BinaryMatricesAreOne, MatricesAreOne}
 
--- matrices of one size with the same entries
-pub same_matrix : (m n : Matrix) → IsMatrix m → IsMatrix n → height m ≡ height n → m.width ≡ n.width → ((row column : ℕ) → row < height m → column < m.width → entry m row column ≡ entry n row column) → m ≡ n
-same_matrix m n is_m is_n high wide entries = ap₂ (λ rows width. let x : Matrix = record { rows = rows; width = width } in x) rows wide
-  where
-    long : (row : ℕ) → row < height m → length (row_of m row) ≡ length (row_of n row)
-    long row l = is_m.rectangular row l ∙ wide ∙ sym (is_n.rectangular row (omega arith))
-
-    rows : m.rows ≡ n.rows
-    rows = ext_get_or [] m.rows n.rows high (λ row l. ext_get_or (pos 0) (row_of m row) (row_of n row) (long row l) (λ column k. let w = is_m.rectangular row l in entries row column l (omega arith)))
-
 pub matrices_are_one : MatricesAreOne
-matrices_are_one net m n is_m is_n heights widths one two = same_matrix m n is_m is_n heights widths (λ row column low near.
+matrices_are_one net m n is_m is_n heights widths one two = same_matrix m n is_m.rectangular is_n.rectangular heights widths (λ row column low near.
     let P = one.paths column near in
     let Q = subst (λ (h : ℕ). IsDirectedPathOf net.arcs h (λ r. entry n r column) (tail net.walks column) (head net.walks column)) (sym heights) (two.paths column (subst (λ (w : ℕ). column < w) widths near)) in
     P.exact row low ∙ sym ((directed_path_by_walk net.arcs (height m) one.network.tree (tail net.walks column) (head net.walks column) P.steps P.walk P.once (λ r. entry n r column)).0 Q row low))
@@ -29,7 +19,7 @@ binary_same x y (inl a) (inr b) f g = let t : is_nonzero x ≡ true = g (ap is_n
 binary_same x y (inr a) (inl b) f g = let t : is_nonzero y ≡ true = f (ap is_nonzero a) in let u : is_nonzero y ≡ false = ap is_nonzero b in absurd (cc)
 
 pub binary_matrices_are_one : BinaryMatricesAreOne
-binary_matrices_are_one net m n is_m is_n heights widths binary_m binary_n one two = same_matrix m n is_m is_n heights widths (λ row column low near.
+binary_matrices_are_one net m n is_m is_n heights widths binary_m binary_n one two = same_matrix m n is_m.rectangular is_n.rectangular heights widths (λ row column low near.
     let P = one.paths column near in
     let Q = subst (λ (h : ℕ). IsPathOf net.arcs h (λ r. support n r column) (tail net.walks column) (head net.walks column)) (sym heights) (two.paths column (subst (λ (w : ℕ). column < w) widths near)) in
     let here = P.exact row low in

@@ -15,7 +15,7 @@ use Rattle.cmr_base.proofs.Members.{in-append}
 use Rattle.cmr_base.proofs.RowLists.{two_cases}
 use Rattle.cmr_base.proofs.Booleans.{false_is, is_ne, not_both, same_test, self_eq}
 use Rattle.line_growth.specs.declared.growing_lines.GrowingLines.{GrowingLines}
-use Rattle.line_growth.specs.GrowingLines.{is_in, AreGrowing, AreSame, HasGrown, HasPulled, HasAdded, HasTaken}
+use Rattle.line_growth.specs.GrowingLines.{is_in, AreGrowing, AreSame, HasGrown, HasAdded, HasTaken}
 
 -- ---- lists of lines that wait
 
@@ -204,19 +204,19 @@ module _ (m : Matrix) (row : ℕ) (factor : ℤ) (model : ℕ) where
   pub differing : (x : ℕ) → differs_at m row factor model x ≡ true → ¬ (IsMultipleAt x)
   differing x e = differs_from (entry m row x) (factor *ℤ entry m model x) e
 
-  -- the lines of a block and of those before it
-  pub pulled_until : (block word : ℕ) (lines after : GrowingLines) → ((k : ℕ) → k < 64 → has_bit word k ≡ (differs_at m row factor model (64 * block + k) && not (is_in lines (64 * block + k))))
-      → ((x : ℕ) → x < 64 * block → is_in lines x ≡ false → IsMultipleAt x) → ((x : ℕ) → is_in lines x ≡ true → is_in after x ≡ true) → ((k : ℕ) → k < 64 → has_bit word k ≡ true → is_in after (64 * block + k) ≡ true)
-      → (x : ℕ) → x < 64 * (block + 1) → is_in after x ≡ false → IsMultipleAt x
-  pulled_until block word lines after is done kept taken x l e = elim (cases_lt x (64 * block)) [
+  -- the lines of a chunk and of those before it
+  pub pulled_until : (chunk word : ℕ) (lines after : GrowingLines) → ((k : ℕ) → k < 64 → has_bit word k ≡ (differs_at m row factor model (64 * chunk + k) && not (is_in lines (64 * chunk + k))))
+      → ((x : ℕ) → x < 64 * chunk → is_in lines x ≡ false → IsMultipleAt x) → ((x : ℕ) → is_in lines x ≡ true → is_in after x ≡ true) → ((k : ℕ) → k < 64 → has_bit word k ≡ true → is_in after (64 * chunk + k) ≡ true)
+      → (x : ℕ) → x < 64 * (chunk + 1) → is_in after x ≡ false → IsMultipleAt x
+  pulled_until chunk word lines after is done kept taken x l e = elim (cases_lt x (64 * chunk)) [
     | inl h ↦ done x h (false_is (is_in lines x) (λ t. not_both (is_in after x) (kept x t) e))
     | inr h ↦ there (omega arith)
   ]
     where
-      there : 64 * block + x % 64 ≡ x → IsMultipleAt x
-      there at = elim (two_cases (differs_at m row factor model (64 * block + x % 64))) [
-        | inr d ↦ subst (λ (z : ℕ). IsMultipleAt z) at (differs_not (entry m row (64 * block + x % 64)) (factor *ℤ entry m model (64 * block + x % 64)) d)
-        | inl d ↦ absurd (elim (seen_or_found (has_bit word (x % 64)) (differs_at m row factor model (64 * block + x % 64)) (is_in lines (64 * block + x % 64)) (is (x % 64) (omega arith)) d) [
+      there : 64 * chunk + x % 64 ≡ x → IsMultipleAt x
+      there at = elim (two_cases (differs_at m row factor model (64 * chunk + x % 64))) [
+        | inr d ↦ subst (λ (z : ℕ). IsMultipleAt z) at (differs_not (entry m row (64 * chunk + x % 64)) (factor *ℤ entry m model (64 * chunk + x % 64)) d)
+        | inl d ↦ absurd (elim (seen_or_found (has_bit word (x % 64)) (differs_at m row factor model (64 * chunk + x % 64)) (is_in lines (64 * chunk + x % 64)) (is (x % 64) (omega arith)) d) [
           | inl s ↦ not_both (is_in after x) (kept x (subst (λ (z : ℕ). is_in lines z ≡ true) at s)) e
           | inr b ↦ not_both (is_in after x) (subst (λ (z : ℕ). is_in after z ≡ true) at (taken (x % 64) (omega arith) b)) e
         ])

@@ -1,27 +1,26 @@
 -- A set that grows, step by step.
-use Rattle.std.proofs.Common.{ℕ, ◌+◌, ◌-◌, drop, ap₂, true, false, not, List, [], ◌∷◌, ◌≡◌, ◌<◌, ◌≤◌, ◌∙◌, sym, ap, refl, arith, subst, ◌⊎◌, inl, inr, length, get_or, ℤ, zero, suc, Bool}
+use Rattle.std.proofs.Common.{ℕ, ◌+◌, ◌-◌, drop, ap₂, true, false, not, List, [], ◌∷◌, ◌≡◌, ◌<◌, ◌≤◌, ◌∙◌, sym, ap, refl, arith, subst, ◌⊎◌, inl, inr, length, get_or, ℤ, suc, Bool}
 use Rattle.std.specs.List.{AllByRecursion}
 use Rattle.std.proofs.lemmas.List.{drop_all, drop_more}
 use Rattle.cmr_base.specs.declared.line.Line.{Line}
 use Rattle.cmr_base.specs.declared.line.Line.TheVariants.{Row, Column}
 use Rattle.cmr_base.specs.ColumnSets.{has_column}
-use Rattle.cmr_base.specs.LineSets.{first_lines}
 use Rattle.cmr_base.specs.Matrix.{transposed, IsMatrix, Matrix, height, entry}
 use Rattle.cmr_base.specs.Members.{IsIn}
-use Rattle.cmr_base.specs.Separations.{Lines, count_in, opposite}
+use Rattle.cmr_base.specs.Separations.{Lines}
 use Rattle.cmr_base.specs.Seeds.{HasAll, IsGrown, IsLine, outside}
 use Rattle.cmr_base.proofs.Booleans.{false_is, not_both, true_is}
 use Rattle.cmr_base.proofs.LineCounts.{outside_is}
 use Rattle.cmr_base.proofs.ListedLines.{contains_first_lines, first_lines_contain}
 use Rattle.cmr_base.proofs.Lists.{all_both, all_of, all_weaker}
-use Rattle.cmr_base.proofs.Parts.{entry-transposed, height-transposed}
+use Rattle.cmr_base.proofs.Parts.{entry-transposed}
 use Rattle.cmr_base.proofs.SeedLemmas.{outside_grows}
 use Rattle.line_growth.specs.declared.growing_lines.GrowingLines.{GrowingLines}
 use Rattle.line_growth.specs.declared.growing_set.GrowingSet.{GrowingSet}
 use Rattle.line_growth.specs.declared.rule.Rule.{Rule}
 use Rattle.line_growth.specs.declared.rule.Sum.{Sum}
 use Rattle.line_growth.specs.GrowingLines.{is_in, AreSame, HasPulled, HasAdded, HasTaken}
-use Rattle.line_growth.specs.GrowingSets.{HasNoLeaving, HasNone, HasRoom, IsClosedIn, IsGrowing, IsLeaving, Leaves, TellsClosed, set_of}
+use Rattle.line_growth.specs.GrowingSets.{HasNoLeaving, HasNone, HasRoom, IsClosedIn, IsGrowing, IsLeaving, TellsClosed, set_of}
 use Rattle.line_growth.specs.Rules.{lower_of, sum_at, upper_of}
 use Rattle.line_growth.proofs.LineSteps.{count_most, same_growing}
 
@@ -46,8 +45,8 @@ pub none_growing : (m : Matrix) (upper lower : ℕ → ℕ → ℤ) (set : Growi
 none_growing m upper lower set rows columns = record {
   has = tt;
   least = λ T closed has x l e. absurd (nothing x e);
-  right = λ r k lr lk er ek. absurd (nothing (Row r) er);
-  below = λ r k lr lk er ek. absurd (nothing (Column k) ek);
+  upper = λ r k lr lk er ek. absurd (nothing (Row r) er);
+  lower = λ r k lr lk er ek. absurd (nothing (Column k) ek);
 }
   where
     nothing : (x : Line) → set_of set x ≡ true → ⊥
@@ -66,8 +65,8 @@ module _ (m : Matrix) (one two : GrowingSet) (rows : AreSame one.rows two.rows) 
   growing_same upper lower start g = record {
     has = all_weaker (λ x. set_of two x ≡ true) (λ x. set_of one x ≡ true) (λ x e. is x ∙ e) start g.has;
     least = λ T closed has x l e. g.least T closed has x l (sym (is x) ∙ e);
-    right = λ r k lr lk er ek. elim (g.right r k lr lk (sym (is (Row r)) ∙ er) (sym (is (Column k)) ∙ ek)) [ inl h ↦ inl (subst (λ (v : List ℕ). IsIn r v) (sym rows.fresh) h) | inr e ↦ inr e ];
-    below = λ r k lr lk er ek. elim (g.below r k lr lk (sym (is (Row r)) ∙ er) (sym (is (Column k)) ∙ ek)) [ inl h ↦ inl (subst (λ (v : List ℕ). IsIn k v) (sym columns.fresh) h) | inr e ↦ inr e ];
+    upper = λ r k lr lk er ek. elim (g.upper r k lr lk (sym (is (Row r)) ∙ er) (sym (is (Column k)) ∙ ek)) [ inl h ↦ inl (subst (λ (v : List ℕ). IsIn r v) (sym rows.fresh) h) | inr e ↦ inr e ];
+    lower = λ r k lr lk er ek. elim (g.lower r k lr lk (sym (is (Row r)) ∙ er) (sym (is (Column k)) ∙ ek)) [ inl h ↦ inl (subst (λ (v : List ℕ). IsIn k v) (sym columns.fresh) h) | inr e ↦ inr e ];
   }
 
 -- ---- the pulls of a row
@@ -89,11 +88,11 @@ module _ (m : Matrix) (upper lower : ℕ → ℕ → ℤ) (before after : Growin
   row_least T closed has (Row r) l e = g.least T closed has (Row r) l (sym (row_same r) ∙ e)
   row_least T closed has (Column k) l e = elim (w.grown.only k e) [
     | inl h ↦ g.least T closed has (Column k) l h
-    | inr h ↦ true_is (T (Column k)) (λ out. h.1 (agrees_of k (closed.right row k (contains_first_lines (height m) row t.line_in) (contains_first_lines m.width k l) (g.least T closed has (Row row) t.line_in t.line_inside) out)))
+    | inr h ↦ true_is (T (Column k)) (λ out. h.1 (agrees_of k (closed.upper row k (contains_first_lines (height m) row t.line_in) (contains_first_lines m.width k l) (g.least T closed has (Row row) t.line_in t.line_inside) out)))
   ]
 
   row_right : (r k : ℕ) → r < height m → k < m.width → set_of after (Row r) ≡ true → set_of after (Column k) ≡ false → IsIn r after.rows.fresh.items ⊎ (entry m r k ≡ upper r k)
-  row_right r k lr lk er ek = elim (g.right r k lr lk (sym (row_same r) ∙ er) (column_out k ek)) [
+  row_right r k lr lk er ek = elim (g.upper r k lr lk (sym (row_same r) ∙ er) (column_out k ek)) [
     | inl h ↦ elim (t.others r h) [
       | inl e ↦ inr (subst (λ (z : ℕ). entry m z k ≡ upper z k) (sym e) (of_agrees k (w.agree k lk ek)))
       | inr h' ↦ inl (subst (λ v. IsIn r v.fresh.items) (sym rows) h')
@@ -103,12 +102,12 @@ module _ (m : Matrix) (upper lower : ℕ → ℕ → ℤ) (before after : Growin
 
   row_below : (r k : ℕ) → r < height m → k < m.width → set_of after (Row r) ≡ false → set_of after (Column k) ≡ true → IsIn k after.columns.fresh.items ⊎ (entry m r k ≡ lower r k)
   row_below r k lr lk er ek = elim (w.grown.news k ek) [
-    | inl h ↦ elim (g.below r k lr lk (sym (row_same r) ∙ er) h) [ inl h' ↦ inl (w.grown.waits k h') | inr e ↦ inr e ]
+    | inl h ↦ elim (g.lower r k lr lk (sym (row_same r) ∙ er) h) [ inl h' ↦ inl (w.grown.waits k h') | inr e ↦ inr e ]
     | inr h ↦ inl h
   ]
 
   row_followed : IsGrowing m upper lower start after
-  row_followed = record { has = all_weaker (λ x. set_of before x ≡ true) (λ x. set_of after x ≡ true) row_has start g.has; least = row_least; right = row_right; below = row_below }
+  row_followed = record { has = all_weaker (λ x. set_of before x ≡ true) (λ x. set_of after x ≡ true) row_has start g.has; least = row_least; upper = row_right; lower = row_below }
 
 -- the pulls of a column
 module _ (m : Matrix) (upper lower : ℕ → ℕ → ℤ) (before after : GrowingSet) (taken : GrowingLines) (column : ℕ) (agrees : ℕ → Type 0)
@@ -128,17 +127,17 @@ module _ (m : Matrix) (upper lower : ℕ → ℕ → ℤ) (before after : Growin
   column_least T closed has (Column k) l e = g.least T closed has (Column k) l (sym (column_same k) ∙ e)
   column_least T closed has (Row r) l e = elim (w.grown.only r e) [
     | inl h ↦ g.least T closed has (Row r) l h
-    | inr h ↦ true_is (T (Row r)) (λ out. h.1 (agrees_of r (closed.below r column (contains_first_lines (height m) r l) (contains_first_lines m.width column t.line_in) out (g.least T closed has (Column column) t.line_in t.line_inside))))
+    | inr h ↦ true_is (T (Row r)) (λ out. h.1 (agrees_of r (closed.lower r column (contains_first_lines (height m) r l) (contains_first_lines m.width column t.line_in) out (g.least T closed has (Column column) t.line_in t.line_inside))))
   ]
 
   column_right : (r k : ℕ) → r < height m → k < m.width → set_of after (Row r) ≡ true → set_of after (Column k) ≡ false → IsIn r after.rows.fresh.items ⊎ (entry m r k ≡ upper r k)
   column_right r k lr lk er ek = elim (w.grown.news r er) [
-    | inl h ↦ elim (g.right r k lr lk h (sym (column_same k) ∙ ek)) [ inl h' ↦ inl (w.grown.waits r h') | inr e ↦ inr e ]
+    | inl h ↦ elim (g.upper r k lr lk h (sym (column_same k) ∙ ek)) [ inl h' ↦ inl (w.grown.waits r h') | inr e ↦ inr e ]
     | inr h ↦ inl h
   ]
 
   column_below : (r k : ℕ) → r < height m → k < m.width → set_of after (Row r) ≡ false → set_of after (Column k) ≡ true → IsIn k after.columns.fresh.items ⊎ (entry m r k ≡ lower r k)
-  column_below r k lr lk er ek = elim (g.below r k lr lk (row_out r er) (sym (column_same k) ∙ ek)) [
+  column_below r k lr lk er ek = elim (g.lower r k lr lk (row_out r er) (sym (column_same k) ∙ ek)) [
     | inl h ↦ elim (t.others k h) [
       | inl e ↦ inr (subst (λ (z : ℕ). entry m r z ≡ lower r z) (sym e) (of_agrees r (w.agree r lr er)))
       | inr h' ↦ inl (subst (λ v. IsIn k v.fresh.items) (sym columns) h')
@@ -147,7 +146,7 @@ module _ (m : Matrix) (upper lower : ℕ → ℕ → ℤ) (before after : Growin
   ]
 
   column_followed : IsGrowing m upper lower start after
-  column_followed = record { has = all_weaker (λ x. set_of before x ≡ true) (λ x. set_of after x ≡ true) column_has start g.has; least = column_least; right = column_right; below = column_below }
+  column_followed = record { has = all_weaker (λ x. set_of before x ≡ true) (λ x. set_of after x ≡ true) column_has start g.has; least = column_least; upper = column_right; lower = column_below }
 
 -- ---- the steps in the words of the code
 
@@ -174,7 +173,7 @@ module _ (m : Matrix) (upper lower : ℕ → ℕ → ℤ) (before after : Growin
 
 module _ (m : Matrix) (upper lower : ℕ → ℕ → ℤ) (before after : GrowingSet) (start : List Line) (g : IsGrowing m upper lower start before) where
   pub row_added : (row : ℕ) → HasAdded (height m) row before.rows after.rows → after.columns ≡ before.columns → IsGrowing m upper lower (Row row ∷ start) after
-  row_added row w columns = record { has = (w.line_in, all_weaker (λ x. set_of before x ≡ true) (λ x. set_of after x ≡ true) has start g.has); least = least; right = right; below = below }
+  row_added row w columns = record { has = (w.line_in, all_weaker (λ x. set_of before x ≡ true) (λ x. set_of after x ≡ true) has start g.has); least = least; upper = upper; lower = lower }
     where
       same : (k : ℕ) → is_in after.columns k ≡ is_in before.columns k
       same k = ap (λ v. is_in v k) columns
@@ -193,17 +192,17 @@ module _ (m : Matrix) (upper lower : ℕ → ℕ → ℤ) (before after : Growin
         | inr h ↦ ap (λ (z : ℕ). T (Row z)) h.1 ∙ all.0
       ]
 
-      right : (r k : ℕ) → r < height m → k < m.width → set_of after (Row r) ≡ true → set_of after (Column k) ≡ false → IsIn r after.rows.fresh.items ⊎ (entry m r k ≡ upper r k)
-      right r k lr lk er ek = elim (w.grown.news r er) [
-        | inl h ↦ elim (g.right r k lr lk h (sym (same k) ∙ ek)) [ inl h' ↦ inl (w.grown.waits r h') | inr e ↦ inr e ]
+      upper : (r k : ℕ) → r < height m → k < m.width → set_of after (Row r) ≡ true → set_of after (Column k) ≡ false → IsIn r after.rows.fresh.items ⊎ (entry m r k ≡ upper r k)
+      upper r k lr lk er ek = elim (w.grown.news r er) [
+        | inl h ↦ elim (g.upper r k lr lk h (sym (same k) ∙ ek)) [ inl h' ↦ inl (w.grown.waits r h') | inr e ↦ inr e ]
         | inr h ↦ inl h
       ]
 
-      below : (r k : ℕ) → r < height m → k < m.width → set_of after (Row r) ≡ false → set_of after (Column k) ≡ true → IsIn k after.columns.fresh.items ⊎ (entry m r k ≡ lower r k)
-      below r k lr lk er ek = elim (g.below r k lr lk (out r er) (sym (same k) ∙ ek)) [ inl h' ↦ inl (subst (λ v. IsIn k v.fresh.items) (sym columns) h') | inr e ↦ inr e ]
+      lower : (r k : ℕ) → r < height m → k < m.width → set_of after (Row r) ≡ false → set_of after (Column k) ≡ true → IsIn k after.columns.fresh.items ⊎ (entry m r k ≡ lower r k)
+      lower r k lr lk er ek = elim (g.lower r k lr lk (out r er) (sym (same k) ∙ ek)) [ inl h' ↦ inl (subst (λ v. IsIn k v.fresh.items) (sym columns) h') | inr e ↦ inr e ]
 
   pub column_added : (column : ℕ) → HasAdded m.width column before.columns after.columns → after.rows ≡ before.rows → IsGrowing m upper lower (Column column ∷ start) after
-  column_added column w rows = record { has = (w.line_in, all_weaker (λ x. set_of before x ≡ true) (λ x. set_of after x ≡ true) has start g.has); least = least; right = right; below = below }
+  column_added column w rows = record { has = (w.line_in, all_weaker (λ x. set_of before x ≡ true) (λ x. set_of after x ≡ true) has start g.has); least = least; upper = upper; lower = lower }
     where
       same : (r : ℕ) → is_in after.rows r ≡ is_in before.rows r
       same r = ap (λ v. is_in v r) rows
@@ -222,12 +221,12 @@ module _ (m : Matrix) (upper lower : ℕ → ℕ → ℤ) (before after : Growin
         | inr h ↦ ap (λ (z : ℕ). T (Column z)) h.1 ∙ all.0
       ]
 
-      right : (r k : ℕ) → r < height m → k < m.width → set_of after (Row r) ≡ true → set_of after (Column k) ≡ false → IsIn r after.rows.fresh.items ⊎ (entry m r k ≡ upper r k)
-      right r k lr lk er ek = elim (g.right r k lr lk (sym (same r) ∙ er) (out k ek)) [ inl h' ↦ inl (subst (λ v. IsIn r v.fresh.items) (sym rows) h') | inr e ↦ inr e ]
+      upper : (r k : ℕ) → r < height m → k < m.width → set_of after (Row r) ≡ true → set_of after (Column k) ≡ false → IsIn r after.rows.fresh.items ⊎ (entry m r k ≡ upper r k)
+      upper r k lr lk er ek = elim (g.upper r k lr lk (sym (same r) ∙ er) (out k ek)) [ inl h' ↦ inl (subst (λ v. IsIn r v.fresh.items) (sym rows) h') | inr e ↦ inr e ]
 
-      below : (r k : ℕ) → r < height m → k < m.width → set_of after (Row r) ≡ false → set_of after (Column k) ≡ true → IsIn k after.columns.fresh.items ⊎ (entry m r k ≡ lower r k)
-      below r k lr lk er ek = elim (w.grown.news k ek) [
-        | inl h ↦ elim (g.below r k lr lk (sym (same r) ∙ er) h) [ inl h' ↦ inl (w.grown.waits k h') | inr e ↦ inr e ]
+      lower : (r k : ℕ) → r < height m → k < m.width → set_of after (Row r) ≡ false → set_of after (Column k) ≡ true → IsIn k after.columns.fresh.items ⊎ (entry m r k ≡ lower r k)
+      lower r k lr lk er ek = elim (w.grown.news k ek) [
+        | inl h ↦ elim (g.lower r k lr lk (sym (same r) ∙ er) h) [ inl h' ↦ inl (w.grown.waits k h') | inr e ↦ inr e ]
         | inr h ↦ inl h
       ]
 
@@ -252,8 +251,8 @@ module _ (m : Matrix) (rule : Rule) (start out : List Line) (least : ℕ) (set :
   closed_leaving nr nc none enough = record {
     grown = record {
       closed = record {
-        right = λ r k hr hk er ek. elim (g.right r k (first_lines_contain (height m) r hr) (first_lines_contain m.width k hk) er ek) [ inl h ↦ absurd (none_in set.rows.fresh.items r nr h) | inr e ↦ e ];
-        below = λ r k hr hk er ek. elim (g.below r k (first_lines_contain (height m) r hr) (first_lines_contain m.width k hk) er ek) [ inl h ↦ absurd (none_in set.columns.fresh.items k nc h) | inr e ↦ e ];
+        upper = λ r k hr hk er ek. elim (g.upper r k (first_lines_contain (height m) r hr) (first_lines_contain m.width k hk) er ek) [ inl h ↦ absurd (none_in set.rows.fresh.items r nr h) | inr e ↦ e ];
+        lower = λ r k hr hk er ek. elim (g.lower r k (first_lines_contain (height m) r hr) (first_lines_contain m.width k hk) er ek) [ inl h ↦ absurd (none_in set.columns.fresh.items k nc h) | inr e ↦ e ];
       };
       has = g.has;
       least = g.least;
@@ -274,7 +273,7 @@ module _ (m : Matrix) (rule : Rule) (start out : List Line) (least : ℕ) (set :
 -- what is to leave nothing is closed in the end, since the set of all lines is
 pub always_closed : (m : Matrix) (rule : Rule) (start : List Line) (told : Bool) (S : Lines) → TellsClosed m rule start [] 0 told S → IsGrown (height m) m.width (entry m) (upper_of m rule) (lower_of m rule) start S
 always_closed m rule start true S told = told.grown
-always_closed m rule start false S told = absurd (told (λ x. true) (record { right = λ r k hr hk er ek. absurd (not_both true refl ek); below = λ r k hr hk er ek. absurd (not_both true refl er) }) (all_of (λ x. true ≡ true) (λ x. refl) start) (record { none = tt; enough = omega arith }))
+always_closed m rule start false S told = absurd (told (λ x. true) (record { upper = λ r k hr hk er ek. absurd (not_both true refl ek); lower = λ r k hr hk er ek. absurd (not_both true refl er) }) (all_of (λ x. true ≡ true) (λ x. refl) start) (record { none = tt; enough = omega arith }))
 
 -- what is told, by the answer
 module _ (m : Matrix) (rule : Rule) (start out : List Line) (least : ℕ) where

@@ -1,17 +1,14 @@
 -- What a line of a block is to be, as a sum of multiples of other lines.
-use Rattle.std.proofs.Common.{◌≡◌, ◌∙◌, ap, ap₂, sym, subst, refl, arith, ◌+ℤ◌, ◌-ℤ◌, ◌*ℤ◌, ℕ, ℤ, pos, w8, to_z, of_z}
-use Rattle.cmr_base.specs.Cores.{IsCoreAt}
-use Rattle.cmr_base.specs.Matrix.{Matrix, entry, height, transposed, IsMatrix, IsEntry}
+use Rattle.std.proofs.Common.{◌≡◌, ◌∙◌, ap, ap₂, sym, refl, arith, ◌+ℤ◌, ◌-ℤ◌, ◌*ℤ◌, ℕ, ℤ, pos, w8, to_z, of_z}
+use Rattle.cmr_base.specs.Matrix.{Matrix, entry, transposed, IsMatrix, IsEntry}
 use Rattle.cmr_base.specs.Separations.{spread}
 use Rattle.cmr_base.proofs.Integers.{products, sums}
-use Rattle.cmr_base.proofs.Parts.{entry-transposed, height-transposed}
+use Rattle.cmr_base.proofs.Parts.{entry-transposed}
 use Rattle.cmr_base.proofs.SmallEntries.{entry_as_byte}
-use Rattle.line_growth.specs.declared.rule.Block.{Block}
-use Rattle.line_growth.specs.declared.rule.Block.TheVariants.{Zero, Product, Spread}
+use Rattle.line_growth.specs.declared.rule.Block.TheVariants.{Product, Spread}
 use Rattle.line_growth.specs.declared.rule.Place.{Place}
 use Rattle.line_growth.specs.declared.rule.SpreadLines.{SpreadLines}
-use Rattle.line_growth.specs.declared.rule.Sum.{Sum}
-use Rattle.line_growth.specs.Rules.{IsSpreadOf, IsSumOf, block_entry, sum_at}
+use Rattle.line_growth.specs.Rules.{IsSpreadOf, block_entry}
 
 -- ---- products
 

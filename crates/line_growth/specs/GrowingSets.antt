@@ -34,9 +34,9 @@ IsClosedIn m upper lower T = IsClosed (height m) m.width (entry m) upper lower T
 pub record IsGrowing (m : Matrix) (upper lower : ℕ → ℕ → ℤ) (start : List Line) (set : GrowingSet) : Type 0 where
   pub has : HasAll (set_of set) start
   pub least : (T : Lines) → IsClosedIn m upper lower T → HasAll T start → (x : Line) → IsLine (height m) m.width x → set_of set x ≡ true → T x ≡ true
-  pub right : (r k : ℕ) → r < height m → k < m.width → set_of set (Row r) ≡ true → set_of set (Column k) ≡ false
+  pub upper : (r k : ℕ) → r < height m → k < m.width → set_of set (Row r) ≡ true → set_of set (Column k) ≡ false
       → IsIn r set.rows.fresh.items ⊎ (entry m r k ≡ upper r k)
-  pub below : (r k : ℕ) → r < height m → k < m.width → set_of set (Row r) ≡ false → set_of set (Column k) ≡ true
+  pub lower : (r k : ℕ) → r < height m → k < m.width → set_of set (Row r) ≡ false → set_of set (Column k) ≡ true
       → IsIn k set.columns.fresh.items ⊎ (entry m r k ≡ lower r k)
 
 -- what holds of a start before holds after

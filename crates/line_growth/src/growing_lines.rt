@@ -145,23 +145,23 @@ impl GrowingLines {
     {
         let _columns = matrix.columns();
         let words = matrix.support_words(row);
-        for block in 0..self.inside.len() {
-            let word = self.unlike(matrix, row, words, multiple, block);
+        for chunk in 0..self.inside.len() {
+            let word = self.unlike(matrix, row, words, multiple, chunk);
             if word != 0 {
-                self.add_word(64 * block as u32, word)?;
+                self.add_word(64 * chunk as u32, word)?;
             }
         }
         Ok(())
     }
 
-    // Of the 64 columns of a block those outside in which a row, which has these words, is not a multiple of another.
+    // Of the 64 columns of a chunk those outside in which a row, which has these words, is not a multiple of another.
     fn unlike(
         &self,
         matrix: &Matrix,
         row: u32,
         words: &[u64],
         multiple: Multiple,
-        block: usize,
+        chunk: usize,
     ) -> u64
         requires size { length self.now.inside.items ≡ words_for matrix.now.width }
         requires row { row < height matrix.now }
@@ -169,18 +169,18 @@ impl GrowingLines {
             (row_of matrix.now row) }
         requires model { multiple.model < height matrix.now }
         requires factor { IsEntry multiple.factor }
-        requires block { block < length self.now.inside.items }
+        requires chunk { chunk < length self.now.inside.items }
         ensures { (k : ℕ) → k < 64
             → has_bit result k
-            ≡ (differs_at matrix.now row multiple.factor multiple.model (64 * block + k)
-            && not (is_in self.now (64 * block + k))) }
+            ≡ (differs_at matrix.now row multiple.factor multiple.model (64 * chunk + k)
+            && not (is_in self.now (64 * chunk + k))) }
     {
         let _rows = matrix.rows();
         if multiple.factor == 0 {
-            return outside(words[block], self.inside[block]);
+            return outside(words[chunk], self.inside[chunk]);
         }
-        let word = matrix.difference_word(row, multiple.factor, multiple.model, block as u32);
-        outside(word, self.inside[block])
+        let word = matrix.difference_word(row, multiple.factor, multiple.model, chunk as u32);
+        outside(word, self.inside[chunk])
     }
 
     // Takes in the lines of the bits of a word, which have the numbers from `first` on.

@@ -1,5 +1,5 @@
 -- The nonzeros of a submatrix, by their numbers.
-use Rattle.std.proofs.Common.{◌≡◌, ◌<◌, ◌≤◌, ◌+◌, ◌-◌, ◌∙◌, ◌++◌, ◌/◌, ◌%◌, inl, inr, ℕ, zero, suc, Bool, true, false, ℤ, pos, negsuc, List, [], ◌∷◌, filter, length, get_or, drop, Contains, refl, ap, sym, subst, arith}
+use Rattle.std.proofs.Common.{◌≡◌, ◌<◌, ◌≤◌, ◌+◌, ◌-◌, ◌∙◌, ◌++◌, ◌/◌, ◌%◌, inl, inr, ℕ, zero, suc, Bool, true, false, pos, List, [], ◌∷◌, filter, length, get_or, drop, Contains, refl, ap, sym, subst, arith}
 use Rattle.std.specs.Prelude.{slice_get, Option, Some, None, unwrap_or, IfSome, IfNone}
 use Rattle.std.specs.List.{AllByRecursion}
 use Rattle.std.specs.Option.{option_map}

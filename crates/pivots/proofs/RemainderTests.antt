@@ -1,5 +1,5 @@
 -- Odd sums, by their remainders.
-use Rattle.std.proofs.Common.{◌≡◌, ◌+◌, ◌-◌, ◌/◌, ◌%◌, ℕ, ℤ, pos, negsuc, neg_ℤ, nat_eq, arith, of_z, w32}
+use Rattle.std.proofs.Common.{◌+◌, ◌-◌, ◌/◌, ◌%◌, ℤ, pos, negsuc, neg_ℤ, nat_eq, arith, of_z, w32}
 use Rattle.std.specs.Prelude.{◌↔◌, IsTrue}
 use Rattle.std.specs.Int.{int_rem_euclid}
 use Rattle.cmr_base.specs.Sums.{IsOdd}

@@ -1,5 +1,5 @@
 -- Good seeds of the concentrated form.
-use Rattle.std.proofs.Common.{ℕ, ℤ, pos, ◌+◌, ◌<◌, ◌≤◌, ◌*ℤ◌, ◌+ℤ◌, ◌-ℤ◌, Bool, true, false, not, List, [], ◌∷◌, ◌++◌, ◌≡◌, ◌≢◌, ◌∙◌, sym, ap, refl, arith, subst, ◌⊎◌, inl, inr, length, Option, Some, IfSome}
+use Rattle.std.proofs.Common.{ℕ, ℤ, pos, ◌+◌, ◌<◌, ◌≤◌, ◌*ℤ◌, ◌+ℤ◌, ◌-ℤ◌, Bool, true, false, List, [], ◌∷◌, ◌++◌, ◌≡◌, ◌≢◌, ◌∙◌, sym, ap, refl, arith, subst, ◌⊎◌, inl, inr, length, Option, Some, IfSome}
 use Rattle.std.proofs.lemmas.Bool.{cases_lt}
 use Rattle.cmr_base.specs.declared.line.Line.{Line}
 use Rattle.cmr_base.specs.declared.line.Line.TheVariants.{Row, Column}
@@ -11,10 +11,10 @@ use Rattle.cmr_base.specs.LineSets as sets
 use Rattle.cmr_base.specs.Signing.{IsSign}
 use Rattle.cmr_base.specs.Separations.{Lines, zeros, spread_at, core_determinant, IsThreeSeparation}
 use Rattle.cmr_base.specs.Separations as base
-use Rattle.cmr_base.specs.Seeds.{IsLine, line_number}
+use Rattle.cmr_base.specs.Seeds.{IsLine}
 use Rattle.cmr_base.proofs.Integers.{sums, products}
 use Rattle.cmr_base.proofs.ListedLines.{has_line_from_line}
-use Rattle.cmr_base.proofs.RowLists.{same_or_not, two_cases}
+use Rattle.cmr_base.proofs.RowLists.{same_or_not}
 use Rattle.cmr_base.proofs.SeedLemmas.{good_three_seed, three_separation_of_seed, form_is}
 use Rattle.cmr_base.proofs.Booleans.{false_is, not_both, true_is, zero_is}
 use Rattle.cuts.specs.declared.corners.Corners.{Corners}
@@ -51,13 +51,13 @@ module _ (m : Matrix) (c : Corners) (q o : ℕ) (x : Line) (S : Lines) (good : I
 
   -- the columns of row i are in side one, and the rows of column j in side two
   columns_one : (column : ℕ) → column < m.width → entry m c.i column ≢ pos 0 → S (Column column) ≡ true
-  columns_one column l n = true_is (S (Column column)) (λ out. n (g.side.closed.right c.i column row_in l row_one out))
+  columns_one column l n = true_is (S (Column column)) (λ out. n (g.side.closed.upper c.i column row_in l row_one out))
 
   rows_two : (row : ℕ) → row < height m → entry m row c.j ≢ pos 0 → S (Row row) ≡ false
-  rows_two row l n = false_is (S (Row row)) (λ inside. n (g.side.closed.right row c.j l column_in inside column_two))
+  rows_two row l n = false_is (S (Row row)) (λ inside. n (g.side.closed.upper row c.j l column_in inside column_two))
 
   zero_between : entry m c.i c.j ≡ pos 0
-  zero_between = g.side.closed.right c.i c.j row_in column_in row_one column_two
+  zero_between = g.side.closed.upper c.i c.j row_in column_in row_one column_two
 
   -- a column of the lower block from columns p and q
   abbrev determinant : ℤ
@@ -71,7 +71,7 @@ module _ (m : Matrix) (c : Corners) (q o : ℕ) (x : Line) (S : Lines) (good : I
 
   parts : (row column : ℕ) → row < height m → column < m.width → S (Row row) ≡ false → S (Column column) ≡ true → entry m row column ≡ of_first column *ℤ entry m row c.p +ℤ of_other column *ℤ entry m row q
   parts row column lr lc er ec =
-      g.side.closed.below row column lr lc er ec
+      g.side.closed.lower row column lr lc er ec
       ∙ spread_parts determinant (entry m c.k c.p) (entry m c.k q) (entry m o c.p) (entry m o q) (entry m row c.p) (entry m row q) (entry m c.k column) (entry m o column)
 
   -- other connectors with row i and column j
@@ -90,8 +90,8 @@ module _ (m : Matrix) (c : Corners) (q o : ℕ) (x : Line) (S : Lines) (good : I
 
     closed_elsewhere : IsClosedBy m zeros (spread_at (entry m) (first_of d) (second_of d)) S
     closed_elsewhere = record {
-      right = g.side.closed.right;
-      below = λ r k lr lk er ek.
+      upper = g.side.closed.upper;
+      lower = λ r k lr lk er ek.
           let p' = d.corners.p in
           let k' = d.corners.k in
           let lp = placed.corners.column_one in

@@ -29,9 +29,9 @@ pub record IsGoodCrossing (m n : ℕ) (M : ℕ → ℕ → ℤ) (s : Seed) (S : 
 
 module _ (M : ℕ → ℕ → ℤ) (one two : Connector) where
   corners_from : (form : Form) → IsCrossing form → base.AreConnectors M form one two → AreCorners M one.row one.column two.row two.column
-  corners_from Delta c v = record { first = v.first_corner; second = v.second_corner; right = v.tied.upper; below = v.tied.lower }
-  corners_from YForm c v = record { first = v.first_corner; second = v.second_corner; right = v.tied.upper; below = v.tied.lower }
-  corners_from Mixed c v = record { first = v.first_corner; second = v.second_corner; right = v.tied.upper; below = v.tied.lower }
+  corners_from Delta c v = record { first = v.first_corner; second = v.second_corner; upper = v.tied.upper; lower = v.tied.lower }
+  corners_from YForm c v = record { first = v.first_corner; second = v.second_corner; upper = v.tied.upper; lower = v.tied.lower }
+  corners_from Mixed c v = record { first = v.first_corner; second = v.second_corner; upper = v.tied.upper; lower = v.tied.lower }
   corners_from Concentrated c v = absurd c
 
   first_other_from : (form : Form) → IsCrossing form → base.AreConnectors M form one two → IsFirstOther (first_is_flat form) M one.row one.column two.row two.column one.other
@@ -60,9 +60,9 @@ module _ (M : ℕ → ℕ → ℤ) (one two : Connector) where
 
   pub values_to : (form : Form) → IsCrossing form → AreCorners M one.row one.column two.row two.column → IsFirstOther (first_is_flat form) M one.row one.column two.row two.column one.other
       → IsSecondOther (second_is_flat form) M one.row one.column two.row two.column two.other → base.AreConnectors M form one two
-  values_to Delta c v f s = record { first_corner = v.first; second_corner = v.second; tied = record { upper = v.right; lower = v.below; first_tied = f; second_tied = s } }
-  values_to YForm c v f s = record { first_corner = v.first; second_corner = v.second; tied = record { upper = v.right; lower = v.below; first_tied = f; second_tied = s } }
-  values_to Mixed c v f s = record { first_corner = v.first; second_corner = v.second; tied = record { upper = v.right; lower = v.below; first_tied = f; second_tied = s } }
+  values_to Delta c v f s = record { first_corner = v.first; second_corner = v.second; tied = record { upper = v.upper; lower = v.lower; first_tied = f; second_tied = s } }
+  values_to YForm c v f s = record { first_corner = v.first; second_corner = v.second; tied = record { upper = v.upper; lower = v.lower; first_tied = f; second_tied = s } }
+  values_to Mixed c v f s = record { first_corner = v.first; second_corner = v.second; tied = record { upper = v.upper; lower = v.lower; first_tied = f; second_tied = s } }
   values_to Concentrated c v f s = absurd c
 
   module _ (m n : ℕ) (start : List Line) (S : Lines) where

@@ -1,5 +1,5 @@
 -- Columns that are in side one with a row.
-use Rattle.std.proofs.Common.{ℕ, ℤ, pos, ◌<◌, ◌*ℤ◌, ◌+ℤ◌, ◌-ℤ◌, ◌&&◌, ◌||◌, Bool, true, false, not, List, ◌≡◌, ◌≢◌, ◌∙◌, sym, refl, subst, ◌⊎◌, inl, inr}
+use Rattle.std.proofs.Common.{ℕ, ℤ, pos, ◌<◌, ◌*ℤ◌, ◌+ℤ◌, ◌-ℤ◌, ◌&&◌, ◌||◌, Bool, true, false, ◌≡◌, ◌∙◌, sym, refl, subst, ◌⊎◌, inl, inr}
 use Rattle.cmr_base.specs.declared.line.Line.TheVariants.{Row, Column}
 use Rattle.cmr_base.specs.Matrix.{Matrix, height, entry, IsMatrix}
 use Rattle.cmr_base.specs.Signing.{IsSign}
@@ -42,20 +42,20 @@ module _ (m : Matrix) (is : IsMatrix m) where
   pub own_held : (i : ℕ) → i < height m → AreHeldBy m i (support m i)
   own_held i row_in column e d S closed one =
       let l = nonzero_in m i column is row_in e in
-      true_is (S (Column column)) (λ out. nonzero_is (entry m i column) e (closed.right i column row_in l one out))
+      true_is (S (Column column)) (λ out. nonzero_is (entry m i column) e (closed.upper i column row_in l one out))
 
   module _ (d : Connectors) (S : Lines) (closed : IsClosedBy m zeros (spread_at (entry m) (first_of d) (second_of d)) S) where
     -- a column of the lower block from columns p and q
     parts : (row column : ℕ) → row < height m → column < m.width → S (Row row) ≡ false → S (Column column) ≡ true
         → entry m row column ≡ part_first m d column *ℤ entry m row d.corners.p +ℤ part_other m d column *ℤ entry m row d.q
     parts row column lr lc er ec =
-        closed.below row column lr lc er ec
+        closed.lower row column lr lc er ec
         ∙ spread_parts (determinant m d) (entry m d.corners.k d.corners.p) (entry m d.corners.k d.q) (entry m d.o d.corners.p) (entry m d.o d.q) (entry m row d.corners.p) (entry m row d.q) (entry m d.corners.k column) (entry m d.o column)
 
     -- three independent rows are not all outside
     module _ (set : ℕ → Bool) (j : ℕ) (h : AreIndependent m set j) (inside : (column : ℕ) → set column ≡ true → S (Column column) ≡ true) (column_in : j < m.width) (out : S (Column j) ≡ false) where
       row_out : (row : ℕ) → row < height m → support m row j ≡ true → S (Row row) ≡ false
-      row_out row l e = false_is (S (Row row)) (λ within. nonzero_is (entry m row j) e (closed.right row j l column_in within out))
+      row_out row l e = false_is (S (Row row)) (λ within. nonzero_is (entry m row j) e (closed.upper row j l column_in within out))
 
       among_one : (column : ℕ) → outside_one m set h.one column ≡ true → (set column ≡ true) × (entry m h.one column ≡ pos 0)
       among_one column e = let (own, none) = and_is _ _ e in (own, zero_is (entry m h.one column) (not_is _ none))

@@ -19,8 +19,8 @@ pulled_parts m rule d column zero placed low nonzero (r, lr, in_second, unlike) 
     let upper : (x y : ℕ) → upper_of m rule x y ≡ pos 0 = λ x y. ap (λ (u : ℕ → ℕ → ℤ). u x y) zero in
     elim (two_cases (T (Column column))) [
       | inl tc ↦ elim (two_cases (T (Row r))) [
-        | inl tr ↦ in_second (closed.right r d.corners.j (row_at r lr) (column_at d.corners.j placed.corners.column_two) tr none.1.0 ∙ upper r d.corners.j)
-        | inr tr ↦ unlike (closed.below r column (row_at r lr) (column_at column low) tr tc)
+        | inl tr ↦ in_second (closed.upper r d.corners.j (row_at r lr) (column_at d.corners.j placed.corners.column_two) tr none.1.0 ∙ upper r d.corners.j)
+        | inr tr ↦ unlike (closed.lower r column (row_at r lr) (column_at column low) tr tc)
       ]
-      | inr tc ↦ nonzero (closed.right d.corners.i column (row_at d.corners.i placed.corners.row_one) (column_at column low) has.0 tc ∙ upper d.corners.i column)
+      | inr tc ↦ nonzero (closed.upper d.corners.i column (row_at d.corners.i placed.corners.row_one) (column_at column low) has.0 tc ∙ upper d.corners.i column)
     ]

@@ -1,5 +1,5 @@
 -- The search for the first good seed, level by level.
-use Rattle.std.proofs.Common.{ℕ, zero, suc, ◌+◌, Bool, true, false, List, [], ◌∷◌, ◌++◌, ◌≡◌, ◌≢◌, ◌<◌, ◌≤◌, ◌∙◌, sym, ap, refl, arith, subst, ◌⊎◌, inl, inr, length, get_or, ℤ, pos, Option, Some, None, Result, Ok, Err, IfOk, IfSome, IfNone}
+use Rattle.std.proofs.Common.{ℕ, ◌+◌, Bool, true, false, List, [], ◌∷◌, ◌++◌, ◌≡◌, ◌≢◌, ◌<◌, ◌∙◌, sym, ap, refl, arith, subst, ◌⊎◌, inl, inr, length, get_or, pos, Option, Some, None, Result, Ok, Err, IfOk, IfSome, IfNone}
 use Rattle.std.proofs.lemmas.Bool.{cases_lt}
 use Rattle.cmr_base.specs.declared.line.Line.{Line}
 use Rattle.cmr_base.specs.declared.line.Line.TheVariants.{Row, Column}
@@ -59,7 +59,7 @@ good_inside m s S g0 = let g = facts m s S g0 in record {
 }
 
 pub good_is_cut : (m : Matrix) (s : Seed) (S : Lines) → IsCrossing s.form → IsGoodSeed m s S → IsCut m S
-good_is_cut m s S crossing g0 = let g = as_crossing m s S crossing (facts m s S g0) in record { corners = corners_of s; are_inside = good_inside m s S g0; right = g.connectors.corners.right; below = g.connectors.corners.below; cut = good_is_cut_at m s S g g0 }
+good_is_cut m s S crossing g0 = let g = as_crossing m s S crossing (facts m s S g0) in record { corners = corners_of s; are_inside = good_inside m s S g0; upper = g.connectors.corners.upper; lower = g.connectors.corners.lower; cut = good_is_cut_at m s S g g0 }
 
 -- ---- fronts
 
@@ -232,7 +232,7 @@ module _ (m : Matrix) (form : Form) (crossing : IsCrossing form) where
       let within = good_inside m s S g0 in
       let T = hold S (good_is_cut m s S (is_crossing s h.0) g0) in
       elim no_row [
-        | inl e ↦ g.connectors.corners.below (rw (sym h.1.1.0, sym h.1.1.1.0) e)
+        | inl e ↦ g.connectors.corners.lower (rw (sym h.1.1.0, sym h.1.1.1.0) e)
         | inr (inl e) ↦ not_both (S (Row s.first.row)) cut.row_one (T (Row s.first.row) (Row s.second.row) within.row_one within.row_two (rw (sym h.1.0, sym h.1.1.1.0) e) ∙ cut.row_two)
         | inr (inr e) ↦ not_both (S (Column s.first.column)) cut.column_one (T (Column s.first.column) (Row s.second.row) within.column_one within.row_two (rw (sym h.1.1.0, sym h.1.1.1.0) e) ∙ cut.row_two)
       ]
@@ -246,7 +246,7 @@ module _ (m : Matrix) (form : Form) (crossing : IsCrossing form) where
       let T = hold S (good_is_cut m s S (is_crossing s h.0) g0) in
       elim no_column [
         | inl e ↦ g.connectors.corners.second (rw (sym h.1.1.1.0, sym h.1.1.1.1.0) e)
-        | inr (inl e) ↦ g.connectors.corners.right (rw (sym h.1.0, sym h.1.1.1.1.0) e)
+        | inr (inl e) ↦ g.connectors.corners.upper (rw (sym h.1.0, sym h.1.1.1.1.0) e)
         | inr (inr (inl e)) ↦ not_both (S (Row s.first.row)) cut.row_one (T (Row s.first.row) (Column s.second.column) within.row_one within.column_two (rw (sym h.1.0, sym h.1.1.1.1.0) e) ∙ cut.column_two)
         | inr (inr (inr e)) ↦ not_both (S (Column s.first.column)) cut.column_one (T (Column s.first.column) (Column s.second.column) within.column_one within.column_two (rw (sym h.1.1.0, sym h.1.1.1.1.0) e) ∙ cut.column_two)
       ]

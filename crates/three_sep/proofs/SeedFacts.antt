@@ -29,14 +29,14 @@ not_among x xs h a = among_from_all (λ y. x ≢ y) xs h x a refl
 
 pub closed_to : (m n : ℕ) (M upper lower : ℕ → ℕ → ℤ) (T : Lines) → IsClosed m n M upper lower T → base.IsClosed m n M upper lower T
 closed_to m n M upper lower T k = record {
-  right = λ r c hr hc e f. k.right r c (first_lines_contain m r hr) (first_lines_contain n c hc) e f;
-  below = λ r c hr hc e f. k.below r c (first_lines_contain m r hr) (first_lines_contain n c hc) e f;
+  upper = λ r c hr hc e f. k.upper r c (first_lines_contain m r hr) (first_lines_contain n c hc) e f;
+  lower = λ r c hr hc e f. k.lower r c (first_lines_contain m r hr) (first_lines_contain n c hc) e f;
 }
 
 pub closed_from : (m n : ℕ) (M upper lower : ℕ → ℕ → ℤ) (T : Lines) → base.IsClosed m n M upper lower T → IsClosed m n M upper lower T
 closed_from m n M upper lower T k = record {
-  right = λ r c lr lc e f. k.right r c (contains_first_lines m r lr) (contains_first_lines n c lc) e f;
-  below = λ r c lr lc e f. k.below r c (contains_first_lines m r lr) (contains_first_lines n c lc) e f;
+  upper = λ r c lr lc e f. k.upper r c (contains_first_lines m r lr) (contains_first_lines n c lc) e f;
+  lower = λ r c lr lc e f. k.lower r c (contains_first_lines m r lr) (contains_first_lines n c lc) e f;
 }
 
 -- the least closed set that has the lines of the start

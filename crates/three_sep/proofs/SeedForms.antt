@@ -9,7 +9,6 @@ use Rattle.cmr_base.specs.declared.separation.Three.{Three}
 use Rattle.cmr_base.specs.Matrix.{Matrix, height, entry}
 use Rattle.cmr_base.specs.Separations.{Lines, listed, first_is_flat, second_is_flat, connector_lines}
 use Rattle.cmr_base.specs.Seeds.{IsLine, IsGoodThree}
-use Rattle.cmr_base.specs.Seeds as base
 use Rattle.cmr_base.proofs.Lists.{all_both}
 use Rattle.cmr_base.proofs.ListedLines.{in_from_listed, listed_from_in, first_lines_contain}
 use Rattle.cmr_base.proofs.RemovedLines.{in_first_lines, row_set_from_within, column_set_from_within}
@@ -30,8 +29,8 @@ good_same m n M form one two x S T same g = (
     not_second = g.1.not_second;
     grown = record {
       closed = record {
-        right = λ r c hr hc e f. g.1.grown.closed.right r c hr hc (same (Row r) (first_lines_contain m r hr) ∙ e) (same (Column c) (first_lines_contain n c hc) ∙ f);
-        below = λ r c hr hc e f. g.1.grown.closed.below r c hr hc (same (Row r) (first_lines_contain m r hr) ∙ e) (same (Column c) (first_lines_contain n c hc) ∙ f);
+        upper = λ r c hr hc e f. g.1.grown.closed.upper r c hr hc (same (Row r) (first_lines_contain m r hr) ∙ e) (same (Column c) (first_lines_contain n c hc) ∙ f);
+        lower = λ r c hr hc e f. g.1.grown.closed.lower r c hr hc (same (Row r) (first_lines_contain m r hr) ∙ e) (same (Column c) (first_lines_contain n c hc) ∙ f);
       };
       has = (
         sym (same x g.1.line) ∙ g.1.grown.has.0,

@@ -1,14 +1,13 @@
 -- What a side tells that grows from the lines of one connector and is to leave those of another.
-use Rattle.std.proofs.Common.{ℕ, ℤ, ◌≤◌, Bool, true, false, not, List, [], ◌∷◌, ◌++◌, ◌≡◌, ◌∙◌, sym, ap, refl, arith, subst, ◌⊎◌, inl, inr, filter}
+use Rattle.std.proofs.Common.{ℕ, ℤ, Bool, true, false, not, List, [], ◌∷◌, ◌++◌, ◌≡◌, sym, ap, refl, arith, subst, inl, inr, filter}
 use Rattle.std.specs.List.{AllByRecursion}
 use Rattle.std.proofs.lemmas.List.Kept.{IsStrictlyIncreasing-filter}
 use Rattle.cmr_base.specs.declared.line.Line.{Line}
 use Rattle.cmr_base.specs.declared.line.Line.TheVariants.{Row, Column}
 use Rattle.cmr_base.specs.declared.separation.Form.{Form}
-use Rattle.cmr_base.specs.declared.separation.Form.TheVariants.{Concentrated}
 use Rattle.cmr_base.specs.LineSets.{first_lines}
 use Rattle.cmr_base.specs.Matrix.{Matrix, height, entry}
-use Rattle.cmr_base.specs.Separations.{AreEnough, Lines, connector_lines, count_in, first_is_flat, opposite, product_at, second_is_flat, lower_block, upper_block}
+use Rattle.cmr_base.specs.Separations.{AreEnough, Lines, count_in, first_is_flat, opposite, product_at, second_is_flat, lower_block, upper_block}
 use Rattle.cmr_base.specs.Seeds.{HasAll, IsGrown, IsLine, line_number}
 use Rattle.cmr_base.proofs.Booleans.{not_both, not_false, not_is, not_not}
 use Rattle.cmr_base.proofs.LineCounts.{count_same, inside_is}
@@ -22,8 +21,8 @@ use Rattle.line_growth.specs.GrowingSets.{HasNoLeaving, HasNone, IsClosedIn, IsL
 use Rattle.line_growth.specs.Rules.{IsRuleOf, exchanged, lower_of, upper_of}
 use Rattle.three_sep.specs.declared.connectors.Connectors.{Connectors}
 use Rattle.three_sep.specs.Connectors.{AreConnectorsOf, AreInside, HasNoneParting, all_front, first_of, firsts, lines_at, rule_of, second_of, seconds}
-use Rattle.three_sep.specs.NumberedSeeds.{Among, HasLines, IsCrossing, IsFirstOther, IsGoodSeed, IsSecondOther, Seed, connector, seed_key}
-use Rattle.three_sep.specs.Searches.{BeginsWith, HasCorners, HasNoGood, corner_front, held_lines, other_line}
+use Rattle.three_sep.specs.NumberedSeeds.{Among, HasLines, IsCrossing, IsFirstOther, IsGoodSeed, IsSecondOther, Seed, connector}
+use Rattle.three_sep.specs.Searches.{HasCorners, HasNoGood, corner_front, held_lines, other_line}
 use Rattle.three_sep.proofs.CrossingLemmas.{lower_crossing, upper_crossing, values_to}
 use Rattle.three_sep.proofs.SeedFacts.{other_lines}
 use Rattle.three_sep.proofs.SearchLemmas.{seed_at, seed_from_all, seed_from_corners, seed_from_first, seed_from_second}
@@ -45,8 +44,8 @@ module _ (m : Matrix) (rule : Rule) (first second : List Line) where
   -- the other side is closed by the rule with the blocks exchanged
   other_closed : (T : Lines) → IsClosedIn m (upper_of m rule) (lower_of m rule) T → IsClosedIn m (upper_of m (exchanged rule)) (lower_of m (exchanged rule)) (opposite T)
   other_closed T closed = record {
-    right = λ r c hr hc er ec. closed.below r c hr hc (not_is (T (Row r)) er) (not_false (T (Column c)) ec);
-    below = λ r c hr hc er ec. closed.right r c hr hc (not_false (T (Row r)) er) (not_is (T (Column c)) ec);
+    upper = λ r c hr hc er ec. closed.lower r c hr hc (not_is (T (Row r)) er) (not_false (T (Column c)) ec);
+    lower = λ r c hr hc er ec. closed.upper r c hr hc (not_false (T (Row r)) er) (not_is (T (Column c)) ec);
   }
 
   other_has : (T : Lines) (lines : List Line) → HasNone T lines → HasAll (opposite T) lines

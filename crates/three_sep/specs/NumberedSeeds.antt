@@ -43,8 +43,8 @@ IsSecondOther false M i p k j o = (M o j ≡ pos 0) × (M o p ≢ pos 0)
 pub record AreCorners (M : ℕ → ℕ → ℤ) (i p k j : ℕ) : Type 0 where
   pub first : M i p ≢ pos 0
   pub second : M k j ≢ pos 0
-  pub right : M i j ≢ pos 0
-  pub below : M k p ≢ pos 0
+  pub upper : M i j ≢ pos 0
+  pub lower : M k p ≢ pos 0
 
 -- the forms of which both blocks are products
 abbrev pub IsCrossing : Form → Type 0

@@ -16,7 +16,6 @@ use Rattle.tree_text.specs.declared.error.TreeKind.TheVariants.{Short, Extra}
 use Rattle.tree_text.specs.declared.header.Header.{Header}
 use Rattle.tree_text.specs.declared.header.Title.{Title}
 use Rattle.tree_text.specs.declared.header.Version.{Version}
-use Rattle.std.specs.Prelude.{codes}
 use Rattle.tree_text.specs.Values.{limited}
 use Rattle.tree_text.specs.Versions.{title_in, version_in}
 use Rattle.tree_text.specs.Findings.{NodeFront}

@@ -1,6 +1,5 @@
 -- What was read as a tree is written as a text of the same tree.
 use Rattle.std.proofs.Common.{◌≡◌, ◌≤◌, ℕ, List, [], ◌∷◌, None, Ok, subst}
-use Rattle.std.specs.Prelude.{codes}
 use Rattle.text_fields.specs.Words.{Text, text_of}
 use Rattle.text_fields.specs.Reading.{field, ended_of}
 use Rattle.text_fields.proofs.Results.{bind_ok, ok_same}

@@ -1,5 +1,5 @@
 -- A tree's text is read again as the same tree.
-use Rattle.std.proofs.Common.{◌≡◌, ◌<◌, ◌≤◌, ◌+◌, ◌-◌, ◌∙◌, ℕ, suc, Bool, true, false, List, [], ◌∷◌, ◌++◌, ◌||◌, length, map, get_or, Contains, Option, Some, None, Ok, refl, ap, ap₂, sym, subst, append_assoc, zero-le, arith}
+use Rattle.std.proofs.Common.{◌≡◌, ◌<◌, ◌≤◌, ◌+◌, ◌-◌, ◌∙◌, ℕ, suc, Bool, true, false, List, [], ◌∷◌, ◌++◌, length, map, get_or, Contains, Option, Some, None, Ok, refl, ap, ap₂, sym, subst, append_assoc, zero-le, arith}
 use Rattle.std.specs.Prelude.{option_map}
 use Rattle.std.proofs.lemmas.Bool.{true≢false}
 use Rattle.cmr_base.proofs.Booleans.{not_either}

@@ -1,6 +1,6 @@
 -- Lines of a tree's text, word by word.
 use Rattle.std.proofs.Common.{◌≡◌, ◌<◌, ◌∙◌, ◌++◌, ◌∷◌, [], ℕ, List, false, length, get_or, map, drop, ◌+◌, append_assoc, refl, ap, sym, arith}
-use Rattle.std.specs.Prelude.{fold, codes}
+use Rattle.std.specs.Prelude.{fold}
 use Rattle.std.specs.Fmt.{decimal}
 use Rattle.std.specs.List.{flat_map}
 use Rattle.std.proofs.lemmas.List.Sums.{fold-append}

@@ -103,8 +103,8 @@ joined_root children rule.Lines = (refl, refl)
 joined_root children rule.TooShort = record { one = omega arith; two = omega arith }
 joined_root children rule.BadConnector = record { row = first_of 1 []; column = first_of 0 []; nonzero = λ e. omega (arith, ints, e) }
 joined_root children rule.BadBlock = record {
-  right = λ r c h k. rw (only_zero r h, only_one c k) refl;
-  below = λ r c h k. rw (only_one r h, only_zero c k) refl;
+  upper = λ r c h k. rw (only_zero r h, only_one c k) refl;
+  lower = λ r c h k. rw (only_one r h, only_zero c k) refl;
 }
 joined_root children _ = tt
 

@@ -5,7 +5,6 @@ use Rattle.std.specs.declared.boxed.Box.{Box}
 use Rattle.cmr_base.specs.declared.item_list.ItemList.{ItemList}
 use Rattle.cmr_base.specs.declared.line.Line.{Line}
 use Rattle.cmr_base.specs.declared.line_set.LineSet.{LineSet}
-use Rattle.cmr_base.specs.declared.network.Network as net
 use Rattle.cmr_base.specs.declared.separation.Two.{Two}
 use Rattle.cmr_base.specs.declared.separation.Three.{Three}
 use Rattle.pivots.specs.declared.place.PivotPlace.{PivotPlace}

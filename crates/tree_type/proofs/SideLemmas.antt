@@ -97,8 +97,8 @@ two_sums_separate M lines two = (to, from)
       two = (from_two two.side.rows lines.rows two.row reference.row, tt);
       nonzero = reference.nonzero;
       blocks = record {
-        right = λ r c h k e f. blocks.right r c (to_one two.side.rows lines.rows r h e) (to_two two.side.columns lines.columns c k f);
-        below = λ r c h k e f. blocks.below r c (to_two two.side.rows lines.rows r h e) (to_one two.side.columns lines.columns c k f);
+        upper = λ r c h k e f. blocks.upper r c (to_one two.side.rows lines.rows r h e) (to_two two.side.columns lines.columns c k f);
+        lower = λ r c h k e f. blocks.lower r c (to_two two.side.rows lines.rows r h e) (to_one two.side.columns lines.columns c k f);
       };
       enough = enough_to lines two.side 2 enough;
     }
@@ -112,8 +112,8 @@ two_sums_separate M lines two = (to, from)
         nonzero = s.nonzero;
       },
       record {
-        right = λ r c h k. let a = from_one two.side.rows lines.rows r h in let b = from_two two.side.columns lines.columns c k in s.blocks.right r c a.0 b.0 a.1 b.1;
-        below = λ r c h k. let a = from_two two.side.rows lines.rows r h in let b = from_one two.side.columns lines.columns c k in s.blocks.below r c a.0 b.0 a.1 b.1;
+        upper = λ r c h k. let a = from_one two.side.rows lines.rows r h in let b = from_two two.side.columns lines.columns c k in s.blocks.upper r c a.0 b.0 a.1 b.1;
+        lower = λ r c h k. let a = from_two two.side.rows lines.rows r h in let b = from_one two.side.columns lines.columns c k in s.blocks.lower r c a.0 b.0 a.1 b.1;
       },
     )
 
@@ -128,8 +128,8 @@ three_sums_separate M lines t = (to, from)
       two = connector_to_two lines t.side (second_is_flat t.form) t.second joined.second;
       connectors = joined.values;
       blocks = record {
-        right = λ r c h k e f. blocks.right r c (to_one t.side.rows lines.rows r h e) (to_two t.side.columns lines.columns c k f);
-        below = λ r c h k e f. blocks.below r c (to_two t.side.rows lines.rows r h e) (to_one t.side.columns lines.columns c k f);
+        upper = λ r c h k e f. blocks.upper r c (to_one t.side.rows lines.rows r h e) (to_two t.side.columns lines.columns c k f);
+        lower = λ r c h k e f. blocks.lower r c (to_two t.side.rows lines.rows r h e) (to_one t.side.columns lines.columns c k f);
       };
       enough = enough_to lines t.side 4 enough;
     }
@@ -143,8 +143,8 @@ three_sums_separate M lines t = (to, from)
         values = s.connectors;
       },
       record {
-        right = λ r c h k. let a = from_one t.side.rows lines.rows r h in let b = from_two t.side.columns lines.columns c k in s.blocks.right r c a.0 b.0 a.1 b.1;
-        below = λ r c h k. let a = from_two t.side.rows lines.rows r h in let b = from_one t.side.columns lines.columns c k in s.blocks.below r c a.0 b.0 a.1 b.1;
+        upper = λ r c h k. let a = from_one t.side.rows lines.rows r h in let b = from_two t.side.columns lines.columns c k in s.blocks.upper r c a.0 b.0 a.1 b.1;
+        lower = λ r c h k. let a = from_two t.side.rows lines.rows r h in let b = from_one t.side.columns lines.columns c k in s.blocks.lower r c a.0 b.0 a.1 b.1;
       },
     )
 

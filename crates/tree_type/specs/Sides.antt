@@ -61,8 +61,8 @@ pub record IsReference (M : ℕ → ℕ → ℤ) (s : Sides) (i j : ℕ) : Type 
   pub nonzero : M i j ≢ pos 0
 
 pub record AreTwoBlocks (M : ℕ → ℕ → ℤ) (s : Sides) (i j : ℕ) : Type 0 where
-  pub right : AreEntries M s.rows_one s.columns_two (λ r c. pos 0)
-  pub below : AreEntries M s.rows_two s.columns_one (product_at M i j)
+  pub upper : AreEntries M s.rows_one s.columns_two (λ r c. pos 0)
+  pub lower : AreEntries M s.rows_two s.columns_one (product_at M i j)
 
 -- the lines of the children: side one with the row of the reference, and side two with its column
 abbrev pub two_one : LineSet → Two → LineSet
@@ -103,8 +103,8 @@ abbrev pub HasCornerSign : (ℕ → ℕ → ℤ) → Three → Type 0
 HasCornerSign M t = HaveCornerSign M t.form t.first t.second
 
 pub record AreThreeBlocks (M : ℕ → ℕ → ℤ) (s : Sides) (t : Three) : Type 0 where
-  pub right : AreEntries M s.rows_one s.columns_two (upper_block M t.form t.first t.second)
-  pub below : AreEntries M s.rows_two s.columns_one (lower_block M t.form t.first t.second)
+  pub upper : AreEntries M s.rows_one s.columns_two (upper_block M t.form t.first t.second)
+  pub lower : AreEntries M s.rows_two s.columns_one (lower_block M t.form t.first t.second)
 
 -- the lines of the children: each side with the connector of the other
 abbrev pub three_one : LineSet → Three → LineSet

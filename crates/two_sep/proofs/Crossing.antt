@@ -34,7 +34,7 @@ module _ (m : Matrix) (is : IsMatrix m) where
   crossing : (rows columns : List ℕ) (side : Lines) (i j i' j' : ℕ) → IsTwoSeparation (entry m) rows columns side i' j' → Contains rows i → Contains columns j → entry m i j ≢ pos 0
       → side (Row i) ≡ false → side (Column j) ≡ true → IsTwoSeparation (entry m) rows columns side i j
   crossing rows columns side i j i' j' s hi hj nonzero ei ej =
-      let here = s.blocks.below i j hi hj ei ej in
+      let here = s.blocks.lower i j hi hj ei ej in
       let product : entry m i j' *ℤ (entry m i' j *ℤ entry m i' j') ≢ pos 0 = λ e. nonzero (here ∙ e) in
       let e = sign_of_entry (entry m i' j') (is.small i' j') s.nonzero in
       let g = sign_of_entry (entry m i j') (is.small i j') (first_factor (entry m i j') (entry m i' j *ℤ entry m i' j') product) in
@@ -44,10 +44,10 @@ module _ (m : Matrix) (is : IsMatrix m) where
         two = ((hi, ei), tt);
         nonzero = nonzero;
         blocks = record {
-          right = s.blocks.right;
-          below = λ r c hr hc er ec. s.blocks.below r c hr hc er ec
+          upper = s.blocks.upper;
+          lower = λ r c hr hc er ec. s.blocks.lower r c hr hc er ec
               ∙ same_product (entry m r j') (entry m i' c) (entry m i' j') (entry m i' j) (entry m i j') e f g
-              ∙ sym (ap₂ (λ (x y : ℤ). x *ℤ y) (s.blocks.below r j hr hj er ej) (ap₂ (λ (x y : ℤ). x *ℤ y) (s.blocks.below i c hi hc ei ec) here));
+              ∙ sym (ap₂ (λ (x y : ℤ). x *ℤ y) (s.blocks.lower r j hr hj er ej) (ap₂ (λ (x y : ℤ). x *ℤ y) (s.blocks.lower i c hi hc ei ec) here));
         };
         enough = s.enough;
       }
@@ -65,7 +65,7 @@ module _ (m : Matrix) (is : IsMatrix m) where
       go : (side (Row i) ≡ true) ⊎ (side (Row i) ≡ false) → (side (Column j) ≡ true) ⊎ (side (Column j) ≡ false) → side (Row i) ≡ side (Column j)
       go (inl e) (inl f) = e ∙ sym f
       go (inr e) (inr f) = e ∙ sym f
-      go (inl e) (inr f) = absurd (nonzero (s.blocks.right i j (contains_first_lines (height m) i li) (contains_first_lines m.width j lj) e f))
+      go (inl e) (inr f) = absurd (nonzero (s.blocks.upper i j (contains_first_lines (height m) i li) (contains_first_lines m.width j lj) e f))
       go (inr e) (inl f) =
           let t = crossing (first_lines (height m)) (first_lines m.width) side i j i' j' s (contains_first_lines (height m) i li) (contains_first_lines m.width j lj) nonzero e f in
           let g = good_two_seed (height m) m.width (entry m) i j side t in

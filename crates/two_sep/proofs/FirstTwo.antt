@@ -1,5 +1,5 @@
 -- The first two-separation, with its side as lists.
-use Rattle.std.proofs.Common.{◌≡◌, ◌<◌, ◌+◌, ◌⊎◌, inl, inr, ◌∙◌, filter, nat_eq, ℕ, ℤ, Bool, List, ap, sym, subst, arith}
+use Rattle.std.proofs.Common.{◌≡◌, ◌<◌, ◌⊎◌, inl, inr, ◌∙◌, filter, nat_eq, ℕ, ℤ, Bool, List, ap, sym, subst, arith}
 use Rattle.std.specs.List.{list_any}
 use Rattle.std.proofs.lemmas.List.Kept.{IsStrictlyIncreasing-filter}
 use Rattle.cmr_base.specs.declared.line.Line.{Line}
@@ -32,8 +32,8 @@ module _ (m n : ℕ) (M : ℕ → ℕ → ℤ) (i j : ℕ) (S T : Lines) (same :
       not_second = g.1.not_second;
       grown = record {
         closed = record {
-          right = λ r c hr hc e f. g.1.grown.closed.right r c hr hc (same (Row r) (first_lines_contain m r hr) ∙ e) (same (Column c) (first_lines_contain n c hc) ∙ f);
-          below = λ r c hr hc e f. g.1.grown.closed.below r c hr hc (same (Row r) (first_lines_contain m r hr) ∙ e) (same (Column c) (first_lines_contain n c hc) ∙ f);
+          upper = λ r c hr hc e f. g.1.grown.closed.upper r c hr hc (same (Row r) (first_lines_contain m r hr) ∙ e) (same (Column c) (first_lines_contain n c hc) ∙ f);
+          lower = λ r c hr hc e f. g.1.grown.closed.lower r c hr hc (same (Row r) (first_lines_contain m r hr) ∙ e) (same (Column c) (first_lines_contain n c hc) ∙ f);
         };
         has = (sym (same seed g.1.line) ∙ g.1.grown.has.0, (sym (same (Column j) g.0.column) ∙ g.1.grown.has.1.0, tt));
         least = λ other closed has line l e. g.1.grown.least other closed has line l (same line l ∙ e);

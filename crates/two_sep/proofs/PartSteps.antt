@@ -14,8 +14,8 @@ use Rattle.cmr_base.specs.Separations.{Lines, listed, opposite, zeros}
 use Rattle.cmr_base.specs.Components.{IsApart, IsComponent, AreComponents, part_at, first_number}
 use Rattle.cmr_base.proofs.ListedLines.{has_line_from_listed, listed_from_has_line, first_lines_contain}
 use Rattle.cmr_base.proofs.ListsWithout.{in_from_contains, contains_from_in}
-use Rattle.cmr_base.proofs.RowLists.{two_cases, in_filter, filter_in}
-use Rattle.cmr_base.proofs.RemovedLines.{first_lines_increase, in_first_lines, row_set_from_within, column_set_from_within}
+use Rattle.cmr_base.proofs.RowLists.{two_cases, in_filter}
+use Rattle.cmr_base.proofs.RemovedLines.{first_lines_increase, row_set_from_within, column_set_from_within}
 use Rattle.cmr_base.proofs.Booleans.{not_is, or_is, or_left, or_right, not_false, false_is}
 use Rattle.cmr_base.specs.Seeds.{IsGrown, IsLine, line_number}
 use Rattle.cmr_base.proofs.SeedLemmas.{line_is}
@@ -69,8 +69,8 @@ first_pass p (suc n) k l e h = go (cases_lt k n) (λ m. first_pass p n k m e h)
 
 opposite_apart : (m n : ℕ) (M : ℕ → ℕ → ℤ) (S : Lines) → IsApart m n M S → IsApart m n M (opposite S)
 opposite_apart m n M S s = record {
-  right = λ r c hr hc e f. s.below r c hr hc (not_is (S (Row r)) e) (not_false (S (Column c)) f);
-  below = λ r c hr hc e f. s.right r c hr hc (not_false (S (Row r)) e) (not_is (S (Column c)) f);
+  upper = λ r c hr hc e f. s.lower r c hr hc (not_is (S (Row r)) e) (not_false (S (Column c)) f);
+  lower = λ r c hr hc e f. s.upper r c hr hc (not_false (S (Row r)) e) (not_is (S (Column c)) f);
 }
 
 -- what was seen before, and a set
@@ -120,16 +120,16 @@ module _ (m : Matrix) where
     -- what was seen is apart from the rest
     unseen_apart : IsApart h m.width (entry m) (opposite seen)
     unseen_apart = record {
-      right = λ r c hr hc er ec.
+      upper = λ r c hr hc er ec.
           let a = found.seen_in (Column c) (first_lines_contain m.width c hc) (not_false (seen (Column c)) ec) in
           let part = part_at parts a.0 in
-          (found.components a.0 a.1).apart.below r c hr hc
+          (found.components a.0 a.1).apart.lower r c hr hc
           (false_is (listed part.rows part.columns (Row r)) (λ t. false≢true (sym (not_is (seen (Row r)) er) ∙ found.in_seen a.0 (Row r) a.1 (has_line_from_listed part.rows part.columns (Row r) t))))
           (listed_from_has_line part.rows part.columns (Column c) a.2);
-      below = λ r c hr hc er ec.
+      lower = λ r c hr hc er ec.
           let a = found.seen_in (Row r) (first_lines_contain h r hr) (not_false (seen (Row r)) er) in
           let part = part_at parts a.0 in
-          (found.components a.0 a.1).apart.right r c hr hc (listed_from_has_line part.rows part.columns (Row r) a.2)
+          (found.components a.0 a.1).apart.upper r c hr hc (listed_from_has_line part.rows part.columns (Row r) a.2)
           (false_is (listed part.rows part.columns (Column c)) (λ t. false≢true (sym (not_is (seen (Column c)) ec) ∙ found.in_seen a.0 (Column c) a.1 (has_line_from_listed part.rows part.columns (Column c) t))));
     }
 
@@ -158,8 +158,8 @@ module _ (m : Matrix) where
 
       apart : IsApart h m.width (entry m) T
       apart = record {
-        right = λ x y hx hy e f. grown.closed.right x y hx hy (sym (same_lines (Row x) (first_lines_contain h x hx)) ∙ e) (sym (same_lines (Column y) (first_lines_contain m.width y hy)) ∙ f);
-        below = λ x y hx hy e f. grown.closed.below x y hx hy (sym (same_lines (Row x) (first_lines_contain h x hx)) ∙ e) (sym (same_lines (Column y) (first_lines_contain m.width y hy)) ∙ f);
+        upper = λ x y hx hy e f. grown.closed.upper x y hx hy (sym (same_lines (Row x) (first_lines_contain h x hx)) ∙ e) (sym (same_lines (Column y) (first_lines_contain m.width y hy)) ∙ f);
+        lower = λ x y hx hy e f. grown.closed.lower x y hx hy (sym (same_lines (Row x) (first_lines_contain h x hx)) ∙ e) (sym (same_lines (Column y) (first_lines_contain m.width y hy)) ∙ f);
       }
 
       within_other : (other : Lines) → IsApart h m.width (entry m) other → other line ≡ true → (x : Line) → IsLine h m.width x → T x ≡ true → other x ≡ true

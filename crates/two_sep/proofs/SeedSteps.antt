@@ -1,5 +1,5 @@
 -- What grows at a nonzero, and good seeds.
-use Rattle.std.proofs.Common.{◌≡◌, ◌≢◌, ◌<◌, ◌≤◌, ◌+◌, ◌⊎◌, inl, inr, ◌∙◌, not, ℕ, ℤ, pos, true, false, [], ◌∷◌, ap, sym, subst, arith}
+use Rattle.std.proofs.Common.{◌≡◌, ◌≢◌, ◌<◌, ◌≤◌, ◌+◌, inl, inr, ◌∙◌, not, ℕ, pos, true, false, [], ◌∷◌, ap, sym, subst, arith}
 use Rattle.std.proofs.lemmas.Bool.{false≢true, cases_lt}
 use Rattle.cmr_base.specs.declared.line.Line.{Line}
 use Rattle.cmr_base.specs.declared.line.Line.TheVariants.{Row, Column}
@@ -54,8 +54,8 @@ module _ (m : Matrix) (i j : ℕ) (row : i < height m) (column : j < m.width) (n
       where
         backwards : IsClosedIn m (product_at (entry m) i j) zeros (opposite side)
         backwards = record {
-          right = λ r c hr hc er ec. g.1.grown.closed.below r c hr hc (not_is (side (Row r)) er) (not_false (side (Column c)) ec);
-          below = λ r c hr hc er ec. g.1.grown.closed.right r c hr hc (not_false (side (Row r)) er) (not_is (side (Column c)) ec);
+          upper = λ r c hr hc er ec. g.1.grown.closed.lower r c hr hc (not_is (side (Row r)) er) (not_false (side (Column c)) ec);
+          lower = λ r c hr hc er ec. g.1.grown.closed.upper r c hr hc (not_false (side (Row r)) er) (not_is (side (Column c)) ec);
         }
 
     -- ---- the loop over the seeds

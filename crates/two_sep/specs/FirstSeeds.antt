@@ -1,5 +1,5 @@
 -- Two-separations by their first good seeds.
-use Rattle.std.specs.Prelude.{◌≡◌, ◌≢◌, ◌<◌, ◌+◌, ◌-◌, ◌⊎◌, cond, nat_lt, ℕ, pos, Bool, List, length, slice_index_or}
+use Rattle.std.specs.Prelude.{◌≡◌, ◌≢◌, ◌<◌, ◌+◌, ◌-◌, ◌⊎◌, cond, nat_lt, ℕ, pos, List, length, slice_index_or}
 use Rattle.cmr_base.specs.declared.line.Line.{Line}
 use Rattle.cmr_base.specs.declared.line.Line.TheVariants.{Column, Row}
 use Rattle.cmr_base.specs.declared.separation.Two.{Two}

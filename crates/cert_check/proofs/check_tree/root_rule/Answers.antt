@@ -1,4 +1,4 @@
-use Rattle.std.proofs.Common.{rules, ◌≡◌, ◌∙◌, false, Option, Some, None, refl, ap, sym, subst}
+use Rattle.std.proofs.Common.{rules, ◌∙◌, false, ap, sym, subst}
 use Rattle.std.proofs.lemmas.Bool.{true≢false}
 use Rattle.cmr_base.specs.LineSets.{first_lines}
 use Rattle.tree_type.specs.Trees.{tree_of}

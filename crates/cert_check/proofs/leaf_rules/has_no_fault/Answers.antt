@@ -1,4 +1,4 @@
-use Rattle.std.proofs.Common.{min, arith}
+use Rattle.std.proofs.Common.{arith}
 use Rattle.cert_check.proofs.Leaves.{r10_same}
 use Rattle.cert_check.proofs.leaf_rules.has_no_fault.Goals as goal
 

@@ -1,4 +1,4 @@
-use Rattle.std.proofs.Common.{◌≡◌, ◌≤◌, ℕ, List, IsTrue, length, map, take}
+use Rattle.std.proofs.Common.{◌≡◌, ◌≤◌, IsTrue, length, map, take}
 use Rattle.cmr_io.specs.Kept.{KeepsNames}
 use Rattle.cmr_front.specs.Inputs.{bytes_of, given, input_file, texts}
 use Rattle.cmr_front.specs.Unread.{AreRead, between}

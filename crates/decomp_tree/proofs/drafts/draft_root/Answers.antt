@@ -1,4 +1,4 @@
-use Rattle.std.proofs.Common.{[], List, map, sym, subst, arith}
+use Rattle.std.proofs.Common.{[], List, map, subst, arith}
 use Rattle.cmr_base.specs.Matrix.{Matrix}
 use Rattle.decomp_tree.specs.declared.drafts.Draft.{Draft}
 use Rattle.decomp_tree.specs.Sketches.{sketch_of, IsDraftedBehind}

@@ -1,14 +1,10 @@
-use Rattle.std.proofs.Common.{◌≡◌, ◌<◌, ◌∷◌, [], sym, subst}
-use Rattle.cmr_base.specs.declared.line.Line.TheVariants.{Column, Row}
+use Rattle.std.proofs.Common.{◌≡◌, sym, subst}
 use Rattle.cmr_base.specs.declared.separation.Form.TheVariants.{Concentrated}
-use Rattle.cmr_base.specs.Matrix.{Matrix, entry}
-use Rattle.cmr_base.specs.Separations.{spread_at, zeros}
+use Rattle.cmr_base.specs.Matrix.{Matrix}
 use Rattle.line_growth.specs.declared.rule.Rule.{Rule}
-use Rattle.line_growth.specs.GrowingSets.{HasNoLeaving, TellsClosed, set_of}
-use Rattle.line_growth.specs.Rules.{IsRuleOf, exchanged, lower_of, upper_of}
-use Rattle.three_sep.specs.declared.connectors.Connectors.{Connectors}
-use Rattle.three_sep.specs.Concentrated.{AreConcentratedCorners, IsOtherColumn, IsOtherRow}
-use Rattle.three_sep.specs.Connectors.{AreConnectorsOf, ArePlaced, HasNoneParting, first_of, firsts, second_of, seconds}
+use Rattle.line_growth.specs.GrowingSets.{HasNoLeaving, set_of}
+use Rattle.line_growth.specs.Rules.{IsRuleOf, exchanged}
+use Rattle.three_sep.specs.Connectors.{firsts, seconds}
 use Rattle.three_sep.proofs.ConcentratedLemmas.{spread_connectors}
 use Rattle.line_growth.proofs.SetSteps.{told_no}
 use Rattle.three_sep.proofs.SideLemmas.{no_good_parting, none_leaving, none_left}

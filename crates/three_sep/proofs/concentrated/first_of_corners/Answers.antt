@@ -1,6 +1,6 @@
 use Rattle.std.proofs.Common.{subst, sym}
 use Rattle.cuts.specs.declared.corners.Corners.{Corners}
-use Rattle.three_sep.specs.Concentrated.{AreConcentratedCorners, HasNoneBetween}
+use Rattle.three_sep.specs.Concentrated.{AreConcentratedCorners}
 use Rattle.three_sep.specs.Connectors.{all_front}
 use Rattle.cmr_base.specs.declared.separation.Form.TheVariants.{Concentrated}
 use Rattle.three_sep.specs.Searches.{HasNoGood}

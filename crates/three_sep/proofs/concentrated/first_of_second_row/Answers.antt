@@ -1,4 +1,4 @@
-use Rattle.std.proofs.Common.{[], ◌∷◌, ◌≤◌, ◌+◌, ◌<◌, ◌≡◌, ◌∙◌, ◌⊎◌, List, ℕ, true, false, ap, arith, subst, sym, inl, inr}
+use Rattle.std.proofs.Common.{[], ◌∷◌, ◌≤◌, ◌+◌, ◌≡◌, ◌∙◌, ◌⊎◌, List, ℕ, true, false, ap, arith, subst, sym, inl, inr}
 use Rattle.cmr_base.specs.Matrix.{entry}
 use Rattle.cmr_base.specs.ColumnSets.{has_column}
 use Rattle.cmr_base.specs.Trees.{support}

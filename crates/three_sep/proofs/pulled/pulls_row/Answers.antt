@@ -1,4 +1,4 @@
-use Rattle.std.proofs.Common.{◌∙◌, ◌<◌, ℕ, ap, sym, subst, arith}
+use Rattle.std.proofs.Common.{◌∙◌, ◌<◌, ap, sym, subst, arith}
 use Rattle.cmr_base.specs.Matrix.{Matrix, height, entry, transposed}
 use Rattle.cmr_base.proofs.Booleans.{not_both}
 use Rattle.cmr_base.proofs.Parts.{entry-transposed, height-transposed}

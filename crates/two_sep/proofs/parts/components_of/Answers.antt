@@ -1,7 +1,6 @@
-use Rattle.std.proofs.Common.{◌≡◌, ◌<◌, ◌+◌, ◌++◌, ◌∷◌, [], ◌∙◌, ap, ap₂, sym, subst, arith, List, ℕ, Bool, length}
+use Rattle.std.proofs.Common.{◌≡◌, ◌+◌, ◌++◌, ◌∷◌, [], ◌∙◌, ap, ap₂, sym, subst, arith, List, ℕ, length}
 use Rattle.cmr_base.specs.declared.line.Line.{Line}
 use Rattle.cmr_base.specs.declared.line_set.LineSet.{LineSet}
-use Rattle.cmr_base.specs.Separations.{Lines}
 use Rattle.line_growth.specs.declared.growing_set.GrowingSet.{GrowingSet}
 use Rattle.line_growth.specs.GrowingSets.{HasRoom, set_of}
 use Rattle.two_sep.specs.FoundParts.{AreFound, seen_lines}

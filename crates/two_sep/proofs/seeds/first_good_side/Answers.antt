@@ -1,11 +1,10 @@
-use Rattle.std.proofs.Common.{◌≡◌, ◌≢◌, ◌<◌, ◌+◌, ◌∙◌, ◌∷◌, [], ap, sym, subst, true, ℕ, arith}
-use Rattle.cmr_base.specs.declared.line.Line.{Line}
+use Rattle.std.proofs.Common.{◌+◌, ◌∙◌, ◌∷◌, [], ap, sym, subst, true, ℕ, arith}
 use Rattle.cmr_base.specs.declared.line.Line.TheVariants.{Column, Row}
-use Rattle.cmr_base.specs.Matrix.{entry, height}
+use Rattle.cmr_base.specs.Matrix.{entry}
 use Rattle.cmr_base.specs.Separations.{product_at, zeros}
 use Rattle.line_growth.specs.declared.growing_set.GrowingSet.{GrowingSet}
 use Rattle.line_growth.specs.declared.rule.Rule.{Rule}
-use Rattle.line_growth.specs.GrowingSets.{HasNoLeaving, HasRoom, IsGrowing, TellsClosed, set_of}
+use Rattle.line_growth.specs.GrowingSets.{HasNoLeaving, HasRoom, IsGrowing, set_of}
 use Rattle.line_growth.specs.Rules.{lower_of, upper_of}
 use Rattle.line_growth.proofs.SetSteps.{told_no, told_yes}
 use Rattle.two_sep.proofs.SeedSteps.{bad_backwards, column_not_good, first_found, none_good, not_good, row_not_good, rule_at, seeds_more}

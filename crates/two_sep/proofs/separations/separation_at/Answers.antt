@@ -1,4 +1,4 @@
-use Rattle.std.proofs.Common.{◌≡◌, ◌<◌, ◌+◌, ◌∙◌, map, ap, ap₂, sym, subst, arith, List, ℕ, get_or, inl, inr, Option, MatchOption, length, cond, nat_eq, of_z, w8}
+use Rattle.std.proofs.Common.{◌≡◌, ◌<◌, ◌+◌, ◌∙◌, map, ap, ap₂, sym, subst, arith, List, ℕ, get_or, inl, inr, Option, MatchOption, cond, nat_eq, of_z, w8}
 use Rattle.std.proofs.lemmas.List.{get_or_default}
 use Rattle.cmr_base.specs.Matrix.{height}
 use Rattle.cmr_base.proofs.EntryBytes.{zero_byte}

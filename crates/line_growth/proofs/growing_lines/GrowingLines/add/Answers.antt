@@ -1,4 +1,4 @@
-use Rattle.std.proofs.Common.{◌≡◌, ◌∙◌, sym, ap, refl, arith, false, length}
+use Rattle.std.proofs.Common.{◌≡◌, ◌∙◌, sym, ap, refl, arith, false}
 use Rattle.cmr_base.specs.ColumnSets.{has_column}
 use Rattle.line_growth.specs.GrowingLines.{is_in}
 use Rattle.line_growth.proofs.LineSteps.{added_already, adds, some_left}

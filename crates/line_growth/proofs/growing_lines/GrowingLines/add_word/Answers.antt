@@ -1,7 +1,7 @@
 use Rattle.std.proofs.Common.{◌≡◌, ◌<◌, ◌+◌, ◌∙◌, sym, refl, subst, ℕ, true, [], ◌∷◌, arith}
 use Rattle.cmr_base.specs.Planes.{has_bit}
-use Rattle.line_growth.specs.GrowingLines.{AreGrowing, HasAdded, IsBitOf}
-use Rattle.line_growth.proofs.LineSteps.{bit_in, found_until, found_all, grown_more, grown_none}
+use Rattle.line_growth.specs.GrowingLines.{HasAdded, IsBitOf}
+use Rattle.line_growth.proofs.LineSteps.{bit_in, found_until, found_all, grown_more}
 use Rattle.line_growth.proofs.growing_lines.GrowingLines.add_word.Goals as goal
 
 pub loop-bit-preserved : goal.loop-bit-preserved

@@ -4,7 +4,7 @@ use Rattle.cmr_base.specs.Matrix.{entry}
 use Rattle.cmr_base.specs.Trees.{support}
 use Rattle.cmr_base.proofs.Booleans.{false_is, not_both}
 use Rattle.line_growth.specs.declared.growing_lines.GrowingLines.{GrowingLines}
-use Rattle.line_growth.specs.GrowingLines.{AreGrowing, HasAdded, HasGrown, is_in}
+use Rattle.line_growth.specs.GrowingLines.{HasAdded, HasGrown, is_in}
 use Rattle.line_growth.specs.Rules.{sum_at}
 use Rattle.line_growth.proofs.LineSteps.{grown_more}
 use Rattle.line_growth.proofs.growing_lines.GrowingLines.pull_along.Goals as goal

@@ -1,4 +1,4 @@
-use Rattle.std.proofs.Common.{◌≡◌, ℕ, ℤ, pos, ◌+ℤ◌, ◌*ℤ◌, false, true, inl, inr, subst, sym, arith}
+use Rattle.std.proofs.Common.{◌≡◌, ℕ, ℤ, pos, ◌+ℤ◌, ◌*ℤ◌, false, true, inl, inr, subst, arith}
 use Rattle.cmr_base.specs.Matrix.{Matrix, entry}
 use Rattle.cmr_base.specs.Trees.{support}
 use Rattle.cmr_base.proofs.Booleans.{false_is, not_both, zero_is}
@@ -6,7 +6,7 @@ use Rattle.cmr_base.proofs.Integers.{products, sums}
 use Rattle.cmr_base.proofs.RowLists.{two_cases}
 use Rattle.line_growth.specs.declared.growing_lines.GrowingLines.{GrowingLines}
 use Rattle.line_growth.specs.declared.rule.Sum.{Sum}
-use Rattle.line_growth.specs.GrowingLines.{AreGrowing, HasGrown, HasPulled, is_in}
+use Rattle.line_growth.specs.GrowingLines.{HasGrown, HasPulled, is_in}
 use Rattle.line_growth.specs.Rules.{sum_at}
 use Rattle.line_growth.proofs.LineSteps.{grown_joined}
 use Rattle.line_growth.proofs.growing_lines.GrowingLines.pull_by_nonzeros.Goals as goal

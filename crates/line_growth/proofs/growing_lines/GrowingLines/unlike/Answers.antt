@@ -26,10 +26,10 @@ is_nonzero_by (negsuc (suc n)) a = too_small n a
 nonzero_differs : (x y : ℤ) → IsEntry x → is_nonzero x ≡ differ x (pos 0 *ℤ y)
 nonzero_differs x y small = is_nonzero_by x small ∙ ap (differ x) (sym (simp products))
 
-pub bounds-words-block : goal.bounds-words-block
-bounds-words-block c =
+pub bounds-words-chunk : goal.bounds-words-chunk
+bounds-words-chunk c =
     let long = words_long c.args.matrix.now c.args.row c.args.words.now c.requires.words in
-    let l = c.requires.block in
+    let l = c.requires.chunk in
     let s = c.requires.size in
     omega arith
 
@@ -38,15 +38,15 @@ returns-then-multiple-eq0 c = λ k s.
     let m = c.args.matrix.now in
     let words = c.args.words.now in
     let inside = c.args.self.now.inside.items in
-    let block = c.args.block in
-    let column = 64 * block + k in
+    let chunk = c.args.chunk in
+    let column = 64 * chunk + k in
     let shape = c.rows-rows.ensures.shape in
     let zero : c.args.multiple.factor ≡ pos 0 = sym (entry_as_byte c.args.multiple.factor c.requires.factor) ∙ ap (to_z w8) c.if-multiple-eq0.true in
-    let differs : has_bit (get_or words block 0) k ≡ differs_at m c.args.row c.args.multiple.factor c.args.multiple.model column =
-    sym (column_at words block k s) ∙ words_columns m c.args.row words c.requires.words shape c.requires.row column
+    let differs : has_bit (get_or words chunk 0) k ≡ differs_at m c.args.row c.args.multiple.factor c.args.multiple.model column =
+    sym (column_at words chunk k s) ∙ words_columns m c.args.row words c.requires.words shape c.requires.row column
     ∙ nonzero_differs (entry m c.args.row column) (entry m c.args.multiple.model column) (shape.small c.args.row column) ∙ ap (λ (z : ℤ). differs_at m c.args.row z c.args.multiple.model column) (sym zero) in
-    let own : c.index.result.now ≡ get_or inside block 0 = c.index.ensures ∙ get_or_default inside block c.index.result.now 0 c.requires.block in
-    c.outside.ensures k s ∙ ap₂ (λ a b. a && not b) differs (ap (λ w. has_bit w k) own ∙ sym (column_at inside block k s))
+    let own : c.index.result.now ≡ get_or inside chunk 0 = c.index.ensures ∙ get_or_default inside chunk c.index.result.now 0 c.requires.chunk in
+    c.outside.ensures k s ∙ ap₂ (λ a b. a && not b) differs (ap (λ w. has_bit w k) own ∙ sym (column_at inside chunk k s))
 
 pub returns : goal.returns
 returns c = λ k s.
@@ -54,11 +54,11 @@ returns c = λ k s.
     let factor = c.args.multiple.factor in
     let model = c.args.multiple.model in
     let inside = c.args.self.now.inside.items in
-    let block = c.args.block in
+    let chunk = c.args.chunk in
     let word = c.difference_word-word.result in
-    let column = 64 * block + k in
-    let own : c.index-2.result.now ≡ get_or inside block 0 = c.index-2.ensures ∙ get_or_default inside block c.index-2.result.now 0 c.requires.block in
+    let column = 64 * chunk + k in
+    let own : c.index-2.result.now ≡ get_or inside chunk 0 = c.index-2.ensures ∙ get_or_default inside chunk c.index-2.result.now 0 c.requires.chunk in
     let byte = entry_as_byte factor c.requires.factor in
     let differs : has_bit word k ≡ differs_at m c.args.row factor model column =
     bit_is (differs_at m c.args.row factor model column) (bit_at word k) (c.difference_word-word.ensures k s ∙ ap (λ z. cond (differs_at m c.args.row z model column) 1 0) byte) in
-    c.outside-2.ensures k s ∙ ap₂ (λ a b. a && not b) differs (ap (λ w. has_bit w k) own ∙ sym (column_at inside block k s))
+    c.outside-2.ensures k s ∙ ap₂ (λ a b. a && not b) differs (ap (λ w. has_bit w k) own ∙ sym (column_at inside chunk k s))

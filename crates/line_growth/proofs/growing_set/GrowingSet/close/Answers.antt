@@ -1,4 +1,4 @@
-use Rattle.std.proofs.Common.{◌≡◌, arith}
+use Rattle.std.proofs.Common.{arith}
 use Rattle.cmr_base.proofs.Booleans.{not_both}
 use Rattle.line_growth.proofs.SetSteps.{closed_leaving, few_left, some_inside}
 use Rattle.line_growth.proofs.growing_set.GrowingSet.close.Goals as goal

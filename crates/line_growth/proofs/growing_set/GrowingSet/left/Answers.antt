@@ -1,4 +1,4 @@
-use Rattle.std.proofs.Common.{◌∙◌, sym, arith}
+use Rattle.std.proofs.Common.{arith}
 use Rattle.line_growth.proofs.SetSteps.{left_few, outside_left}
 use Rattle.line_growth.proofs.growing_set.GrowingSet.left.Goals as goal
 

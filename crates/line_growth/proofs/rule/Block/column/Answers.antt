@@ -1,4 +1,4 @@
-use Rattle.std.proofs.Common.{◌<◌, ◌∙◌, ap, sym, subst, refl, arith, pos}
+use Rattle.std.proofs.Common.{◌∙◌, ap, sym, subst, refl, arith, pos}
 use Rattle.cmr_base.specs.Matrix.{entry, height, transposed}
 use Rattle.cmr_base.proofs.Parts.{height-transposed}
 use Rattle.line_growth.specs.declared.rule.Block.{Block}

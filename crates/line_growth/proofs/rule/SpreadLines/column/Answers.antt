@@ -1,4 +1,4 @@
-use Rattle.std.proofs.Common.{◌∙◌, refl, arith}
+use Rattle.std.proofs.Common.{◌∙◌, arith}
 use Rattle.cmr_base.proofs.EntryBytes.{kept_entry}
 use Rattle.cmr_base.proofs.Parts.{height-transposed}
 use Rattle.cmr_base.proofs.SmallNumbers.{small_as_byte}

@@ -1,4 +1,4 @@
-use Rattle.std.proofs.Common.{◌≡◌, ◌∙◌, ap, ℕ, ℤ}
+use Rattle.std.proofs.Common.{◌∙◌, ap, ℕ, ℤ}
 use Rattle.cmr_base.specs.Matrix.{entry}
 use Rattle.cmr_base.specs.Separations.{spread_at}
 use Rattle.three_sep.proofs.connectors.Connectors.spread_rule.Goals as goal

@@ -1,6 +1,6 @@
-use Rattle.std.proofs.Common.{[], ◌∷◌, ◌++◌, sym, subst}
+use Rattle.std.proofs.Common.{sym, subst}
 use Rattle.line_growth.specs.declared.rule.Rule.{Rule}
-use Rattle.three_sep.specs.Connectors.{AreConnectorsOf, rule_of}
+use Rattle.three_sep.specs.Connectors.{AreConnectorsOf}
 use Rattle.three_sep.proofs.SideLemmas.{crossing_connectors}
 use Rattle.three_sep.proofs.search.Search.first_of_connectors.Goals as goal
 
