@@ -3,8 +3,8 @@ use Rattle.std.proofs.Common.{◌^◌, ℕ, Result, Ok, Err, IfOk, inl, inr, ref
 use Rattle.std.proofs.lemmas.Bool.{cases_lt}
 use Rattle.cmr_base.specs.Matrix.{Matrix, height, transposed, IsMatrix}
 use Rattle.cmr_base.proofs.Parts.{is_matrix-transposed}
-use Rattle.leaf_enumerate.specs.declared.search.Search.{Search}
-use Rattle.leaf_enumerate.specs.declared.search.Search.TheVariants.{Clean, Found, TooMany}
+use Rattle.leaf_enumerate.specs.declared.search.LeastSubmatrix.{LeastSubmatrix}
+use Rattle.leaf_enumerate.specs.declared.search.LeastSubmatrix.TheVariants.{Clean, Found, TooMany}
 use Rattle.leaf_enumerate.specs.Searched.{HasSearchedFor}
 use Rattle.balance.specs.BalanceFaults.{IsLeastFaultByRows}
 use Rattle.balance.specs.Kept.{MakeFaultAt}
@@ -13,7 +13,7 @@ use Rattle.balance.proofs.FaultNumbers.{balanced_after}
 use Rattle.balance.proofs.FaultSets.{balanced_from_transposed, least_from_transposed}
 
 module _ (m : Matrix) (is : IsMatrix m) (limit : ℕ) where
-  of_search : (found : Search) → HasSearchedFor MakeFaultAt IsLeastFaultByRows m limit found → HasSearchedFaults m limit found
+  of_search : (found : LeastSubmatrix) → HasSearchedFor MakeFaultAt IsLeastFaultByRows m limit found → HasSearchedFaults m limit found
   of_search Clean h = (
     h.0,
     elim (cases_lt m.width (height m)) [
@@ -30,6 +30,6 @@ module _ (m : Matrix) (is : IsMatrix m) (limit : ℕ) where
   )
   of_search (TooMany shorter) h = h
 
-  pub searched : {E : Type 0} (result : Result Search E) → IfOk result (HasSearchedFor MakeFaultAt IsLeastFaultByRows m limit) → IfOk result (HasSearchedFaults m limit)
+  pub searched : {E : Type 0} (result : Result LeastSubmatrix E) → IfOk result (HasSearchedFor MakeFaultAt IsLeastFaultByRows m limit) → IfOk result (HasSearchedFaults m limit)
   searched (Ok found) h = of_search found h
   searched (Err e) h = tt

@@ -3,8 +3,8 @@ use Rattle.std.specs.Prelude.{◌≡◌, ◌<◌, ◌≤◌, ℕ, List}
 use Rattle.cmr_base.specs.Matrix.{Matrix}
 use Rattle.cmr_base.specs.LineSets.{IsRowSet, set_number}
 use Rattle.leaf_enumerate.specs.Searched.{shorter_side}
-use Rattle.leaf_enumerate.specs.declared.search.Search.{Search}
-use Rattle.leaf_enumerate.specs.declared.search.Search.TheVariants.{Clean, Found, TooMany}
+use Rattle.leaf_enumerate.specs.declared.search.LeastSubmatrix.{LeastSubmatrix}
+use Rattle.leaf_enumerate.specs.declared.search.LeastSubmatrix.TheVariants.{Clean, Found, TooMany}
 use Rattle.balance.specs.BalanceFaults.{IsBalanced, HasNoFaultColumns, IsLeastFault}
 
 -- no row set with a lesser number has columns that make a fault with it
@@ -12,7 +12,7 @@ abbrev pub HasNoneBefore : Matrix → ℕ → Type 0
 HasNoneBefore m number = (others : List ℕ) → IsRowSet m others → set_number others < number → HasNoFaultColumns m others
 
 -- too many lines exactly where the shorter side is above the limit; else the matrix is balanced, or this is the least fault
-abbrev pub HasSearchedFaults : Matrix → ℕ → Search → Type 0
+abbrev pub HasSearchedFaults : Matrix → ℕ → LeastSubmatrix → Type 0
 HasSearchedFaults m limit Clean = (shorter_side m ≤ limit) × IsBalanced m
 HasSearchedFaults m limit (Found lines) = (shorter_side m ≤ limit) × IsLeastFault m lines.rows lines.columns
 HasSearchedFaults m limit (TooMany shorter) = (limit < shorter) × (shorter ≡ shorter_side m)

@@ -7,5 +7,5 @@ pub mod laws;
 mod search;
 mod set_fault;
 
-pub use leaf_enumerate::Search;
+pub use leaf_enumerate::LeastSubmatrix;
 pub use search::least_balance_fault;

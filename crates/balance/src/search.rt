@@ -4,7 +4,7 @@ ghost use Rattle.balance.specs.Searched.{HasSearchedFaults};
 
 use crate::faults::Faults;
 use cmr_base::{MAX_LINES, Matrix, Memory};
-use leaf_enumerate::{Search, least_submatrix};
+use leaf_enumerate::{LeastSubmatrix, least_submatrix};
 use std::alloc::Global;
 use std::thread::Threads;
 
@@ -18,7 +18,7 @@ pub fn least_balance_fault<R: Threads + Sync>(
     matrix: &Matrix,
     limit: u32,
     workers: u32,
-) -> Result<Search, Memory>
+) -> Result<LeastSubmatrix, Memory>
     requires limit { limit ≤ MAX_LINES }
     requires workers { (1 ≤ workers) × (workers ≤ 64) }
     ensures { IfOk result (HasSearchedFaults matrix.now limit) }

@@ -2,6 +2,7 @@
 use Rattle.std.proofs.Common.{◌≡◌, ◌≤◌, ◌⊎◌, ◌∙◌, ℕ, Bool, IsTrue, List, length, Result, Ok, Err, ap, sym, subst, inl, inr, arith, refl}
 use Rattle.std.proofs.lemmas.List.{append-nil}
 use Rattle.std.specs.Prelude.{IfErr, OnErr}
+use Rattle.std.specs.Result.{IsErr, IsErrAnd}
 use Rattle.cmr_io.specs.Causes.{Rose}
 use Rattle.cmr_io.specs.Reads.{Reads}
 use Rattle.cmr_front.specs.declared.outcome.Outcome.{Outcome}
@@ -22,6 +23,11 @@ use Rattle.cmr_front.proofs.Statuses.{answered_or_failed, status_of}
 
 pub pointwise : {A B : Type 0} (f g : A → B) → ((x : A) → f x ≡ g x) → f ≡ g
 pointwise f g h = λ i. λ x. h x i
+
+-- an error that is passed on is the one that came
+pub passed_on : (D : Result Outcome Stop → Type 0) (r : Result Outcome Stop) (stop : Stop) → IsErr r × IsErrAnd r (λ e. e ≡ stop) → D (Err stop) → D r
+passed_on D (Ok outcome) stop h d = let e = h.0 in cc
+passed_on D (Err e) stop h d = subst (λ s. D (Err s)) (sym h.1) d
 
 rose_from : (before mid now : ℕ) → before ≤ mid → Rose mid now → Rose before now
 rose_from before mid now h (inl up) = inl (omega arith)

@@ -14,8 +14,8 @@ use Rattle.decomp_tree.specs.PivotedShapes.{IsShapeWith}
 use Rattle.decomp_tree.proofs.OneVerdict.{one_verdict}
 use Rattle.cert_check.specs.Laws.{Tells}
 use Rattle.cert_check.proofs.SoundTrees.{tells}
-use Rattle.leaf_enumerate.specs.declared.search.Search.{Search}
-use Rattle.leaf_enumerate.specs.declared.search.Search.TheVariants.{Clean, Found, TooMany}
+use Rattle.leaf_enumerate.specs.declared.search.LeastSubmatrix.{LeastSubmatrix}
+use Rattle.leaf_enumerate.specs.declared.search.LeastSubmatrix.TheVariants.{Clean, Found, TooMany}
 use Rattle.balance.specs.BalanceFaults.{IsBalanced, IsLeastFault}
 use Rattle.balance.specs.Searched.{HasSearchedFaults}
 use Rattle.balance.proofs.FaultLaws.{cycle_fault_unbalanced, free_is_balanced}
@@ -60,7 +60,7 @@ balanced_by_tree m shape tree is sound says = free_is_balanced m (is_ternary m s
 
 -- ---- one status
 
-same_found : (o : BalancedOrder) (m : Matrix) (a b : Search) → HasSearchedFaults m o.lines a → HasSearchedFaults m o.lines b → (search_report o m a).status ≡ (search_report o m b).status
+same_found : (o : BalancedOrder) (m : Matrix) (a b : LeastSubmatrix) → HasSearchedFaults m o.lines a → HasSearchedFaults m o.lines b → (search_report o m a).status ≡ (search_report o m b).status
 same_found o m Clean Clean f g = refl
 same_found o m Clean (Found lines) f g = let is = least_is_fault m lines g.1 in absurd (f.1 lines.rows lines.columns is.row_set is.column_set is.balance_fault)
 same_found o m Clean (TooMany shorter) f g = let l = f.0 in let a = g.0 in let e = g.1 in absurd (omega arith)
@@ -103,7 +103,7 @@ module _ (o : BalancedOrder) (m : Matrix) where
   says_open is Undecided e = is
   says_open is Refused e = absurd (omega arith)
 
-  says_found : IsUntold o.lines o.pivots m → (found : Search) → HasSearchedFaults m o.lines found → (answer : Answer) → (search_report o m found).status ≡ answer_status answer → BalancedMeans o m answer
+  says_found : IsUntold o.lines o.pivots m → (found : LeastSubmatrix) → HasSearchedFaults m o.lines found → (answer : Answer) → (search_report o m found).status ≡ answer_status answer → BalancedMeans o m answer
   says_found untold Clean has answer e = says_yes has.1 answer e
   says_found untold (Found lines) has answer e = says_no lines (least_is_fault m lines has.1) answer e
   says_found untold (TooMany shorter) has answer e = says_open (record { untold = untold; above = subst (λ n. o.lines < n) has.1 has.0 }) answer e
@@ -115,7 +115,7 @@ says o m r answer (searched untold found has e) status = says_found o m untold f
 
 -- ---- what is decided is an answer
 
-search_answers : (o : BalancedOrder) (m : Matrix) (found : Search) (r : Report) → r ≡ search_report o m found → IsAnswered r
+search_answers : (o : BalancedOrder) (m : Matrix) (found : LeastSubmatrix) (r : Report) → r ≡ search_report o m found → IsAnswered r
 search_answers o m Clean r e = (Yes, status_of r _ e)
 search_answers o m (Found fault) r e = (No, status_of r _ e)
 search_answers o m (TooMany shorter) r e = (Undecided, status_of r _ e)

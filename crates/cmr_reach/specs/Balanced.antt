@@ -6,8 +6,8 @@ use Rattle.cmr_base.specs.Matrix.{Matrix, height, entry}
 use Rattle.cmr_base.specs.CyclePlaces.{HasNoCycleFault, IsCycleFault}
 use Rattle.cmr_base.specs.LineSets.{IsRowSet, IsColumnSet}
 use Rattle.leaf_enumerate.specs.Searched.{shorter_side}
-use Rattle.leaf_enumerate.specs.declared.search.Search.{Search}
-use Rattle.leaf_enumerate.specs.declared.search.Search.TheVariants.{Clean, Found, TooMany}
+use Rattle.leaf_enumerate.specs.declared.search.LeastSubmatrix.{LeastSubmatrix}
+use Rattle.leaf_enumerate.specs.declared.search.LeastSubmatrix.TheVariants.{Clean, Found, TooMany}
 use Rattle.balance.specs.BalanceFaults.{IsBalanced, IsBalanceFault}
 use Rattle.balance.specs.Searched.{HasSearchedFaults}
 use Rattle.tree_type.specs.Invariant.{IsTreeFor}
@@ -88,7 +88,7 @@ pub record IsUntold (budget pivots : ℕ) (m : Matrix) : Type 0 where
   pub undecomposed : ¬ (IsDecomposed budget pivots m)
 
 -- what a search finds: no fault, the least one, or too many lines
-abbrev pub search_report : BalancedOrder → Matrix → Search → Report
+abbrev pub search_report : BalancedOrder → Matrix → LeastSubmatrix → Report
 search_report o m Clean = yes_report balanced_label
 search_report o m (Found fault) = fault_report balanced_label o.fault m fault
 search_report o m (TooMany shorter) = open_report balanced_label m
@@ -98,7 +98,7 @@ search_report o m (TooMany shorter) = open_report balanced_label m
 pub data BalancedDecides (o : BalancedOrder) (m : Matrix) (report : Report) : Type 0 where
   cycle : (fault : LineSet) → IsCycleFault m fault.rows fault.columns → IsFaultOf m fault → report ≡ fault_report balanced_label o.fault m fault → BalancedDecides o m report
   decomposed : HasNoCycleFault (entry m) → IsDecomposed o.lines o.pivots m → IsBalanced m → report ≡ yes_report balanced_label → BalancedDecides o m report
-  searched : IsUntold o.lines o.pivots m → (found : Search) → HasSearchedFaults m o.lines found → report ≡ search_report o m found → BalancedDecides o m report
+  searched : IsUntold o.lines o.pivots m → (found : LeastSubmatrix) → HasSearchedFaults m o.lines found → report ≡ search_report o m found → BalancedDecides o m report
 
 -- what an answer leaves open: nothing but a search decides, and the shorter side has too many lines for it
 pub record IsUndecided (budget pivots : ℕ) (m : Matrix) : Type 0 where

@@ -1,6 +1,5 @@
 -- Drafts that are settled: their cycle faults, and the trees of their children one after another.
-use Rattle.std.proofs.Common.{◌≡◌, ◌<◌, ◌∙◌, ◌++◌, ℕ, suc, Bool, true, false, List, [], ◌∷◌, length, map, refl, ap, ap₂, sym, subst}
-use Rattle.std.proofs.lemmas.List.{length-map}
+use Rattle.std.proofs.Common.{◌≡◌, ◌<◌, ◌∙◌, ◌++◌, ℕ, Bool, true, false, List, [], ◌∷◌, length, map, refl, ap, ap₂, sym, subst}
 use Rattle.std.specs.List.{AllByRecursion}
 use Rattle.cmr_base.specs.declared.line_set.LineSet.{LineSet}
 use Rattle.cmr_base.specs.Matrix.{Matrix, entry, IsMatrix}
@@ -9,7 +8,8 @@ use Rattle.tree_type.specs.declared.tree.Node.{Node}
 use Rattle.tree_type.specs.Findings.{finding_shown}
 use Rattle.tree_type.specs.Invariant.{AreLines, HasChildren}
 use Rattle.tree_type.specs.Soundness.{part}
-use Rattle.tree_type.specs.Trees.{Finding, Empty, Cycle, Reduced, OneSum, Network, Conetwork, R10, TwoSum, ThreeSum, Enumerated, Violator, Undecided, Pivoted, Tree, NoTrees, Branch, count_trees, tree_of, trees_from}
+use Rattle.tree_type.specs.Trees.{Finding, Empty, Cycle, Reduced, OneSum, Network, Conetwork, R10, TwoSum, ThreeSum, Enumerated, Violator, Undecided, Pivoted, Tree, NoTrees, Branch, tree_of, trees_from}
+use Rattle.tree_type.proofs.Forests.{count_list, count_of}
 use Rattle.decomp_tree.specs.declared.drafts.Draft.{Draft}
 use Rattle.decomp_tree.specs.declared.drafts.Front.{Front}
 use Rattle.decomp_tree.specs.Shapes.{case_number}
@@ -27,10 +27,6 @@ use Rattle.decomp_tree.proofs.Said.{seen_fault}
 -- the trees of some sets of lines, with what pivots find
 abbrev pub AreSettled : ℕ → ℕ → ℕ → Matrix → List LineSet → List Tree → Type 0
 AreSettled limit pivots state m children trees = (shapes : List Tree) × AreDrawn limit m children shapes × AllRefine (IsFound limit pivots state m) (trees_from shapes) (trees_from trees)
-
-count_list : (trees : List Tree) → count_trees (trees_from trees) ≡ length trees
-count_list [] = refl
-count_list (tree ∷ trees) = ap suc (count_list trees)
 
 only_undecided_is : (finding : Finding) → is_undecided finding ≡ true → finding ≡ Undecided
 only_undecided_is Undecided e = refl
@@ -127,7 +123,7 @@ module _ (limit : ℕ) (m : Matrix) where
 
         as_many_nodes : length nodes ≡ length settled.0
         as_many_nodes =
-            sym (length-map nodes tree_of) ∙ sym (count_list (map tree_of nodes)) ∙ count_refined (IsFound limit pivots state m) (trees_from settled.0) (trees_from (map tree_of nodes)) settled.2 ∙ count_list settled.0
+            sym (count_of nodes) ∙ count_refined (IsFound limit pivots state m) (trees_from settled.0) (trees_from (map tree_of nodes)) settled.2 ∙ count_list settled.0
 
         pub count_settled : HasChildren (finding_shown (front_in draft).finding) (length nodes)
         count_settled = subst (HasChildren (finding_shown (front_in draft).finding)) (sym as_many_nodes) (has_children limit m (finding_shown (front_in draft).finding) (front_in draft).children settled.0 (parts_of limit m draft drafted).0.said.count all_settled)

@@ -20,7 +20,7 @@ use crate::node::Node;
 use crate::obstructions::Obstruction;
 use crate::seen::{Seen, above_one, above_two, leaf};
 use cmr_base::{LineSet, Matrix, Memory, RowsAndColumns, Three, Two};
-use leaf_enumerate::{Search, least_violator};
+use leaf_enumerate::{LeastSubmatrix, least_violator};
 use network_orient::orientation_of;
 use r10_leaf::is_r10;
 use sp_reduce::{FirstLook, Reduction, first_look, reduce};
@@ -289,9 +289,9 @@ fn look_last<R: Threads + Sync>(rt: &R, alloc: Global, node: &Node<'_>) -> Resul
         node.budget.limit(),
         node.budget.workers(),
     )? {
-        Search::Found(found) => Finding::Violator(named_set(alloc, node.lines, &found)?),
-        Search::Clean => Finding::Enumerated,
-        Search::TooMany { .. } => Finding::Undecided,
+        LeastSubmatrix::Found(found) => Finding::Violator(named_set(alloc, node.lines, &found)?),
+        LeastSubmatrix::Clean => Finding::Enumerated,
+        LeastSubmatrix::TooMany { .. } => Finding::Undecided,
     };
     Ok(leaf(alloc, finding))
 }

@@ -4,14 +4,14 @@ use Rattle.std.proofs.lemmas.Bool.{cases_lt}
 use Rattle.cmr_base.specs.Matrix.{Matrix, height, transposed, IsMatrix}
 use Rattle.cmr_base.specs.Violator.{IsLeastByRows}
 use Rattle.cmr_base.proofs.TransposedLemmas.{least_from_transposed, none_from_transposed}
-use Rattle.leaf_enumerate.specs.declared.search.Search.{Search}
-use Rattle.leaf_enumerate.specs.declared.search.Search.TheVariants.{Clean, Found, TooMany}
+use Rattle.leaf_enumerate.specs.declared.search.LeastSubmatrix.{LeastSubmatrix}
+use Rattle.leaf_enumerate.specs.declared.search.LeastSubmatrix.TheVariants.{Clean, Found, TooMany}
 use Rattle.leaf_enumerate.specs.RowSets.{HasColumnSet}
 use Rattle.leaf_enumerate.specs.Searched.{HasSearched, HasSearchedFor}
 use Rattle.leaf_enumerate.proofs.RowSets.{none_at_all}
 
 module _ (m : Matrix) (is : IsMatrix m) (limit : ℕ) where
-  of_search : (found : Search) → HasSearchedFor HasColumnSet IsLeastByRows m limit found → HasSearched m limit found
+  of_search : (found : LeastSubmatrix) → HasSearchedFor HasColumnSet IsLeastByRows m limit found → HasSearched m limit found
   of_search Clean h = (
     h.0,
     elim (cases_lt m.width (height m)) [
@@ -28,6 +28,6 @@ module _ (m : Matrix) (is : IsMatrix m) (limit : ℕ) where
   )
   of_search (TooMany shorter) h = h
 
-  pub searched : {E : Type 0} (result : Result Search E) → IfOk result (HasSearchedFor HasColumnSet IsLeastByRows m limit) → IfOk result (HasSearched m limit)
+  pub searched : {E : Type 0} (result : Result LeastSubmatrix E) → IfOk result (HasSearchedFor HasColumnSet IsLeastByRows m limit) → IfOk result (HasSearched m limit)
   searched (Ok found) h = of_search found h
   searched (Err e) h = tt

@@ -14,7 +14,7 @@ use std::thread::Threads;
 
 /// What a search for the least submatrix of a kind finds.
 #[derive(Debug, Drop)]
-pub enum Search {
+pub enum LeastSubmatrix {
     /// There is none.
     Clean,
     /// The least one.
@@ -32,7 +32,7 @@ pub fn least_violator<R: Threads + Sync>(
     matrix: &Matrix,
     limit: u32,
     workers: u32,
-) -> Result<Search, Memory>
+) -> Result<LeastSubmatrix, Memory>
     requires limit { limit ≤ MAX_LINES }
     requires workers { (1 ≤ workers) × (workers ≤ 64) }
     ensures { IfOk result (HasSearched matrix.now limit) }
@@ -51,7 +51,7 @@ pub fn least_submatrix<R: Threads + Sync, S: Sought>(
     sought: &S,
     limit: u32,
     workers: u32,
-) -> Result<Search, Memory>
+) -> Result<LeastSubmatrix, Memory>
     requires limit { limit ≤ MAX_LINES }
     requires workers { (1 ≤ workers) × (workers ≤ 64) }
     ensures { IfOk result (HasSearchedFor (S.holds sought.now) (S.is_least sought.now) matrix.now
@@ -59,11 +59,11 @@ pub fn least_submatrix<R: Threads + Sync, S: Sought>(
 {
     let shorter = matrix.rows().min(matrix.columns());
     if shorter > limit {
-        return Ok(Search::TooMany { shorter });
+        return Ok(LeastSubmatrix::TooMany { shorter });
     }
     match least(rt, alloc, matrix, sought, workers)? {
-        Some(lines) => Ok(Search::Found(lines)),
-        None => Ok(Search::Clean),
+        Some(lines) => Ok(LeastSubmatrix::Found(lines)),
+        None => Ok(LeastSubmatrix::Clean),
     }
 }
 

@@ -2,17 +2,17 @@
 use crate::given::{bytes, is_text, lines_text, matrix, row_text, sparse};
 use balance::least_balance_fault;
 use cmr_base::Matrix;
-use leaf_enumerate::{Search, least_violator};
+use leaf_enumerate::{LeastSubmatrix, least_violator};
 use std::alloc::Global;
 use std::process::Abort;
 use std::test::Fail;
 use std::thread::Threads;
 
-fn search_text(alloc: Global, search: &Search) -> Result<Vec<u8>, Fail> {
+fn search_text(alloc: Global, search: &LeastSubmatrix) -> Result<Vec<u8>, Fail> {
     match search {
-        Search::Clean => bytes(alloc, "clean/"),
-        Search::Found(lines) => lines_text(alloc, lines),
-        Search::TooMany { shorter } => row_text(alloc, "too many", &[*shorter]),
+        LeastSubmatrix::Clean => bytes(alloc, "clean/"),
+        LeastSubmatrix::Found(lines) => lines_text(alloc, lines),
+        LeastSubmatrix::TooMany { shorter } => row_text(alloc, "too many", &[*shorter]),
     }
 }
 

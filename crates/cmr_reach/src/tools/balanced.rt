@@ -17,7 +17,7 @@ ghost use Rattle.cmr_front.specs.declared.status.Answer.{Answer};
 ghost use Rattle.cmr_reach.specs.Balanced.{BalancedDecides, IsDecomposed, IsInRanges, IsUntold, balanced_app, balanced_order, balanced_order_in, balanced_order_of, balanced_tool, search_report};
 
 use crate::faults::{fault_outcome, open_outcome, yes_outcome};
-use balance::{Search, least_balance_fault};
+use balance::{LeastSubmatrix, least_balance_fault};
 use camion_sign::cycle_fault;
 use clap::{ArgMatches, Command};
 use cmr_base::{MAX_ROWS, Matrix, Memory, Word};
@@ -205,15 +205,15 @@ fn search_outcome<'a>(
     alloc: Global,
     options: &BalancedOptions<'a>,
     matrix: &Matrix,
-    found: &Search,
+    found: &LeastSubmatrix,
 ) -> Result<Outcome<'a>, Memory>
     requires { HasSearchedFaults matrix.now options.now.lines found.now }
     ensures { IfOk result (λ outcome. outcome_report outcome
         ≡ search_report (balanced_order_of options.now) matrix.now found.now) }
 {
     match found {
-        Search::Clean => yes_outcome(alloc, LABEL),
-        Search::Found(fault) => fault_outcome(alloc, LABEL, options.fault, matrix, fault),
-        Search::TooMany { .. } => open_outcome(alloc, LABEL, matrix),
+        LeastSubmatrix::Clean => yes_outcome(alloc, LABEL),
+        LeastSubmatrix::Found(fault) => fault_outcome(alloc, LABEL, options.fault, matrix, fault),
+        LeastSubmatrix::TooMany { .. } => open_outcome(alloc, LABEL, matrix),
     }
 }

@@ -1,17 +1,10 @@
-use Rattle.std.proofs.Common.{◌≡◌, Result, Ok, Err, sym, subst}
-use Rattle.std.specs.Result.{IsErr, IsErrAnd}
+use Rattle.std.proofs.Common.{Ok}
 use Rattle.cmr_front.specs.GraphText.{ReportsGraph}
 use Rattle.cmr_front.specs.Tool.{IsDecision}
-use Rattle.cmr_front.specs.declared.outcome.Outcome.{Outcome}
-use Rattle.cmr_front.specs.declared.outcome.Stop.{Stop}
+use Rattle.cmr_front.proofs.Endings.{passed_on}
 use Rattle.cmr_front.proofs.GraphFile.{graph_stopped}
 use Rattle.cmr_unimodular.specs.GraphMatrix.{GraphDecides}
 use Rattle.cmr_unimodular.proofs.tools.graph_matrix.matrix_of_text.Goals as goal
-
--- an error that is passed on is the one that came
-passed_on : (D : Result Outcome Stop → Type 0) (r : Result Outcome Stop) (stop : Stop) → IsErr r × IsErrAnd r (λ e. e ≡ stop) → D (Err stop) → D r
-passed_on D (Ok outcome) stop h d = let e = h.0 in cc
-passed_on D (Err e) stop h d = subst (λ s. D (Err s)) (sym h.1) d
 
 pub returns-in_err-sized : goal.returns-in_err-sized
 returns-in_err-sized c =
