@@ -1,12 +1,9 @@
 -- The transpose of a matrix of zeros and ones.
-use Rattle.std.proofs.Common.{◌≡◌, ◌⊎◌, ℕ, ℤ, pos, suc, List, [], ◌∷◌, map}
+use Rattle.std.proofs.Common.{ℕ, ℤ, pos, suc, List, [], ◌∷◌, map}
 use Rattle.std.specs.List.{AllByRecursion, range_with_len, slice_index_or}
 use Rattle.cmr_base.specs.Matrix.{Matrix, column_of, transposed}
 use Rattle.cmr_base.specs.Trees.{IsBinary}
-use Rattle.matrix_text.proofs.BinaryTexts.{rows_binary, all-map}
-
-abbrev IsZeroOrOne : ℤ → Type 0
-IsZeroOrOne z = (z ≡ pos 0) ⊎ (z ≡ pos 1)
+use Rattle.matrix_text.proofs.BinaryTexts.{IsZeroOrOne, rows_binary, all-map}
 
 column_binary : (rows : List (List ℤ)) (column : ℕ) → ((row : ℕ) → IsZeroOrOne (slice_index_or (slice_index_or rows row []) column (pos 0)))
     → AllByRecursion IsZeroOrOne (map (λ row. slice_index_or row column (pos 0)) rows)

@@ -33,7 +33,7 @@ module _ (limit : ℕ) (few : limit ≤ 24) (m : Matrix) (is : IsMatrix m) (line
   inner = part m lines
 
   free_by : (case : Case) (found : Finding) (parts children : List LineSet) → Applies limit inner case → Says case inner found parts
-      → (is_unsearched (finding_in lines found) ≡ false → 2 < case_number case → HasNoCycleFault (entry inner)) → HasParts (finding_in lines found) children (map (set_in lines) parts)
+      → (is_unsearched (finding_in lines found) ≡ false → case_number HasFault < case_number case → HasNoCycleFault (entry inner)) → HasParts (finding_in lines found) children (map (set_in lines) parts)
       → AreDue lines (finding_in lines found) 0 children → HasChildren (finding_in lines found) (length children) → keeps_free (finding_in lines found) ≡ true → AllByRecursion (IsFreeOn m) children → IsFreeOn m lines
   free_by HasNoLines Empty parts children applies says searched has due count keeps free = free_empty m lines (let a = applies.0 in let b = applies.1 in omega (arith, a, b, height_in m lines))
   free_by HasFault (Cycle fault) parts children applies says searched has due count keeps free = absurd (true≢false (sym keeps))
@@ -64,7 +64,7 @@ module _ (limit : ℕ) (few : limit ≤ 24) (m : Matrix) (is : IsMatrix m) (line
   none_by_children finding children said keeps none =
       none_from_free m lines
       (free_by said.case said.found said.parts children said.applies said.says
-      (subst (λ f. is_unsearched f ≡ false → 2 < case_number said.case → HasNoCycleFault (entry inner)) said.finding_is said.searched)
+      (subst (λ f. is_unsearched f ≡ false → case_number HasFault < case_number said.case → HasNoCycleFault (entry inner)) said.finding_is said.searched)
       (subst (λ f. HasParts f children (map (set_in lines) said.parts)) said.finding_is said.parts_are)
       (subst (λ f. AreDue lines f 0 children) said.finding_is said.due) (subst (λ f. HasChildren f (length children)) said.finding_is said.count)
       (subst (λ f. keeps_free f ≡ true) said.finding_is keeps) (all_weaker (HasNoneAmong m) (IsFreeOn m) (free_from_none m) children none))

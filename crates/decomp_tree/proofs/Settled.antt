@@ -12,7 +12,7 @@ use Rattle.tree_type.specs.Trees.{Finding, Empty, Cycle, Reduced, OneSum, Networ
 use Rattle.tree_type.proofs.Forests.{count_list, count_of}
 use Rattle.decomp_tree.specs.declared.drafts.Draft.{Draft}
 use Rattle.decomp_tree.specs.declared.drafts.Front.{Front}
-use Rattle.decomp_tree.specs.Shapes.{case_number}
+use Rattle.decomp_tree.specs.Shapes.{HasFault, case_number}
 use Rattle.decomp_tree.specs.Seen.{HasNoneAmong, AreFewer, IsNamedFault, IsSaid, is_unsearched, IsDrawn, AreDrawn}
 use Rattle.decomp_tree.specs.Refined.{is_undecided, AllRefine}
 use Rattle.decomp_tree.specs.PivotedShapes.{IsBehind, IsFound, IsDrawnWith}
@@ -84,7 +84,7 @@ module _ (limit : ℕ) (m : Matrix) where
       → IsDrawn limit m front.lines (Branch front.lines (finding_shown front.finding) (trees_from trees))
   node_drawn front is late trees children = drawn_node limit m front.lines (finding_shown front.finding) front.children trees is.said (λ l. go (is_unsearched (finding_shown front.finding)) refl l) children
     where
-      go : (b : Bool) → is_unsearched (finding_shown front.finding) ≡ b → 2 < case_number is.said.case → HasNoCycleFault (entry (part m front.lines))
+      go : (b : Bool) → is_unsearched (finding_shown front.finding) ≡ b → case_number HasFault < case_number is.said.case → HasNoCycleFault (entry (part m front.lines))
       go true e l = late e
       go false e l = is.said.searched e l
 

@@ -109,7 +109,7 @@ module _ (limit : ℕ) (few : limit ≤ 24) (m : Matrix) (is : IsMatrix m) (line
         blocks = three_blocks m lines are t S e w;
       }
 
-  no_fault : (case : Case) → IsFirstCase limit (part m lines) case → 2 < case_number case → HasNoCycleFault (entry (part m lines))
+  no_fault : (case : Case) → IsFirstCase limit (part m lines) case → case_number HasFault < case_number case → HasNoCycleFault (entry (part m lines))
   no_fault case first l t c d path fault = first.first HasFault l (t, c, d, path, fault)
 
   pub least_violator : (R C : List ℕ) → IsLeastViolator (part m lines) R C → IsRowSet (part m lines) R × IsColumnSet (part m lines) C × IsViolator (entry (part m lines)) R C

@@ -80,7 +80,7 @@ pub record IsSaid (limit : ℕ) (m : Matrix) (lines : LineSet) (finding : Findin
   pub case : Case
   pub applies : Applies limit (part m lines) case
   pub others : HasNoneBefore limit (part m lines) (case_number case)
-  pub searched : is_unsearched finding ≡ false → 2 < case_number case → HasNoCycleFault (entry (part m lines))
+  pub searched : is_unsearched finding ≡ false → case_number HasFault < case_number case → HasNoCycleFault (entry (part m lines))
   pub found : Finding
   pub parts : List LineSet
   pub says : Says case (part m lines) found parts

@@ -20,7 +20,7 @@ use Rattle.matrix_text.proofs.DenseTexts as dense_texts
 use Rattle.matrix_text.proofs.SparseTexts as sparse_texts
 use Rattle.matrix_text.proofs.SpelledEntries.{spelled_cells, spelled_values}
 
-abbrev IsZeroOrOne : ℤ → Type 0
+abbrev pub IsZeroOrOne : ℤ → Type 0
 IsZeroOrOne z = (z ≡ pos 0) ⊎ (z ≡ pos 1)
 
 allowed_binary : (y z : ℤ) → allowed true y ≡ Ok z → IsZeroOrOne z

@@ -6,6 +6,5 @@ pub mod WordLemmas
 pub mod BasisLemmas
 pub mod PlaneLemmas
 pub mod ColumnSums
-pub mod RemainderTests
 pub mod ColumnSetSearch
 mod ReducedWords

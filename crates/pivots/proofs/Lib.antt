@@ -1,5 +1,4 @@
 pub mod ChosenLines
-pub mod RemainderTests
 pub mod LinesBefore
 pub mod DrawnPlaces
 pub mod MultipliedRows

@@ -134,12 +134,12 @@ fn wide(alloc: Global) -> Result<Matrix, Fail> {
     Ok(wide)
 }
 
-fn has_words(matrix: &Matrix, block: u32, support: u64, minus: u64) -> bool {
+fn has_words(matrix: &Matrix, chunk: u32, support: u64, minus: u64) -> bool {
     matrix.rows() == 1
-        && block < 16
-        && 64 * block < matrix.columns()
-        && matrix.support_word(0, block) == support
-        && matrix.minus_word(0, block) == minus
+        && chunk < 16
+        && 64 * chunk < matrix.columns()
+        && matrix.support_word(0, chunk) == support
+        && matrix.minus_word(0, chunk) == minus
 }
 
 #[test]

@@ -3,7 +3,7 @@ use Rattle.std.specs.Prelude.{◌↔◌, IsTrue}
 use Rattle.std.specs.Int.{int_rem_euclid}
 use Rattle.std.proofs.lemmas.Int.{to_z-of_z}
 use Rattle.cmr_base.specs.Sums.{IsEven}
-use Rattle.parity.proofs.RemainderTests.{even_test}
+use Rattle.cmr_base.proofs.RemainderTests.{even_test}
 use Rattle.parity.proofs.violator.is_even.Goals as goal
 
 pub returns : goal.returns

@@ -3,7 +3,7 @@ use Rattle.std.specs.Prelude.{◌↔◌, IsTrue}
 use Rattle.std.specs.Int.{int_rem_euclid}
 use Rattle.std.proofs.lemmas.Int.{to_z-of_z}
 use Rattle.cmr_base.specs.Sums.{IsOdd}
-use Rattle.pivots.proofs.RemainderTests.{odd_test}
+use Rattle.cmr_base.proofs.RemainderTests.{odd_test}
 use Rattle.pivots.proofs.back.is_odd.Goals as goal
 
 pub returns : goal.returns
