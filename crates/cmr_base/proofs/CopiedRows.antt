@@ -1,16 +1,15 @@
--- Rows and columns of zeros into which the entries of another matrix are copied, nonzero by nonzero.
+-- Rows of zeros into which the entries of another matrix are copied, nonzero by nonzero.
 use Rattle.std.proofs.Common.{◌≡◌, ◌≢◌, ◌<◌, ◌≤◌, ◌+◌, ◌∙◌, ◌⊎◌, inl, inr, ℕ, ℤ, pos, false, List, length, map, get_or, set, replicate, refl, ap, sym, subst, arith}
 use Rattle.std.specs.List.Sorted.{IsStrictlyIncreasing}
 use Rattle.std.proofs.lemmas.Bool.{cases_eq, cases_lt}
 use Rattle.std.proofs.lemmas.List.{get_or-replicate, get_or-set_other, get_or-set_same, length-map, length-replicate, length-set}
-use Rattle.cmr_base.specs.Matrix.{Matrix, height, row_of, entry, with_entry, transposed, IsEntry, IsMatrix}
+use Rattle.cmr_base.specs.Matrix.{Matrix, height, entry, with_entry, IsEntry, IsMatrix}
 use Rattle.cmr_base.specs.CopiedEntries.{ArePlaces, IsEmptyRow, IsRowCopied}
 use Rattle.cmr_base.specs.LineSets.{AllBelow, submatrix}
 use Rattle.cmr_base.specs.Trees.{support}
-use Rattle.cmr_base.specs.WrittenColumns.{IsColumnWritten}
 use Rattle.cmr_base.proofs.Booleans.{zero_is}
 use Rattle.cmr_base.proofs.Entries.{height-with_entry, entry-with_entry_same, entry-with_entry_other_column, entry-with_entry_other_row, is_matrix-with_entry}
-use Rattle.cmr_base.proofs.Parts.{entry-submatrix, entry-transposed, height-transposed, is_matrix-transposed, is_ternary-submatrix, length-rising}
+use Rattle.cmr_base.proofs.Parts.{entry-submatrix, is_ternary-submatrix, length-rising}
 use Rattle.cmr_base.proofs.PlaneSteps.{zero_entry}
 use Rattle.cmr_base.proofs.Submatrices.{increasing_places}
 use Rattle.cmr_base.proofs.WholeMatrices.{is_ternary, same_matrix}
@@ -186,59 +185,3 @@ module _ (m : Matrix) (rows columns : List ℕ) where
       same_matrix part (submatrix m rows columns) are.is_matrix.rectangular (is_ternary-submatrix m rows columns (is_ternary m is)).rectangular
       (are.height_is ∙ sym (length-map rows (λ row. map (entry m row) columns))) are.width_is
       (λ i k l h. let high = are.height_is in let wide = are.width_is in are.copied i k (omega arith) (omega arith) ∙ sym (entry-submatrix m rows columns i k (omega arith) (omega arith)))
-
--- ---- a column
-
-module _ (old : Matrix) (column : ℕ) (entries : List ℤ) where
-  -- some zeros need not be written
-  pub zeros_written : (new : Matrix) (count next : ℕ) → IsColumnWritten old new column entries count → count ≤ next → ((row : ℕ) → count ≤ row → row < next → get_or entries row (pos 0) ≡ pos 0)
-      → ((row : ℕ) → row < next → entry old row column ≡ pos 0) → IsColumnWritten old new column entries next
-  zeros_written new count next before ordered none empty = record {
-    is_matrix = before.is_matrix;
-    height_same = before.height_same;
-    width_same = before.width_same;
-    written = λ row l. elim (cases_lt row count) [
-      | inl h ↦ before.written row h
-      | inr past ↦ before.others row column (inr past) ∙ empty row l ∙ sym (none row past l)
-    ];
-    others = λ i j h. before.others i j (less i j h);
-  }
-    where
-      less : (i j : ℕ) → (j ≢ column) ⊎ (next ≤ i) → (j ≢ column) ⊎ (count ≤ i)
-      less i j (inl k) = inl k
-      less i j (inr l) = inr (omega arith)
-
--- the first so many rows are columns, and the other columns are empty
-pub record AreRowsTurned (m : Matrix) (count : ℕ) (turned : Matrix) : Type 0 where
-  pub is_matrix : IsMatrix turned
-  pub height_is : height turned ≡ m.width
-  pub width_is : turned.width ≡ height m
-  pub written : (column row : ℕ) → column < m.width → row < count → entry turned column row ≡ entry m row column
-  pub empty : (column row : ℕ) → column < m.width → count ≤ row → entry turned column row ≡ pos 0
-
-module _ (m : Matrix) where
-  pub no_rows_turned : (turned : Matrix) → IsMatrix turned → turned ≡ record { rows = replicate m.width (replicate (height m) (pos 0)); width = height m } → AreRowsTurned m 0 turned
-  no_rows_turned turned is e = record {
-    is_matrix = is;
-    height_is = ap height e ∙ length-replicate m.width (replicate (height m) (pos 0));
-    width_is = ap (λ (t : Matrix). t.width) e;
-    written = λ column row l h. absurd (omega arith);
-    empty = λ column row l h. ap (λ (t : Matrix). entry t column row) e ∙ zero_entry m.width (height m) column row l;
-  }
-
-  pub one_row_turned : (old new : Matrix) (count : ℕ) → AreRowsTurned m count old → IsColumnWritten old new count (row_of m count) m.width → AreRowsTurned m (count + 1) new
-  one_row_turned old new count before here = record {
-    is_matrix = here.is_matrix;
-    height_is = here.height_same ∙ before.height_is;
-    width_is = here.width_same ∙ before.width_is;
-    written = λ column row l h. elim (cases_eq row count) [
-      | inl e ↦ subst (λ (r : ℕ). entry new column r ≡ entry m r column) (sym e) (here.written column l)
-      | inr d ↦ here.others column row (inl d) ∙ before.written column row l (omega (arith, h, d))
-    ];
-    empty = λ column row l h. here.others column row (inl (λ e. omega arith)) ∙ before.empty column row l (omega arith);
-  }
-
-  pub all_rows_turned : (turned : Matrix) (count : ℕ) → IsMatrix m → AreRowsTurned m count turned → height m ≤ count → turned ≡ transposed m
-  all_rows_turned turned count is are all =
-      same_matrix turned (transposed m) are.is_matrix.rectangular (is_matrix-transposed m is).rectangular (are.height_is ∙ sym (height-transposed m)) are.width_is
-      (λ column row l h. let high = are.height_is in let wide = are.width_is in are.written column row (omega arith) (omega arith) ∙ sym (entry-transposed m row column is))

@@ -61,5 +61,5 @@ reproduced_by_slices comparison net m arcs walks e f T count ends =
     (reproduced_by_columns comparison net m (subst (λ (a : List Pair). IsTree a (height m)) e T) (sym (ap length f) ∙ count) (subst (λ (w : List Pair). AreEndsInRange w (height m)) f ends)))
 
 -- a whole slice written back
-pub written_back : (n : ℕ) (items old : List ℤ) → n ≡ length items → take n (items ++ old) ≡ items
+pub written_back : {A : Type 0} (n : ℕ) (items old : List A) → n ≡ length items → take n (items ++ old) ≡ items
 written_back n items old e = ap (λ (k : ℕ). take k (items ++ old)) e ∙ take-append_seam items old

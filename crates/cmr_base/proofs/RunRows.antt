@@ -118,7 +118,7 @@ module _ (width : ℕ) (plane rows columns : List ℕ) where
 
 -- ---- the words of a submatrix
 
-bit_from : (n k : ℕ) (b : Bool) → has_bit n k ≡ b → bit_at n k ≡ cond b 1 0
+pub bit_from : (n k : ℕ) (b : Bool) → has_bit n k ≡ b → bit_at n k ≡ cond b 1 0
 bit_from n k b e = go (bit_at n k) (bit_at-lt n k) b e
   where
     go : (bit : ℕ) → bit < 2 → (b : Bool) → eqb bit 1 ≡ b → bit ≡ cond b 1 0

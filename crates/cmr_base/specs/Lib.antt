@@ -33,3 +33,4 @@ pub mod Cores
 pub mod R10
 pub mod ColumnSets
 pub mod Runs
+pub mod TurnedPlanes

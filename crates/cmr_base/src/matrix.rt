@@ -1,7 +1,6 @@
 ghost use Rattle.std.specs.Prelude.{◌≡◌, ◌<◌, ◌≤◌, ◌*◌, ℕ, length, slice_index_or, IfOk, pos, replicate};
 ghost use Rattle.std.specs.List.Sorted.{IsStrictlyIncreasing};
 ghost use Rattle.cmr_base.specs.CopiedEntries.{ArePlaces, IsEmptyRow, IsRowCopied};
-ghost use Rattle.cmr_base.specs.WrittenColumns.{IsColumnWritten};
 ghost use Rattle.cmr_base.specs.Matrix.{Matrix, height, row_of, entry, with_entry, transposed, IsMatrix, IsEntry, rows_of, nonzeros_of, is_nonzero};
 ghost use Rattle.cmr_base.specs.LineSets.{AllBelow, submatrix};
 ghost use Rattle.cmr_base.specs.MatrixLayout.{value_of};
@@ -12,6 +11,7 @@ use crate::planes::{
     Plane, count_bits, has_bit, passes, place_of, planes_of, row_words, with_bit, words_for,
 };
 use crate::runs::{Run, chosen_plane, runs_of};
+use crate::turned_plane::turned_plane;
 use crate::{Indices, LineSet, MAX_COLUMNS, MAX_ROWS, Memory};
 use std::alloc::Global;
 use std::marker::Model;
@@ -272,11 +272,12 @@ impl Matrix {
     pub fn transposed(&self, alloc: Global) -> Result<Matrix, Memory>
         ensures { IfOk result (λ m. m ≡ transposed self.now) }
     {
-        let mut turned = Matrix::zero(alloc, self.columns(), self.rows())?;
-        for row in 0..self.rows() {
-            self.turn_row(row, &mut turned);
-        }
-        Ok(turned)
+        Ok(Matrix {
+            rows: self.columns,
+            columns: self.rows,
+            support: turned_plane(alloc, &self.support, self.rows, self.columns)?,
+            minus: turned_plane(alloc, &self.minus, self.rows, self.columns)?,
+        })
     }
 
     // Writes the chosen entries of a row into an empty row, nonzero by nonzero.
@@ -295,23 +296,6 @@ impl Matrix {
             if place < part.columns() {
                 part.set(to, place, self.entry(row, column));
             }
-            from = column + 1;
-        }
-    }
-
-    // Writes a row into an empty column, nonzero by nonzero.
-    fn turn_row(&self, row: u32, turned: &mut Matrix)
-        requires row { row < height self.now }
-        requires shape { IsMatrix turned.old }
-        requires height { height turned.old ≡ self.now.width }
-        requires width { row < turned.old.width }
-        requires empty { (column : ℕ) → column < self.now.width
-            → entry turned.old column row ≡ pos 0 }
-        ensures { IsColumnWritten turned.old turned.new row (row_of self.now row) self.now.width }
-    {
-        let mut from = 0;
-        while let Some(column) = self.next_nonzero(row, from) {
-            turned.set(column, row, self.entry(row, column));
             from = column + 1;
         }
     }
