@@ -118,24 +118,24 @@ module _ (m : Matrix) (a b : Connector) (x : Line) (S : Lines) (good : IsGoodThr
 -- ---- what is passed over
 
 module _ (m : Matrix) where
-  concentrated_seed : (s : Seed) (S : Lines) → s.form ≡ Concentrated → IsGoodSeed m s S → IsGoodThree (height m) m.width (entry m) Concentrated s.first s.second s.line S
-  concentrated_seed s S e g = subst (λ (f : Form). IsGoodThree (height m) m.width (entry m) f s.first s.second s.line S) e g
+  concentrated_seed : (s : Seed) (S : Lines) → s.form ≡ Concentrated → IsGoodSeed m s S → IsGoodThree (height m) m.width (entry m) Concentrated s.pair.first s.pair.second s.line S
+  concentrated_seed s S e g = subst (λ (f : Form). IsGoodThree (height m) m.width (entry m) f s.pair.first s.pair.second s.line S) e g
 
   -- where two connectors are in no good seed, no others with their row i and column j are
   pub none_between : (d : Connectors) → IsConnectorPair (height m) m.width (entry m) Concentrated d.first d.second → HasNoGood m (all_front Concentrated d) → HasNoneBetween m d.first.row d.second.column
-  none_between d pair none s S ef ei ej g = some_elsewhere m s.first s.second s.line S (concentrated_seed s S ef g) d pair (sym ei) (sym ej) none
+  none_between d pair none s S ef ei ej g = some_elsewhere m s.pair.first s.pair.second s.line S (concentrated_seed s S ef g) d pair (sym ei) (sym ej) none
 
   -- a column that is in side one with row i
   pub none_at_held : (i j : ℕ) → IsHeldBy m i j → HasNoneBetween m i j
   none_at_held i j held s S ef ei ej g0 =
       let g = concentrated_seed s S ef g0 in
-      not_both (S (Column j)) (held (record { first = s.first; second = s.second }) S g.1.grown.closed (ap (λ (z : ℕ). S (Row z)) (sym ei) ∙ g.1.grown.has.1.0)) (ap (λ (z : ℕ). S (Column z)) (sym ej) ∙ g.1.two.1.0)
+      not_both (S (Column j)) (held s.pair S g.1.grown.closed (ap (λ (z : ℕ). S (Row z)) (sym ei) ∙ g.1.grown.has.1.0)) (ap (λ (z : ℕ). S (Column z)) (sym ej) ∙ g.1.two.1.0)
 
   pub no_candidate : (i p k j : ℕ) → HasNoneBetween m i j → HasNoGood m (3 ∷ i ∷ p ∷ k ∷ j ∷ [])
   no_candidate i p k j none s S h g = none s S (sym (form_is Concentrated s.form h.0)) (sym h.1.0) (sym h.1.1.1.1.0) g
 
   pub no_candidates : (i p : ℕ) (candidates : List ℕ) → AreCandidates m i candidates → ((j : ℕ) → has_column candidates j ≡ false) → HasNoGood m (3 ∷ i ∷ p ∷ [])
-  no_candidates i p candidates are none s S h g = are.others s.second.column (good_inside m s S g).column_two (none s.second.column) s S (sym (form_is Concentrated s.form h.0)) (sym h.1.0) refl g
+  no_candidates i p candidates are none s S h g = are.others s.pair.second.column (good_inside m s S g).column_two (none s.pair.second.column) s S (sym (form_is Concentrated s.form h.0)) (sym h.1.0) refl g
 
   zero_determinant : (x y z w : ℤ) → x ≡ pos 0 → y ≡ pos 0 → ¬ (IsSign (x *ℤ w -ℤ y *ℤ z))
   zero_determinant x y z w ex ey (inl e) = let k : x *ℤ w -ℤ y *ℤ z ≡ pos 0 = rw (ex, ey) (simp products (omega (arith, sums))) in let l = sym k ∙ e in absurd (omega (arith, sums))
@@ -147,7 +147,7 @@ module _ (m : Matrix) where
       elim refused [
         | inl l ↦ let r = g.0.values.tied.columns_rise in absurd (omega arith)
         | inr (inl e) ↦ g.0.values.tied.first_other e
-        | inr (inr (ep, eq)) ↦ zero_determinant (entry m c.k c.p) (entry m c.k q) (entry m s.second.other c.p) (entry m s.second.other q) ep eq g.0.values.tied.determinant
+        | inr (inr (ep, eq)) ↦ zero_determinant (entry m c.k c.p) (entry m c.k q) (entry m s.pair.second.other c.p) (entry m s.pair.second.other q) ep eq g.0.values.tied.determinant
       ]
 
   -- columns up to p, and columns in which row i is 0
@@ -222,7 +222,7 @@ none_between_seconds m i p k from j columns candidates are others before none b 
 
 -- row k is 0 in each candidate
 pub no_common : (m : Matrix) (i p k : ℕ) (candidates : List ℕ) → AreCandidates m i candidates → ((x : ℕ) → (support m k x ≡ false) ⊎ (has_column candidates x ≡ false)) → HasNoGood m (3 ∷ i ∷ p ∷ k ∷ [])
-no_common m i p k candidates are none s S h g = no_second m i p k s.second.column candidates are (none s.second.column) s S (h.0, (h.1.0, (h.1.1.0, (h.1.1.1.0, (refl, tt))))) g
+no_common m i p k candidates are none s S h g = no_second m i p k s.pair.second.column candidates are (none s.pair.second.column) s S (h.0, (h.1.0, (h.1.1.0, (h.1.1.1.0, (refl, tt))))) g
 
 -- ---- the first connectors with two corners
 

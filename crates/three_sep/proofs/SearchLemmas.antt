@@ -37,37 +37,37 @@ to_connector P false d row column other = (row, (column, (other, tt)))
 -- ---- good seeds as cuts
 
 module _ (m : Matrix) (s : Seed) (S : Lines) (good : IsGoodSeed m s S) where
-  first_in : IsLine (height m) m.width (Row s.first.row) × IsLine (height m) m.width (Column s.first.column) × IsLine (height m) m.width (other_line (first_is_flat s.form) s.first.other)
-  first_in = of_connector (IsLine (height m) m.width) (first_is_flat s.form) s.first good.0.first_lines
+  first_in : IsLine (height m) m.width (Row s.pair.first.row) × IsLine (height m) m.width (Column s.pair.first.column) × IsLine (height m) m.width (other_line (first_is_flat s.form) s.pair.first.other)
+  first_in = of_connector (IsLine (height m) m.width) (first_is_flat s.form) s.pair.first good.0.first_lines
 
-  second_in : IsLine (height m) m.width (Row s.second.row) × IsLine (height m) m.width (Column s.second.column) × IsLine (height m) m.width (other_line (second_is_flat s.form) s.second.other)
-  second_in = of_connector (IsLine (height m) m.width) (second_is_flat s.form) s.second good.0.second_lines
+  second_in : IsLine (height m) m.width (Row s.pair.second.row) × IsLine (height m) m.width (Column s.pair.second.column) × IsLine (height m) m.width (other_line (second_is_flat s.form) s.pair.second.other)
+  second_in = of_connector (IsLine (height m) m.width) (second_is_flat s.form) s.pair.second good.0.second_lines
 
-  pub first_has : (S (Row s.first.row) ≡ true) × (S (Column s.first.column) ≡ true) × (S (other_line (first_is_flat s.form) s.first.other) ≡ true)
-  first_has = of_connector (λ x. S x ≡ true) (first_is_flat s.form) s.first good.1.grown.has.1
+  pub first_has : (S (Row s.pair.first.row) ≡ true) × (S (Column s.pair.first.column) ≡ true) × (S (other_line (first_is_flat s.form) s.pair.first.other) ≡ true)
+  first_has = of_connector (λ x. S x ≡ true) (first_is_flat s.form) s.pair.first good.1.grown.has.1
 
-  pub second_out : (S (Row s.second.row) ≡ false) × (S (Column s.second.column) ≡ false) × (S (other_line (second_is_flat s.form) s.second.other) ≡ false)
-  second_out = of_connector (λ x. S x ≡ false) (second_is_flat s.form) s.second good.1.two
+  pub second_out : (S (Row s.pair.second.row) ≡ false) × (S (Column s.pair.second.column) ≡ false) × (S (other_line (second_is_flat s.form) s.pair.second.other) ≡ false)
+  second_out = of_connector (λ x. S x ≡ false) (second_is_flat s.form) s.pair.second good.1.two
 
-  pub good_inside : AreInside m (corners_of s.first s.second)
+  pub good_inside : AreInside m (corners_of s.pair)
   good_inside = record { row_one = first_in.0; column_one = first_in.1; row_two = second_in.0; column_two = second_in.1 }
 
   module _ (crossing : IsCrossing s.form) where
     -- the side of a good seed is a cut
-    pub good_is_cut_at : IsCutAt m (corners_of s.first s.second) S
+    pub good_is_cut_at : IsCutAt m (corners_of s.pair) S
     good_is_cut_at = record {
-      closed = closed_crossing (entry m) s.first s.second (height m) m.width S s.form crossing good.1.grown.closed;
+      closed = closed_crossing (entry m) s.pair.first s.pair.second (height m) m.width S s.form crossing good.1.grown.closed;
       row_one = first_has.0;
       column_one = first_has.1;
       row_two = second_out.0;
       column_two = second_out.1;
-      enough = (three_separation_of_seed (height m) m.width (entry m) s.form s.first s.second s.line S good).enough;
+      enough = (three_separation_of_seed (height m) m.width (entry m) s.form s.pair.first s.pair.second s.line S good).enough;
     }
 
     pub good_is_cut : IsCut m S
     good_is_cut =
-        let ties = crossing_from (entry m) s.first s.second s.form crossing good.0.values.tied in
-        record { corners = corners_of s.first s.second; are_inside = good_inside; upper = ties.upper; lower = ties.lower; cut = good_is_cut_at }
+        let ties = crossing_from (entry m) s.pair.first s.pair.second s.form crossing good.0.values.tied in
+        record { corners = corners_of s.pair; are_inside = good_inside; upper = ties.upper; lower = ties.lower; cut = good_is_cut_at }
 
 -- ---- fronts
 
@@ -125,17 +125,17 @@ level_found m front a three short before found = record {
 -- ---- seeds by their fronts
 
 abbrev pub seed_at : Form → Connectors → Line → Seed
-seed_at form d x = record { form = form; first = d.first; second = d.second; line = x }
+seed_at form d x = record { form = form; pair = d; line = x }
 
-seed_is : (s : Seed) (kind : Form) (i p k j q o : ℕ) (x : Line) → kind ≡ s.form → i ≡ s.first.row → p ≡ s.first.column → k ≡ s.second.row → j ≡ s.second.column → q ≡ s.first.other → o ≡ s.second.other → x ≡ s.line
-    → s ≡ record { form = kind; first = record { row = i; column = p; other = q }; second = record { row = k; column = j; other = o }; line = x }
+seed_is : (s : Seed) (kind : Form) (i p k j q o : ℕ) (x : Line) → kind ≡ s.form → i ≡ s.pair.first.row → p ≡ s.pair.first.column → k ≡ s.pair.second.row → j ≡ s.pair.second.column → q ≡ s.pair.first.other → o ≡ s.pair.second.other → x ≡ s.line
+    → s ≡ record { form = kind; pair = record { first = record { row = i; column = p; other = q }; second = record { row = k; column = j; other = o } }; line = x }
 seed_is s kind i p k j q o x e1 e2 e3 e4 e5 e6 e7 e8 = rw (e1, e2, e3, e4, e5, e6, e7, e8) refl
 
-pub seed_from_corners : (m : Matrix) (form : Form) (c : Corners) (s : Seed) → BeginsWith (corner_front form c) (seed_key m s) → s ≡ seed_at form (connectors_at c s.first.other s.second.other) s.line
-seed_from_corners m form c s h = seed_is s form c.i c.p c.k c.j s.first.other s.second.other s.line (form_is form s.form h.0) h.1.0 h.1.1.0 h.1.1.1.0 h.1.1.1.1.0 refl refl refl
+pub seed_from_corners : (m : Matrix) (form : Form) (c : Corners) (s : Seed) → BeginsWith (corner_front form c) (seed_key m s) → s ≡ seed_at form (connectors_at c s.pair.first.other s.pair.second.other) s.line
+seed_from_corners m form c s h = seed_is s form c.i c.p c.k c.j s.pair.first.other s.pair.second.other s.line (form_is form s.form h.0) h.1.0 h.1.1.0 h.1.1.1.0 h.1.1.1.1.0 refl refl refl
 
-pub seed_from_first : (m : Matrix) (form : Form) (c : Corners) (q : ℕ) (s : Seed) → BeginsWith (corner_front form c ++ q ∷ []) (seed_key m s) → s ≡ seed_at form (connectors_at c q s.second.other) s.line
-seed_from_first m form c q s h = seed_is s form c.i c.p c.k c.j q s.second.other s.line (form_is form s.form h.0) h.1.0 h.1.1.0 h.1.1.1.0 h.1.1.1.1.0 h.1.1.1.1.1.0 refl refl
+pub seed_from_first : (m : Matrix) (form : Form) (c : Corners) (q : ℕ) (s : Seed) → BeginsWith (corner_front form c ++ q ∷ []) (seed_key m s) → s ≡ seed_at form (connectors_at c q s.pair.second.other) s.line
+seed_from_first m form c q s h = seed_is s form c.i c.p c.k c.j q s.pair.second.other s.line (form_is form s.form h.0) h.1.0 h.1.1.0 h.1.1.1.0 h.1.1.1.1.0 h.1.1.1.1.1.0 refl refl
 
 pub seed_from_second : (m : Matrix) (form : Form) (d : Connectors) (s : Seed) → BeginsWith (all_front form d) (seed_key m s) → s ≡ seed_at form d s.line
 seed_from_second m form d s h = seed_is s form d.first.row d.first.column d.second.row d.second.column d.first.other d.second.other s.line (form_is form s.form h.0) h.1.0 h.1.1.0 h.1.1.1.0 h.1.1.1.1.0 h.1.1.1.1.1.0 h.1.1.1.1.1.1.0 refl
@@ -158,63 +158,63 @@ module _ (m : Matrix) (form : Form) (crossing : IsCrossing form) where
   is_crossing : (s : Seed) → form_number form ≡ form_number s.form → IsCrossing s.form
   is_crossing s e = subst IsCrossing (form_is form s.form e) crossing
 
-  ties : (s : Seed) (S : Lines) → form_number form ≡ form_number s.form → IsGoodSeed m s S → AreCrossing (entry m) (first_is_flat s.form) (second_is_flat s.form) s.first s.second
-  ties s S e g = crossing_from (entry m) s.first s.second s.form (is_crossing s e) g.0.values.tied
+  ties : (s : Seed) (S : Lines) → form_number form ≡ form_number s.form → IsGoodSeed m s S → AreCrossing (entry m) (first_is_flat s.form) (second_is_flat s.form) s.pair.first s.pair.second
+  ties s S e g = crossing_from (entry m) s.pair.first s.pair.second s.form (is_crossing s e) g.0.values.tied
 
   pub no_good_whole : (groups : Groups) (i : ℕ) → HasNames m groups → HoldTogether (IsCut m) m groups
       → ((k l : ℕ) → k < length groups.names.items → l < length groups.names.items → get_or groups.names.items k 0 ≡ get_or groups.names.items l 0) → HasNoGood m (form_number form ∷ i ∷ [])
   no_good_whole groups i names hold one s S h g =
       let within = good_inside m s S g in
-      let li : s.first.row < length groups.names.items = let l = within.row_one in omega (arith, names, l) in
-      let lk : s.second.row < length groups.names.items = let l = within.row_two in omega (arith, names, l) in
-      not_both (S (Row s.first.row)) (first_has m s S g).0 (hold S (good_is_cut m s S g (is_crossing s h.0)) (Row s.first.row) (Row s.second.row) within.row_one within.row_two (one s.first.row s.second.row li lk) ∙ (second_out m s S g).0)
+      let li : s.pair.first.row < length groups.names.items = let l = within.row_one in omega (arith, names, l) in
+      let lk : s.pair.second.row < length groups.names.items = let l = within.row_two in omega (arith, names, l) in
+      not_both (S (Row s.pair.first.row)) (first_has m s S g).0 (hold S (good_is_cut m s S g (is_crossing s h.0)) (Row s.pair.first.row) (Row s.pair.second.row) within.row_one within.row_two (one s.pair.first.row s.pair.second.row li lk) ∙ (second_out m s S g).0)
 
   module _ (groups : Groups) (hold : HoldTogether (IsCut m) m groups) where
     -- the other line of a flat or tall connector and the corner that it is to be apart from
     first_apart : (s : Seed) (S : Lines) → form_number form ≡ form_number s.form → IsGoodSeed m s S → (y : Line) → S y ≡ false → IsLine (height m) m.width y
-        → name_of m groups (other_line (first_is_flat s.form) s.first.other) ≢ name_of m groups y
+        → name_of m groups (other_line (first_is_flat s.form) s.pair.first.other) ≢ name_of m groups y
     first_apart s S e g y out ly same =
-        let x = other_line (first_is_flat s.form) s.first.other in
+        let x = other_line (first_is_flat s.form) s.pair.first.other in
         not_both (S x) (first_has m s S g).2 (hold S (good_is_cut m s S g (is_crossing s e)) x y (first_in m s S g).2 ly same ∙ out)
 
     second_apart : (s : Seed) (S : Lines) → form_number form ≡ form_number s.form → IsGoodSeed m s S → (y : Line) → S y ≡ true → IsLine (height m) m.width y
-        → name_of m groups (other_line (second_is_flat s.form) s.second.other) ≢ name_of m groups y
+        → name_of m groups (other_line (second_is_flat s.form) s.pair.second.other) ≢ name_of m groups y
     second_apart s S e g y within ly same =
-        let x = other_line (second_is_flat s.form) s.second.other in
+        let x = other_line (second_is_flat s.form) s.pair.second.other in
         not_both (S x) (hold S (good_is_cut m s S g (is_crossing s e)) x y (second_in m s S g).2 ly same ∙ within) (second_out m s S g).2
 
-    no_first_column : (s : Seed) (S : Lines) → form_number form ≡ form_number s.form → IsGoodSeed m s S → first_is_flat s.form ≡ true → HasNoColumn m groups s.first.row s.second.row → ⊥
+    no_first_column : (s : Seed) (S : Lines) → form_number form ≡ form_number s.form → IsGoodSeed m s S → first_is_flat s.form ≡ true → HasNoColumn m groups s.pair.first.row s.pair.second.row → ⊥
     no_first_column s S e g flat none =
-        let line : IsLine (height m) m.width (other_line true s.first.other) = subst (λ (z : Bool). IsLine (height m) m.width (other_line z s.first.other)) flat (first_in m s S g).2 in
-        let tied = subst (λ (z : Bool). IsTied (entry m) z s.first s.second.row s.second.column) flat (ties s S e g).first_tied in
-        first_apart s S e g (Row s.second.row) (second_out m s S g).0 (second_in m s S g).0
-        (ap (λ (z : Bool). name_of m groups (other_line z s.first.other)) flat ∙ none s.first.other line tied.0 tied.1)
+        let line : IsLine (height m) m.width (other_line true s.pair.first.other) = subst (λ (z : Bool). IsLine (height m) m.width (other_line z s.pair.first.other)) flat (first_in m s S g).2 in
+        let tied = subst (λ (z : Bool). IsTied (entry m) z s.pair.first s.pair.second.row s.pair.second.column) flat (ties s S e g).first_tied in
+        first_apart s S e g (Row s.pair.second.row) (second_out m s S g).0 (second_in m s S g).0
+        (ap (λ (z : Bool). name_of m groups (other_line z s.pair.first.other)) flat ∙ none s.pair.first.other line tied.0 tied.1)
 
-    no_second_column : (s : Seed) (S : Lines) → form_number form ≡ form_number s.form → IsGoodSeed m s S → second_is_flat s.form ≡ true → HasNoColumn m groups s.second.row s.first.row → ⊥
+    no_second_column : (s : Seed) (S : Lines) → form_number form ≡ form_number s.form → IsGoodSeed m s S → second_is_flat s.form ≡ true → HasNoColumn m groups s.pair.second.row s.pair.first.row → ⊥
     no_second_column s S e g flat none =
-        let line : IsLine (height m) m.width (other_line true s.second.other) = subst (λ (z : Bool). IsLine (height m) m.width (other_line z s.second.other)) flat (second_in m s S g).2 in
-        let tied = subst (λ (z : Bool). IsTied (entry m) z s.second s.first.row s.first.column) flat (ties s S e g).second_tied in
-        second_apart s S e g (Row s.first.row) (first_has m s S g).0 (first_in m s S g).0
-        (ap (λ (z : Bool). name_of m groups (other_line z s.second.other)) flat ∙ none s.second.other line tied.0 tied.1)
+        let line : IsLine (height m) m.width (other_line true s.pair.second.other) = subst (λ (z : Bool). IsLine (height m) m.width (other_line z s.pair.second.other)) flat (second_in m s S g).2 in
+        let tied = subst (λ (z : Bool). IsTied (entry m) z s.pair.second s.pair.first.row s.pair.first.column) flat (ties s S e g).second_tied in
+        second_apart s S e g (Row s.pair.first.row) (first_has m s S g).0 (first_in m s S g).0
+        (ap (λ (z : Bool). name_of m groups (other_line z s.pair.second.other)) flat ∙ none s.pair.second.other line tied.0 tied.1)
 
-    no_first_row : (s : Seed) (S : Lines) → form_number form ≡ form_number s.form → IsGoodSeed m s S → first_is_flat s.form ≡ false → HasNoRow m groups s.first.column s.second.column → ⊥
+    no_first_row : (s : Seed) (S : Lines) → form_number form ≡ form_number s.form → IsGoodSeed m s S → first_is_flat s.form ≡ false → HasNoRow m groups s.pair.first.column s.pair.second.column → ⊥
     no_first_row s S e g tall none =
-        let line : IsLine (height m) m.width (other_line false s.first.other) = subst (λ (z : Bool). IsLine (height m) m.width (other_line z s.first.other)) tall (first_in m s S g).2 in
-        let tied = subst (λ (z : Bool). IsTied (entry m) z s.first s.second.row s.second.column) tall (ties s S e g).first_tied in
-        first_apart s S e g (Column s.second.column) (second_out m s S g).1 (second_in m s S g).1
-        (ap (λ (z : Bool). name_of m groups (other_line z s.first.other)) tall ∙ none s.first.other line tied.0 tied.1)
+        let line : IsLine (height m) m.width (other_line false s.pair.first.other) = subst (λ (z : Bool). IsLine (height m) m.width (other_line z s.pair.first.other)) tall (first_in m s S g).2 in
+        let tied = subst (λ (z : Bool). IsTied (entry m) z s.pair.first s.pair.second.row s.pair.second.column) tall (ties s S e g).first_tied in
+        first_apart s S e g (Column s.pair.second.column) (second_out m s S g).1 (second_in m s S g).1
+        (ap (λ (z : Bool). name_of m groups (other_line z s.pair.first.other)) tall ∙ none s.pair.first.other line tied.0 tied.1)
 
-    no_second_row : (s : Seed) (S : Lines) → form_number form ≡ form_number s.form → IsGoodSeed m s S → second_is_flat s.form ≡ false → HasNoRow m groups s.second.column s.first.column → ⊥
+    no_second_row : (s : Seed) (S : Lines) → form_number form ≡ form_number s.form → IsGoodSeed m s S → second_is_flat s.form ≡ false → HasNoRow m groups s.pair.second.column s.pair.first.column → ⊥
     no_second_row s S e g tall none =
-        let line : IsLine (height m) m.width (other_line false s.second.other) = subst (λ (z : Bool). IsLine (height m) m.width (other_line z s.second.other)) tall (second_in m s S g).2 in
-        let tied = subst (λ (z : Bool). IsTied (entry m) z s.second s.first.row s.first.column) tall (ties s S e g).second_tied in
-        second_apart s S e g (Column s.first.column) (first_has m s S g).1 (first_in m s S g).1
-        (ap (λ (z : Bool). name_of m groups (other_line z s.second.other)) tall ∙ none s.second.other line tied.0 tied.1)
+        let line : IsLine (height m) m.width (other_line false s.pair.second.other) = subst (λ (z : Bool). IsLine (height m) m.width (other_line z s.pair.second.other)) tall (second_in m s S g).2 in
+        let tied = subst (λ (z : Bool). IsTied (entry m) z s.pair.second s.pair.first.row s.pair.first.column) tall (ties s S e g).second_tied in
+        second_apart s S e g (Column s.pair.first.column) (first_has m s S g).1 (first_in m s S g).1
+        (ap (λ (z : Bool). name_of m groups (other_line z s.pair.second.other)) tall ∙ none s.pair.second.other line tied.0 tied.1)
 
     lacks_column : (i p k : ℕ) → LacksColumn m groups form i k → HasNoGood m (form_number form ∷ i ∷ p ∷ k ∷ [])
     lacks_column i p k lacks s S h g =
         let kind = form_is form s.form h.0 in
-        let here : LacksColumn m groups s.form s.first.row s.second.row = rw (sym kind, sym h.1.0, sym h.1.1.1.0) lacks in
+        let here : LacksColumn m groups s.form s.pair.first.row s.pair.second.row = rw (sym kind, sym h.1.0, sym h.1.1.1.0) lacks in
         elim here [
           | inl none ↦ no_first_column s S h.0 g none.0 none.1
           | inr none ↦ no_second_column s S h.0 g none.0 none.1
@@ -223,7 +223,7 @@ module _ (m : Matrix) (form : Form) (crossing : IsCrossing form) where
     lacks_row : (i p k j : ℕ) → LacksRow m groups form p j → HasNoGood m (form_number form ∷ i ∷ p ∷ k ∷ j ∷ [])
     lacks_row i p k j lacks s S h g =
         let kind = form_is form s.form h.0 in
-        let here : LacksRow m groups s.form s.first.column s.second.column = rw (sym kind, sym h.1.1.0, sym h.1.1.1.1.0) lacks in
+        let here : LacksRow m groups s.form s.pair.first.column s.pair.second.column = rw (sym kind, sym h.1.1.0, sym h.1.1.1.1.0) lacks in
         elim here [
           | inl none ↦ no_first_row s S h.0 g none.0 none.1
           | inr none ↦ no_second_row s S h.0 g none.0 none.1
@@ -238,8 +238,8 @@ module _ (m : Matrix) (form : Form) (crossing : IsCrossing form) where
       let T = hold S (good_is_cut m s S g (is_crossing s h.0)) in
       elim no_row [
         | inl e ↦ (ties s S h.0 g).lower (rw (sym h.1.1.0, sym h.1.1.1.0) e)
-        | inr (inl e) ↦ not_both (S (Row s.first.row)) row_one (T (Row s.first.row) (Row s.second.row) within.row_one within.row_two (rw (sym h.1.0, sym h.1.1.1.0) e) ∙ row_two)
-        | inr (inr e) ↦ not_both (S (Column s.first.column)) column_one (T (Column s.first.column) (Row s.second.row) within.column_one within.row_two (rw (sym h.1.1.0, sym h.1.1.1.0) e) ∙ row_two)
+        | inr (inl e) ↦ not_both (S (Row s.pair.first.row)) row_one (T (Row s.pair.first.row) (Row s.pair.second.row) within.row_one within.row_two (rw (sym h.1.0, sym h.1.1.1.0) e) ∙ row_two)
+        | inr (inr e) ↦ not_both (S (Column s.pair.first.column)) column_one (T (Column s.pair.first.column) (Row s.pair.second.row) within.column_one within.row_two (rw (sym h.1.1.0, sym h.1.1.1.0) e) ∙ row_two)
       ]
 
   pub no_good_second_column : (groups : Groups) (i p k j : ℕ) → HoldTogether (IsCut m) m groups → IsNoSecondColumn m groups form i p k j → HasNoGood m (form_number form ∷ i ∷ p ∷ k ∷ j ∷ [])
@@ -252,15 +252,15 @@ module _ (m : Matrix) (form : Form) (crossing : IsCrossing form) where
       elim no_column [
         | inl e ↦ no_second_corner m (form_number form) i p k j e s S h g
         | inr (inl e) ↦ (ties s S h.0 g).upper (rw (sym h.1.0, sym h.1.1.1.1.0) e)
-        | inr (inr (inl e)) ↦ not_both (S (Row s.first.row)) row_one (T (Row s.first.row) (Column s.second.column) within.row_one within.column_two (rw (sym h.1.0, sym h.1.1.1.1.0) e) ∙ column_two)
-        | inr (inr (inr e)) ↦ not_both (S (Column s.first.column)) column_one (T (Column s.first.column) (Column s.second.column) within.column_one within.column_two (rw (sym h.1.1.0, sym h.1.1.1.1.0) e) ∙ column_two)
+        | inr (inr (inl e)) ↦ not_both (S (Row s.pair.first.row)) row_one (T (Row s.pair.first.row) (Column s.pair.second.column) within.row_one within.column_two (rw (sym h.1.0, sym h.1.1.1.1.0) e) ∙ column_two)
+        | inr (inr (inr e)) ↦ not_both (S (Column s.pair.first.column)) column_one (T (Column s.pair.first.column) (Column s.pair.second.column) within.column_one within.column_two (rw (sym h.1.1.0, sym h.1.1.1.1.0) e) ∙ column_two)
       ]
 
   pub no_good_first : (c : Corners) (q : ℕ) → ¬ (IsTied (entry m) (first_is_flat form) (first_at c q) c.k c.j) → HasNoGood m (corner_front form c ++ q ∷ [])
-  no_good_first c q none s S h g = none (subst (λ (z : Seed). IsTied (entry m) (first_is_flat z.form) z.first z.second.row z.second.column) (seed_from_first m form c q s h) (ties s S h.0 g).first_tied)
+  no_good_first c q none s S h g = none (subst (λ (z : Seed). IsTied (entry m) (first_is_flat z.form) z.pair.first z.pair.second.row z.pair.second.column) (seed_from_first m form c q s h) (ties s S h.0 g).first_tied)
 
   pub no_good_second : (d : Connectors) → ¬ (IsTied (entry m) (second_is_flat form) d.second d.first.row d.first.column) → HasNoGood m (all_front form d)
-  no_good_second d none s S h g = none (subst (λ (z : Seed). IsTied (entry m) (second_is_flat z.form) z.second z.first.row z.first.column) (seed_from_second m form d s h) (ties s S h.0 g).second_tied)
+  no_good_second d none s S h g = none (subst (λ (z : Seed). IsTied (entry m) (second_is_flat z.form) z.pair.second z.pair.first.row z.pair.first.column) (seed_from_second m form d s h) (ties s S h.0 g).second_tied)
 
 -- a line of one of the connectors
 pub no_good_beside : (m : Matrix) (form : Form) (d : Connectors) (place : ℕ) (x : Line) → IsLine (height m) m.width x → line_number (height m) x ≡ place
@@ -345,7 +345,7 @@ pub first_below : (m : Matrix) (form : Form) (c : Corners) (s : Seed) (S : Lines
     → b < line_count m (first_is_flat form)
 first_below m form c s S b g0 h =
     let g = subst (λ (z : Seed). IsGoodSeed m z S) (seed_from_first m form c b s h) g0 in
-    line_below m (first_is_flat form) b (first_in m (seed_at form (connectors_at c b s.second.other) s.line) S g).2
+    line_below m (first_is_flat form) b (first_in m (seed_at form (connectors_at c b s.pair.second.other) s.line) S g).2
 
 pub second_below : (m : Matrix) (form : Form) (c : Corners) (q : ℕ) (s : Seed) (S : Lines) (b : ℕ) → IsGoodSeed m s S → BeginsWith (corner_front form c ++ q ∷ b ∷ []) (seed_key m s)
     → b < line_count m (second_is_flat form)

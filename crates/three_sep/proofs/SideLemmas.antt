@@ -103,14 +103,14 @@ module _ (m : Matrix) (form : Form) (crossing : IsCrossing form) (c : Corners) w
 
   pub no_good_corners : HasNoneParting m (rule_of c) (Row c.i ∷ Column c.p ∷ []) (Row c.k ∷ Column c.j ∷ []) → HasNoGood m (corner_front form c)
   no_good_corners refused s S h g0 =
-      let q = s.first.other in
-      let o = s.second.other in
+      let q = s.pair.first.other in
+      let o = s.pair.second.other in
       let g = subst (λ (z : Seed). IsGoodSeed m z S) (seed_from_corners m form c s h) g0 in
       refused S (crossing_closed q o s.line S g) (corners_has q o s.line S g) (corners_none q o s.line S g) (three_separation_of_seed (height m) m.width (entry m) form (first_at c q) (second_at c o) s.line S g).enough
 
   pub no_good_side : (q : ℕ) → HasNoLeaving m (rule_of c) (held_lines form c q) (Row c.k ∷ Column c.j ∷ []) 4 → HasNoGood m (corner_front form c ++ q ∷ [])
   no_good_side q refused s S h g0 =
-      let o = s.second.other in
+      let o = s.pair.second.other in
       let g = subst (λ (z : Seed). IsGoodSeed m z S) (seed_from_first m form c q s h) g0 in
       refused S (crossing_closed q o s.line S g) g.1.grown.has.1 (record { none = corners_none q o s.line S g; enough = g.1.enough })
 

@@ -43,7 +43,7 @@ pub record IsFirstRow (m : Matrix) (c : Corners) (q o : ℕ) : Type 0 where
 
 -- the first connectors with two corners
 pub record IsFirstPair (m : Matrix) (c : Corners) (d : Connectors) : Type 0 where
-  pub corners : corners_of d.first d.second ≡ c
+  pub corners : corners_of d ≡ c
   pub pair : IsConnectorPair (height m) m.width (entry m) Concentrated d.first d.second
   pub columns : HasNoneBelow m (corner_front Concentrated c) d.first.other
   pub rows : HasNoneBelow m (corner_front Concentrated c ++ d.first.other ∷ []) d.second.other
@@ -59,7 +59,7 @@ AreHeldBy m i set = (column : ℕ) → set column ≡ true → IsHeldBy m i colu
 
 -- no good seed of the form has row i and column j
 abbrev pub HasNoneBetween : Matrix → ℕ → ℕ → Type 0
-HasNoneBetween m i j = (s : Seed) (S : Lines) → s.form ≡ Concentrated → s.first.row ≡ i → s.second.column ≡ j → ¬ (IsGoodSeed m s S)
+HasNoneBetween m i j = (s : Seed) (S : Lines) → s.form ≡ Concentrated → s.pair.first.row ≡ i → s.pair.second.column ≡ j → ¬ (IsGoodSeed m s S)
 
 -- each column that is no candidate is in no good seed with row i
 pub record AreCandidates (m : Matrix) (i : ℕ) (candidates : List ℕ) : Type 0 where

@@ -43,7 +43,7 @@ pub record AreConnectorsOf (m : Matrix) (form : Form) (rule : Rule) (d : Connect
   pub lower : lower_of m rule ≡ lower_block (entry m) form d.first d.second
 
 abbrev pub all_front : Form → Connectors → List ℕ
-all_front form d = corner_front form (corners_of d.first d.second) ++ d.first.other ∷ d.second.other ∷ []
+all_front form d = corner_front form (corners_of d) ++ d.first.other ∷ d.second.other ∷ []
 
 -- no set that is closed by the rule has some lines and none of others, with four lines or more on each side
 abbrev pub HasNoneParting : Matrix → Rule → (first second : List Line) → Type 0

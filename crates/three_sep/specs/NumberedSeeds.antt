@@ -12,6 +12,7 @@ use Rattle.cmr_base.specs.declared.separation.Three.{Three}
 use Rattle.cmr_base.specs.Matrix.{Matrix, height, entry}
 use Rattle.cmr_base.specs.Separations.{Lines, connector_lines}
 use Rattle.cmr_base.specs.Seeds.{IsGoodThree, three_key}
+use Rattle.three_sep.specs.declared.connectors.Connectors.{Connectors}
 
 -- the line is none of the connector's
 abbrev pub IsBeside : Bool → Connector → Line → Type 0
@@ -24,20 +25,19 @@ IsCrossing YForm = Unit {0}
 IsCrossing Mixed = Unit {0}
 IsCrossing Concentrated = ⊥
 
--- two connectors of a form, and one more line
+-- a form, two connectors, and one more line
 pub record Seed : Type 0 where
   pub form : Form
-  pub first : Connector
-  pub second : Connector
+  pub pair : Connectors
   pub line : Line
 
 -- the set is the side of a good seed
 abbrev pub IsGoodSeed : Matrix → Seed → Lines → Type 0
-IsGoodSeed m s S = IsGoodThree (height m) m.width (entry m) s.form s.first s.second s.line S
+IsGoodSeed m s S = IsGoodThree (height m) m.width (entry m) s.form s.pair.first s.pair.second s.line S
 
 -- the numbers by which seeds are ordered
 abbrev pub seed_key : Matrix → Seed → List ℕ
-seed_key m s = three_key (height m) s.form s.first s.second s.line
+seed_key m s = three_key (height m) s.form s.pair.first s.pair.second s.line
 
 -- two rising lists have the rows and the columns of a set
 pub record HasLines (m n : ℕ) (S : Lines) (rows columns : List ℕ) : Type 0 where
@@ -48,4 +48,4 @@ pub record HasLines (m n : ℕ) (S : Lines) (rows columns : List ℕ) : Type 0 w
 
 -- the connectors of a separation, with one more line
 abbrev pub seed_of : Three → Line → Seed
-seed_of three line = record { form = three.form; first = three.first; second = three.second; line = line }
+seed_of three line = record { form = three.form; pair = record { first = three.first; second = three.second }; line = line }

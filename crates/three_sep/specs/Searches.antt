@@ -8,6 +8,7 @@ use Rattle.cmr_base.specs.declared.separation.Form.{Form}
 use Rattle.cmr_base.specs.declared.separation.Three.{Three}
 use Rattle.cuts.specs.declared.corners.Corners.{Corners}
 use Rattle.cuts.specs.declared.groups.Groups.{Groups}
+use Rattle.three_sep.specs.declared.connectors.Connectors.{Connectors}
 use Rattle.three_sep.specs.declared.search.Search.{Search}
 use Rattle.cuts.specs.Cuts.{AreInside, HasNames, HoldTogether, IsCut, name_of}
 use Rattle.cmr_base.specs.Separations.{IsTied, Lines, connector_lines, first_is_flat, product_at, second_is_flat}
@@ -39,8 +40,8 @@ abbrev pub HasNoneBelow : Matrix → List ℕ → ℕ → Type 0
 HasNoneBelow m front bound = (b : ℕ) → b < bound → HasNoGood m (front ++ b ∷ [])
 
 -- the corners of two connectors, and the connectors with some corners and other lines q and o
-abbrev pub corners_of : Connector → Connector → Corners
-corners_of first second = record { i = first.row; p = first.column; k = second.row; j = second.column }
+abbrev pub corners_of : Connectors → Corners
+corners_of d = record { i = d.first.row; p = d.first.column; k = d.second.row; j = d.second.column }
 
 abbrev pub first_at : Corners → ℕ → Connector
 first_at c q = record { row = c.i; column = c.p; other = q }

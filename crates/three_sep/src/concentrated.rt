@@ -22,26 +22,16 @@ use crate::sides::{first_of_lines, leaves, may_part};
 use cmr_base::columns::{
     add_column, add_common, empty_set, has_column, meets, next_column, remove_column,
 };
-use cmr_base::{Core, Form, Line, MAX_COLUMNS, Memory, RowsAndColumns, Three};
+use cmr_base::{Connector, Core, Form, Line, MAX_COLUMNS, Memory, RowsAndColumns, Three};
 use cuts::Corners;
 use line_growth::GrowingSet;
 use std::alloc::Global;
 
-/// The separation of the first good seed of the form.
+/// The separation of the first good seed of the form: the rows i.
 pub fn first_concentrated(
     alloc: Global,
     views: &RowsAndColumns<'_>,
 ) -> Result<Option<Three>, Memory>
-    ensures first { IfOk result (λ answer.
-        IfSome answer (IsFirstOf views.now (form_number Concentrated ∷ []))) }
-    ensures none { IfOk result (λ answer.
-        IfNone answer (HasNoGood views.now (form_number Concentrated ∷ []))) }
-{
-    first_of_rows(alloc, views)
-}
-
-// The rows i.
-fn first_of_rows(alloc: Global, views: &RowsAndColumns<'_>) -> Result<Option<Three>, Memory>
     ensures first { IfOk result (λ answer.
         IfSome answer (IsFirstOf views.now (form_number Concentrated ∷ []))) }
     ensures none { IfOk result (λ answer.
@@ -266,17 +256,10 @@ fn first_of_connectors(
     if is_second_pulled(views, rule, connectors) {
         return Ok(None);
     }
-    let Connectors { first, second } = *connectors;
-    let first = [
-        Line::Row(first.row),
-        Line::Column(first.column),
-        Line::Column(first.other),
-    ];
-    let second = [
-        Line::Row(second.row),
-        Line::Column(second.column),
-        Line::Row(second.other),
-    ];
+    let Connector { row, column, other } = connectors.first;
+    let first = [Line::Row(row), Line::Column(column), Line::Column(other)];
+    let Connector { row, column, other } = connectors.second;
+    let second = [Line::Row(row), Line::Column(column), Line::Row(other)];
     let mut side = GrowingSet::new(alloc, views)?;
     let mut other = GrowingSet::new(alloc, views)?;
     if !leaves(views, &mut side, rule, &first, &second)? {

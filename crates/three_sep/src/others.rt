@@ -1,5 +1,5 @@
 // The lines of connectors.
-ghost use Rattle.std.specs.Prelude.{◌≡◌, ◌≢◌, ◌<◌, pos, true, false};
+ghost use Rattle.std.specs.Prelude.{◌≡◌, ◌≢◌, ◌<◌, ◌↔◌, pos, true, false, IsTrue};
 ghost use Rattle.cmr_base.specs.Matrix.{height, entry, IsMatrix};
 ghost use Rattle.cmr_base.specs.declared.line.Line.TheVariants.{Row, Column};
 ghost use Rattle.cmr_base.specs.Separations.{IsTied, connector_lines, first_is_flat, second_is_flat};
@@ -235,27 +235,19 @@ fn is_row_apart(
 
 /// Whether a line is in neither connector.
 pub fn is_beside(form: Form, connectors: &Connectors, line: Line) -> bool
-    ensures first { result ≡ true
-        → IsBeside (first_is_flat form) connectors.now.first line }
-    ensures second { result ≡ true
-        → IsBeside (second_is_flat form) connectors.now.second line }
-    ensures no { result ≡ false
-        → ¬ (IsBeside (first_is_flat form) connectors.now.first line
+    ensures { IsTrue result ↔ (IsBeside (first_is_flat form) connectors.now.first line
         × IsBeside (second_is_flat form) connectors.now.second line) }
 {
-    if is_in_connector(form.first_is_flat(), &connectors.first, line) {
-        return false;
-    }
-    !is_in_connector(form.second_is_flat(), &connectors.second, line)
+    is_apart(form.first_is_flat(), connectors.first, line)
+        && is_apart(form.second_is_flat(), connectors.second, line)
 }
 
-fn is_in_connector(flat: bool, connector: &Connector, line: Line) -> bool
-    ensures yes { result ≡ true → ¬ (IsBeside flat connector.now line) }
-    ensures no { result ≡ false → IsBeside flat connector.now line }
+fn is_apart(flat: bool, connector: Connector, line: Line) -> bool
+    ensures { IsTrue result ↔ IsBeside flat connector line }
 {
-    let Connector { row, column, other } = *connector;
+    let Connector { row, column, other } = connector;
     match line {
-        Line::Row(number) => number == row || (!flat && number == other),
-        Line::Column(number) => number == column || (flat && number == other),
+        Line::Row(number) => number != row && (flat || number != other),
+        Line::Column(number) => number != column && (!flat || number != other),
     }
 }

@@ -5,6 +5,7 @@ use Rattle.cmr_base.specs.declared.separation.Connector.{Connector}
 use Rattle.cmr_base.specs.Matrix.{height}
 use Rattle.cmr_base.specs.Separations.{connector_lines}
 use Rattle.cmr_base.specs.Seeds.{IsLine}
+use Rattle.cmr_base.proofs.Booleans.{not_both}
 use Rattle.line_growth.specs.declared.growing_set.GrowingSet.{GrowingSet}
 use Rattle.line_growth.specs.GrowingSets.{HasRoom, TellsClosed, set_of}
 use Rattle.three_sep.specs.Connectors.{all_front, firsts, seconds}
@@ -38,7 +39,7 @@ returns-then-branch-clause-first c =
     let leaving = told_yes m c.args.rule (x ∷ firsts form d) (seconds form d) 4 c.in_ok-leaves_beside.field-0 S told c.if-branch.true in
     level_found m (all_front form d) c.loop-place.place three (omega arith) c.loop-place.invariant.1
     (found_here m form d c.loop-place.place x S three (three_is m form d c.loop-place.place x S three c.in_ok-separation_of.ensures.form c.in_ok-separation_of.ensures.first c.in_ok-separation_of.ensures.second)
-    (good_from_leaving m form c.args.rule d c.requires.connectors x S c.line_at-line.ensures.line (c.is_beside.ensures.first c.if-is_beside.true) (c.is_beside.ensures.second c.if-is_beside.true) leaving)
+    (good_from_leaving m form c.args.rule d c.requires.connectors x S c.line_at-line.ensures.line (c.is_beside.ensures.0 c.if-is_beside.true).0 (c.is_beside.ensures.0 c.if-is_beside.true).1 leaving)
     c.line_at-line.ensures.line c.line_at-line.ensures.number c.in_ok-separation_of.ensures.lines)
 
 pub loop-place-preserved : goal.loop-place-preserved
@@ -57,7 +58,7 @@ loop-place-preserved c =
       )
       | else-is_beside-via-else-is_beside w ↦ (
         subst (λ (z : GrowingSet). HasRoom m z) (sym w.grown-is) c.loop-place.invariant.0,
-        none_below_more m (all_front form d) c.loop-place.place c.loop-place.invariant.1 (no_good_beside m form d c.loop-place.place x c.line_at-line.ensures.line c.line_at-line.ensures.number (c.is_beside.ensures.no w.if-is_beside.false)),
+        none_below_more m (all_front form d) c.loop-place.place c.loop-place.invariant.1 (no_good_beside m form d c.loop-place.place x c.line_at-line.ensures.line c.line_at-line.ensures.number (λ beside. not_both c.is_beside.result (c.is_beside.ensures.1 beside) w.if-is_beside.false)),
       )
     ]
 
