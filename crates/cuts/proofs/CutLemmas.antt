@@ -3,13 +3,13 @@ use Rattle.std.proofs.Common.{ℕ, ℤ, true, false, not, ◌≡◌, ◌<◌, ap
 use Rattle.cmr_base.specs.declared.line.Line.TheVariants.{Row, Column}
 use Rattle.cmr_base.specs.LineSets.{first_lines}
 use Rattle.cmr_base.specs.Matrix.{Matrix, height, entry}
-use Rattle.cmr_base.specs.Separations.{AreEnough, Lines, count_in, opposite, product_at}
+use Rattle.cmr_base.specs.Separations.{AreEnough, Lines, count_in, opposite}
 use Rattle.cmr_base.specs.Seeds.{IsClosed}
 use Rattle.cmr_base.proofs.Booleans.{not_is, not_false, not_not}
 use Rattle.cmr_base.proofs.LineCounts.{count_same, inside_is}
 use Rattle.cmr_base.proofs.ListedLines.{contains_first_lines}
 use Rattle.cuts.specs.declared.corners.Corners.{Corners}
-use Rattle.cuts.specs.Cuts.{IsCutAt, IsCut}
+use Rattle.cuts.specs.Cuts.{IsCut}
 
 -- ---- closed sets
 

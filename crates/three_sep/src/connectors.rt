@@ -45,15 +45,10 @@ impl Connectors {
             ≡ spread_at (entry views.now) self.now.first self.now.second }
     {
         let Connectors { first, second } = *self;
+        let lines = SpreadLines::at(views, second.row, second.other, first.column, first.other);
         Rule {
             upper: Block::Zero,
-            lower: Block::Spread(SpreadLines::at(
-                views,
-                second.row,
-                second.other,
-                first.column,
-                first.other,
-            )),
+            lower: Block::Spread(lines),
         }
     }
 }

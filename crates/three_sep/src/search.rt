@@ -11,7 +11,8 @@ ghost use Rattle.three_sep.specs.Searches.{HasCorners, HasNoGood, HoldsFirst, Is
 use crate::concentrated::first_concentrated;
 use crate::connectors::{Connectors, rule_at};
 use crate::others::{
-    connector_lines, count_of, is_first_other, is_second_other, line_of, may_have_columns, may_have_rows,
+    connector_lines, count_of, is_first_other, is_second_other, line_of, may_have_columns,
+    may_have_rows,
 };
 use crate::sides::{first_of_lines, leaves, may_part};
 use cmr_base::{Connector, Form, Line, Matrix, Memory, RowsAndColumns, Three};

@@ -1,4 +1,4 @@
-use Rattle.std.proofs.Common.{◌≡◌, ◌∙◌, ◌∷◌, [], ℕ, Bool, List, ap, sym, subst, arith}
+use Rattle.std.proofs.Common.{◌≡◌, ◌∙◌, ◌∷◌, Bool, List, ap, sym, subst, arith}
 use Rattle.std.specs.List.{AllByRecursion}
 use Rattle.cmr_base.specs.declared.line.Line.{Line}
 use Rattle.cmr_base.specs.declared.separation.Connector.{Connector}
