@@ -75,11 +75,6 @@ and_is false b e = (cc, cc)
 pub is_and : (a b : Bool) → a ≡ true → b ≡ true → a && b ≡ true
 is_and a b e f = rw (e, f) refl
 
--- the first test without the second
-pub first_of : (a b : Bool) → (a && not b) ≡ true → a ≡ true
-first_of true b e = refl
-first_of false b e = cc
-
 pub and_not : (a b : Bool) → (a && not b) ≡ false → a ≡ true → b ≡ true
 and_not true true e h = refl
 and_not true false e h = cc

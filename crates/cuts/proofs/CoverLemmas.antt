@@ -3,9 +3,10 @@ use Rattle.std.proofs.Common.{Result, Ok, Err, IfOk, OnOk, ℕ, zero, suc, Bool,
 use Rattle.cmr_base.specs.declared.line.Line.{Line}
 use Rattle.cmr_base.specs.declared.line.Line.TheVariants.{Row, Column}
 use Rattle.cmr_base.specs.Matrix.{Matrix, height, entry, is_nonzero, transposed, IsMatrix}
-use Rattle.cmr_base.specs.Separations.{Lines}
+use Rattle.cmr_base.specs.Separations.{Lines, opposite}
 use Rattle.cmr_base.specs.Trees.{support}
-use Rattle.cmr_base.proofs.Booleans.{two_cases, same_or_not, ne_of, and_is, true_is, nonzero_is, not_both, not_is, is_not, is_and, is_eq, or_left, or_right}
+use Rattle.cmr_base.proofs.Booleans.{two_cases, same_or_not, ne_of, and_is, true_is, nonzero_is, not_both, not_is, is_not, false_is, is_and, is_eq, or_left, or_right}
+use Rattle.cmr_base.proofs.LineCounts.{outside_is}
 use Rattle.cmr_base.proofs.NextNonzeros.{column_in}
 use Rattle.cmr_base.proofs.Parts.{entry-transposed, height-transposed, is_matrix-transposed}
 use Rattle.cmr_base.proofs.SeedLemmas.{count_grows}
@@ -20,7 +21,7 @@ use Rattle.cuts.specs.declared.heaps.Heaps.{Heaps}
 use Rattle.cuts.specs.declared.line_patterns.LinePatterns.{LinePatterns}
 use Rattle.cuts.specs.declared.line_words.LineWords.{LineWords}
 use Rattle.cuts.specs.declared.patterns.Patterns.{Patterns}
-use Rattle.cuts.proofs.CutLemmas.{other_side, other_is_cut}
+use Rattle.cuts.proofs.CutLemmas.{lower_at, other_is_cut, upper_at}
 use Rattle.cuts.proofs.WordLemmas.{as_first, as_second, first_zero, second_zero}
 
 -- ---- one pattern
@@ -28,10 +29,10 @@ use Rattle.cuts.proofs.WordLemmas.{as_first, as_second, first_zero, second_zero}
 -- two lines of one side that are not 0 on lines of the other side have equal patterns there
 module _ (m : Matrix) (is : IsMatrix m) (T : Lines) (w : IsCut m T) where
   lower : (r c : ℕ) → r < height m → c < m.width → T (Row r) ≡ false → T (Column c) ≡ true → entry m r c ≡ entry m r w.corners.p *ℤ (entry m w.corners.k c *ℤ entry m w.corners.k w.corners.p)
-  lower r c lr lc er ec = w.cut.closed.lower r c lr lc er ec
+  lower r c lr lc er ec = lower_at m w.cut.closed r c lr lc er ec
 
   upper : (r c : ℕ) → r < height m → c < m.width → T (Row r) ≡ true → T (Column c) ≡ false → entry m r c ≡ entry m r w.corners.j *ℤ (entry m w.corners.i c *ℤ entry m w.corners.i w.corners.j)
-  upper r c lr lc er ec = w.cut.closed.upper r c lr lc er ec
+  upper r c lr lc er ec = upper_at m w.cut.closed r c lr lc er ec
 
   row_like : (r met c : ℕ) → r < height m → T (Row r) ≡ false → met < m.width → T (Column met) ≡ true → support m r met ≡ true → c < m.width → T (Column c) ≡ true → support m r c ≡ support m w.corners.k c
   row_like r met c lr er lm em s lc ec =
@@ -74,6 +75,10 @@ within_sum m H X H' T adds h x z l e = elim (adds z l e) [
   | inl old ↦ h z l old
   | inr new ↦ x z l new
 ]
+
+-- all lines but those of H are in P
+pub covers_rest : (m : Matrix) (H K P : Lines) → ((x : Line) → IsLineOf m x → H x ≡ false → P x ≡ true) → Covers m H K P
+covers_rest m H K P rest T w x l out = rest x l (false_is (H x) (λ h. not_both (T x) (w.one x l h) out))
 
 -- ---- all lines of a set are in another, or one is not
 
@@ -132,7 +137,7 @@ covers_halves m H K P H1 H2 halved h1 h2 T w = elim (halved T w.cut w.one) [
 
 -- the same for the lines of side two
 pub covers_halves_beside : (m : Matrix) (H K P K1 K2 : Lines) → IsHalved m K K1 K2 → Covers m H K1 P → Covers m H K2 P → Covers m H K P
-covers_halves_beside m H K P K1 K2 halved h1 h2 T w = elim (halved (other_side T) (other_is_cut m T w.cut) (λ z l h. ap not (w.two z l h))) [
+covers_halves_beside m H K P K1 K2 halved h1 h2 T w = elim (halved (opposite T) (other_is_cut m T w.cut) (λ z l h. ap not (w.two z l h))) [
   | inl all ↦ h1 T (record { cut = w.cut; one = w.one; two = λ z l h. not_is (T z) (all z l h) })
   | inr all ↦ h2 T (record { cut = w.cut; one = w.one; two = λ z l h. not_is (T z) (all z l h) })
 ]
@@ -196,7 +201,8 @@ module _ (m : Matrix) (H T : Lines) (is : IsMatrix m) (w : IsCut m T) (within : 
       let a = few_outside Row f.rows (height m) f.most_rows (λ r l. l) f.row_classes f.rows_at_most in
       let b = few_outside Column f.columns m.width f.most_columns (λ c l. l) f.column_classes f.columns_at_most in
       let few = f.few in
-      let four = w.cut.enough_two in omega (arith, a, b, few, four)
+      let all = outside_is (height m) m.width T in
+      let four = w.cut.enough.two in omega (arith, a, b, all, few, four)
 
 -- side two has fewer than four lines
 pub covers_few : (m : Matrix) (H K P : Lines) → IsMatrix m → LeavesFew m H → Covers m H K P
@@ -204,7 +210,7 @@ covers_few m H K P is few T w = absurd (no_few m H T is w.cut w.one few)
 
 -- side one has
 pub covers_few_beside : (m : Matrix) (H K P : Lines) → IsMatrix m → LeavesFew m K → Covers m H K P
-covers_few_beside m H K P is few T w = absurd (no_few m K (other_side T) is (other_is_cut m T w.cut) (λ z l h. ap not (w.two z l h)) few)
+covers_few_beside m H K P is few T w = absurd (no_few m K (opposite T) is (other_is_cut m T w.cut) (λ z l h. ap not (w.two z l h)) few)
 
 -- ---- the group of a line
 
@@ -221,7 +227,7 @@ pub group_of_covers : (m : Matrix) (groups : Groups) (name : ℕ) (H G H' K P : 
     → ((x : Line) → IsLineOf m x → G x ≡ true → name_of m groups x ≡ name) → AddsAtMost m H' H G → ((x : Line) → IsLineOf m x → K x ≡ false) → Covers m H' K P → Covers m H G P → AreOnOneSide m e P
 group_of_covers m groups name H G H' K P e le only together named adds empty h1 h2 T w x l n = elim (two_cases (T e)) [
   | inl t ↦ in_one T w t ∙ sym t
-  | inr f ↦ not_is (T x) (in_one (other_side T) (other_is_cut m T w) (ap not f)) ∙ sym f
+  | inr f ↦ not_is (T x) (in_one (opposite T) (other_is_cut m T w) (ap not f)) ∙ sym f
 ]
   where
     in_one : (S : Lines) → IsCut m S → S e ≡ true → S x ≡ true

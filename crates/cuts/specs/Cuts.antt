@@ -1,25 +1,13 @@
 -- Cuts: two sides of four lines or more, with blocks between them that are products and not 0. Groups of lines that they do not part.
-use Rattle.std.specs.Prelude.{◌≡◌, ◌≢◌, ◌<◌, ◌≤◌, ◌+◌, ℕ, ℤ, pos, true, false, length, slice_index_or}
+use Rattle.std.specs.Prelude.{◌≡◌, ◌≢◌, ◌<◌, ◌+◌, ℕ, pos, true, false, length, slice_index_or}
 use Rattle.cmr_base.specs.declared.line.Line.{Line}
 use Rattle.cmr_base.specs.declared.line.Line.TheVariants.{Row, Column}
+use Rattle.cmr_base.specs.LineSets.{first_lines}
 use Rattle.cmr_base.specs.Matrix.{Matrix, height, entry}
-use Rattle.cmr_base.specs.Separations.{Lines, product_at}
-use Rattle.cmr_base.specs.Seeds.{IsLine, inside, outside}
+use Rattle.cmr_base.specs.Separations.{AreEnough, Lines, product_at}
+use Rattle.cmr_base.specs.Seeds.{IsClosed, IsLine}
 use Rattle.cuts.specs.declared.corners.Corners.{Corners}
 use Rattle.cuts.specs.declared.groups.Groups.{Groups}
-
--- no line outside breaks a rule with a line inside: the one for rows inside, or the one for columns inside
-pub record IsClosed (m n : ℕ) (M right_rule below_rule : ℕ → ℕ → ℤ) (S : Lines) : Type 0 where
-  pub upper : (r c : ℕ) → r < m → c < n → S (Row r) ≡ true → S (Column c) ≡ false → M r c ≡ right_rule r c
-  pub lower : (r c : ℕ) → r < m → c < n → S (Row r) ≡ false → S (Column c) ≡ true → M r c ≡ below_rule r c
-
--- closed for what the entries between the sides are to be
-abbrev pub IsClosedBy : Matrix → (upper lower : ℕ → ℕ → ℤ) → Lines → Type 0
-IsClosedBy m upper lower S = IsClosed (height m) m.width (entry m) upper lower S
-
--- for two connectors with these corners
-abbrev pub IsClosedAt : Matrix → Corners → Lines → Type 0
-IsClosedAt m c S = IsClosedBy m (product_at (entry m) c.i c.j) (product_at (entry m) c.k c.p) S
 
 -- the corners are in the matrix
 pub record AreInside (m : Matrix) (c : Corners) : Type 0 where
@@ -28,15 +16,14 @@ pub record AreInside (m : Matrix) (c : Corners) : Type 0 where
   pub row_two : c.k < height m
   pub column_two : c.j < m.width
 
--- side one is T and has row i and column p, side two has row k and column j
+-- side one is T and has row i and column p, side two has row k and column j; the blocks are the products that these make
 pub record IsCutAt (m : Matrix) (c : Corners) (T : Lines) : Type 0 where
-  pub closed : IsClosedAt m c T
+  pub closed : IsClosed (height m) m.width (entry m) (product_at (entry m) c.i c.j) (product_at (entry m) c.k c.p) T
   pub row_one : T (Row c.i) ≡ true
   pub column_one : T (Column c.p) ≡ true
   pub row_two : T (Row c.k) ≡ false
   pub column_two : T (Column c.j) ≡ false
-  pub enough_one : 4 ≤ inside (height m) m.width T
-  pub enough_two : 4 ≤ outside (height m) m.width T
+  pub enough : AreEnough (first_lines (height m)) (first_lines m.width) T 4
 
 -- a cut at some corners, with a nonzero in each block
 pub record IsCut (m : Matrix) (T : Lines) : Type 0 where

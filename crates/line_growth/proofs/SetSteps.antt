@@ -173,7 +173,7 @@ module _ (m : Matrix) (upper lower : ℕ → ℕ → ℤ) (before after : Growin
 
 module _ (m : Matrix) (upper lower : ℕ → ℕ → ℤ) (before after : GrowingSet) (start : List Line) (g : IsGrowing m upper lower start before) where
   pub row_added : (row : ℕ) → HasAdded (height m) row before.rows after.rows → after.columns ≡ before.columns → IsGrowing m upper lower (Row row ∷ start) after
-  row_added row w columns = record { has = (w.line_in, all_weaker (λ x. set_of before x ≡ true) (λ x. set_of after x ≡ true) has start g.has); least = least; upper = upper; lower = lower }
+  row_added row w columns = record { has = (w.line_in, all_weaker (λ x. set_of before x ≡ true) (λ x. set_of after x ≡ true) has start g.has); least = least; upper = upper_kept; lower = lower_kept }
     where
       same : (k : ℕ) → is_in after.columns k ≡ is_in before.columns k
       same k = ap (λ v. is_in v k) columns
@@ -192,17 +192,17 @@ module _ (m : Matrix) (upper lower : ℕ → ℕ → ℤ) (before after : Growin
         | inr h ↦ ap (λ (z : ℕ). T (Row z)) h.1 ∙ all.0
       ]
 
-      upper : (r k : ℕ) → r < height m → k < m.width → set_of after (Row r) ≡ true → set_of after (Column k) ≡ false → IsIn r after.rows.fresh.items ⊎ (entry m r k ≡ upper r k)
-      upper r k lr lk er ek = elim (w.grown.news r er) [
+      upper_kept : (r k : ℕ) → r < height m → k < m.width → set_of after (Row r) ≡ true → set_of after (Column k) ≡ false → IsIn r after.rows.fresh.items ⊎ (entry m r k ≡ upper r k)
+      upper_kept r k lr lk er ek = elim (w.grown.news r er) [
         | inl h ↦ elim (g.upper r k lr lk h (sym (same k) ∙ ek)) [ inl h' ↦ inl (w.grown.waits r h') | inr e ↦ inr e ]
         | inr h ↦ inl h
       ]
 
-      lower : (r k : ℕ) → r < height m → k < m.width → set_of after (Row r) ≡ false → set_of after (Column k) ≡ true → IsIn k after.columns.fresh.items ⊎ (entry m r k ≡ lower r k)
-      lower r k lr lk er ek = elim (g.lower r k lr lk (out r er) (sym (same k) ∙ ek)) [ inl h' ↦ inl (subst (λ v. IsIn k v.fresh.items) (sym columns) h') | inr e ↦ inr e ]
+      lower_kept : (r k : ℕ) → r < height m → k < m.width → set_of after (Row r) ≡ false → set_of after (Column k) ≡ true → IsIn k after.columns.fresh.items ⊎ (entry m r k ≡ lower r k)
+      lower_kept r k lr lk er ek = elim (g.lower r k lr lk (out r er) (sym (same k) ∙ ek)) [ inl h' ↦ inl (subst (λ v. IsIn k v.fresh.items) (sym columns) h') | inr e ↦ inr e ]
 
   pub column_added : (column : ℕ) → HasAdded m.width column before.columns after.columns → after.rows ≡ before.rows → IsGrowing m upper lower (Column column ∷ start) after
-  column_added column w rows = record { has = (w.line_in, all_weaker (λ x. set_of before x ≡ true) (λ x. set_of after x ≡ true) has start g.has); least = least; upper = upper; lower = lower }
+  column_added column w rows = record { has = (w.line_in, all_weaker (λ x. set_of before x ≡ true) (λ x. set_of after x ≡ true) has start g.has); least = least; upper = upper_kept; lower = lower_kept }
     where
       same : (r : ℕ) → is_in after.rows r ≡ is_in before.rows r
       same r = ap (λ v. is_in v r) rows
@@ -221,11 +221,11 @@ module _ (m : Matrix) (upper lower : ℕ → ℕ → ℤ) (before after : Growin
         | inr h ↦ ap (λ (z : ℕ). T (Column z)) h.1 ∙ all.0
       ]
 
-      upper : (r k : ℕ) → r < height m → k < m.width → set_of after (Row r) ≡ true → set_of after (Column k) ≡ false → IsIn r after.rows.fresh.items ⊎ (entry m r k ≡ upper r k)
-      upper r k lr lk er ek = elim (g.upper r k lr lk (sym (same r) ∙ er) (out k ek)) [ inl h' ↦ inl (subst (λ v. IsIn r v.fresh.items) (sym rows) h') | inr e ↦ inr e ]
+      upper_kept : (r k : ℕ) → r < height m → k < m.width → set_of after (Row r) ≡ true → set_of after (Column k) ≡ false → IsIn r after.rows.fresh.items ⊎ (entry m r k ≡ upper r k)
+      upper_kept r k lr lk er ek = elim (g.upper r k lr lk (sym (same r) ∙ er) (out k ek)) [ inl h' ↦ inl (subst (λ v. IsIn r v.fresh.items) (sym rows) h') | inr e ↦ inr e ]
 
-      lower : (r k : ℕ) → r < height m → k < m.width → set_of after (Row r) ≡ false → set_of after (Column k) ≡ true → IsIn k after.columns.fresh.items ⊎ (entry m r k ≡ lower r k)
-      lower r k lr lk er ek = elim (w.grown.news k ek) [
+      lower_kept : (r k : ℕ) → r < height m → k < m.width → set_of after (Row r) ≡ false → set_of after (Column k) ≡ true → IsIn k after.columns.fresh.items ⊎ (entry m r k ≡ lower r k)
+      lower_kept r k lr lk er ek = elim (w.grown.news k ek) [
         | inl h ↦ elim (g.lower r k lr lk (sym (same r) ∙ er) h) [ inl h' ↦ inl (w.grown.waits k h') | inr e ↦ inr e ]
         | inr h ↦ inl h
       ]

@@ -9,8 +9,8 @@ use Rattle.cmr_base.proofs.Booleans.{and_is, false_is, nonzero_is, not_both, not
 use Rattle.cmr_base.proofs.NextNonzeros.{column_in as nonzero_in}
 use Rattle.cmr_base.proofs.SignEntries.{sign_of_entry}
 use Rattle.three_sep.specs.declared.connectors.Connectors.{Connectors}
-use Rattle.cuts.specs.Cuts.{IsClosedBy}
-use Rattle.three_sep.specs.Connectors.{first_of, second_of}
+use Rattle.cuts.proofs.CutLemmas.{lower_at, upper_at}
+use Rattle.line_growth.specs.GrowingSets.{IsClosedIn}
 use Rattle.three_sep.specs.Independent.{AreIndependent, outside_one, outside_two}
 use Rattle.three_sep.specs.Concentrated.{AreHeldBy, IsHeldBy}
 use Rattle.three_sep.proofs.SpreadLemmas.{no_triangle, spread_parts}
@@ -29,33 +29,33 @@ and_false false b e = inr refl
 
 module _ (m : Matrix) (d : Connectors) where
   abbrev determinant : ℤ
-  determinant = core_determinant (entry m) (first_of d) (second_of d)
+  determinant = core_determinant (entry m) d.first d.second
 
   abbrev part_first : ℕ → ℤ
-  part_first column = determinant *ℤ (entry m d.o d.q *ℤ entry m d.corners.k column -ℤ entry m d.corners.k d.q *ℤ entry m d.o column)
+  part_first column = determinant *ℤ (entry m d.second.other d.first.other *ℤ entry m d.second.row column -ℤ entry m d.second.row d.first.other *ℤ entry m d.second.other column)
 
   abbrev part_other : ℕ → ℤ
-  part_other column = determinant *ℤ (entry m d.corners.k d.corners.p *ℤ entry m d.o column -ℤ entry m d.o d.corners.p *ℤ entry m d.corners.k column)
+  part_other column = determinant *ℤ (entry m d.second.row d.first.column *ℤ entry m d.second.other column -ℤ entry m d.second.other d.first.column *ℤ entry m d.second.row column)
 
 module _ (m : Matrix) (is : IsMatrix m) where
   -- the columns of a row
   pub own_held : (i : ℕ) → i < height m → AreHeldBy m i (support m i)
   own_held i row_in column e d S closed one =
       let l = nonzero_in m i column is row_in e in
-      true_is (S (Column column)) (λ out. nonzero_is (entry m i column) e (closed.upper i column row_in l one out))
+      true_is (S (Column column)) (λ out. nonzero_is (entry m i column) e (upper_at m closed i column row_in l one out))
 
-  module _ (d : Connectors) (S : Lines) (closed : IsClosedBy m zeros (spread_at (entry m) (first_of d) (second_of d)) S) where
+  module _ (d : Connectors) (S : Lines) (closed : IsClosedIn m zeros (spread_at (entry m) d.first d.second) S) where
     -- a column of the lower block from columns p and q
     parts : (row column : ℕ) → row < height m → column < m.width → S (Row row) ≡ false → S (Column column) ≡ true
-        → entry m row column ≡ part_first m d column *ℤ entry m row d.corners.p +ℤ part_other m d column *ℤ entry m row d.q
+        → entry m row column ≡ part_first m d column *ℤ entry m row d.first.column +ℤ part_other m d column *ℤ entry m row d.first.other
     parts row column lr lc er ec =
-        closed.lower row column lr lc er ec
-        ∙ spread_parts (determinant m d) (entry m d.corners.k d.corners.p) (entry m d.corners.k d.q) (entry m d.o d.corners.p) (entry m d.o d.q) (entry m row d.corners.p) (entry m row d.q) (entry m d.corners.k column) (entry m d.o column)
+        lower_at m closed row column lr lc er ec
+        ∙ spread_parts (determinant m d) (entry m d.second.row d.first.column) (entry m d.second.row d.first.other) (entry m d.second.other d.first.column) (entry m d.second.other d.first.other) (entry m row d.first.column) (entry m row d.first.other) (entry m d.second.row column) (entry m d.second.other column)
 
     -- three independent rows are not all outside
     module _ (set : ℕ → Bool) (j : ℕ) (h : AreIndependent m set j) (inside : (column : ℕ) → set column ≡ true → S (Column column) ≡ true) (column_in : j < m.width) (out : S (Column j) ≡ false) where
       row_out : (row : ℕ) → row < height m → support m row j ≡ true → S (Row row) ≡ false
-      row_out row l e = false_is (S (Row row)) (λ within. nonzero_is (entry m row j) e (closed.upper row j l column_in within out))
+      row_out row l e = false_is (S (Row row)) (λ within. nonzero_is (entry m row j) e (upper_at m closed row j l column_in within out))
 
       among_one : (column : ℕ) → outside_one m set h.one column ≡ true → (set column ≡ true) × (entry m h.one column ≡ pos 0)
       among_one column e = let (own, none) = and_is _ _ e in (own, zero_is (entry m h.one column) (not_is _ none))
@@ -82,8 +82,8 @@ module _ (m : Matrix) (is : IsMatrix m) where
           let o1 = row_out h.one one.row_in one.nonzero in
           let o2 = row_out h.two two.row_in two.nonzero in
           let o3 = row_out h.three three.row_in three.nonzero in
-          let p = d.corners.p in
-          let q = d.q in
+          let p = d.first.column in
+          let q = d.first.other in
           let zero = no_triangle (entry m h.three p) (entry m h.three q) (entry m h.two p) (entry m h.two q) (entry m h.one p) (entry m h.one q)
           (part_first m d three.column) (part_other m d three.column) (part_first m d two.column) (part_other m d two.column) (part_first m d one.column) (part_other m d one.column)
           (sym (parts h.one three.column one.row_in lx o1 ix) ∙ one_x) (sym (parts h.one two.column one.row_in ly o1 iy) ∙ one_y)

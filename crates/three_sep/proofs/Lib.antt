@@ -1,4 +1,3 @@
-pub mod SeedFacts
 pub mod CrossingLemmas
 pub mod SpreadLemmas
 pub mod SearchLemmas

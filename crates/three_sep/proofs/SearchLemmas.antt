@@ -1,65 +1,73 @@
 -- The search for the first good seed, level by level.
-use Rattle.std.proofs.Common.{ℕ, ◌+◌, Bool, true, false, List, [], ◌∷◌, ◌++◌, ◌≡◌, ◌≢◌, ◌<◌, ◌∙◌, sym, ap, refl, arith, subst, ◌⊎◌, inl, inr, length, get_or, pos, Option, Some, None, Result, Ok, Err, IfOk, IfSome, IfNone}
+use Rattle.std.proofs.Common.{ℕ, ◌+◌, Bool, true, false, List, [], ◌∷◌, ◌++◌, ◌≡◌, ◌≢◌, ◌<◌, ◌∙◌, sym, ap, refl, arith, subst, inl, inr, length, get_or, pos, Option, Some, None, Result, Ok, Err, IfOk, IfSome, IfNone}
 use Rattle.std.proofs.lemmas.Bool.{cases_lt}
+use Rattle.std.specs.List.{AllByRecursion}
 use Rattle.cmr_base.specs.declared.line.Line.{Line}
 use Rattle.cmr_base.specs.declared.line.Line.TheVariants.{Row, Column}
 use Rattle.cmr_base.specs.Matrix.{Matrix, height, entry}
 use Rattle.cmr_base.proofs.RowLists.{same_or_not}
 use Rattle.cmr_base.proofs.Booleans.{not_both}
 use Rattle.cmr_base.proofs.SeedLemmas.{line_is, form_is, three_separation_of_seed}
-use Rattle.cmr_base.proofs.LineCounts.{inside_is}
 use Rattle.cuts.specs.declared.groups.Groups.{Groups}
 use Rattle.cuts.specs.declared.corners.Corners.{Corners}
+use Rattle.cmr_base.specs.declared.separation.Connector.{Connector}
 use Rattle.cmr_base.specs.declared.separation.Form.{Form}
 use Rattle.cmr_base.specs.declared.separation.Form.TheVariants.{Delta, YForm, Mixed, Concentrated}
 use Rattle.cmr_base.specs.declared.separation.Three.{Three}
-use Rattle.cmr_base.specs.Separations.{Lines, first_is_flat, second_is_flat}
+use Rattle.cmr_base.specs.Separations.{AreCrossing, IsTied, Lines, connector_lines, first_is_flat, second_is_flat}
 use Rattle.cmr_base.specs.Seeds.{IsLine, form_number, line_number, IsBefore}
-use Rattle.three_sep.specs.NumberedSeeds.{Seed, Among, connector, IsFirstOther, IsSecondOther, IsCrossing, IsGoodSeed, seed_key, HasLines, seed_of}
+use Rattle.three_sep.specs.NumberedSeeds.{Seed, IsBeside, IsCrossing, IsGoodSeed, seed_key, HasLines, seed_of}
 use Rattle.cuts.specs.Cuts.{AreInside, IsCutAt, IsCut, HasNames, HoldTogether, name_of}
-use Rattle.three_sep.specs.Searches.{BeginsWith, HasNoGood, IsFirstOf, HasNoneBelow, corner_front, line_count, other_line, HasNoColumn, HasNoRow, LacksColumn, LacksRow, IsNoSecondRow, IsNoSecondColumn}
-use Rattle.three_sep.proofs.CrossingLemmas.{IsGoodCrossing, as_crossing}
-use Rattle.three_sep.proofs.SeedFacts.{facts}
+use Rattle.three_sep.specs.Searches.{BeginsWith, HasNoGood, IsFirstOf, HasNoneBelow, corner_front, corners_of, first_at, line_count, other_line, HasNoColumn, HasNoRow, LacksColumn, LacksRow, IsNoSecondRow, IsNoSecondColumn}
+use Rattle.three_sep.specs.declared.connectors.Connectors.{Connectors}
+use Rattle.three_sep.specs.Connectors.{all_front, connectors_at}
+use Rattle.three_sep.proofs.CrossingLemmas.{closed_crossing, crossing_from}
+
+-- ---- the lines of a connector
+
+-- what each of them has, its row, its column and its other line have
+pub of_connector : (P : Line → Type 0) (flat : Bool) (d : Connector) → AllByRecursion P (connector_lines flat d) → P (Row d.row) × P (Column d.column) × P (other_line flat d.other)
+of_connector P true d h = (h.0, h.1.0, h.1.1.0)
+of_connector P false d h = (h.0, h.1.0, h.1.1.0)
+
+pub to_connector : (P : Line → Type 0) (flat : Bool) (d : Connector) → P (Row d.row) → P (Column d.column) → P (other_line flat d.other) → AllByRecursion P (connector_lines flat d)
+to_connector P true d row column other = (row, (column, (other, tt)))
+to_connector P false d row column other = (row, (column, (other, tt)))
 
 -- ---- good seeds as cuts
 
-corner_row : (flat : Bool) (r c o : ℕ) → Among (connector flat r c o) (Row r)
-corner_row true r c o = inl refl
-corner_row false r c o = inl refl
+module _ (m : Matrix) (s : Seed) (S : Lines) (good : IsGoodSeed m s S) where
+  first_in : IsLine (height m) m.width (Row s.pair.first.row) × IsLine (height m) m.width (Column s.pair.first.column) × IsLine (height m) m.width (other_line (first_is_flat s.form) s.pair.first.other)
+  first_in = of_connector (IsLine (height m) m.width) (first_is_flat s.form) s.pair.first good.0.first_lines
 
-corner_column : (flat : Bool) (r c o : ℕ) → Among (connector flat r c o) (Column c)
-corner_column true r c o = inr (inl refl)
-corner_column false r c o = inr (inl refl)
+  second_in : IsLine (height m) m.width (Row s.pair.second.row) × IsLine (height m) m.width (Column s.pair.second.column) × IsLine (height m) m.width (other_line (second_is_flat s.form) s.pair.second.other)
+  second_in = of_connector (IsLine (height m) m.width) (second_is_flat s.form) s.pair.second good.0.second_lines
 
-corner_other : (flat : Bool) (r c o : ℕ) → Among (connector flat r c o) (other_line flat o)
-corner_other true r c o = inr (inr (inl refl))
-corner_other false r c o = inr (inr (inl refl))
+  pub first_has : (S (Row s.pair.first.row) ≡ true) × (S (Column s.pair.first.column) ≡ true) × (S (other_line (first_is_flat s.form) s.pair.first.other) ≡ true)
+  first_has = of_connector (λ x. S x ≡ true) (first_is_flat s.form) s.pair.first good.1.grown.has.1
 
-abbrev pub corners_of : Seed → Corners
-corners_of s = record { i = s.first.row; p = s.first.column; k = s.second.row; j = s.second.column }
+  pub second_out : (S (Row s.pair.second.row) ≡ false) × (S (Column s.pair.second.column) ≡ false) × (S (other_line (second_is_flat s.form) s.pair.second.other) ≡ false)
+  second_out = of_connector (λ x. S x ≡ false) (second_is_flat s.form) s.pair.second good.1.two
 
--- the side of a good seed is a cut
-pub good_is_cut_at : (m : Matrix) (s : Seed) (S : Lines) → IsGoodCrossing (height m) m.width (entry m) s S → IsGoodSeed m s S → IsCutAt m (corners_of s) S
-good_is_cut_at m s S g g0 = record {
-  closed = g.side.closed;
-  row_one = g.side.has (Row s.first.row) (inr (corner_row (first_is_flat s.form) s.first.row s.first.column s.first.other));
-  column_one = g.side.has (Column s.first.column) (inr (corner_column (first_is_flat s.form) s.first.row s.first.column s.first.other));
-  row_two = g.two (Row s.second.row) (corner_row (second_is_flat s.form) s.second.row s.second.column s.second.other);
-  column_two = g.two (Column s.second.column) (corner_column (second_is_flat s.form) s.second.row s.second.column s.second.other);
-  enough_one = let a = inside_is (height m) m.width S in let b = (three_separation_of_seed (height m) m.width (entry m) s.form s.first s.second s.line S g0).enough.one in omega arith;
-  enough_two = g.enough;
-}
+  pub good_inside : AreInside m (corners_of s.pair)
+  good_inside = record { row_one = first_in.0; column_one = first_in.1; row_two = second_in.0; column_two = second_in.1 }
 
-pub good_inside : (m : Matrix) (s : Seed) (S : Lines) → IsGoodSeed m s S → AreInside m (corners_of s)
-good_inside m s S g0 = let g = facts m s S g0 in record {
-  row_one = g.first_lines (Row s.first.row) (corner_row (first_is_flat s.form) s.first.row s.first.column s.first.other);
-  column_one = g.first_lines (Column s.first.column) (corner_column (first_is_flat s.form) s.first.row s.first.column s.first.other);
-  row_two = g.second_lines (Row s.second.row) (corner_row (second_is_flat s.form) s.second.row s.second.column s.second.other);
-  column_two = g.second_lines (Column s.second.column) (corner_column (second_is_flat s.form) s.second.row s.second.column s.second.other);
-}
+  module _ (crossing : IsCrossing s.form) where
+    -- the side of a good seed is a cut
+    pub good_is_cut_at : IsCutAt m (corners_of s.pair) S
+    good_is_cut_at = record {
+      closed = closed_crossing (entry m) s.pair.first s.pair.second (height m) m.width S s.form crossing good.1.grown.closed;
+      row_one = first_has.0;
+      column_one = first_has.1;
+      row_two = second_out.0;
+      column_two = second_out.1;
+      enough = (three_separation_of_seed (height m) m.width (entry m) s.form s.pair.first s.pair.second s.line S good).enough;
+    }
 
-pub good_is_cut : (m : Matrix) (s : Seed) (S : Lines) → IsCrossing s.form → IsGoodSeed m s S → IsCut m S
-good_is_cut m s S crossing g0 = let g = as_crossing m s S crossing (facts m s S g0) in record { corners = corners_of s; are_inside = good_inside m s S g0; upper = g.connectors.corners.upper; lower = g.connectors.corners.lower; cut = good_is_cut_at m s S g g0 }
+    pub good_is_cut : IsCut m S
+    good_is_cut =
+        let ties = crossing_from (entry m) s.pair.first s.pair.second s.form crossing good.0.values.tied in
+        record { corners = corners_of s.pair; are_inside = good_inside; upper = ties.upper; lower = ties.lower; cut = good_is_cut_at }
 
 -- ---- fronts
 
@@ -116,159 +124,150 @@ level_found m front a three short before found = record {
 
 -- ---- seeds by their fronts
 
-abbrev pub seed_at : Form → Corners → ℕ → ℕ → Line → Seed
-seed_at form c q o x = record { form = form; first = record { row = c.i; column = c.p; other = q }; second = record { row = c.k; column = c.j; other = o }; line = x }
+abbrev pub seed_at : Form → Connectors → Line → Seed
+seed_at form d x = record { form = form; pair = d; line = x }
 
-pub seed_is : (s : Seed) (kind : Form) (i p k j q o : ℕ) (x : Line) → kind ≡ s.form → i ≡ s.first.row → p ≡ s.first.column → k ≡ s.second.row → j ≡ s.second.column → q ≡ s.first.other → o ≡ s.second.other → x ≡ s.line
-    → s ≡ record { form = kind; first = record { row = i; column = p; other = q }; second = record { row = k; column = j; other = o }; line = x }
+seed_is : (s : Seed) (kind : Form) (i p k j q o : ℕ) (x : Line) → kind ≡ s.form → i ≡ s.pair.first.row → p ≡ s.pair.first.column → k ≡ s.pair.second.row → j ≡ s.pair.second.column → q ≡ s.pair.first.other → o ≡ s.pair.second.other → x ≡ s.line
+    → s ≡ record { form = kind; pair = record { first = record { row = i; column = p; other = q }; second = record { row = k; column = j; other = o } }; line = x }
 seed_is s kind i p k j q o x e1 e2 e3 e4 e5 e6 e7 e8 = rw (e1, e2, e3, e4, e5, e6, e7, e8) refl
 
-pub seed_from_corners : (m : Matrix) (form : Form) (c : Corners) (s : Seed) → BeginsWith (corner_front form c) (seed_key m s) → s ≡ seed_at form c s.first.other s.second.other s.line
-seed_from_corners m form c s h = seed_is s form c.i c.p c.k c.j s.first.other s.second.other s.line (form_is form s.form h.0) h.1.0 h.1.1.0 h.1.1.1.0 h.1.1.1.1.0 refl refl refl
+pub seed_from_corners : (m : Matrix) (form : Form) (c : Corners) (s : Seed) → BeginsWith (corner_front form c) (seed_key m s) → s ≡ seed_at form (connectors_at c s.pair.first.other s.pair.second.other) s.line
+seed_from_corners m form c s h = seed_is s form c.i c.p c.k c.j s.pair.first.other s.pair.second.other s.line (form_is form s.form h.0) h.1.0 h.1.1.0 h.1.1.1.0 h.1.1.1.1.0 refl refl refl
 
-pub seed_from_first : (m : Matrix) (form : Form) (c : Corners) (q : ℕ) (s : Seed) → BeginsWith (corner_front form c ++ q ∷ []) (seed_key m s) → s ≡ seed_at form c q s.second.other s.line
-seed_from_first m form c q s h = seed_is s form c.i c.p c.k c.j q s.second.other s.line (form_is form s.form h.0) h.1.0 h.1.1.0 h.1.1.1.0 h.1.1.1.1.0 h.1.1.1.1.1.0 refl refl
+pub seed_from_first : (m : Matrix) (form : Form) (c : Corners) (q : ℕ) (s : Seed) → BeginsWith (corner_front form c ++ q ∷ []) (seed_key m s) → s ≡ seed_at form (connectors_at c q s.pair.second.other) s.line
+seed_from_first m form c q s h = seed_is s form c.i c.p c.k c.j q s.pair.second.other s.line (form_is form s.form h.0) h.1.0 h.1.1.0 h.1.1.1.0 h.1.1.1.1.0 h.1.1.1.1.1.0 refl refl
 
-pub seed_from_second : (m : Matrix) (form : Form) (c : Corners) (q o : ℕ) (s : Seed) → BeginsWith (corner_front form c ++ q ∷ o ∷ []) (seed_key m s) → s ≡ seed_at form c q o s.line
-seed_from_second m form c q o s h = seed_is s form c.i c.p c.k c.j q o s.line (form_is form s.form h.0) h.1.0 h.1.1.0 h.1.1.1.0 h.1.1.1.1.0 h.1.1.1.1.1.0 h.1.1.1.1.1.1.0 refl
+pub seed_from_second : (m : Matrix) (form : Form) (d : Connectors) (s : Seed) → BeginsWith (all_front form d) (seed_key m s) → s ≡ seed_at form d s.line
+seed_from_second m form d s h = seed_is s form d.first.row d.first.column d.second.row d.second.column d.first.other d.second.other s.line (form_is form s.form h.0) h.1.0 h.1.1.0 h.1.1.1.0 h.1.1.1.1.0 h.1.1.1.1.1.0 h.1.1.1.1.1.1.0 refl
 
-pub seed_from_all : (m : Matrix) (form : Form) (c : Corners) (q o place : ℕ) (x : Line) (s : Seed) → IsLine (height m) m.width x → IsLine (height m) m.width s.line → line_number (height m) x ≡ place
-    → BeginsWith (corner_front form c ++ q ∷ o ∷ place ∷ []) (seed_key m s) → s ≡ seed_at form c q o x
-seed_from_all m form c q o place x s lx ls e h =
-    seed_is s form c.i c.p c.k c.j q o x (form_is form s.form h.0) h.1.0 h.1.1.0 h.1.1.1.0 h.1.1.1.1.0 h.1.1.1.1.1.0 h.1.1.1.1.1.1.0 (line_is (height m) m.width x s.line lx ls (e ∙ h.1.1.1.1.1.1.1.0))
+pub seed_from_all : (m : Matrix) (form : Form) (d : Connectors) (place : ℕ) (x : Line) (s : Seed) → IsLine (height m) m.width x → IsLine (height m) m.width s.line → line_number (height m) x ≡ place
+    → BeginsWith (all_front form d ++ place ∷ []) (seed_key m s) → s ≡ seed_at form d x
+seed_from_all m form d place x s lx ls e h =
+    seed_is s form d.first.row d.first.column d.second.row d.second.column d.first.other d.second.other x (form_is form s.form h.0) h.1.0 h.1.1.0 h.1.1.1.0 h.1.1.1.1.0 h.1.1.1.1.1.0 h.1.1.1.1.1.1.0
+    (line_is (height m) m.width x s.line lx ls (e ∙ h.1.1.1.1.1.1.1.0))
 
 -- ---- what is passed over
+
+pub no_good_corner : (m : Matrix) (kind i p : ℕ) → entry m i p ≡ pos 0 → HasNoGood m (kind ∷ i ∷ p ∷ [])
+no_good_corner m kind i p e s S h g = g.0.values.first_corner (rw (sym h.1.0, sym h.1.1.0) e)
+
+pub no_second_corner : (m : Matrix) (kind i p k j : ℕ) → entry m k j ≡ pos 0 → HasNoGood m (kind ∷ i ∷ p ∷ k ∷ j ∷ [])
+no_second_corner m kind i p k j e s S h g = g.0.values.second_corner (rw (sym h.1.1.1.0, sym h.1.1.1.1.0) e)
 
 module _ (m : Matrix) (form : Form) (crossing : IsCrossing form) where
   is_crossing : (s : Seed) → form_number form ≡ form_number s.form → IsCrossing s.form
   is_crossing s e = subst IsCrossing (form_is form s.form e) crossing
 
-  crossing_seed : (s : Seed) (S : Lines) → form_number form ≡ form_number s.form → IsGoodSeed m s S → IsGoodCrossing (height m) m.width (entry m) s S
-  crossing_seed s S e g = as_crossing m s S (is_crossing s e) (facts m s S g)
-
-  pub no_good_corner : (i p : ℕ) → entry m i p ≡ pos 0 → HasNoGood m (form_number form ∷ i ∷ p ∷ [])
-  no_good_corner i p e s S h g = (crossing_seed s S h.0 g).connectors.corners.first (rw (sym h.1.0, sym h.1.1.0) e)
+  ties : (s : Seed) (S : Lines) → form_number form ≡ form_number s.form → IsGoodSeed m s S → AreCrossing (entry m) (first_is_flat s.form) (second_is_flat s.form) s.pair.first s.pair.second
+  ties s S e g = crossing_from (entry m) s.pair.first s.pair.second s.form (is_crossing s e) g.0.values.tied
 
   pub no_good_whole : (groups : Groups) (i : ℕ) → HasNames m groups → HoldTogether (IsCut m) m groups
       → ((k l : ℕ) → k < length groups.names.items → l < length groups.names.items → get_or groups.names.items k 0 ≡ get_or groups.names.items l 0) → HasNoGood m (form_number form ∷ i ∷ [])
-  no_good_whole groups i names hold one s S h g0 =
-      let cut = good_is_cut_at m s S (crossing_seed s S h.0 g0) g0 in
-      let within = good_inside m s S g0 in
-      let li : s.first.row < length groups.names.items = let l = within.row_one in omega (arith, names, l) in
-      let lk : s.second.row < length groups.names.items = let l = within.row_two in omega (arith, names, l) in
-      not_both (S (Row s.first.row)) cut.row_one (hold S (good_is_cut m s S (is_crossing s h.0) g0) (Row s.first.row) (Row s.second.row) within.row_one within.row_two (one s.first.row s.second.row li lk) ∙ cut.row_two)
+  no_good_whole groups i names hold one s S h g =
+      let within = good_inside m s S g in
+      let li : s.pair.first.row < length groups.names.items = let l = within.row_one in omega (arith, names, l) in
+      let lk : s.pair.second.row < length groups.names.items = let l = within.row_two in omega (arith, names, l) in
+      not_both (S (Row s.pair.first.row)) (first_has m s S g).0 (hold S (good_is_cut m s S g (is_crossing s h.0)) (Row s.pair.first.row) (Row s.pair.second.row) within.row_one within.row_two (one s.pair.first.row s.pair.second.row li lk) ∙ (second_out m s S g).0)
 
   module _ (groups : Groups) (hold : HoldTogether (IsCut m) m groups) where
     -- the other line of a flat or tall connector and the corner that it is to be apart from
     first_apart : (s : Seed) (S : Lines) → form_number form ≡ form_number s.form → IsGoodSeed m s S → (y : Line) → S y ≡ false → IsLine (height m) m.width y
-        → name_of m groups (other_line (first_is_flat s.form) s.first.other) ≢ name_of m groups y
-    first_apart s S e g0 y out ly same =
-        let x = other_line (first_is_flat s.form) s.first.other in
-        let among = corner_other (first_is_flat s.form) s.first.row s.first.column s.first.other in
-        not_both (S x) ((facts m s S g0).side.has x (inr among)) (hold S (good_is_cut m s S (is_crossing s e) g0) x y ((facts m s S g0).first_lines x among) ly same ∙ out)
+        → name_of m groups (other_line (first_is_flat s.form) s.pair.first.other) ≢ name_of m groups y
+    first_apart s S e g y out ly same =
+        let x = other_line (first_is_flat s.form) s.pair.first.other in
+        not_both (S x) (first_has m s S g).2 (hold S (good_is_cut m s S g (is_crossing s e)) x y (first_in m s S g).2 ly same ∙ out)
 
     second_apart : (s : Seed) (S : Lines) → form_number form ≡ form_number s.form → IsGoodSeed m s S → (y : Line) → S y ≡ true → IsLine (height m) m.width y
-        → name_of m groups (other_line (second_is_flat s.form) s.second.other) ≢ name_of m groups y
-    second_apart s S e g0 y within ly same =
-        let x = other_line (second_is_flat s.form) s.second.other in
-        let among = corner_other (second_is_flat s.form) s.second.row s.second.column s.second.other in
-        not_both (S x) (hold S (good_is_cut m s S (is_crossing s e) g0) x y ((facts m s S g0).second_lines x among) ly same ∙ within) ((facts m s S g0).two x among)
+        → name_of m groups (other_line (second_is_flat s.form) s.pair.second.other) ≢ name_of m groups y
+    second_apart s S e g y within ly same =
+        let x = other_line (second_is_flat s.form) s.pair.second.other in
+        not_both (S x) (hold S (good_is_cut m s S g (is_crossing s e)) x y (second_in m s S g).2 ly same ∙ within) (second_out m s S g).2
 
-    no_first_column : (s : Seed) (S : Lines) → form_number form ≡ form_number s.form → IsGoodSeed m s S → first_is_flat s.form ≡ true → HasNoColumn m groups s.first.row s.second.row → ⊥
-    no_first_column s S e g0 flat none =
-        let g = crossing_seed s S e g0 in
-        let line : IsLine (height m) m.width (other_line true s.first.other) = subst (λ (z : Bool). IsLine (height m) m.width (other_line z s.first.other)) flat ((facts m s S g0).first_lines (other_line (first_is_flat s.form) s.first.other) (corner_other (first_is_flat s.form) s.first.row s.first.column s.first.other)) in
-        let other = subst (λ (z : Bool). IsFirstOther z (entry m) s.first.row s.first.column s.second.row s.second.column s.first.other) flat g.connectors.first_other in
-        first_apart s S e g0 (Row s.second.row) (good_is_cut_at m s S g g0).row_two (good_inside m s S g0).row_two
-        (ap (λ (z : Bool). name_of m groups (other_line z s.first.other)) flat ∙ none s.first.other line other.0 other.1)
+    no_first_column : (s : Seed) (S : Lines) → form_number form ≡ form_number s.form → IsGoodSeed m s S → first_is_flat s.form ≡ true → HasNoColumn m groups s.pair.first.row s.pair.second.row → ⊥
+    no_first_column s S e g flat none =
+        let line : IsLine (height m) m.width (other_line true s.pair.first.other) = subst (λ (z : Bool). IsLine (height m) m.width (other_line z s.pair.first.other)) flat (first_in m s S g).2 in
+        let tied = subst (λ (z : Bool). IsTied (entry m) z s.pair.first s.pair.second.row s.pair.second.column) flat (ties s S e g).first_tied in
+        first_apart s S e g (Row s.pair.second.row) (second_out m s S g).0 (second_in m s S g).0
+        (ap (λ (z : Bool). name_of m groups (other_line z s.pair.first.other)) flat ∙ none s.pair.first.other line tied.0 tied.1)
 
-    no_second_column : (s : Seed) (S : Lines) → form_number form ≡ form_number s.form → IsGoodSeed m s S → second_is_flat s.form ≡ true → HasNoColumn m groups s.second.row s.first.row → ⊥
-    no_second_column s S e g0 flat none =
-        let g = crossing_seed s S e g0 in
-        let line : IsLine (height m) m.width (other_line true s.second.other) = subst (λ (z : Bool). IsLine (height m) m.width (other_line z s.second.other)) flat ((facts m s S g0).second_lines (other_line (second_is_flat s.form) s.second.other) (corner_other (second_is_flat s.form) s.second.row s.second.column s.second.other)) in
-        let other = subst (λ (z : Bool). IsSecondOther z (entry m) s.first.row s.first.column s.second.row s.second.column s.second.other) flat g.connectors.second_other in
-        second_apart s S e g0 (Row s.first.row) (good_is_cut_at m s S g g0).row_one (good_inside m s S g0).row_one
-        (ap (λ (z : Bool). name_of m groups (other_line z s.second.other)) flat ∙ none s.second.other line other.0 other.1)
+    no_second_column : (s : Seed) (S : Lines) → form_number form ≡ form_number s.form → IsGoodSeed m s S → second_is_flat s.form ≡ true → HasNoColumn m groups s.pair.second.row s.pair.first.row → ⊥
+    no_second_column s S e g flat none =
+        let line : IsLine (height m) m.width (other_line true s.pair.second.other) = subst (λ (z : Bool). IsLine (height m) m.width (other_line z s.pair.second.other)) flat (second_in m s S g).2 in
+        let tied = subst (λ (z : Bool). IsTied (entry m) z s.pair.second s.pair.first.row s.pair.first.column) flat (ties s S e g).second_tied in
+        second_apart s S e g (Row s.pair.first.row) (first_has m s S g).0 (first_in m s S g).0
+        (ap (λ (z : Bool). name_of m groups (other_line z s.pair.second.other)) flat ∙ none s.pair.second.other line tied.0 tied.1)
 
-    no_first_row : (s : Seed) (S : Lines) → form_number form ≡ form_number s.form → IsGoodSeed m s S → first_is_flat s.form ≡ false → HasNoRow m groups s.first.column s.second.column → ⊥
-    no_first_row s S e g0 tall none =
-        let g = crossing_seed s S e g0 in
-        let line : IsLine (height m) m.width (other_line false s.first.other) = subst (λ (z : Bool). IsLine (height m) m.width (other_line z s.first.other)) tall ((facts m s S g0).first_lines (other_line (first_is_flat s.form) s.first.other) (corner_other (first_is_flat s.form) s.first.row s.first.column s.first.other)) in
-        let other = subst (λ (z : Bool). IsFirstOther z (entry m) s.first.row s.first.column s.second.row s.second.column s.first.other) tall g.connectors.first_other in
-        first_apart s S e g0 (Column s.second.column) (good_is_cut_at m s S g g0).column_two (good_inside m s S g0).column_two
-        (ap (λ (z : Bool). name_of m groups (other_line z s.first.other)) tall ∙ none s.first.other line other.0 other.1)
+    no_first_row : (s : Seed) (S : Lines) → form_number form ≡ form_number s.form → IsGoodSeed m s S → first_is_flat s.form ≡ false → HasNoRow m groups s.pair.first.column s.pair.second.column → ⊥
+    no_first_row s S e g tall none =
+        let line : IsLine (height m) m.width (other_line false s.pair.first.other) = subst (λ (z : Bool). IsLine (height m) m.width (other_line z s.pair.first.other)) tall (first_in m s S g).2 in
+        let tied = subst (λ (z : Bool). IsTied (entry m) z s.pair.first s.pair.second.row s.pair.second.column) tall (ties s S e g).first_tied in
+        first_apart s S e g (Column s.pair.second.column) (second_out m s S g).1 (second_in m s S g).1
+        (ap (λ (z : Bool). name_of m groups (other_line z s.pair.first.other)) tall ∙ none s.pair.first.other line tied.0 tied.1)
 
-    no_second_row : (s : Seed) (S : Lines) → form_number form ≡ form_number s.form → IsGoodSeed m s S → second_is_flat s.form ≡ false → HasNoRow m groups s.second.column s.first.column → ⊥
-    no_second_row s S e g0 tall none =
-        let g = crossing_seed s S e g0 in
-        let line : IsLine (height m) m.width (other_line false s.second.other) = subst (λ (z : Bool). IsLine (height m) m.width (other_line z s.second.other)) tall ((facts m s S g0).second_lines (other_line (second_is_flat s.form) s.second.other) (corner_other (second_is_flat s.form) s.second.row s.second.column s.second.other)) in
-        let other = subst (λ (z : Bool). IsSecondOther z (entry m) s.first.row s.first.column s.second.row s.second.column s.second.other) tall g.connectors.second_other in
-        second_apart s S e g0 (Column s.first.column) (good_is_cut_at m s S g g0).column_one (good_inside m s S g0).column_one
-        (ap (λ (z : Bool). name_of m groups (other_line z s.second.other)) tall ∙ none s.second.other line other.0 other.1)
+    no_second_row : (s : Seed) (S : Lines) → form_number form ≡ form_number s.form → IsGoodSeed m s S → second_is_flat s.form ≡ false → HasNoRow m groups s.pair.second.column s.pair.first.column → ⊥
+    no_second_row s S e g tall none =
+        let line : IsLine (height m) m.width (other_line false s.pair.second.other) = subst (λ (z : Bool). IsLine (height m) m.width (other_line z s.pair.second.other)) tall (second_in m s S g).2 in
+        let tied = subst (λ (z : Bool). IsTied (entry m) z s.pair.second s.pair.first.row s.pair.first.column) tall (ties s S e g).second_tied in
+        second_apart s S e g (Column s.pair.first.column) (first_has m s S g).1 (first_in m s S g).1
+        (ap (λ (z : Bool). name_of m groups (other_line z s.pair.second.other)) tall ∙ none s.pair.second.other line tied.0 tied.1)
 
     lacks_column : (i p k : ℕ) → LacksColumn m groups form i k → HasNoGood m (form_number form ∷ i ∷ p ∷ k ∷ [])
-    lacks_column i p k lacks s S h g0 =
+    lacks_column i p k lacks s S h g =
         let kind = form_is form s.form h.0 in
-        let here : LacksColumn m groups s.form s.first.row s.second.row = rw (sym kind, sym h.1.0, sym h.1.1.1.0) lacks in
+        let here : LacksColumn m groups s.form s.pair.first.row s.pair.second.row = rw (sym kind, sym h.1.0, sym h.1.1.1.0) lacks in
         elim here [
-          | inl none ↦ no_first_column s S h.0 g0 none.0 none.1
-          | inr none ↦ no_second_column s S h.0 g0 none.0 none.1
+          | inl none ↦ no_first_column s S h.0 g none.0 none.1
+          | inr none ↦ no_second_column s S h.0 g none.0 none.1
         ]
 
     lacks_row : (i p k j : ℕ) → LacksRow m groups form p j → HasNoGood m (form_number form ∷ i ∷ p ∷ k ∷ j ∷ [])
-    lacks_row i p k j lacks s S h g0 =
+    lacks_row i p k j lacks s S h g =
         let kind = form_is form s.form h.0 in
-        let here : LacksRow m groups s.form s.first.column s.second.column = rw (sym kind, sym h.1.1.0, sym h.1.1.1.1.0) lacks in
+        let here : LacksRow m groups s.form s.pair.first.column s.pair.second.column = rw (sym kind, sym h.1.1.0, sym h.1.1.1.1.0) lacks in
         elim here [
-          | inl none ↦ no_first_row s S h.0 g0 none.0 none.1
-          | inr none ↦ no_second_row s S h.0 g0 none.0 none.1
+          | inl none ↦ no_first_row s S h.0 g none.0 none.1
+          | inr none ↦ no_second_row s S h.0 g none.0 none.1
         ]
 
   pub no_good_second_row : (groups : Groups) (i p k : ℕ) → HoldTogether (IsCut m) m groups → IsNoSecondRow m groups form i p k → HasNoGood m (form_number form ∷ i ∷ p ∷ k ∷ [])
-  no_good_second_row groups i p k hold (inl lacks) s S h g0 = lacks_column groups hold i p k lacks s S h g0
-  no_good_second_row groups i p k hold (inr no_row) s S h g0 =
-      let g = crossing_seed s S h.0 g0 in
-      let cut = good_is_cut_at m s S g g0 in
-      let within = good_inside m s S g0 in
-      let T = hold S (good_is_cut m s S (is_crossing s h.0) g0) in
+  no_good_second_row groups i p k hold (inl lacks) s S h g = lacks_column groups hold i p k lacks s S h g
+  no_good_second_row groups i p k hold (inr no_row) s S h g =
+      let (row_one, column_one, other_one) = first_has m s S g in
+      let (row_two, column_two, other_two) = second_out m s S g in
+      let within = good_inside m s S g in
+      let T = hold S (good_is_cut m s S g (is_crossing s h.0)) in
       elim no_row [
-        | inl e ↦ g.connectors.corners.lower (rw (sym h.1.1.0, sym h.1.1.1.0) e)
-        | inr (inl e) ↦ not_both (S (Row s.first.row)) cut.row_one (T (Row s.first.row) (Row s.second.row) within.row_one within.row_two (rw (sym h.1.0, sym h.1.1.1.0) e) ∙ cut.row_two)
-        | inr (inr e) ↦ not_both (S (Column s.first.column)) cut.column_one (T (Column s.first.column) (Row s.second.row) within.column_one within.row_two (rw (sym h.1.1.0, sym h.1.1.1.0) e) ∙ cut.row_two)
+        | inl e ↦ (ties s S h.0 g).lower (rw (sym h.1.1.0, sym h.1.1.1.0) e)
+        | inr (inl e) ↦ not_both (S (Row s.pair.first.row)) row_one (T (Row s.pair.first.row) (Row s.pair.second.row) within.row_one within.row_two (rw (sym h.1.0, sym h.1.1.1.0) e) ∙ row_two)
+        | inr (inr e) ↦ not_both (S (Column s.pair.first.column)) column_one (T (Column s.pair.first.column) (Row s.pair.second.row) within.column_one within.row_two (rw (sym h.1.1.0, sym h.1.1.1.0) e) ∙ row_two)
       ]
 
   pub no_good_second_column : (groups : Groups) (i p k j : ℕ) → HoldTogether (IsCut m) m groups → IsNoSecondColumn m groups form i p k j → HasNoGood m (form_number form ∷ i ∷ p ∷ k ∷ j ∷ [])
-  no_good_second_column groups i p k j hold (inl lacks) s S h g0 = lacks_row groups hold i p k j lacks s S h g0
-  no_good_second_column groups i p k j hold (inr no_column) s S h g0 =
-      let g = crossing_seed s S h.0 g0 in
-      let cut = good_is_cut_at m s S g g0 in
-      let within = good_inside m s S g0 in
-      let T = hold S (good_is_cut m s S (is_crossing s h.0) g0) in
+  no_good_second_column groups i p k j hold (inl lacks) s S h g = lacks_row groups hold i p k j lacks s S h g
+  no_good_second_column groups i p k j hold (inr no_column) s S h g =
+      let (row_one, column_one, other_one) = first_has m s S g in
+      let (row_two, column_two, other_two) = second_out m s S g in
+      let within = good_inside m s S g in
+      let T = hold S (good_is_cut m s S g (is_crossing s h.0)) in
       elim no_column [
-        | inl e ↦ g.connectors.corners.second (rw (sym h.1.1.1.0, sym h.1.1.1.1.0) e)
-        | inr (inl e) ↦ g.connectors.corners.upper (rw (sym h.1.0, sym h.1.1.1.1.0) e)
-        | inr (inr (inl e)) ↦ not_both (S (Row s.first.row)) cut.row_one (T (Row s.first.row) (Column s.second.column) within.row_one within.column_two (rw (sym h.1.0, sym h.1.1.1.1.0) e) ∙ cut.column_two)
-        | inr (inr (inr e)) ↦ not_both (S (Column s.first.column)) cut.column_one (T (Column s.first.column) (Column s.second.column) within.column_one within.column_two (rw (sym h.1.1.0, sym h.1.1.1.1.0) e) ∙ cut.column_two)
+        | inl e ↦ no_second_corner m (form_number form) i p k j e s S h g
+        | inr (inl e) ↦ (ties s S h.0 g).upper (rw (sym h.1.0, sym h.1.1.1.1.0) e)
+        | inr (inr (inl e)) ↦ not_both (S (Row s.pair.first.row)) row_one (T (Row s.pair.first.row) (Column s.pair.second.column) within.row_one within.column_two (rw (sym h.1.0, sym h.1.1.1.1.0) e) ∙ column_two)
+        | inr (inr (inr e)) ↦ not_both (S (Column s.pair.first.column)) column_one (T (Column s.pair.first.column) (Column s.pair.second.column) within.column_one within.column_two (rw (sym h.1.1.0, sym h.1.1.1.1.0) e) ∙ column_two)
       ]
 
-  module _ (c : Corners) where
-    pub no_good_first : (q : ℕ) → ¬ (IsFirstOther (first_is_flat form) (entry m) c.i c.p c.k c.j q) → HasNoGood m (corner_front form c ++ q ∷ [])
-    no_good_first q none s S h g = none (subst (λ (z : Seed). IsGoodCrossing (height m) m.width (entry m) z S) (seed_from_first m form c q s h) (crossing_seed s S h.0 g)).connectors.first_other
+  pub no_good_first : (c : Corners) (q : ℕ) → ¬ (IsTied (entry m) (first_is_flat form) (first_at c q) c.k c.j) → HasNoGood m (corner_front form c ++ q ∷ [])
+  no_good_first c q none s S h g = none (subst (λ (z : Seed). IsTied (entry m) (first_is_flat z.form) z.pair.first z.pair.second.row z.pair.second.column) (seed_from_first m form c q s h) (ties s S h.0 g).first_tied)
 
-    module _ (q o : ℕ) where
-      crossing_at : (s : Seed) (S : Lines) → BeginsWith (corner_front form c ++ q ∷ o ∷ []) (seed_key m s) → IsGoodSeed m s S
-          → IsGoodCrossing (height m) m.width (entry m) (seed_at form c q o s.line) S
-      crossing_at s S h g = subst (λ (z : Seed). IsGoodCrossing (height m) m.width (entry m) z S) (seed_from_second m form c q o s h) (crossing_seed s S h.0 g)
-
-      pub no_good_second : ¬ (IsSecondOther (second_is_flat form) (entry m) c.i c.p c.k c.j o) → HasNoGood m (corner_front form c ++ q ∷ o ∷ [])
-      no_good_second none s S h g = none (crossing_at s S h g).connectors.second_other
+  pub no_good_second : (d : Connectors) → ¬ (IsTied (entry m) (second_is_flat form) d.second d.first.row d.first.column) → HasNoGood m (all_front form d)
+  no_good_second d none s S h g = none (subst (λ (z : Seed). IsTied (entry m) (second_is_flat z.form) z.pair.second z.pair.first.row z.pair.first.column) (seed_from_second m form d s h) (ties s S h.0 g).second_tied)
 
 -- a line of one of the connectors
-pub no_good_beside : (m : Matrix) (form : Form) (c : Corners) (q o place : ℕ) (x : Line) → IsLine (height m) m.width x → line_number (height m) x ≡ place
-    → Among (connector (first_is_flat form) c.i c.p q) x ⊎ Among (connector (second_is_flat form) c.k c.j o) x → HasNoGood m (corner_front form c ++ q ∷ o ∷ place ∷ [])
-no_good_beside m form c q o place x lx number among s S h g0 =
-    let g = facts m (seed_at form c q o x) S (subst (λ (z : Seed). IsGoodSeed m z S) (seed_from_all m form c q o place x s lx (facts m s S g0).line number h) g0) in
-    elim among [ inl a ↦ g.beside_first a | inr a ↦ g.beside_second a ]
+pub no_good_beside : (m : Matrix) (form : Form) (d : Connectors) (place : ℕ) (x : Line) → IsLine (height m) m.width x → line_number (height m) x ≡ place
+    → ¬ (IsBeside (first_is_flat form) d.first x × IsBeside (second_is_flat form) d.second x) → HasNoGood m (all_front form d ++ place ∷ [])
+no_good_beside m form d place x lx number among s S h g0 =
+    let g = subst (λ (z : Seed). IsGoodSeed m z S) (seed_from_all m form d place x s lx g0.1.line number h) g0 in
+    among (g.1.not_first, g.1.not_second)
 
 -- ---- what is found
 
@@ -277,20 +276,20 @@ not_before_itself [] h = h
 not_before_itself (y ∷ ys) (inl l) = omega arith
 not_before_itself (y ∷ ys) (inr h) = not_before_itself ys h.1
 
-module _ (m : Matrix) (form : Form) (c : Corners) (q o place : ℕ) (x : Line) (S : Lines) (three : Three) where
-  pub three_is : three.form ≡ form → three.first ≡ record { row = c.i; column = c.p; other = q } → three.second ≡ record { row = c.k; column = c.j; other = o } → seed_of three x ≡ seed_at form c q o x
+module _ (m : Matrix) (form : Form) (d : Connectors) (place : ℕ) (x : Line) (S : Lines) (three : Three) where
+  pub three_is : three.form ≡ form → three.first ≡ d.first → three.second ≡ d.second → seed_of three x ≡ seed_at form d x
   three_is e1 e2 e3 = rw (e1, e2, e3) refl
 
-  pub found_here : seed_of three x ≡ seed_at form c q o x → IsGoodSeed m (seed_at form c q o x) S → IsLine (height m) m.width x → line_number (height m) x ≡ place
-      → HasLines (height m) m.width S three.side.rows three.side.columns → IsFirstOf m (corner_front form c ++ q ∷ o ∷ place ∷ []) three
+  pub found_here : seed_of three x ≡ seed_at form d x → IsGoodSeed m (seed_at form d x) S → IsLine (height m) m.width x → line_number (height m) x ≡ place
+      → HasLines (height m) m.width S three.side.rows three.side.columns → IsFirstOf m (all_front form d ++ place ∷ []) three
   found_here e good lx number lines = record {
     x = x;
     side = S;
-    begins = subst (λ (z : Seed). BeginsWith (corner_front form c ++ q ∷ o ∷ place ∷ []) (seed_key m z)) (sym e) (refl, (refl, (refl, (refl, (refl, (refl, (refl, (sym number, tt))))))));
+    begins = subst (λ (z : Seed). BeginsWith (all_front form d ++ place ∷ []) (seed_key m z)) (sym e) (refl, (refl, (refl, (refl, (refl, (refl, (refl, (sym number, tt))))))));
     good = subst (λ (z : Seed). IsGoodSeed m z S) (sym e) good;
     first = λ other T begins g before.
         not_before_itself (seed_key m other)
-        (subst (λ (z : Seed). IsBefore (seed_key m other) (seed_key m z)) (e ∙ sym (seed_from_all m form c q o place x other lx (facts m other T g).line number begins)) before);
+        (subst (λ (z : Seed). IsBefore (seed_key m other) (seed_key m z)) (e ∙ sym (seed_from_all m form d place x other lx g.1.line number begins)) before);
     lines = lines;
   }
 
@@ -345,18 +344,18 @@ below_line m false b l = l
 pub first_below : (m : Matrix) (form : Form) (c : Corners) (s : Seed) (S : Lines) (b : ℕ) → IsGoodSeed m s S → BeginsWith (corner_front form c ++ b ∷ []) (seed_key m s)
     → b < line_count m (first_is_flat form)
 first_below m form c s S b g0 h =
-    let g = facts m (seed_at form c b s.second.other s.line) S (subst (λ (z : Seed). IsGoodSeed m z S) (seed_from_first m form c b s h) g0) in
-    line_below m (first_is_flat form) b (g.first_lines (other_line (first_is_flat form) b) (corner_other (first_is_flat form) c.i c.p b))
+    let g = subst (λ (z : Seed). IsGoodSeed m z S) (seed_from_first m form c b s h) g0 in
+    line_below m (first_is_flat form) b (first_in m (seed_at form (connectors_at c b s.pair.second.other) s.line) S g).2
 
 pub second_below : (m : Matrix) (form : Form) (c : Corners) (q : ℕ) (s : Seed) (S : Lines) (b : ℕ) → IsGoodSeed m s S → BeginsWith (corner_front form c ++ q ∷ b ∷ []) (seed_key m s)
     → b < line_count m (second_is_flat form)
 second_below m form c q s S b g0 h =
-    let g = facts m (seed_at form c q b s.line) S (subst (λ (z : Seed). IsGoodSeed m z S) (seed_from_second m form c q b s h) g0) in
-    line_below m (second_is_flat form) b (g.second_lines (other_line (second_is_flat form) b) (corner_other (second_is_flat form) c.k c.j b))
+    let g = subst (λ (z : Seed). IsGoodSeed m z S) (seed_from_second m form (connectors_at c q b) s h) g0 in
+    line_below m (second_is_flat form) b (second_in m (seed_at form (connectors_at c q b) s.line) S g).2
 
-pub place_below : (m : Matrix) (kind : Form) (c : Corners) (q o rows columns : ℕ) → rows ≡ height m → columns ≡ m.width
-    → (s : Seed) (S : Lines) (b : ℕ) → IsGoodSeed m s S → BeginsWith (corner_front kind c ++ q ∷ o ∷ b ∷ []) (seed_key m s) → b < rows + columns
-place_below m kind c q o rows columns er ec s S b g h = go s.line (facts m s S g).line h.1.1.1.1.1.1.1.0
+pub place_below : (m : Matrix) (kind : Form) (d : Connectors) (rows columns : ℕ) → rows ≡ height m → columns ≡ m.width
+    → (s : Seed) (S : Lines) (b : ℕ) → IsGoodSeed m s S → BeginsWith (all_front kind d ++ b ∷ []) (seed_key m s) → b < rows + columns
+place_below m kind d rows columns er ec s S b g h = go s.line g.1.line h.1.1.1.1.1.1.1.0
   where
     go : (x : Line) → IsLine (height m) m.width x → b ≡ line_number (height m) x → b < rows + columns
     go (Row r) l e = omega arith

@@ -62,7 +62,7 @@ module _ (m : Matrix) (three : Three) (f : IsFirstOf m [] three) where
     first = record {
       seed = f.x;
       good = good;
-      earliest = λ form' one two line T g. f.first (record { form = form'; first = one; second = two; line = line }) T tt g;
+      earliest = λ form' one two line T g. f.first (record { form = form'; pair = record { first = one; second = two }; line = line }) T tt g;
     };
     separates = three_separation_of_seed (height m) m.width (entry m) three.form three.first three.second f.x side good;
   }
@@ -70,7 +70,7 @@ module _ (m : Matrix) (three : Three) (f : IsFirstOf m [] three) where
 pub no_three : (m : Matrix) → HasNoGood m [] → HasNoThreeSeparation m
 no_three m none form one two T s =
     let g = good_three_seed (height m) m.width (entry m) form one two T s in
-    none (record { form = form; first = one; second = two; line = g.0 }) g.1 tt g.2
+    none (record { form = form; pair = record { first = one; second = two }; line = g.0 }) g.1 tt g.2
 
 -- the answer of the whole search
 pub found : {E : Type 0} (views m : Matrix) → views ≡ m → (r : Result (Option Three) E) → IfOk r (λ a. IfSome a (IsFirstOf views [])) → IfOk r (λ a. IfNone a (HasNoGood views []))

@@ -7,12 +7,12 @@ use Rattle.cmr_base.specs.Matrix.{Matrix, height, entry}
 use Rattle.cmr_base.specs.Planes.{words_for}
 use Rattle.cmr_base.specs.Signing.{IsSign}
 use Rattle.cmr_base.specs.Separations.{Lines, zeros, spread_at, core_determinant}
-use Rattle.cuts.specs.Cuts.{IsClosedBy}
+use Rattle.cmr_base.specs.Seeds.{IsConnectorPair}
 use Rattle.cuts.specs.declared.corners.Corners.{Corners}
+use Rattle.line_growth.specs.GrowingSets.{IsClosedIn}
 use Rattle.three_sep.specs.declared.connectors.Connectors.{Connectors}
-use Rattle.three_sep.specs.Connectors.{ArePlaced, first_of, second_of}
 use Rattle.three_sep.specs.NumberedSeeds.{Seed, IsGoodSeed}
-use Rattle.three_sep.specs.Searches.{HasNoneBelow, corner_front}
+use Rattle.three_sep.specs.Searches.{HasNoneBelow, corner_front, corners_of, first_at, second_at}
 
 -- the two corners are not 0
 pub record AreConcentratedCorners (M : ℕ → ℕ → ℤ) (c : Corners) : Type 0 where
@@ -24,10 +24,10 @@ pub record IsOtherColumn (M : ℕ → ℕ → ℤ) (c : Corners) (q : ℕ) : Typ
   pub rises : c.p < q
   pub nonzero : M c.i q ≢ pos 0
 
-pub record IsOtherRow (M : ℕ → ℕ → ℤ) (c : Connectors) : Type 0 where
-  pub rises : c.corners.k < c.o
-  pub nonzero : M c.o c.corners.j ≢ pos 0
-  pub determinant : IsSign (core_determinant M (first_of c) (second_of c))
+pub record IsOtherRow (M : ℕ → ℕ → ℤ) (c : Corners) (q o : ℕ) : Type 0 where
+  pub rises : c.k < o
+  pub nonzero : M o c.j ≢ pos 0
+  pub determinant : IsSign (core_determinant M (first_at c q) (second_at c o))
 
 -- q is not right of p, or row i is 0 there, or row k is 0 in both columns
 abbrev pub IsNoOtherColumn : (ℕ → ℕ → ℤ) → Corners → ℕ → Type 0
@@ -38,30 +38,28 @@ IsNoOtherColumn M c q = (q ≤ c.p) ⊎ (M c.i q ≡ pos 0) ⊎ ((M c.k c.p ≡ 
 -- the first row o with which two corners and a column q have connectors
 pub record IsFirstRow (m : Matrix) (c : Corners) (q o : ℕ) : Type 0 where
   pub inside : o < height m
-  pub row : IsOtherRow (entry m) (record { corners = c; q = q; o = o })
+  pub row : IsOtherRow (entry m) c q o
   pub rows : HasNoneBelow m (corner_front Concentrated c ++ q ∷ []) o
 
 -- the first connectors with two corners
 pub record IsFirstPair (m : Matrix) (c : Corners) (d : Connectors) : Type 0 where
-  pub corners : d.corners ≡ c
-  pub placed : ArePlaced m d
-  pub column : IsOtherColumn (entry m) d.corners d.q
-  pub row : IsOtherRow (entry m) d
-  pub columns : HasNoneBelow m (corner_front Concentrated c) d.q
-  pub rows : HasNoneBelow m (corner_front Concentrated c ++ d.q ∷ []) d.o
+  pub corners : corners_of d ≡ c
+  pub pair : IsConnectorPair (height m) m.width (entry m) Concentrated d.first d.second
+  pub columns : HasNoneBelow m (corner_front Concentrated c) d.first.other
+  pub rows : HasNoneBelow m (corner_front Concentrated c ++ d.first.other ∷ []) d.second.other
 
 -- ---- columns that may be in side two
 
 -- each set with row i that two connectors of the form close has the column
 abbrev pub IsHeldBy : Matrix → ℕ → ℕ → Type 0
-IsHeldBy m i column = (d : Connectors) (S : Lines) → IsClosedBy m zeros (spread_at (entry m) (first_of d) (second_of d)) S → S (Row i) ≡ true → S (Column column) ≡ true
+IsHeldBy m i column = (d : Connectors) (S : Lines) → IsClosedIn m zeros (spread_at (entry m) d.first d.second) S → S (Row i) ≡ true → S (Column column) ≡ true
 
 abbrev pub AreHeldBy : Matrix → ℕ → (ℕ → Bool) → Type 0
 AreHeldBy m i set = (column : ℕ) → set column ≡ true → IsHeldBy m i column
 
 -- no good seed of the form has row i and column j
 abbrev pub HasNoneBetween : Matrix → ℕ → ℕ → Type 0
-HasNoneBetween m i j = (s : Seed) (S : Lines) → s.form ≡ Concentrated → s.first.row ≡ i → s.second.column ≡ j → ¬ (IsGoodSeed m s S)
+HasNoneBetween m i j = (s : Seed) (S : Lines) → s.form ≡ Concentrated → s.pair.first.row ≡ i → s.pair.second.column ≡ j → ¬ (IsGoodSeed m s S)
 
 -- each column that is no candidate is in no good seed with row i
 pub record AreCandidates (m : Matrix) (i : ℕ) (candidates : List ℕ) : Type 0 where

@@ -2,17 +2,19 @@
 use Rattle.std.specs.Prelude.{◌≡◌, ◌≢◌, ◌<◌, ◌++◌, ◌⊎◌, ℕ, pos, Bool, true, false, List, [], ◌∷◌}
 use Rattle.cmr_base.specs.declared.line.Line.{Line}
 use Rattle.cmr_base.specs.declared.line.Line.TheVariants.{Row, Column}
+use Rattle.cmr_base.specs.declared.separation.Connector.{Connector}
 use Rattle.cmr_base.specs.Matrix.{Matrix, height, entry}
 use Rattle.cmr_base.specs.declared.separation.Form.{Form}
 use Rattle.cmr_base.specs.declared.separation.Three.{Three}
 use Rattle.cuts.specs.declared.corners.Corners.{Corners}
 use Rattle.cuts.specs.declared.groups.Groups.{Groups}
+use Rattle.three_sep.specs.declared.connectors.Connectors.{Connectors}
 use Rattle.three_sep.specs.declared.search.Search.{Search}
 use Rattle.cuts.specs.Cuts.{AreInside, HasNames, HoldTogether, IsCut, name_of}
-use Rattle.cmr_base.specs.Separations.{Lines, first_is_flat, product_at, second_is_flat}
+use Rattle.cmr_base.specs.Separations.{IsTied, Lines, connector_lines, first_is_flat, product_at, second_is_flat}
 use Rattle.cmr_base.specs.Seeds.{IsLine, IsBefore, IsGrown, form_number}
 use Rattle.line_growth.specs.GrowingSets.{HasRoom, IsGrowing, set_of}
-use Rattle.three_sep.specs.NumberedSeeds.{Seed, AreCorners, IsGoodSeed, IsFirstOther, HasLines, seed_key, seed_of}
+use Rattle.three_sep.specs.NumberedSeeds.{Seed, IsGoodSeed, HasLines, seed_key, seed_of}
 
 -- the list begins with these numbers
 abbrev pub BeginsWith : List ℕ → List ℕ → Type 0
@@ -36,6 +38,16 @@ pub record IsFirstOf (m : Matrix) (front : List ℕ) (three : Three) : Type 0 wh
 -- no seed that begins so and goes on with a lesser number is good
 abbrev pub HasNoneBelow : Matrix → List ℕ → ℕ → Type 0
 HasNoneBelow m front bound = (b : ℕ) → b < bound → HasNoGood m (front ++ b ∷ [])
+
+-- the corners of two connectors, and the connectors with some corners and other lines q and o
+abbrev pub corners_of : Connectors → Corners
+corners_of d = record { i = d.first.row; p = d.first.column; k = d.second.row; j = d.second.column }
+
+abbrev pub first_at : Corners → ℕ → Connector
+first_at c q = record { row = c.i; column = c.p; other = q }
+
+abbrev pub second_at : Corners → ℕ → Connector
+second_at c o = record { row = c.k; column = c.j; other = o }
 
 abbrev pub corner_front : Form → Corners → List ℕ
 corner_front form c = form_number form ∷ c.i ∷ c.p ∷ c.k ∷ c.j ∷ []
@@ -66,17 +78,20 @@ pub record IsCorner (m : Matrix) (r c : ℕ) : Type 0 where
 -- the corners are in the matrix, and the four entries where they cross are not 0
 pub record HasCorners (m : Matrix) (c : Corners) : Type 0 where
   pub inside : AreInside m c
-  pub values : AreCorners (entry m) c.i c.p c.k c.j
+  pub first : entry m c.i c.p ≢ pos 0
+  pub second : entry m c.k c.j ≢ pos 0
+  pub upper : entry m c.i c.j ≢ pos 0
+  pub lower : entry m c.k c.p ≢ pos 0
 
 -- the lines of the first connector with the other line q
 abbrev pub held_lines : Form → Corners → ℕ → List Line
-held_lines form c q = Row c.i ∷ Column c.p ∷ other_line (first_is_flat form) q ∷ []
+held_lines form c q = connector_lines (first_is_flat form) (first_at c q)
 
 -- the side of the search is the closed one of the first connector with the other line q
 pub record HoldsFirst (m : Matrix) (form : Form) (c : Corners) (q : ℕ) (search : Search) : Type 0 where
   pub kept : IsSearchOf m search
   pub line : IsLine (height m) m.width (other_line (first_is_flat form) q)
-  pub other : IsFirstOther (first_is_flat form) (entry m) c.i c.p c.k c.j q
+  pub tied : IsTied (entry m) (first_is_flat form) (first_at c q) c.k c.j
   pub growing : IsGrowing m (product_at (entry m) c.i c.j) (product_at (entry m) c.k c.p) (held_lines form c q) search.side
   pub least : IsGrown (height m) m.width (entry m) (product_at (entry m) c.i c.j) (product_at (entry m) c.k c.p) (held_lines form c q) (set_of search.side)
 

@@ -7,10 +7,11 @@ ghost use Rattle.cmr_base.specs.Matrix.{entry, height};
 ghost use Rattle.cmr_base.specs.Planes.{words_for};
 ghost use Rattle.cmr_base.specs.Signing.{IsSign};
 ghost use Rattle.cmr_base.specs.Separations.{core_determinant};
-ghost use Rattle.cmr_base.specs.Seeds.{form_number};
+ghost use Rattle.cmr_base.specs.Seeds.{IsConnectorPair, form_number};
 ghost use Rattle.cmr_base.specs.Trees.{support};
-ghost use Rattle.three_sep.specs.Connectors.{AreInside, ArePlaced, all_front, first_of, second_of};
-ghost use Rattle.three_sep.specs.Searches.{HasNoGood, IsFirstOf, corner_front};
+ghost use Rattle.cuts.specs.Cuts.{AreInside};
+ghost use Rattle.three_sep.specs.Connectors.{all_front};
+ghost use Rattle.three_sep.specs.Searches.{HasNoGood, IsFirstOf, corner_front, first_at, second_at};
 ghost use Rattle.three_sep.specs.Concentrated.{AreConcentratedCorners, AreCandidates, IsFirstPair, IsFirstRow, IsNoOtherColumn, IsOtherColumn, IsOtherRow};
 
 use crate::connectors::Connectors;
@@ -21,26 +22,16 @@ use crate::sides::{first_of_lines, leaves, may_part};
 use cmr_base::columns::{
     add_column, add_common, empty_set, has_column, meets, next_column, remove_column,
 };
-use cmr_base::{Core, Form, Line, MAX_COLUMNS, Memory, RowsAndColumns, Three};
+use cmr_base::{Connector, Core, Form, Line, MAX_COLUMNS, Memory, RowsAndColumns, Three};
 use cuts::Corners;
 use line_growth::GrowingSet;
 use std::alloc::Global;
 
-/// The separation of the first good seed of the form.
+/// The separation of the first good seed of the form: the rows i.
 pub fn first_concentrated(
     alloc: Global,
     views: &RowsAndColumns<'_>,
 ) -> Result<Option<Three>, Memory>
-    ensures first { IfOk result (λ answer.
-        IfSome answer (IsFirstOf views.now (form_number Concentrated ∷ []))) }
-    ensures none { IfOk result (λ answer.
-        IfNone answer (HasNoGood views.now (form_number Concentrated ∷ []))) }
-{
-    first_of_rows(alloc, views)
-}
-
-// The rows i.
-fn first_of_rows(alloc: Global, views: &RowsAndColumns<'_>) -> Result<Option<Three>, Memory>
     ensures first { IfOk result (λ answer.
         IfSome answer (IsFirstOf views.now (form_number Concentrated ∷ []))) }
     ensures none { IfOk result (λ answer.
@@ -214,6 +205,7 @@ fn first_of_corners(
 // The first column q, of those in which row i is not 0, and with it the first row o.
 fn first_connectors(views: &RowsAndColumns<'_>, corners: &Corners) -> Option<Connectors>
     requires inside { AreInside views.now corners.now }
+    requires corners { AreConcentratedCorners (entry views.now) corners.now }
     ensures { MatchOption result
         (HasNoGood views.now (corner_front Concentrated corners.now))
         (IsFirstPair views.now corners.now) }
@@ -223,11 +215,7 @@ fn first_connectors(views: &RowsAndColumns<'_>, corners: &Corners) -> Option<Con
     while let Some(q) = next_nonzero(views, corners.i, from) {
         if is_right_column(views, corners, q) {
             if let Some(o) = first_other_row(views, corners, q) {
-                return Some(Connectors {
-                    corners: *corners,
-                    q,
-                    o,
-                });
+                return Some(Connectors::at(corners, q, o));
             }
         }
         from = q + 1;
@@ -244,12 +232,7 @@ fn first_other_row(views: &RowsAndColumns<'_>, corners: &Corners, q: u32) -> Opt
         (IsFirstRow views.now corners.now q) }
 {
     for o in 0..views.rows() {
-        let connectors = Connectors {
-            corners: *corners,
-            q,
-            o,
-        };
-        if is_lower_row(views, &connectors) {
+        if is_lower_row(views, corners, q, o) {
             return Some(o);
         }
     }
@@ -262,10 +245,8 @@ fn first_of_connectors(
     views: &RowsAndColumns<'_>,
     connectors: &Connectors,
 ) -> Result<Option<Three>, Memory>
-    requires placed { ArePlaced views.now connectors.now }
-    requires corners { AreConcentratedCorners (entry views.now) connectors.now.corners }
-    requires column { IsOtherColumn (entry views.now) connectors.now.corners connectors.now.q }
-    requires row { IsOtherRow (entry views.now) connectors.now }
+    requires { IsConnectorPair (height views.now) views.now.width (entry views.now) Concentrated
+        connectors.now.first connectors.now.second }
     ensures first { IfOk result (λ answer.
         IfSome answer (IsFirstOf views.now (all_front Concentrated connectors.now))) }
     ensures none { IfOk result (λ answer.
@@ -275,9 +256,10 @@ fn first_of_connectors(
     if is_second_pulled(views, rule, connectors) {
         return Ok(None);
     }
-    let Corners { i, p, k, j } = connectors.corners;
-    let first = [Line::Row(i), Line::Column(p), Line::Column(connectors.q)];
-    let second = [Line::Row(k), Line::Column(j), Line::Row(connectors.o)];
+    let Connector { row, column, other } = connectors.first;
+    let first = [Line::Row(row), Line::Column(column), Line::Column(other)];
+    let Connector { row, column, other } = connectors.second;
+    let second = [Line::Row(row), Line::Column(column), Line::Row(other)];
     let mut side = GrowingSet::new(alloc, views)?;
     let mut other = GrowingSet::new(alloc, views)?;
     if !leaves(views, &mut side, rule, &first, &second)? {
@@ -328,26 +310,28 @@ fn is_right_column(views: &RowsAndColumns<'_>, corners: &Corners, q: u32) -> boo
 }
 
 // Whether o is below k, column j not 0 there, and the determinant 1 or -1.
-fn is_lower_row(views: &RowsAndColumns<'_>, connectors: &Connectors) -> bool
-    requires placed { ArePlaced views.now connectors.now }
-    ensures { IsTrue result ↔ IsOtherRow (entry views.now) connectors.now }
+fn is_lower_row(views: &RowsAndColumns<'_>, corners: &Corners, q: u32, o: u32) -> bool
+    requires inside { AreInside views.now corners.now }
+    requires column { q < views.now.width }
+    requires row { o < height views.now }
+    ensures { IsTrue result ↔ IsOtherRow (entry views.now) corners.now q o }
 {
-    let Corners { k, j, .. } = connectors.corners;
-    if connectors.o <= k || !views.is_nonzero(connectors.o, j) {
+    if o <= corners.k || !views.is_nonzero(o, corners.j) {
         return false;
     }
-    has_sign(views, connectors)
+    has_sign(views, corners, q, o)
 }
 
 // Whether the determinant of the four entries where rows k and o cross columns p and q is 1 or -1.
-fn has_sign(views: &RowsAndColumns<'_>, connectors: &Connectors) -> bool
-    requires { ArePlaced views.now connectors.now }
+fn has_sign(views: &RowsAndColumns<'_>, corners: &Corners, q: u32, o: u32) -> bool
+    requires inside { AreInside views.now corners.now }
+    requires column { q < views.now.width }
+    requires row { o < height views.now }
     ensures { IsTrue result
-        ↔ IsSign (core_determinant (entry views.now) (first_of connectors.now)
-        (second_of connectors.now)) }
+        ↔ IsSign (core_determinant (entry views.now) (first_at corners.now q)
+        (second_at corners.now o)) }
 {
-    let Corners { p, k, .. } = connectors.corners;
-    let core = Core::at(views.by_rows(), k, connectors.o, p, connectors.q);
+    let core = Core::at(views.by_rows(), corners.k, o, corners.p, q);
     is_sign(core.determinant())
 }
 

@@ -3,33 +3,52 @@ ghost use Rattle.std.specs.Prelude.{◌≡◌};
 ghost use Rattle.cmr_base.specs.Matrix.{entry};
 ghost use Rattle.cmr_base.specs.Separations.{spread_at, zeros};
 ghost use Rattle.line_growth.specs.Rules.{IsRuleOf, lower_of, upper_of};
-ghost use Rattle.three_sep.specs.Connectors.{ArePlaced, first_of, second_of, rule_of};
+ghost use Rattle.three_sep.specs.Connectors.{ArePlaced, connectors_at, rule_of};
 
-use cmr_base::RowsAndColumns;
+use cmr_base::{Connector, RowsAndColumns};
 use cuts::Corners;
 use line_growth::{Block, Place, Rule, SpreadLines};
 
-/// Two connectors: a corner and one more line of each.
+/// Two connectors.
 #[derive(Clone, Copy)]
 pub struct Connectors {
-    pub corners: Corners,
-    pub q: u32,
-    pub o: u32,
+    pub first: Connector,
+    pub second: Connector,
 }
 
 impl Connectors {
+    /// The connectors with these corners and other lines.
+    pub fn at(corners: &Corners, q: u32, o: u32) -> Connectors
+        ensures { result ≡ connectors_at corners.now q o }
+    {
+        let Corners { i, p, k, j } = *corners;
+        Connectors {
+            first: Connector {
+                row: i,
+                column: p,
+                other: q,
+            },
+            second: Connector {
+                row: k,
+                column: j,
+                other: o,
+            },
+        }
+    }
+
     /// The rule of the concentrated form: nothing above, and below what the columns p and q and the rows k and o make.
     pub fn spread_rule(&self, views: &RowsAndColumns<'_>) -> Rule
         requires { ArePlaced views.now self.now }
         ensures rule { IsRuleOf views.now result }
         ensures upper { upper_of views.now result ≡ zeros }
         ensures lower { lower_of views.now result
-            ≡ spread_at (entry views.now) (first_of self.now) (second_of self.now) }
+            ≡ spread_at (entry views.now) self.now.first self.now.second }
     {
-        let Corners { p, k, .. } = self.corners;
+        let Connectors { first, second } = *self;
+        let lines = SpreadLines::at(views, second.row, second.other, first.column, first.other);
         Rule {
             upper: Block::Zero,
-            lower: Block::Spread(SpreadLines::at(views, k, self.o, p, self.q)),
+            lower: Block::Spread(lines),
         }
     }
 }

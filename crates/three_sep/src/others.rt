@@ -1,14 +1,15 @@
 // The lines of connectors.
-ghost use Rattle.std.specs.Prelude.{◌≡◌, ◌≢◌, ◌<◌, ◌⊎◌, pos, true, false};
+ghost use Rattle.std.specs.Prelude.{◌≡◌, ◌≢◌, ◌<◌, ◌↔◌, pos, true, false, IsTrue};
 ghost use Rattle.cmr_base.specs.Matrix.{height, entry, IsMatrix};
 ghost use Rattle.cmr_base.specs.declared.line.Line.TheVariants.{Row, Column};
-ghost use Rattle.cmr_base.specs.Separations.{first_is_flat, second_is_flat};
+ghost use Rattle.cmr_base.specs.Separations.{IsTied, connector_lines, first_is_flat, second_is_flat};
 ghost use Rattle.cmr_base.specs.Seeds.{IsLine};
-ghost use Rattle.three_sep.specs.NumberedSeeds.{Among, IsFirstOther, IsSecondOther, connector};
+ghost use Rattle.three_sep.specs.NumberedSeeds.{IsBeside};
 ghost use Rattle.cuts.specs.Cuts.{AreInside, HasNames, name_of};
-ghost use Rattle.three_sep.specs.Searches.{HasNoColumn, HasNoRow, LacksColumn, LacksRow, line_count, other_line};
+ghost use Rattle.three_sep.specs.Searches.{HasNoColumn, HasNoRow, LacksColumn, LacksRow, first_at, line_count, other_line, second_at};
 
-use cmr_base::{Form, Line, RowsAndColumns};
+use crate::connectors::Connectors;
+use cmr_base::{Connector, Form, Line, RowsAndColumns};
 use cuts::{Corners, Groups};
 
 /// How many columns, or rows.
@@ -30,16 +31,28 @@ pub fn line_of(flat: bool, other: u32) -> Line
     }
 }
 
+/// The lines of a connector.
+pub fn connector_lines(connector: Connector, flat: bool) -> [Line; 3]
+    ensures { result ≡ connector_lines flat connector }
+{
+    let Connector { row, column, other } = connector;
+    if flat {
+        [Line::Row(row), Line::Column(column), Line::Column(other)]
+    } else {
+        [Line::Row(row), Line::Column(column), Line::Row(other)]
+    }
+}
+
 /// Whether q can be the first connector's other line.
 pub fn is_first_other(views: &RowsAndColumns<'_>, form: Form, corners: &Corners, q: u32) -> bool
     requires inside { AreInside views.now corners.now }
     requires line { IsLine (height views.now) views.now.width (other_line (first_is_flat form) q) }
     ensures yes { result ≡ true
-        → IsFirstOther (first_is_flat form) (entry views.now) corners.now.i corners.now.p
-        corners.now.k corners.now.j q }
+        → IsTied (entry views.now) (first_is_flat form) (first_at corners.now q)
+        corners.now.k corners.now.j }
     ensures no { result ≡ false
-        → ¬ (IsFirstOther (first_is_flat form) (entry views.now) corners.now.i corners.now.p
-        corners.now.k corners.now.j q) }
+        → ¬ (IsTied (entry views.now) (first_is_flat form) (first_at corners.now q)
+        corners.now.k corners.now.j) }
 {
     if form.first_is_flat() {
         is_flat_other(views, corners.i, corners.k, q)
@@ -53,11 +66,11 @@ pub fn is_second_other(views: &RowsAndColumns<'_>, form: Form, corners: &Corners
     requires inside { AreInside views.now corners.now }
     requires line { IsLine (height views.now) views.now.width (other_line (second_is_flat form) o) }
     ensures yes { result ≡ true
-        → IsSecondOther (second_is_flat form) (entry views.now) corners.now.i corners.now.p
-        corners.now.k corners.now.j o }
+        → IsTied (entry views.now) (second_is_flat form) (second_at corners.now o)
+        corners.now.i corners.now.p }
     ensures no { result ≡ false
-        → ¬ (IsSecondOther (second_is_flat form) (entry views.now) corners.now.i corners.now.p
-        corners.now.k corners.now.j o) }
+        → ¬ (IsTied (entry views.now) (second_is_flat form) (second_at corners.now o)
+        corners.now.i corners.now.p) }
 {
     if form.second_is_flat() {
         is_flat_other(views, corners.k, corners.i, o)
@@ -221,27 +234,20 @@ fn is_row_apart(
 }
 
 /// Whether a line is in neither connector.
-pub fn is_beside(form: Form, corners: &Corners, q: u32, o: u32, line: Line) -> bool
-    ensures first { result ≡ true
-        → ¬ (Among (connector (first_is_flat form) corners.now.i corners.now.p q) line) }
-    ensures second { result ≡ true
-        → ¬ (Among (connector (second_is_flat form) corners.now.k corners.now.j o) line) }
-    ensures no { result ≡ false
-        → Among (connector (first_is_flat form) corners.now.i corners.now.p q) line
-        ⊎ Among (connector (second_is_flat form) corners.now.k corners.now.j o) line }
+pub fn is_beside(form: Form, connectors: &Connectors, line: Line) -> bool
+    ensures { IsTrue result ↔ (IsBeside (first_is_flat form) connectors.now.first line
+        × IsBeside (second_is_flat form) connectors.now.second line) }
 {
-    if is_in_connector(form.first_is_flat(), corners.i, corners.p, q, line) {
-        return false;
-    }
-    !is_in_connector(form.second_is_flat(), corners.k, corners.j, o, line)
+    is_apart(form.first_is_flat(), connectors.first, line)
+        && is_apart(form.second_is_flat(), connectors.second, line)
 }
 
-fn is_in_connector(flat: bool, row: u32, column: u32, other: u32, line: Line) -> bool
-    ensures yes { result ≡ true → Among (connector flat row column other) line }
-    ensures no { result ≡ false → ¬ (Among (connector flat row column other) line) }
+fn is_apart(flat: bool, connector: Connector, line: Line) -> bool
+    ensures { IsTrue result ↔ IsBeside flat connector line }
 {
+    let Connector { row, column, other } = connector;
     match line {
-        Line::Row(number) => number == row || (!flat && number == other),
-        Line::Column(number) => number == column || (flat && number == other),
+        Line::Row(number) => number != row && (flat || number != other),
+        Line::Column(number) => number != column && (!flat || number != other),
     }
 }

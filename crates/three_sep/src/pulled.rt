@@ -20,9 +20,9 @@ pub fn is_second_pulled(views: &RowsAndColumns<'_>, rule: Rule, connectors: &Con
         (seconds Concentrated connectors.now) }
 {
     for column in 0..views.columns() {
-        if column != connectors.corners.p && column != connectors.q {
-            if views.is_nonzero(connectors.corners.i, column) {
-                if pulls_row(views, rule, connectors.corners.j, column) {
+        if column != connectors.first.column && column != connectors.first.other {
+            if views.is_nonzero(connectors.first.row, column) {
+                if pulls_row(views, rule, connectors.second.column, column) {
                     return true;
                 }
             }

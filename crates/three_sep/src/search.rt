@@ -1,20 +1,21 @@
 // The first good seed.
 ghost use Rattle.std.specs.Prelude.{◌≡◌, ◌≢◌, ◌<◌, ◌≤◌, ◌++◌, ◌∷◌, [], pos, true, false, IfOk, OnOk, IfSome, IfNone, MatchOption};
 ghost use Rattle.cmr_base.specs.Matrix.{height, entry};
-ghost use Rattle.cmr_base.specs.Separations.{first_is_flat, second_is_flat};
+ghost use Rattle.cmr_base.specs.Separations.{IsTied, first_is_flat, second_is_flat};
 ghost use Rattle.cmr_base.specs.Seeds.{IsLine, form_number};
 ghost use Rattle.cuts.specs.Cuts.{AreInside, HasNames};
-ghost use Rattle.three_sep.specs.NumberedSeeds.{IsCrossing, IsSecondOther};
+ghost use Rattle.three_sep.specs.NumberedSeeds.{IsCrossing};
 ghost use Rattle.three_sep.specs.ThreeSeparations.{HasNoThreeSeparation, IsFirstThreeSeparation};
-ghost use Rattle.three_sep.specs.Searches.{HasCorners, HasNoGood, HoldsFirst, IsCorner, IsFirstOf, IsNoSecondColumn, IsNoSecondRow, IsSearchOf, corner_front, other_line};
+ghost use Rattle.three_sep.specs.Searches.{HasCorners, HasNoGood, HoldsFirst, IsCorner, IsFirstOf, IsNoSecondColumn, IsNoSecondRow, IsSearchOf, corner_front, other_line, second_at};
 
 use crate::concentrated::first_concentrated;
 use crate::connectors::{Connectors, rule_at};
 use crate::others::{
-    count_of, is_first_other, is_second_other, line_of, may_have_columns, may_have_rows,
+    connector_lines, count_of, is_first_other, is_second_other, line_of, may_have_columns,
+    may_have_rows,
 };
 use crate::sides::{first_of_lines, leaves, may_part};
-use cmr_base::{Form, Line, Matrix, Memory, RowsAndColumns, Three};
+use cmr_base::{Connector, Form, Line, Matrix, Memory, RowsAndColumns, Three};
 use cuts::{Corners, Groups, groups_of};
 use line_growth::GrowingSet;
 use std::alloc::Global;
@@ -282,8 +283,12 @@ impl Search {
             return Ok(false);
         }
         let Corners { i, p, k, j } = *corners;
-        let other = line_of(form.first_is_flat(), q);
-        let first = [Line::Row(i), Line::Column(p), other];
+        let connector = Connector {
+            row: i,
+            column: p,
+            other: q,
+        };
+        let first = connector_lines(connector, form.first_is_flat());
         let second = [Line::Row(k), Line::Column(j)];
         let held = leaves(views, &mut self.side, rule_at(corners), &first, &second)?;
         Ok(held)
@@ -358,8 +363,8 @@ impl Search {
         requires crossing { IsCrossing form }
         requires corners { HasCorners views.now corners.now }
         requires held { HoldsFirst views.now form corners.now q self.old }
-        requires other { IsSecondOther (second_is_flat form) (entry views.now) corners.now.i
-            corners.now.p corners.now.k corners.now.j o }
+        requires tied { IsTied (entry views.now) (second_is_flat form) (second_at corners.now o)
+            corners.now.i corners.now.p }
         requires line { IsLine (height views.now) views.now.width
             (other_line (second_is_flat form) o) }
         ensures held { OnOk result (HoldsFirst views.now form corners.now q self.new) }
@@ -368,11 +373,7 @@ impl Search {
         ensures none { IfOk result (λ answer.
             IfNone answer (HasNoGood views.now (corner_front form corners.now ++ q ∷ o ∷ []))) }
     {
-        let connectors = Connectors {
-            corners: *corners,
-            q,
-            o,
-        };
+        let connectors = Connectors::at(corners, q, o);
         let rule = rule_at(corners);
         first_of_lines(
             alloc,

@@ -6,14 +6,13 @@ ghost use Rattle.cmr_base.specs.Matrix.{height};
 ghost use Rattle.cmr_base.specs.Seeds.{IsLine};
 ghost use Rattle.line_growth.specs.GrowingSets.{HasRoom, IsGrowing, TellsClosed, set_of};
 ghost use Rattle.line_growth.specs.Rules.{IsRuleOf, lower_of, upper_of};
-ghost use Rattle.three_sep.specs.Connectors.{AreConnectorsOf, HasNoneParting, all_front, first_of, firsts, second_of};
+ghost use Rattle.three_sep.specs.Connectors.{AreConnectorsOf, HasNoneParting, all_front, firsts};
 ghost use Rattle.three_sep.specs.NumberedSeeds.{HasLines};
 ghost use Rattle.three_sep.specs.Searches.{HasNoGood, IsFirstOf};
 
 use crate::connectors::Connectors;
-use crate::others::{is_beside, line_of};
-use cmr_base::{Connector, Form, Line, Memory, RowsAndColumns, Three};
-use cuts::Corners;
+use crate::others::{connector_lines, is_beside};
+use cmr_base::{Form, Line, Memory, RowsAndColumns, Three};
 use line_growth::{GrowingSet, Rule, line_at};
 use std::alloc::Global;
 
@@ -187,12 +186,10 @@ pub fn first_of_lines(
     ensures none { IfOk result (λ answer.
         IfNone answer (HasNoGood views.now (all_front form connectors.now))) }
 {
-    let Connectors { corners, q, o } = *connectors;
-    let other = line_of(form.second_is_flat(), o);
-    let second = [Line::Row(corners.k), Line::Column(corners.j), other];
+    let second = connector_lines(connectors.second, form.second_is_flat());
     for place in 0..views.rows() + views.columns() {
         let line = line_at(views, place);
-        if is_beside(form, &corners, q, o, line)
+        if is_beside(form, connectors, line)
             && leaves_beside(views, side, grown, rule, &second, line)?
         {
             return Ok(Some(separation_of(alloc, views, grown, form, connectors)?));
@@ -211,24 +208,15 @@ fn separation_of(
 ) -> Result<Three, Memory>
     requires { HasRoom views.now grown.now }
     ensures form { IfOk result (λ three. three.form ≡ form) }
-    ensures first { IfOk result (λ three. three.first ≡ first_of connectors.now) }
-    ensures second { IfOk result (λ three. three.second ≡ second_of connectors.now) }
+    ensures first { IfOk result (λ three. three.first ≡ connectors.now.first) }
+    ensures second { IfOk result (λ three. three.second ≡ connectors.now.second) }
     ensures lines { IfOk result (λ three. HasLines (height views.now) views.now.width
         (set_of grown.now) three.side.rows three.side.columns) }
 {
-    let Corners { i, p, k, j } = connectors.corners;
     Ok(Three {
         form,
         side: grown.line_set(alloc, views)?,
-        first: Connector {
-            row: i,
-            column: p,
-            other: connectors.q,
-        },
-        second: Connector {
-            row: k,
-            column: j,
-            other: connectors.o,
-        },
+        first: connectors.first,
+        second: connectors.second,
     })
 }

@@ -1,8 +1,10 @@
-use Rattle.std.proofs.Common.{◌≤◌, ◌+◌, arith, refl}
+use Rattle.std.proofs.Common.{◌≤◌, ◌+◌, arith, refl, subst, sym}
 use Rattle.cmr_base.specs.declared.separation.Form.TheVariants.{Concentrated}
+use Rattle.three_sep.specs.declared.connectors.Connectors.{Connectors}
+use Rattle.three_sep.specs.Concentrated.{IsFirstPair}
 use Rattle.three_sep.specs.Searches.{corner_front}
 use Rattle.three_sep.proofs.SearchLemmas.{level_ends, none_below_more, first_below}
-use Rattle.three_sep.proofs.ConcentratedLemmas.{no_column, none_over_zeros, none_to_first}
+use Rattle.three_sep.proofs.ConcentratedLemmas.{no_column, none_over_zeros, none_to_first, pair_of}
 use Rattle.three_sep.proofs.concentrated.first_connectors.Goals as goal
 use Rattle.three_sep.proofs.concentrated.first_connectors.Goals.{then-is_right_column+in_default-first_other_row, else-is_right_column}
 
@@ -10,14 +12,16 @@ pub loop-q-init : goal.loop-q-init
 loop-q-init c = (none_to_first c.args.views.now c.args.corners.now, let l = c.requires.inside.column_one in let w = c.columns-columns.ensures.shape.width_in in omega arith)
 
 pub returns-in-Some-first_other_row : goal.returns-in-Some-first_other_row
-returns-in-Some-first_other_row c = record {
-  corners = refl;
-  placed = record { corners = c.requires.inside; first_other = c.in-Some.ensures.first.1; second_other = c.in-Some-first_other_row.ensures.inside };
-  column = c.is_right_column.ensures.yes c.if-is_right_column.true;
-  row = c.in-Some-first_other_row.ensures.row;
-  columns = none_over_zeros c.args.views.now c.args.corners.now c.loop-q.from c.in-Some.q c.loop-q.invariant.0 c.in-Some.ensures.first.2;
-  rows = c.in-Some-first_other_row.ensures.rows;
-}
+returns-in-Some-first_other_row c =
+    let m = c.args.views.now in
+    let corners = c.args.corners.now in
+    let row = c.in-Some-first_other_row.ensures in
+    subst (λ (d : Connectors). IsFirstPair m corners d) (sym c.at.ensures) (record {
+      corners = refl;
+      pair = pair_of m corners c.in-Some.q c.in-Some-first_other_row.o c.requires.inside c.requires.corners c.in-Some.ensures.first.1 row.inside (c.is_right_column.ensures.yes c.if-is_right_column.true) row.row;
+      columns = none_over_zeros m corners c.loop-q.from c.in-Some.q c.loop-q.invariant.0 c.in-Some.ensures.first.2;
+      rows = row.rows;
+    })
 
 pub loop-q-preserved : goal.loop-q-preserved
 loop-q-preserved c =

@@ -18,7 +18,7 @@ returns-then-is_second_pulled-clause-none c =
     let m = c.args.views.now in
     let d = c.args.connectors.now in
     let rule = c.spread_rule-rule in
-    no_good_parting m Concentrated rule.result d (spread_connectors m rule.result d c.requires.placed c.requires.corners c.requires.column c.requires.row rule.ensures.rule rule.ensures.upper rule.ensures.lower)
+    no_good_parting m Concentrated rule.result d (spread_connectors m rule.result d c.requires rule.ensures.rule rule.ensures.upper rule.ensures.lower)
     (c.is_second_pulled.ensures c.if-is_second_pulled.true)
 
 pub returns-then-not-branch-clause-none : goal.returns-then-not-branch-clause-none
@@ -26,7 +26,7 @@ returns-then-not-branch-clause-none c =
     let m = c.args.views.now in
     let d = c.args.connectors.now in
     let rule = c.spread_rule-rule in
-    no_good_parting m Concentrated rule.result d (spread_connectors m rule.result d c.requires.placed c.requires.corners c.requires.column c.requires.row rule.ensures.rule rule.ensures.upper rule.ensures.lower)
+    no_good_parting m Concentrated rule.result d (spread_connectors m rule.result d c.requires rule.ensures.rule rule.ensures.upper rule.ensures.lower)
     (none_leaving m rule.result (firsts Concentrated d) (seconds Concentrated d) (told_no m rule.result (firsts Concentrated d) (seconds Concentrated d) 4 c.in_ok-leaves.field-0 (set_of c.leaves.new.side) c.in_ok-leaves.ensures.told c.if-not-branch.true))
 
 pub leaves-requires-2-clause-rule : goal.leaves-requires-2-clause-rule
@@ -37,7 +37,7 @@ returns-then-not-branch-2-clause-none c =
     let m = c.args.views.now in
     let d = c.args.connectors.now in
     let rule = c.spread_rule-rule in
-    no_good_parting m Concentrated rule.result d (spread_connectors m rule.result d c.requires.placed c.requires.corners c.requires.column c.requires.row rule.ensures.rule rule.ensures.upper rule.ensures.lower)
+    no_good_parting m Concentrated rule.result d (spread_connectors m rule.result d c.requires rule.ensures.rule rule.ensures.upper rule.ensures.lower)
     (none_left m rule.result (firsts Concentrated d) (seconds Concentrated d) (subst (λ (r : Rule). HasNoLeaving m r (seconds Concentrated d) (firsts Concentrated d) 4) c.exchanged.ensures
     (told_no m c.exchanged.result (seconds Concentrated d) (firsts Concentrated d) 4 c.in_ok-leaves-2.field-0 (set_of c.leaves-2.new.side) c.in_ok-leaves-2.ensures.told c.if-not-branch-2.true)))
 
@@ -46,10 +46,10 @@ returns-then-not-branch-3-clause-none c =
     let m = c.args.views.now in
     let d = c.args.connectors.now in
     let rule = c.spread_rule-rule in
-    no_good_parting m Concentrated rule.result d (spread_connectors m rule.result d c.requires.placed c.requires.corners c.requires.column c.requires.row rule.ensures.rule rule.ensures.upper rule.ensures.lower)
+    no_good_parting m Concentrated rule.result d (spread_connectors m rule.result d c.requires rule.ensures.rule rule.ensures.upper rule.ensures.lower)
     (c.in_ok-may_part.ensures.none c.if-not-branch-3.true)
 
 pub first_of_lines-requires-clause-connectors : goal.first_of_lines-requires-clause-connectors
 first_of_lines-requires-clause-connectors c =
     let rule = c.spread_rule-rule in
-    spread_connectors c.args.views.now rule.result c.args.connectors.now c.requires.placed c.requires.corners c.requires.column c.requires.row rule.ensures.rule rule.ensures.upper rule.ensures.lower
+    spread_connectors c.args.views.now rule.result c.args.connectors.now c.requires rule.ensures.rule rule.ensures.upper rule.ensures.lower

@@ -1,16 +1,9 @@
-use Rattle.std.proofs.Common.{subst, sym}
-use Rattle.cuts.specs.declared.corners.Corners.{Corners}
-use Rattle.three_sep.specs.Concentrated.{AreConcentratedCorners}
 use Rattle.three_sep.specs.Connectors.{all_front}
 use Rattle.cmr_base.specs.declared.separation.Form.TheVariants.{Concentrated}
 use Rattle.three_sep.specs.Searches.{HasNoGood}
-use Rattle.cmr_base.specs.Matrix.{entry}
 use Rattle.three_sep.proofs.SearchLemmas.{none_of}
 use Rattle.three_sep.proofs.ConcentratedLemmas.{no_candidate, none_at_pair, one_less, pair_found}
 use Rattle.three_sep.proofs.concentrated.first_of_corners.Goals as goal
-
-pub first_of_connectors-requires-clause-corners : goal.first_of_connectors-requires-clause-corners
-first_of_connectors-requires-clause-corners c = subst (λ (z : Corners). AreConcentratedCorners (entry c.args.views.now) z) (sym c.in-Some.ensures.corners) c.requires.corners
 
 pub returns-in-Some-2-clause-first : goal.returns-in-Some-2-clause-first
 returns-in-Some-2-clause-first c = pair_found c.args.views.now c.args.corners.now c.in-Some.connectors c.in-Some.ensures c.in_ok-three.field-0 c.in-Some-2.three c.in-Some-2.is c.in_ok-three.ensures.first
@@ -21,7 +14,7 @@ returns-clause-candidates c =
     let d = c.in-Some.connectors in
     let none = none_of (HasNoGood m (all_front Concentrated d)) c.in_ok-three.field-0 c.in_default-2.is c.in_ok-three.ensures.none in
     one_less m c.args.corners.now.i c.args.corners.now.j c.args.candidates.now.items _ c.requires.candidates
-    (none_at_pair m c.args.corners.now d c.in-Some.ensures c.requires.corners none) c.remove_column.ensures.size c.remove_column.ensures.only
+    (none_at_pair m c.args.corners.now d c.in-Some.ensures none) c.remove_column.ensures.size c.remove_column.ensures.only
 
 pub returns-clause-none : goal.returns-clause-none
 returns-clause-none c =
@@ -29,4 +22,4 @@ returns-clause-none c =
     let d = c.in-Some.connectors in
     let corners = c.args.corners.now in
     let none = none_of (HasNoGood m (all_front Concentrated d)) c.in_ok-three.field-0 c.in_default-2.is c.in_ok-three.ensures.none in
-    no_candidate m corners.i corners.p corners.k corners.j (none_at_pair m corners d c.in-Some.ensures c.requires.corners none)
+    no_candidate m corners.i corners.p corners.k corners.j (none_at_pair m corners d c.in-Some.ensures none)

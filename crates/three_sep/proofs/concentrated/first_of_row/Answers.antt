@@ -1,7 +1,6 @@
 use Rattle.std.proofs.Common.{[], ◌∷◌, sym, arith, subst}
 use Rattle.three_sep.specs.Concentrated.{AreCandidates}
-use Rattle.three_sep.proofs.SearchLemmas.{found_some, none_more, level_ends, none_below_more, good_inside}
-use Rattle.three_sep.proofs.ConcentratedLemmas.{no_corner}
+use Rattle.three_sep.proofs.SearchLemmas.{found_some, none_more, level_ends, none_below_more, good_inside, no_good_corner}
 use Rattle.three_sep.proofs.concentrated.first_of_row.Goals as goal
 use Rattle.three_sep.proofs.concentrated.first_of_row.Goals.{then-is_nonzero+in_ok-three+in_default, else-is_nonzero}
 
@@ -17,7 +16,7 @@ loop-p-preserved c =
         subst (λ v. AreCandidates m c.args.i v.items) (sym w.candidates-is) w.in_ok-three.ensures.candidates,
       )
       | else-is_nonzero w ↦ (
-        none_below_more m (3 ∷ c.args.i ∷ []) c.loop-p.p c.loop-p.invariant.0 (no_corner m c.args.i c.loop-p.p (c.is_nonzero.ensures.no w.if-is_nonzero.false)),
+        none_below_more m (3 ∷ c.args.i ∷ []) c.loop-p.p c.loop-p.invariant.0 (no_good_corner m 3 c.args.i c.loop-p.p (c.is_nonzero.ensures.no w.if-is_nonzero.false)),
         subst (λ v. AreCandidates m c.args.i v.items) (sym w.candidates-is) c.loop-p.invariant.1,
       )
     ]

@@ -17,7 +17,7 @@ pub loop-o-preserved : goal.loop-o-preserved
 loop-o-preserved c =
     let m = c.args.views.now in
     none_below_more m (corner_front Concentrated c.args.corners.now ++ c.args.q ∷ []) c.loop-o.o c.loop-o.invariant
-    (no_row m (record { corners = c.args.corners.now; q = c.args.q; o = c.loop-o.o }) (λ other. not_both c.is_lower_row.result (c.is_lower_row.ensures.1 other) c.if-is_lower_row.false))
+    (no_row m c.args.corners.now c.args.q c.loop-o.o (λ other. not_both c.is_lower_row.result (c.is_lower_row.ensures.1 other) c.if-is_lower_row.false))
 
 pub returns : goal.returns
 returns c = level_ends c.args.views.now (corner_front Concentrated c.args.corners.now ++ c.args.q ∷ []) c.loop-o.o (omega arith) c.loop-o.invariant

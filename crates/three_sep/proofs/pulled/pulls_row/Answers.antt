@@ -1,5 +1,5 @@
 use Rattle.std.proofs.Common.{◌∙◌, ◌<◌, ap, sym, subst, arith}
-use Rattle.cmr_base.specs.Matrix.{Matrix, height, entry, transposed}
+use Rattle.cmr_base.specs.Matrix.{Matrix, height, entry}
 use Rattle.cmr_base.proofs.Booleans.{not_both}
 use Rattle.cmr_base.proofs.Parts.{entry-transposed, height-transposed}
 use Rattle.line_growth.specs.Rules.{IsSumOf, sum_at}

@@ -2,7 +2,7 @@ use Rattle.std.proofs.Common.{MatchOption, Option, subst}
 use Rattle.cuts.specs.declared.line_patterns.Halves.{Halves}
 use Rattle.cuts.specs.LineSets.{set_of}
 use Rattle.cuts.specs.Sides.{AreHalves}
-use Rattle.cuts.proofs.CoverLemmas.{covers_both, covers_halves, covers_halves_beside, covers_line}
+use Rattle.cuts.proofs.CoverLemmas.{covers_both, covers_halves, covers_halves_beside, covers_line, covers_rest}
 use Rattle.cuts.proofs.cut_search.CutSearch.+search.Goals as goal
 
 pub returns-then-are_few-clause-covers : goal.returns-then-are_few-clause-covers
@@ -30,6 +30,9 @@ returns-in-Some-2-clause-covers t c =
     let found = subst (λ (v : Option Halves). MatchOption v (Unit {0}) (AreHalves m c.args.two.now)) c.in-Some-2.is c.in_ok-halves-2.ensures in
     covers_both m (set_of one) (set_of two) (set_of one) (set_of halves.one.lines) (set_of one) (set_of halves.other.lines) (set_of c.search-in-Some-2.new.self.parted) _ c.search-in-Some-2-2.result
     (λ P. covers_halves_beside m (set_of one) (set_of two) P (set_of halves.one.lines) (set_of halves.other.lines) found.halved) (c.in_ok-search-2.ensures.covers c.if-not-branch-2.false) c.search-in-Some-2-2.ensures.more c.search-in-Some-2-2.ensures.covers
+
+pub returns-in_default-next_line-clause-covers : goal.returns-in_default-next_line-clause-covers
+returns-in_default-next_line-clause-covers t c = λ e. covers_rest c.args.views.now (set_of c.args.one.now.lines) (set_of c.args.two.now.lines) _ c.add_rest-in_default-next_line.ensures.rest
 
 pub returns-clause-covers : goal.returns-clause-covers
 returns-clause-covers t c =

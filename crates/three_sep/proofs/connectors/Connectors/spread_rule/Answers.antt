@@ -10,6 +10,6 @@ pub returns-clause-lower : goal.returns-clause-lower
 returns-clause-lower c =
     let M = entry c.args.views.now in
     let d = c.args.self.now in
-    let at = c.at.result in
-    ap (λ (x : ℕ). made M x at.lower at.left at.right) c.at.ensures.rows.0 ∙ ap (λ (x : ℕ). made M d.corners.k x at.left at.right) c.at.ensures.rows.1
-    ∙ ap (λ (x : ℕ). made M d.corners.k d.o x at.right) c.at.ensures.columns.0 ∙ ap (λ (x : ℕ). made M d.corners.k d.o d.corners.p x) c.at.ensures.columns.1
+    let at = c.at-lines.result in
+    ap (λ (x : ℕ). made M x at.lower at.left at.right) c.at-lines.ensures.rows.0 ∙ ap (λ (x : ℕ). made M d.second.row x at.left at.right) c.at-lines.ensures.rows.1
+    ∙ ap (λ (x : ℕ). made M d.second.row d.second.other x at.right) c.at-lines.ensures.columns.0 ∙ ap (λ (x : ℕ). made M d.second.row d.second.other d.first.column x) c.at-lines.ensures.columns.1

@@ -1,6 +1,10 @@
-use Rattle.std.proofs.Common.{sym, subst}
+use Rattle.std.proofs.Common.{IfNone, IfOk, IfSome, sym, subst}
 use Rattle.line_growth.specs.declared.rule.Rule.{Rule}
-use Rattle.three_sep.specs.Connectors.{AreConnectorsOf}
+use Rattle.line_growth.specs.GrowingSets.{IsGrowing}
+use Rattle.line_growth.specs.Rules.{lower_of, upper_of}
+use Rattle.three_sep.specs.declared.connectors.Connectors.{Connectors}
+use Rattle.three_sep.specs.Connectors.{AreConnectorsOf, all_front, connectors_at, firsts}
+use Rattle.three_sep.specs.Searches.{HasNoGood, IsFirstOf, held_lines}
 use Rattle.three_sep.proofs.SideLemmas.{crossing_connectors}
 use Rattle.three_sep.proofs.search.Search.first_of_connectors.Goals as goal
 
@@ -8,5 +12,19 @@ pub first_of_lines-requires-clause-connectors : goal.first_of_lines-requires-cla
 first_of_lines-requires-clause-connectors c =
     let m = c.args.views.now in
     let d = c.args.corners.now in
-    subst (λ (r : Rule). AreConnectorsOf m c.args.form r (record { corners = d; q = c.args.q; o = c.args.o })) (sym c.rule_at-rule.ensures)
-    (crossing_connectors m c.args.form c.requires.crossing d c.args.q c.args.o c.requires.corners c.requires.held.other c.requires.other c.requires.held.line c.requires.line)
+    subst (λ (e : Connectors). AreConnectorsOf m c.args.form c.rule_at-rule.result e) (sym c.at-connectors.ensures)
+    (subst (λ (r : Rule). AreConnectorsOf m c.args.form r (connectors_at d c.args.q c.args.o)) (sym c.rule_at-rule.ensures)
+    (crossing_connectors m c.args.form c.requires.crossing d c.args.q c.args.o c.requires.corners c.requires.held.tied c.requires.tied c.requires.held.line c.requires.line))
+
+pub first_of_lines-requires-clause-growing : goal.first_of_lines-requires-clause-growing
+first_of_lines-requires-clause-growing c =
+    let m = c.args.views.now in
+    let side = c.args.self.now.side in
+    subst (λ (e : Connectors). IsGrowing m (upper_of m c.rule_at-rule.result) (lower_of m c.rule_at-rule.result) (firsts c.args.form e) side) (sym c.at-connectors.ensures)
+    (subst (λ (r : Rule). IsGrowing m (upper_of m r) (lower_of m r) (held_lines c.args.form c.args.corners.now c.args.q) side) (sym c.rule_at-rule.ensures) c.requires.held.growing)
+
+pub returns-clause-first : goal.returns-clause-first
+returns-clause-first c = subst (λ (e : Connectors). IfOk c.first_of_lines.result (λ answer. IfSome answer (IsFirstOf c.args.views.now (all_front c.args.form e)))) c.at-connectors.ensures c.first_of_lines.ensures.first
+
+pub returns-clause-none : goal.returns-clause-none
+returns-clause-none c = subst (λ (e : Connectors). IfOk c.first_of_lines.result (λ answer. IfNone answer (HasNoGood c.args.views.now (all_front c.args.form e)))) c.at-connectors.ensures c.first_of_lines.ensures.none

@@ -1,6 +1,7 @@
 use Rattle.std.proofs.Common.{sym, ap, ◌∙◌, Bool}
 use Rattle.cmr_base.specs.declared.line.Line.{Line}
 use Rattle.line_growth.specs.GrowingSets.{set_of}
+use Rattle.three_sep.specs.Connectors.{connectors_at}
 use Rattle.three_sep.specs.Searches.{other_line}
 use Rattle.three_sep.proofs.SearchLemmas.{no_good_second}
 use Rattle.three_sep.proofs.SideLemmas.{no_good_held}
@@ -8,7 +9,7 @@ use Rattle.three_sep.proofs.search.Search.first_of_other.Goals as goal
 
 pub returns-then-not-is_second_other-clause-none : goal.returns-then-not-is_second_other-clause-none
 returns-then-not-is_second_other-clause-none c =
-    no_good_second c.args.views.now c.args.form c.requires.crossing c.args.corners.now c.args.q c.args.o (c.is_second_other.ensures.no c.if-not-is_second_other.true)
+    no_good_second c.args.views.now c.args.form c.requires.crossing (connectors_at c.args.corners.now c.args.q c.args.o) (c.is_second_other.ensures.no c.if-not-is_second_other.true)
 
 pub returns-then-has-clause-none : goal.returns-then-has-clause-none
 returns-then-has-clause-none c =

@@ -22,7 +22,7 @@ loop-p-preserved c =
       )
       | else-is_nonzero w ↦ (
         subst (λ (s : Search). IsSearchOf m s) (sym w.self-is) c.loop-p.invariant.0,
-        none_below_more m (form_number c.args.form ∷ c.args.i ∷ []) c.loop-p.p c.loop-p.invariant.1 (no_good_corner m c.args.form c.requires.crossing c.args.i c.loop-p.p (c.is_nonzero.ensures.no w.if-is_nonzero.false)),
+        none_below_more m (form_number c.args.form ∷ c.args.i ∷ []) c.loop-p.p c.loop-p.invariant.1 (no_good_corner m (form_number c.args.form) c.args.i c.loop-p.p (c.is_nonzero.ensures.no w.if-is_nonzero.false)),
       )
     ]
 

@@ -3,14 +3,14 @@ use Rattle.cmr_base.specs.declared.line.Line.{Line}
 use Rattle.cmr_base.specs.declared.line.Line.TheVariants.{Column, Row}
 use Rattle.cmr_base.specs.declared.separation.Form.{Form}
 use Rattle.cmr_base.specs.Matrix.{Matrix, entry}
-use Rattle.cmr_base.specs.Separations.{Lines, product_at}
+use Rattle.cmr_base.specs.Separations.{Lines, connector_lines, product_at}
 use Rattle.cuts.specs.declared.corners.Corners.{Corners}
 use Rattle.line_growth.specs.declared.growing_set.GrowingSet.{GrowingSet}
 use Rattle.line_growth.specs.declared.rule.Rule.{Rule}
 use Rattle.line_growth.specs.GrowingSets.{IsGrowing, TellsClosed, set_of}
 use Rattle.line_growth.specs.Rules.{IsRuleOf, lower_of, upper_of}
 use Rattle.three_sep.specs.Connectors.{rule_of}
-use Rattle.three_sep.specs.Searches.{held_lines, other_line}
+use Rattle.three_sep.specs.Searches.{first_at, held_lines}
 use Rattle.three_sep.proofs.SearchLemmas.{no_good_first}
 use Rattle.line_growth.proofs.SetSteps.{told_no, told_yes}
 use Rattle.three_sep.proofs.SideLemmas.{no_good_side, rule_inside}
@@ -21,10 +21,6 @@ returns-then-not-is_first_other-clause-no c = λ e. no_good_first c.args.views.n
 
 pub leaves-requires-clause-rule : goal.leaves-requires-clause-rule
 leaves-requires-clause-rule c = subst (λ (r : Rule). IsRuleOf c.args.views.now r) (sym c.rule_at.ensures) (rule_inside c.args.views.now c.args.corners.now c.requires.inside)
-
--- the lines with which the side begins
-held_is : (flat known : Bool) (q row column : ℕ) (other : Line) → known ≡ flat → other ≡ other_line known q → Row row ∷ Column column ∷ other ∷ [] ≡ Row row ∷ Column column ∷ other_line flat q ∷ []
-held_is flat known q row column other ef el = ap (λ (z : Line). Row row ∷ Column column ∷ z ∷ []) (el ∙ ap (λ (z : Bool). other_line z q) ef)
 
 module _ (m : Matrix) (form : Form) (d : Corners) (q : ℕ) (rule : Rule) (lines : List Line) (same : rule ≡ rule_of d) (are : lines ≡ held_lines form d q) where
   growing_as : (side : GrowingSet) → IsGrowing m (upper_of m rule) (lower_of m rule) lines side → IsGrowing m (product_at (entry m) d.i d.j) (product_at (entry m) d.k d.p) (held_lines form d q) side
@@ -39,12 +35,12 @@ returns-clause-held c =
     let form = c.args.form in
     let d = c.args.corners.now in
     let q = c.args.q in
-    let are = held_is _ _ q d.i d.p _ c.first_is_flat.ensures c.line_of-other.ensures in
+    let are = c.connector_lines-first.ensures ∙ ap (λ (z : Bool). connector_lines z (first_at d q)) c.first_is_flat.ensures in
     let side = c.leaves.new.side in
     λ t. record {
       kept = record { side = c.in_ok-held.ensures.room; grown = c.requires.search.grown; names = c.requires.search.names; together = c.requires.search.together };
       line = c.requires.line;
-      other = c.is_first_other.ensures.yes c.if-not-is_first_other.false;
+      tied = c.is_first_other.ensures.yes c.if-not-is_first_other.false;
       growing = growing_as m form d q c.rule_at.result _ c.rule_at.ensures are side c.in_ok-held.ensures.growing;
       least = (told_yes m (rule_of d) (held_lines form d q) (Row d.k ∷ Column d.j ∷ []) 4 c.in_ok-held.held (set_of side) (told_as m form d q c.rule_at.result _ c.rule_at.ensures are (Row d.k ∷ Column d.j ∷ []) c.in_ok-held.held (set_of side) c.in_ok-held.ensures.told) t).grown;
     }
@@ -55,7 +51,7 @@ returns-clause-no c =
     let form = c.args.form in
     let d = c.args.corners.now in
     let q = c.args.q in
-    let are = held_is _ _ q d.i d.p _ c.first_is_flat.ensures c.line_of-other.ensures in
+    let are = c.connector_lines-first.ensures ∙ ap (λ (z : Bool). connector_lines z (first_at d q)) c.first_is_flat.ensures in
     let side = c.leaves.new.side in
     λ t. no_good_side m form c.requires.crossing d q (told_no m (rule_of d) (held_lines form d q) (Row d.k ∷ Column d.j ∷ []) 4 c.in_ok-held.held (set_of side)
     (told_as m form d q c.rule_at.result _ c.rule_at.ensures are (Row d.k ∷ Column d.j ∷ []) c.in_ok-held.held (set_of side) c.in_ok-held.ensures.told) t)

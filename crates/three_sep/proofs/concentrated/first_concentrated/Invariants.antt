@@ -1,6 +1,6 @@
 use Rattle.std.proofs.Common.{[], ◌∷◌}
 use Rattle.three_sep.specs.Searches.{HasNoneBelow}
-use Rattle.three_sep.proofs.concentrated.first_of_rows.Given as goal
+use Rattle.three_sep.proofs.concentrated.first_concentrated.Given as goal
 
 abbrev pub invariant-loop-i : goal.invariant-loop-i
 invariant-loop-i l = HasNoneBelow l.views (3 ∷ []) l.i

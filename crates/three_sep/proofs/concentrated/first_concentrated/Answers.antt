@@ -1,6 +1,6 @@
 use Rattle.std.proofs.Common.{[], ◌∷◌, arith}
 use Rattle.three_sep.proofs.SearchLemmas.{found_some, none_more, level_ends, good_inside}
-use Rattle.three_sep.proofs.concentrated.first_of_rows.Goals as goal
+use Rattle.three_sep.proofs.concentrated.first_concentrated.Goals as goal
 
 pub returns-in-Some-clause-first : goal.returns-in-Some-clause-first
 returns-in-Some-clause-first c = found_some c.args.views.now (3 ∷ []) c.loop-i.i c.in_ok-three.field-0 c.in-Some.three (omega arith) c.loop-i.invariant c.in-Some.is c.in_ok-three.ensures.first
