@@ -29,19 +29,19 @@ use Rattle.three_sep.specs.declared.connectors.Connectors.{Connectors}
 use Rattle.three_sep.specs.NumberedSeeds.{IsGoodSeed, Seed}
 use Rattle.three_sep.specs.Connectors.{AreConnectorsOf, all_front, connectors_at}
 use Rattle.three_sep.specs.Searches.{HasNoGood, HasNoneBelow, IsFirstOf, corner_front, first_at, second_at}
-use Rattle.three_sep.specs.Concentrated.{AreCandidates, AreConcentratedCorners, HasNoneBetween, IsFirstPair, IsHeldBy, IsNoOtherColumn, IsOtherColumn, IsOtherRow}
+use Rattle.three_sep.specs.Concentrated.{AreCandidates, AreConcentratedCorners, HasNoneBetween, IsFirstPair, IsHeldBy, IsNoOtherColumn, IsOtherColumn, IsOtherRow, IsPulled}
 use Rattle.three_sep.proofs.SearchLemmas.{good_inside, level_found, no_second_corner, seed_at, seed_from_first, seed_from_second}
 use Rattle.three_sep.proofs.SpreadLemmas.{spread_parts, spread_same}
 
 -- ---- what a good seed says
 
 module _ (m : Matrix) (a b : Connector) (x : Line) (S : Lines) (good : IsGoodThree (height m) m.width (entry m) Concentrated a b x S) where
-  -- the columns of row i are in side one, and the rows of column j in side two
-  columns_one : (column : ℕ) → column < m.width → entry m a.row column ≢ pos 0 → S (Column column) ≡ true
-  columns_one column l n = true_is (S (Column column)) (λ out. n (upper_at m good.1.grown.closed a.row column good.0.first_lines.0 l good.1.grown.has.1.0 out))
+  -- the columns of a row in side one are there too, and the rows of a column in side two
+  columns_one : (row column : ℕ) → row < height m → column < m.width → S (Row row) ≡ true → entry m row column ≢ pos 0 → S (Column column) ≡ true
+  columns_one row column lr lc inside n = true_is (S (Column column)) (λ out. n (upper_at m good.1.grown.closed row column lr lc inside out))
 
-  rows_two : (row : ℕ) → row < height m → entry m row b.column ≢ pos 0 → S (Row row) ≡ false
-  rows_two row l n = false_is (S (Row row)) (λ inside. n (upper_at m good.1.grown.closed row b.column l good.0.second_lines.1.0 inside good.1.two.1.0))
+  rows_two : (row column : ℕ) → row < height m → column < m.width → S (Column column) ≡ false → entry m row column ≢ pos 0 → S (Row row) ≡ false
+  rows_two row column lr lc out n = false_is (S (Row row)) (λ inside. n (upper_at m good.1.grown.closed row column lr lc inside out))
 
   -- a column of the lower block from columns p and q
   abbrev determinant : ℤ
@@ -58,19 +58,19 @@ module _ (m : Matrix) (a b : Connector) (x : Line) (S : Lines) (good : IsGoodThr
       lower_at m good.1.grown.closed row column lr lc er ec
       ∙ spread_parts determinant (entry m b.row a.column) (entry m b.row a.other) (entry m b.other a.column) (entry m b.other a.other) (entry m row a.column) (entry m row a.other) (entry m b.row column) (entry m b.other column)
 
-  -- other connectors with row i and column j
-  module _ (d : Connectors) (pair : IsConnectorPair (height m) m.width (entry m) Concentrated d.first d.second) (same_row : d.first.row ≡ a.row) (same_column : d.second.column ≡ b.column) where
+  -- other connectors, of which the row i is in side one and the column j in side two
+  module _ (d : Connectors) (pair : IsConnectorPair (height m) m.width (entry m) Concentrated d.first d.second) (row_one : S (Row d.first.row) ≡ true) (column_two : S (Column d.second.column) ≡ false) where
     p_one : S (Column d.first.column) ≡ true
-    p_one = columns_one d.first.column pair.first_lines.1.0 (λ e. pair.values.first_corner (ap (λ (z : ℕ). entry m z d.first.column) same_row ∙ e))
+    p_one = columns_one d.first.row d.first.column pair.first_lines.0 pair.first_lines.1.0 row_one pair.values.first_corner
 
     q_one : S (Column d.first.other) ≡ true
-    q_one = columns_one d.first.other pair.first_lines.1.1.0 (λ e. pair.values.tied.first_other (ap (λ (z : ℕ). entry m z d.first.other) same_row ∙ e))
+    q_one = columns_one d.first.row d.first.other pair.first_lines.0 pair.first_lines.1.1.0 row_one pair.values.tied.first_other
 
     k_two : S (Row d.second.row) ≡ false
-    k_two = rows_two d.second.row pair.second_lines.0 (λ e. pair.values.second_corner (ap (λ (z : ℕ). entry m d.second.row z) same_column ∙ e))
+    k_two = rows_two d.second.row d.second.column pair.second_lines.0 pair.second_lines.1.0 column_two pair.values.second_corner
 
     o_two : S (Row d.second.other) ≡ false
-    o_two = rows_two d.second.other pair.second_lines.1.1.0 (λ e. pair.values.tied.second_other (ap (λ (z : ℕ). entry m d.second.other z) same_column ∙ e))
+    o_two = rows_two d.second.other d.second.column pair.second_lines.1.1.0 pair.second_lines.1.0 column_two pair.values.tied.second_other
 
     closed_elsewhere : IsClosedIn m zeros (spread_at (entry m) d.first d.second) S
     closed_elsewhere = record {
@@ -97,12 +97,12 @@ module _ (m : Matrix) (a b : Connector) (x : Line) (S : Lines) (good : IsGoodThr
         let on : (y : Line) → IsLine (height m) m.width y → _ = has_line_from_line (height m) m.width in
         record {
           one = (
-            (on (Row d.first.row) pair.first_lines.0, ap (λ (z : ℕ). S (Row z)) same_row ∙ good.1.grown.has.1.0),
+            (on (Row d.first.row) pair.first_lines.0, row_one),
             ((on (Column d.first.column) pair.first_lines.1.0, p_one), ((on (Column d.first.other) pair.first_lines.1.1.0, q_one), tt)),
           );
           two = (
             (on (Row d.second.row) pair.second_lines.0, k_two),
-            ((on (Column d.second.column) pair.second_lines.1.0, ap (λ (z : ℕ). S (Column z)) same_column ∙ good.1.two.1.0), ((on (Row d.second.other) pair.second_lines.1.1.0, o_two), tt)),
+            ((on (Column d.second.column) pair.second_lines.1.0, column_two), ((on (Row d.second.other) pair.second_lines.1.1.0, o_two), tt)),
           );
           connectors = pair.values;
           blocks = closed_elsewhere;
@@ -115,27 +115,48 @@ module _ (m : Matrix) (a b : Connector) (x : Line) (S : Lines) (good : IsGoodThr
         let (y, T, other) = good_three_seed (height m) m.width (entry m) Concentrated d.first d.second S separation_elsewhere in
         none (seed_at Concentrated d y) T (refl, (refl, (refl, (refl, (refl, (refl, (refl, tt))))))) other
 
+    -- a column that a row of column j pulls in is in side two
+    none_pulled : (rule : Rule) (candidates : List ℕ) (row : ℕ) → lower_of m rule ≡ spread_at (entry m) d.first d.second → row < height m → entry m row d.second.column ≢ pos 0
+        → (pulled : IsPulled m rule candidates row) → S (Column pulled.column) ≡ true → ⊥
+    none_pulled rule candidates row lower inside nonzero pulled column_one =
+        pulled.unlike (lower_at m closed_elsewhere row pulled.column inside pulled.inside (rows_two row d.second.column inside pair.second_lines.1.0 column_two nonzero) column_one
+        ∙ sym (ap (λ (u : ℕ → ℕ → ℤ). u row pulled.column) lower))
+
 -- ---- what is passed over
 
 module _ (m : Matrix) where
   concentrated_seed : (s : Seed) (S : Lines) → s.form ≡ Concentrated → IsGoodSeed m s S → IsGoodThree (height m) m.width (entry m) Concentrated s.pair.first s.pair.second s.line S
   concentrated_seed s S e g = subst (λ (f : Form). IsGoodThree (height m) m.width (entry m) f s.pair.first s.pair.second s.line S) e g
 
-  -- where two connectors are in no good seed, no others with their row i and column j are
+  -- where two connectors are in no good seed, none has their row i in side one and their column j in side two
   pub none_between : (d : Connectors) → IsConnectorPair (height m) m.width (entry m) Concentrated d.first d.second → HasNoGood m (all_front Concentrated d) → HasNoneBetween m d.first.row d.second.column
-  none_between d pair none s S ef ei ej g = some_elsewhere m s.pair.first s.pair.second s.line S (concentrated_seed s S ef g) d pair (sym ei) (sym ej) none
+  none_between d pair none s S ef g row_one =
+      true_is (S (Column d.second.column)) (λ out. some_elsewhere m s.pair.first s.pair.second s.line S (concentrated_seed s S ef g) d pair row_one out none)
+
+  -- a row of column j pulls in a column that is in side one with row i
+  pub none_past : (d : Connectors) (rule : Rule) (candidates : List ℕ) (row : ℕ) → IsConnectorPair (height m) m.width (entry m) Concentrated d.first d.second → lower_of m rule ≡ spread_at (entry m) d.first d.second
+      → AreCandidates m d.first.row candidates → row < height m → entry m row d.second.column ≢ pos 0 → IsPulled m rule candidates row → HasNoneBetween m d.first.row d.second.column
+  none_past d rule candidates row pair lower are inside nonzero pulled s S ef g row_one =
+      true_is (S (Column d.second.column)) (λ out.
+      none_pulled m s.pair.first s.pair.second s.line S (concentrated_seed s S ef g) d pair row_one out rule candidates row lower inside nonzero pulled
+      (are.others pulled.column pulled.inside pulled.passed s S ef g row_one))
 
   -- a column that is in side one with row i
   pub none_at_held : (i j : ℕ) → IsHeldBy m i j → HasNoneBetween m i j
-  none_at_held i j held s S ef ei ej g0 =
+  none_at_held i j held s S ef g0 row_one = let g = concentrated_seed s S ef g0 in held s.pair S g.1.grown.closed row_one
+
+  -- no good seed has such a row i and column j in its connectors
+  none_of_seed : (i j : ℕ) → HasNoneBetween m i j → (s : Seed) (S : Lines) → s.form ≡ Concentrated → i ≡ s.pair.first.row → j ≡ s.pair.second.column → ¬ (IsGoodSeed m s S)
+  none_of_seed i j none s S ef ei ej g0 =
       let g = concentrated_seed s S ef g0 in
-      not_both (S (Column j)) (held s.pair S g.1.grown.closed (ap (λ (z : ℕ). S (Row z)) (sym ei) ∙ g.1.grown.has.1.0)) (ap (λ (z : ℕ). S (Column z)) (sym ej) ∙ g.1.two.1.0)
+      not_both (S (Column j)) (none s S ef g0 (ap (λ (z : ℕ). S (Row z)) ei ∙ g.1.grown.has.1.0)) (ap (λ (z : ℕ). S (Column z)) ej ∙ g.1.two.1.0)
 
   pub no_candidate : (i p k j : ℕ) → HasNoneBetween m i j → HasNoGood m (3 ∷ i ∷ p ∷ k ∷ j ∷ [])
-  no_candidate i p k j none s S h g = none s S (sym (form_is Concentrated s.form h.0)) (sym h.1.0) (sym h.1.1.1.1.0) g
+  no_candidate i p k j none s S h g = none_of_seed i j none s S (sym (form_is Concentrated s.form h.0)) h.1.0 h.1.1.1.1.0 g
 
   pub no_candidates : (i p : ℕ) (candidates : List ℕ) → AreCandidates m i candidates → ((j : ℕ) → has_column candidates j ≡ false) → HasNoGood m (3 ∷ i ∷ p ∷ [])
-  no_candidates i p candidates are none s S h g = are.others s.pair.second.column (good_inside m s S g).column_two (none s.pair.second.column) s S (sym (form_is Concentrated s.form h.0)) (sym h.1.0) refl g
+  no_candidates i p candidates are none s S h g =
+      none_of_seed i s.pair.second.column (are.others s.pair.second.column (good_inside m s S g).column_two (none s.pair.second.column)) s S (sym (form_is Concentrated s.form h.0)) h.1.0 refl g
 
   zero_determinant : (x y z w : ℤ) → x ≡ pos 0 → y ≡ pos 0 → ¬ (IsSign (x *ℤ w -ℤ y *ℤ z))
   zero_determinant x y z w ex ey (inl e) = let k : x *ℤ w -ℤ y *ℤ z ≡ pos 0 = rw (ex, ey) (simp products (omega (arith, sums))) in let l = sym k ∙ e in absurd (omega (arith, sums))
@@ -165,6 +186,16 @@ module _ (m : Matrix) where
       let g = subst (λ (z : Seed). IsGoodSeed m z S) (seed_from_second m Concentrated (connectors_at c q o) s h) g0 in
       let tied = g.0.values.tied in
       refused (record { rises = tied.rows_rise; nonzero = tied.second_other; determinant = tied.determinant })
+
+  -- rows up to k, and rows in which column j is 0
+  pub none_to_second : (c : Corners) (q : ℕ) → HasNoneBelow m (corner_front Concentrated c ++ q ∷ []) (c.k + 1)
+  none_to_second c q b l = no_row c q b (λ other. let r = other.rises in omega arith)
+
+  pub none_over_zero_rows : (c : Corners) (q from o : ℕ) → HasNoneBelow m (corner_front Concentrated c ++ q ∷ []) from → ((row : ℕ) → from ≤ row → row < o → support m row c.j ≡ false) → HasNoneBelow m (corner_front Concentrated c ++ q ∷ []) o
+  none_over_zero_rows c q from o before zeros b l = elim (cases_lt b from) [
+    | inl low ↦ before b low
+    | inr high ↦ no_row c q b (λ other. other.nonzero (zero_is (entry m b c.j) (zeros b high l)))
+  ]
 
 -- connectors that were found, and their rule
 pub pair_of : (m : Matrix) (c : Corners) (q o : ℕ) → AreInside m c → AreConcentratedCorners (entry m) c → q < m.width → o < height m → IsOtherColumn (entry m) c q → IsOtherRow (entry m) c q o → IsConnectorPair (height m) m.width (entry m) Concentrated (first_at c q) (second_at c o)
@@ -211,7 +242,7 @@ held_candidate m i j set held looked k l e = elim (same_or_not k j) [
 -- a second column is a candidate in which row k is not 0
 pub no_second : (m : Matrix) (i p k j : ℕ) (candidates : List ℕ) → AreCandidates m i candidates → (support m k j ≡ false) ⊎ (has_column candidates j ≡ false) → HasNoGood m (3 ∷ i ∷ p ∷ k ∷ j ∷ [])
 no_second m i p k j candidates are (inl e) = no_second_corner m 3 i p k j (zero_is (entry m k j) e)
-no_second m i p k j candidates are (inr e) = λ s S h g. are.others j (let l = (good_inside m s S g).column_two in let n = h.1.1.1.1.0 in omega arith) e s S (sym (form_is Concentrated s.form h.0)) (sym h.1.0) (sym h.1.1.1.1.0) g
+no_second m i p k j candidates are (inr e) = λ s S h g. none_of_seed m i j (are.others j (let l = (good_inside m s S g).column_two in let n = h.1.1.1.1.0 in omega arith) e) s S (sym (form_is Concentrated s.form h.0)) h.1.0 h.1.1.1.1.0 g
 
 pub none_between_seconds : (m : Matrix) (i p k from j : ℕ) (columns candidates : List ℕ) → AreCandidates m i candidates → ((x : ℕ) → has_column columns x ≡ false → (support m k x ≡ false) ⊎ (has_column candidates x ≡ false))
     → HasNoneBelow m (3 ∷ i ∷ p ∷ k ∷ []) from → ((x : ℕ) → from ≤ x → x < j → has_column columns x ≡ false) → HasNoneBelow m (3 ∷ i ∷ p ∷ k ∷ []) j
@@ -233,5 +264,5 @@ module _ (m : Matrix) (c : Corners) (d : Connectors) (is : IsFirstPair m c d) wh
       subst (λ (z : Corners). IsFirstOf m (corner_front Concentrated z ++ d.first.other ∷ d.second.other ∷ []) three) is.corners (subst (λ (z : Option Three). IfSome z (IsFirstOf m (all_front Concentrated d))) e h) in
       level_found m (corner_front Concentrated c) d.first.other three (omega arith) is.columns (level_found m (corner_front Concentrated c ++ d.first.other ∷ []) d.second.other three (omega arith) is.rows here)
 
-  pub none_at_pair : HasNoGood m (all_front Concentrated d) → HasNoneBetween m c.i c.j
-  none_at_pair none = subst (λ (z : Corners). HasNoneBetween m z.i z.j) is.corners (none_between m d is.pair none)
+  pub none_at_pair : HasNoneBetween m d.first.row d.second.column → HasNoneBetween m c.i c.j
+  none_at_pair none = subst (λ (z : Corners). HasNoneBetween m z.i z.j) is.corners none

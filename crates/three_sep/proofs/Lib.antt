@@ -3,6 +3,6 @@ pub mod SpreadLemmas
 pub mod SearchLemmas
 pub mod SideLemmas
 pub mod SeedForms
-pub mod PulledLemmas
 pub mod HeldLemmas
+pub mod TurnedLines
 pub mod ConcentratedLemmas

@@ -9,7 +9,9 @@ use Rattle.cmr_base.specs.Signing.{IsSign}
 use Rattle.cmr_base.specs.Separations.{Lines, zeros, spread_at, core_determinant}
 use Rattle.cmr_base.specs.Seeds.{IsConnectorPair}
 use Rattle.cuts.specs.declared.corners.Corners.{Corners}
+use Rattle.line_growth.specs.declared.rule.Rule.{Rule}
 use Rattle.line_growth.specs.GrowingSets.{IsClosedIn}
+use Rattle.line_growth.specs.Rules.{lower_of}
 use Rattle.three_sep.specs.declared.connectors.Connectors.{Connectors}
 use Rattle.three_sep.specs.NumberedSeeds.{Seed, IsGoodSeed}
 use Rattle.three_sep.specs.Searches.{HasNoneBelow, corner_front, corners_of, first_at, second_at}
@@ -57,11 +59,18 @@ IsHeldBy m i column = (d : Connectors) (S : Lines) → IsClosedIn m zeros (sprea
 abbrev pub AreHeldBy : Matrix → ℕ → (ℕ → Bool) → Type 0
 AreHeldBy m i set = (column : ℕ) → set column ≡ true → IsHeldBy m i column
 
--- no good seed of the form has row i and column j
+-- no good seed of the form has row i in side one and column j in side two
 abbrev pub HasNoneBetween : Matrix → ℕ → ℕ → Type 0
-HasNoneBetween m i j = (s : Seed) (S : Lines) → s.form ≡ Concentrated → s.pair.first.row ≡ i → s.pair.second.column ≡ j → ¬ (IsGoodSeed m s S)
+HasNoneBetween m i j = (s : Seed) (S : Lines) → s.form ≡ Concentrated → IsGoodSeed m s S → S (Row i) ≡ true → S (Column j) ≡ true
 
--- each column that is no candidate is in no good seed with row i
+-- each column that is no candidate is in side one with row i
 pub record AreCandidates (m : Matrix) (i : ℕ) (candidates : List ℕ) : Type 0 where
   pub size : length candidates ≡ words_for m.width
   pub others : (j : ℕ) → j < m.width → has_column candidates j ≡ false → HasNoneBetween m i j
+
+-- a row of side two pulls in a column that is no candidate
+pub record IsPulled (m : Matrix) (rule : Rule) (candidates : List ℕ) (row : ℕ) : Type 0 where
+  pub column : ℕ
+  pub inside : column < m.width
+  pub passed : has_column candidates column ≡ false
+  pub unlike : entry m row column ≢ lower_of m rule row column

@@ -12,12 +12,12 @@ ghost use Rattle.cmr_base.specs.Trees.{support};
 ghost use Rattle.cuts.specs.Cuts.{AreInside};
 ghost use Rattle.three_sep.specs.Connectors.{all_front};
 ghost use Rattle.three_sep.specs.Searches.{HasNoGood, IsFirstOf, corner_front, first_at, second_at};
-ghost use Rattle.three_sep.specs.Concentrated.{AreConcentratedCorners, AreCandidates, IsFirstPair, IsFirstRow, IsNoOtherColumn, IsOtherColumn, IsOtherRow};
+ghost use Rattle.three_sep.specs.Concentrated.{AreConcentratedCorners, AreCandidates, HasNoneBetween, IsFirstPair, IsFirstRow, IsNoOtherColumn, IsOtherColumn, IsOtherRow};
 
 use crate::connectors::Connectors;
 use crate::held::held_columns;
 use crate::independent::columns_of;
-use crate::pulled::is_second_pulled;
+use crate::pulled::is_passed;
 use crate::sides::{first_of_lines, leaves, may_part};
 use cmr_base::columns::{
     add_column, add_common, empty_set, has_column, meets, next_column, remove_column,
@@ -173,8 +173,8 @@ fn second_columns(
     Ok(columns)
 }
 
-// The first connectors with two corners. Where no seed with them is good, none with row i and column j is: a side of any
-// of them would have the columns of row i and not the rows of column j, and be closed by these connectors too.
+// The first connectors with two corners. Where no seed with them is good, none has row i in side one and column j in side
+// two: its side would have the columns of row i and not the rows of column j, and be closed by these connectors too.
 fn first_of_corners(
     alloc: Global,
     views: &RowsAndColumns<'_>,
@@ -195,11 +195,32 @@ fn first_of_corners(
     let Some(connectors) = first_connectors(views, corners) else {
         return Ok(None);
     };
-    if let Some(three) = first_of_connectors(alloc, views, &connectors)? {
+    if let Some(three) = first_of_pair(alloc, views, candidates, &connectors)? {
         return Ok(Some(three));
     }
     remove_column(candidates, corners.j);
     Ok(None)
+}
+
+// The lines x, unless column j is seen to be in side one with row i.
+fn first_of_pair(
+    alloc: Global,
+    views: &RowsAndColumns<'_>,
+    candidates: &[u64],
+    connectors: &Connectors,
+) -> Result<Option<Three>, Memory>
+    requires candidates { AreCandidates views.now connectors.now.first.row candidates.now }
+    requires connectors { IsConnectorPair (height views.now) views.now.width (entry views.now)
+        Concentrated connectors.now.first connectors.now.second }
+    ensures first { IfOk result (λ answer.
+        IfSome answer (IsFirstOf views.now (all_front Concentrated connectors.now))) }
+    ensures none { IfOk result (λ answer. IfNone answer (HasNoneBetween views.now
+        connectors.now.first.row connectors.now.second.column)) }
+{
+    if is_passed(views, candidates, connectors) {
+        return Ok(None);
+    }
+    first_of_connectors(alloc, views, connectors)
 }
 
 // The first column q, of those in which row i is not 0, and with it the first row o.
@@ -231,10 +252,13 @@ fn first_other_row(views: &RowsAndColumns<'_>, corners: &Corners, q: u32) -> Opt
         (HasNoGood views.now (corner_front Concentrated corners.now ++ q ∷ []))
         (IsFirstRow views.now corners.now q) }
 {
-    for o in 0..views.rows() {
-        if is_lower_row(views, corners, q, o) {
+    let _rows = views.rows();
+    let mut from = corners.k + 1;
+    while let Some(o) = views.by_columns().next_nonzero(corners.j, from) {
+        if has_sign(views, corners, q, o) {
             return Some(o);
         }
+        from = o + 1;
     }
     None
 }
@@ -253,9 +277,6 @@ fn first_of_connectors(
         IfNone answer (HasNoGood views.now (all_front Concentrated connectors.now))) }
 {
     let rule = connectors.spread_rule(views);
-    if is_second_pulled(views, rule, connectors) {
-        return Ok(None);
-    }
     let Connector { row, column, other } = connectors.first;
     let first = [Line::Row(row), Line::Column(column), Line::Column(other)];
     let Connector { row, column, other } = connectors.second;
@@ -307,19 +328,6 @@ fn is_right_column(views: &RowsAndColumns<'_>, corners: &Corners, q: u32) -> boo
         return false;
     }
     views.is_nonzero(corners.k, corners.p) || views.is_nonzero(corners.k, q)
-}
-
-// Whether o is below k, column j not 0 there, and the determinant 1 or -1.
-fn is_lower_row(views: &RowsAndColumns<'_>, corners: &Corners, q: u32, o: u32) -> bool
-    requires inside { AreInside views.now corners.now }
-    requires column { q < views.now.width }
-    requires row { o < height views.now }
-    ensures { IsTrue result ↔ IsOtherRow (entry views.now) corners.now q o }
-{
-    if o <= corners.k || !views.is_nonzero(o, corners.j) {
-        return false;
-    }
-    has_sign(views, corners, q, o)
 }
 
 // Whether the determinant of the four entries where rows k and o cross columns p and q is 1 or -1.

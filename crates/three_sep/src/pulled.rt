@@ -1,54 +1,54 @@
-// Rows of column j that the first connector of the concentrated form pulls in.
-ghost use Rattle.std.specs.Prelude.{◌≡◌, ◌≢◌, ◌<◌, ℕ, true, pos};
+// Columns that are pulled into side two by the rows of column j, and are in side one with row i.
+ghost use Rattle.std.specs.Prelude.{◌≡◌, ◌<◌, true, length};
 ghost use Rattle.cmr_base.specs.declared.separation.Form.TheVariants.{Concentrated};
 ghost use Rattle.cmr_base.specs.Matrix.{height, entry};
-ghost use Rattle.cmr_base.specs.Separations.{zeros};
-ghost use Rattle.line_growth.specs.Rules.{IsRuleOf, lower_of, upper_of};
-ghost use Rattle.three_sep.specs.Connectors.{ArePlaced, HasNoneParting, firsts, seconds};
+ghost use Rattle.cmr_base.specs.Planes.{words_for};
+ghost use Rattle.cmr_base.specs.Seeds.{IsConnectorPair};
+ghost use Rattle.line_growth.specs.Rules.{IsRuleOf, lower_of};
+ghost use Rattle.three_sep.specs.Concentrated.{AreCandidates, HasNoneBetween, IsPulled};
 
 use crate::connectors::Connectors;
 use cmr_base::RowsAndColumns;
+use cmr_base::columns::has_column;
 use line_growth::Rule;
 
-/// Whether a row that is not 0 in column j is pulled in by a column in which row i is not 0. Then each closed side with the
-/// first connector has column j.
-pub fn is_second_pulled(views: &RowsAndColumns<'_>, rule: Rule, connectors: &Connectors) -> bool
-    requires placed { ArePlaced views.now connectors.now }
-    requires rule { IsRuleOf views.now rule }
-    requires upper { upper_of views.now rule ≡ zeros }
-    ensures { result ≡ true → HasNoneParting views.now rule (firsts Concentrated connectors.now)
-        (seconds Concentrated connectors.now) }
+/// Whether column j is shown to be in side one with row i, by two connectors that have these: a row that is not 0 in it pulls a
+/// column into side two that is no candidate.
+pub fn is_passed(views: &RowsAndColumns<'_>, candidates: &[u64], connectors: &Connectors) -> bool
+    requires candidates { AreCandidates views.now connectors.now.first.row candidates.now }
+    requires connectors { IsConnectorPair (height views.now) views.now.width (entry views.now)
+        Concentrated connectors.now.first connectors.now.second }
+    ensures { result ≡ true → HasNoneBetween views.now connectors.now.first.row
+        connectors.now.second.column }
 {
-    for column in 0..views.columns() {
-        if column != connectors.first.column && column != connectors.first.other {
-            if views.is_nonzero(connectors.first.row, column) {
-                if pulls_row(views, rule, connectors.second.column, column) {
-                    return true;
-                }
-            }
+    let rule = connectors.spread_rule(views);
+    let mut from = 0;
+    while let Some(row) = views
+        .by_columns()
+        .next_nonzero(connectors.second.column, from)
+    {
+        if pulls_other(views, rule, candidates, row) {
+            return true;
         }
+        from = row + 1;
     }
     false
 }
 
-// Whether a column pulls in a row that is not 0 in column j.
-fn pulls_row(views: &RowsAndColumns<'_>, rule: Rule, j: u32, column: u32) -> bool
+// Whether a row pulls in a column in which it is not 0, and which is no candidate.
+fn pulls_other(views: &RowsAndColumns<'_>, rule: Rule, candidates: &[u64], row: u32) -> bool
     requires rule { IsRuleOf views.now rule }
-    requires second { j < views.now.width }
-    requires column { column < views.now.width }
-    ensures { result ≡ true
-        → (r : ℕ)
-        × (r < height views.now)
-        × (entry views.now r j ≢ pos 0)
-        × (entry views.now r column ≢ lower_of views.now rule r column) }
+    requires candidates { length candidates.now ≡ words_for views.now.width }
+    requires row { row < height views.now }
+    ensures { result ≡ true → IsPulled views.now rule candidates.now row }
 {
-    let sum = rule.lower.column(views, column);
-    for row in 0..views.rows() {
-        if views.is_nonzero(row, j) {
-            if !sum.is_at(views.by_columns(), column, row) {
-                return true;
-            }
+    let sum = rule.lower.row(views, row);
+    let mut from = 0;
+    while let Some(column) = views.by_rows().next_nonzero(row, from) {
+        if !has_column(candidates, column) && !sum.is_at(views.by_rows(), row, column) {
+            return true;
         }
+        from = column + 1;
     }
     false
 }

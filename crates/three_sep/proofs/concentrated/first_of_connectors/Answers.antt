@@ -13,14 +13,6 @@ use Rattle.three_sep.proofs.concentrated.first_of_connectors.Goals as goal
 exchanged_rule : (m : Matrix) (rule other : Rule) → other ≡ exchanged rule → IsRuleOf m rule → IsRuleOf m other
 exchanged_rule m rule other e is = subst (IsRuleOf m) (sym e) (record { upper = is.lower; lower = is.upper })
 
-pub returns-then-is_second_pulled-clause-none : goal.returns-then-is_second_pulled-clause-none
-returns-then-is_second_pulled-clause-none c =
-    let m = c.args.views.now in
-    let d = c.args.connectors.now in
-    let rule = c.spread_rule-rule in
-    no_good_parting m Concentrated rule.result d (spread_connectors m rule.result d c.requires rule.ensures.rule rule.ensures.upper rule.ensures.lower)
-    (c.is_second_pulled.ensures c.if-is_second_pulled.true)
-
 pub returns-then-not-branch-clause-none : goal.returns-then-not-branch-clause-none
 returns-then-not-branch-clause-none c =
     let m = c.args.views.now in

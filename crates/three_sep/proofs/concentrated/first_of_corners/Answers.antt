@@ -1,9 +1,19 @@
-use Rattle.three_sep.specs.Connectors.{all_front}
-use Rattle.cmr_base.specs.declared.separation.Form.TheVariants.{Concentrated}
-use Rattle.three_sep.specs.Searches.{HasNoGood}
+use Rattle.std.proofs.Common.{ℕ, List, sym, subst}
+use Rattle.cuts.specs.declared.corners.Corners.{Corners}
+use Rattle.three_sep.specs.Concentrated.{AreCandidates, HasNoneBetween}
 use Rattle.three_sep.proofs.SearchLemmas.{none_of}
 use Rattle.three_sep.proofs.ConcentratedLemmas.{no_candidate, none_at_pair, one_less, pair_found}
 use Rattle.three_sep.proofs.concentrated.first_of_corners.Goals as goal
+
+pub first_of_pair-requires-clause-candidates : goal.first_of_pair-requires-clause-candidates
+first_of_pair-requires-clause-candidates c =
+    let m = c.args.views.now in
+    let d = c.in-Some.connectors in
+    subst (λ (xs : List ℕ). AreCandidates m d.first.row xs) (sym c.deref.ensures.value)
+    (subst (λ (z : Corners). AreCandidates m z.i c.args.candidates.now.items) (sym c.in-Some.ensures.corners) c.requires.candidates)
+
+pub first_of_pair-requires-clause-connectors : goal.first_of_pair-requires-clause-connectors
+first_of_pair-requires-clause-connectors c = c.in-Some.ensures.pair
 
 pub returns-in-Some-2-clause-first : goal.returns-in-Some-2-clause-first
 returns-in-Some-2-clause-first c = pair_found c.args.views.now c.args.corners.now c.in-Some.connectors c.in-Some.ensures c.in_ok-three.field-0 c.in-Some-2.three c.in-Some-2.is c.in_ok-three.ensures.first
@@ -12,7 +22,7 @@ pub returns-clause-candidates : goal.returns-clause-candidates
 returns-clause-candidates c =
     let m = c.args.views.now in
     let d = c.in-Some.connectors in
-    let none = none_of (HasNoGood m (all_front Concentrated d)) c.in_ok-three.field-0 c.in_default-2.is c.in_ok-three.ensures.none in
+    let none = none_of (HasNoneBetween m d.first.row d.second.column) c.in_ok-three.field-0 c.in_default-2.is c.in_ok-three.ensures.none in
     one_less m c.args.corners.now.i c.args.corners.now.j c.args.candidates.now.items _ c.requires.candidates
     (none_at_pair m c.args.corners.now d c.in-Some.ensures none) c.remove_column.ensures.size c.remove_column.ensures.only
 
@@ -21,5 +31,5 @@ returns-clause-none c =
     let m = c.args.views.now in
     let d = c.in-Some.connectors in
     let corners = c.args.corners.now in
-    let none = none_of (HasNoGood m (all_front Concentrated d)) c.in_ok-three.field-0 c.in_default-2.is c.in_ok-three.ensures.none in
+    let none = none_of (HasNoneBetween m d.first.row d.second.column) c.in_ok-three.field-0 c.in_default-2.is c.in_ok-three.ensures.none in
     no_candidate m corners.i corners.p corners.k corners.j (none_at_pair m corners d c.in-Some.ensures none)
