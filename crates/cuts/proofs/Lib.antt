@@ -2,6 +2,7 @@ pub mod WordLemmas
 pub mod CutLemmas
 pub mod ClassLemmas
 pub mod CoverLemmas
+pub mod ForcedLemmas
 pub mod PatternLemmas
 pub mod SideLemmas
 pub mod GroupLemmas

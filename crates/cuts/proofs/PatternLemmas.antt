@@ -6,7 +6,8 @@ use Rattle.std.proofs.lemmas.List.Sums.{sum_by_more, sum_by_push, sum_by-le-sum_
 use Rattle.std.proofs.lemmas.List.Sorted.{sum_by-IsPermutation}
 use Rattle.cmr_base.specs.ColumnSets.{has_column}
 use Rattle.cmr_base.specs.Seeds.{count}
-use Rattle.cmr_base.proofs.Booleans.{eq_of, is_eq, is_ne, not_both, same_or_not, two_cases}
+use Rattle.cmr_base.proofs.SeedLemmas.{count_grows}
+use Rattle.cmr_base.proofs.Booleans.{and_is, eq_of, is_eq, is_ne, not_both, same_or_not, two_cases}
 use Rattle.cuts.specs.declared.patterns.Runs.{Runs}
 use Rattle.cuts.specs.Patterns.{AreAtMostBeside, AreAtMostListed, AreOpen, IsCounted}
 
@@ -31,6 +32,13 @@ listed_more own classes listed after row l so f is =
     let e = ap length is in
     let k = length-append listed (get_or classes row 0 ∷ []) in
     (omega (arith, e, k, l), open_more own classes listed after row so f is)
+
+-- all lines that are not in the set, whatever their classes
+pub most_of_others : (own classes : List ℕ) (size most : ℕ) → count (λ a. not (has_column own a)) size ≤ most → AreAtMostBeside own classes size most
+most_of_others own classes size most few name =
+    let l = count_grows (λ a. not (has_column own a) && (nat_eq (get_or classes a 0) 0 || nat_eq (get_or classes a 0) name)) (λ a. not (has_column own a)) size
+    (λ a la e. (and_is (not (has_column own a)) (nat_eq (get_or classes a 0) 0 || nat_eq (get_or classes a 0) name) e).0) in
+    omega (arith, l, few)
 
 pub open_sorted : (own classes listed sorted : List ℕ) (size : ℕ) → AreOpen own classes size listed → IsPermutation listed sorted → AreOpen own classes size sorted
 open_sorted own classes listed sorted size so permuted test = sum_by-IsPermutation (λ class. cond (test class) 1 0) listed sorted permuted ∙ so test

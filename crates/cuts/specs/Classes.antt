@@ -12,3 +12,7 @@ pub record AreNumbers (nonzero : (across line : ℕ) → Bool) (size : ℕ) (set
 -- such numbers for the rows and the columns of a set
 abbrev pub AreClassNumbers : Matrix → List ℕ → List ℕ → Type 0
 AreClassNumbers m crossing classes = AreNumbers (λ column row. support m row column) (height m) crossing classes
+
+-- a line has a number other than 0, and one of so many lines of a set has another one
+abbrev pub IsUnlikeOne : (size : ℕ) → (numbers far : List ℕ) → ℕ → Type 0
+IsUnlikeOne size numbers far x = (slice_index_or numbers x 0 ≢ 0) × (k : ℕ) × (k < size) × (has_column far k ≡ true) × (slice_index_or numbers k 0 ≢ 0) × (slice_index_or numbers x 0 ≢ slice_index_or numbers k 0)

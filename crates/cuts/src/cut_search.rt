@@ -11,6 +11,9 @@ use crate::sides::Side;
 use cmr_base::{Memory, RowsAndColumns};
 use std::alloc::Global;
 
+/// Class 0 has many lines where it has more than one in so many.
+const MANY_ZEROS: u32 = 2;
+
 /// The lines that may be parted from those with which the search began, and how many states may be looked at yet.
 #[derive(Drop)]
 pub struct CutSearch {
@@ -48,8 +51,14 @@ impl CutSearch {
         if depth == 0 || self.states == 0 {
             return Ok(false);
         }
+        if let Some(more) = one.forced(alloc, views, &two.lines)? {
+            return self.search(alloc, views, &more, two, depth - 1);
+        }
+        if let Some(more) = two.forced(alloc, views, &one.lines)? {
+            return self.search(alloc, views, one, &more, depth - 1);
+        }
         self.states -= 1;
-        let near = LinePatterns::of(alloc, views, one, &two.lines)?;
+        let near = LinePatterns::of(alloc, views, one)?;
         if near.are_few(views, &one.lines) {
             return Ok(true);
         }
@@ -57,11 +66,12 @@ impl CutSearch {
             self.parted.add_rest(views, &one.lines);
             return Ok(true);
         }
-        let far = LinePatterns::of(alloc, views, two, &one.lines)?;
+        let far = LinePatterns::of(alloc, views, two)?;
         if far.are_few(views, &two.lines) {
             return Ok(true);
         }
-        if let Some(halves) = near.halves(alloc, views, one, far.lighter())? {
+        let least = least_heap(views, one, two, &near, &far);
+        if let Some(halves) = near.halves(alloc, views, one, least)? {
             if !self.search(alloc, views, &halves.one, two, depth - 1)? {
                 return Ok(false);
             }
@@ -77,11 +87,29 @@ impl CutSearch {
             self.parted.add_rest(views, &one.lines);
             return Ok(true);
         };
-        let more_two = two.with_line(alloc, views, line)?;
-        if !self.search(alloc, views, one, &more_two, depth - 1)? {
+        let more_one = one.with_line(alloc, views, line)?;
+        if !self.search(alloc, views, &more_one, two, depth - 1)? {
             return Ok(false);
         }
-        let more_one = one.with_line(alloc, views, line)?;
-        self.search(alloc, views, &more_one, two, depth - 1)
+        let more_two = two.with_line(alloc, views, line)?;
+        self.search(alloc, views, one, &more_two, depth - 1)
+    }
+}
+
+// How many lines the lighter heap beside side one needs, so that it is taken. Where side two has no lines and many lines beside side one
+// have class 0, none is: halves would be halved again and again, and a line in side two shows at once what is in side one.
+fn least_heap(
+    views: &RowsAndColumns<'_>,
+    one: &Side,
+    two: &Side,
+    near: &LinePatterns,
+    far: &LinePatterns,
+) -> u32
+    requires { HasWords views.now one.now.lines }
+{
+    if two.lines.are_none() && near.zeros() > one.lines.count_others(views) / MANY_ZEROS {
+        u32::MAX
+    } else {
+        far.lighter()
     }
 }

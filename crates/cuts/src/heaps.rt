@@ -9,32 +9,6 @@ pub struct Heaps {
     pub lighter: u32,
 }
 
-/// How heavy a lighter heap is taken to be where the other heap is shown to be in side one by a line of side two.
-const PINNED: u32 = 1_000_000;
-
-/// Two heaps of classes, of which all numbers are given in rising order: the class of a line of side two and all others
-/// where there is such a line, or else two of about one size. Number 0 is no class.
-pub fn heaps_of(sorted: &[u64], pinned: u64) -> Heaps {
-    if pinned == 0 {
-        return middle_heaps(sorted);
-    }
-    Heaps {
-        low: pinned,
-        high: pinned,
-        lighter: if has_other(sorted, pinned) { PINNED } else { 0 },
-    }
-}
-
-// Whether there is a class beside one.
-fn has_other(sorted: &[u64], pinned: u64) -> bool {
-    for class in sorted {
-        if *class != 0 && *class != pinned {
-            return true;
-        }
-    }
-    false
-}
-
 // How many numbers before the first class there are.
 fn zeros_of(sorted: &[u64]) -> usize {
     for place in 0..sorted.len() {
@@ -45,8 +19,9 @@ fn zeros_of(sorted: &[u64]) -> usize {
     sorted.len()
 }
 
-// The heaps below and above the step that is nearest to the middle.
-fn middle_heaps(sorted: &[u64]) -> Heaps {
+/// Two heaps of classes, of which all numbers are given in rising order: those below and above the step that is nearest to the middle.
+/// Number 0 is no class.
+pub fn middle_heaps(sorted: &[u64]) -> Heaps {
     let zeros = zeros_of(sorted);
     let middle = zeros / 2 + sorted.len() / 2;
     if is_one_class(sorted, zeros) {
@@ -63,8 +38,8 @@ fn middle_heaps(sorted: &[u64]) -> Heaps {
     no_heaps()
 }
 
-// What tells that there are no two heaps.
-fn no_heaps() -> Heaps {
+/// What tells that there are no two heaps.
+pub fn no_heaps() -> Heaps {
     Heaps {
         low: 0,
         high: 0,
@@ -98,6 +73,6 @@ fn heaps_before(sorted: &[u64], place: usize, zeros: usize) -> Heaps {
     Heaps {
         low: 1,
         high,
-        lighter: lighter.min(PINNED as usize) as u32,
+        lighter: lighter.min(u32::MAX as usize) as u32,
     }
 }

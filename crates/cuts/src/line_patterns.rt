@@ -27,32 +27,18 @@ pub struct LinePatterns {
 }
 
 impl LinePatterns {
-    /// Those of the lines that are not on a side. Others are on the other side.
+    /// Those of the lines that are not on a side.
     pub fn of(
         alloc: Global,
         views: &RowsAndColumns<'_>,
         side: &Side,
-        far: &LineWords,
     ) -> Result<LinePatterns, Memory>
         requires side { HasNumbers views.now side.now }
-        requires far { HasWords views.now far.now }
         ensures { IfOk result (HasPatterns views.now side.now.lines) }
     {
         let lines = &side.lines;
-        let rows = Patterns::of(
-            alloc,
-            views.rows(),
-            &side.row_numbers,
-            &lines.rows,
-            &far.rows,
-        )?;
-        let columns = Patterns::of(
-            alloc,
-            views.columns(),
-            &side.column_numbers,
-            &lines.columns,
-            &far.columns,
-        )?;
+        let rows = Patterns::of(alloc, views.rows(), &side.row_numbers, &lines.rows)?;
+        let columns = Patterns::of(alloc, views.columns(), &side.column_numbers, &lines.columns)?;
         Ok(LinePatterns { rows, columns })
     }
 
@@ -69,6 +55,11 @@ impl LinePatterns {
     /// How many lines are in the lighter of the two heaps, or 0 where there are no two.
     pub fn lighter(&self) -> u32 {
         self.rows.heaps.lighter.max(self.columns.heaps.lighter)
+    }
+
+    /// How many lines have class 0.
+    pub fn zeros(&self) -> u32 {
+        self.rows.zeros.saturating_add(self.columns.zeros)
     }
 
     /// Whether there are no two heaps.

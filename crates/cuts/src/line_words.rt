@@ -8,7 +8,7 @@ ghost use Rattle.cuts.specs.Covers.{AreWithin, IsLineOf};
 ghost use Rattle.cuts.specs.LineSets.{HasWords, columns_heap, is_in_heap, rows_heap, set_of};
 
 use crate::heaps::Heaps;
-use crate::patterns::Patterns;
+use crate::patterns::{Patterns, count_others};
 use cmr_base::columns::{add_column, add_set, empty_set, has_column, meets};
 use cmr_base::{Line, Memory, RowsAndColumns};
 use std::alloc::Global;
@@ -104,6 +104,11 @@ impl LineWords {
         Ok(lines)
     }
 
+    /// Whether there are no lines: a set that has a line meets itself.
+    pub fn are_none(&self) -> bool {
+        !meets(&self.rows, &self.rows) && !meets(&self.columns, &self.columns)
+    }
+
     /// Whether there are four lines or more.
     pub fn are_four(&self, views: &RowsAndColumns<'_>) -> bool
         requires { HasWords views.now self.now }
@@ -172,19 +177,6 @@ fn have_others(set: &[u64], lines: u32, own: &[u64]) -> bool
         }
     }
     true
-}
-
-// How many of so many lines are not in a set.
-fn count_others(set: &[u64], lines: u32) -> u32
-    requires { length set.now ≡ words_for lines }
-{
-    let mut count = 0u32;
-    for line in 0..lines {
-        if !has_column(set, line) {
-            count = count.saturating_add(1);
-        }
-    }
-    count
 }
 
 // Whether one of so many lines is in both sets.

@@ -1,66 +1,101 @@
 // Patterns of the rows that are not on a side, on the columns that are.
-ghost use Rattle.std.specs.Prelude.{◌≡◌, ◌<◌, ◌≤◌, ◌+◌, ◌⊎◌, ℕ, List, length, slice_index_or, cond, nat_eq, IfOk};
+ghost use Rattle.std.specs.Prelude.{◌≡◌, ◌<◌, ◌≤◌, ◌+◌, ◌⊎◌, ℕ, List, length, slice_index_or, cond, nat_eq, not, IfOk};
 ghost use Rattle.std.specs.List.Sorted.{IsNonDecreasing};
+ghost use Rattle.cmr_base.specs.ColumnSets.{has_column};
 ghost use Rattle.cmr_base.specs.Planes.{words_for};
+ghost use Rattle.cmr_base.specs.Seeds.{count};
 ghost use Rattle.cuts.specs.Patterns.{AreAtMostBeside, AreAtMostListed, AreOpen, AreShort, IsCounted};
 
-use crate::heaps::{Heaps, heaps_of};
-use cmr_base::columns::{has_column, next_column};
+use crate::heaps::{Heaps, middle_heaps, no_heaps};
+use cmr_base::columns::has_column;
 use cmr_base::{MAX_ROWS, Memory};
 use std::alloc::Global;
 
-/// Classes of the rows, how many rows that are not among some are at most in class 0 and in one other, and two heaps of
-/// the classes of these rows.
+/// Classes of the rows, how many rows that are not among some are at most in class 0 and in one other, how many of them are in class 0,
+/// and two heaps of the classes of these rows.
 #[derive(Drop)]
 pub struct Patterns {
     pub classes: Vec<u64>,
     pub most: u32,
+    pub zeros: u32,
     pub heaps: Heaps,
 }
 
 impl Patterns {
-    /// Those of the rows that are not among `own`, which have these numbers. Rows `far` are on the other side.
-    pub fn of(
-        alloc: Global,
-        rows: u32,
-        numbers: &[u64],
-        own: &[u64],
-        far: &[u64],
-    ) -> Result<Patterns, Memory>
+    /// Those of the rows that are not among `own`, which have these numbers. Rows of one class are not put in order.
+    pub fn of(alloc: Global, rows: u32, numbers: &[u64], own: &[u64]) -> Result<Patterns, Memory>
         requires rows { rows ≤ MAX_ROWS }
         requires numbers { length numbers.now ≡ rows }
         requires own { length own.now ≡ words_for rows }
-        requires far { length far.now ≡ words_for rows }
         ensures classes { IfOk result (λ patterns. patterns.classes.items ≡ numbers.now) }
         ensures most { IfOk result (λ patterns.
             AreAtMostBeside own.now numbers.now rows patterns.most) }
     {
+        let classes = Vec::from_slice(alloc, numbers)?;
+        let zeros = count_zeros(rows, numbers, own);
+        if !have_two_classes(rows, numbers, own) {
+            return Ok(Patterns {
+                classes,
+                most: count_others(own, rows),
+                zeros,
+                heaps: no_heaps(),
+            });
+        }
         let sorted = sorted_classes(alloc, rows, numbers, own)?;
-        let most = most_alike(&sorted);
-        let heaps = heaps_of(&sorted, pinned_class(rows, numbers, own, far));
         Ok(Patterns {
-            classes: Vec::from_slice(alloc, numbers)?,
-            most,
-            heaps,
+            classes,
+            most: most_alike(&sorted),
+            zeros,
+            heaps: middle_heaps(&sorted),
         })
     }
 }
 
-// The class of a row of the other side, or 0 if none has a class.
-fn pinned_class(rows: u32, classes: &[u64], own: &[u64], far: &[u64]) -> u64
-    requires rows { rows ≤ MAX_ROWS }
-    requires classes { length classes.now ≡ rows }
-    requires own { length own.now ≡ words_for rows }
-    requires far { length far.now ≡ words_for rows }
+/// How many of so many rows are not in a set.
+pub fn count_others(set: &[u64], rows: u32) -> u32
+    requires { length set.now ≡ words_for rows }
+    ensures few { result ≤ rows }
+    ensures all { count (λ x. not (has_column set.now x)) rows ≤ result }
 {
-    let mut from = 0;
-    while let Some(row) = next_column(far, from) {
-        if row < rows && !has_column(own, row) && classes[row as usize] != 0 {
-            return classes[row as usize];
+    let mut others = 0;
+    for row in 0..rows {
+        if !has_column(set, row) {
+            others += 1;
         }
-        from = row + 1;
     }
-    0
+    others
+}
+
+// How many of the rows that are not among some have class 0.
+fn count_zeros(rows: u32, numbers: &[u64], own: &[u64]) -> u32
+    requires numbers { length numbers.now ≡ rows }
+    requires own { length own.now ≡ words_for rows }
+{
+    let mut zeros = 0u32;
+    for row in 0..rows {
+        if numbers[row as usize] == 0 && !has_column(own, row) {
+            zeros = zeros.saturating_add(1);
+        }
+    }
+    zeros
+}
+
+// Whether the rows that are not among some have two classes.
+fn have_two_classes(rows: u32, numbers: &[u64], own: &[u64]) -> bool
+    requires numbers { length numbers.now ≡ rows }
+    requires own { length own.now ≡ words_for rows }
+{
+    let mut class = 0;
+    for row in 0..rows {
+        let number = numbers[row as usize];
+        if number != 0 && number != class && !has_column(own, row) {
+            if class != 0 {
+                return true;
+            }
+            class = number;
+        }
+    }
+    false
 }
 
 // The classes of the rows that are not among some, in rising order.

@@ -1,19 +1,19 @@
 // Sides of a cut while they grow, with a number for each line of what it has on the lines of the side that cross it.
-ghost use Rattle.std.specs.Prelude.{◌≡◌, ◌<◌, ◌≤◌, ◌⊎◌, ℕ, true, false, length, slice_index_or, IfOk};
+ghost use Rattle.std.specs.Prelude.{◌≡◌, ◌≢◌, ◌<◌, ◌≤◌, ◌⊎◌, ℕ, true, false, length, slice_index_or, IfOk, MatchOption};
 ghost use Rattle.std.specs.Int.Bits.{bit_xor};
 ghost use Rattle.cmr_base.specs.ColumnSets.{has_column};
 ghost use Rattle.cmr_base.specs.Matrix.{height};
 ghost use Rattle.cmr_base.specs.Planes.{words_for};
 ghost use Rattle.cmr_base.specs.Trees.{support};
 ghost use Rattle.cmr_base.specs.declared.line.Line.{Line};
-ghost use Rattle.cuts.specs.Classes.{AreNumbers};
+ghost use Rattle.cuts.specs.Classes.{AreNumbers, IsUnlikeOne};
 ghost use Rattle.cuts.specs.Covers.{AddsAtMost, IsLineOf};
 ghost use Rattle.cuts.specs.LineSets.{HasWords, set_of};
-ghost use Rattle.cuts.specs.Sides.{HasNumbers, HasSetNumbers};
+ghost use Rattle.cuts.specs.Sides.{HasNumbers, HasSetNumbers, IsForced};
 
 use crate::line_words::LineWords;
-use cmr_base::columns::{add_column, has_column, next_column};
-use cmr_base::{Line, Matrix, Memory, RowsAndColumns};
+use cmr_base::columns::{add_column, empty_set, has_column, next_column};
+use cmr_base::{Line, MAX_ROWS, Matrix, Memory, RowsAndColumns};
 use digests::mixed;
 use std::alloc::Global;
 
@@ -97,6 +97,41 @@ impl Side {
         let side = self.grown(alloc, views, &lines)?;
         Ok(side)
     }
+
+    /// The lines and those that are on this side in each cut with the lines on it and some others, `far`, on the other side: they are
+    /// unlike a line of the others. None where these are no more lines.
+    pub fn forced(
+        &self,
+        alloc: Global,
+        views: &RowsAndColumns<'_>,
+        far: &LineWords,
+    ) -> Result<Option<Side>, Memory>
+        requires numbers { HasNumbers views.now self.now }
+        requires far { HasWords views.now far.now }
+        ensures { IfOk result (λ found.
+            MatchOption found (Unit {0}) (IsForced views.now self.now far.now)) }
+    {
+        let rows = unlike_lines(
+            alloc,
+            views.rows(),
+            &self.row_numbers,
+            &self.lines.rows,
+            &far.rows,
+        )?;
+        let columns = unlike_lines(
+            alloc,
+            views.columns(),
+            &self.column_numbers,
+            &self.lines.columns,
+            &far.columns,
+        )?;
+        let lines = LineWords { rows, columns };
+        if lines.are_none() {
+            return Ok(None);
+        }
+        let side = self.grown(alloc, views, &lines)?;
+        Ok(Some(side))
+    }
 }
 
 // A set of rows, and a number for each column of what it has in them.
@@ -172,5 +207,66 @@ fn add_weight(numbers: &mut Vec<u64>, lines: &[u64], weight: u64)
     while let Some(line) = next_column(lines, from) {
         numbers[line as usize] ^= weight;
         from = line + 1;
+    }
+}
+
+// Those of so many lines, beside a side's own, that have a class and not that of a line of the other side.
+fn unlike_lines(
+    alloc: Global,
+    lines: u32,
+    numbers: &[u64],
+    own: &[u64],
+    far: &[u64],
+) -> Result<Vec<u64>, Memory>
+    requires lines { lines ≤ MAX_ROWS }
+    requires numbers { length numbers.now ≡ lines }
+    requires own { length own.now ≡ words_for lines }
+    requires far { length far.now ≡ words_for lines }
+    ensures size { IfOk result (λ set. length set.items ≡ words_for lines) }
+    ensures unlike { IfOk result (λ set. (x : ℕ) → has_column set.items x ≡ true
+        → IsUnlikeOne lines numbers.now far.now x) }
+{
+    let mut set = empty_set(alloc, lines)?;
+    let class = class_of(lines, numbers, far);
+    if class != 0 {
+        add_unlike(&mut set, lines, numbers, own, class);
+    }
+    Ok(set)
+}
+
+// The class of one of some lines, or 0 where none has a class.
+fn class_of(lines: u32, numbers: &[u64], far: &[u64]) -> u64
+    requires lines { lines ≤ MAX_ROWS }
+    requires numbers { length numbers.now ≡ lines }
+    requires far { length far.now ≡ words_for lines }
+    ensures { result ≢ 0
+        → (k : ℕ)
+        × (k < lines)
+        × (has_column far.now k ≡ true)
+        × (slice_index_or numbers.now k 0 ≡ result) }
+{
+    for line in 0..lines {
+        if numbers[line as usize] != 0 && has_column(far, line) {
+            return numbers[line as usize];
+        }
+    }
+    0
+}
+
+// Adds the lines, beside a side's own, that have a class and not a given one.
+fn add_unlike(set: &mut Vec<u64>, lines: u32, numbers: &[u64], own: &[u64], class: u64)
+    requires numbers { length numbers.now ≡ lines }
+    requires own { length own.now ≡ words_for lines }
+    requires size { length set.old.items ≡ words_for lines }
+    ensures size { length set.new.items ≡ length set.old.items }
+    ensures only { (x : ℕ) → has_column set.new.items x ≡ true
+        → (has_column set.old.items x ≡ true)
+        ⊎ ((slice_index_or numbers.now x 0 ≢ 0) × (slice_index_or numbers.now x 0 ≢ class)) }
+{
+    for line in 0..lines {
+        let number = numbers[line as usize];
+        if number != 0 && number != class && !has_column(own, line) {
+            add_column(set, line);
+        }
     }
 }

@@ -1,0 +1,79 @@
+-- Lines that a cut has on one side, since each is unlike a line of the other side.
+use Rattle.std.proofs.Common.{Result, Ok, Err, IfOk, OnOk, ℕ, Bool, true, false, not, List, ◌≡◌, ◌≢◌, ap, subst, inl, inr, get_or}
+use Rattle.cmr_base.specs.declared.line.Line.{Line}
+use Rattle.cmr_base.specs.declared.line.Line.TheVariants.{Row, Column}
+use Rattle.cmr_base.specs.ColumnSets.{has_column}
+use Rattle.cmr_base.specs.Matrix.{Matrix, height, IsMatrix}
+use Rattle.cmr_base.specs.Separations.{Lines}
+use Rattle.cmr_base.proofs.Booleans.{two_cases, not_both, not_is}
+use Rattle.cuts.specs.declared.line_words.LineWords.{LineWords}
+use Rattle.cuts.specs.declared.sides.Side.{Side}
+use Rattle.cuts.specs.Classes.{IsUnlikeOne}
+use Rattle.cuts.specs.Covers.{AddsAtMost, AreClasses, AreOutside, AreWithin, Covers, IsLineOf, words_set}
+use Rattle.cuts.specs.Cuts.{IsCut}
+use Rattle.cuts.specs.LineSets.{set_of}
+use Rattle.cuts.specs.Sides.{HasNumbers, IsForced}
+use Rattle.cuts.proofs.CoverLemmas.{column_classes, one_pattern, row_classes}
+use Rattle.cuts.proofs.CutLemmas.{other_is_cut, other_side}
+
+module _ (m : Matrix) (H K T : Lines) (is : IsMatrix m) (cut : IsCut m T) (one : AreWithin m H T) (two : AreOutside m K T) where
+  not_in : (z : Line) → IsLineOf m z → K z ≡ true → H z ≡ false
+  not_in z l k = elim (two_cases (H z)) [
+    | inl h ↦ absurd (not_both (T z) (one z l h) (two z l k))
+    | inr f ↦ f
+  ]
+
+  forced_line : (line : ℕ → Line) (class : ℕ → ℕ) → AreClasses m H line class → (x k : ℕ) → IsLineOf m (line x) → IsLineOf m (line k) → K (line k) ≡ true → class x ≢ 0 → class k ≢ 0 → class x ≢ class k → T (line x) ≡ true
+  forced_line line class classes x k lx lk hk nx nk d = elim (two_cases (T (line x))) [
+    | inl t ↦ t
+    | inr f ↦ elim (two_cases (H (line x))) [
+      | inl h ↦ one (line x) lx h
+      | inr g ↦ absurd (one_pattern m H T (line x) (line k) is cut one lx lk (classes x k lx lk g (not_in (line k) lk hk) nx nk d) f (two (line k) lk hk))
+    ]
+  ]
+
+unlike_at : (size size' : ℕ) (numbers numbers' far far' : List ℕ) (x : ℕ) → size ≡ size' → numbers ≡ numbers' → far ≡ far' → IsUnlikeOne size numbers far x → IsUnlikeOne size' numbers' far' x
+unlike_at size size' numbers numbers' far far' x es en ef h =
+    subst (λ (n : ℕ). IsUnlikeOne n numbers' far' x) es (subst (λ (v : List ℕ). IsUnlikeOne size v far' x) en (subst (λ (v : List ℕ). IsUnlikeOne size numbers v x) ef h))
+
+pub side_forced : (m : Matrix) (side more : Side) (far : LineWords) (rows columns row_numbers column_numbers far_rows far_columns : List ℕ) (height_of width_of : ℕ) → IsMatrix m → HasNumbers m side → HasNumbers m more
+    → AddsAtMost m (set_of more.lines) (set_of side.lines) (words_set rows columns) → height_of ≡ height m → width_of ≡ m.width → row_numbers ≡ side.row_numbers.items → column_numbers ≡ side.column_numbers.items → far_rows ≡ far.rows.items
+    → far_columns ≡ far.columns.items → ((x : ℕ) → has_column rows x ≡ true → IsUnlikeOne height_of row_numbers far_rows x) → ((x : ℕ) → has_column columns x ≡ true → IsUnlikeOne width_of column_numbers far_columns x) → IsForced m side far more
+side_forced m side more far rows columns row_numbers column_numbers far_rows far_columns height_of width_of is has numbers adds eh ew er ec fr fc unlike_row unlike_column = record {
+  numbers = numbers;
+  forced = λ T cut one two x l e. elim (adds x l e) [
+    | inl old ↦ one x l old
+    | inr new ↦ forced T cut one two x l new
+  ];
+}
+  where
+    forced : (T : Lines) → IsCut m T → AreWithin m (set_of side.lines) T → AreOutside m (set_of far) T → AreWithin m (words_set rows columns) T
+    forced T cut one two (Row r) l e =
+        let (nx, k, lk, hk, nk, d) = unlike_at height_of (height m) row_numbers side.row_numbers.items far_rows far.rows.items r eh er fr (unlike_row r e) in
+        forced_line m (set_of side.lines) (set_of far) T is cut one two Row (λ a. get_or side.row_numbers.items a 0) (row_classes m side.lines.rows.items side.lines.columns.items side.row_numbers.items is has.rows) r k l lk hk nx nk d
+    forced T cut one two (Column c) l e =
+        let (nx, k, lk, hk, nk, d) = unlike_at width_of m.width column_numbers side.column_numbers.items far_columns far.columns.items c ew ec fc (unlike_column c e) in
+        forced_line m (set_of side.lines) (set_of far) T is cut one two Column (λ a. get_or side.column_numbers.items a 0) (column_classes m side.lines.rows.items side.lines.columns.items side.column_numbers.items is has.columns) c k l lk hk nx nk d
+
+-- ---- what is parted from a side is parted from it with its forced lines
+
+pub covers_forced : (m : Matrix) (side more : Side) (far : LineWords) (P : Lines) → IsForced m side far more → Covers m (set_of more.lines) (set_of far) P → Covers m (set_of side.lines) (set_of far) P
+covers_forced m side more far P so h T w = h T (record { cut = w.cut; one = so.forced T w.cut w.one w.two; two = w.two })
+
+-- the same for the lines of side two
+pub covers_forced_beside : (m : Matrix) (side more : Side) (far : LineWords) (P : Lines) → IsForced m side far more → Covers m (set_of far) (set_of more.lines) P → Covers m (set_of far) (set_of side.lines) P
+covers_forced_beside m side more far P so h T w = h T (record {
+  cut = w.cut;
+  one = w.one;
+  two = λ z l e. not_is (T z) (so.forced (other_side T) (other_is_cut m T w.cut) (λ y k f. ap not (w.two y k f)) (λ y k f. ap not (w.one y k f)) z l e);
+})
+
+-- one state was searched in place of another
+pub covers_as : {E : Type 0} (m : Matrix) (H K H1 K1 P : Lines) (found : Result Bool E) → (Covers m H1 K1 P → Covers m H K P) → IfOk found (λ covered. covered ≡ true → Covers m H1 K1 P) → IfOk found (λ covered. covered ≡ true → Covers m H K P)
+covers_as m H K H1 K1 P (Ok covered) step h = λ e. step (h e)
+covers_as m H K H1 K1 P (Err e) step h = h
+
+-- what two searches mark, one after the other
+pub within_both : {E : Type 0} (m : Matrix) (P P1 P2 : Lines) (second : Result Bool E) → AreWithin m P P1 → OnOk second (AreWithin m P1 P2) → OnOk second (AreWithin m P P2)
+within_both m P P1 P2 (Ok covered) first next = λ x l e. next x l (first x l e)
+within_both m P P1 P2 (Err e) first next = next
