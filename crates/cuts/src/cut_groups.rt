@@ -24,15 +24,15 @@ const SMALL: u32 = 8;
 const SMALL_GROUPS: u32 = 8;
 
 /// Finds groups of lines that no cut parts.
-pub fn groups_of(alloc: Global, views: &RowsAndColumns<'_>) -> Result<Groups, Memory>
-    ensures names { IfOk result (HasNames views.now) }
-    ensures together { IfOk result (HoldTogether (IsCut views.now) views.now) }
+pub fn groups_of(alloc: Global, matrix: &RowsAndColumns<'_>) -> Result<Groups, Memory>
+    ensures names { IfOk result (HasNames matrix.now) }
+    ensures together { IfOk result (HoldTogether (IsCut matrix.now) matrix.now) }
 {
-    let mut finder = GroupFinder::new(alloc, views)?;
-    for _line in 0..views.rows() + views.columns() {
-        match finder.next(alloc, views)? {
+    let mut finder = GroupFinder::new(alloc, matrix)?;
+    for _line in 0..matrix.rows() + matrix.columns() {
+        match finder.next(alloc, matrix)? {
             None => return Ok(finder.groups),
-            Some(line) => finder.take(alloc, views, line)?,
+            Some(line) => finder.take(alloc, matrix, line)?,
         }
     }
     Ok(finder.groups)
@@ -51,52 +51,52 @@ struct GroupFinder {
 }
 
 impl GroupFinder {
-    fn new(alloc: Global, views: &RowsAndColumns<'_>) -> Result<GroupFinder, Memory>
-        ensures { IfOk result (AreFound views.now) }
+    fn new(alloc: Global, matrix: &RowsAndColumns<'_>) -> Result<GroupFinder, Memory>
+        ensures { IfOk result (AreFound matrix.now) }
     {
         Ok(GroupFinder {
-            groups: Groups::new(alloc, views)?,
-            taken: LineWords::new(alloc, views)?,
+            groups: Groups::new(alloc, matrix)?,
+            taken: LineWords::new(alloc, matrix)?,
             largest: 0,
             size: 0,
             small: 0,
-            states: STATES_OF_A_LINE * (views.rows() + views.columns()),
+            states: STATES_OF_A_LINE * (matrix.rows() + matrix.columns()),
         })
     }
 
     // A line of no group so far, unless enough groups were found.
-    fn next(&self, alloc: Global, views: &RowsAndColumns<'_>) -> Result<Option<Line>, Memory>
-        requires { AreFound views.now self.now }
-        ensures { IfOk result (λ found. MatchOption found (Unit {0}) (IsLineOf views.now)) }
+    fn next(&self, alloc: Global, matrix: &RowsAndColumns<'_>) -> Result<Option<Line>, Memory>
+        requires { AreFound matrix.now self.now }
+        ensures { IfOk result (λ found. MatchOption found (Unit {0}) (IsLineOf matrix.now)) }
     {
         if self.small >= SMALL_GROUPS || self.states == 0 {
             return Ok(None);
         }
-        let none = LineWords::new(alloc, views)?;
-        Ok(next_line(views, &none, &self.taken, &self.taken))
+        let none = LineWords::new(alloc, matrix)?;
+        Ok(next_line(matrix, &none, &self.taken, &self.taken))
     }
 
     // Takes the group of a line.
-    fn take(&mut self, alloc: Global, views: &RowsAndColumns<'_>, line: Line) -> Result<(), Memory>
-        requires found { AreFound views.now self.old }
-        requires line { IsLineOf views.now line }
-        ensures { OnOk result (AreFound views.now self.new) }
+    fn take(&mut self, alloc: Global, matrix: &RowsAndColumns<'_>, line: Line) -> Result<(), Memory>
+        requires found { AreFound matrix.now self.old }
+        requires line { IsLineOf matrix.now line }
+        ensures { OnOk result (AreFound matrix.now self.new) }
     {
         let mut search = CutSearch {
-            parted: self.taken.copied(alloc, views)?,
+            parted: self.taken.copied(alloc, matrix)?,
             states: self.states,
         };
         let name = if self.size == 0 {
-            self.groups.name(views, line)
+            self.groups.name(matrix, line)
         } else {
             self.largest
         };
-        if is_covered(alloc, views, &self.groups, line, name, &mut search)? {
-            self.groups.rename(views, line, &search.parted);
-            self.taken.add_rest(views, &search.parted);
-            self.note(views, line, search.parted.count_others(views));
+        if is_covered(alloc, matrix, &self.groups, line, name, &mut search)? {
+            self.groups.rename(matrix, line, &search.parted);
+            self.taken.add_rest(matrix, &search.parted);
+            self.note(matrix, line, search.parted.count_others(matrix));
         } else {
-            self.taken = self.taken.with_line(alloc, views, line)?;
+            self.taken = self.taken.with_line(alloc, matrix, line)?;
             self.small = self.small.saturating_add(1);
         }
         self.states = search.states;
@@ -104,13 +104,13 @@ impl GroupFinder {
     }
 
     // Notes the size of a group.
-    fn note(&mut self, views: &RowsAndColumns<'_>, line: Line, size: u32)
-        requires found { AreFound views.now self.old }
-        requires line { IsLineOf views.now line }
-        ensures { AreFound views.now self.new }
+    fn note(&mut self, matrix: &RowsAndColumns<'_>, line: Line, size: u32)
+        requires found { AreFound matrix.now self.old }
+        requires line { IsLineOf matrix.now line }
+        ensures { AreFound matrix.now self.new }
     {
         if size > self.size {
-            self.largest = self.groups.name(views, line);
+            self.largest = self.groups.name(matrix, line);
             self.size = size;
         }
         if size < SMALL {
@@ -123,30 +123,30 @@ impl GroupFinder {
 // then into side two.
 fn is_covered(
     alloc: Global,
-    views: &RowsAndColumns<'_>,
+    matrix: &RowsAndColumns<'_>,
     groups: &Groups,
     line: Line,
     name: u32,
     search: &mut CutSearch,
 ) -> Result<bool, Memory>
-    requires names { HasNames views.now groups.now }
-    requires together { HoldTogether (IsCut views.now) views.now groups.now }
-    requires line { IsLineOf views.now line }
-    requires parted { HasWords views.now search.old.parted }
-    ensures size { OnOk result (HasWords views.now search.new.parted) }
+    requires names { HasNames matrix.now groups.now }
+    requires together { HoldTogether (IsCut matrix.now) matrix.now groups.now }
+    requires line { IsLineOf matrix.now line }
+    requires parted { HasWords matrix.now search.old.parted }
+    ensures size { OnOk result (HasWords matrix.now search.new.parted) }
     ensures one_side { IfOk result (λ covered. covered ≡ true
-        → AreOnOneSide views.now line (set_of search.new.parted)) }
+        → AreOnOneSide matrix.now line (set_of search.new.parted)) }
 {
-    let depth = views.rows() + views.columns() + 2;
-    let none = LineWords::new(alloc, views)?;
-    let one = none.with_line(alloc, views, line)?;
-    let group = groups.lines(alloc, views, name)?;
-    let nothing = Side::of(alloc, views, &none)?;
-    let first = Side::of(alloc, views, &one)?;
-    let second = Side::of(alloc, views, &group)?;
-    let more = first.grown(alloc, views, &group)?;
-    if !search.search(alloc, views, &more, &nothing, depth)? {
+    let depth = matrix.rows() + matrix.columns() + 2;
+    let none = LineWords::new(alloc, matrix)?;
+    let one = none.with_line(alloc, matrix, line)?;
+    let group = groups.lines(alloc, matrix, name)?;
+    let nothing = Side::of(alloc, matrix, &none)?;
+    let first = Side::of(alloc, matrix, &one)?;
+    let second = Side::of(alloc, matrix, &group)?;
+    let more = first.grown(alloc, matrix, &group)?;
+    if !search.search(alloc, matrix, &more, &nothing, depth)? {
         return Ok(false);
     }
-    search.search(alloc, views, &first, &second, depth)
+    search.search(alloc, matrix, &first, &second, depth)
 }

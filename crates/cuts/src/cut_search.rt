@@ -27,87 +27,87 @@ impl CutSearch {
     pub fn search(
         &mut self,
         alloc: Global,
-        views: &RowsAndColumns<'_>,
+        matrix: &RowsAndColumns<'_>,
         one: &Side,
         two: &Side,
         depth: u32,
     ) -> Result<bool, Memory>
-        requires parted { HasWords views.now self.old.parted }
-        requires one { HasNumbers views.now one.now }
-        requires two { HasNumbers views.now two.now }
-        ensures size { OnOk result (HasWords views.now self.new.parted) }
-        ensures more { OnOk result (AreWithin views.now (set_of self.old.parted)
+        requires parted { HasWords matrix.now self.old.parted }
+        requires one { HasNumbers matrix.now one.now }
+        requires two { HasNumbers matrix.now two.now }
+        ensures size { OnOk result (HasWords matrix.now self.new.parted) }
+        ensures more { OnOk result (AreWithin matrix.now (set_of self.old.parted)
             (set_of self.new.parted)) }
         ensures covers { IfOk result (λ covered. covered ≡ true
-            → Covers views.now (set_of one.now.lines) (set_of two.now.lines)
+            → Covers matrix.now (set_of one.now.lines) (set_of two.now.lines)
             (set_of self.new.parted)) }
     {
-        if one.lines.meets(views, &two.lines) {
+        if one.lines.meets(matrix, &two.lines) {
             return Ok(true);
         }
-        if self.parted.have_all(views, &one.lines) {
+        if self.parted.have_all(matrix, &one.lines) {
             return Ok(true);
         }
         if depth == 0 || self.states == 0 {
             return Ok(false);
         }
-        if let Some(more) = one.forced(alloc, views, &two.lines)? {
-            return self.search(alloc, views, &more, two, depth - 1);
+        if let Some(more) = one.forced(alloc, matrix, &two.lines)? {
+            return self.search(alloc, matrix, &more, two, depth - 1);
         }
-        if let Some(more) = two.forced(alloc, views, &one.lines)? {
-            return self.search(alloc, views, one, &more, depth - 1);
+        if let Some(more) = two.forced(alloc, matrix, &one.lines)? {
+            return self.search(alloc, matrix, one, &more, depth - 1);
         }
         self.states -= 1;
-        let near = LinePatterns::of(alloc, views, one)?;
-        if near.are_few(views, &one.lines) {
+        let near = LinePatterns::of(alloc, matrix, one)?;
+        if near.are_few(matrix, &one.lines) {
             return Ok(true);
         }
-        if near.have_one_class() && one.lines.are_four(views) {
-            self.parted.add_rest(views, &one.lines);
+        if near.have_one_class() && one.lines.are_four(matrix) {
+            self.parted.add_rest(matrix, &one.lines);
             return Ok(true);
         }
-        let far = LinePatterns::of(alloc, views, two)?;
-        if far.are_few(views, &two.lines) {
+        let far = LinePatterns::of(alloc, matrix, two)?;
+        if far.are_few(matrix, &two.lines) {
             return Ok(true);
         }
-        let least = least_heap(views, one, two, &near, &far);
-        if let Some(halves) = near.halves(alloc, views, one, least)? {
-            if !self.search(alloc, views, &halves.one, two, depth - 1)? {
+        let least = least_heap(matrix, one, two, &near, &far);
+        if let Some(halves) = near.halves(alloc, matrix, one, least)? {
+            if !self.search(alloc, matrix, &halves.one, two, depth - 1)? {
                 return Ok(false);
             }
-            return self.search(alloc, views, &halves.other, two, depth - 1);
+            return self.search(alloc, matrix, &halves.other, two, depth - 1);
         }
-        if let Some(halves) = far.halves(alloc, views, two, 0)? {
-            if !self.search(alloc, views, one, &halves.one, depth - 1)? {
+        if let Some(halves) = far.halves(alloc, matrix, two, 0)? {
+            if !self.search(alloc, matrix, one, &halves.one, depth - 1)? {
                 return Ok(false);
             }
-            return self.search(alloc, views, one, &halves.other, depth - 1);
+            return self.search(alloc, matrix, one, &halves.other, depth - 1);
         }
-        let Some(line) = next_line(views, &one.lines, &two.lines, &self.parted) else {
-            self.parted.add_rest(views, &one.lines);
+        let Some(line) = next_line(matrix, &one.lines, &two.lines, &self.parted) else {
+            self.parted.add_rest(matrix, &one.lines);
             return Ok(true);
         };
-        let more_one = one.with_line(alloc, views, line)?;
-        if !self.search(alloc, views, &more_one, two, depth - 1)? {
+        let more_one = one.with_line(alloc, matrix, line)?;
+        if !self.search(alloc, matrix, &more_one, two, depth - 1)? {
             return Ok(false);
         }
-        let more_two = two.with_line(alloc, views, line)?;
-        self.search(alloc, views, one, &more_two, depth - 1)
+        let more_two = two.with_line(alloc, matrix, line)?;
+        self.search(alloc, matrix, one, &more_two, depth - 1)
     }
 }
 
 // How many lines the lighter heap beside side one needs, so that it is taken. Where side two has no lines and many lines beside side one
 // have class 0, none is: halves would be halved again and again, and a line in side two shows at once what is in side one.
 fn least_heap(
-    views: &RowsAndColumns<'_>,
+    matrix: &RowsAndColumns<'_>,
     one: &Side,
     two: &Side,
     near: &LinePatterns,
     far: &LinePatterns,
 ) -> u32
-    requires { HasWords views.now one.now.lines }
+    requires { HasWords matrix.now one.now.lines }
 {
-    if two.lines.are_none() && near.zeros() > one.lines.count_others(views) / MANY_ZEROS {
+    if two.lines.are_none() && near.zeros() > one.lines.count_others(matrix) / MANY_ZEROS {
         u32::MAX
     } else {
         far.lighter()

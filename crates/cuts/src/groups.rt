@@ -22,12 +22,12 @@ pub struct Groups {
 
 impl Groups {
     /// Each line is a group.
-    pub fn new(alloc: Global, views: &RowsAndColumns<'_>) -> Result<Groups, Memory>
-        ensures names { IfOk result (HasNames views.now) }
-        ensures apart { IfOk result (λ groups. (k : ℕ) → k < height views.now + views.now.width
+    pub fn new(alloc: Global, matrix: &RowsAndColumns<'_>) -> Result<Groups, Memory>
+        ensures names { IfOk result (HasNames matrix.now) }
+        ensures apart { IfOk result (λ groups. (k : ℕ) → k < height matrix.now + matrix.now.width
             → slice_index_or groups.names.items k 0 ≡ k) }
     {
-        let names = own_labels(alloc, views.rows() + views.columns())?;
+        let names = own_labels(alloc, matrix.rows() + matrix.columns())?;
         Ok(Groups { names })
     }
 
@@ -57,14 +57,14 @@ impl Groups {
     }
 
     /// The name of a line's group.
-    pub fn name(&self, views: &RowsAndColumns<'_>, line: Line) -> u32
-        requires names { HasNames views.now self.now }
-        requires line { IsLineOf views.now line }
-        ensures { result ≡ name_of views.now self.now line }
+    pub fn name(&self, matrix: &RowsAndColumns<'_>, line: Line) -> u32
+        requires names { HasNames matrix.now self.now }
+        requires line { IsLineOf matrix.now line }
+        ensures { result ≡ name_of matrix.now self.now line }
     {
         match line {
             Line::Row(row) => self.names[row as usize],
-            Line::Column(column) => self.names[(views.rows() + column) as usize],
+            Line::Column(column) => self.names[(matrix.rows() + column) as usize],
         }
     }
 
@@ -72,33 +72,33 @@ impl Groups {
     pub fn lines(
         &self,
         alloc: Global,
-        views: &RowsAndColumns<'_>,
+        matrix: &RowsAndColumns<'_>,
         name: u32,
     ) -> Result<LineWords, Memory>
-        requires { HasNames views.now self.now }
-        ensures size { IfOk result (HasWords views.now) }
-        ensures named { IfOk result (λ lines. (x : Line) → IsLineOf views.now x
-            → set_of lines x ≡ true → name_of views.now self.now x ≡ name) }
+        requires { HasNames matrix.now self.now }
+        ensures size { IfOk result (HasWords matrix.now) }
+        ensures named { IfOk result (λ lines. (x : Line) → IsLineOf matrix.now x
+            → set_of lines x ≡ true → name_of matrix.now self.now x ≡ name) }
     {
-        let rows = lines_named(alloc, &self.names, 0, views.rows(), name)?;
-        let columns = lines_named(alloc, &self.names, views.rows(), views.columns(), name)?;
+        let rows = lines_named(alloc, &self.names, 0, matrix.rows(), name)?;
+        let columns = lines_named(alloc, &self.names, matrix.rows(), matrix.columns(), name)?;
         Ok(LineWords { rows, columns })
     }
 
     /// Gives the name of a line to all lines that are not among some.
-    pub fn rename(&mut self, views: &RowsAndColumns<'_>, line: Line, parted: &LineWords)
-        requires names { HasNames views.now self.old }
-        requires line { IsLineOf views.now line }
-        requires parted { HasWords views.now parted.now }
-        ensures names { HasNames views.now self.new }
-        ensures get { GetName views.now self.old self.new (set_of parted.now) line }
+    pub fn rename(&mut self, matrix: &RowsAndColumns<'_>, line: Line, parted: &LineWords)
+        requires names { HasNames matrix.now self.old }
+        requires line { IsLineOf matrix.now line }
+        requires parted { HasWords matrix.now parted.now }
+        ensures names { HasNames matrix.now self.new }
+        ensures get { GetName matrix.now self.old self.new (set_of parted.now) line }
     {
-        let name = self.name(views, line);
-        rename_others(&mut self.names, 0, views.rows(), &parted.rows, name);
+        let name = self.name(matrix, line);
+        rename_others(&mut self.names, 0, matrix.rows(), &parted.rows, name);
         rename_others(
             &mut self.names,
-            views.rows(),
-            views.columns(),
+            matrix.rows(),
+            matrix.columns(),
             &parted.columns,
             name,
         );

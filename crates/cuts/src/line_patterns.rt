@@ -30,25 +30,30 @@ impl LinePatterns {
     /// Those of the lines that are not on a side.
     pub fn of(
         alloc: Global,
-        views: &RowsAndColumns<'_>,
+        matrix: &RowsAndColumns<'_>,
         side: &Side,
     ) -> Result<LinePatterns, Memory>
-        requires side { HasNumbers views.now side.now }
-        ensures { IfOk result (HasPatterns views.now side.now.lines) }
+        requires side { HasNumbers matrix.now side.now }
+        ensures { IfOk result (HasPatterns matrix.now side.now.lines) }
     {
         let lines = &side.lines;
-        let rows = Patterns::of(alloc, views.rows(), &side.row_numbers, &lines.rows)?;
-        let columns = Patterns::of(alloc, views.columns(), &side.column_numbers, &lines.columns)?;
+        let rows = Patterns::of(alloc, matrix.rows(), &side.row_numbers, &lines.rows)?;
+        let columns = Patterns::of(
+            alloc,
+            matrix.columns(),
+            &side.column_numbers,
+            &lines.columns,
+        )?;
         Ok(LinePatterns { rows, columns })
     }
 
     /// Whether fewer than four lines can be on the other side of a cut with the lines on one side.
-    pub fn are_few(&self, views: &RowsAndColumns<'_>, lines: &LineWords) -> bool
-        requires { HasPatterns views.now lines.now self.now }
-        ensures near { result ≡ true → (K P : Lines) → Covers views.now (set_of lines.now) K P }
-        ensures far { result ≡ true → (H P : Lines) → Covers views.now H (set_of lines.now) P }
+    pub fn are_few(&self, matrix: &RowsAndColumns<'_>, lines: &LineWords) -> bool
+        requires { HasPatterns matrix.now lines.now self.now }
+        ensures near { result ≡ true → (K P : Lines) → Covers matrix.now (set_of lines.now) K P }
+        ensures far { result ≡ true → (H P : Lines) → Covers matrix.now H (set_of lines.now) P }
     {
-        let _shape = views.rows();
+        let _shape = matrix.rows();
         are_below_four(self.rows.most, self.columns.most)
     }
 
@@ -72,75 +77,75 @@ impl LinePatterns {
     pub fn halves(
         &self,
         alloc: Global,
-        views: &RowsAndColumns<'_>,
+        matrix: &RowsAndColumns<'_>,
         side: &Side,
         least: u32,
     ) -> Result<Option<Halves>, Memory>
-        requires side { HasNumbers views.now side.now }
-        requires patterns { HasPatterns views.now side.now.lines self.now }
+        requires side { HasNumbers matrix.now side.now }
+        requires patterns { HasPatterns matrix.now side.now.lines self.now }
         ensures { IfOk result (λ found.
-            MatchOption found (Unit {0}) (AreHalves views.now side.now)) }
+            MatchOption found (Unit {0}) (AreHalves matrix.now side.now)) }
     {
         if self.have_one_class() || self.lighter() < least {
             return Ok(None);
         }
         if self.rows.heaps.lighter >= self.columns.heaps.lighter {
-            Ok(Some(self.halves_by_rows(alloc, views, side)?))
+            Ok(Some(self.halves_by_rows(alloc, matrix, side)?))
         } else {
-            Ok(Some(self.halves_by_columns(alloc, views, side)?))
+            Ok(Some(self.halves_by_columns(alloc, matrix, side)?))
         }
     }
 
     fn halves_by_rows(
         &self,
         alloc: Global,
-        views: &RowsAndColumns<'_>,
+        matrix: &RowsAndColumns<'_>,
         side: &Side,
     ) -> Result<Halves, Memory>
-        requires side { HasNumbers views.now side.now }
-        requires patterns { HasPatterns views.now side.now.lines self.now }
-        ensures { IfOk result (AreHalves views.now side.now) }
+        requires side { HasNumbers matrix.now side.now }
+        requires patterns { HasPatterns matrix.now side.now.lines self.now }
+        ensures { IfOk result (AreHalves matrix.now side.now) }
     {
-        let _shape = views.rows();
-        let one = LineWords::of_rows(alloc, views, &self.rows, true)?;
-        let other = LineWords::of_rows(alloc, views, &self.rows, false)?;
-        grown_halves(alloc, views, side, &one, &other)
+        let _shape = matrix.rows();
+        let one = LineWords::of_rows(alloc, matrix, &self.rows, true)?;
+        let other = LineWords::of_rows(alloc, matrix, &self.rows, false)?;
+        grown_halves(alloc, matrix, side, &one, &other)
     }
 
     fn halves_by_columns(
         &self,
         alloc: Global,
-        views: &RowsAndColumns<'_>,
+        matrix: &RowsAndColumns<'_>,
         side: &Side,
     ) -> Result<Halves, Memory>
-        requires side { HasNumbers views.now side.now }
-        requires patterns { HasPatterns views.now side.now.lines self.now }
-        ensures { IfOk result (AreHalves views.now side.now) }
+        requires side { HasNumbers matrix.now side.now }
+        requires patterns { HasPatterns matrix.now side.now.lines self.now }
+        ensures { IfOk result (AreHalves matrix.now side.now) }
     {
-        let _shape = views.rows();
-        let one = LineWords::of_columns(alloc, views, &self.columns, true)?;
-        let other = LineWords::of_columns(alloc, views, &self.columns, false)?;
-        grown_halves(alloc, views, side, &one, &other)
+        let _shape = matrix.rows();
+        let one = LineWords::of_columns(alloc, matrix, &self.columns, true)?;
+        let other = LineWords::of_columns(alloc, matrix, &self.columns, false)?;
+        grown_halves(alloc, matrix, side, &one, &other)
     }
 }
 
 // A side with each of two sets of lines, of which one is on its side of a cut.
 fn grown_halves(
     alloc: Global,
-    views: &RowsAndColumns<'_>,
+    matrix: &RowsAndColumns<'_>,
     side: &Side,
     one: &LineWords,
     other: &LineWords,
 ) -> Result<Halves, Memory>
-    requires side { HasNumbers views.now side.now }
-    requires one { HasWords views.now one.now }
-    requires other { HasWords views.now other.now }
-    requires halved { IsHalved views.now (set_of side.now.lines) (set_of one.now)
+    requires side { HasNumbers matrix.now side.now }
+    requires one { HasWords matrix.now one.now }
+    requires other { HasWords matrix.now other.now }
+    requires halved { IsHalved matrix.now (set_of side.now.lines) (set_of one.now)
         (set_of other.now) }
-    ensures { IfOk result (AreHalves views.now side.now) }
+    ensures { IfOk result (AreHalves matrix.now side.now) }
 {
-    let more_one = side.grown(alloc, views, one)?;
-    let more_other = side.grown(alloc, views, other)?;
+    let more_one = side.grown(alloc, matrix, one)?;
+    let more_other = side.grown(alloc, matrix, other)?;
     Ok(Halves {
         one: more_one,
         other: more_other,

@@ -22,28 +22,28 @@ pub struct LineWords {
 
 impl LineWords {
     /// No line.
-    pub fn new(alloc: Global, views: &RowsAndColumns<'_>) -> Result<LineWords, Memory>
-        ensures size { IfOk result (HasWords views.now) }
+    pub fn new(alloc: Global, matrix: &RowsAndColumns<'_>) -> Result<LineWords, Memory>
+        ensures size { IfOk result (HasWords matrix.now) }
         ensures no_row { IfOk result (λ lines. (r : ℕ) → has_column lines.rows.items r ≡ false) }
         ensures no_column { IfOk result (λ lines. (c : ℕ)
             → has_column lines.columns.items c ≡ false) }
     {
         Ok(LineWords {
-            rows: empty_set(alloc, views.rows())?,
-            columns: empty_set(alloc, views.columns())?,
+            rows: empty_set(alloc, matrix.rows())?,
+            columns: empty_set(alloc, matrix.columns())?,
         })
     }
 
     /// The same lines once more.
-    pub fn copied(&self, alloc: Global, views: &RowsAndColumns<'_>) -> Result<LineWords, Memory>
-        requires { HasWords views.now self.now }
-        ensures size { IfOk result (HasWords views.now) }
+    pub fn copied(&self, alloc: Global, matrix: &RowsAndColumns<'_>) -> Result<LineWords, Memory>
+        requires { HasWords matrix.now self.now }
+        ensures size { IfOk result (HasWords matrix.now) }
         ensures rows { IfOk result (λ lines. (r : ℕ)
             → has_column lines.rows.items r ≡ has_column self.now.rows.items r) }
         ensures columns { IfOk result (λ lines. (c : ℕ)
             → has_column lines.columns.items c ≡ has_column self.now.columns.items c) }
     {
-        let mut lines = LineWords::new(alloc, views)?;
+        let mut lines = LineWords::new(alloc, matrix)?;
         add_set(&mut lines.rows, &self.rows);
         add_set(&mut lines.columns, &self.columns);
         Ok(lines)
@@ -52,34 +52,34 @@ impl LineWords {
     /// The rows of one heap of classes, or of the other.
     pub fn of_rows(
         alloc: Global,
-        views: &RowsAndColumns<'_>,
+        matrix: &RowsAndColumns<'_>,
         patterns: &Patterns,
         inside: bool,
     ) -> Result<LineWords, Memory>
-        requires { length patterns.now.classes.items ≡ height views.now }
-        ensures size { IfOk result (HasWords views.now) }
-        ensures lines { IfOk result (λ lines. (x : Line) → IsLineOf views.now x
+        requires { length patterns.now.classes.items ≡ height matrix.now }
+        ensures size { IfOk result (HasWords matrix.now) }
+        ensures lines { IfOk result (λ lines. (x : Line) → IsLineOf matrix.now x
             → set_of lines x ≡ true → rows_heap patterns.now inside x ≡ true) }
     {
-        let mut lines = LineWords::new(alloc, views)?;
-        add_heap(&mut lines.rows, views.rows(), patterns, inside);
+        let mut lines = LineWords::new(alloc, matrix)?;
+        add_heap(&mut lines.rows, matrix.rows(), patterns, inside);
         Ok(lines)
     }
 
     /// The columns of one heap of classes, or of the other.
     pub fn of_columns(
         alloc: Global,
-        views: &RowsAndColumns<'_>,
+        matrix: &RowsAndColumns<'_>,
         patterns: &Patterns,
         inside: bool,
     ) -> Result<LineWords, Memory>
-        requires { length patterns.now.classes.items ≡ views.now.width }
-        ensures size { IfOk result (HasWords views.now) }
-        ensures lines { IfOk result (λ lines. (x : Line) → IsLineOf views.now x
+        requires { length patterns.now.classes.items ≡ matrix.now.width }
+        ensures size { IfOk result (HasWords matrix.now) }
+        ensures lines { IfOk result (λ lines. (x : Line) → IsLineOf matrix.now x
             → set_of lines x ≡ true → columns_heap patterns.now inside x ≡ true) }
     {
-        let mut lines = LineWords::new(alloc, views)?;
-        add_heap(&mut lines.columns, views.columns(), patterns, inside);
+        let mut lines = LineWords::new(alloc, matrix)?;
+        add_heap(&mut lines.columns, matrix.columns(), patterns, inside);
         Ok(lines)
     }
 
@@ -87,16 +87,16 @@ impl LineWords {
     pub fn with_line(
         &self,
         alloc: Global,
-        views: &RowsAndColumns<'_>,
+        matrix: &RowsAndColumns<'_>,
         line: Line,
     ) -> Result<LineWords, Memory>
-        requires size { HasWords views.now self.now }
-        requires line { IsLineOf views.now line }
-        ensures size { IfOk result (HasWords views.now) }
-        ensures lines { IfOk result (λ lines. (x : Line) → IsLineOf views.now x
+        requires size { HasWords matrix.now self.now }
+        requires line { IsLineOf matrix.now line }
+        ensures size { IfOk result (HasWords matrix.now) }
+        ensures lines { IfOk result (λ lines. (x : Line) → IsLineOf matrix.now x
             → set_of lines x ≡ true → (set_of self.now x ≡ true) ⊎ (x ≡ line)) }
     {
-        let mut lines = self.copied(alloc, views)?;
+        let mut lines = self.copied(alloc, matrix)?;
         match line {
             Line::Row(row) => add_column(&mut lines.rows, row),
             Line::Column(column) => add_column(&mut lines.columns, column),
@@ -110,57 +110,57 @@ impl LineWords {
     }
 
     /// Whether there are four lines or more.
-    pub fn are_four(&self, views: &RowsAndColumns<'_>) -> bool
-        requires { HasWords views.now self.now }
+    pub fn are_four(&self, matrix: &RowsAndColumns<'_>) -> bool
+        requires { HasWords matrix.now self.now }
     {
-        let lines = views.rows().saturating_add(views.columns());
-        lines.saturating_sub(self.count_others(views)) >= 4
+        let lines = matrix.rows().saturating_add(matrix.columns());
+        lines.saturating_sub(self.count_others(matrix)) >= 4
     }
 
     /// How many lines of the matrix are not among these.
-    pub fn count_others(&self, views: &RowsAndColumns<'_>) -> u32
-        requires { HasWords views.now self.now }
+    pub fn count_others(&self, matrix: &RowsAndColumns<'_>) -> u32
+        requires { HasWords matrix.now self.now }
     {
-        let rows = count_others(&self.rows, views.rows());
-        rows.saturating_add(count_others(&self.columns, views.columns()))
+        let rows = count_others(&self.rows, matrix.rows());
+        rows.saturating_add(count_others(&self.columns, matrix.columns()))
     }
 
     /// Whether each line of the matrix is among these or among others.
-    pub fn have_all(&self, views: &RowsAndColumns<'_>, others: &LineWords) -> bool
-        requires size { HasWords views.now self.now }
-        requires others { HasWords views.now others.now }
-        ensures { result ≡ true → (x : Line) → IsLineOf views.now x → set_of others.now x ≡ false
+    pub fn have_all(&self, matrix: &RowsAndColumns<'_>, others: &LineWords) -> bool
+        requires size { HasWords matrix.now self.now }
+        requires others { HasWords matrix.now others.now }
+        ensures { result ≡ true → (x : Line) → IsLineOf matrix.now x → set_of others.now x ≡ false
             → set_of self.now x ≡ true }
     {
-        have_others(&self.rows, views.rows(), &others.rows)
-            && have_others(&self.columns, views.columns(), &others.columns)
+        have_others(&self.rows, matrix.rows(), &others.rows)
+            && have_others(&self.columns, matrix.columns(), &others.columns)
     }
 
     /// Whether some line of the matrix is among these and among others.
-    pub fn meets(&self, views: &RowsAndColumns<'_>, others: &LineWords) -> bool
-        requires size { HasWords views.now self.now }
-        requires others { HasWords views.now others.now }
+    pub fn meets(&self, matrix: &RowsAndColumns<'_>, others: &LineWords) -> bool
+        requires size { HasWords matrix.now self.now }
+        requires others { HasWords matrix.now others.now }
         ensures { result ≡ true
             → (x : Line)
-            × IsLineOf views.now x
+            × IsLineOf matrix.now x
             × (set_of self.now x ≡ true)
             × (set_of others.now x ≡ true) }
     {
-        share_line(&self.rows, &others.rows, views.rows())
-            || share_line(&self.columns, &others.columns, views.columns())
+        share_line(&self.rows, &others.rows, matrix.rows())
+            || share_line(&self.columns, &others.columns, matrix.columns())
     }
 
     /// Adds the lines of the matrix that are not among others.
-    pub fn add_rest(&mut self, views: &RowsAndColumns<'_>, others: &LineWords)
-        requires size { HasWords views.now self.old }
-        requires others { HasWords views.now others.now }
-        ensures size { HasWords views.now self.new }
-        ensures kept { AreWithin views.now (set_of self.old) (set_of self.new) }
-        ensures rest { (x : Line) → IsLineOf views.now x → set_of others.now x ≡ false
+    pub fn add_rest(&mut self, matrix: &RowsAndColumns<'_>, others: &LineWords)
+        requires size { HasWords matrix.now self.old }
+        requires others { HasWords matrix.now others.now }
+        ensures size { HasWords matrix.now self.new }
+        ensures kept { AreWithin matrix.now (set_of self.old) (set_of self.new) }
+        ensures rest { (x : Line) → IsLineOf matrix.now x → set_of others.now x ≡ false
             → set_of self.new x ≡ true }
     {
-        add_others(&mut self.rows, views.rows(), &others.rows);
-        add_others(&mut self.columns, views.columns(), &others.columns);
+        add_others(&mut self.rows, matrix.rows(), &others.rows);
+        add_others(&mut self.columns, matrix.columns(), &others.columns);
     }
 }
 

@@ -17,25 +17,25 @@ const NOT_PARTED: u32 = 2048;
 /// A line that is on neither side: one that crosses a line of side one if there is one, then one that is not among those
 /// that are parted, then the one with most nonzeros.
 pub fn next_line(
-    views: &RowsAndColumns<'_>,
+    matrix: &RowsAndColumns<'_>,
     one: &LineWords,
     two: &LineWords,
     parted: &LineWords,
 ) -> Option<Line>
-    requires one { HasWords views.now one.now }
-    requires two { HasWords views.now two.now }
-    requires parted { HasWords views.now parted.now }
-    ensures { MatchOption result (Unit {0}) (IsLineOf views.now) }
+    requires one { HasWords matrix.now one.now }
+    requires two { HasWords matrix.now two.now }
+    requires parted { HasWords matrix.now parted.now }
+    ensures { MatchOption result (Unit {0}) (IsLineOf matrix.now) }
 {
     let row = next_row(
-        views.by_rows(),
+        matrix.by_rows(),
         &one.rows,
         &two.rows,
         &parted.rows,
         &one.columns,
     );
     let column = next_row(
-        views.by_columns(),
+        matrix.by_columns(),
         &one.columns,
         &two.columns,
         &parted.columns,
@@ -44,10 +44,10 @@ pub fn next_line(
     if row.value == 0 && column.value == 0 {
         return None;
     }
-    if row.value >= column.value && row.line < views.rows() {
+    if row.value >= column.value && row.line < matrix.rows() {
         return Some(Line::Row(row.line));
     }
-    if column.line < views.columns() {
+    if column.line < matrix.columns() {
         return Some(Line::Column(column.line));
     }
     None

@@ -28,45 +28,45 @@ pub struct Side {
 
 impl Side {
     /// Some lines.
-    pub fn of(alloc: Global, views: &RowsAndColumns<'_>, lines: &LineWords) -> Result<Side, Memory>
-        requires { HasWords views.now lines.now }
-        ensures numbers { IfOk result (HasNumbers views.now) }
-        ensures lines { IfOk result (λ side. (x : Line) → IsLineOf views.now x
+    pub fn of(alloc: Global, matrix: &RowsAndColumns<'_>, lines: &LineWords) -> Result<Side, Memory>
+        requires { HasWords matrix.now lines.now }
+        ensures numbers { IfOk result (HasNumbers matrix.now) }
+        ensures lines { IfOk result (λ side. (x : Line) → IsLineOf matrix.now x
             → set_of side.lines x ≡ true → set_of lines.now x ≡ true) }
     {
         let none = Side {
-            lines: LineWords::new(alloc, views)?,
-            row_numbers: vec![in alloc; 0u64; views.rows() as usize]?,
-            column_numbers: vec![in alloc; 0u64; views.columns() as usize]?,
+            lines: LineWords::new(alloc, matrix)?,
+            row_numbers: vec![in alloc; 0u64; matrix.rows() as usize]?,
+            column_numbers: vec![in alloc; 0u64; matrix.columns() as usize]?,
         };
-        none.grown(alloc, views, lines)
+        none.grown(alloc, matrix, lines)
     }
 
     /// The lines and others.
     pub fn grown(
         &self,
         alloc: Global,
-        views: &RowsAndColumns<'_>,
+        matrix: &RowsAndColumns<'_>,
         lines: &LineWords,
     ) -> Result<Side, Memory>
-        requires numbers { HasNumbers views.now self.now }
-        requires lines { HasWords views.now lines.now }
-        ensures numbers { IfOk result (HasNumbers views.now) }
+        requires numbers { HasNumbers matrix.now self.now }
+        requires lines { HasWords matrix.now lines.now }
+        ensures numbers { IfOk result (HasNumbers matrix.now) }
         ensures lines { IfOk result (λ side.
-            AddsAtMost views.now (set_of side.lines) (set_of self.now.lines) (set_of lines.now)) }
+            AddsAtMost matrix.now (set_of side.lines) (set_of self.now.lines) (set_of lines.now)) }
     {
         let rows = grown_set(
             alloc,
             &self.lines.rows,
             &self.column_numbers,
-            views.by_rows(),
+            matrix.by_rows(),
             &lines.rows,
         )?;
         let columns = grown_set(
             alloc,
             &self.lines.columns,
             &self.row_numbers,
-            views.by_columns(),
+            matrix.by_columns(),
             &lines.columns,
         )?;
         Ok(Side {
@@ -83,18 +83,18 @@ impl Side {
     pub fn with_line(
         &self,
         alloc: Global,
-        views: &RowsAndColumns<'_>,
+        matrix: &RowsAndColumns<'_>,
         line: Line,
     ) -> Result<Side, Memory>
-        requires numbers { HasNumbers views.now self.now }
-        requires line { IsLineOf views.now line }
-        ensures numbers { IfOk result (HasNumbers views.now) }
-        ensures lines { IfOk result (λ side. (x : Line) → IsLineOf views.now x
+        requires numbers { HasNumbers matrix.now self.now }
+        requires line { IsLineOf matrix.now line }
+        ensures numbers { IfOk result (HasNumbers matrix.now) }
+        ensures lines { IfOk result (λ side. (x : Line) → IsLineOf matrix.now x
             → set_of side.lines x ≡ true → (set_of self.now.lines x ≡ true) ⊎ (x ≡ line)) }
     {
-        let none = LineWords::new(alloc, views)?;
-        let lines = none.with_line(alloc, views, line)?;
-        let side = self.grown(alloc, views, &lines)?;
+        let none = LineWords::new(alloc, matrix)?;
+        let lines = none.with_line(alloc, matrix, line)?;
+        let side = self.grown(alloc, matrix, &lines)?;
         Ok(side)
     }
 
@@ -103,24 +103,24 @@ impl Side {
     pub fn forced(
         &self,
         alloc: Global,
-        views: &RowsAndColumns<'_>,
+        matrix: &RowsAndColumns<'_>,
         far: &LineWords,
     ) -> Result<Option<Side>, Memory>
-        requires numbers { HasNumbers views.now self.now }
-        requires far { HasWords views.now far.now }
+        requires numbers { HasNumbers matrix.now self.now }
+        requires far { HasWords matrix.now far.now }
         ensures { IfOk result (λ found.
-            MatchOption found (Unit {0}) (IsForced views.now self.now far.now)) }
+            MatchOption found (Unit {0}) (IsForced matrix.now self.now far.now)) }
     {
         let rows = unlike_lines(
             alloc,
-            views.rows(),
+            matrix.rows(),
             &self.row_numbers,
             &self.lines.rows,
             &far.rows,
         )?;
         let columns = unlike_lines(
             alloc,
-            views.columns(),
+            matrix.columns(),
             &self.column_numbers,
             &self.lines.columns,
             &far.columns,
@@ -129,7 +129,7 @@ impl Side {
         if lines.are_none() {
             return Ok(None);
         }
-        let side = self.grown(alloc, views, &lines)?;
+        let side = self.grown(alloc, matrix, &lines)?;
         Ok(Some(side))
     }
 }

@@ -73,8 +73,8 @@ no_three m none form one two T s =
     none (record { form = form; pair = record { first = one; second = two }; line = g.0 }) g.1 tt g.2
 
 -- the answer of the whole search
-pub found : {E : Type 0} (views m : Matrix) → views ≡ m → (r : Result (Option Three) E) → IfOk r (λ a. IfSome a (IsFirstOf views [])) → IfOk r (λ a. IfNone a (HasNoGood views []))
+pub found : {E : Type 0} (matrix m : Matrix) → matrix ≡ m → (r : Result (Option Three) E) → IfOk r (λ a. IfSome a (IsFirstOf matrix [])) → IfOk r (λ a. IfNone a (HasNoGood matrix []))
     → IfOk r (λ a. MatchOption a (HasNoThreeSeparation m) (λ three. IsFirstThreeSeparation m three))
-found views m e (Ok None) some none = subst HasNoThreeSeparation e (no_three views none)
-found views m e (Ok (Some three)) some none = subst (λ (z : Matrix). IsFirstThreeSeparation z three) e (first_three views three some)
-found views m e (Err h) some none = tt
+found matrix m e (Ok None) some none = subst HasNoThreeSeparation e (no_three matrix none)
+found matrix m e (Ok (Some three)) some none = subst (λ (z : Matrix). IsFirstThreeSeparation z three) e (first_three matrix three some)
+found matrix m e (Err h) some none = tt

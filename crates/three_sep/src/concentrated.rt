@@ -30,15 +30,15 @@ use std::alloc::Global;
 /// The separation of the first good seed of the form: the rows i.
 pub fn first_concentrated(
     alloc: Global,
-    views: &RowsAndColumns<'_>,
+    matrix: &RowsAndColumns<'_>,
 ) -> Result<Option<Three>, Memory>
     ensures first { IfOk result (λ answer.
-        IfSome answer (IsFirstOf views.now (form_number Concentrated ∷ []))) }
+        IfSome answer (IsFirstOf matrix.now (form_number Concentrated ∷ []))) }
     ensures none { IfOk result (λ answer.
-        IfNone answer (HasNoGood views.now (form_number Concentrated ∷ []))) }
+        IfNone answer (HasNoGood matrix.now (form_number Concentrated ∷ []))) }
 {
-    for i in 0..views.rows() {
-        if let Some(three) = first_of_row(alloc, views, i)? {
+    for i in 0..matrix.rows() {
+        if let Some(three) = first_of_row(alloc, matrix, i)? {
             return Ok(Some(three));
         }
     }
@@ -46,17 +46,17 @@ pub fn first_concentrated(
 }
 
 // The columns p.
-fn first_of_row(alloc: Global, views: &RowsAndColumns<'_>, i: u32) -> Result<Option<Three>, Memory>
-    requires row { i < height views.now }
+fn first_of_row(alloc: Global, matrix: &RowsAndColumns<'_>, i: u32) -> Result<Option<Three>, Memory>
+    requires row { i < height matrix.now }
     ensures first { IfOk result (λ answer.
-        IfSome answer (IsFirstOf views.now (form_number Concentrated ∷ i ∷ []))) }
+        IfSome answer (IsFirstOf matrix.now (form_number Concentrated ∷ i ∷ []))) }
     ensures none { IfOk result (λ answer.
-        IfNone answer (HasNoGood views.now (form_number Concentrated ∷ i ∷ []))) }
+        IfNone answer (HasNoGood matrix.now (form_number Concentrated ∷ i ∷ []))) }
 {
-    let mut candidates = candidates_for(alloc, views, i)?;
-    for p in 0..views.columns() {
-        if views.is_nonzero(i, p) {
-            if let Some(three) = first_of_corner(alloc, views, &mut candidates, i, p)? {
+    let mut candidates = candidates_for(alloc, matrix, i)?;
+    for p in 0..matrix.columns() {
+        if matrix.is_nonzero(i, p) {
+            if let Some(three) = first_of_corner(alloc, matrix, &mut candidates, i, p)? {
                 return Ok(Some(three));
             }
         }
@@ -65,13 +65,13 @@ fn first_of_row(alloc: Global, views: &RowsAndColumns<'_>, i: u32) -> Result<Opt
 }
 
 // The columns that may be in side two of a good seed with row i.
-fn candidates_for(alloc: Global, views: &RowsAndColumns<'_>, i: u32) -> Result<Vec<u64>, Memory>
-    requires row { i < height views.now }
-    ensures { IfOk result (λ set. AreCandidates views.now i set.items) }
+fn candidates_for(alloc: Global, matrix: &RowsAndColumns<'_>, i: u32) -> Result<Vec<u64>, Memory>
+    requires row { i < height matrix.now }
+    ensures { IfOk result (λ set. AreCandidates matrix.now i set.items) }
 {
-    let held = held_columns(alloc, views, i)?;
-    let mut candidates = empty_set(alloc, views.columns())?;
-    for j in 0..views.columns() {
+    let held = held_columns(alloc, matrix, i)?;
+    let mut candidates = empty_set(alloc, matrix.columns())?;
+    for j in 0..matrix.columns() {
         if !has_column(&held, j) {
             add_column(&mut candidates, j);
         }
@@ -93,26 +93,26 @@ fn has_candidate(candidates: &[u64]) -> bool
 // The rows k.
 fn first_of_corner(
     alloc: Global,
-    views: &RowsAndColumns<'_>,
+    matrix: &RowsAndColumns<'_>,
     candidates: &mut Vec<u64>,
     i: u32,
     p: u32,
 ) -> Result<Option<Three>, Memory>
-    requires candidates { AreCandidates views.now i candidates.old.items }
-    requires corner { (i < height views.now) × (p < views.now.width) }
-    requires nonzero { entry views.now i p ≢ pos 0 }
-    ensures candidates { OnOk result (AreCandidates views.now i candidates.new.items) }
+    requires candidates { AreCandidates matrix.now i candidates.old.items }
+    requires corner { (i < height matrix.now) × (p < matrix.now.width) }
+    requires nonzero { entry matrix.now i p ≢ pos 0 }
+    ensures candidates { OnOk result (AreCandidates matrix.now i candidates.new.items) }
     ensures first { IfOk result (λ answer.
-        IfSome answer (IsFirstOf views.now (form_number Concentrated ∷ i ∷ p ∷ []))) }
+        IfSome answer (IsFirstOf matrix.now (form_number Concentrated ∷ i ∷ p ∷ []))) }
     ensures none { IfOk result (λ answer.
-        IfNone answer (HasNoGood views.now (form_number Concentrated ∷ i ∷ p ∷ []))) }
+        IfNone answer (HasNoGood matrix.now (form_number Concentrated ∷ i ∷ p ∷ []))) }
 {
-    let _columns = views.columns();
+    let _columns = matrix.columns();
     if !has_candidate(candidates) {
         return Ok(None);
     }
-    for k in 0..views.rows() {
-        if let Some(three) = first_of_second_row(alloc, views, candidates, i, p, k)? {
+    for k in 0..matrix.rows() {
+        if let Some(three) = first_of_second_row(alloc, matrix, candidates, i, p, k)? {
             return Ok(Some(three));
         }
     }
@@ -122,30 +122,30 @@ fn first_of_corner(
 // The columns j.
 fn first_of_second_row(
     alloc: Global,
-    views: &RowsAndColumns<'_>,
+    matrix: &RowsAndColumns<'_>,
     candidates: &mut Vec<u64>,
     i: u32,
     p: u32,
     k: u32,
 ) -> Result<Option<Three>, Memory>
-    requires candidates { AreCandidates views.now i candidates.old.items }
-    requires corner { (i < height views.now) × (p < views.now.width) × (k < height views.now) }
-    requires nonzero { entry views.now i p ≢ pos 0 }
-    ensures candidates { OnOk result (AreCandidates views.now i candidates.new.items) }
+    requires candidates { AreCandidates matrix.now i candidates.old.items }
+    requires corner { (i < height matrix.now) × (p < matrix.now.width) × (k < height matrix.now) }
+    requires nonzero { entry matrix.now i p ≢ pos 0 }
+    ensures candidates { OnOk result (AreCandidates matrix.now i candidates.new.items) }
     ensures first { IfOk result (λ answer.
-        IfSome answer (IsFirstOf views.now (form_number Concentrated ∷ i ∷ p ∷ k ∷ []))) }
+        IfSome answer (IsFirstOf matrix.now (form_number Concentrated ∷ i ∷ p ∷ k ∷ []))) }
     ensures none { IfOk result (λ answer.
-        IfNone answer (HasNoGood views.now (form_number Concentrated ∷ i ∷ p ∷ k ∷ []))) }
+        IfNone answer (HasNoGood matrix.now (form_number Concentrated ∷ i ∷ p ∷ k ∷ []))) }
 {
-    let _columns = views.columns();
-    if !meets(candidates, columns_of(views, k)) {
+    let _columns = matrix.columns();
+    if !meets(candidates, columns_of(matrix, k)) {
         return Ok(None);
     }
-    let columns = second_columns(alloc, views, candidates, k)?;
+    let columns = second_columns(alloc, matrix, candidates, k)?;
     let mut from = 0;
     while let Some(j) = next_column(&columns, from) {
         let corners = Corners { i, p, k, j };
-        if let Some(three) = first_of_corners(alloc, views, candidates, &corners)? {
+        if let Some(three) = first_of_corners(alloc, matrix, candidates, &corners)? {
             return Ok(Some(three));
         }
         from = j + 1;
@@ -156,20 +156,20 @@ fn first_of_second_row(
 // The candidates in which row k is not 0.
 fn second_columns(
     alloc: Global,
-    views: &RowsAndColumns<'_>,
+    matrix: &RowsAndColumns<'_>,
     candidates: &[u64],
     k: u32,
 ) -> Result<Vec<u64>, Memory>
-    requires candidates { length candidates.now ≡ words_for views.now.width }
-    requires row { k < height views.now }
-    ensures size { IfOk result (λ set. length set.items ≡ words_for views.now.width) }
+    requires candidates { length candidates.now ≡ words_for matrix.now.width }
+    requires row { k < height matrix.now }
+    ensures size { IfOk result (λ set. length set.items ≡ words_for matrix.now.width) }
     ensures yes { IfOk result (λ set. (j : ℕ) → has_column set.items j ≡ true
-        → support views.now k j ≡ true) }
+        → support matrix.now k j ≡ true) }
     ensures no { IfOk result (λ set. (j : ℕ) → has_column set.items j ≡ false
-        → (support views.now k j ≡ false) ⊎ (has_column candidates.now j ≡ false)) }
+        → (support matrix.now k j ≡ false) ⊎ (has_column candidates.now j ≡ false)) }
 {
-    let mut columns = empty_set(alloc, views.columns())?;
-    add_common(&mut columns, candidates, columns_of(views, k));
+    let mut columns = empty_set(alloc, matrix.columns())?;
+    add_common(&mut columns, candidates, columns_of(matrix, k));
     Ok(columns)
 }
 
@@ -177,25 +177,25 @@ fn second_columns(
 // two: its side would have the columns of row i and not the rows of column j, and be closed by these connectors too.
 fn first_of_corners(
     alloc: Global,
-    views: &RowsAndColumns<'_>,
+    matrix: &RowsAndColumns<'_>,
     candidates: &mut Vec<u64>,
     corners: &Corners,
 ) -> Result<Option<Three>, Memory>
-    requires candidates { AreCandidates views.now corners.now.i candidates.old.items }
-    requires inside { AreInside views.now corners.now }
-    requires corners { AreConcentratedCorners (entry views.now) corners.now }
-    ensures candidates { OnOk result (AreCandidates views.now corners.now.i
+    requires candidates { AreCandidates matrix.now corners.now.i candidates.old.items }
+    requires inside { AreInside matrix.now corners.now }
+    requires corners { AreConcentratedCorners (entry matrix.now) corners.now }
+    ensures candidates { OnOk result (AreCandidates matrix.now corners.now.i
         candidates.new.items) }
     ensures first { IfOk result (λ answer.
-        IfSome answer (IsFirstOf views.now (corner_front Concentrated corners.now))) }
+        IfSome answer (IsFirstOf matrix.now (corner_front Concentrated corners.now))) }
     ensures none { IfOk result (λ answer.
-        IfNone answer (HasNoGood views.now (corner_front Concentrated corners.now))) }
+        IfNone answer (HasNoGood matrix.now (corner_front Concentrated corners.now))) }
 {
-    let _columns = views.columns();
-    let Some(connectors) = first_connectors(views, corners) else {
+    let _columns = matrix.columns();
+    let Some(connectors) = first_connectors(matrix, corners) else {
         return Ok(None);
     };
-    if let Some(three) = first_of_pair(alloc, views, candidates, &connectors)? {
+    if let Some(three) = first_of_pair(alloc, matrix, candidates, &connectors)? {
         return Ok(Some(three));
     }
     remove_column(candidates, corners.j);
@@ -205,37 +205,37 @@ fn first_of_corners(
 // The lines x, unless column j is seen to be in side one with row i.
 fn first_of_pair(
     alloc: Global,
-    views: &RowsAndColumns<'_>,
+    matrix: &RowsAndColumns<'_>,
     candidates: &[u64],
     connectors: &Connectors,
 ) -> Result<Option<Three>, Memory>
-    requires candidates { AreCandidates views.now connectors.now.first.row candidates.now }
-    requires connectors { IsConnectorPair (height views.now) views.now.width (entry views.now)
+    requires candidates { AreCandidates matrix.now connectors.now.first.row candidates.now }
+    requires connectors { IsConnectorPair (height matrix.now) matrix.now.width (entry matrix.now)
         Concentrated connectors.now.first connectors.now.second }
     ensures first { IfOk result (λ answer.
-        IfSome answer (IsFirstOf views.now (all_front Concentrated connectors.now))) }
-    ensures none { IfOk result (λ answer. IfNone answer (HasNoneBetween views.now
+        IfSome answer (IsFirstOf matrix.now (all_front Concentrated connectors.now))) }
+    ensures none { IfOk result (λ answer. IfNone answer (HasNoneBetween matrix.now
         connectors.now.first.row connectors.now.second.column)) }
 {
-    if is_passed(views, candidates, connectors) {
+    if is_passed(matrix, candidates, connectors) {
         return Ok(None);
     }
-    first_of_connectors(alloc, views, connectors)
+    first_of_connectors(alloc, matrix, connectors)
 }
 
 // The first column q, of those in which row i is not 0, and with it the first row o.
-fn first_connectors(views: &RowsAndColumns<'_>, corners: &Corners) -> Option<Connectors>
-    requires inside { AreInside views.now corners.now }
-    requires corners { AreConcentratedCorners (entry views.now) corners.now }
+fn first_connectors(matrix: &RowsAndColumns<'_>, corners: &Corners) -> Option<Connectors>
+    requires inside { AreInside matrix.now corners.now }
+    requires corners { AreConcentratedCorners (entry matrix.now) corners.now }
     ensures { MatchOption result
-        (HasNoGood views.now (corner_front Concentrated corners.now))
-        (IsFirstPair views.now corners.now) }
+        (HasNoGood matrix.now (corner_front Concentrated corners.now))
+        (IsFirstPair matrix.now corners.now) }
 {
-    let _columns = views.columns();
+    let _columns = matrix.columns();
     let mut from = corners.p + 1;
-    while let Some(q) = next_nonzero(views, corners.i, from) {
-        if is_right_column(views, corners, q) {
-            if let Some(o) = first_other_row(views, corners, q) {
+    while let Some(q) = next_nonzero(matrix, corners.i, from) {
+        if is_right_column(matrix, corners, q) {
+            if let Some(o) = first_other_row(matrix, corners, q) {
                 return Some(Connectors::at(corners, q, o));
             }
         }
@@ -245,17 +245,17 @@ fn first_connectors(views: &RowsAndColumns<'_>, corners: &Corners) -> Option<Con
 }
 
 // The first row o.
-fn first_other_row(views: &RowsAndColumns<'_>, corners: &Corners, q: u32) -> Option<u32>
-    requires inside { AreInside views.now corners.now }
-    requires column { q < views.now.width }
+fn first_other_row(matrix: &RowsAndColumns<'_>, corners: &Corners, q: u32) -> Option<u32>
+    requires inside { AreInside matrix.now corners.now }
+    requires column { q < matrix.now.width }
     ensures { MatchOption result
-        (HasNoGood views.now (corner_front Concentrated corners.now ++ q ∷ []))
-        (IsFirstRow views.now corners.now q) }
+        (HasNoGood matrix.now (corner_front Concentrated corners.now ++ q ∷ []))
+        (IsFirstRow matrix.now corners.now q) }
 {
-    let _rows = views.rows();
+    let _rows = matrix.rows();
     let mut from = corners.k + 1;
-    while let Some(o) = views.by_columns().next_nonzero(corners.j, from) {
-        if has_sign(views, corners, q, o) {
+    while let Some(o) = matrix.by_columns().next_nonzero(corners.j, from) {
+        if has_sign(matrix, corners, q, o) {
             return Some(o);
         }
         from = o + 1;
@@ -266,35 +266,35 @@ fn first_other_row(views: &RowsAndColumns<'_>, corners: &Corners, q: u32) -> Opt
 // The lines x.
 fn first_of_connectors(
     alloc: Global,
-    views: &RowsAndColumns<'_>,
+    matrix: &RowsAndColumns<'_>,
     connectors: &Connectors,
 ) -> Result<Option<Three>, Memory>
-    requires { IsConnectorPair (height views.now) views.now.width (entry views.now) Concentrated
+    requires { IsConnectorPair (height matrix.now) matrix.now.width (entry matrix.now) Concentrated
         connectors.now.first connectors.now.second }
     ensures first { IfOk result (λ answer.
-        IfSome answer (IsFirstOf views.now (all_front Concentrated connectors.now))) }
+        IfSome answer (IsFirstOf matrix.now (all_front Concentrated connectors.now))) }
     ensures none { IfOk result (λ answer.
-        IfNone answer (HasNoGood views.now (all_front Concentrated connectors.now))) }
+        IfNone answer (HasNoGood matrix.now (all_front Concentrated connectors.now))) }
 {
-    let rule = connectors.spread_rule(views);
+    let rule = connectors.spread_rule(matrix);
     let Connector { row, column, other } = connectors.first;
     let first = [Line::Row(row), Line::Column(column), Line::Column(other)];
     let Connector { row, column, other } = connectors.second;
     let second = [Line::Row(row), Line::Column(column), Line::Row(other)];
-    let mut side = GrowingSet::new(alloc, views)?;
-    let mut other = GrowingSet::new(alloc, views)?;
-    if !leaves(views, &mut side, rule, &first, &second)? {
+    let mut side = GrowingSet::new(alloc, matrix)?;
+    let mut other = GrowingSet::new(alloc, matrix)?;
+    if !leaves(matrix, &mut side, rule, &first, &second)? {
         return Ok(None);
     }
-    if !leaves(views, &mut other, rule.exchanged(), &second, &first)? {
+    if !leaves(matrix, &mut other, rule.exchanged(), &second, &first)? {
         return Ok(None);
     }
-    if !may_part(views, &mut other, rule, &first, &second)? {
+    if !may_part(matrix, &mut other, rule, &first, &second)? {
         return Ok(None);
     }
     first_of_lines(
         alloc,
-        views,
+        matrix,
         &side,
         &mut other,
         Form::Concentrated,
@@ -304,42 +304,42 @@ fn first_of_connectors(
 }
 
 // The first column from one on in which a row is not 0.
-fn next_nonzero(views: &RowsAndColumns<'_>, row: u32, from: u32) -> Option<u32>
-    requires row { row < height views.now }
+fn next_nonzero(matrix: &RowsAndColumns<'_>, row: u32, from: u32) -> Option<u32>
+    requires row { row < height matrix.now }
     requires from { from ≤ MAX_COLUMNS }
     ensures first { MatchOption result
-        ((column : ℕ) → from ≤ column → support views.now row column ≡ false)
+        ((column : ℕ) → from ≤ column → support matrix.now row column ≡ false)
         (λ next. (from ≤ next)
-        × (next < views.now.width)
-        × ((column : ℕ) → from ≤ column → column < next → support views.now row column ≡ false)) }
+        × (next < matrix.now.width)
+        × ((column : ℕ) → from ≤ column → column < next → support matrix.now row column ≡ false)) }
     ensures small { IfSome result (λ next. next < MAX_COLUMNS) }
 {
-    views.by_rows().next_nonzero(row, from)
+    matrix.by_rows().next_nonzero(row, from)
 }
 
 // Whether q is right of p, row i not 0 there, and row k not 0 in both columns.
-fn is_right_column(views: &RowsAndColumns<'_>, corners: &Corners, q: u32) -> bool
-    requires inside { AreInside views.now corners.now }
-    requires column { q < views.now.width }
-    ensures yes { result ≡ true → IsOtherColumn (entry views.now) corners.now q }
-    ensures no { result ≡ false → IsNoOtherColumn (entry views.now) corners.now q }
+fn is_right_column(matrix: &RowsAndColumns<'_>, corners: &Corners, q: u32) -> bool
+    requires inside { AreInside matrix.now corners.now }
+    requires column { q < matrix.now.width }
+    ensures yes { result ≡ true → IsOtherColumn (entry matrix.now) corners.now q }
+    ensures no { result ≡ false → IsNoOtherColumn (entry matrix.now) corners.now q }
 {
-    if q <= corners.p || !views.is_nonzero(corners.i, q) {
+    if q <= corners.p || !matrix.is_nonzero(corners.i, q) {
         return false;
     }
-    views.is_nonzero(corners.k, corners.p) || views.is_nonzero(corners.k, q)
+    matrix.is_nonzero(corners.k, corners.p) || matrix.is_nonzero(corners.k, q)
 }
 
 // Whether the determinant of the four entries where rows k and o cross columns p and q is 1 or -1.
-fn has_sign(views: &RowsAndColumns<'_>, corners: &Corners, q: u32, o: u32) -> bool
-    requires inside { AreInside views.now corners.now }
-    requires column { q < views.now.width }
-    requires row { o < height views.now }
+fn has_sign(matrix: &RowsAndColumns<'_>, corners: &Corners, q: u32, o: u32) -> bool
+    requires inside { AreInside matrix.now corners.now }
+    requires column { q < matrix.now.width }
+    requires row { o < height matrix.now }
     ensures { IsTrue result
-        ↔ IsSign (core_determinant (entry views.now) (first_at corners.now q)
+        ↔ IsSign (core_determinant (entry matrix.now) (first_at corners.now q)
         (second_at corners.now o)) }
 {
-    let core = Core::at(views.by_rows(), corners.k, o, corners.p, q);
+    let core = Core::at(matrix.by_rows(), corners.k, o, corners.p, q);
     is_sign(core.determinant())
 }
 

@@ -37,15 +37,15 @@ impl Connectors {
     }
 
     /// The rule of the concentrated form: nothing above, and below what the columns p and q and the rows k and o make.
-    pub fn spread_rule(&self, views: &RowsAndColumns<'_>) -> Rule
-        requires { ArePlaced views.now self.now }
-        ensures rule { IsRuleOf views.now result }
-        ensures upper { upper_of views.now result ≡ zeros }
-        ensures lower { lower_of views.now result
-            ≡ spread_at (entry views.now) self.now.first self.now.second }
+    pub fn spread_rule(&self, matrix: &RowsAndColumns<'_>) -> Rule
+        requires { ArePlaced matrix.now self.now }
+        ensures rule { IsRuleOf matrix.now result }
+        ensures upper { upper_of matrix.now result ≡ zeros }
+        ensures lower { lower_of matrix.now result
+            ≡ spread_at (entry matrix.now) self.now.first self.now.second }
     {
         let Connectors { first, second } = *self;
-        let lines = SpreadLines::at(views, second.row, second.other, first.column, first.other);
+        let lines = SpreadLines::at(matrix, second.row, second.other, first.column, first.other);
         Rule {
             upper: Block::Zero,
             lower: Block::Spread(lines),

@@ -12,17 +12,17 @@ use std::alloc::Global;
 
 /// Columns that are in side one of each good seed of the form with row i: those in which row i is not 0, and each column
 /// three rows of which are independent in the columns that are known so far, until none is added.
-pub fn held_columns(alloc: Global, views: &RowsAndColumns<'_>, i: u32) -> Result<Vec<u64>, Memory>
-    requires row { i < height views.now }
-    ensures size { IfOk result (λ set. length set.items ≡ words_for views.now.width) }
-    ensures held { IfOk result (λ set. AreHeldBy views.now i (has_column set.items)) }
+pub fn held_columns(alloc: Global, matrix: &RowsAndColumns<'_>, i: u32) -> Result<Vec<u64>, Memory>
+    requires row { i < height matrix.now }
+    ensures size { IfOk result (λ set. length set.items ≡ words_for matrix.now.width) }
+    ensures held { IfOk result (λ set. AreHeldBy matrix.now i (has_column set.items)) }
 {
-    let mut held = empty_set(alloc, views.columns())?;
-    add_set(&mut held, columns_of(views, i));
-    let mut left = empty_set(alloc, views.columns())?;
-    let mut last = empty_set(alloc, views.columns())?;
-    for _round in 0..views.columns() {
-        if !add_forced(views, &mut held, &mut left, &mut last) {
+    let mut held = empty_set(alloc, matrix.columns())?;
+    add_set(&mut held, columns_of(matrix, i));
+    let mut left = empty_set(alloc, matrix.columns())?;
+    let mut last = empty_set(alloc, matrix.columns())?;
+    for _round in 0..matrix.columns() {
+        if !add_forced(matrix, &mut held, &mut left, &mut last) {
             return Ok(held);
         }
     }
@@ -31,23 +31,23 @@ pub fn held_columns(alloc: Global, views: &RowsAndColumns<'_>, i: u32) -> Result
 
 // Adds each column three rows of which are independent in the columns that are known, and says whether there is one.
 fn add_forced(
-    views: &RowsAndColumns<'_>,
+    matrix: &RowsAndColumns<'_>,
     held: &mut Vec<u64>,
     left: &mut Vec<u64>,
     last: &mut Vec<u64>,
 ) -> bool
-    requires held { length held.old.items ≡ words_for views.now.width }
-    requires left { length left.old.items ≡ words_for views.now.width }
-    requires last { length last.old.items ≡ words_for views.now.width }
-    ensures held { length held.new.items ≡ words_for views.now.width }
-    ensures left { length left.new.items ≡ words_for views.now.width }
-    ensures last { length last.new.items ≡ words_for views.now.width }
-    ensures more { (i : ℕ) → AreHeldBy views.now i (has_column held.old.items)
-        → AreHeldBy views.now i (has_column held.new.items) }
+    requires held { length held.old.items ≡ words_for matrix.now.width }
+    requires left { length left.old.items ≡ words_for matrix.now.width }
+    requires last { length last.old.items ≡ words_for matrix.now.width }
+    ensures held { length held.new.items ≡ words_for matrix.now.width }
+    ensures left { length left.new.items ≡ words_for matrix.now.width }
+    ensures last { length last.new.items ≡ words_for matrix.now.width }
+    ensures more { (i : ℕ) → AreHeldBy matrix.now i (has_column held.old.items)
+        → AreHeldBy matrix.now i (has_column held.new.items) }
 {
     let mut grows = false;
-    for j in 0..views.columns() {
-        if !has_column(held, j) && are_three_independent(views, held, j, left, last) {
+    for j in 0..matrix.columns() {
+        if !has_column(held, j) && are_three_independent(matrix, held, j, left, last) {
             add_column(held, j);
             grows = true;
         }

@@ -14,45 +14,45 @@ use cmr_base::{MAX_ROWS, RowsAndColumns};
 /// rows, and two rows would make all three. The rows are taken as they come, so that most columns are settled by three
 /// rows. `left` and `last` are room for columns.
 pub fn are_three_independent(
-    views: &RowsAndColumns<'_>,
+    matrix: &RowsAndColumns<'_>,
     set: &[u64],
     j: u32,
     left: &mut Vec<u64>,
     last: &mut Vec<u64>,
 ) -> bool
-    requires column { j < views.now.width }
-    requires set { length set.now ≡ words_for views.now.width }
-    requires left { length left.old.items ≡ words_for views.now.width }
-    requires last { length last.old.items ≡ words_for views.now.width }
-    ensures left { length left.new.items ≡ words_for views.now.width }
-    ensures last { length last.new.items ≡ words_for views.now.width }
-    ensures independent { result ≡ true → AreIndependent views.now (has_column set.now) j }
+    requires column { j < matrix.now.width }
+    requires set { length set.now ≡ words_for matrix.now.width }
+    requires left { length left.old.items ≡ words_for matrix.now.width }
+    requires last { length last.old.items ≡ words_for matrix.now.width }
+    ensures left { length left.new.items ≡ words_for matrix.now.width }
+    ensures last { length last.new.items ≡ words_for matrix.now.width }
+    ensures independent { result ≡ true → AreIndependent matrix.now (has_column set.now) j }
 {
-    let Some(one) = new_row(views, set, j, 0) else {
+    let Some(one) = new_row(matrix, set, j, 0) else {
         return false;
     };
-    put_outside(left, set, columns_of(views, one));
-    let Some(two) = new_row(views, left, j, one + 1) else {
+    put_outside(left, set, columns_of(matrix, one));
+    let Some(two) = new_row(matrix, left, j, one + 1) else {
         return false;
     };
-    put_outside(last, left, columns_of(views, two));
-    match new_row(views, last, j, two + 1) {
+    put_outside(last, left, columns_of(matrix, two));
+    match new_row(matrix, last, j, two + 1) {
         Some(_three) => true,
         None => false,
     }
 }
 
 // The first row from one on that is not 0 in column j and in some column of a set.
-fn new_row(views: &RowsAndColumns<'_>, set: &[u64], j: u32, from: u32) -> Option<u32>
-    requires column { j < views.now.width }
-    requires set { length set.now ≡ words_for views.now.width }
+fn new_row(matrix: &RowsAndColumns<'_>, set: &[u64], j: u32, from: u32) -> Option<u32>
+    requires column { j < matrix.now.width }
+    requires set { length set.now ≡ words_for matrix.now.width }
     requires from { from ≤ MAX_ROWS }
-    ensures new { MatchOption result (Unit {0}) (IsNewRow views.now j (has_column set.now)) }
+    ensures new { MatchOption result (Unit {0}) (IsNewRow matrix.now j (has_column set.now)) }
     ensures small { IfSome result (λ row. row < MAX_ROWS) }
 {
     let mut next = from;
-    while let Some(row) = views.by_columns().next_nonzero(j, next) {
-        if meets(set, columns_of(views, row)) {
+    while let Some(row) = matrix.by_columns().next_nonzero(j, next) {
+        if meets(set, columns_of(matrix, row)) {
             return Some(row);
         }
         next = row + 1;
@@ -61,12 +61,12 @@ fn new_row(views: &RowsAndColumns<'_>, set: &[u64], j: u32, from: u32) -> Option
 }
 
 /// The columns in which a row is not 0.
-pub fn columns_of<'b>(views: &'b RowsAndColumns<'_>, row: u32) -> &'b [u64]
-    requires { row < height views.now }
-    ensures size { length result.now ≡ words_for views.now.width }
-    ensures columns { (column : ℕ) → has_column result.now column ≡ support views.now row column }
+pub fn columns_of<'b>(matrix: &'b RowsAndColumns<'_>, row: u32) -> &'b [u64]
+    requires { row < height matrix.now }
+    ensures size { length result.now ≡ words_for matrix.now.width }
+    ensures columns { (column : ℕ) → has_column result.now column ≡ support matrix.now row column }
 {
-    views.by_rows().support_words(row)
+    matrix.by_rows().support_words(row)
 }
 
 // Makes a set of the columns that are in one set and not in another.

@@ -13,11 +13,15 @@ use cmr_base::{Connector, Form, Line, RowsAndColumns};
 use cuts::{Corners, Groups};
 
 /// How many columns, or rows.
-pub fn count_of(views: &RowsAndColumns<'_>, flat: bool) -> u32
-    ensures count { result ≡ line_count views.now flat }
-    ensures shape { IsMatrix views.now }
+pub fn count_of(matrix: &RowsAndColumns<'_>, flat: bool) -> u32
+    ensures count { result ≡ line_count matrix.now flat }
+    ensures shape { IsMatrix matrix.now }
 {
-    if flat { views.columns() } else { views.rows() }
+    if flat {
+        matrix.columns()
+    } else {
+        matrix.rows()
+    }
 }
 
 /// The column, or row, of a number.
@@ -44,130 +48,130 @@ pub fn connector_lines(connector: Connector, flat: bool) -> [Line; 3]
 }
 
 /// Whether q can be the first connector's other line.
-pub fn is_first_other(views: &RowsAndColumns<'_>, form: Form, corners: &Corners, q: u32) -> bool
-    requires inside { AreInside views.now corners.now }
-    requires line { IsLine (height views.now) views.now.width (other_line (first_is_flat form) q) }
+pub fn is_first_other(matrix: &RowsAndColumns<'_>, form: Form, corners: &Corners, q: u32) -> bool
+    requires inside { AreInside matrix.now corners.now }
+    requires line { IsLine (height matrix.now) matrix.now.width (other_line (first_is_flat form) q) }
     ensures yes { result ≡ true
-        → IsTied (entry views.now) (first_is_flat form) (first_at corners.now q)
+        → IsTied (entry matrix.now) (first_is_flat form) (first_at corners.now q)
         corners.now.k corners.now.j }
     ensures no { result ≡ false
-        → ¬ (IsTied (entry views.now) (first_is_flat form) (first_at corners.now q)
+        → ¬ (IsTied (entry matrix.now) (first_is_flat form) (first_at corners.now q)
         corners.now.k corners.now.j) }
 {
     if form.first_is_flat() {
-        is_flat_other(views, corners.i, corners.k, q)
+        is_flat_other(matrix, corners.i, corners.k, q)
     } else {
-        is_tall_other(views, corners.p, corners.j, q)
+        is_tall_other(matrix, corners.p, corners.j, q)
     }
 }
 
 /// Whether o can be the second connector's other line.
-pub fn is_second_other(views: &RowsAndColumns<'_>, form: Form, corners: &Corners, o: u32) -> bool
-    requires inside { AreInside views.now corners.now }
-    requires line { IsLine (height views.now) views.now.width (other_line (second_is_flat form) o) }
+pub fn is_second_other(matrix: &RowsAndColumns<'_>, form: Form, corners: &Corners, o: u32) -> bool
+    requires inside { AreInside matrix.now corners.now }
+    requires line { IsLine (height matrix.now) matrix.now.width (other_line (second_is_flat form) o) }
     ensures yes { result ≡ true
-        → IsTied (entry views.now) (second_is_flat form) (second_at corners.now o)
+        → IsTied (entry matrix.now) (second_is_flat form) (second_at corners.now o)
         corners.now.i corners.now.p }
     ensures no { result ≡ false
-        → ¬ (IsTied (entry views.now) (second_is_flat form) (second_at corners.now o)
+        → ¬ (IsTied (entry matrix.now) (second_is_flat form) (second_at corners.now o)
         corners.now.i corners.now.p) }
 {
     if form.second_is_flat() {
-        is_flat_other(views, corners.k, corners.i, o)
+        is_flat_other(matrix, corners.k, corners.i, o)
     } else {
-        is_tall_other(views, corners.j, corners.p, o)
+        is_tall_other(matrix, corners.j, corners.p, o)
     }
 }
 
 // Whether a column is 0 in one row and not in another.
-fn is_flat_other(views: &RowsAndColumns<'_>, own: u32, across: u32, other: u32) -> bool
-    requires own { own < height views.now }
-    requires across { across < height views.now }
-    requires other { other < views.now.width }
+fn is_flat_other(matrix: &RowsAndColumns<'_>, own: u32, across: u32, other: u32) -> bool
+    requires own { own < height matrix.now }
+    requires across { across < height matrix.now }
+    requires other { other < matrix.now.width }
     ensures yes { result ≡ true
-        → (entry views.now own other ≡ pos 0) × (entry views.now across other ≢ pos 0) }
+        → (entry matrix.now own other ≡ pos 0) × (entry matrix.now across other ≢ pos 0) }
     ensures no { result ≡ false
-        → ¬ ((entry views.now own other ≡ pos 0) × (entry views.now across other ≢ pos 0)) }
+        → ¬ ((entry matrix.now own other ≡ pos 0) × (entry matrix.now across other ≢ pos 0)) }
 {
-    if views.is_nonzero(own, other) {
+    if matrix.is_nonzero(own, other) {
         return false;
     }
-    views.is_nonzero(across, other)
+    matrix.is_nonzero(across, other)
 }
 
 // Whether a row is 0 in one column and not in another.
-fn is_tall_other(views: &RowsAndColumns<'_>, own: u32, across: u32, other: u32) -> bool
-    requires own { own < views.now.width }
-    requires across { across < views.now.width }
-    requires other { other < height views.now }
+fn is_tall_other(matrix: &RowsAndColumns<'_>, own: u32, across: u32, other: u32) -> bool
+    requires own { own < matrix.now.width }
+    requires across { across < matrix.now.width }
+    requires other { other < height matrix.now }
     ensures yes { result ≡ true
-        → (entry views.now other own ≡ pos 0) × (entry views.now other across ≢ pos 0) }
+        → (entry matrix.now other own ≡ pos 0) × (entry matrix.now other across ≢ pos 0) }
     ensures no { result ≡ false
-        → ¬ ((entry views.now other own ≡ pos 0) × (entry views.now other across ≢ pos 0)) }
+        → ¬ ((entry matrix.now other own ≡ pos 0) × (entry matrix.now other across ≢ pos 0)) }
 {
-    if views.is_nonzero(other, own) {
+    if matrix.is_nonzero(other, own) {
         return false;
     }
-    views.is_nonzero(other, across)
+    matrix.is_nonzero(other, across)
 }
 
 /// Whether the flat connectors of the form may have other lines beside rows i and k.
 pub fn may_have_columns(
-    views: &RowsAndColumns<'_>,
+    matrix: &RowsAndColumns<'_>,
     groups: &Groups,
     form: Form,
     i: u32,
     k: u32,
 ) -> bool
-    requires names { HasNames views.now groups.now }
-    requires row { i < height views.now }
-    requires second_row { k < height views.now }
-    ensures { result ≡ false → LacksColumn views.now groups.now form i k }
+    requires names { HasNames matrix.now groups.now }
+    requires row { i < height matrix.now }
+    requires second_row { k < height matrix.now }
+    ensures { result ≡ false → LacksColumn matrix.now groups.now form i k }
 {
     if form.first_is_flat() {
-        if !has_column(views, groups, i, k) {
+        if !has_column(matrix, groups, i, k) {
             return false;
         }
     }
     if form.second_is_flat() {
-        return has_column(views, groups, k, i);
+        return has_column(matrix, groups, k, i);
     }
     true
 }
 
 /// Whether the tall connectors of the form may have other lines beside columns p and j.
 pub fn may_have_rows(
-    views: &RowsAndColumns<'_>,
+    matrix: &RowsAndColumns<'_>,
     groups: &Groups,
     form: Form,
     p: u32,
     j: u32,
 ) -> bool
-    requires names { HasNames views.now groups.now }
-    requires column { p < views.now.width }
-    requires second_column { j < views.now.width }
-    ensures { result ≡ false → LacksRow views.now groups.now form p j }
+    requires names { HasNames matrix.now groups.now }
+    requires column { p < matrix.now.width }
+    requires second_column { j < matrix.now.width }
+    ensures { result ≡ false → LacksRow matrix.now groups.now form p j }
 {
     if !form.first_is_flat() {
-        if !has_row(views, groups, p, j) {
+        if !has_row(matrix, groups, p, j) {
             return false;
         }
     }
     if !form.second_is_flat() {
-        return has_row(views, groups, j, p);
+        return has_row(matrix, groups, j, p);
     }
     true
 }
 
 // Whether a column is 0 in one row and not in another, and apart from the group of that one.
-fn has_column(views: &RowsAndColumns<'_>, groups: &Groups, own: u32, across: u32) -> bool
-    requires names { HasNames views.now groups.now }
-    requires own { own < height views.now }
-    requires across { across < height views.now }
-    ensures { result ≡ false → HasNoColumn views.now groups.now own across }
+fn has_column(matrix: &RowsAndColumns<'_>, groups: &Groups, own: u32, across: u32) -> bool
+    requires names { HasNames matrix.now groups.now }
+    requires own { own < height matrix.now }
+    requires across { across < height matrix.now }
+    ensures { result ≡ false → HasNoColumn matrix.now groups.now own across }
 {
-    for column in 0..views.columns() {
-        if is_column_apart(views, groups, own, across, column) {
+    for column in 0..matrix.columns() {
+        if is_column_apart(matrix, groups, own, across, column) {
             return true;
         }
     }
@@ -176,35 +180,35 @@ fn has_column(views: &RowsAndColumns<'_>, groups: &Groups, own: u32, across: u32
 
 // Whether this column is.
 fn is_column_apart(
-    views: &RowsAndColumns<'_>,
+    matrix: &RowsAndColumns<'_>,
     groups: &Groups,
     own: u32,
     across: u32,
     column: u32,
 ) -> bool
-    requires names { HasNames views.now groups.now }
-    requires own { own < height views.now }
-    requires across { across < height views.now }
-    requires column { column < views.now.width }
-    ensures { result ≡ false → entry views.now own column ≡ pos 0
-        → entry views.now across column ≢ pos 0
-        → name_of views.now groups.now (Column column) ≡ name_of views.now groups.now (Row across) }
+    requires names { HasNames matrix.now groups.now }
+    requires own { own < height matrix.now }
+    requires across { across < height matrix.now }
+    requires column { column < matrix.now.width }
+    ensures { result ≡ false → entry matrix.now own column ≡ pos 0
+        → entry matrix.now across column ≢ pos 0
+        → name_of matrix.now groups.now (Column column) ≡ name_of matrix.now groups.now (Row across) }
 {
-    if !is_flat_other(views, own, across, column) {
+    if !is_flat_other(matrix, own, across, column) {
         return false;
     }
-    !groups.are_one(views.rows() + column, across)
+    !groups.are_one(matrix.rows() + column, across)
 }
 
 // Whether a row is 0 in one column and not in another, and apart from the group of that one.
-fn has_row(views: &RowsAndColumns<'_>, groups: &Groups, own: u32, across: u32) -> bool
-    requires names { HasNames views.now groups.now }
-    requires own { own < views.now.width }
-    requires across { across < views.now.width }
-    ensures { result ≡ false → HasNoRow views.now groups.now own across }
+fn has_row(matrix: &RowsAndColumns<'_>, groups: &Groups, own: u32, across: u32) -> bool
+    requires names { HasNames matrix.now groups.now }
+    requires own { own < matrix.now.width }
+    requires across { across < matrix.now.width }
+    ensures { result ≡ false → HasNoRow matrix.now groups.now own across }
 {
-    for row in 0..views.rows() {
-        if is_row_apart(views, groups, own, across, row) {
+    for row in 0..matrix.rows() {
+        if is_row_apart(matrix, groups, own, across, row) {
             return true;
         }
     }
@@ -213,24 +217,24 @@ fn has_row(views: &RowsAndColumns<'_>, groups: &Groups, own: u32, across: u32) -
 
 // Whether this row is.
 fn is_row_apart(
-    views: &RowsAndColumns<'_>,
+    matrix: &RowsAndColumns<'_>,
     groups: &Groups,
     own: u32,
     across: u32,
     row: u32,
 ) -> bool
-    requires names { HasNames views.now groups.now }
-    requires own { own < views.now.width }
-    requires across { across < views.now.width }
-    requires row { row < height views.now }
-    ensures { result ≡ false → entry views.now row own ≡ pos 0
-        → entry views.now row across ≢ pos 0
-        → name_of views.now groups.now (Row row) ≡ name_of views.now groups.now (Column across) }
+    requires names { HasNames matrix.now groups.now }
+    requires own { own < matrix.now.width }
+    requires across { across < matrix.now.width }
+    requires row { row < height matrix.now }
+    ensures { result ≡ false → entry matrix.now row own ≡ pos 0
+        → entry matrix.now row across ≢ pos 0
+        → name_of matrix.now groups.now (Row row) ≡ name_of matrix.now groups.now (Column across) }
 {
-    if !is_tall_other(views, own, across, row) {
+    if !is_tall_other(matrix, own, across, row) {
         return false;
     }
-    !groups.are_one(row, views.rows() + across)
+    !groups.are_one(row, matrix.rows() + across)
 }
 
 /// Whether a line is in neither connector.

@@ -14,20 +14,20 @@ use line_growth::Rule;
 
 /// Whether column j is shown to be in side one with row i, by two connectors that have these: a row that is not 0 in it pulls a
 /// column into side two that is no candidate.
-pub fn is_passed(views: &RowsAndColumns<'_>, candidates: &[u64], connectors: &Connectors) -> bool
-    requires candidates { AreCandidates views.now connectors.now.first.row candidates.now }
-    requires connectors { IsConnectorPair (height views.now) views.now.width (entry views.now)
+pub fn is_passed(matrix: &RowsAndColumns<'_>, candidates: &[u64], connectors: &Connectors) -> bool
+    requires candidates { AreCandidates matrix.now connectors.now.first.row candidates.now }
+    requires connectors { IsConnectorPair (height matrix.now) matrix.now.width (entry matrix.now)
         Concentrated connectors.now.first connectors.now.second }
-    ensures { result ≡ true → HasNoneBetween views.now connectors.now.first.row
+    ensures { result ≡ true → HasNoneBetween matrix.now connectors.now.first.row
         connectors.now.second.column }
 {
-    let rule = connectors.spread_rule(views);
+    let rule = connectors.spread_rule(matrix);
     let mut from = 0;
-    while let Some(row) = views
+    while let Some(row) = matrix
         .by_columns()
         .next_nonzero(connectors.second.column, from)
     {
-        if pulls_other(views, rule, candidates, row) {
+        if pulls_other(matrix, rule, candidates, row) {
             return true;
         }
         from = row + 1;
@@ -36,16 +36,16 @@ pub fn is_passed(views: &RowsAndColumns<'_>, candidates: &[u64], connectors: &Co
 }
 
 // Whether a row pulls in a column in which it is not 0, and which is no candidate.
-fn pulls_other(views: &RowsAndColumns<'_>, rule: Rule, candidates: &[u64], row: u32) -> bool
-    requires rule { IsRuleOf views.now rule }
-    requires candidates { length candidates.now ≡ words_for views.now.width }
-    requires row { row < height views.now }
-    ensures { result ≡ true → IsPulled views.now rule candidates.now row }
+fn pulls_other(matrix: &RowsAndColumns<'_>, rule: Rule, candidates: &[u64], row: u32) -> bool
+    requires rule { IsRuleOf matrix.now rule }
+    requires candidates { length candidates.now ≡ words_for matrix.now.width }
+    requires row { row < height matrix.now }
+    ensures { result ≡ true → IsPulled matrix.now rule candidates.now row }
 {
-    let sum = rule.lower.row(views, row);
+    let sum = rule.lower.row(matrix, row);
     let mut from = 0;
-    while let Some(column) = views.by_rows().next_nonzero(row, from) {
-        if !has_column(candidates, column) && !sum.is_at(views.by_rows(), row, column) {
+    while let Some(column) = matrix.by_rows().next_nonzero(row, from) {
+        if !has_column(candidates, column) && !sum.is_at(matrix.by_rows(), row, column) {
             return true;
         }
         from = column + 1;

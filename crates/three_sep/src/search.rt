@@ -65,66 +65,66 @@ pub struct Search {
 
 impl Search {
     /// A search with each line as a group.
-    pub fn new(alloc: Global, views: &RowsAndColumns<'_>) -> Result<Search, Memory>
-        ensures { IfOk result (IsSearchOf views.now) }
+    pub fn new(alloc: Global, matrix: &RowsAndColumns<'_>) -> Result<Search, Memory>
+        ensures { IfOk result (IsSearchOf matrix.now) }
     {
         Ok(Search {
-            side: GrowingSet::new(alloc, views)?,
-            grown: GrowingSet::new(alloc, views)?,
-            groups: Groups::new(alloc, views)?,
+            side: GrowingSet::new(alloc, matrix)?,
+            grown: GrowingSet::new(alloc, matrix)?,
+            groups: Groups::new(alloc, matrix)?,
             tries: 0,
             asked: false,
         })
     }
 
     // Looks for groups where it is time.
-    fn ask(&mut self, alloc: Global, views: &RowsAndColumns<'_>) -> Result<(), Memory>
-        requires search { IsSearchOf views.now self.old }
-        ensures search { OnOk result (IsSearchOf views.now self.new) }
+    fn ask(&mut self, alloc: Global, matrix: &RowsAndColumns<'_>) -> Result<(), Memory>
+        requires search { IsSearchOf matrix.now self.old }
+        ensures search { OnOk result (IsSearchOf matrix.now self.new) }
     {
         if self.asked || self.tries < EARLY {
             return Ok(());
         }
-        self.groups = groups_of(alloc, views)?;
+        self.groups = groups_of(alloc, matrix)?;
         self.asked = true;
         Ok(())
     }
 
     // The forms in their order.
-    fn first(&mut self, alloc: Global, views: &RowsAndColumns<'_>) -> Result<Option<Three>, Memory>
-        requires search { IsSearchOf views.now self.old }
-        ensures first { IfOk result (λ answer. IfSome answer (IsFirstOf views.now [])) }
-        ensures none { IfOk result (λ answer. IfNone answer (HasNoGood views.now [])) }
+    fn first(&mut self, alloc: Global, matrix: &RowsAndColumns<'_>) -> Result<Option<Three>, Memory>
+        requires search { IsSearchOf matrix.now self.old }
+        ensures first { IfOk result (λ answer. IfSome answer (IsFirstOf matrix.now [])) }
+        ensures none { IfOk result (λ answer. IfNone answer (HasNoGood matrix.now [])) }
     {
-        if let Some(three) = self.first_of_form(alloc, views, Form::Delta)? {
+        if let Some(three) = self.first_of_form(alloc, matrix, Form::Delta)? {
             return Ok(Some(three));
         }
-        if let Some(three) = self.first_of_form(alloc, views, Form::YForm)? {
+        if let Some(three) = self.first_of_form(alloc, matrix, Form::YForm)? {
             return Ok(Some(three));
         }
-        if let Some(three) = self.first_of_form(alloc, views, Form::Mixed)? {
+        if let Some(three) = self.first_of_form(alloc, matrix, Form::Mixed)? {
             return Ok(Some(three));
         }
-        first_concentrated(alloc, views)
+        first_concentrated(alloc, matrix)
     }
 
     // The rows i.
     fn first_of_form(
         &mut self,
         alloc: Global,
-        views: &RowsAndColumns<'_>,
+        matrix: &RowsAndColumns<'_>,
         form: Form,
     ) -> Result<Option<Three>, Memory>
         requires crossing { IsCrossing form }
-        requires search { IsSearchOf views.now self.old }
-        ensures search { OnOk result (IsSearchOf views.now self.new) }
+        requires search { IsSearchOf matrix.now self.old }
+        ensures search { OnOk result (IsSearchOf matrix.now self.new) }
         ensures first { IfOk result (λ answer.
-            IfSome answer (IsFirstOf views.now (form_number form ∷ []))) }
+            IfSome answer (IsFirstOf matrix.now (form_number form ∷ []))) }
         ensures none { IfOk result (λ answer.
-            IfNone answer (HasNoGood views.now (form_number form ∷ []))) }
+            IfNone answer (HasNoGood matrix.now (form_number form ∷ []))) }
     {
-        for i in 0..views.rows() {
-            if let Some(three) = self.first_of_row(alloc, views, form, i)? {
+        for i in 0..matrix.rows() {
+            if let Some(three) = self.first_of_row(alloc, matrix, form, i)? {
                 return Ok(Some(three));
             }
         }
@@ -135,25 +135,25 @@ impl Search {
     fn first_of_row(
         &mut self,
         alloc: Global,
-        views: &RowsAndColumns<'_>,
+        matrix: &RowsAndColumns<'_>,
         form: Form,
         i: u32,
     ) -> Result<Option<Three>, Memory>
         requires crossing { IsCrossing form }
-        requires search { IsSearchOf views.now self.old }
-        requires row { i < height views.now }
-        ensures search { OnOk result (IsSearchOf views.now self.new) }
+        requires search { IsSearchOf matrix.now self.old }
+        requires row { i < height matrix.now }
+        ensures search { OnOk result (IsSearchOf matrix.now self.new) }
         ensures first { IfOk result (λ answer.
-            IfSome answer (IsFirstOf views.now (form_number form ∷ i ∷ []))) }
+            IfSome answer (IsFirstOf matrix.now (form_number form ∷ i ∷ []))) }
         ensures none { IfOk result (λ answer.
-            IfNone answer (HasNoGood views.now (form_number form ∷ i ∷ []))) }
+            IfNone answer (HasNoGood matrix.now (form_number form ∷ i ∷ []))) }
     {
         if self.groups.are_all_one() {
             return Ok(None);
         }
-        for p in 0..views.columns() {
-            if views.is_nonzero(i, p) {
-                if let Some(three) = self.first_of_corner(alloc, views, form, i, p)? {
+        for p in 0..matrix.columns() {
+            if matrix.is_nonzero(i, p) {
+                if let Some(three) = self.first_of_corner(alloc, matrix, form, i, p)? {
                     return Ok(Some(three));
                 }
             }
@@ -165,23 +165,23 @@ impl Search {
     fn first_of_corner(
         &mut self,
         alloc: Global,
-        views: &RowsAndColumns<'_>,
+        matrix: &RowsAndColumns<'_>,
         form: Form,
         i: u32,
         p: u32,
     ) -> Result<Option<Three>, Memory>
         requires crossing { IsCrossing form }
-        requires search { IsSearchOf views.now self.old }
-        requires corner { IsCorner views.now i p }
-        ensures search { OnOk result (IsSearchOf views.now self.new) }
+        requires search { IsSearchOf matrix.now self.old }
+        requires corner { IsCorner matrix.now i p }
+        ensures search { OnOk result (IsSearchOf matrix.now self.new) }
         ensures first { IfOk result (λ answer.
-            IfSome answer (IsFirstOf views.now (form_number form ∷ i ∷ p ∷ []))) }
+            IfSome answer (IsFirstOf matrix.now (form_number form ∷ i ∷ p ∷ []))) }
         ensures none { IfOk result (λ answer.
-            IfNone answer (HasNoGood views.now (form_number form ∷ i ∷ p ∷ []))) }
+            IfNone answer (HasNoGood matrix.now (form_number form ∷ i ∷ p ∷ []))) }
     {
-        for k in 0..views.rows() {
-            if is_second_row(views, &self.groups, form, i, p, k) {
-                if let Some(three) = self.first_of_second_row(alloc, views, form, i, p, k)? {
+        for k in 0..matrix.rows() {
+            if is_second_row(matrix, &self.groups, form, i, p, k) {
+                if let Some(three) = self.first_of_second_row(alloc, matrix, form, i, p, k)? {
                     return Ok(Some(three));
                 }
             }
@@ -193,28 +193,28 @@ impl Search {
     fn first_of_second_row(
         &mut self,
         alloc: Global,
-        views: &RowsAndColumns<'_>,
+        matrix: &RowsAndColumns<'_>,
         form: Form,
         i: u32,
         p: u32,
         k: u32,
     ) -> Result<Option<Three>, Memory>
         requires crossing { IsCrossing form }
-        requires search { IsSearchOf views.now self.old }
-        requires corner { IsCorner views.now i p }
-        requires below { IsCorner views.now k p }
-        ensures search { OnOk result (IsSearchOf views.now self.new) }
+        requires search { IsSearchOf matrix.now self.old }
+        requires corner { IsCorner matrix.now i p }
+        requires below { IsCorner matrix.now k p }
+        ensures search { OnOk result (IsSearchOf matrix.now self.new) }
         ensures first { IfOk result (λ answer.
-            IfSome answer (IsFirstOf views.now (form_number form ∷ i ∷ p ∷ k ∷ []))) }
+            IfSome answer (IsFirstOf matrix.now (form_number form ∷ i ∷ p ∷ k ∷ []))) }
         ensures none { IfOk result (λ answer.
-            IfNone answer (HasNoGood views.now (form_number form ∷ i ∷ p ∷ k ∷ []))) }
+            IfNone answer (HasNoGood matrix.now (form_number form ∷ i ∷ p ∷ k ∷ []))) }
     {
-        self.ask(alloc, views)?;
-        for j in 0..views.columns() {
-            if is_second_column(views, &self.groups, form, i, p, k, j) {
+        self.ask(alloc, matrix)?;
+        for j in 0..matrix.columns() {
+            if is_second_column(matrix, &self.groups, form, i, p, k, j) {
                 if let Some(three) = self.first_of_corners(
                     alloc,
-                    views,
+                    matrix,
                     form,
                     &Corners { i, p, k, j },
                 )? {
@@ -229,29 +229,29 @@ impl Search {
     fn first_of_corners(
         &mut self,
         alloc: Global,
-        views: &RowsAndColumns<'_>,
+        matrix: &RowsAndColumns<'_>,
         form: Form,
         corners: &Corners,
     ) -> Result<Option<Three>, Memory>
         requires crossing { IsCrossing form }
-        requires search { IsSearchOf views.now self.old }
-        requires corners { HasCorners views.now corners.now }
-        ensures search { OnOk result (IsSearchOf views.now self.new) }
+        requires search { IsSearchOf matrix.now self.old }
+        requires corners { HasCorners matrix.now corners.now }
+        ensures search { OnOk result (IsSearchOf matrix.now self.new) }
         ensures first { IfOk result (λ answer.
-            IfSome answer (IsFirstOf views.now (corner_front form corners.now))) }
+            IfSome answer (IsFirstOf matrix.now (corner_front form corners.now))) }
         ensures none { IfOk result (λ answer.
-            IfNone answer (HasNoGood views.now (corner_front form corners.now))) }
+            IfNone answer (HasNoGood matrix.now (corner_front form corners.now))) }
     {
         let Corners { i, p, k, j } = *corners;
         let first = [Line::Row(i), Line::Column(p)];
         let second = [Line::Row(k), Line::Column(j)];
-        if !may_part(views, &mut self.side, rule_at(corners), &first, &second)? {
+        if !may_part(matrix, &mut self.side, rule_at(corners), &first, &second)? {
             self.tries = self.tries.saturating_add(1);
             return Ok(None);
         }
-        for q in 0..count_of(views, form.first_is_flat()) {
-            if self.hold_first(views, form, corners, q)? {
-                if let Some(three) = self.first_of_connector(alloc, views, form, corners, q)? {
+        for q in 0..count_of(matrix, form.first_is_flat()) {
+            if self.hold_first(matrix, form, corners, q)? {
+                if let Some(three) = self.first_of_connector(alloc, matrix, form, corners, q)? {
                     return Ok(Some(three));
                 }
             }
@@ -263,23 +263,23 @@ impl Search {
     // corner.
     fn hold_first(
         &mut self,
-        views: &RowsAndColumns<'_>,
+        matrix: &RowsAndColumns<'_>,
         form: Form,
         corners: &Corners,
         q: u32,
     ) -> Result<bool, Memory>
         requires crossing { IsCrossing form }
-        requires search { IsSearchOf views.now self.old }
-        requires inside { AreInside views.now corners.now }
-        requires line { IsLine (height views.now) views.now.width
+        requires search { IsSearchOf matrix.now self.old }
+        requires inside { AreInside matrix.now corners.now }
+        requires line { IsLine (height matrix.now) matrix.now.width
             (other_line (first_is_flat form) q) }
-        ensures search { OnOk result (IsSearchOf views.now self.new) }
+        ensures search { OnOk result (IsSearchOf matrix.now self.new) }
         ensures held { IfOk result (λ held. held ≡ true
-            → HoldsFirst views.now form corners.now q self.new) }
+            → HoldsFirst matrix.now form corners.now q self.new) }
         ensures no { IfOk result (λ held. held ≡ false
-            → HasNoGood views.now (corner_front form corners.now ++ q ∷ [])) }
+            → HasNoGood matrix.now (corner_front form corners.now ++ q ∷ [])) }
     {
-        if !is_first_other(views, form, corners, q) {
+        if !is_first_other(matrix, form, corners, q) {
             return Ok(false);
         }
         let Corners { i, p, k, j } = *corners;
@@ -290,7 +290,7 @@ impl Search {
         };
         let first = connector_lines(connector, form.first_is_flat());
         let second = [Line::Row(k), Line::Column(j)];
-        let held = leaves(views, &mut self.side, rule_at(corners), &first, &second)?;
+        let held = leaves(matrix, &mut self.side, rule_at(corners), &first, &second)?;
         Ok(held)
     }
 
@@ -298,22 +298,22 @@ impl Search {
     fn first_of_connector(
         &mut self,
         alloc: Global,
-        views: &RowsAndColumns<'_>,
+        matrix: &RowsAndColumns<'_>,
         form: Form,
         corners: &Corners,
         q: u32,
     ) -> Result<Option<Three>, Memory>
         requires crossing { IsCrossing form }
-        requires corners { HasCorners views.now corners.now }
-        requires held { HoldsFirst views.now form corners.now q self.old }
-        ensures search { OnOk result (IsSearchOf views.now self.new) }
+        requires corners { HasCorners matrix.now corners.now }
+        requires held { HoldsFirst matrix.now form corners.now q self.old }
+        ensures search { OnOk result (IsSearchOf matrix.now self.new) }
         ensures first { IfOk result (λ answer.
-            IfSome answer (IsFirstOf views.now (corner_front form corners.now ++ q ∷ []))) }
+            IfSome answer (IsFirstOf matrix.now (corner_front form corners.now ++ q ∷ []))) }
         ensures none { IfOk result (λ answer.
-            IfNone answer (HasNoGood views.now (corner_front form corners.now ++ q ∷ []))) }
+            IfNone answer (HasNoGood matrix.now (corner_front form corners.now ++ q ∷ []))) }
     {
-        for o in 0..count_of(views, form.second_is_flat()) {
-            if let Some(three) = self.first_of_other(alloc, views, form, corners, q, o)? {
+        for o in 0..count_of(matrix, form.second_is_flat()) {
+            if let Some(three) = self.first_of_other(alloc, matrix, form, corners, q, o)? {
                 return Ok(Some(three));
             }
         }
@@ -324,60 +324,60 @@ impl Search {
     fn first_of_other(
         &mut self,
         alloc: Global,
-        views: &RowsAndColumns<'_>,
+        matrix: &RowsAndColumns<'_>,
         form: Form,
         corners: &Corners,
         q: u32,
         o: u32,
     ) -> Result<Option<Three>, Memory>
         requires crossing { IsCrossing form }
-        requires corners { HasCorners views.now corners.now }
-        requires held { HoldsFirst views.now form corners.now q self.old }
-        requires line { IsLine (height views.now) views.now.width
+        requires corners { HasCorners matrix.now corners.now }
+        requires held { HoldsFirst matrix.now form corners.now q self.old }
+        requires line { IsLine (height matrix.now) matrix.now.width
             (other_line (second_is_flat form) o) }
-        ensures held { OnOk result (HoldsFirst views.now form corners.now q self.new) }
+        ensures held { OnOk result (HoldsFirst matrix.now form corners.now q self.new) }
         ensures first { IfOk result (λ answer.
-            IfSome answer (IsFirstOf views.now (corner_front form corners.now ++ q ∷ o ∷ []))) }
+            IfSome answer (IsFirstOf matrix.now (corner_front form corners.now ++ q ∷ o ∷ []))) }
         ensures none { IfOk result (λ answer.
-            IfNone answer (HasNoGood views.now (corner_front form corners.now ++ q ∷ o ∷ []))) }
+            IfNone answer (HasNoGood matrix.now (corner_front form corners.now ++ q ∷ o ∷ []))) }
     {
-        if !is_second_other(views, form, corners, o) {
+        if !is_second_other(matrix, form, corners, o) {
             return Ok(None);
         }
-        if self.side.has(views, line_of(form.second_is_flat(), o)) {
+        if self.side.has(matrix, line_of(form.second_is_flat(), o)) {
             return Ok(None);
         }
-        self.first_of_connectors(alloc, views, form, corners, q, o)
+        self.first_of_connectors(alloc, matrix, form, corners, q, o)
     }
 
     // The lines x.
     fn first_of_connectors(
         &mut self,
         alloc: Global,
-        views: &RowsAndColumns<'_>,
+        matrix: &RowsAndColumns<'_>,
         form: Form,
         corners: &Corners,
         q: u32,
         o: u32,
     ) -> Result<Option<Three>, Memory>
         requires crossing { IsCrossing form }
-        requires corners { HasCorners views.now corners.now }
-        requires held { HoldsFirst views.now form corners.now q self.old }
-        requires tied { IsTied (entry views.now) (second_is_flat form) (second_at corners.now o)
+        requires corners { HasCorners matrix.now corners.now }
+        requires held { HoldsFirst matrix.now form corners.now q self.old }
+        requires tied { IsTied (entry matrix.now) (second_is_flat form) (second_at corners.now o)
             corners.now.i corners.now.p }
-        requires line { IsLine (height views.now) views.now.width
+        requires line { IsLine (height matrix.now) matrix.now.width
             (other_line (second_is_flat form) o) }
-        ensures held { OnOk result (HoldsFirst views.now form corners.now q self.new) }
+        ensures held { OnOk result (HoldsFirst matrix.now form corners.now q self.new) }
         ensures first { IfOk result (λ answer.
-            IfSome answer (IsFirstOf views.now (corner_front form corners.now ++ q ∷ o ∷ []))) }
+            IfSome answer (IsFirstOf matrix.now (corner_front form corners.now ++ q ∷ o ∷ []))) }
         ensures none { IfOk result (λ answer.
-            IfNone answer (HasNoGood views.now (corner_front form corners.now ++ q ∷ o ∷ []))) }
+            IfNone answer (HasNoGood matrix.now (corner_front form corners.now ++ q ∷ o ∷ []))) }
     {
         let connectors = Connectors::at(corners, q, o);
         let rule = rule_at(corners);
         first_of_lines(
             alloc,
-            views,
+            matrix,
             &self.side,
             &mut self.grown,
             form,
@@ -389,32 +389,32 @@ impl Search {
 
 // Whether row k can be in the second corner, beside the first one (i, p).
 fn is_second_row(
-    views: &RowsAndColumns<'_>,
+    matrix: &RowsAndColumns<'_>,
     groups: &Groups,
     form: Form,
     i: u32,
     p: u32,
     k: u32,
 ) -> bool
-    requires names { HasNames views.now groups.now }
-    requires row { i < height views.now }
-    requires column { p < views.now.width }
-    requires second_row { k < height views.now }
-    ensures yes { result ≡ true → entry views.now k p ≢ pos 0 }
-    ensures no { result ≡ false → IsNoSecondRow views.now groups.now form i p k }
+    requires names { HasNames matrix.now groups.now }
+    requires row { i < height matrix.now }
+    requires column { p < matrix.now.width }
+    requires second_row { k < height matrix.now }
+    ensures yes { result ≡ true → entry matrix.now k p ≢ pos 0 }
+    ensures no { result ≡ false → IsNoSecondRow matrix.now groups.now form i p k }
 {
-    if !views.is_nonzero(k, p) {
+    if !matrix.is_nonzero(k, p) {
         return false;
     }
-    if groups.are_one(i, k) || groups.are_one(views.rows() + p, k) {
+    if groups.are_one(i, k) || groups.are_one(matrix.rows() + p, k) {
         return false;
     }
-    may_have_columns(views, groups, form, i, k)
+    may_have_columns(matrix, groups, form, i, k)
 }
 
 // Whether column j can be in the second corner with row k.
 fn is_second_column(
-    views: &RowsAndColumns<'_>,
+    matrix: &RowsAndColumns<'_>,
     groups: &Groups,
     form: Form,
     i: u32,
@@ -422,21 +422,21 @@ fn is_second_column(
     k: u32,
     j: u32,
 ) -> bool
-    requires names { HasNames views.now groups.now }
-    requires row { i < height views.now }
-    requires column { p < views.now.width }
-    requires second_row { k < height views.now }
-    requires second_column { j < views.now.width }
-    ensures corner { result ≡ true → entry views.now k j ≢ pos 0 }
-    ensures right { result ≡ true → entry views.now i j ≢ pos 0 }
-    ensures no { result ≡ false → IsNoSecondColumn views.now groups.now form i p k j }
+    requires names { HasNames matrix.now groups.now }
+    requires row { i < height matrix.now }
+    requires column { p < matrix.now.width }
+    requires second_row { k < height matrix.now }
+    requires second_column { j < matrix.now.width }
+    ensures corner { result ≡ true → entry matrix.now k j ≢ pos 0 }
+    ensures right { result ≡ true → entry matrix.now i j ≢ pos 0 }
+    ensures no { result ≡ false → IsNoSecondColumn matrix.now groups.now form i p k j }
 {
-    if !views.is_nonzero(k, j) || !views.is_nonzero(i, j) {
+    if !matrix.is_nonzero(k, j) || !matrix.is_nonzero(i, j) {
         return false;
     }
-    let column = views.rows() + j;
-    if groups.are_one(i, column) || groups.are_one(views.rows() + p, column) {
+    let column = matrix.rows() + j;
+    if groups.are_one(i, column) || groups.are_one(matrix.rows() + p, column) {
         return false;
     }
-    may_have_rows(views, groups, form, p, j)
+    may_have_rows(matrix, groups, form, p, j)
 }

@@ -24,99 +24,99 @@ const TRIES: u32 = 3;
 
 /// Whether what some lines grow to leaves others, and four lines or more.
 pub fn leaves(
-    views: &RowsAndColumns<'_>,
+    matrix: &RowsAndColumns<'_>,
     side: &mut GrowingSet,
     rule: Rule,
     first: &[Line],
     second: &[Line],
 ) -> Result<bool, Memory>
-    requires room { HasRoom views.now side.old }
-    requires rule { IsRuleOf views.now rule }
-    requires first { AllByRecursion (IsLine (height views.now) views.now.width) first.now }
-    requires second { AllByRecursion (IsLine (height views.now) views.now.width) second.now }
-    ensures room { OnOk result (HasRoom views.now side.new) }
-    ensures growing { OnOk result (IsGrowing views.now (upper_of views.now rule)
-        (lower_of views.now rule) first.now side.new) }
-    ensures told { IfOk result (λ yes. TellsClosed views.now rule first.now second.now 4 yes
+    requires room { HasRoom matrix.now side.old }
+    requires rule { IsRuleOf matrix.now rule }
+    requires first { AllByRecursion (IsLine (height matrix.now) matrix.now.width) first.now }
+    requires second { AllByRecursion (IsLine (height matrix.now) matrix.now.width) second.now }
+    ensures room { OnOk result (HasRoom matrix.now side.new) }
+    ensures growing { OnOk result (IsGrowing matrix.now (upper_of matrix.now rule)
+        (lower_of matrix.now rule) first.now side.new) }
+    ensures told { IfOk result (λ yes. TellsClosed matrix.now rule first.now second.now 4 yes
         (set_of side.new)) }
 {
-    side.start(views, first)?;
-    let yes = side.close(views, rule, second, LEAST)?;
+    side.start(matrix, first)?;
+    let yes = side.close(matrix, rule, second, LEAST)?;
     Ok(yes)
 }
 
 // The same of some lines and one more.
 fn leaves_with(
-    views: &RowsAndColumns<'_>,
+    matrix: &RowsAndColumns<'_>,
     side: &mut GrowingSet,
     rule: Rule,
     first: &[Line],
     second: &[Line],
     line: Line,
 ) -> Result<bool, Memory>
-    requires room { HasRoom views.now side.old }
-    requires rule { IsRuleOf views.now rule }
-    requires first { AllByRecursion (IsLine (height views.now) views.now.width) first.now }
-    requires second { AllByRecursion (IsLine (height views.now) views.now.width) second.now }
-    requires line { IsLine (height views.now) views.now.width line }
-    ensures room { OnOk result (HasRoom views.now side.new) }
-    ensures told { IfOk result (λ yes. TellsClosed views.now rule (line ∷ first.now) second.now 4
+    requires room { HasRoom matrix.now side.old }
+    requires rule { IsRuleOf matrix.now rule }
+    requires first { AllByRecursion (IsLine (height matrix.now) matrix.now.width) first.now }
+    requires second { AllByRecursion (IsLine (height matrix.now) matrix.now.width) second.now }
+    requires line { IsLine (height matrix.now) matrix.now.width line }
+    ensures room { OnOk result (HasRoom matrix.now side.new) }
+    ensures told { IfOk result (λ yes. TellsClosed matrix.now rule (line ∷ first.now) second.now 4
         yes (set_of side.new)) }
 {
-    side.start(views, first)?;
-    side.add(views, line)?;
-    let yes = side.close(views, rule, second, LEAST)?;
+    side.start(matrix, first)?;
+    side.add(matrix, line)?;
+    let yes = side.close(matrix, rule, second, LEAST)?;
     Ok(yes)
 }
 
 // The same of a side that has grown, and one more line.
 fn leaves_beside(
-    views: &RowsAndColumns<'_>,
+    matrix: &RowsAndColumns<'_>,
     side: &GrowingSet,
     grown: &mut GrowingSet,
     rule: Rule,
     second: &[Line],
     line: Line,
 ) -> Result<bool, Memory>
-    requires room { HasRoom views.now side.now }
-    requires rule { IsRuleOf views.now rule }
-    requires second { AllByRecursion (IsLine (height views.now) views.now.width) second.now }
-    requires line { IsLine (height views.now) views.now.width line }
-    ensures room { OnOk result (HasRoom views.now grown.new) }
+    requires room { HasRoom matrix.now side.now }
+    requires rule { IsRuleOf matrix.now rule }
+    requires second { AllByRecursion (IsLine (height matrix.now) matrix.now.width) second.now }
+    requires line { IsLine (height matrix.now) matrix.now.width line }
+    ensures room { OnOk result (HasRoom matrix.now grown.new) }
     ensures told { IfOk result (λ yes. (first : List Line)
-        → IsGrowing views.now (upper_of views.now rule) (lower_of views.now rule) first side.now
-        → TellsClosed views.now rule (line ∷ first) second.now 4 yes (set_of grown.new)) }
+        → IsGrowing matrix.now (upper_of matrix.now rule) (lower_of matrix.now rule) first side.now
+        → TellsClosed matrix.now rule (line ∷ first) second.now 4 yes (set_of grown.new)) }
 {
     grown.copy(side)?;
-    grown.add(views, line)?;
-    let yes = grown.close(views, rule, second, LEAST)?;
+    grown.add(matrix, line)?;
+    let yes = grown.close(matrix, rule, second, LEAST)?;
     Ok(yes)
 }
 
 /// Whether a separation may have some lines in side one and others in side two. Some other rows are tried: where a row can
 /// be on neither side, there is none.
 pub fn may_part(
-    views: &RowsAndColumns<'_>,
+    matrix: &RowsAndColumns<'_>,
     side: &mut GrowingSet,
     rule: Rule,
     first: &[Line],
     second: &[Line],
 ) -> Result<bool, Memory>
-    requires room { HasRoom views.now side.old }
-    requires rule { IsRuleOf views.now rule }
-    requires first { AllByRecursion (IsLine (height views.now) views.now.width) first.now }
-    requires second { AllByRecursion (IsLine (height views.now) views.now.width) second.now }
-    ensures room { OnOk result (HasRoom views.now side.new) }
+    requires room { HasRoom matrix.now side.old }
+    requires rule { IsRuleOf matrix.now rule }
+    requires first { AllByRecursion (IsLine (height matrix.now) matrix.now.width) first.now }
+    requires second { AllByRecursion (IsLine (height matrix.now) matrix.now.width) second.now }
+    ensures room { OnOk result (HasRoom matrix.now side.new) }
     ensures none { IfOk result (λ may. may ≡ false
-        → HasNoneParting views.now rule first.now second.now) }
+        → HasNoneParting matrix.now rule first.now second.now) }
 {
     let mut tries = TRIES;
-    for row in 0..views.rows() {
+    for row in 0..matrix.rows() {
         if tries == 0 {
             return Ok(true);
         }
         if !has_row(first, row) && !has_row(second, row) {
-            if is_refused(views, side, rule, first, second, Line::Row(row))? {
+            if is_refused(matrix, side, rule, first, second, Line::Row(row))? {
                 return Ok(false);
             }
             tries -= 1;
@@ -139,26 +139,26 @@ fn has_row(lines: &[Line], row: u32) -> bool {
 
 // Whether a line can be on neither side.
 fn is_refused(
-    views: &RowsAndColumns<'_>,
+    matrix: &RowsAndColumns<'_>,
     side: &mut GrowingSet,
     rule: Rule,
     first: &[Line],
     second: &[Line],
     line: Line,
 ) -> Result<bool, Memory>
-    requires room { HasRoom views.now side.old }
-    requires rule { IsRuleOf views.now rule }
-    requires first { AllByRecursion (IsLine (height views.now) views.now.width) first.now }
-    requires second { AllByRecursion (IsLine (height views.now) views.now.width) second.now }
-    requires line { IsLine (height views.now) views.now.width line }
-    ensures room { OnOk result (HasRoom views.now side.new) }
+    requires room { HasRoom matrix.now side.old }
+    requires rule { IsRuleOf matrix.now rule }
+    requires first { AllByRecursion (IsLine (height matrix.now) matrix.now.width) first.now }
+    requires second { AllByRecursion (IsLine (height matrix.now) matrix.now.width) second.now }
+    requires line { IsLine (height matrix.now) matrix.now.width line }
+    ensures room { OnOk result (HasRoom matrix.now side.new) }
     ensures none { IfOk result (λ refused. refused ≡ true
-        → HasNoneParting views.now rule first.now second.now) }
+        → HasNoneParting matrix.now rule first.now second.now) }
 {
-    if leaves_with(views, side, rule, first, second, line)? {
+    if leaves_with(matrix, side, rule, first, second, line)? {
         return Ok(false);
     }
-    if leaves_with(views, side, rule.exchanged(), second, first, line)? {
+    if leaves_with(matrix, side, rule.exchanged(), second, first, line)? {
         return Ok(false);
     }
     Ok(true)
@@ -168,31 +168,31 @@ fn is_refused(
 /// first.
 pub fn first_of_lines(
     alloc: Global,
-    views: &RowsAndColumns<'_>,
+    matrix: &RowsAndColumns<'_>,
     side: &GrowingSet,
     grown: &mut GrowingSet,
     form: Form,
     rule: Rule,
     connectors: &Connectors,
 ) -> Result<Option<Three>, Memory>
-    requires room { HasRoom views.now side.now }
-    requires grown { HasRoom views.now grown.old }
-    requires connectors { AreConnectorsOf views.now form rule connectors.now }
-    requires growing { IsGrowing views.now (upper_of views.now rule) (lower_of views.now rule)
+    requires room { HasRoom matrix.now side.now }
+    requires grown { HasRoom matrix.now grown.old }
+    requires connectors { AreConnectorsOf matrix.now form rule connectors.now }
+    requires growing { IsGrowing matrix.now (upper_of matrix.now rule) (lower_of matrix.now rule)
         (firsts form connectors.now) side.now }
-    ensures grown { OnOk result (HasRoom views.now grown.new) }
+    ensures grown { OnOk result (HasRoom matrix.now grown.new) }
     ensures first { IfOk result (λ answer.
-        IfSome answer (IsFirstOf views.now (all_front form connectors.now))) }
+        IfSome answer (IsFirstOf matrix.now (all_front form connectors.now))) }
     ensures none { IfOk result (λ answer.
-        IfNone answer (HasNoGood views.now (all_front form connectors.now))) }
+        IfNone answer (HasNoGood matrix.now (all_front form connectors.now))) }
 {
     let second = connector_lines(connectors.second, form.second_is_flat());
-    for place in 0..views.rows() + views.columns() {
-        let line = line_at(views, place);
+    for place in 0..matrix.rows() + matrix.columns() {
+        let line = line_at(matrix, place);
         if is_beside(form, connectors, line)
-            && leaves_beside(views, side, grown, rule, &second, line)?
+            && leaves_beside(matrix, side, grown, rule, &second, line)?
         {
-            return Ok(Some(separation_of(alloc, views, grown, form, connectors)?));
+            return Ok(Some(separation_of(alloc, matrix, grown, form, connectors)?));
         }
     }
     Ok(None)
@@ -201,21 +201,21 @@ pub fn first_of_lines(
 // The separation of a side.
 fn separation_of(
     alloc: Global,
-    views: &RowsAndColumns<'_>,
+    matrix: &RowsAndColumns<'_>,
     grown: &GrowingSet,
     form: Form,
     connectors: &Connectors,
 ) -> Result<Three, Memory>
-    requires { HasRoom views.now grown.now }
+    requires { HasRoom matrix.now grown.now }
     ensures form { IfOk result (λ three. three.form ≡ form) }
     ensures first { IfOk result (λ three. three.first ≡ connectors.now.first) }
     ensures second { IfOk result (λ three. three.second ≡ connectors.now.second) }
-    ensures lines { IfOk result (λ three. HasLines (height views.now) views.now.width
+    ensures lines { IfOk result (λ three. HasLines (height matrix.now) matrix.now.width
         (set_of grown.now) three.side.rows three.side.columns) }
 {
     Ok(Three {
         form,
-        side: grown.line_set(alloc, views)?,
+        side: grown.line_set(alloc, matrix)?,
         first: connectors.first,
         second: connectors.second,
     })

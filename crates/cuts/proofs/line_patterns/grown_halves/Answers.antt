@@ -6,6 +6,6 @@ pub returns : goal.returns
 returns c = record {
   one = c.in_ok-more_one.ensures.numbers;
   other = c.in_ok-more_other.ensures.numbers;
-  halved = halved_within c.args.views.now (set_of c.args.side.now.lines) (set_of c.args.one.now) (set_of c.args.other.now) (set_of c.in_ok-more_one.more_one.lines) (set_of c.in_ok-more_other.more_other.lines) c.requires.halved
+  halved = halved_within c.args.matrix.now (set_of c.args.side.now.lines) (set_of c.args.one.now) (set_of c.args.other.now) (set_of c.in_ok-more_one.more_one.lines) (set_of c.in_ok-more_other.more_other.lines) c.requires.halved
       c.in_ok-more_one.ensures.lines c.in_ok-more_other.ensures.lines;
 }

@@ -11,7 +11,7 @@ loop-j-init c = (c.in_ok-candidates.ensures.size ∙ ap words_for c.columns.ensu
 
 pub loop-j-preserved : goal.loop-j-preserved
 loop-j-preserved c =
-    let m = c.args.views.now in
+    let m = c.args.matrix.now in
     let i = c.args.i in
     let j = c.loop-j.j in
     elim c.if-not-has_column.branch [

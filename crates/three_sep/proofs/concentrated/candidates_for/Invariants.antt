@@ -6,4 +6,4 @@ use Rattle.three_sep.proofs.concentrated.candidates_for.Given as goal
 
 -- the columns before j were looked at
 abbrev pub invariant-loop-j : goal.invariant-loop-j
-invariant-loop-j l = (length l.candidates.items ≡ words_for l.views.width) × ((k : ℕ) → k < l.j → has_column l.candidates.items k ≡ false → HasNoneBetween l.views l.i k)
+invariant-loop-j l = (length l.candidates.items ≡ words_for l.matrix.width) × ((k : ℕ) → k < l.j → has_column l.candidates.items k ≡ false → HasNoneBetween l.matrix l.i k)

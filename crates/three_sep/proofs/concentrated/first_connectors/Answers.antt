@@ -9,11 +9,11 @@ use Rattle.three_sep.proofs.concentrated.first_connectors.Goals as goal
 use Rattle.three_sep.proofs.concentrated.first_connectors.Goals.{then-is_right_column+in_default-first_other_row, else-is_right_column}
 
 pub loop-q-init : goal.loop-q-init
-loop-q-init c = (none_to_first c.args.views.now c.args.corners.now, let l = c.requires.inside.column_one in let w = c.columns-columns.ensures.shape.width_in in omega arith)
+loop-q-init c = (none_to_first c.args.matrix.now c.args.corners.now, let l = c.requires.inside.column_one in let w = c.columns-columns.ensures.shape.width_in in omega arith)
 
 pub returns-in-Some-first_other_row : goal.returns-in-Some-first_other_row
 returns-in-Some-first_other_row c =
-    let m = c.args.views.now in
+    let m = c.args.matrix.now in
     let corners = c.args.corners.now in
     let row = c.in-Some-first_other_row.ensures in
     subst (λ (d : Connectors). IsFirstPair m corners d) (sym c.at.ensures) (record {
@@ -25,7 +25,7 @@ returns-in-Some-first_other_row c =
 
 pub loop-q-preserved : goal.loop-q-preserved
 loop-q-preserved c =
-    let m = c.args.views.now in
+    let m = c.args.matrix.now in
     let q = c.in-Some.q in
     let before = none_over_zeros m c.args.corners.now c.loop-q.from q c.loop-q.invariant.0 c.in-Some.ensures.first.2 in
     let more : q + 1 ≤ 1000 = let l = c.in-Some.ensures.small in omega arith in
@@ -36,6 +36,6 @@ loop-q-preserved c =
 
 pub returns : goal.returns
 returns c =
-    let m = c.args.views.now in
+    let m = c.args.matrix.now in
     level_ends m (corner_front Concentrated c.args.corners.now) m.width (omega arith) (none_over_zeros m c.args.corners.now c.loop-q.from m.width c.loop-q.invariant.0 (λ column a l. c.in_default.ensures.first column a))
     (first_below m Concentrated c.args.corners.now)

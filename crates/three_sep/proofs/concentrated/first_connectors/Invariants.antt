@@ -4,7 +4,7 @@ use Rattle.three_sep.specs.Searches.{HasNoneBelow, corner_front}
 use Rattle.three_sep.proofs.concentrated.first_connectors.Given as goal
 
 abbrev pub invariant-loop-q : goal.invariant-loop-q
-invariant-loop-q l = HasNoneBelow l.views (corner_front Concentrated l.corners) l.from × (l.from ≤ 1000)
+invariant-loop-q l = HasNoneBelow l.matrix (corner_front Concentrated l.corners) l.from × (l.from ≤ 1000)
 
 abbrev pub decreases-loop-q : goal.decreases-loop-q
 decreases-loop-q l = 1000 - l.from

@@ -15,18 +15,18 @@ exchanged_rule m rule other e is = subst (IsRuleOf m) (sym e) (record { upper = 
 
 pub returns-then-not-branch-clause-none : goal.returns-then-not-branch-clause-none
 returns-then-not-branch-clause-none c =
-    let m = c.args.views.now in
+    let m = c.args.matrix.now in
     let d = c.args.connectors.now in
     let rule = c.spread_rule-rule in
     no_good_parting m Concentrated rule.result d (spread_connectors m rule.result d c.requires rule.ensures.rule rule.ensures.upper rule.ensures.lower)
     (none_leaving m rule.result (firsts Concentrated d) (seconds Concentrated d) (told_no m rule.result (firsts Concentrated d) (seconds Concentrated d) 4 c.in_ok-leaves.field-0 (set_of c.leaves.new.side) c.in_ok-leaves.ensures.told c.if-not-branch.true))
 
 pub leaves-requires-2-clause-rule : goal.leaves-requires-2-clause-rule
-leaves-requires-2-clause-rule c = exchanged_rule c.args.views.now c.spread_rule-rule.result c.exchanged.result c.exchanged.ensures c.spread_rule-rule.ensures.rule
+leaves-requires-2-clause-rule c = exchanged_rule c.args.matrix.now c.spread_rule-rule.result c.exchanged.result c.exchanged.ensures c.spread_rule-rule.ensures.rule
 
 pub returns-then-not-branch-2-clause-none : goal.returns-then-not-branch-2-clause-none
 returns-then-not-branch-2-clause-none c =
-    let m = c.args.views.now in
+    let m = c.args.matrix.now in
     let d = c.args.connectors.now in
     let rule = c.spread_rule-rule in
     no_good_parting m Concentrated rule.result d (spread_connectors m rule.result d c.requires rule.ensures.rule rule.ensures.upper rule.ensures.lower)
@@ -35,7 +35,7 @@ returns-then-not-branch-2-clause-none c =
 
 pub returns-then-not-branch-3-clause-none : goal.returns-then-not-branch-3-clause-none
 returns-then-not-branch-3-clause-none c =
-    let m = c.args.views.now in
+    let m = c.args.matrix.now in
     let d = c.args.connectors.now in
     let rule = c.spread_rule-rule in
     no_good_parting m Concentrated rule.result d (spread_connectors m rule.result d c.requires rule.ensures.rule rule.ensures.upper rule.ensures.lower)
@@ -44,4 +44,4 @@ returns-then-not-branch-3-clause-none c =
 pub first_of_lines-requires-clause-connectors : goal.first_of_lines-requires-clause-connectors
 first_of_lines-requires-clause-connectors c =
     let rule = c.spread_rule-rule in
-    spread_connectors c.args.views.now rule.result c.args.connectors.now c.requires rule.ensures.rule rule.ensures.upper rule.ensures.lower
+    spread_connectors c.args.matrix.now rule.result c.args.connectors.now c.requires rule.ensures.rule rule.ensures.upper rule.ensures.lower

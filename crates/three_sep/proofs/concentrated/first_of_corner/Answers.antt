@@ -5,14 +5,14 @@ use Rattle.three_sep.proofs.ConcentratedLemmas.{no_candidates}
 use Rattle.three_sep.proofs.concentrated.first_of_corner.Goals as goal
 
 pub returns-then-not-has_candidate-clause-none : goal.returns-then-not-has_candidate-clause-none
-returns-then-not-has_candidate-clause-none c = no_candidates c.args.views.now c.args.i c.args.p c.args.candidates.now.items c.requires.candidates (λ j. ap (λ (xs : List ℕ). has_column xs j) (sym c.deref.ensures.value) ∙ c.has_candidate.ensures c.if-not-has_candidate.true j)
+returns-then-not-has_candidate-clause-none c = no_candidates c.args.matrix.now c.args.i c.args.p c.args.candidates.now.items c.requires.candidates (λ j. ap (λ (xs : List ℕ). has_column xs j) (sym c.deref.ensures.value) ∙ c.has_candidate.ensures c.if-not-has_candidate.true j)
 
 pub returns-in-Some-clause-first : goal.returns-in-Some-clause-first
-returns-in-Some-clause-first c = found_some c.args.views.now (3 ∷ c.args.i ∷ c.args.p ∷ []) c.loop-k.k c.in_ok-three.field-0 c.in-Some.three (omega arith) c.loop-k.invariant.0 c.in-Some.is c.in_ok-three.ensures.first
+returns-in-Some-clause-first c = found_some c.args.matrix.now (3 ∷ c.args.i ∷ c.args.p ∷ []) c.loop-k.k c.in_ok-three.field-0 c.in-Some.three (omega arith) c.loop-k.invariant.0 c.in-Some.is c.in_ok-three.ensures.first
 
 pub loop-k-preserved : goal.loop-k-preserved
-loop-k-preserved c = (none_more c.args.views.now (3 ∷ c.args.i ∷ c.args.p ∷ []) c.loop-k.k c.in_ok-three.field-0 c.loop-k.invariant.0 c.in_default.is c.in_ok-three.ensures.none, c.in_ok-three.ensures.candidates)
+loop-k-preserved c = (none_more c.args.matrix.now (3 ∷ c.args.i ∷ c.args.p ∷ []) c.loop-k.k c.in_ok-three.field-0 c.loop-k.invariant.0 c.in_default.is c.in_ok-three.ensures.none, c.in_ok-three.ensures.candidates)
 
 pub returns-clause-none : goal.returns-clause-none
-returns-clause-none c = level_ends c.args.views.now (3 ∷ c.args.i ∷ c.args.p ∷ []) c.loop-k.k (omega arith) c.loop-k.invariant.0
-    (λ s S b g h. let k = (good_inside c.args.views.now s S g).row_two in let e = h.1.1.1.0 in let l = c.loop-k-test.false in let r = c.rows-k-end.ensures.rows in omega arith)
+returns-clause-none c = level_ends c.args.matrix.now (3 ∷ c.args.i ∷ c.args.p ∷ []) c.loop-k.k (omega arith) c.loop-k.invariant.0
+    (λ s S b g h. let k = (good_inside c.args.matrix.now s S g).row_two in let e = h.1.1.1.0 in let l = c.loop-k-test.false in let r = c.rows-k-end.ensures.rows in omega arith)

@@ -7,7 +7,7 @@ use Rattle.three_sep.proofs.concentrated.first_of_corners.Goals as goal
 
 pub first_of_pair-requires-clause-candidates : goal.first_of_pair-requires-clause-candidates
 first_of_pair-requires-clause-candidates c =
-    let m = c.args.views.now in
+    let m = c.args.matrix.now in
     let d = c.in-Some.connectors in
     subst (λ (xs : List ℕ). AreCandidates m d.first.row xs) (sym c.deref.ensures.value)
     (subst (λ (z : Corners). AreCandidates m z.i c.args.candidates.now.items) (sym c.in-Some.ensures.corners) c.requires.candidates)
@@ -16,11 +16,11 @@ pub first_of_pair-requires-clause-connectors : goal.first_of_pair-requires-claus
 first_of_pair-requires-clause-connectors c = c.in-Some.ensures.pair
 
 pub returns-in-Some-2-clause-first : goal.returns-in-Some-2-clause-first
-returns-in-Some-2-clause-first c = pair_found c.args.views.now c.args.corners.now c.in-Some.connectors c.in-Some.ensures c.in_ok-three.field-0 c.in-Some-2.three c.in-Some-2.is c.in_ok-three.ensures.first
+returns-in-Some-2-clause-first c = pair_found c.args.matrix.now c.args.corners.now c.in-Some.connectors c.in-Some.ensures c.in_ok-three.field-0 c.in-Some-2.three c.in-Some-2.is c.in_ok-three.ensures.first
 
 pub returns-clause-candidates : goal.returns-clause-candidates
 returns-clause-candidates c =
-    let m = c.args.views.now in
+    let m = c.args.matrix.now in
     let d = c.in-Some.connectors in
     let none = none_of (HasNoneBetween m d.first.row d.second.column) c.in_ok-three.field-0 c.in_default-2.is c.in_ok-three.ensures.none in
     one_less m c.args.corners.now.i c.args.corners.now.j c.args.candidates.now.items _ c.requires.candidates
@@ -28,7 +28,7 @@ returns-clause-candidates c =
 
 pub returns-clause-none : goal.returns-clause-none
 returns-clause-none c =
-    let m = c.args.views.now in
+    let m = c.args.matrix.now in
     let d = c.in-Some.connectors in
     let corners = c.args.corners.now in
     let none = none_of (HasNoneBetween m d.first.row d.second.column) c.in_ok-three.field-0 c.in_default-2.is c.in_ok-three.ensures.none in

@@ -10,6 +10,6 @@ none_weaker (Some three) f h = tt
 
 pub returns-clause-none : goal.returns-clause-none
 returns-clause-none c =
-    let m = c.args.views.now in
+    let m = c.args.matrix.now in
     let d = c.args.connectors.now in
     IfOk-weaker c.first_of_connectors.result _ _ (λ answer. none_weaker answer (none_between m d c.requires.connectors)) c.first_of_connectors.ensures.none

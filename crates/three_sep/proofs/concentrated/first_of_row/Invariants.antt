@@ -4,4 +4,4 @@ use Rattle.three_sep.specs.Concentrated.{AreCandidates}
 use Rattle.three_sep.proofs.concentrated.first_of_row.Given as goal
 
 abbrev pub invariant-loop-p : goal.invariant-loop-p
-invariant-loop-p l = HasNoneBelow l.views (3 ∷ l.i ∷ []) l.p × AreCandidates l.views l.i l.candidates.items
+invariant-loop-p l = HasNoneBelow l.matrix (3 ∷ l.i ∷ []) l.p × AreCandidates l.matrix l.i l.candidates.items

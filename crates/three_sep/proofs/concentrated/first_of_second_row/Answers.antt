@@ -11,7 +11,7 @@ use Rattle.three_sep.proofs.concentrated.first_of_second_row.Goals as goal
 
 pub returns-then-not-meets-clause-none : goal.returns-then-not-meets-clause-none
 returns-then-not-meets-clause-none c =
-    let m = c.args.views.now in
+    let m = c.args.matrix.now in
     let candidates = c.args.candidates.now.items in
     no_common m c.args.i c.args.p c.args.k candidates c.requires.candidates (λ x. elim (two_cases (support m c.args.k x)) [
       | inl row ↦ inr (false_is (has_column candidates x) (λ h. not_both c.meets.result
@@ -21,7 +21,7 @@ returns-then-not-meets-clause-none c =
 
 pub first_of_corners-requires-clause-inside : goal.first_of_corners-requires-clause-inside
 first_of_corners-requires-clause-inside c =
-    let m = c.args.views.now in
+    let m = c.args.matrix.now in
     let here : has_column c.in_ok-columns.columns.items c.in-Some.j ≡ true = ap (λ (xs : List ℕ). has_column xs c.in-Some.j) (sym c.deref-in-loop-j.ensures.value) ∙ c.in-Some.ensures.2 in
     record {
       row_one = c.requires.corner.0;
@@ -32,13 +32,13 @@ first_of_corners-requires-clause-inside c =
 
 pub first_of_corners-requires-clause-corners : goal.first_of_corners-requires-clause-corners
 first_of_corners-requires-clause-corners c =
-    let m = c.args.views.now in
+    let m = c.args.matrix.now in
     let here : has_column c.in_ok-columns.columns.items c.in-Some.j ≡ true = ap (λ (xs : List ℕ). has_column xs c.in-Some.j) (sym c.deref-in-loop-j.ensures.value) ∙ c.in-Some.ensures.2 in
     record { first = c.requires.nonzero; second = nonzero_is (entry m c.args.k c.in-Some.j) (c.in_ok-columns.ensures.yes c.in-Some.j here) }
 
 pub returns-in-Some-2-clause-first : goal.returns-in-Some-2-clause-first
 returns-in-Some-2-clause-first c =
-    let m = c.args.views.now in
+    let m = c.args.matrix.now in
     found_some m (3 ∷ c.args.i ∷ c.args.p ∷ c.args.k ∷ []) c.in-Some.j c.in_ok-three.field-0 c.in-Some-2.three (omega arith)
     (none_between_seconds m c.args.i c.args.p c.args.k c.loop-j.from c.in-Some.j c.in_ok-columns.columns.items c.args.candidates.now.items c.requires.candidates
     (λ x e. subst (λ (xs : List ℕ). (support m c.args.k x ≡ false) ⊎ (has_column xs x ≡ false)) c.deref-2.ensures.value (c.in_ok-columns.ensures.no x e)) c.loop-j.invariant.0
@@ -47,7 +47,7 @@ returns-in-Some-2-clause-first c =
 
 pub loop-j-preserved : goal.loop-j-preserved
 loop-j-preserved c =
-    let m = c.args.views.now in
+    let m = c.args.matrix.now in
     let before = none_between_seconds m c.args.i c.args.p c.args.k c.loop-j.from c.in-Some.j c.in_ok-columns.columns.items c.args.candidates.now.items c.requires.candidates
     (λ x e. subst (λ (xs : List ℕ). (support m c.args.k x ≡ false) ⊎ (has_column xs x ≡ false)) c.deref-2.ensures.value (c.in_ok-columns.ensures.no x e)) c.loop-j.invariant.0
     (λ x a l. ap (λ (xs : List ℕ). has_column xs x) (sym c.deref-in-loop-j.ensures.value) ∙ c.in-Some.ensures.3 x a l) in
@@ -59,7 +59,7 @@ loop-j-preserved c =
 
 pub returns-clause-none : goal.returns-clause-none
 returns-clause-none c =
-    let m = c.args.views.now in
+    let m = c.args.matrix.now in
     level_ends m (3 ∷ c.args.i ∷ c.args.p ∷ c.args.k ∷ []) m.width (omega arith)
     (none_between_seconds m c.args.i c.args.p c.args.k c.loop-j.from m.width c.in_ok-columns.columns.items c.args.candidates.now.items c.requires.candidates
     (λ x e. subst (λ (xs : List ℕ). (support m c.args.k x ≡ false) ⊎ (has_column xs x ≡ false)) c.deref-2.ensures.value (c.in_ok-columns.ensures.no x e)) c.loop-j.invariant.0

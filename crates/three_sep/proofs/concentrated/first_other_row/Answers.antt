@@ -9,17 +9,17 @@ use Rattle.three_sep.proofs.ConcentratedLemmas.{no_row, none_over_zero_rows, non
 use Rattle.three_sep.proofs.concentrated.first_other_row.Goals as goal
 
 pub next_nonzero-requires-clause-row : goal.next_nonzero-requires-clause-row
-next_nonzero-requires-clause-row c = turned_inside c.args.views.now c.by_columns.result.now c.by_columns.ensures.matrix c.args.corners.now.j c.requires.inside.column_two
+next_nonzero-requires-clause-row c = turned_inside c.args.matrix.now c.by_columns.result.now c.by_columns.ensures.matrix c.args.corners.now.j c.requires.inside.column_two
 
 pub loop-o-init : goal.loop-o-init
-loop-o-init c = (none_to_second c.args.views.now c.args.corners.now c.args.q, omega arith, let l = c.requires.inside.row_two in let h = c.rows-rows.ensures.shape.height_in in omega arith)
+loop-o-init c = (none_to_second c.args.matrix.now c.args.corners.now c.args.q, omega arith, let l = c.requires.inside.row_two in let h = c.rows-rows.ensures.shape.height_in in omega arith)
 
 pub has_sign-requires-clause-row : goal.has_sign-requires-clause-row
-has_sign-requires-clause-row c = turned_row c.args.views.now c.by_columns.result.now c.by_columns.ensures.matrix c.in-Some.o c.in-Some.ensures.first.1
+has_sign-requires-clause-row c = turned_row c.args.matrix.now c.by_columns.result.now c.by_columns.ensures.matrix c.in-Some.o c.in-Some.ensures.first.1
 
 pub returns-then-has_sign : goal.returns-then-has_sign
 returns-then-has_sign c =
-    let m = c.args.views.now in
+    let m = c.args.matrix.now in
     let n = c.by_columns.result.now in
     let turned = c.by_columns.ensures.matrix in
     let is = c.by_columns.ensures.shape in
@@ -37,7 +37,7 @@ returns-then-has_sign c =
 
 pub loop-o-preserved : goal.loop-o-preserved
 loop-o-preserved c =
-    let m = c.args.views.now in
+    let m = c.args.matrix.now in
     let n = c.by_columns.result.now in
     let turned = c.by_columns.ensures.matrix in
     let corners = c.args.corners.now in
@@ -52,7 +52,7 @@ loop-o-preserved c =
 
 pub returns : goal.returns
 returns c =
-    let m = c.args.views.now in
+    let m = c.args.matrix.now in
     let n = c.by_columns.result.now in
     let corners = c.args.corners.now in
     level_ends m (corner_front Concentrated corners ++ c.args.q ∷ []) (height m) (omega arith)

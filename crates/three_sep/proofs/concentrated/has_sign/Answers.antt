@@ -9,7 +9,7 @@ use Rattle.three_sep.proofs.concentrated.has_sign.Goals as goal
 
 pub returns : goal.returns
 returns c =
-    let m = c.args.views.now in
+    let m = c.args.matrix.now in
     let d = c.args.corners.now in
     let q = c.args.q in
     let o = c.args.o in

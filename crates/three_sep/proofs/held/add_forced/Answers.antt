@@ -9,7 +9,7 @@ use Rattle.three_sep.proofs.held.add_forced.Goals.{then-not-has_column+then-are_
 
 pub loop-j-preserved : goal.loop-j-preserved
 loop-j-preserved c =
-    let m = c.args.views.now in
+    let m = c.args.matrix.now in
     let j = c.loop-j.j in
     let shape = c.columns-j-end.ensures.shape in
     let low : j < m.width = let l = c.loop-j-test.true in let r = c.columns-j-end.ensures.columns in omega arith in

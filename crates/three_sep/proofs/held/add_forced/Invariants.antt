@@ -6,5 +6,5 @@ use Rattle.three_sep.proofs.held.add_forced.Given as goal
 
 -- what holds of the columns known before holds of those known now
 abbrev pub invariant-loop-j : goal.invariant-loop-j
-invariant-loop-j l = (length l.held.items ≡ words_for l.views.width) × (length l.left.items ≡ words_for l.views.width) × (length l.last.items ≡ words_for l.views.width)
-    × ((i : ℕ) → AreHeldBy l.views i (has_column l.fn.held.items) → AreHeldBy l.views i (has_column l.held.items))
+invariant-loop-j l = (length l.held.items ≡ words_for l.matrix.width) × (length l.left.items ≡ words_for l.matrix.width) × (length l.last.items ≡ words_for l.matrix.width)
+    × ((i : ℕ) → AreHeldBy l.matrix i (has_column l.fn.held.items) → AreHeldBy l.matrix i (has_column l.held.items))

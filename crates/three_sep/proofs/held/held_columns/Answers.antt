@@ -8,7 +8,7 @@ loop-round-init c = (
   c.add_set.ensures.size ∙ c.in_ok-held.ensures.size ∙ ap words_for c.columns.ensures.columns,
   c.in_ok-left.ensures.size ∙ ap words_for c.columns-2.ensures.columns,
   c.in_ok-last.ensures.size ∙ ap words_for c.columns-3.ensures.columns,
-  λ column e. own_held c.args.views.now c.columns.ensures.shape c.args.i c.requires.row column
+  λ column e. own_held c.args.matrix.now c.columns.ensures.shape c.args.i c.requires.row column
       (sym (c.columns_of.ensures.columns column) ∙ sym (or_none _ _ (c.in_ok-held.ensures.none column)) ∙ sym (c.add_set.ensures.columns column) ∙ e),
 )
 

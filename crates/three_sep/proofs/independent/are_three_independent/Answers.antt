@@ -25,7 +25,7 @@ put_outside-requires-2-clause-other c = c.columns_of-2.ensures.size ∙ sym c.re
 
 pub returns-in-Some-new_row-2-clause-independent : goal.returns-in-Some-new_row-2-clause-independent
 returns-in-Some-new_row-2-clause-independent c = λ e.
-    let m = c.args.views.now in
+    let m = c.args.matrix.now in
     let set = has_column c.args.set.now in
     let j = c.args.j in
     let one = c.in-Some.one in

@@ -9,10 +9,10 @@ words_are m n row words e is = is ∙ ap (λ (k : Matrix). words_of (words_for k
 
 pub returns-clause-size : goal.returns-clause-size
 returns-clause-size c =
-    let m = c.args.views.now in
+    let m = c.args.matrix.now in
     words_long m c.args.row c.support_words.result.now (words_are m c.by_rows.result.now c.args.row c.support_words.result.now c.by_rows.ensures.matrix c.support_words.ensures)
 
 pub returns-clause-columns : goal.returns-clause-columns
 returns-clause-columns c =
-    let m = c.args.views.now in
+    let m = c.args.matrix.now in
     words_columns m c.args.row c.support_words.result.now (words_are m c.by_rows.result.now c.args.row c.support_words.result.now c.by_rows.ensures.matrix c.support_words.ensures) c.by_rows.ensures.shape c.requires

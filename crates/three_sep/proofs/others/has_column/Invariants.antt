@@ -5,4 +5,4 @@ use Rattle.cuts.specs.Cuts.{name_of}
 use Rattle.three_sep.proofs.others.has_column.Given as goal
 
 abbrev pub invariant-loop-column : goal.invariant-loop-column
-invariant-loop-column l = (c : ℕ) → c < l.column → entry l.views l.own c ≡ pos 0 → entry l.views l.across c ≢ pos 0 → name_of l.views l.groups (Column c) ≡ name_of l.views l.groups (Row l.across)
+invariant-loop-column l = (c : ℕ) → c < l.column → entry l.matrix l.own c ≡ pos 0 → entry l.matrix l.across c ≢ pos 0 → name_of l.matrix l.groups (Column c) ≡ name_of l.matrix l.groups (Row l.across)

@@ -5,4 +5,4 @@ use Rattle.cuts.specs.Cuts.{name_of}
 use Rattle.three_sep.proofs.others.has_row.Given as goal
 
 abbrev pub invariant-loop-row : goal.invariant-loop-row
-invariant-loop-row l = (r : ℕ) → r < l.row → entry l.views r l.own ≡ pos 0 → entry l.views r l.across ≢ pos 0 → name_of l.views l.groups (Row r) ≡ name_of l.views l.groups (Column l.across)
+invariant-loop-row l = (r : ℕ) → r < l.row → entry l.matrix r l.own ≡ pos 0 → entry l.matrix r l.across ≢ pos 0 → name_of l.matrix l.groups (Row r) ≡ name_of l.matrix l.groups (Column l.across)

@@ -6,11 +6,11 @@ use Rattle.three_sep.proofs.ConcentratedLemmas.{none_past}
 use Rattle.three_sep.proofs.pulled.is_passed.Goals as goal
 
 pub next_nonzero-requires-clause-row : goal.next_nonzero-requires-clause-row
-next_nonzero-requires-clause-row c = turned_inside c.args.views.now c.by_columns.result.now c.by_columns.ensures.matrix c.args.connectors.now.second.column c.requires.connectors.second_lines.1.0
+next_nonzero-requires-clause-row c = turned_inside c.args.matrix.now c.by_columns.result.now c.by_columns.ensures.matrix c.args.connectors.now.second.column c.requires.connectors.second_lines.1.0
 
 pub returns-then-pulls_other : goal.returns-then-pulls_other
 returns-then-pulls_other c = λ e.
-    let m = c.args.views.now in
+    let m = c.args.matrix.now in
     let n = c.by_columns.result.now in
     let turned = c.by_columns.ensures.matrix in
     let j = c.args.connectors.now.second.column in

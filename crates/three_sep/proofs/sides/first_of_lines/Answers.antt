@@ -22,12 +22,12 @@ second_is flat known second lines e is = is ∙ ap (λ (z : Bool). connector_lin
 pub leaves_beside-requires-clause-second : goal.leaves_beside-requires-clause-second
 leaves_beside-requires-clause-second c =
     let d = c.args.connectors.now in
-    subst (λ (xs : List Line). AllByRecursion (IsLine (height c.args.views.now) c.args.views.now.width) xs) (sym (second_is _ _ d.second _ c.second_is_flat.ensures c.connector_lines-second.ensures))
+    subst (λ (xs : List Line). AllByRecursion (IsLine (height c.args.matrix.now) c.args.matrix.now.width) xs) (sym (second_is _ _ d.second _ c.second_is_flat.ensures c.connector_lines-second.ensures))
     c.requires.connectors.pair.second_lines
 
 pub returns-then-branch-clause-first : goal.returns-then-branch-clause-first
 returns-then-branch-clause-first c =
-    let m = c.args.views.now in
+    let m = c.args.matrix.now in
     let form = c.args.form in
     let d = c.args.connectors.now in
     let x = c.line_at-line.result in
@@ -44,7 +44,7 @@ returns-then-branch-clause-first c =
 
 pub loop-place-preserved : goal.loop-place-preserved
 loop-place-preserved c =
-    let m = c.args.views.now in
+    let m = c.args.matrix.now in
     let form = c.args.form in
     let d = c.args.connectors.now in
     let x = c.line_at-line.result in
@@ -65,5 +65,5 @@ loop-place-preserved c =
 pub returns-clause-none : goal.returns-clause-none
 returns-clause-none c =
     let d = c.args.connectors.now in
-    level_ends c.args.views.now (all_front c.args.form d) c.loop-place.place (omega arith) c.loop-place.invariant.1
-    (λ s S b g h. let k = place_below c.args.views.now c.args.form d c.rows.result c.columns.result c.rows.ensures.rows c.columns.ensures.columns s S b g h in let l = c.loop-place-test.false in omega arith)
+    level_ends c.args.matrix.now (all_front c.args.form d) c.loop-place.place (omega arith) c.loop-place.invariant.1
+    (λ s S b g h. let k = place_below c.args.matrix.now c.args.form d c.rows.result c.columns.result c.rows.ensures.rows c.columns.ensures.columns s S b g h in let l = c.loop-place-test.false in omega arith)

@@ -4,4 +4,4 @@ use Rattle.three_sep.specs.Connectors.{all_front}
 use Rattle.three_sep.proofs.sides.first_of_lines.Given as goal
 
 abbrev pub invariant-loop-place : goal.invariant-loop-place
-invariant-loop-place l = HasRoom l.views l.grown × HasNoneBelow l.views (all_front l.form l.fn.connectors) l.place
+invariant-loop-place l = HasRoom l.matrix l.grown × HasNoneBelow l.matrix (all_front l.form l.fn.connectors) l.place

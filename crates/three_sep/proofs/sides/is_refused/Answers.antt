@@ -7,7 +7,7 @@ use Rattle.three_sep.proofs.sides.is_refused.Goals as goal
 
 pub returns-clause-none : goal.returns-clause-none
 returns-clause-none c = λ e.
-    let m = c.args.views.now in
+    let m = c.args.matrix.now in
     let rule = c.args.rule in
     let first = c.args.first.now in
     let second = c.args.second.now in

@@ -6,5 +6,5 @@ pub returns : goal.returns
 returns c = record {
   groups = c.in_ok-new.ensures.names;
   taken = c.in_ok-new-2.ensures.size;
-  together = apart_together c.args.views.now c.in_ok-new.field-0 (IsCut c.args.views.now) c.in_ok-new.ensures.apart;
+  together = apart_together c.args.matrix.now c.in_ok-new.field-0 (IsCut c.args.matrix.now) c.in_ok-new.ensures.apart;
 }

@@ -11,12 +11,12 @@ pub note-requires-clause-found : goal.note-requires-clause-found
 note-requires-clause-found c = record {
   groups = c.rename.ensures.names;
   taken = c.add_rest.ensures.size;
-  together = group_named c.args.views.now c.args.self.now.groups c.rename.new.self (set_of c.is_covered.new.search.parted) c.args.line c.requires.line c.requires.found.together (c.in_ok-is_covered.ensures.one_side c.if-branch.true) c.rename.ensures.get;
+  together = group_named c.args.matrix.now c.args.self.now.groups c.rename.new.self (set_of c.is_covered.new.search.parted) c.args.line c.requires.line c.requires.found.together (c.in_ok-is_covered.ensures.one_side c.if-branch.true) c.rename.ensures.get;
 }
 
 pub returns : goal.returns
 returns c =
-    let m = c.args.views.now in
+    let m = c.args.matrix.now in
     found_kept m c.if-branch.self _ refl refl (
     elim c.if-branch.branch [
       | then-branch w ↦ subst (λ (f : GroupFinder). AreFound m f) (sym w.self-is) w.note.ensures

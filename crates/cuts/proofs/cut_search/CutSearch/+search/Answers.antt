@@ -15,7 +15,7 @@ returns-then-are_few-2-clause-covers t c = λ e. c.are_few-2.ensures.far c.if-ar
 
 pub returns-in-Some-clause-covers : goal.returns-in-Some-clause-covers
 returns-in-Some-clause-covers t c =
-    let m = c.args.views.now in
+    let m = c.args.matrix.now in
     let one = c.args.one.now in
     let two = c.args.two.now.lines in
     let more = c.in-Some.more in
@@ -24,7 +24,7 @@ returns-in-Some-clause-covers t c =
 
 pub returns-in-Some-2-clause-covers : goal.returns-in-Some-2-clause-covers
 returns-in-Some-2-clause-covers t c =
-    let m = c.args.views.now in
+    let m = c.args.matrix.now in
     let one = c.args.one.now.lines in
     let two = c.args.two.now in
     let more = c.in-Some-2.more in
@@ -33,7 +33,7 @@ returns-in-Some-2-clause-covers t c =
 
 pub returns-in-Some-3-clause-covers : goal.returns-in-Some-3-clause-covers
 returns-in-Some-3-clause-covers t c =
-    let m = c.args.views.now in
+    let m = c.args.matrix.now in
     let one = c.args.one.now.lines in
     let two = c.args.two.now.lines in
     let halves = c.in-Some-3.halves in
@@ -43,7 +43,7 @@ returns-in-Some-3-clause-covers t c =
 
 pub returns-in-Some-4-clause-covers : goal.returns-in-Some-4-clause-covers
 returns-in-Some-4-clause-covers t c =
-    let m = c.args.views.now in
+    let m = c.args.matrix.now in
     let one = c.args.one.now.lines in
     let two = c.args.two.now.lines in
     let halves = c.in-Some-4.halves in
@@ -53,7 +53,7 @@ returns-in-Some-4-clause-covers t c =
 
 pub returns-clause-covers : goal.returns-clause-covers
 returns-clause-covers t c =
-    let m = c.args.views.now in
+    let m = c.args.matrix.now in
     let one = c.args.one.now.lines in
     let two = c.args.two.now.lines in
     let more_one = c.in_ok-more_one.more_one.lines in
@@ -63,8 +63,8 @@ returns-clause-covers t c =
     (c.in_ok-search-3.ensures.covers c.if-not-branch-3.false) c.search-3.ensures.more c.search-3.ensures.covers
 
 pub returns-in_default-next_line-clause-covers : goal.returns-in_default-next_line-clause-covers
-returns-in_default-next_line-clause-covers t c = λ e. covers_rest c.args.views.now (set_of c.args.one.now.lines) (set_of c.args.two.now.lines) (set_of c.add_rest-in_default-next_line.new.self) c.add_rest-in_default-next_line.ensures.rest
+returns-in_default-next_line-clause-covers t c = λ e. covers_rest c.args.matrix.now (set_of c.args.one.now.lines) (set_of c.args.two.now.lines) (set_of c.add_rest-in_default-next_line.new.self) c.add_rest-in_default-next_line.ensures.rest
 
 pub returns-clause-more : goal.returns-clause-more
 returns-clause-more t c =
-    within_both c.args.views.now (set_of c.args.self.now.parted) (set_of c.search-2.new.self.parted) (set_of c.search-3.new.self.parted) c.search-3.result c.in_ok-search-3.ensures.more c.search-3.ensures.more
+    within_both c.args.matrix.now (set_of c.args.self.now.parted) (set_of c.search-2.new.self.parted) (set_of c.search-3.new.self.parted) c.search-3.result c.in_ok-search-3.ensures.more c.search-3.ensures.more

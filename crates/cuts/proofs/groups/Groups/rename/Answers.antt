@@ -5,7 +5,7 @@ use Rattle.cuts.proofs.groups.Groups.rename.Goals as goal
 
 pub returns-clause-get : goal.returns-clause-get
 returns-clause-get c =
-    let m = c.args.views.now in
+    let m = c.args.matrix.now in
     let parted = c.args.parted.now in
     let before = c.args.self.now in
     let after = c.rename_others-2.new.names in

@@ -5,7 +5,7 @@ use Rattle.cuts.proofs.line_patterns.LinePatterns.halves_by_rows.Goals as goal
 
 pub grown_halves-requires-clause-halved : goal.grown_halves-requires-clause-halved
 grown_halves-requires-clause-halved c =
-    let m = c.args.views.now in
+    let m = c.args.matrix.now in
     let lines = c.args.side.now.lines in
     rows_halved m lines.rows.items lines.columns.items c.args.self.now.rows (set_of c.in_ok-one.one) (set_of c.in_ok-other.other) c.rows-shape.ensures.shape c.requires.patterns.rows (λ x l t. inr (c.in_ok-one.ensures.lines x l t))
     (λ x l t. inr (c.in_ok-other.ensures.lines x l t))

@@ -6,27 +6,27 @@ use Rattle.cuts.proofs.sides.Side.grown.Goals as goal
 
 pub grown_set-requires-clause-numbers : goal.grown_set-requires-clause-numbers
 grown_set-requires-clause-numbers c =
-    let m = c.args.views.now in
+    let m = c.args.matrix.now in
     let side = c.args.self.now in
     numbers_at m c.by_rows.result.now side.lines.rows.items c.deref.result.now side.column_numbers.items c.deref-2.result.now c.by_rows.ensures.matrix c.deref.ensures.value c.deref-2.ensures.value
     (to_columns m side.lines.rows.items side.column_numbers.items c.by_rows.ensures.shape c.requires.numbers.columns)
 
 pub grown_set-requires-2-clause-set : goal.grown_set-requires-2-clause-set
-grown_set-requires-2-clause-set c = wide_words c.args.views.now c.by_columns.result.now c.deref-4.result.now c.args.self.now.lines.columns.items c.by_columns.ensures.matrix c.deref-4.ensures.value c.requires.numbers.lines.columns
+grown_set-requires-2-clause-set c = wide_words c.args.matrix.now c.by_columns.result.now c.deref-4.result.now c.args.self.now.lines.columns.items c.by_columns.ensures.matrix c.deref-4.ensures.value c.requires.numbers.lines.columns
 
 pub grown_set-requires-2-clause-rows : goal.grown_set-requires-2-clause-rows
-grown_set-requires-2-clause-rows c = wide_words c.args.views.now c.by_columns.result.now c.deref-6.result.now c.args.lines.now.columns.items c.by_columns.ensures.matrix c.deref-6.ensures.value c.requires.lines.columns
+grown_set-requires-2-clause-rows c = wide_words c.args.matrix.now c.by_columns.result.now c.deref-6.result.now c.args.lines.now.columns.items c.by_columns.ensures.matrix c.deref-6.ensures.value c.requires.lines.columns
 
 pub grown_set-requires-2-clause-numbers : goal.grown_set-requires-2-clause-numbers
 grown_set-requires-2-clause-numbers c =
-    let m = c.args.views.now in
+    let m = c.args.matrix.now in
     let side = c.args.self.now in
     numbers_at (transposed m) c.by_columns.result.now side.lines.columns.items c.deref-4.result.now side.row_numbers.items c.deref-5.result.now c.by_columns.ensures.matrix c.deref-4.ensures.value c.deref-5.ensures.value
     (to_rows m side.lines.columns.items side.row_numbers.items (height m) c.by_rows.ensures.shape refl c.requires.numbers.rows)
 
 pub returns-clause-numbers : goal.returns-clause-numbers
 returns-clause-numbers c =
-    side_numbered c.args.views.now c.by_rows.result.now c.by_columns.result.now c.in_ok-rows.rows c.in_ok-columns.columns c.by_rows.ensures.shape c.by_rows.ensures.matrix c.by_columns.ensures.matrix c.in_ok-rows.ensures.numbers
+    side_numbered c.args.matrix.now c.by_rows.result.now c.by_columns.result.now c.in_ok-rows.rows c.in_ok-columns.columns c.by_rows.ensures.shape c.by_rows.ensures.matrix c.by_columns.ensures.matrix c.in_ok-rows.ensures.numbers
     c.in_ok-columns.ensures.numbers
 
 pub returns-clause-lines : goal.returns-clause-lines

@@ -8,7 +8,7 @@ made M upper lower left right = spread_at M (record { row = upper; column = left
 
 pub returns-clause-lower : goal.returns-clause-lower
 returns-clause-lower c =
-    let M = entry c.args.views.now in
+    let M = entry c.args.matrix.now in
     let d = c.args.self.now in
     let at = c.at-lines.result in
     ap (λ (x : ℕ). made M x at.lower at.left at.right) c.at-lines.ensures.rows.0 ∙ ap (λ (x : ℕ). made M d.second.row x at.left at.right) c.at-lines.ensures.rows.1

@@ -6,18 +6,18 @@ use Rattle.three_sep.proofs.search.Search.first_of_connector.Goals as goal
 
 pub first_of_other-requires-clause-line : goal.first_of_other-requires-clause-line
 first_of_other-requires-clause-line c =
-    below_line c.args.views.now (second_is_flat c.args.form) c.loop-o.o (let l = c.loop-o-test.true in let e = c.count_of-o-end.ensures.count ∙ ap (λ (z : Bool). line_count c.args.views.now z) c.second_is_flat.ensures in omega arith)
+    below_line c.args.matrix.now (second_is_flat c.args.form) c.loop-o.o (let l = c.loop-o-test.true in let e = c.count_of-o-end.ensures.count ∙ ap (λ (z : Bool). line_count c.args.matrix.now z) c.second_is_flat.ensures in omega arith)
 
 pub returns-in-Some-clause-first : goal.returns-in-Some-clause-first
-returns-in-Some-clause-first c = found_some c.args.views.now (corner_front c.args.form c.args.corners.now ++ c.args.q ∷ []) c.loop-o.o c.in_ok-three.field-0 c.in-Some.three (omega arith) c.loop-o.invariant.1 c.in-Some.is c.in_ok-three.ensures.first
+returns-in-Some-clause-first c = found_some c.args.matrix.now (corner_front c.args.form c.args.corners.now ++ c.args.q ∷ []) c.loop-o.o c.in_ok-three.field-0 c.in-Some.three (omega arith) c.loop-o.invariant.1 c.in-Some.is c.in_ok-three.ensures.first
 
 pub loop-o-preserved : goal.loop-o-preserved
 loop-o-preserved c = (
   c.in_ok-three.ensures.held,
-  none_more c.args.views.now (corner_front c.args.form c.args.corners.now ++ c.args.q ∷ []) c.loop-o.o c.in_ok-three.field-0 c.loop-o.invariant.1 c.in_default.is c.in_ok-three.ensures.none,
+  none_more c.args.matrix.now (corner_front c.args.form c.args.corners.now ++ c.args.q ∷ []) c.loop-o.o c.in_ok-three.field-0 c.loop-o.invariant.1 c.in_default.is c.in_ok-three.ensures.none,
 )
 
 pub returns-clause-none : goal.returns-clause-none
-returns-clause-none c = level_ends c.args.views.now (corner_front c.args.form c.args.corners.now ++ c.args.q ∷ []) c.loop-o.o (omega arith) c.loop-o.invariant.1
-    (λ s S b g h. let k = second_below c.args.views.now c.args.form c.args.corners.now c.args.q s S b g h in
-    let l = c.loop-o-test.false in let e = c.count_of-o-end.ensures.count ∙ ap (λ (z : Bool). line_count c.args.views.now z) c.second_is_flat.ensures in omega arith)
+returns-clause-none c = level_ends c.args.matrix.now (corner_front c.args.form c.args.corners.now ++ c.args.q ∷ []) c.loop-o.o (omega arith) c.loop-o.invariant.1
+    (λ s S b g h. let k = second_below c.args.matrix.now c.args.form c.args.corners.now c.args.q s S b g h in
+    let l = c.loop-o-test.false in let e = c.count_of-o-end.ensures.count ∙ ap (λ (z : Bool). line_count c.args.matrix.now z) c.second_is_flat.ensures in omega arith)

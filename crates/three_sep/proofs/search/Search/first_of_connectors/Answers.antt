@@ -10,7 +10,7 @@ use Rattle.three_sep.proofs.search.Search.first_of_connectors.Goals as goal
 
 pub first_of_lines-requires-clause-connectors : goal.first_of_lines-requires-clause-connectors
 first_of_lines-requires-clause-connectors c =
-    let m = c.args.views.now in
+    let m = c.args.matrix.now in
     let d = c.args.corners.now in
     subst (λ (e : Connectors). AreConnectorsOf m c.args.form c.rule_at-rule.result e) (sym c.at-connectors.ensures)
     (subst (λ (r : Rule). AreConnectorsOf m c.args.form r (connectors_at d c.args.q c.args.o)) (sym c.rule_at-rule.ensures)
@@ -18,13 +18,13 @@ first_of_lines-requires-clause-connectors c =
 
 pub first_of_lines-requires-clause-growing : goal.first_of_lines-requires-clause-growing
 first_of_lines-requires-clause-growing c =
-    let m = c.args.views.now in
+    let m = c.args.matrix.now in
     let side = c.args.self.now.side in
     subst (λ (e : Connectors). IsGrowing m (upper_of m c.rule_at-rule.result) (lower_of m c.rule_at-rule.result) (firsts c.args.form e) side) (sym c.at-connectors.ensures)
     (subst (λ (r : Rule). IsGrowing m (upper_of m r) (lower_of m r) (held_lines c.args.form c.args.corners.now c.args.q) side) (sym c.rule_at-rule.ensures) c.requires.held.growing)
 
 pub returns-clause-first : goal.returns-clause-first
-returns-clause-first c = subst (λ (e : Connectors). IfOk c.first_of_lines.result (λ answer. IfSome answer (IsFirstOf c.args.views.now (all_front c.args.form e)))) c.at-connectors.ensures c.first_of_lines.ensures.first
+returns-clause-first c = subst (λ (e : Connectors). IfOk c.first_of_lines.result (λ answer. IfSome answer (IsFirstOf c.args.matrix.now (all_front c.args.form e)))) c.at-connectors.ensures c.first_of_lines.ensures.first
 
 pub returns-clause-none : goal.returns-clause-none
-returns-clause-none c = subst (λ (e : Connectors). IfOk c.first_of_lines.result (λ answer. IfNone answer (HasNoGood c.args.views.now (all_front c.args.form e)))) c.at-connectors.ensures c.first_of_lines.ensures.none
+returns-clause-none c = subst (λ (e : Connectors). IfOk c.first_of_lines.result (λ answer. IfNone answer (HasNoGood c.args.matrix.now (all_front c.args.form e)))) c.at-connectors.ensures c.first_of_lines.ensures.none

@@ -4,4 +4,4 @@ use Rattle.three_sep.specs.Searches.{HasNoneBelow, IsSearchOf}
 use Rattle.three_sep.proofs.search.Search.first_of_corner.Given as goal
 
 abbrev pub invariant-loop-k : goal.invariant-loop-k
-invariant-loop-k l = IsSearchOf l.views l.self × HasNoneBelow l.views (form_number l.form ∷ l.i ∷ l.p ∷ []) l.k
+invariant-loop-k l = IsSearchOf l.matrix l.self × HasNoneBelow l.matrix (form_number l.form ∷ l.i ∷ l.p ∷ []) l.k

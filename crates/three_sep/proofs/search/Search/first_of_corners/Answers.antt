@@ -12,22 +12,22 @@ use Rattle.three_sep.proofs.search.Search.first_of_corners.Goals as goal
 use Rattle.three_sep.proofs.search.Search.first_of_corners.Goals.{then-branch+in_ok-three+in_default, else-branch}
 
 pub returns-then-not-branch-clause-none : goal.returns-then-not-branch-clause-none
-returns-then-not-branch-clause-none c = no_good_corners c.args.views.now c.args.form c.requires.crossing c.args.corners.now
-    (subst (λ (r : Rule). HasNoneParting c.args.views.now r (Row c.args.corners.now.i ∷ Column c.args.corners.now.p ∷ []) (Row c.args.corners.now.k ∷ Column c.args.corners.now.j ∷ [])) c.rule_at.ensures (c.in_ok-may_part.ensures.none c.if-not-branch.true))
+returns-then-not-branch-clause-none c = no_good_corners c.args.matrix.now c.args.form c.requires.crossing c.args.corners.now
+    (subst (λ (r : Rule). HasNoneParting c.args.matrix.now r (Row c.args.corners.now.i ∷ Column c.args.corners.now.p ∷ []) (Row c.args.corners.now.k ∷ Column c.args.corners.now.j ∷ [])) c.rule_at.ensures (c.in_ok-may_part.ensures.none c.if-not-branch.true))
 
 pub may_part-requires-clause-rule : goal.may_part-requires-clause-rule
-may_part-requires-clause-rule c = subst (λ (r : Rule). IsRuleOf c.args.views.now r) (sym c.rule_at.ensures) (rule_inside c.args.views.now c.args.corners.now c.requires.corners.inside)
+may_part-requires-clause-rule c = subst (λ (r : Rule). IsRuleOf c.args.matrix.now r) (sym c.rule_at.ensures) (rule_inside c.args.matrix.now c.args.corners.now c.requires.corners.inside)
 
 pub hold_first-requires-clause-line : goal.hold_first-requires-clause-line
 hold_first-requires-clause-line c =
-    below_line c.args.views.now (first_is_flat c.args.form) c.loop-q.q (let l = c.loop-q-test.true in let e = c.count_of-q-end.ensures.count ∙ ap (λ (z : Bool). line_count c.args.views.now z) c.first_is_flat.ensures in omega arith)
+    below_line c.args.matrix.now (first_is_flat c.args.form) c.loop-q.q (let l = c.loop-q-test.true in let e = c.count_of-q-end.ensures.count ∙ ap (λ (z : Bool). line_count c.args.matrix.now z) c.first_is_flat.ensures in omega arith)
 
 pub returns-in-Some-clause-first : goal.returns-in-Some-clause-first
-returns-in-Some-clause-first c = found_some c.args.views.now (corner_front c.args.form c.args.corners.now) c.loop-q.q c.in_ok-three.field-0 c.in-Some.three (omega arith) c.loop-q.invariant.1 c.in-Some.is c.in_ok-three.ensures.first
+returns-in-Some-clause-first c = found_some c.args.matrix.now (corner_front c.args.form c.args.corners.now) c.loop-q.q c.in_ok-three.field-0 c.in-Some.three (omega arith) c.loop-q.invariant.1 c.in-Some.is c.in_ok-three.ensures.first
 
 pub loop-q-preserved : goal.loop-q-preserved
 loop-q-preserved c =
-    let m = c.args.views.now in
+    let m = c.args.matrix.now in
     let front = corner_front c.args.form c.args.corners.now in
     elim c.if-branch.branch [
       | then-branch+in_ok-three+in_default w ↦ (
@@ -41,6 +41,6 @@ loop-q-preserved c =
     ]
 
 pub returns-clause-none : goal.returns-clause-none
-returns-clause-none c = level_ends c.args.views.now (corner_front c.args.form c.args.corners.now) c.loop-q.q (omega arith) c.loop-q.invariant.1
-    (λ s S b g h. let k = first_below c.args.views.now c.args.form c.args.corners.now s S b g h in
-    let l = c.loop-q-test.false in let e = c.count_of-q-end.ensures.count ∙ ap (λ (z : Bool). line_count c.args.views.now z) c.first_is_flat.ensures in omega arith)
+returns-clause-none c = level_ends c.args.matrix.now (corner_front c.args.form c.args.corners.now) c.loop-q.q (omega arith) c.loop-q.invariant.1
+    (λ s S b g h. let k = first_below c.args.matrix.now c.args.form c.args.corners.now s S b g h in
+    let l = c.loop-q-test.false in let e = c.count_of-q-end.ensures.count ∙ ap (λ (z : Bool). line_count c.args.matrix.now z) c.first_is_flat.ensures in omega arith)

@@ -7,14 +7,14 @@ use Rattle.three_sep.proofs.search.Search.first_of_row.Goals as goal
 use Rattle.three_sep.proofs.search.Search.first_of_row.Goals.{then-is_nonzero+in_ok-three+in_default, else-is_nonzero}
 
 pub returns-then-are_all_one-clause-none : goal.returns-then-are_all_one-clause-none
-returns-then-are_all_one-clause-none c = no_good_whole c.args.views.now c.args.form c.requires.crossing c.args.self.now.groups c.args.i c.requires.search.names c.requires.search.together (c.are_all_one.ensures c.if-are_all_one.true)
+returns-then-are_all_one-clause-none c = no_good_whole c.args.matrix.now c.args.form c.requires.crossing c.args.self.now.groups c.args.i c.requires.search.names c.requires.search.together (c.are_all_one.ensures c.if-are_all_one.true)
 
 pub returns-in-Some-clause-first : goal.returns-in-Some-clause-first
-returns-in-Some-clause-first c = found_some c.args.views.now (form_number c.args.form ∷ c.args.i ∷ []) c.loop-p.p c.in_ok-three.field-0 c.in-Some.three (omega arith) c.loop-p.invariant.1 c.in-Some.is c.in_ok-three.ensures.first
+returns-in-Some-clause-first c = found_some c.args.matrix.now (form_number c.args.form ∷ c.args.i ∷ []) c.loop-p.p c.in_ok-three.field-0 c.in-Some.three (omega arith) c.loop-p.invariant.1 c.in-Some.is c.in_ok-three.ensures.first
 
 pub loop-p-preserved : goal.loop-p-preserved
 loop-p-preserved c =
-    let m = c.args.views.now in
+    let m = c.args.matrix.now in
     elim c.if-is_nonzero.branch [
       | then-is_nonzero+in_ok-three+in_default w ↦ (
         subst (λ (s : Search). IsSearchOf m s) (sym w.self-is) w.in_ok-three.ensures.search,
@@ -27,5 +27,5 @@ loop-p-preserved c =
     ]
 
 pub returns-clause-none : goal.returns-clause-none
-returns-clause-none c = level_ends c.args.views.now (form_number c.args.form ∷ c.args.i ∷ []) c.loop-p.p (omega arith) c.loop-p.invariant.1
-    (λ s S b g h. let k = (good_inside c.args.views.now s S g).column_one in let e = h.1.1.0 in let l = c.loop-p-test.false in let r = c.columns-p-end.ensures.columns in omega arith)
+returns-clause-none c = level_ends c.args.matrix.now (form_number c.args.form ∷ c.args.i ∷ []) c.loop-p.p (omega arith) c.loop-p.invariant.1
+    (λ s S b g h. let k = (good_inside c.args.matrix.now s S g).column_one in let e = h.1.1.0 in let l = c.loop-p-test.false in let r = c.columns-p-end.ensures.columns in omega arith)

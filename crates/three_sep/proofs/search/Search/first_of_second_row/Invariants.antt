@@ -4,4 +4,4 @@ use Rattle.three_sep.specs.Searches.{HasNoneBelow, IsSearchOf}
 use Rattle.three_sep.proofs.search.Search.first_of_second_row.Given as goal
 
 abbrev pub invariant-loop-j : goal.invariant-loop-j
-invariant-loop-j l = IsSearchOf l.views l.self × HasNoneBelow l.views (form_number l.form ∷ l.i ∷ l.p ∷ l.k ∷ []) l.j
+invariant-loop-j l = IsSearchOf l.matrix l.self × HasNoneBelow l.matrix (form_number l.form ∷ l.i ∷ l.p ∷ l.k ∷ []) l.j

@@ -17,10 +17,10 @@ use Rattle.three_sep.proofs.SideLemmas.{no_good_side, rule_inside}
 use Rattle.three_sep.proofs.search.Search.hold_first.Goals as goal
 
 pub returns-then-not-is_first_other-clause-no : goal.returns-then-not-is_first_other-clause-no
-returns-then-not-is_first_other-clause-no c = λ e. no_good_first c.args.views.now c.args.form c.requires.crossing c.args.corners.now c.args.q (c.is_first_other.ensures.no c.if-not-is_first_other.true)
+returns-then-not-is_first_other-clause-no c = λ e. no_good_first c.args.matrix.now c.args.form c.requires.crossing c.args.corners.now c.args.q (c.is_first_other.ensures.no c.if-not-is_first_other.true)
 
 pub leaves-requires-clause-rule : goal.leaves-requires-clause-rule
-leaves-requires-clause-rule c = subst (λ (r : Rule). IsRuleOf c.args.views.now r) (sym c.rule_at.ensures) (rule_inside c.args.views.now c.args.corners.now c.requires.inside)
+leaves-requires-clause-rule c = subst (λ (r : Rule). IsRuleOf c.args.matrix.now r) (sym c.rule_at.ensures) (rule_inside c.args.matrix.now c.args.corners.now c.requires.inside)
 
 module _ (m : Matrix) (form : Form) (d : Corners) (q : ℕ) (rule : Rule) (lines : List Line) (same : rule ≡ rule_of d) (are : lines ≡ held_lines form d q) where
   growing_as : (side : GrowingSet) → IsGrowing m (upper_of m rule) (lower_of m rule) lines side → IsGrowing m (product_at (entry m) d.i d.j) (product_at (entry m) d.k d.p) (held_lines form d q) side
@@ -31,7 +31,7 @@ module _ (m : Matrix) (form : Form) (d : Corners) (q : ℕ) (rule : Rule) (lines
 
 pub returns-clause-held : goal.returns-clause-held
 returns-clause-held c =
-    let m = c.args.views.now in
+    let m = c.args.matrix.now in
     let form = c.args.form in
     let d = c.args.corners.now in
     let q = c.args.q in
@@ -47,7 +47,7 @@ returns-clause-held c =
 
 pub returns-clause-no : goal.returns-clause-no
 returns-clause-no c =
-    let m = c.args.views.now in
+    let m = c.args.matrix.now in
     let form = c.args.form in
     let d = c.args.corners.now in
     let q = c.args.q in

@@ -7,5 +7,5 @@ returns c = record {
   side = c.in_ok-new.ensures.room;
   grown = c.in_ok-new-2.ensures.room;
   names = c.in_ok-new-3.ensures.names;
-  together = apart_together c.args.views.now c.in_ok-new-3.field-0 (IsCut c.args.views.now) c.in_ok-new-3.ensures.apart;
+  together = apart_together c.args.matrix.now c.in_ok-new-3.field-0 (IsCut c.args.matrix.now) c.in_ok-new-3.ensures.apart;
 }
