@@ -50,7 +50,8 @@ pub fn connector_lines(connector: Connector, flat: bool) -> [Line; 3]
 /// Whether q can be the first connector's other line.
 pub fn is_first_other(matrix: &RowsAndColumns<'_>, form: Form, corners: &Corners, q: u32) -> bool
     requires inside { AreInside matrix.now corners.now }
-    requires line { IsLine (height matrix.now) matrix.now.width (other_line (first_is_flat form) q) }
+    requires line { IsLine (height matrix.now) matrix.now.width
+        (other_line (first_is_flat form) q) }
     ensures yes { result ≡ true
         → IsTied (entry matrix.now) (first_is_flat form) (first_at corners.now q)
         corners.now.k corners.now.j }
@@ -68,7 +69,8 @@ pub fn is_first_other(matrix: &RowsAndColumns<'_>, form: Form, corners: &Corners
 /// Whether o can be the second connector's other line.
 pub fn is_second_other(matrix: &RowsAndColumns<'_>, form: Form, corners: &Corners, o: u32) -> bool
     requires inside { AreInside matrix.now corners.now }
-    requires line { IsLine (height matrix.now) matrix.now.width (other_line (second_is_flat form) o) }
+    requires line { IsLine (height matrix.now) matrix.now.width
+        (other_line (second_is_flat form) o) }
     ensures yes { result ≡ true
         → IsTied (entry matrix.now) (second_is_flat form) (second_at corners.now o)
         corners.now.i corners.now.p }
@@ -192,7 +194,8 @@ fn is_column_apart(
     requires column { column < matrix.now.width }
     ensures { result ≡ false → entry matrix.now own column ≡ pos 0
         → entry matrix.now across column ≢ pos 0
-        → name_of matrix.now groups.now (Column column) ≡ name_of matrix.now groups.now (Row across) }
+        → name_of matrix.now groups.now (Column column)
+        ≡ name_of matrix.now groups.now (Row across) }
 {
     if !is_flat_other(matrix, own, across, column) {
         return false;
