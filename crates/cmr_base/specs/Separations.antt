@@ -46,9 +46,9 @@ count_in lines rows columns = length (rows_in lines rows) + length (columns_in l
 
 -- What the entries between the sides are: `upper` those of the rows of side one in columns of side two, `lower` those of the
 -- rows of side two in columns of side one.
-pub record HasBlocks (M : ℕ → ℕ → ℤ) (rows columns : List ℕ) (side : Lines) (upper lower : ℕ → ℕ → ℤ) : Type 0 where
-  pub upper : (r c : ℕ) → Contains rows r → Contains columns c → side (Row r) ≡ true → side (Column c) ≡ false → M r c ≡ upper r c
-  pub lower : (r c : ℕ) → Contains rows r → Contains columns c → side (Row r) ≡ false → side (Column c) ≡ true → M r c ≡ lower r c
+pub record HasBlocks (M : ℕ → ℕ → ℤ) (rows columns : List ℕ) (side : Lines) (upper_entry lower_entry : ℕ → ℕ → ℤ) : Type 0 where
+  pub upper : (r c : ℕ) → Contains rows r → Contains columns c → side (Row r) ≡ true → side (Column c) ≡ false → M r c ≡ upper_entry r c
+  pub lower : (r c : ℕ) → Contains rows r → Contains columns c → side (Row r) ≡ false → side (Column c) ≡ true → M r c ≡ lower_entry r c
 
 -- at least so many lines on each side
 pub record AreEnough (rows columns : List ℕ) (side : Lines) (least : ℕ) : Type 0 where

@@ -31,13 +31,13 @@ abbrev pub IsClosedIn : Matrix → (upper lower : ℕ → ℕ → ℤ) → Lines
 IsClosedIn m upper lower T = IsClosed (height m) m.width (entry m) upper lower T
 
 -- It has the start and is in every closed set that has it, and where a line breaks a rule with a line of it, that one waits.
-pub record IsGrowing (m : Matrix) (upper lower : ℕ → ℕ → ℤ) (start : List Line) (set : GrowingSet) : Type 0 where
+pub record IsGrowing (m : Matrix) (upper_entry lower_entry : ℕ → ℕ → ℤ) (start : List Line) (set : GrowingSet) : Type 0 where
   pub has : HasAll (set_of set) start
-  pub least : (T : Lines) → IsClosedIn m upper lower T → HasAll T start → (x : Line) → IsLine (height m) m.width x → set_of set x ≡ true → T x ≡ true
+  pub least : (T : Lines) → IsClosedIn m upper_entry lower_entry T → HasAll T start → (x : Line) → IsLine (height m) m.width x → set_of set x ≡ true → T x ≡ true
   pub upper : (r k : ℕ) → r < height m → k < m.width → set_of set (Row r) ≡ true → set_of set (Column k) ≡ false
-      → IsIn r set.rows.fresh.items ⊎ (entry m r k ≡ upper r k)
+      → IsIn r set.rows.fresh.items ⊎ (entry m r k ≡ upper_entry r k)
   pub lower : (r k : ℕ) → r < height m → k < m.width → set_of set (Row r) ≡ false → set_of set (Column k) ≡ true
-      → IsIn k set.columns.fresh.items ⊎ (entry m r k ≡ lower r k)
+      → IsIn k set.columns.fresh.items ⊎ (entry m r k ≡ lower_entry r k)
 
 -- what holds of a start before holds after
 abbrev pub KeepsGrowing : Matrix → (upper lower : ℕ → ℕ → ℤ) → GrowingSet → GrowingSet → Type 0
