@@ -125,7 +125,11 @@ fn least_by_rows<R: Threads + Sync, S: Sought>(
 {
     let matrix = matrix.by_rows();
     let total = set_count(matrix.rows());
-    let workers = if total <= FEW_SETS { Workers::new(1) } else { workers };
+    let workers = if total <= FEW_SETS {
+        Workers::new(1)
+    } else {
+        workers
+    };
     match first_hit(rt, alloc, workers, total, &RowProbe { matrix, sought })? {
         Some(number) => Ok(Some(sought.lines(alloc, matrix, number)?)),
         None => Ok(None),

@@ -79,7 +79,8 @@ fn at_the_same_time(rt: HostRuntime) -> Result<(), Fail> {
         flags: [AtomicU64::new(0), AtomicU64::new(0)],
         seen: [AtomicU64::new(0), AtomicU64::new(0)],
     };
-    assert_eq!(rt; first_hit(&rt, rt.alloc(), Workers::new(2), 2, &meeting)?, None);
+    let found = first_hit(&rt, rt.alloc(), Workers::new(2), 2, &meeting)?;
+    assert_eq!(rt; found, None);
     assert_eq!(rt; meeting.seen[0].load(Ordering::SeqCst), 1);
     assert_eq!(rt; meeting.seen[1].load(Ordering::SeqCst), 1);
     Ok(())
