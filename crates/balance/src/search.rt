@@ -3,7 +3,8 @@ ghost use Rattle.std.specs.Prelude.{◌≤◌, IfOk};
 ghost use Rattle.balance.specs.Searched.{HasSearchedFaults};
 
 use crate::faults::Faults;
-use cmr_base::{MAX_LINES, Matrix, Memory};
+use cmr_base::{MAX_LINES, Matrix, Memory, RowsAndColumns};
+use first_hit::Workers;
 use leaf_enumerate::{LeastSubmatrix, least_submatrix};
 use std::alloc::Global;
 use std::thread::Threads;
@@ -17,12 +18,13 @@ pub fn least_balance_fault<R: Threads + Sync>(
     alloc: Global,
     matrix: &Matrix,
     limit: u32,
-    workers: u32,
+    workers: Workers,
 ) -> Result<LeastSubmatrix, Memory>
     requires limit { limit ≤ MAX_LINES }
-    requires workers { (1 ≤ workers) × (workers ≤ 64) }
     ensures { IfOk result (HasSearchedFaults matrix.now limit) }
 {
-    let _rows = matrix.rows();
-    least_submatrix(rt, alloc, matrix, &Faults, limit, workers)
+    let columns = matrix.transposed(alloc)?;
+    let both = RowsAndColumns::of(matrix, &columns);
+    let _rows = both.rows();
+    least_submatrix(rt, alloc, &both, &Faults, limit, workers)
 }

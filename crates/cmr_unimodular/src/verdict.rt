@@ -2,7 +2,7 @@
 ghost use Rattle.std.specs.Prelude.{◌≡◌, ◌≤◌, ◌++◌, IfOk, OnOk, map, option_map};
 ghost use Rattle.cert_check.specs.Laws.{Tells};
 ghost use Rattle.cmr_front.specs.Outcome.{file_of, outcome_report};
-ghost use Rattle.cmr_unimodular.specs.Verdict.{Decides, answer_of, answer_word, fault_file, named_line, tree_file, verdict_in, verdict_order_of, verdict_output, verdict_report};
+ghost use Rattle.cmr_unimodular.specs.Verdict.{Decides, IsDecomposition, IsTold, answer_of, answer_word, fault_file, named_line, tree_file, verdict_in, verdict_order_of, verdict_output, verdict_report};
 ghost use Rattle.tree_type.specs.Trees.{tree_of};
 ghost use Rattle.tree_type.specs.Verdicts.{verdict_shown};
 
@@ -13,6 +13,7 @@ use cmr_front::outcome::{Outcome, OutputFile};
 use cmr_front::printed::{push_open_line, push_violator_line};
 use cmr_front::status::Answer;
 use decomp_tree::decompose;
+use first_hit::Workers;
 use std::alloc::Global;
 use std::thread::Threads;
 use tree_text::write_tree;
@@ -48,18 +49,36 @@ pub fn give_verdict<'a, R: Threads + Sync>(
     ensures { IfOk result (λ outcome.
         Decides (verdict_order_of options.now) matrix.now (outcome_report outcome)) }
 {
+    let tree = decomposed(rt, alloc, options, matrix)?;
+    report_tree(alloc, options, matrix, &tree)
+}
+
+/// A decomposition of the matrix, whose verdict is right.
+pub fn decomposed<R: Threads + Sync>(
+    rt: &R,
+    alloc: Global,
+    options: &VerdictOptions<'_>,
+    matrix: &Matrix,
+) -> Result<DecTree, Memory>
+    requires lines { options.now.lines ≤ MAX_LINES }
+    requires workers { (1 ≤ options.now.workers) × (options.now.workers ≤ 64) }
+    ensures decomposition { IfOk result (IsDecomposition options.now.lines options.now.pivots
+        matrix.now) }
+    ensures told { IfOk result (λ tree. IsTold options.now.lines matrix.now (verdict_in tree)) }
+    ensures tells { IfOk result (λ tree. Tells matrix.now (verdict_in tree)) }
+{
     let tree = decompose(
         rt,
         alloc,
         matrix,
         options.lines,
         options.pivots,
-        options.workers,
+        Workers::new(options.workers),
     )?;
     let root = tree.root();
     let rows = matrix.rows();
     prove!(root.lines.rows.len() == rows as usize);
-    report_tree(alloc, options, matrix, &tree)
+    Ok(tree)
 }
 
 /// The report of a tree whose verdict is right.

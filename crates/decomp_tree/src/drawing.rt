@@ -8,6 +8,7 @@ ghost use Rattle.decomp_tree.specs.PivotedShapes.{IsShapeWith, pivots_within};
 use crate::budget::Budget;
 use crate::settling::draw_root;
 use cmr_base::{LineSet, MAX_DEPTH, MAX_LINES, Matrix, Memory};
+use first_hit::Workers;
 use std::alloc::Global;
 use std::thread::Threads;
 use tree_type::DecTree;
@@ -24,10 +25,9 @@ pub fn decompose<R: Threads + Sync>(
     matrix: &Matrix,
     limit: u32,
     pivots: u32,
-    workers: u32,
+    workers: Workers,
 ) -> Result<DecTree, Memory>
-    requires limit { limit ≤ MAX_LINES }
-    requires workers { (1 ≤ workers) × (workers ≤ 64) }
+    requires { limit ≤ MAX_LINES }
     ensures rows { IfOk result (λ tree. tree.rows ≡ height matrix.now) }
     ensures columns { IfOk result (λ tree. tree.columns ≡ matrix.now.width) }
     ensures shape { IfOk result (λ tree. IsShapeWith limit pivots matrix.now (tree_of tree.root)) }

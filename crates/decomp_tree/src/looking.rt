@@ -20,7 +20,7 @@ use crate::node::Node;
 use crate::obstructions::Obstruction;
 use crate::seen::{Seen, above_one, above_two, leaf};
 use cmr_base::{LineSet, Matrix, Memory, RowsAndColumns, Three, Two};
-use leaf_enumerate::{LeastSubmatrix, least_violator};
+use leaf_enumerate::{LeastSubmatrix, least_violator_of};
 use network_orient::orientation_of;
 use r10_leaf::is_r10;
 use sp_reduce::{FirstLook, Reduction, first_look, reduce};
@@ -282,10 +282,10 @@ fn look_last<R: Threads + Sync>(rt: &R, alloc: Global, node: &Node<'_>) -> Resul
     requires faultless { HasNoCycleFault (entry (inner_of node.now)) }
     ensures { IfOk result (IsSeenAt node.now) }
 {
-    let finding = match least_violator(
+    let finding = match least_violator_of(
         rt,
         alloc,
-        node.inner.by_rows(),
+        node.inner,
         node.budget.limit(),
         node.budget.workers(),
     )? {

@@ -5,19 +5,19 @@ use Rattle.std.proofs.lemmas.Nat.{div-add-mod'}
 use Rattle.std.proofs.Math.Nat.{mod-lt, lt-div-mul-add, div-lt_iff_lt-mul, div-mul-le_self}
 use Rattle.first_hit.specs.declared.round.Round.{Round}
 use Rattle.first_hit.specs.First.{NoneBetween, IsFirst}
-use Rattle.first_hit.specs.Runs.{IsFirstInRuns, IsRound, NoneInRows, run_start}
+use Rattle.first_hit.specs.Runs.{IsFirstInRuns, NoneInRows, run_start}
 
 -- ---- the whole round
 
-whole : (holds : ℕ → Type 0) (round : Round) (bound : ℕ) → IsRound round → bound ≤ round.to → NoneInRows holds round round.rows 0 round.workers bound → NoneBetween holds round.from bound
-whole holds round bound is under none k low high =
+whole : (holds : ℕ → Type 0) (round : Round) (bound : ℕ) → bound ≤ round.to → NoneInRows holds round round.rows 0 round.workers bound → NoneBetween holds round.from bound
+whole holds round bound under none k low high =
     let d = k - round.from in
     let c = d / round.run in
     let row = c / round.workers in
     let worker = c % round.workers in
-    let some_run = is.run in
-    let some_workers = is.workers in
-    let inside : d < round.rows * round.workers * round.run = omega (arith, is.covered) in
+    let some_run = round.some_run in
+    let some_workers = round.some_workers in
+    let inside : d < round.rows * round.workers * round.run = omega (arith, round.covered) in
     let places : (c < round.rows * round.workers) ↔ (d < round.rows * round.workers * round.run) = div-lt_iff_lt-mul (omega arith) in
     let place : c < round.rows * round.workers = places.1 inside in
     let rows : (row < round.rows) ↔ (c < round.rows * round.workers) = div-lt_iff_lt-mul (omega arith) in
@@ -29,9 +29,9 @@ whole holds round bound is under none k low high =
     let start : run_start round row worker ≡ round.from + c * round.run = ap (λ (a : ℕ). round.from + a * round.run) at in
     none row worker k in_rows (omega arith) in_workers (omega (arith, start, begins)) (omega (arith, start, ends)) high
 
-pub first_of_round : (holds : ℕ → Type 0) (round : Round) (answer : Option ℕ) → IsRound round → IsFirstInRuns holds round 0 round.workers answer → IsFirst holds round.from round.to answer
-first_of_round holds round None is none = whole holds round round.to is (omega arith) none
-first_of_round holds round (Some k) is found = (found.0, found.1, found.2, whole holds round k is (omega (arith, found.1)) found.3)
+pub first_of_round : (holds : ℕ → Type 0) (round : Round) (answer : Option ℕ) → IsFirstInRuns holds round 0 round.workers answer → IsFirst holds round.from round.to answer
+first_of_round holds round None none = whole holds round round.to (omega arith) none
+first_of_round holds round (Some k) found = (found.0, found.1, found.2, whole holds round k (omega (arith, found.1)) found.3)
 
 pub none_longer : (holds : ℕ → Type 0) (from middle to : ℕ) → NoneBetween holds from middle → NoneBetween holds middle to → NoneBetween holds from to
 none_longer holds from middle to one two k low high = elim (cases_lt k middle) [

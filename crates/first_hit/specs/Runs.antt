@@ -1,18 +1,10 @@
 -- The runs of numbers that the workers of a round go through.
-use Rattle.std.specs.Prelude.{ℕ, ◌<◌, ◌≤◌, ◌+◌, ◌*◌, ◌^◌, min, Option, Some, None}
+use Rattle.std.specs.Prelude.{ℕ, ◌<◌, ◌≤◌, ◌+◌, ◌*◌, min, Option, Some, None}
 use Rattle.first_hit.specs.declared.round.Round.{Round}
 
 -- where a worker's run of a row begins: a row has one run for each worker, in their order
 abbrev pub run_start : Round → ℕ → ℕ → ℕ
 run_start round row worker = round.from + (row * round.workers + worker) * round.run
-
--- the range of a round is not longer than its rows of runs
-pub record IsRound (round : Round) : Type 0 where
-  pub ordered : round.from ≤ round.to
-  pub workers : (1 ≤ round.workers) × (round.workers ≤ 64)
-  pub run : (1 ≤ round.run) × (round.run ≤ 2 ^ 32)
-  pub rows : round.rows ≤ 256
-  pub covered : round.to ≤ round.from + round.rows * round.workers * round.run
 
 -- nothing below a bound holds in the runs of some workers, in the rows from the first on
 abbrev pub NoneInRows : (ℕ → Type 0) → Round → ℕ → ℕ → ℕ → ℕ → Type 0

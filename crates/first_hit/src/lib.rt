@@ -4,6 +4,8 @@
 mod probe;
 mod round;
 mod search;
+mod workers;
 
 pub use probe::Probe;
 pub use search::first_hit;
+pub use workers::Workers;

@@ -1,13 +1,13 @@
 // A round of the search: a range of numbers that the workers share out.
-ghost use Rattle.std.specs.Prelude.{◌≡◌, ◌<◌, ◌≤◌, ◌+◌, ◌^◌, IfOk};
-ghost use Rattle.first_hit.specs.First.{IsFirst};
-ghost use Rattle.first_hit.specs.Runs.{IsFirstInRuns, IsRound};
+ghost use Rattle.std.specs.Prelude.{◌≡◌, ◌<◌, ◌≤◌, ◌+◌, ◌*◌, ◌^◌, IfOk};
 
 use crate::probe::Probe;
+use crate::workers::Workers;
 use cmr_base::Memory;
 use std::alloc::Global;
 
-/// The numbers from one to another, in rows of runs: a row has one run for each worker, in their order.
+/// The numbers from one to another, in rows of runs: a row has one run for each worker, in their order. The range is not
+/// longer than its rows.
 #[derive(Clone, Copy)]
 pub struct Round {
     pub from: u64,
@@ -15,22 +15,29 @@ pub struct Round {
     pub workers: u64,
     pub run: u64,
     pub rows: u64,
+    ghost ordered: { from ≤ to },
+    ghost some_workers: { (1 ≤ workers) × (workers ≤ 64) },
+    ghost some_run: { (1 ≤ run) × (run ≤ 2 ^ 32) },
+    ghost few_rows: { rows ≤ 256 },
+    ghost covered: { to ≤ from + rows * workers * run },
 }
 
 impl Round {
+    ghost use Rattle.first_hit.specs.First.{IsFirst};
+    ghost use Rattle.first_hit.specs.Runs.{IsFirstInRuns};
+
     /// The round from a number on with at most so many rows. Where few numbers are left, the runs are shorter, so that
     /// each worker has one.
-    pub fn new(from: u64, total: u64, workers: u64, run: u64, rows: u64) -> Round
+    pub fn new(from: u64, total: u64, workers: Workers, run: u64, rows: u64) -> Round
         requires left { from < total }
-        requires workers { (1 ≤ workers) × (workers ≤ 64) }
         requires run { (1 ≤ run) × (run ≤ 2 ^ 32) }
         requires rows { (1 ≤ rows) × (rows ≤ 256) }
-        ensures round { IsRound result }
         ensures from { result.from ≡ from }
-        ensures workers { result.workers ≡ workers }
+        ensures workers { result.workers ≡ workers.number }
         ensures goes_on { from < result.to }
         ensures to { result.to ≤ total }
     {
+        let workers = u64::from(workers.number());
         let left = total - from;
         let run = run.min((left - 1) / workers + 1);
         let size = left.min(rows * workers * run);
@@ -50,8 +57,7 @@ impl Round {
         worker: u64,
         probe: &P,
     ) -> Result<Option<u64>, Memory>
-        requires round { IsRound self.now }
-        requires worker { worker < self.now.workers }
+        requires { worker < self.now.workers }
         ensures { IfOk result (IsFirstInRuns (P.holds probe.now) self.now worker (worker + 1)) }
     {
         for row in 0..self.rows {

@@ -2,10 +2,11 @@
 ghost use Rattle.std.specs.Prelude.{◌≡◌, ◌<◌, ◌≤◌, ◌+◌, IfOk};
 ghost use Rattle.std.specs.Thread.{IsSync};
 ghost use Rattle.first_hit.specs.First.{IsFirst};
-ghost use Rattle.first_hit.specs.Runs.{IsFirstInRuns, IsRound, lesser};
+ghost use Rattle.first_hit.specs.Runs.{IsFirstInRuns, lesser};
 
 use crate::probe::Probe;
 use crate::round::Round;
+use crate::workers::Workers;
 use cmr_base::Memory;
 use std::alloc::Global;
 use std::thread::{Threads, join};
@@ -19,21 +20,20 @@ const MOST_ROWS: u64 = 256;
 pub fn first_hit<R: Threads + Sync, P: Probe>(
     rt: &R,
     alloc: Global,
-    workers: u32,
+    workers: Workers,
     total: u64,
     probe: &P,
 ) -> Result<Option<u64>, Memory>
-    requires { (1 ≤ workers) × (workers ≤ 64) }
     ensures { IfOk result (IsFirst (P.holds probe.now) 0 total) }
 {
-    if workers == 1 {
+    if workers.number() == 1 {
         return probe.first(alloc, 0, total);
     }
     let run = probe.run();
     let mut from = 0u64;
     let mut rows = 1u64;
     while from < total {
-        let round = Round::new(from, total, u64::from(workers), run, rows);
+        let round = Round::new(from, total, workers, run, rows);
         match first_of_workers(rt, alloc, round, 0, round.workers, probe)? {
             Some(index) => return Ok(Some(index)),
             None => from = round.to,
@@ -63,7 +63,6 @@ fn first_of_workers<R: Threads + Sync, P: Probe>(
     high: u64,
     probe: &P,
 ) -> Result<Option<u64>, Memory>
-    requires round { IsRound round }
     requires some { low < high }
     requires workers { high ≤ round.workers }
     ensures { IfOk result (IsFirstInRuns (P.holds probe.now) round low high) }
@@ -76,14 +75,12 @@ fn first_of_workers<R: Threads + Sync, P: Probe>(
         rt,
         || -> Result<Option<u64>, Memory>
             requires shared { IsSync R.row }
-            requires round { IsRound round }
             requires some { low < middle }
             requires workers { middle ≤ round.workers }
             ensures { IfOk result (IsFirstInRuns (P.holds probe.entry.now) round low middle) }
         { first_of_workers(rt, alloc, round, low, middle, probe) },
         || -> Result<Option<u64>, Memory>
             requires shared { IsSync R.row }
-            requires round { IsRound round }
             requires some { middle < high }
             requires workers { high ≤ round.workers }
             ensures { IfOk result (IsFirstInRuns (P.holds probe.entry.now) round middle high) }

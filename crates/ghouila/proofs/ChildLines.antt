@@ -147,8 +147,8 @@ two_separations_decide m rows columns side i j ternary s = children_decide m row
       row = s.two.0;
       column = s.one.0;
       unit = sign_of_entry (entry m i j) (ternary i j) s.nonzero;
-      zero = λ r c h g. s.blocks.right r c h.0 g.0 h.1 g.1;
-      product = λ r c h g. s.blocks.below r c h.0 g.0 h.1 g.1;
+      zero = λ r c h g. s.blocks.upper r c h.0 g.0 h.1 g.1;
+      product = λ r c h g. s.blocks.lower r c h.0 g.0 h.1 g.1;
     }))
   where
     p1 : (r : ℕ) → With (Contains rows) (row_test side) true (λ r. r ≡ i) r → Contains rows r × (child_one side (Row i ∷ []) (Row r) ≡ true)
@@ -282,8 +282,8 @@ module _ (m : Matrix) (rows columns : List ℕ) (side : Lines) (ternary : HasTer
         unit_kp = sign second.row first.column crossing.lower;
         other1 = first_other flat1 one crossing.first_tied;
         other2 = second_other flat2 two crossing.second_tied;
-        right = λ r c h g. blocks.right r c h.0 g.0 h.1 g.1;
-        below = λ r c h g. blocks.below r c h.0 g.0 h.1 g.1;
+        right = λ r c h g. blocks.upper r c h.0 g.0 h.1 g.1;
+        below = λ r c h g. blocks.lower r c h.0 g.0 h.1 g.1;
       }) plus)
     where
       first_other : (f : Bool) → AreOn rows columns side true (connector_lines f first) → IsTied (entry m) f first second.row second.column
@@ -311,8 +311,8 @@ module _ (m : Matrix) (rows columns : List ℕ) (side : Lines) (ternary : HasTer
         unit_kj = sign second.row second.column s.connectors.second_corner;
         unit_oj = sign second.other second.column s.connectors.tied.second_other;
         unit_determinant = s.connectors.tied.determinant;
-        zero = λ r c h g. s.blocks.right r c h.0 g.0 h.1 g.1;
-        below = λ r c h g. s.blocks.below r c h.0 g.0 h.1 g.1;
+        zero = λ r c h g. s.blocks.upper r c h.0 g.0 h.1 g.1;
+        below = λ r c h g. s.blocks.lower r c h.0 g.0 h.1 g.1;
       }))
 
   pub three_separations_decide : (form : Form) (first second : Connector) → IsThreeSeparation (entry m) rows columns side form first second

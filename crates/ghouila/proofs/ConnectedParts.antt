@@ -150,7 +150,7 @@ parts_from_components m parts are = record {
   columns_within = columns_within;
   rows_all = λ r h. are.all (Row r) (first_lines_contain (height m) r h);
   columns_all = λ c h. are.all (Column c) (first_lines_contain m.width c h);
-  zero = λ a b r c l k apart h g. (are.components a l).apart.right r c
+  zero = λ a b r c l k apart h g. (are.components a l).apart.upper r c
       (rows_within a l r h) (columns_within b k c g)
       (listed_from_has_line (part_at parts a).rows (part_at parts a).columns (Row r) h)
       (elim (two_cases (column_of_part (part_at parts a) c)) [

@@ -9,5 +9,5 @@ mod sought;
 mod violators;
 
 pub use row_sets::row_set;
-pub use search::{LeastSubmatrix, least_submatrix, least_violator};
+pub use search::{LeastSubmatrix, least_submatrix, least_violator, least_violator_of};
 pub use sought::Sought;

@@ -7,8 +7,8 @@ ghost use Rattle.leaf_enumerate.specs.Searched.{HasSearched, HasSearchedFor, Hol
 use crate::row_probe::RowProbe;
 use crate::sought::Sought;
 use crate::violators::Violators;
-use cmr_base::{LineSet, MAX_LINES, Matrix, Memory, set_count};
-use first_hit::first_hit;
+use cmr_base::{LineSet, MAX_LINES, Matrix, Memory, RowsAndColumns, set_count};
+use first_hit::{Workers, first_hit};
 use std::alloc::Global;
 use std::thread::Threads;
 
@@ -31,10 +31,25 @@ pub fn least_violator<R: Threads + Sync>(
     alloc: Global,
     matrix: &Matrix,
     limit: u32,
-    workers: u32,
+    workers: Workers,
 ) -> Result<LeastSubmatrix, Memory>
     requires limit { limit ≤ MAX_LINES }
-    requires workers { (1 ≤ workers) × (workers ≤ 64) }
+    ensures { IfOk result (HasSearched matrix.now limit) }
+{
+    let columns = matrix.transposed(alloc)?;
+    let both = RowsAndColumns::of(matrix, &columns);
+    least_violator_of(rt, alloc, &both, limit, workers)
+}
+
+/// The same, of a matrix by its rows and its columns.
+pub fn least_violator_of<R: Threads + Sync>(
+    rt: &R,
+    alloc: Global,
+    matrix: &RowsAndColumns<'_>,
+    limit: u32,
+    workers: Workers,
+) -> Result<LeastSubmatrix, Memory>
+    requires limit { limit ≤ MAX_LINES }
     ensures { IfOk result (HasSearched matrix.now limit) }
 {
     let _rows = matrix.rows();
@@ -47,13 +62,12 @@ pub fn least_violator<R: Threads + Sync>(
 pub fn least_submatrix<R: Threads + Sync, S: Sought>(
     rt: &R,
     alloc: Global,
-    matrix: &Matrix,
+    matrix: &RowsAndColumns<'_>,
     sought: &S,
     limit: u32,
-    workers: u32,
+    workers: Workers,
 ) -> Result<LeastSubmatrix, Memory>
     requires limit { limit ≤ MAX_LINES }
-    requires workers { (1 ≤ workers) × (workers ≤ 64) }
     ensures { IfOk result (HasSearchedFor (S.holds sought.now) (S.is_least sought.now) matrix.now
         limit) }
 {
@@ -70,12 +84,11 @@ pub fn least_submatrix<R: Threads + Sync, S: Sought>(
 fn least<R: Threads + Sync, S: Sought>(
     rt: &R,
     alloc: Global,
-    matrix: &Matrix,
+    matrix: &RowsAndColumns<'_>,
     sought: &S,
-    workers: u32,
+    workers: Workers,
 ) -> Result<Option<LineSet>, Memory>
     requires few { shorter_side matrix.now ≤ MAX_LINES }
-    requires workers { (1 ≤ workers) × (workers ≤ 64) }
     ensures least { IfOk result (λ answer. IfSome answer (λ lines.
         IsLeastOf (S.is_least sought.now) matrix.now lines.rows lines.columns)) }
     ensures none { IfOk result (λ answer.
@@ -84,8 +97,7 @@ fn least<R: Threads + Sync, S: Sought>(
     if matrix.rows() <= matrix.columns() {
         return least_by_rows(rt, alloc, matrix, sought, workers);
     }
-    let transposed = matrix.transposed(alloc)?;
-    match least_by_rows(rt, alloc, &transposed, sought, workers)? {
+    match least_by_rows(rt, alloc, &matrix.turned(), sought, workers)? {
         Some(lines) => Ok(Some(LineSet {
             rows: lines.columns,
             columns: lines.rows,
@@ -101,19 +113,23 @@ const FEW_SETS: u64 = 2048;
 fn least_by_rows<R: Threads + Sync, S: Sought>(
     rt: &R,
     alloc: Global,
-    matrix: &Matrix,
+    matrix: &RowsAndColumns<'_>,
     sought: &S,
-    workers: u32,
+    workers: Workers,
 ) -> Result<Option<LineSet>, Memory>
     requires few { height matrix.now ≤ MAX_LINES }
-    requires workers { (1 ≤ workers) × (workers ≤ 64) }
     ensures least { IfOk result (λ answer. IfSome answer (λ lines.
         S.is_least sought.now matrix.now lines.rows lines.columns)) }
     ensures none { IfOk result (λ answer. IfNone answer (NoneBetween
         (S.holds sought.now matrix.now) 0 (2 ^ height matrix.now))) }
 {
+    let matrix = matrix.by_rows();
     let total = set_count(matrix.rows());
-    let workers = if total <= FEW_SETS { 1 } else { workers };
+    let workers = if total <= FEW_SETS {
+        Workers::new(1)
+    } else {
+        workers
+    };
     match first_hit(rt, alloc, workers, total, &RowProbe { matrix, sought })? {
         Some(number) => Ok(Some(sought.lines(alloc, matrix, number)?)),
         None => Ok(None),

@@ -2,6 +2,7 @@
 use crate::given::{bytes, is_text, lines_text, matrix, row_text, sparse};
 use balance::least_balance_fault;
 use cmr_base::Matrix;
+use first_hit::Workers;
 use leaf_enumerate::{LeastSubmatrix, least_violator};
 use std::alloc::Global;
 use std::process::Abort;
@@ -23,6 +24,7 @@ fn violator<R: Threads + Sync + Abort + AllocGlobal>(
     workers: u32,
 ) -> Result<Vec<u8>, Fail> {
     assert!(rt; limit <= 24 && workers >= 1 && workers <= 64);
+    let workers = Workers::new(workers);
     let found = least_violator(rt, rt.alloc(), matrix, limit, workers)?;
     search_text(rt.alloc(), &found)
 }
@@ -52,6 +54,7 @@ fn balance_fault<R: Threads + Sync + Abort + AllocGlobal>(
     workers: u32,
 ) -> Result<Vec<u8>, Fail> {
     assert!(rt; limit <= 24 && workers >= 1 && workers <= 64);
+    let workers = Workers::new(workers);
     let found = least_balance_fault(rt, rt.alloc(), matrix, limit, workers)?;
     search_text(rt.alloc(), &found)
 }

@@ -2,7 +2,7 @@
 ghost use Rattle.std.specs.Prelude.{◌≡◌, ◌⊎◌};
 
 use cmr_base::Memory;
-use first_hit::{Probe, first_hit};
+use first_hit::{Probe, Workers, first_hit};
 use std::alloc::Global;
 use std::sync::atomic::{AtomicU64, Ordering};
 use std::test::Fail;
@@ -66,6 +66,7 @@ fn least_numbers(rt: HostRuntime) -> Result<(), Fail> {
         (999, 999, 64, 1000, Some(999)),
     ] {
         assert!(&rt; workers >= 1 && workers <= 64);
+        let workers = Workers::new(workers);
         let found = first_hit(&rt, rt.alloc(), workers, total, &Pair { one, two })?;
         assert_eq!(rt; found, expected);
     }
@@ -78,7 +79,8 @@ fn at_the_same_time(rt: HostRuntime) -> Result<(), Fail> {
         flags: [AtomicU64::new(0), AtomicU64::new(0)],
         seen: [AtomicU64::new(0), AtomicU64::new(0)],
     };
-    assert_eq!(rt; first_hit(&rt, rt.alloc(), 2, 2, &meeting)?, None);
+    let found = first_hit(&rt, rt.alloc(), Workers::new(2), 2, &meeting)?;
+    assert_eq!(rt; found, None);
     assert_eq!(rt; meeting.seen[0].load(Ordering::SeqCst), 1);
     assert_eq!(rt; meeting.seen[1].load(Ordering::SeqCst), 1);
     Ok(())

@@ -31,6 +31,7 @@ use cmr_front::words::parsing::{
 use cmr_front::words::{WordsError, arguments};
 use cmr_io::{Shelf, Sink};
 use decomp_tree::decompose;
+use first_hit::Workers;
 use std::alloc::{AllocError, Global};
 use std::thread::Threads;
 use tree_type::{DecTree, VerdictOf, verdict};
@@ -164,7 +165,7 @@ fn without_cycle_fault<'a, R: Threads + Sync>(
         matrix,
         options.lines,
         options.pivots,
-        options.workers,
+        Workers::new(options.workers),
     )?;
     if says_yes(&tree) {
         yes_outcome(alloc, LABEL)
@@ -197,7 +198,8 @@ fn search<'a, R: Threads + Sync>(
     ensures { IfOk result (λ outcome.
         BalancedDecides (balanced_order_of options.now) matrix.now (outcome_report outcome)) }
 {
-    let found = least_balance_fault(rt, alloc, matrix, options.lines, options.workers)?;
+    let workers = Workers::new(options.workers);
+    let found = least_balance_fault(rt, alloc, matrix, options.lines, workers)?;
     search_outcome(alloc, options, matrix, &found)
 }
 

@@ -14,9 +14,9 @@ ghost use Rattle.cmr_front.specs.Status.{answer_status};
 ghost use Rattle.cmr_front.specs.Words.Reading.{Gives};
 ghost use Rattle.cmr_front.specs.declared.status.Answer.{Answer};
 ghost use Rattle.cmr_unimodular.specs.Regular.{HasLinesIn, IsSigned, RegularDecides, chain_file, chain_with, regular_app, regular_order, regular_order_in, regular_order_of, regular_report, regular_tool, regular_verdict};
-ghost use Rattle.cmr_unimodular.specs.Verdict.{IsDecomposition, IsTold, verdict_in, verdict_order_of, verdict_report};
+ghost use Rattle.cmr_unimodular.specs.Verdict.{verdict_in, verdict_order_of, verdict_report};
 
-use crate::verdict::{VerdictOptions, report_tree};
+use crate::verdict::{VerdictOptions, decomposed, report_tree};
 use camion_sign::{Chain, SignStepList, sign, write_chain};
 use clap::{ArgMatches, Command};
 use cmr_base::{Indices, LineSet, MAX_LINES, Matrix, Memory, Word};
@@ -31,7 +31,6 @@ use cmr_front::words::parsing::{
 };
 use cmr_front::words::{WordsError, arguments};
 use cmr_io::{Shelf, Sink};
-use decomp_tree::decompose;
 use std::alloc::{AllocError, Global};
 use std::thread::Threads;
 use tree_type::{DecTree, VerdictOf, verdict};
@@ -152,8 +151,9 @@ fn sign_and_test<'a, R: Threads + Sync>(
         RegularDecides (regular_order_of options.now) matrix.now (outcome_report outcome)) }
 {
     let signing = signing_of(alloc, matrix)?;
-    let tree = decomposed(rt, alloc, &signing.signed, options)?;
-    let told = report_tree(alloc, &verdict_options(options), &signing.signed, &tree)?;
+    let asked = verdict_options(options);
+    let tree = decomposed(rt, alloc, &asked, &signing.signed)?;
+    let told = report_tree(alloc, &asked, &signing.signed, &tree)?;
     with_signing(alloc, options, matrix, signing, &tree, told)
 }
 
@@ -179,36 +179,9 @@ fn signing_of(alloc: Global, matrix: &Matrix) -> Result<SignedMatrix, Memory>
     Ok(SignedMatrix { signed, steps })
 }
 
-// A decomposition, whose verdict is right.
-fn decomposed<R: Threads + Sync>(
-    rt: &R,
-    alloc: Global,
-    matrix: &Matrix,
-    options: &RegularOptions<'_>,
-) -> Result<DecTree, Memory>
-    requires lines { options.now.lines ≤ MAX_LINES }
-    requires workers { (1 ≤ options.now.workers) × (options.now.workers ≤ 64) }
-    ensures decomposition { IfOk result (IsDecomposition options.now.lines options.now.pivots
-        matrix.now) }
-    ensures told { IfOk result (λ tree. IsTold options.now.lines matrix.now (verdict_in tree)) }
-    ensures tells { IfOk result (λ tree. Tells matrix.now (verdict_in tree)) }
-{
-    let tree = decompose(
-        rt,
-        alloc,
-        matrix,
-        options.lines,
-        options.pivots,
-        options.workers,
-    )?;
-    let root = tree.root();
-    let rows = matrix.rows();
-    prove!(root.lines.rows.len() == rows as usize);
-    Ok(tree)
-}
-
 fn verdict_options<'a>(options: &RegularOptions<'a>) -> VerdictOptions<'a>
-    ensures { verdict_order_of result ≡ regular_verdict (regular_order_of options.now) }
+    ensures order { verdict_order_of result ≡ regular_verdict (regular_order_of options.now) }
+    ensures workers { result.workers ≡ options.now.workers }
 {
     VerdictOptions {
         label: b"regular",

@@ -1,5 +1,10 @@
+use Rattle.std.proofs.Common.{subst, IfOk}
+use Rattle.cmr_base.specs.Matrix.{Matrix}
+use Rattle.balance.specs.Searched.{HasSearchedFaults}
 use Rattle.balance.proofs.LeastFaults.{searched}
 use Rattle.balance.proofs.search.least_balance_fault.Goals as goal
 
 pub returns : goal.returns
-returns g c = searched c.args.matrix.now c.rows-rows.ensures.shape c.args.limit c.least_submatrix.result c.least_submatrix.ensures
+returns g c =
+    subst (λ (m : Matrix). IfOk c.least_submatrix.result (HasSearchedFaults m c.args.limit)) c.of-both.ensures
+    (searched c.of-both.result c.rows-rows.ensures.shape c.args.limit c.least_submatrix.result c.least_submatrix.ensures)

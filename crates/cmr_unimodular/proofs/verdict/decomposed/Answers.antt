@@ -3,7 +3,7 @@ use Rattle.cert_check.proofs.SoundTrees.{tells}
 use Rattle.tree_type.specs.Trees.{tree_of}
 use Rattle.cmr_unimodular.specs.Verdict.{IsDecomposition}
 use Rattle.cmr_unimodular.proofs.Told.{root_height, told}
-use Rattle.cmr_unimodular.proofs.tools.regular.decomposed.Goals as goal
+use Rattle.cmr_unimodular.proofs.verdict.decomposed.Goals as goal
 
 pub prove-unreachable-requires : goal.prove-unreachable-requires
 prove-unreachable-requires g c =
