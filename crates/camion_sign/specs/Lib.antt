@@ -1,6 +1,6 @@
 pub mod Nonzeros
 pub mod NonzerosView
-pub mod SupportView
+pub mod ListedMatrixView
 pub mod Trails
 pub mod Walks
 pub mod Faults

@@ -8,7 +8,7 @@ ghost use Rattle.camion_sign.specs.Faults.{IsBuilt, IsLeastFrom, within};
 ghost use Rattle.network_orient.specs.FirstRows.{HasNoFaultBefore};
 
 use crate::fault::{first_fault, passed_rows};
-use cmr_base::{Indices, LineSet, Matrix, Memory};
+use cmr_base::{Indices, LineSet, Matrix, Memory, RowsAndColumns};
 use std::alloc::Global;
 
 /// The cycle of the first cycle place whose sum is 2 modulo 4, in the order of the places by their row, first
@@ -21,6 +21,17 @@ pub fn cycle_fault(alloc: Global, matrix: &Matrix) -> Result<Option<LineSet>, Me
     ensures violator { IfOk result (λ found.
         IfSome found (λ lines. IsViolator (entry matrix.now) lines.rows lines.columns)) }
 {
+    let columns = matrix.transposed(alloc)?;
+    cycle_fault_of(alloc, &RowsAndColumns::of(matrix, &columns))
+}
+
+/// The same, of a matrix by its rows and its columns.
+pub fn cycle_fault_of(alloc: Global, matrix: &RowsAndColumns<'_>) -> Result<Option<LineSet>, Memory>
+    ensures fault { IfOk result (λ found. MatchOption found (HasNoCycleFault (entry matrix.now))
+        (λ lines. IsCycleFault matrix.now lines.rows lines.columns)) }
+    ensures violator { IfOk result (λ found.
+        IfSome found (λ lines. IsViolator (entry matrix.now) lines.rows lines.columns)) }
+{
     let first = passed_rows(alloc, matrix)?;
     cycle_fault_from(alloc, matrix, first)
 }
@@ -28,7 +39,7 @@ pub fn cycle_fault(alloc: Global, matrix: &Matrix) -> Result<Option<LineSet>, Me
 /// The same where the rows before one are known to have no fault, as those that were found to agree with a network.
 pub fn cycle_fault_from(
     alloc: Global,
-    matrix: &Matrix,
+    matrix: &RowsAndColumns<'_>,
     first: u32,
 ) -> Result<Option<LineSet>, Memory>
     requires passed { HasNoFaultBefore matrix.now first }

@@ -6,10 +6,10 @@ ghost use Rattle.camion_sign.specs.Walks.{FitsMatrix, HasWalked, place_in};
 ghost use Rattle.camion_sign.specs.Faults.{HasNoFaultAt, IsColumnFault, IsFirstFault};
 ghost use Rattle.network_orient.specs.FirstRows.{HasNoFaultBefore};
 
+use crate::listed_matrix::ListedMatrix;
 use crate::reach::{Start, flipped, walk_from};
-use crate::support::Support;
 use crate::walk::{UNREACHED, Walk};
-use cmr_base::{Matrix, Memory};
+use cmr_base::{Memory, RowsAndColumns};
 use network_orient::rows_without_fault;
 use std::alloc::Global;
 
@@ -23,7 +23,11 @@ pub struct Fault {
 }
 
 /// The first fault in the order of places, where the rows before one have none.
-pub fn first_fault(alloc: Global, matrix: &Matrix, first: u32) -> Result<Option<Fault>, Memory>
+pub fn first_fault(
+    alloc: Global,
+    matrix: &RowsAndColumns<'_>,
+    first: u32,
+) -> Result<Option<Fault>, Memory>
     requires passed { HasNoFaultBefore matrix.now first }
     ensures { IfOk result (λ found. MatchOption found
         (HasNoCycleFault (entry matrix.now))
@@ -32,19 +36,19 @@ pub fn first_fault(alloc: Global, matrix: &Matrix, first: u32) -> Result<Option<
     if first >= matrix.rows() {
         return Ok(None);
     }
-    let support = Support::new(alloc, matrix)?;
-    let mut walk = Walk::new(alloc, support.rows(), support.columns())?;
-    fault_from_row(alloc, &support, &mut walk, first)
+    let listed = ListedMatrix::new(alloc, matrix)?;
+    let mut walk = Walk::new(alloc, listed.rows(), listed.columns())?;
+    fault_from_row(alloc, &listed, &mut walk, first)
 }
 
 // How many nonzeros a column has on average in matrices in which walks alone find the first fault sooner.
 const FEW: u32 = 8;
 
 /// How many of the first rows are passed over, since they have no fault.
-pub fn passed_rows(alloc: Global, matrix: &Matrix) -> Result<u32, Memory>
+pub fn passed_rows(alloc: Global, matrix: &RowsAndColumns<'_>) -> Result<u32, Memory>
     ensures { IfOk result (HasNoFaultBefore matrix.now) }
 {
-    if matrix.nonzeros() / FEW <= matrix.columns() {
+    if matrix.by_rows().nonzeros() / FEW <= matrix.columns() {
         return Ok(0);
     }
     rows_without_fault(alloc, matrix)
@@ -53,18 +57,18 @@ pub fn passed_rows(alloc: Global, matrix: &Matrix) -> Result<u32, Memory>
 // The first fault, where the rows before one have none.
 fn fault_from_row(
     alloc: Global,
-    support: &Support<'_>,
+    matrix: &ListedMatrix<'_>,
     walk: &mut Walk,
     first: u32,
 ) -> Result<Option<Fault>, Memory>
-    requires fits { FitsMatrix support.now walk.old }
-    requires passed { HasNoFaultBefore support.now first }
+    requires fits { FitsMatrix matrix.now walk.old }
+    requires passed { HasNoFaultBefore matrix.now first }
     ensures { IfOk result (λ found. MatchOption found
-        (HasNoCycleFault (entry support.now))
-        (λ f. IsFirstFault support.now f.row f.first f.last f.lines.items)) }
+        (HasNoCycleFault (entry matrix.now))
+        (λ f. IsFirstFault matrix.now f.row f.first f.last f.lines.items)) }
 {
-    for row in first..support.rows() {
-        if let Some(fault) = fault_of_row(alloc, support, walk, row)? {
+    for row in first..matrix.rows() {
+        if let Some(fault) = fault_of_row(alloc, matrix, walk, row)? {
             return Ok(Some(fault));
         }
     }
@@ -74,23 +78,23 @@ fn fault_from_row(
 // The first fault of a row.
 fn fault_of_row(
     alloc: Global,
-    support: &Support<'_>,
+    matrix: &ListedMatrix<'_>,
     walk: &mut Walk,
     row: u32,
 ) -> Result<Option<Fault>, Memory>
-    requires row { row < height support.now }
-    requires fits { FitsMatrix support.now walk.old }
+    requires row { row < height matrix.now }
+    requires fits { FitsMatrix matrix.now walk.old }
     ensures found { IfOk result (λ found. MatchOption found
-        ((x y : ℕ) → HasNoFaultAt support.now row x y)
+        ((x y : ℕ) → HasNoFaultAt matrix.now row x y)
         (λ f. (f.row ≡ row)
-        × IsColumnFault support.now row f.first f.last f.lines.items
-        × ((x y : ℕ) → x < f.first → HasNoFaultAt support.now row x y))) }
-    ensures fits { IfOk result (λ found. FitsMatrix support.now walk.new) }
+        × IsColumnFault matrix.now row f.first f.last f.lines.items
+        × ((x y : ℕ) → x < f.first → HasNoFaultAt matrix.now row x y))) }
+    ensures fits { IfOk result (λ found. FitsMatrix matrix.now walk.new) }
 {
-    for column in 0..support.columns() {
-        if support.entry(row, column) != 0 {
+    for column in 0..matrix.columns() {
+        if matrix.entry(row, column) != 0 {
             let start = Start { row, column };
-            if let Some(fault) = fault_from(alloc, support, walk, start)? {
+            if let Some(fault) = fault_from(alloc, matrix, walk, start)? {
                 return Ok(Some(fault));
             }
         }
@@ -101,29 +105,29 @@ fn fault_of_row(
 // The fault of a row and a first column with the least last column.
 fn fault_from(
     alloc: Global,
-    support: &Support<'_>,
+    matrix: &ListedMatrix<'_>,
     walk: &mut Walk,
     start: Start,
 ) -> Result<Option<Fault>, Memory>
-    requires row { start.row < height support.now }
-    requires column { start.column < support.now.width }
-    requires first { entry support.now start.row start.column ≢ pos 0 }
-    requires fits { FitsMatrix support.now walk.old }
+    requires row { start.row < height matrix.now }
+    requires column { start.column < matrix.now.width }
+    requires first { entry matrix.now start.row start.column ≢ pos 0 }
+    requires fits { FitsMatrix matrix.now walk.old }
     ensures found { IfOk result (λ found. MatchOption found
-        ((y : ℕ) → HasNoFaultAt support.now start.row start.column y)
+        ((y : ℕ) → HasNoFaultAt matrix.now start.row start.column y)
         (λ f. (f.row ≡ start.row)
         × (f.first ≡ start.column)
-        × IsColumnFault support.now start.row start.column f.last f.lines.items)) }
-    ensures fits { IfOk result (λ found. FitsMatrix support.now walk.new) }
+        × IsColumnFault matrix.now start.row start.column f.last f.lines.items)) }
+    ensures fits { IfOk result (λ found. FitsMatrix matrix.now walk.new) }
 {
-    walk_from(support, walk, start)?;
-    for last in start.column + 1..support.columns() {
-        if is_fault(support, walk, start, last) {
+    walk_from(matrix, walk, start)?;
+    for last in start.column + 1..matrix.columns() {
+        if is_fault(matrix, walk, start, last) {
             return Ok(Some(Fault {
                 row: start.row,
                 first: start.column,
                 last,
-                lines: path_to(alloc, support, walk, start, last)?,
+                lines: path_to(alloc, matrix, walk, start, last)?,
             }));
         }
     }
@@ -131,40 +135,40 @@ fn fault_from(
 }
 
 // Whether the cycle of a place has the sum 2 modulo 4.
-fn is_fault(support: &Support<'_>, walk: &Walk, start: Start, last: u32) -> bool
-    requires row { start.row < height support.now }
+fn is_fault(matrix: &ListedMatrix<'_>, walk: &Walk, start: Start, last: u32) -> bool
+    requires row { start.row < height matrix.now }
     requires order { start.column < last }
-    requires width { last < support.now.width }
-    requires first { entry support.now start.row start.column ≢ pos 0 }
-    requires walked { HasWalked support.now start.row start.column walk.now }
+    requires width { last < matrix.now.width }
+    requires first { entry matrix.now start.row start.column ≢ pos 0 }
+    requires walked { HasWalked matrix.now start.row start.column walk.now }
     ensures reached { IsTrue result → place_in walk.now.places.items last < UNREACHED }
     ensures fault { IsTrue result
-        ↔ ((path : List ℕ) × IsFaultAt (entry support.now) start.row start.column last path) }
+        ↔ ((path : List ℕ) × IsFaultAt (entry matrix.now) start.row start.column last path) }
 {
-    if support.entry(start.row, last) == 0 || !walk.has_reached(last) {
+    if matrix.entry(start.row, last) == 0 || !walk.has_reached(last) {
         return false;
     }
     let step = walk.steps[walk.places[last as usize] as usize];
-    let is_same = support.entry(start.row, start.column) == support.entry(start.row, last);
+    let is_same = matrix.entry(start.row, start.column) == matrix.entry(start.row, last);
     flipped(step.is_two, is_same)
 }
 
 // The path of a place, from its last column back to its first.
 pub fn path_to(
     alloc: Global,
-    support: &Support<'_>,
+    matrix: &ListedMatrix<'_>,
     walk: &Walk,
     start: Start,
     last: u32,
 ) -> Result<Vec<u32>, Memory>
     requires order { start.column < last }
-    requires width { last < support.now.width }
-    requires first { entry support.now start.row start.column ≢ pos 0 }
-    requires last { entry support.now start.row last ≢ pos 0 }
-    requires walked { HasWalked support.now start.row start.column walk.now }
+    requires width { last < matrix.now.width }
+    requires first { entry matrix.now start.row start.column ≢ pos 0 }
+    requires last { entry matrix.now start.row last ≢ pos 0 }
+    requires walked { HasWalked matrix.now start.row start.column walk.now }
     requires reached { place_in walk.now.places.items last < UNREACHED }
     ensures { IfOk result (λ lines.
-        IsCyclePlace (entry support.now) start.row start.column last lines.items) }
+        IsCyclePlace (entry matrix.now) start.row start.column last lines.items) }
 {
     let step = walk.steps[walk.places[last as usize] as usize];
     let mut lines = vec![in alloc; step.row; 1]?;

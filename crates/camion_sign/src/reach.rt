@@ -3,7 +3,7 @@ ghost use Rattle.std.specs.Prelude.{◌≡◌, ◌≢◌, ◌<◌, ◌≤◌, �
 ghost use Rattle.cmr_base.specs.Matrix.{height, entry};
 ghost use Rattle.camion_sign.specs.Walks.{FitsMatrix, IsWalking, IsOpen, GrowsFrom, HasSettled, HasWalked, IsUntouched, NoneWaits, step_at, place_in, flip};
 
-use crate::support::Support;
+use crate::listed_matrix::ListedMatrix;
 use crate::walk::{Step, UNREACHED, Walk};
 use cmr_base::Memory;
 use std::alloc::Global;
@@ -18,18 +18,18 @@ pub struct Start {
 /// Walks until each last column is reached that can be: over the rows before the row of the places, through columns
 /// in which that row is 0, first come, first served, and by rising lines. So each column is reached by the least of
 /// its shortest paths.
-pub fn walk_from(support: &Support<'_>, walk: &mut Walk, start: Start) -> Result<(), Memory>
-    requires row { start.row < height support.now }
-    requires column { start.column < support.now.width }
-    requires fits { FitsMatrix support.now walk.old }
-    ensures { OnOk result (HasWalked support.now start.row start.column walk.new) }
+pub fn walk_from(matrix: &ListedMatrix<'_>, walk: &mut Walk, start: Start) -> Result<(), Memory>
+    requires row { start.row < height matrix.now }
+    requires column { start.column < matrix.now.width }
+    requires fits { FitsMatrix matrix.now walk.old }
+    ensures { OnOk result (HasWalked matrix.now start.row start.column walk.new) }
 {
     walk.begin(start.column)?;
     let mut head = 0;
     let mut pending = start.column + 1;
-    while head < walk.steps.len() && pending < support.columns() {
-        if head == 0 || support.entry(start.row, walk.steps[head].column) == 0 {
-            pending = reach_rows(support, walk, start, head, pending)?;
+    while head < walk.steps.len() && pending < matrix.columns() {
+        if head == 0 || matrix.entry(start.row, walk.steps[head].column) == 0 {
+            pending = reach_rows(matrix, walk, start, head, pending)?;
         }
         head += 1;
     }
@@ -38,34 +38,34 @@ pub fn walk_from(support: &Support<'_>, walk: &mut Walk, start: Start) -> Result
 
 // Goes through the rows that meet the column at a place, until no last column waits.
 fn reach_rows(
-    support: &Support<'_>,
+    matrix: &ListedMatrix<'_>,
     walk: &mut Walk,
     start: Start,
     head: usize,
     pending: u32,
 ) -> Result<u32, Memory>
-    requires row { start.row < height support.now }
-    requires open { IsOpen support.now start.row head walk.old }
-    requires walking { IsWalking support.now start.row start.column head 0 walk.old }
-    requires pending { pending ≤ support.now.width }
-    requires waits { NoneWaits support.now start.row start.column pending walk.old.places.items }
-    ensures walk { IfOk result (λ pending. IsWalking support.now start.row start.column (head + 1) 0
+    requires row { start.row < height matrix.now }
+    requires open { IsOpen matrix.now start.row head walk.old }
+    requires walking { IsWalking matrix.now start.row start.column head 0 walk.old }
+    requires pending { pending ≤ matrix.now.width }
+    requires waits { NoneWaits matrix.now start.row start.column pending walk.old.places.items }
+    ensures walk { IfOk result (λ pending. IsWalking matrix.now start.row start.column (head + 1) 0
         walk.new
-        ⊎ ((pending ≡ support.now.width)
-        × HasSettled support.now start.row start.column walk.new)) }
-    ensures pending { IfOk result (λ pending. pending ≤ support.now.width) }
+        ⊎ ((pending ≡ matrix.now.width)
+        × HasSettled matrix.now start.row start.column walk.new)) }
+    ensures pending { IfOk result (λ pending. pending ≤ matrix.now.width) }
     ensures waits { IfOk result (λ pending.
-        NoneWaits support.now start.row start.column pending walk.new.places.items) }
+        NoneWaits matrix.now start.row start.column pending walk.new.places.items) }
 {
     let mut pending = pending;
-    for row in support.column(walk.steps[head].column) {
+    for row in matrix.column(walk.steps[head].column) {
         if *row >= start.row {
             return Ok(pending);
         }
         if !walk.used[*row as usize] {
-            reach_row(support, walk, start, head, *row)?;
-            pending = first_waiting(support, walk, start, pending);
-            if pending == support.columns() {
+            reach_row(matrix, walk, start, head, *row)?;
+            pending = first_waiting(matrix, walk, start, pending);
+            if pending == matrix.columns() {
                 return Ok(pending);
             }
         }
@@ -75,27 +75,27 @@ fn reach_rows(
 
 // Reaches the columns of a row that were not reached before.
 fn reach_row(
-    support: &Support<'_>,
+    matrix: &ListedMatrix<'_>,
     walk: &mut Walk,
     start: Start,
     head: usize,
     row: u32,
 ) -> Result<(), Memory>
-    requires row { start.row < height support.now }
+    requires row { start.row < height matrix.now }
     requires early { row < start.row }
-    requires open { IsOpen support.now start.row head walk.old }
-    requires leads { entry support.now row (step_at walk.old.steps.items head).column ≢ pos 0 }
-    requires walking { IsWalking support.now start.row start.column head row walk.old }
-    ensures walking { OnOk result (IsWalking support.now start.row start.column head (row + 1)
+    requires open { IsOpen matrix.now start.row head walk.old }
+    requires leads { entry matrix.now row (step_at walk.old.steps.items head).column ≢ pos 0 }
+    requires walking { IsWalking matrix.now start.row start.column head row walk.old }
+    ensures walking { OnOk result (IsWalking matrix.now start.row start.column head (row + 1)
         walk.new) }
     ensures grows { OnOk result (GrowsFrom walk.old walk.new) }
     ensures used { OnOk result (walk.new.used.items ≡ slice_set walk.old.used.items row true) }
 {
     let from = walk.steps[head];
-    let sign = support.entry(row, from.column);
-    for column in support.row(row) {
+    let sign = matrix.entry(row, from.column);
+    for column in matrix.row(row) {
         if !walk.has_reached(*column) {
-            let is_same = sign == support.entry(row, *column);
+            let is_same = sign == matrix.entry(row, *column);
             walk.reach(Step {
                 column: *column,
                 row,
@@ -109,32 +109,32 @@ fn reach_row(
 }
 
 // The first column from one on that waits: the row of the places meets it, and it was not reached, but may be.
-fn first_waiting(support: &Support<'_>, walk: &Walk, start: Start, from: u32) -> u32
-    requires row { start.row < height support.now }
-    requires fits { FitsMatrix support.now walk.now }
-    requires from { from ≤ support.now.width }
+fn first_waiting(matrix: &ListedMatrix<'_>, walk: &Walk, start: Start, from: u32) -> u32
+    requires row { start.row < height matrix.now }
+    requires fits { FitsMatrix matrix.now walk.now }
+    requires from { from ≤ matrix.now.width }
     ensures from { from ≤ result }
-    ensures width { result ≤ support.now.width }
-    ensures waits { (d : ℕ) → from ≤ d → d < result → entry support.now start.row d ≢ pos 0
-        → (place_in walk.now.places.items d ≢ UNREACHED) ⊎ IsUntouched support.now start.row d }
+    ensures width { result ≤ matrix.now.width }
+    ensures waits { (d : ℕ) → from ≤ d → d < result → entry matrix.now start.row d ≢ pos 0
+        → (place_in walk.now.places.items d ≢ UNREACHED) ⊎ IsUntouched matrix.now start.row d }
 {
-    for column in from..support.columns() {
-        if support.entry(start.row, column) != 0
+    for column in from..matrix.columns() {
+        if matrix.entry(start.row, column) != 0
             && !walk.has_reached(column)
-            && is_touched(support, start.row, column)
+            && is_touched(matrix, start.row, column)
         {
             return column;
         }
     }
-    support.columns()
+    matrix.columns()
 }
 
 // Whether a row before this one meets the column.
-fn is_touched(support: &Support<'_>, row: u32, column: u32) -> bool
-    requires { column < support.now.width }
-    ensures { result ≡ false → IsUntouched support.now row column }
+fn is_touched(matrix: &ListedMatrix<'_>, row: u32, column: u32) -> bool
+    requires { column < matrix.now.width }
+    ensures { result ≡ false → IsUntouched matrix.now row column }
 {
-    let rows = support.column(column);
+    let rows = matrix.column(column);
     rows.len() > 0 && rows[0] < row
 }
 

@@ -8,8 +8,8 @@ ghost use Rattle.camion_sign.specs.Walks.{HasWalked, place_in};
 
 use crate::cycle_lines::{columns_of_cycle, rows_of_cycle};
 use crate::fault::path_to;
+use crate::listed_matrix::ListedMatrix;
 use crate::reach::{Start, walk_from};
-use crate::support::Support;
 use crate::walk::{UNREACHED, Walk};
 use cmr_base::{LineSet, Matrix, Memory};
 use std::alloc::Global;
@@ -29,12 +29,12 @@ pub struct RowPlaces {
 
 impl RowPlaces {
     /// Room for the places of each row.
-    pub fn new(alloc: Global, support: &Support<'_>) -> Result<RowPlaces, Memory>
-        ensures { IfOk result (HasRoom support.now) }
+    pub fn new(alloc: Global, matrix: &ListedMatrix<'_>) -> Result<RowPlaces, Memory>
+        ensures { IfOk result (HasRoom matrix.now) }
     {
-        let columns = support.columns();
+        let columns = matrix.columns();
         Ok(RowPlaces {
-            walk: Walk::new(alloc, support.rows(), columns)?,
+            walk: Walk::new(alloc, matrix.rows(), columns)?,
             walked: None,
             links: Matrix::zero(alloc, columns, columns)?,
             known: vec![in alloc; false; columns as usize]?,
@@ -42,9 +42,9 @@ impl RowPlaces {
     }
 
     /// Begins a row, of which nothing is known.
-    pub fn begin(&mut self, support: &Support<'_>)
-        requires { HasRoom support.now self.old }
-        ensures { (row : ℕ) → KnowsPlaces support.now row self.new }
+    pub fn begin(&mut self, matrix: &ListedMatrix<'_>)
+        requires { HasRoom matrix.now self.old }
+        ensures { (row : ℕ) → KnowsPlaces matrix.now row self.new }
     {
         self.walked = None;
         self.known.fill(false);
@@ -53,166 +53,171 @@ impl RowPlaces {
     /// Whether two columns make a cycle place with the row.
     pub fn make_place(
         &mut self,
-        support: &Support<'_>,
+        matrix: &ListedMatrix<'_>,
         row: u32,
         column: u32,
         partner: u32,
     ) -> Result<bool, Memory>
-        requires row { row < height support.now }
-        requires places { KnowsPlaces support.now row self.old }
-        requires column { column < support.now.width }
-        requires partner { partner < support.now.width }
+        requires row { row < height matrix.now }
+        requires places { KnowsPlaces matrix.now row self.old }
+        requires column { column < matrix.now.width }
+        requires partner { partner < matrix.now.width }
         requires other { partner ≢ column }
-        requires first { entry support.now row column ≢ pos 0 }
-        requires last { entry support.now row partner ≢ pos 0 }
+        requires first { entry matrix.now row column ≢ pos 0 }
+        requires last { entry matrix.now row partner ≢ pos 0 }
         ensures yes { IfOk result (λ makes. IsTrue makes
-            → (path : List ℕ) × IsPlaceOf support.now row partner column path) }
+            → (path : List ℕ) × IsPlaceOf matrix.now row partner column path) }
         ensures no { IfOk result (λ makes. makes ≡ false → (path : List ℕ)
-            → ¬ (IsPlaceOf support.now row partner column path)) }
-        ensures places { IfOk result (λ makes. KnowsPlaces support.now row self.new) }
+            → ¬ (IsPlaceOf matrix.now row partner column path)) }
+        ensures places { IfOk result (λ makes. KnowsPlaces matrix.now row self.new) }
     {
         if partner < column {
             let start = Start {
                 row,
                 column: partner,
             };
-            self.reaches(support, start, column)
+            self.reaches(matrix, start, column)
         } else {
-            self.reaches(support, Start { row, column }, partner)
+            self.reaches(matrix, Start { row, column }, partner)
         }
     }
 
     // Whether a first column makes a place with a last one.
-    fn reaches(&mut self, support: &Support<'_>, start: Start, last: u32) -> Result<bool, Memory>
-        requires row { start.row < height support.now }
-        requires places { KnowsPlaces support.now start.row self.old }
+    fn reaches(
+        &mut self,
+        matrix: &ListedMatrix<'_>,
+        start: Start,
+        last: u32,
+    ) -> Result<bool, Memory>
+        requires row { start.row < height matrix.now }
+        requires places { KnowsPlaces matrix.now start.row self.old }
         requires order { start.column < last }
-        requires width { last < support.now.width }
-        requires first { entry support.now start.row start.column ≢ pos 0 }
-        requires last { entry support.now start.row last ≢ pos 0 }
+        requires width { last < matrix.now.width }
+        requires first { entry matrix.now start.row start.column ≢ pos 0 }
+        requires last { entry matrix.now start.row last ≢ pos 0 }
         ensures yes { IfOk result (λ makes. IsTrue makes
-            → (path : List ℕ) × IsCyclePlace (entry support.now) start.row start.column last path) }
+            → (path : List ℕ) × IsCyclePlace (entry matrix.now) start.row start.column last path) }
         ensures no { IfOk result (λ makes. makes ≡ false → (path : List ℕ)
-            → ¬ (IsCyclePlace (entry support.now) start.row start.column last path)) }
-        ensures places { IfOk result (λ makes. KnowsPlaces support.now start.row self.new) }
+            → ¬ (IsCyclePlace (entry matrix.now) start.row start.column last path)) }
+        ensures places { IfOk result (λ makes. KnowsPlaces matrix.now start.row self.new) }
     {
-        self.learn(support, start)?;
+        self.learn(matrix, start)?;
         Ok(self.links.entry(start.column, last) != 0)
     }
 
     // Finds out which columns make a place with a first one, where that is not known.
-    fn learn(&mut self, support: &Support<'_>, start: Start) -> Result<(), Memory>
-        requires row { start.row < height support.now }
-        requires places { KnowsPlaces support.now start.row self.old }
-        requires column { start.column < support.now.width }
-        requires first { entry support.now start.row start.column ≢ pos 0 }
-        ensures places { OnOk result (KnowsPlaces support.now start.row self.new) }
-        ensures known { OnOk result (TellsFrom support.now start.row start.column support.now.width
+    fn learn(&mut self, matrix: &ListedMatrix<'_>, start: Start) -> Result<(), Memory>
+        requires row { start.row < height matrix.now }
+        requires places { KnowsPlaces matrix.now start.row self.old }
+        requires column { start.column < matrix.now.width }
+        requires first { entry matrix.now start.row start.column ≢ pos 0 }
+        ensures places { OnOk result (KnowsPlaces matrix.now start.row self.new) }
+        ensures known { OnOk result (TellsFrom matrix.now start.row start.column matrix.now.width
             self.new.links) }
     {
         if self.known[start.column as usize] {
             return Ok(());
         }
-        self.walk_at(support, start)
+        self.walk_at(matrix, start)
     }
 
-    fn walk_at(&mut self, support: &Support<'_>, start: Start) -> Result<(), Memory>
-        requires row { start.row < height support.now }
-        requires places { KnowsPlaces support.now start.row self.old }
-        requires column { start.column < support.now.width }
-        requires first { entry support.now start.row start.column ≢ pos 0 }
-        ensures places { OnOk result (KnowsPlaces support.now start.row self.new) }
-        ensures known { OnOk result (TellsFrom support.now start.row start.column support.now.width
+    fn walk_at(&mut self, matrix: &ListedMatrix<'_>, start: Start) -> Result<(), Memory>
+        requires row { start.row < height matrix.now }
+        requires places { KnowsPlaces matrix.now start.row self.old }
+        requires column { start.column < matrix.now.width }
+        requires first { entry matrix.now start.row start.column ≢ pos 0 }
+        ensures places { OnOk result (KnowsPlaces matrix.now start.row self.new) }
+        ensures known { OnOk result (TellsFrom matrix.now start.row start.column matrix.now.width
             self.new.links) }
-        ensures walked { OnOk result (HasWalked support.now start.row start.column self.new.walk) }
+        ensures walked { OnOk result (HasWalked matrix.now start.row start.column self.new.walk) }
     {
-        walk_from(support, &mut self.walk, start)?;
-        note_places(support, &self.walk, start, &mut self.links);
+        walk_from(matrix, &mut self.walk, start)?;
+        note_places(matrix, &self.walk, start, &mut self.links);
         self.known[start.column as usize] = true;
         self.walked = Some(start.column);
         Ok(())
     }
 
     // Walks from a column, where the last walk did not begin there.
-    fn stand_at(&mut self, support: &Support<'_>, start: Start) -> Result<(), Memory>
-        requires row { start.row < height support.now }
-        requires places { KnowsPlaces support.now start.row self.old }
-        requires column { start.column < support.now.width }
-        requires first { entry support.now start.row start.column ≢ pos 0 }
-        ensures places { OnOk result (KnowsPlaces support.now start.row self.new) }
-        ensures walked { OnOk result (HasWalked support.now start.row start.column self.new.walk) }
+    fn stand_at(&mut self, matrix: &ListedMatrix<'_>, start: Start) -> Result<(), Memory>
+        requires row { start.row < height matrix.now }
+        requires places { KnowsPlaces matrix.now start.row self.old }
+        requires column { start.column < matrix.now.width }
+        requires first { entry matrix.now start.row start.column ≢ pos 0 }
+        ensures places { OnOk result (KnowsPlaces matrix.now start.row self.new) }
+        ensures walked { OnOk result (HasWalked matrix.now start.row start.column self.new.walk) }
     {
         if let Some(column) = self.walked {
             if column == start.column {
                 return Ok(());
             }
         }
-        self.walk_at(support, start)
+        self.walk_at(matrix, start)
     }
 
     /// The lines of the cycle of a place with these columns.
     pub fn cycle(
         &mut self,
         alloc: Global,
-        support: &Support<'_>,
+        matrix: &ListedMatrix<'_>,
         row: u32,
         column: u32,
         partner: u32,
     ) -> Result<LineSet, Memory>
-        requires row { row < height support.now }
-        requires places { KnowsPlaces support.now row self.old }
-        requires place { (path : List ℕ) × IsPlaceOf support.now row partner column path }
-        ensures cycle { IfOk result (λ cycle. IsCycleLines support.now row partner column cycle) }
-        ensures places { IfOk result (λ cycle. KnowsPlaces support.now row self.new) }
+        requires row { row < height matrix.now }
+        requires places { KnowsPlaces matrix.now row self.old }
+        requires place { (path : List ℕ) × IsPlaceOf matrix.now row partner column path }
+        ensures cycle { IfOk result (λ cycle. IsCycleLines matrix.now row partner column cycle) }
+        ensures places { IfOk result (λ cycle. KnowsPlaces matrix.now row self.new) }
     {
         if partner < column {
             let start = Start {
                 row,
                 column: partner,
             };
-            self.cycle_from(alloc, support, start, column)
+            self.cycle_from(alloc, matrix, start, column)
         } else {
-            self.cycle_from(alloc, support, Start { row, column }, partner)
+            self.cycle_from(alloc, matrix, Start { row, column }, partner)
         }
     }
 
     fn cycle_from(
         &mut self,
         alloc: Global,
-        support: &Support<'_>,
+        matrix: &ListedMatrix<'_>,
         start: Start,
         last: u32,
     ) -> Result<LineSet, Memory>
-        requires row { start.row < height support.now }
-        requires places { KnowsPlaces support.now start.row self.old }
+        requires row { start.row < height matrix.now }
+        requires places { KnowsPlaces matrix.now start.row self.old }
         requires place { (path : List ℕ)
-            × IsCyclePlace (entry support.now) start.row start.column last path }
+            × IsCyclePlace (entry matrix.now) start.row start.column last path }
         ensures cycle { IfOk result (λ cycle.
-            IsCycleLines support.now start.row start.column last cycle) }
-        ensures places { IfOk result (λ cycle. KnowsPlaces support.now start.row self.new) }
+            IsCycleLines matrix.now start.row start.column last cycle) }
+        ensures places { IfOk result (λ cycle. KnowsPlaces matrix.now start.row self.new) }
     {
-        self.stand_at(support, start)?;
-        let lines = path_to(alloc, support, &self.walk, start, last)?;
+        self.stand_at(matrix, start)?;
+        let lines = path_to(alloc, matrix, &self.walk, start, last)?;
         Ok(LineSet {
-            rows: rows_of_cycle(alloc, start.row, &lines, support.rows())?,
-            columns: columns_of_cycle(alloc, start.column, last, &lines, support.columns())?,
+            rows: rows_of_cycle(alloc, start.row, &lines, matrix.rows())?,
+            columns: columns_of_cycle(alloc, start.column, last, &lines, matrix.columns())?,
         })
     }
 }
 
 // Notes which last columns the walk from the first one has reached.
-fn note_places(support: &Support<'_>, walk: &Walk, start: Start, links: &mut Matrix)
-    requires row { start.row < height support.now }
-    requires column { start.column < support.now.width }
-    requires first { entry support.now start.row start.column ≢ pos 0 }
-    requires walked { HasWalked support.now start.row start.column walk.now }
-    requires square { AreSquare support.now links.old }
-    ensures tells { TellsFrom support.now start.row start.column support.now.width links.new }
+fn note_places(matrix: &ListedMatrix<'_>, walk: &Walk, start: Start, links: &mut Matrix)
+    requires row { start.row < height matrix.now }
+    requires column { start.column < matrix.now.width }
+    requires first { entry matrix.now start.row start.column ≢ pos 0 }
+    requires walked { HasWalked matrix.now start.row start.column walk.now }
+    requires square { AreSquare matrix.now links.old }
+    ensures tells { TellsFrom matrix.now start.row start.column matrix.now.width links.new }
     ensures others { (c d : ℕ) → c ≢ start.column → entry links.new c d ≡ entry links.old c d }
-    ensures square { AreSquare support.now links.new }
+    ensures square { AreSquare matrix.now links.new }
 {
-    for last in start.column + 1..support.columns() {
-        if support.entry(start.row, last) != 0 {
+    for last in start.column + 1..matrix.columns() {
+        if matrix.entry(start.row, last) != 0 {
             links.set(start.column, last, place_mark(walk, last));
         }
     }

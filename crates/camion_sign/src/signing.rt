@@ -12,10 +12,10 @@ ghost use Rattle.std.specs.List.{AllByRecursion};
 ghost use Rattle.camion_sign.specs.ChainTexts.{IsStepIn};
 ghost use Rattle.camion_sign.specs.Signings.{HasRoom, KnowsPlaces, IsAtRow, IsFirstUnsigned, IsPartner, IsForcedColumn, NoneForced, unsigned_before};
 
+use crate::listed_matrix::ListedMatrix;
 use crate::row_places::RowPlaces;
 use crate::step::{SignStep, SignStepList};
-use crate::support::Support;
-use cmr_base::{Matrix, Memory};
+use cmr_base::{Matrix, Memory, RowsAndColumns};
 use std::alloc::Global;
 
 /// The signs given so far, 0 where none is given, and the steps that gave them.
@@ -48,23 +48,24 @@ pub fn sign(alloc: Global, matrix: &Matrix) -> Result<(Matrix, SignStepList), Me
     ensures steps { IfOk result (λ signed.
         AllByRecursion (IsStepIn (height matrix.now) matrix.now.width) signed.1) }
 {
-    let signing = all_rows_signed(alloc, matrix)?;
+    let columns = matrix.transposed(alloc)?;
+    let signing = all_rows_signed(alloc, &RowsAndColumns::of(matrix, &columns))?;
     Ok((signing.signs, signing.steps))
 }
 
-fn all_rows_signed(alloc: Global, matrix: &Matrix) -> Result<Signing, Memory>
+fn all_rows_signed(alloc: Global, matrix: &RowsAndColumns<'_>) -> Result<Signing, Memory>
     ensures state { IfOk result (IsAtRow matrix.now (height matrix.now)) }
     ensures shape { IfOk result (λ signing. IsMatrix matrix.now) }
 {
-    let support = Support::new(alloc, matrix)?;
-    let mut places = RowPlaces::new(alloc, &support)?;
+    let listed = ListedMatrix::new(alloc, matrix)?;
+    let mut places = RowPlaces::new(alloc, &listed)?;
     let mut signing = Signing {
-        signs: Matrix::zero(alloc, support.rows(), support.columns())?,
+        signs: Matrix::zero(alloc, listed.rows(), listed.columns())?,
         steps: SignStepList::new(alloc),
     };
-    for row in 0..support.rows() {
-        places.begin(&support);
-        sign_row(alloc, &support, &mut places, row, &mut signing)?;
+    for row in 0..listed.rows() {
+        places.begin(&listed);
+        sign_row(alloc, &listed, &mut places, row, &mut signing)?;
     }
     Ok(signing)
 }
@@ -72,21 +73,21 @@ fn all_rows_signed(alloc: Global, matrix: &Matrix) -> Result<Signing, Memory>
 // Signs the ones of a row.
 fn sign_row(
     alloc: Global,
-    support: &Support<'_>,
+    matrix: &ListedMatrix<'_>,
     places: &mut RowPlaces,
     row: u32,
     signing: &mut Signing,
 ) -> Result<(), Memory>
-    requires row { row < height support.now }
-    requires places { KnowsPlaces support.now row places.old }
-    requires state { IsAtRow support.now row signing.old }
-    ensures state { OnOk result (IsAtRow support.now (row + 1) signing.new) }
-    ensures room { OnOk result (HasRoom support.now places.new) }
+    requires row { row < height matrix.now }
+    requires places { KnowsPlaces matrix.now row places.old }
+    requires state { IsAtRow matrix.now row signing.old }
+    ensures state { OnOk result (IsAtRow matrix.now (row + 1) signing.new) }
+    ensures room { OnOk result (HasRoom matrix.now places.new) }
 {
-    let mut next = first_unsigned(support, row, 0, &signing.signs);
+    let mut next = first_unsigned(matrix, row, 0, &signing.signs);
     'ones: while let Some(column) = next {
-        sign_next(alloc, support, places, row, column, signing)?;
-        next = first_unsigned(support, row, column, &signing.signs);
+        sign_next(alloc, matrix, places, row, column, signing)?;
+        next = first_unsigned(matrix, row, column, &signing.signs);
     }
     Ok(())
 }
@@ -94,51 +95,51 @@ fn sign_row(
 // Signs the next one of a row, whose first one without sign is in this column.
 fn sign_next(
     alloc: Global,
-    support: &Support<'_>,
+    matrix: &ListedMatrix<'_>,
     places: &mut RowPlaces,
     row: u32,
     first: u32,
     signing: &mut Signing,
 ) -> Result<(), Memory>
-    requires row { row < height support.now }
-    requires places { KnowsPlaces support.now row places.old }
-    requires state { IsAtRow support.now row signing.old }
-    requires first { IsFirstUnsigned support.now signing.old.signs row first }
-    ensures state { OnOk result (IsAtRow support.now row signing.new) }
-    ensures places { OnOk result (KnowsPlaces support.now row places.new) }
-    ensures fewer { OnOk result (unsigned_before support.now signing.new.signs row support.now.width
-        < unsigned_before support.now signing.old.signs row support.now.width) }
-    ensures keeps { OnOk result ((d : ℕ) → IsUnsignedOne support.now signing.new.signs row d
-        → IsUnsignedOne support.now signing.old.signs row d) }
+    requires row { row < height matrix.now }
+    requires places { KnowsPlaces matrix.now row places.old }
+    requires state { IsAtRow matrix.now row signing.old }
+    requires first { IsFirstUnsigned matrix.now signing.old.signs row first }
+    ensures state { OnOk result (IsAtRow matrix.now row signing.new) }
+    ensures places { OnOk result (KnowsPlaces matrix.now row places.new) }
+    ensures fewer { OnOk result (unsigned_before matrix.now signing.new.signs row matrix.now.width
+        < unsigned_before matrix.now signing.old.signs row matrix.now.width) }
+    ensures keeps { OnOk result ((d : ℕ) → IsUnsignedOne matrix.now signing.new.signs row d
+        → IsUnsignedOne matrix.now signing.old.signs row d) }
 {
-    match forced_one(support, places, row, first, &signing.signs)? {
-        Some(forced) => sign_forced(alloc, support, places, row, forced, signing),
-        None => sign_free(row, first, support, signing),
+    match forced_one(matrix, places, row, first, &signing.signs)? {
+        Some(forced) => sign_forced(alloc, matrix, places, row, forced, signing),
+        None => sign_free(row, first, matrix, signing),
     }
 }
 
 // The least column of a row, from its first one without sign on, that makes a cycle place with a signed one, and the
 // least of these.
 fn forced_one(
-    support: &Support<'_>,
+    matrix: &ListedMatrix<'_>,
     places: &mut RowPlaces,
     row: u32,
     first: u32,
     signs: &Matrix,
 ) -> Result<Option<ForcedOne>, Memory>
-    requires row { row < height support.now }
-    requires places { KnowsPlaces support.now row places.old }
-    requires signs { AreSigns support.now signs.now }
-    requires first { IsFirstUnsigned support.now signs.now row first }
+    requires row { row < height matrix.now }
+    requires places { KnowsPlaces matrix.now row places.old }
+    requires signs { AreSigns matrix.now signs.now }
+    requires first { IsFirstUnsigned matrix.now signs.now row first }
     ensures forced { IfOk result (λ found. MatchOption found
-        (NoneForced support.now signs.now row)
-        (λ forced. IsForcedColumn support.now signs.now row forced.column
-        × IsPartner support.now signs.now row forced.column forced.partner)) }
-    ensures places { IfOk result (λ found. KnowsPlaces support.now row places.new) }
+        (NoneForced matrix.now signs.now row)
+        (λ forced. IsForcedColumn matrix.now signs.now row forced.column
+        × IsPartner matrix.now signs.now row forced.column forced.partner)) }
+    ensures places { IfOk result (λ found. KnowsPlaces matrix.now row places.new) }
 {
-    for column in first..support.columns() {
-        if is_unsigned_one(support, row, column, signs) {
-            if let Some(partner) = partner_of(support, places, row, column, signs)? {
+    for column in first..matrix.columns() {
+        if is_unsigned_one(matrix, row, column, signs) {
+            if let Some(partner) = partner_of(matrix, places, row, column, signs)? {
                 return Ok(Some(ForcedOne { column, partner }));
             }
         }
@@ -146,36 +147,36 @@ fn forced_one(
     Ok(None)
 }
 
-fn is_unsigned_one(support: &Support<'_>, row: u32, column: u32, signs: &Matrix) -> bool
-    requires row { row < height support.now }
-    requires column { column < support.now.width }
-    requires signs { AreSigns support.now signs.now }
-    ensures { IsTrue result ↔ IsUnsignedOne support.now signs.now row column }
+fn is_unsigned_one(matrix: &ListedMatrix<'_>, row: u32, column: u32, signs: &Matrix) -> bool
+    requires row { row < height matrix.now }
+    requires column { column < matrix.now.width }
+    requires signs { AreSigns matrix.now signs.now }
+    ensures { IsTrue result ↔ IsUnsignedOne matrix.now signs.now row column }
 {
-    support.entry(row, column) != 0 && signs.entry(row, column) == 0
+    matrix.entry(row, column) != 0 && signs.entry(row, column) == 0
 }
 
 // The least signed column of a row that makes a cycle place with a column.
 fn partner_of(
-    support: &Support<'_>,
+    matrix: &ListedMatrix<'_>,
     places: &mut RowPlaces,
     row: u32,
     column: u32,
     signs: &Matrix,
 ) -> Result<Option<u32>, Memory>
-    requires row { row < height support.now }
-    requires column { column < support.now.width }
-    requires places { KnowsPlaces support.now row places.old }
-    requires signs { AreSigns support.now signs.now }
-    requires here { IsUnsignedOne support.now signs.now row column }
+    requires row { row < height matrix.now }
+    requires column { column < matrix.now.width }
+    requires places { KnowsPlaces matrix.now row places.old }
+    requires signs { AreSigns matrix.now signs.now }
+    requires here { IsUnsignedOne matrix.now signs.now row column }
     ensures partner { IfOk result (λ found. MatchOption found
-        ((c : ℕ) → ¬ (IsForcedBy support.now signs.now row column c))
-        (IsPartner support.now signs.now row column)) }
-    ensures places { IfOk result (λ found. KnowsPlaces support.now row places.new) }
+        ((c : ℕ) → ¬ (IsForcedBy matrix.now signs.now row column c))
+        (IsPartner matrix.now signs.now row column)) }
+    ensures places { IfOk result (λ found. KnowsPlaces matrix.now row places.new) }
 {
-    for partner in support.row(row) {
+    for partner in matrix.row(row) {
         if signs.entry(row, *partner) != 0 {
-            let is_place = places.make_place(support, row, column, *partner)?;
+            let is_place = places.make_place(matrix, row, column, *partner)?;
             if is_place {
                 return Ok(Some(*partner));
             }
@@ -185,15 +186,15 @@ fn partner_of(
 }
 
 // The first column from one on in which a row has a one without sign.
-fn first_unsigned(support: &Support<'_>, row: u32, from: u32, signs: &Matrix) -> Option<u32>
-    requires row { row < height support.now }
-    requires signs { AreSigns support.now signs.now }
-    requires before { (d : ℕ) → d < from → ¬ (IsUnsignedOne support.now signs.now row d) }
-    ensures { MatchOption result ((d : ℕ) → ¬ (IsUnsignedOne support.now signs.now row d))
-        (IsFirstUnsigned support.now signs.now row) }
+fn first_unsigned(matrix: &ListedMatrix<'_>, row: u32, from: u32, signs: &Matrix) -> Option<u32>
+    requires row { row < height matrix.now }
+    requires signs { AreSigns matrix.now signs.now }
+    requires before { (d : ℕ) → d < from → ¬ (IsUnsignedOne matrix.now signs.now row d) }
+    ensures { MatchOption result ((d : ℕ) → ¬ (IsUnsignedOne matrix.now signs.now row d))
+        (IsFirstUnsigned matrix.now signs.now row) }
 {
-    for column in from..support.columns() {
-        if is_unsigned_one(support, row, column, signs) {
+    for column in from..matrix.columns() {
+        if is_unsigned_one(matrix, row, column, signs) {
             return Some(column);
         }
     }
@@ -203,19 +204,19 @@ fn first_unsigned(support: &Support<'_>, row: u32, from: u32, signs: &Matrix) ->
 fn sign_free(
     row: u32,
     column: u32,
-    support: &Support<'_>,
+    matrix: &ListedMatrix<'_>,
     signing: &mut Signing,
 ) -> Result<(), Memory>
-    requires matrix { IsMatrix support.now }
-    requires row { row < height support.now }
-    requires state { IsAtRow support.now row signing.old }
-    requires first { IsFirstUnsigned support.now signing.old.signs row column }
-    requires none { NoneForced support.now signing.old.signs row }
-    ensures state { OnOk result (IsAtRow support.now row signing.new) }
-    ensures fewer { OnOk result (unsigned_before support.now signing.new.signs row support.now.width
-        < unsigned_before support.now signing.old.signs row support.now.width) }
-    ensures keeps { OnOk result ((d : ℕ) → IsUnsignedOne support.now signing.new.signs row d
-        → IsUnsignedOne support.now signing.old.signs row d) }
+    requires matrix { IsMatrix matrix.now }
+    requires row { row < height matrix.now }
+    requires state { IsAtRow matrix.now row signing.old }
+    requires first { IsFirstUnsigned matrix.now signing.old.signs row column }
+    requires none { NoneForced matrix.now signing.old.signs row }
+    ensures state { OnOk result (IsAtRow matrix.now row signing.new) }
+    ensures fewer { OnOk result (unsigned_before matrix.now signing.new.signs row matrix.now.width
+        < unsigned_before matrix.now signing.old.signs row matrix.now.width) }
+    ensures keeps { OnOk result ((d : ℕ) → IsUnsignedOne matrix.now signing.new.signs row d
+        → IsUnsignedOne matrix.now signing.old.signs row d) }
 {
     signing.signs.set(row, column, 1);
     signing.steps.push(SignStep::Free { row, column })?;
@@ -224,26 +225,26 @@ fn sign_free(
 
 fn sign_forced(
     alloc: Global,
-    support: &Support<'_>,
+    matrix: &ListedMatrix<'_>,
     places: &mut RowPlaces,
     row: u32,
     forced: ForcedOne,
     signing: &mut Signing,
 ) -> Result<(), Memory>
-    requires row { row < height support.now }
-    requires places { KnowsPlaces support.now row places.old }
-    requires state { IsAtRow support.now row signing.old }
-    requires here { IsForcedColumn support.now signing.old.signs row forced.column }
-    requires partner { IsPartner support.now signing.old.signs row forced.column forced.partner }
-    ensures state { OnOk result (IsAtRow support.now row signing.new) }
-    ensures places { OnOk result (KnowsPlaces support.now row places.new) }
-    ensures fewer { OnOk result (unsigned_before support.now signing.new.signs row support.now.width
-        < unsigned_before support.now signing.old.signs row support.now.width) }
-    ensures keeps { OnOk result ((d : ℕ) → IsUnsignedOne support.now signing.new.signs row d
-        → IsUnsignedOne support.now signing.old.signs row d) }
+    requires row { row < height matrix.now }
+    requires places { KnowsPlaces matrix.now row places.old }
+    requires state { IsAtRow matrix.now row signing.old }
+    requires here { IsForcedColumn matrix.now signing.old.signs row forced.column }
+    requires partner { IsPartner matrix.now signing.old.signs row forced.column forced.partner }
+    ensures state { OnOk result (IsAtRow matrix.now row signing.new) }
+    ensures places { OnOk result (KnowsPlaces matrix.now row places.new) }
+    ensures fewer { OnOk result (unsigned_before matrix.now signing.new.signs row matrix.now.width
+        < unsigned_before matrix.now signing.old.signs row matrix.now.width) }
+    ensures keeps { OnOk result ((d : ℕ) → IsUnsignedOne matrix.now signing.new.signs row d
+        → IsUnsignedOne matrix.now signing.old.signs row d) }
 {
     let column = forced.column;
-    let cycle = places.cycle(alloc, support, row, column, forced.partner)?;
+    let cycle = places.cycle(alloc, matrix, row, column, forced.partner)?;
     let sign = closing_sign(signing.signs.sum(&cycle));
     signing.signs.set(row, column, sign);
     signing.steps.push(SignStep::Forced { row, column, cycle })?;

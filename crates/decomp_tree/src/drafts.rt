@@ -14,7 +14,7 @@ use crate::faults::keeps_free;
 use crate::looking::look;
 use crate::obstructions::Obstruction;
 use crate::seen::Seen;
-use cmr_base::{LineSet, LineSetList, Matrix, Memory, RowsAndColumns};
+use cmr_base::{LineSet, LineSetList, Memory, RowsAndColumns};
 use std::alloc::Global;
 use std::thread::Threads;
 use tree_type::{Finding, copy_of};
@@ -41,7 +41,7 @@ pub struct Draft {
 pub fn draft_root<R: Threads + Sync>(
     rt: &R,
     alloc: Global,
-    matrix: &Matrix,
+    matrix: &RowsAndColumns<'_>,
     lines: &LineSet,
     budget: Budget,
 ) -> Result<Draft, Memory>
@@ -51,10 +51,8 @@ pub fn draft_root<R: Threads + Sync>(
     ensures drafted { IfOk result (λ drawn. IsDrafted budget.limit matrix.now (sketch_of drawn)) }
 {
     let mut drafts = Vec::new(alloc);
-    let unknown = Obstruction::unknown(matrix);
-    let columns = matrix.transposed(alloc)?;
-    let both = RowsAndColumns::of(matrix, &columns);
-    draw(rt, alloc, &both, lines, &unknown, budget, &mut drafts)?;
+    let unknown = Obstruction::unknown(matrix.by_rows());
+    draw(rt, alloc, matrix, lines, &unknown, budget, &mut drafts)?;
     let Some(drawn) = drafts.pop() else {
         unreachable!()
     };

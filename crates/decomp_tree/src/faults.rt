@@ -11,8 +11,8 @@ ghost use Rattle.network_orient.specs.FirstRows.{HasNoFaultBefore};
 ghost use Rattle.network_orient.specs.Orientations.{IsOrientation};
 
 use crate::naming::named_set;
-use camion_sign::{cycle_fault, cycle_fault_from};
-use cmr_base::{LineSet, Matrix, Memory};
+use camion_sign::{cycle_fault_from, cycle_fault_of};
+use cmr_base::{LineSet, Matrix, Memory, RowsAndColumns};
 use network_orient::{Orientation, rows_of_transposed};
 use std::alloc::Global;
 use tree_type::Finding;
@@ -23,7 +23,7 @@ pub fn fault_from(
     alloc: Global,
     _matrix: &Matrix,
     lines: &LineSet,
-    inner: &Matrix,
+    inner: &RowsAndColumns<'_>,
     first: u32,
 ) -> Result<Option<LineSet>, Memory>
     requires shape { IsMatrix _matrix.now }
@@ -47,7 +47,7 @@ pub fn certain_fault(
     alloc: Global,
     matrix: &Matrix,
     lines: &LineSet,
-    inner: &Matrix,
+    inner: &RowsAndColumns<'_>,
     of_rows: &Orientation,
 ) -> Result<Option<LineSet>, Memory>
     requires shape { IsMatrix matrix.now }
@@ -67,7 +67,7 @@ pub fn certain_fault_transposed(
     alloc: Global,
     matrix: &Matrix,
     lines: &LineSet,
-    inner: &Matrix,
+    inner: &RowsAndColumns<'_>,
     of_columns: &Orientation,
 ) -> Result<Option<LineSet>, Memory>
     requires shape { IsMatrix matrix.now }
@@ -78,7 +78,7 @@ pub fn certain_fault_transposed(
 {
     match of_columns {
         Orientation::WrongSigns { net, .. } => {
-            let row = rows_of_transposed(alloc, net, inner)?;
+            let row = rows_of_transposed(alloc, net, inner.by_rows())?;
             fault_from(alloc, matrix, lines, inner, row)
         }
         Orientation::Directed(_) | Orientation::NoTree => Ok(None),
@@ -89,7 +89,7 @@ pub fn certain_fault_transposed(
 #[inline(never)]
 pub fn late_fault(
     alloc: Global,
-    matrix: &Matrix,
+    matrix: &RowsAndColumns<'_>,
     lines: &LineSet,
     finding: &Finding,
     is_free: bool,
@@ -105,16 +105,17 @@ pub fn late_fault(
     if is_free || !is_unsearched(finding) {
         return Ok(None);
     }
-    let part = matrix.part(alloc, lines)?;
-    fault_of(alloc, matrix, lines, &part)
+    let part = matrix.by_rows().part(alloc, lines)?;
+    let columns = matrix.columns_of(alloc, lines)?;
+    fault_of(alloc, matrix, lines, &RowsAndColumns::of(&part, &columns))
 }
 
 // The cycle fault of the submatrix on these lines, by its numbers in the whole matrix.
 fn fault_of(
     alloc: Global,
-    _matrix: &Matrix,
+    _matrix: &RowsAndColumns<'_>,
     lines: &LineSet,
-    inner: &Matrix,
+    inner: &RowsAndColumns<'_>,
 ) -> Result<Option<LineSet>, Memory>
     requires shape { IsMatrix _matrix.now }
     requires lines { AreLines _matrix.now lines.now }
@@ -123,7 +124,7 @@ fn fault_of(
         (HasNoCycleFault (entry (part _matrix.now lines.now)))
         (IsNamedFault _matrix.now lines.now)) }
 {
-    match cycle_fault(alloc, inner)? {
+    match cycle_fault_of(alloc, inner)? {
         Some(found) => Ok(Some(named_set(alloc, lines, &found)?)),
         None => Ok(None),
     }

@@ -157,13 +157,7 @@ fn look_tested<R: Threads + Sync>(rt: &R, alloc: Global, node: &Node<'_>) -> Res
     ensures { IfOk result (IsSeenAt node.now) }
 {
     let of_rows = orientation_of(alloc, node.inner.by_rows())?;
-    if let Some(fault) = certain_fault(
-        alloc,
-        node.matrix,
-        node.lines,
-        node.inner.by_rows(),
-        &of_rows,
-    )? {
+    if let Some(fault) = certain_fault(alloc, node.matrix, node.lines, node.inner, &of_rows)? {
         return Ok(leaf(alloc, Finding::Cycle(fault)));
     }
     if let Some(net) = of_rows.directed() {
@@ -182,13 +176,7 @@ fn look_transposed<R: Threads + Sync>(
     ensures { IfOk result (IsSeenAt node.now) }
 {
     let of_columns = orientation_of(alloc, node.inner.by_columns())?;
-    let fault = certain_fault_transposed(
-        alloc,
-        node.matrix,
-        node.lines,
-        node.inner.by_rows(),
-        &of_columns,
-    )?;
+    let fault = certain_fault_transposed(alloc, node.matrix, node.lines, node.inner, &of_columns)?;
     if let Some(fault) = fault {
         return Ok(leaf(alloc, Finding::Cycle(fault)));
     }
@@ -219,7 +207,7 @@ fn look_r10(alloc: Global, node: &Node<'_>) -> Result<Seen, Memory>
     requires r10 { IsR10 (inner_of node.now) }
     ensures { IfOk result (IsSeenAt node.now) }
 {
-    if let Some(fault) = fault_from(alloc, node.matrix, node.lines, node.inner.by_rows(), 0)? {
+    if let Some(fault) = fault_from(alloc, node.matrix, node.lines, node.inner, 0)? {
         return Ok(leaf(alloc, Finding::Cycle(fault)));
     }
     Ok(leaf(alloc, Finding::R10))
@@ -233,7 +221,7 @@ fn look_separated<R: Threads + Sync>(rt: &R, alloc: Global, node: &Node<'_>) -> 
     if let Some(two) = two_separation_of(alloc, node.inner)? {
         return seen_two(alloc, node, &two);
     }
-    if let Some(fault) = fault_from(alloc, node.matrix, node.lines, node.inner.by_rows(), 0)? {
+    if let Some(fault) = fault_from(alloc, node.matrix, node.lines, node.inner, 0)? {
         return Ok(leaf(alloc, Finding::Cycle(fault)));
     }
     look_faultless(rt, alloc, node)

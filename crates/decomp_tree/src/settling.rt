@@ -12,7 +12,7 @@ use crate::budget::Budget;
 use crate::drafts::{Draft, Front, draft_root};
 use crate::faults::late_fault;
 use crate::taking_back::{leaf, taken_back};
-use cmr_base::{LineSet, Matrix, Memory};
+use cmr_base::{LineSet, Matrix, Memory, RowsAndColumns};
 use pivots::{PivotedPart, drawn_place, pivot_part};
 use std::alloc::Global;
 use std::thread::Threads;
@@ -36,9 +36,11 @@ pub fn draw_root<R: Threads + Sync>(
     ensures { IfOk result (λ node.
         IsDrawnWith budget.limit pivots state matrix.now lines.now (tree_of node)) }
 {
-    let drawn = draft_root(rt, alloc, matrix, lines, budget)?;
+    let columns = matrix.transposed(alloc)?;
+    let both = RowsAndColumns::of(matrix, &columns);
+    let drawn = draft_root(rt, alloc, &both, lines, budget)?;
     let mut roots = Vec::new(alloc);
-    settle(rt, alloc, matrix, drawn, budget, pivots, state, &mut roots)?;
+    settle(rt, alloc, &both, drawn, budget, pivots, state, &mut roots)?;
     let Some(root) = roots.pop() else {
         unreachable!()
     };
@@ -52,7 +54,7 @@ pub fn draw_root<R: Threads + Sync>(
 fn settle<R: Threads + Sync>(
     rt: &R,
     alloc: Global,
-    matrix: &Matrix,
+    matrix: &RowsAndColumns<'_>,
     drawn: Draft,
     budget: Budget,
     pivots: u32,
@@ -74,7 +76,8 @@ fn settle<R: Threads + Sync>(
         return Ok(());
     }
     if is_undecided(&front.finding) {
-        let found = find(rt, alloc, matrix, &front.lines, budget, pivots, state)?;
+        let whole = matrix.by_rows();
+        let found = find(rt, alloc, whole, &front.lines, budget, pivots, state)?;
         nodes.push(found)?;
         return Ok(());
     }

@@ -6,17 +6,17 @@ ghost use Rattle.network_orient.specs.FirstRows.{HasNoFaultBefore};
 
 use crate::line_signs::{SignsBetween, signs_between};
 use crate::orienting::{Orientation, orientation_of};
-use cmr_base::{Matrix, Memory, Network};
+use cmr_base::{Matrix, Memory, Network, RowsAndColumns};
 use graph_realise::realise;
 use std::alloc::Global;
 
 /// How many of the first rows are shown to have no cycle fault by a network matrix or a transposed one: where a tree has the
 /// supports of the columns as paths, or else those of the rows, those before the first row whose signs are not the network's,
 /// however lines are multiplied by -1. No row is shown to have none where there is no such tree.
-pub fn rows_without_fault(alloc: Global, matrix: &Matrix) -> Result<u32, Memory>
+pub fn rows_without_fault(alloc: Global, matrix: &RowsAndColumns<'_>) -> Result<u32, Memory>
     ensures { IfOk result (HasNoFaultBefore matrix.now) }
 {
-    match orientation_of(alloc, matrix)? {
+    match orientation_of(alloc, matrix.by_rows())? {
         Orientation::Directed(_) => Ok(matrix.rows()),
         Orientation::WrongSigns { row, .. } => Ok(row),
         Orientation::NoTree => rows_by_columns(alloc, matrix),
@@ -24,12 +24,11 @@ pub fn rows_without_fault(alloc: Global, matrix: &Matrix) -> Result<u32, Memory>
 }
 
 // How many of the first rows are shown to have none by a tree that has the supports of the rows as paths.
-fn rows_by_columns(alloc: Global, matrix: &Matrix) -> Result<u32, Memory>
+fn rows_by_columns(alloc: Global, matrix: &RowsAndColumns<'_>) -> Result<u32, Memory>
     ensures { IfOk result (HasNoFaultBefore matrix.now) }
 {
-    let transposed = matrix.transposed(alloc)?;
-    match realise(alloc, &transposed)? {
-        Some(net) => rows_of_transposed(alloc, &net, matrix),
+    match realise(alloc, matrix.by_columns())? {
+        Some(net) => rows_of_transposed(alloc, &net, matrix.by_rows()),
         None => Ok(0),
     }
 }

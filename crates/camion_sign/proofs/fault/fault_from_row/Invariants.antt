@@ -4,4 +4,4 @@ use Rattle.camion_sign.specs.Walks.{FitsMatrix}
 use Rattle.camion_sign.proofs.fault.fault_from_row.Given as goal
 
 abbrev pub invariant-loop-row : goal.invariant-loop-row
-invariant-loop-row l = FitsMatrix l.support l.walk × ((r x y : ℕ) → r < l.row → HasNoFaultAt l.support r x y)
+invariant-loop-row l = FitsMatrix l.matrix l.walk × ((r x y : ℕ) → r < l.row → HasNoFaultAt l.matrix r x y)

@@ -8,7 +8,7 @@ use Rattle.camion_sign.proofs.fault.is_fault.Goals as goal
 
 pub returns-clause-fault : goal.returns-clause-fault
 returns-clause-fault c =
-    let m = c.args.support.now in
+    let m = c.args.matrix.now in
     let t = c.args.start.row in
     let first = c.args.start.column in
     let d = c.args.last in

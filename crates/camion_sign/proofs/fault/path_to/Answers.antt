@@ -4,7 +4,7 @@ use Rattle.camion_sign.proofs.fault.path_to.Goals as goal
 
 pub loop-place-init : goal.loop-place-init
 loop-place-init c =
-    let m = c.args.support.now in
+    let m = c.args.matrix.now in
     let walk = c.args.walk.now in
     let step = met_step m c.args.start.row c.args.start.column c.args.last walk c.index.result.now c.index-step.result.now c.requires.walked c.requires.width c.index.ensures c.requires.reached c.index-step.ensures in
     let lines : c.in_ok-lines.lines.items ≡ c.index-step.result.now.row ∷ [] = search rules in (
@@ -14,7 +14,7 @@ loop-place-init c =
 
 pub loop-place-preserved : goal.loop-place-preserved
 loop-place-preserved c =
-    let m = c.args.support.now in
+    let m = c.args.matrix.now in
     let walk = c.args.walk.now in
     let step = c.index-step-in-loop-place.result.now in
     let l = c.loop-place.invariant.0 in (
@@ -25,5 +25,5 @@ loop-place-preserved c =
 
 pub returns : goal.returns
 returns c =
-    path_back c.args.support.now c.args.start.row c.args.start.column c.args.last c.args.walk.now c.loop-place.place c.loop-place.lines.items c.reverse.new.self.items c.requires.walked c.requires.order c.requires.reached c.requires.first c.requires.last
+    path_back c.args.matrix.now c.args.start.row c.args.start.column c.args.last c.args.walk.now c.loop-place.place c.loop-place.lines.items c.reverse.new.self.items c.requires.walked c.requires.order c.requires.reached c.requires.first c.requires.last
     c.loop-place-test.false c.reverse.ensures.items c.loop-place.invariant.1

@@ -4,7 +4,7 @@ use Rattle.camion_sign.proofs.fault.path_to.Given as goal
 
 -- the trail to the last column is the one to this place, with the lines so far backwards
 abbrev pub invariant-loop-place : goal.invariant-loop-place
-invariant-loop-place l = (l.place < length l.walk.steps.items) × ((w : HasWalked l.support l.fn.start.row l.fn.start.column l.walk) → w.key (place_in l.walk.places.items l.last) ≡ w.key l.place ++ (reverse l.lines.items ++ l.last ∷ []))
+invariant-loop-place l = (l.place < length l.walk.steps.items) × ((w : HasWalked l.matrix l.fn.start.row l.fn.start.column l.walk) → w.key (place_in l.walk.places.items l.last) ≡ w.key l.place ++ (reverse l.lines.items ++ l.last ∷ []))
 
 abbrev pub decreases-loop-place : goal.decreases-loop-place
 decreases-loop-place l = l.place

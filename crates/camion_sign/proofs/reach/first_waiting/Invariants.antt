@@ -4,4 +4,4 @@ use Rattle.camion_sign.specs.Walks.{IsUntouched, place_in}
 use Rattle.camion_sign.proofs.reach.first_waiting.Given as goal
 
 abbrev pub invariant-loop-column : goal.invariant-loop-column
-invariant-loop-column l = (d : ℕ) → l.fn.from ≤ d → d < l.column → entry l.support l.fn.start.row d ≢ pos 0 → (place_in l.walk.places.items d ≢ 4294967295) ⊎ IsUntouched l.support l.fn.start.row d
+invariant-loop-column l = (d : ℕ) → l.fn.from ≤ d → d < l.column → entry l.matrix l.fn.start.row d ≢ pos 0 → (place_in l.walk.places.items d ≢ 4294967295) ⊎ IsUntouched l.matrix l.fn.start.row d

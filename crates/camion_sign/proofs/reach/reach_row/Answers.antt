@@ -9,33 +9,33 @@ use Rattle.camion_sign.proofs.reach.reach_row.Goals as goal
 use Rattle.camion_sign.proofs.reach.reach_row.Goals.{then-not-has_reached+in_ok-reach, else-not-has_reached}
 
 pub loop-column-init : goal.loop-column-init
-loop-column-init c = start_row c.args.support.now c.args.start.row c.args.start.column c.args.head c.args.row c.row-column-items.result.now c.index-from.result.now c.args.walk.now c.requires.walking c.requires.open c.index-from.ensures
+loop-column-init c = start_row c.args.matrix.now c.args.start.row c.args.start.column c.args.head c.args.row c.row-column-items.result.now c.index-from.result.now c.args.walk.now c.requires.walking c.requires.open c.index-from.ensures
 
 pub has_reached-requires : goal.has_reached-requires
 has_reached-requires c =
     let w = c.loop-column.invariant in
-    let low = within c.args.support.now c.args.row (get_or c.row-column-items.result.now c.loop-column.column-index 0) w.fits.matrix (let e = c.requires.early in let h = c.requires.row in omega arith) (c.row-column-items.ensures.nonzero c.loop-column.column-index c.loop-column-test.true) in
+    let low = within c.args.matrix.now c.args.row (get_or c.row-column-items.result.now c.loop-column.column-index 0) w.fits.matrix (let e = c.requires.early in let h = c.requires.row in omega arith) (c.row-column-items.ensures.nonzero c.loop-column.column-index c.loop-column-test.true) in
     omega (arith, w.fits.places, low, c.loop-column.walk.places.ok.0)
 
 pub entry-requires-clause-column : goal.entry-requires-clause-column
 entry-requires-clause-column c =
-    within c.args.support.now c.args.row (get_or c.row-column-items.result.now c.loop-column.column-index 0) c.loop-column.invariant.fits.matrix (let e = c.requires.early in let h = c.requires.row in omega arith) (c.row-column-items.ensures.nonzero c.loop-column.column-index c.loop-column-test.true)
+    within c.args.matrix.now c.args.row (get_or c.row-column-items.result.now c.loop-column.column-index 0) c.loop-column.invariant.fits.matrix (let e = c.requires.early in let h = c.requires.row in omega arith) (c.row-column-items.ensures.nonzero c.loop-column.column-index c.loop-column-test.true)
 
 pub reach-requires-clause-column : goal.reach-requires-clause-column
 reach-requires-clause-column c =
     let w = c.loop-column.invariant in
-    let low = within c.args.support.now c.args.row (get_or c.row-column-items.result.now c.loop-column.column-index 0) w.fits.matrix (let e = c.requires.early in let h = c.requires.row in omega arith) (c.row-column-items.ensures.nonzero c.loop-column.column-index c.loop-column-test.true) in
+    let low = within c.args.matrix.now c.args.row (get_or c.row-column-items.result.now c.loop-column.column-index 0) w.fits.matrix (let e = c.requires.early in let h = c.requires.row in omega arith) (c.row-column-items.ensures.nonzero c.loop-column.column-index c.loop-column-test.true) in
     omega (arith, w.fits.places, low)
 
 pub reach-requires-clause-few : goal.reach-requires-clause-few
 reach-requires-clause-few c =
     let w = c.loop-column.invariant in
-    let m = c.args.support.now in
+    let m = c.args.matrix.now in
     omega (arith, w.fits.matrix.width_in, few (entry m) c.args.start.row c.args.start.column m.width (progress c.loop-column.walk.steps.items c.loop-column.walk.places.items c.loop-column.walk.used.items) w.key w.front.queue)
 
 pub loop-column-preserved : goal.loop-column-preserved
 loop-column-preserved c =
-    let m = c.args.support.now in
+    let m = c.args.matrix.now in
     let i = c.loop-column.invariant in
     let columns = c.row-column-items.result.now in
     let k = c.loop-column.column-index in
@@ -62,7 +62,7 @@ index_mut-requires c = omega (arith, c.loop-column.invariant.fits.used, c.loop-c
 
 pub returns-clause-walking : goal.returns-clause-walking
 returns-clause-walking c =
-    end_row c.args.support.now c.args.start.row c.args.start.column c.args.head c.args.row c.row-column-items.result.now c.loop-column.column-index c.index-from.result.now c.args.walk.now c.loop-column.walk _
+    end_row c.args.matrix.now c.args.start.row c.args.start.column c.args.head c.args.row c.row-column-items.result.now c.loop-column.column-index c.index-from.result.now c.args.walk.now c.loop-column.walk _
     c.loop-column.invariant c.row-column-items.ensures c.loop-column-test.false (let e = c.requires.early in let h = c.requires.row in omega arith) refl refl refl
 
 pub returns-clause-grows : goal.returns-clause-grows

@@ -4,16 +4,16 @@ use Rattle.camion_sign.proofs.reach.reach_rows.Goals as goal
 use Rattle.camion_sign.proofs.reach.reach_rows.Goals.{then-not-index+in_ok-reach_row+else-pending-columns, else-not-index}
 
 pub loop-row-init : goal.loop-row-init
-loop-row-init c = start_rows c.args.support.now c.args.start.row c.args.start.column c.args.head c.args.pending c.column-row-items.result.now c.args.walk.now c.requires.walking c.requires.open c.requires.pending c.requires.waits
+loop-row-init c = start_rows c.args.matrix.now c.args.start.row c.args.start.column c.args.head c.args.pending c.column-row-items.result.now c.args.walk.now c.requires.walking c.requires.open c.requires.pending c.requires.waits
 
 pub returns-then-row-start-clause-walk : goal.returns-then-row-start-clause-walk
 returns-then-row-start-clause-walk c =
-    inl (end_rows c.args.support.now c.args.start.row c.args.start.column c.args.head c.column-row-items.result.now c.loop-row.row-index c.index.result.now.column c.args.walk.now c.loop-row.walk c.loop-row.invariant c.column-row-items.ensures
+    inl (end_rows c.args.matrix.now c.args.start.row c.args.start.column c.args.head c.column-row-items.result.now c.loop-row.row-index c.index.result.now.column c.args.walk.now c.loop-row.walk c.loop-row.invariant c.column-row-items.ensures
     (ap (λ v. v.column) (sym (step_is c.args.walk.now.steps.items c.args.head c.index.result.now c.requires.open.within c.index.ensures))) (inr (c.loop-row-test.true, c.if-row-start.true)))
 
 pub returns-then-pending-columns-clause-walk : goal.returns-then-pending-columns-clause-walk
 returns-then-pending-columns-clause-walk c =
-    let m = c.args.support.now in
+    let m = c.args.matrix.now in
     let rows = c.column-row-items.result.now in
     let k = c.loop-row.row-index in
     let taken = take_row m c.args.start.row c.args.start.column c.args.head rows k c.index.result.now.column c.args.walk.now c.loop-row.walk c.loop-row.invariant c.column-row-items.ensures
@@ -27,7 +27,7 @@ returns-then-pending-columns-clause-walk c =
 
 pub loop-row-preserved : goal.loop-row-preserved
 loop-row-preserved c =
-    let m = c.args.support.now in
+    let m = c.args.matrix.now in
     let rows = c.column-row-items.result.now in
     let k = c.loop-row.row-index in
     elim c.if-not-index.branch [
@@ -42,5 +42,5 @@ loop-row-preserved c =
 
 pub returns-clause-walk : goal.returns-clause-walk
 returns-clause-walk c =
-    inl (end_rows c.args.support.now c.args.start.row c.args.start.column c.args.head c.column-row-items.result.now c.loop-row.row-index c.index.result.now.column c.args.walk.now c.loop-row.walk c.loop-row.invariant c.column-row-items.ensures
+    inl (end_rows c.args.matrix.now c.args.start.row c.args.start.column c.args.head c.column-row-items.result.now c.loop-row.row-index c.index.result.now.column c.args.walk.now c.loop-row.walk c.loop-row.invariant c.column-row-items.ensures
     (ap (λ v. v.column) (sym (step_is c.args.walk.now.steps.items c.args.head c.index.result.now c.requires.open.within c.index.ensures))) (inl c.loop-row-test.false))

@@ -10,7 +10,7 @@ use Rattle.camion_sign.proofs.row_places.note_places.Goals.{then-entry-ne0, else
 
 pub loop-last-preserved : goal.loop-last-preserved
 loop-last-preserved c =
-    let m = c.args.support.now in
+    let m = c.args.matrix.now in
     let t = c.args.start.row in
     let x = c.args.start.column in
     let last = c.loop-last.last in

@@ -8,7 +8,7 @@ use Rattle.camion_sign.proofs.signing.all_rows_signed.Goals as goal
 pub loop-row-init : goal.loop-row-init
 loop-row-init c =
     let m = c.args.matrix.now in
-    let e : c.in_ok-support.support ≡ m = c.in_ok-support.ensures in
+    let e : c.in_ok-listed.listed ≡ m = c.in_ok-listed.ensures in
     let tall = ap height e in
     let wide = ap (λ (x : Matrix). x.width) e in (
       subst (λ (x : Matrix). HasRoom x c.in_ok-places.places) e c.in_ok-places.ensures,
@@ -21,6 +21,6 @@ sign_row-requires-clause-places c = c.begin.ensures c.loop-row.row
 pub returns-clause-state : goal.returns-clause-state
 returns-clause-state c =
     let m = c.args.matrix.now in
-    let tall = ap height c.in_ok-support.ensures in
+    let tall = ap height c.in_ok-listed.ensures in
     let e : c.loop-row.row ≡ height m = omega (arith, c.loop-row-test.false, c.loop-row.auto.row-end, c.rows-row-end.ensures.rows, tall) in
     subst (λ (row : ℕ). IsAtRow m row c.loop-row.signing) e c.loop-row.invariant.1

@@ -8,7 +8,7 @@ use Rattle.camion_sign.proofs.signing.forced_one.Goals.{then-is_unsigned_one+in_
 
 pub loop-column-preserved : goal.loop-column-preserved
 loop-column-preserved c =
-    let a = c.args.support.now in
+    let a = c.args.matrix.now in
     let s = c.args.signs.now in
     elim c.if-is_unsigned_one.branch [
       | then-is_unsigned_one+in_ok-partner+in_default w ↦ record {

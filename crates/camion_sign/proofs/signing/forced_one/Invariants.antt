@@ -6,6 +6,6 @@ use Rattle.camion_sign.proofs.signing.forced_one.Given as goal
 
 abbrev pub invariant-loop-column : goal.invariant-loop-column
 invariant-loop-column l = record {
-  none : (d : ℕ) → d < l.column → IsUnsignedOne l.support l.signs l.row d → (c : ℕ) → ¬ (IsForcedBy l.support l.signs l.row d c);
-  knows : KnowsPlaces l.support l.row l.places;
+  none : (d : ℕ) → d < l.column → IsUnsignedOne l.matrix l.signs l.row d → (c : ℕ) → ¬ (IsForcedBy l.matrix l.signs l.row d c);
+  knows : KnowsPlaces l.matrix l.row l.places;
 }

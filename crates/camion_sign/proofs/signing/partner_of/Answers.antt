@@ -8,12 +8,12 @@ use Rattle.camion_sign.proofs.signing.partner_of.Goals.{then-entry-ne0+in_ok-is_
 
 pub returns-then-is_place-clause-partner : goal.returns-then-is_place-clause-partner
 returns-then-is_place-clause-partner c =
-    partner_is c.args.support.now c.args.signs.now c.args.row c.args.column c.row-partner-items.result.now c.requires.signs c.row-partner-items.ensures c.loop-partner.partner-index c.loop-partner-test.true
+    partner_is c.args.matrix.now c.args.signs.now c.args.row c.args.column c.row-partner-items.result.now c.requires.signs c.row-partner-items.ensures c.loop-partner.partner-index c.loop-partner-test.true
     ((λ z. c.if-entry-ne0.true (zero_as_byte c.entry.result (c.entry.ensures.value ∙ z))), c.in_ok-is_place.ensures.yes c.if-is_place.true) c.loop-partner.invariant.none
 
 pub loop-partner-preserved : goal.loop-partner-preserved
 loop-partner-preserved c =
-    let a = c.args.support.now in
+    let a = c.args.matrix.now in
     let s = c.args.signs.now in
     let columns = c.row-partner-items.result.now in
     let k = c.loop-partner.partner-index in
@@ -29,4 +29,4 @@ loop-partner-preserved c =
     ]
 
 pub returns-clause-partner : goal.returns-clause-partner
-returns-clause-partner c = no_partner c.args.support.now c.args.signs.now c.args.row c.args.column c.row-partner-items.result.now c.requires.signs c.row-partner-items.ensures c.loop-partner.partner-index c.loop-partner-test.false c.loop-partner.invariant.none
+returns-clause-partner c = no_partner c.args.matrix.now c.args.signs.now c.args.row c.args.column c.row-partner-items.result.now c.requires.signs c.row-partner-items.ensures c.loop-partner.partner-index c.loop-partner-test.false c.loop-partner.invariant.none

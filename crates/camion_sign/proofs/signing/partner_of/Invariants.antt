@@ -5,6 +5,6 @@ use Rattle.camion_sign.proofs.signing.partner_of.Given as goal
 
 abbrev pub invariant-loop-partner : goal.invariant-loop-partner
 invariant-loop-partner l = record {
-  none : (k : ℕ) → k < l.partner-index → ¬ (IsForcedBy l.support l.signs l.row l.column (get_or l.partner-items k 0));
-  knows : KnowsPlaces l.support l.row l.places;
+  none : (k : ℕ) → k < l.partner-index → ¬ (IsForcedBy l.matrix l.signs l.row l.column (get_or l.partner-items k 0));
+  knows : KnowsPlaces l.matrix l.row l.places;
 }

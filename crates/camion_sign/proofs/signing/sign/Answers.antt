@@ -1,28 +1,49 @@
+use Rattle.std.proofs.Common.{◌≡◌, subst}
+use Rattle.cmr_base.specs.Matrix.{Matrix, height, IsMatrix}
+use Rattle.camion_sign.specs.declared.signing.Signing.{Signing}
 use Rattle.camion_sign.specs.SignSteps.{unsigned}
+use Rattle.camion_sign.specs.Signings.{IsAtRow}
 use Rattle.camion_sign.proofs.ChainViolators.{unsigned_signs}
 use Rattle.camion_sign.proofs.FreeSteps.{chain_steps}
 use Rattle.camion_sign.proofs.SigningStates.{all_are_signed, signs_support}
 use Rattle.camion_sign.proofs.StepCounts.{few_signed, steps_in}
 use Rattle.camion_sign.proofs.signing.sign.Goals as goal
 
+-- all rows of the same matrix are signed
+same_end : (n m : Matrix) (signing : Signing) → n ≡ m → IsMatrix n → IsAtRow n (height n) signing → IsMatrix m × IsAtRow m (height m) signing
+same_end n m signing e is state = (subst IsMatrix e is, subst (λ (k : Matrix). IsAtRow k (height k) signing) e state)
+
 pub returns-clause-signed : goal.returns-clause-signed
-returns-clause-signed c = all_are_signed c.args.matrix.now c.in_ok-signing.signing c.in_ok-signing.ensures.shape c.in_ok-signing.ensures.state
+returns-clause-signed c =
+    let m = c.args.matrix.now in
+    let signing = c.in_ok-signing.signing in
+    let end = same_end c.of.result m signing c.of.ensures c.in_ok-signing.ensures.shape c.in_ok-signing.ensures.state in
+    all_are_signed m signing end.0 end.1
 
 pub returns-clause-chain : goal.returns-clause-chain
 returns-clause-chain c binary =
     let m = c.args.matrix.now in
-    let is = c.in_ok-signing.ensures.shape in
-    chain_steps m is binary c.in_ok-signing.signing.steps (unsigned m) c.in_ok-signing.signing.signs (unsigned_signs m) c.in_ok-signing.ensures.state.steps
+    let signing = c.in_ok-signing.signing in
+    let end = same_end c.of.result m signing c.of.ensures c.in_ok-signing.ensures.shape c.in_ok-signing.ensures.state in
+    chain_steps m end.0 binary signing.steps (unsigned m) signing.signs (unsigned_signs m) end.1.steps
 
 pub returns-clause-support : goal.returns-clause-support
-returns-clause-support c = signs_support c.args.matrix.now c.in_ok-signing.signing c.in_ok-signing.ensures.shape c.in_ok-signing.ensures.state
+returns-clause-support c =
+    let m = c.args.matrix.now in
+    let signing = c.in_ok-signing.signing in
+    let end = same_end c.of.result m signing c.of.ensures c.in_ok-signing.ensures.shape c.in_ok-signing.ensures.state in
+    signs_support m signing end.0 end.1
 
 pub returns-clause-few : goal.returns-clause-few
 returns-clause-few c =
+    let m = c.args.matrix.now in
     let signing = c.in_ok-signing.signing in
-    few_signed c.args.matrix.now signing.steps signing.signs c.in_ok-signing.ensures.shape c.in_ok-signing.ensures.state.signs c.in_ok-signing.ensures.state.steps
+    let end = same_end c.of.result m signing c.of.ensures c.in_ok-signing.ensures.shape c.in_ok-signing.ensures.state in
+    few_signed m signing.steps signing.signs end.0 end.1.signs end.1.steps
 
 pub returns-clause-steps : goal.returns-clause-steps
 returns-clause-steps c =
+    let m = c.args.matrix.now in
     let signing = c.in_ok-signing.signing in
-    steps_in c.args.matrix.now signing.steps (unsigned c.args.matrix.now) signing.signs c.in_ok-signing.ensures.shape c.in_ok-signing.ensures.state.steps
+    let end = same_end c.of.result m signing c.of.ensures c.in_ok-signing.ensures.shape c.in_ok-signing.ensures.state in
+    steps_in m signing.steps (unsigned m) signing.signs end.0 end.1.steps

@@ -15,7 +15,7 @@ pub closing_sign-sign-requires : goal.closing_sign-sign-requires
 closing_sign-sign-requires c =
     let fits : SFits w32 c.sum.result = search rules in
     subst IsOdd (sym (to_z-of_z w32 c.sum.result fits ∙ c.sum.ensures))
-    (odd_sum c.args.support.now c.args.signing.now.signs c.requires.places.room.fits.matrix c.requires.state.signs c.args.row c.args.forced.partner c.args.forced.column c.requires.state.turn c.requires.here.here c.requires.partner.forces.0 c.in_ok-cycle.cycle c.in_ok-cycle.ensures.cycle)
+    (odd_sum c.args.matrix.now c.args.signing.now.signs c.requires.places.room.fits.matrix c.requires.state.signs c.args.row c.args.forced.partner c.args.forced.column c.requires.state.turn c.requires.here.here c.requires.partner.forces.0 c.in_ok-cycle.cycle c.in_ok-cycle.ensures.cycle)
 
 pub returns-clause-state : goal.returns-clause-state
 returns-clause-state c =
@@ -28,8 +28,8 @@ returns-clause-state c =
     let v = c.closing_sign-sign.result in
     let fits : SFits w32 c.sum.result = search rules in
     let sum = to_z-of_z w32 c.sum.result fits ∙ c.sum.ensures in
-    let more = sum_more c.args.support.now c.args.signing.now.signs c.requires.places.room.fits.matrix state.signs c.args.row c.args.forced.partner c.args.forced.column state.turn c.requires.here.here c.requires.partner.forces.0 c.in_ok-cycle.cycle c.in_ok-cycle.ensures.cycle v in
-    let next : IsNextForced c.args.support.now c.args.signing.now.signs c.args.row c.args.forced.column c.in_ok-cycle.cycle v = record {
+    let more = sum_more c.args.matrix.now c.args.signing.now.signs c.requires.places.room.fits.matrix state.signs c.args.row c.args.forced.partner c.args.forced.column state.turn c.requires.here.here c.requires.partner.forces.0 c.in_ok-cycle.cycle c.in_ok-cycle.ensures.cycle v in
+    let next : IsNextForced c.args.matrix.now c.args.signing.now.signs c.args.row c.args.forced.column c.in_ok-cycle.cycle v = record {
       here = c.requires.here.here;
       partner = c.args.forced.partner;
       signed = c.requires.partner.forces.0;
@@ -39,7 +39,7 @@ returns-clause-state c =
       is_sign = c.closing_sign-sign.ensures.sign;
       four = subst IsZeroModFour (sym more) (subst (λ (z : ℤ). IsZeroModFour (z +ℤ v)) sum c.closing_sign-sign.ensures.four);
     } in
-    state_more c.args.support.now c.args.signing.now.signs c.requires.places.room.fits.matrix c.args.row c.args.forced.column v c.closing_sign-sign.ensures.sign state.signs state.turn c.requires.here.here
+    state_more c.args.matrix.now c.args.signing.now.signs c.requires.places.room.fits.matrix c.args.row c.args.forced.column v c.closing_sign-sign.ensures.sign state.signs state.turn c.requires.here.here
     c.args.signing.now.steps c.push.new.self (Forced c.args.row c.args.forced.column c.in_ok-cycle.cycle) state.steps (state.turn, next) refl c.in_ok-push.ensures.ok c.set.new.self set
 
 pub returns-clause-fewer : goal.returns-clause-fewer
@@ -50,7 +50,7 @@ returns-clause-fewer c =
     let high = small.high in
     let kept : to_z w8 (of_z w8 c.closing_sign-sign.result) ≡ c.closing_sign-sign.result = omega (arith, ints) in
     let set = c.set.ensures ∙ ap (with_entry c.args.signing.now.signs c.args.row c.args.forced.column) kept in
-    fewer_more c.args.support.now c.args.signing.now.signs c.requires.places.room.fits.matrix c.args.row c.args.forced.column c.closing_sign-sign.result c.closing_sign-sign.ensures.sign state.signs state.turn c.requires.here.here c.set.new.self set
+    fewer_more c.args.matrix.now c.args.signing.now.signs c.requires.places.room.fits.matrix c.args.row c.args.forced.column c.closing_sign-sign.result c.closing_sign-sign.ensures.sign state.signs state.turn c.requires.here.here c.set.new.self set
 
 pub returns-clause-keeps : goal.returns-clause-keeps
 returns-clause-keeps c =
@@ -60,4 +60,4 @@ returns-clause-keeps c =
     let high = small.high in
     let kept : to_z w8 (of_z w8 c.closing_sign-sign.result) ≡ c.closing_sign-sign.result = omega (arith, ints) in
     let set = c.set.ensures ∙ ap (with_entry c.args.signing.now.signs c.args.row c.args.forced.column) kept in
-    ones_kept c.args.support.now c.args.signing.now.signs c.set.new.self c.requires.places.room.fits.matrix state.signs c.args.row c.args.forced.column c.closing_sign-sign.result c.closing_sign-sign.ensures.sign c.requires.here.here set
+    ones_kept c.args.matrix.now c.args.signing.now.signs c.set.new.self c.requires.places.room.fits.matrix state.signs c.args.row c.args.forced.column c.closing_sign-sign.result c.closing_sign-sign.ensures.sign c.requires.here.here set

@@ -6,16 +6,16 @@ use Rattle.camion_sign.proofs.signing.sign_free.Goals as goal
 
 pub set-requires-clause-column : goal.set-requires-clause-column
 set-requires-clause-column c =
-    omega (arith, column_in c.args.support.now c.args.row c.args.column c.requires.matrix.rectangular c.requires.first.here.one, c.requires.state.signs.same_width)
+    omega (arith, column_in c.args.matrix.now c.args.row c.args.column c.requires.matrix.rectangular c.requires.first.here.one, c.requires.state.signs.same_width)
 
 pub returns-clause-state : goal.returns-clause-state
 returns-clause-state c =
     let state = c.requires.state in
-    state_more c.args.support.now c.args.signing.now.signs c.requires.matrix c.args.row c.args.column (pos 1) (inl refl) state.signs state.turn c.requires.first.here
+    state_more c.args.matrix.now c.args.signing.now.signs c.requires.matrix c.args.row c.args.column (pos 1) (inl refl) state.signs state.turn c.requires.first.here
     c.args.signing.now.steps c.push.new.self (Free c.args.row c.args.column) state.steps (state.turn, record { here = c.requires.first.here; least = c.requires.first.least; unforced = c.requires.none }, refl) refl c.in_ok-push.ensures.ok
     c.set.new.self c.set.ensures
 
 pub returns-clause-fewer : goal.returns-clause-fewer
 returns-clause-fewer c =
     let state = c.requires.state in
-    fewer_more c.args.support.now c.args.signing.now.signs c.requires.matrix c.args.row c.args.column (pos 1) (inl refl) state.signs state.turn c.requires.first.here c.set.new.self c.set.ensures
+    fewer_more c.args.matrix.now c.args.signing.now.signs c.requires.matrix c.args.row c.args.column (pos 1) (inl refl) state.signs state.turn c.requires.first.here c.set.new.self c.set.ensures

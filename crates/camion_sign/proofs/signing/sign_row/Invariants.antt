@@ -5,10 +5,10 @@ use Rattle.camion_sign.proofs.signing.sign_row.Given as goal
 
 abbrev pub invariant-ones : goal.invariant-ones
 invariant-ones l = record {
-  state : IsAtRow l.support l.row l.signing;
-  knows : KnowsPlaces l.support l.row l.places;
-  first : MatchOption l.next ((d : ℕ) → ¬ (IsUnsignedOne l.support l.signing.signs l.row d)) (IsFirstUnsigned l.support l.signing.signs l.row);
+  state : IsAtRow l.matrix l.row l.signing;
+  knows : KnowsPlaces l.matrix l.row l.places;
+  first : MatchOption l.next ((d : ℕ) → ¬ (IsUnsignedOne l.matrix l.signing.signs l.row d)) (IsFirstUnsigned l.matrix l.signing.signs l.row);
 }
 
 abbrev pub decreases-ones : goal.decreases-ones
-decreases-ones l = unsigned_before l.support l.signing.signs l.row l.support.width
+decreases-ones l = unsigned_before l.matrix l.signing.signs l.row l.matrix.width

@@ -13,7 +13,7 @@ use Rattle.decomp_tree.proofs.looking.look_tested.Goals as goal
 
 pub certain_fault-requires-clause-of_rows : goal.certain_fault-requires-clause-of_rows
 certain_fault-requires-clause-of_rows g c =
-    subst (λ (n : Matrix). IsOrientation n c.in_ok-of_rows.of_rows) (c.by_rows.ensures.matrix ∙ sym c.by_rows-2.ensures.matrix) c.in_ok-of_rows.ensures
+    subst (λ (n : Matrix). IsOrientation n c.in_ok-of_rows.of_rows) c.by_rows.ensures.matrix c.in_ok-of_rows.ensures
 
 pub returns-in-Some : goal.returns-in-Some
 returns-in-Some g c =

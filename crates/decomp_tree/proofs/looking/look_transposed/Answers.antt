@@ -13,7 +13,7 @@ use Rattle.decomp_tree.proofs.looking.look_transposed.Goals as goal
 
 pub certain_fault_transposed-requires-clause-of_columns : goal.certain_fault_transposed-requires-clause-of_columns
 certain_fault_transposed-requires-clause-of_columns g c =
-    subst (λ (n : Matrix). IsOrientation n c.in_ok-of_columns.of_columns) (c.by_columns.ensures.matrix ∙ ap transposed (sym c.by_rows.ensures.matrix)) c.in_ok-of_columns.ensures
+    subst (λ (n : Matrix). IsOrientation n c.in_ok-of_columns.of_columns) c.by_columns.ensures.matrix c.in_ok-of_columns.ensures
 
 pub returns-in-Some : goal.returns-in-Some
 returns-in-Some g c =

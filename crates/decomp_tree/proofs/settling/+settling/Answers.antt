@@ -1,8 +1,9 @@
-use Rattle.std.proofs.Common.{rules, ◌≡◌, ◌<◌, ◌+◌, ◌-◌, ◌*◌, ◌∙◌, ◌++◌, true, false, Option, Some, None, MatchOption, List, [], ◌∷◌, length, map, append_assoc, append-nil, refl, ap, sym, subst, arith}
+use Rattle.std.proofs.Common.{rules, ◌≡◌, ◌<◌, ◌+◌, ◌-◌, ◌*◌, ◌∙◌, ◌++◌, true, false, Option, MatchOption, List, [], ◌∷◌, length, map, append_assoc, append-nil, refl, ap, sym, subst, arith}
 use Rattle.std.proofs.lemmas.List.{map-append}
 use Rattle.std.proofs.lemmas.Result.{IfOk-weaker}
 use Rattle.std.specs.Vec.Iter.{into_iter_items}
 use Rattle.cmr_base.specs.declared.line_set.LineSet.{LineSet}
+use Rattle.cmr_base.specs.Matrix.{Matrix}
 use Rattle.cmr_base.proofs.Lists.{no_items}
 use Rattle.pivots.specs.PivotedParts.{IsPivotedPart}
 use Rattle.tree_type.specs.Findings.{finding_shown}
@@ -82,7 +83,8 @@ settle-returns-then-is_undecided g t c =
     let m = c.args.matrix.now in
     found_settled c.args.budget.limit m c.args.drawn c.requires.drafted c.args.pivots c.args.state
     (subst (λ (front : Front). is_undecided (finding_shown front.finding) ≡ true) c.deref-3.ensures (sym c.is_undecided.ensures ∙ c.if-is_undecided.true)) (tree_of c.in_ok-found.found)
-    (subst (λ (front : Front). IsFound c.args.budget.limit c.args.pivots c.args.state m front.lines (tree_of c.in_ok-found.found)) c.deref-then-is_undecided.ensures c.in_ok-found.ensures)
+    (subst (λ (front : Front). IsFound c.args.budget.limit c.args.pivots c.args.state m front.lines (tree_of c.in_ok-found.found)) c.deref-then-is_undecided.ensures
+    (subst (λ (whole : Matrix). IsFound c.args.budget.limit c.args.pivots c.args.state whole c.deref-then-is_undecided.result.now.lines (tree_of c.in_ok-found.found)) c.by_rows-whole.ensures.matrix c.in_ok-found.ensures))
     (map tree_of c.args.nodes.now.items) (map tree_of c.push.new.self.items) (tree_behind c.args.nodes.now.items c.push.new.self.items c.in_ok-found.found c.in_ok-push.ensures.items)
 
 pub settle-settle-requires : goal.settle-settle-requires

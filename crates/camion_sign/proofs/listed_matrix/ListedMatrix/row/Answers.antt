@@ -3,7 +3,7 @@ use Rattle.std.proofs.lemmas.List.{length-map}
 use Rattle.cmr_base.specs.Matrix.{Matrix, height, entry}
 use Rattle.camion_sign.specs.Nonzeros.{AreNonzeros, nonzeros_from}
 use Rattle.camion_sign.proofs.NonzeroLists.{of_row}
-use Rattle.camion_sign.proofs.support.Support.row.Goals as goal
+use Rattle.camion_sign.proofs.listed_matrix.ListedMatrix.row.Goals as goal
 
 pub of-requires : goal.of-requires
 of-requires c =

@@ -4,7 +4,7 @@ use Rattle.std.proofs.lemmas.List.FromFn.{length-map-range_with_len}
 use Rattle.cmr_base.specs.Matrix.{Matrix, entry, column_of, transposed}
 use Rattle.camion_sign.specs.Nonzeros.{AreNonzeros, nonzeros_from}
 use Rattle.camion_sign.proofs.NonzeroLists.{of_column}
-use Rattle.camion_sign.proofs.support.Support.column.Goals as goal
+use Rattle.camion_sign.proofs.listed_matrix.ListedMatrix.column.Goals as goal
 
 pub of-requires : goal.of-requires
 of-requires c =

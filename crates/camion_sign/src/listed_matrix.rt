@@ -4,40 +4,40 @@ ghost use Rattle.cmr_base.specs.Matrix.{Matrix, height, entry, IsMatrix, IsEntry
 ghost use Rattle.camion_sign.specs.Nonzeros.{AreNonzeros};
 
 use crate::nonzeros::Nonzeros;
-use cmr_base::{Matrix, Memory};
+use cmr_base::{Matrix, Memory, RowsAndColumns};
 use std::alloc::Global;
 use std::marker::Model;
 
 /// A matrix with the places of the nonzeros in each row and in each column. Contracts see the matrix.
 #[derive(Drop)]
-pub struct Support<'a> {
+pub struct ListedMatrix<'a> {
     matrix: &'a Matrix,
     rows: Nonzeros,
     columns: Nonzeros,
 }
 
-impl<'a> Model for Support<'a> {
+impl<'a> Model for ListedMatrix<'a> {
     ghost use Rattle.cmr_base.specs.Matrix.{Matrix};
 
     ghost Value = { Matrix };
 
-    ghost use Rattle.camion_sign.specs.SupportView.{matrix_of, IsSupport};
+    ghost use Rattle.camion_sign.specs.ListedMatrixView.{matrix_of, AreListed};
 
     ghost view = { matrix_of };
 
-    ghost invariant = { IsSupport };
+    ghost invariant = { AreListed };
 }
 
-impl<'a> Support<'a> {
-    /// The support of a matrix.
-    pub fn new(alloc: Global, matrix: &'a Matrix) -> Result<Support<'a>, Memory>
-        ensures { IfOk result (λ support. support ≡ matrix.entry.now) }
+impl<'a> ListedMatrix<'a> {
+    /// The lists of a matrix by its rows and its columns, so that nothing is transposed.
+    pub fn new(alloc: Global, matrix: &'a RowsAndColumns<'_>) -> Result<ListedMatrix<'a>, Memory>
+        ensures { IfOk result (λ listed. listed ≡ matrix.entry.now) }
     {
-        let transposed = matrix.transposed(alloc)?;
-        Ok(Support {
-            matrix,
-            rows: Nonzeros::of_rows(alloc, matrix)?,
-            columns: Nonzeros::of_rows(alloc, &transposed)?,
+        let rows = matrix.by_rows();
+        Ok(ListedMatrix {
+            matrix: rows,
+            rows: Nonzeros::of_rows(alloc, rows)?,
+            columns: Nonzeros::of_rows(alloc, matrix.by_columns())?,
         })
     }
 
