@@ -1,5 +1,6 @@
 //! Worked examples of the public calls of the other crates, in tables: what goes in, and what has to come out. The
-//! expected values are worked out by hand or come from the literature.
+//! expected values are worked out by hand, or come from the literature or from a slow program that follows the
+//! definitions.
 #![tactic(auto)]
 
 #[cfg(test)]

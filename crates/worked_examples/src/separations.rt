@@ -1,6 +1,11 @@
-// Connected parts, two-separations and three-separations, and the lines of their children.
-use crate::given::{bytes, is_text, lines_text, matrix, named_lines_text, sparse};
-use cmr_base::{LineSet, LineSetPair, Matrix, Memory, Three};
+// Connected parts, two-separations, groups of lines that no cut parts, three-separations, and the lines of the children.
+ghost use Rattle.std.specs.Prelude.{◌<◌, ◌+◌};
+ghost use Rattle.cmr_base.specs.Matrix.{height};
+ghost use Rattle.cuts.specs.Cuts.{HasNames};
+
+use crate::given::{bytes, is_text, lines_text, matrix, named_lines_text, row_text, sparse};
+use cmr_base::{LineSet, LineSetPair, Matrix, Memory, RowsAndColumns, Three};
+use cuts::{Groups, groups_of};
 use std::alloc::Global;
 use std::process::Abort;
 use std::test::Fail;
@@ -63,6 +68,52 @@ fn two_separations(rt: HostRuntime) -> Result<(), Fail> {
         ("2 1/1/1/", "none/"),
     ] {
         is_text(&rt, &two_text(rt.alloc(), text)?, expected)?;
+    }
+    Ok(())
+}
+
+// The first line of a line's group.
+fn first_of_group(views: &RowsAndColumns<'_>, groups: &Groups, line: u32) -> u32
+    requires names { HasNames views.now groups.now }
+    requires line { line < height views.now + views.now.width }
+{
+    for first in 0..line {
+        if groups.are_one(first, line) {
+            return first;
+        }
+    }
+    line
+}
+
+// The first line of each line's group, the rows first.
+fn groups_text(alloc: Global, text: &str) -> Result<Vec<u8>, Fail> {
+    let matrix = matrix(alloc, text)?;
+    let columns = matrix.transposed(alloc)?;
+    let views = RowsAndColumns::of(&matrix, &columns);
+    let groups = groups_of(alloc, &views)?;
+    let mut firsts = Vec::new(alloc);
+    for line in 0..views.rows() + views.columns() {
+        firsts.push(first_of_group(&views, &groups, line))?;
+    }
+    let word = if groups.are_all_one() { "one" } else { "many" };
+    row_text(alloc, word, &firsts)
+}
+
+#[test]
+fn groups(rt: HostRuntime) -> Result<(), Fail> {
+    for (text, expected) in [
+        // No set of its lines is a side of a cut: all were tried.
+        (
+            "11 11/1 -1 0 -1 0 1 0 1 0 1 0/-1 1 0 -1 0 0 0 0 0 0 0/1 0 0 0 1 -1 -1 0 0 0 0/0 0 -1 0 0 0 0 0 1 0 1/-1 1 0 0 -1 0 -1 0 0 0 1/1 0 0 0 0 -1 0 0 -1 0 0/0 1 0 0 1 -1 0 -1 -1 1 0/0 0 1 0 0 0 1 0 0 0 1/1 -1 1 0 -1 1 1 0 0 -1 1/-1 1 -1 0 0 -1 0 1 1 0 -1/0 -1 1 -1 0 -1 1 0 1 -1 0/",
+            "one 0 0 0 0 0 0 0 0 0 0 0 0 0 0 0 0 0 0 0 0 0 0/",
+        ),
+        // There is one cut, with rows 0, 3, 4, 5, 8 and 9 and columns 0, 2, 3, 5, 8 and 9 on a side.
+        (
+            "11 12/0 1 0 -1 -1 -1 1 -1 0 1 0 -1/0 0 0 0 0 0 -1 1 0 0 -1 1/1 0 1 0 0 -1 1 -1 -1 0 0 1/-1 1 1 -1 -1 0 1 -1 1 -1 0 -1/-1 0 -1 0 0 0 0 0 1 1 0 0/1 -1 0 1 1 -1 -1 1 0 0 0 1/0 1 0 0 -1 0 0 -1 0 0 1 1/1 0 1 0 0 -1 0 -1 -1 0 -1 1/0 1 0 -1 -1 0 1 -1 -1 1 0 -1/0 1 0 0 -1 0 1 -1 1 -1 0 -1/0 1 0 0 0 0 0 1 0 0 0 -1/",
+            "many 0 1 1 0 0 0 1 1 0 0 1 0 1 0 0 1 0 1 1 0 0 1 1/",
+        ),
+    ] {
+        is_text(&rt, &groups_text(rt.alloc(), text)?, expected)?;
     }
     Ok(())
 }
@@ -187,6 +238,72 @@ fn last_rows(rt: HostRuntime) -> Result<(), Fail> {
         for workers in [1, 3, 64] {
             is_text(&rt, &three_of(&rt, &matrix, workers)?, expected)?;
         }
+    }
+    Ok(())
+}
+
+// A number below 8 for a place. Over the places of a matrix they look as if they were drawn.
+fn drawn(row: u32, column: u32) -> u32 {
+    let place = row.wrapping_mul(1024).wrapping_add(column);
+    let word = place.wrapping_mul(0x9E37_79B1);
+    let word = (word ^ (word >> 15)).wrapping_mul(0x85EB_CA6B);
+    (word ^ (word >> 13)) >> 29
+}
+
+// What stands at a place of a sum, by a number. The lines `from <= line < to` are one side, and what is between the sides
+// is a product, and 0 in rows before them.
+fn drawn_sum(row: u32, column: u32, from: u32, to: u32) -> u32 {
+    if (from <= row && row < to) == (from <= column && column < to) {
+        return drawn(row, column);
+    }
+    if row < from {
+        return 0;
+    }
+    row.wrapping_mul(column) % 3
+}
+
+// Puts 1 in a place for 1, and -1 for 2.
+fn put(matrix: &mut Matrix, row: u32, column: u32, number: u32) {
+    if row < matrix.rows() && column < matrix.columns() {
+        match number {
+            1 => matrix.set(row, column, 1),
+            2 => matrix.set(row, column, -1),
+            _ => {}
+        }
+    }
+}
+
+fn put_row(matrix: &mut Matrix, row: u32, from: u32, to: u32) {
+    for column in 0..matrix.columns() {
+        put(matrix, row, column, drawn_sum(row, column, from, to));
+    }
+}
+
+// The sum in a matrix of zeros.
+fn sum(alloc: Global, zeros: &str, from: u32, to: u32) -> Result<Matrix, Fail> {
+    let mut matrix = sparse(alloc, zeros)?;
+    for row in 0..matrix.rows() {
+        put_row(&mut matrix, row, from, to);
+    }
+    Ok(matrix)
+}
+
+// Before the first good seed a hundred corners are refused, so groups of lines are looked for. The answers are those of a
+// slow program that grows all seeds in their order.
+#[test]
+fn late_three_separations(rt: HostRuntime) -> Result<(), Fail> {
+    for (zeros, from, to, expected) in [
+        (
+            "110 110 0/",
+            50,
+            80,
+            "delta 50 64 50 80 5 1/50 51 52 53 54 55 56 57 58 59 60 61 62 63 64 65 66 67 68 69 70 71 72 73 74 75 76 77 78 79/50 51 52 53 54 55 56 57 58 59 60 61 62 63 64 65 66 67 68 69 70 71 72 73 74 75 76 77 78 79/",
+        ),
+        // All lines are on one side.
+        ("100 100 0/", 0, 0, "none/"),
+    ] {
+        let matrix = sum(rt.alloc(), zeros, from, to)?;
+        is_text(&rt, &three_of(&rt, &matrix, 1)?, expected)?;
     }
     Ok(())
 }
