@@ -107,8 +107,8 @@ KINDS = {"random": random_kind, "blocks": blocks_kind, "networks": networks_kind
 SIZES = {
     "random": (20, 40, 80, 160, 320),
     "blocks": (40, 80, 160, 320, 640),
-    "networks": (40, 80, 160, 320, 640),
-    "entry": (125, 300, 640),
+    "networks": (40, 80, 125, 160, 320, 640, 1000),
+    "entry": (125, 300, 640, 1000),
 }
 
 WITH_DENSITY = ("random", "blocks")
