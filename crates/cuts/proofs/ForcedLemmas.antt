@@ -4,7 +4,7 @@ use Rattle.cmr_base.specs.declared.line.Line.{Line}
 use Rattle.cmr_base.specs.declared.line.Line.TheVariants.{Row, Column}
 use Rattle.cmr_base.specs.ColumnSets.{has_column}
 use Rattle.cmr_base.specs.Matrix.{Matrix, height, IsMatrix}
-use Rattle.cmr_base.specs.Separations.{Lines}
+use Rattle.cmr_base.specs.Separations.{Lines, opposite}
 use Rattle.cmr_base.proofs.Booleans.{two_cases, not_both, not_is}
 use Rattle.cuts.specs.declared.line_words.LineWords.{LineWords}
 use Rattle.cuts.specs.declared.sides.Side.{Side}
@@ -14,7 +14,7 @@ use Rattle.cuts.specs.Cuts.{IsCut}
 use Rattle.cuts.specs.LineSets.{set_of}
 use Rattle.cuts.specs.Sides.{HasNumbers, IsForced}
 use Rattle.cuts.proofs.CoverLemmas.{column_classes, one_pattern, row_classes}
-use Rattle.cuts.proofs.CutLemmas.{other_is_cut, other_side}
+use Rattle.cuts.proofs.CutLemmas.{other_is_cut}
 
 module _ (m : Matrix) (H K T : Lines) (is : IsMatrix m) (cut : IsCut m T) (one : AreWithin m H T) (two : AreOutside m K T) where
   not_in : (z : Line) → IsLineOf m z → K z ≡ true → H z ≡ false
@@ -65,7 +65,7 @@ pub covers_forced_beside : (m : Matrix) (side more : Side) (far : LineWords) (P 
 covers_forced_beside m side more far P so h T w = h T (record {
   cut = w.cut;
   one = w.one;
-  two = λ z l e. not_is (T z) (so.forced (other_side T) (other_is_cut m T w.cut) (λ y k f. ap not (w.two y k f)) (λ y k f. ap not (w.one y k f)) z l e);
+  two = λ z l e. not_is (T z) (so.forced (opposite T) (other_is_cut m T w.cut) (λ y k f. ap not (w.two y k f)) (λ y k f. ap not (w.one y k f)) z l e);
 })
 
 -- one state was searched in place of another
