@@ -5,6 +5,7 @@ The closing line counts the tests that passed, and those that were passed over b
 
 from __future__ import annotations
 
+import signal
 import sys
 import unittest
 from collections import Counter
@@ -27,6 +28,8 @@ def closing_line(result: unittest.TestResult) -> str:
 
 def main() -> int:
     """Runs the tests, and gives the status: 0 where none failed."""
+    # A shell lets what it runs in the background ignore an interrupt, and what is run by that ignores it too.
+    signal.signal(signal.SIGINT, signal.default_int_handler)
     tests = unittest.defaultTestLoader.discover(str(PACKAGE / "tests"), top_level_dir=str(PACKAGE))
     result = unittest.TextTestRunner().run(tests)
     print(f"python: {closing_line(result)}", flush=True)
