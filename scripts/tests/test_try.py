@@ -77,7 +77,8 @@ class TryTest(unittest.TestCase):
     def test_by_a_link(self):
         self.run_here()
         (self.here / "link").symlink_to(self.clone.top / "try-cmr")
-        self.assertEqual(self.clone.run(self.here / "link", "words", "more", "most", has_rt=False).stdout, "words more most\n")
+        run = self.clone.run(self.here / "link", "words", "more", "most", cwd=self.here, has_rt=False)
+        self.assertEqual(run.stdout, "words more most\n")
 
     def test_interrupted(self):
         for number in (signal.SIGINT, signal.SIGTERM, signal.SIGHUP):
