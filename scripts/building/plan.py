@@ -12,6 +12,10 @@ UNKNOWN = 60.0
 MOST_JOBS = 4
 # The share of a proof that several jobs divide.
 DIVIDED = 0.85
+# A proof that takes less than this share of the first one's time takes no processor from it.
+QUICK = 0.1
+# With so many processors the crate with the longest way gets two jobs, also where one processor is free.
+MANY_PROCESSORS = 4
 
 
 def read_seconds(file: Path = SECONDS) -> dict[str, float]:
@@ -50,18 +54,24 @@ class Plan:
             self._ways[name] = self.seconds[name] + max(map(self._find_way, above), default=0.0)
         return self._ways[name]
 
-    def next(self, built: Collection[str], running: Collection[str], free: int) -> Iterator[tuple[str, int]]:
-        """The crates to begin with so many free processors, and the jobs of each.
+    def next(self, built: Collection[str], running: Mapping[str, int], processors: int) -> Iterator[tuple[str, int]]:
+        """The crates to begin with so many processors, and the jobs of each. `running` has the jobs of those that run.
 
         Those with the longest ways come first. Each gets one processor, and the first of them those that the others leave.
         """
-        done = set(built)
+        done, free = set(built), processors - sum(running.values())
+        longest = max((self._ways[it] for it in running), default=0.0)
         ready = [it for it in self.uses if it not in done and it not in running and done.issuperset(self.uses[it])]
         ready.sort(key=lambda it: -self._ways[it])
         while ready and free > 0:
-            jobs = min(MOST_JOBS, max(1, free - len(ready) + 1))
-            yield ready.pop(0), jobs
+            first, *others = ready
+            least = 2 if processors >= MANY_PROCESSORS and self._ways[first] > longest else 1
+            slow = [it for it in others if self.seconds[it] >= QUICK * self.seconds[first]]
+            jobs = min(MOST_JOBS, max(least, free - len(slow)))
+            longest = max(longest, self._ways[first])
+            yield first, jobs
             free -= jobs
+            ready = others
 
     def time_left(self, built: Collection[str], running: Mapping[str, Running], processors: int) -> float:
         """The seconds until all is built, where each proof takes as long as it is said to."""
@@ -69,7 +79,7 @@ class Plan:
         ends = {it: max(time_with(self.seconds[it], how.jobs) - how.gone, 0.0) for it, how in running.items()}
         jobs = {it: how.jobs for it, how in running.items()}
         while len(done) < len(self.uses):
-            for name, given in list(self.next(done, ends, processors - sum(jobs[it] for it in ends))):
+            for name, given in list(self.next(done, {it: jobs[it] for it in ends}, processors)):
                 ends[name], jobs[name] = now + time_with(self.seconds[name], given), given
             if not ends:
                 break

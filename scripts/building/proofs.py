@@ -103,9 +103,9 @@ class Build:
 
     def _begin_ready(self) -> str | None:
         """Begins what is ready. Gives the folder of which another `rt` has to go first, where there is one."""
-        free = self._processors - sum(it.jobs for it in self._running.values())
+        running = {name: it.jobs for name, it in self._running.items()}
         try:
-            for name, jobs in list(self._plan.next(self._built, self._running, free)):
+            for name, jobs in list(self._plan.next(self._built, running, self._processors)):
                 self._folders.fill(name, self._below(name))
                 try:
                     self._begin(name, jobs)

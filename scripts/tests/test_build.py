@@ -29,18 +29,28 @@ class PlanTest(unittest.TestCase):
     def setUp(self):
         self.plan = Plan({name: uses for name, (uses, _) in CRATES.items()}, {it: of[1] for it, of in CRATES.items()})
 
-    def next(self, built, running, free):
-        return list(self.plan.next(built, running, free))
+    def next(self, built, running, processors):
+        return list(self.plan.next(built, running, processors))
 
     def test_what_is_next(self):
-        self.assertEqual(self.next([], [], 4), [("base", 4)])
-        self.assertEqual(self.next([], ["base"], 0), [])
-        self.assertEqual(self.next(["base"], [], 1), [("left", 1)])
-        self.assertEqual(self.next(["base"], [], 2), [("left", 1), ("right", 1)])
-        self.assertEqual(self.next(["base"], [], 4), [("left", 3), ("right", 1)])
-        self.assertEqual(self.next(["base"], ["left"], 1), [("right", 1)])
-        self.assertEqual(self.next(["base", "right"], ["left"], 3), [])
-        self.assertEqual(self.next(["base", "left", "right"], [], 8), [("high", 4)])
+        self.assertEqual(self.next([], {}, 4), [("base", 4)])
+        self.assertEqual(self.next([], {"base": 4}, 4), [])
+        self.assertEqual(self.next(["base"], {}, 1), [("left", 1)])
+        self.assertEqual(self.next(["base"], {}, 2), [("left", 1), ("right", 1)])
+        self.assertEqual(self.next(["base"], {}, 4), [("left", 3), ("right", 1)])
+        self.assertEqual(self.next(["base"], {"left": 1}, 2), [("right", 1)])
+        self.assertEqual(self.next(["base", "right"], {"left": 1}, 4), [])
+        self.assertEqual(self.next(["base", "left", "right"], {}, 8), [("high", 4)])
+
+    def test_the_longest_way_gets_two_of_four(self):
+        self.assertEqual(self.next(["base"], {"right": 3}, 4), [("left", 2)])
+        self.assertEqual(self.next(["base"], {"left": 3}, 4), [("right", 1)])
+        self.assertEqual(self.next(["base"], {"right": 2}, 3), [("left", 1)])
+
+    def test_a_quick_one_waits(self):
+        plan = Plan({"long": [], "quick": [], "cmr": ["long", "quick"]}, {"long": 99, "quick": 2, "cmr": 1})
+        self.assertEqual(list(plan.next([], {}, 2)), [("long", 2)])
+        self.assertEqual(list(plan.next(["long"], {}, 2)), [("quick", 2)])
 
     def test_time_left(self):
         self.assertEqual(self.plan.time_left([], {}, 1), 7)

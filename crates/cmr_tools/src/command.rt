@@ -26,7 +26,6 @@ use std::alloc::Global;
 use std::thread::Threads;
 
 /// A tool with its options.
-#[derive(Clone, Copy, Debug, PartialEq, Eq)]
 pub enum Command<'a> {
     /// Tests whether a matrix is totally unimodular.
     Tu(TuOptions<'a>),
