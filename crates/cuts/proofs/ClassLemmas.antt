@@ -36,22 +36,22 @@ numbers_as one other n size set numbers same long so = subst (λ (k : ℕ). AreN
   apart = λ x y lx ly d. let (a, h, u) = so.apart x y lx ly d in (a, h, λ e. u (same a x ∙ e ∙ sym (same a y)));
 })
 
-turned : (m : Matrix) → IsMatrix m → (a x : ℕ) → support (transposed m) x a ≡ support m a x
-turned m is a x = ap is_nonzero (entry-transposed m a x is)
+pub support-transposed : (m : Matrix) → IsMatrix m → (row column : ℕ) → support (transposed m) column row ≡ support m row column
+support-transposed m is row column = ap is_nonzero (entry-transposed m row column is)
 
 -- numbers of the columns as those of the rows of the transposed matrix, and back
 pub of_columns : (m : Matrix) (rows numbers : List ℕ) → IsMatrix m → AreNumbers (support m) m.width rows numbers → AreClassNumbers (transposed m) rows numbers
-of_columns m rows numbers is = numbers_as (support m) (λ a x. support (transposed m) x a) m.width (height (transposed m)) rows numbers (λ a x. sym (turned m is a x)) (sym (height-transposed m))
+of_columns m rows numbers is = numbers_as (support m) (λ a x. support (transposed m) x a) m.width (height (transposed m)) rows numbers (λ a x. sym (support-transposed m is a x)) (sym (height-transposed m))
 
 pub to_columns : (m : Matrix) (rows numbers : List ℕ) → IsMatrix m → AreClassNumbers (transposed m) rows numbers → AreNumbers (support m) m.width rows numbers
-to_columns m rows numbers is = numbers_as (λ a x. support (transposed m) x a) (support m) (height (transposed m)) m.width rows numbers (turned m is) (height-transposed m)
+to_columns m rows numbers is = numbers_as (λ a x. support (transposed m) x a) (support m) (height (transposed m)) m.width rows numbers (support-transposed m is) (height-transposed m)
 
 -- numbers of the rows for the columns as rows of the transposed matrix, and back
 pub of_rows : (m : Matrix) (columns numbers : List ℕ) (width : ℕ) → IsMatrix m → width ≡ height m → AreNumbers (support (transposed m)) width columns numbers → AreClassNumbers m columns numbers
-of_rows m columns numbers width is long = numbers_as (support (transposed m)) (λ a x. support m x a) width (height m) columns numbers (λ a x. turned m is x a) long
+of_rows m columns numbers width is long = numbers_as (support (transposed m)) (λ a x. support m x a) width (height m) columns numbers (λ a x. support-transposed m is x a) long
 
 pub to_rows : (m : Matrix) (columns numbers : List ℕ) (width : ℕ) → IsMatrix m → width ≡ height m → AreClassNumbers m columns numbers → AreNumbers (support (transposed m)) width columns numbers
-to_rows m columns numbers width is long = numbers_as (λ a x. support m x a) (support (transposed m)) (height m) width columns numbers (λ a x. sym (turned m is x a)) (sym long)
+to_rows m columns numbers width is long = numbers_as (λ a x. support m x a) (support (transposed m)) (height m) width columns numbers (λ a x. sym (support-transposed m is x a)) (sym long)
 
 -- words for the columns, as words for the rows of the transposed matrix
 pub wide_words : (m by_columns : Matrix) (words items : List ℕ) → by_columns ≡ transposed m → words ≡ items → length items ≡ words_for m.width → length words ≡ words_for (height by_columns)

@@ -2,13 +2,13 @@
 use Rattle.std.proofs.Common.{Result, Ok, Err, IfOk, OnOk, ℕ, zero, suc, Bool, true, false, not, ◌≡◌, ◌≢◌, ◌<◌, ◌≤◌, ◌+◌, ◌∙◌, sym, ap, refl, arith, get_or, List, ◌⊎◌, inl, inr, nat_eq, pos, ◌*ℤ◌, ◌||◌}
 use Rattle.cmr_base.specs.declared.line.Line.{Line}
 use Rattle.cmr_base.specs.declared.line.Line.TheVariants.{Row, Column}
-use Rattle.cmr_base.specs.Matrix.{Matrix, height, entry, is_nonzero, transposed, IsMatrix}
+use Rattle.cmr_base.specs.Matrix.{Matrix, height, entry, transposed, IsMatrix}
 use Rattle.cmr_base.specs.Separations.{Lines, opposite}
 use Rattle.cmr_base.specs.Trees.{support}
 use Rattle.cmr_base.proofs.Booleans.{two_cases, same_or_not, ne_of, and_is, true_is, nonzero_is, not_both, not_is, is_not, false_is, is_and, is_eq, or_left, or_right}
 use Rattle.cmr_base.proofs.LineCounts.{outside_is}
 use Rattle.cmr_base.proofs.NextNonzeros.{column_in}
-use Rattle.cmr_base.proofs.Parts.{entry-transposed, height-transposed, is_matrix-transposed}
+use Rattle.cmr_base.proofs.Parts.{height-transposed, is_matrix-transposed}
 use Rattle.cmr_base.proofs.SeedLemmas.{count_grows}
 use Rattle.cuts.specs.declared.groups.Groups.{Groups}
 use Rattle.cmr_base.specs.Seeds.{count}
@@ -21,6 +21,7 @@ use Rattle.cuts.specs.declared.heaps.Heaps.{Heaps}
 use Rattle.cuts.specs.declared.line_patterns.LinePatterns.{LinePatterns}
 use Rattle.cuts.specs.declared.line_words.LineWords.{LineWords}
 use Rattle.cuts.specs.declared.patterns.Patterns.{Patterns}
+use Rattle.cuts.proofs.ClassLemmas.{support-transposed}
 use Rattle.cuts.proofs.CutLemmas.{lower_at, other_is_cut, upper_at}
 use Rattle.cuts.proofs.WordLemmas.{as_first, as_second, first_zero, second_zero}
 
@@ -271,20 +272,17 @@ unlike_columns : (m : Matrix) (rows columns classes : List ℕ) → IsMatrix m �
 unlike_columns m rows columns classes is so c d lc ld nc nd n = record {
   met_one = met c lc nc;
   met_two = met d ld nd;
-  differ = let (r, h, u) = so.apart c d (tall c lc) (tall d ld) n in (r, height_of r u, h, λ e. u (turned c r ∙ e ∙ sym (turned d r)));
+  differ = let (r, h, u) = so.apart c d (tall c lc) (tall d ld) n in (r, height_of r u, h, λ e. u (support-transposed m is r c ∙ e ∙ sym (support-transposed m is r d)));
 }
   where
     tall : (x : ℕ) → x < m.width → x < height (transposed m)
     tall x l = let e = height-transposed m in omega (arith, l, e)
 
-    turned : (x r : ℕ) → support (transposed m) x r ≡ support m r x
-    turned x r = ap is_nonzero (entry-transposed m r x is)
-
     low : (x r : ℕ) → x < m.width → support (transposed m) x r ≡ true → r < height m
     low x r l t = column_in (transposed m) x r (is_matrix-transposed m is) (tall x l) t
 
     met : (x : ℕ) → x < m.width → get_or classes x 0 ≢ 0 → IsMet m (words_set rows columns) (Column x)
-    met x l nx = let (r, h, t) = so.met x (tall x l) nx in (r, low x r l t, h, sym (turned x r) ∙ t)
+    met x l nx = let (r, h, t) = so.met x (tall x l) nx in (r, low x r l t, h, sym (support-transposed m is r x) ∙ t)
 
     height_of : (r : ℕ) → support (transposed m) c r ≢ support (transposed m) d r → r < height m
     height_of r u = elim (two_cases (support (transposed m) c r)) [

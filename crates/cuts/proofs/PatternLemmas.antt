@@ -34,11 +34,11 @@ listed_more own classes listed after row l so f is =
     (omega (arith, e, k, l), open_more own classes listed after row so f is)
 
 -- all lines that are not in the set, whatever their classes
-pub most_of_others : (own classes : List ℕ) (size most : ℕ) → count (λ a. not (has_column own a)) size ≤ most → AreAtMostBeside own classes size most
-most_of_others own classes size most few name =
+pub most_of_others : (own classes : List ℕ) (size most : ℕ) → most ≡ count (λ a. not (has_column own a)) size → AreAtMostBeside own classes size most
+most_of_others own classes size most others name =
     let l = count_grows (λ a. not (has_column own a) && (nat_eq (get_or classes a 0) 0 || nat_eq (get_or classes a 0) name)) (λ a. not (has_column own a)) size
     (λ a la e. (and_is (not (has_column own a)) (nat_eq (get_or classes a 0) 0 || nat_eq (get_or classes a 0) name) e).0) in
-    omega (arith, l, few)
+    omega (arith, l, others)
 
 pub open_sorted : (own classes listed sorted : List ℕ) (size : ℕ) → AreOpen own classes size listed → IsPermutation listed sorted → AreOpen own classes size sorted
 open_sorted own classes listed sorted size so permuted test = sum_by-IsPermutation (λ class. cond (test class) 1 0) listed sorted permuted ∙ so test

@@ -62,7 +62,7 @@ impl CutSearch {
         if near.are_few(matrix, &one.lines) {
             return Ok(true);
         }
-        if near.have_one_class() && one.lines.are_four(matrix) {
+        if near.have_one_class() && one.lines.are_enough(matrix) {
             self.parted.add_rest(matrix, &one.lines);
             return Ok(true);
         }

@@ -15,3 +15,4 @@ mod sides;
 pub use corners::Corners;
 pub use cut_groups::groups_of;
 pub use groups::Groups;
+pub use sides::LEAST_SIDE;

@@ -6,6 +6,7 @@ ghost use Rattle.cuts.specs.LineSets.{HasWords, set_of};
 ghost use Rattle.cuts.specs.Patterns.{HasPatterns};
 ghost use Rattle.cuts.specs.Sides.{AreHalves, HasNumbers};
 
+use crate::LEAST_SIDE;
 use crate::line_words::LineWords;
 use crate::patterns::Patterns;
 use crate::sides::Side;
@@ -47,14 +48,14 @@ impl LinePatterns {
         Ok(LinePatterns { rows, columns })
     }
 
-    /// Whether fewer than four lines can be on the other side of a cut with the lines on one side.
+    /// Whether too few lines for a side can be on the other side of a cut with the lines on one side.
     pub fn are_few(&self, matrix: &RowsAndColumns<'_>, lines: &LineWords) -> bool
         requires { HasPatterns matrix.now lines.now self.now }
         ensures near { result ≡ true → (K P : Lines) → Covers matrix.now (set_of lines.now) K P }
         ensures far { result ≡ true → (H P : Lines) → Covers matrix.now H (set_of lines.now) P }
     {
         let _shape = matrix.rows();
-        are_below_four(self.rows.most, self.columns.most)
+        are_too_few(self.rows.most, self.columns.most)
     }
 
     /// How many lines are in the lighter of the two heaps, or 0 where there are no two.
@@ -152,9 +153,9 @@ fn grown_halves(
     })
 }
 
-// Whether a sum is below four.
-fn are_below_four(one: u32, other: u32) -> bool
-    ensures { result ≡ true → one + other < 4 }
+// Whether so many rows and so many columns are too few lines for a side of a cut.
+fn are_too_few(rows: u32, columns: u32) -> bool
+    ensures { result ≡ true → rows + columns < LEAST_SIDE }
 {
-    one < 4 && other < 4 - one
+    rows < LEAST_SIDE && columns < LEAST_SIDE - rows
 }

@@ -3,10 +3,12 @@ ghost use Rattle.std.specs.Prelude.{◌≡◌, ◌<◌, ◌⊎◌, ℕ, true, fa
 ghost use Rattle.cmr_base.specs.ColumnSets.{has_column};
 ghost use Rattle.cmr_base.specs.Matrix.{height};
 ghost use Rattle.cmr_base.specs.Planes.{words_for};
+ghost use Rattle.cmr_base.specs.Seeds.{outside};
 ghost use Rattle.cmr_base.specs.declared.line.Line.{Line};
 ghost use Rattle.cuts.specs.Covers.{AreWithin, IsLineOf};
 ghost use Rattle.cuts.specs.LineSets.{HasWords, columns_heap, is_in_heap, rows_heap, set_of};
 
+use crate::LEAST_SIDE;
 use crate::heaps::Heaps;
 use crate::patterns::{Patterns, count_others};
 use cmr_base::columns::{add_column, add_set, empty_set, has_column, meets};
@@ -109,20 +111,21 @@ impl LineWords {
         !meets(&self.rows, &self.rows) && !meets(&self.columns, &self.columns)
     }
 
-    /// Whether there are four lines or more.
-    pub fn are_four(&self, matrix: &RowsAndColumns<'_>) -> bool
+    /// Whether there are enough lines for a side of a cut.
+    pub fn are_enough(&self, matrix: &RowsAndColumns<'_>) -> bool
         requires { HasWords matrix.now self.now }
     {
         let lines = matrix.rows().saturating_add(matrix.columns());
-        lines.saturating_sub(self.count_others(matrix)) >= 4
+        lines.saturating_sub(self.count_others(matrix)) >= LEAST_SIDE
     }
 
     /// How many lines of the matrix are not among these.
     pub fn count_others(&self, matrix: &RowsAndColumns<'_>) -> u32
         requires { HasWords matrix.now self.now }
+        ensures { result ≡ outside (height matrix.now) matrix.now.width (set_of self.now) }
     {
         let rows = count_others(&self.rows, matrix.rows());
-        rows.saturating_add(count_others(&self.columns, matrix.columns()))
+        rows + count_others(&self.columns, matrix.columns())
     }
 
     /// Whether each line of the matrix is among these or among others.

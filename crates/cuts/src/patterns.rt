@@ -55,7 +55,7 @@ impl Patterns {
 pub fn count_others(set: &[u64], rows: u32) -> u32
     requires { length set.now ≡ words_for rows }
     ensures few { result ≤ rows }
-    ensures all { count (λ x. not (has_column set.now x)) rows ≤ result }
+    ensures others { result ≡ count (λ x. not (has_column set.now x)) rows }
 {
     let mut others = 0;
     for row in 0..rows {

@@ -17,6 +17,9 @@ use cmr_base::{Line, MAX_ROWS, Matrix, Memory, RowsAndColumns};
 use digests::mixed;
 use std::alloc::Global;
 
+/// How many lines each side of a cut has at least.
+pub const LEAST_SIDE: u32 = 4;
+
 /// Lines of one side, a number for each row of what it has in the columns of the side, and one for each column of what it
 /// has in the rows of the side. Lines that are alike there have one number.
 #[derive(Drop)]

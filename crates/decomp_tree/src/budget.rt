@@ -17,7 +17,8 @@ impl Budget {
     /// So many lines, and these workers.
     pub fn new(limit: u32, workers: Workers) -> Budget
         requires { limit ≤ MAX_LINES }
-        ensures { result.limit ≡ limit }
+        ensures limit { result.limit ≡ limit }
+        ensures workers { result.workers ≡ workers }
     {
         Budget { limit, workers }
     }

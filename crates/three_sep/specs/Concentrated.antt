@@ -68,7 +68,7 @@ pub record AreCandidates (m : Matrix) (i : ℕ) (candidates : List ℕ) : Type 0
   pub size : length candidates ≡ words_for m.width
   pub others : (j : ℕ) → j < m.width → has_column candidates j ≡ false → HasNoneBetween m i j
 
--- a row of side two pulls in a column that is no candidate
+-- the row pulls in a column that is no candidate
 pub record IsPulled (m : Matrix) (rule : Rule) (candidates : List ℕ) (row : ℕ) : Type 0 where
   pub column : ℕ
   pub inside : column < m.width

@@ -17,7 +17,7 @@ ghost use Rattle.three_sep.specs.Concentrated.{AreConcentratedCorners, AreCandid
 use crate::connectors::Connectors;
 use crate::held::held_columns;
 use crate::independent::columns_of;
-use crate::pulled::is_passed;
+use crate::pulled::is_in_side_one;
 use crate::sides::{first_of_lines, leaves, may_part};
 use cmr_base::columns::{
     add_column, add_common, empty_set, has_column, meets, next_column, remove_column,
@@ -217,7 +217,7 @@ fn first_of_pair(
     ensures none { IfOk result (λ answer. IfNone answer (HasNoneBetween matrix.now
         connectors.now.first.row connectors.now.second.column)) }
 {
-    if is_passed(matrix, candidates, connectors) {
+    if is_in_side_one(matrix, candidates, connectors) {
         return Ok(None);
     }
     first_of_connectors(alloc, matrix, connectors)

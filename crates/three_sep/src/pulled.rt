@@ -14,7 +14,11 @@ use line_growth::Rule;
 
 /// Whether column j is shown to be in side one with row i, by two connectors that have these: a row that is not 0 in it pulls a
 /// column into side two that is no candidate.
-pub fn is_passed(matrix: &RowsAndColumns<'_>, candidates: &[u64], connectors: &Connectors) -> bool
+pub fn is_in_side_one(
+    matrix: &RowsAndColumns<'_>,
+    candidates: &[u64],
+    connectors: &Connectors,
+) -> bool
     requires candidates { AreCandidates matrix.now connectors.now.first.row candidates.now }
     requires connectors { IsConnectorPair (height matrix.now) matrix.now.width (entry matrix.now)
         Concentrated connectors.now.first connectors.now.second }

@@ -13,16 +13,14 @@ ghost use Rattle.three_sep.specs.Searches.{HasNoGood, IsFirstOf};
 use crate::connectors::Connectors;
 use crate::others::{connector_lines, is_beside};
 use cmr_base::{Form, Line, Memory, RowsAndColumns, Three};
+use cuts::LEAST_SIDE;
 use line_growth::{GrowingSet, Rule, line_at};
 use std::alloc::Global;
-
-/// How many lines are to be on each side.
-const LEAST: u32 = 4;
 
 /// How many rows are tried.
 const TRIES: u32 = 3;
 
-/// Whether what some lines grow to leaves others, and four lines or more.
+/// Whether what some lines grow to leaves others, and enough lines for a side.
 pub fn leaves(
     matrix: &RowsAndColumns<'_>,
     side: &mut GrowingSet,
@@ -37,11 +35,11 @@ pub fn leaves(
     ensures room { OnOk result (HasRoom matrix.now side.new) }
     ensures growing { OnOk result (IsGrowing matrix.now (upper_of matrix.now rule)
         (lower_of matrix.now rule) first.now side.new) }
-    ensures told { IfOk result (λ yes. TellsClosed matrix.now rule first.now second.now 4 yes
-        (set_of side.new)) }
+    ensures told { IfOk result (λ yes. TellsClosed matrix.now rule first.now second.now LEAST_SIDE
+        yes (set_of side.new)) }
 {
     side.start(matrix, first)?;
-    let yes = side.close(matrix, rule, second, LEAST)?;
+    let yes = side.close(matrix, rule, second, LEAST_SIDE)?;
     Ok(yes)
 }
 
@@ -60,12 +58,12 @@ fn leaves_with(
     requires second { AllByRecursion (IsLine (height matrix.now) matrix.now.width) second.now }
     requires line { IsLine (height matrix.now) matrix.now.width line }
     ensures room { OnOk result (HasRoom matrix.now side.new) }
-    ensures told { IfOk result (λ yes. TellsClosed matrix.now rule (line ∷ first.now) second.now 4
-        yes (set_of side.new)) }
+    ensures told { IfOk result (λ yes. TellsClosed matrix.now rule (line ∷ first.now) second.now
+        LEAST_SIDE yes (set_of side.new)) }
 {
     side.start(matrix, first)?;
     side.add(matrix, line)?;
-    let yes = side.close(matrix, rule, second, LEAST)?;
+    let yes = side.close(matrix, rule, second, LEAST_SIDE)?;
     Ok(yes)
 }
 
@@ -85,11 +83,12 @@ fn leaves_beside(
     ensures room { OnOk result (HasRoom matrix.now grown.new) }
     ensures told { IfOk result (λ yes. (first : List Line)
         → IsGrowing matrix.now (upper_of matrix.now rule) (lower_of matrix.now rule) first side.now
-        → TellsClosed matrix.now rule (line ∷ first) second.now 4 yes (set_of grown.new)) }
+        → TellsClosed matrix.now rule (line ∷ first) second.now LEAST_SIDE yes
+        (set_of grown.new)) }
 {
     grown.copy(side)?;
     grown.add(matrix, line)?;
-    let yes = grown.close(matrix, rule, second, LEAST)?;
+    let yes = grown.close(matrix, rule, second, LEAST_SIDE)?;
     Ok(yes)
 }
 

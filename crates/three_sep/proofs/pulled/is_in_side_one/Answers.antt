@@ -3,7 +3,7 @@ use Rattle.cmr_base.specs.Matrix.{entry}
 use Rattle.cmr_base.proofs.Booleans.{nonzero_is}
 use Rattle.three_sep.proofs.TurnedLines.{turned_inside, turned_row, turned_support}
 use Rattle.three_sep.proofs.ConcentratedLemmas.{none_past}
-use Rattle.three_sep.proofs.pulled.is_passed.Goals as goal
+use Rattle.three_sep.proofs.pulled.is_in_side_one.Goals as goal
 
 pub next_nonzero-requires-clause-row : goal.next_nonzero-requires-clause-row
 next_nonzero-requires-clause-row c = turned_inside c.args.matrix.now c.by_columns.result.now c.by_columns.ensures.matrix c.args.connectors.now.second.column c.requires.connectors.second_lines.1.0

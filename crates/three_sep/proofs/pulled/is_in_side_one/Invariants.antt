@@ -1,5 +1,5 @@
 use Rattle.std.proofs.Common.{◌≤◌, ◌-◌}
-use Rattle.three_sep.proofs.pulled.is_passed.Given as goal
+use Rattle.three_sep.proofs.pulled.is_in_side_one.Given as goal
 
 abbrev pub invariant-loop-row : goal.invariant-loop-row
 invariant-loop-row l = l.from ≤ 1000

@@ -1,0 +1,14 @@
+use Rattle.std.proofs.Common.{◌≡◌, ◌+◌, ◌∙◌, ℕ, not, List, ap₂}
+use Rattle.cmr_base.specs.ColumnSets.{has_column}
+use Rattle.cmr_base.specs.Matrix.{height}
+use Rattle.cmr_base.specs.Seeds.{count}
+use Rattle.cuts.proofs.line_words.LineWords.count_others.Goals as goal
+
+-- so many of the lines are not in the set, by whatever name it goes
+others : (known set : List ℕ) (found rows size : ℕ) → known ≡ set → rows ≡ size → found ≡ count (λ x. not (has_column known x)) rows → found ≡ count (λ x. not (has_column set x)) size
+others known set found rows size e s is = is ∙ ap₂ (λ (xs : List ℕ) (n : ℕ). count (λ x. not (has_column xs x)) n) e s
+
+pub returns : goal.returns
+returns c = ap₂ (λ (a b : ℕ). a + b)
+    (others c.deref.result.now c.args.self.now.rows.items c.count_others-rows.result c.rows.result (height c.args.matrix.now) c.deref.ensures.value c.rows.ensures.rows c.count_others-rows.ensures.others)
+    (others c.deref-2.result.now c.args.self.now.columns.items c.count_others.result c.columns.result c.args.matrix.now.width c.deref-2.ensures.value c.columns.ensures.columns c.count_others.ensures.others)
