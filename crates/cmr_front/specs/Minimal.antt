@@ -4,7 +4,7 @@ use Rattle.cmr_base.specs.Matrix.{Matrix, height}
 use Rattle.cmr_base.specs.GreedySets.{IsGreedySet, IsMinimalWithout}
 use Rattle.cmr_base.specs.declared.line_set.LineSet.{LineSet}
 use Rattle.matrix_text.specs.Canonical.{submatrix_text}
-use Rattle.cmr_front.specs.Printed.{line_set}
+use Rattle.cmr_front.specs.Printed.{line_set_text}
 use Rattle.cmr_front.specs.Report.{File, asked_file}
 
 -- the greedy set, which lacks the property and is minimal so
@@ -20,7 +20,7 @@ IsMinimalAsked P m (Some name) found = IsSomeAnd found (IsMinimalSet P m)
 -- how it is printed
 abbrev pub minimal_line : Option LineSet → List ℕ
 minimal_line None = []
-minimal_line (Some lines) = codes "minimal " ++ line_set lines.rows lines.columns ++ codes "\n"
+minimal_line (Some lines) = codes "minimal " ++ line_set_text lines.rows lines.columns ++ codes "\n"
 
 -- its file
 abbrev pub minimal_file : Option (List ℕ) → Matrix → Option LineSet → List File

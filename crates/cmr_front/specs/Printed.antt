@@ -13,15 +13,15 @@ line_numbers [] = []
 line_numbers (line ∷ lines) = codes " " ++ decimal (line + 1) ++ line_numbers lines
 
 -- a set of lines as it is printed
-abbrev pub line_set : List ℕ → List ℕ → List ℕ
-line_set rows columns = codes "rows" ++ line_numbers rows ++ codes " columns" ++ line_numbers columns
+abbrev pub line_set_text : List ℕ → List ℕ → List ℕ
+line_set_text rows columns = codes "rows" ++ line_numbers rows ++ codes " columns" ++ line_numbers columns
 
 -- the line on a violator, and the one on what is left open
 abbrev pub violator_line : List ℕ → List ℕ → ℤ → List ℕ
-violator_line rows columns sum = codes "violator " ++ line_set rows columns ++ codes " sum " ++ signed_decimal sum ++ codes "\n"
+violator_line rows columns sum = codes "violator " ++ line_set_text rows columns ++ codes " sum " ++ signed_decimal sum ++ codes "\n"
 
 abbrev pub open_line : List ℕ → List ℕ → List ℕ
-open_line rows columns = codes "open " ++ line_set rows columns ++ codes "\n"
+open_line rows columns = codes "open " ++ line_set_text rows columns ++ codes "\n"
 
 -- a row or a column by its letter and its number, counted from 1
 abbrev pub line_name : Line → List ℕ

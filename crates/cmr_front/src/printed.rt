@@ -2,7 +2,7 @@
 ghost use Rattle.std.specs.Prelude.{◌≡◌, ◌+◌, ◌++◌, ◌∷◌, IfOk, OnOk, codes};
 ghost use Rattle.std.specs.Fmt.{decimal, signed_decimal};
 ghost use Rattle.cmr_front.specs.Minimal.{minimal_line};
-ghost use Rattle.cmr_front.specs.Printed.{line_name, line_numbers, line_set, open_line, reason_words, steps_text, violator_line};
+ghost use Rattle.cmr_front.specs.Printed.{line_name, line_numbers, line_set_text, open_line, reason_words, steps_text, violator_line};
 
 use cmr_base::{Indices, Line, LineSet, Memory, Reason, Step, StepList};
 use itoa::Buffer;
@@ -11,7 +11,7 @@ use std::alloc::Global;
 /// Appends a set of lines: `rows LIST columns LIST`.
 pub fn push_line_set(text: &mut Vec<u8>, lines: &LineSet) -> Result<(), Memory>
     ensures { OnOk result (text.new.items
-        ≡ text.old.items ++ line_set lines.now.rows lines.now.columns) }
+        ≡ text.old.items ++ line_set_text lines.now.rows lines.now.columns) }
 {
     text.extend_from_slice(b"rows")?;
     push_line_numbers(text, &lines.rows)?;

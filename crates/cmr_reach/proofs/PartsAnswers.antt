@@ -30,12 +30,12 @@ use Rattle.cmr_front.specs.Tool.{HasOneReport, IsFaultOfFile, IsLawful}
 use Rattle.cmr_front.proofs.Statuses.{IsAnswered, status_of}
 use Rattle.cmr_front.proofs.Texts.{answered, one_report_of_pair, one_report_of_text, pair_lawful, read_reported, fault_of_last, fault_of_text}
 use Rattle.cmr_reach.specs.Compose.{ComposeDecides, IsComposed, composed, composed_report, ComposeOrder}
-use Rattle.cmr_reach.specs.Parts.{AreComposedTo, AreParts, IsSumOf, PartsDecides, PartsMean, PartsReports, PartsSay, parted, other_root, refused, parts_report, parts_tool, root_of, root_word, said_refused, PartsOrder}
+use Rattle.cmr_reach.specs.Parts.{AreComposedTo, ArePartsOfRoot, IsRootSum, PartsDecides, PartsMean, PartsReports, PartsSay, parted, other_root, refused, parts_report, parts_tool, root_of, root_word, said_refused, PartsOrder}
 use Rattle.cmr_reach.proofs.ComposeAnswers.{read_again}
 
 -- ---- one report
 
-one_sum : (m : Matrix) (finding : Finding) (kind other : SumKind) (both others : Arranged) → IsSumOf m kind both finding → IsSumOf m other others finding → both ≡ others
+one_sum : (m : Matrix) (finding : Finding) (kind other : SumKind) (both others : Arranged) → IsRootSum m kind both finding → IsRootSum m other others finding → both ≡ others
 one_sum m (TwoSum two) kind other both others is are = is.1 ∙ sym are.1
 one_sum m (ThreeSum three) kind other both others is are = is.1 ∙ sym are.1
 one_sum m finding kind other both others is are = absurd is
@@ -64,7 +64,7 @@ parts_has_one_report o = one_report_of_pair (PartsReports o) (one o) (PartsSay o
 
 -- ---- the way back
 
-module _ (m : Matrix) (finding : Finding) (kind : SumKind) (both : Arranged) (are : AreParts m finding kind both) where
+module _ (m : Matrix) (finding : Finding) (kind : SumKind) (both : Arranged) (are : ArePartsOfRoot m finding kind both) where
   abbrev whole : Matrix
   whole = submatrix m both.rows both.columns
 

@@ -19,7 +19,7 @@ use Rattle.cmr_front.specs.Texts.{ReportsText}
 use Rattle.cmr_front.specs.Tool.{HasOneReport, IsFaultOfFile, IsLawful}
 use Rattle.cmr_front.proofs.Statuses.{IsAnswered, status_of}
 use Rattle.cmr_front.proofs.Texts.{answered, one_report_of_pair, one_report_of_text, pair_lawful, fault_of_last, fault_of_text}
-use Rattle.cmr_reach.specs.RowSet.{lines_in}
+use Rattle.cmr_reach.specs.RowSet.{set_of_text}
 use Rattle.cmr_reach.specs.Sign.{IsAnswerFor, SignDecides, SignMeans, SignReports, SignSays, sign_files, sign_report, sign_tool, SignOrder}
 
 -- ---- one report
@@ -28,8 +28,8 @@ one_decision : (m : Matrix) (rows : List ℕ) (r s : Report) → SignDecides m r
 one_decision m rows r s a b = a.report_is ∙ ap (sign_report m rows) (answers_are_one m rows a.answer b.answer a.is_answer.right b.is_answer.right a.is_answer.run b.is_answer.run) ∙ sym b.report_is
 
 one : (o : SignOrder) (matrix rows : List ℕ) (r s : Report) → SignReports o matrix rows r → SignReports o matrix rows s → r ≡ s
-one o matrix rows = one_report_of_text faults.Matrix o.matrix (λ m. ReportsText faults.Matrix o.rows (λ lines. SignDecides m lines.rows) (lines_in m rows))
-    (λ m. one_report_of_text faults.Matrix o.rows (λ lines. SignDecides m lines.rows) (λ lines. one_decision m lines.rows) (lines_in m rows))
+one o matrix rows = one_report_of_text faults.Matrix o.matrix (λ m. ReportsText faults.Matrix o.rows (λ lines. SignDecides m lines.rows) (set_of_text m rows))
+    (λ m. one_report_of_text faults.Matrix o.rows (λ lines. SignDecides m lines.rows) (λ lines. one_decision m lines.rows) (set_of_text m rows))
     (matrix_in o.form false matrix)
 
 pub sign_has_one_report : (o : SignOrder) → HasOneReport (sign_tool o)
@@ -53,8 +53,8 @@ says_of_answer m rows (Violated lines) is Refused e = absurd (omega arith)
 
 says : (o : SignOrder) (matrix rows : List ℕ) (r : Report) (answer : Answer) → SignReports o matrix rows r → r.status ≡ answer_status answer → SignSays o matrix rows answer
 says o matrix rows r answer reports is =
-    let found = answered faults.Matrix o.matrix (λ m. ReportsText faults.Matrix o.rows (λ lines. SignDecides m lines.rows) (lines_in m rows)) (matrix_in o.form false matrix) r answer reports is in
-    let named = answered faults.Matrix o.rows (λ lines. SignDecides found.0 lines.rows) (lines_in found.0 rows) r answer found.2 is in
+    let found = answered faults.Matrix o.matrix (λ m. ReportsText faults.Matrix o.rows (λ lines. SignDecides m lines.rows) (set_of_text m rows)) (matrix_in o.form false matrix) r answer reports is in
+    let named = answered faults.Matrix o.rows (λ lines. SignDecides found.0 lines.rows) (set_of_text found.0 rows) r answer found.2 is in
     let decided = named.2 in
     (found.0, found.1, (named.0, named.1, says_of_answer found.0 named.0.rows decided.answer decided.is_answer answer (sym (status_of r _ decided.report_is) ∙ is)))
 
@@ -66,8 +66,8 @@ report_answers m rows (Violated lines) r e = (No, status_of r _ e)
 
 fault : (o : SignOrder) (matrix rows : List ℕ) (r : Report) → SignReports o matrix rows r → r.status ≡ failure_status Text → IsFaultOfFile (sign_files o) r
 fault o matrix rows =
-    fault_of_text faults.Matrix o.matrix (λ m. ReportsText faults.Matrix o.rows (λ lines. SignDecides m lines.rows) (lines_in m rows)) (sign_files o) (0, omega arith, refl)
-    (λ m. fault_of_last faults.Matrix o.rows (λ lines. SignDecides m lines.rows) (sign_files o) (1, omega arith, refl) (λ lines r d. report_answers m lines.rows d.answer r d.report_is) (lines_in m rows))
+    fault_of_text faults.Matrix o.matrix (λ m. ReportsText faults.Matrix o.rows (λ lines. SignDecides m lines.rows) (set_of_text m rows)) (sign_files o) (0, omega arith, refl)
+    (λ m. fault_of_last faults.Matrix o.rows (λ lines. SignDecides m lines.rows) (sign_files o) (1, omega arith, refl) (λ lines r d. report_answers m lines.rows d.answer r d.report_is) (set_of_text m rows))
     (matrix_in o.form false matrix)
 
 pub sign_lawful : (o : SignOrder) → IsLawful (sign_tool o)

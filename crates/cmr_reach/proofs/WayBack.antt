@@ -22,7 +22,7 @@ use Rattle.cmr_front.specs.Status.{answer_status}
 use Rattle.cmr_front.proofs.Statuses.{status_of}
 use Rattle.cmr_front.proofs.Texts.{answered}
 use Rattle.cmr_reach.specs.Compose.{compose_tool, composed_report}
-use Rattle.cmr_reach.specs.Parts.{AreParts, PartsDecides, PartsReports, parted, other_root, refused, parts_report, parts_tool, root_of, root_word, PartsOrder}
+use Rattle.cmr_reach.specs.Parts.{ArePartsOfRoot, PartsDecides, PartsReports, parted, other_root, refused, parts_report, parts_tool, root_of, root_word, PartsOrder}
 use Rattle.cmr_reach.specs.WayBack.{PartsComposeBack, back_order}
 use Rattle.cmr_reach.proofs.PartsAnswers.{composed_to}
 use Rattle.cmr_reach.proofs.TextLengths.{dense_text_within}
@@ -68,14 +68,14 @@ pair_reported o (texts (matrix ∷ evidence ∷ [])) report reports answered_yes
 pair_reported o (texts (matrix ∷ evidence ∷ other ∷ bytes)) report reports answered_yes = absurd reports
 
 parts_found : (o : PartsOrder) (m : Matrix) (t : PlainTree) (report : Report) → PartsDecides o m t report → report.status ≡ answer_status Yes
-    → (kind : SumKind) × (both : Arranged) × AreParts m (root_of t) kind both × (report ≡ parts_report o (root_word (root_of t)) both)
+    → (kind : SumKind) × (both : Arranged) × ArePartsOfRoot m (root_of t) kind both × (report ≡ parts_report o (root_word (root_of t)) both)
 parts_found o m t report (parted sound kind both are e) answered_yes = (kind, both, are, e)
 parts_found o m t report (other_root sound none e) answered_yes = let s = status_of report _ e in absurd (omega arith)
 parts_found o m t report (refused path broken is e) answered_yes = let s = status_of report _ e in absurd (omega arith)
 
 -- ---- the law
 
-module _ (o : PartsOrder) (held : Held) (m : Matrix) (t : PlainTree) (kind : SumKind) (both : Arranged) (are : AreParts m (root_of t) kind both) (apart : o.first ≢ o.second) where
+module _ (o : PartsOrder) (held : Held) (m : Matrix) (t : PlainTree) (kind : SumKind) (both : Arranged) (are : ArePartsOfRoot m (root_of t) kind both) (apart : o.first ≢ o.second) where
   abbrev first_file : File
   first_file = record { name = o.first; bytes = dense_text both.first }
 

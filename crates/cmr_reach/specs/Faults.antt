@@ -6,7 +6,7 @@ use Rattle.cmr_base.specs.Matrix.{Matrix, height}
 use Rattle.cmr_base.specs.LineSets.{first_lines, submatrix_sum}
 use Rattle.matrix_text.specs.Canonical.{submatrix_text}
 use Rattle.cmr_front.specs.declared.status.Answer.TheVariants.{Yes, No, Undecided}
-use Rattle.cmr_front.specs.Printed.{line_set, open_line}
+use Rattle.cmr_front.specs.Printed.{line_set_text, open_line}
 use Rattle.cmr_front.specs.Report.{Report, asked_file}
 use Rattle.cmr_front.specs.Status.{answer_status}
 
@@ -16,7 +16,7 @@ yes_report label = record { status = answer_status Yes; output = label ++ codes 
 
 -- the line on a fault and its sum
 abbrev pub named_fault : List ℕ → List ℕ → ℤ → List ℕ
-named_fault rows columns sum = codes "fault " ++ line_set rows columns ++ codes " sum " ++ signed_decimal sum ++ codes "\n"
+named_fault rows columns sum = codes "fault " ++ line_set_text rows columns ++ codes " sum " ++ signed_decimal sum ++ codes "\n"
 
 -- a no with this fault, which is written where its file is asked for
 abbrev pub fault_report : List ℕ → Option (List ℕ) → Matrix → LineSet → Report

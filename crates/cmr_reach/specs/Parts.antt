@@ -19,7 +19,7 @@ use Rattle.cmr_front.specs.declared.status.Answer.{Answer}
 use Rattle.cmr_front.specs.declared.status.Answer.TheVariants.{Yes, No, Undecided, Refused}
 use Rattle.cmr_front.specs.Evidence.{IsBrokenFor, IsSoundFor, ReportsTree, SaysOfTree, evidence_tool}
 use Rattle.cmr_front.specs.MatrixText.{matrix_in}
-use Rattle.cmr_front.specs.Printed.{line_set}
+use Rattle.cmr_front.specs.Printed.{line_set_text}
 use Rattle.cmr_front.specs.Refusals.{refusal_line}
 use Rattle.cmr_front.specs.Report.{Report}
 use Rattle.cmr_front.specs.Status.{answer_status}
@@ -73,7 +73,7 @@ parts_order_of options = record {
 
 -- the kind of the sum, and the order of the lines in which the sum is the matrix
 abbrev pub parts_lines : List ℕ → List ℕ → List ℕ → List ℕ
-parts_lines kind rows columns = codes "parts: " ++ kind ++ codes "\norder " ++ line_set rows columns ++ codes "\n"
+parts_lines kind rows columns = codes "parts: " ++ kind ++ codes "\norder " ++ line_set_text rows columns ++ codes "\n"
 
 -- the two matrices in their files
 abbrev pub parts_report : PartsOrder → List ℕ → Arranged → Report
@@ -98,23 +98,23 @@ other_root_report kind = said_refused (codes "refused: root is " ++ kind ++ code
 -- ---- what is decided
 
 -- the root is a sum of this kind of these two matrices: those of its separation
-abbrev pub IsSumOf : Matrix → SumKind → Arranged → Finding → Type 0
-IsSumOf m kind both (TwoSum two) = (kind ≡ sums.Two) × (both ≡ arranged m (two_arrangement m two))
-IsSumOf m kind both (ThreeSum three) = (kind ≡ sum_kind_of three.form) × (both ≡ arranged m (three_arrangement m three))
-IsSumOf m kind both finding = ⊥
+abbrev pub IsRootSum : Matrix → SumKind → Arranged → Finding → Type 0
+IsRootSum m kind both (TwoSum two) = (kind ≡ sums.Two) × (both ≡ arranged m (two_arrangement m two))
+IsRootSum m kind both (ThreeSum three) = (kind ≡ sum_kind_of three.form) × (both ≡ arranged m (three_arrangement m three))
+IsRootSum m kind both finding = ⊥
 
 -- the root is no sum of two matrices
 abbrev pub HasNoParts : Matrix → Finding → Type 0
-HasNoParts m finding = (kind : SumKind) (both : Arranged) → ¬ (IsSumOf m kind both finding)
+HasNoParts m finding = (kind : SumKind) (both : Arranged) → ¬ (IsRootSum m kind both finding)
 
 -- the two matrices of the root's separation, whose sum is the matrix with its lines in their order; none where it is no sum of two
 abbrev pub IsArranged : Matrix → Finding → Option Arranged → Type 0
 IsArranged m finding None = HasNoParts m finding
-IsArranged m finding (Some both) = IsMatrix m × (kind : SumKind) × IsSumOf m kind both finding × IsRoundTrip kind m both
+IsArranged m finding (Some both) = IsMatrix m × (kind : SumKind) × IsRootSum m kind both finding × IsRoundTrip kind m both
 
 -- what stands of the parts of a matrix that the root gives
-pub record AreParts (m : Matrix) (finding : Finding) (kind : SumKind) (both : Arranged) : Type 0 where
-  pub of_root : IsSumOf m kind both finding
+pub record ArePartsOfRoot (m : Matrix) (finding : Finding) (kind : SumKind) (both : Arranged) : Type 0 where
+  pub of_root : IsRootSum m kind both finding
   pub round_trip : IsRoundTrip kind m both
   pub whole : IsMatrix m
   pub first : IsMatrix both.first
@@ -125,7 +125,7 @@ root_of t = finding_of t.root
 
 -- on a matrix with a tree: by the root where the tree keeps its rules, whatever it says of the matrix
 pub data PartsDecides (o : PartsOrder) (m : Matrix) (t : PlainTree) (report : Report) : Type 0 where
-  parted : IsSoundFor m t → (kind : SumKind) (both : Arranged) → AreParts m (root_of t) kind both → report ≡ parts_report o (root_word (root_of t)) both → PartsDecides o m t report
+  parted : IsSoundFor m t → (kind : SumKind) (both : Arranged) → ArePartsOfRoot m (root_of t) kind both → report ≡ parts_report o (root_word (root_of t)) both → PartsDecides o m t report
   other_root : IsSoundFor m t → HasNoParts m (root_of t) → report ≡ other_root_report (root_word (root_of t)) → PartsDecides o m t report
   refused : (path : List ℕ) (broken : Rule) → IsBrokenFor m t path broken → report ≡ said_refused (refusal_line path broken) → PartsDecides o m t report
 
@@ -136,7 +136,7 @@ abbrev pub AreComposedTo : SumKind → Arranged → Matrix → Type 0
 AreComposedTo kind both sum = (o : ComposeOrder) → o.form ≡ Dense → o.sum ≡ kind → ComposeReports o (dense_text both.first) (dense_text both.second) (composed_report o.output sum)
 
 abbrev pub PartsMean : Matrix → PlainTree → Answer → Type 0
-PartsMean m t Yes = IsSoundFor m t × (kind : SumKind) × (both : Arranged) × AreParts m (root_of t) kind both × AreComposedTo kind both (submatrix m both.rows both.columns)
+PartsMean m t Yes = IsSoundFor m t × (kind : SumKind) × (both : Arranged) × ArePartsOfRoot m (root_of t) kind both × AreComposedTo kind both (submatrix m both.rows both.columns)
 PartsMean m t No = ⊥
 PartsMean m t Undecided = ⊥
 PartsMean m t Refused = (IsSoundFor m t × HasNoParts m (root_of t)) ⊎ ((path : List ℕ) × (broken : Rule) × IsBrokenFor m t path broken)

@@ -8,5 +8,5 @@ use Rattle.matrix_text.specs.declared.error.TextKind.{TextKind}
 use Rattle.matrix_text.specs.Submatrix.{submatrix}
 
 -- the lines that the text names, or its first fault
-abbrev pub lines_in : Matrix → List ℕ → Result LineSet (Fault TextKind)
-lines_in m bytes = submatrix (height m) m.width (text_of bytes)
+abbrev pub set_of_text : Matrix → List ℕ → Result LineSet (Fault TextKind)
+set_of_text m bytes = submatrix (height m) m.width (text_of bytes)

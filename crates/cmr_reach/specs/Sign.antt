@@ -20,7 +20,7 @@ use Rattle.cmr_front.specs.Report.{Report}
 use Rattle.cmr_front.specs.Status.{answer_status}
 use Rattle.cmr_front.specs.Texts.{ReportsText, pair_tool}
 use Rattle.cmr_front.specs.Tool.{Tool}
-use Rattle.cmr_reach.specs.RowSet.{lines_in}
+use Rattle.cmr_reach.specs.RowSet.{set_of_text}
 use Rattle.clap.specs.Words.{App, Row, Text, first_of}
 use Rattle.cmr_front.specs.declared.matrix_file.MatrixForm.{MatrixForm}
 use Rattle.cmr_front.specs.Words.Arguments.{form_rule, operand_rule, tool_app}
@@ -130,10 +130,10 @@ SignMeans m rows Refused = ⊥
 -- on the texts of the matrix and of the rows: the faults of the first come first
 abbrev pub SignReports : SignOrder → List ℕ → List ℕ → Report → Type 0
 SignReports o matrix rows report =
-    ReportsText faults.Matrix o.matrix (λ m. ReportsText faults.Matrix o.rows (λ lines. SignDecides m lines.rows) (lines_in m rows)) (matrix_in o.form false matrix) report
+    ReportsText faults.Matrix o.matrix (λ m. ReportsText faults.Matrix o.rows (λ lines. SignDecides m lines.rows) (set_of_text m rows)) (matrix_in o.form false matrix) report
 
 abbrev pub SignSays : SignOrder → List ℕ → List ℕ → Answer → Type 0
-SignSays o matrix rows answer = (m : Matrix) × (matrix_in o.form false matrix ≡ Ok m) × ((lines : LineSet) × (lines_in m rows ≡ Ok lines) × SignMeans m lines.rows answer)
+SignSays o matrix rows answer = (m : Matrix) × (matrix_in o.form false matrix ≡ Ok m) × ((lines : LineSet) × (set_of_text m rows ≡ Ok lines) × SignMeans m lines.rows answer)
 
 abbrev pub sign_files : SignOrder → List InputFile
 sign_files o = matrix_file o.matrix ∷ matrix_file o.rows ∷ []

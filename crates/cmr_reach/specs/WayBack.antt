@@ -16,7 +16,7 @@ use Rattle.cmr_front.specs.Report.{Held, Report, with_files}
 use Rattle.cmr_front.specs.Run.{ReportsHeld}
 use Rattle.cmr_front.specs.Status.{answer_status}
 use Rattle.cmr_reach.specs.Compose.{compose_tool, composed_report, ComposeOrder}
-use Rattle.cmr_reach.specs.Parts.{AreParts, parts_lines, parts_tool, root_of, root_word, PartsOrder}
+use Rattle.cmr_reach.specs.Parts.{ArePartsOfRoot, parts_lines, parts_tool, root_of, root_word, PartsOrder}
 
 -- what `compose` is asked: the sum of this kind of the two files, into a file of this name
 abbrev pub back_order : PartsOrder → SumKind → List ℕ → ComposeOrder
@@ -34,7 +34,7 @@ pub record IsComposedBack (o : PartsOrder) (held : Held) (report : Report) : Typ
   pub tree_is : tree (text_of tree_text) ≡ Ok plain_tree
   pub kind : SumKind
   pub both : Arranged
-  pub are_parts : AreParts matrix (root_of plain_tree) kind both
+  pub are_parts : ArePartsOfRoot matrix (root_of plain_tree) kind both
   pub printed : report.output ≡ parts_lines (root_word (root_of plain_tree)) both.rows both.columns
   pub composed : (output : List ℕ) → ReportsHeld (compose_tool (back_order o kind output)) (with_files held report.files) (composed_report output (submatrix matrix both.rows both.columns))
 

@@ -20,8 +20,8 @@ use Rattle.cmr_front.proofs.MatrixText.{read_is_binary, read_is_matrix}
 use Rattle.cmr_front.proofs.Statuses.{status_of}
 use Rattle.cmr_front.proofs.Texts.{answered}
 use Rattle.cmr_reach.proofs.WayBack.{read_whole, same_name}
-use Rattle.cmr_unimodular.specs.declared.tools.graphic_network.Property.{Property}
-use Rattle.cmr_unimodular.specs.declared.tools.graphic_network.Property.TheVariants.{Graphic, Network}
+use Rattle.cmr_unimodular.specs.declared.tools.graphic_network.TestedProperty.{TestedProperty}
+use Rattle.cmr_unimodular.specs.declared.tools.graphic_network.TestedProperty.TheVariants.{Graphic, Network}
 use Rattle.cmr_front.specs.declared.status.Answer.TheVariants.{Yes}
 use Rattle.cmr_front.specs.Status.{answer_status}
 use Rattle.cmr_unimodular.specs.GraphicNetwork.{IsTestable, Shows, TestDecides, is_binary, yes, no, path_tool, tested_matrix, written_graph, TestOrder}
@@ -30,7 +30,7 @@ use Rattle.cmr_tools.specs.Laws.{FileGivesMatrix, GivesMatrix, GraphFilesGiveBac
 use Rattle.cmr_unimodular.proofs.GraphicNetworkAnswers.{shown_network}
 use Rattle.cmr_unimodular.proofs.GraphMatrixAnswers.{one_graph_matrix}
 
-gives_matrix : (p : Property) (net : Net) (m : Matrix) → IsMatrix m → IsTestable p m → Shows p net m → GivesMatrix p (graph_text net) m
+gives_matrix : (p : TestedProperty) (net : Net) (m : Matrix) → IsMatrix m → IsTestable p m → Shows p net m → GivesMatrix p (graph_text net) m
 gives_matrix p net m is testable shows file =
     let sized : SizedNetwork = record { net = net; rows = height m; columns = m.width } in
     let text = graph_text net in
@@ -40,12 +40,12 @@ gives_matrix p net m is testable shows file =
     (reports, λ other h. one_graph_matrix p file (text ∷ []) other (graph_matrix_report m) h reports)
 
 -- the file of a yes, and its network, which shows the property of the matrix
-record IsWritten (p : Property) (m : Matrix) (report : Report) (name : List ℕ) : Type 0 where
+record IsWritten (p : TestedProperty) (m : Matrix) (report : Report) (name : List ℕ) : Type 0 where
   net : Net
   files : report.files ≡ record { name = name; bytes = graph_text net } ∷ []
   shows : Shows p net m
 
-is_written : (p : Property) (o : TestOrder) (m : Matrix) (report : Report) (name : List ℕ) → o.transposed ≡ false → o.graph ≡ Some name → TestDecides p o m report → report.status ≡ answer_status Yes → IsWritten p m report name
+is_written : (p : TestedProperty) (o : TestOrder) (m : Matrix) (report : Report) (name : List ℕ) → o.transposed ≡ false → o.graph ≡ Some name → TestDecides p o m report → report.status ≡ answer_status Yes → IsWritten p m report name
 is_written p o m report name plain asked (yes net shown e) status = record {
   net = net;
   files = ap (λ (r : Report). r.files) e ∙ ap (λ (g : Option (List ℕ)). asked_file g (written_graph o.transposed net)) asked ∙ ap (λ (t : Bool). asked_file (Some name) (written_graph t net)) plain;
@@ -66,7 +66,7 @@ one_read held file few =
     let here : written file.name ≡ Some file.bytes = ap (λ (b : Bool). if b then Some file.bytes else held file.name) (same_name file.name) in
     ap (λ x. and_then file.name x (texts [])) (read_whole written file.name file.bytes here few)
 
-file_gives : (p : Property) (net : Net) (m : Matrix) (name : List ℕ) (held : Held) → IsMatrix m → IsTestable p m → Shows p net m → FileGivesMatrix p name (with_files held (record { name = name; bytes = graph_text net } ∷ [])) m
+file_gives : (p : TestedProperty) (net : Net) (m : Matrix) (name : List ℕ) (held : Held) → IsMatrix m → IsTestable p m → Shows p net m → FileGivesMatrix p name (with_files held (record { name = name; bytes = graph_text net } ∷ [])) m
 file_gives p net m name held is testable shows =
     let sized : SizedNetwork = record { net = net; rows = height m; columns = m.width } in
     let gives = gives_matrix p net m is testable shows name in
@@ -82,12 +82,12 @@ graph_files_give_back p o m report name held is testable plain asked decides sta
 -- ---- from the text of the matrix
 
 -- what was read is tested
-read_is_testable : (p : Property) (form : MatrixForm) (bytes : List ℕ) (m : Matrix) → matrix_in form (is_binary p) bytes ≡ Ok m → IsTestable p m
+read_is_testable : (p : TestedProperty) (form : MatrixForm) (bytes : List ℕ) (m : Matrix) → matrix_in form (is_binary p) bytes ≡ Ok m → IsTestable p m
 read_is_testable Graphic form bytes m read = read_is_binary form bytes m read
 read_is_testable Network form bytes m read = tt
 
 -- a yes comes of one text, which stands for a matrix
-matrix_read : (p : Property) (o : TestOrder) (read : Given) (report : Report) → ReportsGiven (path_tool p o) read report → report.status ≡ answer_status Yes
+matrix_read : (p : TestedProperty) (o : TestOrder) (read : Given) (report : Report) → ReportsGiven (path_tool p o) read report → report.status ≡ answer_status Yes
     → (bytes : List ℕ) × (read ≡ texts (bytes ∷ [])) × (m : Matrix) × (matrix_in o.form (is_binary p) bytes ≡ Ok m) × TestDecides p o m report
 matrix_read p o (not_there name) report reports status = absurd reports
 matrix_read p o (too_much name) report reports status = let s = status_of report _ reports in absurd (omega arith)

@@ -3,8 +3,8 @@ use Rattle.std.specs.Prelude.{ℕ, List, [], ◌∷◌, Option, Some, None, opti
 use Rattle.std.specs.Str.{bytes_eq}
 use Rattle.cmr_tools.specs.declared.command.Command.{Command}
 use Rattle.cmr_tools.specs.declared.command.Command.TheVariants as command
-use Rattle.cmr_unimodular.specs.declared.tools.graphic_network.Property.{Property}
-use Rattle.cmr_unimodular.specs.declared.tools.graphic_network.Property.TheVariants.{Graphic, Network}
+use Rattle.cmr_unimodular.specs.declared.tools.graphic_network.TestedProperty.{TestedProperty}
+use Rattle.cmr_unimodular.specs.declared.tools.graphic_network.TestedProperty.TheVariants.{Graphic, Network}
 use Rattle.cmr_unimodular.specs.Check.{CheckOrder, check_order, check_order_of, check_tool}
 use Rattle.cmr_unimodular.specs.Upgrade.{UpgradeOrder, upgrade_order, upgrade_order_of, upgrade_tool}
 use Rattle.cmr_unimodular.specs.SeriesParallel.{SeriesParallelOrder, series_parallel_order, series_parallel_order_of, series_parallel_tool}
@@ -26,7 +26,7 @@ pub data Order : Type 0 where
   tu : TuOrder → Order
   regular : RegularOrder → Order
   series_parallel : SeriesParallelOrder → Order
-  test : Property → TestOrder → Order
+  test : TestedProperty → TestOrder → Order
   generate : GenerateOrder → Order
   check : CheckOrder → Order
   upgrade : UpgradeOrder → Order

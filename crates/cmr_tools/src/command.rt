@@ -17,7 +17,9 @@ use cmr_reach::tools::parts::{PartsOptions, parts, read_parts};
 use cmr_reach::tools::sign::{SignOptions, read_sign, sign_rows};
 use cmr_unimodular::tools::check::{CheckOptions, check, read_check};
 use cmr_unimodular::tools::generate_tool::{GenerateOptions, generate_and_run, read_generate};
-use cmr_unimodular::tools::graphic_network::{Property, TestOptions, read_test, test_property};
+use cmr_unimodular::tools::graphic_network::{
+    TestOptions, TestedProperty, read_test, test_property,
+};
 use cmr_unimodular::tools::regular::{RegularOptions, read_regular, regular};
 use cmr_unimodular::tools::series_parallel::{SpOptions, read_series_parallel, series_parallel};
 use cmr_unimodular::tools::tu::{TuOptions, read_tu, tu};
@@ -34,7 +36,7 @@ pub enum Command<'a> {
     /// Tests whether a matrix is series-parallel.
     SeriesParallel(SpOptions<'a>),
     /// Tests whether the columns of a matrix are paths of a tree.
-    Test(Property, TestOptions<'a>),
+    Test(TestedProperty, TestOptions<'a>),
     /// Makes a matrix from a number, and tests whether it is totally unimodular.
     Generate(GenerateOptions<'a>),
     /// Checks evidence on a matrix.
@@ -66,12 +68,12 @@ pub fn read_words<'a>(alloc: Global, words: &'a WordList) -> Result<Command<'a>,
         "regular" => Ok(Command::Regular(read_regular(alloc, rest)?)),
         "series-parallel" => Ok(Command::SeriesParallel(read_series_parallel(alloc, rest)?)),
         "graphic" => {
-            let options = read_test(alloc, Property::Graphic, rest)?;
-            Ok(Command::Test(Property::Graphic, options))
+            let options = read_test(alloc, TestedProperty::Graphic, rest)?;
+            Ok(Command::Test(TestedProperty::Graphic, options))
         }
         "network" => {
-            let options = read_test(alloc, Property::Network, rest)?;
-            Ok(Command::Test(Property::Network, options))
+            let options = read_test(alloc, TestedProperty::Network, rest)?;
+            Ok(Command::Test(TestedProperty::Network, options))
         }
         "generate" => Ok(Command::Generate(read_generate(alloc, rest)?)),
         "check" => Ok(Command::Check(read_check(alloc, rest)?)),

@@ -18,7 +18,7 @@ use Rattle.cmr_front.specs.Report.{Report}
 use Rattle.cmr_front.specs.Status.{answer_status}
 use Rattle.cmr_front.specs.Tool.{IsLawful}
 use Rattle.cmr_front.proofs.Statuses.{IsAnswered, no_fault, status_of}
-use Rattle.cmr_unimodular.specs.Generate.{GenerateDecides, GenerateMeans, IsMade, generate_report, generate_tool, generate_verdict, GenerateOrder, most_size, IsInRange, generate_app, generate_order, generate_order_in, kind_in, number_in, size_in}
+use Rattle.cmr_unimodular.specs.Generate.{GenerateDecides, GenerateMeans, IsMade, generate_report, generate_tool, generate_verdict, GenerateOrder, most_size, IsInRange, generate_app, generate_order, generate_order_in, make_kind_in, number_in, size_in}
 use Rattle.cmr_unimodular.specs.Verdict.{Decides, answer_of, verdict_in}
 use Rattle.cmr_unimodular.proofs.OneVerdict.{one_verdict}
 use Rattle.cmr_unimodular.proofs.UnimodularAnswers.{unimodular_means}
@@ -126,4 +126,4 @@ generate_order-ranges words o e = go (matches_in generate_app words) e
 
     go : (rows : Option (List Row)) → (rows >>= generate_order_in) ≡ Some o → IsInRange o
     go None e = cc
-    go (Some rows) e = of_kind (kind_in rows) rows e
+    go (Some rows) e = of_kind (make_kind_in rows) rows e

@@ -14,14 +14,14 @@ use Rattle.cmr_front.specs.Status.{answer_status}
 use Rattle.cmr_front.specs.Tool.{HasOneReport, IsLawful}
 use Rattle.cmr_front.proofs.GraphFile.{graph_lawful, one_report_of_graph}
 use Rattle.cmr_front.proofs.Statuses.{status_of}
-use Rattle.cmr_unimodular.specs.declared.tools.graphic_network.Property.{Property}
-use Rattle.cmr_unimodular.specs.declared.tools.graphic_network.Property.TheVariants.{Graphic, Network}
+use Rattle.cmr_unimodular.specs.declared.tools.graphic_network.TestedProperty.{TestedProperty}
+use Rattle.cmr_unimodular.specs.declared.tools.graphic_network.TestedProperty.TheVariants.{Graphic, Network}
 use Rattle.cmr_unimodular.specs.GraphicNetwork.{IsTestable, Shows, path_tool, TestOrder}
 use Rattle.cmr_unimodular.specs.GraphMatrix.{GraphDecides, GraphMeans, IsMatrixOf, either_tool, graph_matrix_report, graph_matrix_tool, test_tool}
 use Rattle.cmr_unimodular.proofs.GraphicNetworkAnswers.{path_lawful}
 
 -- a matrix that was made from a network
-pub matrix_made : (p : Property) (net : SizedNetwork) (r : Result Matrix Memory) → IfOk r IsMatrix → IfOk r (λ m. height m ≡ net.rows) → IfOk r (λ m. m.width ≡ net.columns) → IfOk r (IsTestable p) → IfOk r (Shows p net.net)
+pub matrix_made : (p : TestedProperty) (net : SizedNetwork) (r : Result Matrix Memory) → IfOk r IsMatrix → IfOk r (λ m. height m ≡ net.rows) → IfOk r (λ m. m.width ≡ net.columns) → IfOk r (IsTestable p) → IfOk r (Shows p net.net)
     → IfOk r (IsMatrixOf p net)
 matrix_made p net (Ok m) shape rows columns testable shows = record { is_matrix = shape; rows = rows; columns = columns; testable = testable; shows = shows }
 matrix_made p net (Err memory) shape rows columns testable shows = tt
@@ -30,27 +30,27 @@ pub all_testable : (r : Result Matrix Memory) → IfOk r (IsTestable Network)
 all_testable (Ok m) = tt
 all_testable (Err memory) = tt
 
-one_matrix : (p : Property) (net : SizedNetwork) (m n : Matrix) → IsMatrixOf p net m → IsMatrixOf p net n → m ≡ n
+one_matrix : (p : TestedProperty) (net : SizedNetwork) (m n : Matrix) → IsMatrixOf p net m → IsMatrixOf p net n → m ≡ n
 one_matrix Graphic net m n a b = binary_matrices_are_one net.net m n a.is_matrix b.is_matrix (a.rows ∙ sym b.rows) (a.columns ∙ sym b.columns) a.testable b.testable a.shows b.shows
 one_matrix Network net m n a b = matrices_are_one net.net m n a.is_matrix b.is_matrix (a.rows ∙ sym b.rows) (a.columns ∙ sym b.columns) a.shows b.shows
 
-one_report : (p : Property) (net : SizedNetwork) (r s : Report) → GraphDecides p net r → GraphDecides p net s → r ≡ s
+one_report : (p : TestedProperty) (net : SizedNetwork) (r s : Report) → GraphDecides p net r → GraphDecides p net s → r ≡ s
 one_report p net r s (m, is, e) (n, other, f) = e ∙ ap graph_matrix_report (one_matrix p net m n is other) ∙ sym f
 
-says : (p : Property) (net : SizedNetwork) (r : Report) (answer : Answer) → GraphDecides p net r → r.status ≡ answer_status answer → GraphMeans p net answer
+says : (p : TestedProperty) (net : SizedNetwork) (r : Report) (answer : Answer) → GraphDecides p net r → r.status ≡ answer_status answer → GraphMeans p net answer
 says p net r Yes (m, is, e) at = (m, is)
 says p net r No (m, is, e) at = let s = status_of r _ e in absurd (omega arith)
 says p net r Undecided (m, is, e) at = let s = status_of r _ e in absurd (omega arith)
 says p net r Refused (m, is, e) at = let s = status_of r _ e in absurd (omega arith)
 
-pub graph_matrix_lawful : (p : Property) (file : List ℕ) → IsLawful (graph_matrix_tool p file)
+pub graph_matrix_lawful : (p : TestedProperty) (file : List ℕ) → IsLawful (graph_matrix_tool p file)
 graph_matrix_lawful p file = graph_lawful file (GraphDecides p) (GraphMeans p) (λ net r s a b. ap (λ (report : Report). report.status) (one_report p net r s a b)) (says p) (λ net r made. (Yes, status_of r _ made.2))
 
-pub one_graph_matrix : (p : Property) (file : List ℕ) → HasOneReport (graph_matrix_tool p file)
+pub one_graph_matrix : (p : TestedProperty) (file : List ℕ) → HasOneReport (graph_matrix_tool p file)
 one_graph_matrix p file = one_report_of_graph file (GraphDecides p) (GraphMeans p) (one_report p)
 
 -- with `-c` or without
-pub test_lawful : (p : Property) (o : TestOrder) → IsLawful (test_tool p o)
+pub test_lawful : (p : TestedProperty) (o : TestOrder) → IsLawful (test_tool p o)
 test_lawful p o = go o.from_graph
   where
     go : (b : Bool) → IsLawful (either_tool b (graph_matrix_tool p o.file) (path_tool p o))
@@ -58,7 +58,7 @@ test_lawful p o = go o.from_graph
     go false = path_lawful p o
 
 -- the tools have no numbers
-pub test_in_ranges : (p : Property) (o : TestOrder) → (test_tool p o).InRanges
+pub test_in_ranges : (p : TestedProperty) (o : TestOrder) → (test_tool p o).InRanges
 test_in_ranges p o = go o.from_graph
   where
     go : (b : Bool) → (either_tool b (graph_matrix_tool p o.file) (path_tool p o)).InRanges
@@ -66,6 +66,6 @@ test_in_ranges p o = go o.from_graph
     go false = tt
 
 -- without `-c` a run is one of the test
-pub runs_test : (p : Property) (o : TestOrder) (standing : Standing) (before after : Devices) (status : ℕ) → o.from_graph ≡ false → Runs (work (path_tool p o)) standing before after status → Runs (work (test_tool p o)) standing before after status
+pub runs_test : (p : TestedProperty) (o : TestOrder) (standing : Standing) (before after : Devices) (status : ℕ) → o.from_graph ≡ false → Runs (work (path_tool p o)) standing before after status → Runs (work (test_tool p o)) standing before after status
 runs_test p o standing before after status plain runs =
     subst (λ (b : Bool). Runs (work (either_tool b (graph_matrix_tool p o.file) (path_tool p o))) standing before after status) (sym plain) runs

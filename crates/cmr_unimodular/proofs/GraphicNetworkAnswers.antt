@@ -9,8 +9,8 @@ use Rattle.cmr_base.specs.LineSets.{AllBelow}
 use Rattle.cmr_base.specs.Trees.{HasGraphicSupport, IsGraphic, IsNetworkOf, ReproducesSupport}
 use Rattle.cmr_base.specs.GreedySets.{IsGreedySet, IsMinimalWithout}
 use Rattle.cmr_base.proofs.Parts.{height-transposed}
-use Rattle.cmr_unimodular.specs.declared.tools.graphic_network.Property.{Property}
-use Rattle.cmr_unimodular.specs.declared.tools.graphic_network.Property.TheVariants.{Graphic, Network}
+use Rattle.cmr_unimodular.specs.declared.tools.graphic_network.TestedProperty.{TestedProperty}
+use Rattle.cmr_unimodular.specs.declared.tools.graphic_network.TestedProperty.TheVariants.{Graphic, Network}
 use Rattle.cmr_front.specs.declared.status.Answer.{Answer}
 use Rattle.cmr_front.specs.declared.status.Answer.TheVariants.{Yes, No, Undecided, Refused}
 use Rattle.cmr_unimodular.specs.GraphicNetwork.{Has, IsTestable, Shows, TestDecides, TestMeans, yes, no, path_tool, test_source, tested_lines, tested_matrix, TestOrder}
@@ -24,13 +24,13 @@ use Rattle.cmr_front.proofs.Statuses.{IsAnswered, status_of}
 
 -- ---- a matrix that is testable
 
-pub tested_testable : (p : Property) (transposed : Bool) (m : Matrix) → IsTestable p m → IsTestable p (tested_matrix transposed m)
+pub tested_testable : (p : TestedProperty) (transposed : Bool) (m : Matrix) → IsTestable p m → IsTestable p (tested_matrix transposed m)
 tested_testable Graphic true m binary = transposed_binary m binary
 tested_testable Graphic false m binary = binary
 tested_testable Network transposed m testable = tt
 
 -- a network shows that a testable matrix has the property
-pub has_shown : (p : Property) (m : Matrix) (net : Net) → IsTestable p m → Shows p net m → Has p m
+pub has_shown : (p : TestedProperty) (m : Matrix) (net : Net) → IsTestable p m → Shows p net m → Has p m
 has_shown Graphic m net binary shows = (binary, (net, shows))
 has_shown Network m net testable shows = (net, shows)
 
@@ -40,7 +40,7 @@ graphic_found m None none = λ graphic. none graphic.1
 graphic_found m (Some net) shows = shows
 
 -- what shows a property of a matrix is a network of its sizes
-pub shown_network : (p : Property) (net : Net) (m : Matrix) → Shows p net m → IsNetworkOf net (height m) m.width
+pub shown_network : (p : TestedProperty) (net : Net) (m : Matrix) → Shows p net m → IsNetworkOf net (height m) m.width
 shown_network Graphic net m shows = shows.network
 shown_network Network net m shows = shows.network
 
@@ -53,12 +53,12 @@ minimal_found P m (Err memory) lacks found minimal = tt
 
 -- ---- its lines are lines of the matrix that is given
 
-lines_below : (p : Property) (transposed : Bool) (m : Matrix) (lines : LineSet) → IsMinimalSet (Has p) (tested_matrix transposed m) (tested_lines transposed lines)
+lines_below : (p : TestedProperty) (transposed : Bool) (m : Matrix) (lines : LineSet) → IsMinimalSet (Has p) (tested_matrix transposed m) (tested_lines transposed lines)
     → AllBelow (height m) lines.rows × AllBelow m.width lines.columns
 lines_below p false m lines is = (is.minimal.row_set.in_range, is.minimal.column_set.in_range)
 lines_below p true m lines is = (is.minimal.column_set.in_range, subst (λ bound. AllBelow bound lines.columns) (height-transposed m) is.minimal.row_set.in_range)
 
-pub asked_below : (p : Property) (transposed : Bool) (m : Matrix) (name : Option (List ℕ)) (found : Option LineSet)
+pub asked_below : (p : TestedProperty) (transposed : Bool) (m : Matrix) (name : Option (List ℕ)) (found : Option LineSet)
     → IsMinimalAsked (Has p) (tested_matrix transposed m) name (option_map (tested_lines transposed) found)
     → IfSome found (λ lines. AllBelow (height m) lines.rows) × IfSome found (λ lines. AllBelow m.width lines.columns)
 asked_below p transposed m name None asked = (tt, tt)
@@ -67,13 +67,13 @@ asked_below p transposed m (Some name) (Some lines) asked = lines_below p transp
 
 -- ---- a yes and a no
 
-one_status : (p : Property) (o : TestOrder) (m : Matrix) (r s : Report) → TestDecides p o m r → TestDecides p o m s → r.status ≡ s.status
+one_status : (p : TestedProperty) (o : TestOrder) (m : Matrix) (r s : Report) → TestDecides p o m r → TestDecides p o m s → r.status ≡ s.status
 one_status p o m r s (yes net is e) (yes net' is' f) = status_of r _ e ∙ sym (status_of s _ f)
 one_status p o m r s (yes net is e) (no minimal lacks f) = absurd (lacks.lacks is.has)
 one_status p o m r s (no minimal lacks e) (yes net is f) = absurd (lacks.lacks is.has)
 one_status p o m r s (no minimal lacks e) (no minimal' lacks' f) = status_of r _ e ∙ sym (status_of s _ f)
 
-says : (p : Property) (o : TestOrder) (m : Matrix) (r : Report) (answer : Answer) → TestDecides p o m r → r.status ≡ answer_status answer → TestMeans p o m answer
+says : (p : TestedProperty) (o : TestOrder) (m : Matrix) (r : Report) (answer : Answer) → TestDecides p o m r → r.status ≡ answer_status answer → TestMeans p o m answer
 says p o m r Yes (yes net shown e) is = (net, shown)
 says p o m r No (yes net shown e) is = let s = status_of r _ e in absurd (omega arith)
 says p o m r Undecided (yes net shown e) is = let s = status_of r _ e in absurd (omega arith)
@@ -83,9 +83,9 @@ says p o m r No (no minimal lacks e) is = (minimal, lacks)
 says p o m r Undecided (no minimal lacks e) is = let s = status_of r _ e in absurd (omega arith)
 says p o m r Refused (no minimal lacks e) is = let s = status_of r _ e in absurd (omega arith)
 
-answers : (p : Property) (o : TestOrder) (m : Matrix) (r : Report) → TestDecides p o m r → IsAnswered r
+answers : (p : TestedProperty) (o : TestOrder) (m : Matrix) (r : Report) → TestDecides p o m r → IsAnswered r
 answers p o m r (yes net shown e) = (Yes, status_of r _ e)
 answers p o m r (no minimal lacks e) = (No, status_of r _ e)
 
-pub path_lawful : (p : Property) (o : TestOrder) → IsLawful (path_tool p o)
+pub path_lawful : (p : TestedProperty) (o : TestOrder) → IsLawful (path_tool p o)
 path_lawful p o = lawful (test_source p o) (TestDecides p o) (TestMeans p o) (says p o) (Unit {0}) (one_status p o) (answers p o)

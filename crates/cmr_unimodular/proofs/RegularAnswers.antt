@@ -22,7 +22,7 @@ use Rattle.cmr_front.specs.Status.{answer_status}
 use Rattle.cmr_front.specs.Tool.{IsLawful}
 use Rattle.cmr_front.proofs.MatrixText.{lawful}
 use Rattle.cmr_front.proofs.Statuses.{status_of}
-use Rattle.cmr_unimodular.specs.Regular.{HasLinesIn, IsSigned, RegularDecides, RegularMeans, RegularSays, chain_with, regular_report, regular_source, regular_tool, regular_verdict, RegularOrder, regular_app, regular_order, regular_order_in}
+use Rattle.cmr_unimodular.specs.Regular.{HasLinesIn, IsSignedTo, RegularDecides, RegularMeans, RegularSays, chain_with, regular_report, regular_source, regular_tool, regular_verdict, RegularOrder, regular_app, regular_order, regular_order_in}
 use Rattle.cmr_unimodular.specs.Tu.{UnimodularMeans}
 use Rattle.cmr_unimodular.specs.Verdict.{Decides, IsDecomposition, IsTold, answer_of, verdict_in, verdict_report}
 use Rattle.cmr_unimodular.proofs.OneSigning.{one_signing}
@@ -37,7 +37,7 @@ use Rattle.cmr_front.proofs.Numbers.{with_numbers}
 -- ---- the chain
 
 -- a violator of the signed matrix has its lines in the matrix
-pub lines_in_matrix : (a signed : Matrix) (steps : List SignStep) (v : Verdict) → IsSigned a steps signed → Tells signed v → HasLinesIn (height a) a.width v
+pub lines_in_matrix : (a signed : Matrix) (steps : List SignStep) (v : Verdict) → IsSignedTo a steps signed → Tells signed v → HasLinesIn (height a) a.width v
 lines_in_matrix a signed steps verdicts.Yes is right = tt
 lines_in_matrix a signed steps (verdicts.No fault) is right = (
   (λ k l. let r = right.row_set.in_range k l in let h = is.one_support.height_same in omega arith),
@@ -45,7 +45,7 @@ lines_in_matrix a signed steps (verdicts.No fault) is right = (
 )
 lines_in_matrix a signed steps (verdicts.Open lines) is right = tt
 
-sound : (a signed : Matrix) (steps : List SignStep) (fault : LineSet) → IsSigned a steps signed → IsRefuted signed fault → IsSoundChain a (chain_with a steps fault) signed
+sound : (a signed : Matrix) (steps : List SignStep) (fault : LineSet) → IsSignedTo a steps signed → IsRefuted signed fault → IsSoundChain a (chain_with a steps fault) signed
 sound a signed steps fault is right = record {
   sizes = (refl, refl);
   steps = is.chain;
@@ -71,7 +71,7 @@ one_status o a r s x y =
 
 -- ---- its meaning
 
-says_signed : (o : RegularOrder) (a signed : Matrix) (steps : List SignStep) → IsSigned a steps signed → (answer : Answer) → UnimodularMeans o.lines o.pivots signed answer → RegularSays o a steps signed answer
+says_signed : (o : RegularOrder) (a signed : Matrix) (steps : List SignStep) → IsSignedTo a steps signed → (answer : Answer) → UnimodularMeans o.lines o.pivots signed answer → RegularSays o a steps signed answer
 says_signed o a signed steps is Yes (tree, decomposition, e, good) =
     (tree, decomposition, e, record { regular = (signed, is_ternary signed is.signed_matrix, is.one_support, good.signings); unimodular = good })
 says_signed o a signed steps is No (tree, decomposition, fault, e, bad) =
@@ -103,7 +103,7 @@ pub fault_lines : (rows columns : ℕ) (v : Verdict) (fault : LineSet) → v ≡
 fault_lines rows columns v fault e lines = subst (HasLinesIn rows columns) e lines
 
 -- what is reported
-pub reported : (o : RegularOrder) (a signed : Matrix) (steps : List SignStep) (tree : SizedTree) (r : Result Outcome Memory) → IsSigned a steps signed → IsDecomposition o.lines o.pivots signed tree → IsTold o.lines signed (verdict_in tree)
+pub reported : (o : RegularOrder) (a signed : Matrix) (steps : List SignStep) (tree : SizedTree) (r : Result Outcome Memory) → IsSignedTo a steps signed → IsDecomposition o.lines o.pivots signed tree → IsTold o.lines signed (verdict_in tree)
     → IfOk r (λ outcome. outcome_report outcome ≡ regular_report o a steps signed tree) → IfOk r (λ outcome. RegularDecides o a (outcome_report outcome))
 reported o a signed steps tree (Ok outcome) signing decomposition told is = record { steps = steps; signed = signed; signing = signing; tree = tree; decomposition = decomposition; told = told; report_is = is }
 reported o a signed steps tree (Err memory) signing decomposition told is = tt

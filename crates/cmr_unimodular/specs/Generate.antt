@@ -35,13 +35,13 @@ pub record GenerateOrder : Type 0 where
 abbrev pub generate_app : App
 generate_app = tool_app (codes "generate") (operand_rule (codes "kind") ∷ operand_rule (codes "size") ∷ operand_rule (codes "number") ∷ lines_rule ∷ pivots_rule ∷ workers_rule ∷ output_rule ∷ [])
 
-abbrev pub kind_named : Text → Option MakeKind
-kind_named name = if bytes_eq name (codes "network") then Some Network
+abbrev pub make_kind_named : Text → Option MakeKind
+make_kind_named name = if bytes_eq name (codes "network") then Some Network
     else if bytes_eq name (codes "twosum") then Some TwoSum else None
 
 -- KIND
-abbrev pub kind_in : List Row → Option MakeKind
-kind_in rows = first_of (codes "kind") rows >>= kind_named
+abbrev pub make_kind_in : List Row → Option MakeKind
+make_kind_in rows = first_of (codes "kind") rows >>= make_kind_named
 
 -- the greatest SIZE, with which the matrix has at most 1000 rows and columns
 abbrev pub most_size : MakeKind → ℕ
@@ -58,7 +58,7 @@ number_in rows = first_of (codes "number") rows >>= number_from 0 2147483647
 
 abbrev pub generate_order_in : List Row → Option GenerateOrder
 generate_order_in rows = do
-  what ← kind_in rows
+  what ← make_kind_in rows
   size ← size_in what rows
   number ← number_in rows
   lines ← lines_in rows

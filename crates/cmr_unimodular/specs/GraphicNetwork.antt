@@ -4,8 +4,8 @@ use Rattle.cmr_base.specs.Matrix.{Matrix, transposed}
 use Rattle.cmr_base.specs.Trees.{IsBinary, IsGraphic, IsNetworkMatrix, Reproduces, ReproducesSupport}
 use Rattle.cmr_base.specs.declared.line_set.LineSet.{LineSet}
 use Rattle.cmr_base.specs.declared.network.Network.{Network as Net}
-use Rattle.cmr_unimodular.specs.declared.tools.graphic_network.Property.{Property}
-use Rattle.cmr_unimodular.specs.declared.tools.graphic_network.Property.TheVariants.{Graphic, Network}
+use Rattle.cmr_unimodular.specs.declared.tools.graphic_network.TestedProperty.{TestedProperty}
+use Rattle.cmr_unimodular.specs.declared.tools.graphic_network.TestedProperty.TheVariants.{Graphic, Network}
 use Rattle.cmr_front.specs.declared.status.Answer.{Answer}
 use Rattle.cmr_front.specs.declared.status.Answer.TheVariants.{Yes, No, Undecided, Refused}
 use Rattle.cmr_front.specs.MatrixText.{Source, matrix_tool, source}
@@ -33,12 +33,12 @@ pub record TestOrder : Type 0 where
   pub file : List ℕ
 
 -- the tool that tests a property
-abbrev pub tool_name : Property → Text
+abbrev pub tool_name : TestedProperty → Text
 tool_name Graphic = codes "graphic"
 tool_name Network = codes "network"
 
 -- [-i FORMAT] [-t] [-N FILE] [-G FILE] [FILE], or -c [FILE]
-abbrev pub test_app : Property → App
+abbrev pub test_app : TestedProperty → App
 test_app property = tool_app (tool_name property) (form_rule ∷ transposed_rule ∷ minimal_rule ∷ graph_rule ∷ from_graph_rule ∷ file_rule ∷ [])
 
 -- an option stands there that says how a matrix is tested
@@ -59,7 +59,7 @@ test_order_in rows = if has_flag (codes "from-graph") rows && is_test_asked rows
       file = file_in rows;
     }))
 
-abbrev pub test_order : Property → List Text → Option TestOrder
+abbrev pub test_order : TestedProperty → List Text → Option TestOrder
 test_order property words = matches_with_input (test_app property) words >>= test_order_in
 
 abbrev pub test_order_of : TestOptions → TestOrder
@@ -75,22 +75,22 @@ test_order_of options = record {
 -- ---- the reports
 
 -- a matrix has the property
-abbrev pub Has : Property → Matrix → Type 0
+abbrev pub Has : TestedProperty → Matrix → Type 0
 Has Graphic m = IsGraphic m
 Has Network m = IsNetworkMatrix m
 
 -- a network shows that it has
-abbrev pub Shows : Property → Net → Matrix → Type 0
+abbrev pub Shows : TestedProperty → Net → Matrix → Type 0
 Shows Graphic net m = ReproducesSupport net m
 Shows Network net m = Reproduces net m
 
 -- whether the property is one of 0/1 matrices
-abbrev pub is_binary : Property → Bool
+abbrev pub is_binary : TestedProperty → Bool
 is_binary Graphic = true
 is_binary Network = false
 
 -- a matrix for which the property is asked
-abbrev pub IsTestable : Property → Matrix → Type 0
+abbrev pub IsTestable : TestedProperty → Matrix → Type 0
 IsTestable Graphic m = IsBinary m
 IsTestable Network m = Unit {0}
 
@@ -105,7 +105,7 @@ tested_lines true lines = record { rows = lines.columns; columns = lines.rows }
 tested_lines false lines = lines
 
 -- what is said of the matrix that is given
-abbrev pub property_name : Property → Bool → List ℕ
+abbrev pub property_name : TestedProperty → Bool → List ℕ
 property_name Graphic false = codes "graphic"
 property_name Graphic true = codes "cographic"
 property_name Network false = codes "network"
@@ -116,7 +116,7 @@ abbrev pub written_graph : Bool → Net → List ℕ
 written_graph true net = transposed_graph_text net
 written_graph false net = graph_text net
 
-abbrev pub test_yes : Property → TestOrder → Net → Report
+abbrev pub test_yes : TestedProperty → TestOrder → Net → Report
 test_yes p o net = record {
   status = answer_status Yes;
   output = property_name p o.transposed ++ codes ": yes\n";
@@ -124,7 +124,7 @@ test_yes p o net = record {
   files = asked_file o.graph (written_graph o.transposed net);
 }
 
-abbrev pub test_no : Property → TestOrder → Matrix → Option LineSet → Report
+abbrev pub test_no : TestedProperty → TestOrder → Matrix → Option LineSet → Report
 test_no p o m minimal = record {
   status = answer_status No;
   output = property_name p o.transposed ++ codes ": no\n" ++ minimal_line minimal;
@@ -133,29 +133,29 @@ test_no p o m minimal = record {
 }
 
 -- the network shows that the matrix that is tested has the property
-pub record IsShown (p : Property) (o : TestOrder) (m : Matrix) (net : Net) : Type 0 where
+pub record IsShown (p : TestedProperty) (o : TestOrder) (m : Matrix) (net : Net) : Type 0 where
   pub has : Has p (tested_matrix o.transposed m)
   pub shows : Shows p net (tested_matrix o.transposed m)
 
 -- the matrix that is tested has not the property, and where the file of a minimal submatrix is asked for, this is one
-pub record IsLacking (p : Property) (o : TestOrder) (m : Matrix) (minimal : Option LineSet) : Type 0 where
+pub record IsLacking (p : TestedProperty) (o : TestOrder) (m : Matrix) (minimal : Option LineSet) : Type 0 where
   pub lacks : ¬ (Has p (tested_matrix o.transposed m))
   pub asked : IsMinimalAsked (Has p) (tested_matrix o.transposed m) o.minimal (option_map (tested_lines o.transposed) minimal)
 
 -- on a matrix: a yes with any network that shows it, and else a no, with the minimal submatrix where its file is asked for
-pub data TestDecides (p : Property) (o : TestOrder) (m : Matrix) (report : Report) : Type 0 where
+pub data TestDecides (p : TestedProperty) (o : TestOrder) (m : Matrix) (report : Report) : Type 0 where
   yes : (net : Net) → IsShown p o m net → report ≡ test_yes p o net → TestDecides p o m report
   no : (minimal : Option LineSet) → IsLacking p o m minimal → report ≡ test_no p o m minimal → TestDecides p o m report
 
-abbrev pub TestMeans : Property → TestOrder → Matrix → Answer → Type 0
+abbrev pub TestMeans : TestedProperty → TestOrder → Matrix → Answer → Type 0
 TestMeans p o m Yes = (net : Net) × IsShown p o m net
 TestMeans p o m No = (minimal : Option LineSet) × IsLacking p o m minimal
 TestMeans p o m Undecided = ⊥
 TestMeans p o m Refused = ⊥
 
-abbrev pub test_source : Property → TestOrder → Source
+abbrev pub test_source : TestedProperty → TestOrder → Source
 test_source p o = source o.form (is_binary p) o.file
 
 -- without `-c`
-abbrev pub path_tool : Property → TestOrder → Tool
+abbrev pub path_tool : TestedProperty → TestOrder → Tool
 path_tool p o = matrix_tool (test_source p o) (Unit {0}) (TestDecides p o) (TestMeans p o)

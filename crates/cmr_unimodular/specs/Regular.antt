@@ -91,7 +91,7 @@ abbrev pub regular_source : RegularOrder → Source
 regular_source o = source o.form true o.file
 
 -- a 0/1 matrix and its signing by Camion, whose steps are those of a chain
-pub record IsSigned (a : Matrix) (steps : List SignStep) (signed : Matrix) : Type 0 where
+pub record IsSignedTo (a : Matrix) (steps : List SignStep) (signed : Matrix) : Type 0 where
   pub binary : IsBinary a
   pub matrix : IsMatrix a
   pub signed_matrix : IsMatrix signed
@@ -128,7 +128,7 @@ regular_report o a steps signed tree =
 pub record RegularDecides (o : RegularOrder) (a : Matrix) (report : Report) : Type 0 where
   pub steps : List SignStep
   pub signed : Matrix
-  pub signing : IsSigned a steps signed
+  pub signing : IsSignedTo a steps signed
   pub tree : SizedTree
   pub decomposition : IsDecomposition o.lines o.pivots signed tree
   pub told : IsTold o.lines signed (verdict_in tree)
@@ -155,7 +155,7 @@ RegularSays o a steps signed Refused = ⊥
 -- of the signing by Camion: a yes comes with a tree that the checker accepts for the signed matrix; a no with a violator that
 -- it names; undecided with a submatrix that is neither recognised nor separated, whose shorter side exceeds the budget
 abbrev pub RegularMeans : RegularOrder → Matrix → Answer → Type 0
-RegularMeans o a answer = (steps : List SignStep) × (signed : Matrix) × IsSigned a steps signed × RegularSays o a steps signed answer
+RegularMeans o a answer = (steps : List SignStep) × (signed : Matrix) × IsSignedTo a steps signed × RegularSays o a steps signed answer
 
 abbrev pub regular_tool : RegularOrder → Tool
 regular_tool o = matrix_tool (regular_source o) ((o.lines ≤ MAX_LINES) × (o.pivots ≤ 100) × (1 ≤ o.workers) × (o.workers ≤ 64)) (RegularDecides o) (RegularMeans o)

@@ -9,7 +9,7 @@ use Rattle.cmr_front.specs.declared.status.Answer.{Answer}
 use Rattle.cmr_front.specs.declared.status.Answer.TheVariants.{Yes, No, Undecided, Refused}
 use Rattle.cmr_front.specs.MatrixText.{Source, matrix_tool, source}
 use Rattle.cmr_front.specs.Minimal.{IsMinimalAsked, minimal_file, minimal_line}
-use Rattle.cmr_front.specs.Printed.{line_set, steps_text}
+use Rattle.cmr_front.specs.Printed.{line_set_text, steps_text}
 use Rattle.cmr_front.specs.Report.{File, Report, asked_file}
 use Rattle.cmr_front.specs.Status.{answer_status}
 use Rattle.cmr_front.specs.Tool.{Tool}
@@ -63,8 +63,8 @@ series_parallel_order_of options = record {
 -- ---- the reports
 
 -- what is tested
-abbrev pub property_name : Bool → List ℕ
-property_name binary = if binary then codes "binary series-parallel" else codes "series-parallel"
+abbrev pub series_parallel_name : Bool → List ℕ
+series_parallel_name binary = if binary then codes "binary series-parallel" else codes "series-parallel"
 
 -- what the reductions leave
 abbrev pub rest_of : Bool → Matrix → LineSet
@@ -85,13 +85,13 @@ reduction_files o m =
 abbrev pub series_parallel_yes : SeriesParallelOrder → Matrix → Report
 series_parallel_yes o m = record {
   status = answer_status Yes;
-  output = property_name o.binary ++ codes ": yes\n";
+  output = series_parallel_name o.binary ++ codes ": yes\n";
   error = [];
   files = reduction_files o m;
 }
 
 abbrev pub no_output : Bool → LineSet → Option LineSet → List ℕ
-no_output binary rest minimal = property_name binary ++ codes ": no\nrest " ++ line_set rest.rows rest.columns ++ codes "\n" ++ minimal_line minimal
+no_output binary rest minimal = series_parallel_name binary ++ codes ": no\nrest " ++ line_set_text rest.rows rest.columns ++ codes "\n" ++ minimal_line minimal
 
 abbrev pub series_parallel_no : SeriesParallelOrder → Matrix → Option LineSet → Report
 series_parallel_no o m minimal = record {

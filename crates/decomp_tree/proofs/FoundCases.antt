@@ -11,7 +11,7 @@ use Rattle.tree_type.specs.Verdicts.{verdict_of}
 use Rattle.cert_check.proofs.PivotedMatrices.{lines_pivoted}
 use Rattle.decomp_tree.specs.Refined.{Refines}
 use Rattle.decomp_tree.specs.Seen.{IsDrawn}
-use Rattle.decomp_tree.specs.PivotedShapes.{HasFaultAmong, IsDrawnWith, IsFound, IsFoundAt, IsTakenBack, undecided}
+use Rattle.decomp_tree.specs.PivotedShapes.{HasFaultAmong, IsDrawnWith, IsFound, IsFoundAt, IsToldBeforePivot, undecided}
 use Rattle.decomp_tree.proofs.FaultLines.{fault_among, lines_themselves}
 use Rattle.decomp_tree.proofs.FoundTrees.{drawn_with_lines, drawn_with_within}
 
@@ -34,7 +34,7 @@ module _ (limit pivots state : ℕ) (m : Matrix) (lines : LineSet) where
     pub found_two : (tree : Tree) (fault : LineSet) → pivots ≢ 0 → ShowsFirstTwoIn m lines drawn.place fault.rows fault.columns → tree ≡ Branch lines (Violator fault) NoTrees → IsFound limit pivots state m lines tree
     found_two tree fault some shows e = found_there tree some (inl (fault, shows, e))
 
-    pub found_after : (tree found : Tree) (after : Matrix) → pivots ≢ 0 → IsMadePart m lines drawn.place after → IsDrawnWith limit (pivots - 1) drawn.state after lines found → IsTakenBack m lines drawn.place found (verdict_of found) tree → IsFound limit pivots state m lines tree
+    pub found_after : (tree found : Tree) (after : Matrix) → pivots ≢ 0 → IsMadePart m lines drawn.place after → IsDrawnWith limit (pivots - 1) drawn.state after lines found → IsToldBeforePivot m lines drawn.place found (verdict_of found) tree → IsFound limit pivots state m lines tree
     found_after tree found after some made d told =
         let there = subst (λ n. IsDrawnWith limit (pivots - 1) drawn.state n lines found) made.is d in
         found_there tree some (inr (made.ternary, found, (there.shape, there.drawn, there.refines), told))

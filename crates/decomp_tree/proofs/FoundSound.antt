@@ -18,7 +18,7 @@ use Rattle.cert_check.proofs.PivotedMatrices.{lines_pivoted, pivoted_is_matrix}
 use Rattle.cert_check.proofs.SoundTrees.{fault_tree}
 use Rattle.decomp_tree.specs.Seen.{IsDrawn}
 use Rattle.decomp_tree.specs.Refined.{Refines}
-use Rattle.decomp_tree.specs.PivotedShapes.{AreBefore, IsTakenBack, IsFoundAt, IsFound, IsDrawnWith}
+use Rattle.decomp_tree.specs.PivotedShapes.{AreBefore, IsToldBeforePivot, IsFoundAt, IsFound, IsDrawnWith}
 use Rattle.decomp_tree.proofs.FaultLines.{among_lines, fault_in, fault_of_verdict, lines_themselves}
 use Rattle.decomp_tree.proofs.FoundTrees.{found_lines, drawn_with_lines, drawn_with_within, place_drawn}
 use Rattle.decomp_tree.proofs.YesTrees.{MayBelow, says_yes}
@@ -63,7 +63,7 @@ module _ (limit : ℕ) (few : limit ≤ 24) where
           let v = fault_tree (pivoted_part n lines place) [] [] (These lines) lines (suc (size_of lines + pivots)) after fault are_after within keeps first in
           (part_pivots_take_violators_back n lines place fault.rows fault.columns before.rows before.columns is.small are.rows are.columns at fault_are.rows fault_are.columns (among_lines fault lines in_lines) b.row_set b.column_set b.lines).1 v.1
 
-      told_sound : (v : Verdict) → verdict_of after ≡ v → (tree : Tree) → IsTakenBack n lines place after v tree → MayBelow made tree → IsSoundBelow m made tree
+      told_sound : (v : Verdict) → verdict_of after ≡ v → (tree : Tree) → IsToldBeforePivot n lines place after v tree → MayBelow made tree → IsSoundBelow m made tree
       told_sound Yes e tree told may =
           let same = drawn_with_lines limit pivots next (pivoted_part n lines place) lines after d in
           subst (IsSoundBelow m made) (sym told)

@@ -15,13 +15,13 @@ use Rattle.tree_type.specs.Invariant.{AreLinesOf, size_of, Fits, HasChildren, Is
 use Rattle.tree_type.specs.Verdicts.{Verdict, Yes, No, Open, verdict_of}
 use Rattle.decomp_tree.specs.Seen.{IsFalling, AreFalling, IsDrawn}
 use Rattle.decomp_tree.specs.Refined.{Refines, AllRefine}
-use Rattle.decomp_tree.specs.PivotedShapes.{IsTakenBack, IsFoundAt, IsFound, IsDrawnWith, HasFaultAmong, undecided}
+use Rattle.decomp_tree.specs.PivotedShapes.{IsToldBeforePivot, IsFoundAt, IsFound, IsDrawnWith, HasFaultAmong, undecided}
 use Rattle.decomp_tree.proofs.FaultLines.{fault_among, lines_of_lines_of}
 use Rattle.decomp_tree.proofs.RefinedTrees.{RefinedNode, replaced, kept, refined_node, count_refined, refined_lines}
 
 -- ---- lines
 
-told_lines : (m : Matrix) (lines : LineSet) (place : PivotPlace) (after : Tree) (v : Verdict) (tree : Tree) → IsTakenBack m lines place after v tree → lines_of tree ≡ lines
+told_lines : (m : Matrix) (lines : LineSet) (place : PivotPlace) (after : Tree) (v : Verdict) (tree : Tree) → IsToldBeforePivot m lines place after v tree → lines_of tree ≡ lines
 told_lines m lines place after Yes tree e = ap lines_of e
 told_lines m lines place after (No fault) tree told = ap lines_of told.2
 told_lines m lines place after (Open left) tree e = ap lines_of e
@@ -113,7 +113,7 @@ module _ (limit : ℕ) where
       (subst (λ some. size_of some + pivots < levels) (sym d.drawn.lines_are) l)
 
   module _ (pivots : ℕ) (below : IsWithin pivots) (m : Matrix) (lines parent : LineSet) (levels : ℕ) (are : AreLinesOf lines parent) (l : size_of lines + suc pivots < levels) where
-    told_within : (next : ℕ) (place : PivotPlace) (at : IsPlaceIn m lines place) (after : Tree) → IsDrawnWith limit pivots next (pivoted_part m lines place) lines after → (tree : Tree) → IsTakenBack m lines place after (verdict_of after) tree → IsTreeWithin parent levels tree
+    told_within : (next : ℕ) (place : PivotPlace) (at : IsPlaceIn m lines place) (after : Tree) → IsDrawnWith limit pivots next (pivoted_part m lines place) lines after → (tree : Tree) → IsToldBeforePivot m lines place after (verdict_of after) tree → IsTreeWithin parent levels tree
     told_within next place at after d tree told = go (verdict_of after) among told
       where
         after_within : IsTreeWithin lines (levels - 1) after
@@ -122,7 +122,7 @@ module _ (limit : ℕ) where
         among : HasFaultAmong lines (verdict_of after)
         among = subst (λ some. HasFaultAmong some (verdict_of after)) (drawn_with_lines limit pivots next (pivoted_part m lines place) lines after d) (fault_among lines (levels - 1) after after_within)
 
-        go : (v : Verdict) → HasFaultAmong lines v → IsTakenBack m lines place after v tree → IsTreeWithin parent levels tree
+        go : (v : Verdict) → HasFaultAmong lines v → IsToldBeforePivot m lines place after v tree → IsTreeWithin parent levels tree
         go Yes h e = subst (IsTreeWithin parent levels) (sym e) (omega (arith, l), are, (at.row, at.column), refl, (after_within, tt))
         go (No fault) h (before, is, e) = subst (IsTreeWithin parent levels) (sym e)
             (violator_within lines before parent levels are (lines_among m lines before is.row_set is.column_set (lines_before_among m lines place fault.rows fault.columns before.rows before.columns at h is.lines)) (omega (arith, l)))

@@ -17,7 +17,7 @@ use Rattle.tree_type.specs.Invariant.{AreLines, HasChildren}
 use Rattle.tree_type.specs.Places.{These, lines_left}
 use Rattle.tree_type.specs.Soundness.{part, AreApart, HasItsLines}
 use Rattle.tree_type.proofs.PlacedLines.{part_is}
-use Rattle.decomp_tree.specs.Shapes.{Case, HasNoLines, HasFault, IsReducible, IsApart, IsNetwork, IsConetwork, IsR10Matrix, IsTwoSum, IsThreeSum, IsShort, IsLeft, case_number, Applies, Says, line_in, set_in, two_in, three_in, finding_in, HasParts}
+use Rattle.decomp_tree.specs.Shapes.{Case, HasNoLines, HasFault, IsReducible, IsApart, IsNetwork, IsConetwork, IsR10Matrix, IsTwoSum, IsThreeSum, IsShort, IsLeft, case_number, Applies, Says, numbered_line, set_in, two_in, three_in, finding_in, HasParts}
 use Rattle.decomp_tree.specs.Seen.{HasNoneAmong, is_unsearched, keeps_free, AreDue, IsSaid}
 use Rattle.decomp_tree.proofs.Apart.{parts_apart}
 use Rattle.decomp_tree.proofs.NoFaults.{none_from_free, free_from_none}
@@ -39,7 +39,7 @@ module _ (limit : ℕ) (few : limit ≤ 24) (m : Matrix) (is : IsMatrix m) (line
   free_by HasFault (Cycle fault) parts children applies says searched has due count keeps free = absurd (true≢false (sym keeps))
   free_by IsReducible (Reduced steps) parts [] applies says searched has due count keeps free = absurd (omega (arith, count))
   free_by IsReducible (Reduced steps) parts (child ∷ children) applies says searched has due count keeps free =
-      free_reduced m is lines (map (line_in lines) steps) (reductions limit few m is lines are steps says applies).1 (free_due m (lines_left lines (map (line_in lines) steps)) child due.0 free.0)
+      free_reduced m is lines (map (numbered_line lines) steps) (reductions limit few m is lines are steps says applies).1 (free_due m (lines_left lines (map (numbered_line lines) steps)) child due.0 free.0)
   free_by IsApart OneSum parts children applies says searched has due count keeps free = free_apart m lines children (subst (AreApart (entry m) lines) (sym has) (parts_apart m lines are parts says.0 says.1)) free
   free_by IsNetwork (Network net) parts children applies says searched has due count keeps free = free_network m lines is are (net, says)
   free_by IsConetwork (Conetwork net) parts children applies says searched has due count keeps free = free_conetwork m lines is are (net, says)

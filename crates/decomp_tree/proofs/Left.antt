@@ -15,7 +15,7 @@ use Rattle.sp_reduce.proofs.Orders.{search_is, after_step}
 use Rattle.tree_type.specs.Invariant.{AreLines}
 use Rattle.tree_type.specs.Places.{lines_left}
 use Rattle.tree_type.specs.Soundness.{part}
-use Rattle.decomp_tree.specs.Shapes.{numbered, line_in}
+use Rattle.decomp_tree.specs.Shapes.{numbered, numbered_line}
 use Rattle.decomp_tree.specs.Seen.{IsPlace}
 use Rattle.decomp_tree.proofs.Numbered.{height_in, named_all}
 use Rattle.decomp_tree.proofs.Removed.{AreLeft, rows_named, columns_named, fewer_left}
@@ -39,8 +39,8 @@ module _ (m : Matrix) (lines : LineSet) (are : AreLines m lines) where
     pub left : AreLeft m lines are rows columns
     pub count : length rows + length columns + length steps ≤ length R + length C
     pub places : AllByRecursion (λ step. IsPlace lines step.line) steps
-    pub rows_are : (lines_left (record { rows = map (numbered lines.rows) R; columns = map (numbered lines.columns) C }) (map (line_in lines) (map (λ step. step.line) steps))).rows ≡ map (numbered lines.rows) rows
-    pub columns_are : (lines_left (record { rows = map (numbered lines.rows) R; columns = map (numbered lines.columns) C }) (map (line_in lines) (map (λ step. step.line) steps))).columns ≡ map (numbered lines.columns) columns
+    pub rows_are : (lines_left (record { rows = map (numbered lines.rows) R; columns = map (numbered lines.columns) C }) (map (numbered_line lines) (map (λ step. step.line) steps))).rows ≡ map (numbered lines.rows) rows
+    pub columns_are : (lines_left (record { rows = map (numbered lines.rows) R; columns = map (numbered lines.columns) C }) (map (numbered_line lines) (map (λ step. step.line) steps))).columns ≡ map (numbered lines.columns) columns
 
   nothing_left : (R C : List ℕ) → AreLeft m lines are R C → IsLeft R C [] R C
   nothing_left R C left = record { left = left; count = omega arith; places = tt; rows_are = refl; columns_are = refl }
@@ -60,15 +60,15 @@ module _ (m : Matrix) (lines : LineSet) (are : AreLines m lines) where
           let has = has_line_from_among step.line R C found.among in
           let rest = removal_on false (entry (part m lines)) n (rows_without R step.line) (columns_without C step.line) in
           let w = more step.line (fewer_left m lines are R C step.line left) in
-          let same : record { rows = rows_without (map (numbered lines.rows) R) (line_in lines step.line); columns = columns_without (map (numbered lines.columns) C) (line_in lines step.line) }
+          let same : record { rows = rows_without (map (numbered lines.rows) R) (numbered_line lines step.line); columns = columns_without (map (numbered lines.columns) C) (numbered_line lines step.line) }
           ≡ record { rows = map (numbered lines.rows) (rows_without R step.line); columns = map (numbered lines.columns) (columns_without C step.line) } =
           ap₂ (λ rows columns. record { rows = rows; columns = columns }) (rows_named m lines are R C step.line left has) (columns_named m lines are R C step.line left has) in
           record {
             left = w.left;
             count = let a = w.count in let b = fewer_lines step.line R C has in omega (arith, a, b);
             places = (place_of_line R C step.line left has, w.places);
-            rows_are = ap (λ (l : LineSet). (lines_left l (map (line_in lines) (map (λ step. step.line) rest.steps))).rows) same ∙ w.rows_are;
-            columns_are = ap (λ (l : LineSet). (lines_left l (map (line_in lines) (map (λ step. step.line) rest.steps))).columns) same ∙ w.columns_are;
+            rows_are = ap (λ (l : LineSet). (lines_left l (map (numbered_line lines) (map (λ step. step.line) rest.steps))).rows) same ∙ w.rows_are;
+            columns_are = ap (λ (l : LineSet). (lines_left l (map (numbered_line lines) (map (λ step. step.line) rest.steps))).columns) same ∙ w.columns_are;
           }
 
   -- from all lines on

@@ -16,11 +16,11 @@ use Rattle.tree_type.specs.Trees.{Finding, Empty, Cycle, Reduced, OneSum, Networ
 use Rattle.tree_type.specs.Invariant.{AreLinesOf, size_of, IsTreeWithin, AreTreesWithin}
 use Rattle.tree_type.specs.Places.{These}
 use Rattle.tree_type.specs.Verdicts.{Verdict, Yes, No, Open, verdict_of}
-use Rattle.decomp_tree.specs.PlainTrees.{plain, plain_tree, plain_trees}
+use Rattle.decomp_tree.specs.PlainTrees.{plain_finding, plain_tree, plain_trees}
 use Rattle.decomp_tree.specs.Seen.{IsDrawn}
 use Rattle.decomp_tree.specs.Refined.{is_undecided, Refines, AllRefine}
 use Rattle.decomp_tree.specs.PivotedLaws.{OnePivotedShape}
-use Rattle.decomp_tree.specs.PivotedShapes.{AreBefore, IsTakenBack, IsFoundAt, IsFound, IsDrawnWith, all_lines, pivots_within}
+use Rattle.decomp_tree.specs.PivotedShapes.{AreBefore, IsToldBeforePivot, IsFoundAt, IsFound, IsDrawnWith, all_lines, pivots_within}
 use Rattle.decomp_tree.proofs.FaultLines.{lines_of_lines_of}
 use Rattle.decomp_tree.proofs.OneTree.{one_tree}
 use Rattle.decomp_tree.proofs.PlainVerdicts.{verdict_plain}
@@ -28,7 +28,7 @@ use Rattle.decomp_tree.proofs.RefinedTrees.{RefinedNode, replaced, kept, refined
 
 -- ---- trees that others replace
 
-undecided_plain : (f : Finding) → is_undecided (plain f) ≡ is_undecided f
+undecided_plain : (f : Finding) → is_undecided (plain_finding f) ≡ is_undecided f
 undecided_plain Empty = refl
 undecided_plain (Cycle f) = refl
 undecided_plain (Reduced steps) = refl
@@ -43,7 +43,7 @@ undecided_plain (Violator f) = refl
 undecided_plain Undecided = refl
 undecided_plain (Pivoted place) = refl
 
-undecided_same : (f g : Finding) → plain f ≡ plain g → is_undecided f ≡ is_undecided g
+undecided_same : (f g : Finding) → plain_finding f ≡ plain_finding g → is_undecided f ≡ is_undecided g
 undecided_same f g e = sym (undecided_plain f) ∙ ap is_undecided e ∙ undecided_plain g
 
 module _ (Stands : LineSet → Tree → Type 0) (same : (lines : LineSet) → AreLinesOf lines lines → (tree other : Tree) → Stands lines tree → Stands lines other → plain_tree tree ≡ plain_tree other) where
@@ -56,7 +56,7 @@ module _ (Stands : LineSet → Tree → Type 0) (same : (lines : LineSet) → Ar
         one_lines : lines ≡ lines'
         one_lines = cc
 
-        one_finding : plain finding ≡ plain finding'
+        one_finding : plain_finding finding ≡ plain_finding finding'
         one_finding = cc
 
         go : RefinedNode Stands lines finding trees tree → RefinedNode Stands lines' finding' trees' tree' → ((below below' : Trees) → AllRefine Stands trees below → AllRefine Stands trees' below' → plain_trees below ≡ plain_trees below') → plain_tree tree ≡ plain_tree tree'
@@ -64,7 +64,7 @@ module _ (Stands : LineSet → Tree → Type 0) (same : (lines : LineSet) → Ar
         go (replaced is stands) (kept is' below' at all') each = true_is_false (sym (ap is_undecided is) ∙ undecided_same finding finding' one_finding ∙ is')
         go (kept is below at all) (replaced is' stands') each = true_is_false (sym (ap is_undecided is') ∙ sym (undecided_same finding finding' one_finding) ∙ is)
         go (kept is below at all) (kept is' below' at' all') each =
-            ap plain_tree at ∙ ap (λ (l : LineSet). Branch l (plain finding) (plain_trees below)) one_lines ∙ ap₂ (λ (f : Finding) (ts : Trees). Branch lines' f ts) one_finding (each below below' all all') ∙ sym (ap plain_tree at')
+            ap plain_tree at ∙ ap (λ (l : LineSet). Branch l (plain_finding finding) (plain_trees below)) one_lines ∙ ap₂ (λ (f : Finding) (ts : Trees). Branch lines' f ts) one_finding (each below below' all all') ∙ sym (ap plain_tree at')
 
     each_same : (parent : LineSet) (levels : ℕ) (trees trees' below below' : Trees) → AreTreesWithin parent levels trees → plain_trees trees ≡ plain_trees trees' → AllRefine Stands trees below → AllRefine Stands trees' below' → plain_trees below ≡ plain_trees below'
     each_same parent levels NoTrees NoTrees below below' within e all all' = ap plain_trees (all ∙ sym all')
@@ -116,7 +116,7 @@ before_same m place fault before other a b =
       | inr n ↦ (b.lines.other_columns x n).1 ((a.lines.other_columns x n).0 h)
     ]
 
-told_same : (m : Matrix) (lines : LineSet) (place : PivotPlace) (after after' : Tree) → plain_tree after ≡ plain_tree after' → (v : Verdict) (tree tree' : Tree) → IsTakenBack m lines place after v tree → IsTakenBack m lines place after' v tree'
+told_same : (m : Matrix) (lines : LineSet) (place : PivotPlace) (after after' : Tree) → plain_tree after ≡ plain_tree after' → (v : Verdict) (tree tree' : Tree) → IsToldBeforePivot m lines place after v tree → IsToldBeforePivot m lines place after' v tree'
     → plain_tree tree ≡ plain_tree tree'
 told_same m lines place after after' same Yes tree tree' e e' = ap plain_tree e ∙ ap (λ (t : Tree). Branch lines (Pivoted place) (MoreTrees t NoTrees)) same ∙ sym (ap plain_tree e')
 told_same m lines place after after' same (No fault) tree tree' (before, b, e) (before', b', e') =
@@ -150,7 +150,7 @@ module _ (limit : ℕ) where
   found_at_same pivots one m lines are (Some drawn) tree tree' (inr (ternary, after, (shape, is, refines), told)) (inr (ternary', after', (shape', is', refines'), told')) =
       let same = drawn_same pivots one drawn.state (pivoted_part m lines drawn.place) lines are after after' (record { shape = shape; drawn = is; refines = refines }) (record { shape = shape'; drawn = is'; refines = refines' }) in
       told_same m lines drawn.place after after' same (verdict_of after) tree tree' told
-      (subst (λ v. IsTakenBack m lines drawn.place after' v tree') (verdict_plain after' ∙ ap verdict_of (sym same) ∙ sym (verdict_plain after)) told')
+      (subst (λ v. IsToldBeforePivot m lines drawn.place after' v tree') (verdict_plain after' ∙ ap verdict_of (sym same) ∙ sym (verdict_plain after)) told')
 
   found_same : (pivots : ℕ) → IsOne pivots
   found_same zero state m lines are tree tree' e e' = ap plain_tree (e ∙ sym e')

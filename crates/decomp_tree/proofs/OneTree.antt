@@ -10,7 +10,7 @@ use Rattle.tree_type.specs.Invariant.{HasChildren, IsTreeWithin, AreTreesWithin}
 use Rattle.tree_type.specs.Places.{Due, AllLines, These, Unnamed, MadePivot, pivots_below, due_child, lines_of_each, places_from, places_below}
 use Rattle.tree_type.specs.Soundness.{part, HasItsLines}
 use Rattle.decomp_tree.specs.Shapes.{Case, HasNoLines, HasFault, IsReducible, IsApart, IsNetwork, IsConetwork, IsR10Matrix, IsTwoSum, IsThreeSum, IsShort, IsLeft, case_number, IsFirstCase, Says, finding_in, set_in, HasParts, IsShapedAt}
-use Rattle.decomp_tree.specs.PlainTrees.{plain, plain_tree, plain_trees}
+use Rattle.decomp_tree.specs.PlainTrees.{plain_finding, plain_tree, plain_trees}
 use Rattle.decomp_tree.specs.PlainTrees.{OneShape}
 use Rattle.decomp_tree.proofs.FirstSeeds.{one_two, one_three}
 use Rattle.decomp_tree.proofs.Components.{one_components}
@@ -45,7 +45,7 @@ one_case limit n c d x y =
 -- ---- one saying
 
 abbrev AreSame : Finding → Finding → List LineSet → List LineSet → Type 0
-AreSame found other parts others = (plain found ≡ plain other) × HasParts found parts others
+AreSame found other parts others = (plain_finding found ≡ plain_finding other) × HasParts found parts others
 
 set_same : (f g : LineSet) → (f.rows ≡ g.rows) × (f.columns ≡ g.columns) → f ≡ g
 set_same f g e = ap₂ (λ (rows columns : List ℕ). let set : LineSet = record { rows = rows; columns = columns } in set) e.0 e.1
@@ -89,7 +89,7 @@ says_same n IsLeft Undecided Undecided parts others a b = (refl, tt)
 says_same n IsLeft Undecided other parts others a b = absurd b
 says_same n IsLeft found other parts others a b = absurd a
 
-plain_in : (lines : LineSet) (f : Finding) → plain (finding_in lines f) ≡ finding_in lines (plain f)
+plain_in : (lines : LineSet) (f : Finding) → plain_finding (finding_in lines f) ≡ finding_in lines (plain_finding f)
 plain_in lines Empty = refl
 plain_in lines (Cycle f) = refl
 plain_in lines (Reduced steps) = refl
@@ -129,7 +129,7 @@ parts_same lines finding found children others parts parts' is same a b e = go f
 
 -- ---- the lines of the children
 
-children_plain : (f : Finding) (count : ℕ) → HasChildren f count → HasChildren (plain f) count
+children_plain : (f : Finding) (count : ℕ) → HasChildren f count → HasChildren (plain_finding f) count
 children_plain Empty count h = h
 children_plain (Cycle f) count h = h
 children_plain (Reduced steps) count h = h
@@ -144,7 +144,7 @@ children_plain (Violator f) count h = h
 children_plain Undecided count h = h
 children_plain (Pivoted place) count h = h
 
-due_plain : (lines : LineSet) (f : Finding) (k : ℕ) → due_child lines f k ≡ due_child lines (plain f) k
+due_plain : (lines : LineSet) (f : Finding) (k : ℕ) → due_child lines f k ≡ due_child lines (plain_finding f) k
 due_plain lines Empty k = refl
 due_plain lines (Cycle f) k = refl
 due_plain lines (Reduced steps) k = refl
@@ -159,7 +159,7 @@ due_plain lines (Violator f) k = refl
 due_plain lines Undecided k = refl
 due_plain lines (Pivoted place) k = refl
 
-all_due_plain : (lines : LineSet) (f : Finding) (k : ℕ) (children : List LineSet) → AreDue lines f k children → AreDue lines (plain f) k children
+all_due_plain : (lines : LineSet) (f : Finding) (k : ℕ) (children : List LineSet) → AreDue lines f k children → AreDue lines (plain_finding f) k children
 all_due_plain lines f k [] h = tt
 all_due_plain lines f k (child ∷ children) h = (subst (λ due. HasItsLines due child) (due_plain lines f k) h.0, all_due_plain lines f (suc k) children h.1)
 
@@ -217,7 +217,7 @@ module _ (limit : ℕ) (m : Matrix) where
       )
 
   record IsSameNode (finding finding' : Finding) (trees trees' : Trees) : Type 0 where
-    said : plain finding ≡ plain finding'
+    said : plain_finding finding ≡ plain_finding finding'
     children : lines_of_each trees ≡ lines_of_each trees'
 
   -- two nodes on the same lines
@@ -229,10 +229,10 @@ module _ (limit : ℕ) (m : Matrix) where
   same_node path path' pivots pivots' due due' lines finding finding' trees trees' count count' x y below below' =
       let case : x.case ≡ y.case = one_case limit (part m lines) x.case y.case x.first y.first in
       let same = says_same (part m lines) y.case x.found y.found x.parts y.parts (subst (λ c. Says c (part m lines) x.found x.parts) case x.says) y.says in
-      let said : plain finding ≡ plain finding' = ap plain x.finding ∙ plain_in lines x.found ∙ ap (finding_in lines) same.0 ∙ sym (plain_in lines y.found) ∙ sym (ap plain y.finding) in
+      let said : plain_finding finding ≡ plain_finding finding' = ap plain_finding x.finding ∙ plain_in lines x.found ∙ ap (finding_in lines) same.0 ∙ sym (plain_in lines y.found) ∙ sym (ap plain_finding y.finding) in
       record {
         said = said;
-        children = children_same lines (plain finding') (lines_of_each trees) (lines_of_each trees')
+        children = children_same lines (plain_finding finding') (lines_of_each trees) (lines_of_each trees')
             (subst (λ f. HasChildren f (length (lines_of_each trees))) said (children_plain finding (length (lines_of_each trees)) (subst (HasChildren finding) (sym (count_is trees)) count)))
             (children_plain finding' (length (lines_of_each trees')) (subst (HasChildren finding') (sym (count_is trees')) count'))
             (subst (λ f. AreDue lines f 0 (lines_of_each trees)) said (all_due_plain lines finding 0 (lines_of_each trees) (due_each path (pivots_below lines finding pivots) lines finding 0 trees below)))
@@ -240,12 +240,12 @@ module _ (limit : ℕ) (m : Matrix) where
             (λ e. one_sum lines finding finding' said e x.found x.parts y.parts (lines_of_each trees) (lines_of_each trees') x.finding same.1 x.children y.children);
       }
     where
-      one_sum : (lines : LineSet) (finding finding' : Finding) → plain finding ≡ plain finding' → plain finding' ≡ OneSum → (found : Finding) (parts parts' children others : List LineSet) → finding ≡ finding_in lines found
+      one_sum : (lines : LineSet) (finding finding' : Finding) → plain_finding finding ≡ plain_finding finding' → plain_finding finding' ≡ OneSum → (found : Finding) (parts parts' children others : List LineSet) → finding ≡ finding_in lines found
           → HasParts found parts parts' → HasParts finding children (map (set_in lines) parts) → HasParts finding' others (map (set_in lines) parts') → children ≡ others
       one_sum lines finding finding' said e found parts parts' children others is same a b =
           parts_same lines finding found children others parts parts' is same a (subst (λ f. HasParts f others (map (set_in lines) parts')) (only_one_sum finding' e) b) (only_one_sum finding (said ∙ e))
         where
-          only_one_sum : (f : Finding) → plain f ≡ OneSum → f ≡ OneSum
+          only_one_sum : (f : Finding) → plain_finding f ≡ OneSum → f ≡ OneSum
           only_one_sum OneSum e = refl
           only_one_sum Empty e = cc
           only_one_sum (Cycle f) e = cc
@@ -267,7 +267,7 @@ module _ (limit : ℕ) (m : Matrix) where
         let node' = subst (λ l. IsShapedAt limit m (record { path = path'; pivots = pivots'; due = due'; lines = l; finding = finding'; children = lines_of_each trees' })) (sym same) shaped'.0 in
         let below' = subst (λ l. AllByRecursion (IsShapedAt limit m) (places_below path' (pivots_below l finding' pivots') l finding' 0 trees')) (sym same) shaped'.1 in
         let is = same_node path path' pivots pivots' due due' lines finding finding' trees trees' fits.3 fits'.3 shaped.0 node' shaped.1 below' in
-        ap (λ (l : LineSet). Branch l (plain finding) (plain_trees trees)) same
+        ap (λ (l : LineSet). Branch l (plain_finding finding) (plain_trees trees)) same
         ∙ ap₂ (λ (f : Finding) (ts : Trees). Branch lines' f ts) is.said
         (one_trees path path' (pivots_below lines finding pivots) (pivots_below lines' finding' pivots') lines lines' finding finding' (levels - 1) (levels' - 1) 0 0 trees trees' is.children fits.4 fits'.4 shaped.1 shaped'.1)
 

@@ -18,7 +18,7 @@ use Rattle.tree_type.proofs.PlacedLines.{lines_within}
 use Rattle.decomp_tree.specs.Seen.{IsDrawn}
 use Rattle.decomp_tree.specs.Refined.{is_undecided, Refines, AllRefine}
 use Rattle.decomp_tree.specs.Shapes.{Case, HasNoLines, HasFault, IsReducible, IsApart, IsNetwork, IsConetwork, IsR10Matrix, IsTwoSum, IsThreeSum, IsShort, IsLeft, IsFirstCase, Says, finding_in, IsShapedAt}
-use Rattle.decomp_tree.specs.PivotedShapes.{IsTakenBack, IsFoundAt, IsFound, all_lines, pivots_within, undecided}
+use Rattle.decomp_tree.specs.PivotedShapes.{IsToldBeforePivot, IsFoundAt, IsFound, all_lines, pivots_within, undecided}
 use Rattle.decomp_tree.specs.PivotedLaws.{OpenLinesAreLeft}
 use Rattle.decomp_tree.proofs.FaultLines.{lines_themselves}
 use Rattle.decomp_tree.proofs.PivotedRoots.{all_are_lines}
@@ -74,7 +74,7 @@ or_none (Some x) = refl
 undecided_open : (lines found : LineSet) → first_in open_at (undecided lines) ≡ Some found → found ≡ lines
 undecided_open lines found e = sym (some_same lines found e)
 
-told_open : (m : Matrix) (lines : LineSet) (place : PivotPlace) (after : Tree) (v : Verdict) → verdict_of after ≡ v → (tree : Tree) (found : LineSet) → IsTakenBack m lines place after v tree → first_in open_at tree ≡ Some found → found ≡ lines
+told_open : (m : Matrix) (lines : LineSet) (place : PivotPlace) (after : Tree) (v : Verdict) → verdict_of after ≡ v → (tree : Tree) (found : LineSet) → IsToldBeforePivot m lines place after v tree → first_in open_at tree ≡ Some found → found ≡ lines
 told_open m lines place after Yes is tree found e first =
     none_is_some found (sym (says_yes after is).1 ∙ sym (or_none (first_in open_at after)) ∙ sym (ap (first_in open_at) e) ∙ first)
 told_open m lines place after (No fault) is tree found (before, b, e) first = none_is_some found (sym (ap (first_in open_at) e) ∙ first)

@@ -4,9 +4,9 @@ use Rattle.std.specs.Option.{option_or}
 use Rattle.cmr_base.specs.declared.line_set.LineSet.{LineSet}
 use Rattle.tree_type.specs.Trees.{Finding, Empty, Cycle, Reduced, OneSum, Network, Conetwork, R10, TwoSum, ThreeSum, Enumerated, Violator, Undecided, Pivoted, Tree, Trees, Branch, NoTrees, MoreTrees}
 use Rattle.tree_type.specs.Verdicts.{first_in, first_among, fault_at, open_at, verdict_from, verdict_of}
-use Rattle.decomp_tree.specs.PlainTrees.{plain, plain_tree, plain_trees}
+use Rattle.decomp_tree.specs.PlainTrees.{plain_finding, plain_tree, plain_trees}
 
-fault_plain : (lines : LineSet) (f : Finding) → fault_at lines f ≡ fault_at lines (plain f)
+fault_plain : (lines : LineSet) (f : Finding) → fault_at lines f ≡ fault_at lines (plain_finding f)
 fault_plain lines Empty = refl
 fault_plain lines (Cycle f) = refl
 fault_plain lines (Reduced steps) = refl
@@ -21,7 +21,7 @@ fault_plain lines (Violator f) = refl
 fault_plain lines Undecided = refl
 fault_plain lines (Pivoted place) = refl
 
-open_plain : (lines : LineSet) (f : Finding) → open_at lines f ≡ open_at lines (plain f)
+open_plain : (lines : LineSet) (f : Finding) → open_at lines f ≡ open_at lines (plain_finding f)
 open_plain lines Empty = refl
 open_plain lines (Cycle f) = refl
 open_plain lines (Reduced steps) = refl
@@ -36,7 +36,7 @@ open_plain lines (Violator f) = refl
 open_plain lines Undecided = refl
 open_plain lines (Pivoted place) = refl
 
-module _ (told : LineSet → Finding → Option LineSet) (same : (lines : LineSet) (f : Finding) → told lines f ≡ told lines (plain f)) where
+module _ (told : LineSet → Finding → Option LineSet) (same : (lines : LineSet) (f : Finding) → told lines f ≡ told lines (plain_finding f)) where
   mutual
     first_plain : (tree : Tree) → first_in told tree ≡ first_in told (plain_tree tree)
     first_plain (Branch lines finding trees) = ap₂ option_or (same lines finding) (first_of_plain trees)

@@ -20,7 +20,7 @@ use Rattle.cmr_base.proofs.ReducibleLines.{HasTwin, IsReducible, reducible_from_
 use Rattle.sp_reduce.proofs.Orders.{search_is, after_step}
 use Rattle.tree_type.specs.Invariant.{AreLines}
 use Rattle.tree_type.specs.Soundness.{part, AreReductions}
-use Rattle.decomp_tree.specs.Shapes.{numbered, line_in}
+use Rattle.decomp_tree.specs.Shapes.{numbered, numbered_line}
 use Rattle.decomp_tree.proofs.Numbered.{entry_in, in_map, map_in, once}
 
 module _ (N M : ℕ → ℕ → ℤ) (f g : ℕ → ℕ) (R C : List ℕ) (i : ℕ) (there : IsIn i R) (same : (r c : ℕ) → IsIn r R → IsIn c C → N r c ≡ M (f r) (g c)) (one : (r s : ℕ) → IsIn r R → IsIn s R → f r ≡ f s → r ≡ s) where
@@ -82,7 +82,7 @@ module _ (m : Matrix) (lines : LineSet) (are : AreLines m lines) where
     pub columns_low : (c : ℕ) → IsIn c C → c < length lines.columns
 
   reason_named : (R C : List ℕ) (line : Line) → AreLeft R C → HasLine R C line → IsSome (line_reason false (entry (part m lines)) R C line)
-      → IsSome (line_reason false (entry m) (map (numbered lines.rows) R) (map (numbered lines.columns) C) (line_in lines line))
+      → IsSome (line_reason false (entry m) (map (numbered lines.rows) R) (map (numbered lines.columns) C) (numbered_line lines line))
   reason_named R C (Row r) left h some =
       reason_from_reducible false (entry m) Row Column (map (numbered lines.rows) R) (map (numbered lines.columns) C) (numbered lines.rows r)
       (increasing_named lines.columns C are.columns.rising left.columns_rise left.columns_low)
@@ -98,15 +98,15 @@ module _ (m : Matrix) (lines : LineSet) (are : AreLines m lines) where
       (λ i j x y e. once lines.columns are.columns.rising (λ _. true) i j (left.columns_low i x) (left.columns_low j y) e)
       (reducible_from_reason false (λ j i. entry (part m lines) i j) Column Row C R c some))
 
-  pub has_line_named : (R C : List ℕ) (line : Line) → HasLine R C line → HasLine (map (numbered lines.rows) R) (map (numbered lines.columns) C) (line_in lines line)
+  pub has_line_named : (R C : List ℕ) (line : Line) → HasLine R C line → HasLine (map (numbered lines.rows) R) (map (numbered lines.columns) C) (numbered_line lines line)
   has_line_named R C (Row r) h = contains_from_in (map (numbered lines.rows) R) (numbered lines.rows r) (in_map (numbered lines.rows) R r (in_from_contains R r h))
   has_line_named R C (Column c) h = contains_from_in (map (numbered lines.columns) C) (numbered lines.columns c) (in_map (numbered lines.columns) C c (in_from_contains C c h))
 
-  pub rows_named : (R C : List ℕ) (line : Line) → AreLeft R C → HasLine R C line → rows_without (map (numbered lines.rows) R) (line_in lines line) ≡ map (numbered lines.rows) (rows_without R line)
+  pub rows_named : (R C : List ℕ) (line : Line) → AreLeft R C → HasLine R C line → rows_without (map (numbered lines.rows) R) (numbered_line lines line) ≡ map (numbered lines.rows) (rows_without R line)
   rows_named R C (Row r) left h = without_named (numbered lines.rows) R r (λ s x e. once lines.rows are.rows.rising (λ _. true) s r (left.rows_low s x) (left.rows_low r (in_from_contains R r h)) e)
   rows_named R C (Column c) left h = refl
 
-  pub columns_named : (R C : List ℕ) (line : Line) → AreLeft R C → HasLine R C line → columns_without (map (numbered lines.columns) C) (line_in lines line) ≡ map (numbered lines.columns) (columns_without C line)
+  pub columns_named : (R C : List ℕ) (line : Line) → AreLeft R C → HasLine R C line → columns_without (map (numbered lines.columns) C) (numbered_line lines line) ≡ map (numbered lines.columns) (columns_without C line)
   columns_named R C (Row r) left h = refl
   columns_named R C (Column c) left h = without_named (numbered lines.columns) C c (λ s x e. once lines.columns are.columns.rising (λ _. true) s c (left.columns_low s x) (left.columns_low c (in_from_contains C c h)) e)
 
@@ -119,21 +119,21 @@ module _ (m : Matrix) (lines : LineSet) (are : AreLines m lines) where
   }
 
   pub removed : (n : ℕ) (R C : List ℕ) → AreLeft R C
-      → AreReductions (entry m) (map (numbered lines.rows) R) (map (numbered lines.columns) C) (map (line_in lines) (map (λ step. step.line) (removal_on false (entry (part m lines)) n R C).steps))
+      → AreReductions (entry m) (map (numbered lines.rows) R) (map (numbered lines.columns) C) (map (numbered_line lines) (map (λ step. step.line) (removal_on false (entry (part m lines)) n R C).steps))
   removed zero R C left = tt
   removed (suc n) R C left = go (first_step false (entry (part m lines)) R C (lines_of R C)) refl (λ line left. removed n (rows_without R line) (columns_without C line) left)
     where
       go : (o : Option Step) → first_step false (entry (part m lines)) R C (lines_of R C) ≡ o
           → ((line : Line) → AreLeft (rows_without R line) (columns_without C line) → AreReductions (entry m) (map (numbered lines.rows) (rows_without R line)) (map (numbered lines.columns) (columns_without C line))
-          (map (line_in lines) (map (λ step. step.line) (removal_on false (entry (part m lines)) n (rows_without R line) (columns_without C line)).steps)))
-          → AreReductions (entry m) (map (numbered lines.rows) R) (map (numbered lines.columns) C) (map (line_in lines) (map (λ step. step.line) (after_step false (entry (part m lines)) n R C o).steps))
+          (map (numbered_line lines) (map (λ step. step.line) (removal_on false (entry (part m lines)) n (rows_without R line) (columns_without C line)).steps)))
+          → AreReductions (entry m) (map (numbered lines.rows) R) (map (numbered lines.columns) C) (map (numbered_line lines) (map (λ step. step.line) (after_step false (entry (part m lines)) n R C o).steps))
       go None e more = tt
       go (Some step) e more =
           let found = search_is false (entry (part m lines)) R C (lines_of R C) step e in
           let has = has_line_from_among step.line R C found.among in (
             has_line_named R C step.line has,
             reason_named R C step.line left has found.some,
-            subst (λ rows. AreReductions (entry m) rows (columns_without (map (numbered lines.columns) C) (line_in lines step.line)) (map (line_in lines) (map (λ step. step.line) (removal_on false (entry (part m lines)) n (rows_without R step.line) (columns_without C step.line)).steps))) (sym (rows_named R C step.line left has))
-                (subst (λ columns. AreReductions (entry m) (map (numbered lines.rows) (rows_without R step.line)) columns (map (line_in lines) (map (λ step. step.line) (removal_on false (entry (part m lines)) n (rows_without R step.line) (columns_without C step.line)).steps))) (sym (columns_named R C step.line left has))
+            subst (λ rows. AreReductions (entry m) rows (columns_without (map (numbered lines.columns) C) (numbered_line lines step.line)) (map (numbered_line lines) (map (λ step. step.line) (removal_on false (entry (part m lines)) n (rows_without R step.line) (columns_without C step.line)).steps))) (sym (rows_named R C step.line left has))
+                (subst (λ columns. AreReductions (entry m) (map (numbered lines.rows) (rows_without R step.line)) columns (map (numbered_line lines) (map (λ step. step.line) (removal_on false (entry (part m lines)) n (rows_without R step.line) (columns_without C step.line)).steps))) (sym (columns_named R C step.line left has))
                 (more step.line (fewer_left R C step.line left))),
           )

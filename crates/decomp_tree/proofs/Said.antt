@@ -31,7 +31,7 @@ use Rattle.tree_type.specs.Trees.{Empty, Cycle, Reduced, OneSum, Network, Conetw
 use Rattle.tree_type.specs.Invariant.{AreLines, AreLinesOf, HasSizes, size_of}
 use Rattle.tree_type.specs.Places.{lines_left}
 use Rattle.tree_type.specs.Soundness.{part}
-use Rattle.decomp_tree.specs.Shapes.{Case, HasNoLines, HasFault, IsReducible, IsApart, IsNetwork, IsConetwork, IsR10Matrix, IsTwoSum, IsThreeSum, IsShort, IsLeft, case_number, Applies, IsFirstCase, numbered, line_in, set_in}
+use Rattle.decomp_tree.specs.Shapes.{Case, HasNoLines, HasFault, IsReducible, IsApart, IsNetwork, IsConetwork, IsR10Matrix, IsTwoSum, IsThreeSum, IsShort, IsLeft, case_number, Applies, IsFirstCase, numbered, numbered_line, set_in}
 use Rattle.decomp_tree.specs.declared.seen.Seen.{Seen}
 use Rattle.decomp_tree.specs.Seen.{IsPlace, IsPlacedSet, IsOther, HasNoneBefore, IsNamedFault, AreDue, AreFewer, IsSaid, IsSeen}
 use Rattle.decomp_tree.proofs.Numbered.{height_in}
@@ -309,11 +309,11 @@ module _ (limit : ℕ) (m : Matrix) (is : IsMatrix m) (lines : LineSet) (are : A
       rest_left : (rest : LineSet) → rest.rows ≡ (removal false (part m lines)).rows → rest.columns ≡ (removal false (part m lines)).columns → AreLeft m lines are rest.rows rest.columns
       rest_left rest e f = subst (λ C. AreLeft m lines are rest.rows C) (sym f) (subst (λ R. AreLeft m lines are R (removal false (part m lines)).columns) (sym e) (whole_left m lines are).left)
 
-  line_among : (l : Line) → IsPlace lines l → HasLine lines.rows lines.columns (line_in lines l)
+  line_among : (l : Line) → IsPlace lines l → HasLine lines.rows lines.columns (numbered_line lines l)
   line_among (line.Row k) h = named_contained lines.rows k h
   line_among (line.Column k) h = named_contained lines.columns k h
 
-  lines_among : (steps : List Step) → AllByRecursion (λ step. IsPlace lines step.line) steps → AllByRecursion (HasLine lines.rows lines.columns) (map (line_in lines) (map (λ step. step.line) steps))
+  lines_among : (steps : List Step) → AllByRecursion (λ step. IsPlace lines step.line) steps → AllByRecursion (HasLine lines.rows lines.columns) (map (numbered_line lines) (map (λ step. step.line) steps))
   lines_among [] h = tt
   lines_among (step ∷ steps) h = (line_among step.line h.0, lines_among steps h.1)
 
@@ -324,7 +324,7 @@ module _ (limit : ℕ) (m : Matrix) (is : IsMatrix m) (lines : LineSet) (are : A
 
   pub seen_rest : (steps : List Step) (rest : LineSet) → HasNoneBefore limit (part m lines) 3 → 0 < length steps → steps ≡ (removal false (part m lines)).steps
       → rest.rows ≡ (removal false (part m lines)).rows → rest.columns ≡ (removal false (part m lines)).columns
-      → IsSaid limit m lines (Reduced (map (line_in lines) (map (λ step. step.line) steps))) (set_in lines rest ∷ [])
+      → IsSaid limit m lines (Reduced (map (numbered_line lines) (map (λ step. step.line) steps))) (set_in lines rest ∷ [])
   seen_rest steps rest none some e f g =
       let left = whole_left m lines are in
       let rows_count = height_in m lines in
@@ -357,18 +357,18 @@ module _ (limit : ℕ) (m : Matrix) (is : IsMatrix m) (lines : LineSet) (are : A
         );
         fits = λ trees h. (
           lines_among steps (steps_placed steps e),
-          (let a = counted left in let b = length-map (map (λ step. step.line) steps) (line_in lines) in let c = length-map steps (λ step. step.line) in omega (arith, a, b, c, ap length e)),
+          (let a = counted left in let b = length-map (map (λ step. step.line) steps) (numbered_line lines) in let c = length-map steps (λ step. step.line) in omega (arith, a, b, c, ap length e)),
         );
       }
     where
       Left : Type 0
       Left = HasLeft m lines are (first_lines (height (part m lines))) (first_lines (length lines.columns)) (removal false (part m lines)).steps (removal false (part m lines)).rows (removal false (part m lines)).columns
 
-      rows_left : Left → (lines_left lines (map (line_in lines) (map (λ step. step.line) steps))).rows ≡ map (numbered lines.rows) (removal false (part m lines)).rows
-      rows_left left = ap (λ s. (lines_left lines (map (line_in lines) (map (λ step. step.line) s))).rows) e ∙ sym (ap (λ (l : LineSet). (lines_left l (map (line_in lines) (map (λ step. step.line) (removal false (part m lines)).steps))).rows) (all_named m lines are)) ∙ left.rows_are
+      rows_left : Left → (lines_left lines (map (numbered_line lines) (map (λ step. step.line) steps))).rows ≡ map (numbered lines.rows) (removal false (part m lines)).rows
+      rows_left left = ap (λ s. (lines_left lines (map (numbered_line lines) (map (λ step. step.line) s))).rows) e ∙ sym (ap (λ (l : LineSet). (lines_left l (map (numbered_line lines) (map (λ step. step.line) (removal false (part m lines)).steps))).rows) (all_named m lines are)) ∙ left.rows_are
 
-      columns_left : Left → (lines_left lines (map (line_in lines) (map (λ step. step.line) steps))).columns ≡ map (numbered lines.columns) (removal false (part m lines)).columns
-      columns_left left = ap (λ s. (lines_left lines (map (line_in lines) (map (λ step. step.line) s))).columns) e ∙ sym (ap (λ (l : LineSet). (lines_left l (map (line_in lines) (map (λ step. step.line) (removal false (part m lines)).steps))).columns) (all_named m lines are)) ∙ left.columns_are
+      columns_left : Left → (lines_left lines (map (numbered_line lines) (map (λ step. step.line) steps))).columns ≡ map (numbered lines.columns) (removal false (part m lines)).columns
+      columns_left left = ap (λ s. (lines_left lines (map (numbered_line lines) (map (λ step. step.line) s))).columns) e ∙ sym (ap (λ (l : LineSet). (lines_left l (map (numbered_line lines) (map (λ step. step.line) (removal false (part m lines)).steps))).columns) (all_named m lines are)) ∙ left.columns_are
 
       counted : Left → length (removal false (part m lines)).rows + length (removal false (part m lines)).columns + length (removal false (part m lines)).steps ≤ size_of lines
       counted left = let a = left.count in let b = length-range_with_len 0 (height (part m lines)) in let c = length-range_with_len 0 (length lines.columns) in omega (arith, a, b, c, height_in m lines)

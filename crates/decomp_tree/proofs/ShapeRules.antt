@@ -30,7 +30,7 @@ use Rattle.tree_type.specs.declared.refusal.Rule.TheVariants as rule
 use Rattle.tree_type.specs.Trees.{Finding, Empty, Cycle, Reduced, OneSum, Network, Conetwork, R10, TwoSum, ThreeSum, Enumerated, Violator, Undecided}
 use Rattle.tree_type.specs.Soundness.{part, AreReductions, AreApart, Demands}
 use Rattle.tree_type.proofs.PlacedLines.{part_is}
-use Rattle.decomp_tree.specs.Shapes.{Case, HasNoLines, HasFault, IsReducible, IsApart, IsNetwork, IsConetwork, IsR10Matrix, IsTwoSum, IsThreeSum, IsShort, IsLeft, case_number, Applies, IsFirstCase, Says, numbered, line_in, set_in, two_in, three_in, finding_in, HasParts}
+use Rattle.decomp_tree.specs.Shapes.{Case, HasNoLines, HasFault, IsReducible, IsApart, IsNetwork, IsConetwork, IsR10Matrix, IsTwoSum, IsThreeSum, IsShort, IsLeft, case_number, Applies, IsFirstCase, Says, numbered, numbered_line, set_in, two_in, three_in, finding_in, HasParts}
 use Rattle.decomp_tree.proofs.Numbered.{height_in, violator_in, named_all}
 use Rattle.decomp_tree.proofs.Separated.{side, named_side, two_short, two_reference, two_blocks, three_short, three_connectors, three_corner, three_blocks}
 use Rattle.decomp_tree.proofs.Removed.{removed}
@@ -57,15 +57,15 @@ module _ (limit : ℕ) (few : limit ≤ 24) (m : Matrix) (is : IsMatrix m) (line
   low_columns C set = rising_below 0 (length lines.columns) C (column_set_rises (part m lines) C set)
 
   pub reductions : (steps : List Line) → steps ≡ map (λ step. step.line) (removal false (part m lines)).steps → Applies limit (part m lines) IsReducible
-      → (0 < length (map (line_in lines) steps)) × AreReductions (entry m) lines.rows lines.columns (map (line_in lines) steps)
+      → (0 < length (map (numbered_line lines) steps)) × AreReductions (entry m) lines.rows lines.columns (map (numbered_line lines) steps)
   reductions steps e (l, has, some) = (
     (let a = some_removed (entry (part m lines)) (height (part m lines) + length lines.columns) (first_lines (height (part m lines))) (first_lines (length lines.columns)) l (some_line (height (part m lines)) (length lines.columns) l has) has some in
         let b = length-map (removal false (part m lines)).steps (λ step. step.line) in
-        let c = length-map steps (line_in lines) in
+        let c = length-map steps (numbered_line lines) in
         omega (arith, a, b, c, ap length e)),
-    subst (λ s. AreReductions (entry m) lines.rows lines.columns (map (line_in lines) s)) (sym e)
-        (subst (λ rows. AreReductions (entry m) rows lines.columns (map (line_in lines) (map (λ step. step.line) (removal false (part m lines)).steps))) (ap (λ k. map (numbered lines.rows) (first_lines k)) (height_in m lines) ∙ named_all lines.rows)
-        (subst (λ columns. AreReductions (entry m) (map (numbered lines.rows) (first_lines (height (part m lines)))) columns (map (line_in lines) (map (λ step. step.line) (removal false (part m lines)).steps))) (named_all lines.columns)
+    subst (λ s. AreReductions (entry m) lines.rows lines.columns (map (numbered_line lines) s)) (sym e)
+        (subst (λ rows. AreReductions (entry m) rows lines.columns (map (numbered_line lines) (map (λ step. step.line) (removal false (part m lines)).steps))) (ap (λ k. map (numbered lines.rows) (first_lines k)) (height_in m lines) ∙ named_all lines.rows)
+        (subst (λ columns. AreReductions (entry m) (map (numbered lines.rows) (first_lines (height (part m lines)))) columns (map (numbered_line lines) (map (λ step. step.line) (removal false (part m lines)).steps))) (named_all lines.columns)
         (removed m lines are (height (part m lines) + length lines.columns) (first_lines (height (part m lines))) (first_lines (length lines.columns)) (record {
           rows_rise = first_lines_increase (height (part m lines));
           columns_rise = first_lines_increase (length lines.columns);

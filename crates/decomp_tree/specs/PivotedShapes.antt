@@ -18,8 +18,8 @@ abbrev pub undecided : LineSet → Tree
 undecided lines = Branch lines Undecided NoTrees
 
 -- The pivot of the submatrix has a 2 or a -2: the node names the two rows and the two columns that show it.
-abbrev pub IsShown : Matrix → LineSet → PivotPlace → Tree → Type 0
-IsShown m lines place tree =
+abbrev pub ShowsTwoAfterPivot : Matrix → LineSet → PivotPlace → Tree → Type 0
+ShowsTwoAfterPivot m lines place tree =
     (fault : LineSet) × ShowsFirstTwoIn m lines place fault.rows fault.columns × (tree ≡ Branch lines (Violator fault) NoTrees)
 
 -- lines of the matrix that are those of a fault before the pivot
@@ -30,21 +30,21 @@ pub record AreBefore (m : Matrix) (place : PivotPlace) (fault before : LineSet) 
 
 -- What the tree of the submatrix after a pivot says, told of the submatrix: a yes by a pivoted node above that tree, a no by
 -- its fault taken back to the lines before the pivot, and nothing where it is undecided.
-abbrev pub IsTakenBack : Matrix → LineSet → PivotPlace → Tree → Verdict → Tree → Type 0
-IsTakenBack m lines place after Yes tree = tree ≡ Branch lines (Pivoted place) (one_tree after)
-IsTakenBack m lines place after (No fault) tree =
+abbrev pub IsToldBeforePivot : Matrix → LineSet → PivotPlace → Tree → Verdict → Tree → Type 0
+IsToldBeforePivot m lines place after Yes tree = tree ≡ Branch lines (Pivoted place) (one_tree after)
+IsToldBeforePivot m lines place after (No fault) tree =
     (before : LineSet) × AreBefore m place fault before × (tree ≡ Branch lines (Violator before) NoTrees)
-IsTakenBack m lines place after (Open left) tree = tree ≡ undecided lines
+IsToldBeforePivot m lines place after (Open left) tree = tree ≡ undecided lines
 
 -- A pivot at a place that is drawn, if there is one, and then the tree of the submatrix after it, which goes on from the next
 -- state.
 abbrev pub IsFoundAt : (ℕ → Matrix → Tree → Type 0) → Matrix → LineSet → Option DrawnPlace → Tree → Type 0
 IsFoundAt IsTree m lines None tree = tree ≡ undecided lines
 IsFoundAt IsTree m lines (Some drawn) tree =
-    IsShown m lines drawn.place tree
+    ShowsTwoAfterPivot m lines drawn.place tree
     ⊎ (IsTernaryPivot m lines drawn.place
     × (after : Tree) × IsTree drawn.state (pivoted_part m lines drawn.place) after
-    × IsTakenBack m lines drawn.place after (verdict_of after) tree)
+    × IsToldBeforePivot m lines drawn.place after (verdict_of after) tree)
 
 -- What stands in the place of an undecided node on these lines where so many pivots may still be made, of which the first is
 -- drawn from this state. The submatrix after a pivot has a decomposition of its own, in which one pivot fewer may be made.

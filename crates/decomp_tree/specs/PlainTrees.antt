@@ -10,14 +10,14 @@ abbrev pub no_network : net.Network
 no_network = record { arcs = []; walks = [] }
 
 -- what a node says, but for the nodes of a network
-abbrev pub plain : Finding → Finding
-plain (Network n) = Network no_network
-plain (Conetwork n) = Conetwork no_network
-plain finding = finding
+abbrev pub plain_finding : Finding → Finding
+plain_finding (Network n) = Network no_network
+plain_finding (Conetwork n) = Conetwork no_network
+plain_finding finding = finding
 
 abbrev mutual
   pub plain_tree : Tree → Tree
-  plain_tree (Branch lines finding trees) = Branch lines (plain finding) (plain_trees trees)
+  plain_tree (Branch lines finding trees) = Branch lines (plain_finding finding) (plain_trees trees)
 
   pub plain_trees : Trees → Trees
   plain_trees NoTrees = NoTrees

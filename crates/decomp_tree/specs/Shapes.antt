@@ -92,9 +92,9 @@ Says case m finding parts = ⊥
 abbrev pub numbered : List ℕ → ℕ → ℕ
 numbered lines k = slice_index_or lines k 0
 
-abbrev pub line_in : LineSet → Line → Line
-line_in lines (Row k) = Row (numbered lines.rows k)
-line_in lines (Column k) = Column (numbered lines.columns k)
+abbrev pub numbered_line : LineSet → Line → Line
+numbered_line lines (Row k) = Row (numbered lines.rows k)
+numbered_line lines (Column k) = Column (numbered lines.columns k)
 
 abbrev pub set_in : LineSet → LineSet → LineSet
 set_in lines part = record { rows = map (numbered lines.rows) part.rows; columns = map (numbered lines.columns) part.columns }
@@ -116,7 +116,7 @@ three_in lines t = record {
 -- what is said of the submatrix, by the numbers in the whole matrix
 abbrev pub finding_in : LineSet → Finding → Finding
 finding_in lines (Cycle fault) = Cycle (set_in lines fault)
-finding_in lines (Reduced steps) = Reduced (map (line_in lines) steps)
+finding_in lines (Reduced steps) = Reduced (map (numbered_line lines) steps)
 finding_in lines (TwoSum two) = TwoSum (two_in lines two)
 finding_in lines (ThreeSum three) = ThreeSum (three_in lines three)
 finding_in lines (Violator fault) = Violator (set_in lines fault)

@@ -9,10 +9,10 @@ ghost use Rattle.decomp_tree.specs.Fronts.{IsFront};
 ghost use Rattle.decomp_tree.specs.Obstructions.{IsKnown};
 ghost use Rattle.decomp_tree.specs.Sketches.{Sketched, sketch_of, sketches_from, is_free_in, lines_of_sketch, IsDrafted, IsDraftedBehind};
 
-use crate::budget::Budget;
 use crate::faults::keeps_free;
 use crate::looking::look;
 use crate::obstructions::Obstruction;
+use crate::search_limits::SearchLimits;
 use crate::seen::Seen;
 use cmr_base::{LineSet, LineSetList, Memory, RowsAndColumns};
 use std::alloc::Global;
@@ -43,16 +43,16 @@ pub fn draft_root<R: Threads + Sync>(
     alloc: Global,
     matrix: &RowsAndColumns<'_>,
     lines: &LineSet,
-    budget: Budget,
+    limits: SearchLimits,
 ) -> Result<Draft, Memory>
     requires shape { IsMatrix matrix.now }
     requires lines { AreLines matrix.now lines.now }
     ensures lines { IfOk result (λ drawn. lines_of_sketch (sketch_of drawn) ≡ lines.now) }
-    ensures drafted { IfOk result (λ drawn. IsDrafted budget.limit matrix.now (sketch_of drawn)) }
+    ensures drafted { IfOk result (λ drawn. IsDrafted limits.limit matrix.now (sketch_of drawn)) }
 {
     let mut drafts = Vec::new(alloc);
     let unknown = Obstruction::unknown(matrix.by_rows());
-    draw(rt, alloc, matrix, lines, &unknown, budget, &mut drafts)?;
+    draw(rt, alloc, matrix, lines, &unknown, limits, &mut drafts)?;
     let Some(drawn) = drafts.pop() else {
         unreachable!()
     };
@@ -67,21 +67,21 @@ pub fn draw<R: Threads + Sync>(
     matrix: &RowsAndColumns<'_>,
     lines: &LineSet,
     obstruction: &Obstruction,
-    budget: Budget,
+    limits: SearchLimits,
     drafts: &mut Vec<Draft>,
 ) -> Result<(), Memory>
     requires shape { IsMatrix matrix.now }
     requires lines { AreLines matrix.now lines.now }
     requires known { IsKnown matrix.now obstruction.now }
     requires sought { obstruction.now.sought ≤ 4000 }
-    ensures { OnOk result (IsDraftedBehind budget.limit matrix.now lines.now
+    ensures { OnOk result (IsDraftedBehind limits.limit matrix.now lines.now
         (map sketch_of drafts.old.items) (map sketch_of drafts.new.items)) }
 {
-    let front = front_of(rt, alloc, matrix, lines, obstruction, budget)?;
+    let front = front_of(rt, alloc, matrix, lines, obstruction, limits)?;
     let mut children = Vec::new(alloc);
     for child in front.children.as_slice() {
         let known = obstruction.in_child(alloc, matrix.by_rows(), &front.finding, child)?;
-        draw(rt, alloc, matrix, child, &known, budget, &mut children)?;
+        draw(rt, alloc, matrix, child, &known, limits, &mut children)?;
     }
     push_draft(alloc, front, children, drafts)?;
     Ok(())
@@ -94,14 +94,14 @@ fn front_of<R: Threads + Sync>(
     matrix: &RowsAndColumns<'_>,
     lines: &LineSet,
     obstruction: &Obstruction,
-    budget: Budget,
+    limits: SearchLimits,
 ) -> Result<Box<Front>, Memory>
     requires shape { IsMatrix matrix.now }
     requires lines { AreLines matrix.now lines.now }
     requires known { IsKnown matrix.now obstruction.now }
-    ensures { IfOk result (λ front. IsFront budget.limit matrix.now lines.now front.value) }
+    ensures { IfOk result (λ front. IsFront limits.limit matrix.now lines.now front.value) }
 {
-    let Seen { finding, children } = look(rt, alloc, matrix, lines, obstruction, budget)?;
+    let Seen { finding, children } = look(rt, alloc, matrix, lines, obstruction, limits)?;
     let front = Front {
         lines: copy_of(alloc, lines)?,
         finding,

@@ -5,7 +5,7 @@ ghost use Rattle.tree_type.specs.Trees.{tree_of};
 ghost use Rattle.tree_type.specs.Soundness.{IsSound};
 ghost use Rattle.decomp_tree.specs.PivotedShapes.{IsShapeWith, pivots_within};
 
-use crate::budget::Budget;
+use crate::search_limits::SearchLimits;
 use crate::settling::draw_root;
 use cmr_base::{LineSet, MAX_DEPTH, MAX_LINES, Matrix, Memory};
 use first_hit::Workers;
@@ -34,9 +34,9 @@ pub fn decompose<R: Threads + Sync>(
     ensures sound { IfOk result (IsSound matrix.now) }
 {
     let lines = LineSet::all(alloc, matrix.rows(), matrix.columns())?;
-    let budget = Budget::new(limit, workers);
+    let limits = SearchLimits::new(limit, workers);
     let within = pivots_within(matrix, pivots);
-    let root = draw_root(rt, alloc, matrix, &lines, budget, within, FIRST_STATE)?;
+    let root = draw_root(rt, alloc, matrix, &lines, limits, within, FIRST_STATE)?;
     Ok(DecTree::make(matrix.rows(), matrix.columns(), root))
 }
 

@@ -1,15 +1,15 @@
 //! Decompositions of matrices.
 #![tactic(auto)]
 
-mod budget;
 mod drafts;
 mod drawing;
 mod faults;
 pub mod laws;
 mod looking;
 mod naming;
-mod node;
+mod node_view;
 mod obstructions;
+mod search_limits;
 mod seen;
 mod settling;
 mod taking_back;

@@ -13,11 +13,11 @@ ghost use Rattle.decomp_tree.specs.Nodes.{HasNoCaseBefore, IsSeenAt, inner_of};
 ghost use Rattle.decomp_tree.specs.Seen.{IsSeen};
 ghost use Rattle.decomp_tree.specs.Shapes.{IsApart, IsConetwork, IsNetwork, IsR10Matrix, IsReducible, IsShort, IsThreeSum, IsTwoSum};
 
-use crate::budget::Budget;
 use crate::faults::{certain_fault, certain_fault_transposed, fault_from};
 use crate::naming::{named_parts, named_set, named_steps, named_three, named_two};
-use crate::node::Node;
+use crate::node_view::NodeView;
 use crate::obstructions::Obstruction;
+use crate::search_limits::SearchLimits;
 use crate::seen::{Seen, above_one, above_two, leaf};
 use cmr_base::{LineSet, Matrix, Memory, RowsAndColumns, Three, Two};
 use leaf_enumerate::{LeastSubmatrix, least_violator_of};
@@ -38,12 +38,12 @@ pub fn look<R: Threads + Sync>(
     matrix: &RowsAndColumns<'_>,
     lines: &LineSet,
     obstruction: &Obstruction,
-    budget: Budget,
+    limits: SearchLimits,
 ) -> Result<Seen, Memory>
     requires shape { IsMatrix matrix.now }
     requires lines { AreLines matrix.now lines.now }
     requires known { IsKnown matrix.now obstruction.now }
-    ensures { IfOk result (IsSeen budget.limit matrix.now lines.now) }
+    ensures { IfOk result (IsSeen limits.limit matrix.now lines.now) }
 {
     let whole = matrix.by_rows();
     let part = whole.part(alloc, lines)?;
@@ -52,11 +52,11 @@ pub fn look<R: Threads + Sync>(
     }
     let columns = matrix.columns_of(alloc, lines)?;
     let inner = RowsAndColumns::of(&part, &columns);
-    let node = Node {
+    let node = NodeView {
         matrix: whole,
         lines,
         inner: &inner,
-        budget,
+        limits,
     };
     look_filled(rt, alloc, &node, obstruction)
 }
@@ -65,7 +65,7 @@ pub fn look<R: Threads + Sync>(
 fn look_filled<R: Threads + Sync>(
     rt: &R,
     alloc: Global,
-    node: &Node<'_>,
+    node: &NodeView<'_>,
     obstruction: &Obstruction,
 ) -> Result<Seen, Memory>
     requires none { HasNoCaseBefore IsReducible node.now }
@@ -82,7 +82,7 @@ fn look_filled<R: Threads + Sync>(
 fn look_unclear<R: Threads + Sync>(
     rt: &R,
     alloc: Global,
-    node: &Node<'_>,
+    node: &NodeView<'_>,
     obstruction: &Obstruction,
 ) -> Result<Seen, Memory>
     requires none { HasNoCaseBefore IsReducible node.now }
@@ -97,7 +97,7 @@ fn look_unclear<R: Threads + Sync>(
 }
 
 // The removed lines, and those that are left.
-fn seen_reduced(alloc: Global, node: &Node<'_>, reduction: &Reduction) -> Result<Seen, Memory>
+fn seen_reduced(alloc: Global, node: &NodeView<'_>, reduction: &Reduction) -> Result<Seen, Memory>
     requires none { HasNoCaseBefore IsReducible node.now }
     requires some { 0 < length reduction.now.steps }
     requires steps { reduction.now.steps ≡ (removal false (inner_of node.now)).steps }
@@ -116,7 +116,7 @@ fn seen_reduced(alloc: Global, node: &Node<'_>, reduction: &Reduction) -> Result
 fn look_irreducible<R: Threads + Sync>(
     rt: &R,
     alloc: Global,
-    node: &Node<'_>,
+    node: &NodeView<'_>,
     obstruction: &Obstruction,
 ) -> Result<Seen, Memory>
     requires none { HasNoCaseBefore IsApart node.now }
@@ -138,7 +138,7 @@ fn look_irreducible<R: Threads + Sync>(
 fn look_connected<R: Threads + Sync>(
     rt: &R,
     alloc: Global,
-    node: &Node<'_>,
+    node: &NodeView<'_>,
     obstruction: &Obstruction,
 ) -> Result<Seen, Memory>
     requires none { HasNoCaseBefore IsNetwork node.now }
@@ -152,7 +152,11 @@ fn look_connected<R: Threads + Sync>(
 }
 
 // The same by tests. Where there must be a cycle fault one is looked for.
-fn look_tested<R: Threads + Sync>(rt: &R, alloc: Global, node: &Node<'_>) -> Result<Seen, Memory>
+fn look_tested<R: Threads + Sync>(
+    rt: &R,
+    alloc: Global,
+    node: &NodeView<'_>,
+) -> Result<Seen, Memory>
     requires none { HasNoCaseBefore IsNetwork node.now }
     ensures { IfOk result (IsSeenAt node.now) }
 {
@@ -170,7 +174,7 @@ fn look_tested<R: Threads + Sync>(rt: &R, alloc: Global, node: &Node<'_>) -> Res
 fn look_transposed<R: Threads + Sync>(
     rt: &R,
     alloc: Global,
-    node: &Node<'_>,
+    node: &NodeView<'_>,
 ) -> Result<Seen, Memory>
     requires none { HasNoCaseBefore IsConetwork node.now }
     ensures { IfOk result (IsSeenAt node.now) }
@@ -190,7 +194,7 @@ fn look_transposed<R: Threads + Sync>(
 fn look_no_network<R: Threads + Sync>(
     rt: &R,
     alloc: Global,
-    node: &Node<'_>,
+    node: &NodeView<'_>,
 ) -> Result<Seen, Memory>
     requires none { HasNoCaseBefore IsR10Matrix node.now }
     ensures { IfOk result (IsSeenAt node.now) }
@@ -202,7 +206,7 @@ fn look_no_network<R: Threads + Sync>(
 }
 
 // An R10 matrix, which has no violator but where it has a cycle fault.
-fn look_r10(alloc: Global, node: &Node<'_>) -> Result<Seen, Memory>
+fn look_r10(alloc: Global, node: &NodeView<'_>) -> Result<Seen, Memory>
     requires none { HasNoCaseBefore IsR10Matrix node.now }
     requires r10 { IsR10 (inner_of node.now) }
     ensures { IfOk result (IsSeenAt node.now) }
@@ -214,7 +218,11 @@ fn look_r10(alloc: Global, node: &Node<'_>) -> Result<Seen, Memory>
 }
 
 // The cases of a matrix that is no network matrix, no transposed one and no R10.
-fn look_separated<R: Threads + Sync>(rt: &R, alloc: Global, node: &Node<'_>) -> Result<Seen, Memory>
+fn look_separated<R: Threads + Sync>(
+    rt: &R,
+    alloc: Global,
+    node: &NodeView<'_>,
+) -> Result<Seen, Memory>
     requires none { HasNoCaseBefore IsTwoSum node.now }
     ensures { IfOk result (IsSeenAt node.now) }
 {
@@ -228,7 +236,11 @@ fn look_separated<R: Threads + Sync>(rt: &R, alloc: Global, node: &Node<'_>) -> 
 }
 
 // The cases of a matrix without two-separation and without cycle fault.
-fn look_faultless<R: Threads + Sync>(rt: &R, alloc: Global, node: &Node<'_>) -> Result<Seen, Memory>
+fn look_faultless<R: Threads + Sync>(
+    rt: &R,
+    alloc: Global,
+    node: &NodeView<'_>,
+) -> Result<Seen, Memory>
     requires none { HasNoCaseBefore IsThreeSum node.now }
     requires faultless { HasNoCycleFault (entry (inner_of node.now)) }
     ensures { IfOk result (IsSeenAt node.now) }
@@ -240,7 +252,7 @@ fn look_faultless<R: Threads + Sync>(rt: &R, alloc: Global, node: &Node<'_>) -> 
 }
 
 // A two-separation, and the lines of the children.
-fn seen_two(alloc: Global, node: &Node<'_>, found: &Two) -> Result<Seen, Memory>
+fn seen_two(alloc: Global, node: &NodeView<'_>, found: &Two) -> Result<Seen, Memory>
     requires none { HasNoCaseBefore IsTwoSum node.now }
     requires found { IsFirstTwoSeparation (inner_of node.now) found.now }
     ensures { IfOk result (IsSeenAt node.now) }
@@ -252,7 +264,7 @@ fn seen_two(alloc: Global, node: &Node<'_>, found: &Two) -> Result<Seen, Memory>
 }
 
 // A three-separation, and the lines of the children.
-fn seen_three(alloc: Global, node: &Node<'_>, found: &Three) -> Result<Seen, Memory>
+fn seen_three(alloc: Global, node: &NodeView<'_>, found: &Three) -> Result<Seen, Memory>
     requires none { HasNoCaseBefore IsThreeSum node.now }
     requires faultless { HasNoCycleFault (entry (inner_of node.now)) }
     requires found { IsFirstThreeSeparation (inner_of node.now) found.now }
@@ -265,7 +277,7 @@ fn seen_three(alloc: Global, node: &Node<'_>, found: &Three) -> Result<Seen, Mem
 }
 
 // The cases of a matrix without separation.
-fn look_last<R: Threads + Sync>(rt: &R, alloc: Global, node: &Node<'_>) -> Result<Seen, Memory>
+fn look_last<R: Threads + Sync>(rt: &R, alloc: Global, node: &NodeView<'_>) -> Result<Seen, Memory>
     requires none { HasNoCaseBefore IsShort node.now }
     requires faultless { HasNoCycleFault (entry (inner_of node.now)) }
     ensures { IfOk result (IsSeenAt node.now) }
@@ -274,8 +286,8 @@ fn look_last<R: Threads + Sync>(rt: &R, alloc: Global, node: &Node<'_>) -> Resul
         rt,
         alloc,
         node.inner,
-        node.budget.limit(),
-        node.budget.workers(),
+        node.limits.limit(),
+        node.limits.workers(),
     )? {
         LeastSubmatrix::Found(found) => Finding::Violator(named_set(alloc, node.lines, &found)?),
         LeastSubmatrix::Clean => Finding::Enumerated,

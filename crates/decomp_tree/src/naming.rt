@@ -2,7 +2,7 @@
 ghost use Rattle.std.specs.Prelude.{◌≡◌, ◌<◌, length, map, IfOk};
 ghost use Rattle.std.specs.List.{AllByRecursion};
 ghost use Rattle.cmr_base.specs.LineSets.{AllBelow};
-ghost use Rattle.decomp_tree.specs.Shapes.{numbered, line_in, set_in, connector_in, two_in, three_in};
+ghost use Rattle.decomp_tree.specs.Shapes.{numbered, numbered_line, set_in, connector_in, two_in, three_in};
 ghost use Rattle.decomp_tree.specs.Seen.{IsPlace, IsPlacedSet, IsPlacedConnector};
 ghost use Rattle.cmr_base.specs.Separations.{first_is_flat, second_is_flat};
 
@@ -49,7 +49,7 @@ pub fn named_parts(alloc: Global, lines: &LineSet, parts: &[LineSet]) -> Result<
 
 fn named_line(lines: &LineSet, line: Line) -> Line
     requires { IsPlace lines.now line }
-    ensures { result ≡ line_in lines.now line }
+    ensures { result ≡ numbered_line lines.now line }
 {
     match line {
         Line::Row(row) => Line::Row(*lines.rows.get(row as usize)),
@@ -60,7 +60,7 @@ fn named_line(lines: &LineSet, line: Line) -> Line
 /// The lines of some removals, in their order.
 pub fn named_steps(alloc: Global, lines: &LineSet, steps: &[Step]) -> Result<LineList, Memory>
     requires { AllByRecursion (λ step. IsPlace lines.now step.line) steps.now }
-    ensures { IfOk result (λ named. named ≡ map (line_in lines.now)
+    ensures { IfOk result (λ named. named ≡ map (numbered_line lines.now)
         (map (λ step. step.line) steps.now)) }
 {
     let mut named = LineList::new(alloc);

@@ -8,9 +8,9 @@ ghost use Rattle.decomp_tree.specs.PivotedShapes.{IsBehind, IsDrawnWith, IsFound
 ghost use Rattle.decomp_tree.specs.Refined.{is_undecided};
 ghost use Rattle.decomp_tree.specs.Sketches.{IsDrafted, lines_of_sketch, sketch_of};
 
-use crate::budget::Budget;
 use crate::drafts::{Draft, Front, draft_root};
 use crate::faults::late_fault;
+use crate::search_limits::SearchLimits;
 use crate::taking_back::{leaf, taken_back};
 use cmr_base::{LineSet, Matrix, Memory, RowsAndColumns};
 use pivots::{PivotedPart, drawn_place, pivot_part};
@@ -26,7 +26,7 @@ pub fn draw_root<R: Threads + Sync>(
     alloc: Global,
     matrix: &Matrix,
     lines: &LineSet,
-    budget: Budget,
+    limits: SearchLimits,
     pivots: u32,
     state: u32,
 ) -> Result<Node, Memory>
@@ -34,13 +34,13 @@ pub fn draw_root<R: Threads + Sync>(
     requires shape { IsMatrix matrix.now }
     requires lines { AreLines matrix.now lines.now }
     ensures { IfOk result (λ node.
-        IsDrawnWith budget.limit pivots state matrix.now lines.now (tree_of node)) }
+        IsDrawnWith limits.limit pivots state matrix.now lines.now (tree_of node)) }
 {
     let columns = matrix.transposed(alloc)?;
     let both = RowsAndColumns::of(matrix, &columns);
-    let drawn = draft_root(rt, alloc, &both, lines, budget)?;
+    let drawn = draft_root(rt, alloc, &both, lines, limits)?;
     let mut roots = Vec::new(alloc);
-    settle(rt, alloc, &both, drawn, budget, pivots, state, &mut roots)?;
+    settle(rt, alloc, &both, drawn, limits, pivots, state, &mut roots)?;
     let Some(root) = roots.pop() else {
         unreachable!()
     };
@@ -56,7 +56,7 @@ fn settle<R: Threads + Sync>(
     alloc: Global,
     matrix: &RowsAndColumns<'_>,
     drawn: Draft,
-    budget: Budget,
+    limits: SearchLimits,
     pivots: u32,
     state: u32,
     nodes: &mut Vec<Node>,
@@ -64,9 +64,9 @@ fn settle<R: Threads + Sync>(
     requires state { state < 2 ^ 31 }
     requires shape { IsMatrix matrix.now }
     requires lines { AreLines matrix.now (lines_of_sketch (sketch_of drawn)) }
-    requires drafted { IsDrafted budget.limit matrix.now (sketch_of drawn) }
+    requires drafted { IsDrafted limits.limit matrix.now (sketch_of drawn) }
     ensures { OnOk result (IsBehind
-        (IsDrawnWith budget.limit pivots state matrix.now (lines_of_sketch (sketch_of drawn)))
+        (IsDrawnWith limits.limit pivots state matrix.now (lines_of_sketch (sketch_of drawn)))
         (map tree_of nodes.old.items)
         (map tree_of nodes.new.items)) }
 {
@@ -77,7 +77,7 @@ fn settle<R: Threads + Sync>(
     }
     if is_undecided(&front.finding) {
         let whole = matrix.by_rows();
-        let found = find(rt, alloc, whole, &front.lines, budget, pivots, state)?;
+        let found = find(rt, alloc, whole, &front.lines, limits, pivots, state)?;
         nodes.push(found)?;
         return Ok(());
     }
@@ -88,7 +88,7 @@ fn settle<R: Threads + Sync>(
             alloc,
             matrix,
             child,
-            budget,
+            limits,
             pivots,
             state,
             &mut children,
@@ -111,7 +111,7 @@ fn find<R: Threads + Sync>(
     alloc: Global,
     matrix: &Matrix,
     lines: &LineSet,
-    budget: Budget,
+    limits: SearchLimits,
     pivots: u32,
     state: u32,
 ) -> Result<Node, Memory>
@@ -119,7 +119,7 @@ fn find<R: Threads + Sync>(
     requires shape { IsMatrix matrix.now }
     requires lines { AreLines matrix.now lines.now }
     ensures { IfOk result (λ node.
-        IsFound budget.limit pivots state matrix.now lines.now (tree_of node)) }
+        IsFound limits.limit pivots state matrix.now lines.now (tree_of node)) }
 {
     if pivots == 0 {
         return leaf(alloc, lines, Finding::Undecided);
@@ -130,7 +130,7 @@ fn find<R: Threads + Sync>(
     match pivot_part(alloc, matrix, lines, drawn.place)? {
         PivotedPart::Violated(fault) => leaf(alloc, lines, Finding::Violator(fault)),
         PivotedPart::Ternary(after) => {
-            let tree = draw_root(rt, alloc, &after, lines, budget, pivots - 1, drawn.state)?;
+            let tree = draw_root(rt, alloc, &after, lines, limits, pivots - 1, drawn.state)?;
             taken_back(alloc, matrix, lines, drawn.place, tree)
         }
     }

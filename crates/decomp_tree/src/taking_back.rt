@@ -5,7 +5,7 @@ ghost use Rattle.tree_type.specs.Trees.{Branch, NoTrees, Pivoted, one_tree, tree
 ghost use Rattle.tree_type.specs.Invariant.{AreLines, HasChildren};
 ghost use Rattle.tree_type.specs.Findings.{finding_shown};
 ghost use Rattle.tree_type.specs.Verdicts.{verdict_of};
-ghost use Rattle.decomp_tree.specs.PivotedShapes.{IsTakenBack, HasFaultAmong};
+ghost use Rattle.decomp_tree.specs.PivotedShapes.{IsToldBeforePivot, HasFaultAmong};
 
 use cmr_base::{LineSet, Matrix, Memory};
 use pivots::{PivotPlace, violator_before_part};
@@ -24,7 +24,7 @@ pub fn taken_back(
     requires lines { AreLines matrix.now lines.now }
     requires place { IsPlaceIn matrix.now lines.now place }
     requires fault { HasFaultAmong lines.now (verdict_of (tree_of after)) }
-    ensures { IfOk result (λ node. IsTakenBack matrix.now lines.now place (tree_of after)
+    ensures { IfOk result (λ node. IsToldBeforePivot matrix.now lines.now place (tree_of after)
         (verdict_of (tree_of after)) (tree_of node)) }
 {
     let before = match verdict_at(&after) {

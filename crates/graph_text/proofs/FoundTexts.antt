@@ -14,37 +14,37 @@ use Rattle.graph_text.specs.declared.edges.Edge.{Edge}
 use Rattle.graph_text.specs.declared.edges.Edges.{Edges}
 use Rattle.graph_text.specs.declared.edges.Element.{Element}
 use Rattle.graph_text.specs.declared.edges.Element.TheVariants.{Row, Column}
-use Rattle.graph_text.specs.declared.edges.Node.{Node}
+use Rattle.graph_text.specs.declared.edges.NodeWord.{NodeWord}
 use Rattle.graph_text.specs.declared.error.GraphKind.{GraphKind}
 use Rattle.graph_text.specs.declared.error.GraphKind.TheVariants.{BadElement, TooManyRows, TooManyColumns, Short, OutOfRange}
 use Rattle.graph_text.specs.declared.read.SizedNetwork.{SizedNetwork}
 use Rattle.graph_text.specs.GraphKinds.{graph_kind}
-use Rattle.graph_text.specs.GraphTexts.{row_letter, column_letter, line_name, SpellEdges, IsGraphText}
+use Rattle.graph_text.specs.GraphTexts.{row_letter, column_letter, lettered_name, SpellEdges, IsGraphText}
 use Rattle.graph_text.specs.Reading.{all_within, edges_from, element_in, ends, network_in, no_edges, node_at, node_within, number_in, sized, with_edge}
 
 placed_ok : {A : Type 0} (place : ℕ) (r : Result A GraphKind) (x : A) → placed place r ≡ Ok x → r ≡ Ok x
 placed_ok place (Ok y) x h = ap Ok (ok_same y x h)
 placed_ok place (Err kind) x h = absurd (cc)
 
-node_ok : (word : ℕ × List ℕ) (node : Node) → node_at word ≡ Ok node → count_in word.1 ≡ Ok node.number
+node_ok : (word : ℕ × List ℕ) (node : NodeWord) → node_at word ≡ Ok node → count_in word.1 ≡ Ok node.number
 node_ok word node h =
     let b = bind_ok (placed word.0 (number_in word.1)) (λ (number : ℕ). Ok (record { number = number; place = word.0 })) node h in
-    let made : Node = record { number = b.0; place = word.0 } in
-    renamed_ok graph_kind (count_in word.1) b.0 (placed_ok word.0 (number_in word.1) b.0 b.1) ∙ ap (λ (n : Node). Ok n.number) (ok_same made node b.2)
+    let made : NodeWord = record { number = b.0; place = word.0 } in
+    renamed_ok graph_kind (count_in word.1) b.0 (placed_ok word.0 (number_in word.1) b.0 b.1) ∙ ap (λ (n : NodeWord). Ok n.number) (ok_same made node b.2)
 
 -- the name is that of the next line
 abbrev IsNext : Edges → List ℕ → Element → Type 0
-IsNext edges name Row = (length edges.columns ≡ 0) × (name ≡ line_name row_letter (length edges.rows)) × (length edges.rows < 1000)
-IsNext edges name Column = (name ≡ line_name column_letter (length edges.columns)) × (length edges.columns < 1000)
+IsNext edges name Row = (length edges.columns ≡ 0) × (name ≡ lettered_name row_letter (length edges.rows)) × (length edges.rows < 1000)
+IsNext edges name Column = (name ≡ lettered_name column_letter (length edges.columns)) × (length edges.columns < 1000)
 
 element_ok : (edges : Edges) (name : List ℕ) (element : Element) → element_in edges name ≡ Ok element → IsNext edges name element
 element_ok edges name element h = go (eqb (length edges.columns) 0) (bytes_eq name row) (ltb (length edges.rows) 1000) (bytes_eq name column) (ltb (length edges.columns) 1000) refl refl refl refl refl h
   where
     row : List ℕ
-    row = line_name row_letter (length edges.rows)
+    row = lettered_name row_letter (length edges.rows)
 
     column : List ℕ
-    column = line_name column_letter (length edges.columns)
+    column = lettered_name column_letter (length edges.columns)
 
     is_column : bytes_eq name column ≡ true → ltb (length edges.columns) 1000 ≡ true → IsNext edges name Column
     is_column named few = ((bytes_eq-Decides name column).0 named, (Decides-ltb (length edges.columns) 1000).0 few)
@@ -131,24 +131,24 @@ found_edges size edges [] total rows columns h =
       late = λ l. (refl, refl);
     }
 found_edges size edges (a ∷ []) total rows columns h =
-    let f = bind_ok (node_at a) (λ (_ : Node). Err (Short, size)) total h in
+    let f = bind_ok (node_at a) (λ (_ : NodeWord). Err (Short, size)) total h in
     let none : ◌≡◌ {A = Result Edges (Fault GraphKind)} (Err (Short, size)) (Ok total) = f.2 in
     absurd (cc)
 found_edges size edges (a ∷ b ∷ []) total rows columns h =
-    let f = bind_ok (node_at a) (λ (_ : Node). node_at b >>= λ (_ : Node). Err (Short, size)) total h in
-    let g = bind_ok (node_at b) (λ (_ : Node). Err (Short, size)) total f.2 in
+    let f = bind_ok (node_at a) (λ (_ : NodeWord). node_at b >>= λ (_ : NodeWord). Err (Short, size)) total h in
+    let g = bind_ok (node_at b) (λ (_ : NodeWord). Err (Short, size)) total f.2 in
     let none : ◌≡◌ {A = Result Edges (Fault GraphKind)} (Err (Short, size)) (Ok total) = g.2 in
     absurd (cc)
 found_edges size edges (a ∷ b ∷ c ∷ words) total rows columns h =
-    let f = bind_ok (node_at a) (λ (first : Node). node_at b >>= λ (last : Node). placed c.0 (element_in edges c.1) >>= λ (e : Element). edges_from size (with_edge edges e (record { tail = first; head = last })) words) total h in
-    let g = bind_ok (node_at b) (λ (last : Node). placed c.0 (element_in edges c.1) >>= λ (e : Element). edges_from size (with_edge edges e (record { tail = f.0; head = last })) words) total f.2 in
+    let f = bind_ok (node_at a) (λ (first : NodeWord). node_at b >>= λ (last : NodeWord). placed c.0 (element_in edges c.1) >>= λ (e : Element). edges_from size (with_edge edges e (record { tail = first; head = last })) words) total h in
+    let g = bind_ok (node_at b) (λ (last : NodeWord). placed c.0 (element_in edges c.1) >>= λ (e : Element). edges_from size (with_edge edges e (record { tail = f.0; head = last })) words) total f.2 in
     let e = bind_ok (placed c.0 (element_in edges c.1)) (λ (e : Element). edges_from size (with_edge edges e (record { tail = f.0; head = g.0 })) words) total g.2 in
     let edge : Edge = record { tail = f.0; head = g.0 } in
     let next = element_ok edges c.1 e.0 (placed_ok c.0 (element_in edges c.1) e.0 e.1) in
     let few = still_few edges c.1 e.0 edge rows columns next in
     one_found edges total a b c words edge e.0 (node_ok a f.0 f.1) (node_ok b g.0 g.1) next (found_edges size (with_edge edges e.0 edge) words total few.0 few.1 e.2)
 
-node_in : (last : ℕ) (node : Node) (x : Unit {0}) → node_within last node ≡ Ok x → node.number ≤ last
+node_in : (last : ℕ) (node : NodeWord) (x : Unit {0}) → node_within last node ≡ Ok x → node.number ≤ last
 node_in last node x h = let t = (guard_ok (leb node.number last) tt x (OutOfRange, node.place) h).0 in grind (arith, nat_tests)
 
 nodes_in : (last : ℕ) (edges : List Edge) (x : Unit {0}) → all_within last edges ≡ Ok x → (k : ℕ) → k < length edges → (tail (map ends edges) k ≤ last) × (head (map ends edges) k ≤ last)

@@ -14,10 +14,10 @@ use Rattle.graph_text.specs.declared.edges.Edge.{Edge}
 use Rattle.graph_text.specs.declared.edges.Edges.{Edges}
 use Rattle.graph_text.specs.declared.edges.Element.{Element}
 use Rattle.graph_text.specs.declared.edges.Element.TheVariants.{Row, Column}
-use Rattle.graph_text.specs.declared.edges.Node.{Node}
+use Rattle.graph_text.specs.declared.edges.NodeWord.{NodeWord}
 use Rattle.graph_text.specs.declared.error.GraphKind.{GraphKind}
 use Rattle.graph_text.specs.declared.read.SizedNetwork.{SizedNetwork}
-use Rattle.graph_text.specs.GraphTexts.{row_letter, column_letter, line_name, SpellEdges, IsGraphText}
+use Rattle.graph_text.specs.GraphTexts.{row_letter, column_letter, lettered_name, SpellEdges, IsGraphText}
 use Rattle.graph_text.specs.Reading.{all_within, edges_from, element_in, ends, IsGraph, network_in, no_edges, node_at, sized, with_edge}
 
 -- the edges of one sort
@@ -38,11 +38,11 @@ abbrev pub with_edges : Edges → Element → List Edge → Edges
 with_edges edges Row more = record { rows = edges.rows ++ more; columns = edges.columns }
 with_edges edges Column more = record { rows = edges.rows; columns = edges.columns ++ more }
 
-name_same : (letter line : ℕ) → bytes_eq (line_name letter line) (line_name letter line) ≡ true
-name_same letter line = (bytes_eq-Decides (line_name letter line) (line_name letter line)).1 refl
+name_same : (letter line : ℕ) → bytes_eq (lettered_name letter line) (lettered_name letter line) ≡ true
+name_same letter line = (bytes_eq-Decides (lettered_name letter line) (lettered_name letter line)).1 refl
 
 -- the name of the next line is known
-element_again : (element : Element) (edges : Edges) → MayCome element edges → count_of element edges < 1000 → element_in edges (line_name (letter_of element) (count_of element edges)) ≡ Ok element
+element_again : (element : Element) (edges : Edges) → MayCome element edges → count_of element edges < 1000 → element_in edges (lettered_name (letter_of element) (count_of element edges)) ≡ Ok element
 element_again Row edges none few =
     let below : ltb (length edges.rows) 1000 ≡ true = (Decides-ltb (length edges.rows) 1000).1 few in
     rw (none, name_same row_letter (length edges.rows), below) refl
@@ -51,7 +51,7 @@ element_again Column edges may few = go (eqb (length edges.columns) 0) refl
     below : ltb (length edges.columns) 1000 ≡ true
     below = (Decides-ltb (length edges.columns) 1000).1 few
 
-    go : (t : Bool) → eqb (length edges.columns) 0 ≡ t → element_in edges (line_name column_letter (length edges.columns)) ≡ Ok Column
+    go : (t : Bool) → eqb (length edges.columns) 0 ≡ t → element_in edges (lettered_name column_letter (length edges.columns)) ≡ Ok Column
     go true is = rw (is, name_same column_letter (length edges.columns), below) refl
     go false is = rw (is, name_same column_letter (length edges.columns), below) refl
 
@@ -93,8 +93,8 @@ spelled_read element size edges (pair ∷ pairs) (a ∷ b ∷ c ∷ words) later
     let first : node_at a ≡ Ok edge.tail = rw spell.0 refl in
     let last : node_at b ≡ Ok edge.head = rw spell.1 refl in
     let one : edges_from size edges ((a ∷ b ∷ c ∷ words) ++ later) ≡ edges_from size next (words ++ later) =
-    ap (λ (r : Result Node (Fault GraphKind)). r >>= λ (f : Node). node_at b >>= λ (l : Node). placed c.0 (element_in edges c.1) >>= λ (e : Element). edges_from size (with_edge edges e (record { tail = f; head = l })) (words ++ later)) first
-    ∙ ap (λ (r : Result Node (Fault GraphKind)). r >>= λ (l : Node). placed c.0 (element_in edges c.1) >>= λ (e : Element). edges_from size (with_edge edges e (record { tail = edge.tail; head = l })) (words ++ later)) last
+    ap (λ (r : Result NodeWord (Fault GraphKind)). r >>= λ (f : NodeWord). node_at b >>= λ (l : NodeWord). placed c.0 (element_in edges c.1) >>= λ (e : Element). edges_from size (with_edge edges e (record { tail = f; head = l })) (words ++ later)) first
+    ∙ ap (λ (r : Result NodeWord (Fault GraphKind)). r >>= λ (l : NodeWord). placed c.0 (element_in edges c.1) >>= λ (e : Element). edges_from size (with_edge edges e (record { tail = edge.tail; head = l })) (words ++ later)) last
     ∙ ap (λ (r : Result Element GraphKind). placed c.0 r >>= λ (e : Element). edges_from size (with_edge edges e edge) (words ++ later)) named in
     let others = spelled_read element size next pairs words later (still edges element edge may) (omega (arith, more_count, few))
     (subst (λ (k : ℕ). SpellEdges (letter_of element) k (texts_of words) pairs) (sym more_count) spell.3) in

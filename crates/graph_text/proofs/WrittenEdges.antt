@@ -13,7 +13,7 @@ use Rattle.text_fields.specs.Written.{text_line, text_of_lines}
 use Rattle.text_fields.proofs.LineWords.{IsWord, words_of_lines, words_in_lines}
 use Rattle.text_fields.proofs.Decimals.{count_of_decimal, decimal_word}
 use Rattle.graph_text.specs.declared.read.SizedNetwork.{SizedNetwork}
-use Rattle.graph_text.specs.GraphTexts.{row_letter, column_letter, line_name, SpellEdges, IsGraphText, edge_words, edge_lines, graph_text}
+use Rattle.graph_text.specs.GraphTexts.{row_letter, column_letter, lettered_name, SpellEdges, IsGraphText, edge_words, edge_lines, graph_text}
 
 -- ---- one edge more
 
@@ -54,7 +54,7 @@ small_pairs last (edge ∷ edges) few each =
 lettered : (letter : ℕ) (digits : List ℕ) → is_space letter ≡ false → IsWord digits → IsWord (letter ∷ digits)
 lettered letter digits solid is = record { first = letter; others = digits; word_is = refl; solid = (solid, is.solid) }
 
-name_word : (letter line : ℕ) → is_space letter ≡ false → line < 2 ^ 63 → IsWord (line_name letter line)
+name_word : (letter line : ℕ) → is_space letter ≡ false → line < 2 ^ 63 → IsWord (lettered_name letter line)
 name_word letter line solid few = lettered letter (decimal (line + 1)) solid (decimal_word (line + 1) (omega (arith, few)))
 
 edges_words : (letter line : ℕ) (edges : List Pair) → is_space letter ≡ false → line + length edges ≤ 1000 → AreSmall edges → AllByRecursion (AllByRecursion IsWord) (edge_lines letter line edges)

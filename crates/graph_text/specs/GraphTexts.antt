@@ -16,14 +16,14 @@ abbrev pub column_letter : ℕ
 column_letter = 99
 
 -- the letter, and the number of a line, counted from 1
-abbrev pub line_name : ℕ → ℕ → List ℕ
-line_name letter line = letter ∷ decimal (line + 1)
+abbrev pub lettered_name : ℕ → ℕ → List ℕ
+lettered_name letter line = letter ∷ decimal (line + 1)
 
 -- each three words stand for an edge: two counts, and the name of the next line
 abbrev pub SpellEdges : ℕ → ℕ → List (List ℕ) → List Pair → Type 0
 SpellEdges letter line [] [] = Unit {0}
 SpellEdges letter line (tail ∷ head ∷ name ∷ words) (edge ∷ edges) =
-    (count_in tail ≡ Ok edge.tail) × (count_in head ≡ Ok edge.head) × (name ≡ line_name letter line) × SpellEdges letter (line + 1) words edges
+    (count_in tail ≡ Ok edge.tail) × (count_in head ≡ Ok edge.head) × (name ≡ lettered_name letter line) × SpellEdges letter (line + 1) words edges
 SpellEdges letter line _ _ = ⊥
 
 -- These words are a text of a tree and walks in it: the arcs of the rows, and then the walks of the columns.
@@ -40,7 +40,7 @@ pub record IsGraphText (words : List (List ℕ)) (sized : SizedNetwork) : Type 0
 -- ---- canonical texts
 
 abbrev pub edge_words : ℕ → ℕ → Pair → List (List ℕ)
-edge_words letter line edge = decimal edge.tail ∷ decimal edge.head ∷ line_name letter line ∷ []
+edge_words letter line edge = decimal edge.tail ∷ decimal edge.head ∷ lettered_name letter line ∷ []
 
 -- a line for each edge, from a number on
 abbrev pub edge_lines : ℕ → ℕ → List Pair → List (List (List ℕ))

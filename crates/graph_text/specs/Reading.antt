@@ -13,18 +13,18 @@ use Rattle.graph_text.specs.declared.edges.Edge.{Edge}
 use Rattle.graph_text.specs.declared.edges.Edges.{Edges}
 use Rattle.graph_text.specs.declared.edges.Element.{Element}
 use Rattle.graph_text.specs.declared.edges.Element.TheVariants.{Row, Column}
-use Rattle.graph_text.specs.declared.edges.Node.{Node}
+use Rattle.graph_text.specs.declared.edges.NodeWord.{NodeWord}
 use Rattle.graph_text.specs.declared.error.GraphKind.{GraphKind}
 use Rattle.graph_text.specs.declared.error.GraphKind.TheVariants.{BadElement, TooManyRows, TooManyColumns, Short, OutOfRange, NotTree}
 use Rattle.graph_text.specs.declared.read.SizedNetwork.{SizedNetwork}
 use Rattle.graph_text.specs.GraphKinds.{graph_kind}
-use Rattle.graph_text.specs.GraphTexts.{row_letter, column_letter, line_name}
+use Rattle.graph_text.specs.GraphTexts.{row_letter, column_letter, lettered_name}
 
 abbrev pub number_in : List ℕ → Result ℕ GraphKind
 number_in word = renamed graph_kind (count_in word)
 
 -- the node of a word, with the word's place
-abbrev pub node_at : ℕ × List ℕ → Result Node (Fault GraphKind)
+abbrev pub node_at : ℕ × List ℕ → Result NodeWord (Fault GraphKind)
 node_at word = do
   number ← placed word.0 (number_in word.1)
   Ok (record { number = number; place = word.0 })
@@ -32,9 +32,9 @@ node_at word = do
 -- The line that a word names: the next row, where there is no column yet, or the next column.
 abbrev pub element_in : Edges → List ℕ → Result Element GraphKind
 element_in edges name =
-    if (length edges.columns == 0) && bytes_eq name (line_name row_letter (length edges.rows))
+    if (length edges.columns == 0) && bytes_eq name (lettered_name row_letter (length edges.rows))
     then (if nat_lt (length edges.rows) MAX_ROWS then Ok Row else Err TooManyRows)
-    else (if bytes_eq name (line_name column_letter (length edges.columns))
+    else (if bytes_eq name (lettered_name column_letter (length edges.columns))
     then (if nat_lt (length edges.columns) MAX_COLUMNS then Ok Column else Err TooManyColumns)
     else Err BadElement)
 
@@ -62,20 +62,20 @@ edges_from size edges (tail ∷ head ∷ name ∷ words) = do
   edges_from size (with_edge edges element (record { tail = first; head = last })) words
 
 -- the next word's node
-abbrev pub next_node : Text → Result (Node × Text) (Fault GraphKind)
+abbrev pub next_node : Text → Result (NodeWord × Text) (Fault GraphKind)
 next_node text = do
   word ← due Short text
   node ← node_at word.0
   Ok (node, word.1)
 
 -- what the words behind the first node of an edge give: what it stands for, and the edge
-abbrev pub edge_behind : Edges → Node → Text → Result ((Element × Edge) × Text) (Fault GraphKind)
+abbrev pub edge_behind : Edges → NodeWord → Text → Result ((Element × Edge) × Text) (Fault GraphKind)
 edge_behind edges tail text = do
   head ← next_node text
   element ← field Short (element_in edges) head.1
   Ok ((element.0, record { tail = tail; head = head.0 }), element.1)
 
-abbrev pub node_within : ℕ → Node → Result (Unit {0}) (Fault GraphKind)
+abbrev pub node_within : ℕ → NodeWord → Result (Unit {0}) (Fault GraphKind)
 node_within last node = if nat_le node.number last then Ok tt else Err (OutOfRange, node.place)
 
 -- the first node above a number is at fault

@@ -7,7 +7,7 @@ use std::alloc::Global;
 
 /// A node, and the byte at which its word begins.
 #[derive(Clone, Copy, Debug)]
-pub struct Node {
+pub struct NodeWord {
     pub number: u32,
     pub place: usize,
 }
@@ -15,8 +15,8 @@ pub struct Node {
 /// The ends of an edge.
 #[derive(Clone, Copy, Debug)]
 pub struct Edge {
-    pub tail: Node,
-    pub head: Node,
+    pub tail: NodeWord,
+    pub head: NodeWord,
 }
 
 /// What an edge stands for.

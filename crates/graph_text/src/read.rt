@@ -4,12 +4,12 @@ ghost use Rattle.cmr_base.specs.Trees.{IsNetworkOf};
 ghost use Rattle.text_fields.specs.Reading.{Gives, Reads, field};
 ghost use Rattle.text_fields.specs.Spelling.{words_in};
 ghost use Rattle.text_fields.specs.Words.{text_of};
-ghost use Rattle.graph_text.specs.GraphTexts.{IsGraphText, line_name};
+ghost use Rattle.graph_text.specs.GraphTexts.{IsGraphText, lettered_name};
 ghost use Rattle.graph_text.specs.Reading.{IsReading, all_within, edge_behind, edges_from, element_in, ends, network_in, next_node, no_edges, node_at, node_within, number_in};
 ghost use Rattle.graph_text.specs.declared.edges.Element.TheVariants.{Row, Column};
 ghost use Rattle.graph_text.specs.declared.error.GraphKind.TheVariants.{Short};
 
-use crate::edges::{Edge, Edges, Element, Node};
+use crate::edges::{Edge, Edges, Element, NodeWord};
 use crate::error::{GraphError, GraphKind};
 use crate::write::{COLUMN, ROW};
 use cmr_base::{MAX_COLUMNS, MAX_ROWS, Memory, Network, PairList, is_tree};
@@ -84,7 +84,7 @@ fn all_within(edges: &[Edge], last: usize) -> Result<(), GraphError>
     Ok(())
 }
 
-fn node_within(node: Node, last: usize) -> Result<(), GraphError>
+fn node_within(node: NodeWord, last: usize) -> Result<(), GraphError>
     ensures { Gives (λ x. x) result (node_within last node) }
 {
     if node.number as usize <= last {
@@ -116,7 +116,7 @@ fn read_edges(alloc: Global, words: &mut Words<'_>) -> Result<Edges, GraphError>
 fn read_edge(
     words: &mut Words<'_>,
     edges: &Edges,
-    tail: Node,
+    tail: NodeWord,
 ) -> Result<(Element, Edge), GraphError>
     requires rows { length edges.now.rows ≤ MAX_ROWS }
     requires columns { length edges.now.columns ≤ MAX_COLUMNS }
@@ -130,18 +130,18 @@ fn read_edge(
     Ok((element, Edge { tail, head }))
 }
 
-fn next_node(words: &mut Words<'_>) -> Result<Node, GraphError>
+fn next_node(words: &mut Words<'_>) -> Result<NodeWord, GraphError>
     ensures { Reads (λ node. node) words.new result (next_node words.old) }
 {
     let (place, word) = words.due(GraphKind::Short)?;
     node_at(place, word)
 }
 
-fn node_at(place: usize, word: &[u8]) -> Result<Node, GraphError>
+fn node_at(place: usize, word: &[u8]) -> Result<NodeWord, GraphError>
     ensures { Gives (λ node. node) result (node_at (place, word.now)) }
 {
     let number = at_place(place, number_in(word))?;
-    Ok(Node { number, place })
+    Ok(NodeWord { number, place })
 }
 
 fn number_in(word: &[u8]) -> Result<u32, GraphKind>
@@ -193,7 +193,7 @@ fn element_in(word: &[u8], edges: &Edges) -> Result<Element, GraphKind>
 // Whether a word is the name of a line.
 fn is_named(word: &[u8], letter: u8, line: usize) -> bool
     requires { line ≤ MAX_ROWS }
-    ensures { result ≡ bytes_eq word.now (line_name letter line) }
+    ensures { result ≡ bytes_eq word.now (lettered_name letter line) }
 {
     let mut digits = Buffer::new();
     match word {

@@ -4,7 +4,7 @@ ghost use Rattle.std.specs.Fmt.{decimal};
 ghost use Rattle.cmr_base.specs.Trees.{IsNetworkOf};
 ghost use Rattle.text_fields.specs.Written.{text_line, text_of_lines};
 ghost use Rattle.text_fields.specs.Words.{text_of};
-ghost use Rattle.graph_text.specs.GraphTexts.{edge_lines, edge_words, graph_text, lettered_text, line_name, transposed_graph_text};
+ghost use Rattle.graph_text.specs.GraphTexts.{edge_lines, edge_words, graph_text, lettered_text, lettered_name, transposed_graph_text};
 ghost use Rattle.graph_text.specs.Reading.{IsGraph};
 
 use cmr_base::{MAX_COLUMNS, MAX_ROWS, Memory, Network, Pair, PairList};
@@ -85,7 +85,7 @@ fn push_end(text: &mut Vec<u8>, node: u32) -> Result<(), Memory>
 }
 
 fn push_name(text: &mut Vec<u8>, letter: u8, line: u32) -> Result<(), Memory>
-    ensures { OnOk result (text.new.items ≡ text.old.items ++ line_name letter line) }
+    ensures { OnOk result (text.new.items ≡ text.old.items ++ lettered_name letter line) }
 {
     let mut digits = Buffer::new();
     text.push(letter)?;

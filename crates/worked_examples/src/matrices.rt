@@ -55,7 +55,7 @@ fn sum(alloc: Global, text: &str, lines: Lines<'_>) -> Result<i32, Fail> {
     Ok(matrix.sum(&lines))
 }
 
-fn turned(alloc: Global, matrix: &Matrix) -> Result<Vec<u8>, Fail> {
+fn transposed_text(alloc: Global, matrix: &Matrix) -> Result<Vec<u8>, Fail> {
     dense(alloc, &matrix.transposed(alloc)?)
 }
 
@@ -64,10 +64,10 @@ fn parts(rt: HostRuntime) -> Result<(), Fail> {
     let alloc = rt.alloc();
     let row = part(alloc, "2 2/1 1/1 -1/", (&[1], &[0, 1]))?;
     is_text(&rt, &dense(alloc, &row)?, "1 2/1 -1/")?;
-    is_text(&rt, &turned(alloc, &row)?, "2 1/1/-1/")?;
+    is_text(&rt, &transposed_text(alloc, &row)?, "2 1/1/-1/")?;
     let corner = part(alloc, "3 3/1 0 1/0 -1 -1/0 0 -1/", (&[0, 1], &[1, 2]))?;
     is_text(&rt, &dense(alloc, &corner)?, "2 2/0 1/-1 -1/")?;
-    is_text(&rt, &turned(alloc, &corner)?, "2 2/0 -1/1 -1/")
+    is_text(&rt, &transposed_text(alloc, &corner)?, "2 2/0 -1/1 -1/")
 }
 
 #[test]

@@ -12,7 +12,7 @@ ghost use Rattle.cmr_front.specs.Tool.{HasOneReport, IsDecision};
 ghost use Rattle.cmr_front.specs.Words.Reading.{Gives};
 ghost use Rattle.cmr_front.specs.declared.outcome.FaultKind.TheVariants as faults;
 ghost use Rattle.cmr_front.specs.declared.status.Answer.{Answer};
-ghost use Rattle.cmr_reach.specs.RowSet.{lines_in};
+ghost use Rattle.cmr_reach.specs.RowSet.{set_of_text};
 ghost use Rattle.cmr_reach.specs.Sign.{IsAnswerFor, SignDecides, SignReports, sign_app, sign_lines, sign_mark, sign_order, sign_order_in, sign_order_of, sign_report, sign_tool, signed_report, step_lines, step_words, violated_report};
 
 use clap::{ArgMatches, Command};
@@ -136,7 +136,7 @@ fn decide_on_rows<'a>(
 ) -> Result<Outcome<'a>, Stop<'a>>
     ensures { IsDecision
         (ReportsText faults.Matrix file.entry.now (λ lines. SignDecides matrix.now lines.rows)
-        (lines_in matrix.now rows.now))
+        (set_of_text matrix.now rows.now))
         result }
 {
     let lines = read_submatrix_file(alloc, file, rows, matrix.rows(), matrix.columns())?;

@@ -7,7 +7,7 @@ ghost use Rattle.cmr_front.specs.Run.{Means, RunsOver, work};
 ghost use Rattle.cmr_front.specs.Status.{answer_status};
 ghost use Rattle.cmr_front.specs.Words.Reading.{Gives};
 ghost use Rattle.cmr_front.specs.declared.status.Answer.{Answer};
-ghost use Rattle.cmr_unimodular.specs.Generate.{GenerateDecides, IsInRange, generate_app, generate_order, generate_order_in, generate_order_of, generate_report, generate_tool, generate_verdict, kind_in, kind_word, most_size, number_in, size_in, summary_line};
+ghost use Rattle.cmr_unimodular.specs.Generate.{GenerateDecides, IsInRange, generate_app, generate_order, generate_order_in, generate_order_of, generate_report, generate_tool, generate_verdict, make_kind_in, kind_word, most_size, number_in, size_in, summary_line};
 ghost use Rattle.cmr_unimodular.specs.Verdict.{verdict_order_of};
 
 use crate::verdict::{VerdictOptions, give_verdict};
@@ -71,7 +71,7 @@ fn generate_command<'a>(alloc: Global) -> Result<Command<'a>, AllocError>
 }
 
 fn kind_in(matches: &ArgMatches<'_>) -> Result<MakeKind, WordsError>
-    ensures { Gives (λ kind. kind) result (kind_in (rows_of (found_of matches.now))) }
+    ensures { Gives (λ kind. kind) result (make_kind_in (rows_of (found_of matches.now))) }
 {
     match value_in(matches, KIND) {
         Some("network") => Ok(MakeKind::Network),

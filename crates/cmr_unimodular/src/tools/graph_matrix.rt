@@ -6,7 +6,7 @@ ghost use Rattle.cmr_front.specs.Outcome.{outcome_report};
 ghost use Rattle.cmr_front.specs.Tool.{IsDecision};
 ghost use Rattle.cmr_unimodular.specs.GraphMatrix.{GraphDecides, IsMatrixOf, graph_matrix_tool};
 
-use crate::tools::graphic_network::Property;
+use crate::tools::graphic_network::TestedProperty;
 use cmr_base::{MAX_COLUMNS, MAX_ROWS, Matrix, Memory};
 use cmr_front::graph_file::read_graph_file;
 use cmr_front::input::{Input, Text};
@@ -22,7 +22,7 @@ use std::thread::Threads;
 /// A graph text, and the property that its graph is to show of the matrix that is written.
 #[derive(Clone, Copy, Debug)]
 pub struct GraphMatrix<'a> {
-    pub property: Property,
+    pub property: TestedProperty,
     pub file: &'a str,
 }
 
@@ -45,7 +45,7 @@ impl<'a> Tool<'a> for GraphMatrix<'a> {
 
 fn matrix_of_text<'a>(
     alloc: Global,
-    property: Property,
+    property: TestedProperty,
     file: &'a str,
     bytes: &[u8],
 ) -> Result<Outcome<'a>, Stop<'a>>
@@ -57,7 +57,7 @@ fn matrix_of_text<'a>(
 
 fn written<'a>(
     alloc: Global,
-    property: Property,
+    property: TestedProperty,
     sized: &SizedNetwork,
 ) -> Result<Outcome<'a>, Memory>
     requires rows { sized.now.rows ≤ MAX_ROWS }
@@ -73,14 +73,18 @@ fn written<'a>(
     })
 }
 
-fn shown_matrix(alloc: Global, property: Property, sized: &SizedNetwork) -> Result<Matrix, Memory>
+fn shown_matrix(
+    alloc: Global,
+    property: TestedProperty,
+    sized: &SizedNetwork,
+) -> Result<Matrix, Memory>
     requires rows { sized.now.rows ≤ MAX_ROWS }
     requires columns { sized.now.columns ≤ MAX_COLUMNS }
     requires network { IsNetworkOf sized.now.net sized.now.rows sized.now.columns }
     ensures { IfOk result (IsMatrixOf property sized.now) }
 {
     match property {
-        Property::Graphic => matrix_of(alloc, &sized.net, sized.rows, sized.columns, false),
-        Property::Network => matrix_of(alloc, &sized.net, sized.rows, sized.columns, true),
+        TestedProperty::Graphic => matrix_of(alloc, &sized.net, sized.rows, sized.columns, false),
+        TestedProperty::Network => matrix_of(alloc, &sized.net, sized.rows, sized.columns, true),
     }
 }

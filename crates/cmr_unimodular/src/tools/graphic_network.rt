@@ -13,7 +13,7 @@ ghost use Rattle.cmr_front.specs.Words.Reading.{Gives};
 ghost use Rattle.cmr_front.specs.declared.status.Answer.{Answer};
 ghost use Rattle.cmr_unimodular.specs.GraphMatrix.{test_tool};
 ghost use Rattle.cmr_unimodular.specs.GraphicNetwork.{Has, IsTestable, Shows, TestDecides, is_binary, is_test_asked, path_tool, property_name, test_app, test_no, test_order, test_order_in, test_order_of, test_yes, tested_lines, tested_matrix, tool_name, written_graph};
-ghost use Rattle.cmr_unimodular.specs.declared.tools.graphic_network.Property.TheVariants as properties;
+ghost use Rattle.cmr_unimodular.specs.declared.tools.graphic_network.TestedProperty.TheVariants as properties;
 
 use crate::tools::graph_matrix::GraphMatrix;
 use clap::{ArgMatches, Command};
@@ -37,7 +37,7 @@ use std::thread::Threads;
 
 /// What `graphic` and `network` test.
 #[derive(Clone, Copy, Debug, PartialEq, Eq)]
-pub enum Property {
+pub enum TestedProperty {
     /// The matrix is 0/1, and its columns are paths of a tree.
     Graphic,
     /// The columns are directed paths of a tree.
@@ -61,16 +61,16 @@ pub struct TestOptions<'a> {
     pub file: &'a str,
 }
 
-fn tool_name<'a>(property: Property) -> &'a str
+fn tool_name<'a>(property: TestedProperty) -> &'a str
     ensures { result.now ≡ tool_name property }
 {
     match property {
-        Property::Graphic => "graphic",
-        Property::Network => "network",
+        TestedProperty::Graphic => "graphic",
+        TestedProperty::Network => "network",
     }
 }
 
-fn test_command<'a>(alloc: Global, property: Property) -> Result<Command<'a>, AllocError>
+fn test_command<'a>(alloc: Global, property: TestedProperty) -> Result<Command<'a>, AllocError>
     ensures { IfOk result (λ c. app_of c ≡ test_app property) }
 {
     let bare = arguments::bare_command(alloc, tool_name(property));
@@ -113,7 +113,7 @@ fn options_in<'a>(matches: &ArgMatches<'a>) -> Result<TestOptions<'a>, WordsErro
 /// `[-i FORMAT] [-t] [-N FILE] [-G FILE] [FILE]`, or `-c [FILE]`.
 pub fn read_test<'a>(
     alloc: Global,
-    property: Property,
+    property: TestedProperty,
     words: &'a [Word],
 ) -> Result<TestOptions<'a>, WordsError>
     ensures value { Gives test_order_of result (test_order property words.now) }
@@ -140,7 +140,7 @@ pub fn graphic<R: Threads + Sync, S: Shelf, O: Sink, E: Sink>(
         → Means (test_tool properties.Graphic (test_order_of options.now)) (S.content shelf.old)
         answer }
 {
-    test_property(rt, alloc, Property::Graphic, options, shelf, out, err)
+    test_property(rt, alloc, TestedProperty::Graphic, options, shelf, out, err)
 }
 
 /// Does what `run` does on the words of `network`, and answers the status.
@@ -159,14 +159,14 @@ pub fn network<R: Threads + Sync, S: Shelf, O: Sink, E: Sink>(
         → Means (test_tool properties.Network (test_order_of options.now)) (S.content shelf.old)
         answer }
 {
-    test_property(rt, alloc, Property::Network, options, shelf, out, err)
+    test_property(rt, alloc, TestedProperty::Network, options, shelf, out, err)
 }
 
 /// Does what `run` does on the words of the tool that tests a property, and answers the status.
 pub fn test_property<R: Threads + Sync, S: Shelf, O: Sink, E: Sink>(
     rt: &R,
     alloc: Global,
-    property: Property,
+    property: TestedProperty,
     options: &TestOptions<'_>,
     shelf: &mut S,
     out: &mut O,
@@ -196,7 +196,7 @@ pub fn test_property<R: Threads + Sync, S: Shelf, O: Sink, E: Sink>(
 // The test of a property.
 #[derive(Clone, Copy, Debug)]
 struct PathTest<'a> {
-    property: Property,
+    property: TestedProperty,
     options: TestOptions<'a>,
 }
 
@@ -220,18 +220,18 @@ impl<'a> Tool<'a> for PathTest<'a> {
     }
 }
 
-fn is_binary(property: Property) -> bool
+fn is_binary(property: TestedProperty) -> bool
     ensures { result ≡ is_binary property }
 {
     match property {
-        Property::Graphic => true,
-        Property::Network => false,
+        TestedProperty::Graphic => true,
+        TestedProperty::Network => false,
     }
 }
 
 fn test<'a>(
     alloc: Global,
-    property: Property,
+    property: TestedProperty,
     options: &TestOptions<'a>,
     matrix: &Matrix,
 ) -> Result<Outcome<'a>, Memory>
@@ -249,7 +249,7 @@ fn test<'a>(
 
 fn decide<'a>(
     alloc: Global,
-    property: Property,
+    property: TestedProperty,
     options: &TestOptions<'a>,
     matrix: &Matrix,
     tested: &Matrix,
@@ -268,7 +268,7 @@ fn decide<'a>(
 
 fn find_network(
     alloc: Global,
-    property: Property,
+    property: TestedProperty,
     matrix: &Matrix,
 ) -> Result<Option<Network>, Memory>
     requires { IsTestable property matrix.now }
@@ -276,14 +276,14 @@ fn find_network(
         MatchOption found (¬ (Has property matrix.now)) (λ net. Shows property net matrix.now)) }
 {
     match property {
-        Property::Graphic => realise(alloc, matrix),
-        Property::Network => orient(alloc, matrix),
+        TestedProperty::Graphic => realise(alloc, matrix),
+        TestedProperty::Network => orient(alloc, matrix),
     }
 }
 
 fn yes<'a>(
     alloc: Global,
-    property: Property,
+    property: TestedProperty,
     options: &TestOptions<'a>,
     tested: &Matrix,
     network: &Network,
@@ -344,7 +344,7 @@ fn write_tested(
 
 fn no<'a>(
     alloc: Global,
-    property: Property,
+    property: TestedProperty,
     options: &TestOptions<'a>,
     matrix: &Matrix,
     minimal: &Option<LineSet>,
@@ -369,7 +369,7 @@ fn no<'a>(
 // The lines of the matrix that is given which make a minimal submatrix without the property.
 fn asked_minimal(
     alloc: Global,
-    property: Property,
+    property: TestedProperty,
     options: &TestOptions<'_>,
     tested: &Matrix,
 ) -> Result<Option<LineSet>, Memory>
@@ -390,7 +390,7 @@ fn asked_minimal(
 
 fn find_minimal(
     alloc: Global,
-    property: Property,
+    property: TestedProperty,
     matrix: &Matrix,
 ) -> Result<Option<LineSet>, Memory>
     requires testable { IsTestable property matrix.now }
@@ -398,8 +398,8 @@ fn find_minimal(
     ensures { IfOk result (λ found. IsSomeAnd found (IsMinimalSet (Has property) matrix.now)) }
 {
     match property {
-        Property::Graphic => minimal_not_graphic(alloc, matrix),
-        Property::Network => minimal_not_network(alloc, matrix),
+        TestedProperty::Graphic => minimal_not_graphic(alloc, matrix),
+        TestedProperty::Network => minimal_not_network(alloc, matrix),
     }
 }
 
@@ -417,13 +417,13 @@ fn given_lines(transposed: bool, lines: LineSet) -> LineSet
     }
 }
 
-fn property_name(property: Property, transposed: bool) -> &'static [u8]
+fn property_name(property: TestedProperty, transposed: bool) -> &'static [u8]
     ensures { result.now ≡ property_name property transposed }
 {
     match (property, transposed) {
-        (Property::Graphic, false) => b"graphic",
-        (Property::Graphic, true) => b"cographic",
-        (Property::Network, false) => b"network",
-        (Property::Network, true) => b"conetwork",
+        (TestedProperty::Graphic, false) => b"graphic",
+        (TestedProperty::Graphic, true) => b"cographic",
+        (TestedProperty::Network, false) => b"network",
+        (TestedProperty::Network, true) => b"conetwork",
     }
 }

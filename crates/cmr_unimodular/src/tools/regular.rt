@@ -13,7 +13,7 @@ ghost use Rattle.cmr_front.specs.Run.{Means, RunsOver, work};
 ghost use Rattle.cmr_front.specs.Status.{answer_status};
 ghost use Rattle.cmr_front.specs.Words.Reading.{Gives};
 ghost use Rattle.cmr_front.specs.declared.status.Answer.{Answer};
-ghost use Rattle.cmr_unimodular.specs.Regular.{HasLinesIn, IsSigned, RegularDecides, chain_file, chain_with, regular_app, regular_order, regular_order_in, regular_order_of, regular_report, regular_tool, regular_verdict};
+ghost use Rattle.cmr_unimodular.specs.Regular.{HasLinesIn, IsSignedTo, RegularDecides, chain_file, chain_with, regular_app, regular_order, regular_order_in, regular_order_of, regular_report, regular_tool, regular_verdict};
 ghost use Rattle.cmr_unimodular.specs.Verdict.{verdict_in, verdict_order_of, verdict_report};
 
 use crate::verdict::{VerdictOptions, decomposed, report_tree};
@@ -166,7 +166,7 @@ struct SignedMatrix {
 
 fn signing_of(alloc: Global, matrix: &Matrix) -> Result<SignedMatrix, Memory>
     requires { IsBinary matrix.now }
-    ensures signed { IfOk result (λ signing. IsSigned matrix.now signing.steps signing.signed) }
+    ensures signed { IfOk result (λ signing. IsSignedTo matrix.now signing.steps signing.signed) }
     ensures few { IfOk result (λ signing. length signing.steps
         ≤ height matrix.now * matrix.now.width) }
     ensures steps { IfOk result (λ signing.
@@ -202,7 +202,7 @@ fn with_signing<'a>(
     tree: &DecTree,
     told: Outcome<'a>,
 ) -> Result<Outcome<'a>, Memory>
-    requires signed { IsSigned matrix.now signing.steps signing.signed }
+    requires signed { IsSignedTo matrix.now signing.steps signing.signed }
     requires few { length signing.steps ≤ height matrix.now * matrix.now.width }
     requires steps { AllByRecursion (IsStepIn (height matrix.now) matrix.now.width) signing.steps }
     requires tells { Tells signing.signed (verdict_in tree.now) }

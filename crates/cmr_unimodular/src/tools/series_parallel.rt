@@ -10,7 +10,7 @@ ghost use Rattle.cmr_front.specs.Run.{Means, RunsOver, work};
 ghost use Rattle.cmr_front.specs.Status.{answer_status};
 ghost use Rattle.cmr_front.specs.Words.Reading.{Gives};
 ghost use Rattle.cmr_front.specs.declared.status.Answer.{Answer};
-ghost use Rattle.cmr_unimodular.specs.SeriesParallel.{IsReduced, SeriesParallelDecides, no_output, property_name, reduction_files, series_parallel_app, series_parallel_no, series_parallel_order, series_parallel_order_in, series_parallel_order_of, series_parallel_tool, series_parallel_yes};
+ghost use Rattle.cmr_unimodular.specs.SeriesParallel.{IsReduced, SeriesParallelDecides, no_output, series_parallel_name, reduction_files, series_parallel_app, series_parallel_no, series_parallel_order, series_parallel_order_in, series_parallel_order_of, series_parallel_tool, series_parallel_yes};
 
 use clap::{ArgMatches, Command};
 use cmr_base::{LineSet, Matrix, Memory, Word};
@@ -247,7 +247,7 @@ fn push_reduction<'a>(
 }
 
 fn property_name(binary: bool) -> &'static [u8]
-    ensures { result.now ≡ property_name binary }
+    ensures { result.now ≡ series_parallel_name binary }
 {
     if binary {
         b"binary series-parallel"

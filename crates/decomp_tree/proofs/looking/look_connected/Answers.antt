@@ -7,4 +7,4 @@ pub look_no_network-requires-clause-none : goal.look_no_network-requires-clause-
 look_no_network-requires-clause-none g c =
     let n = inner_of c.args.node.now in
     let none = c.stands_in.ensures c.if-stands_in.true in
-    λ κs lives. none_next c.args.node.now.budget.limit n IsConetwork (none_next c.args.node.now.budget.limit n IsNetwork c.requires.none none.0) none.1
+    λ κs lives. none_next c.args.node.now.limits.limit n IsConetwork (none_next c.args.node.now.limits.limit n IsNetwork c.requires.none none.0) none.1

@@ -11,4 +11,4 @@ pub look_last-requires-clause-none : goal.look_last-requires-clause-none
 look_last-requires-clause-none g c =
     let n = inner_of c.args.node.now in
     let no_three = subst (λ (k : Matrix). HasNoThreeSeparation k) c.args.node.now.inner_is (subst (λ (o : Option Three). MatchOption o (HasNoThreeSeparation c.args.node.now.inner.now) (λ three. IsFirstThreeSeparation c.args.node.now.inner.now three)) c.in_default.is c.in_ok-three.ensures) in
-    λ κs lives. none_next c.args.node.now.budget.limit n IsThreeSum c.requires.none (λ w. no_three w.0 w.1 w.2 w.3 w.4)
+    λ κs lives. none_next c.args.node.now.limits.limit n IsThreeSum c.requires.none (λ w. no_three w.0 w.1 w.2 w.3 w.4)

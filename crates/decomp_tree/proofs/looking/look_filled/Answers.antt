@@ -10,4 +10,4 @@ pub look_irreducible-requires-clause-none : goal.look_irreducible-requires-claus
 look_irreducible-requires-clause-none g c =
     let n = inner_of c.args.node.now in
     let none = subst (λ (k : Matrix). HasNoReducibleLine false k) c.args.node.now.inner_is (c.in_ok-first_look.ensures c.in-Irreducible.is false) in
-    λ κs lives. none_next c.args.node.now.budget.limit n IsReducible c.requires.none (none_reducible c.args.node.now.budget.limit n none)
+    λ κs lives. none_next c.args.node.now.limits.limit n IsReducible c.requires.none (none_reducible c.args.node.now.limits.limit n none)

@@ -13,4 +13,4 @@ pub look_separated-requires-clause-none : goal.look_separated-requires-clause-no
 look_separated-requires-clause-none g c =
     let n = inner_of c.args.node.now in
     let no_r10 : ¬ (IsR10 n) = (λ (is : IsR10 n). true≢false (sym (c.is_r10.ensures.1 (subst IsR10 (sym (c.by_rows.ensures.matrix ∙ c.args.node.now.inner_is)) is)) ∙ c.if-is_r10.false)) in
-    λ κs lives. none_next c.args.node.now.budget.limit n IsR10Matrix c.requires.none no_r10
+    λ κs lives. none_next c.args.node.now.limits.limit n IsR10Matrix c.requires.none no_r10

@@ -12,5 +12,5 @@ look_irreducible-requires-clause-none g c =
     let lines = c.args.node.now.lines.now in
     let empty = empty_from_length c.in_ok-reduction.reduction.steps (let l = c.if-len-gt0.false in let e = c.len.ensures in omega (arith, l, e)) in
     let removed = ap (λ (n : Matrix). (removal false n).steps) (sym (c.by_rows.ensures.matrix ∙ c.args.node.now.inner_is)) ∙ sym c.in_ok-reduction.ensures.steps ∙ empty in
-    λ κs lives. none_next c.args.node.now.budget.limit (part m lines) IsReducible c.requires.none
-    (not_reducible c.args.node.now.budget.limit m c.args.node.now.shape lines c.args.node.now.are_lines removed)
+    λ κs lives. none_next c.args.node.now.limits.limit (part m lines) IsReducible c.requires.none
+    (not_reducible c.args.node.now.limits.limit m c.args.node.now.shape lines c.args.node.now.are_lines removed)

@@ -1,6 +1,6 @@
 use Rattle.std.proofs.Common.{subst, sym}
 use Rattle.std.specs.Prelude.{IfOk, IsSomeAnd}
-use Rattle.cmr_unimodular.specs.declared.tools.graphic_network.Property.TheVariants.{Graphic, Network}
+use Rattle.cmr_unimodular.specs.declared.tools.graphic_network.TestedProperty.TheVariants.{Graphic, Network}
 use Rattle.cmr_unimodular.specs.GraphicNetwork.{Has}
 use Rattle.cmr_front.specs.Minimal.{IsMinimalSet}
 use Rattle.cmr_unimodular.proofs.GraphicNetworkAnswers.{minimal_found}

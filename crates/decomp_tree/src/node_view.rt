@@ -4,16 +4,16 @@ ghost use Rattle.cmr_base.specs.Matrix.{IsMatrix};
 ghost use Rattle.tree_type.specs.Invariant.{AreLines};
 ghost use Rattle.tree_type.specs.Soundness.{part};
 
-use crate::budget::Budget;
+use crate::search_limits::SearchLimits;
 use cmr_base::{LineSet, Matrix, RowsAndColumns};
 
 /// Some lines of a matrix, the submatrix on them, and how much may be searched there.
 #[derive(Clone, Copy)]
-pub struct Node<'a> {
+pub struct NodeView<'a> {
     pub matrix: &'a Matrix,
     pub lines: &'a LineSet,
     pub inner: &'a RowsAndColumns<'a>,
-    pub budget: Budget,
+    pub limits: SearchLimits,
     ghost shape: { IsMatrix matrix.now },
     ghost are_lines: { AreLines matrix.now lines.now },
     ghost inner_is: { inner.now ≡ part matrix.now lines.now },

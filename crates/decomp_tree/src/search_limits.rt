@@ -7,20 +7,20 @@ use first_hit::Workers;
 
 /// The most lines on the shorter side of a matrix whose sets of them are gone through, and how many workers share that.
 #[derive(Clone, Copy, Debug)]
-pub struct Budget {
+pub struct SearchLimits {
     limit: u32,
     workers: Workers,
     ghost few_lines: { limit ≤ MAX_LINES },
 }
 
-impl Budget {
+impl SearchLimits {
     /// So many lines, and these workers.
-    pub fn new(limit: u32, workers: Workers) -> Budget
+    pub fn new(limit: u32, workers: Workers) -> SearchLimits
         requires { limit ≤ MAX_LINES }
         ensures limit { result.limit ≡ limit }
         ensures workers { result.workers ≡ workers }
     {
-        Budget { limit, workers }
+        SearchLimits { limit, workers }
     }
 
     /// How many lines.
