@@ -21,7 +21,7 @@ use Rattle.text_fields.proofs.Limits.{limited_again, line_in_again, rising_line_
 use Rattle.text_fields.proofs.ReadAgain.{Reader, Again, again_bind, again_done, again_field, again_wrap}
 use Rattle.text_fields.proofs.Decimals.{decimal_word, count_of_decimal}
 use Rattle.camion_sign.specs.declared.chain_error.ChainKind.{ChainKind}
-use Rattle.camion_sign.specs.declared.chain_error.ChainKind.TheVariants.{Short, Extra, NotRising, OutOfRange, UnknownStep, WrongVersion}
+use Rattle.camion_sign.specs.declared.chain_error.ChainKind.TheVariants.{Short, Extra, UnknownStep, WrongVersion}
 use Rattle.camion_sign.specs.declared.chain_text.StepName.{StepName}
 use Rattle.camion_sign.specs.declared.chain_text.StepName.TheVariants as names
 use Rattle.camion_sign.specs.declared.step.SignStep.{SignStep}
@@ -48,14 +48,14 @@ end_here x size (w ∷ ws) e = absurd (cc)
 -- ---- numbers
 
 size_again : (most n : ℕ) → n < 2 ^ 31 → n ≤ most → limited most (decimal n) ≡ Ok n
-size_again most n small within = limited_again chain_kind OutOfRange most (decimal n) n (count_of_decimal n small) within
+size_again most n small within = limited_again chain_kind most (decimal n) n (count_of_decimal n small) within
 
 line_again : (most line : ℕ) → most ≤ 1000 → line < most → line_in most (number_of_line line) ≡ Ok (line + 1)
-line_again most line few h = line_in_again chain_kind OutOfRange most (number_of_line line) (line + 1) (count_of_decimal (line + 1) (omega (arith, few, h))) (omega arith) (omega (arith, h))
+line_again most line few h = line_in_again chain_kind most (number_of_line line) (line + 1) (count_of_decimal (line + 1) (omega (arith, few, h))) (omega arith) (omega (arith, h))
 
 rising_again : (most before line : ℕ) → most ≤ 1000 → line < most → before ≤ line → rising_line_in most before (number_of_line line) ≡ Ok (line + 1)
 rising_again most before line few h above =
-    rising_line_again chain_kind OutOfRange NotRising most before (number_of_line line) (line + 1) (count_of_decimal (line + 1) (omega (arith, few, h))) (omega arith) (omega (arith, h)) (omega (arith, above))
+    rising_line_again chain_kind most before (number_of_line line) (line + 1) (count_of_decimal (line + 1) (omega (arith, few, h))) (omega arith) (omega (arith, h)) (omega (arith, above))
 
 -- ---- line sets
 

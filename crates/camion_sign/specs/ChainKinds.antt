@@ -1,10 +1,13 @@
 -- The kinds of fault of chain texts.
-use Rattle.text_fields.specs.declared.error.NumberFault.{NumberFault}
+use Rattle.text_fields.specs.declared.error.LimitFault.{LimitFault}
+use Rattle.text_fields.specs.declared.error.LimitFault.TheVariants as limit
 use Rattle.text_fields.specs.declared.error.NumberFault.TheVariants as number
 use Rattle.camion_sign.specs.declared.chain_error.ChainKind.{ChainKind}
-use Rattle.camion_sign.specs.declared.chain_error.ChainKind.TheVariants.{NotNumber, TooBig}
+use Rattle.camion_sign.specs.declared.chain_error.ChainKind.TheVariants.{NotNumber, TooBig, OutOfRange, NotRising}
 
--- a number's fault
-abbrev pub chain_kind : NumberFault → ChainKind
-chain_kind number.NotNumber = NotNumber
-chain_kind number.TooBig = TooBig
+-- the fault of a number within limits
+abbrev pub chain_kind : LimitFault → ChainKind
+chain_kind (limit.Number number.NotNumber) = NotNumber
+chain_kind (limit.Number number.TooBig) = TooBig
+chain_kind limit.OutOfRange = OutOfRange
+chain_kind limit.NotRising = NotRising

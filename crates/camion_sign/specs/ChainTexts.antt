@@ -5,14 +5,14 @@ use Rattle.std.specs.List.Sorted.{IsStrictlyIncreasing}
 use Rattle.cmr_base.specs.LineSets.{AllBelow}
 use Rattle.cmr_base.specs.declared.line_set.LineSet.{LineSet}
 use Rattle.text_fields.specs.Words.{Text}
-use Rattle.text_fields.specs.Result.{◌>>=◌}
+use Rattle.text_fields.specs.Result.{◌>>=◌, renamed}
 use Rattle.cmr_base.specs.declared.limits.TheConstants.{MAX_COLUMNS, MAX_ROWS}
 use Rattle.text_fields.specs.Limits as limits
 pub use Rattle.text_fields.specs.LineNumbers.{last_number, number_of_line, set_words as line_set_words}
 use Rattle.text_fields.specs.Reading.{Fault, field, times, ended}
 use Rattle.text_fields.specs.Written.{text_of_lines}
 use Rattle.camion_sign.specs.declared.chain_error.ChainKind.{ChainKind}
-use Rattle.camion_sign.specs.declared.chain_error.ChainKind.TheVariants.{Short, Extra, NotRising, OutOfRange, UnknownStep, WrongVersion}
+use Rattle.camion_sign.specs.declared.chain_error.ChainKind.TheVariants.{Short, Extra, UnknownStep, WrongVersion}
 use Rattle.camion_sign.specs.declared.chain_text.StepName.{StepName}
 use Rattle.camion_sign.specs.declared.chain_text.StepName.TheVariants as names
 use Rattle.camion_sign.specs.declared.step.SignStep.{SignStep}
@@ -22,15 +22,15 @@ use Rattle.camion_sign.specs.ChainKinds.{chain_kind}
 
 -- a count of at most so much
 abbrev pub limited : ℕ → List ℕ → Result ℕ ChainKind
-limited most word = limits.limited chain_kind OutOfRange most word
+limited most word = renamed chain_kind (limits.limited most word)
 
 -- the number of a line, from 1 to so many
 abbrev pub line_in : ℕ → List ℕ → Result ℕ ChainKind
-line_in most word = limits.line_in chain_kind OutOfRange most word
+line_in most word = renamed chain_kind (limits.line_in most word)
 
 -- a line's number above the one before it
 abbrev pub rising_line_in : ℕ → ℕ → List ℕ → Result ℕ ChainKind
-rising_line_in most before word = limits.rising_line_in chain_kind OutOfRange NotRising most before word
+rising_line_in most before word = renamed chain_kind (limits.rising_line_in most before word)
 
 -- this very word
 abbrev pub word_in : List ℕ → ChainKind → List ℕ → Result (Unit {0}) ChainKind

@@ -1,7 +1,7 @@
 ghost use Rattle.std.specs.Prelude.{◌≡◌};
 ghost use Rattle.camion_sign.specs.ChainKinds.{chain_kind};
 
-use text_fields::{FieldError, NumberFault};
+use text_fields::{FieldError, LimitFault, NumberFault};
 
 /// What is wrong with a word of a chain text.
 #[derive(Clone, Copy, Debug, PartialEq, Eq)]
@@ -27,13 +27,15 @@ pub enum ChainKind {
 /// Why a chain text was not read: its first fault with its place, or want of memory.
 pub type ChainError = FieldError<ChainKind>;
 
-impl From<NumberFault> for ChainKind {
+impl From<LimitFault> for ChainKind {
     ghost from_gives = { λ fault kind. kind ≡ chain_kind fault };
 
-    fn from(fault: NumberFault) -> Self {
+    fn from(fault: LimitFault) -> Self {
         match fault {
-            NumberFault::NotNumber => ChainKind::NotNumber,
-            NumberFault::TooBig => ChainKind::TooBig,
+            LimitFault::Number(NumberFault::NotNumber) => ChainKind::NotNumber,
+            LimitFault::Number(NumberFault::TooBig) => ChainKind::TooBig,
+            LimitFault::OutOfRange => ChainKind::OutOfRange,
+            LimitFault::NotRising => ChainKind::NotRising,
         }
     }
 }

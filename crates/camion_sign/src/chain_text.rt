@@ -3,14 +3,16 @@ ghost use Rattle.std.specs.Prelude.{◌≡◌, ◌≤◌, ◌<◌, ◌*◌, ◌-
 ghost use Rattle.cmr_base.specs.declared.line_set.LineSet.{LineSet};
 ghost use Rattle.text_fields.specs.Words.{text_of};
 ghost use Rattle.text_fields.specs.Reading.{field, times, Gives, Reads};
+ghost use Rattle.text_fields.specs.Result.{renamed};
 ghost use Rattle.camion_sign.specs.declared.chain_error.ChainKind.TheVariants.{Short};
+ghost use Rattle.camion_sign.specs.ChainKinds.{chain_kind};
 ghost use Rattle.camion_sign.specs.ChainTexts.{limited, line_in, rising_line_in, word_in, step_name_in, rising_lines, line_set, step_of, next_step, another_step, chain};
 
 use crate::chain_error::{ChainError, ChainKind};
 use crate::step::{Chain, SignStep, SignStepList, SizedChain};
 use cmr_base::{Indices, LineSet, MAX_COLUMNS, MAX_ROWS};
 use std::alloc::Global;
-use text_fields::{Words, at_place, count_in};
+use text_fields::{LimitFault, Words, at_place, limited, line_in, rising_line_in};
 
 /// The name of a step.
 #[derive(Clone, Copy)]
@@ -166,19 +168,7 @@ fn size(words: &mut Words<'_>, most: u32) -> Result<u32, ChainError>
     ensures within { IfOk result (λ n. n ≤ most) }
 {
     let (place, word) = words.due(ChainKind::Short)?;
-    at_place(place, limited(word, most))
-}
-
-fn limited(word: &[u8], most: u32) -> Result<u32, ChainKind>
-    ensures value { result ≡ limited most word.now }
-    ensures within { IfOk result (λ n. n ≤ most) }
-{
-    let count = count_in(word)?;
-    if count <= most {
-        Ok(count)
-    } else {
-        Err(ChainKind::OutOfRange)
-    }
+    at_place(place, named(limited(word, most)))
 }
 
 fn line(words: &mut Words<'_>, most: u32) -> Result<u32, ChainError>
@@ -187,18 +177,7 @@ fn line(words: &mut Words<'_>, most: u32) -> Result<u32, ChainError>
     ensures within { IfOk result (λ n. n ≤ most) }
 {
     let (place, word) = words.due(ChainKind::Short)?;
-    at_place(place, line_in(word, most))
-}
-
-fn line_in(word: &[u8], most: u32) -> Result<u32, ChainKind>
-    ensures value { result ≡ line_in most word.now }
-    ensures above { IfOk result (λ n. 0 < n) }
-    ensures within { IfOk result (λ n. n ≤ most) }
-{
-    match limited(word, most)? {
-        0 => Err(ChainKind::OutOfRange),
-        number => Ok(number),
-    }
+    at_place(place, named(line_in(word, most)))
 }
 
 fn rising_line(words: &mut Words<'_>, most: u32, before: u32) -> Result<u32, ChainError>
@@ -208,18 +187,12 @@ fn rising_line(words: &mut Words<'_>, most: u32, before: u32) -> Result<u32, Cha
     ensures within { IfOk result (λ n. n ≤ most) }
 {
     let (place, word) = words.due(ChainKind::Short)?;
-    at_place(place, rising_line_in(word, most, before))
+    at_place(place, named(rising_line_in(word, most, before)))
 }
 
-fn rising_line_in(word: &[u8], most: u32, before: u32) -> Result<u32, ChainKind>
-    ensures value { result ≡ rising_line_in most before word.now }
-    ensures above { IfOk result (λ n. before < n) }
-    ensures within { IfOk result (λ n. n ≤ most) }
+// A number within limits, with its fault as chain texts name it.
+fn named(parsed: Result<u32, LimitFault>) -> Result<u32, ChainKind>
+    ensures { result ≡ renamed chain_kind parsed }
 {
-    let number = line_in(word, most)?;
-    if before < number {
-        Ok(number)
-    } else {
-        Err(ChainKind::NotRising)
-    }
+    Ok(parsed?)
 }

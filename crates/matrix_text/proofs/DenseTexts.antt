@@ -15,7 +15,7 @@ use Rattle.text_fields.proofs.Results.{bind_ok}
 use Rattle.text_fields.proofs.Fields.{fields_ok, fields_again, ended_ok}
 use Rattle.matrix_text.specs.declared.error.TextKind.{TextKind}
 use Rattle.matrix_text.specs.declared.error.TextKind.TheVariants.{Short, Extra, TooManyRows, TooManyColumns}
-use Rattle.matrix_text.specs.Kinds.{text_kind}
+use Rattle.matrix_text.specs.Kinds.{limit_kind}
 use Rattle.matrix_text.specs.Values.{limited, entry_in}
 use Rattle.matrix_text.specs.Dense.{IsDense, dense}
 use Rattle.matrix_text.proofs.Lines.{size_found}
@@ -66,8 +66,8 @@ dense_only binary size (h ∷ w ∷ words) m is =
     let hw : h.1 ≡ is.height_word = cc in
     let ww : w.1 ≡ is.width_word = cc in
     let ew : texts_of words ≡ is.entry_words = cc in
-    let height : limited MAX_ROWS TooManyRows h.1 ≡ Ok is.height = limited_again text_kind TooManyRows MAX_ROWS h.1 is.height (ap count_in hw ∙ is.height_is) is.height_in in
-    let width : limited MAX_COLUMNS TooManyColumns w.1 ≡ Ok is.width = limited_again text_kind TooManyColumns MAX_COLUMNS w.1 is.width (ap count_in ww ∙ is.width_is) is.width_in in
+    let height : limited MAX_ROWS TooManyRows h.1 ≡ Ok is.height = limited_again (limit_kind TooManyRows) MAX_ROWS h.1 is.height (ap count_in hw ∙ is.height_is) is.height_in in
+    let width : limited MAX_COLUMNS TooManyColumns w.1 ≡ Ok is.width = limited_again (limit_kind TooManyColumns) MAX_COLUMNS w.1 is.width (ap count_in ww ∙ is.width_is) is.width_in in
     let spell : Spell (entry_in binary) (texts_of words) is.cells = subst (λ ws. Spell (entry_in binary) ws is.cells) (sym ew) is.entries_are in
     let all : fields Short (entry_in binary) (is.height * is.width) (record { size = size; words = words }) ≡ Ok (is.cells, record { size = size; words = [] }) =
     ap (λ n. fields Short (entry_in binary) n (record { size = size; words = words })) (sym is.count)

@@ -9,7 +9,7 @@ use Rattle.text_fields.proofs.Limits.{line_in_ok, line_in_again}
 use Rattle.text_fields.proofs.Fields.{field_ok, field-same}
 use Rattle.matrix_text.specs.declared.error.TextKind.{TextKind}
 use Rattle.matrix_text.specs.declared.error.TextKind.TheVariants.{Short, RowOutOfRange, ColumnOutOfRange, TwiceNamed}
-use Rattle.matrix_text.specs.Kinds.{text_kind}
+use Rattle.matrix_text.specs.Kinds.{limit_kind}
 use Rattle.matrix_text.specs.Values.{line_in, free_column_in}
 use Rattle.matrix_text.specs.Sparse.{free_place}
 use Rattle.matrix_text.proofs.Lines.{free_column_in-same}
@@ -17,7 +17,7 @@ use Rattle.matrix_text.proofs.Lines.{free_column_in-same}
 row_range : (height : ℕ) (text : Text) (row : ℕ × Text) → field Short (line_in height RowOutOfRange) text ≡ Ok row → (0 < row.0) × (row.0 ≤ height)
 row_range height text row h =
     let f = field_ok Short (line_in height RowOutOfRange) text row.0 row.1 h in
-    let ok = line_in_ok text_kind RowOutOfRange height f.word.1 row.0 f.parsed in
+    let ok = line_in_ok (limit_kind RowOutOfRange) height f.word.1 row.0 f.parsed in
     (ok.1, ok.2)
 
 -- only the places that there are matter
@@ -28,11 +28,11 @@ free_column_in_ok : (most : ℕ) (f : ℕ → Bool) (word : List ℕ) (n : ℕ) 
 free_column_in_ok most f word n h =
     let p = bind_ok (line_in most ColumnOutOfRange word) (λ k. cond (f k) (Err TwiceNamed) (Ok k)) n h in
     let g = bar_ok (f p.0) p.0 n TwiceNamed p.2 in
-    let l = line_in_ok text_kind ColumnOutOfRange most word p.0 p.1 in
+    let l = line_in_ok (limit_kind ColumnOutOfRange) most word p.0 p.1 in
     (l.0 ∙ ap Ok g.1, omega (arith, g.1, l.1), omega (arith, g.1, l.2), subst (λ k. f k ≡ false) g.1 g.0)
 
 free_column_in_again : (most : ℕ) (f : ℕ → Bool) (word : List ℕ) (n : ℕ) → count_in word ≡ Ok n → 0 < n → n ≤ most → f n ≡ false → free_column_in most f word ≡ Ok n
-free_column_in_again most f word n h above within free = rw (line_in_again text_kind ColumnOutOfRange most word n h above within, free) refl
+free_column_in_again most f word n h above within free = rw (line_in_again (limit_kind ColumnOutOfRange) most word n h above within, free) refl
 
 -- a place that is not taken was read
 pub record IsFreePlace (height width : ℕ) (f : ℕ → ℕ → Bool) (text : Text) (row column : ℕ) (rest : Text) : Type 0 where
@@ -58,7 +58,7 @@ free_place_ok height width f text place h =
     go row column hr hc =
         let r = field_ok Short (line_in height RowOutOfRange) text row.0 row.1 hr in
         let c = field_ok Short (free_column_in width (f row.0)) row.1 column.0 column.1 hc in
-        let l = line_in_ok text_kind RowOutOfRange height r.word.1 row.0 r.parsed in
+        let l = line_in_ok (limit_kind RowOutOfRange) height r.word.1 row.0 r.parsed in
         let k = free_column_in_ok width (f row.0) c.word.1 column.0 c.parsed in
         record {
           row_word = r.word;
@@ -77,4 +77,4 @@ free_place_ok height width f text place h =
 pub free_place_again : (height width : ℕ) (f : ℕ → ℕ → Bool) (size : ℕ) (row_word column_word : ℕ × List ℕ) (words : List (ℕ × List ℕ)) (row column : ℕ) → count_in row_word.1 ≡ Ok row → count_in column_word.1 ≡ Ok column → 0 < row → row ≤ height → 0 < column → column ≤ width → f row column ≡ false
     → free_place height width f (record { size = size; words = row_word ∷ column_word ∷ words }) ≡ Ok ((row, column), record { size = size; words = words })
 free_place_again height width f size row_word column_word words row column row_is column_is row_above row_in column_above column_in free =
-    rw (line_in_again text_kind RowOutOfRange height row_word.1 row row_is row_above row_in, free_column_in_again width (f row) column_word.1 column column_is column_above column_in free) refl
+    rw (line_in_again (limit_kind RowOutOfRange) height row_word.1 row row_is row_above row_in, free_column_in_again width (f row) column_word.1 column column_is column_above column_in free) refl

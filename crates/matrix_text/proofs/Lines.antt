@@ -10,19 +10,19 @@ use Rattle.text_fields.proofs.Limits.{limited_ok, line_in_ok}
 use Rattle.text_fields.proofs.Results.{bind-same}
 use Rattle.matrix_text.specs.declared.error.TextKind.{TextKind}
 use Rattle.matrix_text.specs.declared.error.TextKind.TheVariants.{Short, ColumnOutOfRange, TwiceNamed}
-use Rattle.matrix_text.specs.Kinds.{text_kind}
+use Rattle.matrix_text.specs.Kinds.{limit_kind}
 use Rattle.matrix_text.specs.Values.{limited, line_in, free_column_in}
 
 -- a count of at most so much that was read
 pub size_found : (most : ℕ) (beyond : TextKind) (text : Text) (n : ℕ × Text) → field Short (limited most beyond) text ≡ Ok n → (word : ℕ × List ℕ) × (text.words ≡ word ∷ (n.1).words) × (count_in word.1 ≡ Ok n.0) × (n.0 ≤ most)
 size_found most beyond text n h =
     let f = field_ok Short (limited most beyond) text n.0 n.1 h in
-    let l = limited_ok text_kind beyond most f.word.1 n.0 f.parsed in
+    let l = limited_ok (limit_kind beyond) most f.word.1 n.0 f.parsed in
     (f.word, f.words_are, l.0, l.1)
 
 -- only the columns that there are matter
 pub free_column_in-same : (most : ℕ) (f g : ℕ → Bool) → ((n : ℕ) → 0 < n → n ≤ most → f n ≡ g n) → (word : List ℕ) → free_column_in most f word ≡ free_column_in most g word
-free_column_in-same most f g same word = bind-same (line_in most ColumnOutOfRange word) (λ n. cond (f n) (Err TwiceNamed) (Ok n)) (λ n. cond (g n) (Err TwiceNamed) (Ok n)) (λ n is. let ok = line_in_ok text_kind ColumnOutOfRange most word n is in ap (λ (t : Bool). cond t (Err TwiceNamed) (Ok n)) (same n ok.1 ok.2))
+free_column_in-same most f g same word = bind-same (line_in most ColumnOutOfRange word) (λ n. cond (f n) (Err TwiceNamed) (Ok n)) (λ n. cond (g n) (Err TwiceNamed) (Ok n)) (λ n is. let ok = line_in_ok (limit_kind ColumnOutOfRange) most word n is in ap (λ (t : Bool). cond t (Err TwiceNamed) (Ok n)) (same n ok.1 ok.2))
 
 -- the columns of a row that are taken, read from the row's part of all places
 pub row_part : (width start : ℕ) (taken : List Bool) → start + width ≤ length taken → (text : Text)

@@ -11,8 +11,8 @@ use Rattle.text_fields.proofs.Limits.{rising_line_ok, rising_line_again}
 use Rattle.text_fields.proofs.Results.{bind_ok, ok_same}
 use Rattle.text_fields.proofs.Fields.{field_ok}
 use Rattle.matrix_text.specs.declared.error.TextKind.{TextKind}
-use Rattle.matrix_text.specs.declared.error.TextKind.TheVariants.{Short, NotRising}
-use Rattle.matrix_text.specs.Kinds.{text_kind}
+use Rattle.matrix_text.specs.declared.error.TextKind.TheVariants.{Short}
+use Rattle.matrix_text.specs.Kinds.{limit_kind}
 use Rattle.matrix_text.specs.Values.{rising_line_in}
 use Rattle.matrix_text.specs.Submatrix.{numbers_of, last_number, another_line}
 
@@ -49,7 +49,7 @@ lines_ok most outside (suc n) before text lines rest h =
     let b = bind_ok (another_line most outside before text) (λ (next : List ℕ × Text). times (another_line most outside) n next.0 next.1) (lines, rest) h in
     let one = another_line_ok most outside before text b.0 b.1 in
     let first = field_ok Short (rising_line_in most outside (last_number before)) text one.0 b.0.1 one.1 in
-    let ok = rising_line_ok text_kind outside NotRising most (last_number before) first.word.1 one.0 first.parsed in
+    let ok = rising_line_ok (limit_kind outside) most (last_number before) first.word.1 one.0 first.parsed in
     let later = lines_ok most outside n b.0.0 b.0.1 lines rest b.2 in
     let number : one.0 ≡ (one.0 - 1) + 1 = omega (arith, ok.1) in
     let last : last_number b.0.0 ≡ (one.0 - 1) + 1 = ap last_number one.2 ∙ fold_push (λ (before line : ℕ). line + 1) 0 before (one.0 - 1) in
@@ -70,7 +70,7 @@ lines_again most outside size [] later before [] spell rises = ap (λ lines. Ok 
 lines_again most outside size [] later before (line ∷ lines) spell rises = absurd spell
 lines_again most outside size (word ∷ words) later before [] spell rises = absurd spell
 lines_again most outside size (word ∷ words) later before (line ∷ lines) spell rises =
-    let one = rising_line_again text_kind outside NotRising most (last_number before) word.1 (line + 1) spell.0 (omega arith) (omega (arith, rises.1)) (omega (arith, rises.0)) in
+    let one = rising_line_again (limit_kind outside) most (last_number before) word.1 (line + 1) spell.0 (omega arith) (omega (arith, rises.1)) (omega (arith, rises.0)) in
     let back : line + 1 - 1 ≡ line = omega arith in
     let last = fold_push (λ (before line : ℕ). line + 1) 0 before line in
     rw (one, back) (lines_again most outside size words later (before ++ line ∷ []) lines spell.1 (subst (λ low. RisesIn low most lines) (sym last) rises.2) ∙ ap (λ ls. Ok (ls, record { size = size; words = later })) (append_assoc before (line ∷ []) lines))

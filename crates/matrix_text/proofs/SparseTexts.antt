@@ -18,7 +18,7 @@ use Rattle.text_fields.proofs.Results.{bind_ok, ok_same, renamed_ok}
 use Rattle.text_fields.proofs.Fields.{field_ok, ended_ok}
 use Rattle.matrix_text.specs.declared.error.TextKind.{TextKind}
 use Rattle.matrix_text.specs.declared.error.TextKind.TheVariants.{Short, Extra, TooManyRows, TooManyColumns}
-use Rattle.matrix_text.specs.Kinds.{text_kind}
+use Rattle.matrix_text.specs.Kinds.{text_kind, limit_kind}
 use Rattle.matrix_text.specs.Values.{count, limited, entry_in}
 use Rattle.matrix_text.specs.Sparse.{Triple, names, is_named, matrix_of_triples, SpellTriples, IsPlaced, NameOnce, IsSparse, free_place, another_triple, matrix_by_triples, sparse}
 use Rattle.matrix_text.proofs.Lines.{size_found}
@@ -222,8 +222,8 @@ sparse_only binary size (h ∷ w ∷ n ∷ words) m is =
     let ww : w.1 ≡ is.width_word = cc in
     let nw : n.1 ≡ is.count_word = cc in
     let tw : texts_of words ≡ is.triple_words = cc in
-    let height : limited MAX_ROWS TooManyRows h.1 ≡ Ok is.height = limited_again text_kind TooManyRows MAX_ROWS h.1 is.height (ap count_in hw ∙ is.height_is) is.height_in in
-    let width : limited MAX_COLUMNS TooManyColumns w.1 ≡ Ok is.width = limited_again text_kind TooManyColumns MAX_COLUMNS w.1 is.width (ap count_in ww ∙ is.width_is) is.width_in in
+    let height : limited MAX_ROWS TooManyRows h.1 ≡ Ok is.height = limited_again (limit_kind TooManyRows) MAX_ROWS h.1 is.height (ap count_in hw ∙ is.height_is) is.height_in in
+    let width : limited MAX_COLUMNS TooManyColumns w.1 ≡ Ok is.width = limited_again (limit_kind TooManyColumns) MAX_COLUMNS w.1 is.width (ap count_in ww ∙ is.width_is) is.width_in in
     let number : count n.1 ≡ Ok (length is.triples) = ap (renamed text_kind) (ap count_in nw ∙ is.count_is) in
     let all : times (another_triple binary is.height is.width) (length is.triples) [] (record { size = size; words = words }) ≡ Ok (is.triples, record { size = size; words = [] }) =
     ap (λ ws. times (another_triple binary is.height is.width) (length is.triples) [] (record { size = size; words = ws })) (sym (append-nil words))

@@ -17,7 +17,7 @@ use Rattle.text_fields.proofs.Fields.{field_ok, ended_ok}
 use Rattle.text_fields.proofs.LineWords.{split_texts}
 use Rattle.matrix_text.specs.declared.error.TextKind.{TextKind}
 use Rattle.matrix_text.specs.declared.error.TextKind.TheVariants.{Short, Extra, RowOutOfRange, ColumnOutOfRange, OtherSize}
-use Rattle.matrix_text.specs.Kinds.{text_kind}
+use Rattle.matrix_text.specs.Kinds.{text_kind, limit_kind}
 use Rattle.matrix_text.specs.Values.{count, limited, own_size}
 use Rattle.matrix_text.specs.Submatrix.{IsSubmatrix, numbers_of, rising_lines, submatrix}
 use Rattle.matrix_text.proofs.Lines.{size_found}
@@ -146,8 +146,8 @@ submatrix_only height width size (h ∷ w ∷ p ∷ q ∷ words) lines is =
     let lw : texts_of words ≡ is.row_words ++ is.column_words = cc in
     let same_height = own_size_again height h.1 (ap count_in hw ∙ is.height_is) in
     let same_width = own_size_again width w.1 (ap count_in ww ∙ is.width_is) in
-    let row_count = limited_again text_kind RowOutOfRange height p.1 (length lines.rows) (ap count_in pw ∙ is.row_count) (rising_count height lines.rows is.rows_rise is.rows_in) in
-    let column_count = limited_again text_kind ColumnOutOfRange width q.1 (length lines.columns) (ap count_in qw ∙ is.column_count) (rising_count width lines.columns is.columns_rise is.columns_in) in
+    let row_count = limited_again (limit_kind RowOutOfRange) height p.1 (length lines.rows) (ap count_in pw ∙ is.row_count) (rising_count height lines.rows is.rows_rise is.rows_in) in
+    let column_count = limited_again (limit_kind ColumnOutOfRange) width q.1 (length lines.columns) (ap count_in qw ∙ is.column_count) (rising_count width lines.columns is.columns_rise is.columns_in) in
     rw (same_height, same_width, row_count, column_count) (lists_again height width size words lines (record {
       row_words = is.row_words;
       column_words = is.column_words;

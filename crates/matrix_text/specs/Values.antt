@@ -4,8 +4,8 @@ use Rattle.text_fields.specs.Limits as limits
 use Rattle.text_fields.specs.Result.{◌>>=◌, renamed}
 use Rattle.text_fields.specs.Numbers.{count_in, signed_in}
 use Rattle.matrix_text.specs.declared.error.TextKind.{TextKind}
-use Rattle.matrix_text.specs.declared.error.TextKind.TheVariants.{BadEntry, NotBinary, ColumnOutOfRange, TwiceNamed, NotRising, OtherSize}
-use Rattle.matrix_text.specs.Kinds.{text_kind}
+use Rattle.matrix_text.specs.declared.error.TextKind.TheVariants.{BadEntry, NotBinary, ColumnOutOfRange, TwiceNamed, OtherSize}
+use Rattle.matrix_text.specs.Kinds.{text_kind, limit_kind}
 
 -- a count
 abbrev pub count : List ℕ → Result ℕ TextKind
@@ -13,7 +13,7 @@ count word = renamed text_kind (count_in word)
 
 -- a count of at most so much
 abbrev pub limited : ℕ → TextKind → List ℕ → Result ℕ TextKind
-limited most beyond word = limits.limited text_kind beyond most word
+limited most beyond word = renamed (limit_kind beyond) (limits.limited most word)
 
 -- a count that is the matrix's own
 abbrev pub own_size : ℕ → List ℕ → Result ℕ TextKind
@@ -23,11 +23,11 @@ own_size size word = do
 
 -- the number of a line, from 1 to so many
 abbrev pub line_in : ℕ → TextKind → List ℕ → Result ℕ TextKind
-line_in most outside word = limits.line_in text_kind outside most word
+line_in most outside word = renamed (limit_kind outside) (limits.line_in most word)
 
 -- a line's number above the one before it
 abbrev pub rising_line_in : ℕ → TextKind → ℕ → List ℕ → Result ℕ TextKind
-rising_line_in most outside before word = limits.rising_line_in text_kind outside NotRising most before word
+rising_line_in most outside before word = renamed (limit_kind outside) (limits.rising_line_in most before word)
 
 -- a column's number that is not taken
 abbrev pub free_column_in : ℕ → (ℕ → Bool) → List ℕ → Result ℕ TextKind

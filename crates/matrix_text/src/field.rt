@@ -5,9 +5,9 @@ ghost use Rattle.matrix_text.specs.declared.error.TextKind.TheVariants.{Short};
 ghost use Rattle.matrix_text.specs.Values.{count, limited, own_size, line_in, rising_line_in, free_column_in, entry_in};
 
 use crate::error::{TextError, TextKind};
-use crate::value;
+use crate::value::{self, named};
 use cmr_base::MAX_COLUMNS;
-use text_fields::{Words, at_place};
+use text_fields::{Words, at_place, line_in, rising_line_in};
 
 pub fn count(words: &mut Words<'_>) -> Result<u32, TextError>
     ensures { Reads (λ n. n) words.new result (field Short count words.old) }
@@ -21,7 +21,7 @@ pub fn limited(words: &mut Words<'_>, most: u32, beyond: TextKind) -> Result<u32
     ensures within { IfOk result (λ n. n ≤ most) }
 {
     let (place, word) = words.due(TextKind::Short)?;
-    at_place(place, value::limited(word, most, beyond))
+    at_place(place, named(text_fields::limited(word, most), beyond))
 }
 
 pub fn own_size(words: &mut Words<'_>, size: u32) -> Result<u32, TextError>
@@ -37,7 +37,7 @@ pub fn line(words: &mut Words<'_>, most: u32, outside: TextKind) -> Result<u32, 
     ensures within { IfOk result (λ n. n ≤ most) }
 {
     let (place, word) = words.due(TextKind::Short)?;
-    at_place(place, value::line_in(word, most, outside))
+    at_place(place, named(line_in(word, most), outside))
 }
 
 pub fn rising_line(
@@ -52,7 +52,7 @@ pub fn rising_line(
     ensures within { IfOk result (λ n. n ≤ most) }
 {
     let (place, word) = words.due(TextKind::Short)?;
-    at_place(place, value::rising_line_in(word, most, outside, before))
+    at_place(place, named(rising_line_in(word, most, before), outside))
 }
 
 pub fn free_column(words: &mut Words<'_>, taken: &[bool]) -> Result<u32, TextError>

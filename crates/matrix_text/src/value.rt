@@ -1,10 +1,12 @@
 ghost use Rattle.std.specs.Prelude.{◌≡◌, ◌≤◌, ◌<◌, ◌-◌, ℕ, IfOk, length, slice_index_or, true, false};
 ghost use Rattle.cmr_base.specs.Matrix.{IsEntry};
-ghost use Rattle.matrix_text.specs.Values.{count, limited, own_size, line_in, rising_line_in, free_column_in, allowed, entry_in};
+ghost use Rattle.text_fields.specs.Result.{renamed};
+ghost use Rattle.matrix_text.specs.Kinds.{limit_kind};
+ghost use Rattle.matrix_text.specs.Values.{count, own_size, free_column_in, allowed, entry_in};
 
 use crate::error::TextKind;
 use cmr_base::MAX_COLUMNS;
-use text_fields::{count_in, signed_in};
+use text_fields::{LimitFault, count_in, line_in, signed_in};
 
 /// A count.
 pub fn count(word: &[u8]) -> Result<u32, TextKind>
@@ -13,16 +15,15 @@ pub fn count(word: &[u8]) -> Result<u32, TextKind>
     Ok(count_in(word)?)
 }
 
-/// A count of at most `most`; beyond it, the fault of this kind.
-pub fn limited(word: &[u8], most: u32, beyond: TextKind) -> Result<u32, TextKind>
-    ensures value { result ≡ limited most beyond word.now }
-    ensures within { IfOk result (λ n. n ≤ most) }
+/// A number within limits, with its fault as matrix texts name it; `outside` is the kind of one that is out of range.
+pub fn named(parsed: Result<u32, LimitFault>, outside: TextKind) -> Result<u32, TextKind>
+    ensures { result ≡ renamed (limit_kind outside) parsed }
 {
-    let count = count(word)?;
-    if count <= most {
-        Ok(count)
-    } else {
-        Err(beyond)
+    match parsed {
+        Ok(number) => Ok(number),
+        Err(LimitFault::Number(fault)) => Err(TextKind::from(fault)),
+        Err(LimitFault::OutOfRange) => Err(outside),
+        Err(LimitFault::NotRising) => Err(TextKind::NotRising),
     }
 }
 
@@ -38,37 +39,6 @@ pub fn own_size(word: &[u8], size: u32) -> Result<u32, TextKind>
     }
 }
 
-/// The number of a line, from 1 to `most`; else the fault of this kind.
-pub fn line_in(word: &[u8], most: u32, outside: TextKind) -> Result<u32, TextKind>
-    ensures value { result ≡ line_in most outside word.now }
-    ensures above { IfOk result (λ n. 0 < n) }
-    ensures within { IfOk result (λ n. n ≤ most) }
-{
-    match limited(word, most, outside)? {
-        0 => Err(outside),
-        number => Ok(number),
-    }
-}
-
-/// The number of a line above the number before it.
-pub fn rising_line_in(
-    word: &[u8],
-    most: u32,
-    outside: TextKind,
-    before: u32,
-) -> Result<u32, TextKind>
-    ensures value { result ≡ rising_line_in most outside before word.now }
-    ensures above { IfOk result (λ n. before < n) }
-    ensures within { IfOk result (λ n. n ≤ most) }
-{
-    let number = line_in(word, most, outside)?;
-    if before < number {
-        Ok(number)
-    } else {
-        Err(TextKind::NotRising)
-    }
-}
-
 /// The number of a column that is not taken.
 pub fn free_column_in(word: &[u8], taken: &[bool]) -> Result<u32, TextKind>
     requires { length taken.now ≤ MAX_COLUMNS }
@@ -77,7 +47,8 @@ pub fn free_column_in(word: &[u8], taken: &[bool]) -> Result<u32, TextKind>
     ensures above { IfOk result (λ n. 0 < n) }
     ensures within { IfOk result (λ n. n ≤ length taken.now) }
 {
-    let number = line_in(word, taken.len() as u32, TextKind::ColumnOutOfRange)?;
+    let parsed = line_in(word, taken.len() as u32);
+    let number = named(parsed, TextKind::ColumnOutOfRange)?;
     if taken[number as usize - 1] {
         Err(TextKind::TwiceNamed)
     } else {

@@ -13,6 +13,17 @@ pub enum NumberFault {
     TooBig,
 }
 
+/// Why a word is no number within its limits.
+#[derive(Clone, Copy, Debug, PartialEq, Eq)]
+pub enum LimitFault {
+    /// It is no number.
+    Number(NumberFault),
+    /// It is above all that are allowed, or a line's number 0.
+    OutOfRange,
+    /// It is not above the number before it.
+    NotRising,
+}
+
 /// Why a text was not read. `K` names the kinds of fault that a form of texts has.
 #[derive(Clone, Copy, Debug, PartialEq, Eq, Error)]
 pub enum FieldError<K> {

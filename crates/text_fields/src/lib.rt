@@ -6,7 +6,7 @@ mod number;
 mod words;
 mod writer;
 
-pub use error::{FieldError, NumberFault};
-pub use number::{count_in, signed_in};
+pub use error::{FieldError, LimitFault, NumberFault};
+pub use number::{count_in, limited, line_in, rising_line_in, signed_in};
 pub use words::{Words, at_place};
 pub use writer::Writer;

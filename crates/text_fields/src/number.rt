@@ -1,8 +1,9 @@
-// Counts and signed numbers.
+// Counts, signed numbers, and numbers within limits.
 ghost use Rattle.std.specs.Prelude.{◌≡◌, ◌≤◌, ◌<◌, ◌^◌, IfOk};
 ghost use Rattle.text_fields.specs.Numbers.{magnitude, count_in, signed_in};
+ghost use Rattle.text_fields.specs.Limits.{limited, line_in, rising_line_in};
 
-use crate::error::NumberFault;
+use crate::error::{LimitFault, NumberFault};
 
 const LIMIT: u64 = 1 << 31;
 
@@ -46,5 +47,41 @@ pub fn signed_in(word: &[u8]) -> Result<i32, NumberFault>
     match word {
         [b'-', digits @ ..] => Ok(-(magnitude(digits)? as i32)),
         _ => Ok(count_in(word)? as i32),
+    }
+}
+
+/// A count of at most `most`.
+pub fn limited(word: &[u8], most: u32) -> Result<u32, LimitFault>
+    ensures value { result ≡ limited most word.now }
+    ensures within { IfOk result (λ n. n ≤ most) }
+{
+    match count_in(word) {
+        Ok(count) if count <= most => Ok(count),
+        Ok(_) => Err(LimitFault::OutOfRange),
+        Err(fault) => Err(LimitFault::Number(fault)),
+    }
+}
+
+/// The number of a line, from 1 to `most`.
+pub fn line_in(word: &[u8], most: u32) -> Result<u32, LimitFault>
+    ensures value { result ≡ line_in most word.now }
+    ensures above { IfOk result (λ n. 0 < n) }
+    ensures within { IfOk result (λ n. n ≤ most) }
+{
+    match limited(word, most)? {
+        0 => Err(LimitFault::OutOfRange),
+        number => Ok(number),
+    }
+}
+
+/// The number of a line, from 1 to `most`, above the number before it.
+pub fn rising_line_in(word: &[u8], most: u32, before: u32) -> Result<u32, LimitFault>
+    ensures value { result ≡ rising_line_in most before word.now }
+    ensures above { IfOk result (λ n. before < n) }
+    ensures within { IfOk result (λ n. n ≤ most) }
+{
+    match line_in(word, most)? {
+        number if before < number => Ok(number),
+        _ => Err(LimitFault::NotRising),
     }
 }

@@ -19,7 +19,7 @@ use Rattle.text_fields.proofs.Decimals.{count_of_decimal}
 use Rattle.text_fields.proofs.Limits as numbers
 use Rattle.text_fields.proofs.ReadAgain.{Again, again_done, again_field, again_bind, again_wrap}
 use Rattle.tree_text.specs.declared.error.TreeKind.{TreeKind}
-use Rattle.tree_text.specs.declared.error.TreeKind.TheVariants.{Short, OutOfRange}
+use Rattle.tree_text.specs.declared.error.TreeKind.TheVariants.{Short}
 use Rattle.tree_text.specs.declared.value.Sizes.{Sizes}
 use Rattle.tree_text.specs.Faults.{tree_kind}
 use Rattle.tree_text.specs.Values.{limited, line_in, among, line_of, last_number, next_line, step_in}
@@ -28,12 +28,12 @@ use Rattle.tree_text.specs.Canonical.{number_of_line, line_name}
 use Rattle.tree_text.proofs.WordsRead.{IsAmong}
 
 pub limited_again : (most n : ℕ) → n ≤ most → most ≤ 2000 → limited most (decimal n) ≡ Ok n
-limited_again most n le small = numbers.limited_again tree_kind OutOfRange most (decimal n) n (count_of_decimal n (omega arith)) le
+limited_again most n le small = numbers.limited_again tree_kind most (decimal n) n (count_of_decimal n (omega arith)) le
 
 pub line_in_again : (most line : ℕ) → line < most → most ≤ 1000 → line_in most (number_of_line line) ≡ Ok line
 line_in_again most line below small =
     let back : line + 1 - 1 ≡ line = omega arith in
-    rw (numbers.line_in_again tree_kind OutOfRange most (number_of_line line) (line + 1) (count_of_decimal (line + 1) (omega arith)) (omega arith) (omega arith), back) refl
+    rw (numbers.line_in_again tree_kind most (number_of_line line) (line + 1) (count_of_decimal (line + 1) (omega arith)) (omega arith) (omega arith), back) refl
 
 pub among_again : (whole : Option (List ℕ)) (line : ℕ) → IsAmong whole line → among whole line ≡ Ok line
 among_again None line is = refl

@@ -12,14 +12,14 @@ use Rattle.tree_type.specs.Sides.{is_among}
 use Rattle.tree_type.proofs.Among.{among_contains}
 use Rattle.cmr_base.proofs.RisingLists.{RisesIn}
 use Rattle.text_fields.specs.Words.{Text}
-use Rattle.text_fields.specs.Result.{◌>>=◌}
+use Rattle.text_fields.specs.Result.{◌>>=◌, renamed}
 use Rattle.text_fields.specs.Reading.{field, times}
 use Rattle.text_fields.specs.Spelling.{Spell}
 use Rattle.text_fields.proofs.Fields.{field_ok}
 use Rattle.text_fields.specs.Limits as limits
 use Rattle.text_fields.proofs.Limits as numbers
 use Rattle.text_fields.proofs.Results.{bind_ok, ok_same, guard_ok}
-use Rattle.tree_text.specs.declared.error.TreeKind.TheVariants.{Short, NotNumber, OutOfRange, NotRising, NotPart}
+use Rattle.tree_text.specs.declared.error.TreeKind.TheVariants.{Short, NotNumber, NotRising, NotPart}
 use Rattle.tree_text.specs.declared.value.Sizes.{Sizes}
 use Rattle.tree_text.specs.Faults.{tree_kind}
 use Rattle.tree_text.specs.Values.{limited, line_in, among, line_of, last_number, next_line, step_in}
@@ -42,13 +42,13 @@ spelled_all parse P each (word ∷ words) (x ∷ values) spell = (each word x sp
 
 pub limited_ok : (most : ℕ) (word : List ℕ) (n : ℕ) → limited most word ≡ Ok n → n ≤ most
 limited_ok most word n h =
-    (numbers.limited_ok tree_kind OutOfRange most word n h).1
+    (numbers.limited_ok tree_kind most word n h).1
 
 pub line_in_ok : (most : ℕ) (word : List ℕ) (line : ℕ) → line_in most word ≡ Ok line → line < most
 line_in_ok most word line h =
-    let b = bind_ok (limits.line_in tree_kind OutOfRange most word) (λ n. Ok (n - 1)) line h in
+    let b = bind_ok (renamed tree_kind (limits.line_in most word)) (λ n. Ok (n - 1)) line h in
     let is = ok_same (b.0 - 1) line b.2 in
-    let number = numbers.line_in_ok tree_kind OutOfRange most word b.0 b.1 in
+    let number = numbers.line_in_ok tree_kind most word b.0 b.1 in
     omega (arith, is, number.1, number.2)
 
 -- one of these lines, where there are some to be one of

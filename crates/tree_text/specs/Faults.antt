@@ -1,10 +1,13 @@
 -- The kinds of fault of tree texts.
-use Rattle.text_fields.specs.declared.error.NumberFault.{NumberFault}
+use Rattle.text_fields.specs.declared.error.LimitFault.{LimitFault}
+use Rattle.text_fields.specs.declared.error.LimitFault.TheVariants as limit
 use Rattle.text_fields.specs.declared.error.NumberFault.TheVariants as number
 use Rattle.tree_text.specs.declared.error.TreeKind.{TreeKind}
-use Rattle.tree_text.specs.declared.error.TreeKind.TheVariants.{NotNumber, TooBig}
+use Rattle.tree_text.specs.declared.error.TreeKind.TheVariants.{NotNumber, TooBig, OutOfRange, NotRising}
 
--- a number's fault
-abbrev pub tree_kind : NumberFault → TreeKind
-tree_kind number.NotNumber = NotNumber
-tree_kind number.TooBig = TooBig
+-- the fault of a number within limits
+abbrev pub tree_kind : LimitFault → TreeKind
+tree_kind (limit.Number number.NotNumber) = NotNumber
+tree_kind (limit.Number number.TooBig) = TooBig
+tree_kind limit.OutOfRange = OutOfRange
+tree_kind limit.NotRising = NotRising

@@ -6,20 +6,20 @@ use Rattle.cmr_base.specs.declared.line_set.LineSet.{LineSet}
 use Rattle.tree_type.specs.Sides.{is_among}
 use Rattle.text_fields.specs.Limits as limits
 pub use Rattle.text_fields.specs.LineNumbers.{last_number}
-use Rattle.text_fields.specs.Result.{◌>>=◌}
+use Rattle.text_fields.specs.Result.{◌>>=◌, renamed}
 use Rattle.tree_text.specs.declared.error.TreeKind.{TreeKind}
-use Rattle.tree_text.specs.declared.error.TreeKind.TheVariants.{NotNumber, OutOfRange, NotRising, NotPart}
+use Rattle.tree_text.specs.declared.error.TreeKind.TheVariants.{NotNumber, NotRising, NotPart}
 use Rattle.tree_text.specs.declared.value.Sizes.{Sizes}
 use Rattle.tree_text.specs.Faults.{tree_kind}
 
 -- a count of at most so much
 abbrev pub limited : ℕ → List ℕ → Result ℕ TreeKind
-limited most word = limits.limited tree_kind OutOfRange most word
+limited most word = renamed tree_kind (limits.limited most word)
 
 -- one of so many lines
 abbrev pub line_in : ℕ → List ℕ → Result ℕ TreeKind
 line_in most word = do
-  n ← limits.line_in tree_kind OutOfRange most word
+  n ← renamed tree_kind (limits.line_in most word)
   Ok (n - 1)
 
 -- it is to be one of these lines; at the root all lines of the matrix are allowed

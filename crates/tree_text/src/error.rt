@@ -1,7 +1,7 @@
 ghost use Rattle.std.specs.Prelude.{◌≡◌};
 ghost use Rattle.tree_text.specs.Faults.{tree_kind};
 
-use text_fields::{FieldError, NumberFault};
+use text_fields::{FieldError, LimitFault, NumberFault};
 
 /// What is wrong with a word of a tree text.
 #[derive(Clone, Copy, Debug, PartialEq, Eq)]
@@ -31,13 +31,15 @@ pub enum TreeKind {
 /// Why a tree text was not read: its first fault with its place, or want of memory.
 pub type TreeError = FieldError<TreeKind>;
 
-impl From<NumberFault> for TreeKind {
+impl From<LimitFault> for TreeKind {
     ghost from_gives = { λ fault kind. kind ≡ tree_kind fault };
 
-    fn from(fault: NumberFault) -> Self {
+    fn from(fault: LimitFault) -> Self {
         match fault {
-            NumberFault::NotNumber => TreeKind::NotNumber,
-            NumberFault::TooBig => TreeKind::TooBig,
+            LimitFault::Number(NumberFault::NotNumber) => TreeKind::NotNumber,
+            LimitFault::Number(NumberFault::TooBig) => TreeKind::TooBig,
+            LimitFault::OutOfRange => TreeKind::OutOfRange,
+            LimitFault::NotRising => TreeKind::NotRising,
         }
     }
 }

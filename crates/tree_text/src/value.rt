@@ -4,7 +4,6 @@ ghost use Rattle.tree_text.specs.Values.{limited, line_in, among, line_of, next_
 
 use crate::TreeKind;
 use cmr_base::{Indices, Line, LineSet};
-use text_fields::count_in;
 use tree_type::has_line;
 
 /// The sizes of the matrix that a tree is for.
@@ -19,12 +18,7 @@ pub fn limited(word: &[u8], most: u32) -> Result<u32, TreeKind>
     ensures value { result ≡ limited most word.now }
     ensures within { IfOk result (λ n. n ≤ most) }
 {
-    let count = count_in(word)?;
-    if count <= most {
-        Ok(count)
-    } else {
-        Err(TreeKind::OutOfRange)
-    }
+    Ok(text_fields::limited(word, most)?)
 }
 
 /// One of so many lines.
@@ -32,10 +26,7 @@ pub fn line_in(word: &[u8], most: u32) -> Result<u32, TreeKind>
     ensures value { result ≡ line_in most word.now }
     ensures within { IfOk result (λ line. line < most) }
 {
-    match limited(word, most)? {
-        0 => Err(TreeKind::OutOfRange),
-        number => Ok(number - 1),
-    }
+    Ok(text_fields::line_in(word, most)? - 1)
 }
 
 /// The line, where it is one of these.
