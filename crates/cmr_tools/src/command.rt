@@ -28,6 +28,7 @@ use std::alloc::Global;
 use std::thread::Threads;
 
 /// A tool with its options.
+#[derive(Clone, Copy)]
 pub enum Command<'a> {
     /// Tests whether a matrix is totally unimodular.
     Tu(TuOptions<'a>),
