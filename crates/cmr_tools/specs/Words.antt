@@ -3,6 +3,8 @@ use Rattle.std.specs.Prelude.{ℕ, List, [], ◌∷◌, Option, Some, None, opti
 use Rattle.std.specs.Str.{bytes_eq}
 use Rattle.cmr_tools.specs.declared.command.Command.{Command}
 use Rattle.cmr_tools.specs.declared.command.Command.TheVariants as command
+use Rattle.cmr_tools.specs.declared.command.ToolName.{ToolName}
+use Rattle.cmr_tools.specs.declared.command.ToolName.TheVariants as tool
 use Rattle.cmr_unimodular.specs.declared.tools.graphic_network.TestedProperty.{TestedProperty}
 use Rattle.cmr_unimodular.specs.declared.tools.graphic_network.TestedProperty.TheVariants.{Graphic, Network}
 use Rattle.cmr_unimodular.specs.Check.{CheckOrder, check_order, check_order_of, check_tool}
@@ -51,24 +53,48 @@ tool_of (balanced o) = balanced_tool o
 tool_of (parts o) = parts_tool o
 tool_of (compose o) = compose_tool o
 
+-- the tool that a word names
+abbrev pub tool_named : List ℕ → Option ToolName
+tool_named word =
+    if bytes_eq word (codes "tu") then Some tool.Tu
+    else if bytes_eq word (codes "regular") then Some tool.Regular
+    else if bytes_eq word (codes "series-parallel") then Some tool.SeriesParallel
+    else if bytes_eq word (codes "graphic") then Some (tool.Test Graphic)
+    else if bytes_eq word (codes "network") then Some (tool.Test Network)
+    else if bytes_eq word (codes "generate") then Some tool.Generate
+    else if bytes_eq word (codes "check") then Some tool.Check
+    else if bytes_eq word (codes "upgrade") then Some tool.Upgrade
+    else if bytes_eq word (codes "camion") then Some tool.Camion
+    else if bytes_eq word (codes "sign") then Some tool.Sign
+    else if bytes_eq word (codes "balanced") then Some tool.Balanced
+    else if bytes_eq word (codes "parts") then Some tool.Parts
+    else if bytes_eq word (codes "compose") then Some tool.Compose
+    else None
+
+-- what a tool takes of the other words
+abbrev pub order_with : ToolName → List (List ℕ) → Option Order
+order_with tool.Tu words = option_map tu (tu_order words)
+order_with tool.Regular words = option_map regular (regular_order words)
+order_with tool.SeriesParallel words = option_map series_parallel (series_parallel_order words)
+order_with (tool.Test property) words = option_map (test property) (test_order property words)
+order_with tool.Generate words = option_map generate (generate_order words)
+order_with tool.Check words = option_map check (check_order words)
+order_with tool.Upgrade words = option_map upgrade (upgrade_order words)
+order_with tool.Camion words = option_map camion (camion_order words)
+order_with tool.Sign words = option_map sign (sign_order words)
+order_with tool.Balanced words = option_map balanced (balanced_order words)
+order_with tool.Parts words = option_map parts (parts_order words)
+order_with tool.Compose words = option_map compose (compose_order words)
+
+-- the same, where a tool is named
+abbrev pub order_named : Option ToolName → List (List ℕ) → Option Order
+order_named None words = None
+order_named (Some name) words = order_with name words
+
 -- the first word names the tool, which takes the others; nothing where the words are refused
 abbrev pub order : List (List ℕ) → Option Order
 order [] = None
-order (tool ∷ words) =
-    if bytes_eq tool (codes "tu") then option_map tu (tu_order words)
-    else if bytes_eq tool (codes "regular") then option_map regular (regular_order words)
-    else if bytes_eq tool (codes "series-parallel") then option_map series_parallel (series_parallel_order words)
-    else if bytes_eq tool (codes "graphic") then option_map (test Graphic) (test_order Graphic words)
-    else if bytes_eq tool (codes "network") then option_map (test Network) (test_order Network words)
-    else if bytes_eq tool (codes "generate") then option_map generate (generate_order words)
-    else if bytes_eq tool (codes "check") then option_map check (check_order words)
-    else if bytes_eq tool (codes "upgrade") then option_map upgrade (upgrade_order words)
-    else if bytes_eq tool (codes "camion") then option_map camion (camion_order words)
-    else if bytes_eq tool (codes "sign") then option_map sign (sign_order words)
-    else if bytes_eq tool (codes "balanced") then option_map balanced (balanced_order words)
-    else if bytes_eq tool (codes "parts") then option_map parts (parts_order words)
-    else if bytes_eq tool (codes "compose") then option_map compose (compose_order words)
-    else None
+order (word ∷ words) = order_named (tool_named word) words
 
 -- what is ordered: nothing where the words are refused
 abbrev pub ordered : Option Order → Ordered

@@ -5,9 +5,9 @@ ghost use Rattle.cmr_front.specs.Run.{Means, RunsOver, work};
 ghost use Rattle.cmr_front.specs.Status.{answer_status};
 ghost use Rattle.cmr_front.specs.Words.Reading.{Gives};
 ghost use Rattle.cmr_front.specs.declared.status.Answer.{Answer};
-ghost use Rattle.cmr_tools.specs.Words.{order, order_of, tool_of};
+ghost use Rattle.cmr_tools.specs.Words.{order, order_of, order_with, tool_named, tool_of};
 
-use cmr_base::WordList;
+use cmr_base::{Word, WordList};
 use cmr_front::words::WordsError;
 use cmr_io::{Shelf, Sink};
 use cmr_reach::tools::balanced::{BalancedOptions, balanced, read_balanced};
@@ -56,6 +56,23 @@ pub enum Command<'a> {
     Compose(ComposeOptions<'a>),
 }
 
+/// What the first word may be. `graphic` and `network` are one tool, which tests a property.
+#[derive(Clone, Copy)]
+enum ToolName {
+    Tu,
+    Regular,
+    SeriesParallel,
+    Test(TestedProperty),
+    Generate,
+    Check,
+    Upgrade,
+    Camion,
+    Sign,
+    Balanced,
+    Parts,
+    Compose,
+}
+
 /// The command that the words give.
 pub fn read_words<'a>(alloc: Global, words: &'a WordList) -> Result<Command<'a>, WordsError>
     ensures value { Gives order_of result (order words.now) }
@@ -64,27 +81,61 @@ pub fn read_words<'a>(alloc: Global, words: &'a WordList) -> Result<Command<'a>,
     let Some((tool, rest)) = words.as_slice().split_first() else {
         return Err(WordsError::Refused);
     };
-    match tool.text() {
-        "tu" => Ok(Command::Tu(read_tu(alloc, rest)?)),
-        "regular" => Ok(Command::Regular(read_regular(alloc, rest)?)),
-        "series-parallel" => Ok(Command::SeriesParallel(read_series_parallel(alloc, rest)?)),
-        "graphic" => {
-            let options = read_test(alloc, TestedProperty::Graphic, rest)?;
-            Ok(Command::Test(TestedProperty::Graphic, options))
+    match tool_named(tool.text()) {
+        Some(name) => read_options(alloc, name, rest),
+        None => Err(WordsError::Refused),
+    }
+}
+
+// The command of a tool, by the words behind its name.
+fn read_options<'a>(
+    alloc: Global,
+    name: ToolName,
+    words: &'a [Word],
+) -> Result<Command<'a>, WordsError>
+    ensures value { Gives order_of result (order_with name words.now) }
+    ensures ranges { IfOk result (λ command. (tool_of (order_of command)).InRanges) }
+{
+    match name {
+        ToolName::Tu => Ok(Command::Tu(read_tu(alloc, words)?)),
+        ToolName::Regular => Ok(Command::Regular(read_regular(alloc, words)?)),
+        ToolName::SeriesParallel => Ok(Command::SeriesParallel(read_series_parallel(
+            alloc, words,
+        )?)),
+        ToolName::Test(property) => {
+            let options = read_test(alloc, property, words)?;
+            Ok(Command::Test(property, options))
         }
-        "network" => {
-            let options = read_test(alloc, TestedProperty::Network, rest)?;
-            Ok(Command::Test(TestedProperty::Network, options))
-        }
-        "generate" => Ok(Command::Generate(read_generate(alloc, rest)?)),
-        "check" => Ok(Command::Check(read_check(alloc, rest)?)),
-        "upgrade" => Ok(Command::Upgrade(read_upgrade(alloc, rest)?)),
-        "camion" => Ok(Command::Camion(read_camion(alloc, rest)?)),
-        "sign" => Ok(Command::Sign(read_sign(alloc, rest)?)),
-        "balanced" => Ok(Command::Balanced(read_balanced(alloc, rest)?)),
-        "parts" => Ok(Command::Parts(read_parts(alloc, rest)?)),
-        "compose" => Ok(Command::Compose(read_compose(alloc, rest)?)),
-        _ => Err(WordsError::Refused),
+        ToolName::Generate => Ok(Command::Generate(read_generate(alloc, words)?)),
+        ToolName::Check => Ok(Command::Check(read_check(alloc, words)?)),
+        ToolName::Upgrade => Ok(Command::Upgrade(read_upgrade(alloc, words)?)),
+        ToolName::Camion => Ok(Command::Camion(read_camion(alloc, words)?)),
+        ToolName::Sign => Ok(Command::Sign(read_sign(alloc, words)?)),
+        ToolName::Balanced => Ok(Command::Balanced(read_balanced(alloc, words)?)),
+        ToolName::Parts => Ok(Command::Parts(read_parts(alloc, words)?)),
+        ToolName::Compose => Ok(Command::Compose(read_compose(alloc, words)?)),
+    }
+}
+
+// The tool that a word names.
+fn tool_named(word: &str) -> Option<ToolName>
+    ensures { result ≡ tool_named word.now }
+{
+    match word {
+        "tu" => Some(ToolName::Tu),
+        "regular" => Some(ToolName::Regular),
+        "series-parallel" => Some(ToolName::SeriesParallel),
+        "graphic" => Some(ToolName::Test(TestedProperty::Graphic)),
+        "network" => Some(ToolName::Test(TestedProperty::Network)),
+        "generate" => Some(ToolName::Generate),
+        "check" => Some(ToolName::Check),
+        "upgrade" => Some(ToolName::Upgrade),
+        "camion" => Some(ToolName::Camion),
+        "sign" => Some(ToolName::Sign),
+        "balanced" => Some(ToolName::Balanced),
+        "parts" => Some(ToolName::Parts),
+        "compose" => Some(ToolName::Compose),
+        _ => None,
     }
 }
 
