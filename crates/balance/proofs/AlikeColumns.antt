@@ -20,7 +20,7 @@ use Rattle.cmr_base.proofs.SignEntries.{sign_is_nonzero}
 use Rattle.ghouila.proofs.SignProducts.{sign_nonzero}
 use Rattle.ghouila.proofs.SignedSums.{zero_or_sign}
 use Rattle.balance.specs.BalanceFaults.{IsBalanceFault}
-use Rattle.balance.specs.Searched.{HasNoneBefore}
+use Rattle.balance.specs.Searched.{HasNoFaultBelow}
 use Rattle.balance.specs.Kept.{IsCandidate}
 use Rattle.balance.proofs.NonzeroCounts.{mark, mark_zero, mark_sign, counted, two_from_sum, two_is_even}
 use Rattle.balance.proofs.FilterSums.{with_line, sum-with_line, all-with_line, rises-with_line, sum_split, sum_part}
@@ -31,7 +31,7 @@ use Rattle.balance.proofs.MinimalFaults.{IsClosed, closed_rest, part_no_fault, p
 combined : (a b d : ℤ) → IsTwoModFour (a +ℤ b) → IsTwoModFour (d +ℤ b) → IsEven b → IsFour (a +ℤ d)
 combined a b d (k, e) (l, f) (n, g) = (((pos 1 +ℤ k) +ℤ l) -ℤ n, omega (arith, sums))
 
-module _ (m : Matrix) (small : (i j : ℕ) → IsEntry (entry m i j)) (R C : List ℕ) (row_set : IsRowSet m R) (column_set : IsColumnSet m C) (f : IsBalanceFault (entry m) R C) (before : HasNoneBefore m (set_number R)) where
+module _ (m : Matrix) (small : (i j : ℕ) → IsEntry (entry m i j)) (R C : List ℕ) (row_set : IsRowSet m R) (column_set : IsColumnSet m C) (f : IsBalanceFault (entry m) R C) (before : HasNoFaultBelow m (set_number R)) where
   -- two rows that a column joins
   pub record Joins (w : ℕ) : Type 0 where
     pub u : ℕ

@@ -26,10 +26,10 @@ module _ (g : ℕ → ℤ) (small : (x : ℕ) → IsEntry (g x)) where
 
   -- a sum other than 0 has a nonzero
   pub some_nonzero : (xs : List ℕ) → sum_over xs (λ x. mark (g x)) ≢ pos 0 → (x : ℕ) × IsIn x xs × IsSign (g x)
-  some_nonzero xs more = go (search_rows (λ x. IsSign (g x)) (λ x. g x ≡ pos 0) turned xs)
+  some_nonzero xs more = go (search_rows (λ x. IsSign (g x)) (λ x. g x ≡ pos 0) sign_or_zero xs)
     where
-      turned : (x : ℕ) → IsSign (g x) ⊎ (g x ≡ pos 0)
-      turned x = elim (zero_or_sign (g x) (small x)) [ inl e ↦ inr e | inr u ↦ inl u ]
+      sign_or_zero : (x : ℕ) → IsSign (g x) ⊎ (g x ≡ pos 0)
+      sign_or_zero x = elim (zero_or_sign (g x) (small x)) [ inl e ↦ inr e | inr u ↦ inl u ]
 
       go : ((x : ℕ) × IsIn x xs × IsSign (g x)) ⊎ ((x : ℕ) → IsIn x xs → g x ≡ pos 0) → (x : ℕ) × IsIn x xs × IsSign (g x)
       go (inl found) = found

@@ -11,7 +11,7 @@ use Rattle.cmr_base.proofs.SetNumbers.{number_of_numbered, numbered_same, row_se
 use Rattle.first_hit.specs.First.{NoneBetween}
 use Rattle.balance.specs.BalanceFaults.{IsBalanced, IsBalanceFault, HasNoFaultColumns, IsLeastFaultByRows}
 use Rattle.balance.specs.Kept.{AreKept, MakeFault, MakeFaultAt}
-use Rattle.balance.specs.Searched.{HasNoneBefore}
+use Rattle.balance.specs.Searched.{HasNoFaultBelow}
 use Rattle.balance.proofs.FaultSets.{none_more, none_at_all, least_found}
 use Rattle.balance.proofs.KeptColumns.{kept_fault, kept_least, sum_number}
 
@@ -28,17 +28,17 @@ kept_same m rows xs ys a b = same_set m.width xs ys (column_set_rises m xs a.col
 pub make_fault : (m : Matrix) (rows columns : List ℕ) → AreKept m rows columns → IsBalanceFault (entry m) rows columns → MakeFault m rows
 make_fault m rows columns kept fault others k = subst (IsBalanceFault (entry m) rows) (kept_same m rows columns others kept k) fault
 
-none_here : (m : Matrix) → IsMatrix m → (number : ℕ) → number < 2 ^ height m → ¬ (MakeFaultAt m number) → HasNoneBefore m number → HasNoFaultColumns m (set_numbered (height m) 0 number)
+none_here : (m : Matrix) → IsMatrix m → (number : ℕ) → number < 2 ^ height m → ¬ (MakeFaultAt m number) → HasNoFaultBelow m number → HasNoFaultColumns m (set_numbered (height m) 0 number)
 none_here m is number inside none before columns column_set f = none (λ others kept.
-    kept_fault m is.small (set_numbered (height m) 0 number) columns (row_set-numbered m number) column_set f (subst (HasNoneBefore m) (sym (number_of_numbered (height m) number inside)) before) others kept)
+    kept_fault m is.small (set_numbered (height m) 0 number) columns (row_set-numbered m number) column_set f (subst (HasNoFaultBelow m) (sym (number_of_numbered (height m) number inside)) before) others kept)
 
 -- where the kept columns of no lesser set make a fault, no lesser set has a fault
-pub none_before : (m : Matrix) → IsMatrix m → (number : ℕ) → number ≤ 2 ^ height m → NoneBetween (MakeFaultAt m) 0 number → HasNoneBefore m number
+pub none_before : (m : Matrix) → IsMatrix m → (number : ℕ) → number ≤ 2 ^ height m → NoneBetween (MakeFaultAt m) 0 number → HasNoFaultBelow m number
 none_before m is zero inside none = λ others row_set l. absurd (omega arith)
 none_before m is (suc number) inside none =
     let next : number + 1 ≡ suc number = omega arith in
-    let before : HasNoneBefore m number = none_before m is number (omega arith) (λ k low high. none k low (omega arith)) in
-    subst (HasNoneBefore m) next (none_more m number (none_here m is number (omega arith) (none number (omega arith) (omega arith)) before) before)
+    let before : HasNoFaultBelow m number = none_before m is number (omega arith) (λ k low high. none k low (omega arith)) in
+    subst (HasNoFaultBelow m) next (none_more m number (none_here m is number (omega arith) (none number (omega arith) (omega arith)) before) before)
 
 pub balanced_after : (m : Matrix) → IsMatrix m → (total : ℕ) → total ≡ 2 ^ height m → NoneBetween (MakeFaultAt m) 0 total → IsBalanced m
 balanced_after m is total all none = none_at_all m total (omega (arith, all)) (none_before m is total (omega (arith, all)) none)
@@ -56,8 +56,8 @@ first_fault m is number rows columns inside none same kept fault = subst (λ (rs
     (least_found m number columns inside before (record {
       column_set = kept.column_set;
       fault = subst (λ (rs : List ℕ). IsBalanceFault (entry m) rs columns) same fault;
-      least = λ others column_set f. kept_least m is.small (set_numbered (height m) 0 number) others (row_set-numbered m number) column_set f (subst (HasNoneBefore m) (sym (number_of_numbered (height m) number inside)) before) columns (subst (λ (rs : List ℕ). AreKept m rs columns) same kept);
+      least = λ others column_set f. kept_least m is.small (set_numbered (height m) 0 number) others (row_set-numbered m number) column_set f (subst (HasNoFaultBelow m) (sym (number_of_numbered (height m) number inside)) before) columns (subst (λ (rs : List ℕ). AreKept m rs columns) same kept);
     }))
   where
-    before : HasNoneBefore m number
+    before : HasNoFaultBelow m number
     before = none_before m is number (omega arith) none

@@ -9,9 +9,9 @@ use Rattle.cmr_base.proofs.SetNumbers.{number_of_numbered, numbered_same, row_se
 use Rattle.cmr_base.proofs.SumLaws.{sum_over-exchange}
 use Rattle.cmr_base.proofs.TransposedLemmas.{entries-transposed, row_set-transposed, column_set_from_transposed, column_set-transposed, row_set_from_transposed}
 use Rattle.balance.specs.BalanceFaults.{IsBalanceFault, IsBalanced, HasNoFaultColumns, IsLeastFaultColumns, IsLeastFaultByRows, IsLeastFaultByColumns}
-use Rattle.balance.specs.Searched.{HasNoneBefore}
+use Rattle.balance.specs.Searched.{HasNoFaultBelow}
 
-pub none_more : (m : Matrix) (number : ℕ) → HasNoFaultColumns m (set_numbered (height m) 0 number) → HasNoneBefore m number → HasNoneBefore m (number + 1)
+pub none_more : (m : Matrix) (number : ℕ) → HasNoFaultColumns m (set_numbered (height m) 0 number) → HasNoFaultBelow m number → HasNoFaultBelow m (number + 1)
 none_more m number none before others is h = elim (cases_lt (set_number others) number) [
   | inl less ↦ before others is less
   | inr past ↦
@@ -20,11 +20,11 @@ none_more m number none before others is h = elim (cases_lt (set_number others) 
       subst (HasNoFaultColumns m) here none
 ]
 
-pub none_at_all : (m : Matrix) (number : ℕ) → 2 ^ height m ≤ number → HasNoneBefore m number → IsBalanced m
+pub none_at_all : (m : Matrix) (number : ℕ) → 2 ^ height m ≤ number → HasNoFaultBelow m number → IsBalanced m
 none_at_all m number end before rows columns row_set column_set f =
     before rows row_set (omega (arith, set_number-lt (height m) rows (row_set_rises m rows row_set))) columns column_set f
 
-pub least_found : (m : Matrix) (number : ℕ) (columns : List ℕ) → number < 2 ^ height m → HasNoneBefore m number → IsLeastFaultColumns m (set_numbered (height m) 0 number) columns → IsLeastFaultByRows m (set_numbered (height m) 0 number) columns
+pub least_found : (m : Matrix) (number : ℕ) (columns : List ℕ) → number < 2 ^ height m → HasNoFaultBelow m number → IsLeastFaultColumns m (set_numbered (height m) 0 number) columns → IsLeastFaultByRows m (set_numbered (height m) 0 number) columns
 least_found m number columns small before least = record {
   row_set = row_set-numbered m number;
   columns_least = least;
@@ -36,18 +36,18 @@ least_found m number columns small before least = record {
 
 -- ---- transposed
 
-fault_turned : (M : ℕ → ℕ → ℤ) (rows columns : List ℕ) → IsBalanceFault M rows columns → IsBalanceFault (λ column row. M row column) columns rows
-fault_turned M rows columns f = record {
+fault_swapped : (M : ℕ → ℕ → ℤ) (rows columns : List ℕ) → IsBalanceFault M rows columns → IsBalanceFault (λ column row. M row column) columns rows
+fault_swapped M rows columns f = record {
   two_in_rows = f.two_in_columns;
   two_in_columns = f.two_in_rows;
   two_mod_four = subst IsTwoModFour (sum_over-exchange rows columns M) f.two_mod_four;
 }
 
 fault_from_transposed : (m : Matrix) (rows columns : List ℕ) → IsMatrix m → IsBalanceFault (entry (transposed m)) columns rows → IsBalanceFault (entry m) rows columns
-fault_from_transposed m rows columns is f = fault_turned (λ column row. entry m row column) columns rows (subst (λ (M : ℕ → ℕ → ℤ). IsBalanceFault M columns rows) (entries-transposed m is) f)
+fault_from_transposed m rows columns is f = fault_swapped (λ column row. entry m row column) columns rows (subst (λ (M : ℕ → ℕ → ℤ). IsBalanceFault M columns rows) (entries-transposed m is) f)
 
 fault_of_transposed : (m : Matrix) (rows columns : List ℕ) → IsMatrix m → IsBalanceFault (entry m) rows columns → IsBalanceFault (entry (transposed m)) columns rows
-fault_of_transposed m rows columns is f = subst (λ (M : ℕ → ℕ → ℤ). IsBalanceFault M columns rows) (sym (entries-transposed m is)) (fault_turned (entry m) rows columns f)
+fault_of_transposed m rows columns is f = subst (λ (M : ℕ → ℕ → ℤ). IsBalanceFault M columns rows) (sym (entries-transposed m is)) (fault_swapped (entry m) rows columns f)
 
 pub balanced_from_transposed : (m : Matrix) → IsMatrix m → IsBalanced (transposed m) → IsBalanced m
 balanced_from_transposed m is none rows columns row_set column_set f =

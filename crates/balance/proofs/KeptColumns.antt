@@ -16,7 +16,7 @@ use Rattle.cmr_base.proofs.RowLists.{filter_in, in_filter}
 use Rattle.cmr_base.proofs.SumLaws.{sum_over-exchange}
 use Rattle.cmr_base.proofs.Booleans.{not_is}
 use Rattle.balance.specs.BalanceFaults.{row_nonzeros, column_nonzeros, IsBalanceFault}
-use Rattle.balance.specs.Searched.{HasNoneBefore}
+use Rattle.balance.specs.Searched.{HasNoFaultBelow}
 use Rattle.balance.specs.Kept.{IsCandidate, AreAlike, IsLeastAlike, AreKept}
 use Rattle.balance.proofs.NonzeroCounts.{mark, two_from_sum, two_is_even}
 use Rattle.balance.proofs.FilterSums.{sum_split, rises-part}
@@ -91,7 +91,7 @@ sum_number (x ∷ xs) = let k = sum_number xs in omega (arith, sums)
 two_of : (a b : ℤ) → IsFour (a +ℤ b) → IsTwoModFour b → IsTwoModFour a
 two_of a b (k, e) (l, g) = ((k -ℤ l) -ℤ pos 1, omega (arith, sums))
 
-module _ (m : Matrix) (small : (i j : ℕ) → IsEntry (entry m i j)) (R C : List ℕ) (row_set : IsRowSet m R) (column_set : IsColumnSet m C) (f : IsBalanceFault (entry m) R C) (before : HasNoneBefore m (set_number R)) (K : List ℕ) (kept : AreKept m R K) where
+module _ (m : Matrix) (small : (i j : ℕ) → IsEntry (entry m i j)) (R C : List ℕ) (row_set : IsRowSet m R) (column_set : IsColumnSet m C) (f : IsBalanceFault (entry m) R C) (before : HasNoFaultBelow m (set_number R)) (K : List ℕ) (kept : AreKept m R K) where
   abbrev Like : ℕ → ℕ → Type 0
   Like w c = IsAlike m small R C row_set column_set f before w c
 

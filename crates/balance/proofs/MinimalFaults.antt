@@ -19,7 +19,7 @@ use Rattle.ghouila.proofs.Cycles.{four_or_two}
 use Rattle.ghouila.proofs.SignProducts.{sign_nonzero}
 use Rattle.ghouila.proofs.SignedSums.{zero_or_sign}
 use Rattle.balance.specs.BalanceFaults.{row_nonzeros, column_nonzeros, IsBalanceFault}
-use Rattle.balance.specs.Searched.{HasNoneBefore}
+use Rattle.balance.specs.Searched.{HasNoFaultBelow}
 use Rattle.balance.proofs.NonzeroCounts.{mark, mark_zero, mark_sign, counted, two_from_sum, two_is_even}
 use Rattle.balance.proofs.FilterSums.{with_line, sum-with_line, all-with_line, rises-with_line, sum_split, sum_part, sum_empty, number_less, rises-part, fewer_kept}
 use Rattle.balance.proofs.ColumnPairs.{some_nonzero, one_term, third_zero}
@@ -31,7 +31,7 @@ true_apart a b e f g = false≢true (sym g ∙ sym e ∙ f)
 pub less_four : (s a b : ℤ) → a +ℤ b ≡ s → IsFour a → IsTwoModFour s → IsTwoModFour b
 less_four s a b e (k, f) (l, g) = (l -ℤ k, omega (arith, sums))
 
-module _ (m : Matrix) (small : (i j : ℕ) → IsEntry (entry m i j)) (R C : List ℕ) (row_set : IsRowSet m R) (column_set : IsColumnSet m C) (f : IsBalanceFault (entry m) R C) (before : HasNoneBefore m (set_number R)) where
+module _ (m : Matrix) (small : (i j : ℕ) → IsEntry (entry m i j)) (R C : List ℕ) (row_set : IsRowSet m R) (column_set : IsColumnSet m C) (f : IsBalanceFault (entry m) R C) (before : HasNoFaultBelow m (set_number R)) where
   pub rows_two : (i : ℕ) → IsIn i R → sum_over C (λ j. mark (entry m i j)) ≡ pos 2
   rows_two i h = counted (λ j. entry m i j) C ∙ ap pos (all_in (λ x. row_nonzeros (entry m) C x ≡ 2) R f.two_in_rows i h)
 

@@ -8,8 +8,8 @@ use Rattle.leaf_enumerate.specs.declared.search.LeastSubmatrix.TheVariants.{Clea
 use Rattle.balance.specs.BalanceFaults.{IsBalanced, HasNoFaultColumns, IsLeastFault}
 
 -- no row set with a lesser number has columns that make a fault with it
-abbrev pub HasNoneBefore : Matrix → ℕ → Type 0
-HasNoneBefore m number = (others : List ℕ) → IsRowSet m others → set_number others < number → HasNoFaultColumns m others
+abbrev pub HasNoFaultBelow : Matrix → ℕ → Type 0
+HasNoFaultBelow m number = (others : List ℕ) → IsRowSet m others → set_number others < number → HasNoFaultColumns m others
 
 -- too many lines exactly where the shorter side is above the limit; else the matrix is balanced, or this is the least fault
 abbrev pub HasSearchedFaults : Matrix → ℕ → LeastSubmatrix → Type 0

@@ -7,7 +7,7 @@ use Rattle.cmr_base.specs.Splits.{Splits, IsFirstSplit}
 use Rattle.cmr_base.specs.Trees.{support}
 use Rattle.cmr_base.proofs.ListsWithout.{place_of, IsPlaceOf, place_is}
 use Rattle.cmr_base.proofs.Places.{each_more, found_at}
-use Rattle.bridge_split.specs.PartNumbers.{number_at, AreNumbered, HasRoom, IsSearching}
+use Rattle.bridge_split.specs.PartNumbers.{number_at, AreNumbered, HasPartRoom, IsSearching}
 use Rattle.bridge_split.proofs.NumberedParts.{linked_number}
 use Rattle.bridge_split.proofs.PartWalks.{same_number}
 
@@ -61,7 +61,7 @@ module _ (M : ℕ → ℕ → Bool) (S : List ℕ) (rises : IsStrictlyIncreasing
       go q = none (place_of row S) (let m = q.in_range in omega arith) (subst (Splits M S) (sym q.there) s)
 
 module _ (m : Matrix) (S : List ℕ) (rises : IsStrictlyIncreasing S) where
-  pub searching_on : (p count : ℕ) (part part' : List (Option ℕ)) (seen seen' : List ℕ) → IsSearching m S p part seen → p < length S → HasRoom m part' seen' → AreNumbered (support m) S (get_or S p 0) (number_at part') count → count < 2
+  pub searching_on : (p count : ℕ) (part part' : List (Option ℕ)) (seen seen' : List ℕ) → IsSearching m S p part seen → p < length S → HasPartRoom m part' seen' → AreNumbered (support m) S (get_or S p 0) (number_at part') count → count < 2
       → IsSearching m S (p + 1) part' seen'
   searching_on p count part part' seen seen' w l room n few = record {
     room = room;

@@ -7,18 +7,18 @@ use Rattle.cmr_base.specs.Members.{IsIn}
 use Rattle.cmr_base.specs.Trees.{support}
 use Rattle.cmr_base.proofs.Places.{more_placed}
 use Rattle.cmr_base.specs.ColumnSets.{has_column}
-use Rattle.bridge_split.specs.PartNumbers.{number_at, HasRoom, Keeps, IsLeft, IsTouched, IsBetween, ArePassed, IsMeeting, IsWalkingFrom}
+use Rattle.bridge_split.specs.PartNumbers.{number_at, HasPartRoom, KeepsParts, IsLeft, IsTouched, IsBetween, ArePassed, IsMeeting, IsWalkingFrom}
 use Rattle.bridge_split.proofs.PartWalks.{kept, meets, one_less_left, starts}
 
 module _ (m : Matrix) (S : List ℕ) (i number x : ℕ) (part part' : List (Option ℕ)) (reached reached' : List ℕ) (hx : IsIn x S) (low : x < height m) (left : IsLeft i (number_at part) x)
-    (room : HasRoom m part reached) (set_is : part' ≡ set part x (Some number)) where
+    (room : HasPartRoom m part reached) (set_is : part' ≡ set part x (Some number)) where
   now : number_at part' x ≡ Some number
   now = ap (λ (v : List (Option ℕ)). number_at v x) set_is ∙ get_or-set_same part x (Some number) None (let e = room.numbers in omega arith)
 
   same : (z : ℕ) → z ≢ x → number_at part' z ≡ number_at part z
   same z n = ap (λ (v : List (Option ℕ)). number_at v z) set_is ∙ get_or-set_other part x z (Some number) None n
 
-  pub meets_one : (before : List (Option ℕ)) (met place : ℕ) → IsMeeting m S i number before part reached met place → HasRoom m part' reached' → (column : ℕ) → has_column reached column ≡ true → support m x column ≡ true
+  pub meets_one : (before : List (Option ℕ)) (met place : ℕ) → IsMeeting m S i number before part reached met place → HasPartRoom m part' reached' → (column : ℕ) → has_column reached column ≡ true → support m x column ≡ true
       → ((c : ℕ) → has_column reached' c ≡ (has_column reached c || (support m x c && not (support m i c)))) → IsMeeting m S i number before part' reached' (met + 1) (place + 1)
   meets_one before met place w room' column here meet more = record {
     room = room';
@@ -31,7 +31,7 @@ module _ (m : Matrix) (S : List ℕ) (i number x : ℕ) (part part' : List (Opti
   }
 
   pub starts_from : (place : ℕ) → IsStrictlyIncreasing S → IsBetween (support m) S i (number_at part) number → place < length S → x ≡ get_or S place 0 → ArePassed (support m) S i (number_at part) place → number < 1000
-      → HasRoom m part' reached' → ((c : ℕ) → has_column reached' c ≡ (support m x c && not (support m i c))) → IsWalkingFrom m S i number x part part' reached' 1
+      → HasPartRoom m part' reached' → ((c : ℕ) → has_column reached' c ≡ (support m x c && not (support m i c))) → IsWalkingFrom m S i number x part part' reached' 1
   starts_from place rises b inside at before few room' more = record {
     room = room';
     walk = starts (support m) S i (number_at part) number x (number_at part') hx left.0 left.1 now same (has_column reached') rises b place inside at before few more;
@@ -53,7 +53,7 @@ passes_one m S i number before part reached met place w free = record {
 }
 
 -- the rows up to a place more were met
-pub passed_more : (M : ℕ → ℕ → Bool) (S : List ℕ) (i place : ℕ) (part part' : ℕ → Option ℕ) → ArePassed M S i part place → Keeps part part' → (get_or S place 0 ≡ i) ⊎ ((a : ℕ) × (part' (get_or S place 0) ≡ Some a))
+pub passed_more : (M : ℕ → ℕ → Bool) (S : List ℕ) (i place : ℕ) (part part' : ℕ → Option ℕ) → ArePassed M S i part place → KeepsParts part part' → (get_or S place 0 ≡ i) ⊎ ((a : ℕ) × (part' (get_or S place 0) ≡ Some a))
     → ArePassed M S i part' (place + 1)
 passed_more M S i place part part' before keeps here = record {
   passed = more_placed (λ x. (x ≡ i) ⊎ ((a : ℕ) × (part' x ≡ Some a))) S place (λ p l. elim (before.passed p l) [ inl e ↦ inl e | inr f ↦ inr (f.0, keeps (get_or S p 0) f.0 f.1) ]) here;

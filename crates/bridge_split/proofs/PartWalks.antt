@@ -9,7 +9,7 @@ use Rattle.cmr_base.proofs.Places.{found_at}
 use Rattle.cmr_base.proofs.RowLists.{not_both}
 use Rattle.cmr_base.proofs.Submatrices.{increasing_places}
 use Rattle.cmr_base.proofs.Booleans.{and_is, is_and, is_not, not_is, or_is, or_left, or_right}
-use Rattle.bridge_split.specs.PartNumbers.{is_none, left_in, Keeps, IsPast, AreNumbered, AreMet, AreClosed, IsWalking, IsBetween, ArePassed, IsTouched}
+use Rattle.bridge_split.specs.PartNumbers.{is_none, left_in, KeepsParts, IsPast, AreNumbered, AreMet, AreClosed, IsWalking, IsBetween, ArePassed, IsTouched}
 use Rattle.bridge_split.proofs.Links.{joined_back, linked_on, linked_from}
 
 -- ---- numbers that are there or not
@@ -30,7 +30,7 @@ some_or_none (Some a) = inr (a, refl)
 
 -- ---- rows that are left grow fewer
 
-module _ (part part' : ℕ → Option ℕ) (keeps : Keeps part part') where
+module _ (part part' : ℕ → Option ℕ) (keeps : KeepsParts part part') where
   gone : (k : ℕ) → is_none (part k) ≡ false → is_none (part' k) ≡ false
   gone k e = go (some_or_none (part k))
     where
@@ -66,7 +66,7 @@ module _ (M : ℕ → ℕ → Bool) (S : List ℕ) (i : ℕ) where
   -- ---- one more row gets a number
 
   module _ (part : ℕ → Option ℕ) (number x : ℕ) (part' : ℕ → Option ℕ) (hx : IsIn x S) (off : x ≢ i) (none : part x ≡ None) (now : part' x ≡ Some number) (same : (z : ℕ) → z ≢ x → part' z ≡ part z) where
-    pub kept : Keeps part part'
+    pub kept : KeepsParts part part'
     kept k a e = same k (λ q. no_number (part x) a none (ap part (sym q) ∙ e)) ∙ e
 
     was : (k a : ℕ) → part' k ≡ Some a → (part k ≡ Some a) ⊎ ((k ≡ x) × (a ≡ number))

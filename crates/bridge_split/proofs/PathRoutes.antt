@@ -45,8 +45,8 @@ module _ (D : ℕ → ℕ → Bool) (count : ℕ) where
         odd n m a b c e f g = omega arith
 
     module _ (parent : ℕ → ℕ) (reached : List ℕ) where
-      pub turned : (x y : ℕ) → AreInOneTree D count depth parent reached x y → AreInOneTree D count depth parent reached y x
-      turned x y t = record { are = t.are; one_in = t.two_in; two_in = t.one_in; same = sym t.same }
+      pub swapped : (x y : ℕ) → AreInOneTree D count depth parent reached x y → AreInOneTree D count depth parent reached y x
+      swapped x y t = record { are = t.are; one_in = t.two_in; two_in = t.one_in; same = sym t.same }
 
       -- the deeper of two has a parent
       pub deeper_up : (x y : ℕ) → AreInOneTree D count depth parent reached x y → x ≢ y → depth y ≤ depth x → 0 < depth x

@@ -1,4 +1,4 @@
--- Sides of parts by the depths in their trees, and odd closed lists by routes.
+-- PartSides of parts by the depths in their trees, and odd closed lists by routes.
 use Rattle.std.proofs.Common.{ℕ, zero, suc, ◌+◌, ◌%◌, ◌/◌, Bool, true, List, [], ◌∷◌, ◌≡◌, ◌≢◌, ◌<◌, ◌≤◌, ◌∙◌, sym, ap, refl, arith, subst, inl, inr, length, get_or, map}
 use Rattle.std.proofs.lemmas.List.{get_or-map, length-map}
 use Rattle.cmr_base.specs.LineSets.{AllBelow}
@@ -8,7 +8,7 @@ use Rattle.cmr_base.proofs.Members.{in_at}
 use Rattle.cmr_base.proofs.Places.{members_below}
 use Rattle.cmr_base.proofs.RowLists.{two_cases}
 use Rattle.bridge_split.specs.declared.cuts.CutTable.{CutTable}
-use Rattle.bridge_split.specs.Cutting.{part_at, disagree, IsCutTable}
+use Rattle.bridge_split.specs.Cutting.{rows_at_part, disagree, IsCutTable}
 use Rattle.bridge_split.specs.Forests.{depth_at, joins, IsRoute, IsConflict, IsTwoColoured, HasRoute}
 use Rattle.bridge_split.proofs.CutTables.{disagree_true, disagree_false, disagree_back}
 
@@ -47,7 +47,7 @@ module _ (D : ℕ → ℕ → Bool) (count : ℕ) where
 
 module _ (M : ℕ → ℕ → Bool) (S : List ℕ) (i : ℕ) (parts : List (List ℕ)) (P : AreParts M S i parts) where
   -- the parts are at most as many as the rows
-  least_rises : (a : ℕ) → a < length parts → a ≤ get_or (part_at parts a) 0 0
+  least_rises : (a : ℕ) → a < length parts → a ≤ get_or (rows_at_part parts a) 0 0
   least_rises zero l = omega arith
   least_rises (suc a) l = let k = least_rises a (omega arith) in let o = P.ordered a (suc a) (omega arith) l in omega arith
 
@@ -58,24 +58,24 @@ module _ (M : ℕ → ℕ → Bool) (S : List ℕ) (i : ℕ) (parts : List (List
       go zero e = omega arith
       go (suc n) e =
           let l : n < length parts = omega arith in
-          let least = get_or (part_at parts n) 0 0 in
+          let least = get_or (rows_at_part parts n) 0 0 in
           let k = least_rises n l in
-          let m = members_below height S below least (P.only n least l (in_at (part_at parts n) 0 (P.filled n l))).0 in omega arith
+          let m = members_below height S below least (P.only n least l (in_at (rows_at_part parts n) 0 (P.filled n l))).0 in omega arith
 
-  pub parts_below : (height : ℕ) → AllBelow height S → (a : ℕ) → a < length parts → AllBelow height (part_at parts a)
-  parts_below height below a l k m = members_below height S below (get_or (part_at parts a) k 0) (P.only a (get_or (part_at parts a) k 0) l (in_at (part_at parts a) k m)).0
+  pub parts_below : (height : ℕ) → AllBelow height S → (a : ℕ) → a < length parts → AllBelow height (rows_at_part parts a)
+  parts_below height below a l k m = members_below height S below (get_or (rows_at_part parts a) k 0) (P.only a (get_or (rows_at_part parts a) k 0) l (in_at (rows_at_part parts a) k m)).0
 
-  parts_apart : (a b : ℕ) → a < length parts → b < length parts → a ≢ b → part_at parts a ≢ part_at parts b
+  parts_apart : (a b : ℕ) → a < length parts → b < length parts → a ≢ b → rows_at_part parts a ≢ rows_at_part parts b
   parts_apart a b la lb n e =
-      let least = get_or (part_at parts a) 0 0 in
-      let h = in_at (part_at parts a) 0 (P.filled a la) in
+      let least = get_or (rows_at_part parts a) 0 0 in
+      let h = in_at (rows_at_part parts a) 0 (P.filled a la) in
       P.apart a b least least la lb n h (subst (IsIn least) e h) ([], refl)
 
   module _ (table : CutTable) (count : table.count ≡ length parts) (cuts : IsCutTable M i parts (length parts) table.cuts.items) where
     joins_here : (a b : ℕ) → joins table a b ≡ disagree table.cuts.items (length parts) a b
     joins_here a b = ap (λ (n : ℕ). disagree table.cuts.items n a b) count
 
-    denies : (a b : ℕ) → a < length parts → b < length parts → joins table a b ≡ true → ¬ (Agree M i (part_at parts a) (part_at parts b))
+    denies : (a b : ℕ) → a < length parts → b < length parts → joins table a b ≡ true → ¬ (Agree M i (rows_at_part parts a) (rows_at_part parts b))
     denies a b la lb e = disagree_true M i parts table.cuts.items cuts a b la lb (sym (joins_here a b) ∙ e)
 
     -- parts whose depths are of one parity agree
@@ -102,24 +102,24 @@ module _ (M : ℕ → ℕ → Bool) (S : List ℕ) (i : ℕ) (parts : List (List
 
     -- the path between two parts that disagree and have depths of one parity
     pub odd_closed : (depth parent : ℕ → ℕ) (reached path : List ℕ) (x y : ℕ) → IsConflict (joins table) table.count depth parent reached x y → HasRoute (joins table) table.count depth [] path x y
-        → IsOddClosed M S i (map (part_at parts) path)
+        → IsOddClosed M S i (map (rows_at_part parts) path)
     odd_closed depth parent reached path x y c h = record {
       half = length path / 2;
-      odd = let s = size in halved (length path) (length (map (part_at parts) path)) is_odd s;
-      three = let s = size in let t = two_or_more in atleast (length path) (length (map (part_at parts) path)) is_odd s t;
+      odd = let s = size in halved (length path) (length (map (rows_at_part parts) path)) is_odd s;
+      three = let s = size in let t = two_or_more in atleast (length path) (length (map (rows_at_part parts) path)) is_odd s t;
       parts = λ a l. (parts, P, (get_or path a 0, low a (let s = size in omega arith), sym (at a (let s = size in omega arith))));
       next = λ a l.
           let k : suc a < length path = let s = size in omega arith in
           let e : a + 1 ≡ suc a = omega arith in
           let r = route_next (joins table) table.count x y path a route k in
-          subst (λ (b : ℕ). (get_or (map (part_at parts) path) a [] ≢ get_or (map (part_at parts) path) b []) × (¬ Agree M i (get_or (map (part_at parts) path) a []) (get_or (map (part_at parts) path) b []))) (sym e)
-          (apart (get_or path a 0) (get_or path (suc a) 0) (get_or (map (part_at parts) path) a []) (get_or (map (part_at parts) path) (suc a) []) (low a (omega arith)) (low (suc a) k) (at a (omega arith)) (at (suc a) k) r.0 r.1);
+          subst (λ (b : ℕ). (get_or (map (rows_at_part parts) path) a [] ≢ get_or (map (rows_at_part parts) path) b []) × (¬ Agree M i (get_or (map (rows_at_part parts) path) a []) (get_or (map (rows_at_part parts) path) b []))) (sym e)
+          (apart (get_or path a 0) (get_or path (suc a) 0) (get_or (map (rows_at_part parts) path) a []) (get_or (map (rows_at_part parts) path) (suc a) []) (low a (omega arith)) (low (suc a) k) (at a (omega arith)) (at (suc a) k) r.0 r.1);
       closed = λ a l.
           let k : a < length path = let s = size in omega arith in
           let z : 0 < length path = omega arith in
           let last = route_last (joins table) table.count x y path a route (let s = size in omega arith) in
           let first = route_first (joins table) table.count x y path route in
-          apart (get_or path a 0) (get_or path 0 0) (get_or (map (part_at parts) path) a []) (get_or (map (part_at parts) path) 0 []) (low a k) (low 0 z) (at a k) (at 0 z)
+          apart (get_or path a 0) (get_or path 0 0) (get_or (map (rows_at_part parts) path) a []) (get_or (map (rows_at_part parts) path) 0 []) (low a k) (low 0 z) (at a k) (at 0 z)
           (λ e. c.other (sym first ∙ sym e ∙ last))
           (subst (λ (v : ℕ). joins table v (get_or path 0 0) ≡ true) (sym last) (subst (λ (v : ℕ). joins table y v ≡ true) (sym first) (disagree_back table.cuts.items table.count x y c.joined)));
     }
@@ -127,8 +127,8 @@ module _ (M : ℕ → ℕ → Bool) (S : List ℕ) (i : ℕ) (parts : List (List
         route : IsRoute (joins table) table.count x path y
         route = subst (λ (v : List ℕ). IsRoute (joins table) table.count x v y) (sym h.appended) h.route
 
-        size : length (map (part_at parts) path) ≡ length path
-        size = length-map path (part_at parts)
+        size : length (map (rows_at_part parts) path) ≡ length path
+        size = length-map path (rows_at_part parts)
 
         two_or_more : 2 ≤ length path
         two_or_more = route_two (joins table) table.count x y path route c.other
@@ -148,11 +148,11 @@ module _ (M : ℕ → ℕ → Bool) (S : List ℕ) (i : ℕ) (parts : List (List
         low : (a : ℕ) → a < length path → get_or path a 0 < length parts
         low a l = let m = route_low (joins table) table.count x y path a route l in omega arith
 
-        at : (a : ℕ) → a < length path → get_or (map (part_at parts) path) a [] ≡ part_at parts (get_or path a 0)
-        at a l = get_or-map (part_at parts) path a 0 [] l
+        at : (a : ℕ) → a < length path → get_or (map (rows_at_part parts) path) a [] ≡ rows_at_part parts (get_or path a 0)
+        at a l = get_or-map (rows_at_part parts) path a 0 [] l
 
-        apart : (p q : ℕ) (A B : List ℕ) → p < length parts → q < length parts → A ≡ part_at parts p → B ≡ part_at parts q → p ≢ q → joins table p q ≡ true → (A ≢ B) × (¬ Agree M i A B)
+        apart : (p q : ℕ) (A B : List ℕ) → p < length parts → q < length parts → A ≡ rows_at_part parts p → B ≡ rows_at_part parts q → p ≢ q → joins table p q ≡ true → (A ≢ B) × (¬ Agree M i A B)
         apart p q A B lp lq e f n j = (
           (λ g. parts_apart p q lp lq n (sym e ∙ g ∙ f)),
-          (λ g. denies p q lp lq j (subst (λ (v : List ℕ). Agree M i v (part_at parts q)) e (subst (Agree M i A) f g))),
+          (λ g. denies p q lp lq j (subst (λ (v : List ℕ). Agree M i v (rows_at_part parts q)) e (subst (Agree M i A) f g))),
         )

@@ -7,7 +7,7 @@ use Rattle.cmr_base.specs.ColumnSets.{has_column}
 use Rattle.bridge_split.specs.declared.counts.Counts.{Counts}
 
 -- sets for so many columns
-pub record HasWords (columns : ℕ) (counts : Counts) : Type 0 where
+pub record HasCountWords (columns : ℕ) (counts : Counts) : Type 0 where
   pub once_long : length counts.once.items ≡ words_for columns
   pub twice_long : length counts.twice.items ≡ words_for columns
   pub thrice_long : length counts.thrice.items ≡ words_for columns
@@ -18,7 +18,7 @@ AreMore m S many set = (column : ℕ) → has_column set column ≡ nat_lt many 
 
 pub record AreCounts (m : Matrix) (S : List ℕ) (counts : Counts) : Type 0 where
   pub matrix : IsMatrix m
-  pub words : HasWords m.width counts
+  pub words : HasCountWords m.width counts
   pub once : AreMore m S 0 counts.once.items
   pub twice : AreMore m S 1 counts.twice.items
   pub thrice : AreMore m S 2 counts.thrice.items

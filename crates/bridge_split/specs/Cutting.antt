@@ -28,13 +28,13 @@ pub record AreCommonWords (m : Matrix) (i : ℕ) (part set : List ℕ) (chunk : 
   pub size : length set ≡ words_for m.width
   pub right : (column : ℕ) → column < 64 * chunk → (has_column set column ≡ true) ↔ IsCommon (support m) i part column
 
-abbrev pub part_at : List (List ℕ) → ℕ → List ℕ
-part_at parts a = slice_index_or parts a []
+abbrev pub rows_at_part : List (List ℕ) → ℕ → List ℕ
+rows_at_part parts a = slice_index_or parts a []
 
 -- for each two of some parts, whether a row of the second cuts the common columns of the first
 pub record IsCutTable (M : ℕ → ℕ → Bool) (i : ℕ) (parts : List (List ℕ)) (upto : ℕ) (cuts : List Bool) : Type 0 where
   pub size : length cuts ≡ upto * length parts
-  pub right : (a b : ℕ) → a < upto → b < length parts → Denies (slice_index_or cuts (a * length parts + b) false) (IsUncutBy M i (part_at parts a) (part_at parts b))
+  pub right : (a b : ℕ) → a < upto → b < length parts → Denies (slice_index_or cuts (a * length parts + b) false) (IsUncutBy M i (rows_at_part parts a) (rows_at_part parts b))
 
 -- the common columns of the parts before one are told, in a set of the right size
 pub record IsTelling (m : Matrix) (i : ℕ) (parts : List (List ℕ)) (upto : ℕ) (common : List ℕ) (cuts : List Bool) : Type 0 where
@@ -42,10 +42,10 @@ pub record IsTelling (m : Matrix) (i : ℕ) (parts : List (List ℕ)) (upto : �
   pub table : IsCutTable (support m) i parts upto cuts
 
 -- after a list of cells, one for each part: whether a row of it cuts the columns
-pub record HasLine (M : ℕ → ℕ → Bool) (columns : ℕ → Bool) (parts : List (List ℕ)) (upto : ℕ) (before cuts : List Bool) : Type 0 where
+pub record HasCutsOfParts (M : ℕ → ℕ → Bool) (columns : ℕ → Bool) (parts : List (List ℕ)) (upto : ℕ) (before cuts : List Bool) : Type 0 where
   pub size : length cuts ≡ length before + upto
   pub same : (k : ℕ) → k < length before → slice_index_or cuts k false ≡ slice_index_or before k false
-  pub right : (b : ℕ) → b < upto → Denies (slice_index_or cuts (length before + b) false) (AreUncutIn M columns (part_at parts b))
+  pub right : (b : ℕ) → b < upto → Denies (slice_index_or cuts (length before + b) false) (AreUncutIn M columns (rows_at_part parts b))
 
 -- two parts cut each other
 abbrev pub disagree : List Bool → ℕ → ℕ → ℕ → Bool

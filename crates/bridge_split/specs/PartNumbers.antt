@@ -29,14 +29,14 @@ abbrev pub numbered_parts : List (Option ℕ) → List ℕ → ℕ → List (Lis
 numbered_parts numbers S count = map (numbered_rows numbers S) (first_lines count)
 
 -- room for the numbers of all rows and for a set of columns
-pub record HasRoom (m : Matrix) (part : List (Option ℕ)) (reached : List ℕ) : Type 0 where
+pub record HasPartRoom (m : Matrix) (part : List (Option ℕ)) (reached : List ℕ) : Type 0 where
   pub matrix : IsMatrix m
   pub numbers : length part ≡ height m
   pub columns : length reached ≡ words_for m.width
 
 -- the numbers that there were are kept
-abbrev pub Keeps : (ℕ → Option ℕ) → (ℕ → Option ℕ) → Type 0
-Keeps part part' = (k a : ℕ) → part k ≡ Some a → part' k ≡ Some a
+abbrev pub KeepsParts : (ℕ → Option ℕ) → (ℕ → Option ℕ) → Type 0
+KeepsParts part part' = (k a : ℕ) → part k ≡ Some a → part' k ≡ Some a
 
 -- how many rows of S have no number
 abbrev pub left_in : List ℕ → (ℕ → Option ℕ) → ℕ
@@ -96,29 +96,29 @@ module _ (M : ℕ → ℕ → Bool) (S : List ℕ) (i : ℕ) where
 
 -- in the middle of the rows, so many of which were met: where none was, the rows before a place are not touched
 pub record IsMeeting (m : Matrix) (S : List ℕ) (i number : ℕ) (before part : List (Option ℕ)) (reached : List ℕ) (met place : ℕ) : Type 0 where
-  pub room : HasRoom m part reached
+  pub room : HasPartRoom m part reached
   pub walk : IsWalking (support m) S i (number_at part) number (has_column reached)
-  pub keeps : Keeps (number_at before) (number_at part)
+  pub keeps : KeepsParts (number_at before) (number_at part)
   pub fewer : left_in S (number_at part) + met ≤ left_in S (number_at before)
   pub none : met ≡ 0 → (p : ℕ) → p < place → ¬ (IsTouched (support m) i (number_at part) (has_column reached) (slice_index S p))
   pub few : met ≤ place
 
 -- in the middle of a part whose first row was met; where none was met at last, no row is touched
 pub record IsWalkingFrom (m : Matrix) (S : List ℕ) (i number first : ℕ) (before part : List (Option ℕ)) (reached : List ℕ) (met : ℕ) : Type 0 where
-  pub room : HasRoom m part reached
+  pub room : HasPartRoom m part reached
   pub walk : IsWalking (support m) S i (number_at part) number (has_column reached)
-  pub keeps : Keeps (number_at before) (number_at part)
+  pub keeps : KeepsParts (number_at before) (number_at part)
   pub first_in : number_at part first ≡ Some number
   pub none : met ≡ 0 → (x : ℕ) → IsIn x S → ¬ (IsTouched (support m) i (number_at part) (has_column reached) x)
 
 -- between two parts
-pub record IsNumbering (m : Matrix) (S : List ℕ) (i count place : ℕ) (part : List (Option ℕ)) (reached : List ℕ) : Type 0 where
-  pub room : HasRoom m part reached
+pub record IsBetweenParts (m : Matrix) (S : List ℕ) (i count place : ℕ) (part : List (Option ℕ)) (reached : List ℕ) : Type 0 where
+  pub room : HasPartRoom m part reached
   pub between : IsBetween (support m) S i (number_at part) count
   pub before : ArePassed (support m) S i (number_at part) place
   pub fewer : count ≤ place
 
 -- the rows before a place of S do not split
 pub record IsSearching (m : Matrix) (S : List ℕ) (place : ℕ) (part : List (Option ℕ)) (reached : List ℕ) : Type 0 where
-  pub room : HasRoom m part reached
+  pub room : HasPartRoom m part reached
   pub none : (p : ℕ) → p < place → ¬ (Splits (support m) S (slice_index S p))

@@ -2,8 +2,8 @@
 use Rattle.std.specs.Prelude.{◌≡◌, ◌≢◌, ◌<◌, ℕ, Bool, true, List}
 use Rattle.cmr_base.specs.Members.{IsIn}
 use Rattle.cmr_base.specs.Splits.{Splits, HasNoThree, IsFirstSplit, AreParts, AreSides, IsOddClosed}
-use Rattle.bridge_split.specs.declared.sides.Sides.{Sides}
-use Rattle.bridge_split.specs.declared.sides.Sides.TheVariants as found
+use Rattle.bridge_split.specs.declared.sides.PartSides.{PartSides}
+use Rattle.bridge_split.specs.declared.sides.PartSides.TheVariants as found
 use Rattle.bridge_split.specs.declared.splitting.SplitCase.{SplitCase}
 use Rattle.bridge_split.specs.declared.splitting.SplitCase.TheVariants.{Star, AllConnected, Parts, OddCycle}
 
@@ -30,6 +30,6 @@ IsSplitCase M S (Parts row parts sides) = (¬ (HasNoThree M S)) × IsFirstSplit 
 IsSplitCase M S (OddCycle row parts) = (¬ (HasNoThree M S)) × IsFirstSplit M S row × IsOddClosed M S row parts
 
 -- sides for these parts, or an odd closed list of parts
-abbrev pub AreSidesOf : (ℕ → ℕ → Bool) → List ℕ → ℕ → List (List ℕ) → Sides → Type 0
+abbrev pub AreSidesOf : (ℕ → ℕ → Bool) → List ℕ → ℕ → List (List ℕ) → PartSides → Type 0
 AreSidesOf M S row parts (found.Found sides) = AreSides M row parts sides
 AreSidesOf M S row parts (found.OddCycle cycle) = IsOddClosed M S row cycle

@@ -4,7 +4,7 @@ ghost use Rattle.cmr_base.specs.LineSets.{AllBelow};
 ghost use Rattle.cmr_base.specs.Matrix.{height, IsMatrix};
 ghost use Rattle.cmr_base.specs.Planes.{words_for};
 ghost use Rattle.cmr_base.specs.ColumnSets.{has_column};
-ghost use Rattle.bridge_split.specs.Counting.{AreCounts, HasWords};
+ghost use Rattle.bridge_split.specs.Counting.{AreCounts, HasCountWords};
 
 use cmr_base::columns::{add_common, next_column};
 use cmr_base::{MAX_COLUMNS, Matrix, Memory, words_for};
@@ -22,7 +22,7 @@ impl Counts {
     // The counts over no rows.
     fn new(alloc: Global, columns: u32) -> Result<Counts, Memory>
         requires { columns ≤ MAX_COLUMNS }
-        ensures words { IfOk result (HasWords columns) }
+        ensures words { IfOk result (HasCountWords columns) }
         ensures once { IfOk result (λ counts. (column : ℕ)
             → has_column counts.once.items column ≡ false) }
         ensures twice { IfOk result (λ counts. (column : ℕ)

@@ -6,7 +6,7 @@ ghost use Rattle.cmr_base.specs.Planes.{words_for};
 ghost use Rattle.cmr_base.specs.Splits.{IsCommon};
 ghost use Rattle.cmr_base.specs.Trees.{support};
 ghost use Rattle.cmr_base.specs.ColumnSets.{has_column, Denies};
-ghost use Rattle.bridge_split.specs.Cutting.{AreUncutIn, HasLine, IsCommonWord, IsCutTable, IsUncutIn, part_at};
+ghost use Rattle.bridge_split.specs.Cutting.{AreUncutIn, HasCutsOfParts, IsCommonWord, IsCutTable, IsUncutIn, rows_at_part};
 ghost use Rattle.bridge_split.specs.Forests.{IsSquare, joins};
 
 use cmr_base::columns::is_cut;
@@ -31,7 +31,7 @@ impl CutTable {
         requires row { row < height matrix.now }
         requires few { length parts.now ≤ height matrix.now }
         requires rows { (a : ℕ) → a < length parts.now
-            → AllBelow (height matrix.now) (part_at parts.now a) }
+            → AllBelow (height matrix.now) (rows_at_part parts.now a) }
         ensures square { IfOk result IsSquare }
         ensures count { IfOk result (λ table. table.count ≡ length parts.now) }
         ensures cuts { IfOk result (λ table.
@@ -111,9 +111,9 @@ fn push_cuts(
 ) -> Result<(), Memory>
     requires shape { IsMatrix matrix.now }
     requires rows { (a : ℕ) → a < length parts.now
-        → AllBelow (height matrix.now) (part_at parts.now a) }
+        → AllBelow (height matrix.now) (rows_at_part parts.now a) }
     requires size { length columns.now ≡ words_for matrix.now.width }
-    ensures { OnOk result (HasLine (support matrix.now) (has_column columns.now) parts.now
+    ensures { OnOk result (HasCutsOfParts (support matrix.now) (has_column columns.now) parts.now
         (length parts.now) cuts.old.items cuts.new.items) }
 {
     for part in parts {

@@ -12,6 +12,6 @@ mod splitting;
 mod stars;
 
 pub use cuts::{part_cuts, set_common};
-pub use sides::{Sides, sides_at};
+pub use sides::{PartSides, sides_at};
 pub use splitting::{SplitCase, SplitRow, first_splitting_row, split};
 pub use stars::has_column_with_three;

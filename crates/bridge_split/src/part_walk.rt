@@ -6,7 +6,7 @@ ghost use Rattle.cmr_base.specs.Matrix.{height};
 ghost use Rattle.cmr_base.specs.Members.{IsIn};
 ghost use Rattle.cmr_base.specs.Trees.{support};
 ghost use Rattle.cmr_base.specs.ColumnSets.{has_column};
-ghost use Rattle.bridge_split.specs.PartNumbers.{AreNumbered, HasRoom, IsBetween, IsLeft, IsNumbering, IsTouched, IsWalking, Keeps, left_in, number_at};
+ghost use Rattle.bridge_split.specs.PartNumbers.{AreNumbered, HasPartRoom, IsBetween, IsLeft, IsBetweenParts, IsTouched, IsWalking, KeepsParts, left_in, number_at};
 
 use cmr_base::columns::{add_outside, meets};
 use cmr_base::{MAX_ROWS, Matrix, Memory, words_for};
@@ -24,7 +24,7 @@ pub struct PartWalk {
 impl PartWalk {
     /// Room for the walks over the rows of a matrix.
     pub fn new(alloc: Global, matrix: &Matrix) -> Result<PartWalk, Memory>
-        ensures { IfOk result (λ walk. HasRoom matrix.now walk.part.items walk.reached.items) }
+        ensures { IfOk result (λ walk. HasPartRoom matrix.now walk.part.items walk.reached.items) }
     {
         Ok(PartWalk {
             part: vec![in alloc; None; matrix.rows() as usize]?,
@@ -37,8 +37,8 @@ impl PartWalk {
         requires rows { AllBelow (height matrix.now) rows.now }
         requires rising { IsStrictlyIncreasing rows.now }
         requires row { IsIn row rows.now }
-        requires room { HasRoom matrix.now self.old.part.items self.old.reached.items }
-        ensures room { HasRoom matrix.now self.new.part.items self.new.reached.items }
+        requires room { HasPartRoom matrix.now self.old.part.items self.old.reached.items }
+        ensures room { HasPartRoom matrix.now self.new.part.items self.new.reached.items }
         ensures parts { AreNumbered (support matrix.now) rows.now row
             (number_at self.new.part.items) result }
     {
@@ -75,11 +75,11 @@ impl PartWalk {
         requires rising { IsStrictlyIncreasing rows.now }
         requires row { row < height matrix.now }
         requires place { place < length rows.now }
-        requires numbering { IsNumbering matrix.now rows.now row number place self.old.part.items
+        requires numbering { IsBetweenParts matrix.now rows.now row number place self.old.part.items
             self.old.reached.items }
         requires left { IsLeft row (number_at self.old.part.items) (slice_index rows.now place) }
-        ensures room { HasRoom matrix.now self.new.part.items self.new.reached.items }
-        ensures keeps { Keeps (number_at self.old.part.items) (number_at self.new.part.items) }
+        ensures room { HasPartRoom matrix.now self.new.part.items self.new.reached.items }
+        ensures keeps { KeepsParts (number_at self.old.part.items) (number_at self.new.part.items) }
         ensures first { number_at self.new.part.items (slice_index rows.now place) ≡ Some number }
         ensures between { IsBetween (support matrix.now) rows.now row
             (number_at self.new.part.items) (number + 1) }
@@ -105,13 +105,13 @@ impl PartWalk {
         requires rows { AllBelow (height matrix.now) rows.now }
         requires few { length rows.now ≤ MAX_ROWS }
         requires row { row < height matrix.now }
-        requires room { HasRoom matrix.now self.old.part.items self.old.reached.items }
+        requires room { HasPartRoom matrix.now self.old.part.items self.old.reached.items }
         requires walk { IsWalking (support matrix.now) rows.now row (number_at self.old.part.items)
             number (has_column self.old.reached.items) }
-        ensures room { HasRoom matrix.now self.new.part.items self.new.reached.items }
+        ensures room { HasPartRoom matrix.now self.new.part.items self.new.reached.items }
         ensures walk { IsWalking (support matrix.now) rows.now row (number_at self.new.part.items)
             number (has_column self.new.reached.items) }
-        ensures keeps { Keeps (number_at self.old.part.items) (number_at self.new.part.items) }
+        ensures keeps { KeepsParts (number_at self.old.part.items) (number_at self.new.part.items) }
         ensures fewer { left_in rows.now (number_at self.new.part.items) + result
             ≤ left_in rows.now (number_at self.old.part.items) }
         ensures none { result ≡ 0 → (x : ℕ) → IsIn x rows.now
@@ -131,7 +131,7 @@ impl PartWalk {
     // Whether a row that is left is not 0 in a column that was reached.
     fn is_touched(&self, matrix: &Matrix, other: u32, row: u32) -> bool
         requires other { other < height matrix.now }
-        requires room { HasRoom matrix.now self.now.part.items self.now.reached.items }
+        requires room { HasPartRoom matrix.now self.now.part.items self.now.reached.items }
         ensures { IsTrue result
             ↔ IsTouched (support matrix.now) row (number_at self.now.part.items)
             (has_column self.now.reached.items) other }
@@ -143,8 +143,8 @@ impl PartWalk {
     fn meet(&mut self, matrix: &Matrix, row: u32, other: u32, number: u32)
         requires row { row < height matrix.now }
         requires other { other < height matrix.now }
-        requires room { HasRoom matrix.now self.old.part.items self.old.reached.items }
-        ensures room { HasRoom matrix.now self.new.part.items self.new.reached.items }
+        requires room { HasPartRoom matrix.now self.old.part.items self.old.reached.items }
+        ensures room { HasPartRoom matrix.now self.new.part.items self.new.reached.items }
         ensures part { self.new.part.items ≡ slice_set self.old.part.items other (Some number) }
         ensures reached { (column : ℕ)
             → has_column self.new.reached.items column

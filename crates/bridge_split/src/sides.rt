@@ -5,7 +5,7 @@ ghost use Rattle.cmr_base.specs.Matrix.{height};
 ghost use Rattle.cmr_base.specs.Members.{IsIn};
 ghost use Rattle.cmr_base.specs.Splits.{AreParts};
 ghost use Rattle.cmr_base.specs.Trees.{support};
-ghost use Rattle.bridge_split.specs.Cutting.{part_at};
+ghost use Rattle.bridge_split.specs.Cutting.{rows_at_part};
 ghost use Rattle.bridge_split.specs.SplitCases.{AreSidesOf};
 
 use crate::cuts::CutTable;
@@ -13,9 +13,9 @@ use crate::forest::Forest;
 use cmr_base::{Indices, Matrix, Memory, PartList, PathList, SideList};
 use std::alloc::Global;
 
-/// Sides for parts, or why there are none.
+/// PartSides for parts, or why there are none.
 #[derive(Debug, Drop)]
-pub enum Sides {
+pub enum PartSides {
     /// A side, 0 or 1, for each part: parts of one side agree.
     Found(SideList),
     /// An odd closed list of parts, each of which disagrees with the next.
@@ -29,7 +29,7 @@ pub fn sides_at(
     rows: &Indices,
     row: u32,
     parts: &PartList,
-) -> Result<Sides, Memory>
+) -> Result<PartSides, Memory>
     requires rows { AllBelow (height matrix.now) rows.now }
     requires row { IsIn row rows.now }
     requires parts { AreParts (support matrix.now) rows.now row parts.now }
@@ -39,11 +39,11 @@ pub fn sides_at(
     let table = CutTable::new(alloc, matrix, row, parts)?;
     let mut forest = Forest::new(alloc, table.len())?;
     match forest.grow(&table)? {
-        None => Ok(Sides::Found(sides_by_depth(alloc, &forest.depth)?)),
+        None => Ok(PartSides::Found(sides_by_depth(alloc, &forest.depth)?)),
         Some(conflict) => {
             let mut path = PathList::new(alloc);
             forest.push_path(&table, &mut path, conflict.one, conflict.two)?;
-            Ok(Sides::OddCycle(parts_at_places(alloc, parts, path.as_slice())?))
+            Ok(PartSides::OddCycle(parts_at_places(alloc, parts, path.as_slice())?))
         }
     }
 }
@@ -60,7 +60,7 @@ fn sides_by_depth(alloc: Global, depths: &[u32]) -> Result<SideList, Memory>
 
 fn parts_at_places(alloc: Global, parts: &[Indices], places: &[u32]) -> Result<PartList, Memory>
     requires { AllBelow (length parts.now) places.now }
-    ensures { IfOk result (λ chosen. chosen ≡ map (part_at parts.now) places.now) }
+    ensures { IfOk result (λ chosen. chosen ≡ map (rows_at_part parts.now) places.now) }
 {
     let mut chosen = PartList::new(alloc);
     for place in places {

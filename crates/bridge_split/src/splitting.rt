@@ -10,7 +10,7 @@ ghost use Rattle.bridge_split.specs.SplitCases.{IsFirstWithThree, IsSplitCase};
 use crate::counts::Counts;
 use crate::part_walk::PartWalk;
 use crate::parts::parts_of_numbers;
-use crate::sides::{Sides, sides_at};
+use crate::sides::{PartSides, sides_at};
 use cmr_base::{Indices, LineSet, Matrix, Memory, PartList, SideList};
 use std::alloc::Global;
 
@@ -103,12 +103,12 @@ fn with_sides(
     ensures { IfOk result (IsSplitCase (support matrix.now) rows.now) }
 {
     match sides_at(alloc, matrix, rows, split.row, &split.parts)? {
-        Sides::Found(sides) => Ok(SplitCase::Parts {
+        PartSides::Found(sides) => Ok(SplitCase::Parts {
             row: split.row,
             parts: split.parts,
             sides,
         }),
-        Sides::OddCycle(parts) => Ok(SplitCase::OddCycle {
+        PartSides::OddCycle(parts) => Ok(SplitCase::OddCycle {
             row: split.row,
             parts,
         }),

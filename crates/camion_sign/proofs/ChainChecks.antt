@@ -21,7 +21,7 @@ use Rattle.camion_sign.specs.declared.step.SignStep.TheVariants.{Free, Forced}
 use Rattle.camion_sign.specs.declared.step.SizedChain.{SizedChain}
 use Rattle.camion_sign.specs.declared.chains.Followed.{Followed}
 use Rattle.camion_sign.specs.SignSteps.{AreSigns, unsigned, IsUnsignedOne, IsZeroModFour, LeadTo, signed_by, step_row, step_column}
-use Rattle.camion_sign.specs.Chains.{KeepsRule, Breaks, HasSizes, IsFirstBroken, IsSoundChain, IsForcedStep, IsSignedViolator, HasTwoEach}
+use Rattle.camion_sign.specs.Chains.{KeepsRule, Breaks, HasChainSizes, IsFirstBrokenPart, IsSoundChain, IsForcedStep, IsSignedViolator, HasTwoEach}
 use Rattle.camion_sign.specs.ChainStates.{AllSignedBut, IsOpenBut, HasFollowed}
 use Rattle.camion_sign.proofs.GivenSigns.{one_more, signs_more}
 use Rattle.camion_sign.proofs.SigningStates.{lead_more}
@@ -161,10 +161,10 @@ breaks_of : (a s : Matrix) (lines : LineSet) (rest : List SignStep) → 0 < leng
 breaks_of a s lines [] l h = absurd (omega arith)
 breaks_of a s lines (step ∷ more) l h = h step more refl
 
-pub step_broken : (a : Matrix) (chain : SizedChain) (steps : List SignStep) (followed : Followed) → HasSizes a chain → steps ≡ chain.chain.steps → HasFollowed a steps followed → followed.kept < length steps → IsFirstBroken a chain (followed.kept + 1)
+pub step_broken : (a : Matrix) (chain : SizedChain) (steps : List SignStep) (followed : Followed) → HasChainSizes a chain → steps ≡ chain.chain.steps → HasFollowed a steps followed → followed.kept < length steps → IsFirstBrokenPart a chain (followed.kept + 1)
 step_broken a chain steps followed sizes e h l = go (subst (λ x. HasFollowed a x followed) e h) (subst (λ x. followed.kept < length x) e l)
   where
-    go : HasFollowed a chain.chain.steps followed → followed.kept < length chain.chain.steps → IsFirstBroken a chain (followed.kept + 1)
+    go : HasFollowed a chain.chain.steps followed → followed.kept < length chain.chain.steps → IsFirstBrokenPart a chain (followed.kept + 1)
     go f l = record {
       before = followed.kept;
       part_is = refl;
@@ -175,8 +175,8 @@ step_broken a chain steps followed sizes e h l = go (subst (λ x. HasFollowed a 
 all_kept : (a : Matrix) (steps : List SignStep) (followed : Followed) → HasFollowed a steps followed → ¬ (followed.kept < length steps) → LeadTo (KeepsRule a) (unsigned a) steps followed.signs
 all_kept a steps followed f l = subst (λ x. LeadTo (KeepsRule a) (unsigned a) x followed.signs) (take_all followed.kept steps (let k = f.within in omega arith)) f.leads
 
-pub violator_broken : (a : Matrix) (chain : SizedChain) (steps : List SignStep) (followed : Followed) → HasSizes a chain → steps ≡ chain.chain.steps → HasFollowed a steps followed → ¬ (followed.kept < length steps)
-    → ¬ (IsSignedViolator a followed.signs chain.chain.violator) → IsFirstBroken a chain (length steps + 1)
+pub violator_broken : (a : Matrix) (chain : SizedChain) (steps : List SignStep) (followed : Followed) → HasChainSizes a chain → steps ≡ chain.chain.steps → HasFollowed a steps followed → ¬ (followed.kept < length steps)
+    → ¬ (IsSignedViolator a followed.signs chain.chain.violator) → IsFirstBrokenPart a chain (length steps + 1)
 violator_broken a chain steps followed sizes e h l none = record {
   before = length steps;
   part_is = refl;

@@ -11,8 +11,9 @@ use Rattle.ghouila.proofs.SignProducts.{sign_nonzero}
 use Rattle.ghouila.proofs.SignsUnique.{row_in, column_in}
 use Rattle.camion_sign.specs.SignSteps.{AreSigns, IsUnsignedOne}
 use Rattle.camion_sign.specs.Chains.{AreJoined, JoinsTo, AreLinked, IsFreeStep}
-use Rattle.camion_sign.specs.ChainStates.{AreLabels, IsLineOf, label_place, label_in}
+use Rattle.camion_sign.specs.ChainStates.{AreLabels, label_place, label_in}
 use Rattle.camion_sign.proofs.GivenSigns.{HasOneMore, one_more, signs_more, here_or, keeps, joined_on, links_more}
+use Rattle.cmr_base.specs.Components.{IsLineOf}
 
 place_inside : (a : Matrix) (labels : List ℕ) (x : Line) → length labels ≡ height a + a.width → IsLineOf a x → label_place a x < length labels
 place_inside a labels (Row row) e l = omega arith

@@ -7,7 +7,7 @@ use Rattle.cmr_base.specs.CyclePlaces.{IsPath, IsNotAfter, IsCyclePlace, IsFault
 use Rattle.cmr_base.specs.Sums.{sum_over, IsTwoModFour}
 use Rattle.cmr_base.proofs.Integers.{sums}
 use Rattle.ghouila.proofs.Routes.{route, place_sum}
-use Rattle.camion_sign.specs.declared.walk.Step.{Step}
+use Rattle.camion_sign.specs.declared.walk.ReachedColumn.{ReachedColumn}
 use Rattle.camion_sign.specs.declared.walk.Walk.{Walk}
 use Rattle.camion_sign.specs.declared.fault.Fault.{Fault}
 use Rattle.camion_sign.specs.Trails.{IsUpTo, IsTrail, trail_sum}
@@ -134,7 +134,7 @@ first_of_rows m t found f is before h = go (subst (λ (o : Option Fault). MatchO
 
 -- ---- what was read of a walk
 
-pub met_step : (m : Matrix) (t c d : ℕ) (walk : Walk) (place : ℕ) (step : Step) → HasWalked m t c walk → d < m.width → place ≡ get_or walk.places.items d place → place_in walk.places.items d < 4294967295 → step ≡ get_or walk.steps.items place step
+pub met_step : (m : Matrix) (t c d : ℕ) (walk : Walk) (place : ℕ) (step : ReachedColumn) → HasWalked m t c walk → d < m.width → place ≡ get_or walk.places.items d place → place_in walk.places.items d < 4294967295 → step ≡ get_or walk.steps.items place step
     → step_at walk.steps.items (place_in walk.places.items d) ≡ step
 met_step m t c d walk place step w l e met f =
     let a : place_in walk.places.items d ≡ place = any_default walk.places.items d 4294967295 place (let g = w.fits.places in omega arith) ∙ sym e in
@@ -142,33 +142,33 @@ met_step m t c d walk place step w l e met f =
 
 -- ---- the path, backwards
 
-pub begin_back : (m : Matrix) (t c d : ℕ) (walk : Walk) (step : Step) (lines : List ℕ) → c < d → place_in walk.places.items d < 4294967295 → step_at walk.steps.items (place_in walk.places.items d) ≡ step → lines ≡ step.row ∷ []
+pub begin_back : (m : Matrix) (t c d : ℕ) (walk : Walk) (step : ReachedColumn) (lines : List ℕ) → c < d → place_in walk.places.items d < 4294967295 → step_at walk.steps.items (place_in walk.places.items d) ≡ step → lines ≡ step.row ∷ []
     → (w : HasWalked m t c walk) → w.key (place_in walk.places.items d) ≡ w.key step.before ++ (reverse lines ++ d ∷ [])
 begin_back m t c d walk step lines order met e f w =
     key_is m t c d walk w order met (w.key (step_at walk.steps.items (place_in walk.places.items d)).before) refl
-    ∙ ap (λ (s : Step). (w.key s.before ++ s.row ∷ []) ++ d ∷ []) e
+    ∙ ap (λ (s : ReachedColumn). (w.key s.before ++ s.row ∷ []) ++ d ∷ []) e
     ∙ append_assoc (w.key step.before) (step.row ∷ []) (d ∷ [])
     ∙ ap (λ (v : List ℕ). w.key step.before ++ (reverse v ++ d ∷ [])) (sym f)
 
-pub before_in : (m : Matrix) (t c d : ℕ) (walk : Walk) (step : Step) → HasWalked m t c walk → c < d → place_in walk.places.items d < 4294967295 → step_at walk.steps.items (place_in walk.places.items d) ≡ step → step.before < length walk.steps.items
+pub before_in : (m : Matrix) (t c d : ℕ) (walk : Walk) (step : ReachedColumn) → HasWalked m t c walk → c < d → place_in walk.places.items d < 4294967295 → step_at walk.steps.items (place_in walk.places.items d) ≡ step → step.before < length walk.steps.items
 before_in m t c d walk step w order met e =
     let a = w.queue.earlier (place_in walk.places.items d) (later_step m t c d walk w order met) (w.queue.listed d met).0 in
-    let b = ap (λ (s : Step). s.before) e in let k = (w.queue.listed d met).0 in omega arith
+    let b = ap (λ (s : ReachedColumn). s.before) e in let k = (w.queue.listed d met).0 in omega arith
 
-pub earlier_place : (m : Matrix) (t c : ℕ) (walk : Walk) (place : ℕ) (step : Step) → HasWalked m t c walk → place ≢ 0 → place < length walk.steps.items → step ≡ get_or walk.steps.items place step → step.before < place
+pub earlier_place : (m : Matrix) (t c : ℕ) (walk : Walk) (place : ℕ) (step : ReachedColumn) → HasWalked m t c walk → place ≢ 0 → place < length walk.steps.items → step ≡ get_or walk.steps.items place step → step.before < place
 earlier_place m t c walk place step w other l e =
     let a = w.queue.earlier place (positive place other) l in
-    let b = ap (λ (s : Step). s.before) (step_is walk.steps.items place step l e) in omega arith
+    let b = ap (λ (s : ReachedColumn). s.before) (step_is walk.steps.items place step l e) in omega arith
   where
     positive : (n : ℕ) → n ≢ 0 → 0 < n
     positive n h = omega arith
 
-pub go_back : (m : Matrix) (t c d : ℕ) (walk : Walk) (place : ℕ) (step : Step) (lines more : List ℕ) → place ≢ 0 → place < length walk.steps.items → step ≡ get_or walk.steps.items place step → more ≡ (lines ++ step.column ∷ []) ++ step.row ∷ []
+pub go_back : (m : Matrix) (t c d : ℕ) (walk : Walk) (place : ℕ) (step : ReachedColumn) (lines more : List ℕ) → place ≢ 0 → place < length walk.steps.items → step ≡ get_or walk.steps.items place step → more ≡ (lines ++ step.column ∷ []) ++ step.row ∷ []
     → ((w : HasWalked m t c walk) → w.key (place_in walk.places.items d) ≡ w.key place ++ (reverse lines ++ d ∷ []))
     → (w : HasWalked m t c walk) → w.key (place_in walk.places.items d) ≡ w.key step.before ++ (reverse more ++ d ∷ [])
 go_back m t c d walk place step lines more other l e f before w =
     before w
-    ∙ ap (λ (k : List ℕ). k ++ (reverse lines ++ d ∷ [])) (w.queue.parent place (positive place other) l ∙ ap (λ (s : Step). w.key s.before ++ s.row ∷ s.column ∷ []) (step_is walk.steps.items place step l e))
+    ∙ ap (λ (k : List ℕ). k ++ (reverse lines ++ d ∷ [])) (w.queue.parent place (positive place other) l ∙ ap (λ (s : ReachedColumn). w.key s.before ++ s.row ∷ s.column ∷ []) (step_is walk.steps.items place step l e))
     ∙ append_assoc (w.key step.before) (step.row ∷ step.column ∷ []) (reverse lines ++ d ∷ [])
     ∙ ap (λ (v : List ℕ). w.key step.before ++ (v ++ d ∷ [])) (sym (ap reverse f ∙ reverse-append (lines ++ step.column ∷ []) (step.row ∷ []) ∙ ap (λ (v : List ℕ). step.row ∷ v) (reverse-append lines (step.column ∷ []))))
   where

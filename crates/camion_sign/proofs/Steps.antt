@@ -6,11 +6,11 @@ use Rattle.std.proofs.Math.Seq.{get_or-append_seam}
 use Rattle.cmr_base.specs.Matrix.{Matrix, height, entry, IsMatrix, row_of}
 use Rattle.cmr_base.specs.CyclePlaces.{IsPath}
 use Rattle.cmr_base.proofs.Lists.{get_or-replicated, length-more}
-use Rattle.camion_sign.specs.declared.walk.Step.{Step}
+use Rattle.camion_sign.specs.declared.walk.ReachedColumn.{ReachedColumn}
 use Rattle.camion_sign.specs.declared.walk.Walk.{Walk}
 use Rattle.camion_sign.specs.Nonzeros.{AreNonzeros}
 use Rattle.camion_sign.specs.Trails.{IsUpTo}
-use Rattle.camion_sign.specs.Walks.{Progress, IsQueue, Goes, IsMet, IsFront, IsSettled, TwoIf, flip, step_at, place_in, progress, FitsMatrix, IsWalking, IsReaching, IsOpen, GrowsFrom, IsUntouched, NoneWaits, IsSpreading, HasSettled, IsGoing, HasWalked}
+use Rattle.camion_sign.specs.Walks.{Progress, IsQueue, Goes, IsMet, IsFront, IsSettled, TwoIf, flip, step_at, place_in, progress, HasPlacesAndMarks, IsWalking, IsReaching, IsOpen, GrowsFrom, IsUntouched, NoneWaits, IsSpreading, HasSettled, IsGoing, HasWalked}
 use Rattle.camion_sign.proofs.Trails.{path_trail}
 use Rattle.camion_sign.proofs.Walks.{IsOneMore, few, fewer, met_before, next, settles, least, all_met, all_settled, begin, with_key, kept_here, reached, visit}
 
@@ -21,7 +21,7 @@ within m row x is l h = elim (cases_lt x m.width) [
 ]
 
 -- the lists after a column was reached
-one_more : (steps : List Step) (places : List ℕ) (used : List Bool) (x r h : ℕ) (two : Bool) → x < length places
+one_more : (steps : List ReachedColumn) (places : List ℕ) (used : List Bool) (x r h : ℕ) (two : Bool) → x < length places
     → IsOneMore (progress steps places used) (progress (steps ++ record { column = x; row = r; before = h; is_two = two } ∷ []) (set places x (length steps)) used) x r h two
 one_more steps places used x r h two l = record {
   count = length-more steps (record { column = x; row = r; before = h; is_two = two });
@@ -54,25 +54,25 @@ any_bool [] i d e l = absurd (omega arith)
 any_bool (x ∷ xs) zero d e l = refl
 any_bool (x ∷ xs) (suc i) d e l = any_bool xs i d e (omega arith)
 
-pub any_step : (xs : List Step) (i : ℕ) (d e : Step) → i < length xs → get_or xs i d ≡ get_or xs i e
+pub any_step : (xs : List ReachedColumn) (i : ℕ) (d e : ReachedColumn) → i < length xs → get_or xs i d ≡ get_or xs i e
 any_step [] i d e l = absurd (omega arith)
 any_step (x ∷ xs) zero d e l = refl
 any_step (x ∷ xs) (suc i) d e l = any_step xs i d e (omega arith)
 
-pub step_is : (steps : List Step) (j : ℕ) (step : Step) → j < length steps → step ≡ get_or steps j step → step_at steps j ≡ step
+pub step_is : (steps : List ReachedColumn) (j : ℕ) (step : ReachedColumn) → j < length steps → step ≡ get_or steps j step → step_at steps j ≡ step
 step_is steps j step l e = any_step steps j (record { column = 0; row = 0; before = 0; is_two = false }) step l ∙ sym e
 
-same_progress : (walk : Walk) (steps : List Step) (places : List ℕ) (used : List Bool) → walk.steps.items ≡ steps → walk.places.items ≡ places → walk.used.items ≡ used
+same_progress : (walk : Walk) (steps : List ReachedColumn) (places : List ℕ) (used : List Bool) → walk.steps.items ≡ steps → walk.places.items ≡ places → walk.used.items ≡ used
     → progress walk.steps.items walk.places.items walk.used.items ≡ progress steps places used
 same_progress walk steps places used e f g =
-    ap (λ (v : List Step). progress v walk.places.items walk.used.items) e ∙ ap (λ (v : List ℕ). progress steps v walk.used.items) f ∙ ap (λ (v : List Bool). progress steps places v) g
+    ap (λ (v : List ReachedColumn). progress v walk.places.items walk.used.items) e ∙ ap (λ (v : List ℕ). progress steps v walk.used.items) f ∙ ap (λ (v : List Bool). progress steps places v) g
 
 grows_same : (walk : Walk) → GrowsFrom walk walk
 grows_same walk = record { longer = omega arith; steps = λ j l. refl; places = λ x l. l }
 
 -- ---- the columns of a row
 
-pub start_row : (m : Matrix) (t c h r : ℕ) (columns : List ℕ) (from : Step) (walk : Walk) → IsWalking m t c h r walk → IsOpen m t h walk → from ≡ get_or walk.steps.items h from → IsReaching m t c h r columns 0 from walk walk
+pub start_row : (m : Matrix) (t c h r : ℕ) (columns : List ℕ) (from : ReachedColumn) (walk : Walk) → IsWalking m t c h r walk → IsOpen m t h walk → from ≡ get_or walk.steps.items h from → IsReaching m t c h r columns 0 from walk walk
 start_row m t c h r columns from walk w o e = record {
   fits = w.fits;
   grows = grows_same walk;
@@ -85,7 +85,7 @@ start_row m t c h r columns from walk w o e = record {
   met = λ i l. absurd (omega arith);
 }
 
-module _ (m : Matrix) (t c h r : ℕ) (columns : List ℕ) (k : ℕ) (from : Step) (old walk : Walk) (w : IsReaching m t c h r columns k from old walk) (nonzeros : AreNonzeros (entry m r) columns) (inside : k < length columns) where
+module _ (m : Matrix) (t c h r : ℕ) (columns : List ℕ) (k : ℕ) (from : ReachedColumn) (old walk : Walk) (w : IsReaching m t c h r columns k from old walk) (nonzeros : AreNonzeros (entry m r) columns) (inside : k < length columns) where
   here : ((i : ℕ) → i < k → get_or columns i 0 < get_or columns k 0)
   here i l = nonzeros.rising i k l inside
 
@@ -144,7 +144,7 @@ module _ (m : Matrix) (t c h r : ℕ) (columns : List ℕ) (k : ℕ) (from : Ste
       x : ℕ
       x = get_or columns k 0
 
-      new : Step
+      new : ReachedColumn
       new = record { column = x; row = r; before = h; is_two = flip from.is_two same }
 
       s : Progress
@@ -166,17 +166,17 @@ module _ (m : Matrix) (t c h r : ℕ) (columns : List ℕ) (k : ℕ) (from : Ste
       top_width = let a = w.fits.matrix.width_in in omega arith
 
       one : IsOneMore s s' x r h (flip (s.is_two h) same)
-      one = subst (λ (step : Step). IsOneMore s (progress (walk.steps.items ++ record { column = x; row = r; before = h; is_two = flip step.is_two same } ∷ []) (set walk.places.items x (length walk.steps.items)) walk.used.items) x r h (flip (s.is_two h) same))
+      one = subst (λ (step : ReachedColumn). IsOneMore s (progress (walk.steps.items ++ record { column = x; row = r; before = h; is_two = flip step.is_two same } ∷ []) (set walk.places.items x (length walk.steps.items)) walk.used.items) x r h (flip (s.is_two h) same))
           w.from_is (one_more walk.steps.items walk.places.items walk.used.items x r h (flip (s.is_two h) same) (let e = w.fits.places in omega arith))
 
       unmet' : place_in walk.places.items x ≡ 4294967295
       unmet' = unmet
 
       leads' : M r (s.column h) ≢ pos 0
-      leads' = subst (λ (step : Step). M r step.column ≢ pos 0) (sym w.from_is) leads
+      leads' = subst (λ (step : ReachedColumn). M r step.column ≢ pos 0) (sym w.from_is) leads
 
       two' : TwoIf same (M r (s.column h) +ℤ M r x)
-      two' = subst (λ (step : Step). TwoIf same (M r step.column +ℤ M r x)) (sym w.from_is) two
+      two' = subst (λ (step : ReachedColumn). TwoIf same (M r step.column +ℤ M r x)) (sym w.from_is) two
 
       to : M r x ≢ pos 0
       to = nonzeros.nonzero k inside
@@ -189,7 +189,7 @@ module _ (m : Matrix) (t c h r : ℕ) (columns : List ℕ) (k : ℕ) (from : Ste
       more = ap length steps2 ∙ length-more walk.steps.items new
 
       kept : (j : ℕ) → j < length walk.steps.items → step_at walk2.steps.items j ≡ step_at walk.steps.items j
-      kept j l = ap (λ (steps : List Step). step_at steps j) steps2 ∙ get_or_append_left walk.steps.items (new ∷ []) (record { column = 0; row = 0; before = 0; is_two = false }) j l
+      kept j l = ap (λ (steps : List ReachedColumn). step_at steps j) steps2 ∙ get_or_append_left walk.steps.items (new ∷ []) (record { column = 0; row = 0; before = 0; is_two = false }) j l
 
       grown : (y : ℕ) → place_in walk.places.items y < 4294967295 → place_in (set walk.places.items x (length walk.steps.items)) y < 4294967295
       grown y l = elim (cases_eq y x) [
@@ -198,7 +198,7 @@ module _ (m : Matrix) (t c h r : ℕ) (columns : List ℕ) (k : ℕ) (from : Ste
       ]
 
 -- all columns of the row are reached: the row is gone through
-pub end_row : (m : Matrix) (t c h r : ℕ) (columns : List ℕ) (k : ℕ) (from : Step) (old walk walk2 : Walk) → IsReaching m t c h r columns k from old walk → AreNonzeros (entry m r) columns → length columns ≤ k → r < height m
+pub end_row : (m : Matrix) (t c h r : ℕ) (columns : List ℕ) (k : ℕ) (from : ReachedColumn) (old walk walk2 : Walk) → IsReaching m t c h r columns k from old walk → AreNonzeros (entry m r) columns → length columns ≤ k → r < height m
     → walk2.steps.items ≡ walk.steps.items → walk2.places.items ≡ walk.places.items → walk2.used.items ≡ set walk.used.items r true → IsWalking m t c h (r + 1) walk2
 end_row m t c h r columns k from old walk walk2 w nonzeros l tall steps2 places2 used2 = record {
   fits = record { matrix = w.fits.matrix; places = ap length places2 ∙ w.fits.places; used = ap length used2 ∙ length-set walk.used.items r true ∙ w.fits.used };
@@ -237,12 +237,12 @@ end_row m t c h r columns k from old walk walk2 w nonzeros l tall steps2 places2
 pub grows_used : (old walk walk2 : Walk) → GrowsFrom old walk → walk2.steps.items ≡ walk.steps.items → walk2.places.items ≡ walk.places.items → GrowsFrom old walk2
 grows_used old walk walk2 g steps2 places2 = record {
   longer = let a = g.longer in let b = ap length steps2 in omega arith;
-  steps = λ j l. ap (λ (steps : List Step). step_at steps j) steps2 ∙ g.steps j l;
+  steps = λ j l. ap (λ (steps : List ReachedColumn). step_at steps j) steps2 ∙ g.steps j l;
   places = λ x l. let a = g.places x l in let b = ap (λ (places : List ℕ). place_in places x) places2 in omega arith;
 }
 
-pub same_goes : (m : Matrix) (t c h r : ℕ) (columns : List ℕ) (k : ℕ) (from : Step) (old walk : Walk) (w : IsReaching m t c h r columns k from old walk) → IsOpen m t h old → Goes (entry m) t c m.width (progress walk.steps.items walk.places.items walk.used.items) w.key h
-same_goes m t c h r columns k from old walk w o = elim o.goes [ inl z ↦ inl z | inr z ↦ inr (ap (λ (v : Step). entry m t v.column) (w.grows.steps h o.within) ∙ z) ]
+pub same_goes : (m : Matrix) (t c h r : ℕ) (columns : List ℕ) (k : ℕ) (from : ReachedColumn) (old walk : Walk) (w : IsReaching m t c h r columns k from old walk) → IsOpen m t h old → Goes (entry m) t c m.width (progress walk.steps.items walk.places.items walk.used.items) w.key h
+same_goes m t c h r columns k from old walk w o = elim o.goes [ inl z ↦ inl z | inr z ↦ inr (ap (λ (v : ReachedColumn). entry m t v.column) (w.grows.steps h o.within) ∙ z) ]
 
 -- ---- the rows of a column
 
@@ -296,9 +296,9 @@ module _ (m : Matrix) (t c h : ℕ) (rows : List ℕ) (k column : ℕ) (old walk
         ]);
         open_is = record {
           within = let a = w.open_is.within in let b = grows.longer in omega arith;
-          goes = elim w.open_is.goes [ inl z ↦ inl z | inr z ↦ inr (ap (λ (v : Step). entry m t v.column) (grows.steps h w.open_is.within) ∙ z) ];
+          goes = elim w.open_is.goes [ inl z ↦ inl z | inr z ↦ inr (ap (λ (v : ReachedColumn). entry m t v.column) (grows.steps h w.open_is.within) ∙ z) ];
         };
-        column_is = ap (λ (v : Step). v.column) (grows.steps h w.open_is.within) ∙ w.column_is;
+        column_is = ap (λ (v : ReachedColumn). v.column) (grows.steps h w.open_is.within) ∙ w.column_is;
         pending_in = wide;
         waits = λ d a b n. elim (cases_lt d pending) [
           | inl lt ↦ elim (w.waits d a lt n) [
@@ -371,7 +371,7 @@ one_more_settled m t c from x places before here d a b n = elim (cases_lt d x) [
 
 -- ---- the whole walk
 
-pub begin_walk : (m : Matrix) (t c : ℕ) (walk walk2 : Walk) → FitsMatrix m walk → c < m.width → walk2.steps.items ≡ record { column = c; row = 0; before = 0; is_two = false } ∷ []
+pub begin_walk : (m : Matrix) (t c : ℕ) (walk walk2 : Walk) → HasPlacesAndMarks m walk → c < m.width → walk2.steps.items ≡ record { column = c; row = 0; before = 0; is_two = false } ∷ []
     → walk2.places.items ≡ set (replicate (length walk.places.items) 4294967295) c 0 → walk2.used.items ≡ replicate (length walk.used.items) false → IsGoing m t c 0 (c + 1) walk2
 begin_walk m t c walk walk2 f l steps2 places2 used2 = record {
   state = inl (record {
@@ -391,7 +391,7 @@ begin_walk m t c walk walk2 f l steps2 places2 used2 = record {
   waits = λ d a b. absurd (omega arith);
 }
   where
-    first : List Step
+    first : List ReachedColumn
     first = record { column = c; row = 0; before = 0; is_two = false } ∷ []
 
 pub is_walking : (m : Matrix) (t c h pending : ℕ) (walk : Walk) → IsGoing m t c h pending walk → pending < m.width → IsWalking m t c h 0 walk
@@ -403,7 +403,7 @@ smaller m t c h pending walk g l k =
     let f = few (entry m) t c m.width (progress walk.steps.items walk.places.items walk.used.items) w.key w.front.queue in omega arith
 
 -- a column in which row t is not 0 leads nowhere
-pub skip_place : (m : Matrix) (t c h pending pending2 : ℕ) (walk walk2 : Walk) (step : Step) → IsGoing m t c h pending walk → pending < m.width → h < length walk.steps.items → h ≢ 0 → step ≡ get_or walk.steps.items h step → entry m t step.column ≢ pos 0
+pub skip_place : (m : Matrix) (t c h pending pending2 : ℕ) (walk walk2 : Walk) (step : ReachedColumn) → IsGoing m t c h pending walk → pending < m.width → h < length walk.steps.items → h ≢ 0 → step ≡ get_or walk.steps.items h step → entry m t step.column ≢ pos 0
     → walk2 ≡ walk → pending2 ≡ pending → IsGoing m t c (h + 1) pending2 walk2
 skip_place m t c h pending pending2 walk walk2 step g l k other step_is' n e f =
     subst (λ (v : Walk). IsGoing m t c (h + 1) pending2 v) (sym e) (subst (λ (v : ℕ). IsGoing m t c (h + 1) v walk) (sym f) (record {
@@ -411,7 +411,7 @@ skip_place m t c h pending pending2 walk walk2 step g l k other step_is' n e f =
         fits = w.fits;
         key = w.key;
         front = next (entry m) t c m.width (progress walk.steps.items walk.places.items walk.used.items) w.key h 0 0 (λ r x. 0 ≤ r) (λ r x. 0 ≤ r) w.front k (omega arith)
-            (λ r goes early leads. absurd (elim goes [ inl z ↦ other z | inr z ↦ n (ap (λ (v : Step). entry m t v.column) (sym (step_is walk.steps.items h step k step_is')) ∙ z) ]));
+            (λ r goes early leads. absurd (elim goes [ inl z ↦ other z | inr z ↦ n (ap (λ (v : ReachedColumn). entry m t v.column) (sym (step_is walk.steps.items h step k step_is')) ∙ z) ]));
       }));
       pending_in = g.pending_in;
       waits = g.waits;
@@ -440,7 +440,7 @@ end_walk m t c h pending walk g tall end = elim g.state [
   | inr s ↦ from_settled s.1.fits s.1.key s.1.queue s.1.settled (let e = s.0 in omega arith)
 ]
   where
-    from_settled : FitsMatrix m walk → (key : ℕ → List ℕ) → IsQueue (entry m) t c m.width (progress walk.steps.items walk.places.items walk.used.items) key → IsSettled (entry m) t c m.width (progress walk.steps.items walk.places.items walk.used.items) key → m.width ≤ pending → HasWalked m t c walk
+    from_settled : HasPlacesAndMarks m walk → (key : ℕ → List ℕ) → IsQueue (entry m) t c m.width (progress walk.steps.items walk.places.items walk.used.items) key → IsSettled (entry m) t c m.width (progress walk.steps.items walk.places.items walk.used.items) key → m.width ≤ pending → HasWalked m t c walk
     from_settled fits key queue settled wide = record {
       fits = fits;
       key = key;

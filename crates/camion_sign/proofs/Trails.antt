@@ -4,7 +4,7 @@ use Rattle.std.proofs.lemmas.List.{append_cancel_right}
 use Rattle.cmr_base.specs.CyclePlaces.{IsPath, IsNotAfter, path_sum}
 use Rattle.cmr_base.proofs.Integers.{sums}
 use Rattle.cmr_base.proofs.Lists.{length-more}
-use Rattle.camion_sign.specs.Trails.{IsLess, IsBefore, IsUpTo, GoesOn, IsTrail, trail_end, trail_sum}
+use Rattle.camion_sign.specs.Trails.{IsLess, IsShortlexBefore, IsUpTo, GoesOn, IsTrail, trail_end, trail_sum}
 
 less_trans : (xs ys zs : List ℕ) → IsLess xs ys → IsLess ys zs → IsLess xs zs
 less_trans [] ys zs a b = absurd a
@@ -15,19 +15,19 @@ less_trans (x ∷ xs) (y ∷ ys) (z ∷ zs) (inl l) (inr m) = inl (let e = m.0 i
 less_trans (x ∷ xs) (y ∷ ys) (z ∷ zs) (inr l) (inl m) = inl (let e = l.0 in omega arith)
 less_trans (x ∷ xs) (y ∷ ys) (z ∷ zs) (inr l) (inr m) = inr (l.0 ∙ m.0, less_trans xs ys zs l.1 m.1)
 
-pub before_trans : (xs ys zs : List ℕ) → IsBefore xs ys → IsBefore ys zs → IsBefore xs zs
+pub before_trans : (xs ys zs : List ℕ) → IsShortlexBefore xs ys → IsShortlexBefore ys zs → IsShortlexBefore xs zs
 before_trans xs ys zs (inl l) (inl m) = inl (omega arith)
 before_trans xs ys zs (inl l) (inr m) = inl (let e = m.0 in omega arith)
 before_trans xs ys zs (inr l) (inl m) = inl (let e = l.0 in omega arith)
 before_trans xs ys zs (inr l) (inr m) = inr (l.0 ∙ m.0, less_trans xs ys zs l.1 m.1)
 
-pub up_to_before : (xs ys zs : List ℕ) → IsUpTo xs ys → IsBefore ys zs → IsBefore xs zs
+pub up_to_before : (xs ys zs : List ℕ) → IsUpTo xs ys → IsShortlexBefore ys zs → IsShortlexBefore xs zs
 up_to_before xs ys zs (inl a) b = before_trans xs ys zs a b
-up_to_before xs ys zs (inr e) b = subst (λ (v : List ℕ). IsBefore v zs) (sym e) b
+up_to_before xs ys zs (inr e) b = subst (λ (v : List ℕ). IsShortlexBefore v zs) (sym e) b
 
-pub before_up_to : (xs ys zs : List ℕ) → IsBefore xs ys → IsUpTo ys zs → IsBefore xs zs
+pub before_up_to : (xs ys zs : List ℕ) → IsShortlexBefore xs ys → IsUpTo ys zs → IsShortlexBefore xs zs
 before_up_to xs ys zs a (inl b) = before_trans xs ys zs a b
-before_up_to xs ys zs a (inr e) = subst (IsBefore xs) e a
+before_up_to xs ys zs a (inr e) = subst (IsShortlexBefore xs) e a
 
 pub up_to_trans : (xs ys zs : List ℕ) → IsUpTo xs ys → IsUpTo ys zs → IsUpTo xs zs
 up_to_trans xs ys zs (inl a) b = inl (before_up_to xs ys zs a b)
@@ -43,7 +43,7 @@ less_more (x ∷ xs) [] us vs l = absurd l
 less_more (x ∷ xs) (y ∷ ys) us vs (inl l) = inl l
 less_more (x ∷ xs) (y ∷ ys) us vs (inr l) = inr (l.0, less_more xs ys us vs l.1)
 
-pub before_more : (xs ys : List ℕ) (r x s y : ℕ) → IsBefore xs ys → IsBefore (xs ++ r ∷ x ∷ []) (ys ++ s ∷ y ∷ [])
+pub before_more : (xs ys : List ℕ) (r x s y : ℕ) → IsShortlexBefore xs ys → IsShortlexBefore (xs ++ r ∷ x ∷ []) (ys ++ s ∷ y ∷ [])
 before_more xs ys r x s y (inl l) = inl (omega (arith, length_more xs r x, length_more ys s y))
 before_more xs ys r x s y (inr l) = inr (length_more xs r x ∙ ap (λ (n : ℕ). suc (suc n)) l.0 ∙ sym (length_more ys s y), less_more xs ys (r ∷ x ∷ []) (s ∷ y ∷ []) l.1)
 
@@ -57,10 +57,10 @@ next_less [] r x s y (inr l) = inr (l.0, inl l.1)
 next_less (z ∷ zs) r x s y l = inr (refl, next_less zs r x s y l)
 
 -- of two that go on from one, the one with the lesser row, or column, is before the other
-pub next_before : (xs : List ℕ) (r x s y : ℕ) → (r < s) ⊎ ((r ≡ s) × (x < y)) → IsBefore (xs ++ r ∷ x ∷ []) (xs ++ s ∷ y ∷ [])
+pub next_before : (xs : List ℕ) (r x s y : ℕ) → (r < s) ⊎ ((r ≡ s) × (x < y)) → IsShortlexBefore (xs ++ r ∷ x ∷ []) (xs ++ s ∷ y ∷ [])
 next_before xs r x s y l = inr (length_more xs r x ∙ sym (length_more xs s y), next_less xs r x s y l)
 
-pub longer_before : (xs : List ℕ) (r x : ℕ) → IsBefore xs (xs ++ r ∷ x ∷ [])
+pub longer_before : (xs : List ℕ) (r x : ℕ) → IsShortlexBefore xs (xs ++ r ∷ x ∷ [])
 longer_before xs r x = inl (omega (arith, length_more xs r x))
 
 not_after_same : (xs : List ℕ) → IsNotAfter xs xs

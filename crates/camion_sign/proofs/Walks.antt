@@ -5,7 +5,7 @@ use Rattle.cmr_base.specs.Members.{IsIn, IsDistinct}
 use Rattle.cmr_base.proofs.Integers.{sums}
 use Rattle.cmr_base.proofs.Members.{distinct_few}
 use Rattle.cmr_base.proofs.Booleans.{is_ne, self_eq, true_is_false}
-use Rattle.camion_sign.specs.Trails.{IsBefore, IsUpTo, IsTrail, trail_end, trail_sum}
+use Rattle.camion_sign.specs.Trails.{IsShortlexBefore, IsUpTo, IsTrail, trail_end, trail_sum}
 use Rattle.camion_sign.specs.Walks.{Progress, IsQueue, Goes, IsMet, IsFront, IsSettled, TwoIf, flip}
 use Rattle.camion_sign.proofs.Trails.{before_trans, up_to_before, before_up_to, up_to_trans, before_more, up_to_more, next_before, longer_before, length_more, trail_more, end_more, sum_more, last_step, HasLast}
 
@@ -102,7 +102,7 @@ module _ (M : ℕ → ℕ → ℤ) (t c n : ℕ) where
       ]
     ]
       where
-        here : IsUpTo (key h) lines → (s.used r ≡ true) ⊎ P r x → IsMet M t c n s key x (lines ++ r ∷ x ∷ []) ⊎ ((j : ℕ) → j < s.count → IsBefore (key j) (lines ++ r ∷ x ∷ []))
+        here : IsUpTo (key h) lines → (s.used r ≡ true) ⊎ P r x → IsMet M t c n s key x (lines ++ r ∷ x ∷ []) ⊎ ((j : ℕ) → j < s.count → IsShortlexBefore (key j) (lines ++ r ∷ x ∷ []))
         here e (inl u) = let v = w.gone r x u to in inl (v.0, up_to_trans (key (s.place x)) (key h ++ r ∷ x ∷ []) (lines ++ r ∷ x ∷ []) (v.1 l) (up_to_more (key h) lines r x e))
         here e (inr q) = inr (λ j k. before_up_to (key j) (key h ++ r ∷ x ∷ []) (lines ++ r ∷ x ∷ []) (w.front j r x k l q) (up_to_more (key h) lines r x e))
 
@@ -135,7 +135,7 @@ module _ (M : ℕ → ℕ → ℤ) (t c n : ℕ) where
     -- where all is settled, the trails to the columns that were met are the least
     pub least : IsQueue M t c n s key → IsSettled M t c n s key → (d : ℕ) (lines : List ℕ) → s.place d < 4294967295 → IsTrail M t c lines → trail_end c lines ≡ d → IsUpTo (key (s.place d)) lines
     least w settled d lines met h e =
-        elim (compare (λ (ls : List ℕ). (j : ℕ) → j < s.count → IsBefore (key j) ls) w (λ ls r x late j l. before_trans (key j) ls (ls ++ r ∷ x ∷ []) (late j l) (longer_before ls r x)) settled (suc (length lines)) lines (omega arith) h) [
+        elim (compare (λ (ls : List ℕ). (j : ℕ) → j < s.count → IsShortlexBefore (key j) ls) w (λ ls r x late j l. before_trans (key j) ls (ls ++ r ∷ x ∷ []) (late j l) (longer_before ls r x)) settled (suc (length lines)) lines (omega arith) h) [
           | inl v ↦ subst (λ (y : ℕ). IsUpTo (key (s.place y)) lines) e v.1
           | inr late ↦ inl (late (s.place d) (w.listed d met).0)
         ]
@@ -251,9 +251,9 @@ module _ (M : ℕ → ℕ → ℤ) (t c n : ℕ) where
             | inl q ↦ let e : s'.place z ≡ s.count = ap s'.place q ∙ o.place in let b = few_top in omega arith
             | inr q ↦ let e = o.places z q in let a = w.queue.topped z in omega arith
           ];
-          sorted = λ i j k m. each (λ j. (i : ℕ) → i < j → IsBefore (with_key i) (with_key j))
-              (λ j m i k. subst (λ (v : List ℕ). IsBefore v (with_key j)) (sym (old_key i (omega arith))) (subst (IsBefore (key i)) (sym (old_key j m)) (w.queue.sorted i j k m)))
-              (λ i k. subst (λ (v : List ℕ). IsBefore v (with_key s.count)) (sym (old_key i k)) (subst (IsBefore (key i)) (sym (new_key s.count refl)) (w.front i r x k l next_one)))
+          sorted = λ i j k m. each (λ j. (i : ℕ) → i < j → IsShortlexBefore (with_key i) (with_key j))
+              (λ j m i k. subst (λ (v : List ℕ). IsShortlexBefore v (with_key j)) (sym (old_key i (omega arith))) (subst (IsShortlexBefore (key i)) (sym (old_key j m)) (w.queue.sorted i j k m)))
+              (λ i k. subst (λ (v : List ℕ). IsShortlexBefore v (with_key s.count)) (sym (old_key i k)) (subst (IsShortlexBefore (key i)) (sym (new_key s.count refl)) (w.front i r x k l next_one)))
               j m i k;
           trail = each (λ j. IsTrail M t c (with_key j)) (λ j m. subst (IsTrail M t c) (sym (old_key j m)) (w.queue.trail j m)) (subst (IsTrail M t c) (sym (new_key s.count refl)) new_trail);
           ends = each (λ j. trail_end c (with_key j) ≡ s'.column j) (λ j m. ap (trail_end c) (old_key j m) ∙ w.queue.ends j m ∙ sym (o.columns j m))
@@ -287,8 +287,8 @@ module _ (M : ℕ → ℕ → ℤ) (t c n : ℕ) where
           gone = λ q y u b.
               let v = w.gone q y (sym (o.used q) ∙ u) b in
               let k = kept_here y q y (v.0, v.1 l) in (k.0, λ m. k.1);
-          front = λ j q y m k a. each (λ j. IsBefore (with_key j) (with_key h ++ q ∷ y ∷ []))
-              (λ j m. subst (λ (u : List ℕ). IsBefore u (with_key h ++ q ∷ y ∷ [])) (sym (old_key j m)) (subst (λ (u : List ℕ). IsBefore (key j) (u ++ q ∷ y ∷ [])) (sym same_head) (w.front j q y m l (still q y a).0)))
-              (subst (λ (u : List ℕ). IsBefore u (with_key h ++ q ∷ y ∷ [])) (sym (new_key s.count refl)) (subst (λ (u : List ℕ). IsBefore (key h ++ r ∷ x ∷ []) (u ++ q ∷ y ∷ [])) (sym same_head) (next_before (key h) r x q y (still q y a).1)))
+          front = λ j q y m k a. each (λ j. IsShortlexBefore (with_key j) (with_key h ++ q ∷ y ∷ []))
+              (λ j m. subst (λ (u : List ℕ). IsShortlexBefore u (with_key h ++ q ∷ y ∷ [])) (sym (old_key j m)) (subst (λ (u : List ℕ). IsShortlexBefore (key j) (u ++ q ∷ y ∷ [])) (sym same_head) (w.front j q y m l (still q y a).0)))
+              (subst (λ (u : List ℕ). IsShortlexBefore u (with_key h ++ q ∷ y ∷ [])) (sym (new_key s.count refl)) (subst (λ (u : List ℕ). IsShortlexBefore (key h ++ r ∷ x ∷ []) (u ++ q ∷ y ∷ [])) (sym same_head) (next_before (key h) r x q y (still q y a).1)))
               j m;
         }

@@ -8,11 +8,7 @@ use Rattle.camion_sign.specs.declared.step.SignStep.{SignStep}
 use Rattle.camion_sign.specs.declared.chains.Followed.{Followed}
 use Rattle.camion_sign.specs.SignSteps.{AreSigns, IsUnsignedOne, unsigned, LeadTo}
 use Rattle.camion_sign.specs.Chains.{AreLinked, KeepsRule}
-
--- a line of the matrix
-abbrev pub IsLineOf : Matrix → Line → Type 0
-IsLineOf a (Row row) = row < height a
-IsLineOf a (Column column) = column < a.width
+use Rattle.cmr_base.specs.Components.{IsLineOf}
 
 -- labels stand for the rows, and behind them for the columns
 abbrev pub label_place : Matrix → Line → ℕ

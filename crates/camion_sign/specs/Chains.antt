@@ -66,12 +66,12 @@ pub record IsSignedViolator (a s : Matrix) (lines : LineSet) : Type 0 where
   pub violator : IsViolator (entry s) lines.rows lines.columns
 
 -- the chain's sizes are the matrix's
-abbrev pub HasSizes : Matrix → SizedChain → Type 0
-HasSizes a chain = (chain.rows ≡ height a) × (chain.columns ≡ a.width)
+abbrev pub HasChainSizes : Matrix → SizedChain → Type 0
+HasChainSizes a chain = (chain.rows ≡ height a) × (chain.columns ≡ a.width)
 
 -- each part of the chain keeps its rule, and its steps give these signs
 pub record IsSoundChain (a : Matrix) (chain : SizedChain) (signs : Matrix) : Type 0 where
-  pub sizes : HasSizes a chain
+  pub sizes : HasChainSizes a chain
   pub steps : LeadTo (KeepsRule a) (unsigned a) chain.chain.steps signs
   pub violator : IsSignedViolator a signs chain.chain.violator
 
@@ -82,12 +82,12 @@ Breaks a s (step ∷ steps) lines = (sign : ℤ) → ¬ (KeepsRule a s step sign
 
 -- this part, counted from 1, is the first that breaks its rule; the violator counts as the step after the last. Where the
 -- chain's sizes are not the matrix's, it is the first part.
-pub record IsFirstBroken (a : Matrix) (chain : SizedChain) (part : ℕ) : Type 0 where
+pub record IsFirstBrokenPart (a : Matrix) (chain : SizedChain) (part : ℕ) : Type 0 where
   pub before : ℕ
   pub part_is : part ≡ before + 1
   pub within : before ≤ length chain.chain.steps
-  pub broken : ((¬ (HasSizes a chain)) × (before ≡ 0))
-      ⊎ (HasSizes a chain × ((signs : Matrix) × LeadTo (KeepsRule a) (unsigned a) (take before chain.chain.steps) signs × Breaks a signs (drop before chain.chain.steps) chain.chain.violator))
+  pub broken : ((¬ (HasChainSizes a chain)) × (before ≡ 0))
+      ⊎ (HasChainSizes a chain × ((signs : Matrix) × LeadTo (KeepsRule a) (unsigned a) (take before chain.chain.steps) signs × Breaks a signs (drop before chain.chain.steps) chain.chain.violator))
 
 -- some matrix with the same support and entries -1, 0 and 1 is totally unimodular
 abbrev pub IsRegular : Matrix → Type 0

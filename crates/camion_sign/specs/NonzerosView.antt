@@ -16,5 +16,5 @@ AreStarts count (from ∷ to ∷ starts) = (from ≤ to) × AreStarts count (to 
 abbrev pub lists_of : Inside → List (List ℕ)
 lists_of a = cut a.places.items a.starts.items
 
-abbrev pub IsCut : Inside → Type 0
-IsCut a = AreStarts (length a.places.items) a.starts.items
+abbrev pub AreRowStarts : Inside → Type 0
+AreRowStarts a = AreStarts (length a.places.items) a.starts.items

@@ -2,7 +2,7 @@
 use Rattle.std.specs.Prelude.{◌≡◌, ◌≢◌, ◌<◌, ◌+◌, if◌then◌else◌, ℕ, zero, suc, true, false, ℤ, pos, List, Some, length, slice_index_or}
 use Rattle.cmr_base.specs.Matrix.{Matrix, height, entry, is_nonzero, IsMatrix}
 use Rattle.cmr_base.specs.CyclePlaces.{IsCyclePlace}
-use Rattle.camion_sign.specs.Walks.{FitsMatrix, HasWalked}
+use Rattle.camion_sign.specs.Walks.{HasPlacesAndMarks, HasWalked}
 use Rattle.camion_sign.specs.declared.row_places.RowPlaces.{RowPlaces}
 use Rattle.camion_sign.specs.declared.signing.Signing.{Signing}
 use Rattle.camion_sign.specs.SignSteps.{AreSigns, IsUnsignedOne, unsigned, LeadTo}
@@ -24,14 +24,14 @@ abbrev pub TellsFrom : Matrix → ℕ → ℕ → ℕ → Matrix → Type 0
 TellsFrom m t c bound links = (d : ℕ) → c < d → d < bound → entry m t d ≢ pos 0 → TellsPlace m t c d (entry links c d)
 
 -- room for the places of each row
-pub record HasRoom (m : Matrix) (places : RowPlaces) : Type 0 where
-  pub fits : FitsMatrix m places.walk
+pub record HasRoomForPlaces (m : Matrix) (places : RowPlaces) : Type 0 where
+  pub fits : HasPlacesAndMarks m places.walk
   pub square : AreSquare m places.links
   pub one_each : length places.known.items ≡ m.width
 
 -- what is known of the places of row t, and the last walk
 pub record KnowsPlaces (m : Matrix) (t : ℕ) (places : RowPlaces) : Type 0 where
-  pub room : HasRoom m places
+  pub room : HasRoomForPlaces m places
   pub tells : (c : ℕ) → slice_index_or places.known.items c false ≡ true → TellsFrom m t c m.width places.links
   pub walked : (c : ℕ) → places.walked ≡ Some c → HasWalked m t c places.walk
 

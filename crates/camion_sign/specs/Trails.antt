@@ -3,11 +3,11 @@ use Rattle.std.specs.Prelude.{ℕ, List, [], ◌∷◌, ℤ, pos, ◌+ℤ◌, �
 pub use Rattle.cmr_base.specs.Seeds.{IsBefore as IsLess}
 
 -- shorter, or of one length and before in lexicographic order
-abbrev pub IsBefore : List ℕ → List ℕ → Type 0
-IsBefore xs ys = (length xs < length ys) ⊎ ((length xs ≡ length ys) × IsLess xs ys)
+abbrev pub IsShortlexBefore : List ℕ → List ℕ → Type 0
+IsShortlexBefore xs ys = (length xs < length ys) ⊎ ((length xs ≡ length ys) × IsLess xs ys)
 
 abbrev pub IsUpTo : List ℕ → List ℕ → Type 0
-IsUpTo xs ys = IsBefore xs ys ⊎ (xs ≡ ys)
+IsUpTo xs ys = IsShortlexBefore xs ys ⊎ (xs ≡ ys)
 
 module _ (M : ℕ → ℕ → ℤ) (t : ℕ) where
   -- a trail may go on through a column only where row t is 0

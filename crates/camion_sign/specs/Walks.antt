@@ -4,10 +4,10 @@ use Rattle.std.specs.Prelude.{ℕ, List, [], ◌∷◌, ◌++◌, Bool, true, fa
 use Rattle.cmr_base.specs.Matrix.{Matrix, height, entry, IsMatrix}
 use Rattle.cmr_base.specs.CyclePlaces.{IsPath}
 use Rattle.cmr_base.specs.Sums.{IsTwoModFour}
-use Rattle.camion_sign.specs.declared.walk.Step.{Step}
+use Rattle.camion_sign.specs.declared.walk.ReachedColumn.{ReachedColumn}
 use Rattle.camion_sign.specs.declared.walk.TheConstants.{UNREACHED}
 use Rattle.camion_sign.specs.declared.walk.Walk.{Walk}
-use Rattle.camion_sign.specs.Trails.{IsBefore, IsUpTo, IsTrail, trail_end, trail_sum}
+use Rattle.camion_sign.specs.Trails.{IsShortlexBefore, IsUpTo, IsTrail, trail_end, trail_sum}
 
 -- true an odd number of times
 abbrev pub flip : Bool → Bool → Bool
@@ -31,13 +31,13 @@ pub record Progress : Type 0 where
   pub place : ℕ → ℕ
   pub used : ℕ → Bool
 
-abbrev pub step_at : List Step → ℕ → Step
+abbrev pub step_at : List ReachedColumn → ℕ → ReachedColumn
 step_at steps place = slice_index_or steps place (record { column = 0; row = 0; before = 0; is_two = false })
 
 abbrev pub place_in : List ℕ → ℕ → ℕ
 place_in places column = slice_index_or places column UNREACHED
 
-abbrev pub progress : List Step → List ℕ → List Bool → Progress
+abbrev pub progress : List ReachedColumn → List ℕ → List Bool → Progress
 progress steps places used = record {
   count = length steps;
   column = λ j. (step_at steps j).column;
@@ -58,7 +58,7 @@ module _ (M : ℕ → ℕ → ℤ) (t c n : ℕ) (s : Progress) (key : ℕ → L
     pub placed : (j : ℕ) → j < s.count → s.place (s.column j) ≡ j
     pub listed : (x : ℕ) → s.place x < UNREACHED → (s.place x < s.count) × (s.column (s.place x) ≡ x)
     pub topped : (x : ℕ) → s.place x ≤ UNREACHED
-    pub sorted : (i j : ℕ) → i < j → j < s.count → IsBefore (key i) (key j)
+    pub sorted : (i j : ℕ) → i < j → j < s.count → IsShortlexBefore (key i) (key j)
     pub trail : (j : ℕ) → j < s.count → IsTrail M t c (key j)
     pub ends : (j : ℕ) → j < s.count → trail_end c (key j) ≡ s.column j
     pub sums : (j : ℕ) → j < s.count → TwoIf (s.is_two j) (trail_sum M c (key j))
@@ -79,22 +79,22 @@ module _ (M : ℕ → ℕ → ℤ) (t c n : ℕ) (s : Progress) (key : ℕ → L
     pub fits : h ≤ s.count
     pub done : (i r x : ℕ) → i < h → Goes i → r < t → M r (s.column i) ≢ pos 0 → M r x ≢ pos 0 → IsMet x (key i ++ r ∷ x ∷ [])
     pub gone : (r x : ℕ) → s.used r ≡ true → M r x ≢ pos 0 → (s.place x < UNREACHED) × (h < s.count → IsUpTo (key (s.place x)) (key h ++ r ∷ x ∷ []))
-    pub front : (j r x : ℕ) → j < s.count → h < s.count → Next r x → IsBefore (key j) (key h ++ r ∷ x ∷ [])
+    pub front : (j r x : ℕ) → j < s.count → h < s.count → Next r x → IsShortlexBefore (key j) (key h ++ r ∷ x ∷ [])
 
   -- nothing that a trail can still reach comes before what was reached
   abbrev pub IsSettled : Type 0
   IsSettled = (i r x : ℕ) (lines : List ℕ) → i < s.count → Goes i → r < t → M r (s.column i) ≢ pos 0 → M r x ≢ pos 0 → IsUpTo (key i) lines
-      → IsMet x (lines ++ r ∷ x ∷ []) ⊎ ((j : ℕ) → j < s.count → IsBefore (key j) (lines ++ r ∷ x ∷ []))
+      → IsMet x (lines ++ r ∷ x ∷ []) ⊎ ((j : ℕ) → j < s.count → IsShortlexBefore (key j) (lines ++ r ∷ x ∷ []))
 
 -- as many places as columns and as many marks as rows
-pub record FitsMatrix (m : Matrix) (walk : Walk) : Type 0 where
+pub record HasPlacesAndMarks (m : Matrix) (walk : Walk) : Type 0 where
   pub matrix : IsMatrix m
   pub places : length walk.places.items ≡ m.width
   pub used : length walk.used.items ≡ height m
 
 -- a walk from column c before row t, at place h, where rows below `low` are not looked at again for this place
 pub record IsWalking (m : Matrix) (t c h low : ℕ) (walk : Walk) : Type 0 where
-  pub fits : FitsMatrix m walk
+  pub fits : HasPlacesAndMarks m walk
   pub key : ℕ → List ℕ
   pub front : IsFront (entry m) t c m.width (progress walk.steps.items walk.places.items walk.used.items) key h (λ r x. low ≤ r)
 
@@ -110,8 +110,8 @@ pub record GrowsFrom (old new : Walk) : Type 0 where
   pub places : (x : ℕ) → place_in old.places.items x < UNREACHED → place_in new.places.items x < UNREACHED
 
 -- in the middle of the columns that row r meets, from the step at place h: the first k are reached
-pub record IsReaching (m : Matrix) (t c h r : ℕ) (columns : List ℕ) (k : ℕ) (from : Step) (old walk : Walk) : Type 0 where
-  pub fits : FitsMatrix m walk
+pub record IsReaching (m : Matrix) (t c h r : ℕ) (columns : List ℕ) (k : ℕ) (from : ReachedColumn) (old walk : Walk) : Type 0 where
+  pub fits : HasPlacesAndMarks m walk
   pub grows : GrowsFrom old walk
   pub used : walk.used.items ≡ old.used.items
   pub within : h < length walk.steps.items
@@ -143,7 +143,7 @@ pub record IsSpreading (m : Matrix) (t c h : ℕ) (rows : List ℕ) (k pending :
 
 -- the walk may end: all that it looks for is settled
 pub record HasSettled (m : Matrix) (t c : ℕ) (walk : Walk) : Type 0 where
-  pub fits : FitsMatrix m walk
+  pub fits : HasPlacesAndMarks m walk
   pub key : ℕ → List ℕ
   pub queue : IsQueue (entry m) t c m.width (progress walk.steps.items walk.places.items walk.used.items) key
   pub settled : IsSettled (entry m) t c m.width (progress walk.steps.items walk.places.items walk.used.items) key
@@ -156,7 +156,7 @@ pub record IsGoing (m : Matrix) (t c h pending : ℕ) (walk : Walk) : Type 0 whe
 
 -- what a walk has found out: the least trails to the columns that it reached, and that there are no paths to others
 pub record HasWalked (m : Matrix) (t c : ℕ) (walk : Walk) : Type 0 where
-  pub fits : FitsMatrix m walk
+  pub fits : HasPlacesAndMarks m walk
   pub key : ℕ → List ℕ
   pub queue : IsQueue (entry m) t c m.width (progress walk.steps.items walk.places.items walk.used.items) key
   pub least : (d : ℕ) (lines : List ℕ) → place_in walk.places.items d < UNREACHED → IsTrail (entry m) t c lines → trail_end c lines ≡ d → IsUpTo (key (place_in walk.places.items d)) lines

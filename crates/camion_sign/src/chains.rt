@@ -10,7 +10,7 @@ ghost use Rattle.cmr_base.specs.Sums.{sum_over};
 ghost use Rattle.cmr_base.specs.declared.line.Line.TheVariants.{Row, Column};
 ghost use Rattle.camion_sign.specs.declared.step.SignStep.TheVariants.{Free, Forced};
 ghost use Rattle.camion_sign.specs.SignSteps.{AreSigns, IsUnsignedOne, IsZeroModFour, signed_by};
-ghost use Rattle.camion_sign.specs.Chains.{HasTwoEach, IsFirstBroken, IsSignedViolator, IsSoundChain, KeepsRule};
+ghost use Rattle.camion_sign.specs.Chains.{HasTwoEach, IsFirstBrokenPart, IsSignedViolator, IsSoundChain, KeepsRule};
 ghost use Rattle.camion_sign.specs.ChainStates.{AllSignedBut, IsOpenBut, AreLabels, HasFollowed};
 
 use crate::step::{SignStep, SizedChain};
@@ -36,7 +36,7 @@ pub fn check_chain(
 ) -> Result<Option<u32>, Memory>
     ensures { IfOk result (λ found. MatchOption found
         ((signs : Matrix) × IsSoundChain matrix.now chain.now signs)
-        (IsFirstBroken matrix.now chain.now)) }
+        (IsFirstBrokenPart matrix.now chain.now)) }
 {
     if chain.rows != matrix.rows() || chain.columns != matrix.columns() {
         return Ok(Some(1));

@@ -2,7 +2,7 @@
 ghost use Rattle.std.specs.Prelude.{◌≡◌, ◌≢◌, ◌<◌, ◌≤◌, ◌⊎◌, ◌↔◌, ℕ, List, pos, IsTrue, IfOk, MatchOption};
 ghost use Rattle.cmr_base.specs.Matrix.{height, entry};
 ghost use Rattle.cmr_base.specs.CyclePlaces.{HasNoCycleFault, IsCyclePlace, IsFaultAt};
-ghost use Rattle.camion_sign.specs.Walks.{FitsMatrix, HasWalked, place_in};
+ghost use Rattle.camion_sign.specs.Walks.{HasPlacesAndMarks, HasWalked, place_in};
 ghost use Rattle.camion_sign.specs.Faults.{HasNoFaultAt, IsColumnFault, IsFirstFault};
 ghost use Rattle.network_orient.specs.FirstRows.{HasNoFaultBefore};
 
@@ -61,7 +61,7 @@ fn fault_from_row(
     walk: &mut Walk,
     first: u32,
 ) -> Result<Option<Fault>, Memory>
-    requires fits { FitsMatrix matrix.now walk.old }
+    requires fits { HasPlacesAndMarks matrix.now walk.old }
     requires passed { HasNoFaultBefore matrix.now first }
     ensures { IfOk result (λ found. MatchOption found
         (HasNoCycleFault (entry matrix.now))
@@ -83,13 +83,13 @@ fn fault_of_row(
     row: u32,
 ) -> Result<Option<Fault>, Memory>
     requires row { row < height matrix.now }
-    requires fits { FitsMatrix matrix.now walk.old }
+    requires fits { HasPlacesAndMarks matrix.now walk.old }
     ensures found { IfOk result (λ found. MatchOption found
         ((x y : ℕ) → HasNoFaultAt matrix.now row x y)
         (λ f. (f.row ≡ row)
         × IsColumnFault matrix.now row f.first f.last f.lines.items
         × ((x y : ℕ) → x < f.first → HasNoFaultAt matrix.now row x y))) }
-    ensures fits { IfOk result (λ found. FitsMatrix matrix.now walk.new) }
+    ensures fits { IfOk result (λ found. HasPlacesAndMarks matrix.now walk.new) }
 {
     for column in 0..matrix.columns() {
         if matrix.entry(row, column) != 0 {
@@ -112,13 +112,13 @@ fn fault_from(
     requires row { start.row < height matrix.now }
     requires column { start.column < matrix.now.width }
     requires first { entry matrix.now start.row start.column ≢ pos 0 }
-    requires fits { FitsMatrix matrix.now walk.old }
+    requires fits { HasPlacesAndMarks matrix.now walk.old }
     ensures found { IfOk result (λ found. MatchOption found
         ((y : ℕ) → HasNoFaultAt matrix.now start.row start.column y)
         (λ f. (f.row ≡ start.row)
         × (f.first ≡ start.column)
         × IsColumnFault matrix.now start.row start.column f.last f.lines.items)) }
-    ensures fits { IfOk result (λ found. FitsMatrix matrix.now walk.new) }
+    ensures fits { IfOk result (λ found. HasPlacesAndMarks matrix.now walk.new) }
 {
     walk_from(matrix, walk, start)?;
     for last in start.column + 1..matrix.columns() {

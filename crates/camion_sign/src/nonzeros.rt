@@ -19,11 +19,11 @@ impl Model for Nonzeros {
 
     ghost Value = { List (List ℕ) };
 
-    ghost use Rattle.camion_sign.specs.NonzerosView.{lists_of, IsCut};
+    ghost use Rattle.camion_sign.specs.NonzerosView.{lists_of, AreRowStarts};
 
     ghost view = { lists_of };
 
-    ghost invariant = { IsCut };
+    ghost invariant = { AreRowStarts };
 }
 
 impl Nonzeros {

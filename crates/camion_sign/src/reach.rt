@@ -1,10 +1,10 @@
 // Walks from the first column of the places of a row.
 ghost use Rattle.std.specs.Prelude.{◌≡◌, ◌≢◌, ◌<◌, ◌≤◌, ◌+◌, ◌⊎◌, ℕ, pos, true, false, IsTrue, IfOk, OnOk, slice_set};
 ghost use Rattle.cmr_base.specs.Matrix.{height, entry};
-ghost use Rattle.camion_sign.specs.Walks.{FitsMatrix, IsWalking, IsOpen, GrowsFrom, HasSettled, HasWalked, IsUntouched, NoneWaits, step_at, place_in, flip};
+ghost use Rattle.camion_sign.specs.Walks.{HasPlacesAndMarks, IsWalking, IsOpen, GrowsFrom, HasSettled, HasWalked, IsUntouched, NoneWaits, step_at, place_in, flip};
 
 use crate::listed_matrix::ListedMatrix;
-use crate::walk::{Step, UNREACHED, Walk};
+use crate::walk::{ReachedColumn, UNREACHED, Walk};
 use cmr_base::Memory;
 use std::alloc::Global;
 
@@ -21,7 +21,7 @@ pub struct Start {
 pub fn walk_from(matrix: &ListedMatrix<'_>, walk: &mut Walk, start: Start) -> Result<(), Memory>
     requires row { start.row < height matrix.now }
     requires column { start.column < matrix.now.width }
-    requires fits { FitsMatrix matrix.now walk.old }
+    requires fits { HasPlacesAndMarks matrix.now walk.old }
     ensures { OnOk result (HasWalked matrix.now start.row start.column walk.new) }
 {
     walk.begin(start.column)?;
@@ -96,7 +96,7 @@ fn reach_row(
     for column in matrix.row(row) {
         if !walk.has_reached(*column) {
             let is_same = sign == matrix.entry(row, *column);
-            walk.reach(Step {
+            walk.reach(ReachedColumn {
                 column: *column,
                 row,
                 before: head as u32,
@@ -111,7 +111,7 @@ fn reach_row(
 // The first column from one on that waits: the row of the places meets it, and it was not reached, but may be.
 fn first_waiting(matrix: &ListedMatrix<'_>, walk: &Walk, start: Start, from: u32) -> u32
     requires row { start.row < height matrix.now }
-    requires fits { FitsMatrix matrix.now walk.now }
+    requires fits { HasPlacesAndMarks matrix.now walk.now }
     requires from { from ≤ matrix.now.width }
     ensures from { from ≤ result }
     ensures width { result ≤ matrix.now.width }
@@ -138,7 +138,7 @@ fn is_touched(matrix: &ListedMatrix<'_>, row: u32, column: u32) -> bool
     rows.len() > 0 && rows[0] < row
 }
 
-/// A truth value, turned where the other is true.
+/// A truth value, or its opposite where the other is true.
 pub fn flipped(is_odd: bool, is_same: bool) -> bool
     ensures { result ≡ flip is_odd is_same }
 {

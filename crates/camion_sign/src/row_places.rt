@@ -3,7 +3,7 @@ ghost use Rattle.std.specs.Prelude.{◌≡◌, ◌≢◌, ◌<◌, ◌↔◌, �
 ghost use Rattle.cmr_base.specs.Matrix.{height, entry, IsEntry};
 ghost use Rattle.cmr_base.specs.CyclePlaces.{IsCyclePlace};
 ghost use Rattle.camion_sign.specs.SignOrder.{IsCycleLines, IsPlaceOf};
-ghost use Rattle.camion_sign.specs.Signings.{AreSquare, HasRoom, KnowsPlaces, TellsFrom};
+ghost use Rattle.camion_sign.specs.Signings.{AreSquare, HasRoomForPlaces, KnowsPlaces, TellsFrom};
 ghost use Rattle.camion_sign.specs.Walks.{HasWalked, place_in};
 
 use crate::cycle_lines::{columns_of_cycle, rows_of_cycle};
@@ -30,7 +30,7 @@ pub struct RowPlaces {
 impl RowPlaces {
     /// Room for the places of each row.
     pub fn new(alloc: Global, matrix: &ListedMatrix<'_>) -> Result<RowPlaces, Memory>
-        ensures { IfOk result (HasRoom matrix.now) }
+        ensures { IfOk result (HasRoomForPlaces matrix.now) }
     {
         let columns = matrix.columns();
         Ok(RowPlaces {
@@ -43,7 +43,7 @@ impl RowPlaces {
 
     /// Begins a row, of which nothing is known.
     pub fn begin(&mut self, matrix: &ListedMatrix<'_>)
-        requires { HasRoom matrix.now self.old }
+        requires { HasRoomForPlaces matrix.now self.old }
         ensures { (row : ℕ) → KnowsPlaces matrix.now row self.new }
     {
         self.walked = None;

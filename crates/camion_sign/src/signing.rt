@@ -10,7 +10,7 @@ ghost use Rattle.camion_sign.specs.SignOrder.{IsForcedBy, IsSignedBy};
 ghost use Rattle.camion_sign.specs.Chains.{KeepsRule};
 ghost use Rattle.std.specs.List.{AllByRecursion};
 ghost use Rattle.camion_sign.specs.ChainTexts.{IsStepIn};
-ghost use Rattle.camion_sign.specs.Signings.{HasRoom, KnowsPlaces, IsAtRow, IsFirstUnsigned, IsPartner, IsForcedColumn, NoneForced, unsigned_before};
+ghost use Rattle.camion_sign.specs.Signings.{HasRoomForPlaces, KnowsPlaces, IsAtRow, IsFirstUnsigned, IsPartner, IsForcedColumn, NoneForced, unsigned_before};
 
 use crate::listed_matrix::ListedMatrix;
 use crate::row_places::RowPlaces;
@@ -82,7 +82,7 @@ fn sign_row(
     requires places { KnowsPlaces matrix.now row places.old }
     requires state { IsAtRow matrix.now row signing.old }
     ensures state { OnOk result (IsAtRow matrix.now (row + 1) signing.new) }
-    ensures room { OnOk result (HasRoom matrix.now places.new) }
+    ensures room { OnOk result (HasRoomForPlaces matrix.now places.new) }
 {
     let mut next = first_unsigned(matrix, row, 0, &signing.signs);
     'ones: while let Some(column) = next {

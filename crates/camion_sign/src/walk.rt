@@ -10,7 +10,7 @@ pub const UNREACHED: u32 = 4_294_967_295;
 
 /// A column that was reached.
 #[derive(Clone, Copy)]
-pub struct Step {
+pub struct ReachedColumn {
     pub column: u32,
     /// The row by which it was reached.
     pub row: u32,
@@ -24,7 +24,7 @@ pub struct Step {
 /// after another uses its room.
 #[derive(Drop)]
 pub struct Walk {
-    pub steps: Vec<Step>,
+    pub steps: Vec<ReachedColumn>,
     pub places: Vec<u32>,
     pub used: Vec<bool>,
 }
@@ -56,7 +56,7 @@ impl Walk {
         self.places.fill(UNREACHED);
         self.used.fill(false);
         self.places[column as usize] = 0;
-        self.steps.push(Step {
+        self.steps.push(ReachedColumn {
             column,
             row: 0,
             before: 0,
@@ -75,7 +75,7 @@ impl Walk {
     }
 
     /// Adds a column that was reached.
-    pub fn reach(&mut self, step: Step) -> Result<(), Memory>
+    pub fn reach(&mut self, step: ReachedColumn) -> Result<(), Memory>
         requires column { step.column < length self.old.places.items }
         requires few { length self.old.steps.items ≤ MAX_COLUMNS }
         ensures steps { OnOk result (self.new.steps.items ≡ self.old.steps.items ++ step ∷ []) }

@@ -14,7 +14,7 @@ use Rattle.cmr_base.proofs.Lists.{all-append}
 use Rattle.tree_type.specs.declared.refusal.Refusal.{Refusal}
 use Rattle.tree_type.specs.declared.refusal.Rule.{Rule}
 use Rattle.tree_type.specs.declared.refusal.Rule.TheVariants as rule
-use Rattle.tree_type.specs.Trees.{Finding, Reduced, TwoSum, ThreeSum, Pivoted, Tree, Trees, Branch, NoTrees, MoreTrees, SizedTree, one_tree, two_trees, lines_of, tree_of}
+use Rattle.tree_type.specs.Trees.{Finding, Reduced, TwoSum, ThreeSum, Pivoted, Tree, Trees, Branch, NoTrees, MoreTrees, SizedTree, one_tree, two_trees, lines_at_root, tree_of, finding_of}
 use Rattle.tree_type.specs.declared.tree.Node.{Node}
 use Rattle.tree_type.proofs.NodeTrees.{said, tree_is, said_reduced, said_two_sum, said_three_sum, said_pivoted}
 use Rattle.tree_type.specs.declared.tree.Kind.{Kind}
@@ -23,9 +23,9 @@ use Rattle.tree_type.specs.Invariant.{AreLines, AreTreesWithin, IsTreeFor}
 use Rattle.tree_type.specs.Places.{due_child, places_below, Due, AllLines, MadePivot, matrix_after, pivots_below, Place, places, places_from, lines_of_each}
 use Rattle.tree_type.specs.Soundness.{HasItsSizes, HasItsLines, Demands, MayStand, Keeps, KeepsAll, rule_number, BreaksFirst, IsFirstBroken}
 use Rattle.tree_type.proofs.PlacedLines.{lines_within}
-use Rattle.pivots.specs.declared.place.PivotPlace.{PivotPlace}
+use Rattle.pivots.specs.declared.place.PlacedPivot.{PlacedPivot}
 use Rattle.pivots.specs.PivotedParts.{pivoted_part}
-use Rattle.cert_check.specs.Answers.{Answers, AnswersOn, AnswersFrom, AnswersBelow, Stands, nodes_below, place_of, IsAfter, has_pivot, IsRuleAt, IsOwnRule, finding_of, trees_below, due_from, due_child_of, unless, KeepsOwn}
+use Rattle.cert_check.specs.Answers.{Answers, AnswersOn, AnswersFrom, AnswersBelow, Stands, nodes_below, place_of, IsAfter, has_pivot, IsRuleAt, IsOwnRule, trees_below, due_from, due_child_of, unless, KeepsOwn}
 
 pub opened : (path : List ℕ) (pivots : List MadePivot) (due : Due) (tree : Tree) → places_from path pivots due tree ≡ place_of path pivots due tree ∷ nodes_below path pivots tree
 opened path pivots due (Branch lines finding trees) = refl
@@ -103,7 +103,7 @@ last_rule rule.NotPivot = omega arith
 last_rule rule.BelowPivot = omega arith
 
 module _ (m : Matrix) (path : List ℕ) (pivots : List MadePivot) (due : Due) (tree : Tree) where
-  keeps_own : HasItsSizes m due → HasItsLines due (lines_of tree) → (broken : Rule) → (rule_number broken ≡ 16 → MayStand pivots (finding_of tree)) → Demands broken (matrix_after m pivots) (lines_of tree) (finding_of tree) (lines_of_each (trees_below tree))
+  keeps_own : HasItsSizes m due → HasItsLines due (lines_at_root tree) → (broken : Rule) → (rule_number broken ≡ 16 → MayStand pivots (finding_of tree)) → Demands broken (matrix_after m pivots) (lines_at_root tree) (finding_of tree) (lines_of_each (trees_below tree))
       → Keeps m (place_of path pivots due tree) broken
   keeps_own sizes has rule.Size may h = sizes
   keeps_own sizes has rule.Lines may h = has
@@ -123,7 +123,7 @@ module _ (m : Matrix) (path : List ℕ) (pivots : List MadePivot) (due : Due) (t
   keeps_own sizes has rule.NotPivot may h = h
   keeps_own sizes has rule.BelowPivot may h = may refl
 
-  own_keeps : (broken : Rule) → Keeps m (place_of path pivots due tree) broken → Demands broken (matrix_after m pivots) (lines_of tree) (finding_of tree) (lines_of_each (trees_below tree))
+  own_keeps : (broken : Rule) → Keeps m (place_of path pivots due tree) broken → Demands broken (matrix_after m pivots) (lines_at_root tree) (finding_of tree) (lines_of_each (trees_below tree))
   own_keeps rule.Size h = tt
   own_keeps rule.Lines h = tt
   own_keeps rule.NotEmpty h = h
@@ -142,16 +142,16 @@ module _ (m : Matrix) (path : List ℕ) (pivots : List MadePivot) (due : Due) (t
   own_keeps rule.NotPivot h = h
   own_keeps rule.BelowPivot h = tt
 
-own_demands : (m : Matrix) (tree : Tree) → IsOwnRule m tree None → (broken : Rule) → Demands broken m (lines_of tree) (finding_of tree) (lines_of_each (trees_below tree))
+own_demands : (m : Matrix) (tree : Tree) → IsOwnRule m tree None → (broken : Rule) → Demands broken m (lines_at_root tree) (finding_of tree) (lines_of_each (trees_below tree))
 own_demands m (Branch lines finding trees) h = h
 
 own_broken : (m : Matrix) (tree : Tree) (broken : Rule) → IsOwnRule m tree (Some broken)
-    → (¬ (Demands broken m (lines_of tree) (finding_of tree) (lines_of_each (trees_below tree)))) × ((earlier : Rule) → rule_number earlier < rule_number broken → Demands earlier m (lines_of tree) (finding_of tree) (lines_of_each (trees_below tree)))
+    → (¬ (Demands broken m (lines_at_root tree) (finding_of tree) (lines_of_each (trees_below tree)))) × ((earlier : Rule) → rule_number earlier < rule_number broken → Demands earlier m (lines_at_root tree) (finding_of tree) (lines_of_each (trees_below tree)))
 own_broken m (Branch lines finding trees) broken h = h
 
 module _ (here : Matrix) (below_pivot : Bool) (due : Due) (tree : Tree) (sizes : (m : Matrix) (pivots : List MadePivot) → IsAfter m pivots here below_pivot → HasItsSizes m due) where
   -- the lines are not those that the node is to have
-  pub lines_at : ¬ (HasItsLines due (lines_of tree)) → IsRuleAt here below_pivot due tree (Some rule.Lines)
+  pub lines_at : ¬ (HasItsLines due (lines_at_root tree)) → IsRuleAt here below_pivot due tree (Some rule.Lines)
   lines_at has_not = λ m pivots path after. record { breaks = has_not; keeps = λ earlier l. before m pivots path after earlier l }
     where
       before : (m : Matrix) (pivots : List MadePivot) (path : List ℕ) → IsAfter m pivots here below_pivot → (earlier : Rule) → rule_number earlier < 1 → Keeps m (place_of path pivots due tree) earlier
@@ -173,15 +173,15 @@ module _ (here : Matrix) (below_pivot : Bool) (due : Due) (tree : Tree) (sizes :
       before m pivots path after rule.NotPivot l = absurd (omega (arith, l))
       before m pivots path after rule.BelowPivot l = absurd (omega (arith, l))
 
-  module _ (has : HasItsLines due (lines_of tree)) where
+  module _ (has : HasItsLines due (lines_at_root tree)) where
     -- of the matrix at hand as of the one after the pivots
-    after_demands : (m : Matrix) (pivots : List MadePivot) → IsAfter m pivots here below_pivot → (r : Rule) → Demands r here (lines_of tree) (finding_of tree) (lines_of_each (trees_below tree)) → Demands r (matrix_after m pivots) (lines_of tree) (finding_of tree) (lines_of_each (trees_below tree))
-    after_demands m pivots after r h = subst (λ w. Demands r w (lines_of tree) (finding_of tree) (lines_of_each (trees_below tree))) (sym after.matrix) h
+    after_demands : (m : Matrix) (pivots : List MadePivot) → IsAfter m pivots here below_pivot → (r : Rule) → Demands r here (lines_at_root tree) (finding_of tree) (lines_of_each (trees_below tree)) → Demands r (matrix_after m pivots) (lines_at_root tree) (finding_of tree) (lines_of_each (trees_below tree))
+    after_demands m pivots after r h = subst (λ w. Demands r w (lines_at_root tree) (finding_of tree) (lines_of_each (trees_below tree))) (sym after.matrix) h
 
     -- where the lines are right, a rule on what the node says is the first
     pub own_refused : (broken : Rule) → IsOwnRule here tree (Some broken) → IsRuleAt here below_pivot due tree (Some broken)
     own_refused broken h = λ m pivots path after. record {
-      breaks = λ keeps. (own_broken here tree broken h).0 (subst (λ w. Demands broken w (lines_of tree) (finding_of tree) (lines_of_each (trees_below tree))) after.matrix (own_keeps m path pivots due tree broken keeps));
+      breaks = λ keeps. (own_broken here tree broken h).0 (subst (λ w. Demands broken w (lines_at_root tree) (finding_of tree) (lines_of_each (trees_below tree))) after.matrix (own_keeps m path pivots due tree broken keeps));
       keeps = λ earlier l. keeps_own m path pivots due tree (sizes m pivots after) has earlier (λ e. absurd (omega (arith, e, l, last_rule broken))) (after_demands m pivots after earlier ((own_broken here tree broken h).1 earlier l));
     }
 
@@ -217,8 +217,8 @@ pub sizes_due : (due : Option LineSet) (m : Matrix) → HasItsSizes m (due_from 
 sizes_due None m = tt
 sizes_due (Some lines) m = tt
 
-pub lines_is : (node : Node) → lines_of (tree_of node) ≡ node.lines
-lines_is node = ap lines_of (tree_is node)
+pub lines_is : (node : Node) → lines_at_root (tree_of node) ≡ node.lines
+lines_is node = ap lines_at_root (tree_is node)
 
 pub if_ok : {A E : Type 0} (P Q : A → Type 0) → ((x : A) → P x → Q x) → (r : Result A E) → IfOk r P → IfOk r Q
 if_ok P Q f (Ok x) h = f x h
@@ -281,7 +281,7 @@ two_sum_is node two a b e = kind_is node (kind.TwoSum two a b) (TwoSum two) (two
 pub three_sum_is : (node : Node) (three : Three) (a b : Box Node Global) → node.kind ≡ kind.ThreeSum three a b → tree_of node ≡ Branch node.lines (ThreeSum three) (two_trees (tree_of a.value) (tree_of b.value))
 three_sum_is node three a b e = kind_is node (kind.ThreeSum three a b) (ThreeSum three) (two_trees (tree_of a.value) (tree_of b.value)) e (said_three_sum three a b)
 
-pub pivoted_is : (node : Node) (place : PivotPlace) (child : Box Node Global) → node.kind ≡ kind.Pivoted place child → tree_of node ≡ Branch node.lines (Pivoted place) (one_tree (tree_of child.value))
+pub pivoted_is : (node : Node) (place : PlacedPivot) (child : Box Node Global) → node.kind ≡ kind.Pivoted place child → tree_of node ≡ Branch node.lines (Pivoted place) (one_tree (tree_of child.value))
 pivoted_is node place child e = kind_is node (kind.Pivoted place child) (Pivoted place) (one_tree (tree_of child.value)) e (said_pivoted place child)
 
 -- the matrix at hand at the children of a node, and whether a pivot is above them
@@ -289,7 +289,7 @@ abbrev pub GoesOn : Matrix → Bool → LineSet → Finding → Matrix → Bool 
 GoesOn here below_pivot lines f next below_next = (m : Matrix) (pivots : List MadePivot) → IsAfter m pivots here below_pivot → IsAfter m (pivots_below lines f pivots) next below_next
 
 -- that after the pivot
-pub goes_pivoted : (here : Matrix) (below_pivot : Bool) (lines : LineSet) (place : PivotPlace) → GoesOn here below_pivot lines (Pivoted place) (pivoted_part here lines place) true
+pub goes_pivoted : (here : Matrix) (below_pivot : Bool) (lines : LineSet) (place : PlacedPivot) → GoesOn here below_pivot lines (Pivoted place) (pivoted_part here lines place) true
 goes_pivoted here below_pivot lines place m pivots after = record { matrix = ap (λ w. pivoted_part w lines place) after.matrix; pivoted = refl }
 
 module _ (here : Matrix) (below_pivot : Bool) (path : List ℕ) (tree : Tree) (lines : LineSet) (f : Finding) (next : Matrix) (below_next : Bool) (goes : GoesOn here below_pivot lines f next below_next) where

@@ -17,7 +17,7 @@ use Rattle.tree_type.specs.Invariant.{size_of}
 use Rattle.tree_type.specs.Places.{lines_of_each}
 use Rattle.tree_type.specs.Soundness.{AreApart, Demands, rule_number}
 use Rattle.tree_type.proofs.Forests.{trees_are}
-use Rattle.cert_check.specs.Answers.{IsFirstOf, unless}
+use Rattle.cert_check.specs.Answers.{IsFirstBrokenRule, unless}
 use Rattle.cert_check.specs.Children.{lines_in}
 use Rattle.cert_check.proofs.Answering.{lines_is}
 use Rattle.std.proofs.lemmas.List.Sums.{sum_by-cons}
@@ -123,7 +123,7 @@ apart_tested M lines rows columns nodes b e f two filled by_rows by_columns h =
     (subst (AllByRecursion (λ column. count_by (λ child. is_among child.columns column) (lines_in nodes) ≡ 1)) f by_columns)
     (subst (λ cs. IsTrue b ↔ HasNonzeros M (lines_in nodes) lines.rows cs) f (subst (λ rs. IsTrue b ↔ HasNonzeros M (lines_in nodes) rs columns) e h))
 
-apart_decides : (m : Matrix) (lines : LineSet) (children : List LineSet) (b : Bool) → IsTrue b ↔ AreApart (entry m) lines children → IsFirstOf m lines OneSum children (unless b rule.NotApart)
+apart_decides : (m : Matrix) (lines : LineSet) (children : List LineSet) (b : Bool) → IsTrue b ↔ AreApart (entry m) lines children → IsFirstBrokenRule m lines OneSum children (unless b rule.NotApart)
 apart_decides m lines children true h = kept
   where
     kept : (broken : Rule) → Demands broken m lines OneSum children
@@ -135,6 +135,6 @@ apart_decides m lines children false h = ((λ d. true≢false (sym (h.1 d))), be
     before rule.NotApart l = absurd (omega (arith, l))
     before _ l = tt
 
-pub apart_says : (m : Matrix) (lines : LineSet) (children : NodeList) (nodes : List Node) (b : Bool) → nodes ≡ nodes_in children → IsTrue b ↔ AreApart (entry m) lines (lines_in nodes) → IsFirstOf m lines OneSum (lines_of_each (trees_of children)) (unless b rule.NotApart)
+pub apart_says : (m : Matrix) (lines : LineSet) (children : NodeList) (nodes : List Node) (b : Bool) → nodes ≡ nodes_in children → IsTrue b ↔ AreApart (entry m) lines (lines_in nodes) → IsFirstBrokenRule m lines OneSum (lines_of_each (trees_of children)) (unless b rule.NotApart)
 apart_says m lines children nodes b e h =
     apart_decides m lines (lines_of_each (trees_of children)) b (subst (λ each. IsTrue b ↔ AreApart (entry m) lines each) (ap lines_in e ∙ sym (children_lines children)) h)

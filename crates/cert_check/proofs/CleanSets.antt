@@ -33,5 +33,5 @@ none_transposed : (m : Matrix) → IsMatrix m → HasNoViolator m → HasNoViola
 none_transposed m is none rows columns row_set column_set v =
     none columns rows (row_set_from_transposed m columns column_set) (column_set_from_transposed m rows row_set) (violator_from_transposed m columns rows is v)
 
-pub clean_transposed : (m turned : Matrix) (b : Bool) → IsMatrix m → turned ≡ transposed m → IsTrue b ↔ HasNoViolator turned → IsTrue b ↔ HasNoViolator m
-clean_transposed m turned b is e h = ((λ t. none_from_transposed m is (subst HasNoViolator e (h.0 t))), λ none. h.1 (subst HasNoViolator (sym e) (none_transposed m is none)))
+pub clean_transposed : (m other : Matrix) (b : Bool) → IsMatrix m → other ≡ transposed m → IsTrue b ↔ HasNoViolator other → IsTrue b ↔ HasNoViolator m
+clean_transposed m other b is e h = ((λ t. none_from_transposed m is (subst HasNoViolator e (h.0 t))), λ none. h.1 (subst HasNoViolator (sym e) (none_transposed m is none)))

@@ -3,7 +3,7 @@ use Rattle.std.proofs.Common.{◌≡◌, ◌<◌, ℕ, List, [], ◌∷◌, leng
 use Rattle.cmr_base.specs.declared.line_set.LineSet.{LineSet}
 use Rattle.cmr_base.specs.Matrix.{Matrix, height, IsMatrix}
 use Rattle.cmr_base.proofs.FilledMatrices.{height-filled}
-use Rattle.pivots.specs.declared.place.PivotPlace.{PivotPlace}
+use Rattle.pivots.specs.declared.place.PlacedPivot.{PlacedPivot}
 use Rattle.pivots.specs.PivotedParts.{replaced_entry, pivoted_part, IsPlaceIn, IsTernaryPivot}
 use Rattle.pivots.proofs.PartLaws.{free_before_pivot, part_pivots_stay_matrices}
 use Rattle.tree_type.specs.Trees.{Tree}
@@ -12,11 +12,11 @@ use Rattle.tree_type.specs.Places.{MadePivot, matrix_after}
 use Rattle.cert_check.specs.Answers.{Stands}
 use Rattle.cert_check.proofs.FreeSets.{IsFreeOn}
 
-pub height-pivoted : (m : Matrix) (lines : LineSet) (place : PivotPlace) → height (pivoted_part m lines place) ≡ height m
+pub height-pivoted : (m : Matrix) (lines : LineSet) (place : PlacedPivot) → height (pivoted_part m lines place) ≡ height m
 height-pivoted m lines place = height-filled (height m) m.width (replaced_entry m lines place)
 
 -- its lines are those before
-pub lines_pivoted : (m : Matrix) (lines : LineSet) (place : PivotPlace) (set : LineSet) → AreLines m set → AreLines (pivoted_part m lines place) set
+pub lines_pivoted : (m : Matrix) (lines : LineSet) (place : PlacedPivot) (set : LineSet) → AreLines m set → AreLines (pivoted_part m lines place) set
 lines_pivoted m lines place set are = record {
   rows = record { rising = are.rows.rising; in_range = subst (λ n. (k : ℕ) → k < length set.rows → get_or set.rows k 0 < n) (sym (height-pivoted m lines place)) are.rows.in_range };
   columns = record { rising = are.columns.rising; in_range = are.columns.in_range };
@@ -26,12 +26,12 @@ pub lines_after : (m : Matrix) (pivots : List MadePivot) (set : LineSet) → Are
 lines_after m [] set are = are
 lines_after m (last ∷ pivots) set are = lines_pivoted (matrix_after m pivots) last.lines last.place set (lines_after m pivots set are)
 
-pub stands_pivoted : (m : Matrix) (lines : LineSet) (place : PivotPlace) (tree : Tree) → Stands m tree → Stands (pivoted_part m lines place) tree
+pub stands_pivoted : (m : Matrix) (lines : LineSet) (place : PlacedPivot) (tree : Tree) → Stands m tree → Stands (pivoted_part m lines place) tree
 stands_pivoted m lines place tree (parent, levels, are, within) = (parent, levels, lines_pivoted m lines place parent are, within)
 
 -- where no violator stands among the lines after the pivot, none stood there before
-pub free_pivoted : (m : Matrix) (lines : LineSet) (place : PivotPlace) → IsMatrix m → AreLines m lines → IsPlaceIn m lines place → IsFreeOn (pivoted_part m lines place) lines → IsFreeOn m lines
+pub free_pivoted : (m : Matrix) (lines : LineSet) (place : PlacedPivot) → IsMatrix m → AreLines m lines → IsPlaceIn m lines place → IsFreeOn (pivoted_part m lines place) lines → IsFreeOn m lines
 free_pivoted m lines place is are in_lines free = free_before_pivot m lines place are.rows are.columns (is.small place.row place.column) in_lines free
 
-pub pivoted_is_matrix : (m : Matrix) (lines : LineSet) (place : PivotPlace) → IsMatrix m → IsTernaryPivot m lines place → IsMatrix (pivoted_part m lines place)
+pub pivoted_is_matrix : (m : Matrix) (lines : LineSet) (place : PlacedPivot) → IsMatrix m → IsTernaryPivot m lines place → IsMatrix (pivoted_part m lines place)
 pivoted_is_matrix m lines place is ternary = part_pivots_stay_matrices m lines place is ternary

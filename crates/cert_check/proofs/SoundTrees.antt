@@ -15,9 +15,9 @@ use Rattle.r10_leaf.proofs.FreeR10.{fault_free_r10_has_no_violator}
 use Rattle.ghouila.proofs.ViolatedLines.{FreeIn}
 use Rattle.tree_type.specs.declared.refusal.Rule.{Rule}
 use Rattle.tree_type.specs.declared.refusal.Rule.TheVariants as rule
-use Rattle.tree_type.specs.Trees.{Finding, Empty, Cycle, Reduced, OneSum, Network, Conetwork, R10, TwoSum, ThreeSum, Enumerated, Violator, Undecided, Pivoted, Tree, Trees, Branch, NoTrees, MoreTrees, count_trees, lines_of}
+use Rattle.tree_type.specs.Trees.{Finding, Empty, Cycle, Reduced, OneSum, Network, Conetwork, R10, TwoSum, ThreeSum, Enumerated, Violator, Undecided, Pivoted, Tree, Trees, Branch, NoTrees, MoreTrees, count_trees, lines_at_root}
 use Rattle.tree_type.specs.Verdicts.{first_in, first_among, fault_at, open_at, verdict_from, verdict_of}
-use Rattle.tree_type.specs.Invariant.{AreLines, Fits, HasChildren, IsTreeWithin, AreTreesWithin, IsTreeFor}
+use Rattle.tree_type.specs.Invariant.{AreLines, FitsLines, HasChildren, IsTreeWithin, AreTreesWithin, IsTreeFor}
 use Rattle.tree_type.specs.Places.{Due, AllLines, MadePivot, matrix_after, pivots_below, places_from, places_below, due_child, lines_left, lines_of_each}
 use Rattle.tree_type.specs.Soundness.{part, HasItsLines, Demands, MayStand, KeepsAll, IsSoundTree}
 use Rattle.cert_check.specs.Laws.{IsProved, IsRefuted, Tells}
@@ -42,7 +42,7 @@ free_same m a b e f free = subst (λ columns. IsFreeOn m (record { rows = b.rows
 -- the children have the lines that they are to have
 AreDue : LineSet → Finding → ℕ → Trees → Type 0
 AreDue lines finding k NoTrees = Unit {0}
-AreDue lines finding k (MoreTrees tree trees) = HasItsLines (due_child lines finding k) (lines_of tree) × AreDue lines finding (suc k) trees
+AreDue lines finding k (MoreTrees tree trees) = HasItsLines (due_child lines finding k) (lines_at_root tree) × AreDue lines finding (suc k) trees
 
 -- a node, with the matrix after the pivots above it
 module _ (root : Matrix) (pivots : List MadePivot) where
@@ -71,7 +71,7 @@ module _ (root : Matrix) (pivots : List MadePivot) (is : IsMatrix (matrix_after 
   m = matrix_after root pivots
 
   -- a node whose children are free is free
-  step : (lines : LineSet) (finding : Finding) (trees : Trees) → AreLines m lines → Fits lines finding trees → HasChildren finding (count_trees trees) → ((broken : Rule) → Demands broken m lines finding (lines_of_each trees))
+  step : (lines : LineSet) (finding : Finding) (trees : Trees) → AreLines m lines → FitsLines lines finding trees → HasChildren finding (count_trees trees) → ((broken : Rule) → Demands broken m lines finding (lines_of_each trees))
       → fault_at lines finding ≡ None → open_at lines finding ≡ None → AreDue lines finding 0 trees → AllByRecursion (IsFreeOn (matrix_after root (pivots_below lines finding pivots))) (lines_of_each trees) → IsFreeOn m lines
   unfolding AreDue
   step lines Empty trees are fits count keeps no_fault no_open due free = free_empty m lines (keeps rule.NotEmpty)
@@ -79,7 +79,7 @@ module _ (root : Matrix) (pivots : List MadePivot) (is : IsMatrix (matrix_after 
   step lines (Reduced steps) NoTrees are fits count keeps no_fault no_open due free = absurd (omega (arith, count))
   step lines (Reduced steps) (MoreTrees tree trees) are fits count keeps no_fault no_open due free =
       free_reduced m is lines steps (keeps rule.NotReducible).1
-      (free_same m (lines_of tree) (lines_left lines steps) due.0.0 due.0.1 free.0)
+      (free_same m (lines_at_root tree) (lines_left lines steps) due.0.0 due.0.1 free.0)
   step lines OneSum trees are fits count keeps no_fault no_open due free = free_apart m lines (lines_of_each trees) (keeps rule.NotApart) free
   step lines (Network net) trees are fits count keeps no_fault no_open due free = free_network m lines is are (net, keeps rule.NotNetwork)
   step lines (Conetwork net) trees are fits count keeps no_fault no_open due free = free_conetwork m lines is are (net, keeps rule.NotNetwork)
@@ -87,18 +87,18 @@ module _ (root : Matrix) (pivots : List MadePivot) (is : IsMatrix (matrix_after 
   step lines (TwoSum two) NoTrees are fits count keeps no_fault no_open due free = absurd (omega (arith, count))
   step lines (TwoSum two) (MoreTrees tree NoTrees) are fits count keeps no_fault no_open due free = absurd (omega (arith, count))
   step lines (TwoSum two) (MoreTrees tree (MoreTrees tree' trees)) are fits count keeps no_fault no_open due free =
-      free_two m is lines two (keeps rule.TooShort) (keeps rule.BadConnector) (keeps rule.BadBlock) (free_same m (lines_of tree) _ due.0.0 due.0.1 free.0) (free_same m (lines_of tree') _ due.1.0.0 due.1.0.1 free.1.0)
+      free_two m is lines two (keeps rule.TooShort) (keeps rule.BadConnector) (keeps rule.BadBlock) (free_same m (lines_at_root tree) _ due.0.0 due.0.1 free.0) (free_same m (lines_at_root tree') _ due.1.0.0 due.1.0.1 free.1.0)
   step lines (ThreeSum three) NoTrees are fits count keeps no_fault no_open due free = absurd (omega (arith, count))
   step lines (ThreeSum three) (MoreTrees tree NoTrees) are fits count keeps no_fault no_open due free = absurd (omega (arith, count))
   step lines (ThreeSum three) (MoreTrees tree (MoreTrees tree' trees)) are fits count keeps no_fault no_open due free =
-      free_three m is lines three (keeps rule.TooShort) (keeps rule.BadConnector) (keeps rule.CornerSign) (keeps rule.BadBlock) (free_same m (lines_of tree) _ due.0.0 due.0.1 free.0) (free_same m (lines_of tree') _ due.1.0.0 due.1.0.1 free.1.0)
+      free_three m is lines three (keeps rule.TooShort) (keeps rule.BadConnector) (keeps rule.CornerSign) (keeps rule.BadBlock) (free_same m (lines_at_root tree) _ due.0.0 due.0.1 free.0) (free_same m (lines_at_root tree') _ due.1.0.0 due.1.0.1 free.1.0)
   step lines Enumerated trees are fits count keeps no_fault no_open due free = free_from_part m lines (keeps rule.NotClean)
   step lines (Violator fault) trees are fits count keeps no_fault no_open due free = some_is_none fault no_fault
   step lines Undecided trees are fits count keeps no_fault no_open due free = some_is_none lines no_open
   step lines (Pivoted place) NoTrees are fits count keeps no_fault no_open due free = absurd (omega (arith, count))
   step lines (Pivoted place) (MoreTrees tree trees) are fits count keeps no_fault no_open due free =
       free_pivoted m lines place is are (record { row = fits.0; column = fits.1; nonzero = (keeps rule.NotPivot).0 })
-      (free_same (pivoted_part m lines place) (lines_of tree) lines due.0.0 due.0.1 free.0)
+      (free_same (pivoted_part m lines place) (lines_at_root tree) lines due.0.0 due.0.1 free.0)
 
   -- the matrix at its children is one too
   goes_on : (lines : LineSet) (finding : Finding) (children : List LineSet) → ((broken : Rule) → Demands broken m lines finding children) → IsMatrix (matrix_after root (pivots_below lines finding pivots))
@@ -119,7 +119,7 @@ module _ (root : Matrix) (pivots : List MadePivot) (is : IsMatrix (matrix_after 
 -- the faults of a matrix
 module _ (m : Matrix) where
   -- a fault that a node names
-  fault_here : (lines : LineSet) (finding : Finding) (trees : Trees) (fault : LineSet) → AreLines m lines → Fits lines finding trees → ((broken : Rule) → Demands broken m lines finding (lines_of_each trees)) → fault_at lines finding ≡ Some fault
+  fault_here : (lines : LineSet) (finding : Finding) (trees : Trees) (fault : LineSet) → AreLines m lines → FitsLines lines finding trees → ((broken : Rule) → Demands broken m lines finding (lines_of_each trees)) → fault_at lines finding ≡ Some fault
       → AreLines m fault × IsViolator (entry m) fault.rows fault.columns
   fault_here lines (Cycle found) trees fault are fits keeps e =
       subst (λ f. AreLines m f × IsViolator (entry m) f.rows f.columns) (some_same found fault e) (lines_within m found lines fits are, keeps rule.NotViolator)
@@ -138,7 +138,7 @@ module _ (m : Matrix) where
   fault_here lines (Pivoted place) trees fault are fits keeps e = some_is_none fault (sym e)
 
   -- no pivot stands above a node that names a fault
-  root_fault : (pivots : List MadePivot) (lines : LineSet) (finding : Finding) (trees : Trees) (fault : LineSet) → AreLines m lines → Fits lines finding trees → ((broken : Rule) → Demands broken (matrix_after m pivots) lines finding (lines_of_each trees)) → MayStand pivots finding
+  root_fault : (pivots : List MadePivot) (lines : LineSet) (finding : Finding) (trees : Trees) (fault : LineSet) → AreLines m lines → FitsLines lines finding trees → ((broken : Rule) → Demands broken (matrix_after m pivots) lines finding (lines_of_each trees)) → MayStand pivots finding
       → fault_at lines finding ≡ Some fault → AreLines m fault × IsViolator (entry m) fault.rows fault.columns
   root_fault [] lines finding trees fault are fits keeps may e = fault_here lines finding trees fault are fits keeps e
   root_fault (last ∷ pivots) lines (Cycle found) trees fault are fits keeps may e = absurd may
@@ -157,7 +157,7 @@ module _ (m : Matrix) where
 
 -- the trees of a matrix
 module _ (m : Matrix) where
-  due_here : (path : List ℕ) (pivots : List MadePivot) (due : Due) (tree : Tree) → AllByRecursion (KeepsAll m) (places_from path pivots due tree) → HasItsLines due (lines_of tree)
+  due_here : (path : List ℕ) (pivots : List MadePivot) (due : Due) (tree : Tree) → AllByRecursion (KeepsAll m) (places_from path pivots due tree) → HasItsLines due (lines_at_root tree)
   due_here path pivots due (Branch lines finding trees) keeps = keeps.0 rule.Lines
 
   due_each : (path : List ℕ) (pivots : List MadePivot) (lines : LineSet) (finding : Finding) (k : ℕ) (trees : Trees) → AllByRecursion (KeepsAll m) (places_below path pivots lines finding k trees) → AreDue lines finding k trees
@@ -170,7 +170,7 @@ module _ (m : Matrix) where
 
   mutual
     pub free_tree : (path : List ℕ) (pivots : List MadePivot) (due : Due) (parent : LineSet) (levels : ℕ) (tree : Tree) → IsMatrix (matrix_after m pivots) → AreLines m parent → IsTreeWithin parent levels tree → AllByRecursion (KeepsAll m) (places_from path pivots due tree)
-        → first_in fault_at tree ≡ None → first_in open_at tree ≡ None → IsFreeOn (matrix_after m pivots) (lines_of tree)
+        → first_in fault_at tree ≡ None → first_in open_at tree ≡ None → IsFreeOn (matrix_after m pivots) (lines_at_root tree)
     free_tree path pivots due parent levels (Branch lines finding trees) is are fits keeps no_fault no_open =
         let here = lines_within m lines parent fits.1 are in
         let faults = none_or (fault_at lines finding) (first_among fault_at trees) no_fault in
@@ -216,7 +216,7 @@ module _ (m : Matrix) where
 
 module _ (m : Matrix) (is : IsMatrix m) where
   -- all lines of the matrix
-  whole : (rows columns : ℕ) (tree : Tree) → IsTreeFor rows columns tree → IsSoundTree m rows columns tree → AreLines m (lines_of tree) × ((lines_of tree).rows ≡ first_lines (height m)) × ((lines_of tree).columns ≡ first_lines m.width)
+  whole : (rows columns : ℕ) (tree : Tree) → IsTreeFor rows columns tree → IsSoundTree m rows columns tree → AreLines m (lines_at_root tree) × ((lines_at_root tree).rows ≡ first_lines (height m)) × ((lines_at_root tree).columns ≡ first_lines m.width)
   whole rows columns (Branch lines finding trees) tree keeps =
       let sizes = keeps.0 rule.Size in
       let all = keeps.0 rule.Lines in (
@@ -232,7 +232,7 @@ module _ (m : Matrix) (is : IsMatrix m) where
   pub tells : (rows columns : ℕ) (tree : Tree) → IsTreeFor rows columns tree → IsSoundTree m rows columns tree → Tells m (verdict_of tree)
   tells rows columns tree within keeps = go (first_in fault_at tree) (first_in open_at tree) refl refl
     where
-      all : AreLines m (lines_of tree) × ((lines_of tree).rows ≡ first_lines (height m)) × ((lines_of tree).columns ≡ first_lines m.width)
+      all : AreLines m (lines_at_root tree) × ((lines_at_root tree).rows ≡ first_lines (height m)) × ((lines_at_root tree).columns ≡ first_lines m.width)
       all = whole rows columns tree within keeps
 
       proved : HasNoViolator m → IsProved m
@@ -248,8 +248,8 @@ module _ (m : Matrix) (is : IsMatrix m) where
       }
 
       go : (f o : Option LineSet) → first_in fault_at tree ≡ f → first_in open_at tree ≡ o → Tells m (verdict_from f o)
-      go (Some fault) o e h = (refuted fault (fault_tree m [] [] (AllLines rows columns) (lines_of tree) 2001 tree fault all.0 within.nodes keeps e))
+      go (Some fault) o e h = (refuted fault (fault_tree m [] [] (AllLines rows columns) (lines_at_root tree) 2001 tree fault all.0 within.nodes keeps e))
       go None (Some lines) e h = tt
       go None None e h = (proved (none_from_free m (subst (λ xs. FreeIn (entry m) (Contains xs) (Contains (first_lines m.width))) all.1
-          (subst (λ xs. FreeIn (entry m) (Contains (lines_of tree).rows) (Contains xs)) all.2
-          (free_tree m [] [] (AllLines rows columns) (lines_of tree) 2001 tree is all.0 within.nodes keeps e h)))))
+          (subst (λ xs. FreeIn (entry m) (Contains (lines_at_root tree).rows) (Contains xs)) all.2
+          (free_tree m [] [] (AllLines rows columns) (lines_at_root tree) 2001 tree is all.0 within.nodes keeps e h)))))

@@ -18,7 +18,7 @@ use Rattle.cmr_base.specs.LineSets.{AllBelow}
 use Rattle.cmr_base.specs.declared.separation.Form.{Form}
 use Rattle.cmr_base.specs.declared.separation.Form.TheVariants.{Delta, YForm, Mixed}
 use Rattle.cmr_base.specs.Separations.{product_at, upper_block, lower_block}
-use Rattle.tree_type.specs.Sides.{Sides, sides, inside, outside, HaveLines, AreEntries, IsReference, AreTwoBlocks, HasConnector, AreConnectors, HasCornerSign, AreThreeBlocks}
+use Rattle.tree_type.specs.Sides.{Sides, sides, inside, outside, HaveLines, AreEntries, IsReference, AreTwoBlocks, HasConnector, AreConnectorsOfSides, HasCornerSign, AreThreeBlocks}
 use Rattle.cmr_base.proofs.Lists.{all_weaker, all_contained, all_contain}
 use Rattle.cmr_base.proofs.ListsWithout.{contains_from_in, in-get_or}
 use Rattle.cmr_base.proofs.Integers.{products}
@@ -135,7 +135,7 @@ pub two_says : (m : Matrix) (lines : LineSet) (two : Two) (s : Sides) (fine : Bo
 two_says m lines two s fine e enough reference blocks =
     two_decides m lines two fine (subst (HaveLines 2) e enough) (subst (λ x. IsReference (entry m) x two.row two.column) e reference) (subst (λ x. IsTrue fine ↔ AreTwoBlocks (entry m) x two.row two.column) e blocks)
 
-three_decides : (m : Matrix) (lines : LineSet) (t : Three) (fine : Bool) → HaveLines 4 (sides lines t.side) → AreConnectors (entry m) (sides lines t.side) t → HasCornerSign (entry m) t
+three_decides : (m : Matrix) (lines : LineSet) (t : Three) (fine : Bool) → HaveLines 4 (sides lines t.side) → AreConnectorsOfSides (entry m) (sides lines t.side) t → HasCornerSign (entry m) t
     → IsTrue fine ↔ AreThreeBlocks (entry m) (sides lines t.side) t → Says m lines (ThreeSum t) (unless fine rule.BadBlock)
 three_decides m lines t true enough connectors sign h children = kept
   where
@@ -154,10 +154,10 @@ three_decides m lines t false enough connectors sign h children = (false_not h, 
     before rule.BadBlock l = absurd (omega (arith, l))
     before _ l = tt
 
-pub three_says : (m : Matrix) (lines : LineSet) (t : Three) (s : Sides) (fine : Bool) → s ≡ sides lines t.side → HaveLines 4 s → AreConnectors (entry m) s t → HasCornerSign (entry m) t
+pub three_says : (m : Matrix) (lines : LineSet) (t : Three) (s : Sides) (fine : Bool) → s ≡ sides lines t.side → HaveLines 4 s → AreConnectorsOfSides (entry m) s t → HasCornerSign (entry m) t
     → IsTrue fine ↔ AreThreeBlocks (entry m) s t → Says m lines (ThreeSum t) (unless fine rule.BadBlock)
 three_says m lines t s fine e enough connectors sign blocks =
-    three_decides m lines t fine (subst (HaveLines 4) e enough) (subst (λ x. AreConnectors (entry m) x t) e connectors) sign (subst (λ x. IsTrue fine ↔ AreThreeBlocks (entry m) x t) e blocks)
+    three_decides m lines t fine (subst (HaveLines 4) e enough) (subst (λ x. AreConnectorsOfSides (entry m) x t) e connectors) sign (subst (λ x. IsTrue fine ↔ AreThreeBlocks (entry m) x t) e blocks)
 
 -- ---- reductions
 

@@ -5,7 +5,7 @@ use Rattle.cmr_base.specs.declared.line_set.LineSet.{LineSet}
 use Rattle.cmr_base.specs.Matrix.{Matrix}
 use Rattle.tree_type.specs.declared.refusal.Refusal.{Refusal}
 use Rattle.tree_type.specs.declared.refusal.Rule.{Rule}
-use Rattle.tree_type.specs.Trees.{Finding, Cycle, Violator, Undecided, Tree, Trees, Branch, SizedTree, lines_of}
+use Rattle.tree_type.specs.Trees.{Finding, Cycle, Violator, Undecided, Tree, Trees, Branch, SizedTree, lines_at_root, finding_of}
 use Rattle.tree_type.specs.Invariant.{AreLines, IsTreeWithin}
 use Rattle.tree_type.specs.Places.{Due, These, Unnamed, MadePivot, matrix_after, Place, due_child, pivots_below, places_from, places_below, lines_of_each}
 use Rattle.tree_type.specs.Soundness.{Demands, KeepsAll, rule_number, BreaksFirst, IsSound, IsFirstBroken, IsBroken}
@@ -21,17 +21,17 @@ AnswersOn m nodes None = AllByRecursion (KeepsAll m) nodes
 AnswersOn m nodes (Some refusal) = IsFirstBroken m nodes refusal.path refusal.rule
 
 -- the first rule that is broken by what a node with these lines, and children with those, says, or none
-abbrev pub IsFirstOf : Matrix → LineSet → Finding → List LineSet → Option Rule → Type 0
-IsFirstOf m lines finding children None = (rule : Rule) → Demands rule m lines finding children
-IsFirstOf m lines finding children (Some broken) = (¬ (Demands broken m lines finding children)) × ((earlier : Rule) → rule_number earlier < rule_number broken → Demands earlier m lines finding children)
+abbrev pub IsFirstBrokenRule : Matrix → LineSet → Finding → List LineSet → Option Rule → Type 0
+IsFirstBrokenRule m lines finding children None = (rule : Rule) → Demands rule m lines finding children
+IsFirstBrokenRule m lines finding children (Some broken) = (¬ (Demands broken m lines finding children)) × ((earlier : Rule) → rule_number earlier < rule_number broken → Demands earlier m lines finding children)
 
 -- the same where the children do not matter
 abbrev pub Says : Matrix → LineSet → Finding → Option Rule → Type 0
-Says m lines finding answer = (children : List LineSet) → IsFirstOf m lines finding children answer
+Says m lines finding answer = (children : List LineSet) → IsFirstBrokenRule m lines finding children answer
 
 -- the first rule on what the node says that the node breaks, or none
 abbrev pub IsOwnRule : Matrix → Tree → Option Rule → Type 0
-IsOwnRule m (Branch lines finding trees) answer = IsFirstOf m lines finding (lines_of_each trees) answer
+IsOwnRule m (Branch lines finding trees) answer = IsFirstBrokenRule m lines finding (lines_of_each trees) answer
 
 -- no rule where it is kept, and else this one
 abbrev pub unless : Bool → Rule → Option Rule
@@ -42,15 +42,12 @@ unless false rule = Some rule
 abbrev pub Stands : Matrix → Tree → Type 0
 Stands m tree = (parent : LineSet) × (levels : ℕ) × AreLines m parent × IsTreeWithin parent levels tree
 
-abbrev pub finding_of : Tree → Finding
-finding_of (Branch lines finding trees) = finding
-
 abbrev pub trees_below : Tree → Trees
 trees_below (Branch lines finding trees) = trees
 
 -- the nodes below a node that has these pivots above it
 abbrev pub nodes_below : List ℕ → List MadePivot → Tree → List Place
-nodes_below path pivots tree = places_below path (pivots_below (lines_of tree) (finding_of tree) pivots) (lines_of tree) (finding_of tree) 0 (trees_below tree)
+nodes_below path pivots tree = places_below path (pivots_below (lines_at_root tree) (finding_of tree) pivots) (lines_at_root tree) (finding_of tree) 0 (trees_below tree)
 
 -- what a child is to have, where lines are named for it
 abbrev pub due_from : Option LineSet → Due
@@ -59,12 +56,12 @@ due_from (Some lines) = These lines
 
 -- what the child of a node with this number is to have
 abbrev pub due_child_of : Tree → ℕ → Due
-due_child_of tree number = due_child (lines_of tree) (finding_of tree) number
+due_child_of tree number = due_child (lines_at_root tree) (finding_of tree) number
 
 -- the node itself at its place
 abbrev pub place_of : List ℕ → List MadePivot → Due → Tree → Place
 place_of path pivots due tree =
-    record { path = path; pivots = pivots; due = due; lines = lines_of tree; finding = finding_of tree; children = lines_of_each (trees_below tree) }
+    record { path = path; pivots = pivots; due = due; lines = lines_at_root tree; finding = finding_of tree; children = lines_of_each (trees_below tree) }
 
 abbrev pub has_pivot : List MadePivot → Bool
 has_pivot [] = false

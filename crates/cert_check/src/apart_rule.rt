@@ -8,7 +8,7 @@ ghost use Rattle.tree_type.specs.Trees as says;
 ghost use Rattle.tree_type.specs.Invariant.{AreLines, size_of};
 ghost use Rattle.tree_type.specs.Places.{lines_of_each};
 ghost use Rattle.tree_type.specs.Soundness.{AreApart};
-ghost use Rattle.cert_check.specs.Answers.{IsFirstOf};
+ghost use Rattle.cert_check.specs.Answers.{IsFirstBrokenRule};
 ghost use Rattle.cert_check.specs.Children.{lines_in};
 
 use crate::leaf_rules::{is_empty, unless};
@@ -17,7 +17,7 @@ use tree_type::{Node, NodeList, Rule, has_line};
 
 pub fn apart_rule(matrix: &Matrix, lines: &LineSet, children: &NodeList) -> Option<Rule>
     requires { AreLines matrix.now lines.now }
-    ensures { IsFirstOf matrix.now lines.now says.OneSum
+    ensures { IsFirstBrokenRule matrix.now lines.now says.OneSum
         (lines_of_each (says.trees_of children.now)) result }
 {
     unless(

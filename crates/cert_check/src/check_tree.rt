@@ -12,7 +12,7 @@ use crate::leaf_rules::unless;
 use crate::own_rule::{own_rule, same_lines};
 use crate::pivot_rule::may_stand;
 use cmr_base::{LineSet, Matrix, Memory, PathList};
-use pivots::{PivotPlace, PivotedPart, pivot_part};
+use pivots::{PivotedPart, PlacedPivot, pivot_part};
 use std::alloc::Global;
 use tree_type::{DecTree, Kind, Node, Refusal, Rule};
 
@@ -143,7 +143,7 @@ fn check_pivoted(
     path: &PathList,
     child: &Node,
     parent: &Node,
-    place: PivotPlace,
+    place: PlacedPivot,
 ) -> Result<Option<Refusal>, Memory>
     requires lines { AreLines matrix.now parent.now.lines }
     requires place { IsPlaceIn matrix.now parent.now.lines place }

@@ -24,8 +24,8 @@ fn is_clean_by_columns(alloc: Global, matrix: &Matrix) -> Result<bool, Memory>
     requires shape { IsMatrix matrix.now }
     ensures { IfOk result (λ yes. IsTrue yes ↔ HasNoViolator matrix.now) }
 {
-    let turned = matrix.transposed(alloc)?;
-    is_clean_by_rows(alloc, &turned)
+    let columns = matrix.transposed(alloc)?;
+    is_clean_by_rows(alloc, &columns)
 }
 
 fn is_clean_by_rows(alloc: Global, matrix: &Matrix) -> Result<bool, Memory>

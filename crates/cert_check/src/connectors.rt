@@ -5,7 +5,7 @@ ghost use Rattle.cmr_base.specs.Matrix.{entry, height};
 ghost use Rattle.cmr_base.specs.Separations as separations;
 ghost use Rattle.cmr_base.specs.Separations.{first_is_flat, second_is_flat, corner_product, core_determinant, AreTied, AreCrossing, AreConcentrated, IsTied, HaveCornerSign};
 ghost use Rattle.cmr_base.specs.Signing.{IsSign};
-ghost use Rattle.tree_type.specs.Sides.{HasConnector, AreConnectors};
+ghost use Rattle.tree_type.specs.Sides.{HasConnector, AreConnectorsOfSides};
 ghost use Rattle.cert_check.specs.Sides.{sides_from, IsConnectorIn};
 
 use crate::members::is_in;
@@ -17,7 +17,7 @@ pub fn are_connectors(matrix: &Matrix, one: &LineSet, other: &LineSet, three: &T
     requires first { IsConnectorIn matrix.now (first_is_flat three.now.form) three.now.first }
     requires second { IsConnectorIn matrix.now (second_is_flat three.now.form) three.now.second }
     ensures { IsTrue result
-        ↔ AreConnectors (entry matrix.now) (sides_from one.now other.now) three.now }
+        ↔ AreConnectorsOfSides (entry matrix.now) (sides_from one.now other.now) three.now }
 {
     has_connector(one, three.form.first_is_flat(), three.first)
         && has_connector(other, three.form.second_is_flat(), three.second)

@@ -2,15 +2,15 @@
 ghost use Rattle.std.specs.Prelude.{◌≡◌, ◌↔◌, List, Contains, IfOk, IsTrue};
 ghost use Rattle.pivots.specs.PivotedParts.{IsPlaceIn, IsTernaryPivot};
 ghost use Rattle.tree_type.specs.Trees as says;
-ghost use Rattle.tree_type.specs.Trees.{tree_of};
+ghost use Rattle.tree_type.specs.Trees.{tree_of, finding_of};
 ghost use Rattle.tree_type.specs.Invariant.{AreLines};
 ghost use Rattle.tree_type.specs.Places.{MadePivot};
 ghost use Rattle.tree_type.specs.Soundness.{MayStand};
-ghost use Rattle.cert_check.specs.Answers.{Says, finding_of, has_pivot, is_settled};
+ghost use Rattle.cert_check.specs.Answers.{Says, has_pivot, is_settled};
 
 use crate::leaf_rules::unless;
 use cmr_base::{LineSet, Matrix, Memory};
-use pivots::{PivotPlace, PivotedPart, pivot_part};
+use pivots::{PivotedPart, PlacedPivot, pivot_part};
 use std::alloc::Global;
 use tree_type::{Kind, Node, Rule};
 
@@ -19,7 +19,7 @@ pub fn pivot_rule(
     alloc: Global,
     matrix: &Matrix,
     lines: &LineSet,
-    place: PivotPlace,
+    place: PlacedPivot,
 ) -> Result<Option<Rule>, Memory>
     requires lines { AreLines matrix.now lines.now }
     requires row { Contains lines.now.rows place.row }
@@ -40,7 +40,7 @@ fn is_ternary_pivot(
     alloc: Global,
     matrix: &Matrix,
     lines: &LineSet,
-    place: PivotPlace,
+    place: PlacedPivot,
 ) -> Result<bool, Memory>
     requires lines { AreLines matrix.now lines.now }
     requires place { IsPlaceIn matrix.now lines.now place }

@@ -130,8 +130,8 @@ is_eq a b e = ap (λ (z : ℕ). nat_eq z b) e ∙ self_eq b
 pub eq_test : (m k : ℕ) → IsTrue (nat_eq m k) ↔ (m ≡ k)
 eq_test m k = (λ h. grind (arith, nat_tests), λ h. grind (arith, nat_tests))
 
-pub eq_turned : (a b : ℕ) → nat_eq a b ≡ nat_eq b a
-eq_turned a b = grind (arith, nat_tests)
+pub eq_swapped : (a b : ℕ) → nat_eq a b ≡ nat_eq b a
+eq_swapped a b = grind (arith, nat_tests)
 
 pub ne_of : (a b : ℕ) → nat_eq a b ≡ false → a ≢ b
 ne_of a b e f = not_both (nat_eq a b) (is_eq a b f) e

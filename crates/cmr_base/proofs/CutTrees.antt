@@ -5,7 +5,7 @@ use Rattle.cmr_base.specs.declared.network.Pair.{Pair}
 use Rattle.cmr_base.specs.Members.{IsIn, IsDistinct}
 use Rattle.cmr_base.specs.LineSets.{first_lines}
 use Rattle.cmr_base.specs.Cuts.{differ, bit, IsCuts}
-use Rattle.cmr_base.specs.GrownTrees.{IsOrdered, HungArc, node_of, grown, pair_of, turned, beyond, place, arcs_by, walks_by}
+use Rattle.cmr_base.specs.GrownTrees.{IsOrdered, HungArc, node_of, grown, pair_of, reversed_unless, beyond, place, arcs_by, walks_by}
 use Rattle.cmr_base.specs.Trees.{tail, head, IsTree, IsPathOf, IsDirectedPathOf, IsNetworkOf, RealisesSupport, Realises}
 use Rattle.cmr_base.proofs.RowLists.{is_ne, self_eq}
 pub use Rattle.cmr_base.proofs.RowLists.{differ_self}
@@ -39,36 +39,36 @@ ends-pair_of (a ∷ t) d = (
       (λ r m. rw (is_ne r a.row (λ e. d.1 (subst (λ (z : ℕ). IsIn z (rows_of t)) e m))) refl) (ends-pair_of t d.2),
 )
 
-from-turned : (b : Bool) (q : Pair) → cond b (turned b q).tail (turned b q).head ≡ q.tail
-from-turned true q = refl
-from-turned false q = refl
+from-reversed : (b : Bool) (q : Pair) → cond b (reversed_unless b q).tail (reversed_unless b q).head ≡ q.tail
+from-reversed true q = refl
+from-reversed false q = refl
 
-to-turned : (b : Bool) (q : Pair) → cond b (turned b q).head (turned b q).tail ≡ q.head
-to-turned true q = refl
-to-turned false q = refl
+to-reversed : (b : Bool) (q : Pair) → cond b (reversed_unless b q).head (reversed_unless b q).tail ≡ q.head
+to-reversed true q = refl
+to-reversed false q = refl
 
 are_laid : (arcs : List Pair) (t : List HungArc) (leads_away : ℕ → Bool) (f : ℕ → Pair)
-    → ((r : ℕ) → IsIn r (rows_of t) → (r < length arcs) × (slice_index_or arcs r (record { tail = 0; head = 0 }) ≡ turned (leads_away r) (f r))) → GivesEnds f t → AreHung t → AreLaid arcs leads_away t
+    → ((r : ℕ) → IsIn r (rows_of t) → (r < length arcs) × (slice_index_or arcs r (record { tail = 0; head = 0 }) ≡ reversed_unless (leads_away r) (f r))) → GivesEnds f t → AreHung t → AreLaid arcs leads_away t
 unfolding GivesEnds AreHung
 are_laid arcs [] leads_away f h g d = tt
 are_laid arcs (a ∷ t) leads_away f h g d =
     let b = leads_away a.row in
     let ends : Pair = record { tail = a.node; head = suc (length t) } in
     let here = h a.row (inl refl) in
-    let e : slice_index_or arcs a.row (record { tail = 0; head = 0 }) ≡ turned (leads_away a.row) (record { tail = a.node; head = suc (length t) }) = here.1 ∙ ap (turned (leads_away a.row)) g.0 in (
+    let e : slice_index_or arcs a.row (record { tail = 0; head = 0 }) ≡ reversed_unless (leads_away a.row) (record { tail = a.node; head = suc (length t) }) = here.1 ∙ ap (reversed_unless (leads_away a.row)) g.0 in (
       record {
         in_list = here.0;
-        from_node = ap (λ (q : Pair). cond (leads_away a.row) q.tail q.head) e ∙ from-turned b ends;
-        to_new = ap (λ (q : Pair). cond (leads_away a.row) q.head q.tail) e ∙ to-turned b ends;
+        from_node = ap (λ (q : Pair). cond (leads_away a.row) q.tail q.head) e ∙ from-reversed b ends;
+        to_new = ap (λ (q : Pair). cond (leads_away a.row) q.head q.tail) e ∙ to-reversed b ends;
         low = d.0;
         other = d.1;
       },
       are_laid arcs t leads_away f (λ r m. h r (inr m)) g.1 d.2,
     )
 
-turned_in_range : (b : Bool) (q : Pair) (n : ℕ) → (q.tail ≤ n) × (q.head ≤ n) → ((turned b q).tail ≤ n) × ((turned b q).head ≤ n)
-turned_in_range true q n h = h
-turned_in_range false q n h = (h.1, h.0)
+reversed_in_range : (b : Bool) (q : Pair) (n : ℕ) → (q.tail ≤ n) × (q.head ≤ n) → ((reversed_unless b q).tail ≤ n) × ((reversed_unless b q).head ≤ n)
+reversed_in_range true q n h = h
+reversed_in_range false q n h = (h.1, h.0)
 
 pair_of_in_range : (t : List HungArc) (r : ℕ) → AreHung t → ((pair_of t r).tail ≤ length t) × ((pair_of t r).head ≤ length t)
 unfolding AreHung
@@ -149,13 +149,13 @@ module _ (M : ℕ → ℕ → Bool) (m : ℕ) (side : ℕ → ℕ → Bool) (lie
     row_in_range r h = first_lines_in m r (o.only r h)
 
     length-arcs : length arcs ≡ m
-    length-arcs = length-map-range_with_len (λ r. turned (leads_away r) (pair_of hung r)) 0 m
+    length-arcs = length-map-range_with_len (λ r. reversed_unless (leads_away r) (pair_of hung r)) 0 m
 
     length-hung : length hung ≡ m
     length-hung = length-grown (beyond side lies) order ∙ o.count ∙ length-range_with_len 0 m
 
-    arc_at : (r : ℕ) → r < m → slice_index_or arcs r (record { tail = 0; head = 0 }) ≡ turned (leads_away r) (pair_of hung r)
-    arc_at r l = get_or-map-range_with_len (λ r. turned (leads_away r) (pair_of hung r)) 0 m r r (record { tail = 0; head = 0 }) l (omega arith)
+    arc_at : (r : ℕ) → r < m → slice_index_or arcs r (record { tail = 0; head = 0 }) ≡ reversed_unless (leads_away r) (pair_of hung r)
+    arc_at r l = get_or-map-range_with_len (λ r. reversed_unless (leads_away r) (pair_of hung r)) 0 m r r (record { tail = 0; head = 0 }) l (omega arith)
 
     are_hung : AreHung hung
     are_hung = grown_are_hung (beyond side lies) order o.order
@@ -168,9 +168,9 @@ module _ (M : ℕ → ℕ → Bool) (m : ℕ) (side : ℕ → ℕ → Bool) (lie
 
     arc_in_range : (r : ℕ) → r < m → (tail arcs r ≤ m) × (head arcs r ≤ m)
     arc_in_range r l =
-        let k = turned_in_range (leads_away r) (pair_of hung r) (length hung) (pair_of_in_range hung r are_hung) in (
-          subst (λ (z : ℕ). z ≤ m) (sym (ap (λ (q : Pair). q.tail) (arc_at r l))) (subst (λ (z : ℕ). (turned (leads_away r) (pair_of hung r)).tail ≤ z) length-hung k.0),
-          subst (λ (z : ℕ). z ≤ m) (sym (ap (λ (q : Pair). q.head) (arc_at r l))) (subst (λ (z : ℕ). (turned (leads_away r) (pair_of hung r)).head ≤ z) length-hung k.1),
+        let k = reversed_in_range (leads_away r) (pair_of hung r) (length hung) (pair_of_in_range hung r are_hung) in (
+          subst (λ (z : ℕ). z ≤ m) (sym (ap (λ (q : Pair). q.tail) (arc_at r l))) (subst (λ (z : ℕ). (reversed_unless (leads_away r) (pair_of hung r)).tail ≤ z) length-hung k.0),
+          subst (λ (z : ℕ). z ≤ m) (sym (ap (λ (q : Pair). q.head) (arc_at r l))) (subst (λ (z : ℕ). (reversed_unless (leads_away r) (pair_of hung r)).head ≤ z) length-hung k.1),
         )
 
     pub cuts_tree : IsTree (arcs_by side lies order m) m

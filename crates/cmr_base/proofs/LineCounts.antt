@@ -6,9 +6,9 @@ use Rattle.std.specs.List.{AllByRecursion}
 use Rattle.cmr_base.specs.declared.line.Line.{Line}
 use Rattle.cmr_base.specs.declared.line.Line.TheVariants.{Row, Column}
 use Rattle.cmr_base.specs.LineSets.{first_lines}
-use Rattle.cmr_base.specs.Separations.{Lines, opposite, count_in}
+use Rattle.cmr_base.specs.Separations.{Lines, opposite, count_lines_in}
 use Rattle.cmr_base.specs.Seeds.{IsLine}
-pub use Rattle.cmr_base.specs.Seeds.{count, inside, outside}
+pub use Rattle.cmr_base.specs.Seeds.{count, count_inside, count_outside}
 use Rattle.cmr_base.proofs.LineSetLemmas.{range_more}
 use Rattle.cmr_base.proofs.Booleans.{eq_of, is_ne, ne_of, self_eq}
 
@@ -39,10 +39,10 @@ count-filter p (suc k) =
     ap (λ (n : ℕ). length (filter p (first_lines n))) next ∙ ap (λ xs. length (filter p xs)) (range_more 0 k k (zero-add k)) ∙ length-filter_append p (first_lines k) k
     ∙ ap (λ (n : ℕ). cond (p k) (suc n) n) (count-filter p k)
 
-pub inside_is : (m n : ℕ) (S : Lines) → count_in S (first_lines m) (first_lines n) ≡ inside m n S
+pub inside_is : (m n : ℕ) (S : Lines) → count_lines_in S (first_lines m) (first_lines n) ≡ count_inside m n S
 inside_is m n S = ap₂ (λ (a b : ℕ). a + b) (count-filter (λ r. S (Row r)) m) (count-filter (λ c. S (Column c)) n)
 
-pub outside_is : (m n : ℕ) (S : Lines) → count_in (opposite S) (first_lines m) (first_lines n) ≡ outside m n S
+pub outside_is : (m n : ℕ) (S : Lines) → count_lines_in (opposite S) (first_lines m) (first_lines n) ≡ count_outside m n S
 outside_is m n S = inside_is m n (opposite S)
 
 -- without the number x
@@ -113,15 +113,15 @@ same (Column c) (Column c') = nat_eq c c'
 abbrev pub without : Line → Lines → Lines
 without x S y = cond (same x y) false (S y)
 
-pub inside_less : (m n : ℕ) (x : Line) (S : Lines) → inside m n S ≤ suc (inside m n (without x S))
+pub inside_less : (m n : ℕ) (x : Line) (S : Lines) → count_inside m n S ≤ suc (count_inside m n (without x S))
 inside_less m n (Row r) S = let h = count_less r (λ y. S (Row y)) m in omega arith
 inside_less m n (Column c) S = let h = count_less c (λ y. S (Column y)) n in omega arith
 
-pub inside_more : (m n : ℕ) (x : Line) (S : Lines) → IsLine m n x → S x ≡ true → inside m n S ≡ suc (inside m n (without x S))
+pub inside_more : (m n : ℕ) (x : Line) (S : Lines) → IsLine m n x → S x ≡ true → count_inside m n S ≡ suc (count_inside m n (without x S))
 inside_more m n (Row r) S l e = let h = count_more r (λ y. S (Row y)) m l e in omega arith
 inside_more m n (Column c) S l e = let h = count_more c (λ y. S (Column y)) n l e in omega arith
 
-pub one_line : (m n : ℕ) (S : Lines) → 0 < inside m n S → (x : Line) × (IsLine m n x) × (S x ≡ true)
+pub one_line : (m n : ℕ) (S : Lines) → 0 < count_inside m n S → (x : Line) × (IsLine m n x) × (S x ≡ true)
 one_line m n S l = go (count (λ r. S (Row r)) m) refl
   where
     go : (k : ℕ) → count (λ r. S (Row r)) m ≡ k → (x : Line) × (IsLine m n x) × (S x ≡ true)
@@ -139,10 +139,10 @@ line_same (Column c) (Row r) e = absurd (false≢true e)
 line_same (Column c) (Column c') e = ap Column (eq_of c c' e)
 
 -- a set with more lines than the list has one beside it
-pub one_beside : (m n : ℕ) (xs : List Line) (S : Lines) → length xs < inside m n S → (x : Line) × (IsLine m n x) × (S x ≡ true) × AllByRecursion (λ y. x ≢ y) xs
+pub one_beside : (m n : ℕ) (xs : List Line) (S : Lines) → length xs < count_inside m n S → (x : Line) × (IsLine m n x) × (S x ≡ true) × AllByRecursion (λ y. x ≢ y) xs
 one_beside m n [] S l = let h = one_line m n S l in (h.0, h.1, h.2, tt)
 one_beside m n (y ∷ ys) S l =
-    let h = one_beside m n ys (without y S) (plain (length ys) (inside m n S) (inside m n (without y S)) (inside_less m n y S) l) in
+    let h = one_beside m n ys (without y S) (plain (length ys) (count_inside m n S) (count_inside m n (without y S)) (inside_less m n y S) l) in
     (h.0, h.1, was (same y h.0) (S h.0) h.2, (λ e. not_it h.0 (sym e) h.2, h.3))
   where
     plain : (k a b : ℕ) → a ≤ suc b → suc k < a → k < b
@@ -156,10 +156,10 @@ one_beside m n (y ∷ ys) S l =
     not_it x e h = false≢true (sym (ap (λ (s : Bool). cond s false (S x)) (same_line y x e)) ∙ h)
 
 -- a set has as many lines as a list of its lines that are is_ne
-pub at_least : (m n : ℕ) (xs : List Line) (S : Lines) → AllByRecursion (λ x. IsLine m n x) xs → AllByRecursion (λ x. S x ≡ true) xs → AreApart xs → length xs ≤ inside m n S
+pub at_least : (m n : ℕ) (xs : List Line) (S : Lines) → AllByRecursion (λ x. IsLine m n x) xs → AllByRecursion (λ x. S x ≡ true) xs → AreApart xs → length xs ≤ count_inside m n S
 at_least m n [] S ls ins far = omega arith
 at_least m n (x ∷ xs) S ls ins far =
-    plain (length xs) (inside m n S) (inside m n (without x S)) (inside_more m n x S ls.0 ins.0) (at_least m n xs (without x S) ls.1 (stay xs ins.1 far.0) far.1)
+    plain (length xs) (count_inside m n S) (count_inside m n (without x S)) (inside_more m n x S ls.0 ins.0) (at_least m n xs (without x S) ls.1 (stay xs ins.1 far.0) far.1)
   where
     plain : (k a b : ℕ) → a ≡ suc b → k ≤ b → suc k ≤ a
     plain k a b e l = omega arith

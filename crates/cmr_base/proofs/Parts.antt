@@ -82,8 +82,8 @@ get_or-column_of [] row column = refl
 get_or-column_of (r ∷ rows) zero column = refl
 get_or-column_of (r ∷ rows) (suc row) column = get_or-column_of rows row column
 
-pub entry-turned : (m : Matrix) (row column : ℕ) → IsRectangular m → entry (transposed m) column row ≡ entry m row column
-entry-turned m row column rectangular = elim (cases_lt column m.width) [
+pub entry-transposed_rectangular : (m : Matrix) (row column : ℕ) → IsRectangular m → entry (transposed m) column row ≡ entry m row column
+entry-transposed_rectangular m row column rectangular = elim (cases_lt column m.width) [
   | inl inside ↦ ap (λ r. get_or r row (pos 0)) (row-transposed m column inside) ∙ get_or-column_of m.rows row column
   | inr outside ↦
       ap (λ r. get_or r row (pos 0)) (get_or_past (transposed m).rows column [] (omega (arith, height-transposed m)))
@@ -95,18 +95,18 @@ entry-turned m row column rectangular = elim (cases_lt column m.width) [
     beyond (inr high) out = ap (λ r. get_or r column (pos 0)) (get_or_past m.rows row [] high)
 
 pub entry-transposed : (m : Matrix) (row column : ℕ) → IsMatrix m → entry (transposed m) column row ≡ entry m row column
-entry-transposed m row column is = entry-turned m row column is.rectangular
+entry-transposed m row column is = entry-transposed_rectangular m row column is.rectangular
 
 pub is_ternary-transposed : (m : Matrix) → IsTernary m → IsTernary (transposed m)
 is_ternary-transposed m is = record {
   rectangular = λ column h. ap length (row-transposed m column (omega (arith, h, height-transposed m))) ∙ length-map m.rows (λ r. get_or r column (pos 0));
-  small = λ column row. subst IsEntry (sym (entry-turned m row column is.rectangular)) (is.small row column);
+  small = λ column row. subst IsEntry (sym (entry-transposed_rectangular m row column is.rectangular)) (is.small row column);
 }
 
 pub is_matrix-transposed : (m : Matrix) → IsMatrix m → IsMatrix (transposed m)
-is_matrix-transposed m is = let turned = is_ternary-transposed m (record { rectangular = is.rectangular; small = is.small }) in record {
-  rectangular = turned.rectangular;
-  small = turned.small;
+is_matrix-transposed m is = let of_transposed = is_ternary-transposed m (record { rectangular = is.rectangular; small = is.small }) in record {
+  rectangular = of_transposed.rectangular;
+  small = of_transposed.small;
   height_in = omega (arith, height-transposed m, is.width_in);
   width_in = is.height_in;
 }

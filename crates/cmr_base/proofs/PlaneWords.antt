@@ -16,7 +16,7 @@ use Rattle.std.proofs.Math.Nat.{pow-suc, suc-mul, zero-mul, div-add-mod, mod-lt,
 use Rattle.std.proofs.Math.Seq.{drop-append_seam, take-append_seam}
 use Rattle.cmr_base.specs.LineSets.{first_lines}
 use Rattle.cmr_base.specs.Matrix.{Matrix, height, entry, IsEntry, IsMatrix, is_nonzero}
-use Rattle.cmr_base.specs.MatrixLayout.{cell, is_in, rows_in, value_of}
+use Rattle.cmr_base.specs.MatrixLayout.{plane_entry, is_in, rows_in, value_of}
 use Rattle.cmr_base.specs.Planes.{bits_of, has_bit, is_minus, word_of, words_for, words_of}
 
 pub bit_lt : (b : Bool) → cond b 1 0 < 2
@@ -195,9 +195,9 @@ rows-in_planes m rows columns support minus is high wide s_is m_is =
     ext_get_or [] (rows_in rows columns support minus) m.rows (length-map-range_with_len made 0 rows ∙ sym high) (λ row h. row_is row (omega (arith, h, length-map-range_with_len made 0 rows)))
   where
     made : ℕ → List ℤ
-    made row = map (cell (words_for columns) support minus row) (first_lines columns)
+    made row = map (plane_entry (words_for columns) support minus row) (first_lines columns)
 
-    entry_is : (row column : ℕ) → row < rows → column < columns → cell (words_for columns) support minus row column ≡ entry m row column
+    entry_is : (row column : ℕ) → row < rows → column < columns → plane_entry (words_for columns) support minus row column ≡ entry m row column
     entry_is row column in_height in_width =
         let inside : column / 64 < words_for columns = omega arith in
         let low : row < height m = omega arith in
@@ -209,7 +209,7 @@ rows-in_planes m rows columns support minus is high wide s_is m_is =
     row_is : (row : ℕ) → row < rows → get_or (rows_in rows columns support minus) row [] ≡ get_or m.rows row []
     row_is row h =
         get_or-map-range_with_len made 0 rows row row [] h (omega arith)
-        ∙ ext_get_or (pos 0) (made row) (get_or m.rows row []) (length-map-range_with_len (cell (words_for columns) support minus row) 0 columns ∙ sym wide ∙ sym (is.rectangular row (omega arith)))
+        ∙ ext_get_or (pos 0) (made row) (get_or m.rows row []) (length-map-range_with_len (plane_entry (words_for columns) support minus row) 0 columns ∙ sym wide ∙ sym (is.rectangular row (omega arith)))
         (λ column c.
-        let inside : column < columns = omega (arith, c, length-map-range_with_len (cell (words_for columns) support minus row) 0 columns) in
-        get_or-map-range_with_len (cell (words_for columns) support minus row) 0 columns column column (pos 0) inside (omega arith) ∙ entry_is row column h inside)
+        let inside : column < columns = omega (arith, c, length-map-range_with_len (plane_entry (words_for columns) support minus row) 0 columns) in
+        get_or-map-range_with_len (plane_entry (words_for columns) support minus row) 0 columns column column (pos 0) inside (omega arith) ∙ entry_is row column h inside)

@@ -8,7 +8,7 @@ use Rattle.cmr_base.specs.declared.separation.Connector.{Connector}
 use Rattle.cmr_base.specs.declared.separation.Form.{Form}
 use Rattle.cmr_base.specs.declared.separation.Form.TheVariants.{Delta, YForm, Mixed, Concentrated}
 use Rattle.cmr_base.specs.LineSets.{first_lines}
-use Rattle.cmr_base.specs.Separations.{Lines, opposite, count_in, AreEnough, AreOn, zeros, product_at, IsTwoSeparation, IsTied, AreConnectors, upper_block, lower_block, first_is_flat, second_is_flat, connector_lines, IsThreeSeparation}
+use Rattle.cmr_base.specs.Separations.{Lines, opposite, count_lines_in, AreEnough, AreOn, zeros, product_at, IsTwoSeparation, IsTied, AreConnectors, upper_block, lower_block, first_is_flat, second_is_flat, connector_lines, IsThreeSeparation}
 use Rattle.cmr_base.specs.Seeds.{IsLine, line_number, form_number, IsClosed, HasAll, IsGood, IsGoodTwo, IsGoodThree}
 use Rattle.cmr_base.proofs.Lists.{all_weaker, all_both}
 use Rattle.cmr_base.proofs.ListedLines.{has_line_from_line, line_from_has_line}
@@ -38,7 +38,7 @@ back_not false true h e = absurd (false≢true (h refl))
 back_not false false h e = refl
 
 -- a larger set leaves fewer lines
-pub outside_grows : (m n : ℕ) (S T : Lines) → ((x : Line) → IsLine m n x → S x ≡ true → T x ≡ true) → count_in (opposite T) (first_lines m) (first_lines n) ≤ count_in (opposite S) (first_lines m) (first_lines n)
+pub outside_grows : (m n : ℕ) (S T : Lines) → ((x : Line) → IsLine m n x → S x ≡ true → T x ≡ true) → count_lines_in (opposite T) (first_lines m) (first_lines n) ≤ count_lines_in (opposite S) (first_lines m) (first_lines n)
 outside_grows m n S T h =
     let g = inside_grows m n (λ x. not (T x)) (λ x. not (S x)) (λ x l e. back_not (T x) (S x) (h x l) e) in
     let a = outside_is m n S in

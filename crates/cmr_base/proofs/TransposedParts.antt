@@ -4,7 +4,7 @@ use Rattle.std.proofs.lemmas.List.{length-map}
 use Rattle.cmr_base.specs.Matrix.{Matrix, entry, transposed, IsMatrix, IsTernary}
 use Rattle.cmr_base.specs.LineSets.{submatrix}
 use Rattle.cmr_base.proofs.WholeMatrices.{same_matrix}
-use Rattle.cmr_base.proofs.Parts.{entry-submatrix, entry-turned, height-transposed, is_matrix-transposed, is_ternary-submatrix, is_ternary-transposed}
+use Rattle.cmr_base.proofs.Parts.{entry-submatrix, entry-transposed_rectangular, height-transposed, is_matrix-transposed, is_ternary-submatrix, is_ternary-transposed}
 
 module _ (m : Matrix) (rows columns : List ℕ) (is : IsTernary m) where
   -- it is a submatrix of the transposed matrix, with rows and columns exchanged
@@ -15,8 +15,8 @@ module _ (m : Matrix) (rows columns : List ℕ) (is : IsTernary m) where
       (λ column row l k.
       let h : column < length columns = omega (arith, l, high) in
       let w : row < length rows = omega (arith, k, length-map rows (λ r. map (entry m r) columns)) in
-      entry-turned part row column part_is.rectangular ∙ entry-submatrix m rows columns row column w h
-      ∙ sym (entry-turned m (get_or rows row 0) (get_or columns column 0) is.rectangular) ∙ sym (entry-submatrix (transposed m) columns rows column row h w))
+      entry-transposed_rectangular part row column part_is.rectangular ∙ entry-submatrix m rows columns row column w h
+      ∙ sym (entry-transposed_rectangular m (get_or rows row 0) (get_or columns column 0) is.rectangular) ∙ sym (entry-submatrix (transposed m) columns rows column row h w))
     where
       part : Matrix
       part = submatrix m rows columns
@@ -33,6 +33,6 @@ module _ (m : Matrix) (rows columns : List ℕ) (is : IsTernary m) where
 -- transposed twice, a matrix is what it was
 pub transposed-twice : (m : Matrix) → IsMatrix m → transposed (transposed m) ≡ m
 transposed-twice m is =
-    let turned = is_matrix-transposed m is in
-    same_matrix (transposed (transposed m)) m (is_matrix-transposed (transposed m) turned).rectangular is.rectangular (height-transposed (transposed m)) (height-transposed m)
-    (λ row column l k. entry-turned (transposed m) column row turned.rectangular ∙ entry-turned m row column is.rectangular)
+    let of_transposed = is_matrix-transposed m is in
+    same_matrix (transposed (transposed m)) m (is_matrix-transposed (transposed m) of_transposed).rectangular is.rectangular (height-transposed (transposed m)) (height-transposed m)
+    (λ row column l k. entry-transposed_rectangular (transposed m) column row of_transposed.rectangular ∙ entry-transposed_rectangular m row column is.rectangular)

@@ -9,7 +9,7 @@ use Rattle.cmr_base.specs.declared.limits.TheConstants.{MAX_COLUMNS, MAX_ROWS}
 use Rattle.cmr_base.specs.declared.matrix.Matrix.TheInside.{Inside}
 use Rattle.cmr_base.specs.LineSets.{first_lines}
 use Rattle.cmr_base.specs.Matrix.{Matrix, height, row_of, entry, IsMatrix, IsEntry, is_nonzero, rows_of}
-use Rattle.cmr_base.specs.MatrixLayout.{matrix_of, cell, rows_in, value_of, IsLaidOut}
+use Rattle.cmr_base.specs.MatrixLayout.{matrix_of, plane_entry, rows_in, value_of, IsLaidOut}
 use Rattle.cmr_base.specs.Planes.{is_minus, words_for, words_of}
 use Rattle.cmr_base.proofs.Parts.{each-map}
 use Rattle.cmr_base.proofs.PlaneWords.{length-rows, length-words_of, row_at, rows-in_planes}
@@ -17,7 +17,7 @@ use Rattle.cmr_base.proofs.Rows.{length-rows_of, length-row, each-rows_of}
 
 -- the rows that the planes have, one by one
 abbrev pub made_row : Inside → ℕ → List ℤ
-made_row a row = map (cell (words_for a.columns) a.support.items a.minus.items row) (first_lines a.columns)
+made_row a row = map (plane_entry (words_for a.columns) a.support.items a.minus.items row) (first_lines a.columns)
 
 pub height_is : (a : Inside) (m : Matrix) → matrix_of a ≡ m → height m ≡ a.rows
 height_is a m e = ap height (sym e) ∙ length-map-range_with_len (made_row a) 0 a.rows
@@ -28,11 +28,11 @@ width_is a m e = ap (λ (t : Matrix). t.width) (sym e)
 made_at : (a : Inside) (row : ℕ) → row < a.rows → row_of (matrix_of a) row ≡ made_row a row
 made_at a row h = get_or-map-range_with_len (made_row a) 0 a.rows row row [] h (omega arith)
 
-pub entry_is : (a : Inside) (m : Matrix) (r c : ℕ) → matrix_of a ≡ m → r < height m → c < m.width → entry m r c ≡ cell (words_for a.columns) a.support.items a.minus.items r c
+pub entry_is : (a : Inside) (m : Matrix) (r c : ℕ) → matrix_of a ≡ m → r < height m → c < m.width → entry m r c ≡ plane_entry (words_for a.columns) a.support.items a.minus.items r c
 entry_is a m r c e hr hc =
     ap (λ (t : Matrix). entry t r c) (sym e)
     ∙ ap (λ (row : List ℤ). get_or row c (pos 0)) (made_at a r (omega (arith, height_is a m e)))
-    ∙ get_or-map-range_with_len (cell (words_for a.columns) a.support.items a.minus.items r) 0 a.columns c c (pos 0) (omega (arith, width_is a m e)) (omega arith)
+    ∙ get_or-map-range_with_len (plane_entry (words_for a.columns) a.support.items a.minus.items r) 0 a.columns c c (pos 0) (omega (arith, width_is a m e)) (omega arith)
 
 pub small_value : (s n : Bool) → IsEntry (value_of s n)
 small_value false n = record { low = omega (arith, ints); high = omega (arith, ints) }
@@ -46,8 +46,8 @@ small_rows f columns (x ∷ rows) each (suc r) c = small_rows f columns rows eac
 
 pub is_matrix : (a : Inside) (m : Matrix) → matrix_of a ≡ m → IsLaidOut a → IsMatrix m
 is_matrix a m e laid = subst IsMatrix e (record {
-  rectangular = λ row h. ap length (made_at a row (omega (arith, h, height_is a (matrix_of a) refl))) ∙ length-map-range_with_len (cell (words_for a.columns) a.support.items a.minus.items row) 0 a.columns;
-  small = small_rows (cell (words_for a.columns) a.support.items a.minus.items) (first_lines a.columns) (first_lines a.rows) (λ r c. small_value _ _);
+  rectangular = λ row h. ap length (made_at a row (omega (arith, h, height_is a (matrix_of a) refl))) ∙ length-map-range_with_len (plane_entry (words_for a.columns) a.support.items a.minus.items row) 0 a.columns;
+  small = small_rows (plane_entry (words_for a.columns) a.support.items a.minus.items) (first_lines a.columns) (first_lines a.rows) (λ r c. small_value _ _);
   height_in = omega (arith, laid.rows_few, height_is a (matrix_of a) refl);
   width_in = laid.columns_few;
 })

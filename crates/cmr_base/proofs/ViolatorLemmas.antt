@@ -40,7 +40,7 @@ violator_same M N rows columns same v =
     record {
       even_rows = all_both (λ row. sum_over columns (M row) ≡ sum_over columns (N row)) (λ row. IsEven (sum_over columns (M row))) (λ row. IsEven (sum_over columns (N row))) (λ row e even. subst IsEven e even) rows row_sums v.even_rows;
       even_columns = all_both (λ column. AllByRecursion (λ row. M row column ≡ N row column) rows) (λ column. IsEven (sum_over rows (λ row. M row column))) (λ column. IsEven (sum_over rows (λ row. N row column)))
-          (λ column e even. subst IsEven (sum_over_same rows (λ row. M row column) (λ row. N row column) e) even) columns (turned rows columns same) v.even_columns;
+          (λ column e even. subst IsEven (sum_over_same rows (λ row. M row column) (λ row. N row column) e) even) columns (by_column rows columns same) v.even_columns;
       two_mod_four = subst IsTwoModFour (sum_over_same rows (λ row. sum_over columns (M row)) (λ row. sum_over columns (N row)) row_sums) v.two_mod_four;
     }
   where
@@ -48,10 +48,10 @@ violator_same M N rows columns same v =
     column_at [] = tt
     column_at (column ∷ columns) = (tt, column_at columns)
 
-    turned : (rows columns : List ℕ) → AllByRecursion (λ row. AllByRecursion (λ column. M row column ≡ N row column) columns) rows → AllByRecursion (λ column. AllByRecursion (λ row. M row column ≡ N row column) rows) columns
-    turned [] columns h = column_at columns
-    turned (row ∷ rows) columns h = all_both (λ column. M row column ≡ N row column) (λ column. AllByRecursion (λ r. M r column ≡ N r column) rows) (λ column. AllByRecursion (λ r. M r column ≡ N r column) (row ∷ rows))
-        (λ column first later. (first, later)) columns h.0 (turned rows columns h.1)
+    by_column : (rows columns : List ℕ) → AllByRecursion (λ row. AllByRecursion (λ column. M row column ≡ N row column) columns) rows → AllByRecursion (λ column. AllByRecursion (λ row. M row column ≡ N row column) rows) columns
+    by_column [] columns h = column_at columns
+    by_column (row ∷ rows) columns h = all_both (λ column. M row column ≡ N row column) (λ column. AllByRecursion (λ r. M r column ≡ N r column) rows) (λ column. AllByRecursion (λ r. M r column ≡ N r column) (row ∷ rows))
+        (λ column first later. (first, later)) columns h.0 (by_column rows columns h.1)
 
 -- the order of the rows does not matter
 pub violator_rows_reordered : (M : ℕ → ℕ → ℤ) (item : ℕ) (fewer rows others columns : List ℕ) → HasOneMore item fewer rows → HasOneMore item fewer others → IsViolator M rows columns → IsViolator M others columns

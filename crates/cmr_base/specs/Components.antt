@@ -8,6 +8,10 @@ use Rattle.cmr_base.specs.Reductions.{HasLine}
 use Rattle.cmr_base.specs.Separations.{Lines, listed, zeros}
 use Rattle.cmr_base.specs.Seeds.{IsLine, IsClosed}
 
+-- a line of the matrix
+abbrev pub IsLineOf : Matrix → Line → Type 0
+IsLineOf m x = IsLine (height m) m.width x
+
 -- no nonzero is in a line of the set and a line outside
 abbrev pub IsApart : ℕ → ℕ → (ℕ → ℕ → ℤ) → Lines → Type 0
 IsApart m n M lines = IsClosed m n M zeros zeros lines

@@ -33,9 +33,9 @@ abbrev pub pair_of : List HungArc → ℕ → Pair
 pair_of [] row = record { tail = 0; head = 0 }
 pair_of (arc ∷ arcs) row = cond (nat_eq row arc.row) (record { tail = arc.node; head = suc (length arcs) }) (pair_of arcs row)
 
--- the same, or turned round
-abbrev pub turned : Bool → Pair → Pair
-turned as_it_is pair = cond as_it_is pair (record { tail = pair.head; head = pair.tail })
+-- the same, or reversed_unless round
+abbrev pub reversed_unless : Bool → Pair → Pair
+reversed_unless as_it_is pair = cond as_it_is pair (record { tail = pair.head; head = pair.tail })
 
 -- node 0 is where the first end of column 0 is
 module _ (side : ℕ → ℕ → Bool) (lies : Bool → ℕ → ℕ → Bool) where
@@ -48,7 +48,7 @@ module _ (side : ℕ → ℕ → Bool) (lies : Bool → ℕ → ℕ → Bool) wh
 
   -- the arcs of the first m rows in their order, grown in the order of a list of them
   abbrev pub arcs_by : List ℕ → ℕ → List Pair
-  arcs_by order m = map (λ r. turned (lies true r 0) (pair_of (grown beyond order) r)) (first_lines m)
+  arcs_by order m = map (λ r. reversed_unless (lies true r 0) (pair_of (grown beyond order) r)) (first_lines m)
 
   -- the walks of the first n columns
   abbrev pub walks_by : List ℕ → ℕ → List Pair

@@ -18,7 +18,7 @@ pub mod Trees
 pub mod Splits
 pub mod Cuts
 pub mod GrownTrees
-pub mod TurnedNetworks
+pub mod ReversedNetworks
 pub mod Incidences
 pub mod RootedTrees
 pub mod Comparisons
@@ -33,4 +33,4 @@ pub mod Cores
 pub mod R10
 pub mod ColumnSets
 pub mod Runs
-pub mod TurnedPlanes
+pub mod TransposedPlanes

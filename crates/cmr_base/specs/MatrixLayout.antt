@@ -17,12 +17,12 @@ value_of false minus = pos 0
 value_of true false = pos 1
 value_of true true = negsuc 0
 
-abbrev pub cell : ℕ → List ℕ → List ℕ → ℕ → ℕ → ℤ
-cell words support minus row column = value_of (is_in words support row column) (is_in words minus row column)
+abbrev pub plane_entry : ℕ → List ℕ → List ℕ → ℕ → ℕ → ℤ
+plane_entry words support minus row column = value_of (is_in words support row column) (is_in words minus row column)
 
 -- the rows that the planes have
 abbrev pub rows_in : ℕ → ℕ → List ℕ → List ℕ → List (List ℤ)
-rows_in rows columns support minus = map (λ row. map (cell (words_for columns) support minus row) (first_lines columns)) (first_lines rows)
+rows_in rows columns support minus = map (λ row. map (plane_entry (words_for columns) support minus row) (first_lines columns)) (first_lines rows)
 
 abbrev pub matrix_of : Inside → Matrix
 matrix_of a = record { rows = rows_in a.rows a.columns a.support.items a.minus.items; width = a.columns }

@@ -47,9 +47,9 @@ EndsIn true e m n first = (first m n ≡ pos 0) × (first m (n + 1) ≡ e) × ((
 EndsIn false e m n first = (first m n ≡ pos 0) × (first (m + 1) n ≡ e) × ((c : ℕ) → c < n → first (m + 1) c ≡ first m c)
 
 -- the matrix begins with `e 0 b; d d`, or `e b; 0 b; d`, before u rows and v columns more
-abbrev pub BeginsWith : Bool → ℤ → (u v : ℕ) → (ℕ → ℕ → ℤ) → Type 0
-BeginsWith true e u v second = (second 0 0 ≡ e) × (second 0 1 ≡ pos 0) × ((r : ℕ) → 1 ≤ r → r < 1 + u → second r 1 ≡ second r 0)
-BeginsWith false e u v second = (second 0 0 ≡ e) × (second 1 0 ≡ pos 0) × ((c : ℕ) → 1 ≤ c → c < 1 + v → second 1 c ≡ second 0 c)
+abbrev pub BeginsWithConnector : Bool → ℤ → (u v : ℕ) → (ℕ → ℕ → ℤ) → Type 0
+BeginsWithConnector true e u v second = (second 0 0 ≡ e) × (second 0 1 ≡ pos 0) × ((r : ℕ) → 1 ≤ r → r < 1 + u → second r 1 ≡ second r 0)
+BeginsWithConnector false e u v second = (second 0 0 ≡ e) × (second 1 0 ≡ pos 0) × ((c : ℕ) → 1 ≤ c → c < 1 + v → second 1 c ≡ second 0 c)
 
 -- The first matrix ends in connecting lines of the kind of the second connector, the second begins with those of the kind of the
 -- first, and the corner e, which is 1 or -1, is the same in both.
@@ -61,7 +61,7 @@ pub record HaveCornerSum (first_flat second_flat : Bool) (first second : Matrix)
   pub corner : ℤ
   pub sign : IsSign corner
   pub one : EndsIn second_flat corner (height first - connecting_rows second_flat) (first.width - connecting_columns second_flat) (entry first)
-  pub two : BeginsWith first_flat corner (height second - connecting_rows first_flat) (second.width - connecting_columns first_flat) (entry second)
+  pub two : BeginsWithConnector first_flat corner (height second - connecting_rows first_flat) (second.width - connecting_columns first_flat) (entry second)
 
 -- of matrices with m rows and n columns before the connecting lines of the first, and connecting lines of the second of this kind
 abbrev pub sum_along : Bool → (m n : ℕ) (first second : ℕ → ℕ → ℤ) → ℕ → ℕ → ℤ

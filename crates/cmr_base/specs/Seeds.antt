@@ -7,14 +7,14 @@ use Rattle.cmr_base.specs.declared.separation.Connector.{Connector}
 use Rattle.cmr_base.specs.declared.separation.Form.{Form}
 use Rattle.cmr_base.specs.declared.separation.Form.TheVariants.{Delta, YForm, Mixed, Concentrated}
 use Rattle.cmr_base.specs.LineSets.{first_lines}
-use Rattle.cmr_base.specs.Separations.{Lines, opposite, count_in, HasBlocks, zeros, product_at, upper_block, lower_block, AreConnectors, connector_lines, first_is_flat, second_is_flat}
+use Rattle.cmr_base.specs.Separations.{Lines, opposite, count_lines_in, HasBlocks, zeros, product_at, upper_block, lower_block, AreConnectors, connector_lines, first_is_flat, second_is_flat}
 
 -- a line of a matrix with m rows and n columns
 abbrev pub IsLine : ℕ → ℕ → Line → Type 0
 IsLine m n (Row row) = row < m
 IsLine m n (Column column) = column < n
 
--- No line outside the set breaks a rule with the lines inside: the entries between the set and the other lines are those of the rules.
+-- No line count_outside the set breaks a rule with the lines count_inside: the entries between the set and the other lines are those of the rules.
 abbrev pub IsClosed : ℕ → ℕ → (ℕ → ℕ → ℤ) → (upper lower : ℕ → ℕ → ℤ) → Lines → Type 0
 IsClosed m n M upper lower lines = HasBlocks M (first_lines m) (first_lines n) lines upper lower
 
@@ -35,7 +35,7 @@ pub record IsGood (m n least : ℕ) (M : ℕ → ℕ → ℤ) (upper lower : ℕ
   pub not_second : AllByRecursion (λ line. seed ≢ line) second
   pub grown : IsGrown m n M upper lower (seed ∷ first) side
   pub two : AllByRecursion (λ line. side line ≡ false) second
-  pub enough : least ≤ count_in (opposite side) (first_lines m) (first_lines n)
+  pub enough : least ≤ count_lines_in (opposite side) (first_lines m) (first_lines n)
 
 -- the place of a line in line order: the rows, then the columns
 abbrev pub line_number : ℕ → Line → ℕ
@@ -51,13 +51,13 @@ IsBefore (x ∷ xs) (y ∷ ys) = (x < y) ⊎ ((x ≡ y) × IsBefore xs ys)
 -- ---- two-seeds
 
 -- a place of a nonzero
-pub record IsReference (m n : ℕ) (M : ℕ → ℕ → ℤ) (i j : ℕ) : Type 0 where
+pub record IsNonzeroAt (m n : ℕ) (M : ℕ → ℕ → ℤ) (i j : ℕ) : Type 0 where
   pub row : i < m
   pub column : j < n
   pub nonzero : M i j ≢ pos 0
 
 abbrev pub IsGoodTwo : ℕ → ℕ → (ℕ → ℕ → ℤ) → ℕ → ℕ → Line → Lines → Type 0
-IsGoodTwo m n M i j seed side = IsReference m n M i j × IsGood m n 2 M zeros (product_at M i j) (Column j ∷ []) (Row i ∷ []) seed side
+IsGoodTwo m n M i j seed side = IsNonzeroAt m n M i j × IsGood m n 2 M zeros (product_at M i j) (Column j ∷ []) (Row i ∷ []) seed side
 
 -- by the row, then by the column, then by the line
 abbrev pub two_key : ℕ → ℕ → ℕ → Line → List ℕ
@@ -107,8 +107,8 @@ count test zero = 0
 count test (suc k) = cond (test k) (suc (count test k)) (count test k)
 
 -- how many lines are in the set, and how many are not
-abbrev pub inside : ℕ → ℕ → Lines → ℕ
-inside m n lines = count (λ row. lines (Row row)) m + count (λ column. lines (Column column)) n
+abbrev pub count_inside : ℕ → ℕ → Lines → ℕ
+count_inside m n lines = count (λ row. lines (Row row)) m + count (λ column. lines (Column column)) n
 
-abbrev pub outside : ℕ → ℕ → Lines → ℕ
-outside m n lines = inside m n (λ line. not (lines line))
+abbrev pub count_outside : ℕ → ℕ → Lines → ℕ
+count_outside m n lines = count_inside m n (λ line. not (lines line))

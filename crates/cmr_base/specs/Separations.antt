@@ -41,8 +41,8 @@ abbrev pub columns_in : Lines → List ℕ → List ℕ
 columns_in lines columns = filter (λ column. lines (Column column)) columns
 
 -- how many lines of the set there are among these rows and columns
-abbrev pub count_in : Lines → List ℕ → List ℕ → ℕ
-count_in lines rows columns = length (rows_in lines rows) + length (columns_in lines columns)
+abbrev pub count_lines_in : Lines → List ℕ → List ℕ → ℕ
+count_lines_in lines rows columns = length (rows_in lines rows) + length (columns_in lines columns)
 
 -- What the entries between the sides are: `upper` those of the rows of side one in columns of side two, `lower` those of the
 -- rows of side two in columns of side one.
@@ -52,8 +52,8 @@ pub record HasBlocks (M : ℕ → ℕ → ℤ) (rows columns : List ℕ) (side :
 
 -- at least so many lines on each side
 pub record AreEnough (rows columns : List ℕ) (side : Lines) (least : ℕ) : Type 0 where
-  pub one : least ≤ count_in side rows columns
-  pub two : least ≤ count_in (opposite side) rows columns
+  pub one : least ≤ count_lines_in side rows columns
+  pub two : least ≤ count_lines_in (opposite side) rows columns
 
 abbrev pub zeros : ℕ → ℕ → ℤ
 zeros r c = pos 0

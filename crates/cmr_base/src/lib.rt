@@ -27,7 +27,7 @@ mod rows_and_columns;
 mod runs;
 mod separation;
 mod set_numbers;
-mod turned_plane;
+mod transposed_plane;
 mod word;
 
 pub use cores::{Core, Factors};

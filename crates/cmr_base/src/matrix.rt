@@ -11,7 +11,7 @@ use crate::planes::{
     Plane, count_bits, has_bit, passes, place_of, planes_of, row_words, with_bit, words_for,
 };
 use crate::runs::{Run, chosen_plane, runs_of};
-use crate::turned_plane::turned_plane;
+use crate::transposed_plane::transposed_plane;
 use crate::{Indices, LineSet, MAX_COLUMNS, MAX_ROWS, Memory};
 use std::alloc::Global;
 use std::marker::Model;
@@ -275,8 +275,8 @@ impl Matrix {
         Ok(Matrix {
             rows: self.columns,
             columns: self.rows,
-            support: turned_plane(alloc, &self.support, self.rows, self.columns)?,
-            minus: turned_plane(alloc, &self.minus, self.rows, self.columns)?,
+            support: transposed_plane(alloc, &self.support, self.rows, self.columns)?,
+            minus: transposed_plane(alloc, &self.minus, self.rows, self.columns)?,
         })
     }
 

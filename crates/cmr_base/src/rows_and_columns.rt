@@ -37,7 +37,7 @@ impl<'a> RowsAndColumns<'a> {
     }
 
     /// The transposed matrix: its rows are the columns.
-    pub fn turned(&self) -> RowsAndColumns<'a>
+    pub fn transposed(&self) -> RowsAndColumns<'a>
         ensures { result ≡ transposed self.now }
     {
         let _rows = self.rows.rows();

@@ -1,7 +1,7 @@
 ghost use Rattle.std.specs.Prelude.{◌≡◌};
-ghost use Rattle.cmr_base.specs.Separations.{first_is_flat, second_is_flat};
+ghost use Rattle.cmr_base.specs.Separations.{connector_lines, first_is_flat, second_is_flat};
 
-use crate::{ItemList, LineSet};
+use crate::{ItemList, Line, LineSet};
 
 /// A two-separation: the lines of side one, with a row of side two and a column of side one that cross in a
 /// nonzero. The row and the column make all entries between the sides.
@@ -19,6 +19,20 @@ pub struct Connector {
     pub row: u32,
     pub column: u32,
     pub other: u32,
+}
+
+impl Connector {
+    /// Its lines: the row, the column and one line more, a column where it is flat.
+    pub fn lines(self, flat: bool) -> [Line; 3]
+        ensures { result ≡ connector_lines flat self }
+    {
+        let Connector { row, column, other } = self;
+        if flat {
+            [Line::Row(row), Line::Column(column), Line::Column(other)]
+        } else {
+            [Line::Row(row), Line::Column(column), Line::Row(other)]
+        }
+    }
 }
 
 /// The form of a three-separation. Of delta both connectors are flat, of Y both are tall, of mixed the first is flat and

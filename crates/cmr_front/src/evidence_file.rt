@@ -1,9 +1,9 @@
 // The files of a tool that reads evidence, alone or behind a matrix text.
 ghost use Rattle.std.specs.Prelude.{◌≡◌, ◌∷◌, [], IfOk, IfErr, Ok, map};
 ghost use Rattle.text_fields.specs.Words.{text_of};
-ghost use Rattle.matrix_text.specs.Submatrix.{submatrix};
+ghost use Rattle.matrix_text.specs.Submatrix.{named_lines};
 ghost use Rattle.camion_sign.specs.ChainTexts.{chain};
-ghost use Rattle.tree_text.specs.Reading.{plain, tree};
+ghost use Rattle.tree_text.specs.Reading.{plain_of, tree};
 ghost use Rattle.cmr_base.specs.LineSets.{AllBelow};
 ghost use Rattle.std.specs.List.Sorted.{IsStrictlyIncreasing};
 ghost use Rattle.cmr_front.specs.Inputs.{input_file};
@@ -59,7 +59,7 @@ fn evidence_of<'a>(name: &'a str) -> Input<'a>
 
 /// The tree that the text of a file stands for, or why the run ends: the text's first fault.
 pub fn read_tree_file<'a>(alloc: Global, name: &'a str, bytes: &[u8]) -> Result<DecTree, Stop<'a>>
-    ensures read { IfOk result (λ found. tree (text_of bytes.now) ≡ Ok (plain found)) }
+    ensures read { IfOk result (λ found. tree (text_of bytes.now) ≡ Ok (plain_of found)) }
     ensures stopped { IfErr result (StopsText faults.Tree name.entry.now (tree
         (text_of bytes.now))) }
 {
@@ -103,12 +103,12 @@ pub fn read_submatrix_file<'a>(
     rows: u32,
     columns: u32,
 ) -> Result<LineSet, Stop<'a>>
-    ensures read { IfOk result (λ lines. submatrix rows columns (text_of bytes.now) ≡ Ok lines) }
+    ensures read { IfOk result (λ lines. named_lines rows columns (text_of bytes.now) ≡ Ok lines) }
     ensures rows_rise { IfOk result (λ lines. IsStrictlyIncreasing lines.rows
         × AllBelow rows lines.rows) }
     ensures columns_rise { IfOk result (λ lines. IsStrictlyIncreasing lines.columns
         × AllBelow columns lines.columns) }
-    ensures stopped { IfErr result (StopsText faults.Matrix name.entry.now (submatrix rows columns
+    ensures stopped { IfErr result (StopsText faults.Matrix name.entry.now (named_lines rows columns
         (text_of bytes.now))) }
 {
     match read_submatrix(alloc, bytes, rows, columns) {

@@ -6,7 +6,7 @@ use Rattle.std.proofs.lemmas.Slice.Eq.{bytes_eq-Decides}
 use Rattle.std.proofs.lemmas.Bool.{false_from_ne_true}
 use Rattle.std.proofs.lemmas.List.{take-append-drop, drop-drop, get_or-set_same}
 use Rattle.cmr_io.specs.declared.memory_file.File.{File}
-use Rattle.cmr_io.specs.Files.{name_of, held_by, room_for, is_named, has_name, of_first, content_in, room_in, IsFirst, bytes_at, name_at, is_writable, is_writable_at}
+use Rattle.cmr_io.specs.Files.{file_name, held_by, room_for, is_named, has_name, of_first, content_in, room_in, IsFirstFile, bytes_at, name_at, is_writable, is_writable_at}
 use Rattle.cmr_io.specs.Writes.{Writes}
 use Rattle.cmr_io.specs.Begun.{is_writing, file_written}
 use Rattle.cmr_io.specs.MemoryShelf.{target_by, got_by}
@@ -20,7 +20,7 @@ is_other bytes name other h ne =
     false_from_ne_true (bytes_eq bytes other) (λ same. ne (sym ((bytes_eq-Decides bytes other).0 same) ∙ (bytes_eq-Decides bytes name).0 h))
 
 -- a file with another's name has the names that the other has
-is_named-same : (name : List ℕ) (file old : File) (b : Bool) → name_of file ≡ name_of old → is_named name old ≡ b → is_named name file ≡ b
+is_named-same : (name : List ℕ) (file old : File) (b : Bool) → file_name file ≡ file_name old → is_named name old ≡ b → is_named name file ≡ b
 is_named-same name file old b same h = ap (λ (bytes : List ℕ). bytes_eq bytes name) same ∙ h
 
 -- no file has the name
@@ -30,16 +30,16 @@ has_name-none name (file ∷ files) other =
     rw (other 0 file (omega arith)) (has_name-none name files (λ k x lt. other (suc k) x (omega arith)))
 
 -- no file before the index has the name
-pub IsFirst-none_before : (name : List ℕ) (files : List File) (i : ℕ) (file : File) → ((k : ℕ) (x : File) → k < i → is_named name (get_or files k x) ≡ false) → i < length files → is_named name (get_or files i file) ≡ true → IsFirst name files i
+pub IsFirst-none_before : (name : List ℕ) (files : List File) (i : ℕ) (file : File) → ((k : ℕ) (x : File) → k < i → is_named name (get_or files k x) ≡ false) → i < length files → is_named name (get_or files i file) ≡ true → IsFirstFile name files i
 IsFirst-none_before name [] i file other lt named = absurd (omega arith)
 IsFirst-none_before name (x ∷ files) zero file other lt named = named
 IsFirst-none_before name (x ∷ files) (suc i) file other lt named =
     (other 0 x (omega arith), IsFirst-none_before name files i file (λ k y below. other (suc k) y (omega arith)) (omega arith) named)
 
 -- a file in the place of the first with a name
-pub IsFirst-set : (name : List ℕ) (files : List File) (i : ℕ) (file old : File) → IsFirst name files i → old ≡ get_or files i old → name_of file ≡ name_of old → IsFirst name (set files i file) i
+pub IsFirst-set : (name : List ℕ) (files : List File) (i : ℕ) (file old : File) → IsFirstFile name files i → old ≡ get_or files i old → file_name file ≡ file_name old → IsFirstFile name (set files i file) i
 IsFirst-set name [] i file old h is same = absurd h
-IsFirst-set name (x ∷ files) zero file old h is same = is_named-same name file x true (same ∙ ap name_of is) h
+IsFirst-set name (x ∷ files) zero file old h is same = is_named-same name file x true (same ∙ ap file_name is) h
 IsFirst-set name (x ∷ files) (suc i) file old h is same = (h.0, IsFirst-set name files i file old h.1 is same)
 
 pub of_first-none : {A : Type 0} → (view : File → Option A) (name : List ℕ) (files : List File) → has_name name files ≡ false → of_first view files name ≡ None
@@ -49,41 +49,41 @@ of_first-none view name (file ∷ files) h =
     rw p.0 (of_first-none view name files p.1)
 
 -- what the first file with a name shows
-pub of_first-first : {A : Type 0} → (view : File → Option A) (name : List ℕ) (files : List File) (i : ℕ) (file : File) → IsFirst name files i → file ≡ get_or files i file → of_first view files name ≡ view file
+pub of_first-first : {A : Type 0} → (view : File → Option A) (name : List ℕ) (files : List File) (i : ℕ) (file : File) → IsFirstFile name files i → file ≡ get_or files i file → of_first view files name ≡ view file
 of_first-first view name [] i file h is = absurd h
 of_first-first view name (x ∷ files) zero file h is = rw (h, is) refl
 of_first-first view name (x ∷ files) (suc i) file h is = rw h.0 (of_first-first view name files i file h.1 is)
 
 -- the first file with a name, in whose place another is put
-pub of_first-set : {A : Type 0} → (view : File → Option A) (name : List ℕ) (files : List File) (i : ℕ) (file old : File) → i < length files → IsFirst name files i → old ≡ get_or files i old → name_of file ≡ name_of old → of_first view (set files i file) name ≡ view file
+pub of_first-set : {A : Type 0} → (view : File → Option A) (name : List ℕ) (files : List File) (i : ℕ) (file old : File) → i < length files → IsFirstFile name files i → old ≡ get_or files i old → file_name file ≡ file_name old → of_first view (set files i file) name ≡ view file
 of_first-set view name files i file old lt h is same =
     of_first-first view name (set files i file) i file (IsFirst-set name files i file old h is same) (sym (get_or-set_same files i file file lt))
 
 -- other names than that of a file that is replaced
-pub of_first-set_other : {A : Type 0} → (view : File → Option A) (name other : List ℕ) (files : List File) (i : ℕ) (file old : File) → other ≢ name → IsFirst name files i → old ≡ get_or files i old → name_of file ≡ name_of old → of_first view (set files i file) other ≡ of_first view files other
+pub of_first-set_other : {A : Type 0} → (view : File → Option A) (name other : List ℕ) (files : List File) (i : ℕ) (file old : File) → other ≢ name → IsFirstFile name files i → old ≡ get_or files i old → file_name file ≡ file_name old → of_first view (set files i file) other ≡ of_first view files other
 of_first-set_other view name other [] i file old ne h is same = absurd h
 of_first-set_other view name other (x ∷ files) zero file old ne h is same =
-    let before : is_named other x ≡ false = is_other (name_of x) name other h ne in
-    rw (before, is_named-same other file x false (same ∙ ap name_of is) before) refl
+    let before : is_named other x ≡ false = is_other (file_name x) name other h ne in
+    rw (before, is_named-same other file x false (same ∙ ap file_name is) before) refl
 of_first-set_other view name other (x ∷ files) (suc i) file old ne h is same = rw (of_first-set_other view name other files i file old ne h.1 is same) refl
 
 -- a file that is replaced by one that shows the same
-pub of_first-set_same : {A : Type 0} → (view : File → Option A) (name : List ℕ) (files : List File) (i : ℕ) (file old : File) → i < length files → old ≡ get_or files i old → name_of file ≡ name_of old → view file ≡ view old → of_first view (set files i file) name ≡ of_first view files name
+pub of_first-set_same : {A : Type 0} → (view : File → Option A) (name : List ℕ) (files : List File) (i : ℕ) (file old : File) → i < length files → old ≡ get_or files i old → file_name file ≡ file_name old → view file ≡ view old → of_first view (set files i file) name ≡ of_first view files name
 of_first-set_same view name [] i file old lt is same shown = absurd (omega arith)
 of_first-set_same view name (x ∷ files) zero file old lt is same shown =
-    let named : is_named name file ≡ is_named name x = ap (λ (bytes : List ℕ). bytes_eq bytes name) (same ∙ ap name_of is) in
+    let named : is_named name file ≡ is_named name x = ap (λ (bytes : List ℕ). bytes_eq bytes name) (same ∙ ap file_name is) in
     rw (named, shown ∙ ap view is) refl
 of_first-set_same view name (x ∷ files) (suc i) file old lt is same shown = rw (of_first-set_same view name files i file old (omega arith) is same shown) refl
 
 -- a file that is added
-pub of_first-push : {A : Type 0} → (view : File → Option A) (name : List ℕ) (files : List File) (file : File) → has_name name files ≡ false → name_of file ≡ name → of_first view (files ++ file ∷ []) name ≡ view file
-of_first-push view name [] file none same = rw ((bytes_eq-Decides (name_of file) name).1 same) refl
+pub of_first-push : {A : Type 0} → (view : File → Option A) (name : List ℕ) (files : List File) (file : File) → has_name name files ≡ false → file_name file ≡ name → of_first view (files ++ file ∷ []) name ≡ view file
+of_first-push view name [] file none same = rw ((bytes_eq-Decides (file_name file) name).1 same) refl
 of_first-push view name (x ∷ files) file none same =
     let p = not_either (is_named name x) (has_name name files) none in
     rw p.0 (of_first-push view name files file p.1 same)
 
-pub of_first-push_other : {A : Type 0} → (view : File → Option A) (name other : List ℕ) (files : List File) (file : File) → other ≢ name → name_of file ≡ name → of_first view (files ++ file ∷ []) other ≡ of_first view files other
-of_first-push_other view name other [] file ne same = rw (is_other (name_of file) name other ((bytes_eq-Decides (name_of file) name).1 same) ne) refl
+pub of_first-push_other : {A : Type 0} → (view : File → Option A) (name other : List ℕ) (files : List File) (file : File) → other ≢ name → file_name file ≡ name → of_first view (files ++ file ∷ []) other ≡ of_first view files other
+of_first-push_other view name other [] file ne same = rw (is_other (file_name file) name other ((bytes_eq-Decides (file_name file) name).1 same) ne) refl
 of_first-push_other view name other (x ∷ files) file ne same = rw (of_first-push_other view name other files file ne same) refl
 
 if_none : {A : Type 0} → (b : Bool) (x : Option A) → x ≡ None → (if b then x else None) ≡ None
@@ -100,15 +100,15 @@ bytes_at-read [] i file lt is = absurd (omega arith)
 bytes_at-read (x ∷ files) zero file lt is = ap (λ (y : File). y.bytes.items) (sym is)
 bytes_at-read (x ∷ files) (suc i) file lt is = bytes_at-read files i file (omega arith) is
 
-pub name_at-first : (name : List ℕ) (files : List File) (i : ℕ) → IsFirst name files i → name_at files i ≡ name
+pub name_at-first : (name : List ℕ) (files : List File) (i : ℕ) → IsFirstFile name files i → name_at files i ≡ name
 name_at-first name [] i h = absurd h
-name_at-first name (x ∷ files) zero h = (bytes_eq-Decides (name_of x) name).0 h
+name_at-first name (x ∷ files) zero h = (bytes_eq-Decides (file_name x) name).0 h
 name_at-first name (x ∷ files) (suc i) h = name_at-first name files i h.1
 
 -- the file that is written is the first with its name
-pub IsFirst-writable : (files : List File) (i : ℕ) → is_writable_at files i ≡ true → IsFirst (name_at files i) files i
+pub IsFirst-writable : (files : List File) (i : ℕ) → is_writable_at files i ≡ true → IsFirstFile (name_at files i) files i
 IsFirst-writable [] i h = absurd (cc)
-IsFirst-writable (x ∷ files) zero h = (bytes_eq-Decides (name_of x) (name_of x)).1 refl
+IsFirst-writable (x ∷ files) zero h = (bytes_eq-Decides (file_name x) (file_name x)).1 refl
 IsFirst-writable (x ∷ files) (suc i) h =
     let p = and_is (not (is_named (name_at files i) x)) (is_writable_at files i) h in
     (not_is (is_named (name_at files i) x) p.0, IsFirst-writable files i p.1)
@@ -119,14 +119,14 @@ is_writable-read (x ∷ files) zero file h is = rw is h
 is_writable-read (x ∷ files) (suc i) file h is =
     is_writable-read files i file (and_is (not (is_named (name_at files i) x)) (is_writable_at files i) h).1 is
 
-pub is_writable_at-first : (name : List ℕ) (files : List File) (i : ℕ) (file : File) → IsFirst name files i → file ≡ get_or files i file → is_writable file ≡ true → is_writable_at files i ≡ true
+pub is_writable_at-first : (name : List ℕ) (files : List File) (i : ℕ) (file : File) → IsFirstFile name files i → file ≡ get_or files i file → is_writable file ≡ true → is_writable_at files i ≡ true
 is_writable_at-first name [] i file h is writable = absurd h
 is_writable_at-first name (x ∷ files) zero file h is writable = rw (← is) writable
 is_writable_at-first name (x ∷ files) (suc i) file h is writable =
     let other : is_named (name_at files i) x ≡ false = rw (name_at-first name files i h.1) h.0 in
     rw other (is_writable_at-first name files i file h.1 is writable)
 
-pub IsFirst-within : (name : List ℕ) (files : List File) (i : ℕ) → IsFirst name files i → i < length files
+pub IsFirst-within : (name : List ℕ) (files : List File) (i : ℕ) → IsFirstFile name files i → i < length files
 IsFirst-within name [] i h = absurd h
 IsFirst-within name (x ∷ files) zero h = omega arith
 IsFirst-within name (x ∷ files) (suc i) h = let lt = IsFirst-within name files i h.1 in omega arith
@@ -180,9 +180,9 @@ pub copied_and_left : (bytes copy : List ℕ) (at n : ℕ) → copy ≡ take n (
 copied_and_left bytes copy at n same = rw (same, ← drop-drop n at bytes) (sym (take-append-drop n (drop at bytes)))
 
 -- a writable file in the place of one
-pub Writes-set : (name : List ℕ) (files : List File) (i : ℕ) (file old : File) (bytes : List ℕ) → i < length files → IsFirst name files i → old ≡ get_or files i old → name_of file ≡ name_of old → room_for file ≡ room_for old → held_by file ≡ Some bytes → file.bytes.items ≡ bytes → is_writable file ≡ true → Writes files (set files i file) i bytes
+pub Writes-set : (name : List ℕ) (files : List File) (i : ℕ) (file old : File) (bytes : List ℕ) → i < length files → IsFirstFile name files i → old ≡ get_or files i old → file_name file ≡ file_name old → room_for file ≡ room_for old → held_by file ≡ Some bytes → file.bytes.items ≡ bytes → is_writable file ≡ true → Writes files (set files i file) i bytes
 Writes-set name files i file old bytes lt h is same room held items writable =
-    let first : IsFirst name (set files i file) i = IsFirst-set name files i file old h is same in
+    let first : IsFirstFile name (set files i file) i = IsFirst-set name files i file old h is same in
     let here : file ≡ get_or (set files i file) i file = sym (get_or-set_same files i file file lt) in
     let within : i < length (set files i file) = simp length-set lt in
     let named : name_at (set files i file) i ≡ name = name_at-first name (set files i file) i first in

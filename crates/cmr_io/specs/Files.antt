@@ -5,8 +5,8 @@ use Rattle.std.specs.String.{string_bytes}
 use Rattle.std.specs.Str.{bytes_eq}
 use Rattle.cmr_io.specs.declared.memory_file.File.{File}
 
-abbrev pub name_of : File → List ℕ
-name_of file = string_bytes file.name
+abbrev pub file_name : File → List ℕ
+file_name file = string_bytes file.name
 
 -- what a file holds, where it is there
 abbrev pub held_by : File → Option (List ℕ)
@@ -25,7 +25,7 @@ abbrev pub is_writable : File → Bool
 is_writable file = file.is_there && is_some file.room && nat_le (length file.bytes.items) (unwrap_or file.room 0)
 
 abbrev pub is_named : List ℕ → File → Bool
-is_named name file = bytes_eq (name_of file) name
+is_named name file = bytes_eq (file_name file) name
 
 -- some file has the name
 abbrev pub has_name : List ℕ → List File → Bool
@@ -45,10 +45,10 @@ abbrev pub room_in : List File → List ℕ → Option ℕ
 room_in files name = of_first room_for files name
 
 -- the first file with a name is at the index
-abbrev pub IsFirst : List ℕ → List File → ℕ → Type 0
-IsFirst name [] i = ⊥
-IsFirst name (file ∷ files) zero = is_named name file ≡ true
-IsFirst name (file ∷ files) (suc i) = (is_named name file ≡ false) × IsFirst name files i
+abbrev pub IsFirstFile : List ℕ → List File → ℕ → Type 0
+IsFirstFile name [] i = ⊥
+IsFirstFile name (file ∷ files) zero = is_named name file ≡ true
+IsFirstFile name (file ∷ files) (suc i) = (is_named name file ≡ false) × IsFirstFile name files i
 
 -- the bytes of the file at an index
 abbrev pub bytes_at : List File → ℕ → List ℕ
@@ -59,7 +59,7 @@ bytes_at (file ∷ files) (suc i) = bytes_at files i
 -- the name of the file at an index
 abbrev pub name_at : List File → ℕ → List ℕ
 name_at [] i = []
-name_at (file ∷ files) zero = name_of file
+name_at (file ∷ files) zero = file_name file
 name_at (file ∷ files) (suc i) = name_at files i
 
 -- the file at an index is writable, and the first with its name

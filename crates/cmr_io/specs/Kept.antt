@@ -24,6 +24,6 @@ pub record KeepsBegun {S : Type 0} (is_reading is_writing : S → Bool) (old new
   pub writing : is_writing new ≡ is_writing old
 
 -- the call failed exactly where its answer is an error, and then a fault was counted
-pub record IsCounted {S T E : Type 0} (failed : S → Bool) (faults : S → ℕ) (old new : S) (result : Result T E) : Type 0 where
+pub record IsFaultCounted {S T E : Type 0} (failed : S → Bool) (faults : S → ℕ) (old new : S) (result : Result T E) : Type 0 where
   pub last : failed new ≡ is_err result
   pub cause : HasCause (faults old) (faults new) result

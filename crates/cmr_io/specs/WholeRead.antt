@@ -7,7 +7,7 @@ use Rattle.cmr_io.specs.declared.whole.ReadError.{ReadError}
 use Rattle.cmr_io.specs.declared.whole.ReadError.TheVariants.{ReadFault, TooLong}
 
 -- What a read of at most so many bytes gives of a content, and what of it is left.
-pub record Gives {A : Type 0} (most : ℕ) (content : Option (List ℕ)) (begun : Bool) (left : List ℕ) (result : Result (Vec ℕ A) ReadError) : Type 0 where
+pub record GivesContent {A : Type 0} (most : ℕ) (content : Option (List ℕ)) (begun : Bool) (left : List ℕ) (result : Result (Vec ℕ A) ReadError) : Type 0 where
   -- the bytes are all of it
   pub whole : IfOk result (λ bytes. content ≡ Some bytes.items)
   -- it is too long, and one byte too many was given

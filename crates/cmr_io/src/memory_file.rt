@@ -16,11 +16,11 @@ pub struct File {
 }
 
 impl File {
-    ghost use Rattle.cmr_io.specs.Files.{held_by, is_named, name_of, room_for, room_left, is_writable};
+    ghost use Rattle.cmr_io.specs.Files.{held_by, is_named, file_name, room_for, room_left, is_writable};
 
     /// A file that holds the bytes, and has no room.
     pub fn holding(alloc: Global, name: &str, bytes: &[u8]) -> Result<File, AllocError>
-        ensures name { IfOk result (λ file. name_of file ≡ name.now) }
+        ensures name { IfOk result (λ file. file_name file ≡ name.now) }
         ensures held { IfOk result (λ file. held_by file ≡ Some bytes.now) }
         ensures room { IfOk result (λ file. room_for file ≡ None) }
     {
@@ -34,7 +34,7 @@ impl File {
 
     /// A file that is not there, and has the room.
     pub fn prepared(alloc: Global, name: &str, room: usize) -> Result<File, AllocError>
-        ensures name { IfOk result (λ file. name_of file ≡ name.now) }
+        ensures name { IfOk result (λ file. file_name file ≡ name.now) }
         ensures held { IfOk result (λ file. held_by file ≡ None) }
         ensures room { IfOk result (λ file. room_for file ≡ Some room) }
     {
@@ -50,7 +50,7 @@ impl File {
     pub fn hold(&mut self, bytes: Vec<u8>)
         requires { ForSome (room_for self.old) (λ room. room ≤ vec_capacity bytes) }
         ensures held { held_by self.new ≡ Some bytes.items }
-        ensures name { name_of self.new ≡ name_of self.old }
+        ensures name { file_name self.new ≡ file_name self.old }
         ensures room { room_for self.new ≡ room_for self.old }
     {
         self.bytes = bytes;
@@ -62,7 +62,7 @@ impl File {
         requires bytes { bytes.items ≡ self.old.bytes.items }
         requires reserved { room ≤ vec_capacity bytes }
         ensures held { held_by self.new ≡ held_by self.old }
-        ensures name { name_of self.new ≡ name_of self.old }
+        ensures name { file_name self.new ≡ file_name self.old }
         ensures room { room_for self.new ≡ Some room }
     {
         self.bytes = bytes;
@@ -73,7 +73,7 @@ impl File {
     pub fn empty(&mut self)
         ensures bytes { self.new.bytes.items ≡ [] }
         ensures held { held_by self.new ≡ Some [] }
-        ensures name { name_of self.new ≡ name_of self.old }
+        ensures name { file_name self.new ≡ file_name self.old }
         ensures room { room_for self.new ≡ room_for self.old }
         ensures writable { is_writable self.new ≡ is_some (room_for self.old) }
     {
@@ -87,7 +87,7 @@ impl File {
         ensures count { result ≡ taken_by_put limit.now.most piece.now (room_left self.old) }
         ensures bytes { self.new.bytes.items ≡ self.old.bytes.items ++ take result piece.now }
         ensures held { held_by self.new ≡ Some self.new.bytes.items }
-        ensures name { name_of self.new ≡ name_of self.old }
+        ensures name { file_name self.new ≡ file_name self.old }
         ensures room { room_for self.new ≡ room_for self.old }
         ensures writable { is_writable self.new ≡ true }
     {

@@ -1,5 +1,5 @@
 ghost use Rattle.std.specs.Prelude.{◌≡◌, ◌≢◌, ◌≤◌, ◌<◌, ◌+◌, ◌-◌, ◌^◌, ◌++◌, [], ℕ, List, true, false, None, Some, IsTrue, IfNone, IfSome, OnOk, OnErr, length, take, drop, min, unwrap_or, vec_len};
-ghost use Rattle.cmr_io.specs.Files.{content_in, room_in, bytes_at, name_at, has_name, is_writable_at, IsFirst};
+ghost use Rattle.cmr_io.specs.Files.{content_in, room_in, bytes_at, name_at, has_name, is_writable_at, IsFirstFile};
 ghost use Rattle.cmr_io.specs.Limit.{taken_by_put, given_by_next};
 ghost use Rattle.cmr_io.specs.Writes.{Writes};
 
@@ -10,7 +10,7 @@ use std::alloc::{AllocError, Global};
 // The index of the first file with the name.
 fn find(files: &[File], name: &str) -> Option<usize>
     ensures none { IfNone result (has_name name.now files.now ≡ false) }
-    ensures first { IfSome result (λ file. IsFirst name.now files.now file) }
+    ensures first { IfSome result (λ file. IsFirstFile name.now files.now file) }
     ensures within { IfSome result (λ file. file < length files.now) }
 {
     for (index, file) in files.iter().enumerate() {

@@ -7,13 +7,12 @@ use Rattle.cmr_base.specs.declared.line_set.LineSet.{LineSet}
 use Rattle.cmr_base.specs.declared.separation.Three.{Three}
 use Rattle.cmr_base.specs.declared.separation.Two.{Two}
 use Rattle.compose.specs.Arrangements.{arranged, three_arrangement, two_arrangement}
-use Rattle.compose.specs.Kinds.{kind_of}
+use Rattle.compose.specs.Kinds.{kind_of_form}
 use Rattle.compose.specs.RoundTrips.{IsRoundTrip, IsThreeOf, IsTwoOf}
 use Rattle.compose.specs.declared.arrangement.Arranged.{Arranged}
 use Rattle.compose.specs.declared.sum_kind.SumKind.TheVariants as sums
-use Rattle.tree_text.specs.KindWords.{finding_of}
 use Rattle.tree_type.specs.Soundness.{IsSound, IsSoundTree}
-use Rattle.tree_type.specs.Trees.{Branch, Finding, SizedTree, Trees, ThreeSum, TwoSum, tree_of}
+use Rattle.tree_type.specs.Trees.{Branch, Finding, SizedTree, Trees, ThreeSum, TwoSum, tree_of, finding_of}
 use Rattle.tree_type.specs.declared.refusal.Rule.TheVariants as rule
 use Rattle.tree_type.specs.declared.tree.Kind.{Kind}
 use Rattle.tree_type.specs.declared.tree.Node.{Node}
@@ -70,6 +69,6 @@ module _ (m : Matrix) (t : SizedTree) (root : Node) (here : root ≡ t.root) whe
       subst (λ finding. IsArranged m finding (Some both)) (sym (ap finding_of (tree_here k (TwoSum two) trees e f))) (is, sums.Two, (refl, arranged_is), round)
 
   pub three_by_kind : (k : Kind) (three : Three) (trees : Trees) (both : Arranged) → root.kind ≡ k → said k ≡ (ThreeSum three, trees) → IsMatrix m → both ≡ arranged m (three_arrangement m three)
-      → IsRoundTrip (kind_of three.form) m both → IsArranged m (finding_of (tree_of t.root)) (Some both)
+      → IsRoundTrip (kind_of_form three.form) m both → IsArranged m (finding_of (tree_of t.root)) (Some both)
   three_by_kind k three trees both e f is arranged_is round =
-      subst (λ finding. IsArranged m finding (Some both)) (sym (ap finding_of (tree_here k (ThreeSum three) trees e f))) (is, kind_of three.form, (refl, arranged_is), round)
+      subst (λ finding. IsArranged m finding (Some both)) (sym (ap finding_of (tree_here k (ThreeSum three) trees e f))) (is, kind_of_form three.form, (refl, arranged_is), round)

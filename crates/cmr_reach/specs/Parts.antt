@@ -7,11 +7,11 @@ use Rattle.compose.specs.declared.arrangement.Arranged.{Arranged}
 use Rattle.compose.specs.declared.sum_kind.SumKind.{SumKind}
 use Rattle.compose.specs.declared.sum_kind.SumKind.TheVariants as sums
 use Rattle.compose.specs.Arrangements.{arranged, three_arrangement, two_arrangement}
-use Rattle.compose.specs.Kinds.{kind_of as sum_kind_of}
+use Rattle.compose.specs.Kinds.{kind_of_form as sum_kind_of}
 use Rattle.compose.specs.RoundTrips.{IsRoundTrip}
-use Rattle.tree_text.specs.KindWords.{finding_of, kind_of, word_of}
+use Rattle.tree_text.specs.KindWords.{kind_of, word_of}
 use Rattle.tree_text.specs.Reading.{PlainTree}
-use Rattle.tree_type.specs.Trees.{Finding, TwoSum, ThreeSum}
+use Rattle.tree_type.specs.Trees.{Finding, TwoSum, ThreeSum, finding_of}
 use Rattle.tree_type.specs.declared.refusal.Rule.{Rule}
 use Rattle.cmr_front.specs.declared.matrix_file.MatrixForm.TheVariants.{Dense}
 use Rattle.cmr_front.specs.declared.outcome.FaultKind.TheVariants as faults

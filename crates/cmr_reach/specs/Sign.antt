@@ -65,14 +65,14 @@ sign_lines [] signs = []
 sign_lines (row ∷ rows) [] = []
 sign_lines (row ∷ rows) (sign ∷ signs) = codes "row " ++ decimal (row + 1) ++ sign_mark sign ++ sign_lines rows signs
 
-abbrev pub step_words : ℕ → Option ℕ → List ℕ
-step_words row None = codes "aside " ++ decimal (row + 1)
-step_words row (Some column) = codes "pivot " ++ decimal (row + 1) ++ codes " " ++ decimal (column + 1)
+abbrev pub sign_step_words : ℕ → Option ℕ → List ℕ
+sign_step_words row None = codes "aside " ++ decimal (row + 1)
+sign_step_words row (Some column) = codes "pivot " ++ decimal (row + 1) ++ codes " " ++ decimal (column + 1)
 
 -- a line for each step of the run
 abbrev pub step_lines : List Pivot → List ℕ
 step_lines [] = []
-step_lines (step ∷ steps) = step_words step.row step.column ++ codes "\n" ++ step_lines steps
+step_lines (step ∷ steps) = sign_step_words step.row step.column ++ codes "\n" ++ step_lines steps
 
 abbrev pub signed_report : List ℕ → List ℤ → List Pivot → Report
 signed_report rows signs steps = record {

@@ -2,7 +2,7 @@
 use Rattle.std.proofs.Common.{◌≡◌, ◌∙◌, ℕ, List, [], ◌∷◌, drop, sym, subst, refl, ap, inl, inr, arith, length}
 use Rattle.std.proofs.lemmas.List.FromFn.{length-range_with_len}
 use Rattle.text_fields.specs.Words.{text_of}
-use Rattle.matrix_text.specs.Submatrix.{submatrix}
+use Rattle.matrix_text.specs.Submatrix.{named_lines}
 use Rattle.cmr_base.specs.Matrix.{Matrix, IsMatrix, entry, height}
 use Rattle.cmr_base.specs.LineSets.{IsColumnSet, IsRowSet}
 use Rattle.cmr_base.specs.Trees.{IsBinary}
@@ -12,7 +12,7 @@ use Rattle.cmr_base.proofs.WholeMatrices.{is_ternary}
 use Rattle.ghouila.proofs.CamionLaw.{unsigned}
 use Rattle.camion_sign.specs.declared.step.SignStep.{SignStep}
 use Rattle.camion_sign.specs.declared.step.SizedChain.{SizedChain}
-use Rattle.camion_sign.specs.Chains.{Breaks, IsFirstBroken, IsSignedViolator, IsSoundChain, KeepsRule}
+use Rattle.camion_sign.specs.Chains.{Breaks, IsFirstBrokenPart, IsSignedViolator, IsSoundChain, KeepsRule}
 use Rattle.camion_sign.specs.ChainTexts.{chain}
 use Rattle.camion_sign.specs.SignSteps as signing
 use Rattle.camion_sign.specs.SignSteps.{AreSigns, LeadTo, signed_by}
@@ -23,7 +23,7 @@ use Rattle.cert_check.proofs.Answering.{lines_is}
 use Rattle.tree_text.specs.Reading.{PlainTree, tree}
 use Rattle.tree_type.specs.Places.{places}
 use Rattle.tree_type.specs.Soundness.{IsSound, IsSoundTree}
-use Rattle.tree_type.specs.Trees.{Branch, SizedTree, Tree, lines_of, tree_of}
+use Rattle.tree_type.specs.Trees.{Branch, SizedTree, Tree, lines_at_root, tree_of}
 use Rattle.tree_type.specs.declared.refusal.Rule.TheVariants as rule
 use Rattle.tree_type.specs.Verdicts as verdicts
 use Rattle.tree_type.specs.Verdicts.{Verdict, verdict_of}
@@ -58,7 +58,7 @@ refuted_by m lines rows columns v = record {
 
 -- ---- trees
 
-all_rows : (m : Matrix) (rows columns : ℕ) (t : Tree) → IsSoundTree m rows columns t → length (lines_of t).rows ≡ height m
+all_rows : (m : Matrix) (rows columns : ℕ) (t : Tree) → IsSoundTree m rows columns t → length (lines_at_root t).rows ≡ height m
 all_rows m rows columns (Branch lines finding trees) sound = ap length (sound.0 rule.Lines).0 ∙ length-range_with_len 0 rows ∙ (sound.0 rule.Size).0
 
 -- the root of a sound tree has all rows
@@ -117,7 +117,7 @@ unbroken : (a s end : Matrix) (steps : List SignStep) (lines : LineSet) → Lead
 unbroken a s end [] lines e violator breaks = breaks (subst (λ x. IsSignedViolator a x lines) (sym e) violator)
 unbroken a s end (step ∷ steps) lines (sign, keeps, rest) violator breaks = breaks sign keeps
 
-chain_unbroken : (a : Matrix) (c : SizedChain) (signs : Matrix) (step : ℕ) → IsMatrix a → IsSoundChain a c signs → IsFirstBroken a c step → ⊥
+chain_unbroken : (a : Matrix) (c : SizedChain) (signs : Matrix) (step : ℕ) → IsMatrix a → IsSoundChain a c signs → IsFirstBrokenPart a c step → ⊥
 chain_unbroken a c signs step is sound broken = elim broken.broken [
   | inl other ↦ other.0 sound.sizes
   | inr (sizes, (middle, lead, breaks)) ↦ unbroken a middle signs (drop broken.before c.chain.steps) c.chain.violator
@@ -181,7 +181,7 @@ module _ (file : List ℕ) where
   one_evidence : (kind : EvidenceKind) (bytes : List ℕ) (m : Matrix) (r s : Report) → EvidenceReports file kind m bytes r → EvidenceReports file kind m bytes s → r.status ≡ s.status
   one_evidence kinds.Tree bytes m r s a b = one_of_text faults.Tree file (TreeDecides m) (one_tree m) (tree (text_of bytes)) r s a b
   one_evidence kinds.Chain bytes m r s a b = one_of_text faults.Chain file (ChainDecides m) (one_chain m) (chain (text_of bytes)) r s a b
-  one_evidence kinds.Violator bytes m r s a b = one_of_text faults.Matrix file (ViolatorDecides m) (one_violator m) (submatrix (height m) m.width (text_of bytes)) r s a b
+  one_evidence kinds.Violator bytes m r s a b = one_of_text faults.Matrix file (ViolatorDecides m) (one_violator m) (named_lines (height m) m.width (text_of bytes)) r s a b
 
   evidence_says : (kind : EvidenceKind) (bytes : List ℕ) (m : Matrix) (r : Report) (answer : Answer) → EvidenceReports file kind m bytes r → r.status ≡ answer_status answer → EvidenceMeans kind m bytes answer
   evidence_says kinds.Tree bytes m r answer a is =
@@ -191,7 +191,7 @@ module _ (file : List ℕ) where
       let found = answered faults.Chain file (ChainDecides m) (chain (text_of bytes)) r answer a is in
       (found.0, found.1, chain_says m found.0 r answer found.2 is)
   evidence_says kinds.Violator bytes m r answer a is =
-      let found = answered faults.Matrix file (ViolatorDecides m) (submatrix (height m) m.width (text_of bytes)) r answer a is in
+      let found = answered faults.Matrix file (ViolatorDecides m) (named_lines (height m) m.width (text_of bytes)) r answer a is in
       (found.0, found.1, violator_says m found.0 r answer found.2 is)
 
 module _ (o : CheckOrder) where
@@ -209,7 +209,7 @@ module _ (o : CheckOrder) where
   evidence_fault : (kind : EvidenceKind) (m : Matrix) (evidence : List ℕ) (r : Report) → EvidenceReports o.evidence kind m evidence r → r.status ≡ failure_status Text → IsFaultOfFile (evidence_files o.matrix o.evidence) r
   evidence_fault kinds.Tree m evidence = fault_of_last faults.Tree o.evidence (TreeDecides m) (evidence_files o.matrix o.evidence) (1, omega arith, refl) (tree_answers m) (tree (text_of evidence))
   evidence_fault kinds.Chain m evidence = fault_of_last faults.Chain o.evidence (ChainDecides m) (evidence_files o.matrix o.evidence) (1, omega arith, refl) (chain_answers m) (chain (text_of evidence))
-  evidence_fault kinds.Violator m evidence = fault_of_last faults.Matrix o.evidence (ViolatorDecides m) (evidence_files o.matrix o.evidence) (1, omega arith, refl) (violator_answers m) (submatrix (height m) m.width (text_of evidence))
+  evidence_fault kinds.Violator m evidence = fault_of_last faults.Matrix o.evidence (ViolatorDecides m) (evidence_files o.matrix o.evidence) (1, omega arith, refl) (violator_answers m) (named_lines (height m) m.width (text_of evidence))
 
   fault : (matrix evidence : List ℕ) (r : Report) → CheckReports o matrix evidence r → r.status ≡ failure_status Text → IsFaultOfFile (evidence_files o.matrix o.evidence) r
   fault matrix evidence =

@@ -9,17 +9,16 @@ use Rattle.cmr_base.specs.declared.line_set.LineSet.{LineSet}
 use Rattle.tree_type.specs.declared.tree.Node.{Node}
 use Rattle.tree_type.specs.declared.tree.NodeList.{NodeList}
 use Rattle.tree_type.specs.declared.tree.Kind.TheVariants as kind
-use Rattle.tree_type.specs.Trees.{Finding, OneSum, TwoSum, ThreeSum, Tree, Trees, Branch, MoreTrees, lines_of, nodes_in, two_trees, tree_of, trees_from}
+use Rattle.tree_type.specs.Trees.{Finding, OneSum, TwoSum, ThreeSum, Tree, Trees, Branch, MoreTrees, lines_at_root, nodes_in, two_trees, tree_of, trees_from, finding_of}
 use Rattle.tree_type.specs.Invariant.{IsTreeFor}
 use Rattle.cert_check.proofs.Answering.{two_sum_is, three_sum_is}
 use Rattle.cert_check.proofs.Children.{child_first, one_sum_is}
-use Rattle.tree_text.specs.KindWords.{finding_of}
 use Rattle.cmr_unimodular.specs.Outline.{AreAtDepth, IsAtDepth, outline_below, outline_from, outline_line}
 
 -- ---- depths
 
 pub root_depth : (rows columns : ℕ) (tree : Tree) → IsTreeFor rows columns tree → IsAtDepth 0 tree
-root_depth rows columns tree is = record { parent = lines_of tree; levels = 2001; within = is.nodes; few = omega arith }
+root_depth rows columns tree is = record { parent = lines_at_root tree; levels = 2001; within = is.nodes; few = omega arith }
 
 pub below : (depth : ℕ) (tree : Tree) (lines : LineSet) (finding : Finding) (trees : Trees) → tree ≡ Branch lines finding trees → IsAtDepth depth tree → AreAtDepth (depth + 1) trees
 below depth tree lines finding trees e is = go (subst (IsAtDepth depth) e is)

@@ -7,8 +7,8 @@ use Rattle.cmr_base.specs.Supports.{HaveOneSupport}
 use Rattle.cmr_base.specs.Violator.{HasNoViolator, IsViolator}
 use Rattle.cmr_base.specs.declared.line_set.LineSet.{LineSet}
 use Rattle.text_fields.specs.Words.{text_of}
-use Rattle.matrix_text.specs.Submatrix.{submatrix}
-use Rattle.camion_sign.specs.Chains.{IsFirstBroken, IsRegular, IsSoundChain}
+use Rattle.matrix_text.specs.Submatrix.{named_lines}
+use Rattle.camion_sign.specs.Chains.{IsFirstBrokenPart, IsRegular, IsSoundChain}
 use Rattle.camion_sign.specs.ChainTexts.{chain}
 use Rattle.camion_sign.specs.declared.step.SizedChain.{SizedChain}
 use Rattle.tree_type.specs.Verdicts as verdicts
@@ -132,13 +132,13 @@ pub record ShowsIrregular (a : Matrix) (c : SizedChain) (signs : Matrix) : Type 
 
 pub data ChainDecides (a : Matrix) (c : SizedChain) (report : Report) : Type 0 where
   accepted : (signs : Matrix) → ShowsIrregular a c signs → report ≡ irregular_report signs c.chain.violator → ChainDecides a c report
-  refused : (step : ℕ) → IsFirstBroken a c step → report ≡ refused_step_report step → ChainDecides a c report
+  refused : (step : ℕ) → IsFirstBrokenPart a c step → report ≡ refused_step_report step → ChainDecides a c report
 
 -- the evidence's own text is tested after that of the matrix
 abbrev pub EvidenceReports : List ℕ → EvidenceKind → Matrix → List ℕ → Report → Type 0
 EvidenceReports file kinds.Tree m bytes report = ReportsTree file (TreeDecides m) bytes report
 EvidenceReports file kinds.Chain m bytes report = ReportsText faults.Chain file (ChainDecides m) (chain (text_of bytes)) report
-EvidenceReports file kinds.Violator m bytes report = ReportsText faults.Matrix file (ViolatorDecides m) (submatrix (height m) m.width (text_of bytes)) report
+EvidenceReports file kinds.Violator m bytes report = ReportsText faults.Matrix file (ViolatorDecides m) (named_lines (height m) m.width (text_of bytes)) report
 
 abbrev pub CheckReportsBy : CheckOrder → EvidenceKind → List ℕ → List ℕ → Report → Type 0
 CheckReportsBy o kind matrix evidence report =
@@ -165,13 +165,13 @@ abbrev pub ChainMeans : Matrix → SizedChain → Answer → Type 0
 ChainMeans a c Yes = ⊥
 ChainMeans a c No = (signs : Matrix) × ShowsIrregular a c signs
 ChainMeans a c Undecided = ⊥
-ChainMeans a c Refused = (step : ℕ) × IsFirstBroken a c step
+ChainMeans a c Refused = (step : ℕ) × IsFirstBrokenPart a c step
 
 -- the evidence's text stands for a tree, a chain or lines, of which the answer says so
 abbrev pub EvidenceMeans : EvidenceKind → Matrix → List ℕ → Answer → Type 0
 EvidenceMeans kinds.Tree m bytes answer = SaysOfTree (TreeMeans m) bytes answer
 EvidenceMeans kinds.Chain m bytes answer = (c : SizedChain) × (chain (text_of bytes) ≡ Ok c) × ChainMeans m c answer
-EvidenceMeans kinds.Violator m bytes answer = (lines : LineSet) × (submatrix (height m) m.width (text_of bytes) ≡ Ok lines) × ViolatorMeans m lines answer
+EvidenceMeans kinds.Violator m bytes answer = (lines : LineSet) × (named_lines (height m) m.width (text_of bytes) ≡ Ok lines) × ViolatorMeans m lines answer
 
 abbrev pub CheckMeansBy : CheckOrder → EvidenceKind → List ℕ → List ℕ → Answer → Type 0
 CheckMeansBy o kind matrix evidence answer = (m : Matrix) × (matrix_in o.form (is_of_support kind) matrix ≡ Ok m) × EvidenceMeans kind m evidence answer

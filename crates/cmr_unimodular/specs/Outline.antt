@@ -3,13 +3,13 @@ use Rattle.std.specs.Prelude.{◌≤◌, ◌+◌, ◌++◌, ℕ, List, [], lengt
 use Rattle.cmr_base.specs.declared.limits.TheConstants.{MAX_DEPTH}
 use Rattle.std.specs.Fmt.{decimal}
 use Rattle.cmr_base.specs.declared.line_set.LineSet.{LineSet}
-use Rattle.pivots.specs.declared.place.PivotPlace.{PivotPlace}
+use Rattle.pivots.specs.declared.place.PlacedPivot.{PlacedPivot}
 use Rattle.tree_type.specs.Invariant.{IsTreeWithin, AreTreesWithin}
 use Rattle.tree_type.specs.Trees.{Finding, Empty, Cycle, Reduced, OneSum, Network, Conetwork, R10, TwoSum, ThreeSum, Enumerated, Violator, Undecided, Pivoted, Tree, Trees, Branch, NoTrees, MoreTrees}
 use Rattle.tree_text.specs.KindWords.{kind_of, word_of}
 
 -- row I column J
-abbrev pub pivot_words : PivotPlace → List ℕ
+abbrev pub pivot_words : PlacedPivot → List ℕ
 pivot_words place = codes " row " ++ decimal (place.row + 1) ++ codes " column " ++ decimal (place.column + 1)
 
 -- where the pivot of a node is made, if it is a pivoted one

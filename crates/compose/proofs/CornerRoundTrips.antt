@@ -6,7 +6,7 @@ use Rattle.cmr_base.specs.LineSets.{submatrix}
 use Rattle.cmr_base.specs.Members.{IsIn}
 use Rattle.cmr_base.specs.Signing.{IsSign}
 use Rattle.cmr_base.specs.Separations.{product_at, corner_product}
-use Rattle.cmr_base.specs.MatrixSums.{connecting_rows, connecting_columns, EndsIn, BeginsWith, HaveCornerSum, sum_along, corner_sum}
+use Rattle.cmr_base.specs.MatrixSums.{connecting_rows, connecting_columns, EndsIn, BeginsWithConnector, HaveCornerSum, sum_along, corner_sum}
 use Rattle.cmr_base.proofs.Integers.{products}
 use Rattle.cmr_base.proofs.Members.{in_at}
 use Rattle.cmr_base.proofs.SignEntries.{sign-mul, twice_by_sign}
@@ -14,7 +14,7 @@ use Rattle.compose.specs.declared.sides.Sides.{Sides}
 use Rattle.compose.specs.declared.signed_line.SignedLine.{SignedLine}
 use Rattle.compose.specs.Arrangements.{signed, plain, signed_submatrix, last_rows, last_columns, begin_rows, begin_columns}
 use Rattle.compose.proofs.OrderedBlocks.{blocks_ordered, filled_is}
-use Rattle.compose.proofs.SignedPlaces.{at, at_plain, at_after, at_next, length-framed, height-signed, entry_of, factors_turned, ones, one_left, one_right}
+use Rattle.compose.proofs.SignedPlaces.{at, at_plain, at_after, at_next, length-framed, height-signed, entry_of, factors_swapped, ones, one_left, one_right}
 
 -- the other line of the first connector, and of the second
 abbrev pub IsFirstOther : (ℕ → ℕ → ℤ) → Bool → Sides → (first second : Connector) → Type 0
@@ -82,8 +82,8 @@ turn_below u x y = simp products
 ends_at : (f : Bool) (e : ℤ) (F : ℕ → ℕ → ℤ) (x y x' y' : ℕ) → x ≡ x' → y ≡ y' → EndsIn f e x' y' F → EndsIn f e x y F
 ends_at f e F x y x' y' ex ey h = subst (λ (z : ℕ). EndsIn f e z y F) (sym ex) (subst (λ (z : ℕ). EndsIn f e x' z F) (sym ey) h)
 
-begins_at : (f : Bool) (e : ℤ) (F : ℕ → ℕ → ℤ) (x y x' y' : ℕ) → x ≡ x' → y ≡ y' → BeginsWith f e x' y' F → BeginsWith f e x y F
-begins_at f e F x y x' y' ex ey h = subst (λ (z : ℕ). BeginsWith f e z y F) (sym ex) (subst (λ (z : ℕ). BeginsWith f e x' z F) (sym ey) h)
+begins_at : (f : Bool) (e : ℤ) (F : ℕ → ℕ → ℤ) (x y x' y' : ℕ) → x ≡ x' → y ≡ y' → BeginsWithConnector f e x' y' F → BeginsWithConnector f e x y F
+begins_at f e F x y x' y' ex ey h = subst (λ (z : ℕ). BeginsWithConnector f e z y F) (sym ex) (subst (λ (z : ℕ). BeginsWithConnector f e x' z F) (sym ey) h)
 
 -- a place from 1 on is one more than another
 earlier : (r u : ℕ) → 1 ≤ r → r < 1 + u → (x : ℕ) × (r ≡ 1 + x) × (x < u)
@@ -230,7 +230,7 @@ module _ (m : Matrix) (flat1 flat2 : Bool) (s : Sides) (f g : Connector) (t : Ar
         ∙ (ones (M k (get_or C1 c 0)) ∙ sym (row_c false other c l)),
   )
 
-  second_begins : (b : Bool) → IsFirstOther M b s f g → BeginsWith b (M k j) (length R2) (length C2) (entry (second b))
+  second_begins : (b : Bool) → IsFirstOther M b s f g → BeginsWithConnector b (M k j) (length R2) (length C2) (entry (second b))
   second_begins true other = (
     entry_of m (br true) (bc true) 0 0 i p (M i j) (M k p) refl refl ∙ corner_is (M i p) (M i j) (M k p) (M k j) t.unit_kj plus,
     entry_of m (br true) (bc true) 0 1 i q (M i j) (M k q) refl refl ∙ zero_end (M i j) (M k q) (M i q) other.1,
@@ -287,7 +287,7 @@ module _ (m : Matrix) (flat1 flat2 : Bool) (s : Sides) (f g : Connector) (t : Ar
       ∙ blocks_ordered M R1 C1 R2 C2 (connecting_rows flat1) (connecting_columns flat1) (entry F) (λ r c. entry F r (length C1) *ℤ entry S 0 c) (λ r c. entry S r 0 *ℤ entry F (length R1) c) (entry S)
       (first_inner flat2)
       (λ x y lx ly. ap₂ (λ (u v : ℤ). u *ℤ v) (column_a flat2 t.other2 x lx) (row_b flat1 y ly)
-      ∙ (factors_turned (M (get_or R1 x 0) j) (M i j) (M i (get_or C2 y 0)) ∙ sym (t.upper (get_or R1 x 0) (get_or C2 y 0) (in_at R1 x lx) (in_at C2 y ly))))
+      ∙ (factors_swapped (M (get_or R1 x 0) j) (M i j) (M i (get_or C2 y 0)) ∙ sym (t.upper (get_or R1 x 0) (get_or C2 y 0) (in_at R1 x lx) (in_at C2 y ly))))
       (λ x y lx ly. ap₂ (λ (u v : ℤ). u *ℤ v) (column_d flat1 x lx) (row_c flat2 t.other2 y ly)
       ∙ (turn_below (M k p) (M (get_or R2 x 0) p) (M k (get_or C1 y 0)) ∙ sym (t.lower (get_or R2 x 0) (get_or C1 y 0) (in_at R2 x lx) (in_at C1 y ly))))
       (second_inner flat1) a b (let e = length-append R1 R2 in omega arith) (let e = length-append C1 C2 in omega arith))

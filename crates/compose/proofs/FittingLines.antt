@@ -14,7 +14,7 @@ use Rattle.cmr_base.proofs.ListedLines.{first_lines_contain}
 use Rattle.cmr_base.proofs.SignEntries.{sign-mul, sign_nonzero}
 use Rattle.compose.specs.declared.sides.Sides.{Sides}
 use Rattle.compose.specs.declared.signed_line.SignedLine.{SignedLine}
-use Rattle.compose.specs.Arrangements.{signed, plain, framed, AreSignedLines, Fits, sides_of, others, two_lines, corner_lines, core_lines, last_rows, last_columns, begin_rows, begin_columns}
+use Rattle.compose.specs.Arrangements.{signed, plain, framed, AreSignedLines, HasSignedLines, sides_of, others, two_sum_lines, corner_lines, core_lines, last_rows, last_columns, begin_rows, begin_columns}
 use Rattle.compose.proofs.SignedPlaces.{length-framed}
 use Rattle.compose.proofs.SideLines.{from_one, from_two, in_others, both_sides, one_there, two_there, others_one, others_two}
 use Rattle.compose.proofs.CornerRoundTrips.{AreCornered, IsFirstOther, IsSecondOther}
@@ -58,7 +58,7 @@ module _ (m : Matrix) (side : LineSet) where
   column_two : (x : ℕ) → IsIn x s.columns_two → x < m.width
   column_two x h = first_lines_contain m.width x (from_two side.columns (first_lines m.width) x h).0
 
-  pub two_fits : (i j : ℕ) → IsIn i s.rows_two → IsIn j s.columns_one → IsSign (entry m i j) → Fits m (two_lines (entry m) s i j)
+  pub two_fits : (i j : ℕ) → IsIn i s.rows_two → IsIn j s.columns_one → IsSign (entry m i j) → HasSignedLines m (two_sum_lines (entry m) s i j)
   two_fits i j hi hj unit =
       let r = rows_all in
       let c = columns_all in
@@ -119,7 +119,7 @@ module _ (m : Matrix) (side : LineSet) where
         let a = one_there f.column s.columns_one t.column_p in
         framed_fit m.width (signed f.column (M g.row f.column) ∷ []) s.columns_two [] (omega arith) ((column_one f.column t.column_p, t.unit_kp), tt) column_two tt
 
-    pub corner_fits : Fits m (corner_lines M flat1 flat2 s f g)
+    pub corner_fits : HasSignedLines m (corner_lines M flat1 flat2 s f g)
     corner_fits = record {
       first_rows = last_rows_fit flat2 t.other2;
       first_columns = last_columns_fit flat2 t.other2;
@@ -127,7 +127,7 @@ module _ (m : Matrix) (side : LineSet) where
       second_columns = begin_columns_fit flat1 t.other1;
     }
 
-  pub core_fits : (f g : Connector) → AreCored (entry m) s f g → Fits m (core_lines s f g)
+  pub core_fits : (f g : Connector) → AreCored (entry m) s f g → HasSignedLines m (core_lines s f g)
   core_fits f g t =
       let r = rows_all in
       let c = columns_all in

@@ -12,7 +12,7 @@ use Rattle.cmr_base.specs.Separations.{listed, product_at, spread_at, zeros, con
 use Rattle.cmr_base.proofs.SignEntries.{sign_of_entry}
 use Rattle.compose.specs.declared.sides.Sides.{Sides}
 use Rattle.compose.specs.Arrangements.{sides_of, three_lines, arranged}
-use Rattle.compose.specs.Kinds.{kind_of}
+use Rattle.compose.specs.Kinds.{kind_of_form}
 use Rattle.compose.specs.RoundTrips.{IsRoundTrip, TwoRoundTrip, ThreeRoundTrip}
 use Rattle.compose.proofs.SideLines.{to_one, to_two, from_one, from_two}
 use Rattle.compose.proofs.Orders.{one_first, two_first, core_rows, core_columns}
@@ -108,7 +108,7 @@ module _ (m : Matrix) (side : LineSet) (ternary : HasTernaryEntries m) (f g : Co
     lower = blocks_below zeros (spread_at (entry m) f g) sep.blocks;
   }
 
-  pub by_form : (form : Form) → IsThreeSeparation (entry m) rows columns (listed side.rows side.columns) form f g → HaveCornerSign (entry m) form f g → IsRoundTrip (kind_of form) m (arranged m (three_lines (entry m) form s f g))
+  pub by_form : (form : Form) → IsThreeSeparation (entry m) rows columns (listed side.rows side.columns) form f g → HaveCornerSign (entry m) form f g → IsRoundTrip (kind_of_form form) m (arranged m (three_lines (entry m) form s f g))
   by_form Delta sep plus =
       let t = cornered true true sep.one sep.two sep.connectors.first_corner sep.connectors.second_corner sep.connectors.tied sep.blocks in
       record { rows = one_first side.rows (height m); columns = one_first side.columns m.width; connected = corner_connected m true true s f g t plus; sum = corner_whole m true true s f g t plus }

@@ -10,7 +10,7 @@ use Rattle.compose.specs.declared.sides.Sides.{Sides}
 use Rattle.compose.specs.declared.signed_line.SignedLine.{SignedLine}
 use Rattle.compose.specs.Arrangements.{signed, plain, framed, signed_submatrix}
 use Rattle.compose.proofs.OrderedBlocks.{blocks_ordered, filled_is}
-use Rattle.compose.proofs.SignedPlaces.{at, at_plain, at_after, at_next, length-framed, height-signed, entry_of, factors_turned, ones, one_left}
+use Rattle.compose.proofs.SignedPlaces.{at, at_plain, at_after, at_next, length-framed, height-signed, entry_of, factors_swapped, ones, one_left}
 
 module _ (m : Matrix) (s : Sides) (i j : ℕ)
     (zero_right : (r c : ℕ) → IsIn r s.rows_one → IsIn c s.columns_two → entry m r c ≡ pos 0)
@@ -81,7 +81,7 @@ module _ (m : Matrix) (s : Sides) (i j : ℕ)
   two : (a b : ℕ) → a < length R2 → b < length C1 → entry first a (length C2) *ℤ entry second 0 (0 + b) ≡ M (get_or R2 a 0) (get_or C1 b 0)
   two a b la lb =
       ap₂ (λ (x y : ℤ). x *ℤ y) (column a la) (row b lb)
-      ∙ factors_turned (M (get_or R2 a 0) j) (M i j) (M i (get_or C1 b 0))
+      ∙ factors_swapped (M (get_or R2 a 0) j) (M i j) (M i (get_or C1 b 0))
       ∙ sym (product_below (get_or R2 a 0) (get_or C1 b 0) (in_at R2 a la) (in_at C1 b lb))
 
   four : (a b : ℕ) → a < length R1 → b < length C1 → entry second (1 + a) (0 + b) ≡ M (get_or R1 a 0) (get_or C1 b 0)

@@ -59,7 +59,7 @@ pub record IsOrder (count : ℕ) (lines : List ℕ) : Type 0 where
   pub each : (line : ℕ) → line < count → Contains lines line
 
 -- the signed lines of both matrices are lines of this one
-pub record Fits (m : Matrix) (arrangement : Arrangement) : Type 0 where
+pub record HasSignedLines (m : Matrix) (arrangement : Arrangement) : Type 0 where
   pub first_rows : AreSignedLines (height m) arrangement.first_rows
   pub first_columns : AreSignedLines m.width arrangement.first_columns
   pub second_rows : AreSignedLines (height m) arrangement.second_rows
@@ -77,8 +77,8 @@ arranged m arrangement = record {
 -- ---- two-separations
 
 -- `[A a]` of side two with column j, and `[b; B]` of row i times the entry where they cross, with side one
-abbrev pub two_lines : (ℕ → ℕ → ℤ) → Sides → (i j : ℕ) → Arrangement
-two_lines M s i j = record {
+abbrev pub two_sum_lines : (ℕ → ℕ → ℤ) → Sides → (i j : ℕ) → Arrangement
+two_sum_lines M s i j = record {
   first_rows = framed [] s.rows_two [];
   first_columns = framed [] s.columns_two (plain j ∷ []);
   second_rows = framed (signed i (M i j) ∷ []) s.rows_one [];
@@ -138,7 +138,7 @@ core_lines s first second = record {
 -- ---- of a matrix with a separation
 
 abbrev pub two_arrangement : Matrix → Two → Arrangement
-two_arrangement m two = two_lines (entry m) (sides_of m two.side) two.row two.column
+two_arrangement m two = two_sum_lines (entry m) (sides_of m two.side) two.row two.column
 
 abbrev pub three_lines : (ℕ → ℕ → ℤ) → Form → Sides → (first second : Connector) → Arrangement
 three_lines M Delta s first second = corner_lines M true true s first second
@@ -150,6 +150,6 @@ abbrev pub three_arrangement : Matrix → Three → Arrangement
 three_arrangement m three = three_lines (entry m) three.form (sides_of m three.side) three.first three.second
 
 -- a row, a column and one more line of the matrix: a column where the connector is flat, a row where it is tall
-abbrev pub HasConnector : Bool → Matrix → Connector → Type 0
-HasConnector true m c = (c.row < height m) × (c.column < m.width) × (c.other < m.width)
-HasConnector false m c = (c.row < height m) × (c.column < m.width) × (c.other < height m)
+abbrev pub HasConnectorLines : Bool → Matrix → Connector → Type 0
+HasConnectorLines true m c = (c.row < height m) × (c.column < m.width) × (c.other < m.width)
+HasConnectorLines false m c = (c.row < height m) × (c.column < m.width) × (c.other < height m)

@@ -9,11 +9,11 @@ use Rattle.sum_ops.specs.Causes.{IsCause, IsConcentratedCause}
 use Rattle.compose.specs.declared.sum_kind.SumKind.{SumKind}
 use Rattle.compose.specs.declared.sum_kind.SumKind.TheVariants.{One, Two, Delta, YForm, Mixed, Concentrated}
 
-abbrev pub kind_of : Form → SumKind
-kind_of form.Delta = Delta
-kind_of form.YForm = YForm
-kind_of form.Mixed = Mixed
-kind_of form.Concentrated = Concentrated
+abbrev pub kind_of_form : Form → SumKind
+kind_of_form form.Delta = Delta
+kind_of_form form.YForm = YForm
+kind_of_form form.Mixed = Mixed
+kind_of_form form.Concentrated = Concentrated
 
 -- the matrices have the connecting lines of the sum
 abbrev pub HaveSum : SumKind → Matrix → Matrix → Type 0

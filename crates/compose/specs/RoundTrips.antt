@@ -9,7 +9,7 @@ use Rattle.compose.specs.declared.sum_kind.SumKind.{SumKind}
 use Rattle.compose.specs.declared.sum_kind.SumKind.TheVariants as kind
 use Rattle.compose.specs.declared.arrangement.Arranged.{Arranged}
 use Rattle.compose.specs.Arrangements.{IsOrder, arranged, two_arrangement, three_arrangement}
-use Rattle.compose.specs.Kinds.{kind_of, HaveSum, sum_of}
+use Rattle.compose.specs.Kinds.{kind_of_form, HaveSum, sum_of}
 
 -- a two-separation of all lines of the matrix
 abbrev pub IsTwoOf : Matrix → Two → Type 0
@@ -31,4 +31,4 @@ abbrev pub TwoRoundTrip : Type 0
 TwoRoundTrip = (m : Matrix) (two : Two) → IsTwoOf m two → IsRoundTrip kind.Two m (arranged m (two_arrangement m two))
 
 abbrev pub ThreeRoundTrip : Type 0
-ThreeRoundTrip = (m : Matrix) (three : Three) → HasTernaryEntries m → IsThreeOf m three → IsRoundTrip (kind_of three.form) m (arranged m (three_arrangement m three))
+ThreeRoundTrip = (m : Matrix) (three : Three) → HasTernaryEntries m → IsThreeOf m three → IsRoundTrip (kind_of_form three.form) m (arranged m (three_arrangement m three))

@@ -1,5 +1,5 @@
 ghost use Rattle.std.specs.Prelude.{◌≡◌, IfOk};
-ghost use Rattle.compose.specs.Arrangements.{Fits, arranged};
+ghost use Rattle.compose.specs.Arrangements.{HasSignedLines, arranged};
 
 use crate::signed_line::{SignedLineList, signed_submatrix};
 use cmr_base::{ItemList, Matrix, Memory};
@@ -31,7 +31,7 @@ pub struct Arrangement {
 impl Arrangement {
     /// The two matrices, with the order.
     pub fn of(self, alloc: Global, matrix: &Matrix) -> Result<Arranged, Memory>
-        requires { Fits matrix.now self }
+        requires { HasSignedLines matrix.now self }
         ensures { IfOk result (λ both. both ≡ arranged matrix.now self) }
     {
         let first = signed_submatrix(

@@ -1,7 +1,7 @@
 // The sums by their kinds.
 ghost use Rattle.std.specs.Prelude.{◌≡◌, ◌≤◌, ◌+◌, IfOk, IfErr};
 ghost use Rattle.cmr_base.specs.Matrix.{height};
-ghost use Rattle.compose.specs.Kinds.{kind_of, HaveSum, lost_rows, lost_columns, IsCauseOf};
+ghost use Rattle.compose.specs.Kinds.{kind_of_form, HaveSum, lost_rows, lost_columns, IsCauseOf};
 ghost use Rattle.compose.specs.Kinds.{sum_of as the_sum_of};
 
 use cmr_base::{Form, MAX_COLUMNS, MAX_ROWS, Matrix};
@@ -22,7 +22,7 @@ pub enum SumKind {
 impl SumKind {
     /// The sum of a form of three-separations.
     pub fn of(form: Form) -> SumKind
-        ensures { result ≡ kind_of form }
+        ensures { result ≡ kind_of_form form }
     {
         match form {
             Form::Delta => SumKind::Delta,

@@ -1,9 +1,9 @@
 // The two matrices of a three-separation.
 ghost use Rattle.std.specs.Prelude.{◌≡◌, ◌<◌, IfOk, Bool, cond};
 ghost use Rattle.cmr_base.specs.Matrix.{height, entry};
-ghost use Rattle.compose.specs.Arrangements.{arranged, last_rows, last_columns, begin_rows, begin_columns, corner_lines, core_lines, three_lines, three_arrangement, HasConnector};
+ghost use Rattle.compose.specs.Arrangements.{arranged, last_rows, last_columns, begin_rows, begin_columns, corner_lines, core_lines, three_lines, three_arrangement, HasConnectorLines};
 ghost use Rattle.cmr_base.specs.Separations.{first_is_flat, second_is_flat};
-ghost use Rattle.compose.specs.Kinds.{kind_of};
+ghost use Rattle.compose.specs.Kinds.{kind_of_form};
 ghost use Rattle.compose.specs.RoundTrips.{IsThreeOf, IsRoundTrip};
 
 use crate::Arranged;
@@ -22,7 +22,7 @@ pub fn arrange_three(alloc: Global, matrix: &Matrix, three: &Three) -> Result<Ar
     requires { IsThreeOf matrix.now three.now }
     ensures arranged { IfOk result (λ both. both ≡ arranged matrix.now (three_arrangement matrix.now
         three.now)) }
-    ensures round_trip { IfOk result (IsRoundTrip (kind_of three.now.form) matrix.now) }
+    ensures round_trip { IfOk result (IsRoundTrip (kind_of_form three.now.form) matrix.now) }
 {
     let sides = Sides::of(alloc, matrix, &three.side)?;
     three_lines(alloc, matrix, three.form, &sides, three.first, three.second)?.of(alloc, matrix)
@@ -36,8 +36,8 @@ fn three_lines(
     first: Connector,
     second: Connector,
 ) -> Result<Arrangement, Memory>
-    requires first { HasConnector (first_is_flat form) matrix.now first }
-    requires second { HasConnector (second_is_flat form) matrix.now second }
+    requires first { HasConnectorLines (first_is_flat form) matrix.now first }
+    requires second { HasConnectorLines (second_is_flat form) matrix.now second }
     ensures { IfOk result (λ lines. lines ≡ three_lines (entry matrix.now) form sides.now first
         second) }
 {
@@ -58,8 +58,8 @@ fn corner_lines(
     first: Connector,
     second: Connector,
 ) -> Result<Arrangement, Memory>
-    requires first { HasConnector first_flat matrix.now first }
-    requires second { HasConnector second_flat matrix.now second }
+    requires first { HasConnectorLines first_flat matrix.now first }
+    requires second { HasConnectorLines second_flat matrix.now second }
     ensures { IfOk result (λ lines. lines ≡ corner_lines (entry matrix.now) first_flat second_flat
         sides.now first second) }
 {
@@ -87,7 +87,7 @@ fn last_rows(
     second: Connector,
 ) -> Result<SignedLineList, Memory>
     requires column { first.column < matrix.now.width }
-    requires second { HasConnector flat matrix.now second }
+    requires second { HasConnectorLines flat matrix.now second }
     ensures { IfOk result (λ lines. lines ≡ last_rows (entry matrix.now) flat rows.now first
         second) }
 {
@@ -112,7 +112,7 @@ fn last_columns(
     second: Connector,
 ) -> Result<SignedLineList, Memory>
     requires row { first.row < height matrix.now }
-    requires second { HasConnector flat matrix.now second }
+    requires second { HasConnectorLines flat matrix.now second }
     ensures { IfOk result (λ lines. lines ≡ last_columns (entry matrix.now) flat columns.now first
         second) }
 {
@@ -136,7 +136,7 @@ fn begin_rows(
     first: Connector,
     second: Connector,
 ) -> Result<SignedLineList, Memory>
-    requires first { HasConnector flat matrix.now first }
+    requires first { HasConnectorLines flat matrix.now first }
     requires column { second.column < matrix.now.width }
     ensures { IfOk result (λ lines. lines ≡ begin_rows (entry matrix.now) flat rows.now first
         second) }
@@ -165,7 +165,7 @@ fn begin_columns(
     first: Connector,
     second: Connector,
 ) -> Result<SignedLineList, Memory>
-    requires first { HasConnector flat matrix.now first }
+    requires first { HasConnectorLines flat matrix.now first }
     requires row { second.row < height matrix.now }
     ensures { IfOk result (λ lines. lines ≡ begin_columns (entry matrix.now) flat columns.now first
         second) }

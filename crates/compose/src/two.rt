@@ -2,7 +2,7 @@
 ghost use Rattle.std.specs.Prelude.{◌≡◌, ◌<◌, IfOk};
 ghost use Rattle.cmr_base.specs.Matrix.{height, entry};
 ghost use Rattle.compose.specs.declared.sum_kind.SumKind.TheVariants as kind;
-ghost use Rattle.compose.specs.Arrangements.{arranged, two_lines, two_arrangement};
+ghost use Rattle.compose.specs.Arrangements.{arranged, two_sum_lines, two_arrangement};
 ghost use Rattle.compose.specs.RoundTrips.{IsTwoOf, IsRoundTrip};
 
 use crate::Arranged;
@@ -23,10 +23,10 @@ pub fn arrange_two(alloc: Global, matrix: &Matrix, two: &Two) -> Result<Arranged
     ensures round_trip { IfOk result (IsRoundTrip kind.Two matrix.now) }
 {
     let sides = Sides::of(alloc, matrix, &two.side)?;
-    two_lines(alloc, matrix, &sides, two.row, two.column)?.of(alloc, matrix)
+    two_sum_lines(alloc, matrix, &sides, two.row, two.column)?.of(alloc, matrix)
 }
 
-fn two_lines(
+fn two_sum_lines(
     alloc: Global,
     matrix: &Matrix,
     sides: &Sides,
@@ -35,7 +35,7 @@ fn two_lines(
 ) -> Result<Arrangement, Memory>
     requires row { row < height matrix.now }
     requires column { column < matrix.now.width }
-    ensures { IfOk result (λ lines. lines ≡ two_lines (entry matrix.now) sides.now row column) }
+    ensures { IfOk result (λ lines. lines ≡ two_sum_lines (entry matrix.now) sides.now row column) }
 {
     let reference = SignedLine {
         line: row,

@@ -2,11 +2,12 @@
 use Rattle.std.proofs.Common.{ℕ, Bool, true, false, List, ◌≡◌, ◌∙◌, sym, ap, subst, inl, inr, get_or, length}
 use Rattle.std.specs.Int.Bits.{bit_xor}
 use Rattle.cmr_base.specs.ColumnSets.{has_column}
-use Rattle.cmr_base.specs.Matrix.{Matrix, height, is_nonzero, transposed, IsMatrix}
+use Rattle.cmr_base.specs.Matrix.{Matrix, height, transposed, IsMatrix}
 use Rattle.cmr_base.specs.Planes.{words_for}
 use Rattle.cmr_base.specs.Trees.{support}
 use Rattle.cmr_base.proofs.Booleans.{not_both, two_cases}
-use Rattle.cmr_base.proofs.Parts.{entry-transposed, height-transposed}
+use Rattle.cmr_base.proofs.Parts.{height-transposed}
+use Rattle.cmr_base.proofs.TransposedLines.{support-transposed}
 use Rattle.cuts.specs.Classes.{AreClassNumbers, AreNumbers}
 
 -- the lines that are not 0 on a new one get a weight more
@@ -35,9 +36,6 @@ numbers_as one other n size set numbers same long so = subst (λ (k : ℕ). AreN
   met = λ x l d. let (a, h, t) = so.met x l d in (a, h, sym (same a x) ∙ t);
   apart = λ x y lx ly d. let (a, h, u) = so.apart x y lx ly d in (a, h, λ e. u (same a x ∙ e ∙ sym (same a y)));
 })
-
-pub support-transposed : (m : Matrix) → IsMatrix m → (row column : ℕ) → support (transposed m) column row ≡ support m row column
-support-transposed m is row column = ap is_nonzero (entry-transposed m row column is)
 
 -- numbers of the columns as those of the rows of the transposed matrix, and back
 pub of_columns : (m : Matrix) (rows numbers : List ℕ) → IsMatrix m → AreNumbers (support m) m.width rows numbers → AreClassNumbers (transposed m) rows numbers

@@ -10,20 +10,21 @@ use Rattle.cmr_base.proofs.LineCounts.{outside_is}
 use Rattle.cmr_base.proofs.NextNonzeros.{column_in}
 use Rattle.cmr_base.proofs.Parts.{height-transposed, is_matrix-transposed}
 use Rattle.cmr_base.proofs.SeedLemmas.{count_grows}
+use Rattle.cmr_base.proofs.TransposedLines.{support-transposed}
 use Rattle.cuts.specs.declared.groups.Groups.{Groups}
 use Rattle.cmr_base.specs.Seeds.{count}
 use Rattle.cuts.specs.Cuts.{IsCut, name_of, HoldTogether}
-use Rattle.cuts.specs.Covers.{IsHalved, IsMet, IsLineOf, AreOnOneSide, AreWithin, AreOutside, Covers, AddsAtMost, AreUnlike, AreAllUnlike, AreClasses, may_be_outside, AreAtMost, LeavesFew, GetName, words_set}
+use Rattle.cuts.specs.Covers.{IsHalved, IsMet, AreOnOneSide, AreWithin, AreOutside, Covers, AddsAtMost, AreUnlike, AreAllUnlike, AreClasses, may_be_outside, AreAtMost, LeavesFew, GetName, words_set}
 use Rattle.cuts.specs.Classes.{AreClassNumbers}
-use Rattle.cuts.specs.LineSets.{is_between, is_in_heap, rows_heap, columns_heap, set_of}
+use Rattle.cuts.specs.LineSets.{is_between, is_in_heap, rows_heap, columns_heap, as_set}
 use Rattle.cuts.specs.Patterns.{HasPatterns}
 use Rattle.cuts.specs.declared.heaps.Heaps.{Heaps}
 use Rattle.cuts.specs.declared.line_patterns.LinePatterns.{LinePatterns}
 use Rattle.cuts.specs.declared.line_words.LineWords.{LineWords}
 use Rattle.cuts.specs.declared.patterns.Patterns.{Patterns}
-use Rattle.cuts.proofs.ClassLemmas.{support-transposed}
 use Rattle.cuts.proofs.CutLemmas.{lower_at, other_is_cut, upper_at}
 use Rattle.cuts.proofs.WordLemmas.{as_first, as_second, first_zero, second_zero}
+use Rattle.cmr_base.specs.Components.{IsLineOf}
 
 -- ---- one pattern
 
@@ -335,7 +336,7 @@ halved_within m H one other more_one more_other halved adds1 adds2 T cut within 
 ]
 
 -- the patterns of the lines beside a set show that few can be on the other side
-pub patterns_few : (m : Matrix) (lines : LineWords) (patterns : LinePatterns) → IsMatrix m → HasPatterns m lines patterns → patterns.rows.most + patterns.columns.most < 4 → LeavesFew m (set_of lines)
+pub patterns_few : (m : Matrix) (lines : LineWords) (patterns : LinePatterns) → IsMatrix m → HasPatterns m lines patterns → patterns.rows.most + patterns.columns.most < 4 → LeavesFew m (as_set lines)
 patterns_few m lines patterns is has few = record {
   rows = λ r. get_or patterns.rows.classes.items r 0;
   columns = λ c. get_or patterns.columns.classes.items c 0;

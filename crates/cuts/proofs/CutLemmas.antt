@@ -3,7 +3,7 @@ use Rattle.std.proofs.Common.{ℕ, ℤ, true, false, not, ◌≡◌, ◌<◌, ap
 use Rattle.cmr_base.specs.declared.line.Line.TheVariants.{Row, Column}
 use Rattle.cmr_base.specs.LineSets.{first_lines}
 use Rattle.cmr_base.specs.Matrix.{Matrix, height, entry}
-use Rattle.cmr_base.specs.Separations.{AreEnough, Lines, count_in, opposite}
+use Rattle.cmr_base.specs.Separations.{AreEnough, Lines, count_lines_in, opposite}
 use Rattle.cmr_base.specs.Seeds.{IsClosed}
 use Rattle.cmr_base.proofs.Booleans.{not_is, not_false, not_not}
 use Rattle.cmr_base.proofs.LineCounts.{count_same, inside_is}
@@ -31,7 +31,7 @@ other_closed m T closed = record {
 pub other_enough : (m : Matrix) (T : Lines) (least : ℕ) → AreEnough (first_lines (height m)) (first_lines m.width) T least → AreEnough (first_lines (height m)) (first_lines m.width) (opposite T) least
 other_enough m T least enough = record { one = enough.two; two = let a = twice in let b = enough.one in omega arith }
   where
-    twice : count_in (opposite (opposite T)) (first_lines (height m)) (first_lines m.width) ≡ count_in T (first_lines (height m)) (first_lines m.width)
+    twice : count_lines_in (opposite (opposite T)) (first_lines (height m)) (first_lines m.width) ≡ count_lines_in T (first_lines (height m)) (first_lines m.width)
     twice =
         let a = inside_is (height m) m.width (opposite (opposite T)) in
         let b = inside_is (height m) m.width T in

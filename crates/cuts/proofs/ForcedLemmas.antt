@@ -9,12 +9,13 @@ use Rattle.cmr_base.proofs.Booleans.{two_cases, not_both, not_is}
 use Rattle.cuts.specs.declared.line_words.LineWords.{LineWords}
 use Rattle.cuts.specs.declared.sides.Side.{Side}
 use Rattle.cuts.specs.Classes.{IsUnlikeOne}
-use Rattle.cuts.specs.Covers.{AddsAtMost, AreClasses, AreOutside, AreWithin, Covers, IsLineOf, words_set}
+use Rattle.cuts.specs.Covers.{AddsAtMost, AreClasses, AreOutside, AreWithin, Covers, words_set}
 use Rattle.cuts.specs.Cuts.{IsCut}
-use Rattle.cuts.specs.LineSets.{set_of}
+use Rattle.cuts.specs.LineSets.{as_set}
 use Rattle.cuts.specs.Sides.{HasNumbers, IsForced}
 use Rattle.cuts.proofs.CoverLemmas.{column_classes, one_pattern, row_classes}
 use Rattle.cuts.proofs.CutLemmas.{other_is_cut}
+use Rattle.cmr_base.specs.Components.{IsLineOf}
 
 module _ (m : Matrix) (H K T : Lines) (is : IsMatrix m) (cut : IsCut m T) (one : AreWithin m H T) (two : AreOutside m K T) where
   not_in : (z : Line) → IsLineOf m z → K z ≡ true → H z ≡ false
@@ -37,7 +38,7 @@ unlike_at size size' numbers numbers' far far' x es en ef h =
     subst (λ (n : ℕ). IsUnlikeOne n numbers' far' x) es (subst (λ (v : List ℕ). IsUnlikeOne size v far' x) en (subst (λ (v : List ℕ). IsUnlikeOne size numbers v x) ef h))
 
 pub side_forced : (m : Matrix) (side more : Side) (far : LineWords) (rows columns row_numbers column_numbers far_rows far_columns : List ℕ) (height_of width_of : ℕ) → IsMatrix m → HasNumbers m side → HasNumbers m more
-    → AddsAtMost m (set_of more.lines) (set_of side.lines) (words_set rows columns) → height_of ≡ height m → width_of ≡ m.width → row_numbers ≡ side.row_numbers.items → column_numbers ≡ side.column_numbers.items → far_rows ≡ far.rows.items
+    → AddsAtMost m (as_set more.lines) (as_set side.lines) (words_set rows columns) → height_of ≡ height m → width_of ≡ m.width → row_numbers ≡ side.row_numbers.items → column_numbers ≡ side.column_numbers.items → far_rows ≡ far.rows.items
     → far_columns ≡ far.columns.items → ((x : ℕ) → has_column rows x ≡ true → IsUnlikeOne height_of row_numbers far_rows x) → ((x : ℕ) → has_column columns x ≡ true → IsUnlikeOne width_of column_numbers far_columns x) → IsForced m side far more
 side_forced m side more far rows columns row_numbers column_numbers far_rows far_columns height_of width_of is has numbers adds eh ew er ec fr fc unlike_row unlike_column = record {
   numbers = numbers;
@@ -47,21 +48,21 @@ side_forced m side more far rows columns row_numbers column_numbers far_rows far
   ];
 }
   where
-    forced : (T : Lines) → IsCut m T → AreWithin m (set_of side.lines) T → AreOutside m (set_of far) T → AreWithin m (words_set rows columns) T
+    forced : (T : Lines) → IsCut m T → AreWithin m (as_set side.lines) T → AreOutside m (as_set far) T → AreWithin m (words_set rows columns) T
     forced T cut one two (Row r) l e =
         let (nx, k, lk, hk, nk, d) = unlike_at height_of (height m) row_numbers side.row_numbers.items far_rows far.rows.items r eh er fr (unlike_row r e) in
-        forced_line m (set_of side.lines) (set_of far) T is cut one two Row (λ a. get_or side.row_numbers.items a 0) (row_classes m side.lines.rows.items side.lines.columns.items side.row_numbers.items is has.rows) r k l lk hk nx nk d
+        forced_line m (as_set side.lines) (as_set far) T is cut one two Row (λ a. get_or side.row_numbers.items a 0) (row_classes m side.lines.rows.items side.lines.columns.items side.row_numbers.items is has.rows) r k l lk hk nx nk d
     forced T cut one two (Column c) l e =
         let (nx, k, lk, hk, nk, d) = unlike_at width_of m.width column_numbers side.column_numbers.items far_columns far.columns.items c ew ec fc (unlike_column c e) in
-        forced_line m (set_of side.lines) (set_of far) T is cut one two Column (λ a. get_or side.column_numbers.items a 0) (column_classes m side.lines.rows.items side.lines.columns.items side.column_numbers.items is has.columns) c k l lk hk nx nk d
+        forced_line m (as_set side.lines) (as_set far) T is cut one two Column (λ a. get_or side.column_numbers.items a 0) (column_classes m side.lines.rows.items side.lines.columns.items side.column_numbers.items is has.columns) c k l lk hk nx nk d
 
 -- ---- what is parted from a side is parted from it with its forced lines
 
-pub covers_forced : (m : Matrix) (side more : Side) (far : LineWords) (P : Lines) → IsForced m side far more → Covers m (set_of more.lines) (set_of far) P → Covers m (set_of side.lines) (set_of far) P
+pub covers_forced : (m : Matrix) (side more : Side) (far : LineWords) (P : Lines) → IsForced m side far more → Covers m (as_set more.lines) (as_set far) P → Covers m (as_set side.lines) (as_set far) P
 covers_forced m side more far P so h T w = h T (record { cut = w.cut; one = so.forced T w.cut w.one w.two; two = w.two })
 
 -- the same for the lines of side two
-pub covers_forced_beside : (m : Matrix) (side more : Side) (far : LineWords) (P : Lines) → IsForced m side far more → Covers m (set_of far) (set_of more.lines) P → Covers m (set_of far) (set_of side.lines) P
+pub covers_forced_beside : (m : Matrix) (side more : Side) (far : LineWords) (P : Lines) → IsForced m side far more → Covers m (as_set far) (as_set more.lines) P → Covers m (as_set far) (as_set side.lines) P
 covers_forced_beside m side more far P so h T w = h T (record {
   cut = w.cut;
   one = w.one;

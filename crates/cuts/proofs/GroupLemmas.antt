@@ -8,10 +8,11 @@ use Rattle.cmr_base.specs.Separations.{Lines}
 use Rattle.cmr_base.proofs.Booleans.{not_both}
 use Rattle.cuts.specs.declared.groups.Groups.{Groups}
 use Rattle.cuts.specs.declared.line_words.LineWords.{LineWords}
-use Rattle.cuts.specs.Covers.{AddsAtMost, AreOnOneSide, AreWithin, Covers, GetName, IsLineOf, words_set}
+use Rattle.cuts.specs.Covers.{AddsAtMost, AreOnOneSide, AreWithin, Covers, GetName, words_set}
 use Rattle.cuts.specs.Cuts.{HoldTogether, IsCut, name_of}
-use Rattle.cuts.specs.LineSets.{set_of}
+use Rattle.cuts.specs.LineSets.{as_set}
 use Rattle.cuts.proofs.CoverLemmas.{covers_less, covers_more, group_of_covers}
+use Rattle.cmr_base.specs.Components.{IsLineOf}
 
 -- ---- names
 
@@ -84,7 +85,7 @@ lines_renamed m before after middle rows columns size width from value line es e
 
 -- ---- the group of a line
 
-pub none_among : (lines : LineWords) → ((r : ℕ) → has_column lines.rows.items r ≡ false) → ((c : ℕ) → has_column lines.columns.items c ≡ false) → (x : Line) → set_of lines x ≡ false
+pub none_among : (lines : LineWords) → ((r : ℕ) → has_column lines.rows.items r ≡ false) → ((c : ℕ) → has_column lines.columns.items c ≡ false) → (x : Line) → as_set lines x ≡ false
 none_among lines rows columns (Row r) = rows r
 none_among lines rows columns (Column c) = columns c
 

@@ -9,7 +9,7 @@ use Rattle.cmr_base.specs.Seeds.{count}
 use Rattle.cmr_base.proofs.SeedLemmas.{count_grows}
 use Rattle.cmr_base.proofs.Booleans.{and_is, eq_of, is_eq, is_ne, not_both, same_or_not, two_cases}
 use Rattle.cuts.specs.declared.patterns.Runs.{Runs}
-use Rattle.cuts.specs.Patterns.{AreAtMostBeside, AreAtMostListed, AreOpen, IsCounted}
+use Rattle.cuts.specs.Patterns.{AreAtMostBeside, AreAtMostListed, AreOpen, AreRunsCounted}
 
 -- ---- lines that are not in a set
 
@@ -60,7 +60,7 @@ none_listed sorted class (suc n) l h =
     ap (λ (z : ℕ). count_by (λ c. nat_eq c class) (take z sorted)) next ∙ sum_by_more (λ c. cond (nat_eq c class) 1 0) sorted n 0 (omega (arith, l))
     ∙ ap (λ (z : ℕ). z + cond (nat_eq (get_or sorted n 0) class) 1 0) before ∙ ap (λ (b : Bool). 0 + cond b 1 0) (is_ne (get_or sorted n 0) class (h n (omega arith)))
 
-module _ (sorted : List ℕ) (place class : ℕ) (runs : Runs) (up : IsNonDecreasing sorted) (l : place < length sorted) (here : get_or sorted place 0 ≡ class) (so : IsCounted sorted place runs) where
+module _ (sorted : List ℕ) (place class : ℕ) (runs : Runs) (up : IsNonDecreasing sorted) (l : place < length sorted) (here : get_or sorted place 0 ≡ class) (so : AreRunsCounted sorted place runs) where
   grown : (name : ℕ) → count_by (λ c. nat_eq c name) (take (place + 1) sorted) ≡ count_by (λ c. nat_eq c name) (take place sorted) + cond (nat_eq class name) 1 0
   grown name = sum_by_more (λ c. cond (nat_eq c name) 1 0) sorted place 0 l ∙ ap (λ (z : ℕ). count_by (λ c. nat_eq c name) (take place sorted) + cond (nat_eq z name) 1 0) here
 
@@ -76,7 +76,7 @@ module _ (sorted : List ℕ) (place class : ℕ) (runs : Runs) (up : IsNonDecrea
   next_below : (k : ℕ) → k < place + 1 → get_or sorted k 0 ≤ class
   next_below k lk = let r = up k place 0 (omega (arith, lk)) l in omega (arith, r, here)
 
-  pub counted_zero : (after : Runs) → class ≡ 0 → after.zeros ≡ runs.zeros + 1 → after.longest ≡ runs.longest → after.run ≡ runs.run → after.last ≡ class → IsCounted sorted (place + 1) after
+  pub counted_zero : (after : Runs) → class ≡ 0 → after.zeros ≡ runs.zeros + 1 → after.longest ≡ runs.longest → after.run ≡ runs.run → after.last ≡ class → AreRunsCounted sorted (place + 1) after
   counted_zero after z ez el er elast = record {
     zeros = let e = grown_same 0 z in let h = so.zeros in omega (arith, e, h, ez);
     longest = λ name n. let e = grown_other name (λ s. n (sym s ∙ z)) in let h = so.longest name n in omega (arith, e, h, el);
@@ -109,7 +109,7 @@ module _ (sorted : List ℕ) (place class : ℕ) (runs : Runs) (up : IsNonDecrea
   ]
 
   pub counted_class : (after : Runs) → class ≢ 0 → after.zeros ≡ runs.zeros → after.run ≡ cond (nat_eq class runs.last) (runs.run + 1) 1 → runs.longest ≤ after.longest → after.run ≤ after.longest
-      → (after.longest ≡ runs.longest) ⊎ (after.longest ≡ after.run) → after.last ≡ class → IsCounted sorted (place + 1) after
+      → (after.longest ≡ runs.longest) ⊎ (after.longest ≡ after.run) → after.last ≡ class → AreRunsCounted sorted (place + 1) after
   counted_class after n ez er l1 l2 either elast = record {
     zeros = let e = grown_other 0 n in let h = so.zeros in omega (arith, e, h, ez);
     longest = λ name nn. elim (same_or_not class name) [
@@ -129,7 +129,7 @@ module _ (sorted : List ℕ) (place class : ℕ) (runs : Runs) (up : IsNonDecrea
     };
   }
 
-pub counted_none : (sorted : List ℕ) (runs : Runs) → runs.zeros ≡ 0 → runs.longest ≡ 0 → runs.run ≡ 0 → runs.last ≡ 0 → IsCounted sorted 0 runs
+pub counted_none : (sorted : List ℕ) (runs : Runs) → runs.zeros ≡ 0 → runs.longest ≡ 0 → runs.run ≡ 0 → runs.last ≡ 0 → AreRunsCounted sorted 0 runs
 counted_none sorted runs ez el er elast = record {
   zeros = omega arith;
   longest = λ name n. omega arith;
@@ -164,7 +164,7 @@ either_listed name xs = whole
     whole : count_by (λ c. nat_eq c 0 || nat_eq c name) xs ≤ count_by (λ c. nat_eq c 0) xs + count_by (λ c. nat_eq c name) xs
     whole = subst (λ (v : List ℕ). count_by (λ c. nat_eq c 0 || nat_eq c name) v ≤ count_by (λ c. nat_eq c 0) v + count_by (λ c. nat_eq c name) v) (take_all (length xs) xs (omega arith)) (upto (length xs) (omega arith))
 
-pub counted_all : (sorted : List ℕ) (runs : Runs) (place : ℕ) → length sorted ≤ place → IsCounted sorted place runs → AreAtMostListed sorted (runs.zeros + runs.longest)
+pub counted_all : (sorted : List ℕ) (runs : Runs) (place : ℕ) → length sorted ≤ place → AreRunsCounted sorted place runs → AreAtMostListed sorted (runs.zeros + runs.longest)
 counted_all sorted runs place l so name = elim (same_or_not name 0) [
   | inl z ↦
       let h = so.zeros in

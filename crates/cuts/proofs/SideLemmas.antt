@@ -15,7 +15,7 @@ use Rattle.cuts.specs.declared.sides.NumberedSet.{NumberedSet}
 use Rattle.cuts.specs.declared.sides.Side.{Side}
 use Rattle.cuts.specs.Classes.{AreClassNumbers, AreNumbers}
 use Rattle.cuts.specs.Covers.{words_set}
-use Rattle.cuts.specs.LineSets.{columns_heap, is_in_heap, rows_heap, set_of}
+use Rattle.cuts.specs.LineSets.{columns_heap, is_in_heap, rows_heap, as_set}
 use Rattle.cuts.specs.Patterns.{AreAtMostBeside, HasPatterns}
 use Rattle.cuts.specs.Sides.{HasNumbers, HasSetNumbers}
 use Rattle.cuts.proofs.ClassLemmas.{of_columns, of_rows}
@@ -38,7 +38,7 @@ side_numbered m by_rows by_columns rows columns is er ec has_rows has_columns =
 
 pub grown_lines : (before others : LineWords) (rows columns r0 r1 c0 c1 : List ℕ) → r0 ≡ before.rows.items → r1 ≡ others.rows.items → c0 ≡ before.columns.items → c1 ≡ others.columns.items
     → ((x : ℕ) → has_column rows x ≡ true → (has_column r0 x ≡ true) ⊎ (has_column r1 x ≡ true)) → ((x : ℕ) → has_column columns x ≡ true → (has_column c0 x ≡ true) ⊎ (has_column c1 x ≡ true))
-    → (x : Line) → words_set rows columns x ≡ true → (set_of before x ≡ true) ⊎ (set_of others x ≡ true)
+    → (x : Line) → words_set rows columns x ≡ true → (as_set before x ≡ true) ⊎ (as_set others x ≡ true)
 grown_lines before others rows columns r0 r1 c0 c1 e0 e1 f0 f1 hr hc (Row r) t = elim (hr r t) [
   | inl a ↦ inl (sym (ap (λ (v : List ℕ). has_column v r) e0) ∙ a)
   | inr b ↦ inr (sym (ap (λ (v : List ℕ). has_column v r) e1) ∙ b)

@@ -10,9 +10,7 @@ use Rattle.cmr_base.specs.Trees.{support}
 use Rattle.cuts.specs.declared.groups.Groups.{Groups}
 use Rattle.cmr_base.specs.Seeds.{count}
 use Rattle.cuts.specs.Cuts.{IsCut, name_of}
-
-abbrev pub IsLineOf : Matrix → Line → Type 0
-IsLineOf m x = IsLine (height m) m.width x
+use Rattle.cmr_base.specs.Components.{IsLineOf}
 
 -- each line of the first set is in the second, each line of the matrix that is meant
 abbrev pub AreWithin : Matrix → Lines → Lines → Type 0

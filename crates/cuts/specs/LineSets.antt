@@ -9,8 +9,8 @@ use Rattle.cuts.specs.declared.line_words.LineWords.{LineWords}
 use Rattle.cuts.specs.declared.patterns.Patterns.{Patterns}
 use Rattle.cuts.specs.Covers.{words_set}
 
-abbrev pub set_of : LineWords → Lines
-set_of lines x = words_set lines.rows.items lines.columns.items x
+abbrev pub as_set : LineWords → Lines
+as_set lines x = words_set lines.rows.items lines.columns.items x
 
 pub record HasWords (m : Matrix) (lines : LineWords) : Type 0 where
   pub rows : length lines.rows.items ≡ words_for (height m)

@@ -26,7 +26,7 @@ pub record AreShort (runs : Runs) (most : ℕ) : Type 0 where
   pub run : runs.run ≤ most
 
 -- what is known of so many of the first numbers of a rising list
-pub record IsCounted (sorted : List ℕ) (place : ℕ) (runs : Runs) : Type 0 where
+pub record AreRunsCounted (sorted : List ℕ) (place : ℕ) (runs : Runs) : Type 0 where
   pub zeros : count_by (λ class. nat_eq class 0) (take place sorted) ≤ runs.zeros
   pub longest : (name : ℕ) → name ≢ 0 → count_by (λ class. nat_eq class name) (take place sorted) ≤ runs.longest
   pub run : runs.last ≢ 0 → count_by (λ class. nat_eq class runs.last) (take place sorted) ≤ runs.run

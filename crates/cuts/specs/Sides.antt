@@ -11,7 +11,7 @@ use Rattle.cmr_base.specs.Separations.{Lines}
 use Rattle.cuts.specs.declared.line_words.LineWords.{LineWords}
 use Rattle.cuts.specs.Covers.{AreOutside, AreWithin, IsHalved}
 use Rattle.cuts.specs.Cuts.{IsCut}
-use Rattle.cuts.specs.LineSets.{HasWords, set_of}
+use Rattle.cuts.specs.LineSets.{HasWords, as_set}
 
 -- a set of rows, and numbers of the columns for it
 pub record HasSetNumbers (m : Matrix) (rows : NumberedSet) : Type 0 where
@@ -31,9 +31,9 @@ pub record HasNumbers (m : Matrix) (side : Side) : Type 0 where
 pub record AreHalves (m : Matrix) (side : Side) (halves : Halves) : Type 0 where
   pub one : HasNumbers m halves.one
   pub other : HasNumbers m halves.other
-  pub halved : IsHalved m (set_of side.lines) (set_of halves.one.lines) (set_of halves.other.lines)
+  pub halved : IsHalved m (as_set side.lines) (as_set halves.one.lines) (as_set halves.other.lines)
 
 -- a larger side: a cut with the lines of the side on side one, and some others on side two, has its lines on side one
 pub record IsForced (m : Matrix) (side : Side) (far : LineWords) (more : Side) : Type 0 where
   pub numbers : HasNumbers m more
-  pub forced : (T : Lines) → IsCut m T → AreWithin m (set_of side.lines) T → AreOutside m (set_of far) T → AreWithin m (set_of more.lines) T
+  pub forced : (T : Lines) → IsCut m T → AreWithin m (as_set side.lines) T → AreOutside m (as_set far) T → AreWithin m (as_set more.lines) T

@@ -2,10 +2,11 @@
 ghost use Rattle.std.specs.Prelude.{◌≡◌, ◌<◌, true, IfOk, OnOk, MatchOption};
 ghost use Rattle.cmr_base.specs.Separations.{Lines};
 ghost use Rattle.cmr_base.specs.declared.line.Line.{Line};
-ghost use Rattle.cuts.specs.Covers.{AreOnOneSide, IsLineOf};
+ghost use Rattle.cuts.specs.Covers.{AreOnOneSide};
 ghost use Rattle.cuts.specs.Cuts.{HasNames, HoldTogether, IsCut};
 ghost use Rattle.cuts.specs.Finders.{AreFound};
-ghost use Rattle.cuts.specs.LineSets.{HasWords, set_of};
+ghost use Rattle.cuts.specs.LineSets.{HasWords, as_set};
+ghost use Rattle.cmr_base.specs.Components.{IsLineOf};
 
 use crate::cut_search::CutSearch;
 use crate::groups::Groups;
@@ -135,7 +136,7 @@ fn is_covered(
     requires parted { HasWords matrix.now search.old.parted }
     ensures size { OnOk result (HasWords matrix.now search.new.parted) }
     ensures one_side { IfOk result (λ covered. covered ≡ true
-        → AreOnOneSide matrix.now line (set_of search.new.parted)) }
+        → AreOnOneSide matrix.now line (as_set search.new.parted)) }
 {
     let depth = matrix.rows() + matrix.columns() + 2;
     let none = LineWords::new(alloc, matrix)?;

@@ -1,7 +1,7 @@
 // The lines that cuts part from some lines of side one.
 ghost use Rattle.std.specs.Prelude.{◌≡◌, true, IfOk, OnOk};
 ghost use Rattle.cuts.specs.Covers.{AreWithin, Covers};
-ghost use Rattle.cuts.specs.LineSets.{HasWords, set_of};
+ghost use Rattle.cuts.specs.LineSets.{HasWords, as_set};
 ghost use Rattle.cuts.specs.Sides.{HasNumbers};
 
 use crate::line_patterns::LinePatterns;
@@ -36,11 +36,11 @@ impl CutSearch {
         requires one { HasNumbers matrix.now one.now }
         requires two { HasNumbers matrix.now two.now }
         ensures size { OnOk result (HasWords matrix.now self.new.parted) }
-        ensures more { OnOk result (AreWithin matrix.now (set_of self.old.parted)
-            (set_of self.new.parted)) }
+        ensures more { OnOk result (AreWithin matrix.now (as_set self.old.parted)
+            (as_set self.new.parted)) }
         ensures covers { IfOk result (λ covered. covered ≡ true
-            → Covers matrix.now (set_of one.now.lines) (set_of two.now.lines)
-            (set_of self.new.parted)) }
+            → Covers matrix.now (as_set one.now.lines) (as_set two.now.lines)
+            (as_set self.new.parted)) }
     {
         if one.lines.meets(matrix, &two.lines) {
             return Ok(true);

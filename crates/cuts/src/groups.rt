@@ -5,9 +5,10 @@ ghost use Rattle.cmr_base.specs.Matrix.{height};
 ghost use Rattle.cmr_base.specs.Planes.{words_for};
 ghost use Rattle.cmr_base.specs.Seeds.{line_number};
 ghost use Rattle.cmr_base.specs.declared.line.Line.{Line};
-ghost use Rattle.cuts.specs.Covers.{GetName, IsLineOf};
+ghost use Rattle.cuts.specs.Covers.{GetName};
 ghost use Rattle.cuts.specs.Cuts.{HasNames, name_of};
-ghost use Rattle.cuts.specs.LineSets.{HasWords, set_of};
+ghost use Rattle.cuts.specs.LineSets.{HasWords, as_set};
+ghost use Rattle.cmr_base.specs.Components.{IsLineOf};
 
 use crate::line_words::LineWords;
 use cmr_base::columns::{add_column, empty_set, has_column};
@@ -78,7 +79,7 @@ impl Groups {
         requires { HasNames matrix.now self.now }
         ensures size { IfOk result (HasWords matrix.now) }
         ensures named { IfOk result (λ lines. (x : Line) → IsLineOf matrix.now x
-            → set_of lines x ≡ true → name_of matrix.now self.now x ≡ name) }
+            → as_set lines x ≡ true → name_of matrix.now self.now x ≡ name) }
     {
         let rows = lines_named(alloc, &self.names, 0, matrix.rows(), name)?;
         let columns = lines_named(alloc, &self.names, matrix.rows(), matrix.columns(), name)?;
@@ -91,7 +92,7 @@ impl Groups {
         requires line { IsLineOf matrix.now line }
         requires parted { HasWords matrix.now parted.now }
         ensures names { HasNames matrix.now self.new }
-        ensures get { GetName matrix.now self.old self.new (set_of parted.now) line }
+        ensures get { GetName matrix.now self.old self.new (as_set parted.now) line }
     {
         let name = self.name(matrix, line);
         rename_others(&mut self.names, 0, matrix.rows(), &parted.rows, name);

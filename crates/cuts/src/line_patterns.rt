@@ -2,7 +2,7 @@
 ghost use Rattle.std.specs.Prelude.{◌≡◌, ◌<◌, ◌+◌, true, IfOk, MatchOption};
 ghost use Rattle.cmr_base.specs.Separations.{Lines};
 ghost use Rattle.cuts.specs.Covers.{Covers, IsHalved};
-ghost use Rattle.cuts.specs.LineSets.{HasWords, set_of};
+ghost use Rattle.cuts.specs.LineSets.{HasWords, as_set};
 ghost use Rattle.cuts.specs.Patterns.{HasPatterns};
 ghost use Rattle.cuts.specs.Sides.{AreHalves, HasNumbers};
 
@@ -51,8 +51,8 @@ impl LinePatterns {
     /// Whether too few lines for a side can be on the other side of a cut with the lines on one side.
     pub fn are_few(&self, matrix: &RowsAndColumns<'_>, lines: &LineWords) -> bool
         requires { HasPatterns matrix.now lines.now self.now }
-        ensures near { result ≡ true → (K P : Lines) → Covers matrix.now (set_of lines.now) K P }
-        ensures far { result ≡ true → (H P : Lines) → Covers matrix.now H (set_of lines.now) P }
+        ensures near { result ≡ true → (K P : Lines) → Covers matrix.now (as_set lines.now) K P }
+        ensures far { result ≡ true → (H P : Lines) → Covers matrix.now H (as_set lines.now) P }
     {
         let _shape = matrix.rows();
         are_too_few(self.rows.most, self.columns.most)
@@ -141,8 +141,8 @@ fn grown_halves(
     requires side { HasNumbers matrix.now side.now }
     requires one { HasWords matrix.now one.now }
     requires other { HasWords matrix.now other.now }
-    requires halved { IsHalved matrix.now (set_of side.now.lines) (set_of one.now)
-        (set_of other.now) }
+    requires halved { IsHalved matrix.now (as_set side.now.lines) (as_set one.now)
+        (as_set other.now) }
     ensures { IfOk result (AreHalves matrix.now side.now) }
 {
     let more_one = side.grown(alloc, matrix, one)?;

@@ -3,10 +3,11 @@ ghost use Rattle.std.specs.Prelude.{◌≡◌, ◌<◌, ◌⊎◌, ℕ, true, fa
 ghost use Rattle.cmr_base.specs.ColumnSets.{has_column};
 ghost use Rattle.cmr_base.specs.Matrix.{height};
 ghost use Rattle.cmr_base.specs.Planes.{words_for};
-ghost use Rattle.cmr_base.specs.Seeds.{outside};
+ghost use Rattle.cmr_base.specs.Seeds.{count_outside};
 ghost use Rattle.cmr_base.specs.declared.line.Line.{Line};
-ghost use Rattle.cuts.specs.Covers.{AreWithin, IsLineOf};
-ghost use Rattle.cuts.specs.LineSets.{HasWords, columns_heap, is_in_heap, rows_heap, set_of};
+ghost use Rattle.cuts.specs.Covers.{AreWithin};
+ghost use Rattle.cuts.specs.LineSets.{HasWords, columns_heap, is_in_heap, rows_heap, as_set};
+ghost use Rattle.cmr_base.specs.Components.{IsLineOf};
 
 use crate::LEAST_SIDE;
 use crate::heaps::Heaps;
@@ -61,7 +62,7 @@ impl LineWords {
         requires { length patterns.now.classes.items ≡ height matrix.now }
         ensures size { IfOk result (HasWords matrix.now) }
         ensures lines { IfOk result (λ lines. (x : Line) → IsLineOf matrix.now x
-            → set_of lines x ≡ true → rows_heap patterns.now inside x ≡ true) }
+            → as_set lines x ≡ true → rows_heap patterns.now inside x ≡ true) }
     {
         let mut lines = LineWords::new(alloc, matrix)?;
         add_heap(&mut lines.rows, matrix.rows(), patterns, inside);
@@ -78,7 +79,7 @@ impl LineWords {
         requires { length patterns.now.classes.items ≡ matrix.now.width }
         ensures size { IfOk result (HasWords matrix.now) }
         ensures lines { IfOk result (λ lines. (x : Line) → IsLineOf matrix.now x
-            → set_of lines x ≡ true → columns_heap patterns.now inside x ≡ true) }
+            → as_set lines x ≡ true → columns_heap patterns.now inside x ≡ true) }
     {
         let mut lines = LineWords::new(alloc, matrix)?;
         add_heap(&mut lines.columns, matrix.columns(), patterns, inside);
@@ -96,7 +97,7 @@ impl LineWords {
         requires line { IsLineOf matrix.now line }
         ensures size { IfOk result (HasWords matrix.now) }
         ensures lines { IfOk result (λ lines. (x : Line) → IsLineOf matrix.now x
-            → set_of lines x ≡ true → (set_of self.now x ≡ true) ⊎ (x ≡ line)) }
+            → as_set lines x ≡ true → (as_set self.now x ≡ true) ⊎ (x ≡ line)) }
     {
         let mut lines = self.copied(alloc, matrix)?;
         match line {
@@ -122,7 +123,7 @@ impl LineWords {
     /// How many lines of the matrix are not among these.
     pub fn count_others(&self, matrix: &RowsAndColumns<'_>) -> u32
         requires { HasWords matrix.now self.now }
-        ensures { result ≡ outside (height matrix.now) matrix.now.width (set_of self.now) }
+        ensures { result ≡ count_outside (height matrix.now) matrix.now.width (as_set self.now) }
     {
         let rows = count_others(&self.rows, matrix.rows());
         rows + count_others(&self.columns, matrix.columns())
@@ -132,8 +133,8 @@ impl LineWords {
     pub fn have_all(&self, matrix: &RowsAndColumns<'_>, others: &LineWords) -> bool
         requires size { HasWords matrix.now self.now }
         requires others { HasWords matrix.now others.now }
-        ensures { result ≡ true → (x : Line) → IsLineOf matrix.now x → set_of others.now x ≡ false
-            → set_of self.now x ≡ true }
+        ensures { result ≡ true → (x : Line) → IsLineOf matrix.now x → as_set others.now x ≡ false
+            → as_set self.now x ≡ true }
     {
         have_others(&self.rows, matrix.rows(), &others.rows)
             && have_others(&self.columns, matrix.columns(), &others.columns)
@@ -146,8 +147,8 @@ impl LineWords {
         ensures { result ≡ true
             → (x : Line)
             × IsLineOf matrix.now x
-            × (set_of self.now x ≡ true)
-            × (set_of others.now x ≡ true) }
+            × (as_set self.now x ≡ true)
+            × (as_set others.now x ≡ true) }
     {
         share_line(&self.rows, &others.rows, matrix.rows())
             || share_line(&self.columns, &others.columns, matrix.columns())
@@ -158,9 +159,9 @@ impl LineWords {
         requires size { HasWords matrix.now self.old }
         requires others { HasWords matrix.now others.now }
         ensures size { HasWords matrix.now self.new }
-        ensures kept { AreWithin matrix.now (set_of self.old) (set_of self.new) }
-        ensures rest { (x : Line) → IsLineOf matrix.now x → set_of others.now x ≡ false
-            → set_of self.new x ≡ true }
+        ensures kept { AreWithin matrix.now (as_set self.old) (as_set self.new) }
+        ensures rest { (x : Line) → IsLineOf matrix.now x → as_set others.now x ≡ false
+            → as_set self.new x ≡ true }
     {
         add_others(&mut self.rows, matrix.rows(), &others.rows);
         add_others(&mut self.columns, matrix.columns(), &others.columns);

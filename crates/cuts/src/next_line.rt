@@ -2,8 +2,8 @@
 ghost use Rattle.std.specs.Prelude.{◌≡◌, ◌<◌, length, MatchOption};
 ghost use Rattle.cmr_base.specs.Matrix.{height};
 ghost use Rattle.cmr_base.specs.Planes.{words_for};
-ghost use Rattle.cuts.specs.Covers.{IsLineOf};
 ghost use Rattle.cuts.specs.LineSets.{HasWords};
+ghost use Rattle.cmr_base.specs.Components.{IsLineOf};
 
 use crate::line_words::LineWords;
 use cmr_base::columns::{has_column, meets};

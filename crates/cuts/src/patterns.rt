@@ -4,7 +4,7 @@ ghost use Rattle.std.specs.List.Sorted.{IsNonDecreasing};
 ghost use Rattle.cmr_base.specs.ColumnSets.{has_column};
 ghost use Rattle.cmr_base.specs.Planes.{words_for};
 ghost use Rattle.cmr_base.specs.Seeds.{count};
-ghost use Rattle.cuts.specs.Patterns.{AreAtMostBeside, AreAtMostListed, AreOpen, AreShort, IsCounted};
+ghost use Rattle.cuts.specs.Patterns.{AreAtMostBeside, AreAtMostListed, AreOpen, AreShort, AreRunsCounted};
 
 use crate::heaps::{Heaps, middle_heaps, no_heaps};
 use cmr_base::columns::has_column;
@@ -166,8 +166,8 @@ struct Runs {
 fn runs_with(runs: Runs, class: u64) -> Runs
     requires { AreShort runs MAX_ROWS }
     ensures { (sorted : List ℕ) (place : ℕ) → IsNonDecreasing sorted → place < length sorted
-        → slice_index_or sorted place 0 ≡ class → IsCounted sorted place runs
-        → IsCounted sorted (place + 1) result }
+        → slice_index_or sorted place 0 ≡ class → AreRunsCounted sorted place runs
+        → AreRunsCounted sorted (place + 1) result }
 {
     if class == 0 {
         return Runs {

@@ -7,9 +7,10 @@ ghost use Rattle.cmr_base.specs.Planes.{words_for};
 ghost use Rattle.cmr_base.specs.Trees.{support};
 ghost use Rattle.cmr_base.specs.declared.line.Line.{Line};
 ghost use Rattle.cuts.specs.Classes.{AreNumbers, IsUnlikeOne};
-ghost use Rattle.cuts.specs.Covers.{AddsAtMost, IsLineOf};
-ghost use Rattle.cuts.specs.LineSets.{HasWords, set_of};
+ghost use Rattle.cuts.specs.Covers.{AddsAtMost};
+ghost use Rattle.cuts.specs.LineSets.{HasWords, as_set};
 ghost use Rattle.cuts.specs.Sides.{HasNumbers, HasSetNumbers, IsForced};
+ghost use Rattle.cmr_base.specs.Components.{IsLineOf};
 
 use crate::line_words::LineWords;
 use cmr_base::columns::{add_column, empty_set, has_column, next_column};
@@ -35,7 +36,7 @@ impl Side {
         requires { HasWords matrix.now lines.now }
         ensures numbers { IfOk result (HasNumbers matrix.now) }
         ensures lines { IfOk result (λ side. (x : Line) → IsLineOf matrix.now x
-            → set_of side.lines x ≡ true → set_of lines.now x ≡ true) }
+            → as_set side.lines x ≡ true → as_set lines.now x ≡ true) }
     {
         let none = Side {
             lines: LineWords::new(alloc, matrix)?,
@@ -56,7 +57,7 @@ impl Side {
         requires lines { HasWords matrix.now lines.now }
         ensures numbers { IfOk result (HasNumbers matrix.now) }
         ensures lines { IfOk result (λ side.
-            AddsAtMost matrix.now (set_of side.lines) (set_of self.now.lines) (set_of lines.now)) }
+            AddsAtMost matrix.now (as_set side.lines) (as_set self.now.lines) (as_set lines.now)) }
     {
         let rows = grown_set(
             alloc,
@@ -93,7 +94,7 @@ impl Side {
         requires line { IsLineOf matrix.now line }
         ensures numbers { IfOk result (HasNumbers matrix.now) }
         ensures lines { IfOk result (λ side. (x : Line) → IsLineOf matrix.now x
-            → set_of side.lines x ≡ true → (set_of self.now.lines x ≡ true) ⊎ (x ≡ line)) }
+            → as_set side.lines x ≡ true → (as_set self.now.lines x ≡ true) ⊎ (x ≡ line)) }
     {
         let none = LineWords::new(alloc, matrix)?;
         let lines = none.with_line(alloc, matrix, line)?;

@@ -4,9 +4,9 @@ use Rattle.cmr_base.specs.declared.line_set.LineSet.{LineSet}
 use Rattle.cmr_base.proofs.Lists.{all_contain, all_weaker}
 use Rattle.cmr_base.proofs.Options.{some_or, some_same}
 use Rattle.pivots.specs.PivotedParts.{AreAmong}
-use Rattle.tree_type.specs.Trees.{Finding, Empty, Cycle, Reduced, OneSum, Network, Conetwork, R10, TwoSum, ThreeSum, Enumerated, Violator, Undecided, Pivoted, Tree, Trees, Branch, NoTrees, MoreTrees, lines_of}
+use Rattle.tree_type.specs.Trees.{Finding, Empty, Cycle, Reduced, OneSum, Network, Conetwork, R10, TwoSum, ThreeSum, Enumerated, Violator, Undecided, Pivoted, Tree, Trees, Branch, NoTrees, MoreTrees, lines_at_root}
 use Rattle.cmr_base.specs.Matrix.{Matrix}
-use Rattle.tree_type.specs.Invariant.{AreLines, AreLinesOf, Fits, IsTreeWithin, AreTreesWithin}
+use Rattle.tree_type.specs.Invariant.{AreLines, AreLinesOf, FitsLines, IsTreeWithin, AreTreesWithin}
 use Rattle.tree_type.specs.Verdicts.{Verdict, Yes, No, Open, first_in, first_among, fault_at, open_at, verdict_from, verdict_of}
 use Rattle.decomp_tree.specs.PivotedShapes.{HasFaultAmong}
 
@@ -26,7 +26,7 @@ lines_of_lines_of lines parent are = record { rows_rise = are.rows_rise; columns
 pub lines_themselves : (m : Matrix) (lines : LineSet) → AreLines m lines → AreLinesOf lines lines
 lines_themselves m lines are = record { rows_rise = are.rows.rising; columns_rise = are.columns.rising; rows = λ row h. h; columns = λ column h. h }
 
-fault_here : (lines : LineSet) (finding : Finding) (trees : Trees) (fault : LineSet) → Fits lines finding trees → fault_at lines finding ≡ Some fault → AreLinesOf fault lines
+fault_here : (lines : LineSet) (finding : Finding) (trees : Trees) (fault : LineSet) → FitsLines lines finding trees → fault_at lines finding ≡ Some fault → AreLinesOf fault lines
 fault_here lines (Cycle found) trees fault fits e = subst (λ f. AreLinesOf f lines) (some_same found fault e) fits
 fault_here lines (Violator found) trees fault fits e = subst (λ f. AreLinesOf f lines) (some_same found fault e) fits
 fault_here lines Empty trees fault fits e = cc
@@ -42,7 +42,7 @@ fault_here lines Undecided trees fault fits e = cc
 fault_here lines (Pivoted place) trees fault fits e = cc
 
 mutual
-  pub fault_in : (parent : LineSet) (levels : ℕ) (tree : Tree) (fault : LineSet) → IsTreeWithin parent levels tree → first_in fault_at tree ≡ Some fault → AreLinesOf fault (lines_of tree)
+  pub fault_in : (parent : LineSet) (levels : ℕ) (tree : Tree) (fault : LineSet) → IsTreeWithin parent levels tree → first_in fault_at tree ≡ Some fault → AreLinesOf fault (lines_at_root tree)
   fault_in parent levels (Branch lines finding trees) fault within e = elim (some_or (fault_at lines finding) (first_among fault_at trees) fault e) [
     | inl here ↦ fault_here lines finding trees fault within.2 here
     | inr below ↦ fault_below lines (levels - 1) trees fault within.4 below
@@ -70,10 +70,10 @@ among_lines fault lines are = record {
   columns = all_weaker (Contains fault.columns) (Contains lines.columns) are.columns fault.columns (all_contain fault.columns);
 }
 
-pub fault_among : (parent : LineSet) (levels : ℕ) (tree : Tree) → IsTreeWithin parent levels tree → HasFaultAmong (lines_of tree) (verdict_of tree)
+pub fault_among : (parent : LineSet) (levels : ℕ) (tree : Tree) → IsTreeWithin parent levels tree → HasFaultAmong (lines_at_root tree) (verdict_of tree)
 fault_among parent levels tree within = go (verdict_of tree) refl
   where
-    go : (v : Verdict) → verdict_of tree ≡ v → HasFaultAmong (lines_of tree) v
+    go : (v : Verdict) → verdict_of tree ≡ v → HasFaultAmong (lines_at_root tree) v
     go Yes e = tt
-    go (No fault) e = among_lines fault (lines_of tree) (fault_in parent levels tree fault within (fault_of_verdict tree fault e))
+    go (No fault) e = among_lines fault (lines_at_root tree) (fault_in parent levels tree fault within (fault_of_verdict tree fault e))
     go (Open left) e = tt

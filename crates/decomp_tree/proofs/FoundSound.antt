@@ -4,7 +4,7 @@ use Rattle.cmr_base.specs.declared.line_set.LineSet.{LineSet}
 use Rattle.cmr_base.specs.Matrix.{Matrix, entry, IsMatrix}
 use Rattle.cmr_base.specs.Violator.{IsViolator}
 use Rattle.pivots.specs.declared.drawn.DrawnPlace.{DrawnPlace}
-use Rattle.pivots.specs.declared.place.PivotPlace.{PivotPlace}
+use Rattle.pivots.specs.declared.place.PlacedPivot.{PlacedPivot}
 use Rattle.pivots.specs.DrawnPlaces.{drawn_place}
 use Rattle.pivots.specs.PivotedParts.{IsPlaceIn, IsTernaryPivot, pivoted_part}
 use Rattle.pivots.proofs.PartLaws.{part_pivots_take_violators_back}
@@ -43,7 +43,7 @@ module _ (limit : ℕ) (few : limit ≤ 24) where
     abbrev n : Matrix
     n = matrix_after m made
 
-    module _ (place : PivotPlace) (at : IsPlaceIn n lines place) (ternary : IsTernaryPivot n lines place) (next : ℕ) (after : Tree) (d : IsDrawnWith limit pivots next (pivoted_part n lines place) lines after) where
+    module _ (place : PlacedPivot) (at : IsPlaceIn n lines place) (ternary : IsTernaryPivot n lines place) (next : ℕ) (after : Tree) (d : IsDrawnWith limit pivots next (pivoted_part n lines place) lines after) where
       is_after : IsMatrix (pivoted_part n lines place)
       is_after = pivoted_is_matrix n lines place is ternary
 

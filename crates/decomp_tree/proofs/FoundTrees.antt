@@ -5,13 +5,13 @@ use Rattle.cmr_base.specs.Matrix.{Matrix}
 use Rattle.cmr_base.specs.LineSets.{IsRowSet, IsColumnSet}
 use Rattle.cmr_base.proofs.Lists.{all_contained}
 use Rattle.pivots.specs.declared.drawn.DrawnPlace.{DrawnPlace}
-use Rattle.pivots.specs.declared.place.PivotPlace.{PivotPlace}
+use Rattle.pivots.specs.declared.place.PlacedPivot.{PlacedPivot}
 use Rattle.pivots.specs.DrawnPlaces.{drawn_place}
 use Rattle.pivots.specs.PivotedParts.{AreAmong, IsPlaceIn, pivoted_part}
 use Rattle.pivots.proofs.DrawnPlaces.{drawn_in}
 use Rattle.pivots.proofs.PartLaws.{lines_before_among}
-use Rattle.tree_type.specs.Trees.{Finding, Empty, Cycle, Reduced, OneSum, Network, Conetwork, R10, TwoSum, ThreeSum, Enumerated, Violator, Undecided, Pivoted, Tree, Trees, Branch, NoTrees, MoreTrees, count_trees, lines_of}
-use Rattle.tree_type.specs.Invariant.{AreLinesOf, size_of, Fits, HasChildren, IsTreeWithin, AreTreesWithin}
+use Rattle.tree_type.specs.Trees.{Finding, Empty, Cycle, Reduced, OneSum, Network, Conetwork, R10, TwoSum, ThreeSum, Enumerated, Violator, Undecided, Pivoted, Tree, Trees, Branch, NoTrees, MoreTrees, count_trees, lines_at_root}
+use Rattle.tree_type.specs.Invariant.{AreLinesOf, size_of, FitsLines, HasChildren, IsTreeWithin, AreTreesWithin}
 use Rattle.tree_type.specs.Verdicts.{Verdict, Yes, No, Open, verdict_of}
 use Rattle.decomp_tree.specs.Seen.{IsFalling, AreFalling, IsDrawn}
 use Rattle.decomp_tree.specs.Refined.{Refines, AllRefine}
@@ -21,23 +21,23 @@ use Rattle.decomp_tree.proofs.RefinedTrees.{RefinedNode, replaced, kept, refined
 
 -- ---- lines
 
-told_lines : (m : Matrix) (lines : LineSet) (place : PivotPlace) (after : Tree) (v : Verdict) (tree : Tree) → IsToldBeforePivot m lines place after v tree → lines_of tree ≡ lines
-told_lines m lines place after Yes tree e = ap lines_of e
-told_lines m lines place after (No fault) tree told = ap lines_of told.2
-told_lines m lines place after (Open left) tree e = ap lines_of e
+told_lines : (m : Matrix) (lines : LineSet) (place : PlacedPivot) (after : Tree) (v : Verdict) (tree : Tree) → IsToldBeforePivot m lines place after v tree → lines_at_root tree ≡ lines
+told_lines m lines place after Yes tree e = ap lines_at_root e
+told_lines m lines place after (No fault) tree told = ap lines_at_root told.2
+told_lines m lines place after (Open left) tree e = ap lines_at_root e
 
-found_at_lines : (IsTree : ℕ → Matrix → Tree → Type 0) (m : Matrix) (lines : LineSet) (drawn : Option DrawnPlace) (tree : Tree) → IsFoundAt IsTree m lines drawn tree → lines_of tree ≡ lines
-found_at_lines IsTree m lines None tree e = ap lines_of e
-found_at_lines IsTree m lines (Some drawn) tree (inl shown) = ap lines_of shown.2
+found_at_lines : (IsTree : ℕ → Matrix → Tree → Type 0) (m : Matrix) (lines : LineSet) (drawn : Option DrawnPlace) (tree : Tree) → IsFoundAt IsTree m lines drawn tree → lines_at_root tree ≡ lines
+found_at_lines IsTree m lines None tree e = ap lines_at_root e
+found_at_lines IsTree m lines (Some drawn) tree (inl shown) = ap lines_at_root shown.2
 found_at_lines IsTree m lines (Some drawn) tree (inr made) = told_lines m lines drawn.place made.1 (verdict_of made.1) tree made.3
 
 -- what is found stands on the lines of the node
-pub found_lines : (limit pivots state : ℕ) (m : Matrix) (lines : LineSet) (tree : Tree) → IsFound limit pivots state m lines tree → lines_of tree ≡ lines
-found_lines limit zero state m lines tree e = ap lines_of e
+pub found_lines : (limit pivots state : ℕ) (m : Matrix) (lines : LineSet) (tree : Tree) → IsFound limit pivots state m lines tree → lines_at_root tree ≡ lines
+found_lines limit zero state m lines tree e = ap lines_at_root e
 found_lines limit (suc pivots) state m lines tree found = found_at_lines (λ next after found. (shape : Tree) × IsDrawn limit after lines shape × Refines (IsFound limit pivots next after) shape found) m lines (drawn_place m lines state) tree found
 
 -- and so does the decomposition with what is found
-pub drawn_with_lines : (limit pivots state : ℕ) (m : Matrix) (lines : LineSet) (tree : Tree) → IsDrawnWith limit pivots state m lines tree → lines_of tree ≡ lines
+pub drawn_with_lines : (limit pivots state : ℕ) (m : Matrix) (lines : LineSet) (tree : Tree) → IsDrawnWith limit pivots state m lines tree → lines_at_root tree ≡ lines
 drawn_with_lines limit pivots state m lines tree d = refined_lines (IsFound limit pivots state m) (found_lines limit pivots state m) d.shape tree d.refines ∙ d.drawn.lines_are
 
 -- a place that is drawn is one of the submatrix
@@ -47,7 +47,7 @@ place_drawn m lines state drawn e = subst (λ o. IfSome o (λ (found : DrawnPlac
 -- ---- levels
 
 -- as many children fit
-fits_as_many : (lines : LineSet) (finding : Finding) (trees others : Trees) → count_trees others ≡ count_trees trees → Fits lines finding trees → Fits lines finding others
+fits_as_many : (lines : LineSet) (finding : Finding) (trees others : Trees) → count_trees others ≡ count_trees trees → FitsLines lines finding trees → FitsLines lines finding others
 fits_as_many lines OneSum trees others e fits = subst (λ n. n ≤ size_of lines) (sym e) fits
 fits_as_many lines Empty trees others e fits = fits
 fits_as_many lines (Cycle fault) trees others e fits = fits
@@ -64,7 +64,7 @@ fits_as_many lines (Pivoted place) trees others e fits = fits
 
 module _ (Stands : LineSet → Tree → Type 0) (more : ℕ) (stand_within : (lines : LineSet) (tree : Tree) (parent : LineSet) (levels : ℕ) → Stands lines tree → AreLinesOf lines parent → size_of lines + more < levels → IsTreeWithin parent levels tree) where
   mutual
-    within_refined : (shape tree : Tree) (parent : LineSet) (some levels : ℕ) → Refines Stands shape tree → IsFalling shape → IsTreeWithin parent some shape → size_of (lines_of shape) + more < levels → IsTreeWithin parent levels tree
+    within_refined : (shape tree : Tree) (parent : LineSet) (some levels : ℕ) → Refines Stands shape tree → IsFalling shape → IsTreeWithin parent some shape → size_of (lines_at_root shape) + more < levels → IsTreeWithin parent levels tree
     within_refined (Branch lines finding trees) tree parent some levels r falls within l =
         go (refined_node Stands lines finding trees tree r) (λ below all few. within_each lines trees below (some - 1) (levels - 1) all falls within.4 few)
       where
@@ -113,7 +113,7 @@ module _ (limit : ℕ) where
       (subst (λ some. size_of some + pivots < levels) (sym d.drawn.lines_are) l)
 
   module _ (pivots : ℕ) (below : IsWithin pivots) (m : Matrix) (lines parent : LineSet) (levels : ℕ) (are : AreLinesOf lines parent) (l : size_of lines + suc pivots < levels) where
-    told_within : (next : ℕ) (place : PivotPlace) (at : IsPlaceIn m lines place) (after : Tree) → IsDrawnWith limit pivots next (pivoted_part m lines place) lines after → (tree : Tree) → IsToldBeforePivot m lines place after (verdict_of after) tree → IsTreeWithin parent levels tree
+    told_within : (next : ℕ) (place : PlacedPivot) (at : IsPlaceIn m lines place) (after : Tree) → IsDrawnWith limit pivots next (pivoted_part m lines place) lines after → (tree : Tree) → IsToldBeforePivot m lines place after (verdict_of after) tree → IsTreeWithin parent levels tree
     told_within next place at after d tree told = go (verdict_of after) among told
       where
         after_within : IsTreeWithin lines (levels - 1) after

@@ -17,7 +17,7 @@ use Rattle.tree_type.specs.Invariant.{AreLines, HasChildren}
 use Rattle.tree_type.specs.Places.{These, lines_left}
 use Rattle.tree_type.specs.Soundness.{part, AreApart, HasItsLines}
 use Rattle.tree_type.proofs.PlacedLines.{part_is}
-use Rattle.decomp_tree.specs.Shapes.{Case, HasNoLines, HasFault, IsReducible, IsApart, IsNetwork, IsConetwork, IsR10Matrix, IsTwoSum, IsThreeSum, IsShort, IsLeft, case_number, Applies, Says, numbered_line, set_in, two_in, three_in, finding_in, HasParts}
+use Rattle.decomp_tree.specs.Shapes.{Case, HasNoLines, HasFault, IsReducible, IsApart, IsNetwork, IsConetwork, IsR10Matrix, IsTwoSum, IsThreeSum, IsShort, IsLeft, case_number, Applies, NodeSays, numbered_line, set_in, two_in, three_in, finding_in, HasParts}
 use Rattle.decomp_tree.specs.Seen.{HasNoneAmong, is_unsearched, keeps_free, AreDue, IsSaid}
 use Rattle.decomp_tree.proofs.Apart.{parts_apart}
 use Rattle.decomp_tree.proofs.NoFaults.{none_from_free, free_from_none}
@@ -32,7 +32,7 @@ module _ (limit : ℕ) (few : limit ≤ 24) (m : Matrix) (is : IsMatrix m) (line
   abbrev inner : Matrix
   inner = part m lines
 
-  free_by : (case : Case) (found : Finding) (parts children : List LineSet) → Applies limit inner case → Says case inner found parts
+  free_by : (case : Case) (found : Finding) (parts children : List LineSet) → Applies limit inner case → NodeSays case inner found parts
       → (is_unsearched (finding_in lines found) ≡ false → case_number HasFault < case_number case → HasNoCycleFault (entry inner)) → HasParts (finding_in lines found) children (map (set_in lines) parts)
       → AreDue lines (finding_in lines found) 0 children → HasChildren (finding_in lines found) (length children) → keeps_free (finding_in lines found) ≡ true → AllByRecursion (IsFreeOn m) children → IsFreeOn m lines
   free_by HasNoLines Empty parts children applies says searched has due count keeps free = free_empty m lines (let a = applies.0 in let b = applies.1 in omega (arith, a, b, height_in m lines))

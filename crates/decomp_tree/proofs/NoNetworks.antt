@@ -13,7 +13,7 @@ use Rattle.cmr_base.specs.Trees.{HasGraphicSupport, IsNetworkMatrix, RealisesSup
 use Rattle.cmr_base.proofs.GraphicMatrices.{support_same, submatrix_has_graphic_support, graphic_support_hereditary}
 use Rattle.cmr_base.proofs.ListsWithout.{in_from_contains, contains_from_in, increasing_tail}
 use Rattle.cmr_base.proofs.Members.{IsWithin}
-use Rattle.cmr_base.proofs.Parts.{entry-submatrix, entry-turned, height-transposed, is_ternary-submatrix, is_ternary-transposed}
+use Rattle.cmr_base.proofs.Parts.{entry-submatrix, entry-transposed_rectangular, height-transposed, is_ternary-submatrix, is_ternary-transposed}
 use Rattle.cmr_base.proofs.Submatrices.{inherited_from_hereditary}
 use Rattle.cmr_base.proofs.TransposedLemmas.{row_set-transposed, column_set-transposed}
 use Rattle.network_orient.specs.declared.orienting.Orientation.{Orientation}
@@ -56,9 +56,9 @@ cographic_hereditary m is rows columns row_set column_set G =
     same : (c r : ℕ) → c < height (submatrix (transposed m) columns rows) → r < length rows → entry (submatrix (transposed m) columns rows) c r ≡ entry (transposed (submatrix m rows columns)) c r
     same c r lc lr =
         entry-submatrix (transposed m) columns rows c r (omega (arith, lc, columns_are)) lr
-        ∙ entry-turned m (get_or rows r 0) (get_or columns c 0) is.rectangular
+        ∙ entry-transposed_rectangular m (get_or rows r 0) (get_or columns c 0) is.rectangular
         ∙ sym (entry-submatrix m rows columns r c lr (omega (arith, lc, columns_are)))
-        ∙ sym (entry-turned (submatrix m rows columns) r c (is_ternary-submatrix m rows columns is).rectangular)
+        ∙ sym (entry-transposed_rectangular (submatrix m rows columns) r c (is_ternary-submatrix m rows columns is).rectangular)
 
 module _ (m : Matrix) (is : IsMatrix m) where
   ternary : IsTernary m

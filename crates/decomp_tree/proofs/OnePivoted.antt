@@ -8,7 +8,7 @@ use Rattle.cmr_base.proofs.Booleans.{neither, same_or_not, true_is_false}
 use Rattle.cmr_base.proofs.Places.{rising_same}
 use Rattle.cmr_base.proofs.RemovedLines.{first_lines_increase}
 use Rattle.pivots.specs.declared.drawn.DrawnPlace.{DrawnPlace}
-use Rattle.pivots.specs.declared.place.PivotPlace.{PivotPlace}
+use Rattle.pivots.specs.declared.place.PlacedPivot.{PlacedPivot}
 use Rattle.pivots.specs.DrawnPlaces.{drawn_place}
 use Rattle.pivots.specs.PivotedParts.{ShowsFirstTwoIn, pivoted_part}
 use Rattle.pivots.specs.ChosenLines.{two_lines}
@@ -80,7 +80,7 @@ module _ (Stands : LineSet → Tree → Type 0) (same : (lines : LineSet) → Ar
 line_set_same : (f g : LineSet) → f.rows ≡ g.rows → f.columns ≡ g.columns → f ≡ g
 line_set_same f g e h = ap₂ (λ (rows columns : List ℕ). let set : LineSet = record { rows = rows; columns = columns } in set) e h
 
-one_two : (m : Matrix) (lines : LineSet) (place : PivotPlace) (fault other : LineSet) → ShowsFirstTwoIn m lines place fault.rows fault.columns → ShowsFirstTwoIn m lines place other.rows other.columns → fault ≡ other
+one_two : (m : Matrix) (lines : LineSet) (place : PlacedPivot) (fault other : LineSet) → ShowsFirstTwoIn m lines place fault.rows fault.columns → ShowsFirstTwoIn m lines place other.rows other.columns → fault ≡ other
 one_two m lines place fault other a b =
     line_set_same fault other (a.rows_are ∙ ap (two_lines place.row) one_row ∙ sym b.rows_are) (a.columns_are ∙ ap (two_lines place.column) one_column ∙ sym b.columns_are)
   where
@@ -98,7 +98,7 @@ one_two m lines place fault other a b =
         (λ l. b.two (subst (λ i. IsEntry (pivot_entry (entry m) place.row place.column i b.other_column)) one_row (a.columns_before b.other_column b.column_in l)))
 
 -- the lines before the pivot are one set
-before_same : (m : Matrix) (place : PivotPlace) (fault before other : LineSet) → AreBefore m place fault before → AreBefore m place fault other → before ≡ other
+before_same : (m : Matrix) (place : PlacedPivot) (fault before other : LineSet) → AreBefore m place fault before → AreBefore m place fault other → before ≡ other
 before_same m place fault before other a b =
     line_set_same before other
     (rising_same before.rows other.rows a.row_set.rising b.row_set.rising (λ x h. rows_in a b x h) (λ x h. rows_in b a x h))
@@ -116,7 +116,7 @@ before_same m place fault before other a b =
       | inr n ↦ (b.lines.other_columns x n).1 ((a.lines.other_columns x n).0 h)
     ]
 
-told_same : (m : Matrix) (lines : LineSet) (place : PivotPlace) (after after' : Tree) → plain_tree after ≡ plain_tree after' → (v : Verdict) (tree tree' : Tree) → IsToldBeforePivot m lines place after v tree → IsToldBeforePivot m lines place after' v tree'
+told_same : (m : Matrix) (lines : LineSet) (place : PlacedPivot) (after after' : Tree) → plain_tree after ≡ plain_tree after' → (v : Verdict) (tree tree' : Tree) → IsToldBeforePivot m lines place after v tree → IsToldBeforePivot m lines place after' v tree'
     → plain_tree tree ≡ plain_tree tree'
 told_same m lines place after after' same Yes tree tree' e e' = ap plain_tree e ∙ ap (λ (t : Tree). Branch lines (Pivoted place) (MoreTrees t NoTrees)) same ∙ sym (ap plain_tree e')
 told_same m lines place after after' same (No fault) tree tree' (before, b, e) (before', b', e') =

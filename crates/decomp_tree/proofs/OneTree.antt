@@ -5,11 +5,11 @@ use Rattle.cmr_base.specs.declared.line_set.LineSet.{LineSet}
 use Rattle.cmr_base.specs.Matrix.{Matrix, height}
 use Rattle.cmr_base.proofs.Lists.{all_front, all_back}
 use Rattle.cmr_base.proofs.Booleans.{neither}
-use Rattle.tree_type.specs.Trees.{Finding, Empty, Cycle, Reduced, OneSum, Network, Conetwork, R10, TwoSum, ThreeSum, Enumerated, Violator, Undecided, Pivoted, Tree, Trees, Branch, NoTrees, MoreTrees, count_trees, lines_of}
+use Rattle.tree_type.specs.Trees.{Finding, Empty, Cycle, Reduced, OneSum, Network, Conetwork, R10, TwoSum, ThreeSum, Enumerated, Violator, Undecided, Pivoted, Tree, Trees, Branch, NoTrees, MoreTrees, count_trees, lines_at_root}
 use Rattle.tree_type.specs.Invariant.{HasChildren, IsTreeWithin, AreTreesWithin}
 use Rattle.tree_type.specs.Places.{Due, AllLines, These, Unnamed, MadePivot, pivots_below, due_child, lines_of_each, places_from, places_below}
 use Rattle.tree_type.specs.Soundness.{part, HasItsLines}
-use Rattle.decomp_tree.specs.Shapes.{Case, HasNoLines, HasFault, IsReducible, IsApart, IsNetwork, IsConetwork, IsR10Matrix, IsTwoSum, IsThreeSum, IsShort, IsLeft, case_number, IsFirstCase, Says, finding_in, set_in, HasParts, IsShapedAt}
+use Rattle.decomp_tree.specs.Shapes.{Case, HasNoLines, HasFault, IsReducible, IsApart, IsNetwork, IsConetwork, IsR10Matrix, IsTwoSum, IsThreeSum, IsShort, IsLeft, case_number, IsFirstCase, NodeSays, finding_in, set_in, HasParts, IsShapedAt}
 use Rattle.decomp_tree.specs.PlainTrees.{plain_finding, plain_tree, plain_trees}
 use Rattle.decomp_tree.specs.PlainTrees.{OneShape}
 use Rattle.decomp_tree.proofs.FirstSeeds.{one_two, one_three}
@@ -50,7 +50,7 @@ AreSame found other parts others = (plain_finding found ≡ plain_finding other)
 set_same : (f g : LineSet) → (f.rows ≡ g.rows) × (f.columns ≡ g.columns) → f ≡ g
 set_same f g e = ap₂ (λ (rows columns : List ℕ). let set : LineSet = record { rows = rows; columns = columns } in set) e.0 e.1
 
-says_same : (n : Matrix) (case : Case) (found other : Finding) (parts others : List LineSet) → Says case n found parts → Says case n other others → AreSame found other parts others
+says_same : (n : Matrix) (case : Case) (found other : Finding) (parts others : List LineSet) → NodeSays case n found parts → NodeSays case n other others → AreSame found other parts others
 says_same n HasNoLines Empty Empty parts others a b = (refl, tt)
 says_same n HasNoLines Empty other parts others a b = absurd b
 says_same n HasNoLines found other parts others a b = absurd a
@@ -204,7 +204,7 @@ count_is NoTrees = refl
 count_is (MoreTrees tree trees) = ap suc (count_is trees)
 
 module _ (limit : ℕ) (m : Matrix) where
-  due_here : (path : List ℕ) (pivots : List MadePivot) (due : Due) (tree : Tree) → AllByRecursion (IsShapedAt limit m) (places_from path pivots due tree) → HasItsLines due (lines_of tree)
+  due_here : (path : List ℕ) (pivots : List MadePivot) (due : Due) (tree : Tree) → AllByRecursion (IsShapedAt limit m) (places_from path pivots due tree) → HasItsLines due (lines_at_root tree)
   due_here path pivots due (Branch lines finding trees) shaped = shaped.0.lines
 
   due_each : (path : List ℕ) (pivots : List MadePivot) (lines : LineSet) (finding : Finding) (k : ℕ) (trees : Trees) → AllByRecursion (IsShapedAt limit m) (places_below path pivots lines finding k trees) → AreDue lines finding k (lines_of_each trees)
@@ -228,7 +228,7 @@ module _ (limit : ℕ) (m : Matrix) where
       → IsSameNode finding finding' trees trees'
   same_node path path' pivots pivots' due due' lines finding finding' trees trees' count count' x y below below' =
       let case : x.case ≡ y.case = one_case limit (part m lines) x.case y.case x.first y.first in
-      let same = says_same (part m lines) y.case x.found y.found x.parts y.parts (subst (λ c. Says c (part m lines) x.found x.parts) case x.says) y.says in
+      let same = says_same (part m lines) y.case x.found y.found x.parts y.parts (subst (λ c. NodeSays c (part m lines) x.found x.parts) case x.says) y.says in
       let said : plain_finding finding ≡ plain_finding finding' = ap plain_finding x.finding ∙ plain_in lines x.found ∙ ap (finding_in lines) same.0 ∙ sym (plain_in lines y.found) ∙ sym (ap plain_finding y.finding) in
       record {
         said = said;
@@ -261,7 +261,7 @@ module _ (limit : ℕ) (m : Matrix) where
           only_one_sum (Pivoted place) e = cc
 
   mutual
-    pub one_tree : (path path' : List ℕ) (pivots pivots' : List MadePivot) (due due' : Due) (parent parent' : LineSet) (levels levels' : ℕ) (tree tree' : Tree) → lines_of tree ≡ lines_of tree' → IsTreeWithin parent levels tree → IsTreeWithin parent' levels' tree'
+    pub one_tree : (path path' : List ℕ) (pivots pivots' : List MadePivot) (due due' : Due) (parent parent' : LineSet) (levels levels' : ℕ) (tree tree' : Tree) → lines_at_root tree ≡ lines_at_root tree' → IsTreeWithin parent levels tree → IsTreeWithin parent' levels' tree'
         → AllByRecursion (IsShapedAt limit m) (places_from path pivots due tree) → AllByRecursion (IsShapedAt limit m) (places_from path' pivots' due' tree') → plain_tree tree ≡ plain_tree tree'
     one_tree path path' pivots pivots' due due' parent parent' levels levels' (Branch lines finding trees) (Branch lines' finding' trees') same fits fits' shaped shaped' =
         let node' = subst (λ l. IsShapedAt limit m (record { path = path'; pivots = pivots'; due = due'; lines = l; finding = finding'; children = lines_of_each trees' })) (sym same) shaped'.0 in
@@ -282,7 +282,7 @@ module _ (limit : ℕ) (m : Matrix) where
         let rest = places_below path pivots lines finding (suc k) trees in
         let first' = places_from (path' ++ k' ∷ []) pivots' (due_child lines' finding' k') tree' in
         let rest' = places_below path' pivots' lines' finding' (suc k') trees' in
-        let head : lines_of tree ≡ lines_of tree' = cc in
+        let head : lines_at_root tree ≡ lines_at_root tree' = cc in
         let tail : lines_of_each trees ≡ lines_of_each trees' = cc in
         ap₂ (λ (t : Tree) (ts : Trees). MoreTrees t ts)
         (one_tree (path ++ k ∷ []) (path' ++ k' ∷ []) pivots pivots' (due_child lines finding k) (due_child lines' finding' k') lines lines' levels levels' tree tree' head fits.0 fits'.0
@@ -293,5 +293,5 @@ module _ (limit : ℕ) (m : Matrix) where
 pub one_shape : OneShape
 one_shape limit m tree other is is' shaped shaped' =
     let all = AllLines (height m) m.width in
-    one_tree limit m [] [] [] [] all all (lines_of tree) (lines_of other) 2001 2001 tree other
-    (due_same all (lines_of tree) (lines_of other) (λ e. cc) (due_here limit m [] [] all tree shaped) (due_here limit m [] [] all other shaped')) is.nodes is'.nodes shaped shaped'
+    one_tree limit m [] [] [] [] all all (lines_at_root tree) (lines_at_root other) 2001 2001 tree other
+    (due_same all (lines_at_root tree) (lines_at_root other) (λ e. cc) (due_here limit m [] [] all tree shaped) (due_here limit m [] [] all other shaped')) is.nodes is'.nodes shaped shaped'

@@ -7,7 +7,7 @@ use Rattle.cmr_base.specs.Matrix.{Matrix, height}
 use Rattle.cmr_base.proofs.Lists.{all_front, all_back}
 use Rattle.cmr_base.proofs.Options.{some_or, some_same}
 use Rattle.pivots.specs.declared.drawn.DrawnPlace.{DrawnPlace}
-use Rattle.pivots.specs.declared.place.PivotPlace.{PivotPlace}
+use Rattle.pivots.specs.declared.place.PlacedPivot.{PlacedPivot}
 use Rattle.pivots.specs.DrawnPlaces.{drawn_place}
 use Rattle.tree_type.specs.Trees.{Finding, Empty, Cycle, Reduced, OneSum, Network, Conetwork, R10, TwoSum, ThreeSum, Enumerated, Violator, Undecided, Pivoted, Tree, Trees, Branch, NoTrees, MoreTrees}
 use Rattle.tree_type.specs.Invariant.{AreLines, size_of, IsTreeWithin, AreTreesWithin}
@@ -17,7 +17,7 @@ use Rattle.tree_type.specs.Verdicts.{Verdict, Yes, No, Open, first_in, first_amo
 use Rattle.tree_type.proofs.PlacedLines.{lines_within}
 use Rattle.decomp_tree.specs.Seen.{IsDrawn}
 use Rattle.decomp_tree.specs.Refined.{is_undecided, Refines, AllRefine}
-use Rattle.decomp_tree.specs.Shapes.{Case, HasNoLines, HasFault, IsReducible, IsApart, IsNetwork, IsConetwork, IsR10Matrix, IsTwoSum, IsThreeSum, IsShort, IsLeft, IsFirstCase, Says, finding_in, IsShapedAt}
+use Rattle.decomp_tree.specs.Shapes.{Case, HasNoLines, HasFault, IsReducible, IsApart, IsNetwork, IsConetwork, IsR10Matrix, IsTwoSum, IsThreeSum, IsShort, IsLeft, IsFirstCase, NodeSays, finding_in, IsShapedAt}
 use Rattle.decomp_tree.specs.PivotedShapes.{IsToldBeforePivot, IsFoundAt, IsFound, all_lines, pivots_within, undecided}
 use Rattle.decomp_tree.specs.PivotedLaws.{OpenLinesAreLeft}
 use Rattle.decomp_tree.proofs.FaultLines.{lines_themselves}
@@ -43,7 +43,7 @@ only_undecided lines Enumerated e = cc
 only_undecided lines (Violator f) e = cc
 only_undecided lines (Pivoted place) e = cc
 
-left_case : (n : Matrix) (case : Case) (parts : List LineSet) → Says case n Undecided parts → case ≡ IsLeft
+left_case : (n : Matrix) (case : Case) (parts : List LineSet) → NodeSays case n Undecided parts → case ≡ IsLeft
 left_case n HasNoLines parts says = absurd says
 left_case n HasFault parts says = absurd says
 left_case n IsReducible parts says = absurd says
@@ -59,7 +59,7 @@ left_case n IsLeft parts says = refl
 left_here : (limit : ℕ) (m : Matrix) (place : Place) → place.finding ≡ Undecided → IsShapedAt limit m place → IsFirstCase limit (part m place.lines) IsLeft
 left_here limit m place e shaped =
     let found : shaped.found ≡ Undecided = only_undecided place.lines shaped.found (sym e ∙ shaped.finding) in
-    let says = subst (λ f. Says shaped.case (part m place.lines) f shaped.parts) found shaped.says in
+    let says = subst (λ f. NodeSays shaped.case (part m place.lines) f shaped.parts) found shaped.says in
     subst (IsFirstCase limit (part m place.lines)) (left_case (part m place.lines) shaped.case shaped.parts says) shaped.first
 
 -- ---- what pivots find is open only where nothing is found
@@ -74,7 +74,7 @@ or_none (Some x) = refl
 undecided_open : (lines found : LineSet) → first_in open_at (undecided lines) ≡ Some found → found ≡ lines
 undecided_open lines found e = sym (some_same lines found e)
 
-told_open : (m : Matrix) (lines : LineSet) (place : PivotPlace) (after : Tree) (v : Verdict) → verdict_of after ≡ v → (tree : Tree) (found : LineSet) → IsToldBeforePivot m lines place after v tree → first_in open_at tree ≡ Some found → found ≡ lines
+told_open : (m : Matrix) (lines : LineSet) (place : PlacedPivot) (after : Tree) (v : Verdict) → verdict_of after ≡ v → (tree : Tree) (found : LineSet) → IsToldBeforePivot m lines place after v tree → first_in open_at tree ≡ Some found → found ≡ lines
 told_open m lines place after Yes is tree found e first =
     none_is_some found (sym (says_yes after is).1 ∙ sym (or_none (first_in open_at after)) ∙ sym (ap (first_in open_at) e) ∙ first)
 told_open m lines place after (No fault) is tree found (before, b, e) first = none_is_some found (sym (ap (first_in open_at) e) ∙ first)

@@ -5,11 +5,11 @@ use Rattle.cmr_base.specs.declared.line_set.LineSet.{LineSet}
 use Rattle.cmr_base.specs.Matrix.{Matrix, entry}
 use Rattle.cmr_base.specs.Violator.{IsViolator}
 use Rattle.cmr_base.proofs.Lists.{all-append}
-use Rattle.pivots.specs.declared.place.PivotPlace.{PivotPlace}
+use Rattle.pivots.specs.declared.place.PlacedPivot.{PlacedPivot}
 use Rattle.pivots.specs.PivotedParts.{IsTernaryPivot}
 use Rattle.tree_type.specs.declared.refusal.Rule.{Rule}
 use Rattle.tree_type.specs.declared.refusal.Rule.TheVariants as rule
-use Rattle.tree_type.specs.Trees.{Violator, Undecided, Pivoted, Tree, Branch, NoTrees, one_tree, lines_of}
+use Rattle.tree_type.specs.Trees.{Violator, Undecided, Pivoted, Tree, Branch, NoTrees, one_tree, lines_at_root}
 use Rattle.tree_type.specs.Places.{Due, These, MadePivot, matrix_after, places_from}
 use Rattle.tree_type.specs.Soundness.{HasItsSizes, HasItsLines, Demands, KeepsAll}
 use Rattle.decomp_tree.specs.PivotedShapes.{undecided}
@@ -18,7 +18,7 @@ use Rattle.decomp_tree.proofs.YesTrees.{MayBelow, may_stand}
 
 -- the tree keeps all rules below these pivots
 abbrev pub IsSoundBelow : Matrix → List MadePivot → Tree → Type 0
-IsSoundBelow m pivots tree = (path : List ℕ) (due : Due) → HasItsSizes m due → HasItsLines due (lines_of tree) → AllByRecursion (KeepsAll m) (places_from path pivots due tree)
+IsSoundBelow m pivots tree = (path : List ℕ) (due : Due) → HasItsSizes m due → HasItsLines due (lines_at_root tree) → AllByRecursion (KeepsAll m) (places_from path pivots due tree)
 
 module _ (m : Matrix) (pivots : List MadePivot) (lines : LineSet) where
   abbrev n : Matrix
@@ -62,7 +62,7 @@ module _ (m : Matrix) (pivots : List MadePivot) (lines : LineSet) where
   violator_demanded fault v rule.NotPivot = tt
   violator_demanded fault v rule.BelowPivot = tt
 
-  pivot_demanded : (place : PivotPlace) (children : List LineSet) → entry n place.row place.column ≢ pos 0 → IsTernaryPivot n lines place → (broken : Rule) → Demands broken n lines (Pivoted place) children
+  pivot_demanded : (place : PlacedPivot) (children : List LineSet) → entry n place.row place.column ≢ pos 0 → IsTernaryPivot n lines place → (broken : Rule) → Demands broken n lines (Pivoted place) children
   pivot_demanded place children nonzero ternary rule.Size = tt
   pivot_demanded place children nonzero ternary rule.Lines = tt
   pivot_demanded place children nonzero ternary rule.NotEmpty = tt
@@ -93,10 +93,10 @@ module _ (m : Matrix) (pivots : List MadePivot) (lines : LineSet) where
     tt,
   )
 
-  pub pivot_sound : (place : PivotPlace) (after : Tree) → entry n place.row place.column ≢ pos 0 → IsTernaryPivot n lines place → lines_of after ≡ lines
+  pub pivot_sound : (place : PlacedPivot) (after : Tree) → entry n place.row place.column ≢ pos 0 → IsTernaryPivot n lines place → lines_at_root after ≡ lines
       → IsSoundBelow m (record { lines = lines; place = place } ∷ pivots) after → MayBelow pivots (Branch lines (Pivoted place) (one_tree after)) → IsSoundBelow m pivots (Branch lines (Pivoted place) (one_tree after))
   pivot_sound place after nonzero ternary same sound may path due sizes has = (
-    keeps_all m (record { path = path; pivots = pivots; due = due; lines = lines; finding = Pivoted place; children = lines_of after ∷ [] }) sizes has (pivot_demanded place (lines_of after ∷ []) nonzero ternary)
+    keeps_all m (record { path = path; pivots = pivots; due = due; lines = lines; finding = Pivoted place; children = lines_at_root after ∷ [] }) sizes has (pivot_demanded place (lines_at_root after ∷ []) nonzero ternary)
         (may_stand pivots lines (Pivoted place) (one_tree after) may),
     all-append (KeepsAll m) (places_from (path ++ 0 ∷ []) (record { lines = lines; place = place } ∷ pivots) (These lines) after) []
         (sound (path ++ 0 ∷ []) (These lines) tt (ap (λ (some : LineSet). some.rows) same, ap (λ (some : LineSet). some.columns) same)) tt,

@@ -6,7 +6,7 @@ use Rattle.std.proofs.lemmas.List.FromFn.{length-range_with_len}
 use Rattle.cmr_base.specs.declared.line_set.LineSet.{LineSet}
 use Rattle.cmr_base.specs.Matrix.{Matrix, height, IsMatrix}
 use Rattle.cmr_base.specs.LineSets.{AllBelow, first_lines}
-use Rattle.tree_type.specs.Trees.{Finding, Tree, Trees, Branch, NoTrees, MoreTrees, count_trees, lines_of}
+use Rattle.tree_type.specs.Trees.{Finding, Tree, Trees, Branch, NoTrees, MoreTrees, count_trees, lines_at_root}
 use Rattle.tree_type.specs.Invariant.{AreLines, IsTreeFor, IsTreeWithin, AreTreesWithin, HasChildren, size_of}
 use Rattle.tree_type.specs.Places.{AllLines, places_from}
 use Rattle.tree_type.specs.Soundness.{IsSoundTree}
@@ -25,7 +25,7 @@ pub all_are_lines : (m : Matrix) → IsMatrix m → AreLines m (all_lines m)
 all_are_lines m is = root_lines m is (all_lines m) refl refl
 
 -- the root has all lines
-pub root_is_whole : (limit pivots : ℕ) (m : Matrix) (tree : Tree) → IsShapeWith limit pivots m tree → ((lines_of tree).rows ≡ first_lines (height m)) × ((lines_of tree).columns ≡ first_lines m.width)
+pub root_is_whole : (limit pivots : ℕ) (m : Matrix) (tree : Tree) → IsShapeWith limit pivots m tree → ((lines_at_root tree).rows ≡ first_lines (height m)) × ((lines_at_root tree).columns ≡ first_lines m.width)
 root_is_whole limit pivots m tree d =
     let same = drawn_with_lines limit (pivots_within m pivots) 1 m (all_lines m) tree d in
     (ap (λ (lines : LineSet). lines.rows) same, ap (λ (lines : LineSet). lines.columns) same)

@@ -4,7 +4,7 @@ use Rattle.std.specs.List.{AllByRecursion}
 use Rattle.cmr_base.specs.declared.line_set.LineSet.{LineSet}
 use Rattle.cmr_base.specs.Matrix.{Matrix, IsMatrix}
 use Rattle.cmr_base.proofs.Lists.{all-append, all_front, all_back}
-use Rattle.tree_type.specs.Trees.{Finding, Tree, Trees, Branch, NoTrees, MoreTrees, lines_of}
+use Rattle.tree_type.specs.Trees.{Finding, Tree, Trees, Branch, NoTrees, MoreTrees, lines_at_root}
 use Rattle.tree_type.specs.Invariant.{AreLines, IsTreeWithin, AreTreesWithin}
 use Rattle.tree_type.specs.Places.{Due, MadePivot, Place, matrix_after, places_from, places_below, due_child, lines_of_each}
 use Rattle.tree_type.specs.Soundness.{HasItsSizes, HasItsLines, Demands, KeepsAll}
@@ -17,7 +17,7 @@ use Rattle.decomp_tree.proofs.YesTrees.{MayBelow, AllMayBelow, may_stand, may_ch
 use Rattle.decomp_tree.proofs.PivotNodes.{IsSoundBelow}
 
 module _ (limit : ℕ) (few : limit ≤ 24) (m : Matrix) (pivots : List MadePivot) (is : IsMatrix (matrix_after m pivots)) (Stands : LineSet → Tree → Type 0)
-    (on_lines : (lines : LineSet) (tree : Tree) → Stands lines tree → lines_of tree ≡ lines)
+    (on_lines : (lines : LineSet) (tree : Tree) → Stands lines tree → lines_at_root tree ≡ lines)
     (sound : (lines : LineSet) (tree : Tree) → Stands lines tree → AreLines (matrix_after m pivots) lines → MayBelow pivots tree → IsSoundBelow m pivots tree) where
   abbrev after : Matrix
   after = matrix_after m pivots

@@ -1,7 +1,7 @@
 -- Trees in which others stand in the places of undecided nodes: by their nodes, their lines and their counts.
 use Rattle.std.proofs.Common.{◌≡◌, ◌∙◌, ◌++◌, suc, false, List, [], ◌∷◌, refl, ap, ap₂, subst}
 use Rattle.cmr_base.specs.declared.line_set.LineSet.{LineSet}
-use Rattle.tree_type.specs.Trees.{Finding, Empty, Cycle, Reduced, OneSum, Network, Conetwork, R10, TwoSum, ThreeSum, Enumerated, Violator, Undecided, Pivoted, Tree, Trees, Branch, NoTrees, MoreTrees, trees_from, count_trees, lines_of}
+use Rattle.tree_type.specs.Trees.{Finding, Empty, Cycle, Reduced, OneSum, Network, Conetwork, R10, TwoSum, ThreeSum, Enumerated, Violator, Undecided, Pivoted, Tree, Trees, Branch, NoTrees, MoreTrees, trees_from, count_trees, lines_at_root}
 use Rattle.tree_type.specs.Places.{lines_of_each}
 use Rattle.decomp_tree.specs.Refined.{is_undecided, Refines, AllRefine}
 
@@ -55,13 +55,13 @@ module _ (Stands : LineSet → Tree → Type 0) where
   count_refined NoTrees below e = ap count_trees e
   count_refined (MoreTrees tree trees) below (first, rest, e, r, all) = ap count_trees e ∙ ap suc (count_refined trees rest all)
 
-  module _ (on_lines : (lines : LineSet) (tree : Tree) → Stands lines tree → lines_of tree ≡ lines) where
-    pub refined_lines : (shape tree : Tree) → Refines Stands shape tree → lines_of tree ≡ lines_of shape
+  module _ (on_lines : (lines : LineSet) (tree : Tree) → Stands lines tree → lines_at_root tree ≡ lines) where
+    pub refined_lines : (shape tree : Tree) → Refines Stands shape tree → lines_at_root tree ≡ lines_at_root shape
     refined_lines (Branch lines finding trees) tree r = go (refined_node lines finding trees tree r)
       where
-        go : RefinedNode Stands lines finding trees tree → lines_of tree ≡ lines
+        go : RefinedNode Stands lines finding trees tree → lines_at_root tree ≡ lines
         go (replaced e stands) = on_lines lines tree stands
-        go (kept e below is all) = ap lines_of is
+        go (kept e below is all) = ap lines_at_root is
 
     pub refined_lines_each : (trees below : Trees) → AllRefine Stands trees below → lines_of_each below ≡ lines_of_each trees
     refined_lines_each NoTrees below e = ap lines_of_each e

@@ -28,7 +28,7 @@ use Rattle.cmr_base.proofs.Parts.{height-transposed, length-rising}
 use Rattle.cmr_base.proofs.ListedLines.{has_line_from_listed, listed_from_has_line}
 use Rattle.sp_reduce.specs.Digests.{HasNoReducibleLine}
 use Rattle.tree_type.specs.Trees.{Empty, Cycle, Reduced, OneSum, Network, Conetwork, R10, Enumerated, Violator, Undecided}
-use Rattle.tree_type.specs.Invariant.{AreLines, AreLinesOf, HasSizes, size_of}
+use Rattle.tree_type.specs.Invariant.{AreLines, AreLinesOf, HasArcsAndWalks, size_of}
 use Rattle.tree_type.specs.Places.{lines_left}
 use Rattle.tree_type.specs.Soundness.{part}
 use Rattle.decomp_tree.specs.Shapes.{Case, HasNoLines, HasFault, IsReducible, IsApart, IsNetwork, IsConetwork, IsR10Matrix, IsTwoSum, IsThreeSum, IsShort, IsLeft, case_number, Applies, IsFirstCase, numbered, numbered_line, set_in}
@@ -179,7 +179,7 @@ module _ (limit : ℕ) (m : Matrix) (is : IsMatrix m) (lines : LineSet) (are : A
   pub seen_fault : (fault : LineSet) → IsNamedFault m lines fault → IsSaid limit m lines (Cycle fault) []
   seen_fault fault (found, says, named) = subst (λ some. IsSaid limit m lines (Cycle some) []) (sym named) (seen_cycle found says)
 
-  sizes : (n : net.Network) (arcs walks : ℕ) → IsNetworkOf n arcs walks → HasSizes arcs walks n
+  sizes : (n : net.Network) (arcs walks : ℕ) → IsNetworkOf n arcs walks → HasArcsAndWalks arcs walks n
   sizes n arcs walks network = record {
     arc_count = network.tree.count;
     walk_count = network.count;
@@ -201,7 +201,7 @@ module _ (limit : ℕ) (m : Matrix) (is : IsMatrix m) (lines : LineSet) (are : A
     due = tt;
     count = refl;
     fewer = tt;
-    fits = λ trees e. subst (λ k. HasSizes k (length lines.columns) n) (height_in m lines) (sizes n (height (part m lines)) (length lines.columns) says.network);
+    fits = λ trees e. subst (λ k. HasArcsAndWalks k (length lines.columns) n) (height_in m lines) (sizes n (height (part m lines)) (length lines.columns) says.network);
   }
 
   pub seen_conetwork : (n : net.Network) → HasNoneBefore limit (part m lines) 6 → Reproduces n (transposed (part m lines)) → IsSaid limit m lines (Conetwork n) []
@@ -218,7 +218,7 @@ module _ (limit : ℕ) (m : Matrix) (is : IsMatrix m) (lines : LineSet) (are : A
     due = tt;
     count = refl;
     fewer = tt;
-    fits = λ trees e. subst (λ k. HasSizes (length lines.columns) k n) (height_in m lines) (subst (λ k. HasSizes k (height (part m lines)) n) (height-transposed (part m lines)) (sizes n (height (transposed (part m lines))) (height (part m lines)) says.network));
+    fits = λ trees e. subst (λ k. HasArcsAndWalks (length lines.columns) k n) (height_in m lines) (subst (λ k. HasArcsAndWalks k (height (part m lines)) n) (height-transposed (part m lines)) (sizes n (height (transposed (part m lines))) (height (part m lines)) says.network));
   }
 
   pub seen_r10 : HasNoneBefore limit (part m lines) 7 → HasNoCycleFault (entry (part m lines)) → IsR10 (part m lines) → IsSaid limit m lines R10 []

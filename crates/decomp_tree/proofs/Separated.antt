@@ -24,7 +24,7 @@ use Rattle.cmr_base.proofs.Submatrices.{increasing_places}
 use Rattle.cmr_base.proofs.Places.{rising_same}
 use Rattle.camion_sign.proofs.FullSquares.{full_squares}
 use Rattle.tree_type.specs.Invariant.{AreLines}
-use Rattle.tree_type.specs.Sides.{is_among, inside, outside, sides, HaveLines, IsReference, AreTwoBlocks, HasConnector, AreConnectors, HasCornerSign, AreThreeBlocks}
+use Rattle.tree_type.specs.Sides.{is_among, inside, outside, sides, HaveLines, IsReference, AreTwoBlocks, HasConnector, AreConnectorsOfSides, HasCornerSign, AreThreeBlocks}
 use Rattle.tree_type.specs.Soundness.{part}
 use Rattle.decomp_tree.specs.Shapes.{numbered, set_in, connector_in, three_in}
 use Rattle.decomp_tree.proofs.Numbered.{entry_in, height_in, among_named, from_inside, from_outside, to_inside, to_outside, counted_all}
@@ -323,7 +323,7 @@ module _ (m : Matrix) (lines : LineSet) (are : AreLines m lines) (t : Three) (S 
   pub three_corner : HasNoCycleFault (entry (part m lines)) → IsMatrix (part m lines) → HasCornerSign (entry m) (three_in lines t)
   three_corner = corner_in m lines are S t.form t.first t.second separated.one separated.two separated.connectors
 
-  pub three_connectors : AreConnectors (entry m) (sides lines (three_in lines t).side) (three_in lines t)
+  pub three_connectors : AreConnectorsOfSides (entry m) (sides lines (three_in lines t).side) (three_in lines t)
   three_connectors = record {
     first = subst (λ s. HasConnector (first_is_flat t.form) (inside s.rows lines.rows) (inside s.columns lines.columns) (connector_in (first_is_flat t.form) lines t.first)) (sym side_is) (connector_one m lines are S (first_is_flat t.form) t.first separated.one);
     second = subst (λ s. HasConnector (second_is_flat t.form) (outside s.rows lines.rows) (outside s.columns lines.columns) (connector_in (second_is_flat t.form) lines t.second)) (sym side_is) (connector_two m lines are S (second_is_flat t.form) t.second separated.two);

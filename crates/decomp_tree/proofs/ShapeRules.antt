@@ -17,7 +17,7 @@ use Rattle.cmr_base.specs.Reductions.{HasLine, line_reason, lines_of, first_step
 use Rattle.cmr_base.specs.Separations.{listed, IsTwoSeparation, IsThreeSeparation}
 use Rattle.two_sep.specs.FirstSeeds.{IsFirstTwoSeparation}
 use Rattle.three_sep.specs.ThreeSeparations.{IsFirstThreeSeparation}
-use Rattle.tree_type.specs.Sides.{sides, HaveLines, IsReference, AreTwoBlocks, AreConnectors, HasCornerSign, AreThreeBlocks}
+use Rattle.tree_type.specs.Sides.{sides, HaveLines, IsReference, AreTwoBlocks, AreConnectorsOfSides, HasCornerSign, AreThreeBlocks}
 use Rattle.cmr_base.specs.Violator.{IsViolator, IsLeastViolator}
 use Rattle.cmr_base.proofs.ListsWithout.{in_from_contains}
 use Rattle.cmr_base.proofs.RemovedLines.{among_from_has_line, first_lines_increase, first_lines_in}
@@ -30,7 +30,7 @@ use Rattle.tree_type.specs.declared.refusal.Rule.TheVariants as rule
 use Rattle.tree_type.specs.Trees.{Finding, Empty, Cycle, Reduced, OneSum, Network, Conetwork, R10, TwoSum, ThreeSum, Enumerated, Violator, Undecided}
 use Rattle.tree_type.specs.Soundness.{part, AreReductions, AreApart, Demands}
 use Rattle.tree_type.proofs.PlacedLines.{part_is}
-use Rattle.decomp_tree.specs.Shapes.{Case, HasNoLines, HasFault, IsReducible, IsApart, IsNetwork, IsConetwork, IsR10Matrix, IsTwoSum, IsThreeSum, IsShort, IsLeft, case_number, Applies, IsFirstCase, Says, numbered, numbered_line, set_in, two_in, three_in, finding_in, HasParts}
+use Rattle.decomp_tree.specs.Shapes.{Case, HasNoLines, HasFault, IsReducible, IsApart, IsNetwork, IsConetwork, IsR10Matrix, IsTwoSum, IsThreeSum, IsShort, IsLeft, case_number, Applies, IsFirstCase, NodeSays, numbered, numbered_line, set_in, two_in, three_in, finding_in, HasParts}
 use Rattle.decomp_tree.proofs.Numbered.{height_in, violator_in, named_all}
 use Rattle.decomp_tree.proofs.Separated.{side, named_side, two_short, two_reference, two_blocks, three_short, three_connectors, three_corner, three_blocks}
 use Rattle.decomp_tree.proofs.Removed.{removed}
@@ -93,7 +93,7 @@ module _ (limit : ℕ) (few : limit ≤ 24) (m : Matrix) (is : IsMatrix m) (line
   -- the rules of a three-sum
   pub record KeepsThree (t : Three) : Type 0 where
     pub short : HaveLines 4 (sides lines (three_in lines t).side)
-    pub joined : AreConnectors (entry m) (sides lines (three_in lines t).side) (three_in lines t)
+    pub joined : AreConnectorsOfSides (entry m) (sides lines (three_in lines t).side) (three_in lines t)
     pub corner : HasCornerSign (entry m) (three_in lines t)
     pub blocks : AreThreeBlocks (entry m) (sides lines (three_in lines t).side) (three_in lines t)
 
@@ -122,7 +122,7 @@ module _ (limit : ℕ) (few : limit ≤ 24) (m : Matrix) (is : IsMatrix m) (line
   violator_named : (R C : List ℕ) → IsRowSet (part m lines) R → IsColumnSet (part m lines) C → IsViolator (entry (part m lines)) R C → IsViolator (entry m) (map (numbered lines.rows) R) (map (numbered lines.columns) C)
   violator_named R C rows columns v = violator_in m lines R C (low_rows R rows) (low_columns C columns) v
 
-  pub keeps : (case : Case) (found : Finding) (parts children : List LineSet) → IsFirstCase limit (part m lines) case → Says case (part m lines) found parts → HasParts (finding_in lines found) children (map (set_in lines) parts)
+  pub keeps : (case : Case) (found : Finding) (parts children : List LineSet) → IsFirstCase limit (part m lines) case → NodeSays case (part m lines) found parts → HasParts (finding_in lines found) children (map (set_in lines) parts)
       → (broken : Rule) → Demands broken m lines (finding_in lines found) children
   keeps HasNoLines Empty parts children first says has rule.NotEmpty = let a = first.applies.0 in let b = first.applies.1 in omega (arith, a, b, height_in m lines)
   keeps HasNoLines Empty parts children first says has _ = tt

@@ -6,13 +6,13 @@ use Rattle.cmr_base.specs.Matrix.{Matrix, height, IsMatrix}
 use Rattle.cmr_base.proofs.Lists.{all-append, all_front, all_back}
 use Rattle.tree_type.specs.declared.refusal.Rule.{Rule}
 use Rattle.tree_type.specs.declared.refusal.Rule.TheVariants as rule
-use Rattle.tree_type.specs.Trees.{Finding, Empty, Cycle, Reduced, OneSum, Network, Conetwork, R10, TwoSum, ThreeSum, Enumerated, Violator, Undecided, Pivoted, Tree, Trees, Branch, NoTrees, MoreTrees, lines_of}
+use Rattle.tree_type.specs.Trees.{Finding, Empty, Cycle, Reduced, OneSum, Network, Conetwork, R10, TwoSum, ThreeSum, Enumerated, Violator, Undecided, Pivoted, Tree, Trees, Branch, NoTrees, MoreTrees, lines_at_root}
 use Rattle.tree_type.specs.Invariant.{AreLines, IsTreeWithin, AreTreesWithin, IsTreeFor}
 use Rattle.tree_type.specs.Places.{Due, AllLines, MadePivot, Place, matrix_after, places_from, places_below, pivots_below, due_child, lines_of_each}
 use Rattle.tree_type.specs.Soundness.{HasItsSizes, HasItsLines, Demands, MayStand, KeepsAll}
 use Rattle.tree_type.proofs.PlacedLines.{lines_within}
 use Rattle.decomp_tree.specs.Laws.{ShapesAreSound}
-use Rattle.decomp_tree.specs.Shapes.{Case, HasNoLines, HasFault, IsReducible, IsApart, IsNetwork, IsConetwork, IsR10Matrix, IsTwoSum, IsThreeSum, IsShort, IsLeft, Says, finding_in, IsShapedAt, HasParts, set_in}
+use Rattle.decomp_tree.specs.Shapes.{Case, HasNoLines, HasFault, IsReducible, IsApart, IsNetwork, IsConetwork, IsR10Matrix, IsTwoSum, IsThreeSum, IsShort, IsLeft, NodeSays, finding_in, IsShapedAt, HasParts, set_in}
 use Rattle.decomp_tree.proofs.ShapeRules.{keeps}
 
 -- a node that meets what each rule demands keeps all
@@ -91,10 +91,10 @@ module _ (limit : ℕ) (few : limit ≤ 24) (m : Matrix) (is : IsMatrix m) where
         (all_back (IsShapedAt limit m) (places_from (path ++ k ∷ []) pivots (due_child lines finding k) tree) (places_below path pivots lines finding (suc k) trees) shaped))
 
 -- no node of a decomposition makes a pivot
-pub no_pivot : (pivots : List MadePivot) (limit : ℕ) (n : Matrix) (case : Case) (found : Finding) (parts : List LineSet) (lines : LineSet) (finding : Finding) → Says case n found parts → finding ≡ finding_in lines found → pivots_below lines finding pivots ≡ pivots
+pub no_pivot : (pivots : List MadePivot) (limit : ℕ) (n : Matrix) (case : Case) (found : Finding) (parts : List LineSet) (lines : LineSet) (finding : Finding) → NodeSays case n found parts → finding ≡ finding_in lines found → pivots_below lines finding pivots ≡ pivots
 no_pivot pivots limit n case found parts lines finding says e = subst (λ f. pivots_below lines f pivots ≡ pivots) (sym e) (go case found says)
   where
-    go : (case : Case) (found : Finding) → Says case n found parts → pivots_below lines (finding_in lines found) pivots ≡ pivots
+    go : (case : Case) (found : Finding) → NodeSays case n found parts → pivots_below lines (finding_in lines found) pivots ≡ pivots
     go case Empty says = refl
     go case (Cycle fault) says = refl
     go case (Reduced steps) says = refl
@@ -119,7 +119,7 @@ no_pivot pivots limit n case found parts lines finding says e = subst (λ f. piv
     go IsShort (Pivoted place) says = absurd says
     go IsLeft (Pivoted place) says = absurd says
 
-pub root_lines : (m : Matrix) (tree : Tree) → IsTreeFor (height m) m.width tree → AreLines m (lines_of tree)
+pub root_lines : (m : Matrix) (tree : Tree) → IsTreeFor (height m) m.width tree → AreLines m (lines_at_root tree)
 root_lines m (Branch lines finding trees) within = record {
   rows = record { rising = within.nodes.1.rows_rise; in_range = within.root_rows };
   columns = record { rising = within.nodes.1.columns_rise; in_range = within.root_columns };
@@ -127,4 +127,4 @@ root_lines m (Branch lines finding trees) within = record {
 
 pub shapes_are_sound : ShapesAreSound
 shapes_are_sound limit few m is tree within shaped =
-    sound_tree limit few m is [] [] (AllLines (height m) m.width) (lines_of tree) 2001 tree (root_lines m tree within) (refl, refl) within.nodes shaped
+    sound_tree limit few m is [] [] (AllLines (height m) m.width) (lines_at_root tree) 2001 tree (root_lines m tree within) (refl, refl) within.nodes shaped

@@ -6,7 +6,7 @@ use Rattle.cmr_base.specs.Matrix.{Matrix, height}
 use Rattle.cmr_base.specs.LineSets.{IsRowSet, IsColumnSet, first_lines}
 use Rattle.ghouila.specs.PivotLaws.{AreLinesBefore}
 use Rattle.pivots.specs.declared.drawn.DrawnPlace.{DrawnPlace}
-use Rattle.pivots.specs.declared.place.PivotPlace.{PivotPlace}
+use Rattle.pivots.specs.declared.place.PlacedPivot.{PlacedPivot}
 use Rattle.pivots.specs.DrawnPlaces.{drawn_place}
 use Rattle.pivots.specs.PivotedParts.{pivoted_part, AreAmong, IsTernaryPivot, ShowsFirstTwoIn}
 use Rattle.tree_type.specs.Trees.{Tree, Branch, NoTrees, Undecided, Violator, Pivoted, one_tree}
@@ -18,19 +18,19 @@ abbrev pub undecided : LineSet → Tree
 undecided lines = Branch lines Undecided NoTrees
 
 -- The pivot of the submatrix has a 2 or a -2: the node names the two rows and the two columns that show it.
-abbrev pub ShowsTwoAfterPivot : Matrix → LineSet → PivotPlace → Tree → Type 0
+abbrev pub ShowsTwoAfterPivot : Matrix → LineSet → PlacedPivot → Tree → Type 0
 ShowsTwoAfterPivot m lines place tree =
     (fault : LineSet) × ShowsFirstTwoIn m lines place fault.rows fault.columns × (tree ≡ Branch lines (Violator fault) NoTrees)
 
 -- lines of the matrix that are those of a fault before the pivot
-pub record AreBefore (m : Matrix) (place : PivotPlace) (fault before : LineSet) : Type 0 where
+pub record AreBefore (m : Matrix) (place : PlacedPivot) (fault before : LineSet) : Type 0 where
   pub row_set : IsRowSet m before.rows
   pub column_set : IsColumnSet m before.columns
   pub lines : AreLinesBefore m place.row place.column fault.rows fault.columns before.rows before.columns
 
 -- What the tree of the submatrix after a pivot says, told of the submatrix: a yes by a pivoted node above that tree, a no by
 -- its fault taken back to the lines before the pivot, and nothing where it is undecided.
-abbrev pub IsToldBeforePivot : Matrix → LineSet → PivotPlace → Tree → Verdict → Tree → Type 0
+abbrev pub IsToldBeforePivot : Matrix → LineSet → PlacedPivot → Tree → Verdict → Tree → Type 0
 IsToldBeforePivot m lines place after Yes tree = tree ≡ Branch lines (Pivoted place) (one_tree after)
 IsToldBeforePivot m lines place after (No fault) tree =
     (before : LineSet) × AreBefore m place fault before × (tree ≡ Branch lines (Violator before) NoTrees)

@@ -10,12 +10,12 @@ use Rattle.cmr_base.specs.LineSets.{AllBelow}
 use Rattle.cmr_base.specs.CyclePlaces.{HasNoCycleFault, IsCycleFault}
 use Rattle.cmr_base.specs.Violator.{IsViolator}
 use Rattle.tree_type.specs.Findings.{finding_shown}
-use Rattle.tree_type.specs.Trees.{Finding, Cycle, Reduced, OneSum, Network, Conetwork, TwoSum, Violator, Undecided, Tree, Trees, Branch, NoTrees, MoreTrees, count_trees, lines_of}
-use Rattle.tree_type.specs.Invariant.{AreLinesOf, size_of, Fits, HasChildren, IsTreeWithin}
+use Rattle.tree_type.specs.Trees.{Finding, Cycle, Reduced, OneSum, Network, Conetwork, TwoSum, Violator, Undecided, Tree, Trees, Branch, NoTrees, MoreTrees, count_trees, lines_at_root}
+use Rattle.tree_type.specs.Invariant.{AreLinesOf, size_of, FitsLines, HasChildren, IsTreeWithin}
 use Rattle.tree_type.specs.Places.{Due, due_child, places_from}
 use Rattle.tree_type.specs.Soundness.{part, HasItsLines}
 use Rattle.decomp_tree.specs.declared.seen.Seen.{Seen}
-use Rattle.decomp_tree.specs.Shapes.{Case, HasFault, case_number, Applies, Says, finding_in, set_in, HasParts, IsShapedAt}
+use Rattle.decomp_tree.specs.Shapes.{Case, HasFault, case_number, Applies, NodeSays, finding_in, set_in, HasParts, IsShapedAt}
 
 -- Places of some lines: the lines of the submatrix on them.
 
@@ -83,13 +83,13 @@ pub record IsSaid (limit : ℕ) (m : Matrix) (lines : LineSet) (finding : Findin
   pub searched : is_unsearched finding ≡ false → case_number HasFault < case_number case → HasNoCycleFault (entry (part m lines))
   pub found : Finding
   pub parts : List LineSet
-  pub says : Says case (part m lines) found parts
+  pub says : NodeSays case (part m lines) found parts
   pub finding_is : finding ≡ finding_in lines found
   pub parts_are : HasParts finding children (map (set_in lines) parts)
   pub due : AreDue lines finding 0 children
   pub count : HasChildren finding (length children)
   pub fewer : AllByRecursion (AreFewer lines) children
-  pub fits : (trees : Trees) → count_trees trees ≡ length children → Fits lines finding trees
+  pub fits : (trees : Trees) → count_trees trees ≡ length children → FitsLines lines finding trees
 
 -- what is seen of these lines
 abbrev pub IsSeen : ℕ → Matrix → LineSet → Seen → Type 0
@@ -102,11 +102,11 @@ abbrev mutual
 
   pub AreFalling : LineSet → Trees → Type 0
   AreFalling lines NoTrees = Unit {0}
-  AreFalling lines (MoreTrees tree trees) = AreFewer lines (lines_of tree) × IsFalling tree × AreFalling lines trees
+  AreFalling lines (MoreTrees tree trees) = AreFewer lines (lines_at_root tree) × IsFalling tree × AreFalling lines trees
 
 -- the tree is the shape of the submatrix on these lines, with at most as many levels as lines and one more
 pub record IsDrawn (limit : ℕ) (m : Matrix) (lines : LineSet) (tree : Tree) : Type 0 where
-  pub lines_are : lines_of tree ≡ lines
+  pub lines_are : lines_at_root tree ≡ lines
   pub shaped : (path : List ℕ) (due : Due) → HasItsLines due lines → AllByRecursion (IsShapedAt limit m) (places_from path [] due tree)
   pub within : (parent : LineSet) (levels : ℕ) → AreLinesOf lines parent → size_of lines < levels → IsTreeWithin parent levels tree
   pub falling : IsFalling tree

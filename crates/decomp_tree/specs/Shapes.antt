@@ -72,20 +72,20 @@ pub record IsFirstCase (limit : ℕ) (m : Matrix) (case : Case) : Type 0 where
   pub first : (earlier : Case) → case_number earlier < case_number case → ¬ (Applies limit m earlier)
 
 -- What a node says of a matrix in a case. The parts are those of a one-sum.
-abbrev pub Says : Case → Matrix → Finding → List LineSet → Type 0
-Says HasNoLines m Empty parts = Unit {0}
-Says HasFault m (Cycle fault) parts = IsCycleFault m fault.rows fault.columns
-Says IsReducible m (Reduced steps) parts = steps ≡ map (λ step. step.line) (removal false m).steps
-Says IsApart m OneSum parts = AreComponents m parts × (2 ≤ length parts)
-Says IsNetwork m (Network net) parts = Reproduces net m
-Says IsConetwork m (Conetwork net) parts = Reproduces net (transposed m)
-Says IsR10Matrix m R10 parts = Unit {0}
-Says IsTwoSum m (TwoSum two) parts = IsFirstTwoSeparation m two
-Says IsThreeSum m (ThreeSum three) parts = IsFirstThreeSeparation m three
-Says IsShort m (Violator fault) parts = IsLeastViolator m fault.rows fault.columns
-Says IsShort m Enumerated parts = HasNoViolator m
-Says IsLeft m Undecided parts = Unit {0}
-Says case m finding parts = ⊥
+abbrev pub NodeSays : Case → Matrix → Finding → List LineSet → Type 0
+NodeSays HasNoLines m Empty parts = Unit {0}
+NodeSays HasFault m (Cycle fault) parts = IsCycleFault m fault.rows fault.columns
+NodeSays IsReducible m (Reduced steps) parts = steps ≡ map (λ step. step.line) (removal false m).steps
+NodeSays IsApart m OneSum parts = AreComponents m parts × (2 ≤ length parts)
+NodeSays IsNetwork m (Network net) parts = Reproduces net m
+NodeSays IsConetwork m (Conetwork net) parts = Reproduces net (transposed m)
+NodeSays IsR10Matrix m R10 parts = Unit {0}
+NodeSays IsTwoSum m (TwoSum two) parts = IsFirstTwoSeparation m two
+NodeSays IsThreeSum m (ThreeSum three) parts = IsFirstThreeSeparation m three
+NodeSays IsShort m (Violator fault) parts = IsLeastViolator m fault.rows fault.columns
+NodeSays IsShort m Enumerated parts = HasNoViolator m
+NodeSays IsLeft m Undecided parts = Unit {0}
+NodeSays case m finding parts = ⊥
 
 -- Lines of a submatrix by their numbers in the whole matrix, where it has these lines.
 
@@ -135,7 +135,7 @@ pub record IsShapedAt (limit : ℕ) (m : Matrix) (place : Place) : Type 0 where
   pub first : IsFirstCase limit (part m place.lines) case
   pub found : Finding
   pub parts : List LineSet
-  pub says : Says case (part m place.lines) found parts
+  pub says : NodeSays case (part m place.lines) found parts
   pub finding : place.finding ≡ finding_in place.lines found
   pub children : HasParts place.finding place.children (map (set_in place.lines) parts)
 

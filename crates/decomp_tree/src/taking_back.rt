@@ -8,7 +8,7 @@ ghost use Rattle.tree_type.specs.Verdicts.{verdict_of};
 ghost use Rattle.decomp_tree.specs.PivotedShapes.{IsToldBeforePivot, HasFaultAmong};
 
 use cmr_base::{LineSet, Matrix, Memory};
-use pivots::{PivotPlace, violator_before_part};
+use pivots::{PlacedPivot, violator_before_part};
 use std::alloc::Global;
 use tree_type::{Finding, Node, VerdictOf, copy_of, join_node, verdict_at};
 
@@ -18,7 +18,7 @@ pub fn taken_back(
     alloc: Global,
     matrix: &Matrix,
     lines: &LineSet,
-    place: PivotPlace,
+    place: PlacedPivot,
     after: Node,
 ) -> Result<Node, Memory>
     requires lines { AreLines matrix.now lines.now }
@@ -36,7 +36,7 @@ pub fn taken_back(
 }
 
 // The pivoted node above a tree.
-fn above(alloc: Global, lines: &LineSet, place: PivotPlace, after: Node) -> Result<Node, Memory>
+fn above(alloc: Global, lines: &LineSet, place: PlacedPivot, after: Node) -> Result<Node, Memory>
     ensures { IfOk result (λ node. tree_of node
         ≡ Branch lines.now (Pivoted place) (one_tree (tree_of after))) }
 {

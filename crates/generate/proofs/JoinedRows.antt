@@ -12,7 +12,7 @@ use Rattle.cmr_base.specs.Separations.{zeros}
 use Rattle.cmr_base.proofs.FilledMatrices.{height-filled}
 use Rattle.cmr_base.proofs.SmallEntries.{entry_at, negative_is_entry}
 use Rattle.generate.specs.Generated.{circulant, circulant_sum, negated_rows}
-use Rattle.generate.specs.Signs.{sign_of}
+use Rattle.generate.specs.Signs.{drawn_sign}
 
 -- the rows, one after another
 abbrev pub joined : List (List ℤ) → List ℤ
@@ -108,7 +108,7 @@ one_more s row k old cells new value h so_far e pushed =
 pub all_taken : (s : ℤ) (row : List ℤ) (k : ℕ) (old cells : List ℤ) → length row ≤ k → cells ≡ old ++ times s (take k row) → cells ≡ old ++ times s row
 all_taken s row k old cells h so_far = so_far ∙ ap (λ (xs : List ℤ). old ++ times s xs) (take_all k row h)
 
-sign_times : (n : ℕ) (row : List ℤ) → times (sign_of n) row ≡ (if n == 1 then map neg_ℤ row else row)
+sign_times : (n : ℕ) (row : List ℤ) → times (drawn_sign n) row ≡ (if n == 1 then map neg_ℤ row else row)
 sign_times n row = go (n == 1)
   where
     go : (b : Bool) → times (if b then negsuc 0 else pos 1) row ≡ (if b then map neg_ℤ row else row)
@@ -117,9 +117,9 @@ sign_times n row = go (n == 1)
 
 pub negated_row : (rows : List (List ℤ)) (signs : List ℕ) (i : ℕ) (old cells : List ℤ) → i < length rows → length signs ≡ length rows
     → cells ++ joined (negated_rows (drop i rows) (drop i signs)) ≡ old
-    → (cells ++ times (sign_of (get_or signs i 0)) (get_or rows i [])) ++ joined (negated_rows (drop (i + 1) rows) (drop (i + 1) signs)) ≡ old
+    → (cells ++ times (drawn_sign (get_or signs i 0)) (get_or rows i [])) ++ joined (negated_rows (drop (i + 1) rows) (drop (i + 1) signs)) ≡ old
 negated_row rows signs i old cells h e before =
-    append_assoc cells (times (sign_of (get_or signs i 0)) (get_or rows i [])) (joined (negated_rows (drop (i + 1) rows) (drop (i + 1) signs)))
+    append_assoc cells (times (drawn_sign (get_or signs i 0)) (get_or rows i [])) (joined (negated_rows (drop (i + 1) rows) (drop (i + 1) signs)))
     ∙ ap (λ (row : List ℤ). cells ++ (row ++ joined (negated_rows (drop (i + 1) rows) (drop (i + 1) signs)))) (sign_times (get_or signs i 0) (get_or rows i []))
     ∙ ap₂ (λ (rs : List (List ℤ)) (ss : List ℕ). cells ++ joined (negated_rows rs ss)) (sym (drop_more rows i [] h)) (sym (drop_more signs i 0 (omega (arith, h, e))))
     ∙ before

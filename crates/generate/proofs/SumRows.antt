@@ -190,18 +190,18 @@ pub record IsGrowing (old cells : List ℤ) (count row : ℕ) (last : ℤ) : Typ
 
 pub grown_on : (old cells new : List ℤ) (count row : ℕ) (last next : ℤ) → 1 ≤ count → row < 4 * count + 1 → IsGrowing old cells count row last → new ≡ cells ++ growth last → next ≡ neg_ℤ last
     → IsGrowing old new (count + 1) row next
-grown_on old cells new count row last next some inside before pushed turned =
+grown_on old cells new count row last next some inside before pushed is_negated =
     let m = circulant_sum count in
     let is = is_row_of_sum count row some inside in
     let more = row_more count row some is.long inside in
     let e : 4 * (count + 1) - (4 * count + 1) ≡ 3 = omega arith in
     record {
       row_is = pushed ∙ ap₂ (λ (xs : List ℤ) (x : ℤ). xs ++ growth x) before.row_is before.last_is ∙ append_assoc old (row_of m row) (growth (entry m row (4 * count))) ∙ ap (λ (xs : List ℤ). old ++ xs) (sym more);
-      last_is = turned ∙ ap neg_ℤ before.last_is
+      last_is = is_negated ∙ ap neg_ℤ before.last_is
           ∙ sym (ap (λ (xs : List ℤ). get_or xs (4 * (count + 1)) (pos 0)) more
           ∙ get_or-append_right (row_of m row) (growth (entry m row (4 * count))) (4 * count + 1) (4 * (count + 1)) (pos 0) is.long (omega arith)
           ∙ ap (λ (k : ℕ). get_or (growth (entry m row (4 * count))) k (pos 0)) e);
-      small = subst IsEntry (sym turned) (negative_is_entry last before.small);
+      small = subst IsEntry (sym is_negated) (negative_is_entry last before.small);
     }
 
 -- the row as the circulant brings it, behind so many others
@@ -237,8 +237,8 @@ pub brought_by_one : (d row size : ℕ) → d ≡ row - 1 → row < 4 * size + 1
 brought_by_one d row size e h some = let f = div-add-mod' d 4 in omega (arith, e, f, h, some)
 
 -- a byte that changes its sign
-pub turned_byte : (x : ℤ) → IsEntry x → to_z w8 (of_z w8 (pos 0 -ℤ x)) ≡ neg_ℤ x
-turned_byte x small = let e : neg_ℤ x ≡ pos 0 -ℤ x = omega (arith, ints) in entry_as_byte (pos 0 -ℤ x) (subst IsEntry e (negative_is_entry x small)) ∙ sym e
+pub negated_byte : (x : ℤ) → IsEntry x → to_z w8 (of_z w8 (pos 0 -ℤ x)) ≡ neg_ℤ x
+negated_byte x small = let e : neg_ℤ x ≡ pos 0 -ℤ x = omega (arith, ints) in entry_as_byte (pos 0 -ℤ x) (subst IsEntry e (negative_is_entry x small)) ∙ sym e
 
 -- ---- all rows
 

@@ -1,7 +1,7 @@
 // Two-sums of R10 matrices, with some rows negated.
 ghost use Rattle.std.specs.Prelude.{◌≡◌, ◌≤◌, ◌<◌, ◌+◌, ◌-◌, ◌*◌, ◌^◌, ◌*ℤ◌, ◌++◌, ◌==◌, if◌then◌else◌, neg_ℤ, ℕ, pos, length, map, take, replicate, slice_index_or, IfOk, OnOk, true, Bool, cond};
 ghost use Rattle.cmr_base.specs.Matrix.{height, row_of, IsEntry};
-ghost use Rattle.generate.specs.Signs.{sign_of};
+ghost use Rattle.generate.specs.Signs.{drawn_sign};
 ghost use Rattle.generate.specs.Generated.{circulant, circulant_sum, negated_rows, generated_sum};
 
 use crate::draws::draw;
@@ -102,7 +102,7 @@ fn negated(alloc: Global, matrix: &Matrix, signs: &[u32]) -> Result<Matrix, Memo
 }
 
 fn sign(number: u32) -> i8
-    ensures value { result ≡ sign_of number }
+    ensures value { result ≡ drawn_sign number }
     ensures small { IsEntry result }
 {
     if number == 1 { -1 } else { 1 }

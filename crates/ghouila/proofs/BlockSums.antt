@@ -1,7 +1,7 @@
 -- The sum of two matrices free of violators is free.
 use Rattle.std.proofs.Common.{ℕ, suc, ◌+◌, ◌-◌, ◌<◌, ◌≤◌, ℤ, pos, Bool, true, false, nat_lt, ◌*ℤ◌, ◌∙◌, refl, arith, inl, inr}
 use Rattle.cmr_base.specs.Signing.{IsSign}
-use Rattle.cmr_base.specs.MatrixSums.{four_blocks, sum_along, connecting_rows, connecting_columns, EndsIn, BeginsWith}
+use Rattle.cmr_base.specs.MatrixSums.{four_blocks, sum_along, connecting_rows, connecting_columns, EndsIn, BeginsWithConnector}
 use Rattle.ghouila.proofs.ViolatedLines.{FreeIn}
 use Rattle.ghouila.proofs.ParityBits.{when}
 use Rattle.ghouila.proofs.BlockViolators.{Blocks}
@@ -58,7 +58,7 @@ one_more m k = omega arith
 two_more : (m : ℕ) → m + 1 < m + 2
 two_more m = omega arith
 
-module _ (flat1 flat2 : Bool) (e : ℤ) (m n u v : ℕ) (first second : ℕ → ℕ → ℤ) (unit : IsSign e) (one : EndsIn flat1 e m n first) (two : BeginsWith flat2 e u v second) where
+module _ (flat1 flat2 : Bool) (e : ℤ) (m n u v : ℕ) (first second : ℕ → ℕ → ℤ) (unit : IsSign e) (one : EndsIn flat1 e m n first) (two : BeginsWithConnector flat2 e u v second) where
   edge1 : (s t w : Bool) → Edge first (λ r. r < m + connecting_rows flat1) (λ c. c < n + connecting_columns flat1) (λ r. r < m) (λ c. c < n) (λ r. first r n) (λ c. first m c) (when w e) s t
   edge1 s t w = go flat1 w one
     where
@@ -119,7 +119,7 @@ module _ (flat1 flat2 : Bool) (e : ℤ) (m n u v : ℕ) (first second : ℕ → 
   edge2 : (s t w : Bool) → Edge second (λ r. r < connecting_rows flat2 + u) (λ c. c < connecting_columns flat2 + v) (λ r. (connecting_rows flat2 ≤ r) × (r < connecting_rows flat2 + u)) (λ c. (connecting_columns flat2 ≤ c) × (c < connecting_columns flat2 + v)) (λ r. second r 0) (λ c. second 0 c) (when w e) s t
   edge2 s t w = go flat2 w two
     where
-      go : (f w : Bool) → BeginsWith f e u v second → Edge second (λ r. r < connecting_rows f + u) (λ c. c < connecting_columns f + v) (λ r. (connecting_rows f ≤ r) × (r < connecting_rows f + u)) (λ c. (connecting_columns f ≤ c) × (c < connecting_columns f + v)) (λ r. second r 0) (λ c. second 0 c) (when w e) s t
+      go : (f w : Bool) → BeginsWithConnector f e u v second → Edge second (λ r. r < connecting_rows f + u) (λ c. c < connecting_columns f + v) (λ r. (connecting_rows f ≤ r) × (r < connecting_rows f + u)) (λ c. (connecting_columns f ≤ c) × (c < connecting_columns f + v)) (λ r. second r 0) (λ c. second 0 c) (when w e) s t
       go true true h = record {
         row = 0;
         column = 0;

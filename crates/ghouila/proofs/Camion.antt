@@ -13,11 +13,12 @@ use Rattle.cmr_base.proofs.Lists.{IsJoined, one_more_first, all_without}
 use Rattle.cmr_base.proofs.RisingLists.{IsSplitAt, split_at, odd_times, all-odd_times, rises-odd_times}
 use Rattle.cmr_base.proofs.ViolatorLemmas.{violator-odd_times}
 use Rattle.ghouila.specs.Pivot.{reduced, pivoted, IsTernaryRow}
-use Rattle.ghouila.specs.Found.{HasParity, bit}
+use Rattle.ghouila.specs.Found.{HasParity}
 use Rattle.ghouila.proofs.PivotSums.{pivoted_at, pivoted_apart}
 use Rattle.ghouila.proofs.PivotBack.{violator_after, violator_before}
 use Rattle.ghouila.proofs.SignedSums.{signed, entry_zero, zero_or_sign, pivot_sign, pivot_column_vanishes, column_keeps_sum, aside_entry}
 use Rattle.ghouila.proofs.Square.{small_or_square, square_violator}
+use Rattle.cmr_base.specs.Cuts.{bit}
 
 -- a signing of these rows, as pairs of a row and its sign
 pub record SignsPairs (width : ℕ) (M : ℕ → ℕ → ℤ) (R : List ℕ) : Type 0 where

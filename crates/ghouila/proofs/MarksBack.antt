@@ -18,12 +18,13 @@ use Rattle.cmr_base.proofs.Lists.{IsJoined, all_weaker, all_contained, contains_
 use Rattle.cmr_base.proofs.RisingLists.{rising_below, rising_increases}
 use Rattle.cmr_base.proofs.ViolatorLemmas.{violator_same}
 use Rattle.ghouila.specs.Pivot.{IsOutside, pivoted, PivotsRows}
-use Rattle.ghouila.specs.Found.{HasParity, marked, bit, MarksViolator, MarksAnew}
+use Rattle.ghouila.specs.Found.{HasParity, marked, MarksViolator, MarksAnew}
 use Rattle.ghouila.proofs.PivotSums.{sum_over_column, sum_over_pivot_column}
 use Rattle.ghouila.proofs.PivotBack.{IsViolatorAfter, violator_after, violator_before, sign_and_odd}
 use Rattle.ghouila.specs.SignRuns.{IsTakenBack}
 use Rattle.ghouila.proofs.MarkedMembers.{iff_then, in_set_same, in_set_other}
 use Rattle.ghouila.proofs.Marks.{joined, all_marked, marked_rises, unmarked_apart, set_unmarked, set_same_mark}
+use Rattle.cmr_base.specs.Cuts.{bit}
 
 -- among more rows
 pub marks_among_more : (m : Matrix) (rows more : List ℕ) (row_marks column_marks odd : List Bool) → ((row : ℕ) → Contains rows row → Contains more row) → MarksViolator m rows row_marks column_marks odd → MarksViolator m more row_marks column_marks odd

@@ -8,12 +8,12 @@ use Rattle.cmr_base.specs.Signing.{IsSign, signed_sum, IsSigning}
 use Rattle.cmr_base.specs.Sums.{sum_over}
 use Rattle.cmr_base.proofs.Lists.{all-map}
 use Rattle.cmr_base.proofs.RisingLists.{rising_row_set, rising_column_set}
-use Rattle.ghouila.specs.declared.by_pivots.Outcome.{Outcome}
-use Rattle.ghouila.specs.declared.by_pivots.Outcome.TheVariants.{Signed, Violated}
-use Rattle.ghouila.specs.declared.by_pivots.Signing.{Signing}
-use Rattle.ghouila.specs.declared.by_pivots.Signing.TheVariants as signings
+use Rattle.ghouila.specs.declared.by_pivots.MarkedSigning.{MarkedSigning}
+use Rattle.ghouila.specs.declared.by_pivots.MarkedSigning.TheVariants.{Signed, Violated}
+use Rattle.ghouila.specs.declared.by_pivots.SigningOrViolator.{SigningOrViolator}
+use Rattle.ghouila.specs.declared.by_pivots.SigningOrViolator.TheVariants as signings
 use Rattle.ghouila.specs.Found.{marked}
-use Rattle.ghouila.specs.Outcome.{IsOutcome, IsNamed}
+use Rattle.ghouila.specs.MarkedSignings.{IsOutcome, NamesLines}
 use Rattle.ghouila.specs.Answer.{SignsOrViolates}
 use Rattle.ghouila.proofs.Marks.{all_marked, marked_rises}
 
@@ -21,7 +21,7 @@ signed_sum-map : (m : Matrix) (rows : List ℕ) (sign : ℕ → ℤ) (column : �
 signed_sum-map m [] sign column = refl
 signed_sum-map m (row ∷ rows) sign column = ap (λ z. sign row *ℤ entry m row column +ℤ z) (signed_sum-map m rows sign column)
 
-pub named_right : (m : Matrix) (rows : List ℕ) (outcome : Outcome) (signing : Signing) → IsOutcome m rows outcome → IsNamed rows outcome signing → SignsOrViolates m rows signing
+pub named_right : (m : Matrix) (rows : List ℕ) (outcome : MarkedSigning) (signing : SigningOrViolator) → IsOutcome m rows outcome → NamesLines rows outcome signing → SignsOrViolates m rows signing
 named_right m rows (Signed s) (signings.Signed signs) is e = subst (IsSigning m rows) (sym e) (record {
   one_each = length-map rows (λ row. get_or s.signs.items row (pos 0));
   each = all-map IsSign (λ row. get_or s.signs.items row (pos 0)) rows is.each;

@@ -16,7 +16,7 @@ use Rattle.cmr_base.proofs.Members.{all_in, all_of_members, rising_distinct}
 use Rattle.cmr_base.proofs.RisingLists.{row_set_rises}
 use Rattle.cmr_base.proofs.Parts.{is_ternary-transposed}
 use Rattle.cmr_base.proofs.RowLists.{same_or_not, in_or_not, is_eq, is_ne, same_bit}
-use Rattle.cmr_base.proofs.TransposedLemmas.{none_from_turned}
+use Rattle.cmr_base.proofs.TransposedLemmas.{none_from_transposed_rectangular}
 use Rattle.cmr_base.proofs.WholeMatrices.{is_ternary}
 use Rattle.cmr_base.specs.Violator.{HasNoViolator}
 use Rattle.cmr_base.proofs.TreeCuts.{tail_side, tail_side_kept, tail_side-tail, tail_side-head}
@@ -214,7 +214,7 @@ networks_are_unimodular m is net =
 
 pub conetworks_are_unimodular : ConetworkMatricesAreUnimodular
 conetworks_are_unimodular m is net =
-    let none = none_from_turned m is.rectangular (networks_are_unimodular (transposed m) (is_ternary-transposed m is) net).1 in
+    let none = none_from_transposed_rectangular m is.rectangular (networks_are_unimodular (transposed m) (is_ternary-transposed m is) net).1 in
     ((camion m is.small).1 none, none)
 
 pub network_matrices : (m : Matrix) → IsMatrix m → IsNetworkMatrix m → IsTotallyUnimodular m × HasNoViolator m

@@ -10,9 +10,10 @@ use Rattle.cmr_base.proofs.Parity.{even_not_odd, even-add, even-mul_right, four-
 use Rattle.cmr_base.proofs.SumLaws.{sum_over-add, sum_over_same}
 use Rattle.cmr_base.proofs.Lists.{HasOneMore, IsJoined, all_of, all_weaker, all_both, all-one_more, sum_over-one_more, all_without, item_of_one_more}
 use Rattle.ghouila.specs.Pivot.{pivoted}
-use Rattle.ghouila.specs.Found.{HasParity, bit}
+use Rattle.ghouila.specs.Found.{HasParity}
 use Rattle.ghouila.proofs.PivotSums.{pivoted_at, sum_over_row, sum_over_column, sum_over_pivot_column}
 use Rattle.cmr_base.proofs.SignEntries.{sign_square}
+use Rattle.cmr_base.specs.Cuts.{bit}
 
 -- A violator on R and C after the pivot at r and c, which are counted apart: the rows have g times row r added or taken away, the
 -- columns h times column c. Where g is odd, h is the sum of row r in C, and where h is odd, g is that of column c in R.

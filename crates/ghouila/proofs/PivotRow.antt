@@ -7,13 +7,13 @@ use Rattle.cmr_base.proofs.Booleans.{zero_is}
 use Rattle.cmr_base.proofs.Entries.{height-with_entry, entry-with_entry_same, entry-with_entry_other_column, entry-with_entry_other_row, is_matrix-with_entry}
 use Rattle.cmr_base.proofs.Integers.{sums, products}
 use Rattle.cmr_base.proofs.Lists.{all-append, all_both, all_front, all_back}
-use Rattle.ghouila.specs.Pivot.{IsOutside, IsTernaryRow, reduced, pivoted, KeepsOthers, PivotsRows}
+use Rattle.ghouila.specs.Pivot.{IsOutside, IsTernaryRow, reduced, pivoted, KeepsRowsElsewhere, PivotsRows}
 use Rattle.ghouila.proofs.PivotSums.{pivoted_apart, pivoted_at}
 
-pub keeps_all : (m : Matrix) (rows : List ℕ) → KeepsOthers m m rows
+pub keeps_all : (m : Matrix) (rows : List ℕ) → KeepsRowsElsewhere m m rows
 keeps_all m rows = record { same_height = refl; same_width = refl; others = λ i j out. refl }
 
-pub keeps_with_entry : (before now : Matrix) (other column : ℕ) (value : ℤ) → KeepsOthers before now (other ∷ []) → KeepsOthers before (with_entry now other column value) (other ∷ [])
+pub keeps_with_entry : (before now : Matrix) (other column : ℕ) (value : ℤ) → KeepsRowsElsewhere before now (other ∷ []) → KeepsRowsElsewhere before (with_entry now other column value) (other ∷ [])
 keeps_with_entry before now other column value keeps = record {
   same_height = height-with_entry now other column value ∙ keeps.same_height;
   same_width = keeps.same_width;
@@ -23,7 +23,7 @@ keeps_with_entry before now other column value keeps = record {
 -- the entries of one row are reduced in the columns before k
 pub record IsReduced (before now : Matrix) (row column other k : ℕ) : Type 0 where
   pub shape : IsMatrix now
-  pub others : KeepsOthers before now (other ∷ [])
+  pub others : KeepsRowsElsewhere before now (other ∷ [])
   pub done : (j : ℕ) → j < k → entry now other j ≡ reduced (entry before) row column other j
   pub ahead : (j : ℕ) → k ≤ j → entry now other j ≡ entry before other j
 
@@ -92,14 +92,14 @@ pub reduced_same : (M N : ℕ → ℕ → ℤ) (row column i j : ℕ) → M row 
 reduced_same M N row column i j a p q x = cc
 
 module _ (before now after : Matrix) (row column other : ℕ) (rows : List ℕ) (row_out : IsOutside row rows) (other_out : IsOutside other rows) (apart : IsOutside row (other ∷ [])) where
-  pub keeps_more : KeepsOthers before now rows → KeepsOthers now after (other ∷ []) → KeepsOthers before after (rows ++ other ∷ [])
+  pub keeps_more : KeepsRowsElsewhere before now rows → KeepsRowsElsewhere now after (other ∷ []) → KeepsRowsElsewhere before after (rows ++ other ∷ [])
   keeps_more keeps step = record {
     same_height = step.same_height ∙ keeps.same_height;
     same_width = step.same_width ∙ keeps.same_width;
     others = λ i j out. step.others i j (all_back (λ x. x ≢ i) rows (other ∷ []) out) ∙ keeps.others i j (all_front (λ x. x ≢ i) rows (other ∷ []) out);
   }
 
-  pub pivots_more : column < before.width → PivotsRows before now row column rows → KeepsOthers before now rows → PivotsRows now after row column (other ∷ []) → KeepsOthers now after (other ∷ []) → PivotsRows before after row column (rows ++ other ∷ [])
+  pub pivots_more : column < before.width → PivotsRows before now row column rows → KeepsRowsElsewhere before now rows → PivotsRows now after row column (other ∷ []) → KeepsRowsElsewhere now after (other ∷ []) → PivotsRows before after row column (rows ++ other ∷ [])
   pivots_more column_in pivots keeps step kept = all-append (λ i. (j : ℕ) → j < before.width → entry after i j ≡ pivoted (entry before) row column i j) rows (other ∷ [])
       (all_both (λ i. i ≢ other) (λ i. (j : ℕ) → j < before.width → entry now i j ≡ pivoted (entry before) row column i j) (λ i. (j : ℕ) → j < before.width → entry after i j ≡ pivoted (entry before) row column i j)
       (λ i ne is j h. kept.others i j ((λ e. ne (sym e)), tt) ∙ is j h) rows other_out pivots) (

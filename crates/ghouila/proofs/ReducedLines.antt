@@ -4,7 +4,7 @@ use Rattle.std.specs.List.{AllByRecursion}
 use Rattle.cmr_base.specs.Sums.{sum_over, IsEven, IsTwoModFour}
 use Rattle.cmr_base.specs.Signing.{IsSign}
 use Rattle.ghouila.proofs.ViolatedLines.{ViolatedIn, FreeIn, narrower}
-use Rattle.ghouila.proofs.ReducibleRows.{IsZeroRow, IsUnitRow, IsCopyRow, IsNegativeRow, IsReducibleRow, But, turned}
+use Rattle.ghouila.proofs.ReducibleRows.{IsZeroRow, IsUnitRow, IsCopyRow, IsNegativeRow, IsReducibleRow, But, crossed}
 use Rattle.cmr_base.proofs.Integers.{sums, products, times_one}
 use Rattle.cmr_base.proofs.SumLaws.{sum_over-add, sum_over-scale, sum_over-zero}
 use Rattle.cmr_base.proofs.Parity.{IsFour, four-mul_evens}
@@ -288,11 +288,11 @@ module _ (M : ℕ → ℕ → ℤ) (P Q : ℕ → Type 0) (r : ℕ) where
 
 -- ---- the law
 
-turn : (M : ℕ → ℕ → ℤ) (P Q : ℕ → Type 0) → ViolatedIn M P Q → ViolatedIn (turned M) Q P
+turn : (M : ℕ → ℕ → ℤ) (P Q : ℕ → Type 0) → ViolatedIn M P Q → ViolatedIn (crossed M) Q P
 turn M P Q v = record { R = v.C; C = v.R; rows = v.columns; columns = v.rows; violator = violator-transposed M v.R v.C v.violator }
 
 pub reduce_row : (M : ℕ → ℕ → ℤ) (P Q : ℕ → Type 0) (r : ℕ) → IsReducibleRow M P Q r → (FreeIn M P Q → FreeIn M (But P r) Q) × (FreeIn M (But P r) Q → FreeIn M P Q)
 reduce_row M P Q r h = (narrower M P Q (But P r) Q (λ x k. k.0) (λ x k. k), λ free v. free (reducible_row M P Q r h v))
 
-pub reduce_column : (M : ℕ → ℕ → ℤ) (P Q : ℕ → Type 0) (c : ℕ) → IsReducibleRow (turned M) Q P c → (FreeIn M P Q → FreeIn M P (But Q c)) × (FreeIn M P (But Q c) → FreeIn M P Q)
-reduce_column M P Q c h = (narrower M P Q P (But Q c) (λ x k. k) (λ x k. k.0), λ free v. free (turn (turned M) (But Q c) P (reducible_row (turned M) Q P c h (turn M P Q v))))
+pub reduce_column : (M : ℕ → ℕ → ℤ) (P Q : ℕ → Type 0) (c : ℕ) → IsReducibleRow (crossed M) Q P c → (FreeIn M P Q → FreeIn M P (But Q c)) × (FreeIn M P (But Q c) → FreeIn M P Q)
+reduce_column M P Q c h = (narrower M P Q P (But Q c) (λ x k. k) (λ x k. k.0), λ free v. free (turn (crossed M) (But Q c) P (reducible_row (crossed M) Q P c h (turn M P Q v))))

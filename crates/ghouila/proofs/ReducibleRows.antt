@@ -17,8 +17,8 @@ IsNegativeRow M P Q r = (s : ℕ) × P s × (s ≢ r) × ((c : ℕ) → Q c → 
 abbrev pub IsReducibleRow : (ℕ → ℕ → ℤ) → (ℕ → Type 0) → (ℕ → Type 0) → ℕ → Type 0
 IsReducibleRow M P Q r = IsZeroRow M Q r ⊎ (IsUnitRow M Q r ⊎ (IsCopyRow M P Q r ⊎ IsNegativeRow M P Q r))
 
-abbrev pub turned : (ℕ → ℕ → ℤ) → ℕ → ℕ → ℤ
-turned M c r = M r c
+abbrev pub crossed : (ℕ → ℕ → ℤ) → ℕ → ℕ → ℤ
+crossed M c r = M r c
 
 -- without the line
 abbrev pub But : (ℕ → Type 0) → ℕ → ℕ → Type 0

@@ -15,7 +15,7 @@ use Rattle.cmr_base.proofs.ThinLines.{nonzero_is, zero_is}
 use Rattle.cmr_base.proofs.ReducibleLines.{IsReducible, reducible_from_reason}
 use Rattle.ghouila.proofs.ViolatedLines.{narrower, free_from_submatrix, submatrix_from_free}
 use Rattle.cmr_base.proofs.SignEntries.{sign_of_entry}
-use Rattle.ghouila.proofs.ReducibleRows.{IsReducibleRow, turned, But}
+use Rattle.ghouila.proofs.ReducibleRows.{IsReducibleRow, crossed, But}
 use Rattle.ghouila.proofs.ReducedLines.{reduce_row, reduce_column}
 
 minus_back : (y z : ℤ) → y ≡ negsuc 0 *ℤ z → z ≡ neg_ℤ y
@@ -66,7 +66,7 @@ reductions_keep_violators m rows columns (Row i) binary ternary some =
     )
 reductions_keep_violators m rows columns (Column j) binary ternary some =
     let law = reduce_column (entry m) (Contains rows) (Contains columns) j
-    (reducible_row binary (turned (entry m)) columns rows j (λ r h. sign_of_entry (entry m r j) (ternary r j) h) (reducible_from_reason binary (turned (entry m)) Column Row columns rows j some)) in (
+    (reducible_row binary (crossed (entry m)) columns rows j (λ r h. sign_of_entry (entry m r j) (ternary r j) h) (reducible_from_reason binary (crossed (entry m)) Column Row columns rows j some)) in (
       λ none. submatrix_from_free m rows (without columns j) (narrower (entry m) (Contains rows) (But (Contains columns) j) (Contains rows) (Contains (without columns j)) (λ r h. h) (but_to columns j) (law.0 (free_from_submatrix m rows columns none))),
       λ none. submatrix_from_free m rows columns (law.1 (narrower (entry m) (Contains rows) (Contains (without columns j)) (Contains rows) (But (Contains columns) j) (λ r h. h) (but_from columns j) (free_from_submatrix m rows (without columns j) none))),
     )

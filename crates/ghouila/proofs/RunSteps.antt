@@ -10,11 +10,11 @@ use Rattle.cmr_base.proofs.Lists.{all_at, all_weaker, all_without}
 use Rattle.ghouila.specs.declared.by_pivots.Pivot.{Pivot}
 use Rattle.ghouila.specs.SignRuns.{IsPivotNext, IsPutAside, IsPivotMade, pivot_sign, SignsBySteps}
 use Rattle.ghouila.specs.declared.row_signs.RowSigns.{RowSigns}
-use Rattle.ghouila.specs.declared.by_pivots.Outcome.{Outcome}
-use Rattle.ghouila.specs.declared.by_pivots.Outcome.TheVariants.{Signed, Violated}
+use Rattle.ghouila.specs.declared.by_pivots.MarkedSigning.{MarkedSigning}
+use Rattle.ghouila.specs.declared.by_pivots.MarkedSigning.TheVariants.{Signed, Violated}
 use Rattle.ghouila.specs.Pivot.{IsOutside, pivoted, PivotsRows}
 use Rattle.ghouila.specs.Found.{SignsRows}
-use Rattle.ghouila.specs.Outcome.{AddsRun}
+use Rattle.ghouila.specs.MarkedSignings.{AddsRun}
 use Rattle.ghouila.proofs.PivotSums.{pivoted_at}
 use Rattle.ghouila.proofs.LeftRows.{one_more-remove}
 
@@ -90,7 +90,7 @@ pub steps_later : (before middle : List Pivot) (step : Pivot) (steps : List Pivo
 steps_later before middle step steps e = ap (λ xs. xs ++ steps) e ∙ append_assoc before (step ∷ []) steps
 
 -- a violator is one after a row was put aside
-pub violated_aside : (m : Matrix) (rows left : List ℕ) (row : ℕ) (before middle after : List Pivot) (outcome : Outcome) → ((s : RowSigns) → outcome ≡ Signed s → ⊥) → IsPutAside m rows row left
+pub violated_aside : (m : Matrix) (rows left : List ℕ) (row : ℕ) (before middle after : List Pivot) (outcome : MarkedSigning) → ((s : RowSigns) → outcome ≡ Signed s → ⊥) → IsPutAside m rows row left
     → middle ≡ before ++ record { row = row; column = None } ∷ [] → AddsRun m left middle after outcome → AddsRun m rows before after outcome
 violated_aside m rows left row before middle after (Signed s) other aside e run = absurd (other s refl)
 violated_aside m rows left row before middle after (Violated v) other aside e run =

@@ -12,9 +12,10 @@ use Rattle.cmr_base.proofs.SumLaws.{sum_over-scale, sum_over_same}
 use Rattle.cmr_base.proofs.Lists.{IsJoined, all_of, all_weaker, all_both, sum_over-one_more, all_without, item_of_one_more}
 use Rattle.ghouila.specs.Pivot.{pivoted}
 use Rattle.ghouila.specs.PivotLaws.{pivot_entry}
-use Rattle.ghouila.specs.Found.{HasParity, bit}
+use Rattle.ghouila.specs.Found.{HasParity}
 use Rattle.ghouila.proofs.PivotSums.{sum_over_column, sum_over_pivot_column}
 use Rattle.ghouila.proofs.PivotBack.{IsViolatorAfter, violator_before, even_back, row_after, total_after}
+use Rattle.cmr_base.specs.Cuts.{bit}
 
 -- what holds of each item of the longer list holds of each of the shorter one
 pub all_fewer : {A : Type 0} (P : A → Type 0) (there : Bool) (item : A) (fewer more : List A) → IsJoined there item fewer more → AllByRecursion P more → AllByRecursion P fewer

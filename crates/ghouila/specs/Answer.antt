@@ -6,8 +6,8 @@ use Rattle.cmr_base.specs.LineSets.{IsRowSet, IsColumnSet}
 use Rattle.cmr_base.specs.Signing.{IsSigning}
 use Rattle.cmr_base.specs.Violator.{IsViolator}
 use Rattle.ghouila.specs.declared.by_pivots.Pivot.{Pivot}
-use Rattle.ghouila.specs.declared.by_pivots.Signing.{Signing}
-use Rattle.ghouila.specs.declared.by_pivots.Signing.TheVariants.{Signed, Violated}
+use Rattle.ghouila.specs.declared.by_pivots.SigningOrViolator.{SigningOrViolator}
+use Rattle.ghouila.specs.declared.by_pivots.SigningOrViolator.TheVariants.{Signed, Violated}
 use Rattle.ghouila.specs.SignRuns.{SignsBySteps, ViolatesBySteps}
 
 -- a violator with rows among these
@@ -18,11 +18,11 @@ pub record IsViolatorAmong (m : Matrix) (rows violator_rows violator_columns : L
   pub violator : IsViolator (entry m) violator_rows violator_columns
 
 -- the answer is right: a signing of these rows, or a violator among them
-abbrev pub SignsOrViolates : Matrix → List ℕ → Signing → Type 0
+abbrev pub SignsOrViolates : Matrix → List ℕ → SigningOrViolator → Type 0
 SignsOrViolates m rows (Signed signs) = IsSigning m rows signs
 SignsOrViolates m rows (Violated lines) = IsViolatorAmong m rows lines.rows lines.columns
 
 -- the run on these rows makes these steps and ends with this answer
-abbrev pub IsAnswerOfRun : Matrix → List ℕ → List Pivot → Signing → Type 0
+abbrev pub IsAnswerOfRun : Matrix → List ℕ → List Pivot → SigningOrViolator → Type 0
 IsAnswerOfRun m rows steps (Signed signs) = (sign : ℕ → ℤ) × (signs ≡ map sign rows) × SignsBySteps m rows steps sign
 IsAnswerOfRun m rows steps (Violated lines) = ViolatesBySteps m rows steps lines.rows lines.columns

@@ -6,6 +6,7 @@ use Rattle.cmr_base.specs.Signing.{IsSign}
 use Rattle.cmr_base.specs.Sums.{sum_over, IsEven, IsOdd}
 use Rattle.cmr_base.specs.Violator.{IsViolator}
 use Rattle.ghouila.specs.Pivot.{IsTernaryRow}
+use Rattle.cmr_base.specs.Cuts.{bit}
 
 -- yes where the number is odd
 abbrev pub HasParity : Bool → ℤ → Type 0
@@ -36,10 +37,6 @@ pub record MarksViolator (m : Matrix) (rows : List ℕ) (row_marks column_marks 
   pub among : (row : ℕ) → slice_index_or row_marks row false ≡ true → Contains rows row
   pub violator : IsViolator (entry m) (marked row_marks) (marked column_marks)
   pub parity : (column : ℕ) → column < m.width → HasParity (slice_index_or odd column false) (sum_over (marked row_marks) (λ row. entry m row column))
-
-abbrev pub bit : Bool → ℤ
-bit true = pos 1
-bit false = pos 0
 
 -- a column is marked anew: where the row's entries in the other marked columns, and 1 if it was marked, add up to an odd number
 pub record MarksAnew (row : ℕ → ℤ) (column : ℕ) (old new : List Bool) : Type 0 where

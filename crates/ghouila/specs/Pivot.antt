@@ -14,7 +14,7 @@ IsOutside row rows = AllByRecursion (λ other. other ≢ row) rows
 abbrev pub reduced : (ℕ → ℕ → ℤ) → ℕ → ℕ → ℕ → ℕ → ℤ
 reduced M row column i j = M i j -ℤ M row column *ℤ (M i column *ℤ M row j)
 
--- the matrix after the pivot, without that row; in the pivot's column the entries are turned
+-- the matrix after the pivot, without that row; in the pivot's column the entries are negated
 abbrev pub pivoted : (ℕ → ℕ → ℤ) → ℕ → ℕ → ℕ → ℕ → ℤ
 pivoted M row column i j = if j == column then neg_ℤ (M row column *ℤ M i column) else reduced M row column i j
 
@@ -53,7 +53,7 @@ pub record HasSquareViolator (m : Matrix) (row column other_row other_column : �
   pub square : IsSquareViolator (entry m row column) (entry m other_row column) (entry m row other_column) (entry m other_row other_column)
 
 -- a matrix of the same size, the same but for these rows
-pub record KeepsOthers (before after : Matrix) (rows : List ℕ) : Type 0 where
+pub record KeepsRowsElsewhere (before after : Matrix) (rows : List ℕ) : Type 0 where
   pub same_height : height after ≡ height before
   pub same_width : after.width ≡ before.width
   pub others : (i j : ℕ) → IsOutside i rows → entry after i j ≡ entry before i j
@@ -69,7 +69,7 @@ pub record IsFirstPivot (m : Matrix) (rows : List ℕ) (place column : ℕ) : Ty
   pub first_row : (k : ℕ) → k < place → entry m (slice_index rows k) column ≡ pos 0
 
 -- the first entry, by these rows and then by columns, at which the pivot would give a 2 or a -2; in its own column it gives none
-pub record IsFirstTwo (m : Matrix) (rows : List ℕ) (row column place last : ℕ) : Type 0 where
+pub record IsFirstTwoEntry (m : Matrix) (rows : List ℕ) (row column place last : ℕ) : Type 0 where
   pub within : place < length rows
   pub column_in : last < m.width
   pub two : ¬ (IsEntry (reduced (entry m) row column (slice_index rows place) last))

@@ -6,7 +6,7 @@ use Rattle.cmr_base.specs.Matrix.{Matrix, entry}
 use Rattle.cmr_base.specs.Members.{IsIn}
 use Rattle.cmr_base.specs.Sums.{sum_over, IsOdd}
 use Rattle.ghouila.specs.declared.by_pivots.Pivot.{Pivot}
-use Rattle.ghouila.specs.Pivot.{reduced, IsTernaryRow, HasNoPivot, IsFirstPivot, IsFirstTwo, PivotsRows}
+use Rattle.ghouila.specs.Pivot.{reduced, IsTernaryRow, HasNoPivot, IsFirstPivot, IsFirstTwoEntry, PivotsRows}
 
 -- a pivot at this row and column comes next, and leaves these rows
 pub record IsPivotNext (m : Matrix) (rows : List ℕ) (row column : ℕ) (left : List ℕ) : Type 0 where
@@ -45,7 +45,7 @@ pub record IsFirstSquare (m : Matrix) (rows violator_rows violator_columns : Lis
   pub next : IsPivotNext m rows row column left
   pub place : ℕ
   pub last : ℕ
-  pub two : IsFirstTwo m left row column place last
+  pub two : IsFirstTwoEntry m left row column place last
   pub rows_are : (i : ℕ) → IsIn i violator_rows ↔ IsIn i (row ∷ slice_index left place ∷ [])
   pub columns_are : (j : ℕ) → IsIn j violator_columns ↔ IsIn j (column ∷ last ∷ [])
 

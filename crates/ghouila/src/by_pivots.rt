@@ -4,9 +4,9 @@ ghost use Rattle.cmr_base.specs.Matrix.{Matrix, height, entry};
 ghost use Rattle.cmr_base.specs.LineSets.{AllBelow, IsRowSet};
 ghost use Rattle.cmr_base.specs.Signing.{IsSign};
 ghost use Rattle.cmr_base.specs.Sums.{sum_over, IsEven, IsOdd};
-ghost use Rattle.ghouila.specs.Pivot.{IsOutside, IsTernaryRow, KeepsOthers};
+ghost use Rattle.ghouila.specs.Pivot.{IsOutside, IsTernaryRow, KeepsRowsElsewhere};
 ghost use Rattle.ghouila.specs.SignRuns.{IsPivotNext, IsPutAside};
-ghost use Rattle.ghouila.specs.Outcome.{IsOutcome, AddsRun, IsNamed, HasSizes};
+ghost use Rattle.ghouila.specs.MarkedSignings.{IsOutcome, AddsRun, NamesLines, HasMarkForEachLine};
 ghost use Rattle.ghouila.specs.Answer.{SignsOrViolates, IsAnswerOfRun};
 
 use crate::marked_lines::MarkedLines;
@@ -17,7 +17,7 @@ use std::alloc::Global;
 
 /// What is found for a set of rows.
 #[derive(Debug, Drop)]
-pub enum Signing {
+pub enum SigningOrViolator {
     /// A signing of the rows, one sign for each in their order.
     Signed(SignList),
     /// A violator of the matrix with rows among these. The rows may still have a signing.
@@ -38,17 +38,21 @@ pub type PivotList = ItemList<Pivot>;
 #[derive(Debug, Drop)]
 pub struct SignRun {
     pub steps: PivotList,
-    pub signing: Signing,
+    pub signing: SigningOrViolator,
 }
 
 #[derive(Debug, Drop)]
-enum Outcome {
+enum MarkedSigning {
     Signed(RowSigns),
     Violated(MarkedLines),
 }
 
 /// A signing of the rows or a violator.
-pub fn sign_or_violate(alloc: Global, matrix: &Matrix, rows: &Indices) -> Result<Signing, Memory>
+pub fn sign_or_violate(
+    alloc: Global,
+    matrix: &Matrix,
+    rows: &Indices,
+) -> Result<SigningOrViolator, Memory>
     requires { AllBelow (height matrix.now) rows.now }
     ensures { IfOk result (SignsOrViolates matrix.now rows.now) }
 {
@@ -89,16 +93,19 @@ fn named(
     alloc: Global,
     matrix: &Matrix,
     rows: &Indices,
-    outcome: Outcome,
-) -> Result<Signing, Memory>
+    outcome: MarkedSigning,
+) -> Result<SigningOrViolator, Memory>
     requires rows { AllBelow (height matrix.now) rows.now }
-    requires sizes { HasSizes matrix.now outcome }
-    ensures { IfOk result (IsNamed rows.now outcome) }
+    requires sizes { HasMarkForEachLine matrix.now outcome }
+    ensures { IfOk result (NamesLines rows.now outcome) }
 {
     prove!(matrix.rows() <= MAX_ROWS && matrix.columns() <= MAX_COLUMNS);
     match outcome {
-        Outcome::Signed(signs) => Ok(Signing::Signed(signs.of_rows(alloc, rows.as_slice())?)),
-        Outcome::Violated(lines) => Ok(Signing::Violated(lines.to_lines(alloc)?)),
+        MarkedSigning::Signed(signs) => Ok(SigningOrViolator::Signed(signs.of_rows(
+            alloc,
+            rows.as_slice(),
+        )?)),
+        MarkedSigning::Violated(lines) => Ok(SigningOrViolator::Violated(lines.to_lines(alloc)?)),
     }
 }
 
@@ -109,14 +116,14 @@ fn sign_left(
     work: &mut Matrix,
     mut left: Vec<u32>,
     steps: &mut PivotList,
-) -> Result<Outcome, Memory>
+) -> Result<MarkedSigning, Memory>
     requires { IsRowSet work.old left.items }
     ensures found { IfOk result (IsOutcome work.old left.items) }
     ensures run { IfOk result (AddsRun work.old left.items steps.old steps.new) }
-    ensures others { KeepsOthers work.old work.new left.items }
+    ensures others { KeepsRowsElsewhere work.old work.new left.items }
 {
     if left.is_empty() {
-        return Ok(Outcome::Signed(RowSigns::new(alloc, work)?));
+        return Ok(MarkedSigning::Signed(RowSigns::new(alloc, work)?));
     }
     match first_pivot(work, &left) {
         Some(pivot) => {
@@ -139,7 +146,7 @@ fn sign_by_pivot(
     row: u32,
     column: u32,
     steps: &mut PivotList,
-) -> Result<Outcome, Memory>
+) -> Result<MarkedSigning, Memory>
     requires rows { IsRowSet work.old left.items }
     requires row { row < height work.old }
     requires apart { IsOutside row left.items }
@@ -149,11 +156,11 @@ fn sign_by_pivot(
     ensures found { IfOk result (IsOutcome work.old (row ∷ left.items)) }
     ensures run { (rows : List ℕ) → IsPivotNext work.old rows row column left.items
         → IfOk result (AddsRun work.old rows steps.old steps.new) }
-    ensures others { KeepsOthers work.old work.new left.items }
+    ensures others { KeepsRowsElsewhere work.old work.new left.items }
 {
     if let Some(corner) = first_square_violator(work, &left, row, column) {
         let lines = MarkedLines::of_square(alloc, work, row, column, corner)?;
-        return Ok(Outcome::Violated(lines));
+        return Ok(MarkedSigning::Violated(lines));
     }
     steps.push(Pivot {
         row,
@@ -161,13 +168,13 @@ fn sign_by_pivot(
     })?;
     make_pivot(work, &left, row, column);
     match sign_left(alloc, work, left, steps)? {
-        Outcome::Signed(mut signs) => {
+        MarkedSigning::Signed(mut signs) => {
             signs.sign_pivot(row, column);
-            Ok(Outcome::Signed(signs))
+            Ok(MarkedSigning::Signed(signs))
         }
-        Outcome::Violated(mut lines) => {
+        MarkedSigning::Violated(mut lines) => {
             lines.undo_pivot(work, row, column);
-            Ok(Outcome::Violated(lines))
+            Ok(MarkedSigning::Violated(lines))
         }
     }
 }
@@ -180,7 +187,7 @@ fn sign_aside(
     left: Vec<u32>,
     row: u32,
     steps: &mut PivotList,
-) -> Result<Outcome, Memory>
+) -> Result<MarkedSigning, Memory>
     requires rows { IsRowSet work.old left.items }
     requires row { row < height work.old }
     requires apart { IsOutside row left.items }
@@ -191,13 +198,13 @@ fn sign_aside(
     ensures found { IfOk result (IsOutcome work.old (row ∷ left.items)) }
     ensures run { (rows : List ℕ) → IsPutAside work.old rows row left.items
         → IfOk result (AddsRun work.old rows steps.old steps.new) }
-    ensures others { KeepsOthers work.old work.new left.items }
+    ensures others { KeepsRowsElsewhere work.old work.new left.items }
 {
     steps.push(Pivot { row, column: None })?;
     match sign_left(alloc, work, left, steps)? {
-        Outcome::Signed(mut signs) => {
+        MarkedSigning::Signed(mut signs) => {
             signs.sign_aside(work, row);
-            Ok(Outcome::Signed(signs))
+            Ok(MarkedSigning::Signed(signs))
         }
         violated => Ok(violated),
     }

@@ -3,7 +3,7 @@ ghost use Rattle.std.specs.List.{AllByRecursion, Contains};
 ghost use Rattle.cmr_base.specs.Matrix.{Matrix, height, entry, IsEntry, IsMatrix};
 ghost use Rattle.cmr_base.specs.LineSets.{AllBelow, IsRowSet};
 ghost use Rattle.cmr_base.specs.Signing.{IsSign};
-ghost use Rattle.ghouila.specs.Pivot.{IsOutside, reduced, IsTernaryRow, IsPivot, HasNoPivot, IsFirstPivot, ArePivotColumns, IsFirstTwo, IsSquareViolator, HasSquareViolator, KeepsOthers, PivotsRows};
+ghost use Rattle.ghouila.specs.Pivot.{IsOutside, reduced, IsTernaryRow, IsPivot, HasNoPivot, IsFirstPivot, ArePivotColumns, IsFirstTwoEntry, IsSquareViolator, HasSquareViolator, KeepsRowsElsewhere, PivotsRows};
 
 use cmr_base::{MAX_COLUMNS, Matrix, product};
 
@@ -91,7 +91,7 @@ pub fn first_square_violator(work: &Matrix, left: &[u32], row: u32, column: u32)
         × HasSquareViolator work.now row column corner.row corner.column) }
     ensures first { IfSome result (λ corner. (place : ℕ)
         × (corner.row ≡ slice_index left.now place)
-        × IsFirstTwo work.now left.now row column place corner.column) }
+        × IsFirstTwoEntry work.now left.now row column place corner.column) }
     ensures none { IfNone result (AllByRecursion
         (λ other. IsTernaryRow work.now.width (reduced (entry work.now) row column other))
         left.now) }
@@ -162,7 +162,7 @@ pub fn make_pivot(work: &mut Matrix, left: &[u32], row: u32, column: u32)
         (λ other. IsTernaryRow work.old.width (reduced (entry work.old) row column other))
         left.now }
     ensures pivoted { PivotsRows work.old work.new row column left.now }
-    ensures others { KeepsOthers work.old work.new left.now }
+    ensures others { KeepsRowsElsewhere work.old work.new left.now }
 {
     for other in left {
         pivot_row(work, row, column, *other);
@@ -177,7 +177,7 @@ fn pivot_row(work: &mut Matrix, row: u32, column: u32, other: u32)
     requires nonzero { IsSign (entry work.old row column) }
     requires small { IsTernaryRow work.old.width (reduced (entry work.old) row column other) }
     ensures pivoted { PivotsRows work.old work.new row column (other ∷ []) }
-    ensures others { KeepsOthers work.old work.new (other ∷ []) }
+    ensures others { KeepsRowsElsewhere work.old work.new (other ∷ []) }
 {
     let factor = product(work.entry(row, column), work.entry(other, column));
     prove!(work.columns() <= MAX_COLUMNS);

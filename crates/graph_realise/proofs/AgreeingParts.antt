@@ -64,8 +64,8 @@ module _ (M : ℕ → ℕ → Bool) (S : List ℕ) (K : HasCuts M (λ r. IsIn r 
     pub p_sees : (j k k' : ℕ) → IsIn j P → IsIn k Q → IsIn k' Q → K.side j k ≡ K.side j k'
     pub q_sees : (k j j' : ℕ) → IsIn k Q → IsIn j P → IsIn j' P → K.side k j ≡ K.side k j'
 
-  turned : (i : ℕ) (P Q : List ℕ) → Pair i P Q → Pair i Q P
-  turned i P Q p = record {
+  reversed : (i : ℕ) (P Q : List ℕ) → Pair i P Q → Pair i Q P
+  reversed i P Q p = record {
     i_in = p.i_in;
     p_in = p.q_in;
     q_in = p.p_in;
@@ -97,6 +97,6 @@ module _ (M : ℕ → ℕ → Bool) (S : List ℕ) (K : HasCuts M (λ r. IsIn r 
       third k1 h1 e j hj (inr b) = absurd (no_not (K.side k1 i) (b ∙ p.q_sees k1 j j0 h1 hj hj0 ∙ e))
 
       go : ((k : ℕ) × IsIn k Q × (K.side k j0 ≡ not (K.side k i))) ⊎ ((k : ℕ) → IsIn k Q → K.side k j0 ≡ K.side k i) → Agree M i P Q
-      go (inl (k1, h1, e)) = inr (points i Q P (turned i P Q p) j0 hj0 (λ k j hk hj.
+      go (inl (k1, h1, e)) = inr (points i Q P (reversed i P Q p) j0 hj0 (λ k j hk hj.
           p.p_sees j k k1 hj hk h1 ∙ third k1 h1 e j hj (K.cuts.three j k1 i (p.p_in j hj) (p.q_in k1 h1) p.i_in (p.apart j k1 hj h1) (λ z. p.p_other j hj (sym z)) (λ z. p.q_other k1 h1 (sym z)))))
       go (inr all) = inl (points i P Q p k0 hk0 (λ j k hj hk. p.q_sees k j j0 hk hj hj0 ∙ all k hk))

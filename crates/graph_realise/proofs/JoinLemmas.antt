@@ -8,8 +8,8 @@ use Rattle.cmr_base.specs.Matrix.{Matrix, height}
 use Rattle.cmr_base.proofs.RowLists.{is_eq, is_ne, not_both, same_or_not, two_cases}
 use Rattle.cmr_base.proofs.Booleans.{and_true, and_false, or_false, is_lt, is_not_lt}
 use Rattle.graph_realise.specs.Branches.{branch_at}
-use Rattle.graph_realise.specs.Joints.{AreHung, AreOff, FitsJoint, IsArcJoined, IsClearBeside, IsLineFor, by_part, AreChosen, end_of, hanging_of, hung, is_at_first, is_chosen, is_part, is_used, joined_side, number_at, part_or_first}
-use Rattle.graph_realise.specs.Merging.{column_half, end_off, merged_lies, spot, turned_lies, turned_side}
+use Rattle.graph_realise.specs.Joints.{AreHung, AreOff, FitsJoint, IsArcJoined, IsClearBeside, IsLineFor, by_part, AreChosen, branch_end, hanging_of, hung, is_at_first, is_chosen, is_part, is_used, joined_side, number_at, part_or_first}
+use Rattle.graph_realise.specs.Merging.{column_half, end_off, merged_lies, spot, reversed_lies, reversed_side}
 use Rattle.graph_realise.specs.SideTables.{side_in, end_in, KeepsRow, AreTablesOf, IsArcChanged}
 use Rattle.graph_realise.specs.Tables.{Grid, cell, IsRowFilled}
 use Rattle.graph_realise.proofs.SideLemmas.{keeps_row_same, keeps_row_trans}
@@ -17,7 +17,7 @@ use Rattle.graph_realise.proofs.TableLemmas.{cell_past}
 use Rattle.graph_realise.specs.declared.arc_sides.ArcSides.{ArcSides}
 use Rattle.graph_realise.specs.declared.joint.Joint.{Joint}
 
-half_is : (M : ℕ → ℕ → Bool) (joint : Joint) (o : Option ℕ) → column_half M joint.row (hanging_of joint) o ≡ end_of joint o
+half_is : (M : ℕ → ℕ → Bool) (joint : Joint) (o : Option ℕ) → column_half M joint.row (hanging_of joint) o ≡ branch_end joint o
 half_is M joint None = refl
 half_is M joint (Some q) = refl
 
@@ -46,7 +46,7 @@ row_joined M m joint old cleared with_parts new fits off tables a b d = record {
     two : AreTablesOf m with_parts
     two = b.sizes m one
 
-    chosen : (o : Option ℕ) → ((p : ℕ) → o ≡ Some p → p < length joint.branches.items) → is_chosen (is_at_first joint) (length joint.branches.items) o ≡ end_of joint o
+    chosen : (o : Option ℕ) → ((p : ℕ) → o ≡ Some p → p < length joint.branches.items) → is_chosen (is_at_first joint) (length joint.branches.items) o ≡ branch_end joint o
     chosen None range = refl
     chosen (Some p) range = rw (is_lt p (length joint.branches.items) (range p refl)) refl
 
@@ -54,15 +54,15 @@ row_joined M m joint old cleared with_parts new fits off tables a b d = record {
     arcs s w =
         d.to_arcs s (omega (arith, w, tables.arcs_width, two.arcs_width)) ∙ b.to_arcs s (omega (arith, w, tables.arcs_width, one.arcs_width))
         ∙ ap₂ (λ x y. x || y) (a.to_arcs s w) (chosen (number_at joint.part_of.items s) (λ p e. fits.row_parts s p e))
-        ∙ sym (ap (λ (t : Bool). if t then end_of joint (number_at joint.part_of.items s) else by_part M joint joint.row (turned_side joint.row (side_in old) joint.row s) (number_at joint.part_of.items s)) (is_eq joint.row joint.row refl))
+        ∙ sym (ap (λ (t : Bool). if t then branch_end joint (number_at joint.part_of.items s) else by_part M joint joint.row (reversed_side joint.row (side_in old) joint.row s) (number_at joint.part_of.items s)) (is_eq joint.row joint.row refl))
 
-    value : (end : Bool) (column : ℕ) (t : Bool) → M joint.row column ≡ t → (end_of joint (number_at joint.part_with.items column) || (end && t)) ≡ (if t then end else column_half M joint.row (hanging_of joint) ((hanging_of joint).touched column))
-    value true column true e = ap (λ (o : Option ℕ). end_of joint o || true) (off column e)
-    value false column true e = ap (λ (o : Option ℕ). end_of joint o || false) (off column e)
-    value true column false e = or_false (end_of joint (number_at joint.part_with.items column)) ∙ sym (half_is M joint (number_at joint.part_with.items column))
-    value false column false e = or_false (end_of joint (number_at joint.part_with.items column)) ∙ sym (half_is M joint (number_at joint.part_with.items column))
+    value : (end : Bool) (column : ℕ) (t : Bool) → M joint.row column ≡ t → (branch_end joint (number_at joint.part_with.items column) || (end && t)) ≡ (if t then end else column_half M joint.row (hanging_of joint) ((hanging_of joint).touched column))
+    value true column true e = ap (λ (o : Option ℕ). branch_end joint o || true) (off column e)
+    value false column true e = ap (λ (o : Option ℕ). branch_end joint o || false) (off column e)
+    value true column false e = or_false (branch_end joint (number_at joint.part_with.items column)) ∙ sym (half_is M joint (number_at joint.part_with.items column))
+    value false column false e = or_false (branch_end joint (number_at joint.part_with.items column)) ∙ sym (half_is M joint (number_at joint.part_with.items column))
 
-    ends : (end : Bool) (column : ℕ) → column < old.first.width → end_in new end joint.row column ≡ merged_lies M joint.row (hanging_of joint) (turned_lies joint.row (side_in old) (end_in old)) end joint.row column
+    ends : (end : Bool) (column : ℕ) → column < old.first.width → end_in new end joint.row column ≡ merged_lies M joint.row (hanging_of joint) (reversed_lies joint.row (side_in old) (end_in old)) end joint.row column
     ends end column w =
         d.to_ends end column (omega (arith, w, tables.first_width, two.first_width))
         ∙ ap (λ (z : Bool). z || (end && M joint.row column))
@@ -71,7 +71,7 @@ row_joined M m joint old cleared with_parts new fits off tables a b d = record {
         ∙ value end column (M joint.row column) refl
         ∙ sym (ap (λ (t : Bool). if t then (if M joint.row column then end else column_half M joint.row (hanging_of joint) ((hanging_of joint).touched column))
         else if M joint.row column then (if differ end ((hanging_of joint).half ((hanging_of joint).part joint.row)) then false else M joint.row column)
-        else end_off M joint.row (hanging_of joint) (turned_lies joint.row (side_in old) (end_in old)) end joint.row column ((hanging_of joint).touched column)) (is_eq joint.row joint.row refl))
+        else end_off M joint.row (hanging_of joint) (reversed_lies joint.row (side_in old) (end_in old)) end joint.row column ((hanging_of joint).touched column)) (is_eq joint.row joint.row refl))
 
 -- ---- an arc of another row
 
@@ -210,10 +210,10 @@ module _ (M : ℕ → ℕ → Bool) (joint : Joint) (r own : ℕ) where
   all_sides count within None part range = refl
   all_sides count within (Some q) part range =
       kept_or_hung (q == own) (nat_lt q count) within (spot M joint.row (hanging_of joint) r q) (is_lt q count (range q refl))
-      ∙ ap (λ (b : Bool). if b then within else spot M joint.row (hanging_of joint) r q) (turned q)
+      ∙ ap (λ (b : Bool). if b then within else spot M joint.row (hanging_of joint) r q) (reversed q)
     where
-      turned : (q : ℕ) → (q == own) ≡ (part_or_first (number_at joint.part_of.items r) == q)
-      turned q = go (same_or_not q own)
+      reversed : (q : ℕ) → (q == own) ≡ (part_or_first (number_at joint.part_of.items r) == q)
+      reversed q = go (same_or_not q own)
         where
           here : part_or_first (number_at joint.part_of.items r) ≡ own
           here = ap part_or_first part
@@ -234,11 +234,11 @@ module _ (M : ℕ → ℕ → Bool) (joint : Joint) (r own : ℕ) where
   unused_by false false true = refl
   unused_by false false false = refl
 
-  pub arc_joined : (m : Matrix) (turned : Bool) (old kept with_hung new : ArcSides) → r ≢ joint.row → number_at joint.part_of.items r ≡ Some own → turned ≡ side_in old r joint.row → FitsJoint (height m) m.width joint → AreOff M joint
+  pub arc_joined : (m : Matrix) (reversed : Bool) (old kept with_hung new : ArcSides) → r ≢ joint.row → number_at joint.part_of.items r ≡ Some own → reversed ≡ side_in old r joint.row → FitsJoint (height m) m.width joint → AreOff M joint
       → AreTablesOf m old → own < length joint.branches.items
-      → IsArcChanged (λ other. cell joint.row_marks own other && differ turned (side_in old r other)) (λ end column. cell joint.column_marks own column && differ turned (end_in old end r column)) old kept r
+      → IsArcChanged (λ other. cell joint.row_marks own other && differ reversed (side_in old r other)) (λ end column. cell joint.column_marks own column && differ reversed (end_in old end r column)) old kept r
       → AreHung M joint r own (length joint.branches.items) kept with_hung → IsArcChanged (λ other. side_in with_hung r other) (is_used M joint r own with_hung) with_hung new r → IsArcJoined M joint old new r
-  arc_joined m turned old kept with_hung new apart part t fits off tables l k h u = record { arcs = arcs; ends = ends }
+  arc_joined m reversed old kept with_hung new apart part t fits off tables l k h u = record { arcs = arcs; ends = ends }
     where
       one : AreTablesOf m kept
       one = k.sizes m tables
@@ -251,90 +251,90 @@ module _ (M : ℕ → ℕ → Bool) (joint : Joint) (r own : ℕ) where
           let o = number_at joint.part_of.items s in
           u.to_arcs s (omega (arith, w, tables.arcs_width, two.arcs_width)) ∙ h.to_arcs s (omega (arith, w, tables.arcs_width, one.arcs_width))
           ∙ ap (λ (z : Bool). z || hung M joint r own (length joint.branches.items) o)
-          (k.to_arcs s w ∙ ap (λ (z : Bool). z && differ turned (side_in old r s)) (fits.row_marks.exact own s l (omega (arith, w, tables.arcs_width, fits.rows))))
-          ∙ all_sides (length joint.branches.items) (differ turned (side_in old r s)) o part (λ a e. fits.row_parts s a e)
+          (k.to_arcs s w ∙ ap (λ (z : Bool). z && differ reversed (side_in old r s)) (fits.row_marks.exact own s l (omega (arith, w, tables.arcs_width, fits.rows))))
+          ∙ all_sides (length joint.branches.items) (differ reversed (side_in old r s)) o part (λ a e. fits.row_parts s a e)
           ∙ ap (λ (b : Bool). by_part M joint r (differ b (side_in old r s)) o) t
-          ∙ sym (ap (λ (b : Bool). if b then end_of joint o else by_part M joint r (turned_side joint.row (side_in old) r s) o) (is_ne r joint.row apart))
+          ∙ sym (ap (λ (b : Bool). if b then branch_end joint o else by_part M joint r (reversed_side joint.row (side_in old) r s) o) (is_ne r joint.row apart))
 
-      within : (end : Bool) (column : ℕ) → column < old.first.width → end_in with_hung end r column ≡ by_part M joint r (differ turned (end_in old end r column)) (number_at joint.part_with.items column)
+      within : (end : Bool) (column : ℕ) → column < old.first.width → end_in with_hung end r column ≡ by_part M joint r (differ reversed (end_in old end r column)) (number_at joint.part_with.items column)
       within end column w =
           let o = number_at joint.part_with.items column in
           h.to_ends end column (omega (arith, w, tables.first_width, one.first_width))
           ∙ ap (λ (z : Bool). z || hung M joint r own (length joint.branches.items) o)
-          (k.to_ends end column w ∙ ap (λ (z : Bool). z && differ turned (end_in old end r column)) (fits.column_marks.exact own column l (omega (arith, w, tables.first_width, fits.columns))))
-          ∙ all_sides (length joint.branches.items) (differ turned (end_in old end r column)) o part (λ a e. fits.column_parts column a e)
+          (k.to_ends end column w ∙ ap (λ (z : Bool). z && differ reversed (end_in old end r column)) (fits.column_marks.exact own column l (omega (arith, w, tables.first_width, fits.columns))))
+          ∙ all_sides (length joint.branches.items) (differ reversed (end_in old end r column)) o part (λ a e. fits.column_parts column a e)
 
-      by_off : (value : Bool) (end : Bool) (column : ℕ) (o : Option ℕ) → by_part M joint r (differ (side_in old r joint.row) (end_in old end r column)) o ≡ end_off M joint.row (hanging_of joint) (turned_lies joint.row (side_in old) (end_in old)) end r column o
+      by_off : (value : Bool) (end : Bool) (column : ℕ) (o : Option ℕ) → by_part M joint r (differ (side_in old r joint.row) (end_in old end r column)) o ≡ end_off M joint.row (hanging_of joint) (reversed_lies joint.row (side_in old) (end_in old)) end r column o
       by_off value end column None = refl
       by_off value end column (Some q) = refl
 
-      ends : (end : Bool) (column : ℕ) → column < old.first.width → end_in new end r column ≡ merged_lies M joint.row (hanging_of joint) (turned_lies joint.row (side_in old) (end_in old)) end r column
+      ends : (end : Bool) (column : ℕ) → column < old.first.width → end_in new end r column ≡ merged_lies M joint.row (hanging_of joint) (reversed_lies joint.row (side_in old) (end_in old)) end r column
       ends end column w = u.to_ends end column (omega (arith, w, tables.first_width, two.first_width)) ∙ ap (λ (z : Bool). z || (not (differ end (branch_at joint.branches.items own).end) && (M r column && M joint.row column))) (within end column w)
           ∙ by_row (two_cases (M joint.row column))
         where
           by_row : (M joint.row column ≡ true) ⊎ (M joint.row column ≡ false)
-              → (by_part M joint r (differ turned (end_in old end r column)) (number_at joint.part_with.items column) || (not (differ end (branch_at joint.branches.items own).end) && (M r column && M joint.row column)))
-              ≡ merged_lies M joint.row (hanging_of joint) (turned_lies joint.row (side_in old) (end_in old)) end r column
+              → (by_part M joint r (differ reversed (end_in old end r column)) (number_at joint.part_with.items column) || (not (differ end (branch_at joint.branches.items own).end) && (M r column && M joint.row column)))
+              ≡ merged_lies M joint.row (hanging_of joint) (reversed_lies joint.row (side_in old) (end_in old)) end r column
           by_row (inl e) =
-              ap (λ (o : Option ℕ). by_part M joint r (differ turned (end_in old end r column)) o || (not (differ end (branch_at joint.branches.items own).end) && (M r column && M joint.row column))) (off column e)
+              ap (λ (o : Option ℕ). by_part M joint r (differ reversed (end_in old end r column)) o || (not (differ end (branch_at joint.branches.items own).end) && (M r column && M joint.row column))) (off column e)
               ∙ ap (λ (z : Bool). false || (not (differ end (branch_at joint.branches.items own).end) && (M r column && z))) e
               ∙ used_by (differ end (branch_at joint.branches.items own).end) (M r column)
               ∙ sym (ap (λ (o : Option ℕ). if differ end (branch_at joint.branches.items (part_or_first o)).end then false else M r column) part)
               ∙ sym (rw (is_ne r joint.row apart, e) refl)
           by_row (inr e) =
-              ap (λ (z : Bool). by_part M joint r (differ turned (end_in old end r column)) (number_at joint.part_with.items column) || (not (differ end (branch_at joint.branches.items own).end) && (M r column && z))) e
-              ∙ unused_by (by_part M joint r (differ turned (end_in old end r column)) (number_at joint.part_with.items column)) (differ end (branch_at joint.branches.items own).end) (M r column)
+              ap (λ (z : Bool). by_part M joint r (differ reversed (end_in old end r column)) (number_at joint.part_with.items column) || (not (differ end (branch_at joint.branches.items own).end) && (M r column && z))) e
+              ∙ unused_by (by_part M joint r (differ reversed (end_in old end r column)) (number_at joint.part_with.items column)) (differ end (branch_at joint.branches.items own).end) (M r column)
               ∙ ap (λ (b : Bool). by_part M joint r (differ b (end_in old end r column)) (number_at joint.part_with.items column)) t
               ∙ by_off true end column (number_at joint.part_with.items column)
               ∙ sym (rw (is_ne r joint.row apart, e) refl)
 
   -- ---- the arcs beside which nothing lies
 
-  pub part_turned : (old new : ArcSides) (turned : Bool) → turned ≡ true
+  pub part_reversed : (old new : ArcSides) (reversed : Bool) → reversed ≡ true
       → IsArcChanged (λ other. cell joint.row_marks own other && not (side_in old r other)) (λ end column. cell joint.column_marks own column && not (end_in old end r column)) old new r
-      → IsArcChanged (λ other. cell joint.row_marks own other && differ turned (side_in old r other)) (λ end column. cell joint.column_marks own column && differ turned (end_in old end r column)) old new r
-  part_turned old new turned e k = record {
+      → IsArcChanged (λ other. cell joint.row_marks own other && differ reversed (side_in old r other)) (λ end column. cell joint.column_marks own column && differ reversed (end_in old end r column)) old new r
+  part_reversed old new reversed e k = record {
     sizes = k.sizes;
     others = k.others;
     to_arcs = λ other l. k.to_arcs other l ∙ ap (λ t. cell joint.row_marks own other && t) (turns (side_in old r other));
     to_ends = λ end column l. k.to_ends end column l ∙ ap (λ t. cell joint.column_marks own column && t) (turns (end_in old end r column));
   }
     where
-      turns : (x : Bool) → not x ≡ differ turned x
+      turns : (x : Bool) → not x ≡ differ reversed x
       turns x = sym (ap (λ t. differ t x) e)
 
-  pub part_stays : (m : Matrix) (old : ArcSides) (first last : Grid) (turned : Bool) → turned ≡ false → turned ≡ side_in old r joint.row → number_at joint.part_of.items r ≡ Some own → FitsJoint (height m) m.width joint → AreOff M joint → AreTablesOf m old
+  pub part_stays : (m : Matrix) (old : ArcSides) (first last : Grid) (reversed : Bool) → reversed ≡ false → reversed ≡ side_in old r joint.row → number_at joint.part_of.items r ≡ Some own → FitsJoint (height m) m.width joint → AreOff M joint → AreTablesOf m old
       → IsClearBeside M joint old r → IsRowFilled (λ column. cell old.first r column && not (M joint.row column)) old.first first r old.first.width → IsRowFilled (λ column. cell old.last r column && not (M joint.row column)) old.last last r old.last.width
       → own < length joint.branches.items
-      → IsArcChanged (λ other. cell joint.row_marks own other && differ turned (side_in old r other)) (λ end column. cell joint.column_marks own column && differ turned (end_in old end r column)) old (record { arcs = old.arcs; first = first; last = last }) r
-  part_stays m old first last turned e is_side part fits off tables clear f l inside =
-      changed_by old old.arcs first last r (λ other. cell joint.row_marks own other && differ turned (side_in old r other)) (λ end column. cell joint.column_marks own column && differ turned (end_in old end r column))
-      (filled_same (λ other. cell joint.row_marks own other && differ turned (side_in old r other)) old.arcs r arcs)
-      (filled_as (λ column. cell old.first r column && not (M joint.row column)) (λ column. cell joint.column_marks own column && differ turned (end_in old true r column)) old.first first r (λ column. ends true column) f)
-      (filled_as (λ column. cell old.last r column && not (M joint.row column)) (λ column. cell joint.column_marks own column && differ turned (end_in old false r column)) old.last last r (λ column. ends false column) l)
+      → IsArcChanged (λ other. cell joint.row_marks own other && differ reversed (side_in old r other)) (λ end column. cell joint.column_marks own column && differ reversed (end_in old end r column)) old (record { arcs = old.arcs; first = first; last = last }) r
+  part_stays m old first last reversed e is_side part fits off tables clear f l inside =
+      changed_by old old.arcs first last r (λ other. cell joint.row_marks own other && differ reversed (side_in old r other)) (λ end column. cell joint.column_marks own column && differ reversed (end_in old end r column))
+      (filled_same (λ other. cell joint.row_marks own other && differ reversed (side_in old r other)) old.arcs r arcs)
+      (filled_as (λ column. cell old.first r column && not (M joint.row column)) (λ column. cell joint.column_marks own column && differ reversed (end_in old true r column)) old.first first r (λ column. ends true column) f)
+      (filled_as (λ column. cell old.last r column && not (M joint.row column)) (λ column. cell joint.column_marks own column && differ reversed (end_in old false r column)) old.last last r (λ column. ends false column) l)
       (omega (arith, tables.last_width, tables.first_width))
     where
-      same : (x : Bool) → differ turned x ≡ x
+      same : (x : Bool) → differ reversed x ≡ x
       same x = ap (λ t. differ t x) e
 
       other_part : (o : Option ℕ) → is_part own o ≡ false → o ≢ number_at joint.part_of.items r
       other_part o none q = not_both (is_part own o) (ap (is_part own) (q ∙ part) ∙ is_eq own own refl) none
 
-      arcs : (other : ℕ) → other < old.arcs.width → cell old.arcs r other ≡ (cell joint.row_marks own other && differ turned (side_in old r other))
+      arcs : (other : ℕ) → other < old.arcs.width → cell old.arcs r other ≡ (cell joint.row_marks own other && differ reversed (side_in old r other))
       arcs other w = go (two_cases (is_part own (number_at joint.part_of.items other)))
         where
           mark : cell joint.row_marks own other ≡ is_part own (number_at joint.part_of.items other)
           mark = fits.row_marks.exact own other inside (omega (arith, w, tables.arcs_width, fits.rows))
 
-          go : (is_part own (number_at joint.part_of.items other) ≡ true) ⊎ (is_part own (number_at joint.part_of.items other) ≡ false) → cell old.arcs r other ≡ (cell joint.row_marks own other && differ turned (side_in old r other))
-          go (inl q) = sym (ap (λ t. t && differ turned (side_in old r other)) (mark ∙ q) ∙ same (side_in old r other))
-          go (inr q) = at (same_or_not other joint.row) ∙ sym (ap (λ t. t && differ turned (side_in old r other)) (mark ∙ q))
+          go : (is_part own (number_at joint.part_of.items other) ≡ true) ⊎ (is_part own (number_at joint.part_of.items other) ≡ false) → cell old.arcs r other ≡ (cell joint.row_marks own other && differ reversed (side_in old r other))
+          go (inl q) = sym (ap (λ t. t && differ reversed (side_in old r other)) (mark ∙ q) ∙ same (side_in old r other))
+          go (inr q) = at (same_or_not other joint.row) ∙ sym (ap (λ t. t && differ reversed (side_in old r other)) (mark ∙ q))
             where
               at : (other ≡ joint.row) ⊎ (other ≢ joint.row) → side_in old r other ≡ false
               at (inl z) = ap (side_in old r) z ∙ sym is_side ∙ e
               at (inr z) = clear.arcs other z (other_part (number_at joint.part_of.items other) q)
 
-      ends : (end : Bool) (column : ℕ) → (end_in old end r column && not (M joint.row column)) ≡ (cell joint.column_marks own column && differ turned (end_in old end r column))
+      ends : (end : Bool) (column : ℕ) → (end_in old end r column && not (M joint.row column)) ≡ (cell joint.column_marks own column && differ reversed (end_in old end r column))
       ends end column = by_row (two_cases (M joint.row column)) (cases_lt column (length joint.part_with.items))
         where
           o : Option ℕ
@@ -345,14 +345,14 @@ module _ (M : ℕ → ℕ → Bool) (joint : Joint) (r own : ℕ) where
           mark (inr k) = cell_past joint.column_marks own column (omega (arith, k, fits.column_marks.wide)) ∙ sym (ap (is_part own) (get_or_past joint.part_with.items column None k))
 
           by_row : (M joint.row column ≡ true) ⊎ (M joint.row column ≡ false) → (column < length joint.part_with.items) ⊎ (length joint.part_with.items ≤ column)
-              → (end_in old end r column && not (M joint.row column)) ≡ (cell joint.column_marks own column && differ turned (end_in old end r column))
+              → (end_in old end r column && not (M joint.row column)) ≡ (cell joint.column_marks own column && differ reversed (end_in old end r column))
           by_row (inl q) k = ap (λ t. end_in old end r column && not t) q ∙ and_false (end_in old end r column)
-              ∙ sym (ap (λ t. t && differ turned (end_in old end r column)) (mark k ∙ ap (is_part own) (off column q)))
+              ∙ sym (ap (λ t. t && differ reversed (end_in old end r column)) (mark k ∙ ap (is_part own) (off column q)))
           by_row (inr q) k = ap (λ t. end_in old end r column && not t) q ∙ and_true (end_in old end r column) ∙ by_mark (two_cases (is_part own o))
             where
-              by_mark : (is_part own o ≡ true) ⊎ (is_part own o ≡ false) → end_in old end r column ≡ (cell joint.column_marks own column && differ turned (end_in old end r column))
-              by_mark (inl z) = sym (ap (λ t. t && differ turned (end_in old end r column)) (mark k ∙ z) ∙ same (end_in old end r column))
-              by_mark (inr z) = clear.ends end column q (other_part o z) ∙ sym (ap (λ t. t && differ turned (end_in old end r column)) (mark k ∙ z))
+              by_mark : (is_part own o ≡ true) ⊎ (is_part own o ≡ false) → end_in old end r column ≡ (cell joint.column_marks own column && differ reversed (end_in old end r column))
+              by_mark (inl z) = sym (ap (λ t. t && differ reversed (end_in old end r column)) (mark k ∙ z) ∙ same (end_in old end r column))
+              by_mark (inr z) = clear.ends end column q (other_part o z) ∙ sym (ap (λ t. t && differ reversed (end_in old end r column)) (mark k ∙ z))
 
 -- ---- one arc after another
 
@@ -372,9 +372,9 @@ joined_stays M joint old r a b k h = record {
 pub joined_from : (M : ℕ → ℕ → Bool) (joint : Joint) (m : Matrix) (old now new : ArcSides) (r : ℕ) → AreTablesOf m old → AreTablesOf m now → KeepsRow old now r → IsArcJoined M joint now new r → IsArcJoined M joint old new r
 joined_from M joint m old now new r a b k h = record {
   arcs = λ s l. h.arcs s (let e = a.arcs_width in let f = b.arcs_width in omega arith)
-      ∙ ap (λ (z : Bool). if r == joint.row then end_of joint (number_at joint.part_of.items s) else by_part M joint r z (number_at joint.part_of.items s))
+      ∙ ap (λ (z : Bool). if r == joint.row then branch_end joint (number_at joint.part_of.items s) else by_part M joint r z (number_at joint.part_of.items s))
       (ap (λ (z : Bool). differ z (side_in now r s)) (k.arcs joint.row) ∙ ap (differ (side_in old r joint.row)) (k.arcs s));
   ends = λ end column l. h.ends end column (let e = a.first_width in let f = b.first_width in omega arith)
-      ∙ lies_at M joint (turned_lies joint.row (side_in now) (end_in now)) (turned_lies joint.row (side_in old) (end_in old)) end r column
+      ∙ lies_at M joint (reversed_lies joint.row (side_in now) (end_in now)) (reversed_lies joint.row (side_in old) (end_in old)) end r column
       (ap (λ (z : Bool). differ z (end_in now end r column)) (k.arcs joint.row) ∙ ap (differ (side_in old r joint.row)) (k.ends end column));
 }

@@ -9,7 +9,7 @@ use Rattle.bridge_split.proofs.PartWalks.{no_number, same_number}
 use Rattle.cmr_base.proofs.Booleans.{and_is, not_is, or_is, or_true}
 use Rattle.cmr_base.proofs.Members.{in-append, in_at}
 use Rattle.cmr_base.proofs.RowLists.{not_both, in_or_not, is_eq, is_ne, same_or_not}
-use Rattle.graph_realise.specs.Joints.{AreMarks, AreNumbered, AreOfRows, IsNamed, IsTouched, is_part, number_at}
+use Rattle.graph_realise.specs.Joints.{ArePartMarks, AreNumbered, AreOfRows, IsPartNumber, IsPartTouched, is_part, number_at}
 use Rattle.graph_realise.specs.Tables.{Grid, cell, IsCellSet}
 use Rattle.graph_realise.specs.Numbers.{AreDisjoint}
 use Rattle.cmr_base.proofs.Places.{found_at}
@@ -42,12 +42,12 @@ module _ (M : ℕ → ℕ → Bool) (i : ℕ) where
   -- ---- the parts of columns
 
   module _ (parts : List (List ℕ)) where
-    pub named_none : (c : ℕ) (found : Option ℕ) → found ≡ None → IsNamed M i parts 0 c found
+    pub named_none : (c : ℕ) (found : Option ℕ) → found ≡ None → IsPartNumber M i parts 0 c found
     named_none c found e = inl (λ a r l. absurd (omega arith), e)
 
     -- the columns of one part more have its number
     pub named_more : (count : ℕ) (columns : ℕ → Bool) (c : ℕ) (old new : Option ℕ) → AreOfRows M i (slice_index_or parts count []) (length (slice_index_or parts count [])) columns
-        → IsNamed M i parts count c old → (columns c ≡ true → new ≡ Some count) → (columns c ≡ false → new ≡ old) → IsNamed M i parts (count + 1) c new
+        → IsPartNumber M i parts count c old → (columns c ≡ true → new ≡ Some count) → (columns c ≡ false → new ≡ old) → IsPartNumber M i parts (count + 1) c new
     named_more count columns c old new of so inside outside = go (columns c) refl
       where
         part : List ℕ
@@ -57,7 +57,7 @@ module _ (M : ℕ → ℕ → Bool) (i : ℕ) where
         never r true e h off on = let q = found_at part r h in absurd (not_both (columns c) (of.from q.0 c q.1 off (ap (λ (z : ℕ). M z c) q.2 ∙ on)) e)
         never r false e h off on = on
 
-        kept : columns c ≡ false → IsNamed M i parts count c old → IsNamed M i parts (count + 1) c new
+        kept : columns c ≡ false → IsPartNumber M i parts count c old → IsPartNumber M i parts (count + 1) c new
         kept e (inl h) = inl (λ a r l hr off. pick a r l hr off (cases_lt a count), outside e ∙ h.1)
           where
             pick : (a r : ℕ) → a < count + 1 → IsIn r (slice_index_or parts a []) → M i c ≡ false → (a < count) ⊎ (count ≤ a) → M r c ≡ false
@@ -65,16 +65,16 @@ module _ (M : ℕ → ℕ → Bool) (i : ℕ) where
             pick a r l hr off (inr k) = let q : a ≡ count = omega arith in never r (M r c) e (subst (λ (z : ℕ). IsIn r (slice_index_or parts z [])) q hr) off refl
         kept e (inr (a, r, l, hr, off, on, f)) = inr (a, r, omega arith, hr, off, on, outside e ∙ f)
 
-        go : (t : Bool) → columns c ≡ t → IsNamed M i parts (count + 1) c new
+        go : (t : Bool) → columns c ≡ t → IsPartNumber M i parts (count + 1) c new
         go true e = let q = of.into c e in let p = q.1 in inr (count, get_or part p.0 0, omega arith, in_at part p.0 p.1, q.0, p.2, inside e)
         go false e = kept e so
 
     -- the number of a part is that of its rows
     pub named_touched : (rows : List ℕ) (part_of : List (Option ℕ)) → AreParts M rows i parts → AreNumbered parts (length parts) part_of → (c : ℕ) (found : Option ℕ)
-        → IsNamed M i parts (length parts) c found → IsTouched M i rows part_of c found
+        → IsPartNumber M i parts (length parts) c found → IsPartTouched M i rows part_of c found
     named_touched rows part_of all numbered c found so = go (M i c) refl so
       where
-        go : (t : Bool) → M i c ≡ t → IsNamed M i parts (length parts) c found → IsTouched M i rows part_of c found
+        go : (t : Bool) → M i c ≡ t → IsPartNumber M i parts (length parts) c found → IsPartTouched M i rows part_of c found
         go true e (inl h) = inl (e, h.1)
         go true e (inr (a, r, l, hr, off, on, f)) = absurd (not_both (M i c) e off)
         go false e (inl h) = inr (e, inl (λ r hr. zero_at r hr (same_or_not r i), h.1))
@@ -183,13 +183,13 @@ marked_none numbers count line marks e so = record {
     go part at l (inl m) k = so.done part at l m
     go part at l (inr m) k = let g : at ≡ line = omega arith in so.left part at m ∙ sym (ap (λ (x : ℕ). is_part part (number_at numbers x)) g ∙ ap (is_part part) e)
 
-pub all_marked : (numbers : List (Option ℕ)) (count upto : ℕ) (marks : Grid) → length numbers ≤ upto → IsMarkedTo numbers count upto marks → AreMarks numbers count marks
+pub all_marked : (numbers : List (Option ℕ)) (count upto : ℕ) (marks : Grid) → length numbers ≤ upto → IsMarkedTo numbers count upto marks → ArePartMarks numbers count marks
 all_marked numbers count upto marks l so = record { tall = so.tall; wide = so.wide; exact = λ part line m k. so.done part line m (omega arith) }
 
 -- the part of a column is one of the parts
-pub named_number : (M : ℕ → ℕ → Bool) (i : ℕ) (parts : List (List ℕ)) (count column part : ℕ) (found : Option ℕ) → IsNamed M i parts count column found → found ≡ Some part → part < count
+pub named_number : (M : ℕ → ℕ → Bool) (i : ℕ) (parts : List (List ℕ)) (count column part : ℕ) (found : Option ℕ) → IsPartNumber M i parts count column found → found ≡ Some part → part < count
 named_number M i parts count column part found so e = go so
   where
-    go : IsNamed M i parts count column found → part < count
+    go : IsPartNumber M i parts count column found → part < count
     go (inl h) = absurd (no_number found part h.1 e)
     go (inr (a, r, l, hr, off, on, f)) = let q = same_number found a part f e in omega arith

@@ -84,7 +84,7 @@ module _ (M : ℕ → ℕ → Bool) (i : ℕ) (R : ℕ → Type 0) (hanging : Ha
   spot_far r q e = rw (differ_other (half (part r)) (half q) e) refl
 
   spot_below : (r q : ℕ) → above (part r) q ≡ false → spot r q ≡ false
-  spot_below r q e = rw e (go (not (differ (half (part r)) (half q))) (formula.is_in (M r) (hanging.common q)))
+  spot_below r q e = rw e (go (not (differ (half (part r)) (half q))) (formula.is_in_some (M r) (hanging.common q)))
     where
       go : (t u : Bool) → (t && false && u) ≡ false
       go true u = refl
@@ -96,7 +96,7 @@ module _ (M : ℕ → ℕ → Bool) (i : ℕ) (R : ℕ → Type 0) (hanging : Ha
   spot_is : (r q : ℕ) → half (part r) ≡ half q → above (part r) q ≡ true → has q ≡ true → spot r q ≡ M r (col q)
   spot_is r q e a h = rw (differ_same (half (part r)) (half q) e, a) (go (hanging.common q) h)
     where
-      go : (o : Option ℕ) → is_some o ≡ true → formula.is_in (M r) o ≡ M r (unwrap_or o 0)
+      go : (o : Option ℕ) → is_some o ≡ true → formula.is_in_some (M r) o ≡ M r (unwrap_or o 0)
       go None h = absurd (not_both false h refl)
       go (Some c) h = refl
 

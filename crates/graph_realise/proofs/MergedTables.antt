@@ -7,7 +7,7 @@ use Rattle.cmr_base.specs.Cuts.{differ, IsCuts}
 use Rattle.bridge_split.proofs.Links.{joined_off}
 use Rattle.cmr_base.proofs.RowLists.{two_cases, same_or_not, is_eq, is_ne}
 use Rattle.graph_realise.specs.Merging as formula
-use Rattle.graph_realise.specs.Merging.{Hanging, DescribesParts, KeepsCuts, hanging_by, turned_side, turned_lies}
+use Rattle.graph_realise.specs.Merging.{Hanging, DescribesParts, KeepsCuts, hanging_by, reversed_side, reversed_lies}
 use Rattle.graph_realise.proofs.CutTables.{is_fewer, is_same}
 use Rattle.graph_realise.proofs.MiddleArcs.{joined_side}
 use Rattle.graph_realise.proofs.HungCuts.{IsHung, hung_is, hung_same}
@@ -81,10 +81,10 @@ module _ (M : ℕ → ℕ → Bool) (S : List ℕ) (i : ℕ) (here : IsIn i S) (
       (kept_side : (r s : ℕ) → IsIn r S → r ≢ i → IsWith S i part (part r) s → r ≢ s → side r s ≡ ss (part r) r s)
       (kept_lies : (end : Bool) (r c : ℕ) → IsIn r S → r ≢ i → M i c ≡ false → lies end r c ≡ sl (part r) end r c) where
     abbrev merged_side : ℕ → ℕ → Bool
-    merged_side = formula.merged_side M i hanging (turned_side i side)
+    merged_side = formula.merged_side M i hanging (reversed_side i side)
 
     abbrev merged_lies : Bool → ℕ → ℕ → Bool
-    merged_lies = formula.merged_lies M i hanging (turned_lies i side lies)
+    merged_lies = formula.merged_lies M i hanging (reversed_lies i side lies)
 
     to_row : (r : ℕ) → IsIn r S → r ≢ i → side r i ≡ ss (part r) r i
     to_row r hr nr = kept_side r i hr nr (here, inl refl) nr
@@ -101,7 +101,7 @@ module _ (M : ℕ → ℕ → Bool) (S : List ℕ) (i : ℕ) (here : IsIn i S) (
     same_lies : (end : Bool) (r c : ℕ) → IsIn r S → merged_lies end r c ≡ formula.merged_lies M i hanging hung_lies end r c
     same_lies end r c hr = go (same_or_not r i) (two_cases (M i c))
       where
-        off : r ≢ i → M i c ≡ false → turned_lies i side lies end r c ≡ hung_lies end r c
+        off : r ≢ i → M i c ≡ false → reversed_lies i side lies end r c ≡ hung_lies end r c
         off a w = ap₂ differ (to_row r hr a) (kept_lies end r c hr a w ∙ sym (rw w refl))
 
         go : (r ≡ i) ⊎ (r ≢ i) → (M i c ≡ true) ⊎ (M i c ≡ false) → merged_lies end r c ≡ formula.merged_lies M i hanging hung_lies end r c
@@ -109,11 +109,11 @@ module _ (M : ℕ → ℕ → Bool) (S : List ℕ) (i : ℕ) (here : IsIn i S) (
         go (inr a) (inl w) = rw (is_ne r i a, w) refl
         go (inr a) (inr w) = rw (is_ne r i a, w) (touch (hanging.touched c))
           where
-            touch : (o : Option ℕ) → formula.end_off M i hanging (turned_lies i side lies) end r c o ≡ formula.end_off M i hanging hung_lies end r c o
+            touch : (o : Option ℕ) → formula.end_off M i hanging (reversed_lies i side lies) end r c o ≡ formula.end_off M i hanging hung_lies end r c o
             touch None = refl
             touch (Some q) = ap (λ (z : Bool). if nat_eq (part r) q then z else formula.spot M i hanging r q) (off a w)
 
-    pub merged_by_names : IsCuts M (λ r. IsIn r S) (formula.merged_side M i hanging (turned_side i side)) (formula.merged_lies M i hanging (turned_lies i side lies))
+    pub merged_by_names : IsCuts M (λ r. IsIn r S) (formula.merged_side M i hanging (reversed_side i side)) (formula.merged_lies M i hanging (reversed_lies i side lies))
     merged_by_names = is_same M (λ r. IsIn r S) (formula.merged_side M i hanging hung_side) merged_side (formula.merged_lies M i hanging hung_lies) merged_lies same_side same_lies
         (merged_is M i (λ r. IsIn r S) hanging P hung_side hung_lies hung_each)
 
@@ -135,8 +135,8 @@ module _ (M : ℕ → ℕ → Bool) (n : ℕ) (short : (r c : ℕ) → M r c ≡
       go (inr n) (inr e) = inr (subst (λ (z : ℕ). IsIn r (slice_index_or parts z [])) e (D.numbers r h.0 n).1)
 
   pub merged_cuts : IsCuts M (λ r. IsIn r S)
-      (formula.merged_side M i (hanging_by sides part weight common touched) (turned_side i side))
-      (formula.merged_lies M i (hanging_by sides part weight common touched) (turned_lies i side lies))
+      (formula.merged_side M i (hanging_by sides part weight common touched) (reversed_side i side))
+      (formula.merged_lies M i (hanging_by sides part weight common touched) (reversed_lies i side lies))
   merged_cuts = merged_by_names M S i here (hanging_by sides part weight common touched) (numbers_name M S i parts all part D.numbers)
       (lists_hang M n short S i parts all sides fit part weight common touched D) ss sl
       (λ x hx nx. is_fewer M (λ r. (r ≡ i) ⊎ IsIn r (slice_index_or parts (part x) [])) (IsWith S i part (part x)) (ss (part x)) (sl (part x)) (in_list x) (K (part x) (D.numbers x hx nx).0))
@@ -189,8 +189,8 @@ module _ (M : ℕ → ℕ → Bool) (n : ℕ) (short : (r c : ℕ) → M r c ≡
   lies_is a end r c l (inr m) hr w = refl
 
   pub merged_kept : IsCuts M (λ r. IsIn r S)
-      (formula.merged_side M i (hanging_by sides part weight common touched) (turned_side i side))
-      (formula.merged_lies M i (hanging_by sides part weight common touched) (turned_lies i side lies))
+      (formula.merged_side M i (hanging_by sides part weight common touched) (reversed_side i side))
+      (formula.merged_lies M i (hanging_by sides part weight common touched) (reversed_lies i side lies))
   merged_kept = merged_cuts M n short S i here parts all sides fit part weight common touched D
       (λ a. side_by a (cases_lt a (length parts))) (λ a. lies_by a (cases_lt a (length parts))) (λ a l. cuts_by a l (cases_lt a (length parts))) side lies
       (λ a r s l hr hs n. side_is a r s l (cases_lt a (length parts)) hr hs n) (λ a end r c l hr w. lies_is a end r c l (cases_lt a (length parts)) hr w)

@@ -6,7 +6,7 @@ use Rattle.std.proofs.lemmas.List.{length-drop}
 use Rattle.std.proofs.lemmas.List.FromFn.{length-range_with_len, map-range_with_len_more}
 use Rattle.cmr_base.proofs.RemovedLines.{first_lines_in, in_first_lines}
 use Rattle.cmr_base.specs.Cuts.{IsCuts}
-use Rattle.cmr_base.specs.GrownTrees.{IsOrdered, arcs_by, beyond, grown, node_of, pair_of, place, turned, walks_by}
+use Rattle.cmr_base.specs.GrownTrees.{IsOrdered, arcs_by, beyond, grown, node_of, pair_of, place, reversed_unless, walks_by}
 use Rattle.cmr_base.specs.LineSets.{first_lines}
 use Rattle.cmr_base.specs.Members.{IsIn}
 use Rattle.cmr_base.specs.declared.network.Pair.{Pair}
@@ -157,8 +157,8 @@ mapped_more {A} f k xs x e g ys h =
     h ∙ ap (λ (z : List A). z ++ x ∷ []) e ∙ ap (λ (z : A). map f (first_lines k) ++ z ∷ []) g ∙ sym (map-range_with_len_more f 0 k k (omega arith))
 
 pub arcs_more : (side : ℕ → ℕ → Bool) (lies : Bool → ℕ → ℕ → Bool) (order : List ℕ) (k : ℕ) (xs : List Pair) (x : Pair) → xs ≡ arcs_by side lies order k
-    → x ≡ turned (lies true k 0) (pair_of (grown (beyond side lies) order) k) → (ys : List Pair) → ys ≡ xs ++ x ∷ [] → ys ≡ arcs_by side lies order (k + 1)
-arcs_more side lies order k xs x e g ys h = mapped_more (λ (r : ℕ). turned (lies true r 0) (pair_of (grown (beyond side lies) order) r)) k xs x e g ys h
+    → x ≡ reversed_unless (lies true k 0) (pair_of (grown (beyond side lies) order) k) → (ys : List Pair) → ys ≡ xs ++ x ∷ [] → ys ≡ arcs_by side lies order (k + 1)
+arcs_more side lies order k xs x e g ys h = mapped_more (λ (r : ℕ). reversed_unless (lies true r 0) (pair_of (grown (beyond side lies) order) r)) k xs x e g ys h
 
 walk_by : (ℕ → ℕ → Bool) → (Bool → ℕ → ℕ → Bool) → List ℕ → ℕ → Pair
 walk_by side lies order column = record { tail = node_of (grown (beyond side lies) order) (place side lies true column); head = node_of (grown (beyond side lies) order) (place side lies false column) }

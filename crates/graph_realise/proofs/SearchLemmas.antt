@@ -13,8 +13,8 @@ use Rattle.cmr_base.proofs.ListsWithout.{head_below, increasing_distinct, increa
 use Rattle.cmr_base.proofs.Members.{in_at}
 use Rattle.cmr_base.proofs.RowLists.{is_eq, is_ne, not_both, same_or_not}
 use Rattle.graph_realise.specs.Branches.{branch_at}
-use Rattle.graph_realise.specs.Joints.{AreInRows, AreMarks, AreOff, FitsJoint, IsArcJoined, IsClearBeside, IsJointOf, IsPartWith, IsTouched, by_part, end_of, hanging_of, number_at, part_or_first}
-use Rattle.graph_realise.specs.Merging.{DescribesParts, Hanging, KeepsCuts, hanging_by, heavier, merged_lies, merged_side, spot, turned_lies, turned_side}
+use Rattle.graph_realise.specs.Joints.{AreInRows, ArePartMarks, AreOff, FitsJoint, IsArcJoined, IsClearBeside, IsJointOf, IsPartWith, IsPartTouched, by_part, branch_end, hanging_of, number_at, part_or_first}
+use Rattle.graph_realise.specs.Merging.{DescribesParts, Hanging, KeepsCuts, hanging_by, heavier, merged_lies, merged_side, spot, reversed_lies, reversed_side}
 use Rattle.graph_realise.specs.Numbers.{AreDisjoint}
 use Rattle.graph_realise.specs.Searches.{AreWholeBelow, IsSplit}
 use Rattle.graph_realise.specs.SideTables.{side_in, end_in, AreClear, KeepsOutside}
@@ -89,7 +89,7 @@ module _ (M : ℕ → ℕ → Bool) (m n : ℕ) (short : (r c : ℕ) → M r c �
   numbered r hr nr = let q = all.all r hr nr in (q.0, q.1, q.2, J.numbered.inside q.0 r q.1 q.2)
 
   -- the part that is named for a column
-  touched_at : (c : ℕ) → IsTouched M i S joint.part_of.items c (number_at joint.part_with.items c)
+  touched_at : (c : ℕ) → IsPartTouched M i S joint.part_of.items c (number_at joint.part_with.items c)
   touched_at c = named_touched M i parts S joint.part_of.items all J.numbered c (number_at joint.part_with.items c) (J.with_columns c)
 
   pub row_number : number_at joint.part_of.items i ≡ None
@@ -107,8 +107,8 @@ module _ (M : ℕ → ℕ → Bool) (m n : ℕ) (short : (r c : ℕ) → M r c �
     row_parts = λ row a e. let l = (J.numbered.only a row e).0 in let k = J.branches.many in omega arith;
     column_parts = λ column a e. by_column column a e (cases_lt column n);
     commons = λ a column e. common_in a column e (cases_lt a (length parts));
-    row_marks = subst (λ (count : ℕ). AreMarks joint.part_of.items count joint.row_marks) (sym J.branches.many) J.row_marks;
-    column_marks = subst (λ (count : ℕ). AreMarks joint.part_with.items count joint.column_marks) (sym J.branches.many) J.column_marks;
+    row_marks = subst (λ (count : ℕ). ArePartMarks joint.part_of.items count joint.row_marks) (sym J.branches.many) J.row_marks;
+    column_marks = subst (λ (count : ℕ). ArePartMarks joint.part_with.items count joint.column_marks) (sym J.branches.many) J.column_marks;
     few = omega (arith, J.few, J.branches.many);
   }
     where
@@ -287,28 +287,28 @@ module _ (M : ℕ → ℕ → Bool) (m n : ℕ) (short : (r c : ℕ) → M r c �
 
   module _ (old new : ArcSides) (wide : new.first.width ≡ n) (wide_last : new.last.width ≡ n) (new_arcs : new.arcs.width ≡ m) (old_wide : old.first.width ≡ n) (old_arcs : old.arcs.width ≡ m)
       (K : (a : ℕ) → a < length parts → KeepsCuts M i (slice_index_or parts a []) (side_in old) (end_in old)) (joined : (r : ℕ) → IsIn r S → IsArcJoined M joint old new r) where
-    cuts : IsCuts M (λ r. IsIn r S) (merged_side M i (hanging_of joint) (turned_side i (side_in old))) (merged_lies M i (hanging_of joint) (turned_lies i (side_in old) (end_in old)))
-    cuts = subst (λ (h : Hanging). IsCuts M (λ r. IsIn r S) (merged_side M i h (turned_side i (side_in old))) (merged_lies M i h (turned_lies i (side_in old) (end_in old)))) hanging_is
+    cuts : IsCuts M (λ r. IsIn r S) (merged_side M i (hanging_of joint) (reversed_side i (side_in old))) (merged_lies M i (hanging_of joint) (reversed_lies i (side_in old) (end_in old)))
+    cuts = subst (λ (h : Hanging). IsCuts M (λ r. IsIn r S) (merged_side M i h (reversed_side i (side_in old))) (merged_lies M i h (reversed_lies i (side_in old) (end_in old)))) hanging_is
         (merged_kept M n short S i here parts all ends fit (λ r. part_or_first (number_at joint.part_of.items r)) (λ p. (branch_at joint.branches.items p).weight) (λ p. (branch_at joint.branches.items p).common) (number_at joint.part_with.items)
         describes (side_in old) (end_in old) K)
 
-    sides : (r s : ℕ) → IsIn r S → IsIn s S → r ≢ s → side_in new r s ≡ merged_side M i (hanging_of joint) (turned_side i (side_in old)) r s
+    sides : (r s : ℕ) → IsIn r S → IsIn s S → r ≢ s → side_in new r s ≡ merged_side M i (hanging_of joint) (reversed_side i (side_in old)) r s
     sides r s hr hs n = (joined r hr).arcs s (let l = below s hs in omega arith)
-        ∙ ap (λ (z : ℕ). if r == z then end_of joint (number_at joint.part_of.items s) else by_part M joint r (turned_side z (side_in old) r s) (number_at joint.part_of.items s)) J.row
+        ∙ ap (λ (z : ℕ). if r == z then branch_end joint (number_at joint.part_of.items s) else by_part M joint r (reversed_side z (side_in old) r s) (number_at joint.part_of.items s)) J.row
         ∙ go (same_or_not r i) (same_or_not s i)
       where
         spots : (q : ℕ) → spot M joint.row (hanging_of joint) r q ≡ spot M i (hanging_of joint) r q
         spots q = refl
 
         go : (r ≡ i) ⊎ (r ≢ i) → (s ≡ i) ⊎ (s ≢ i)
-            → (if r == i then end_of joint (number_at joint.part_of.items s) else by_part M joint r (turned_side i (side_in old) r s) (number_at joint.part_of.items s))
-            ≡ merged_side M i (hanging_of joint) (turned_side i (side_in old)) r s
+            → (if r == i then branch_end joint (number_at joint.part_of.items s) else by_part M joint r (reversed_side i (side_in old) r s) (number_at joint.part_of.items s))
+            ≡ merged_side M i (hanging_of joint) (reversed_side i (side_in old)) r s
         go (inl a) (inl b) = absurd (n (a ∙ sym b))
         go (inl a) (inr b) = let q = numbered s hs b in rw (is_eq r i a, q.3) refl
         go (inr a) (inl b) = rw (is_ne r i a, is_eq s i b, b, row_number) refl
         go (inr a) (inr b) = let q = numbered s hs b in rw (is_ne r i a, is_ne s i b, q.3) refl
 
-    past : (end : Bool) (r c : ℕ) → n ≤ c → end_in new end r c ≡ merged_lies M i (hanging_of joint) (turned_lies i (side_in old) (end_in old)) end r c
+    past : (end : Bool) (r c : ℕ) → n ≤ c → end_in new end r c ≡ merged_lies M i (hanging_of joint) (reversed_lies i (side_in old) (end_in old)) end r c
     past end r c l = outside end ∙ sym (go (same_or_not r i))
       where
         outside : (end : Bool) → end_in new end r c ≡ false
@@ -321,19 +321,19 @@ module _ (M : ℕ → ℕ → Bool) (m n : ℕ) (short : (r c : ℕ) → M r c �
         none : number_at joint.part_with.items c ≡ None
         none = get_or_past joint.part_with.items c None (let k = J.columns in omega arith)
 
-        go : (r ≡ i) ⊎ (r ≢ i) → merged_lies M i (hanging_of joint) (turned_lies i (side_in old) (end_in old)) end r c ≡ false
+        go : (r ≡ i) ⊎ (r ≢ i) → merged_lies M i (hanging_of joint) (reversed_lies i (side_in old) (end_in old)) end r c ≡ false
         go (inl a) = rw (is_eq r i a, off, none) refl
         go (inr a) = rw (is_ne r i a, off, none) refl
 
-    tips : (end : Bool) (r c : ℕ) → IsIn r S → end_in new end r c ≡ merged_lies M i (hanging_of joint) (turned_lies i (side_in old) (end_in old)) end r c
+    tips : (end : Bool) (r c : ℕ) → IsIn r S → end_in new end r c ≡ merged_lies M i (hanging_of joint) (reversed_lies i (side_in old) (end_in old)) end r c
     tips end r c hr = go (cases_lt c n)
       where
-        go : (c < n) ⊎ (n ≤ c) → end_in new end r c ≡ merged_lies M i (hanging_of joint) (turned_lies i (side_in old) (end_in old)) end r c
-        go (inl l) = (joined r hr).ends end c (omega arith) ∙ ap (λ (z : ℕ). merged_lies M z (hanging_of joint) (turned_lies z (side_in old) (end_in old)) end r c) J.row
+        go : (c < n) ⊎ (n ≤ c) → end_in new end r c ≡ merged_lies M i (hanging_of joint) (reversed_lies i (side_in old) (end_in old)) end r c
+        go (inl l) = (joined r hr).ends end c (omega arith) ∙ ap (λ (z : ℕ). merged_lies M z (hanging_of joint) (reversed_lies z (side_in old) (end_in old)) end r c) J.row
         go (inr l) = past end r c l
 
     pub joined_cuts : IsCuts M (λ r. IsIn r S) (side_in new) (end_in new)
-    joined_cuts = is_same M (λ r. IsIn r S) (merged_side M i (hanging_of joint) (turned_side i (side_in old))) (side_in new) (merged_lies M i (hanging_of joint) (turned_lies i (side_in old) (end_in old))) (end_in new) sides tips cuts
+    joined_cuts = is_same M (λ r. IsIn r S) (merged_side M i (hanging_of joint) (reversed_side i (side_in old))) (side_in new) (merged_lies M i (hanging_of joint) (reversed_lies i (side_in old) (end_in old))) (end_in new) sides tips cuts
 
     -- beside all rows nothing lies
     pub joined_clear : AreClear M S new
@@ -346,22 +346,22 @@ module _ (M : ℕ → ℕ → Bool) (m n : ℕ) (short : (r c : ℕ) → M r c �
         no_part s n None e = e
         no_part s n (Some a) e = let q = J.numbered.only a s e in absurd (n (all.only a s q.0 q.1).0)
 
-        in_none : (r : ℕ) (within t : Bool) → (if t then end_of joint None else by_part M joint r within None) ≡ false
+        in_none : (r : ℕ) (within t : Bool) → (if t then branch_end joint None else by_part M joint r within None) ≡ false
         in_none r within true = refl
         in_none r within false = refl
 
         beside : (r s : ℕ) → IsIn r S → ¬ (IsIn s S) → (s < m) ⊎ (m ≤ s) → side_in new r s ≡ false
         beside r s hr n (inl l) = (joined r hr).arcs s (omega arith)
-            ∙ ap (λ (o : Option ℕ). if r == joint.row then end_of joint o else by_part M joint r (turned_side joint.row (side_in old) r s) o) (no_part s n (number_at joint.part_of.items s) refl)
-            ∙ in_none r (turned_side joint.row (side_in old) r s) (r == joint.row)
+            ∙ ap (λ (o : Option ℕ). if r == joint.row then branch_end joint o else by_part M joint r (reversed_side joint.row (side_in old) r s) o) (no_part s n (number_at joint.part_of.items s) refl)
+            ∙ in_none r (reversed_side joint.row (side_in old) r s) (r == joint.row)
         beside r s hr n (inr l) = cell_past new.arcs r s (omega arith)
 
-        unnamed : (c : ℕ) → ((x : ℕ) → IsIn x S → M x c ≡ false) → IsTouched M i S joint.part_of.items c (number_at joint.part_with.items c) → number_at joint.part_with.items c ≡ None
+        unnamed : (c : ℕ) → ((x : ℕ) → IsIn x S → M x c ≡ false) → IsPartTouched M i S joint.part_of.items c (number_at joint.part_with.items c) → number_at joint.part_with.items c ≡ None
         unnamed c none (inl h) = h.1
         unnamed c none (inr (off, inl h)) = h.1
         unnamed c none (inr (off, inr (x, hx, on, e))) = absurd (not_both (M x c) on (none x hx))
 
-        away : (end : Bool) (r c : ℕ) → M i c ≡ false → number_at joint.part_with.items c ≡ None → (r ≡ i) ⊎ (r ≢ i) → merged_lies M i (hanging_of joint) (turned_lies i (side_in old) (end_in old)) end r c ≡ false
+        away : (end : Bool) (r c : ℕ) → M i c ≡ false → number_at joint.part_with.items c ≡ None → (r ≡ i) ⊎ (r ≢ i) → merged_lies M i (hanging_of joint) (reversed_lies i (side_in old) (end_in old)) end r c ≡ false
         away end r c off none (inl a) = rw (is_eq r i a, off, none) refl
         away end r c off none (inr a) = rw (is_ne r i a, off, none) refl
 

@@ -6,7 +6,7 @@ use Rattle.cmr_base.proofs.Members.{in_at}
 use Rattle.cmr_base.proofs.RowLists.{same_or_not}
 use Rattle.cmr_base.proofs.Places.{all_placed, more_placed}
 use Rattle.cmr_base.proofs.Submatrices.{increasing_places}
-use Rattle.graph_realise.specs.SideTables.{KeepsRow, KeepsOthers, KeepsOutside, AreRedrawn}
+use Rattle.graph_realise.specs.SideTables.{KeepsRow, KeepsOtherArcs, KeepsOutside, AreRedrawn}
 use Rattle.graph_realise.specs.declared.arc_sides.ArcSides.{ArcSides}
 
 pub keeps_row_trans : (a b c : ArcSides) (row : ℕ) → KeepsRow a b row → KeepsRow b c row → KeepsRow a c row
@@ -22,7 +22,7 @@ keeps_row_same a row = record { arcs = λ other. refl; ends = λ end column. ref
 
 -- one row more
 pub redrawn_more : (P : ℕ → ArcSides → Type 0) (same : (r : ℕ) (a b : ArcSides) → KeepsRow a b r → P r a → P r b) (rows : List ℕ) (count : ℕ) (old now new : ArcSides)
-    → AreRedrawn P rows count old now → KeepsOthers now new (get_or rows count 0) → P (get_or rows count 0) new → AreRedrawn P rows (count + 1) old new
+    → AreRedrawn P rows count old now → KeepsOtherArcs now new (get_or rows count 0) → P (get_or rows count 0) new → AreRedrawn P rows (count + 1) old new
 redrawn_more P same rows count old now new so others here = record {
   done = more_placed (λ r. P r new) rows count (λ k l. pick k l (same_or_not (get_or rows k 0) (get_or rows count 0))) here;
   kept = λ r h. keeps_row_trans old now new r (so.kept r (λ k l. h k (omega arith))) (others r (λ e. h count (omega arith) (sym e)));

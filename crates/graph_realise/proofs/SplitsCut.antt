@@ -13,7 +13,7 @@ use Rattle.cmr_base.proofs.Options.{some_same}
 use Rattle.cmr_base.proofs.RemovedLines.{in_first_lines, first_lines_in}
 use Rattle.cmr_base.proofs.RowLists.{not_both, two_cases, same_or_not, search_rows}
 use Rattle.graph_realise.specs.Merging as formula
-use Rattle.graph_realise.specs.Merging.{Hanging, heavier, turned_side, turned_lies}
+use Rattle.graph_realise.specs.Merging.{Hanging, heavier, reversed_side, reversed_lies}
 use Rattle.graph_realise.proofs.CutTables.{is_fewer, has_fewer}
 use Rattle.graph_realise.proofs.CutsSplit.{cuts_split}
 use Rattle.graph_realise.proofs.PartRows.{part_in, with_in}
@@ -125,8 +125,8 @@ module _ (M : ℕ → ℕ → Bool) (n : ℕ) (short : (r c : ℕ) → M r c ≡
   split_cuts : HasCuts M (λ r. IsIn r S)
   unfolding hanging half weight
   split_cuts = record {
-    side = formula.merged_side M i hanging (turned_side i side_of);
-    lies = formula.merged_lies M i hanging (turned_lies i side_of lies_of);
+    side = formula.merged_side M i hanging (reversed_side i side_of);
+    lies = formula.merged_lies M i hanging (reversed_lies i side_of lies_of);
     cuts = merged_by_names M S i here hanging named
         (names_hang M n short S i part half
         (λ j k hj hk nj nk ne e. agree j k hj hk nj nk ne (sym (half_is j hj nj) ∙ e ∙ half_is k hk nk))

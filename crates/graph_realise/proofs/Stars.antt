@@ -6,11 +6,11 @@ use Rattle.cmr_base.specs.Splits.{HasNoThree}
 use Rattle.std.specs.List.Sorted.{IsStrictlyIncreasing}
 use Rattle.cmr_base.proofs.ListsWithout.{head_below, increasing_tail}
 use Rattle.cmr_base.proofs.Members.{in_at}
-use Rattle.cmr_base.proofs.Booleans.{eq_turned, not_not}
+use Rattle.cmr_base.proofs.Booleans.{eq_swapped, not_not}
 use Rattle.cmr_base.proofs.RowLists.{not_both, is_eq, is_ne}
 use Rattle.std.proofs.lemmas.Bool.{cases_lt}
 use Rattle.graph_realise.specs.Tables.{IsRowFilled}
-use Rattle.graph_realise.specs.SideTables.{side_in, end_in, AreClear, KeepsOthers, KeepsRow}
+use Rattle.graph_realise.specs.SideTables.{side_in, end_in, AreClear, KeepsOtherArcs, KeepsRow}
 use Rattle.graph_realise.proofs.TableLemmas.{cell_past}
 use Rattle.graph_realise.specs.Rays.{is_first, star_end, AreSeen, IsRay, IsRayAfter}
 use Rattle.graph_realise.specs.declared.arc_sides.ArcSides.{ArcSides}
@@ -24,7 +24,7 @@ first_is M (r ∷ rows) row column h e = go (M r column) refl h (λ q. first_is 
   where
     go : (t : Bool) → M r column ≡ t → (row ≡ r) ⊎ IsIn row rows → (IsIn row rows → is_first M rows row column ≡ nat_eq row (lead M rows column))
         → (if t then r == row else is_first M rows row column) ≡ nat_eq row (cond t r (lead M rows column))
-    go true f h rest = eq_turned r row
+    go true f h rest = eq_swapped r row
     go false f (inl q) rest = absurd (not_both (M row column) e (ap (λ (z : ℕ). M z column) q ∙ f))
     go false f (inr q) rest = rest q
 
@@ -132,7 +132,7 @@ module _ (M : ℕ → ℕ → Bool) where
 module _ (M : ℕ → ℕ → Bool) (n : ℕ) (short : (r c : ℕ) → M r c ≡ true → c < n) (columns seen : ℕ → Bool) (row : ℕ) (same : (c : ℕ) → columns c ≡ M row c) (old new : ArcSides) (first_wide : old.first.width ≡ n) (last_wide : old.last.width ≡ n)
     (cleared : IsRowFilled (λ column. false) old.arcs new.arcs row old.arcs.width) (first : IsRowFilled (λ column. columns column && not (seen column)) old.first new.first row old.first.width)
     (last : IsRowFilled (λ column. columns column && seen column) old.last new.last row old.last.width) where
-  pub ray_others : KeepsOthers old new row
+  pub ray_others : KeepsOtherArcs old new row
   ray_others r off = record { arcs = λ other. cleared.rows.others r other off; ends = λ end column. tip end column }
     where
       tip : (end : Bool) (column : ℕ) → end_in new end r column ≡ end_in old end r column

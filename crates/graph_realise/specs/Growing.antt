@@ -28,7 +28,7 @@ IsSpotIn m n (First column) = column < n
 IsSpotIn m n (Last column) = column < n
 
 -- behind the last arc of an order that lies beyond this one
-pub record IsPlaceIn (sides : ArcSides) (order : List ℕ) (arc found : ℕ) : Type 0 where
+pub record IsPlaceInOrder (sides : ArcSides) (order : List ℕ) (arc found : ℕ) : Type 0 where
   pub within : found ≤ length order
   pub last : (k : ℕ) → k + 1 ≡ found → is_beyond sides arc (slice_index order k) ≡ true
   pub behind : (k : ℕ) → found ≤ k → k < length order → is_beyond sides arc (slice_index order k) ≡ false

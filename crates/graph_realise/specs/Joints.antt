@@ -8,7 +8,7 @@ use Rattle.cmr_base.specs.Members.{IsIn}
 use Rattle.cmr_base.specs.Trees.{support}
 pub use Rattle.bridge_split.specs.PartNumbers.{number_at, is_number as is_part}
 use Rattle.graph_realise.specs.Branches.{AreBranches, branch_at}
-use Rattle.graph_realise.specs.Merging.{Hanging, heavier, spot, merged_lies, turned_side, turned_lies}
+use Rattle.graph_realise.specs.Merging.{Hanging, heavier, spot, merged_lies, reversed_side, reversed_lies}
 use Rattle.graph_realise.specs.SideTables.{side_in, end_in, IsArcChanged}
 use Rattle.graph_realise.specs.Tables.{AreChunksOf, Grid, cell}
 use Rattle.graph_realise.specs.declared.arc_sides.ArcSides.{ArcSides}
@@ -43,12 +43,12 @@ IsPartWith M rows numbers column found =
     (((r : ℕ) → IsIn r rows → M r column ≡ false) × (found ≡ None)) ⊎ ((r : ℕ) × IsIn r rows × (M r column ≡ true) × (found ≡ number_at numbers r))
 
 -- the same for a column in which row i is 0, and none for the others
-abbrev pub IsTouched : (ℕ → ℕ → Bool) → ℕ → List ℕ → List (Option ℕ) → ℕ → Option ℕ → Type 0
-IsTouched M i rows numbers column found = ((M i column ≡ true) × (found ≡ None)) ⊎ ((M i column ≡ false) × IsPartWith M rows numbers column found)
+abbrev pub IsPartTouched : (ℕ → ℕ → Bool) → ℕ → List ℕ → List (Option ℕ) → ℕ → Option ℕ → Type 0
+IsPartTouched M i rows numbers column found = ((M i column ≡ true) × (found ≡ None)) ⊎ ((M i column ≡ false) × IsPartWith M rows numbers column found)
 
 -- the number of some of the first parts with a row that is not 0 in a column in which row i is 0, unless there is none
-abbrev pub IsNamed : (ℕ → ℕ → Bool) → ℕ → List (List ℕ) → ℕ → ℕ → Option ℕ → Type 0
-IsNamed M i parts count column found =
+abbrev pub IsPartNumber : (ℕ → ℕ → Bool) → ℕ → List (List ℕ) → ℕ → ℕ → Option ℕ → Type 0
+IsPartNumber M i parts count column found =
     (((a r : ℕ) → a < count → IsIn r (slice_index_or parts a []) → M i column ≡ false → M r column ≡ false) × (found ≡ None))
     ⊎ ((a : ℕ) × (r : ℕ) × (a < count) × IsIn r (slice_index_or parts a []) × (M i column ≡ false) × (M r column ≡ true) × (found ≡ Some a))
 
@@ -58,7 +58,7 @@ pub record AreOfRows (M : ℕ → ℕ → Bool) (i : ℕ) (rows : List ℕ) (pla
   pub from : (p column : ℕ) → p < place → M i column ≡ false → M (slice_index rows p) column ≡ true → columns column ≡ true
 
 -- a table with a line for each part, which marks the lines with its number
-pub record AreMarks (numbers : List (Option ℕ)) (count : ℕ) (marks : Grid) : Type 0 where
+pub record ArePartMarks (numbers : List (Option ℕ)) (count : ℕ) (marks : Grid) : Type 0 where
   pub tall : marks.height ≡ count
   pub wide : marks.width ≡ length numbers
   pub exact : (part line : ℕ) → part < count → line < length numbers → cell marks part line ≡ is_part part (number_at numbers line)
@@ -70,10 +70,10 @@ pub record IsJointOf (M : ℕ → ℕ → Bool) (m n i : ℕ) (parts : List (Lis
   pub columns : length joint.part_with.items ≡ n
   pub numbered : AreNumbered parts (length parts) joint.part_of.items
   pub branches : AreBranches M n i parts ends (length parts) joint.branches.items
-  pub with_columns : (column : ℕ) → IsNamed M i parts (length parts) column (number_at joint.part_with.items column)
+  pub with_columns : (column : ℕ) → IsPartNumber M i parts (length parts) column (number_at joint.part_with.items column)
   pub own_chunks : AreChunksOf (M i) n joint.row_chunks
-  pub row_marks : AreMarks joint.part_of.items (length parts) joint.row_marks
-  pub column_marks : AreMarks joint.part_with.items (length parts) joint.column_marks
+  pub row_marks : ArePartMarks joint.part_of.items (length parts) joint.row_marks
+  pub column_marks : ArePartMarks joint.part_with.items (length parts) joint.column_marks
   pub few : length parts ≤ MAX_ROWS
 
 -- numbers and columns that are in range
@@ -84,8 +84,8 @@ pub record FitsJoint (m n : ℕ) (joint : Joint) : Type 0 where
   pub row_parts : (row a : ℕ) → number_at joint.part_of.items row ≡ Some a → a < length joint.branches.items
   pub column_parts : (column a : ℕ) → number_at joint.part_with.items column ≡ Some a → a < length joint.branches.items
   pub commons : (a column : ℕ) → (branch_at joint.branches.items a).common ≡ Some column → column < n
-  pub row_marks : AreMarks joint.part_of.items (length joint.branches.items) joint.row_marks
-  pub column_marks : AreMarks joint.part_with.items (length joint.branches.items) joint.column_marks
+  pub row_marks : ArePartMarks joint.part_of.items (length joint.branches.items) joint.row_marks
+  pub column_marks : ArePartMarks joint.part_with.items (length joint.branches.items) joint.column_marks
   pub few : length joint.branches.items ≤ MAX_ROWS
 
 -- the tables have a row for the arc, and the marks a line for the part
@@ -116,9 +116,9 @@ pub record FitsMatrix (m : Matrix) (joint : Joint) : Type 0 where
   pub chunks : AreChunksOf (support m joint.row) m.width joint.row_chunks
 
 -- the end of the row's arc where a part is
-abbrev pub end_of : Joint → Option ℕ → Bool
-end_of joint None = false
-end_of joint (Some part) = (branch_at joint.branches.items part).end
+abbrev pub branch_end : Joint → Option ℕ → Bool
+branch_end joint None = false
+branch_end joint (Some part) = (branch_at joint.branches.items part).end
 
 -- whether it is one of the first parts for which a test holds
 abbrev pub is_chosen : (ℕ → Bool) → ℕ → Option ℕ → Bool
@@ -142,8 +142,8 @@ module _ (M : ℕ → ℕ → Bool) (joint : Joint) where
 
   abbrev pub joined_side : ArcSides → ℕ → ℕ → Bool
   joined_side old r s =
-      if r == joint.row then end_of joint (number_at joint.part_of.items s)
-      else by_part r (turned_side joint.row (side_in old) r s) (number_at joint.part_of.items s)
+      if r == joint.row then branch_end joint (number_at joint.part_of.items s)
+      else by_part r (reversed_side joint.row (side_in old) r s) (number_at joint.part_of.items s)
 
   -- whether one of the first parts but arc r's own hangs on the side true of it
   abbrev pub hung : ℕ → ℕ → ℕ → Option ℕ → Bool
@@ -161,4 +161,4 @@ module _ (M : ℕ → ℕ → Bool) (joint : Joint) where
   -- the sides of arc r in the tree of all rows
   pub record IsArcJoined (old new : ArcSides) (r : ℕ) : Type 0 where
     pub arcs : (s : ℕ) → s < old.arcs.width → side_in new r s ≡ joined_side old r s
-    pub ends : (end : Bool) (column : ℕ) → column < old.first.width → end_in new end r column ≡ merged_lies M joint.row (hanging_of joint) (turned_lies joint.row (side_in old) (end_in old)) end r column
+    pub ends : (end : Bool) (column : ℕ) → column < old.first.width → end_in new end r column ≡ merged_lies M joint.row (hanging_of joint) (reversed_lies joint.row (side_in old) (end_in old)) end r column

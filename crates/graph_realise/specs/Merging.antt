@@ -46,22 +46,22 @@ heavier weight p q = ltb (weight q) (weight p) || weight q == weight p && ltb q 
 abbrev pub hanging_by : List ℕ → (ℕ → ℕ) → (ℕ → ℕ) → (ℕ → Option ℕ) → (ℕ → Option ℕ) → Hanging
 hanging_by sides part weight common touched = record { part = part; half = λ p. slice_index_or sides p 0 == 1; above = heavier weight; common = common; touched = touched }
 
-abbrev pub is_in : (ℕ → Bool) → Option ℕ → Bool
-is_in row None = false
-is_in row (Some column) = row column
+abbrev pub is_in_some : (ℕ → Bool) → Option ℕ → Bool
+is_in_some row None = false
+is_in_some row (Some column) = row column
 
--- the sides of the arcs turned round so that arc i lies on side false
+-- the sides of the arcs reversed so that arc i lies on side false
 module _ (i : ℕ) (side : ℕ → ℕ → Bool) where
-  abbrev pub turned_side : ℕ → ℕ → Bool
-  turned_side r s = differ (side r i) (side r s)
+  abbrev pub reversed_side : ℕ → ℕ → Bool
+  reversed_side r s = differ (side r i) (side r s)
 
-  abbrev pub turned_lies : (Bool → ℕ → ℕ → Bool) → Bool → ℕ → ℕ → Bool
-  turned_lies lies end r c = differ (side r i) (lies end r c)
+  abbrev pub reversed_lies : (Bool → ℕ → ℕ → Bool) → Bool → ℕ → ℕ → Bool
+  reversed_lies lies end r c = differ (side r i) (lies end r c)
 
 module _ (M : ℕ → ℕ → Bool) (i : ℕ) (hanging : Hanging) where
   -- the side of arc r on which another part lies: where it hangs at a node of r's part, the node at which its common columns leave
   abbrev pub spot : ℕ → ℕ → Bool
-  spot r q = not (differ (hanging.half (hanging.part r)) (hanging.half q)) && hanging.above (hanging.part r) q && is_in (M r) (hanging.common q)
+  spot r q = not (differ (hanging.half (hanging.part r)) (hanging.half q)) && hanging.above (hanging.part r) q && is_in_some (M r) (hanging.common q)
 
   -- the side of arc r on which arc s lies, where side tells it within each part
   abbrev pub merged_side : (ℕ → ℕ → Bool) → ℕ → ℕ → Bool

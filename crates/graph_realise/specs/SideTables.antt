@@ -28,8 +28,8 @@ pub record KeepsRow (old new : ArcSides) (row : ℕ) : Type 0 where
   pub ends : (end : Bool) (column : ℕ) → end_in new end row column ≡ end_in old end row column
 
 -- and those of all arcs but one
-abbrev pub KeepsOthers : ArcSides → ArcSides → ℕ → Type 0
-KeepsOthers old new row = (r : ℕ) → r ≢ row → KeepsRow old new r
+abbrev pub KeepsOtherArcs : ArcSides → ArcSides → ℕ → Type 0
+KeepsOtherArcs old new row = (r : ℕ) → r ≢ row → KeepsRow old new r
 
 -- and those of all arcs that are not in the list
 abbrev pub KeepsOutside : ArcSides → ArcSides → List ℕ → Type 0
@@ -43,7 +43,7 @@ pub record AreClear (M : ℕ → ℕ → Bool) (S : List ℕ) (sides : ArcSides)
 -- one arc has these sides of the arcs and of the ends of columns
 pub record IsArcChanged (arcs : ℕ → Bool) (ends : Bool → ℕ → Bool) (old new : ArcSides) (row : ℕ) : Type 0 where
   pub sizes : (m : Matrix) → AreTablesOf m old → AreTablesOf m new
-  pub others : KeepsOthers old new row
+  pub others : KeepsOtherArcs old new row
   pub to_arcs : (other : ℕ) → other < old.arcs.width → side_in new row other ≡ arcs other
   pub to_ends : (end : Bool) (column : ℕ) → column < old.first.width → end_in new end row column ≡ ends end column
 

@@ -1,11 +1,11 @@
 // A tree grown arc by arc from the sides of its arcs.
 ghost use Rattle.std.specs.Prelude.{◌≡◌, ◌<◌, ◌≤◌, ℕ, true, IfOk, length};
 ghost use Rattle.cmr_base.specs.Cuts.{IsCuts};
-ghost use Rattle.cmr_base.specs.GrownTrees.{arcs_by, grown, node_of, pair_of, turned, walks_by};
+ghost use Rattle.cmr_base.specs.GrownTrees.{arcs_by, grown, node_of, pair_of, reversed_unless, walks_by};
 ghost use Rattle.cmr_base.specs.LineSets.{AllBelow, first_lines};
 ghost use Rattle.cmr_base.specs.Matrix.{height, IsMatrix};
 ghost use Rattle.cmr_base.specs.Trees.{RealisesSupport, support};
-ghost use Rattle.graph_realise.specs.Growing.{AreNear, IsPlaceIn, IsSpotIn, is_beyond, is_past};
+ghost use Rattle.graph_realise.specs.Growing.{AreNear, IsPlaceInOrder, IsSpotIn, is_beyond, is_past};
 ghost use Rattle.graph_realise.specs.Orders.{IsOrder};
 ghost use Rattle.graph_realise.specs.SideTables.{AreTablesOf, side_in, end_in};
 
@@ -106,7 +106,7 @@ fn place_in(matrix: &Matrix, sides: &ArcSides, near: &[bool], order: &[u32], arc
     requires near { AreNear sides.now (height matrix.now) near.now }
     requires order { AllBelow (height matrix.now) order.now }
     requires arc { arc < height matrix.now }
-    ensures { IsPlaceIn sides.now order.now arc result }
+    ensures { IsPlaceInOrder sides.now order.now arc result }
 {
     let mut place = order.len();
     'places: while place > 0 {
@@ -163,7 +163,7 @@ fn arc_of(matrix: &Matrix, sides: &ArcSides, near: &[bool], order: &[u32], row: 
     requires order { AllBelow (height matrix.now) order.now }
     requires few { length order.now ≤ MAX_ROWS }
     requires row { row < height matrix.now }
-    ensures { result ≡ turned (end_in sides.now true row 0)
+    ensures { result ≡ reversed_unless (end_in sides.now true row 0)
         (pair_of (grown (is_beyond sides.now) order.now) row) }
 {
     let pair = pair_of(matrix, sides, near, order, row);

@@ -7,7 +7,7 @@ ghost use Rattle.cmr_base.specs.Members.{IsIn};
 ghost use Rattle.cmr_base.specs.Trees.{support};
 ghost use Rattle.graph_realise.specs.Joints.{AreChosen, AreHung, FitsJoint, FitsMatrix, IsArcJoined, IsClearBeside, IsLineFor, hanging_of, is_at_first, is_used, number_at};
 ghost use Rattle.graph_realise.specs.Merging.{spot};
-ghost use Rattle.graph_realise.specs.SideTables.{AreTablesOf, IsArcChanged, KeepsOthers, KeepsOutside, side_in, end_in};
+ghost use Rattle.graph_realise.specs.SideTables.{AreTablesOf, IsArcChanged, KeepsOtherArcs, KeepsOutside, side_in, end_in};
 ghost use Rattle.graph_realise.specs.Tables.{cell, AreChunksOf, IsRowFilled};
 
 use crate::arc_sides::ArcSides;
@@ -15,7 +15,7 @@ use crate::branches::Branch;
 use crate::joint::Joint;
 use cmr_base::{Indices, Matrix};
 
-/// Makes one tree of the trees of the row with each part. All arcs of a part are turned so that the row's arc is on their
+/// Makes one tree of the trees of the row with each part. All arcs of a part are reversed so that the row's arc is on their
 /// side `false`.
 pub fn join(matrix: &Matrix, rows: &Indices, joint: &Joint, sides: &mut ArcSides)
     requires rows { AllBelow (height matrix.now) rows.now }
@@ -45,7 +45,7 @@ fn join_row(matrix: &Matrix, joint: &Joint, sides: &mut ArcSides)
     requires tables { AreTablesOf matrix.now sides.old }
     ensures tables { AreTablesOf matrix.now sides.new }
     ensures joined { IsArcJoined (support matrix.now) joint.now sides.old sides.new joint.now.row }
-    ensures others { KeepsOthers sides.old sides.new joint.now.row }
+    ensures others { KeepsOtherArcs sides.old sides.new joint.now.row }
 {
     clear_arc(joint.row, sides);
     add_parts_at_first(matrix, joint, sides);
@@ -106,23 +106,23 @@ fn join_arc(matrix: &Matrix, joint: &Joint, arc: u32, sides: &mut ArcSides)
     requires clear { IsClearBeside (support matrix.now) joint.now sides.old arc }
     ensures tables { AreTablesOf matrix.now sides.new }
     ensures joined { IsArcJoined (support matrix.now) joint.now sides.old sides.new arc }
-    ensures others { KeepsOthers sides.old sides.new arc }
+    ensures others { KeepsOtherArcs sides.old sides.new arc }
 {
     if let Some(own) = joint.part_of[arc as usize] {
-        let is_turned = sides.arcs.get(arc, joint.row);
-        keep_part(matrix, joint, arc, own, is_turned, sides);
+        let is_reversed = sides.arcs.get(arc, joint.row);
+        keep_part(matrix, joint, arc, own, is_reversed, sides);
         add_hung(matrix, joint, arc, own, sides);
         add_used(matrix, joint, arc, own, sides);
     }
 }
 
-// Keeps the sides of an arc for its own part, turned round or not, and clears all others.
+// Keeps the sides of an arc for its own part, reversed or not, and clears all others.
 fn keep_part(
     matrix: &Matrix,
     joint: &Joint,
     arc: u32,
     own: usize,
-    is_turned: bool,
+    is_reversed: bool,
     sides: &mut ArcSides,
 )
     requires row { joint.now.row < height matrix.now }
@@ -130,17 +130,17 @@ fn keep_part(
     requires joint { FitsMatrix matrix.now joint.now }
     requires tables { AreTablesOf matrix.now sides.old }
     requires line { IsLineFor joint.now sides.old arc own }
-    requires turned { is_turned ≡ side_in sides.old arc joint.now.row }
+    requires reversed { is_reversed ≡ side_in sides.old arc joint.now.row }
     requires clear { IsClearBeside (support matrix.now) joint.now sides.old arc }
     ensures { IsArcChanged
         (λ other. cell joint.now.row_marks own other
-        && differ is_turned (side_in sides.old arc other))
+        && differ is_reversed (side_in sides.old arc other))
         (λ end column. cell joint.now.column_marks own column
-        && differ is_turned (end_in sides.old end arc column))
+        && differ is_reversed (end_in sides.old end arc column))
         sides.old sides.new arc }
 {
-    if is_turned {
-        turn_part(joint, arc, own, sides);
+    if is_reversed {
+        reverse_part(joint, arc, own, sides);
     } else {
         let chunks = joint.row_chunks.as_slice();
         sides.first.take_out(arc, matrix, joint.row, chunks);
@@ -149,7 +149,7 @@ fn keep_part(
 }
 
 // Turns the sides of an arc round for its own part, and clears all others.
-fn turn_part(joint: &Joint, arc: u32, own: usize, sides: &mut ArcSides)
+fn reverse_part(joint: &Joint, arc: u32, own: usize, sides: &mut ArcSides)
     requires { IsLineFor joint.now sides.old arc own }
     ensures { IsArcChanged
         (λ other. cell joint.now.row_marks own other && not (side_in sides.old arc other))
@@ -158,9 +158,9 @@ fn turn_part(joint: &Joint, arc: u32, own: usize, sides: &mut ArcSides)
         sides.old sides.new arc }
 {
     let line = own as u32;
-    sides.arcs.turn(arc, &joint.row_marks, line);
-    sides.first.turn(arc, &joint.column_marks, line);
-    sides.last.turn(arc, &joint.column_marks, line);
+    sides.arcs.reverse(arc, &joint.row_marks, line);
+    sides.first.reverse(arc, &joint.column_marks, line);
+    sides.last.reverse(arc, &joint.column_marks, line);
 }
 
 // Puts the other parts that hang on the side `true` of an arc there.

@@ -7,7 +7,7 @@ ghost use Rattle.cmr_base.specs.Members.{IsIn};
 ghost use Rattle.cmr_base.specs.Planes.{words_for};
 ghost use Rattle.cmr_base.specs.Trees.{support};
 ghost use Rattle.cmr_base.specs.ColumnSets.{has_column};
-ghost use Rattle.graph_realise.specs.Joints.{AreInRows, AreMarks, AreNumbered, AreOfRows, IsJointOf, IsNamed, number_at};
+ghost use Rattle.graph_realise.specs.Joints.{AreInRows, ArePartMarks, AreNumbered, AreOfRows, IsJointOf, IsPartNumber, number_at};
 ghost use Rattle.graph_realise.specs.Numbers.{AreDisjoint};
 ghost use Rattle.graph_realise.specs.Tables.{AreChunksOf};
 
@@ -136,7 +136,7 @@ fn parts_with_columns(
     requires parts { AreInRows (height matrix.now) parts.now }
     ensures size { IfOk result (λ numbers. length numbers.items ≡ matrix.now.width) }
     ensures parts { IfOk result (λ numbers. (column : ℕ)
-        → IsNamed (support matrix.now) row parts.now (length parts.now) column
+        → IsPartNumber (support matrix.now) row parts.now (length parts.now) column
         (number_at numbers.items column)) }
 {
     let mut numbers = no_numbers(alloc, matrix.columns())?;
@@ -226,7 +226,7 @@ fn marks_of(alloc: Global, numbers: &[Option<usize>], count: usize) -> Result<Ta
     requires few { count ≤ MAX_ROWS }
     requires lines { length numbers.now ≤ MAX_ROWS }
     requires numbers { (line part : ℕ) → number_at numbers.now line ≡ Some part → part < count }
-    ensures { IfOk result (AreMarks numbers.now count) }
+    ensures { IfOk result (ArePartMarks numbers.now count) }
 {
     let mut marks = Table::new(alloc, count as u32, numbers.len() as u32)?;
     for line in 0..numbers.len() {

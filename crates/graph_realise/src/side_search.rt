@@ -11,7 +11,7 @@ use crate::arc_sides::ArcSides;
 use crate::joining::join;
 use crate::joint::Joint;
 use crate::star::draw_star;
-use bridge_split::{Sides, SplitRow, first_splitting_row, has_column_with_three, sides_at};
+use bridge_split::{PartSides, SplitRow, first_splitting_row, has_column_with_three, sides_at};
 use cmr_base::{Indices, Matrix, Memory, SideList};
 use std::alloc::Global;
 
@@ -47,8 +47,8 @@ pub fn find_sides(
     match find_split(alloc, matrix, rows, untested)? {
         None => Ok(TreeSearch::NoTree),
         Some(split) => match sides_at(alloc, matrix, rows, split.row, &split.parts)? {
-            Sides::OddCycle(_) => Ok(TreeSearch::NoTree),
-            Sides::Found(ends) => join_parts(alloc, matrix, rows, &split, &ends, sides),
+            PartSides::OddCycle(_) => Ok(TreeSearch::NoTree),
+            PartSides::Found(ends) => join_parts(alloc, matrix, rows, &split, &ends, sides),
         },
     }
 }

@@ -8,7 +8,7 @@ ghost use Rattle.cmr_base.specs.Planes.{words_for};
 ghost use Rattle.cmr_base.specs.Splits.{HasNoThree};
 ghost use Rattle.cmr_base.specs.Trees.{support};
 ghost use Rattle.cmr_base.specs.ColumnSets.{has_column};
-ghost use Rattle.graph_realise.specs.SideTables.{AreClear, AreTablesOf, KeepsOthers, KeepsOutside, side_in, end_in};
+ghost use Rattle.graph_realise.specs.SideTables.{AreClear, AreTablesOf, KeepsOtherArcs, KeepsOutside, side_in, end_in};
 ghost use Rattle.graph_realise.specs.Rays.{IsRayAfter};
 
 use crate::arc_sides::ArcSides;
@@ -50,7 +50,7 @@ fn draw_ray(matrix: &Matrix, row: u32, seen: &[u64], sides: &mut ArcSides)
     requires tables { AreTablesOf matrix.now sides.old }
     ensures tables { AreTablesOf matrix.now sides.new }
     ensures drawn { IsRayAfter (support matrix.now) (has_column seen.now) row sides.new }
-    ensures others { KeepsOthers sides.old sides.new row }
+    ensures others { KeepsOtherArcs sides.old sides.new row }
 {
     let columns = matrix.support_words(row);
     sides.arcs.clear(row);

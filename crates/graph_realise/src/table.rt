@@ -69,7 +69,7 @@ impl Table {
 
     /// Turns the values in the columns that are marked in a line of another table into their opposites, and clears all
     /// others of the row.
-    pub fn turn(&mut self, row: u32, marks: &Table, line: u32)
+    pub fn reverse(&mut self, row: u32, marks: &Table, line: u32)
         requires row { row < self.old.height }
         requires line { line < marks.now.height }
         requires width { marks.now.width ≡ self.old.width }

@@ -20,7 +20,7 @@ use Rattle.graph_text.specs.declared.error.GraphKind.TheVariants.{BadElement, To
 use Rattle.graph_text.specs.declared.read.SizedNetwork.{SizedNetwork}
 use Rattle.graph_text.specs.GraphKinds.{graph_kind}
 use Rattle.graph_text.specs.GraphTexts.{row_letter, column_letter, lettered_name, SpellEdges, IsGraphText}
-use Rattle.graph_text.specs.Reading.{all_within, edges_from, element_in, ends, network_in, no_edges, node_at, node_within, number_in, sized, with_edge}
+use Rattle.graph_text.specs.Reading.{all_within, edges_from, element_in, ends, network_in, no_edges, node_at, node_within, graph_number_in, sized, with_edge}
 
 placed_ok : {A : Type 0} (place : ℕ) (r : Result A GraphKind) (x : A) → placed place r ≡ Ok x → r ≡ Ok x
 placed_ok place (Ok y) x h = ap Ok (ok_same y x h)
@@ -28,9 +28,9 @@ placed_ok place (Err kind) x h = absurd (cc)
 
 node_ok : (word : ℕ × List ℕ) (node : NodeWord) → node_at word ≡ Ok node → count_in word.1 ≡ Ok node.number
 node_ok word node h =
-    let b = bind_ok (placed word.0 (number_in word.1)) (λ (number : ℕ). Ok (record { number = number; place = word.0 })) node h in
+    let b = bind_ok (placed word.0 (graph_number_in word.1)) (λ (number : ℕ). Ok (record { number = number; place = word.0 })) node h in
     let made : NodeWord = record { number = b.0; place = word.0 } in
-    renamed_ok graph_kind (count_in word.1) b.0 (placed_ok word.0 (number_in word.1) b.0 b.1) ∙ ap (λ (n : NodeWord). Ok n.number) (ok_same made node b.2)
+    renamed_ok graph_kind (count_in word.1) b.0 (placed_ok word.0 (graph_number_in word.1) b.0 b.1) ∙ ap (λ (n : NodeWord). Ok n.number) (ok_same made node b.2)
 
 -- the name is that of the next line
 abbrev IsNext : Edges → List ℕ → Element → Type 0

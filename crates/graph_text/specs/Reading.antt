@@ -20,13 +20,13 @@ use Rattle.graph_text.specs.declared.read.SizedNetwork.{SizedNetwork}
 use Rattle.graph_text.specs.GraphKinds.{graph_kind}
 use Rattle.graph_text.specs.GraphTexts.{row_letter, column_letter, lettered_name}
 
-abbrev pub number_in : List ℕ → Result ℕ GraphKind
-number_in word = renamed graph_kind (count_in word)
+abbrev pub graph_number_in : List ℕ → Result ℕ GraphKind
+graph_number_in word = renamed graph_kind (count_in word)
 
 -- the node of a word, with the word's place
 abbrev pub node_at : ℕ × List ℕ → Result NodeWord (Fault GraphKind)
 node_at word = do
-  number ← placed word.0 (number_in word.1)
+  number ← placed word.0 (graph_number_in word.1)
   Ok (record { number = number; place = word.0 })
 
 -- The line that a word names: the next row, where there is no column yet, or the next column.

@@ -5,7 +5,7 @@ ghost use Rattle.text_fields.specs.Reading.{Gives, Reads, field};
 ghost use Rattle.text_fields.specs.Spelling.{words_in};
 ghost use Rattle.text_fields.specs.Words.{text_of};
 ghost use Rattle.graph_text.specs.GraphTexts.{IsGraphText, lettered_name};
-ghost use Rattle.graph_text.specs.Reading.{IsReading, all_within, edge_behind, edges_from, element_in, ends, network_in, next_node, no_edges, node_at, node_within, number_in};
+ghost use Rattle.graph_text.specs.Reading.{IsReading, all_within, edge_behind, edges_from, element_in, ends, network_in, next_node, no_edges, node_at, node_within, graph_number_in};
 ghost use Rattle.graph_text.specs.declared.edges.Element.TheVariants.{Row, Column};
 ghost use Rattle.graph_text.specs.declared.error.GraphKind.TheVariants.{Short};
 
@@ -140,12 +140,12 @@ fn next_node(words: &mut Words<'_>) -> Result<NodeWord, GraphError>
 fn node_at(place: usize, word: &[u8]) -> Result<NodeWord, GraphError>
     ensures { Gives (λ node. node) result (node_at (place, word.now)) }
 {
-    let number = at_place(place, number_in(word))?;
+    let number = at_place(place, graph_number_in(word))?;
     Ok(NodeWord { number, place })
 }
 
-fn number_in(word: &[u8]) -> Result<u32, GraphKind>
-    ensures { result ≡ number_in word.now }
+fn graph_number_in(word: &[u8]) -> Result<u32, GraphKind>
+    ensures { result ≡ graph_number_in word.now }
 {
     Ok(count_in(word)?)
 }

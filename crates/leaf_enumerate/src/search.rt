@@ -97,7 +97,7 @@ fn least<R: Threads + Sync, S: Sought>(
     if matrix.rows() <= matrix.columns() {
         return least_by_rows(rt, alloc, matrix, sought, workers);
     }
-    match least_by_rows(rt, alloc, &matrix.turned(), sought, workers)? {
+    match least_by_rows(rt, alloc, &matrix.transposed(), sought, workers)? {
         Some(lines) => Ok(Some(LineSet {
             rows: lines.columns,
             columns: lines.rows,

@@ -15,7 +15,7 @@ use Rattle.cmr_base.proofs.Members.{in-append}
 use Rattle.cmr_base.proofs.RowLists.{two_cases}
 use Rattle.cmr_base.proofs.Booleans.{false_is, is_ne, not_both, same_test, self_eq}
 use Rattle.line_growth.specs.declared.growing_lines.GrowingLines.{GrowingLines}
-use Rattle.line_growth.specs.GrowingLines.{is_in, AreGrowing, AreSame, HasGrown, HasAdded, HasTaken}
+use Rattle.line_growth.specs.GrowingLines.{is_inside, AreGrowing, AreSame, HasGrown, HasAdded, HasTaken}
 
 -- ---- lists of lines that wait
 
@@ -61,7 +61,7 @@ all_left test zero h = refl
 all_left test (suc k) h = rw (h k) (ap suc (all_left test k h))
 
 -- no line is in the set
-pub empty : (count : ℕ) (lines : GrowingLines) → count ≤ 1000 → lines.size ≡ count → length lines.inside.items ≡ words_for count → ((x : ℕ) → is_in lines x ≡ false) → lines.left ≡ count → lines.fresh.items ≡ [] → AreGrowing count lines
+pub empty : (count : ℕ) (lines : GrowingLines) → count ≤ 1000 → lines.size ≡ count → length lines.inside.items ≡ words_for count → ((x : ℕ) → is_inside lines x ≡ false) → lines.left ≡ count → lines.fresh.items ≡ [] → AreGrowing count lines
 empty count lines few size words none left fresh =
     let nothing : (x : ℕ) → ¬ (IsIn x lines.fresh.items) = λ x h. subst (λ (v : List ℕ). IsIn x v) fresh h in
     record {
@@ -70,7 +70,7 @@ empty count lines few size words none left fresh =
       words = words;
       fresh_in = λ x h. absurd (nothing x h);
       fresh_inside = λ x h. absurd (nothing x h);
-      left = left ∙ sym (all_left (λ x. not (is_in lines x)) count (λ x. ap not (none x)));
+      left = left ∙ sym (all_left (λ x. not (is_inside lines x)) count (λ x. ap not (none x)));
     }
 
 -- ---- lines that pass a test
@@ -94,11 +94,11 @@ module _ (count : ℕ) (P : ℕ → Type 0) where
 
 -- ---- one line
 
-pub added_already : (count line : ℕ) (lines : GrowingLines) → AreGrowing count lines → is_in lines line ≡ true → HasAdded count line lines lines
+pub added_already : (count line : ℕ) (lines : GrowingLines) → AreGrowing count lines → is_inside lines line ≡ true → HasAdded count line lines lines
 added_already count line lines w e = record { line_in = e; grown = grown_none count (λ x. x ≡ line) lines w }
 
-pub adds : (count line : ℕ) (before after : GrowingLines) → AreGrowing count before → line < count → is_in before line ≡ false → after.size ≡ before.size → length after.inside.items ≡ length before.inside.items
-    → is_in after line ≡ true → ((x : ℕ) → is_in before x ≡ true → is_in after x ≡ true) → ((x : ℕ) → is_in after x ≡ true → (x ≡ line) ⊎ (is_in before x ≡ true))
+pub adds : (count line : ℕ) (before after : GrowingLines) → AreGrowing count before → line < count → is_inside before line ≡ false → after.size ≡ before.size → length after.inside.items ≡ length before.inside.items
+    → is_inside after line ≡ true → ((x : ℕ) → is_inside before x ≡ true → is_inside after x ≡ true) → ((x : ℕ) → is_inside after x ≡ true → (x ≡ line) ⊎ (is_inside before x ≡ true))
     → after.left + 1 ≡ before.left → after.fresh.items ≡ before.fresh.items ++ line ∷ [] → HasAdded count line before after
 adds count line before after w l out size words here kept only left fresh = record {
   line_in = here;
@@ -108,8 +108,8 @@ adds count line before after w l out size words here kept only left fresh = reco
       few = w.few;
       words = words ∙ w.words;
       fresh_in = λ x h. elim (in_pushed before.fresh.items after.fresh.items line x fresh h) [ inl g ↦ w.fresh_in x g | inr e ↦ subst (λ (z : ℕ). z < count) (sym e) l ];
-      fresh_inside = λ x h. elim (in_pushed before.fresh.items after.fresh.items line x fresh h) [ inl g ↦ kept x (w.fresh_inside x g) | inr e ↦ subst (λ (z : ℕ). is_in after z ≡ true) (sym e) here ];
-      left = let a = w.left in let b = left_less (is_in before) (is_in after) line count l out here kept only in omega arith;
+      fresh_inside = λ x h. elim (in_pushed before.fresh.items after.fresh.items line x fresh h) [ inl g ↦ kept x (w.fresh_inside x g) | inr e ↦ subst (λ (z : ℕ). is_inside after z ≡ true) (sym e) here ];
+      left = let a = w.left in let b = left_less (is_inside before) (is_inside after) line count l out here kept only in omega arith;
     };
     kept = kept;
     only = λ x e. elim (only x e) [ inl q ↦ inr (subst (λ (z : ℕ). z < count) (sym q) l, q) | inr h ↦ inl h ];
@@ -119,12 +119,12 @@ adds count line before after w l out size words here kept only left fresh = reco
   };
 }
 
-pub some_left : (count line : ℕ) (lines : GrowingLines) → AreGrowing count lines → line < count → is_in lines line ≡ false → 1 ≤ lines.left
-some_left count line lines w l out = let a = w.left in let b = count_more line (λ x. not (is_in lines x)) count l (ap not out) in omega arith
+pub some_left : (count line : ℕ) (lines : GrowingLines) → AreGrowing count lines → line < count → is_inside lines line ≡ false → 1 ≤ lines.left
+some_left count line lines w l out = let a = w.left in let b = count_more line (λ x. not (is_inside lines x)) count l (ap not out) in omega arith
 
 pub takes : (count line : ℕ) (before after : GrowingLines) → AreGrowing count before → before.fresh.items ≡ after.fresh.items ++ line ∷ [] → after.inside ≡ before.inside → after.size ≡ before.size → after.left ≡ before.left → HasTaken count line before after
 takes count line before after w fresh inside size left =
-    let is : (x : ℕ) → is_in after x ≡ is_in before x = λ x. ap (λ v. has_column v.items x) inside in
+    let is : (x : ℕ) → is_inside after x ≡ is_inside before x = λ x. ap (λ v. has_column v.items x) inside in
     record {
       whole = record {
         size = size ∙ w.size;
@@ -132,7 +132,7 @@ takes count line before after w fresh inside size left =
         words = ap (λ v. length v.items) inside ∙ w.words;
         fresh_in = λ x h. w.fresh_in x (pushed_more after.fresh.items before.fresh.items line x fresh h);
         fresh_inside = λ x h. is x ∙ w.fresh_inside x (pushed_more after.fresh.items before.fresh.items line x fresh h);
-        left = left ∙ w.left ∙ count_same (λ x. not (is_in before x)) (λ x. not (is_in after x)) count (λ x l. ap not (sym (is x)));
+        left = left ∙ w.left ∙ count_same (λ x. not (is_inside before x)) (λ x. not (is_inside after x)) count (λ x l. ap not (sym (is x)));
       };
       inside_same = inside;
       line_inside = w.fresh_inside line (pushed_last after.fresh.items before.fresh.items line fresh);
@@ -148,7 +148,7 @@ same_growing count one two s w = record {
   words = ap (λ (v : List ℕ). length v) s.inside ∙ w.words;
   fresh_in = λ x h. w.fresh_in x (subst (λ (v : List ℕ). IsIn x v) s.fresh h);
   fresh_inside = λ x h. ap (λ (v : List ℕ). has_column v x) s.inside ∙ w.fresh_inside x (subst (λ (v : List ℕ). IsIn x v) s.fresh h);
-  left = s.left ∙ w.left ∙ count_same (λ x. not (is_in two x)) (λ x. not (is_in one x)) count (λ x l. ap not (ap (λ (v : List ℕ). has_column v x) (sym s.inside)));
+  left = s.left ∙ w.left ∙ count_same (λ x. not (is_inside two x)) (λ x. not (is_inside one x)) count (λ x l. ap not (ap (λ (v : List ℕ). has_column v x) (sym s.inside)));
 }
 
 -- ---- pulls by words
@@ -179,19 +179,19 @@ pub bit_in : (word k : ℕ) → k < 64 → has_column (word ∷ []) k ≡ has_bi
 bit_in word k l = ap (has_column (word ∷ [])) (omega arith) ∙ column_at (word ∷ []) 0 k l
 
 -- the bits before the next one are inside, and so is this one
-pub found_until : (bits : List ℕ) (lines after : GrowingLines) (first from next : ℕ) → ((line : ℕ) → is_in lines line ≡ true → is_in after line ≡ true) → ((k : ℕ) → k < from → has_column bits k ≡ true → is_in lines (first + k) ≡ true)
-    → ((k : ℕ) → from ≤ k → k < next → has_column bits k ≡ false) → is_in after (first + next) ≡ true → (k : ℕ) → k < next + 1 → has_column bits k ≡ true → is_in after (first + k) ≡ true
+pub found_until : (bits : List ℕ) (lines after : GrowingLines) (first from next : ℕ) → ((line : ℕ) → is_inside lines line ≡ true → is_inside after line ≡ true) → ((k : ℕ) → k < from → has_column bits k ≡ true → is_inside lines (first + k) ≡ true)
+    → ((k : ℕ) → from ≤ k → k < next → has_column bits k ≡ false) → is_inside after (first + next) ≡ true → (k : ℕ) → k < next + 1 → has_column bits k ≡ true → is_inside after (first + k) ≡ true
 found_until bits lines after first from next kept before none here k l e = elim (cases_lt k from) [
   | inl h ↦ kept (first + k) (before k h e)
   | inr h ↦ elim (cases_lt k next) [
     | inl m ↦ absurd (not_both (has_column bits k) e (none k h m))
-    | inr m ↦ let q : k ≡ next = omega arith in subst (λ (x : ℕ). is_in after (first + x) ≡ true) (sym q) here
+    | inr m ↦ let q : k ≡ next = omega arith in subst (λ (x : ℕ). is_inside after (first + x) ≡ true) (sym q) here
   ]
 ]
 
 -- at the end all of them are
-pub found_all : (bits : List ℕ) (lines : GrowingLines) (first from : ℕ) → ((k : ℕ) → k < from → has_column bits k ≡ true → is_in lines (first + k) ≡ true) → ((k : ℕ) → from ≤ k → has_column bits k ≡ false) → (k : ℕ) → has_column bits k ≡ true
-    → is_in lines (first + k) ≡ true
+pub found_all : (bits : List ℕ) (lines : GrowingLines) (first from : ℕ) → ((k : ℕ) → k < from → has_column bits k ≡ true → is_inside lines (first + k) ≡ true) → ((k : ℕ) → from ≤ k → has_column bits k ≡ false) → (k : ℕ) → has_column bits k ≡ true
+    → is_inside lines (first + k) ≡ true
 found_all bits lines first from before none k e = elim (cases_lt k from) [
   | inl h ↦ before k h e
   | inr h ↦ absurd (not_both (has_column bits k) e (none k h))
@@ -205,19 +205,19 @@ module _ (m : Matrix) (row : ℕ) (factor : ℤ) (model : ℕ) where
   differing x e = differs_from (entry m row x) (factor *ℤ entry m model x) e
 
   -- the lines of a chunk and of those before it
-  pub pulled_until : (chunk word : ℕ) (lines after : GrowingLines) → ((k : ℕ) → k < 64 → has_bit word k ≡ (differs_at m row factor model (64 * chunk + k) && not (is_in lines (64 * chunk + k))))
-      → ((x : ℕ) → x < 64 * chunk → is_in lines x ≡ false → IsMultipleAt x) → ((x : ℕ) → is_in lines x ≡ true → is_in after x ≡ true) → ((k : ℕ) → k < 64 → has_bit word k ≡ true → is_in after (64 * chunk + k) ≡ true)
-      → (x : ℕ) → x < 64 * (chunk + 1) → is_in after x ≡ false → IsMultipleAt x
+  pub pulled_until : (chunk word : ℕ) (lines after : GrowingLines) → ((k : ℕ) → k < 64 → has_bit word k ≡ (differs_at m row factor model (64 * chunk + k) && not (is_inside lines (64 * chunk + k))))
+      → ((x : ℕ) → x < 64 * chunk → is_inside lines x ≡ false → IsMultipleAt x) → ((x : ℕ) → is_inside lines x ≡ true → is_inside after x ≡ true) → ((k : ℕ) → k < 64 → has_bit word k ≡ true → is_inside after (64 * chunk + k) ≡ true)
+      → (x : ℕ) → x < 64 * (chunk + 1) → is_inside after x ≡ false → IsMultipleAt x
   pulled_until chunk word lines after is done kept taken x l e = elim (cases_lt x (64 * chunk)) [
-    | inl h ↦ done x h (false_is (is_in lines x) (λ t. not_both (is_in after x) (kept x t) e))
+    | inl h ↦ done x h (false_is (is_inside lines x) (λ t. not_both (is_inside after x) (kept x t) e))
     | inr h ↦ there (omega arith)
   ]
     where
       there : 64 * chunk + x % 64 ≡ x → IsMultipleAt x
       there at = elim (two_cases (differs_at m row factor model (64 * chunk + x % 64))) [
         | inr d ↦ subst (λ (z : ℕ). IsMultipleAt z) at (differs_not (entry m row (64 * chunk + x % 64)) (factor *ℤ entry m model (64 * chunk + x % 64)) d)
-        | inl d ↦ absurd (elim (seen_or_found (has_bit word (x % 64)) (differs_at m row factor model (64 * chunk + x % 64)) (is_in lines (64 * chunk + x % 64)) (is (x % 64) (omega arith)) d) [
-          | inl s ↦ not_both (is_in after x) (kept x (subst (λ (z : ℕ). is_in lines z ≡ true) at s)) e
-          | inr b ↦ not_both (is_in after x) (subst (λ (z : ℕ). is_in after z ≡ true) at (taken (x % 64) (omega arith) b)) e
+        | inl d ↦ absurd (elim (seen_or_found (has_bit word (x % 64)) (differs_at m row factor model (64 * chunk + x % 64)) (is_inside lines (64 * chunk + x % 64)) (is (x % 64) (omega arith)) d) [
+          | inl s ↦ not_both (is_inside after x) (kept x (subst (λ (z : ℕ). is_inside lines z ≡ true) at s)) e
+          | inr b ↦ not_both (is_inside after x) (subst (λ (z : ℕ). is_inside after z ≡ true) at (taken (x % 64) (omega arith) b)) e
         ])
       ]

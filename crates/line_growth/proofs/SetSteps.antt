@@ -8,7 +8,7 @@ use Rattle.cmr_base.specs.ColumnSets.{has_column}
 use Rattle.cmr_base.specs.Matrix.{transposed, IsMatrix, Matrix, height, entry}
 use Rattle.cmr_base.specs.Members.{IsIn}
 use Rattle.cmr_base.specs.Separations.{Lines}
-use Rattle.cmr_base.specs.Seeds.{HasAll, IsGrown, IsLine, outside}
+use Rattle.cmr_base.specs.Seeds.{HasAll, IsGrown, IsLine, count_outside}
 use Rattle.cmr_base.proofs.Booleans.{false_is, not_both, true_is}
 use Rattle.cmr_base.proofs.LineCounts.{outside_is}
 use Rattle.cmr_base.proofs.ListedLines.{contains_first_lines, first_lines_contain}
@@ -17,22 +17,22 @@ use Rattle.cmr_base.proofs.Parts.{entry-transposed}
 use Rattle.cmr_base.proofs.SeedLemmas.{outside_grows}
 use Rattle.line_growth.specs.declared.growing_lines.GrowingLines.{GrowingLines}
 use Rattle.line_growth.specs.declared.growing_set.GrowingSet.{GrowingSet}
-use Rattle.line_growth.specs.declared.rule.Rule.{Rule}
+use Rattle.line_growth.specs.declared.rule.GrowthRule.{GrowthRule}
 use Rattle.line_growth.specs.declared.rule.Sum.{Sum}
-use Rattle.line_growth.specs.GrowingLines.{is_in, AreSame, HasPulled, HasAdded, HasTaken}
+use Rattle.line_growth.specs.GrowingLines.{is_inside, AreSame, HasPulled, HasAdded, HasTaken}
 use Rattle.line_growth.specs.GrowingSets.{HasNoLeaving, HasNone, HasRoom, IsClosedIn, IsGrowing, IsLeaving, TellsClosed, set_of}
 use Rattle.line_growth.specs.Rules.{lower_of, sum_at, upper_of}
 use Rattle.line_growth.proofs.LineSteps.{count_most, same_growing}
 
 -- ---- counts
 
-pub outside_left : (m : Matrix) (set : GrowingSet) → HasRoom m set → outside (height m) m.width (set_of set) ≡ set.rows.left + set.columns.left
+pub outside_left : (m : Matrix) (set : GrowingSet) → HasRoom m set → count_outside (height m) m.width (set_of set) ≡ set.rows.left + set.columns.left
 outside_left m set w = let a = w.rows.left in let b = w.columns.left in omega arith
 
 pub left_few : (m : Matrix) (set : GrowingSet) → HasRoom m set → set.rows.left + set.columns.left ≤ 2000
 left_few m set w =
-    let a = count_most (λ line. not (is_in set.rows line)) (height m) in
-    let b = count_most (λ line. not (is_in set.columns line)) m.width in
+    let a = count_most (λ line. not (is_inside set.rows line)) (height m) in
+    let b = count_most (λ line. not (is_inside set.columns line)) m.width in
     let c = w.rows.left in
     let d = w.columns.left in
     let e = w.rows.few in
@@ -41,7 +41,7 @@ left_few m set w =
 
 -- ---- no line, and the same lines
 
-pub none_growing : (m : Matrix) (upper lower : ℕ → ℕ → ℤ) (set : GrowingSet) → ((r : ℕ) → is_in set.rows r ≡ false) → ((k : ℕ) → is_in set.columns k ≡ false) → IsGrowing m upper lower [] set
+pub none_growing : (m : Matrix) (upper lower : ℕ → ℕ → ℤ) (set : GrowingSet) → ((r : ℕ) → is_inside set.rows r ≡ false) → ((k : ℕ) → is_inside set.columns k ≡ false) → IsGrowing m upper lower [] set
 none_growing m upper lower set rows columns = record {
   has = tt;
   least = λ T closed has x l e. absurd (nothing x e);
@@ -50,8 +50,8 @@ none_growing m upper lower set rows columns = record {
 }
   where
     nothing : (x : Line) → set_of set x ≡ true → ⊥
-    nothing (Row r) e = not_both (is_in set.rows r) e (rows r)
-    nothing (Column k) e = not_both (is_in set.columns k) e (columns k)
+    nothing (Row r) e = not_both (is_inside set.rows r) e (rows r)
+    nothing (Column k) e = not_both (is_inside set.columns k) e (columns k)
 
 module _ (m : Matrix) (one two : GrowingSet) (rows : AreSame one.rows two.rows) (columns : AreSame one.columns two.columns) where
   pub room_same : HasRoom m two → HasRoom m one
@@ -74,11 +74,11 @@ module _ (m : Matrix) (one two : GrowingSet) (rows : AreSame one.rows two.rows) 
 module _ (m : Matrix) (upper lower : ℕ → ℕ → ℤ) (before after : GrowingSet) (taken : GrowingLines) (row : ℕ) (agrees : ℕ → Type 0)
     (t : HasTaken (height m) row before.rows taken) (rows : after.rows ≡ taken) (w : HasPulled m.width agrees before.columns after.columns)
     (agrees_of : (k : ℕ) → entry m row k ≡ upper row k → agrees k) (of_agrees : (k : ℕ) → agrees k → entry m row k ≡ upper row k) (start : List Line) (g : IsGrowing m upper lower start before) where
-  row_same : (r : ℕ) → is_in after.rows r ≡ is_in before.rows r
-  row_same r = ap (λ v. is_in v r) rows ∙ ap (λ v. has_column v.items r) t.inside_same
+  row_same : (r : ℕ) → is_inside after.rows r ≡ is_inside before.rows r
+  row_same r = ap (λ v. is_inside v r) rows ∙ ap (λ v. has_column v.items r) t.inside_same
 
-  column_out : (k : ℕ) → is_in after.columns k ≡ false → is_in before.columns k ≡ false
-  column_out k e = false_is (is_in before.columns k) (λ h. not_both (is_in after.columns k) (w.grown.kept k h) e)
+  column_out : (k : ℕ) → is_inside after.columns k ≡ false → is_inside before.columns k ≡ false
+  column_out k e = false_is (is_inside before.columns k) (λ h. not_both (is_inside after.columns k) (w.grown.kept k h) e)
 
   row_has : (x : Line) → set_of before x ≡ true → set_of after x ≡ true
   row_has (Row r) h = row_same r ∙ h
@@ -113,11 +113,11 @@ module _ (m : Matrix) (upper lower : ℕ → ℕ → ℤ) (before after : Growin
 module _ (m : Matrix) (upper lower : ℕ → ℕ → ℤ) (before after : GrowingSet) (taken : GrowingLines) (column : ℕ) (agrees : ℕ → Type 0)
     (t : HasTaken m.width column before.columns taken) (columns : after.columns ≡ taken) (w : HasPulled (height m) agrees before.rows after.rows)
     (agrees_of : (r : ℕ) → entry m r column ≡ lower r column → agrees r) (of_agrees : (r : ℕ) → agrees r → entry m r column ≡ lower r column) (start : List Line) (g : IsGrowing m upper lower start before) where
-  column_same : (k : ℕ) → is_in after.columns k ≡ is_in before.columns k
-  column_same k = ap (λ v. is_in v k) columns ∙ ap (λ v. has_column v.items k) t.inside_same
+  column_same : (k : ℕ) → is_inside after.columns k ≡ is_inside before.columns k
+  column_same k = ap (λ v. is_inside v k) columns ∙ ap (λ v. has_column v.items k) t.inside_same
 
-  row_out : (r : ℕ) → is_in after.rows r ≡ false → is_in before.rows r ≡ false
-  row_out r e = false_is (is_in before.rows r) (λ h. not_both (is_in after.rows r) (w.grown.kept r h) e)
+  row_out : (r : ℕ) → is_inside after.rows r ≡ false → is_inside before.rows r ≡ false
+  row_out r e = false_is (is_inside before.rows r) (λ h. not_both (is_inside after.rows r) (w.grown.kept r h) e)
 
   column_has : (x : Line) → set_of before x ≡ true → set_of after x ≡ true
   column_has (Row r) h = w.grown.kept r h
@@ -175,11 +175,11 @@ module _ (m : Matrix) (upper lower : ℕ → ℕ → ℤ) (before after : Growin
   pub row_added : (row : ℕ) → HasAdded (height m) row before.rows after.rows → after.columns ≡ before.columns → IsGrowing m upper lower (Row row ∷ start) after
   row_added row w columns = record { has = (w.line_in, all_weaker (λ x. set_of before x ≡ true) (λ x. set_of after x ≡ true) has start g.has); least = least; upper = upper_kept; lower = lower_kept }
     where
-      same : (k : ℕ) → is_in after.columns k ≡ is_in before.columns k
-      same k = ap (λ v. is_in v k) columns
+      same : (k : ℕ) → is_inside after.columns k ≡ is_inside before.columns k
+      same k = ap (λ v. is_inside v k) columns
 
-      out : (r : ℕ) → is_in after.rows r ≡ false → is_in before.rows r ≡ false
-      out r e = false_is (is_in before.rows r) (λ h. not_both (is_in after.rows r) (w.grown.kept r h) e)
+      out : (r : ℕ) → is_inside after.rows r ≡ false → is_inside before.rows r ≡ false
+      out r e = false_is (is_inside before.rows r) (λ h. not_both (is_inside after.rows r) (w.grown.kept r h) e)
 
       has : (x : Line) → set_of before x ≡ true → set_of after x ≡ true
       has (Row r) h = w.grown.kept r h
@@ -204,11 +204,11 @@ module _ (m : Matrix) (upper lower : ℕ → ℕ → ℤ) (before after : Growin
   pub column_added : (column : ℕ) → HasAdded m.width column before.columns after.columns → after.rows ≡ before.rows → IsGrowing m upper lower (Column column ∷ start) after
   column_added column w rows = record { has = (w.line_in, all_weaker (λ x. set_of before x ≡ true) (λ x. set_of after x ≡ true) has start g.has); least = least; upper = upper_kept; lower = lower_kept }
     where
-      same : (r : ℕ) → is_in after.rows r ≡ is_in before.rows r
-      same r = ap (λ v. is_in v r) rows
+      same : (r : ℕ) → is_inside after.rows r ≡ is_inside before.rows r
+      same r = ap (λ v. is_inside v r) rows
 
-      out : (k : ℕ) → is_in after.columns k ≡ false → is_in before.columns k ≡ false
-      out k e = false_is (is_in before.columns k) (λ h. not_both (is_in after.columns k) (w.grown.kept k h) e)
+      out : (k : ℕ) → is_inside after.columns k ≡ false → is_inside before.columns k ≡ false
+      out k e = false_is (is_inside before.columns k) (λ h. not_both (is_inside after.columns k) (w.grown.kept k h) e)
 
       has : (x : Line) → set_of before x ≡ true → set_of after x ≡ true
       has (Row r) h = same r ∙ h
@@ -246,8 +246,8 @@ none_in : (xs : List ℕ) (x : ℕ) → length xs ≡ 0 → ¬ (IsIn x xs)
 none_in [] x e h = h
 none_in (y ∷ ys) x e h = absurd (omega arith)
 
-module _ (m : Matrix) (rule : Rule) (start out : List Line) (least : ℕ) (set : GrowingSet) (room : HasRoom m set) (g : IsGrowing m (upper_of m rule) (lower_of m rule) start set) where
-  pub closed_leaving : length set.rows.fresh.items ≡ 0 → length set.columns.fresh.items ≡ 0 → HasNone (set_of set) out → least ≤ outside (height m) m.width (set_of set) → IsLeaving m rule start out least (set_of set)
+module _ (m : Matrix) (rule : GrowthRule) (start out : List Line) (least : ℕ) (set : GrowingSet) (room : HasRoom m set) (g : IsGrowing m (upper_of m rule) (lower_of m rule) start set) where
+  pub closed_leaving : length set.rows.fresh.items ≡ 0 → length set.columns.fresh.items ≡ 0 → HasNone (set_of set) out → least ≤ count_outside (height m) m.width (set_of set) → IsLeaving m rule start out least (set_of set)
   closed_leaving nr nc none enough = record {
     grown = record {
       closed = record {
@@ -260,7 +260,7 @@ module _ (m : Matrix) (rule : Rule) (start out : List Line) (least : ℕ) (set :
     leaves = record { none = none; enough = let e = outside_is (height m) m.width (set_of set) in omega arith };
   }
 
-  pub few_left : outside (height m) m.width (set_of set) < least → HasNoLeaving m rule start out least
+  pub few_left : count_outside (height m) m.width (set_of set) < least → HasNoLeaving m rule start out least
   few_left few T closed has leaves =
       let a = outside_grows (height m) m.width (set_of set) T (g.least T closed has) in
       let b = outside_is (height m) m.width (set_of set) in
@@ -271,12 +271,12 @@ module _ (m : Matrix) (rule : Rule) (start out : List Line) (least : ℕ) (set :
   some_inside lines some T closed has leaves = some (all_both (IsLine (height m) m.width) (λ x. T x ≡ false) (λ x. set_of set x ≡ false) (λ x l e. false_is (set_of set x) (λ t. not_both (T x) (g.least T closed has x l t) e)) out lines leaves.none)
 
 -- what is to leave nothing is closed in the end, since the set of all lines is
-pub always_closed : (m : Matrix) (rule : Rule) (start : List Line) (told : Bool) (S : Lines) → TellsClosed m rule start [] 0 told S → IsGrown (height m) m.width (entry m) (upper_of m rule) (lower_of m rule) start S
+pub always_closed : (m : Matrix) (rule : GrowthRule) (start : List Line) (told : Bool) (S : Lines) → TellsClosed m rule start [] 0 told S → IsGrown (height m) m.width (entry m) (upper_of m rule) (lower_of m rule) start S
 always_closed m rule start true S told = told.grown
 always_closed m rule start false S told = absurd (told (λ x. true) (record { upper = λ r k hr hk er ek. absurd (not_both true refl ek); lower = λ r k hr hk er ek. absurd (not_both true refl er) }) (all_of (λ x. true ≡ true) (λ x. refl) start) (record { none = tt; enough = omega arith }))
 
 -- what is told, by the answer
-module _ (m : Matrix) (rule : Rule) (start out : List Line) (least : ℕ) where
+module _ (m : Matrix) (rule : GrowthRule) (start out : List Line) (least : ℕ) where
   pub told_yes : (told : Bool) (S : Lines) → TellsClosed m rule start out least told S → told ≡ true → IsLeaving m rule start out least S
   told_yes true S h e = h
   told_yes false S h e = absurd (not_both false e refl)

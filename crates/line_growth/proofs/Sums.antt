@@ -36,8 +36,8 @@ factor_is factor x a b small sx e f = entry_as_byte factor small ∙ e ∙ ap (�
 -- ---- what two rows and two columns make
 
 -- the rows and the columns exchanged
-pub spread_turned : (d x y z w row_first row_other column_first column_other : ℤ) → spread d x y z w row_first row_other column_first column_other ≡ spread d x z y w column_first column_other row_first row_other
-spread_turned d x y z w row_first row_other column_first column_other = simp products (omega (arith, sums))
+pub spread_transposed : (d x y z w row_first row_other column_first column_other : ℤ) → spread d x y z w row_first row_other column_first column_other ≡ spread d x z y w column_first column_other row_first row_other
+spread_transposed d x y z w row_first row_other column_first column_other = simp products (omega (arith, sums))
 
 module _ (m : Matrix) (lines : SpreadLines) (is : IsSpreadOf m lines) where
   abbrev M : ℕ → ℕ → ℤ
@@ -62,7 +62,7 @@ module _ (m : Matrix) (lines : SpreadLines) (is : IsSpreadOf m lines) where
     spread_column shape ex ey ez ew column row f g e1 e2 is_sum =
         ap₂ (λ (a b : ℤ). f *ℤ a +ℤ g *ℤ b) (entry-transposed m row lines.left shape) (entry-transposed m row lines.right shape)
         ∙ sym (is_sum (M row lines.left) (M row lines.right)) ∙ same
-        ∙ sym (spread_turned lines.determinant lines.core.x lines.core.y lines.core.z lines.core.w (M row lines.left) (M row lines.right) (M lines.upper column) (M lines.lower column)) ∙ made row column
+        ∙ sym (spread_transposed lines.determinant lines.core.x lines.core.y lines.core.z lines.core.w (M row lines.left) (M row lines.right) (M lines.upper column) (M lines.lower column)) ∙ made row column
       where
         same : spread d x y z w first other (M row lines.left) (M row lines.right) ≡ spread lines.determinant lines.core.x lines.core.z lines.core.y lines.core.w (M lines.upper column) (M lines.lower column) (M row lines.left) (M row lines.right)
         same = rw (ed, ex, ey, ez, ew, e1, e2) refl

@@ -7,8 +7,8 @@ use Rattle.cmr_base.specs.Planes.{has_bit, words_for}
 use Rattle.cmr_base.specs.Seeds.{count as number_of_lines}
 use Rattle.line_growth.specs.declared.growing_lines.GrowingLines.{GrowingLines}
 
-abbrev pub is_in : GrowingLines → ℕ → Bool
-is_in lines line = has_column lines.inside.items line
+abbrev pub is_inside : GrowingLines → ℕ → Bool
+is_inside lines line = has_column lines.inside.items line
 
 -- of so many lines some are in the set, and what is left are the others
 pub record AreGrowing (count : ℕ) (lines : GrowingLines) : Type 0 where
@@ -16,8 +16,8 @@ pub record AreGrowing (count : ℕ) (lines : GrowingLines) : Type 0 where
   pub few : count ≤ MAX_ROWS
   pub words : length lines.inside.items ≡ words_for count
   pub fresh_in : (line : ℕ) → IsIn line lines.fresh.items → line < count
-  pub fresh_inside : (line : ℕ) → IsIn line lines.fresh.items → is_in lines line ≡ true
-  pub left : lines.left ≡ number_of_lines (λ line. not (is_in lines line)) count
+  pub fresh_inside : (line : ℕ) → IsIn line lines.fresh.items → is_inside lines line ≡ true
+  pub left : lines.left ≡ number_of_lines (λ line. not (is_inside lines line)) count
 
 -- the most lines that may still come, or whose pulls are still to be followed
 abbrev pub room : GrowingLines → ℕ
@@ -26,9 +26,9 @@ room lines = lines.left + length lines.fresh.items
 -- what comes of taking in lines that pass a test
 pub record HasGrown (count : ℕ) (P : ℕ → Type 0) (before after : GrowingLines) : Type 0 where
   pub whole : AreGrowing count after
-  pub kept : (line : ℕ) → is_in before line ≡ true → is_in after line ≡ true
-  pub only : (line : ℕ) → is_in after line ≡ true → (is_in before line ≡ true) ⊎ ((line < count) × P line)
-  pub news : (line : ℕ) → is_in after line ≡ true → (is_in before line ≡ true) ⊎ IsIn line after.fresh.items
+  pub kept : (line : ℕ) → is_inside before line ≡ true → is_inside after line ≡ true
+  pub only : (line : ℕ) → is_inside after line ≡ true → (is_inside before line ≡ true) ⊎ ((line < count) × P line)
+  pub news : (line : ℕ) → is_inside after line ≡ true → (is_inside before line ≡ true) ⊎ IsIn line after.fresh.items
   pub waits : (line : ℕ) → IsIn line before.fresh.items → IsIn line after.fresh.items
   pub room_same : room after ≡ room before
 
@@ -39,18 +39,18 @@ IsBitOf first word line = (k : ℕ) × (k < 64) × (has_bit word k ≡ true) × 
 -- what comes of taking in the lines at which a test fails
 pub record HasPulled (count : ℕ) (agrees : ℕ → Type 0) (before after : GrowingLines) : Type 0 where
   pub grown : HasGrown count (λ line. ¬ (agrees line)) before after
-  pub agree : (line : ℕ) → line < count → is_in after line ≡ false → agrees line
+  pub agree : (line : ℕ) → line < count → is_inside after line ≡ false → agrees line
 
 -- one more line is in the set
 pub record HasAdded (count line : ℕ) (before after : GrowingLines) : Type 0 where
-  pub line_in : is_in after line ≡ true
+  pub line_in : is_inside after line ≡ true
   pub grown : HasGrown count (λ other. other ≡ line) before after
 
 -- a line's pulls are followed next
 pub record HasTaken (count line : ℕ) (before after : GrowingLines) : Type 0 where
   pub whole : AreGrowing count after
   pub inside_same : after.inside ≡ before.inside
-  pub line_inside : is_in before line ≡ true
+  pub line_inside : is_inside before line ≡ true
   pub line_in : line < count
   pub others : (other : ℕ) → IsIn other before.fresh.items → (other ≡ line) ⊎ IsIn other after.fresh.items
   pub room_less : room after + 1 ≡ room before

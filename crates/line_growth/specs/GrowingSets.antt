@@ -6,17 +6,17 @@ use Rattle.cmr_base.specs.declared.line.Line.TheVariants.{Row, Column}
 use Rattle.cmr_base.specs.Matrix.{Matrix, height, entry}
 use Rattle.cmr_base.specs.LineSets.{first_lines}
 use Rattle.cmr_base.specs.Members.{IsIn}
-use Rattle.cmr_base.specs.Separations.{Lines, count_in, opposite}
+use Rattle.cmr_base.specs.Separations.{Lines, count_lines_in, opposite}
 use Rattle.cmr_base.specs.Seeds.{HasAll, IsClosed, IsGrown, IsLine}
 use Rattle.line_growth.specs.declared.growing_set.GrowingSet.{GrowingSet}
-use Rattle.line_growth.specs.declared.rule.Rule.{Rule}
-use Rattle.line_growth.specs.GrowingLines.{AreGrowing, is_in, room}
+use Rattle.line_growth.specs.declared.rule.GrowthRule.{GrowthRule}
+use Rattle.line_growth.specs.GrowingLines.{AreGrowing, is_inside, room}
 use Rattle.line_growth.specs.Rules.{lower_of, upper_of}
 
 -- the lines of the set
 abbrev pub set_of : GrowingSet → Lines
-set_of set (Row row) = is_in set.rows row
-set_of set (Column column) = is_in set.columns column
+set_of set (Row row) = is_inside set.rows row
+set_of set (Column column) = is_inside set.columns column
 
 pub record HasRoom (m : Matrix) (set : GrowingSet) : Type 0 where
   pub rows : AreGrowing (height m) set.rows
@@ -51,18 +51,18 @@ HasNone S lines = AllByRecursion (λ line. S line ≡ false) lines
 -- none of some lines is in the set, and enough are outside
 pub record Leaves (m : Matrix) (out : List Line) (least : ℕ) (S : Lines) : Type 0 where
   pub none : HasNone S out
-  pub enough : least ≤ count_in (opposite S) (first_lines (height m)) (first_lines m.width)
+  pub enough : least ≤ count_lines_in (opposite S) (first_lines (height m)) (first_lines m.width)
 
 -- no closed set that has the start leaves so much
-abbrev pub HasNoLeaving : Matrix → Rule → (start out : List Line) → ℕ → Type 0
+abbrev pub HasNoLeaving : Matrix → GrowthRule → (start out : List Line) → ℕ → Type 0
 HasNoLeaving m rule start out least = (T : Lines) → IsClosedIn m (upper_of m rule) (lower_of m rule) T → HasAll T start → ¬ (Leaves m out least T)
 
 -- the least closed set that has the start, which leaves so much
-pub record IsLeaving (m : Matrix) (rule : Rule) (start out : List Line) (least : ℕ) (S : Lines) : Type 0 where
+pub record IsLeaving (m : Matrix) (rule : GrowthRule) (start out : List Line) (least : ℕ) (S : Lines) : Type 0 where
   pub grown : IsGrown (height m) m.width (entry m) (upper_of m rule) (lower_of m rule) start S
   pub leaves : Leaves m out least S
 
 -- whether the set is the least closed one and leaves so much, or no closed one does
-abbrev pub TellsClosed : Matrix → Rule → (start out : List Line) → ℕ → Bool → Lines → Type 0
+abbrev pub TellsClosed : Matrix → GrowthRule → (start out : List Line) → ℕ → Bool → Lines → Type 0
 TellsClosed m rule start out least true S = IsLeaving m rule start out least S
 TellsClosed m rule start out least false S = HasNoLeaving m rule start out least

@@ -6,7 +6,7 @@ use Rattle.cmr_base.specs.Separations.{zeros, product_at, spread_at}
 use Rattle.line_growth.specs.declared.rule.Block.{Block}
 use Rattle.line_growth.specs.declared.rule.Block.TheVariants.{Zero, Product, Spread}
 use Rattle.line_growth.specs.declared.rule.Multiple.{Multiple}
-use Rattle.line_growth.specs.declared.rule.Rule.{Rule}
+use Rattle.line_growth.specs.declared.rule.GrowthRule.{GrowthRule}
 use Rattle.line_growth.specs.declared.rule.SpreadLines.{SpreadLines}
 use Rattle.line_growth.specs.declared.rule.Sum.{Sum}
 
@@ -15,13 +15,13 @@ block_entry M Zero = zeros
 block_entry M (Product place) = product_at M place.row place.column
 block_entry M (Spread lines) = spread_at M (record { row = lines.upper; column = lines.left; other = lines.right }) (record { row = lines.upper; column = lines.left; other = lines.lower })
 
-abbrev pub upper_of : Matrix → Rule → ℕ → ℕ → ℤ
+abbrev pub upper_of : Matrix → GrowthRule → ℕ → ℕ → ℤ
 upper_of m rule = block_entry (entry m) rule.upper
 
-abbrev pub lower_of : Matrix → Rule → ℕ → ℕ → ℤ
+abbrev pub lower_of : Matrix → GrowthRule → ℕ → ℕ → ℤ
 lower_of m rule = block_entry (entry m) rule.lower
 
-abbrev pub exchanged : Rule → Rule
+abbrev pub exchanged : GrowthRule → GrowthRule
 exchanged rule = record { upper = rule.lower; lower = rule.upper }
 
 -- two rows and two columns of the matrix, with the entries where they cross
@@ -41,7 +41,7 @@ IsBlockOf m Zero = Unit {0}
 IsBlockOf m (Product place) = (place.row < height m) × (place.column < m.width)
 IsBlockOf m (Spread lines) = IsSpreadOf m lines
 
-pub record IsRuleOf (m : Matrix) (rule : Rule) : Type 0 where
+pub record IsRuleOf (m : Matrix) (rule : GrowthRule) : Type 0 where
   pub upper : IsBlockOf m rule.upper
   pub lower : IsBlockOf m rule.lower
 
@@ -59,7 +59,7 @@ pub record IsSumOf (m : Matrix) (sum : Sum) : Type 0 where
   pub other_factor : IsBounded 4 sum.factors.other
 
 -- a multiple that is the sum in each matrix
-pub record IsMultiple (sum : Sum) (multiple : Multiple) : Type 0 where
+pub record IsSumMultiple (sum : Sum) (multiple : Multiple) : Type 0 where
   pub factor : IsEntry multiple.factor
   pub model : (m : Matrix) → IsSumOf m sum → multiple.model < height m
   pub value : (m : Matrix) (column : ℕ) → sum_at m sum column ≡ multiple.factor *ℤ entry m multiple.model column

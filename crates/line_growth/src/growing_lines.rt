@@ -6,7 +6,7 @@ ghost use Rattle.cmr_base.specs.Planes.{has_bit, words_for, words_of};
 ghost use Rattle.cmr_base.specs.Matrix.{height, entry, row_of, is_nonzero, IsEntry};
 ghost use Rattle.cmr_base.specs.Trees.{support};
 ghost use Rattle.line_growth.specs.Rules.{IsSumOf, sum_at};
-ghost use Rattle.line_growth.specs.GrowingLines.{AreGrowing, AreSame, HasAdded, HasGrown, HasPulled, HasTaken, IsBitOf, is_in};
+ghost use Rattle.line_growth.specs.GrowingLines.{AreGrowing, AreSame, HasAdded, HasGrown, HasPulled, HasTaken, IsBitOf, is_inside};
 
 use crate::rule::{Multiple, Sum};
 use cmr_base::columns::{add_column, clear_set, empty_set, has_column, next_column, outside};
@@ -28,7 +28,7 @@ impl GrowingLines {
     pub fn new(alloc: Global, size: u32) -> Result<GrowingLines, Memory>
         requires { size ≤ MAX_ROWS }
         ensures whole { IfOk result (AreGrowing size) }
-        ensures none { IfOk result (λ lines. (line : ℕ) → is_in lines line ≡ false) }
+        ensures none { IfOk result (λ lines. (line : ℕ) → is_inside lines line ≡ false) }
     {
         Ok(GrowingLines {
             inside: empty_set(alloc, size)?,
@@ -42,7 +42,7 @@ impl GrowingLines {
     pub fn clear(&mut self)
         requires { AreGrowing self.old.size self.old }
         ensures whole { AreGrowing self.old.size self.new }
-        ensures none { (line : ℕ) → is_in self.new line ≡ false }
+        ensures none { (line : ℕ) → is_inside self.new line ≡ false }
     {
         clear_set(&mut self.inside);
         self.left = self.size;
@@ -66,7 +66,7 @@ impl GrowingLines {
     pub fn has(&self, line: u32) -> bool
         requires lines { AreGrowing self.now.size self.now }
         requires line { line < self.now.size }
-        ensures { result ≡ is_in self.now line }
+        ensures { result ≡ is_inside self.now line }
     {
         has_column(&self.inside, line)
     }
@@ -173,7 +173,7 @@ impl GrowingLines {
         ensures { (k : ℕ) → k < 64
             → has_bit result k
             ≡ (differs_at matrix.now row multiple.factor multiple.model (64 * chunk + k)
-            && not (is_in self.now (64 * chunk + k))) }
+            && not (is_inside self.now (64 * chunk + k))) }
     {
         let _rows = matrix.rows();
         if multiple.factor == 0 {
@@ -189,7 +189,7 @@ impl GrowingLines {
         requires first { first ≤ MAX_ROWS }
         requires lines { (k : ℕ) → k < 64 → has_bit word k ≡ true → first + k < self.old.size }
         ensures taken { OnOk result ((k : ℕ) → k < 64 → has_bit word k ≡ true
-            → is_in self.new (first + k) ≡ true) }
+            → is_inside self.new (first + k) ≡ true) }
         ensures grown { OnOk result (HasGrown self.old.size (IsBitOf first word) self.old
             self.new) }
     {
@@ -228,7 +228,7 @@ impl GrowingLines {
             (λ line. ¬ (entry matrix.now row line ≡ sum_at matrix.now sum line))
             self.old self.new) }
         ensures agree { OnOk result ((line : ℕ) → support matrix.now along line ≡ true
-            → is_in self.new line ≡ false
+            → is_inside self.new line ≡ false
             → entry matrix.now row line ≡ sum_at matrix.now sum line) }
     {
         let mut from = 0;
@@ -251,7 +251,7 @@ impl GrowingLines {
         ensures yes { result ≡ true
             → ¬ (entry matrix.now row line ≡ sum_at matrix.now sum line) }
         ensures no { result ≡ false
-            → (is_in self.now line ≡ true)
+            → (is_inside self.now line ≡ true)
             ⊎ (entry matrix.now row line ≡ sum_at matrix.now sum line) }
     {
         if self.has(line) {
@@ -264,7 +264,7 @@ impl GrowingLines {
     pub fn listed(&self, alloc: Global) -> Result<Indices, Memory>
         requires { AreGrowing self.now.size self.now }
         ensures { IfOk result (λ lines. lines
-            ≡ filter (is_in self.now) (first_lines self.now.size)) }
+            ≡ filter (is_inside self.now) (first_lines self.now.size)) }
     {
         let mut lines = Indices::new(alloc);
         for line in 0..self.size {

@@ -5,18 +5,18 @@ ghost use Rattle.cmr_base.specs.ColumnSets.{has_column};
 ghost use Rattle.cmr_base.specs.LineSets.{first_lines};
 ghost use Rattle.cmr_base.specs.Matrix.{Matrix, entry, height};
 ghost use Rattle.cmr_base.specs.Planes.{words_for};
-ghost use Rattle.cmr_base.specs.Seeds.{IsLine, line_number, outside};
+ghost use Rattle.cmr_base.specs.Seeds.{IsLine, line_number, count_outside};
 ghost use Rattle.cmr_base.specs.declared.line.Line.{Line};
 ghost use Rattle.cmr_base.specs.declared.line.Line.TheVariants.{Row, Column};
 ghost use Rattle.line_growth.specs.Rules.{IsBlockOf, IsRuleOf, block_entry, lower_of, upper_of};
 ghost use Rattle.line_growth.specs.GrowingSets.{HasNone, HasRoom, IsGrowing, KeepsGrowing, TellsClosed, set_of, work};
 
 use crate::growing_lines::GrowingLines;
-use crate::rule::{Block, Rule};
+use crate::rule::{Block, GrowthRule};
 use cmr_base::{Line, LineSet, Memory, RowsAndColumns};
 use std::alloc::Global;
 
-/// A set of the lines of a matrix. It begins with some lines, and grows by a rule: a line outside that breaks the rule with
+/// A set of the lines of a matrix. It begins with some lines, and grows by a rule: a line count_outside that breaks the rule with
 /// a line inside is pulled in.
 #[derive(Drop)]
 pub struct GrowingSet {
@@ -104,7 +104,7 @@ impl GrowingSet {
     pub fn close(
         &mut self,
         matrix: &RowsAndColumns<'_>,
-        rule: Rule,
+        rule: GrowthRule,
         out: &[Line],
         least: u32,
     ) -> Result<bool, Memory>
@@ -131,10 +131,10 @@ impl GrowingSet {
         Ok(false)
     }
 
-    /// How many lines are outside.
+    /// How many lines are count_outside.
     pub fn left(&self, matrix: &RowsAndColumns<'_>) -> u32
         requires { HasRoom matrix.now self.now }
-        ensures { result ≡ outside (height matrix.now) matrix.now.width (set_of self.now) }
+        ensures { result ≡ count_outside (height matrix.now) matrix.now.width (set_of self.now) }
     {
         self.rows.left() + self.columns.left()
     }
@@ -166,7 +166,7 @@ impl GrowingSet {
     }
 
     // Follows the pulls of one line that waits.
-    fn follow(&mut self, matrix: &RowsAndColumns<'_>, rule: Rule) -> Result<(), Memory>
+    fn follow(&mut self, matrix: &RowsAndColumns<'_>, rule: GrowthRule) -> Result<(), Memory>
         requires room { HasRoom matrix.now self.old }
         requires rule { IsRuleOf matrix.now rule }
         requires waits { 0
@@ -198,7 +198,7 @@ impl GrowingSet {
         self.rows.left() < self.columns.left()
     }
 
-    fn follow_row(&mut self, matrix: &RowsAndColumns<'_>, rule: Rule) -> Result<(), Memory>
+    fn follow_row(&mut self, matrix: &RowsAndColumns<'_>, rule: GrowthRule) -> Result<(), Memory>
         requires room { HasRoom matrix.now self.old }
         requires rule { IsRuleOf matrix.now rule }
         requires waits { 0 < length self.old.rows.fresh.items }
@@ -214,7 +214,7 @@ impl GrowingSet {
         Ok(())
     }
 
-    fn follow_column(&mut self, matrix: &RowsAndColumns<'_>, rule: Rule) -> Result<(), Memory>
+    fn follow_column(&mut self, matrix: &RowsAndColumns<'_>, rule: GrowthRule) -> Result<(), Memory>
         requires room { HasRoom matrix.now self.old }
         requires rule { IsRuleOf matrix.now rule }
         requires waits { 0 < length self.old.columns.fresh.items }

@@ -6,4 +6,4 @@ mod growing_set;
 mod rule;
 
 pub use growing_set::{GrowingSet, line_at};
-pub use rule::{Block, Place, Rule, SpreadLines, Sum};
+pub use rule::{Block, GrowthRule, Place, SpreadLines, Sum};

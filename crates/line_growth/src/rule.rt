@@ -3,7 +3,7 @@ ghost use Rattle.std.specs.Prelude.{◌≡◌, ◌<◌, ◌*ℤ◌, ◌↔◌, �
 ghost use Rattle.cmr_base.specs.Cores.{IsBounded};
 ghost use Rattle.cmr_base.specs.Matrix.{Matrix, height, entry, transposed, IsEntry};
 ghost use Rattle.line_growth.specs.declared.rule.Block.TheVariants.{Spread};
-ghost use Rattle.line_growth.specs.Rules.{IsBlockOf, IsMultiple, IsSpreadOf, IsSumOf, block_entry, exchanged, sum_at};
+ghost use Rattle.line_growth.specs.Rules.{IsBlockOf, IsSumMultiple, IsSpreadOf, IsSumOf, block_entry, exchanged, sum_at};
 
 use cmr_base::{Core, Factors, Matrix, RowsAndColumns, product};
 
@@ -36,7 +36,7 @@ pub enum Block {
 
 /// The block of the rows inside and the columns outside, and that of the rows outside and the columns inside.
 #[derive(Clone, Copy, Debug)]
-pub struct Rule {
+pub struct GrowthRule {
     pub upper: Block,
     pub lower: Block,
 }
@@ -110,7 +110,7 @@ impl SpreadLines {
             ≡ block_entry (entry matrix.now) (Spread self) row column }
     {
         let _rows = matrix.rows();
-        let turned = Core {
+        let transposed = Core {
             x: self.core.x,
             y: self.core.z,
             z: self.core.y,
@@ -119,7 +119,7 @@ impl SpreadLines {
         let first = matrix.entry(self.upper, column);
         let other = matrix.entry(self.lower, column);
         Sum {
-            factors: turned.factors(self.determinant, first, other),
+            factors: transposed.factors(self.determinant, first, other),
             first: self.left,
             other: self.right,
         }
@@ -176,7 +176,7 @@ impl Sum {
     pub fn as_multiple(self) -> Option<Multiple>
         requires first { IsBounded 4 self.factors.first }
         requires other { IsBounded 4 self.factors.other }
-        ensures { MatchOption result (Unit {0}) (IsMultiple self) }
+        ensures { MatchOption result (Unit {0}) (IsSumMultiple self) }
     {
         let Factors { first, other } = self.factors;
         if is_zero(other) && is_entry(first) {
@@ -256,12 +256,12 @@ impl Block {
     }
 }
 
-impl Rule {
+impl GrowthRule {
     /// With the blocks exchanged: what pulls a line in by the rule is what the line pulls in by this one.
-    pub fn exchanged(self) -> Rule
+    pub fn exchanged(self) -> GrowthRule
         ensures { result ≡ exchanged self }
     {
-        Rule {
+        GrowthRule {
             upper: self.lower,
             lower: self.upper,
         }

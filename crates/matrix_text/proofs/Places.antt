@@ -12,7 +12,7 @@ use Rattle.std.proofs.lemmas.Nat.{mul-add-lt, div-mul-add, mod-mul-add}
 use Rattle.cmr_base.proofs.Rows.{length-rows_of, length-row, entry-rows_of}
 use Rattle.cmr_base.proofs.Booleans.{or_false, or_true}
 use Rattle.cmr_base.specs.Matrix.{Matrix, IsEntry, rows_of}
-use Rattle.matrix_text.specs.Sparse.{Triple, names, is_named, value_at, matrix_of_triples}
+use Rattle.matrix_text.specs.Sparse.{Triple, names, is_place_named, value_at, matrix_of_triples}
 
 -- a row and a column by their place
 pub same_place : (width row column r c : ℕ) → column < width → c < width → row * width + column ≡ r * width + c → (row ≡ r) × (column ≡ c)
@@ -25,7 +25,7 @@ same_place width row column r c hc hd e = (
 pub record AreHeld (height width : ℕ) (taken : List Bool) (cells : List ℤ) (triples : List Triple) : Type 0 where
   pub taken_whole : length taken ≡ height * width
   pub cells_whole : length cells ≡ height * width
-  pub marks : (row column : ℕ) → row < height → column < width → get_or taken (row * width + column) false ≡ is_named triples (row + 1) (column + 1)
+  pub marks : (row column : ℕ) → row < height → column < width → get_or taken (row * width + column) false ≡ is_place_named triples (row + 1) (column + 1)
   pub values : (row column : ℕ) → row < height → column < width → get_or cells (row * width + column) (pos 0) ≡ value_at triples (row + 1) (column + 1)
   pub small : (k : ℕ) → IsEntry (get_or cells k (pos 0))
 
@@ -49,22 +49,22 @@ none_held height width = record {
     inside : (row column : ℕ) → row < height → column < width → row * width + column < height * width
     inside row column hr hc = omega (arith, mul-add-lt row width column height hr hc)
 
-pub value_unnamed : (triples : List Triple) (row column : ℕ) → is_named triples row column ≡ false → value_at triples row column ≡ pos 0
+pub value_unnamed : (triples : List Triple) (row column : ℕ) → is_place_named triples row column ≡ false → value_at triples row column ≡ pos 0
 value_unnamed [] row column h = refl
 value_unnamed (t ∷ triples) row column h =
     let first : names row column t ≡ false = grind (arith, h) in
-    let others : is_named triples row column ≡ false = grind (arith, h) in
+    let others : is_place_named triples row column ≡ false = grind (arith, h) in
     rw first (value_unnamed triples row column others)
 
 value_other : (triples : List Triple) (t : Triple) (row column : ℕ) → names row column t ≡ false → value_at (triples ++ t ∷ []) row column ≡ value_at triples row column
 value_other [] t row column h = rw h refl
 value_other (x ∷ triples) t row column h = ap (λ (z : ℤ). cond (names row column x) x.value z) (value_other triples t row column h)
 
-value_new : (triples : List Triple) (t : Triple) (row column : ℕ) → is_named triples row column ≡ false → names row column t ≡ true → value_at (triples ++ t ∷ []) row column ≡ t.value
+value_new : (triples : List Triple) (t : Triple) (row column : ℕ) → is_place_named triples row column ≡ false → names row column t ≡ true → value_at (triples ++ t ∷ []) row column ≡ t.value
 value_new [] t row column h named = rw named refl
 value_new (x ∷ triples) t row column h named =
     let first : names row column x ≡ false = grind (arith, h) in
-    let others : is_named triples row column ≡ false = grind (arith, h) in
+    let others : is_place_named triples row column ≡ false = grind (arith, h) in
     rw first (value_new triples t row column others named)
 
 small_set : (cells : List ℤ) (place : ℕ) (z : ℤ) → IsEntry z → ((k : ℕ) → IsEntry (get_or cells k (pos 0))) → (k : ℕ) → IsEntry (get_or (set cells place z) k (pos 0))
@@ -97,19 +97,19 @@ module _ (height width : ℕ) (taken : List Bool) (cells : List ℤ) (triples : 
           let column_is : t.column - 1 ≡ column = grind (arith, nat_tests) in
           absurd (ne (sym (ap (λ (k : ℕ). k * width + (t.column - 1)) row_is ∙ ap (λ (k : ℕ). row * width + k) column_is)))
 
-  new_mark : (row column : ℕ) → row < height → column < width → get_or (set taken ((t.row - 1) * width + (t.column - 1)) true) (row * width + column) false ≡ is_named (triples ++ t ∷ []) (row + 1) (column + 1)
+  new_mark : (row column : ℕ) → row < height → column < width → get_or (set taken ((t.row - 1) * width + (t.column - 1)) true) (row * width + column) false ≡ is_place_named (triples ++ t ∷ []) (row + 1) (column + 1)
   new_mark row column hr hc = elim (cases_eq (row * width + column) ((t.row - 1) * width + (t.column - 1))) [
     | inl e ↦
         ap (λ (k : ℕ). get_or (set taken ((t.row - 1) * width + (t.column - 1)) true) k false) e
         ∙ get_or-set_same taken ((t.row - 1) * width + (t.column - 1)) true false (omega (arith, held.taken_whole, inside))
-        ∙ sym (list_any-append (names (row + 1) (column + 1)) triples (t ∷ []) ∙ ap (λ (b : Bool). is_named triples (row + 1) (column + 1) || (b || false)) (here row column hc e) ∙ or_true (is_named triples (row + 1) (column + 1)))
+        ∙ sym (list_any-append (names (row + 1) (column + 1)) triples (t ∷ []) ∙ ap (λ (b : Bool). is_place_named triples (row + 1) (column + 1) || (b || false)) (here row column hc e) ∙ or_true (is_place_named triples (row + 1) (column + 1)))
     | inr ne ↦
         get_or-set_other taken ((t.row - 1) * width + (t.column - 1)) (row * width + column) true false ne
         ∙ held.marks row column hr hc
-        ∙ sym (list_any-append (names (row + 1) (column + 1)) triples (t ∷ []) ∙ ap (λ (b : Bool). is_named triples (row + 1) (column + 1) || (b || false)) (elsewhere row column ne) ∙ or_false (is_named triples (row + 1) (column + 1)))
+        ∙ sym (list_any-append (names (row + 1) (column + 1)) triples (t ∷ []) ∙ ap (λ (b : Bool). is_place_named triples (row + 1) (column + 1) || (b || false)) (elsewhere row column ne) ∙ or_false (is_place_named triples (row + 1) (column + 1)))
   ]
 
-  new_value : is_named triples t.row t.column ≡ false → (row column : ℕ) → row < height → column < width → get_or (set cells ((t.row - 1) * width + (t.column - 1)) t.value) (row * width + column) (pos 0) ≡ value_at (triples ++ t ∷ []) (row + 1) (column + 1)
+  new_value : is_place_named triples t.row t.column ≡ false → (row column : ℕ) → row < height → column < width → get_or (set cells ((t.row - 1) * width + (t.column - 1)) t.value) (row * width + column) (pos 0) ≡ value_at (triples ++ t ∷ []) (row + 1) (column + 1)
   new_value new row column hr hc = elim (cases_eq (row * width + column) ((t.row - 1) * width + (t.column - 1))) [
     | inl e ↦
         let same = same_place width row column (t.row - 1) (t.column - 1) hc (omega arith) e in
@@ -124,7 +124,7 @@ module _ (height width : ℕ) (taken : List Bool) (cells : List ℤ) (triples : 
         ∙ sym (value_other triples t (row + 1) (column + 1) (elsewhere row column ne))
   ]
 
-  pub one_more : IsEntry t.value → is_named triples t.row t.column ≡ false → AreHeld height width (set taken ((t.row - 1) * width + (t.column - 1)) true) (set cells ((t.row - 1) * width + (t.column - 1)) t.value) (triples ++ t ∷ [])
+  pub one_more : IsEntry t.value → is_place_named triples t.row t.column ≡ false → AreHeld height width (set taken ((t.row - 1) * width + (t.column - 1)) true) (set cells ((t.row - 1) * width + (t.column - 1)) t.value) (triples ++ t ∷ [])
   one_more small new = record {
     taken_whole = length-set taken ((t.row - 1) * width + (t.column - 1)) true ∙ held.taken_whole;
     cells_whole = length-set cells ((t.row - 1) * width + (t.column - 1)) t.value ∙ held.cells_whole;

@@ -15,7 +15,7 @@ use Rattle.text_fields.proofs.LineWords.{IsWord, words_in_lines}
 use Rattle.text_fields.proofs.Decimals.{decimal_word, count_of_decimal}
 use Rattle.text_fields.proofs.Entries.{entry_word}
 use Rattle.matrix_text.specs.Values.{entry_in}
-use Rattle.matrix_text.specs.Sparse.{Triple, names, is_named, value_at, SpellTriples, IsPlaced, NameOnce, sparse}
+use Rattle.matrix_text.specs.Sparse.{Triple, names, is_place_named, value_at, SpellTriples, IsPlaced, NameOnce, sparse}
 use Rattle.matrix_text.specs.Canonical.{row_triples, triples_from, triple_line, sparse_lines, sparse_text}
 use Rattle.matrix_text.proofs.Places.{table_of, value_unnamed}
 use Rattle.matrix_text.proofs.Entries.{all_entries, all_widths}
@@ -60,26 +60,26 @@ differ_right a b c d ne = go (eqb a b) (let e : eqb c d ≡ false = grind (arith
     go true e = e
     go false e = refl
 
-unnamed_kept : (b : Bool) (t : Triple) (triples : List Triple) (r c : ℕ) → names r c t ≡ false → is_named triples r c ≡ false → is_named (cond b (t ∷ triples) triples) r c ≡ false
+unnamed_kept : (b : Bool) (t : Triple) (triples : List Triple) (r c : ℕ) → names r c t ≡ false → is_place_named triples r c ≡ false → is_place_named (cond b (t ∷ triples) triples) r c ≡ false
 unnamed_kept true t triples r c here later = rw here later
 unnamed_kept false t triples r c here later = later
 
-row_unnamed_before : (row column : ℕ) (entries : List ℤ) (r c : ℕ) → c < column → is_named (row_triples row column entries) r c ≡ false
+row_unnamed_before : (row column : ℕ) (entries : List ℤ) (r c : ℕ) → c < column → is_place_named (row_triples row column entries) r c ≡ false
 row_unnamed_before row column [] r c lt = refl
 row_unnamed_before row column (z ∷ entries) r c lt = unnamed_kept (is_nonzero z) (record { row = row; column = column; value = z }) (row_triples row (column + 1) entries) r c (differ_right row r column c (omega arith)) (row_unnamed_before row (column + 1) entries r c (omega arith))
 
-row_unnamed_other : (row column : ℕ) (entries : List ℤ) (r c : ℕ) → row ≢ r → is_named (row_triples row column entries) r c ≡ false
+row_unnamed_other : (row column : ℕ) (entries : List ℤ) (r c : ℕ) → row ≢ r → is_place_named (row_triples row column entries) r c ≡ false
 row_unnamed_other row column [] r c ne = refl
 row_unnamed_other row column (z ∷ entries) r c ne = unnamed_kept (is_nonzero z) (record { row = row; column = column; value = z }) (row_triples row (column + 1) entries) r c (differ_left row r column c ne) (row_unnamed_other row (column + 1) entries r c ne)
 
-unnamed_append : (front back : List Triple) (r c : ℕ) → is_named front r c ≡ false → is_named back r c ≡ false → is_named (front ++ back) r c ≡ false
+unnamed_append : (front back : List Triple) (r c : ℕ) → is_place_named front r c ≡ false → is_place_named back r c ≡ false → is_place_named (front ++ back) r c ≡ false
 unnamed_append front back r c here later = list_any-append (names r c) front back ∙ rw (here, later) refl
 
-rows_unnamed_before : (row : ℕ) (rows : List (List ℤ)) (r c : ℕ) → r < row → is_named (triples_from row rows) r c ≡ false
+rows_unnamed_before : (row : ℕ) (rows : List (List ℤ)) (r c : ℕ) → r < row → is_place_named (triples_from row rows) r c ≡ false
 rows_unnamed_before row [] r c lt = refl
 rows_unnamed_before row (entries ∷ rows) r c lt = unnamed_append (row_triples row 1 entries) (triples_from (row + 1) rows) r c (row_unnamed_other row 1 entries r c (omega arith)) (rows_unnamed_before (row + 1) rows r c (omega arith))
 
-once_kept : (b : Bool) (t : Triple) (triples : List Triple) → is_named triples t.row t.column ≡ false → NameOnce triples → NameOnce (cond b (t ∷ triples) triples)
+once_kept : (b : Bool) (t : Triple) (triples : List Triple) → is_place_named triples t.row t.column ≡ false → NameOnce triples → NameOnce (cond b (t ∷ triples) triples)
 once_kept true t triples here later = (here, later)
 once_kept false t triples here later = later
 
@@ -87,13 +87,13 @@ row_once : (row column : ℕ) (entries : List ℤ) → NameOnce (row_triples row
 row_once row column [] = tt
 row_once row column (z ∷ entries) = once_kept (is_nonzero z) (record { row = row; column = column; value = z }) (row_triples row (column + 1) entries) (row_unnamed_before row (column + 1) entries row column (omega arith)) (row_once row (column + 1) entries)
 
-once_append : (front back : List Triple) → NameOnce front → AllByRecursion (λ t. is_named back t.row t.column ≡ false) front → NameOnce back → NameOnce (front ++ back)
+once_append : (front back : List Triple) → NameOnce front → AllByRecursion (λ t. is_place_named back t.row t.column ≡ false) front → NameOnce back → NameOnce (front ++ back)
 once_append [] back here apart later = later
 once_append (t ∷ front) back here apart later = (unnamed_append front back t.row t.column here.0 apart.0, once_append front back here.1 apart.1 later)
 
-row_apart : (row column : ℕ) (entries : List ℤ) (back : List Triple) → ((c : ℕ) → is_named back row c ≡ false) → AllByRecursion (λ t. is_named back t.row t.column ≡ false) (row_triples row column entries)
+row_apart : (row column : ℕ) (entries : List ℤ) (back : List Triple) → ((c : ℕ) → is_place_named back row c ≡ false) → AllByRecursion (λ t. is_place_named back t.row t.column ≡ false) (row_triples row column entries)
 row_apart row column [] back apart = tt
-row_apart row column (z ∷ entries) back apart = kept_all (is_nonzero z) (λ t. is_named back t.row t.column ≡ false) (record { row = row; column = column; value = z }) (row_triples row (column + 1) entries) (apart column) (row_apart row (column + 1) entries back apart)
+row_apart row column (z ∷ entries) back apart = kept_all (is_nonzero z) (λ t. is_place_named back t.row t.column ≡ false) (record { row = row; column = column; value = z }) (row_triples row (column + 1) entries) (apart column) (row_apart row (column + 1) entries back apart)
 
 all_once : (row : ℕ) (rows : List (List ℤ)) → NameOnce (triples_from row rows)
 all_once row [] = tt
@@ -117,22 +117,22 @@ few_nonzeros width [] wide = omega (arith, zero-mul width)
 few_nonzeros width (entries ∷ rows) wide = omega (arith, count_by-le-length is_nonzero entries, wide.0, few_nonzeros width rows wide.1, suc-mul (length rows) width)
 
 -- the values are the entries
-value_front : (front back : List Triple) (r c : ℕ) → is_named back r c ≡ false → value_at (front ++ back) r c ≡ value_at front r c
+value_front : (front back : List Triple) (r c : ℕ) → is_place_named back r c ≡ false → value_at (front ++ back) r c ≡ value_at front r c
 value_front [] back r c none = value_unnamed back r c none
 value_front (t ∷ front) back r c none = ap (λ (z : ℤ). cond (names r c t) t.value z) (value_front front back r c none)
 
-value_back : (front back : List Triple) (r c : ℕ) → is_named front r c ≡ false → value_at (front ++ back) r c ≡ value_at back r c
+value_back : (front back : List Triple) (r c : ℕ) → is_place_named front r c ≡ false → value_at (front ++ back) r c ≡ value_at back r c
 value_back [] back r c none = refl
 value_back (t ∷ front) back r c none =
     let first : names r c t ≡ false = grind (arith, none) in
-    let others : is_named front r c ≡ false = grind (arith, none) in
+    let others : is_place_named front r c ≡ false = grind (arith, none) in
     rw first (value_back front back r c others)
 
 kept_skip : (b : Bool) (t : Triple) (triples : List Triple) (r c : ℕ) → names r c t ≡ false → value_at (cond b (t ∷ triples) triples) r c ≡ value_at triples r c
 kept_skip true t triples r c other = rw other refl
 kept_skip false t triples r c other = refl
 
-kept_here : (z : ℤ) (row column : ℕ) (triples : List Triple) → is_named triples row column ≡ false → value_at (cond (is_nonzero z) ((record { row = row; column = column; value = z }) ∷ triples) triples) row column ≡ z
+kept_here : (z : ℤ) (row column : ℕ) (triples : List Triple) → is_place_named triples row column ≡ false → value_at (cond (is_nonzero z) ((record { row = row; column = column; value = z }) ∷ triples) triples) row column ≡ z
 kept_here (pos zero) row column triples none = value_unnamed triples row column none
 kept_here (pos (suc n)) row column triples none = let rows : eqb row row ≡ true = grind (arith, nat_tests) in let columns : eqb column column ≡ true = grind (arith, nat_tests) in rw (rows, columns) refl
 kept_here (negsuc n) row column triples none = let rows : eqb row row ≡ true = grind (arith, nat_tests) in let columns : eqb column column ≡ true = grind (arith, nat_tests) in rw (rows, columns) refl

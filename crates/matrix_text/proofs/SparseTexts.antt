@@ -6,7 +6,7 @@ use Rattle.std.proofs.lemmas.List.{append-nil}
 use Rattle.std.proofs.lemmas.List.Folds.{list_any-append}
 use Rattle.cmr_base.specs.declared.limits.TheConstants.{MAX_COLUMNS, MAX_ROWS}
 use Rattle.cmr_base.specs.Matrix.{Matrix}
-use Rattle.cmr_base.proofs.Booleans.{eq_turned}
+use Rattle.cmr_base.proofs.Booleans.{eq_swapped}
 use Rattle.text_fields.specs.Words.{Text}
 use Rattle.text_fields.specs.Result.{◌>>=◌, renamed}
 use Rattle.text_fields.specs.Numbers.{count_in}
@@ -20,24 +20,24 @@ use Rattle.matrix_text.specs.declared.error.TextKind.{TextKind}
 use Rattle.matrix_text.specs.declared.error.TextKind.TheVariants.{Short, Extra, TooManyRows, TooManyColumns}
 use Rattle.matrix_text.specs.Kinds.{text_kind, limit_kind}
 use Rattle.matrix_text.specs.Values.{count, limited, entry_in}
-use Rattle.matrix_text.specs.Sparse.{Triple, names, is_named, matrix_of_triples, SpellTriples, IsPlaced, NameOnce, IsSparse, free_place, another_triple, matrix_by_triples, sparse}
+use Rattle.matrix_text.specs.Sparse.{Triple, names, is_place_named, matrix_of_triples, SpellTriples, IsPlaced, NameOnce, IsSparse, free_place, another_triple, matrix_by_triples, sparse}
 use Rattle.matrix_text.proofs.Lines.{size_found}
 use Rattle.matrix_text.proofs.FreePlaces.{free_place_ok, free_place_again}
 
 names_back : (s t : Triple) → names s.row s.column t ≡ false → names t.row t.column s ≡ false
-names_back s t h = let rows : eqb s.row t.row ≡ eqb t.row s.row = eq_turned s.row t.row in let columns : eqb s.column t.column ≡ eqb t.column s.column = eq_turned s.column t.column in rw (rows, columns) h
+names_back s t h = let rows : eqb s.row t.row ≡ eqb t.row s.row = eq_swapped s.row t.row in let columns : eqb s.column t.column ≡ eqb t.column s.column = eq_swapped s.column t.column in rw (rows, columns) h
 
 -- one more triple at a new place
-once_more : (triples : List Triple) (t : Triple) → NameOnce triples → is_named triples t.row t.column ≡ false → NameOnce (triples ++ t ∷ [])
+once_more : (triples : List Triple) (t : Triple) → NameOnce triples → is_place_named triples t.row t.column ≡ false → NameOnce (triples ++ t ∷ [])
 once_more [] t once new = (refl, tt)
 once_more (x ∷ triples) t once new =
     let first : names t.row t.column x ≡ false = grind (arith, new) in
-    let others : is_named triples t.row t.column ≡ false = grind (arith, new) in
-    let unnamed : is_named (triples ++ t ∷ []) x.row x.column ≡ false = list_any-append (names x.row x.column) triples (t ∷ []) ∙ rw (once.0, names_back t x first) refl in
+    let others : is_place_named triples t.row t.column ≡ false = grind (arith, new) in
+    let unnamed : is_place_named (triples ++ t ∷ []) x.row x.column ≡ false = list_any-append (names x.row x.column) triples (t ∷ []) ∙ rw (once.0, names_back t x first) refl in
     (unnamed, once_more triples t once.1 others)
 
 -- a place among those that are named once is new to the triples before it
-once_new : (triples : List Triple) (t : Triple) (later : List Triple) → NameOnce (triples ++ t ∷ later) → is_named triples t.row t.column ≡ false
+once_new : (triples : List Triple) (t : Triple) (later : List Triple) → NameOnce (triples ++ t ∷ later) → is_place_named triples t.row t.column ≡ false
 once_new [] t later once = refl
 once_new (x ∷ triples) t later once =
     let split = sym (list_any-append (names x.row x.column) triples (t ∷ later)) ∙ once.0 in
@@ -56,19 +56,19 @@ record IsTriple (binary : Bool) (height width : ℕ) (before : List Triple) (tex
   column_is : count_in column_word.1 ≡ Ok triple.column
   value_is : entry_in binary value_word.1 ≡ Ok triple.value
   placed : IsPlaced height width triple
-  new : is_named before triple.row triple.column ≡ false
+  new : is_place_named before triple.row triple.column ≡ false
 
 another_triple_ok : (binary : Bool) (height width : ℕ) (before : List Triple) (text : Text) (next : List Triple × Text) → another_triple binary height width before text ≡ Ok next → IsTriple binary height width before text next
 another_triple_ok binary height width before text next h =
-    let b = bind_ok (free_place height width (is_named before) text) (λ (place : (ℕ × ℕ) × Text). field Short (entry_in binary) place.1 >>= λ value. Ok (before ++ (record { row = (place.0).0; column = (place.0).1; value = value.0 }) ∷ [], value.1)) next h in
+    let b = bind_ok (free_place height width (is_place_named before) text) (λ (place : (ℕ × ℕ) × Text). field Short (entry_in binary) place.1 >>= λ value. Ok (before ++ (record { row = (place.0).0; column = (place.0).1; value = value.0 }) ∷ [], value.1)) next h in
     let d = bind_ok (field Short (entry_in binary) b.0.1) (λ (value : ℤ × Text). Ok (before ++ (record { row = (b.0.0).0; column = (b.0.0).1; value = value.0 }) ∷ [], value.1)) next b.2 in
     let e = ok_same (before ++ (record { row = (b.0.0).0; column = (b.0.0).1; value = d.0.0 }) ∷ [], d.0.1) next d.2 in
     subst (IsTriple binary height width before text) e (go b.0 d.0 b.1 d.1)
   where
-    go : (place : (ℕ × ℕ) × Text) (value : ℤ × Text) → free_place height width (is_named before) text ≡ Ok place → field Short (entry_in binary) place.1 ≡ Ok value
+    go : (place : (ℕ × ℕ) × Text) (value : ℤ × Text) → free_place height width (is_place_named before) text ≡ Ok place → field Short (entry_in binary) place.1 ≡ Ok value
         → IsTriple binary height width before text (before ++ (record { row = (place.0).0; column = (place.0).1; value = value.0 }) ∷ [], value.1)
     go place value hp hv =
-        let p = free_place_ok height width (is_named before) text place hp in
+        let p = free_place_ok height width (is_place_named before) text place hp in
         let v = field_ok Short (entry_in binary) place.1 value.0 value.1 hv in
         record {
           row_word = p.row_word;
@@ -136,7 +136,7 @@ triples_again binary height width size (r ∷ c ∷ v ∷ words) later before []
 triples_again binary height width size (r ∷ c ∷ v ∷ words) later before (t ∷ triples) spell placed once =
     let new = once_new before t triples once in
     let p = placed.0 in
-    let place = free_place_again height width (is_named before) size r c (v ∷ words ++ later) t.row t.column spell.0 spell.1 p.row_above p.row_in p.column_above p.column_in new in
+    let place = free_place_again height width (is_place_named before) size r c (v ∷ words ++ later) t.row t.column spell.0 spell.1 p.row_above p.row_in p.column_above p.column_in new in
     let moved = sym (append_assoc before (t ∷ []) triples) in
     rw (place, spell.2) (triples_again binary height width size words later (before ++ t ∷ []) triples spell.3 placed.1 (subst NameOnce moved once) ∙ ap (λ ts. Ok (ts, record { size = size; words = later })) (append_assoc before (t ∷ []) triples))
 

@@ -1,4 +1,4 @@
--- A submatrix text that was written is read again as the same lines.
+-- A named_lines text that was written is read again as the same lines.
 use Rattle.std.proofs.Common.{◌≡◌, ◌≤◌, ◌+◌, ◌∙◌, ℕ, suc, List, [], ◌∷◌, ◌++◌, length, map, Ok, ap, arith}
 use Rattle.std.specs.Fmt.{decimal}
 use Rattle.std.specs.List.{AllByRecursion}
@@ -13,9 +13,10 @@ use Rattle.text_fields.specs.Numbers.{count_in}
 use Rattle.text_fields.specs.Spelling.{Spell}
 use Rattle.text_fields.proofs.LineWords.{IsWord, words_in_lines}
 use Rattle.text_fields.proofs.Decimals.{decimal_word, count_of_decimal}
-use Rattle.matrix_text.specs.Submatrix.{numbers_of, submatrix}
-use Rattle.matrix_text.specs.Canonical.{number_of_line, submatrix_lines, submatrix_text}
+use Rattle.matrix_text.specs.Submatrix.{numbers_of, named_lines}
+use Rattle.matrix_text.specs.Canonical.{submatrix_lines, submatrix_text}
 use Rattle.matrix_text.proofs.SubmatrixTexts.{submatrix_only}
+use Rattle.text_fields.specs.LineNumbers.{number_of_line}
 
 line_words : (bound : ℕ) (lines : List ℕ) → bound ≤ MAX_ROWS → AllBelow bound lines → AllByRecursion IsWord (map number_of_line lines)
 line_words bound [] few below = tt
@@ -26,7 +27,7 @@ lines_spelled bound [] few below = tt
 lines_spelled bound (line ∷ lines) few below = (count_of_decimal (line + 1) (let h = below 0 (omega arith) in omega (arith, h)), lines_spelled bound lines few (λ k h. below (suc k) (omega arith)))
 
 pub submatrix_again : (height width : ℕ) (lines : LineSet) → height ≤ MAX_ROWS → width ≤ MAX_COLUMNS → IsStrictlyIncreasing lines.rows → IsStrictlyIncreasing lines.columns → AllBelow height lines.rows → AllBelow width lines.columns
-    → submatrix height width (text_of (submatrix_text height width lines)) ≡ Ok lines
+    → named_lines height width (text_of (submatrix_text height width lines)) ≡ Ok lines
 submatrix_again height width lines few_rows few_columns rows_rise columns_rise rows_in columns_in =
     let row_count = rising_count height lines.rows rows_rise rows_in in
     let column_count = rising_count width lines.columns columns_rise columns_in in

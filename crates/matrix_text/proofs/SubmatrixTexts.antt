@@ -1,4 +1,4 @@
--- Reading gives exactly the lines whose submatrix text the words are.
+-- Reading gives exactly the lines whose named_lines text the words are.
 use Rattle.std.proofs.Common.{◌≡◌, ◌∙◌, ℕ, List, [], ◌∷◌, ◌++◌, length, cond, eqb, true, Result, Ok, Err, refl, ap, sym, subst, arith, zero-le}
 use Rattle.std.specs.Prelude.{IfOk}
 use Rattle.std.proofs.lemmas.List.{append-nil, map-append}
@@ -19,7 +19,7 @@ use Rattle.matrix_text.specs.declared.error.TextKind.{TextKind}
 use Rattle.matrix_text.specs.declared.error.TextKind.TheVariants.{Short, Extra, RowOutOfRange, ColumnOutOfRange, OtherSize}
 use Rattle.matrix_text.specs.Kinds.{text_kind, limit_kind}
 use Rattle.matrix_text.specs.Values.{count, limited, own_size}
-use Rattle.matrix_text.specs.Submatrix.{IsSubmatrix, numbers_of, rising_lines, submatrix}
+use Rattle.matrix_text.specs.Submatrix.{IsSubmatrix, numbers_of, rising_lines, named_lines}
 use Rattle.matrix_text.proofs.Lines.{size_found}
 use Rattle.matrix_text.proofs.Rising.{lines_ok, lines_again}
 
@@ -80,8 +80,8 @@ lists_found height width p q text lines h =
 four_words : (a b c d : ℕ × List ℕ) (words x y z rest : List (ℕ × List ℕ)) → words ≡ a ∷ x → x ≡ b ∷ y → y ≡ c ∷ z → z ≡ d ∷ rest → texts_of words ≡ a.1 ∷ b.1 ∷ c.1 ∷ d.1 ∷ texts_of rest
 four_words a b c d words x y z rest e f g h = rw (e, f, g, h) refl
 
--- what is read is a submatrix text
-submatrix_found : (height width : ℕ) (text : Text) (lines : LineSet) → submatrix height width text ≡ Ok lines → IsSubmatrix height width (texts_of text.words) lines
+-- what is read is a named_lines text
+submatrix_found : (height width : ℕ) (text : Text) (lines : LineSet) → named_lines height width text ≡ Ok lines → IsSubmatrix height width (texts_of text.words) lines
 submatrix_found height width text lines h =
     let a = bind_ok (field Short (own_size height) text) (λ (same : ℕ × Text). field Short (own_size width) same.1 >>= λ same. counts_behind height width same.1) lines h in
     let b = bind_ok (field Short (own_size width) a.0.1) (λ (same : ℕ × Text). counts_behind height width same.1) lines a.2 in
@@ -131,8 +131,8 @@ lists_again height width size words lines are =
     ∙ lines_again width ColumnOutOfRange size s.second [] [] lines.columns (subst (λ ws. Spell count_in ws (numbers_of lines.columns)) (sym s.back_is) are.columns_are) are.columns_rise in
     rw (rows, columns) refl
 
--- what is a submatrix text is read
-pub submatrix_only : (height width size : ℕ) (words : List (ℕ × List ℕ)) (lines : LineSet) → IsSubmatrix height width (texts_of words) lines → submatrix height width (record { size = size; words = words }) ≡ Ok lines
+-- what is a named_lines text is read
+pub submatrix_only : (height width size : ℕ) (words : List (ℕ × List ℕ)) (lines : LineSet) → IsSubmatrix height width (texts_of words) lines → named_lines height width (record { size = size; words = words }) ≡ Ok lines
 submatrix_only height width size [] lines is = absurd (let e = is.words_are in cc)
 submatrix_only height width size (h ∷ []) lines is = absurd (let e = is.words_are in cc)
 submatrix_only height width size (h ∷ w ∷ []) lines is = absurd (let e = is.words_are in cc)
@@ -161,9 +161,9 @@ submatrix_only height width size (h ∷ w ∷ p ∷ q ∷ words) lines is =
     }))
 
 -- the same for what a function returned
-pub found : (height width : ℕ) (text : Text) (r : Result LineSet (FieldError TextKind)) → Gives (λ lines. lines) r (submatrix height width text) → IfOk r (IsSubmatrix height width (texts_of text.words))
+pub found : (height width : ℕ) (text : Text) (r : Result LineSet (FieldError TextKind)) → Gives (λ lines. lines) r (named_lines height width text) → IfOk r (IsSubmatrix height width (texts_of text.words))
 found height width text (Ok lines) gives = submatrix_found height width text lines gives
 found height width text (Err e) gives = tt
 
-pub only : (height width : ℕ) (text : Text) (r : Result LineSet (FieldError TextKind)) → Gives (λ lines. lines) r (submatrix height width text) → (lines : LineSet) → IsSubmatrix height width (texts_of text.words) lines → Gives (λ lines. lines) r (Ok lines)
+pub only : (height width : ℕ) (text : Text) (r : Result LineSet (FieldError TextKind)) → Gives (λ lines. lines) r (named_lines height width text) → (lines : LineSet) → IsSubmatrix height width (texts_of text.words) lines → Gives (λ lines. lines) r (Ok lines)
 only height width text r gives lines is = subst (Gives (λ lines. lines) r) (submatrix_only height width text.size text.words lines is) gives

@@ -5,6 +5,7 @@ use Rattle.cmr_base.specs.Matrix.{Matrix, height, is_nonzero, nonzeros_of}
 use Rattle.cmr_base.specs.declared.line_set.LineSet.{LineSet}
 use Rattle.text_fields.specs.Written.{text_of_lines}
 use Rattle.matrix_text.specs.Sparse.{Triple}
+use Rattle.text_fields.specs.LineNumbers.{number_of_line}
 
 -- the sizes, and a line for each row with its entries
 abbrev pub dense_lines : Matrix → List (List (List ℕ))
@@ -35,10 +36,6 @@ sparse_lines m = (decimal (height m) ∷ decimal m.width ∷ decimal (nonzeros_o
 
 abbrev pub sparse_text : Matrix → List ℕ
 sparse_text m = text_of_lines (sparse_lines m)
-
--- a line's number, counted from 1
-abbrev pub number_of_line : ℕ → List ℕ
-number_of_line line = decimal (line + 1)
 
 -- the matrix's sizes and two counts, a line of row numbers, and a line of column numbers
 abbrev pub submatrix_lines : ℕ → ℕ → LineSet → List (List (List ℕ))

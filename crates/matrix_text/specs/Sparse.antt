@@ -21,8 +21,8 @@ abbrev pub names : ℕ → ℕ → Triple → Bool
 names row column triple = (triple.row == row) && (triple.column == column)
 
 -- some triple names this place
-abbrev pub is_named : List Triple → ℕ → ℕ → Bool
-is_named triples row column = list_any (names row column) triples
+abbrev pub is_place_named : List Triple → ℕ → ℕ → Bool
+is_place_named triples row column = list_any (names row column) triples
 
 -- the value of the triple that names a place, else 0
 abbrev pub value_at : List Triple → ℕ → ℕ → ℤ
@@ -53,7 +53,7 @@ pub record IsPlaced (height width : ℕ) (triple : Triple) : Type 0 where
 -- no place is named twice
 abbrev pub NameOnce : List Triple → Type 0
 NameOnce [] = Unit {0}
-NameOnce (triple ∷ triples) = (is_named triples triple.row triple.column ≡ false) × NameOnce triples
+NameOnce (triple ∷ triples) = (is_place_named triples triple.row triple.column ≡ false) × NameOnce triples
 
 -- these words are a sparse text of the matrix
 pub record IsSparse (binary : Bool) (words : List (List ℕ)) (m : Matrix) : Type 0 where
@@ -85,7 +85,7 @@ free_place height width is_taken text = do
 -- one more triple, whose place those before it do not name
 abbrev pub another_triple : Bool → ℕ → ℕ → List Triple → Text → Result (List Triple × Text) (Fault TextKind)
 another_triple binary height width triples text = do
-  place ← free_place height width (is_named triples) text
+  place ← free_place height width (is_place_named triples) text
   value ← field Short (entry_in binary) place.1
   Ok (triples ++ (record { row = (place.0).0; column = (place.0).1; value = value.0 }) ∷ [], value.1)
 

@@ -5,8 +5,9 @@ ghost use Rattle.text_fields.specs.Words.{text_of};
 ghost use Rattle.text_fields.specs.Spelling.{words_in};
 ghost use Rattle.text_fields.specs.Reading.{Gives, Reads};
 ghost use Rattle.text_fields.specs.Written.{with_line};
-ghost use Rattle.matrix_text.specs.Canonical.{submatrix_text, number_of_line};
-ghost use Rattle.matrix_text.specs.Submatrix.{IsSubmatrix, submatrix, rising_lines};
+ghost use Rattle.matrix_text.specs.Canonical.{submatrix_text};
+ghost use Rattle.matrix_text.specs.Submatrix.{IsSubmatrix, named_lines, rising_lines};
+ghost use Rattle.text_fields.specs.LineNumbers.{number_of_line};
 
 use crate::error::{TextError, TextKind};
 use crate::field;
@@ -14,26 +15,26 @@ use cmr_base::{Indices, LineSet, MAX_COLUMNS, MAX_ROWS, Memory};
 use std::alloc::Global;
 use text_fields::{Words, Writer};
 
-/// The lines that a submatrix text names in a matrix of these sizes, or the text's first fault.
+/// The lines that a named_lines text names in a matrix of these sizes, or the text's first fault.
 pub fn read_submatrix(
     alloc: Global,
     bytes: &[u8],
     rows: u32,
     columns: u32,
 ) -> Result<LineSet, TextError>
-    // What is read is a submatrix text of the lines.
+    // What is read is a named_lines text of the lines.
     ensures found { IfOk result (IsSubmatrix rows columns (words_in bytes.now)) }
-    // A submatrix text of some lines is read as these lines, unless memory runs out.
+    // A named_lines text of some lines is read as these lines, unless memory runs out.
     ensures only { (lines : LineSet) → IsSubmatrix rows columns (words_in bytes.now) lines
         → Gives (λ lines. lines) result (Ok lines) }
     // Which fault is the first.
-    ensures exact { Gives (λ lines. lines) result (submatrix rows columns (text_of bytes.now)) }
+    ensures exact { Gives (λ lines. lines) result (named_lines rows columns (text_of bytes.now)) }
 {
     lines_of_text(alloc, bytes, rows, columns)
 }
 
 fn lines_of_text(alloc: Global, bytes: &[u8], rows: u32, columns: u32) -> Result<LineSet, TextError>
-    ensures { Gives (λ lines. lines) result (submatrix rows columns (text_of bytes.now)) }
+    ensures { Gives (λ lines. lines) result (named_lines rows columns (text_of bytes.now)) }
 {
     let mut words = Words::new(bytes);
     field::own_size(&mut words, rows)?;
@@ -73,7 +74,7 @@ fn rising_lines(
     Ok(lines)
 }
 
-/// The canonical submatrix text of some lines in a matrix of these sizes.
+/// The canonical named_lines text of some lines in a matrix of these sizes.
 pub fn write_submatrix(
     alloc: Global,
     lines: &LineSet,
@@ -86,7 +87,7 @@ pub fn write_submatrix(
     requires columns_in { AllBelow columns lines.now.columns }
     ensures text { IfOk result (λ v. v.items ≡ submatrix_text rows columns lines.now) }
     // It is read again as the same lines.
-    ensures again { IfOk result (λ v. submatrix rows columns (text_of v.items) ≡ Ok lines.now) }
+    ensures again { IfOk result (λ v. named_lines rows columns (text_of v.items) ≡ Ok lines.now) }
 {
     let mut text = Writer::new(alloc);
     let row_count = lines.rows.len() as u32;

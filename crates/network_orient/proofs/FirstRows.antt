@@ -24,7 +24,7 @@ use Rattle.network_orient.specs.FirstRows.{HasNoFaultBefore}
 use Rattle.network_orient.specs.SignedGroups.{AreSignedGroups, sign_of}
 use Rattle.network_orient.proofs.Orientations.{beyond_sizes}
 use Rattle.network_orient.proofs.SignedSupports.{filled_is_ternary}
-use Rattle.network_orient.proofs.TurnedRows.{AreRowsTurned}
+use Rattle.network_orient.proofs.SignedRows.{AreRowsMultiplied}
 
 -- ---- a place looks at the rows up to its own alone
 
@@ -82,8 +82,8 @@ signed_zero : (s t x y : ℤ) → x ≡ pos 0 → y ≡ pos 0 → x ≡ s *ℤ (
 signed_zero s t x y e f = e ∙ sym (ap (λ (z : ℤ). s *ℤ (t *ℤ z)) f ∙ ap (λ (z : ℤ). s *ℤ z) (mul-zero t) ∙ mul-zero s)
 
 module _ (m n : Matrix) (is_m : IsMatrix m) (is_n : IsMatrix n) (height_same : height m ≡ height n) (width_same : m.width ≡ n.width) (no_violator : HasNoViolator m) where
-  pub first_rows_free : (groups : List ℕ) (count : ℕ) (rows columns : List ℤ) → AreSignedGroups m n groups columns → AreRowsTurned m n count rows columns → count ≤ height m → HasNoFaultBefore n count
-  first_rows_free groups count rows columns signed turned fits t c d path l fault = free t c d path (fault_on (entry n) (entry whole) count agree t c d path l fault)
+  pub first_rows_free : (groups : List ℕ) (count : ℕ) (rows columns : List ℤ) → AreSignedGroups m n groups columns → AreRowsMultiplied m n count rows columns → count ≤ height m → HasNoFaultBefore n count
+  first_rows_free groups count rows columns signed multiplied fits t c d path l fault = free t c d path (fault_on (entry n) (entry whole) count agree t c d path l fault)
     where
       entries : ℕ → ℕ → ℤ
       entries row column = sign_of rows row *ℤ (sign_of columns column *ℤ entry m row column)
@@ -95,24 +95,24 @@ module _ (m n : Matrix) (is_m : IsMatrix m) (is_n : IsMatrix n) (height_same : h
       same = height-filled (height m) m.width entries
 
       is_whole : IsTernary whole
-      is_whole = filled_is_ternary (height m) m.width entries (λ row column. entry_by_sign (sign_of rows row) (sign_of columns column *ℤ entry m row column) (sign_at rows turned.row_signs row) (entry_by_sign (sign_of columns column) (entry m row column) (signed.each_sign column) (is_m.small row column)))
+      is_whole = filled_is_ternary (height m) m.width entries (λ row column. entry_by_sign (sign_of rows row) (sign_of columns column *ℤ entry m row column) (sign_at rows multiplied.row_signs row) (entry_by_sign (sign_of columns column) (entry m row column) (signed.each_sign column) (is_m.small row column)))
 
-      turned_back : (row column : ℕ) → (row < height m) ⊎ (height m ≤ row) → (column < m.width) ⊎ (m.width ≤ column) → entry m row column ≡ sign_of rows row *ℤ (sign_of columns column *ℤ entry whole row column)
-      turned_back row column (inl low) (inl near) =
-          signed_twice (sign_of rows row) (sign_of columns column) (entry m row column) (sign_at rows turned.row_signs row) (signed.each_sign column)
+      multiplied_back : (row column : ℕ) → (row < height m) ⊎ (height m ≤ row) → (column < m.width) ⊎ (m.width ≤ column) → entry m row column ≡ sign_of rows row *ℤ (sign_of columns column *ℤ entry whole row column)
+      multiplied_back row column (inl low) (inl near) =
+          signed_twice (sign_of rows row) (sign_of columns column) (entry m row column) (sign_at rows multiplied.row_signs row) (signed.each_sign column)
           ∙ ap (λ (z : ℤ). sign_of rows row *ℤ (sign_of columns column *ℤ z)) (sym (entry-filled (height m) m.width entries row column low near))
-      turned_back row column (inr high) far =
+      multiplied_back row column (inr high) far =
           signed_zero (sign_of rows row) (sign_of columns column) (entry m row column) (entry whole row column) (beyond_sizes m is_m.rectangular row column (inl high)) (beyond_sizes whole is_whole.rectangular row column (inl (omega (arith, high, same))))
-      turned_back row column low (inr far) =
+      multiplied_back row column low (inr far) =
           signed_zero (sign_of rows row) (sign_of columns column) (entry m row column) (entry whole row column) (beyond_sizes m is_m.rectangular row column (inr far)) (beyond_sizes whole is_whole.rectangular row column (inr far))
 
       agreement : AgreeUpToSigns (entry whole) (entry m)
       agreement = record {
         row_sign = sign_of rows;
         column_sign = sign_of columns;
-        row_signs = sign_at rows turned.row_signs;
+        row_signs = sign_at rows multiplied.row_signs;
         column_signs = signed.each_sign;
-        entries = λ row column. turned_back row column (cases_lt row (height m)) (cases_lt column m.width);
+        entries = λ row column. multiplied_back row column (cases_lt row (height m)) (cases_lt column m.width);
       }
 
       free : HasNoCycleFault (entry whole)
@@ -121,11 +121,11 @@ module _ (m n : Matrix) (is_m : IsMatrix m) (is_n : IsMatrix n) (height_same : h
 
       agree : (r x : ℕ) → r < count → entry n r x ≡ entry whole r x
       agree r x k = elim (cases_lt x m.width) [
-        | inl near ↦ turned.turned r k x near ∙ sym (entry-filled (height m) m.width entries r x (omega arith) near)
+        | inl near ↦ multiplied.multiplied r k x near ∙ sym (entry-filled (height m) m.width entries r x (omega arith) near)
         | inr past ↦ past_width n is_n.rectangular r x (omega arith) (omega arith) ∙ sym (past_width whole is_whole.rectangular r x (omega (arith, same, k, fits)) past)
       ]
 
 -- the transposed matrix of what a network reproduces has no violator
-pub none_in_turned : (net : Network) (m turned : Matrix) → IsMatrix m → Reproduces net m → turned ≡ transposed m → HasNoViolator turned
-none_in_turned net m turned is reproduced e = subst HasNoViolator (sym e) (λ rows columns row_set column_set violator.
+pub none_in_transposed : (net : Network) (m other : Matrix) → IsMatrix m → Reproduces net m → other ≡ transposed m → HasNoViolator other
+none_in_transposed net m other is reproduced e = subst HasNoViolator (sym e) (λ rows columns row_set column_set violator.
     (network_matrices m is (net, reproduced)).1 columns rows (row_set_from_transposed m columns column_set) (column_set_from_transposed m rows row_set) (violator_from_transposed m columns rows is violator))

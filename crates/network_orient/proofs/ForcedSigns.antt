@@ -11,7 +11,7 @@ use Rattle.cmr_base.proofs.Integers.{products, sums, mul_assoc, mul_comm, mul-ze
 use Rattle.cmr_base.proofs.SignEntries.{sign_is_entry}
 use Rattle.ghouila.proofs.Bytes.{kept_entry, product_bytes}
 use Rattle.ghouila.proofs.SignProducts.{sign-mul, sign_square}
-use Rattle.network_orient.specs.SignedGroups.{AreSignedGroups, IsCoarser, IsMerged, IsRowJoined, IsRowTurned, group_of, sign_of, row_sign_by}
+use Rattle.network_orient.specs.SignedGroups.{AreSignedGroups, IsCoarser, IsMerged, IsRowJoined, IsRowMultiplied, group_of, sign_of, row_sign_by}
 
 -- as signed bytes
 pub kept_sign : (z : ℤ) → IsSign z → IsSign (to_z w8 (of_z w8 z))
@@ -78,8 +78,8 @@ both_moved x y f i = moved x y f ∙ square_left f (x *ℤ y) (sign_square f i)
     moved x y f = simp products
 
 -- an entry of a row, where a column gives the row its sign
-turned_entry : (s t a b r u v : ℤ) → IsSign a → IsSign u → s *ℤ t ≡ u *ℤ v → r *ℤ (v *ℤ b) ≡ (s *ℤ (a *ℤ (r *ℤ (u *ℤ a)))) *ℤ (t *ℤ b)
-turned_entry s t a b r u v ia iu e =
+multiplied_entry : (s t a b r u v : ℤ) → IsSign a → IsSign u → s *ℤ t ≡ u *ℤ v → r *ℤ (v *ℤ b) ≡ (s *ℤ (a *ℤ (r *ℤ (u *ℤ a)))) *ℤ (t *ℤ b)
+multiplied_entry s t a b r u v ia iu e =
     sym (gather s t a b r u
     ∙ square_left a ((s *ℤ t) *ℤ (r *ℤ (u *ℤ b))) (sign_square a ia)
     ∙ ap (λ k. k *ℤ (r *ℤ (u *ℤ b))) e ∙ spread u v r b
@@ -162,12 +162,12 @@ module _ (m n : Matrix) where
 
   -- ---- a row by its sign
 
-  pub zero_row_turned : (signs : List ℤ) (row : ℕ) (sign : ℤ) → HaveOneSupport m n → ((column : ℕ) → entry m row column ≡ pos 0) → IsRowTurned m n signs row sign
-  zero_row_turned signs row sign support none column l = (support.zeros_same row column).0 (none column) ∙ sym (ap (λ z. sign *ℤ (sign_of signs column *ℤ z)) (none column) ∙ times_zero sign (sign_of signs column))
+  pub zero_row_multiplied : (signs : List ℤ) (row : ℕ) (sign : ℤ) → HaveOneSupport m n → ((column : ℕ) → entry m row column ≡ pos 0) → IsRowMultiplied m n signs row sign
+  zero_row_multiplied signs row sign support none column l = (support.zeros_same row column).0 (none column) ∙ sym (ap (λ z. sign *ℤ (sign_of signs column *ℤ z)) (none column) ∙ times_zero sign (sign_of signs column))
 
-  pub row_turned : (groups : List ℕ) (signs : List ℤ) (row first : ℕ) (sign : ℤ) → HaveOneSupport m n → AreSignedGroups m n groups signs → IsRowJoined m groups row
-      → first < m.width → entry m row first ≢ pos 0 → IsSign (entry m row first) → sign ≡ row_sign_by m n signs row first → AgreeUpToSigns (entry m) (entry n) → IsRowTurned m n signs row sign
-  row_turned groups signs row first sign support all joined lf nonzero first_sign is_sign agreement column l = go (cases (entry m row column))
+  pub row_multiplied : (groups : List ℕ) (signs : List ℤ) (row first : ℕ) (sign : ℤ) → HaveOneSupport m n → AreSignedGroups m n groups signs → IsRowJoined m groups row
+      → first < m.width → entry m row first ≢ pos 0 → IsSign (entry m row first) → sign ≡ row_sign_by m n signs row first → AgreeUpToSigns (entry m) (entry n) → IsRowMultiplied m n signs row sign
+  row_multiplied groups signs row first sign support all joined lf nonzero first_sign is_sign agreement column l = go (cases (entry m row column))
     where
       cases : (z : ℤ) → (z ≡ pos 0) ⊎ (z ≢ pos 0)
       cases (pos zero) = inl refl
@@ -178,7 +178,7 @@ module _ (m n : Matrix) where
       go (inl e) = (support.zeros_same row column).0 e ∙ sym (ap (λ z. sign *ℤ (sign_of signs column *ℤ z)) e ∙ times_zero sign (sign_of signs column))
       go (inr k) =
           agreement.entries row column
-          ∙ turned_entry (sign_of signs first) (sign_of signs column) (entry m row first) (entry m row column) (agreement.row_sign row) (agreement.column_sign first) (agreement.column_sign column)
+          ∙ multiplied_entry (sign_of signs first) (sign_of signs column) (entry m row first) (entry m row column) (agreement.row_sign row) (agreement.column_sign first) (agreement.column_sign column)
           first_sign (agreement.column_signs first) (all.forced agreement first column lf l (joined first column lf l nonzero k))
           ∙ sym (ap (λ z. z *ℤ (sign_of signs column *ℤ entry m row column)) (is_sign ∙ ap (λ z. sign_of signs first *ℤ (entry m row first *ℤ z)) (agreement.entries row first)))
 
@@ -233,16 +233,16 @@ one_row_joined m n count groups new_groups signs new_signs before all coarser he
 pub no_row_joined : (m n : Matrix) (groups : List ℕ) (signs : List ℤ) → groups ≡ first_lines m.width → signs ≡ replicate m.width (pos 1) → AreRowsJoined m n 0 groups signs
 no_row_joined m n groups signs e f = record { all = rw (e, f) (own_groups m n); joined = λ row l. absurd (omega arith) }
 
--- ---- the entries of a row turned
+-- ---- the entries of a row multiplied
 
 -- what an entry is compared with, as signed bytes
-pub turned_bytes : (sign s x p q : ℤ) → IsSign sign → IsEntry s → IsEntry x → IsEntry p → IsEntry q → p ≡ to_z w8 (of_z w8 s) *ℤ to_z w8 (of_z w8 x)
+pub multiplied_bytes : (sign s x p q : ℤ) → IsSign sign → IsEntry s → IsEntry x → IsEntry p → IsEntry q → p ≡ to_z w8 (of_z w8 s) *ℤ to_z w8 (of_z w8 x)
     → q ≡ to_z w8 (of_z w8 sign) *ℤ to_z w8 (of_z w8 p) → q ≡ sign *ℤ (s *ℤ x)
-turned_bytes sign s x p q is_sign hs hx hp hq e f = product_bytes sign p q (sign_is_entry sign is_sign) hp f ∙ ap (λ z. sign *ℤ z) (product_bytes s x p hs hx e)
+multiplied_bytes sign s x p q is_sign hs hx hp hq e f = product_bytes sign p q (sign_is_entry sign is_sign) hp f ∙ ap (λ z. sign *ℤ z) (product_bytes s x p hs hx e)
 
 -- a column in which both rows are 0
-pub zero_turned : (m n : Matrix) (row column : ℕ) (sign s : ℤ) → HaveOneSupport m n → entry m row column ≡ pos 0 → entry n row column ≡ sign *ℤ (s *ℤ entry m row column)
-zero_turned m n row column sign s same e = (same.zeros_same row column).0 e ∙ sym (ap (λ z. sign *ℤ (s *ℤ z)) e ∙ ap (λ z. sign *ℤ z) (mul-zero s) ∙ mul-zero sign)
+pub zero_multiplied : (m n : Matrix) (row column : ℕ) (sign s : ℤ) → HaveOneSupport m n → entry m row column ≡ pos 0 → entry n row column ≡ sign *ℤ (s *ℤ entry m row column)
+zero_multiplied m n row column sign s same e = (same.zeros_same row column).0 e ∙ sym (ap (λ z. sign *ℤ (s *ℤ z)) e ∙ ap (λ z. sign *ℤ z) (mul-zero s) ∙ mul-zero sign)
 
 -- the columns before a place, those from there to the next one, and that one
 pub columns_to_next : (P : ℕ → Type 0) (place next : ℕ) → ((column : ℕ) → column < place → P column) → ((column : ℕ) → place ≤ column → column < next → P column) → P next → (column : ℕ) → column < next + 1 → P column

@@ -1,7 +1,7 @@
 pub mod Orientations
 pub mod Merging
 pub mod ForcedSigns
-pub mod TurnedRows
-pub mod TurnedPairs
+pub mod SignedRows
+pub mod ReversedPairs
 pub mod SignedSupports
 pub mod FirstRows

@@ -5,13 +5,13 @@ use Rattle.std.proofs.lemmas.List.{get_or_past}
 use Rattle.cmr_base.specs.declared.network.Network.{Network}
 use Rattle.cmr_base.specs.Matrix.{Matrix, height, entry, transposed, IsRectangular, IsTernary, is_nonzero}
 use Rattle.cmr_base.specs.Supports.{HaveOneSupport, AgreeUpToSigns}
-use Rattle.cmr_base.specs.TurnedNetworks.{turned_network, IsMultiplied}
+use Rattle.cmr_base.specs.ReversedNetworks.{reversed_network, IsMultiplied}
 use Rattle.cmr_base.specs.Trees.{tail, head, Realises, Reproduces, ReproducesSupport, IsNetworkMatrix}
-use Rattle.cmr_base.proofs.Parts.{entry-turned, height-transposed}
+use Rattle.cmr_base.proofs.Parts.{entry-transposed_rectangular, height-transposed}
 use Rattle.cmr_base.proofs.ThinLines.{zero_is}
 use Rattle.cmr_base.proofs.TreeTests.{path_by_walk}
 use Rattle.cmr_base.proofs.ReproducedCuts.{nonzero_direction}
-use Rattle.cmr_base.proofs.TurnedWalks.{turned_realises}
+use Rattle.cmr_base.proofs.ReversedWalks.{reversed_realises}
 use Rattle.cmr_base.proofs.Booleans.{same_test}
 use Rattle.ghouila.proofs.NetworkSignings.{networks_are_unimodular}
 use Rattle.ghouila.proofs.SignsUnique.{signs_are_unique}
@@ -56,21 +56,21 @@ agrees_where_network net m n is_m is_n height_same width_same directed undirecte
     signs_are_unique m n is_m.rectangular is_n.rectangular is_m.small is_n.small (one_support net m n is_m.rectangular is_n.rectangular height_same width_same directed undirected)
     (networks_are_unimodular m is_m (net, directed)).1 (networks_are_unimodular n is_n network).1
 
--- and the network turned by the signs reproduces the matrix
-pub turned_reproduces : (net : Network) (m n : Matrix) (rows columns : List ℤ) → height m ≡ height n → m.width ≡ n.width → Reproduces net m → IsMultiplied (entry m) (entry n) (height m) m.width rows columns
-    → Reproduces (turned_network net rows columns) n
-turned_reproduces net m n rows columns height_same width_same directed multiplied =
-    subst (λ h. Realises (turned_network net rows columns) (entry n) h n.width) height_same (subst (λ w. Realises (turned_network net rows columns) (entry n) (height m) w) width_same
-    (turned_realises net (entry m) (entry n) (height m) m.width rows columns multiplied directed))
+-- and the network reversed by the signs reproduces the matrix
+pub reversed_reproduces : (net : Network) (m n : Matrix) (rows columns : List ℤ) → height m ≡ height n → m.width ≡ n.width → Reproduces net m → IsMultiplied (entry m) (entry n) (height m) m.width rows columns
+    → Reproduces (reversed_network net rows columns) n
+reversed_reproduces net m n rows columns height_same width_same directed multiplied =
+    subst (λ h. Realises (reversed_network net rows columns) (entry n) h n.width) height_same (subst (λ w. Realises (reversed_network net rows columns) (entry n) (height m) w) width_same
+    (reversed_realises net (entry m) (entry n) (height m) m.width rows columns multiplied directed))
 
 -- a matrix whose transposed has the support of another one has the support of the other's transposed
-pub one_support_turned : (m n : Matrix) → IsRectangular m → IsRectangular n → HaveOneSupport m (transposed n) → HaveOneSupport (transposed m) n
-one_support_turned m n is_m is_n one = record {
+pub one_support_transposed : (m n : Matrix) → IsRectangular m → IsRectangular n → HaveOneSupport m (transposed n) → HaveOneSupport (transposed m) n
+one_support_transposed m n is_m is_n one = record {
   height_same = height-transposed m ∙ one.width_same;
   width_same = one.height_same ∙ height-transposed n;
   zeros_same = λ row column.
-      let e = entry-turned m column row is_m in
-      let f = entry-turned n row column is_n in
+      let e = entry-transposed_rectangular m column row is_m in
+      let f = entry-transposed_rectangular n row column is_n in
       let same = one.zeros_same column row in
       ((λ zero. sym f ∙ same.0 (sym e ∙ zero)), (λ zero. e ∙ same.1 (f ∙ zero)));
 }

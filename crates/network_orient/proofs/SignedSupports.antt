@@ -9,7 +9,7 @@ use Rattle.cmr_base.specs.Matrix.{Matrix, height, entry, IsEntry, IsTernary}
 use Rattle.cmr_base.specs.MatrixSums.{filled}
 use Rattle.cmr_base.specs.Signing.{IsSign}
 use Rattle.cmr_base.specs.Supports.{AgreeUpToSigns}
-use Rattle.cmr_base.specs.TurnedNetworks.{turned_network, IsMultiplied}
+use Rattle.cmr_base.specs.ReversedNetworks.{reversed_network, IsMultiplied}
 use Rattle.cmr_base.specs.Trees.{IsDirectedPathOf, HasGraphicSupport, IsNetworkMatrix, Realises, Reproduces, ReproducesSupport, direction, head, tail}
 use Rattle.cmr_base.proofs.ColumnSteps.{direction_is_small}
 use Rattle.cmr_base.proofs.FilledMatrices.{height-filled, entry-filled}
@@ -21,7 +21,7 @@ use Rattle.ghouila.proofs.NetworkSignings.{networks_are_unimodular}
 use Rattle.ghouila.proofs.SignsAgree.{signs_agree}
 use Rattle.ghouila.proofs.SignsUnique.{column_in, no_violator_no_fault, row_in}
 use Rattle.network_orient.specs.Laws.{NetworkMatricesAreSignedGraphic}
-use Rattle.network_orient.proofs.Orientations.{one_support, turned_reproduces}
+use Rattle.network_orient.proofs.Orientations.{one_support, reversed_reproduces}
 
 -- a network matrix has both
 network_has_none : (m : Matrix) → IsTernary m → IsNetworkMatrix m → HasGraphicSupport m × HasNoCycleFault (entry m)
@@ -83,9 +83,9 @@ module _ (m : Matrix) (net : Network) (G : ReproducesSupport net m) where
   directed_reproduced : Reproduces net directed
   directed_reproduced = subst (λ h. Realises net (entry directed) h m.width) (sym (height-filled (height m) m.width entries)) directed_realised
 
-  -- without cycle fault the network can be turned
-  turned : IsTernary m → HasNoCycleFault (entry m) → IsNetworkMatrix m
-  turned is clean =
+  -- without cycle fault the network can be reversed
+  reversed : IsTernary m → HasNoCycleFault (entry m) → IsNetworkMatrix m
+  reversed is clean =
       let same = height-filled (height m) m.width entries in
       let one = one_support net directed m directed_is_ternary.rectangular is.rectangular same refl directed_reproduced G in
       let free = no_violator_no_fault directed directed_is_ternary.rectangular directed_is_ternary.small (networks_are_unimodular directed directed_is_ternary (net, directed_reproduced)).1 in
@@ -93,7 +93,7 @@ module _ (m : Matrix) (net : Network) (G : ReproducesSupport net m) where
       (λ i j h. (row_in directed i j h, column_in directed i j directed_is_ternary.rectangular h)) in
       let rows = map agreement.row_sign (first_lines (height directed)) in
       let columns = map agreement.column_sign (first_lines directed.width) in
-      (turned_network net rows columns, turned_reproduces net directed m rows columns same refl directed_reproduced (signs_listed directed m agreement))
+      (reversed_network net rows columns, reversed_reproduces net directed m rows columns same refl directed_reproduced (signs_listed directed m agreement))
 
 pub signed_graphic : NetworkMatricesAreSignedGraphic
-signed_graphic m is = (network_has_none m is, (λ ((net, G), clean). turned m net G is clean))
+signed_graphic m is = (network_has_none m is, (λ ((net, G), clean). reversed m net G is clean))

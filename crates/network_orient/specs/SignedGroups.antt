@@ -40,5 +40,5 @@ abbrev pub row_sign_by : Matrix → Matrix → List ℤ → ℕ → ℕ → ℤ
 row_sign_by m n signs row column = sign_of signs column *ℤ (entry m row column *ℤ entry n row column)
 
 -- the row multiplied by a sign and its columns by theirs
-abbrev pub IsRowTurned : Matrix → Matrix → List ℤ → ℕ → ℤ → Type 0
-IsRowTurned m n signs row sign = (column : ℕ) → column < m.width → entry n row column ≡ sign *ℤ (sign_of signs column *ℤ entry m row column)
+abbrev pub IsRowMultiplied : Matrix → Matrix → List ℤ → ℕ → ℤ → Type 0
+IsRowMultiplied m n signs row sign = (column : ℕ) → column < m.width → entry n row column ≡ sign *ℤ (sign_of signs column *ℤ entry m row column)

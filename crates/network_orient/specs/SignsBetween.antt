@@ -2,7 +2,7 @@
 use Rattle.std.specs.Prelude.{◌≡◌, ℕ, length}
 use Rattle.cmr_base.specs.Matrix.{Matrix, height, entry}
 use Rattle.cmr_base.specs.Supports.{AgreeUpToSigns}
-use Rattle.cmr_base.specs.TurnedNetworks.{IsMultiplied}
+use Rattle.cmr_base.specs.ReversedNetworks.{IsMultiplied}
 use Rattle.cmr_base.specs.Violator.{HasNoViolator}
 use Rattle.network_orient.specs.declared.line_signs.LineSigns.{LineSigns}
 use Rattle.network_orient.specs.declared.line_signs.SignsBetween.{SignsBetween}

@@ -4,7 +4,7 @@ ghost use Rattle.cmr_base.specs.LineSets.{first_lines};
 ghost use Rattle.cmr_base.specs.Matrix.{height, entry, IsEntry};
 ghost use Rattle.cmr_base.specs.Signing.{IsSign};
 ghost use Rattle.cmr_base.specs.Supports.{HaveOneSupport};
-ghost use Rattle.network_orient.specs.SignedGroups.{AreSignedGroups, IsCoarser, IsMerged, IsRowJoined, IsRowTurned, group_of, sign_of, row_sign_by};
+ghost use Rattle.network_orient.specs.SignedGroups.{AreSignedGroups, IsCoarser, IsMerged, IsRowJoined, IsRowMultiplied, group_of, sign_of, row_sign_by};
 
 use cmr_base::{Matrix, Memory, own_labels, product};
 use std::alloc::Global;
@@ -152,18 +152,18 @@ impl ColumnGroups {
     }
 
     /// Whether a sign of a row and the signs of the columns turn the row of one matrix into that of the other.
-    pub fn is_row_turned(&self, from: &Matrix, to: &Matrix, row: u32, sign: i8) -> bool
+    pub fn is_row_multiplied(&self, from: &Matrix, to: &Matrix, row: u32, sign: i8) -> bool
         requires support { HaveOneSupport from.now to.now }
         requires row { row < height from.now }
         requires groups { AreSignedGroups from.now to.now self.now.groups.items
             self.now.signs.items }
         requires sign { IsSign sign }
-        ensures { IsTrue result ↔ IsRowTurned from.now to.now self.now.signs.items row sign }
+        ensures { IsTrue result ↔ IsRowMultiplied from.now to.now self.now.signs.items row sign }
     {
         let mut place = 0;
         while let Some(column) = from.next_nonzero(row, place) {
-            let turned = product(self.sign_of(column as usize), from.entry(row, column));
-            if to.entry(row, column) != product(sign, turned) {
+            let multiplied = product(self.sign_of(column as usize), from.entry(row, column));
+            if to.entry(row, column) != product(sign, multiplied) {
                 return false;
             }
             place = column + 1;

@@ -40,8 +40,8 @@ pub fn rows_of_transposed(alloc: Global, net: &Network, matrix: &Matrix) -> Resu
     ensures { IfOk result (HasNoFaultBefore matrix.now) }
 {
     let reproduced = net.matrix(alloc, matrix.columns(), matrix.rows())?;
-    let turned = reproduced.transposed(alloc)?;
-    match signs_between(alloc, &turned, matrix)? {
+    let transposed = reproduced.transposed(alloc)?;
+    match signs_between(alloc, &transposed, matrix)? {
         SignsBetween::Found(_) => Ok(matrix.rows()),
         SignsBetween::WrongRow(row) => Ok(row),
     }

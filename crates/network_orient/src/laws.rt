@@ -3,7 +3,7 @@
 ghost use Rattle.network_orient.specs.Laws.{NetworkMatricesAreSignedGraphic};
 
 /// A matrix without cycle fault whose support is graphic is a network matrix, and each network matrix is such a matrix:
-/// the arcs of a tree for the support can be turned so that they give its signs (Camion; Schrijver, Theory of Linear and
+/// the arcs of a tree for the support can be reversed so that they give its signs (Camion; Schrijver, Theory of Linear and
 /// Integer Programming, chapter 19).
 pub fn graphic_with_signs()
     ensures { NetworkMatricesAreSignedGraphic }

@@ -7,7 +7,7 @@ pub mod laws;
 mod line_signs;
 mod minimal;
 mod orienting;
-mod turning;
+mod reversing;
 
 pub use first_rows::{rows_of_transposed, rows_without_fault};
 pub use minimal::minimal_not_network;

@@ -34,7 +34,7 @@ pub fn signs_between(alloc: Global, from: &Matrix, to: &Matrix) -> Result<SignsB
     let mut rows = Vec::with_capacity(alloc, from.rows() as usize)?;
     for row in 0..from.rows() {
         let sign = groups.row_sign(from, to, row);
-        if !groups.is_row_turned(from, to, row, sign) {
+        if !groups.is_row_multiplied(from, to, row, sign) {
             return Ok(SignsBetween::WrongRow(row));
         }
         rows.push(sign)?;

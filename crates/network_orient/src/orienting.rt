@@ -4,7 +4,7 @@ ghost use Rattle.cmr_base.specs.Trees.{HasGraphicSupport, IsNetworkMatrix, Repro
 ghost use Rattle.network_orient.specs.Orientations.{IsOrientation, directed};
 
 use crate::line_signs::{SignsBetween, signs_between};
-use crate::turning::turned_network;
+use crate::reversing::reversed_network;
 use cmr_base::{Matrix, Memory, Network};
 use graph_realise::realise;
 use std::alloc::Global;
@@ -47,7 +47,7 @@ pub fn orientation_of(alloc: Global, matrix: &Matrix) -> Result<Orientation, Mem
     let reproduced = net.matrix(alloc, matrix.rows(), matrix.columns())?;
     match signs_between(alloc, &reproduced, matrix)? {
         SignsBetween::Found(signs) => {
-            Ok(Orientation::Directed(turned_network(alloc, &net, &signs)?))
+            Ok(Orientation::Directed(reversed_network(alloc, &net, &signs)?))
         }
         SignsBetween::WrongRow(row) => Ok(Orientation::WrongSigns { row, net }),
     }

@@ -24,8 +24,8 @@ pub record SumPlanes : Type 0 where
   pub twos : ℕ
 
 -- the planes with one row added
-abbrev pub with_row : SumPlanes → ℕ → ℕ → SumPlanes
-with_row p support minus = record { words = p.words; ones = bit_xor p.ones support; twos = bit_xor p.twos (bit_xor (bit_and p.ones support) minus) }
+abbrev pub with_added_row : SumPlanes → ℕ → ℕ → SumPlanes
+with_added_row p support minus = record { words = p.words; ones = bit_xor p.ones support; twos = bit_xor p.twos (bit_xor (bit_and p.ones support) minus) }
 
 -- low and high bit of a sum modulo 4
 pub record HasResidue (sum : ℤ) (low high : ℕ) : Type 0 where

@@ -6,5 +6,5 @@ use Rattle.parity.specs.Planes.{SumPlanes}
 abbrev pub planes_of : Inside → SumPlanes
 planes_of a = record { words = length a.ones.items; ones = number_of a.ones.items; twos = number_of a.twos.items }
 
-abbrev pub AreAlike : Inside → Type 0
-AreAlike a = length a.twos.items ≡ length a.ones.items
+abbrev pub AreAsLong : Inside → Type 0
+AreAsLong a = length a.twos.items ≡ length a.ones.items

@@ -1,6 +1,6 @@
 ghost use Rattle.std.specs.Prelude.{◌≡◌, IfOk, length, bit_and, bit_xor};
 ghost use Rattle.parity.specs.Equations.{number_of};
-ghost use Rattle.parity.specs.Planes.{SumPlanes, outside, with_row};
+ghost use Rattle.parity.specs.Planes.{SumPlanes, outside, with_added_row};
 
 use crate::words::{clear, empty_set};
 use cmr_base::Memory;
@@ -19,11 +19,11 @@ impl Model for Sums {
 
     ghost Value = { SumPlanes };
 
-    ghost use Rattle.parity.specs.SumsView.{planes_of, AreAlike};
+    ghost use Rattle.parity.specs.SumsView.{planes_of, AreAsLong};
 
     ghost view = { planes_of };
 
-    ghost invariant = { AreAlike };
+    ghost invariant = { AreAsLong };
 }
 
 impl Sums {
@@ -49,7 +49,7 @@ impl Sums {
     pub fn add_row(&mut self, support: &[u64], minus: &[u64])
         requires support { length support.now ≡ self.old.words }
         requires minus { length minus.now ≡ self.old.words }
-        ensures { self.new ≡ with_row self.old (number_of support.now) (number_of minus.now) }
+        ensures { self.new ≡ with_added_row self.old (number_of support.now) (number_of minus.now) }
     {
         add_planes(&mut self.ones, &mut self.twos, support, minus);
     }

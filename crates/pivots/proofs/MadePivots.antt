@@ -13,7 +13,7 @@ use Rattle.cmr_base.proofs.RemovedLines.{first_lines_increase, in_first_lines, f
 use Rattle.cmr_base.proofs.SignEntries.{negative_is_entry, product_is_entry}
 use Rattle.cmr_base.proofs.Submatrices.{increasing_places}
 use Rattle.cmr_base.proofs.ViolatorLemmas.{violator_rows_reordered, violator_columns_reordered}
-use Rattle.ghouila.specs.Pivot.{IsOutside, reduced, pivoted, IsTernaryRow, KeepsOthers, PivotsRows, HasSquareViolator, IsFirstTwo}
+use Rattle.ghouila.specs.Pivot.{IsOutside, reduced, pivoted, IsTernaryRow, KeepsRowsElsewhere, PivotsRows, HasSquareViolator, IsFirstTwoEntry}
 use Rattle.ghouila.specs.PivotLaws.{pivot_entry, pivot_at, IsPivotPlace}
 use Rattle.ghouila.proofs.PivotLaws.{entry_after, filled_again, pivot_entry_same}
 use Rattle.ghouila.proofs.PivotSums.{pivoted_at, pivoted_apart}
@@ -40,7 +40,7 @@ other_is_in n r i h apart = in_without r i (first_lines n) (in_first_lines n i h
 -- ---- the matrix that is made
 
 module _ (m : Matrix) (r c : ℕ) (place : IsPivotPlace m r c) where
-  pub made_pivot : (w x : Matrix) → KeepsOthers m w (without (first_lines (height m)) r) → PivotsRows m w r c (without (first_lines (height m)) r) → KeepsOthers w x (r ∷ [])
+  pub made_pivot : (w x : Matrix) → KeepsRowsElsewhere m w (without (first_lines (height m)) r) → PivotsRows m w r c (without (first_lines (height m)) r) → KeepsRowsElsewhere w x (r ∷ [])
       → ((j : ℕ) → j < w.width → entry x r j ≡ pivot_entry (entry w) r c r j) → IsMatrix x → x ≡ pivot_at m r c
   made_pivot w x kept pivots kept' row is =
       filled_again x (height m) m.width (pivot_entry (entry m) r c) is.rectangular (kept'.same_height ∙ kept.same_height) (kept'.same_width ∙ kept.same_width) same
@@ -90,7 +90,7 @@ module _ (m : Matrix) (r c : ℕ) (place : IsPivotPlace m r c) where
       (violator_rows_reordered (entry m) i (r ∷ []) (r ∷ i ∷ []) (two_lines r i) (c ∷ j ∷ []) (one_more_later r i [] (i ∷ []) (one_more_first i [])) (in_order r i)
       (square_violator (entry m) r i c j s.square))
 
-  pub first_two : IsMatrix m → (i j p : ℕ) (rows columns : List ℕ) → HasSquareViolator m r c i j → i ≡ get_or (without (first_lines (height m)) r) p 0 → IsFirstTwo m (without (first_lines (height m)) r) r c p j
+  pub first_two : IsMatrix m → (i j p : ℕ) (rows columns : List ℕ) → HasSquareViolator m r c i j → i ≡ get_or (without (first_lines (height m)) r) p 0 → IsFirstTwoEntry m (without (first_lines (height m)) r) r c p j
       → rows ≡ two_lines r i → columns ≡ two_lines c j → ShowsFirstTwo m r c rows columns
   first_two is i j p rows columns s at first e f = record {
     other_row = i;

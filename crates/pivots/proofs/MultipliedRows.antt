@@ -3,7 +3,7 @@ use Rattle.std.proofs.Common.{◌≡◌, ◌≢◌, ◌<◌, ◌≤◌, ◌+◌,
 use Rattle.std.proofs.lemmas.Bool.{cases_eq, cases_lt}
 use Rattle.cmr_base.specs.Matrix.{Matrix, height, entry, with_entry, IsEntry, IsMatrix}
 use Rattle.cmr_base.proofs.Entries.{entry-with_entry_same, entry-with_entry_other_column, is_matrix-with_entry}
-use Rattle.ghouila.specs.Pivot.{KeepsOthers}
+use Rattle.ghouila.specs.Pivot.{KeepsRowsElsewhere}
 use Rattle.ghouila.specs.PivotLaws.{pivot_entry}
 use Rattle.ghouila.proofs.PivotRow.{keeps_all, keeps_with_entry}
 use Rattle.ghouila.proofs.WholePivots.{entry_there, entry_in_row}
@@ -11,7 +11,7 @@ use Rattle.ghouila.proofs.WholePivots.{entry_there, entry_in_row}
 -- the entries before column k are multiplied
 pub record IsMultiplied (before now : Matrix) (row column k : ℕ) : Type 0 where
   pub shape : IsMatrix now
-  pub others : KeepsOthers before now (row ∷ [])
+  pub others : KeepsRowsElsewhere before now (row ∷ [])
   pub done : (j : ℕ) → j < k → entry now row j ≡ pivot_entry (entry before) row column row j
   pub ahead : (j : ℕ) → k ≤ j → entry now row j ≡ entry before row j
 

@@ -5,7 +5,7 @@ use Rattle.cmr_base.specs.Matrix.{Matrix, entry, IsMatrix, HasTernaryEntries}
 use Rattle.cmr_base.specs.LineSets.{IsRowSet, IsColumnSet}
 use Rattle.cmr_base.specs.Violator.{IsViolator}
 use Rattle.ghouila.specs.PivotLaws.{AreLinesBefore}
-use Rattle.pivots.specs.declared.place.PivotPlace.{PivotPlace}
+use Rattle.pivots.specs.declared.place.PlacedPivot.{PlacedPivot}
 use Rattle.pivots.specs.PivotedParts.{pivoted_part, IsPlaceIn, IsTernaryPivot, AreAmong}
 
 -- no violator stands among these lines
@@ -14,16 +14,16 @@ HasNoViolatorAmong m lines = (rows columns : List ℕ) → IsRowSet m rows → I
 
 -- the lines before the pivot of lines of the submatrix are among its lines, and those of a violator are a violator
 abbrev pub PartPivotsTakeViolatorsBack : Type 0
-PartPivotsTakeViolatorsBack = (m : Matrix) (lines : LineSet) (place : PivotPlace) (after_rows after_columns rows columns : List ℕ) → HasTernaryEntries m
+PartPivotsTakeViolatorsBack = (m : Matrix) (lines : LineSet) (place : PlacedPivot) (after_rows after_columns rows columns : List ℕ) → HasTernaryEntries m
     → IsRowSet m lines.rows → IsColumnSet m lines.columns → IsPlaceIn m lines place → IsRowSet m after_rows → IsColumnSet m after_columns → AreAmong lines after_rows after_columns
     → IsRowSet m rows → IsColumnSet m columns → AreLinesBefore m place.row place.column after_rows after_columns rows columns
     → AreAmong lines rows columns × (IsViolator (entry (pivoted_part m lines place)) after_rows after_columns → IsViolator (entry m) rows columns)
 
 -- no violator stands among the submatrix's lines exactly where none stands among them after the pivot, whatever its entries are
 abbrev pub PartPivotsKeepViolators : Type 0
-PartPivotsKeepViolators = (m : Matrix) (lines : LineSet) (place : PivotPlace) → HasTernaryEntries m → IsRowSet m lines.rows → IsColumnSet m lines.columns → IsPlaceIn m lines place
+PartPivotsKeepViolators = (m : Matrix) (lines : LineSet) (place : PlacedPivot) → HasTernaryEntries m → IsRowSet m lines.rows → IsColumnSet m lines.columns → IsPlaceIn m lines place
     → HasNoViolatorAmong m lines ↔ HasNoViolatorAmong (pivoted_part m lines place) lines
 
 -- the matrix after it is one within the limits where its pivot has entries -1, 0 and 1
 abbrev pub PartPivotsStayMatrices : Type 0
-PartPivotsStayMatrices = (m : Matrix) (lines : LineSet) (place : PivotPlace) → IsMatrix m → IsTernaryPivot m lines place → IsMatrix (pivoted_part m lines place)
+PartPivotsStayMatrices = (m : Matrix) (lines : LineSet) (place : PlacedPivot) → IsMatrix m → IsTernaryPivot m lines place → IsMatrix (pivoted_part m lines place)

@@ -11,26 +11,26 @@ use Rattle.cmr_base.specs.Violator.{IsViolator}
 use Rattle.ghouila.specs.PivotLaws.{pivot_entry}
 use Rattle.pivots.specs.declared.part_pivot.PivotedPart.{PivotedPart}
 use Rattle.pivots.specs.declared.part_pivot.PivotedPart.TheVariants.{Ternary, Violated}
-use Rattle.pivots.specs.declared.place.PivotPlace.{PivotPlace}
+use Rattle.pivots.specs.declared.place.PlacedPivot.{PlacedPivot}
 use Rattle.pivots.specs.ChosenLines.{two_lines}
 
 -- an entry where the submatrix on some lines is replaced by its pivot
-abbrev pub replaced_entry : Matrix → LineSet → PivotPlace → ℕ → ℕ → ℤ
+abbrev pub replaced_entry : Matrix → LineSet → PlacedPivot → ℕ → ℕ → ℤ
 replaced_entry m lines place i j =
     if listed lines.rows lines.columns (Row i) && listed lines.rows lines.columns (Column j) then pivot_entry (entry m) place.row place.column i j else entry m i j
 
 -- the matrix of the same size in which the submatrix on some lines is replaced by its pivot; all other entries stay
-abbrev pub pivoted_part : Matrix → LineSet → PivotPlace → Matrix
+abbrev pub pivoted_part : Matrix → LineSet → PlacedPivot → Matrix
 pivoted_part m lines place = filled (height m) m.width (replaced_entry m lines place)
 
 -- a row and a column of these lines, which cross in a nonzero
-pub record IsPlaceIn (m : Matrix) (lines : LineSet) (place : PivotPlace) : Type 0 where
+pub record IsPlaceIn (m : Matrix) (lines : LineSet) (place : PlacedPivot) : Type 0 where
   pub row : Contains lines.rows place.row
   pub column : Contains lines.columns place.column
   pub nonzero : entry m place.row place.column ≢ pos 0
 
 -- the pivot of the submatrix has no 2 and no -2
-abbrev pub IsTernaryPivot : Matrix → LineSet → PivotPlace → Type 0
+abbrev pub IsTernaryPivot : Matrix → LineSet → PlacedPivot → Type 0
 IsTernaryPivot m lines place = (i j : ℕ) → Contains lines.rows i → Contains lines.columns j → IsEntry (pivot_entry (entry m) place.row place.column i j)
 
 -- rows and columns among some lines
@@ -40,7 +40,7 @@ pub record AreAmong (lines : LineSet) (chosen_rows chosen_columns : List ℕ) : 
 
 -- Lines that the pivot of the submatrix shows: the first entry of it, by the submatrix's rows and then by its columns, that is not -1, 0
 -- or 1; its lines and the pivot's are a violator of the matrix
-pub record ShowsFirstTwoIn (m : Matrix) (lines : LineSet) (place : PivotPlace) (rows columns : List ℕ) : Type 0 where
+pub record ShowsFirstTwoIn (m : Matrix) (lines : LineSet) (place : PlacedPivot) (rows columns : List ℕ) : Type 0 where
   pub other_row : ℕ
   pub other_column : ℕ
   pub row_in : Contains lines.rows other_row
@@ -56,12 +56,12 @@ pub record ShowsFirstTwoIn (m : Matrix) (lines : LineSet) (place : PivotPlace) (
   pub violator : IsViolator (entry m) rows columns
 
 -- the matrix has the pivot in the place of the submatrix
-pub record IsMadePart (m : Matrix) (lines : LineSet) (place : PivotPlace) (after : Matrix) : Type 0 where
+pub record IsMadePart (m : Matrix) (lines : LineSet) (place : PlacedPivot) (after : Matrix) : Type 0 where
   pub ternary : IsTernaryPivot m lines place
   pub is : after ≡ pivoted_part m lines place
   pub shape : IsMatrix after
 
 -- the answer is right
-abbrev pub IsPivotedPart : Matrix → LineSet → PivotPlace → PivotedPart → Type 0
+abbrev pub IsPivotedPart : Matrix → LineSet → PlacedPivot → PivotedPart → Type 0
 IsPivotedPart m lines place (Ternary after) = IsMadePart m lines place after
 IsPivotedPart m lines place (Violated found) = ShowsFirstTwoIn m lines place found.rows found.columns

@@ -10,7 +10,7 @@ ghost use Rattle.ghouila.specs.PivotLaws.{pivot_at, AreLinesBefore};
 ghost use Rattle.pivots.specs.ChosenLines.{with_line};
 ghost use Rattle.pivots.specs.PivotedParts.{pivoted_part, IsPlaceIn, AreAmong};
 
-use crate::PivotPlace;
+use crate::PlacedPivot;
 use cmr_base::{Indices, LineSet, MAX_COLUMNS, MAX_ROWS, Matrix, Memory};
 use std::alloc::Global;
 
@@ -53,7 +53,7 @@ pub fn violator_before_part(
     alloc: Global,
     matrix: &Matrix,
     _lines: &LineSet,
-    place: PivotPlace,
+    place: PlacedPivot,
     fault: &LineSet,
 ) -> Result<LineSet, Memory>
     requires rows { IsRowSet matrix.now _lines.now.rows }

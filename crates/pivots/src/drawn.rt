@@ -5,14 +5,14 @@ ghost use Rattle.cmr_base.specs.Matrix.{height, entry};
 ghost use Rattle.pivots.specs.DrawnPlaces.{row_places, places_on, drawn_place};
 ghost use Rattle.pivots.specs.PivotedParts.{IsPlaceIn};
 
-use crate::PivotPlace;
+use crate::PlacedPivot;
 use cmr_base::{LineSet, MAX_COLUMNS, MAX_ROWS, Matrix};
 use generate::draw_below;
 
 /// A place that is drawn by chance, and the state after it.
 #[derive(Clone, Copy, Debug, PartialEq, Eq)]
 pub struct DrawnPlace {
-    pub place: PivotPlace,
+    pub place: PlacedPivot,
     pub state: u32,
 }
 
@@ -76,7 +76,12 @@ fn count_in_row(matrix: &Matrix, row: u32, columns: &[u32]) -> u32
 }
 
 // The nonzero with a number.
-fn place_numbered(matrix: &Matrix, rows: &[u32], columns: &[u32], number: u32) -> Option<PivotPlace>
+fn place_numbered(
+    matrix: &Matrix,
+    rows: &[u32],
+    columns: &[u32],
+    number: u32,
+) -> Option<PlacedPivot>
     requires rows { AllBelow (height matrix.now) rows.now }
     requires columns { AllBelow matrix.now.width columns.now }
     requires few { length columns.now ≤ MAX_COLUMNS }
@@ -93,7 +98,7 @@ fn place_numbered(matrix: &Matrix, rows: &[u32], columns: &[u32], number: u32) -
     None
 }
 
-fn place_in_row(matrix: &Matrix, row: u32, columns: &[u32], number: u32) -> Option<PivotPlace>
+fn place_in_row(matrix: &Matrix, row: u32, columns: &[u32], number: u32) -> Option<PlacedPivot>
     requires row { row < height matrix.now }
     requires columns { AllBelow matrix.now.width columns.now }
     ensures { result ≡ slice_get (row_places matrix.now columns.now row) number }
@@ -102,7 +107,7 @@ fn place_in_row(matrix: &Matrix, row: u32, columns: &[u32], number: u32) -> Opti
     for column in columns {
         if matrix.entry(row, *column) != 0 {
             if left == 0 {
-                return Some(PivotPlace {
+                return Some(PlacedPivot {
                     row,
                     column: *column,
                 });

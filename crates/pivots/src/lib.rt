@@ -13,4 +13,4 @@ pub use back::{violator_before, violator_before_part};
 pub use drawn::{DrawnPlace, drawn_place};
 pub use matrix_pivot::{Pivoted, pivot};
 pub use part_pivot::{PivotedPart, pivot_part};
-pub use place::PivotPlace;
+pub use place::PlacedPivot;

@@ -4,7 +4,7 @@ ghost use Rattle.std.specs.List.{AllByRecursion};
 ghost use Rattle.cmr_base.specs.LineSets.{AllBelow, IsRowSet, first_lines, without};
 ghost use Rattle.cmr_base.specs.Matrix.{height, entry, IsMatrix};
 ghost use Rattle.cmr_base.specs.Signing.{IsSign};
-ghost use Rattle.ghouila.specs.Pivot.{reduced, IsTernaryRow, KeepsOthers};
+ghost use Rattle.ghouila.specs.Pivot.{reduced, IsTernaryRow, KeepsRowsElsewhere};
 ghost use Rattle.ghouila.specs.PivotLaws.{pivot_entry, pivot_at};
 ghost use Rattle.pivots.specs.ChosenLines.{two_lines};
 ghost use Rattle.pivots.specs.Pivoted.{IsPivoted};
@@ -59,7 +59,7 @@ fn multiply_row(work: &mut Matrix, row: u32, column: u32)
     requires column { column < work.old.width }
     ensures row { (j : ℕ) → j < work.old.width
         → entry work.new row j ≡ pivot_entry (entry work.old) row column row j }
-    ensures others { KeepsOthers work.old work.new (row ∷ []) }
+    ensures others { KeepsRowsElsewhere work.old work.new (row ∷ []) }
     ensures shape { IsMatrix work.new }
 {
     let factor = work.entry(row, column);

@@ -6,7 +6,7 @@ ghost use Rattle.ghouila.specs.PivotLaws.{pivot_entry};
 ghost use Rattle.pivots.specs.PivotedParts.{IsPlaceIn, IsPivotedPart};
 ghost use Rattle.pivots.specs.PivotedRows.{IsPivotedRow, IsFirstTwoOfRow};
 
-use crate::PivotPlace;
+use crate::PlacedPivot;
 use crate::matrix_pivot::two_lines;
 use cmr_base::{LineSet, Matrix, Memory, product};
 use std::alloc::Global;
@@ -28,7 +28,7 @@ pub fn pivot_part(
     alloc: Global,
     matrix: &Matrix,
     lines: &LineSet,
-    place: PivotPlace,
+    place: PlacedPivot,
 ) -> Result<PivotedPart, Memory>
     requires rows { IsRowSet matrix.now lines.now.rows }
     requires columns { IsColumnSet matrix.now lines.now.columns }
@@ -53,7 +53,7 @@ fn pivot_row(
     matrix: &Matrix,
     work: &mut Matrix,
     columns: &[u32],
-    place: PivotPlace,
+    place: PlacedPivot,
     row: u32,
 ) -> Option<u32>
     requires columns { IsColumnSet matrix.now columns.now }
@@ -77,7 +77,7 @@ fn pivot_row(
 }
 
 // An entry of the pivot.
-fn entry_after(matrix: &Matrix, place: PivotPlace, row: u32, column: u32) -> i8
+fn entry_after(matrix: &Matrix, place: PlacedPivot, row: u32, column: u32) -> i8
     requires place_row { place.row < height matrix.now }
     requires place_column { place.column < matrix.now.width }
     requires row { row < height matrix.now }

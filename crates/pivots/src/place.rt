@@ -2,7 +2,7 @@
 
 /// The row and the column of a nonzero, at which a pivot is made.
 #[derive(Clone, Copy, Debug, PartialEq, Eq)]
-pub struct PivotPlace {
+pub struct PlacedPivot {
     pub row: u32,
     pub column: u32,
 }

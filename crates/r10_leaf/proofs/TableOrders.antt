@@ -8,7 +8,7 @@ use Rattle.cmr_base.specs.R10.{mark, marks, IsOrder, HasTable, circulant_table, 
 use Rattle.cmr_base.proofs.Members.{distinct_few, in_at}
 use Rattle.cmr_base.proofs.RowLists.{eq_of, is_eq, in_or_not}
 use Rattle.cmr_base.proofs.ListsWithout.{true_is_false, place_of, place_is}
-use Rattle.r10_leaf.specs.Tables.{IsTable, table_at, IsColumn, Fits, rows_numbered}
+use Rattle.r10_leaf.specs.Tables.{IsTable, table_at, IsColumn, HasTableColumns, rows_numbered}
 
 -- ---- tests of all numbers below a bound
 
@@ -111,7 +111,7 @@ below_three = omega arith
 below_four : 4 < 5
 below_four = omega arith
 
-module _ (m : Matrix) (table : List (List ℕ)) (is : IsTable table) (rows : List ℕ) (long : length rows ≡ 5) (below : (k : ℕ) → k < 5 → get_or rows k 0 < 5) (fits : Fits m table rows) where
+module _ (m : Matrix) (table : List (List ℕ)) (is : IsTable table) (rows : List ℕ) (long : length rows ≡ 5) (below : (k : ℕ) → k < 5 → get_or rows k 0 < 5) (fits : HasTableColumns m table rows) where
   columns : List ℕ
   columns = (fits 0 below_none).0 ∷ (fits 1 below_one).0 ∷ (fits 2 below_two).0 ∷ (fits 3 below_three).0 ∷ (fits 4 below_four).0 ∷ []
 
@@ -201,12 +201,12 @@ numbered (a ∷ b ∷ c ∷ []) long below = absurd (omega arith)
 numbered (a ∷ b ∷ c ∷ d ∷ []) long below = absurd (omega arith)
 numbered (a ∷ b ∷ c ∷ d ∷ e ∷ f ∷ rows) long below = absurd (omega arith)
 
-pub number_found : (m : Matrix) (table : List (List ℕ)) → IsTable table → HasTable m table → (n : ℕ) × (n < 3125) × Fits m table (rows_numbered n)
+pub number_found : (m : Matrix) (table : List (List ℕ)) → IsTable table → HasTable m table → (n : ℕ) × (n < 3125) × HasTableColumns m table (rows_numbered n)
 number_found m table is t = let s = table_sizes m table t.rows t.columns is t.marks_are in
     let found = numbered t.rows s.0 (λ line i. (t.row_order.all line).0 i) in
-    (found.0, found.1, subst (λ rows. Fits m table rows) (sym found.2) (fits s.0 s.1))
+    (found.0, found.1, subst (λ rows. HasTableColumns m table rows) (sym found.2) (fits s.0 s.1))
   where
-    fits : length t.rows ≡ 5 → length t.columns ≡ 5 → Fits m table t.rows
+    fits : length t.rows ≡ 5 → length t.columns ≡ 5 → HasTableColumns m table t.rows
     fits many_rows many_columns place l = (get_or t.columns place 0, (t.column_order.all (get_or t.columns place 0)).0 (in_at t.columns place (omega arith)), column)
       where
         column : IsColumn m table t.rows place (get_or t.columns place 0)

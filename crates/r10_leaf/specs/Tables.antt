@@ -17,8 +17,8 @@ abbrev pub HasColumn : Matrix → List (List ℕ) → List ℕ → ℕ → Type 
 HasColumn m table rows place = (column : ℕ) × (column < 5) × IsColumn m table rows place column
 
 -- each column of the table is one of the matrix
-abbrev pub Fits : Matrix → List (List ℕ) → List ℕ → Type 0
-Fits m table rows = (place : ℕ) → place < 5 → HasColumn m table rows place
+abbrev pub HasTableColumns : Matrix → List (List ℕ) → List ℕ → Type 0
+HasTableColumns m table rows = (place : ℕ) → place < 5 → HasColumn m table rows place
 
 -- the five digits of a number to the base of five
 abbrev pub rows_numbered : ℕ → List ℕ

@@ -2,7 +2,7 @@
 ghost use Rattle.std.specs.Prelude.{◌≡◌, ◌<◌, ◌↔◌, ℕ, IsTrue, slice_index};
 ghost use Rattle.cmr_base.specs.Matrix.{height, entry};
 ghost use Rattle.cmr_base.specs.R10.{IsR10, HasTable, mark};
-ghost use Rattle.r10_leaf.specs.Tables.{IsTable, IsColumn, HasColumn, Fits, rows_numbered};
+ghost use Rattle.r10_leaf.specs.Tables.{IsTable, IsColumn, HasColumn, HasTableColumns, rows_numbered};
 
 use cmr_base::Matrix;
 
@@ -65,7 +65,7 @@ fn fits(matrix: &Matrix, table: &[[u8; 5]; 5], rows: &[u32; 5]) -> bool
     requires columns { matrix.now.width ≡ 5 }
     requires table { IsTable table.now }
     requires range { (k : ℕ) → k < 5 → slice_index rows.now k < 5 }
-    ensures { IsTrue result ↔ Fits matrix.now table.now rows.now }
+    ensures { IsTrue result ↔ HasTableColumns matrix.now table.now rows.now }
 {
     for place in 0..5 {
         if !has_column(matrix, table, rows, place) {

@@ -12,7 +12,7 @@ use Rattle.cmr_base.proofs.Places.{rising_same}
 use Rattle.cmr_base.proofs.SumLaws.{sum_over_same}
 use Rattle.cmr_base.proofs.Booleans.{neither}
 use Rattle.ghouila.specs.declared.by_pivots.Pivot.{Pivot}
-use Rattle.ghouila.specs.Pivot.{reduced, IsFirstTwo}
+use Rattle.ghouila.specs.Pivot.{reduced, IsFirstTwoEntry}
 use Rattle.ghouila.specs.SignRuns.{IsPivotNext, IsPutAside, IsPivotMade, IsFirstSquare, IsTakenBack, pivot_sign, SignsBySteps, ViolatesBySteps}
 use Rattle.ghouila.proofs.PivotSearch.{pivot_there}
 use Rattle.sign_tool.specs.declared.signing.SetSigning.{SetSigning}
@@ -183,7 +183,7 @@ both : {A B X : Type 0} → (A ↔ X) → (B ↔ X) → A ↔ B
 both f g = (λ a. g.1 (f.0 a), λ b. f.1 (g.0 b))
 
 -- the first 2 or -2 of a pivot is one place
-module _ (rows : List ℕ) (m m' : Matrix) (same : AreSame rows m m') (row column : ℕ) (left : List ℕ) (next : IsPivotNext m rows row column left) (place last place' last' : ℕ) (two : IsFirstTwo m left row column place last) (two' : IsFirstTwo m' left row column place' last') where
+module _ (rows : List ℕ) (m m' : Matrix) (same : AreSame rows m m') (row column : ℕ) (left : List ℕ) (next : IsPivotNext m rows row column left) (place last place' last' : ℕ) (two : IsFirstTwoEntry m left row column place last) (two' : IsFirstTwoEntry m' left row column place' last') where
   left_at : (k : ℕ) → k < length left → (j : ℕ) → j < m.width → reduced (entry m') row column (get_or left k 0) j ≡ reduced (entry m) row column (get_or left k 0) j
   left_at k h = reduced_same rows m m' same row column left next (get_or left k 0) (all_at (λ i. (j : ℕ) → j < m.width → entry m' i j ≡ entry m i j) left k 0 (left_same rows m m' same row column left next) h)
 
@@ -204,10 +204,10 @@ square_once : (rows : List ℕ) (m m' : Matrix) (violator_rows violator_columns 
     → AreOneViolator [] [] violator_rows violator_columns violator_rows' violator_columns'
 square_once rows m m' violator_rows violator_columns violator_rows' violator_columns' same s s' =
     let are = next_is rows m m' m m' s.row s'.row s.column s'.column s.left s'.left same s.next s'.next in
-    let two : IsFirstTwo m' s.left s.row s.column s'.place s'.last =
-    subst (λ l. IsFirstTwo m' l s.row s.column s'.place s'.last) are.one_left
-    (subst (λ c. IsFirstTwo m' s'.left s.row c s'.place s'.last) are.one_column
-    (subst (λ r. IsFirstTwo m' s'.left r s'.column s'.place s'.last) are.one_row s'.two)) in
+    let two : IsFirstTwoEntry m' s.left s.row s.column s'.place s'.last =
+    subst (λ l. IsFirstTwoEntry m' l s.row s.column s'.place s'.last) are.one_left
+    (subst (λ c. IsFirstTwoEntry m' s'.left s.row c s'.place s'.last) are.one_column
+    (subst (λ r. IsFirstTwoEntry m' s'.left r s'.column s'.place s'.last) are.one_row s'.two)) in
     let place = one_place rows m m' same s.row s.column s.left s.next s.place s.last s'.place s'.last s.two two in
     let last = one_last rows m m' same s.row s.column s.left s.next s.place s.last s'.place s'.last s.two two in
     record {
@@ -254,9 +254,9 @@ square_or_step rows m m' row None steps violator_rows violator_columns violator_
 square_or_step rows m m' row (Some column) steps violator_rows violator_columns violator_rows' violator_columns' same s (left, (next, (after, made, rest))) =
     let are = next_is rows m m' m m' row s.row column s.column left s.left same next s.next in
     made_or_two rows m m' same row column left next after s.place s.last made
-    (subst (λ l. IsFirstTwo m' l row column s.place s.last) are.one_left
-    (subst (λ c. IsFirstTwo m' s.left row c s.place s.last) are.one_column
-    (subst (λ r. IsFirstTwo m' s.left r s.column s.place s.last) are.one_row s.two)))
+    (subst (λ l. IsFirstTwoEntry m' l row column s.place s.last) are.one_left
+    (subst (λ c. IsFirstTwoEntry m' s.left row c s.place s.last) are.one_column
+    (subst (λ r. IsFirstTwoEntry m' s.left r s.column s.place s.last) are.one_row s.two)))
 
 violated_last : ViolatesOnce []
 violated_last rows m m' [] violator_rows violator_columns violator_rows' violator_columns' same s s' = square_once rows m m' violator_rows violator_columns violator_rows' violator_columns' same s s'

@@ -9,7 +9,7 @@ use Rattle.cmr_base.proofs.SignEntries.{sign_nonzero}
 use Rattle.cmr_base.proofs.SumLaws.{sum_over_same}
 use Rattle.cmr_base.proofs.Booleans.{neither}
 use Rattle.ghouila.specs.declared.by_pivots.Pivot.{Pivot}
-use Rattle.ghouila.specs.Pivot.{reduced, pivoted, HasNoPivot, IsTernaryRow, IsFirstPivot, IsFirstTwo}
+use Rattle.ghouila.specs.Pivot.{reduced, pivoted, HasNoPivot, IsTernaryRow, IsFirstPivot, IsFirstTwoEntry}
 use Rattle.ghouila.specs.SignRuns.{IsPivotNext, IsPutAside, IsPivotMade, SignsBySteps, ViolatesBySteps}
 use Rattle.ghouila.proofs.LeftRows.{one_more-remove}
 use Rattle.ghouila.proofs.PivotSearch.{pivot_there}
@@ -135,7 +135,7 @@ module _ (rows : List ℕ) (m m' : Matrix) (same : AreSame rows m m') (row colum
   }
 
   -- a pivot is not made where it gives a 2 or a -2
-  pub made_or_two : (after : Matrix) (place last : ℕ) → IsPivotMade m after row column left → IsFirstTwo m' left row column place last → ⊥
+  pub made_or_two : (after : Matrix) (place last : ℕ) → IsPivotMade m after row column left → IsFirstTwoEntry m' left row column place last → ⊥
   made_or_two after place last made two =
       let inside = inside_too rows m m' same last two.column_in in
       let is = all_at (λ i. (j : ℕ) → j < m.width → entry m' i j ≡ entry m i j) left place 0 left_same two.within in
@@ -181,9 +181,9 @@ after_pivot : (steps : List Pivot) → Excludes steps → (sign : ℕ → ℤ) (
 after_pivot steps excludes sign rows m m' after row column left [] violator_rows violator_columns same next made run square =
     let one = one_next m rows row column square.row square.column left square.left next (next_same rows m m' same square.row square.column square.left square.next) in
     made_or_two rows m m' same row column left next after square.place square.last made
-    (subst (λ l. IsFirstTwo m' l row column square.place square.last) one.one_left
-    (subst (λ c. IsFirstTwo m' square.left row c square.place square.last) one.one_column
-    (subst (λ r. IsFirstTwo m' square.left r square.column square.place square.last) one.one_row square.two)))
+    (subst (λ l. IsFirstTwoEntry m' l row column square.place square.last) one.one_left
+    (subst (λ c. IsFirstTwoEntry m' square.left row c square.place square.last) one.one_column
+    (subst (λ r. IsFirstTwoEntry m' square.left r square.column square.place square.last) one.one_row square.two)))
 after_pivot steps excludes sign rows m m' after row column left (step ∷ steps') violator_rows violator_columns same next made run run' = first step.row step.column run'
   where
     first : (row' : ℕ) (column' : Option ℕ) → ViolatesBySteps m' rows (record { row = row'; column = column' } ∷ steps') violator_rows violator_columns → ⊥

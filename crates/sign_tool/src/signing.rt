@@ -6,7 +6,7 @@ ghost use Rattle.cmr_base.specs.Violator.{HasNoViolator};
 ghost use Rattle.sign_tool.specs.SetSignings.{SignsSetOrViolates, IsEndOfRun, HasStepForEachRow, IsSigned};
 
 use cmr_base::{Indices, LineSet, Matrix, Memory, SignList};
-use ghouila::{PivotList, SignRun, Signing, sign_by_steps};
+use ghouila::{PivotList, SignRun, SigningOrViolator, sign_by_steps};
 use std::alloc::Global;
 
 /// What is found for a set of rows.
@@ -30,7 +30,7 @@ pub fn sign_set(alloc: Global, matrix: &Matrix, rows: &Indices) -> Result<SetSig
 {
     let SignRun { steps, signing } = sign_by_steps(alloc, matrix, rows)?;
     match signing {
-        Signing::Signed(signs) => Ok(SetSigning::Signed { signs, steps }),
-        Signing::Violated(lines) => Ok(SetSigning::Violated(lines)),
+        SigningOrViolator::Signed(signs) => Ok(SetSigning::Signed { signs, steps }),
+        SigningOrViolator::Violated(lines) => Ok(SetSigning::Violated(lines)),
     }
 }

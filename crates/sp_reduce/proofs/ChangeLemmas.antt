@@ -11,11 +11,11 @@ use Rattle.cmr_base.specs.Reductions.{nonzeros_at}
 use Rattle.cmr_base.specs.Members.{IsIn}
 use Rattle.cmr_base.proofs.Members.{IsWithin}
 use Rattle.cmr_base.proofs.ListsWithout.{in_from_contains, in-get_or, increasing_distinct, same_place, place_of, place_is, within-without, without_increases}
-use Rattle.sp_reduce.specs.declared.kind.Kind.{Kind}
-use Rattle.sp_reduce.specs.declared.side.Side.{Side}
-use Rattle.sp_reduce.specs.Kinds.{line_named, cross_named, number_of, size_of, cross_size, table, is_twin}
-use Rattle.sp_reduce.specs.Sides.{weight, weight_at, IsSide, IsAcross, IsCounted, IsSettled}
-use Rattle.sp_reduce.specs.Changes.{IsCutAt, crosses, IsHeld, IsForgetting, IsUnsettled, IsBefore}
+use Rattle.sp_reduce.specs.declared.kind.LineKind.{LineKind}
+use Rattle.sp_reduce.specs.declared.side.StayingLines.{StayingLines}
+use Rattle.sp_reduce.specs.Kinds.{line_named, cross_named, index_of_line, count_of_kind, cross_size, table, is_twin}
+use Rattle.sp_reduce.specs.Sides.{weight, weight_at, IsSide, IsAcross, AreNonzerosCounted, IsSettled}
+use Rattle.sp_reduce.specs.Changes.{IsRemovedAt, crosses, IsHeld, IsForgetting, IsUnsettled, WasRightBefore}
 use Rattle.sp_reduce.proofs.KindLemmas.{number-line_named, meant_for}
 use Rattle.sp_reduce.proofs.Meanings.{irreducible_from_none, none_from_irreducible, irreducible_fewer}
 use Rattle.sp_reduce.proofs.Renewals.{irreducible_after}
@@ -29,17 +29,17 @@ within_below bound xs ys within below k h =
 
 named : Reason → ℕ
 named Zero = 0
-named (One line) = number_of line
+named (One line) = index_of_line line
 named (Copy line) = 0
 named (Negative line) = 0
 
-pub unit_number : (kind : Kind) (line : Line) (c : ℕ) → One line ≡ One (line_named kind c) → number_of line ≡ c
+pub unit_number : (kind : LineKind) (line : Line) (c : ℕ) → One line ≡ One (line_named kind c) → index_of_line line ≡ c
 unfolding named
 unit_number kind line c e = ap named e ∙ number-line_named kind c
 
 -- ---- the side whose lines lose a crossing line
 
-module _ (binary : Bool) (m : Matrix) (side : Side) (across : List ℕ) (gone : ℕ) (reason : Reason) (b : IsBefore binary m side across gone reason) where
+module _ (binary : Bool) (m : Matrix) (side : StayingLines) (across : List ℕ) (gone : ℕ) (reason : Reason) (b : WasRightBefore binary m side across gone reason) where
   count_before : (at : ℕ) → at < length side.stays.items
       → get_or side.counts.items at 0 ≡ cond (crosses m side gone at) 1 0 + nonzeros_at across (table (entry m) side.kind (get_or side.stays.items at 0))
   count_before at h =
@@ -70,14 +70,14 @@ module _ (binary : Bool) (m : Matrix) (side : Side) (across : List ℕ) (gone : 
   less : (n o c x : ℕ) → n + c ≡ o → o ≡ c + x → n ≡ x
   less n o c x e f = omega arith
 
-  count_after : (new : Side) → IsForgetting m side new gone → (at : ℕ) → at < length side.stays.items
+  count_after : (new : StayingLines) → IsForgetting m side new gone → (at : ℕ) → at < length side.stays.items
       → get_or new.counts.items at 0 ≡ nonzeros_at across (table (entry m) side.kind (get_or side.stays.items at 0))
   count_after new f at h =
       less (get_or new.counts.items at 0) (get_or side.counts.items at 0) (cond (crosses m side gone at) 1 0) (nonzeros_at across (table (entry m) side.kind (get_or side.stays.items at 0)))
       (f.each at h).count (count_before at h)
 
-  pub counted_after : (new : Side) → IsForgetting m side new gone → IsCounted m new across
-  counted_after new f = subst (λ (s : Side). IsCounted m s across) (sym f.same) (record {
+  pub counted_after : (new : StayingLines) → IsForgetting m side new gone → AreNonzerosCounted m new across
+  counted_after new f = subst (λ (s : StayingLines). AreNonzerosCounted m s across) (sym f.same) (record {
     counts = λ at h. count_after new f at h;
     sums = λ at h.
         less (get_or new.sums.items at 0) (get_or side.sums.items at 0) (cond (crosses m side gone at) (weight gone) 0) (weight_at across (table (entry m) side.kind (get_or side.stays.items at 0)))
@@ -85,7 +85,7 @@ module _ (binary : Bool) (m : Matrix) (side : Side) (across : List ℕ) (gone : 
   })
 
   -- marks that stand for few of the lines are right
-  pub settled_after : (new : Side) → IsSide m side → new.kind ≡ side.kind → new.stays.items ≡ side.stays.items
+  pub settled_after : (new : StayingLines) → IsSide m side → new.kind ≡ side.kind → new.stays.items ≡ side.stays.items
       → ((at : ℕ) → at < length side.stays.items → get_or new.settled.items at false ≡ true → get_or side.settled.items at false ≡ true)
       → ((at : ℕ) → at < length side.stays.items → get_or new.settled.items at false ≡ true → crosses m side gone at ≡ true → 1 < nonzeros_at across (table (entry m) side.kind (get_or side.stays.items at 0)))
       → ((at : ℕ) → at < length side.stays.items → get_or new.settled.items at false ≡ true → (c : ℕ) → reason ≡ One (line_named side.kind c) → IsIn c side.stays.items
@@ -110,12 +110,12 @@ module _ (binary : Bool) (m : Matrix) (side : Side) (across : List ℕ) (gone : 
   })
 
   -- it was forgotten, and then some lines were settled no more
-  module _ (is : IsSide m side) (new last : Side) (f : IsForgetting m side new gone) (same : last ≡ record new { settled = last.settled })
+  module _ (is : IsSide m side) (new last : StayingLines) (f : IsForgetting m side new gone) (same : last ≡ record new { settled = last.settled })
       (was : (at : ℕ) → at < length side.stays.items → get_or last.settled.items at false ≡ true → get_or new.settled.items at false ≡ true) where
     settled_last : ((at : ℕ) → at < length side.stays.items → get_or last.settled.items at false ≡ true → (c : ℕ) → reason ≡ One (line_named side.kind c) → IsIn c side.stays.items
         → (get_or side.stays.items at 0 ≢ c) × (is_twin binary (table (entry m) side.kind) across c (get_or side.stays.items at 0) ≡ false)) → IsSettled binary m last across
     settled_last unit =
-        settled_after last is (ap (λ (s : Side). s.kind) same ∙ ap (λ (s : Side). s.kind) f.same) (ap (λ (s : Side). s.stays.items) same ∙ ap (λ (s : Side). s.stays.items) f.same)
+        settled_after last is (ap (λ (s : StayingLines). s.kind) same ∙ ap (λ (s : StayingLines). s.kind) f.same) (ap (λ (s : StayingLines). s.stays.items) same ∙ ap (λ (s : StayingLines). s.stays.items) f.same)
         (λ at h e. (f.each at h).was (was at h e))
         (λ at h e c. subst (λ (n : ℕ). 1 < n) (count_after new f at h) ((f.each at h).many (was at h e) c)) unit
 
@@ -124,19 +124,19 @@ module _ (binary : Bool) (m : Matrix) (side : Side) (across : List ℕ) (gone : 
     settled_unnamed none = settled_last (λ at h e c q i. absurd (none c q i))
 
     -- the reason names the line at a place, and this line and its twins are settled no more
-    pub settled_named : (line : Line) (changed : ℕ) → reason ≡ One line → changed < length side.stays.items → get_or side.stays.items changed 0 ≡ number_of line
+    pub settled_named : (line : Line) (changed : ℕ) → reason ≡ One line → changed < length side.stays.items → get_or side.stays.items changed 0 ≡ index_of_line line
         → ((at : ℕ) → at < length side.stays.items → IsUnsettled binary m new last across changed at) → IsSettled binary m last across
     settled_named line changed e inside here unsettled = settled_last (λ at h mark c q i.
         let there : get_or side.stays.items changed 0 ≡ c = here ∙ unit_number side.kind line c (sym e ∙ q) in (
           (λ p. (unsettled at h).other mark (same_place side.stays.items at changed (increasing_distinct side.stays.items is.rising) h inside (p ∙ sym there))),
           ap (λ (line : ℕ). is_twin binary (table (entry m) side.kind) across line (get_or side.stays.items at 0)) (sym there)
-              ∙ ap (λ (s : Side). is_twin binary (table (entry m) s.kind) across (get_or s.stays.items changed 0) (get_or s.stays.items at 0)) (sym f.same)
+              ∙ ap (λ (s : StayingLines). is_twin binary (table (entry m) s.kind) across (get_or s.stays.items changed 0) (get_or s.stays.items at 0)) (sym f.same)
               ∙ (unsettled at h).no_twin mark,
         ))
 
 -- ---- the side that loses a line
 
-module _ (m : Matrix) (own new : Side) (place : ℕ) (is : IsSide m own) (inside : place < length own.stays.items) (cut : IsCutAt place own new) where
+module _ (m : Matrix) (own new : StayingLines) (place : ℕ) (is : IsSide m own) (inside : place < length own.stays.items) (cut : IsRemovedAt place own new) where
   shorter : length new.stays.items + 1 ≡ length own.stays.items
   shorter = ap (λ (xs : List ℕ). length xs + 1) cut.stays ∙ length-remove own.stays.items place inside
 
@@ -150,7 +150,7 @@ module _ (m : Matrix) (own new : Side) (place : ℕ) (is : IsSide m own) (inside
   cut_side = record {
     rising = subst IsStrictlyIncreasing (sym cut_without) (without_increases (get_or own.stays.items place 0) own.stays.items is.rising);
     in_range = λ at h. let w = place_before at h in
-        rw (cut.kind, cut.stays) (subst (λ (n : ℕ). n < size_of m own.kind) (sym (w.1.number own.stays.items refl)) (is.in_range w.0 w.1.in_range));
+        rw (cut.kind, cut.stays) (subst (λ (n : ℕ). n < count_of_kind m own.kind) (sym (w.1.number own.stays.items refl)) (is.in_range w.0 w.1.in_range));
     parallel = record {
       counts = same (length new.counts.items) (length own.counts.items) (ap (λ (xs : List ℕ). length xs + 1) cut.counts ∙ length-remove own.counts.items place (omega (arith, is.parallel.counts, inside))) is.parallel.counts;
       sums = same (length new.sums.items) (length own.sums.items) (ap (λ (xs : List ℕ). length xs + 1) cut.sums ∙ length-remove own.sums.items place (omega (arith, is.parallel.sums, inside))) is.parallel.sums;
@@ -161,7 +161,7 @@ module _ (m : Matrix) (own new : Side) (place : ℕ) (is : IsSide m own) (inside
       same : (n o : ℕ) → n + 1 ≡ o → o ≡ length own.stays.items → n ≡ length new.stays.items
       same n o e f = omega (arith, e, f, shorter)
 
-  pub cut_counted : (across : List ℕ) → IsCounted m own across → IsCounted m new across
+  pub cut_counted : (across : List ℕ) → AreNonzerosCounted m own across → AreNonzerosCounted m new across
   cut_counted across counted = record {
     counts = λ at h. let w = place_before at h in
         rw (cut.kind, cut.stays, cut.counts)

@@ -4,24 +4,24 @@ use Rattle.std.specs.List.Sorted.{IsStrictlyIncreasing}
 use Rattle.cmr_base.specs.declared.line.Line.TheVariants.{Row, Column}
 use Rattle.cmr_base.specs.declared.line.Reason.{Reason}
 use Rattle.cmr_base.specs.Matrix.{Matrix}
-use Rattle.sp_reduce.specs.declared.kind.Kind.{Kind}
-use Rattle.sp_reduce.specs.declared.kind.Kind.TheVariants.{Rows, Columns}
-use Rattle.sp_reduce.specs.Kinds.{line_named, number_of, other_kind, size_of, cross_size, table, reason_for}
+use Rattle.sp_reduce.specs.declared.kind.LineKind.{LineKind}
+use Rattle.sp_reduce.specs.declared.kind.LineKind.TheVariants.{Rows, Columns}
+use Rattle.sp_reduce.specs.Kinds.{line_named, index_of_line, other_kind, count_of_kind, cross_size, table, reason_for}
 use Rattle.sp_reduce.proofs.Meanings.{IsMeant, meaning}
 
-pub number-line_named : (kind : Kind) (number : ℕ) → number_of (line_named kind number) ≡ number
+pub number-line_named : (kind : LineKind) (number : ℕ) → index_of_line (line_named kind number) ≡ number
 number-line_named Rows number = refl
 number-line_named Columns number = refl
 
-pub other-other : (kind : Kind) → other_kind (other_kind kind) ≡ kind
+pub other-other : (kind : LineKind) → other_kind (other_kind kind) ≡ kind
 other-other Rows = refl
 other-other Columns = refl
 
-pub size-other : (m : Matrix) (kind : Kind) → size_of m (other_kind kind) ≡ cross_size m kind
+pub size-other : (m : Matrix) (kind : LineKind) → count_of_kind m (other_kind kind) ≡ cross_size m kind
 size-other m Rows = refl
 size-other m Columns = refl
 
-pub meant_for : (binary : Bool) (M : ℕ → ℕ → ℤ) (kind : Kind) (R C : List ℕ) (gone : ℕ) (reason : Reason) → IsStrictlyIncreasing C → reason_for binary M (other_kind kind) R C gone ≡ Some reason
+pub meant_for : (binary : Bool) (M : ℕ → ℕ → ℤ) (kind : LineKind) (R C : List ℕ) (gone : ℕ) (reason : Reason) → IsStrictlyIncreasing C → reason_for binary M (other_kind kind) R C gone ≡ Some reason
     → IsMeant binary (λ k l. table M kind l k) (line_named kind) R C gone reason
 meant_for binary M Rows R C gone reason rises e = meaning binary (λ k l. M l k) Column Row R C gone reason rises e
 meant_for binary M Columns R C gone reason rises e = meaning binary (λ k l. M k l) Row Column R C gone reason rises e

@@ -4,7 +4,7 @@ use Rattle.std.proofs.lemmas.Bool.{cases_eq}
 use Rattle.std.proofs.lemmas.List.{get_or_append_left}
 use Rattle.std.proofs.Math.Seq.{get_or-append_seam}
 use Rattle.cmr_base.specs.Matrix.{Matrix, entry}
-use Rattle.sp_reduce.specs.declared.side.Side.{Side}
+use Rattle.sp_reduce.specs.declared.side.StayingLines.{StayingLines}
 use Rattle.sp_reduce.specs.Kinds.{table, is_twin}
 use Rattle.sp_reduce.specs.Sides.{weight}
 use Rattle.sp_reduce.specs.Changes.{crosses, HasForgotten, IsSameAt, IsUnsettled}
@@ -22,9 +22,9 @@ pushed_each xs ys x f count long e here each at h = elim (cases_eq at count) [
 
 -- ---- a crossing line is forgotten
 
-module _ (m : Matrix) (start now new : Side) (gone place : ℕ) (same : now ≡ record start { counts = now.counts; sums = now.sums; settled = now.settled }) (rest : (at : ℕ) → place ≤ at → IsSameAt start now at) where
+module _ (m : Matrix) (start now new : StayingLines) (gone place : ℕ) (same : now ≡ record start { counts = now.counts; sums = now.sums; settled = now.settled }) (rest : (at : ℕ) → place ≤ at → IsSameAt start now at) where
   crosses_same : (at : ℕ) → crosses m now gone at ≡ crosses m start gone at
-  crosses_same at = ap (λ (s : Side). crosses m s gone at) same
+  crosses_same at = ap (λ (s : StayingLines). crosses m s gone at) same
 
   forgotten_here : HasForgotten m now new gone place → HasForgotten m start new gone place
   forgotten_here h =
@@ -59,14 +59,14 @@ module _ (m : Matrix) (start now new : Side) (gone place : ℕ) (same : now ≡ 
 
 -- ---- lines are settled no more
 
-module _ (binary : Bool) (m : Matrix) (start now new : Side) (across : List ℕ) (changed place : ℕ) (same : now ≡ record start { settled = now.settled })
+module _ (binary : Bool) (m : Matrix) (start now new : StayingLines) (across : List ℕ) (changed place : ℕ) (same : now ≡ record start { settled = now.settled })
     (rest : (at : ℕ) → place ≤ at → get_or now.settled.items at false ≡ get_or start.settled.items at false) where
   unsettled_here : IsUnsettled binary m now new across changed place → IsUnsettled binary m start new across changed place
   unsettled_here h = record {
     was = λ e. sym (rest place (omega arith)) ∙ h.was e;
     other = h.other;
     no_twin = λ e.
-        ap (λ (s : Side). is_twin binary (table (entry m) s.kind) across (get_or s.stays.items changed 0) (get_or s.stays.items place 0)) (sym same)
+        ap (λ (s : StayingLines). is_twin binary (table (entry m) s.kind) across (get_or s.stays.items changed 0) (get_or s.stays.items place 0)) (sym same)
         ∙ h.no_twin e;
   }
 

@@ -6,26 +6,26 @@ use Rattle.std.proofs.lemmas.List.{get_or-set_other, get_or-set_same}
 use Rattle.cmr_base.specs.declared.line.Reason.{Reason}
 use Rattle.cmr_base.specs.declared.line.Step.{Step}
 use Rattle.cmr_base.specs.Matrix.{Matrix, entry}
-use Rattle.sp_reduce.specs.declared.kind.Kind.{Kind}
-use Rattle.sp_reduce.specs.declared.side.Side.{Side}
+use Rattle.sp_reduce.specs.declared.kind.LineKind.{LineKind}
+use Rattle.sp_reduce.specs.declared.side.StayingLines.{StayingLines}
 use Rattle.sp_reduce.specs.Kinds.{line_named, reason_for}
-use Rattle.sp_reduce.specs.Sides.{IsSide, IsAcross, IsCounted, IsSettled, first_step_of}
+use Rattle.sp_reduce.specs.Sides.{IsSide, IsAcross, AreNonzerosCounted, IsSettled, first_step_of}
 use Rattle.sp_reduce.proofs.Searches.{some_not_none}
 
-pub side_marked : (m : Matrix) (side side' : Side) → side' ≡ record side { settled = side'.settled } → length side'.settled.items ≡ length side.stays.items → IsSide m side → IsSide m side'
-side_marked m side side' e long is = subst (λ (s : Side). IsSide m s) (sym e) (record {
+pub side_marked : (m : Matrix) (side side' : StayingLines) → side' ≡ record side { settled = side'.settled } → length side'.settled.items ≡ length side.stays.items → IsSide m side → IsSide m side'
+side_marked m side side' e long is = subst (λ (s : StayingLines). IsSide m s) (sym e) (record {
   rising = is.rising;
   in_range = is.in_range;
   parallel = record { counts = is.parallel.counts; sums = is.parallel.sums; settled = long };
 })
 
-pub counted_marked : (m : Matrix) (side side' : Side) (across : List ℕ) → side' ≡ record side { settled = side'.settled } → IsCounted m side across → IsCounted m side' across
-counted_marked m side side' across e is = subst (λ (s : Side). IsCounted m s across) (sym e) (record { counts = is.counts; sums = is.sums })
+pub counted_marked : (m : Matrix) (side side' : StayingLines) (across : List ℕ) → side' ≡ record side { settled = side'.settled } → AreNonzerosCounted m side across → AreNonzerosCounted m side' across
+counted_marked m side side' across e is = subst (λ (s : StayingLines). AreNonzerosCounted m s across) (sym e) (record { counts = is.counts; sums = is.sums })
 
-pub across_marked : (m : Matrix) (side side' : Side) (across : List ℕ) → side' ≡ record side { settled = side'.settled } → IsAcross m side.kind across → IsAcross m side'.kind across
-across_marked m side side' across e is = subst (λ (s : Side). IsAcross m s.kind across) (sym e) is
+pub across_marked : (m : Matrix) (side side' : StayingLines) (across : List ℕ) → side' ≡ record side { settled = side'.settled } → IsAcross m side.kind across → IsAcross m side'.kind across
+across_marked m side side' across e is = subst (λ (s : StayingLines). IsAcross m s.kind across) (sym e) is
 
-module _ (binary : Bool) (M : ℕ → ℕ → ℤ) (kind : Kind) (own across : List ℕ) where
+module _ (binary : Bool) (M : ℕ → ℕ → ℤ) (kind : LineKind) (own across : List ℕ) where
   step_with : ℕ → Option Reason → Option Step → Option Step
   step_with line o rest = option_or (option_map (λ reason. record { line = line_named kind line; reason = reason }) o) rest
 
@@ -60,7 +60,7 @@ module _ (binary : Bool) (M : ℕ → ℕ → ℤ) (kind : Kind) (own across : L
       go (Some r) e k = some_not_none e
 
 -- a line is marked where it has no reason
-pub settled_set : (binary : Bool) (m : Matrix) (side : Side) (across : List ℕ) (place : ℕ) (mark : Bool) → place < length side.settled.items → IsSettled binary m side across
+pub settled_set : (binary : Bool) (m : Matrix) (side : StayingLines) (across : List ℕ) (place : ℕ) (mark : Bool) → place < length side.settled.items → IsSettled binary m side across
     → (mark ≡ true → reason_for binary (entry m) side.kind side.stays.items across (get_or side.stays.items place 0) ≡ None)
     → (at : ℕ) → at < length side.stays.items → get_or (set side.settled.items place mark) at false ≡ true → reason_for binary (entry m) side.kind side.stays.items across (get_or side.stays.items at 0) ≡ None
 settled_set binary m side across place mark h is none at inside e = elim (cases_eq at place) [

@@ -9,9 +9,9 @@ use Rattle.cmr_base.specs.Matrix.{Matrix, height, entry}
 use Rattle.cmr_base.specs.LineSets.{first_lines, without}
 use Rattle.cmr_base.specs.Reductions.{line_reason, rows_without, columns_without, first_step, lines_of, Removal, removal, removal_on}
 use Rattle.cmr_base.proofs.RemovedLines.{has_line_from_among, fewer_lines}
-use Rattle.sp_reduce.specs.declared.kind.Kind.{Kind}
-use Rattle.sp_reduce.specs.declared.kind.Kind.TheVariants.{Rows, Columns}
-use Rattle.sp_reduce.specs.Kinds.{line_named, number_of}
+use Rattle.sp_reduce.specs.declared.kind.LineKind.{LineKind}
+use Rattle.sp_reduce.specs.declared.kind.LineKind.TheVariants.{Rows, Columns}
+use Rattle.sp_reduce.specs.Kinds.{line_named, index_of_line}
 use Rattle.sp_reduce.specs.Sides.{first_step_of}
 use Rattle.sp_reduce.proofs.Searches.{some_not_none}
 use Rattle.sp_reduce.proofs.Orders.{search_is, after_step, empty_from_length}
@@ -53,27 +53,27 @@ IsColumn (Row n) = ⊥
 IsColumn (Column n) = Unit {0}
 
 -- what a row leaves, and what a column leaves
-pub without_row : (R C R' C' : List ℕ) (line : Line) → line ≡ line_named Rows (number_of line) → R' ≡ without R (number_of line) → C' ≡ C → (R' ≡ rows_without R line) × (C' ≡ columns_without C line)
+pub without_row : (R C R' C' : List ℕ) (line : Line) → line ≡ line_named Rows (index_of_line line) → R' ≡ without R (index_of_line line) → C' ≡ C → (R' ≡ rows_without R line) × (C' ≡ columns_without C line)
 without_row R C R' C' (Row n) e r c = (r, c)
 without_row R C R' C' (Column n) e r c = absurd (subst IsRow (sym e) tt)
 
-pub without_column : (R C R' C' : List ℕ) (line : Line) → line ≡ line_named Columns (number_of line) → C' ≡ without C (number_of line) → R' ≡ R → (R' ≡ rows_without R line) × (C' ≡ columns_without C line)
+pub without_column : (R C R' C' : List ℕ) (line : Line) → line ≡ line_named Columns (index_of_line line) → C' ≡ without C (index_of_line line) → R' ≡ R → (R' ≡ rows_without R line) × (C' ≡ columns_without C line)
 without_column R C R' C' (Column n) e c r = (r, c)
 without_column R C R' C' (Row n) e c r = absurd (subst IsColumn (sym e) tt)
 
-same_search : (binary : Bool) (M : ℕ → ℕ → ℤ) (kind : Kind) (R C R₁ C₁ : List ℕ) → kind ≡ Columns → R₁ ≡ R → C₁ ≡ C → first_step_of binary M kind C₁ R₁ C₁ ≡ first_step_of binary M Columns C R C
+same_search : (binary : Bool) (M : ℕ → ℕ → ℤ) (kind : LineKind) (R C R₁ C₁ : List ℕ) → kind ≡ Columns → R₁ ≡ R → C₁ ≡ C → first_step_of binary M kind C₁ R₁ C₁ ≡ first_step_of binary M Columns C R C
 same_search binary M kind R C R₁ C₁ k r c = rw (k, r, c) refl
 
 -- no row is reducible: the first reducible column goes
-pub columns_next : (binary : Bool) (M : ℕ → ℕ → ℤ) (kind : Kind) (R C R₁ C₁ R₂ C₂ : List ℕ) (found : Option Step) → kind ≡ Columns → R₁ ≡ R → C₁ ≡ C → R₂ ≡ R₁
-    → first_step_of binary M Rows R C R ≡ None → IfSome found (λ step. step.line ≡ line_named kind (number_of step.line))
-    → MatchOption found ((first_step_of binary M kind C₁ R₁ C₁ ≡ None) × (C₂ ≡ C₁)) (λ step. (first_step_of binary M kind C₁ R₁ C₁ ≡ Some step) × (C₂ ≡ without C₁ (number_of step.line)))
+pub columns_next : (binary : Bool) (M : ℕ → ℕ → ℤ) (kind : LineKind) (R C R₁ C₁ R₂ C₂ : List ℕ) (found : Option Step) → kind ≡ Columns → R₁ ≡ R → C₁ ≡ C → R₂ ≡ R₁
+    → first_step_of binary M Rows R C R ≡ None → IfSome found (λ step. step.line ≡ line_named kind (index_of_line step.line))
+    → MatchOption found ((first_step_of binary M kind C₁ R₁ C₁ ≡ None) × (C₂ ≡ C₁)) (λ step. (first_step_of binary M kind C₁ R₁ C₁ ≡ Some step) × (C₂ ≡ without C₁ (index_of_line step.line)))
     → MatchOption found ((first_step binary M R C (lines_of R C) ≡ None) × (R₂ ≡ R) × (C₂ ≡ C))
     (λ step. (first_step binary M R C (lines_of R C) ≡ Some step) × (R₂ ≡ rows_without R step.line) × (C₂ ≡ columns_without C step.line))
 columns_next binary M kind R C R₁ C₁ R₂ C₂ None k r c s e named (f, g) =
     (by_column binary M R C None e (sym (same_search binary M kind R C R₁ C₁ k r c) ∙ f), s ∙ r, g ∙ c)
 columns_next binary M kind R C R₁ C₁ R₂ C₂ (Some step) k r c s e named (f, g) =
-    let gone = without_column R C R₂ C₂ step.line (subst (λ (x : Kind). step.line ≡ line_named x (number_of step.line)) k named) (g ∙ ap (λ (lines : List ℕ). without lines (number_of step.line)) c) (s ∙ r) in
+    let gone = without_column R C R₂ C₂ step.line (subst (λ (x : LineKind). step.line ≡ line_named x (index_of_line step.line)) k named) (g ∙ ap (λ (lines : List ℕ). without lines (index_of_line step.line)) c) (s ∙ r) in
     (by_column binary M R C (Some step) e (sym (same_search binary M kind R C R₁ C₁ k r c) ∙ f), gone.0, gone.1)
 
 -- ---- some steps are made, and what is left goes on to the same end

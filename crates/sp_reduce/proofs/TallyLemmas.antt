@@ -8,12 +8,12 @@ use Rattle.cmr_base.specs.Trees.{support}
 use Rattle.cmr_base.specs.Reductions.{nonzeros_at}
 use Rattle.cmr_base.specs.Members.{IsIn}
 use Rattle.cmr_base.proofs.ListsWithout.{place_of, place_is}
-use Rattle.sp_reduce.specs.declared.kind.Kind.{Kind}
-use Rattle.sp_reduce.specs.declared.kind.Kind.TheVariants.{Rows, Columns}
+use Rattle.sp_reduce.specs.declared.kind.LineKind.{LineKind}
+use Rattle.sp_reduce.specs.declared.kind.LineKind.TheVariants.{Rows, Columns}
 use Rattle.sp_reduce.specs.declared.tallies.Tallies.{Tallies}
-use Rattle.sp_reduce.specs.Kinds.{size_of, cross_size, other_kind, own_line, table}
+use Rattle.sp_reduce.specs.Kinds.{count_of_kind, cross_size, other_kind, own_line, table}
 use Rattle.sp_reduce.specs.Sides.{weight, weight_at, IsAcross}
-use Rattle.sp_reduce.specs.Tallies.{AreMarks, AreTallies, AreWeights, is_passed, turned}
+use Rattle.sp_reduce.specs.Tallies.{AreMarks, AreTallies, AreWeights, is_passed, by_kind}
 use Rattle.sp_reduce.proofs.PlaceSums.{tally_same, tally_none, tally_bound, tally_marked, one_more}
 use Rattle.sp_reduce.proofs.Weights.{weight_small}
 
@@ -85,32 +85,32 @@ all_passed m i j h = rw (lt-ltb i (height m) h) refl
 
 -- ---- the same by kinds
 
-turned_same : (kind : Kind) (p q : ℕ → ℕ → Bool) → ((i j : ℕ) → p i j ≡ q i j) → (l k : ℕ) → turned p kind l k ≡ turned q kind l k
-turned_same Rows p q same l k = same l k
-turned_same Columns p q same l k = same k l
+by_kind_same : (kind : LineKind) (p q : ℕ → ℕ → Bool) → ((i j : ℕ) → p i j ≡ q i j) → (l k : ℕ) → by_kind p kind l k ≡ by_kind q kind l k
+by_kind_same Rows p q same l k = same l k
+by_kind_same Columns p q same l k = same k l
 
-turned_none : (kind : Kind) (p : ℕ → ℕ → Bool) → ((i j : ℕ) → p i j ≡ false) → (l k : ℕ) → turned p kind l k ≡ false
-turned_none Rows p none l k = none l k
-turned_none Columns p none l k = none k l
+by_kind_none : (kind : LineKind) (p : ℕ → ℕ → Bool) → ((i j : ℕ) → p i j ≡ false) → (l k : ℕ) → by_kind p kind l k ≡ false
+by_kind_none Rows p none l k = none l k
+by_kind_none Columns p none l k = none k l
 
-turned_apart : (kind : Kind) (p q : ℕ → ℕ → Bool) (row next : ℕ) → ((i j : ℕ) → (i ≡ row → j ≡ next → ⊥) → p i j ≡ q i j)
-    → (l k : ℕ) → (l ≡ own_line kind row next → k ≡ own_line (other_kind kind) row next → ⊥) → turned p kind l k ≡ turned q kind l k
-turned_apart Rows p q row next apart l k d = apart l k d
-turned_apart Columns p q row next apart l k d = apart k l (λ e f. d f e)
+by_kind_apart : (kind : LineKind) (p q : ℕ → ℕ → Bool) (row next : ℕ) → ((i j : ℕ) → (i ≡ row → j ≡ next → ⊥) → p i j ≡ q i j)
+    → (l k : ℕ) → (l ≡ own_line kind row next → k ≡ own_line (other_kind kind) row next → ⊥) → by_kind p kind l k ≡ by_kind q kind l k
+by_kind_apart Rows p q row next apart l k d = apart l k d
+by_kind_apart Columns p q row next apart l k d = apart k l (λ e f. d f e)
 
-turned_at : (kind : Kind) (p : ℕ → ℕ → Bool) (row next : ℕ) → turned p kind (own_line kind row next) (own_line (other_kind kind) row next) ≡ p row next
-turned_at Rows p row next = refl
-turned_at Columns p row next = refl
+by_kind_at : (kind : LineKind) (p : ℕ → ℕ → Bool) (row next : ℕ) → by_kind p kind (own_line kind row next) (own_line (other_kind kind) row next) ≡ p row next
+by_kind_at Rows p row next = refl
+by_kind_at Columns p row next = refl
 
-pub own_in : (m : Matrix) (kind : Kind) (row column : ℕ) → row < height m → column < m.width → own_line kind row column < size_of m kind
+pub own_in : (m : Matrix) (kind : LineKind) (row column : ℕ) → row < height m → column < m.width → own_line kind row column < count_of_kind m kind
 own_in m Rows row column h g = h
 own_in m Columns row column h g = g
 
-pub other_in : (m : Matrix) (kind : Kind) (row column : ℕ) → row < height m → column < m.width → own_line (other_kind kind) row column < cross_size m kind
+pub other_in : (m : Matrix) (kind : LineKind) (row column : ℕ) → row < height m → column < m.width → own_line (other_kind kind) row column < cross_size m kind
 other_in m Rows row column h g = g
 other_in m Columns row column h g = h
 
-pub cross_small : (m : Matrix) (kind : Kind) → IsMatrix m → cross_size m kind ≤ 1000
+pub cross_small : (m : Matrix) (kind : LineKind) → IsMatrix m → cross_size m kind ≤ 1000
 cross_small m Rows is = is.width_in
 cross_small m Columns is = is.height_in
 
@@ -121,13 +121,13 @@ weights_small marks weights are few k h = subst (λ (n : ℕ). n ≤ 1000 ^ 5) (
     of_mark true = weight_small (k + 1) (omega (arith, h, few))
     of_mark false = omega arith
 
-turned_all : (m : Matrix) (kind : Kind) (l k : ℕ) → l < size_of m kind → k < cross_size m kind → turned (is_passed m (height m) 0) kind l k ≡ turned (support m) kind l k
-turned_all m Rows l k h g = all_passed m l k h
-turned_all m Columns l k h g = all_passed m k l g
+by_kind_all : (m : Matrix) (kind : LineKind) (l k : ℕ) → l < count_of_kind m kind → k < cross_size m kind → by_kind (is_passed m (height m) 0) kind l k ≡ by_kind (support m) kind l k
+by_kind_all m Rows l k h g = all_passed m l k h
+by_kind_all m Columns l k h g = all_passed m k l g
 
 -- ---- the counts and the sums
 
-pub tallies_same : (m : Matrix) (kind : Kind) (marks : List Bool) (row column row' column' : ℕ) (t : Tallies) → ((i j : ℕ) → is_passed m row column i j ≡ is_passed m row' column' i j)
+pub tallies_same : (m : Matrix) (kind : LineKind) (marks : List Bool) (row column row' column' : ℕ) (t : Tallies) → ((i j : ℕ) → is_passed m row column i j ≡ is_passed m row' column' i j)
     → AreTallies m kind marks row column t → AreTallies m kind marks row' column' t
 tallies_same m kind marks row column row' column' t same are =
     let p = is_passed m row column in
@@ -135,38 +135,38 @@ tallies_same m kind marks row column row' column' t same are =
     record {
       many_counts = are.many_counts;
       many_sums = are.many_sums;
-      counts = λ l h. are.counts l h ∙ tally_same (λ _. 1) marks (cross_size m kind) (turned p kind l) (turned q kind l) (λ k g. turned_same kind p q same l k);
-      sums = λ l h. are.sums l h ∙ tally_same weight marks (cross_size m kind) (turned p kind l) (turned q kind l) (λ k g. turned_same kind p q same l k);
+      counts = λ l h. are.counts l h ∙ tally_same (λ _. 1) marks (cross_size m kind) (by_kind p kind l) (by_kind q kind l) (λ k g. by_kind_same kind p q same l k);
+      sums = λ l h. are.sums l h ∙ tally_same weight marks (cross_size m kind) (by_kind p kind l) (by_kind q kind l) (λ k g. by_kind_same kind p q same l k);
     }
 
-pub tallies_start : (m : Matrix) (kind : Kind) (marks : List Bool) (t : Tallies) → t.counts.items ≡ replicate (size_of m kind) 0 → t.sums.items ≡ replicate (size_of m kind) 0 → AreTallies m kind marks 0 0 t
+pub tallies_start : (m : Matrix) (kind : LineKind) (marks : List Bool) (t : Tallies) → t.counts.items ≡ replicate (count_of_kind m kind) 0 → t.sums.items ≡ replicate (count_of_kind m kind) 0 → AreTallies m kind marks 0 0 t
 tallies_start m kind marks t counts sums =
     let p = is_passed m 0 0 in
-    let none = λ (l k : ℕ). turned_none kind p (none_passed m) l k in
+    let none = λ (l k : ℕ). by_kind_none kind p (none_passed m) l k in
     record {
-      many_counts = ap (λ (xs : List ℕ). length xs) counts ∙ length-replicate (size_of m kind) 0;
-      many_sums = ap (λ (xs : List ℕ). length xs) sums ∙ length-replicate (size_of m kind) 0;
-      counts = λ l h. zero_at t.counts.items counts l h ∙ sym (tally_none (λ _. 1) marks (cross_size m kind) (turned p kind l) (none l));
-      sums = λ l h. zero_at t.sums.items sums l h ∙ sym (tally_none weight marks (cross_size m kind) (turned p kind l) (none l));
+      many_counts = ap (λ (xs : List ℕ). length xs) counts ∙ length-replicate (count_of_kind m kind) 0;
+      many_sums = ap (λ (xs : List ℕ). length xs) sums ∙ length-replicate (count_of_kind m kind) 0;
+      counts = λ l h. zero_at t.counts.items counts l h ∙ sym (tally_none (λ _. 1) marks (cross_size m kind) (by_kind p kind l) (none l));
+      sums = λ l h. zero_at t.sums.items sums l h ∙ sym (tally_none weight marks (cross_size m kind) (by_kind p kind l) (none l));
     }
   where
-    zero_at : (xs : List ℕ) → xs ≡ replicate (size_of m kind) 0 → (l : ℕ) → l < size_of m kind → get_or xs l 0 ≡ 0
-    zero_at xs e l h = ap (λ (ys : List ℕ). get_or ys l 0) e ∙ get_or-replicate (size_of m kind) l 0 0 h
+    zero_at : (xs : List ℕ) → xs ≡ replicate (count_of_kind m kind) 0 → (l : ℕ) → l < count_of_kind m kind → get_or xs l 0 ≡ 0
+    zero_at xs e l h = ap (λ (ys : List ℕ). get_or ys l 0) e ∙ get_or-replicate (count_of_kind m kind) l 0 0 h
 
-module _ (m : Matrix) (kind : Kind) (marks : List Bool) (row column : ℕ) (t : Tallies) (shape : IsMatrix m) (are : AreTallies m kind marks row column t) where
+module _ (m : Matrix) (kind : LineKind) (marks : List Bool) (row column : ℕ) (t : Tallies) (shape : IsMatrix m) (are : AreTallies m kind marks row column t) where
   at_most : (n most : ℕ) {x y : ℕ} → n ≤ 1000 → x ≡ y → y ≤ n * most → x ≤ 1000 * most
   at_most n most {x} {y} h e g = subst (λ (z : ℕ). z ≤ 1000 * most) (sym e) (le_trans g (mul-le-mul_right most h))
 
-  pub counts_small : (l : ℕ) → l < size_of m kind → get_or t.counts.items l 0 ≤ 1000
+  pub counts_small : (l : ℕ) → l < count_of_kind m kind → get_or t.counts.items l 0 ≤ 1000
   counts_small l h =
-      at_most (cross_size m kind) 1 (cross_small m kind shape) (are.counts l h) (tally_bound (λ _. 1) marks (cross_size m kind) 1 (turned (is_passed m row column) kind l) (λ k g. omega arith))
+      at_most (cross_size m kind) 1 (cross_small m kind shape) (are.counts l h) (tally_bound (λ _. 1) marks (cross_size m kind) 1 (by_kind (is_passed m row column) kind l) (λ k g. omega arith))
 
-  pub sums_small : (l : ℕ) → l < size_of m kind → get_or t.sums.items l 0 ≤ 1000 * 1000 ^ 5
+  pub sums_small : (l : ℕ) → l < count_of_kind m kind → get_or t.sums.items l 0 ≤ 1000 * 1000 ^ 5
   sums_small l h =
       at_most (cross_size m kind) (1000 ^ 5) (cross_small m kind shape) (are.sums l h)
-      (tally_bound weight marks (cross_size m kind) (1000 ^ 5) (turned (is_passed m row column) kind l) (λ k g. let few = cross_small m kind shape in weight_small (k + 1) (omega (arith, few, g))))
+      (tally_bound weight marks (cross_size m kind) (1000 ^ 5) (by_kind (is_passed m row column) kind l) (λ k g. let few = cross_small m kind shape in weight_small (k + 1) (omega (arith, few, g))))
 
-pub tallies_step : (m : Matrix) (kind : Kind) (marks : List Bool) (row from next : ℕ) (t t' : Tallies) → AreTallies m kind marks row from t → row < height m → next < m.width
+pub tallies_step : (m : Matrix) (kind : LineKind) (marks : List Bool) (row from next : ℕ) (t t' : Tallies) → AreTallies m kind marks row from t → row < height m → next < m.width
     → from ≤ next → support m row next ≡ true → ((c : ℕ) → from ≤ c → c < next → support m row c ≡ false)
     → t'.counts.items ≡ set t.counts.items (own_line kind row next) (get_or t.counts.items (own_line kind row next) 0 + cond (get_or marks (own_line (other_kind kind) row next) false) 1 0)
     → t'.sums.items ≡ set t.sums.items (own_line kind row next)
@@ -177,17 +177,17 @@ tallies_step m kind marks row from next t t' are h g ordered found none counts s
     let q = is_passed m row (next + 1) in
     let own = own_line kind row next in
     let other = own_line (other_kind kind) row next in
-    let apart = turned_apart kind p q row next (passed_apart m row from next ordered found none) in
-    let was_not = turned_at kind p row next ∙ not_passed m row from next ordered found none in
-    let is = turned_at kind q row next ∙ now_passed m row from next ordered found none in
+    let apart = by_kind_apart kind p q row next (passed_apart m row from next ordered found none) in
+    let was_not = by_kind_at kind p row next ∙ not_passed m row from next ordered found none in
+    let is = by_kind_at kind q row next ∙ now_passed m row from next ordered found none in
     let among = own_in m kind row next h g in
     let crossing = other_in m kind row next h g in
     record {
       many_counts = ap (λ (xs : List ℕ). length xs) counts ∙ long t.counts.items own _ ∙ are.many_counts;
       many_sums = ap (λ (xs : List ℕ). length xs) sums ∙ long t.sums.items own _ ∙ are.many_sums;
-      counts = one_more (λ _. 1) marks (cross_size m kind) own other (turned p kind) (turned q kind) crossing apart was_not is (size_of m kind) t.counts.items t'.counts.items
+      counts = one_more (λ _. 1) marks (cross_size m kind) own other (by_kind p kind) (by_kind q kind) crossing apart was_not is (count_of_kind m kind) t.counts.items t'.counts.items
           (omega (arith, among, are.many_counts)) among counts are.counts;
-      sums = one_more weight marks (cross_size m kind) own other (turned p kind) (turned q kind) crossing apart was_not is (size_of m kind) t.sums.items t'.sums.items
+      sums = one_more weight marks (cross_size m kind) own other (by_kind p kind) (by_kind q kind) crossing apart was_not is (count_of_kind m kind) t.sums.items t'.sums.items
           (omega (arith, among, are.many_sums)) among sums are.sums;
     }
   where
@@ -195,26 +195,26 @@ tallies_step m kind marks row from next t t' are h g ordered found none counts s
     long xs i x = length-set xs i x
 
 -- all rows were gone through, and these lines are marked
-module _ (m : Matrix) (kind : Kind) (marks : List Bool) (across : List ℕ) (t : Tallies) (are : AreTallies m kind marks (height m) 0 t) (marked : AreMarks (cross_size m kind) across marks) (is : IsAcross m kind across) where
+module _ (m : Matrix) (kind : LineKind) (marks : List Bool) (across : List ℕ) (t : Tallies) (are : AreTallies m kind marks (height m) 0 t) (marked : AreMarks (cross_size m kind) across marks) (is : IsAcross m kind across) where
   inside : (k : ℕ) → IsIn k across → k < cross_size m kind
   inside k h = let p = place_is k across h in subst (λ (n : ℕ). n < cross_size m kind) p.there (is.in_range (place_of k across) p.in_range)
 
   abbrev sum_of : (ℕ → ℕ) → (ℕ → Bool) → ℕ
   sum_of number test = sum_by (λ k. cond (test k) (number k) 0) across
 
-  by_table : (l : ℕ) → (number : ℕ → ℕ) → sum_of number (turned (support m) kind l) ≡ sum_of number (λ k. is_nonzero (table (entry m) kind l k))
+  by_table : (l : ℕ) → (number : ℕ → ℕ) → sum_of number (by_kind (support m) kind l) ≡ sum_of number (λ k. is_nonzero (table (entry m) kind l k))
   by_table l number = go kind
     where
-      go : (x : Kind) → sum_of number (turned (support m) x l) ≡ sum_of number (λ k. is_nonzero (table (entry m) x l k))
+      go : (x : LineKind) → sum_of number (by_kind (support m) x l) ≡ sum_of number (λ k. is_nonzero (table (entry m) x l k))
       go Rows = refl
       go Columns = refl
 
-  pub counts_are : (l : ℕ) → l < size_of m kind → get_or t.counts.items l 0 ≡ nonzeros_at across (table (entry m) kind l)
+  pub counts_are : (l : ℕ) → l < count_of_kind m kind → get_or t.counts.items l 0 ≡ nonzeros_at across (table (entry m) kind l)
   counts_are l h =
-      are.counts l h ∙ tally_same (λ _. 1) marks (cross_size m kind) (turned (is_passed m (height m) 0) kind l) (turned (support m) kind l) (λ k g. turned_all m kind l k h g)
-      ∙ tally_marked (λ _. 1) marks (cross_size m kind) across (turned (support m) kind l) marked is.rising inside ∙ by_table l (λ _. 1)
+      are.counts l h ∙ tally_same (λ _. 1) marks (cross_size m kind) (by_kind (is_passed m (height m) 0) kind l) (by_kind (support m) kind l) (λ k g. by_kind_all m kind l k h g)
+      ∙ tally_marked (λ _. 1) marks (cross_size m kind) across (by_kind (support m) kind l) marked is.rising inside ∙ by_table l (λ _. 1)
 
-  pub sums_are : (l : ℕ) → l < size_of m kind → get_or t.sums.items l 0 ≡ weight_at across (table (entry m) kind l)
+  pub sums_are : (l : ℕ) → l < count_of_kind m kind → get_or t.sums.items l 0 ≡ weight_at across (table (entry m) kind l)
   sums_are l h =
-      are.sums l h ∙ tally_same weight marks (cross_size m kind) (turned (is_passed m (height m) 0) kind l) (turned (support m) kind l) (λ k g. turned_all m kind l k h g)
-      ∙ tally_marked weight marks (cross_size m kind) across (turned (support m) kind l) marked is.rising inside ∙ by_table l weight
+      are.sums l h ∙ tally_same weight marks (cross_size m kind) (by_kind (is_passed m (height m) 0) kind l) (by_kind (support m) kind l) (λ k g. by_kind_all m kind l k h g)
+      ∙ tally_marked weight marks (cross_size m kind) across (by_kind (support m) kind l) marked is.rising inside ∙ by_table l weight

@@ -7,9 +7,9 @@ use Rattle.cmr_base.specs.declared.line.Reason.TheVariants.{Copy, Negative}
 use Rattle.cmr_base.specs.Matrix.{Matrix, entry, is_nonzero}
 use Rattle.cmr_base.specs.Reductions.{equal_at}
 use Rattle.cmr_base.specs.Members.{IsIn}
-use Rattle.sp_reduce.specs.Sides.{weight, weight_at, is_copy, is_negative, twin_reason, may_be_twins, IsAlone, IsCounted}
+use Rattle.sp_reduce.specs.Sides.{weight, weight_at, is_copy, is_negative, twin_reason, may_be_twins, IsAlone, AreNonzerosCounted}
 use Rattle.sp_reduce.specs.Kinds.{line_named, table}
-use Rattle.sp_reduce.specs.declared.side.Side.{Side}
+use Rattle.sp_reduce.specs.declared.side.StayingLines.{StayingLines}
 use Rattle.cmr_base.proofs.ThinLines.{and_is, is_and, false_is, equal_is}
 use Rattle.sp_reduce.proofs.Searches.{find_none}
 
@@ -28,7 +28,7 @@ nonzero-neg (pos zero) = refl
 nonzero-neg (pos (suc n)) = refl
 nonzero-neg (negsuc n) = refl
 
-module _ (m : Matrix) (side : Side) (across : List ℕ) (counted : IsCounted m side across) (place other : ℕ) (in_range : place < length side.stays.items) (in_range' : other < length side.stays.items) where
+module _ (m : Matrix) (side : StayingLines) (across : List ℕ) (counted : AreNonzerosCounted m side across) (place other : ℕ) (in_range : place < length side.stays.items) (in_range' : other < length side.stays.items) where
   -- twins have one sum
   same_sum : (g : ℕ → ℤ) → ((x : ℕ) → is_nonzero (g x) ≡ is_nonzero (table (entry m) side.kind (get_or side.stays.items place 0) x))
       → equal_at across (table (entry m) side.kind (get_or side.stays.items other 0)) g ≡ true → get_or side.sums.items other 0 ≡ get_or side.sums.items place 0
@@ -62,7 +62,7 @@ module _ (m : Matrix) (side : Side) (across : List ℕ) (counted : IsCounted m s
       true≢false (sym (is_and (eqb (get_or side.sums.items other 0) (get_or side.sums.items place 0)) (not (eqb twin line)) (eq-eqb (get_or side.sums.items other 0) (get_or side.sums.items place 0) sums) both.0) ∙ differ))
 
 -- a line whose sum no other line has is no twin
-pub alone_reason : (binary : Bool) (m : Matrix) (side : Side) (across : List ℕ) (place : ℕ) → IsCounted m side across → place < length side.stays.items → IsAlone side place
+pub alone_reason : (binary : Bool) (m : Matrix) (side : StayingLines) (across : List ℕ) (place : ℕ) → AreNonzerosCounted m side across → place < length side.stays.items → IsAlone side place
     → twin_reason binary (entry m) side.kind side.stays.items across (get_or side.stays.items place 0) ≡ None
 alone_reason binary m side across place counted inside alone =
     let M = table (entry m) side.kind in

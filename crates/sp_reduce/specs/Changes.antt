@@ -4,12 +4,12 @@ use Rattle.std.specs.List.{remove}
 use Rattle.cmr_base.specs.declared.line.Reason.{Reason}
 use Rattle.cmr_base.specs.Matrix.{Matrix, entry, is_nonzero}
 use Rattle.cmr_base.specs.LineSets.{without}
-use Rattle.sp_reduce.specs.declared.side.Side.{Side}
+use Rattle.sp_reduce.specs.declared.side.StayingLines.{StayingLines}
 use Rattle.sp_reduce.specs.Kinds.{other_kind, table, reason_for, is_twin}
-use Rattle.sp_reduce.specs.Sides.{IsParallel, IsSide, IsAcross, IsCounted, IsSettled, weight}
+use Rattle.sp_reduce.specs.Sides.{IsParallel, IsSide, IsAcross, AreNonzerosCounted, IsSettled, weight}
 
 -- the line at a place is gone, and nothing else
-pub record IsCutAt (place : ℕ) (old new : Side) : Type 0 where
+pub record IsRemovedAt (place : ℕ) (old new : StayingLines) : Type 0 where
   pub kind : new.kind ≡ old.kind
   pub stays : new.stays.items ≡ remove old.stays.items place
   pub counts : new.counts.items ≡ remove old.counts.items place
@@ -17,58 +17,58 @@ pub record IsCutAt (place : ℕ) (old new : Side) : Type 0 where
   pub settled : new.settled.items ≡ remove old.settled.items place
 
 -- where the line at a place crosses another one in a nonzero
-abbrev pub crosses : Matrix → Side → ℕ → ℕ → Bool
+abbrev pub crosses : Matrix → StayingLines → ℕ → ℕ → Bool
 crosses m side other at = is_nonzero (table (entry m) side.kind (slice_index side.stays.items at) other)
 
 -- the line at a place has counted it, where it crosses it in a nonzero
-abbrev pub IsHeldAt : Matrix → Side → ℕ → ℕ → Type 0
+abbrev pub IsHeldAt : Matrix → StayingLines → ℕ → ℕ → Type 0
 IsHeldAt m side gone at = crosses m side gone at ≡ true → (1 ≤ slice_index side.counts.items at) × (weight gone ≤ slice_index side.sums.items at)
 
 -- each line has
-abbrev pub IsHeld : Matrix → Side → ℕ → Type 0
+abbrev pub IsHeld : Matrix → StayingLines → ℕ → Type 0
 IsHeld m side gone = (at : ℕ) → at < length side.stays.items → IsHeldAt m side gone at
 
 -- the line at a place counts it no more, and is settled only where it was and two nonzeros are left
-pub record HasForgotten (m : Matrix) (old new : Side) (gone at : ℕ) : Type 0 where
+pub record HasForgotten (m : Matrix) (old new : StayingLines) (gone at : ℕ) : Type 0 where
   pub count : slice_index new.counts.items at + (if crosses m old gone at then 1 else 0) ≡ slice_index old.counts.items at
   pub sum : slice_index new.sums.items at + (if crosses m old gone at then weight gone else 0) ≡ slice_index old.sums.items at
   pub was : slice_index_or new.settled.items at false ≡ true → slice_index_or old.settled.items at false ≡ true
   pub many : slice_index_or new.settled.items at false ≡ true → crosses m old gone at ≡ true → 1 < slice_index new.counts.items at
 
-pub record IsSameAt (old new : Side) (at : ℕ) : Type 0 where
+pub record IsSameAt (old new : StayingLines) (at : ℕ) : Type 0 where
   pub count : slice_index new.counts.items at ≡ slice_index old.counts.items at
   pub sum : slice_index new.sums.items at ≡ slice_index old.sums.items at
   pub settled : slice_index_or new.settled.items at false ≡ slice_index_or old.settled.items at false
 
 -- each line counts it no more
-pub record IsForgetting (m : Matrix) (old new : Side) (gone : ℕ) : Type 0 where
+pub record IsForgetting (m : Matrix) (old new : StayingLines) (gone : ℕ) : Type 0 where
   pub same : new ≡ record old { counts = new.counts; sums = new.sums; settled = new.settled }
   pub parallel : IsParallel new
   pub each : (at : ℕ) → at < length old.stays.items → HasForgotten m old new gone at
 
 -- the line at a place is settled only where it was, and is neither the changed one nor a twin of it
-pub record IsUnsettled (binary : Bool) (m : Matrix) (old new : Side) (across : List ℕ) (changed at : ℕ) : Type 0 where
+pub record IsUnsettled (binary : Bool) (m : Matrix) (old new : StayingLines) (across : List ℕ) (changed at : ℕ) : Type 0 where
   pub was : slice_index_or new.settled.items at false ≡ true → slice_index_or old.settled.items at false ≡ true
   pub other : slice_index_or new.settled.items at false ≡ true → at ≡ changed → ⊥
   pub no_twin : slice_index_or new.settled.items at false ≡ true
       → is_twin binary (table (entry m) old.kind) across (slice_index old.stays.items changed) (slice_index old.stays.items at) ≡ false
 
 -- What is known of a side was right for crossing lines with one more, which has just gone for this reason.
-pub record IsBefore (binary : Bool) (m : Matrix) (side : Side) (across : List ℕ) (gone : ℕ) (reason : Reason) : Type 0 where
+pub record WasRightBefore (binary : Bool) (m : Matrix) (side : StayingLines) (across : List ℕ) (gone : ℕ) (reason : Reason) : Type 0 where
   pub before : List ℕ
   pub lines : IsAcross m side.kind before
   pub there : Contains before gone
   pub left : across ≡ without before gone
-  pub counted : IsCounted m side before
+  pub counted : AreNonzerosCounted m side before
   pub settled : IsSettled binary m side before
   pub why : reason_for binary (entry m) (other_kind side.kind) before side.stays.items gone ≡ Some reason
 
 -- two sides that cross, and what is known of them
-pub record ArePaired (binary : Bool) (m : Matrix) (own across : Side) : Type 0 where
+pub record ArePaired (binary : Bool) (m : Matrix) (own across : StayingLines) : Type 0 where
   pub kinds : across.kind ≡ other_kind own.kind
   pub own_side : IsSide m own
   pub across_side : IsSide m across
-  pub own_counted : IsCounted m own across.stays.items
-  pub across_counted : IsCounted m across own.stays.items
+  pub own_counted : AreNonzerosCounted m own across.stays.items
+  pub across_counted : AreNonzerosCounted m across own.stays.items
   pub own_settled : IsSettled binary m own across.stays.items
   pub across_settled : IsSettled binary m across own.stays.items

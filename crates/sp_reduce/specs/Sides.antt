@@ -8,10 +8,10 @@ use Rattle.cmr_base.specs.declared.line.Step.{Step}
 use Rattle.cmr_base.specs.Matrix.{Matrix, entry, is_nonzero}
 use Rattle.cmr_base.specs.LineSets.{AllBelow}
 use Rattle.cmr_base.specs.Reductions.{nonzeros_at, equal_at}
-use Rattle.sp_reduce.specs.declared.kind.Kind.{Kind}
+use Rattle.sp_reduce.specs.declared.kind.LineKind.{LineKind}
 use Rattle.sp_reduce.specs.declared.side.Found.{Found}
-use Rattle.sp_reduce.specs.declared.side.Side.{Side}
-use Rattle.sp_reduce.specs.Kinds.{line_named, size_of, cross_size, table, reason_for}
+use Rattle.sp_reduce.specs.declared.side.StayingLines.{StayingLines}
+use Rattle.sp_reduce.specs.Kinds.{line_named, count_of_kind, cross_size, table, reason_for}
 
 -- sums of these tell sets of lines apart, mostly
 abbrev pub weight : ℕ → ℕ
@@ -22,45 +22,45 @@ abbrev pub weight_at : List ℕ → (ℕ → ℤ) → ℕ
 weight_at places f = sum_by (λ k. if is_nonzero (f k) then weight k else 0) places
 
 -- each line that stays has a count, a sum and a mark
-pub record IsParallel (side : Side) : Type 0 where
+pub record IsParallel (side : StayingLines) : Type 0 where
   pub counts : length side.counts.items ≡ length side.stays.items
   pub sums : length side.sums.items ≡ length side.stays.items
   pub settled : length side.settled.items ≡ length side.stays.items
 
 -- rising numbers of lines of the matrix
-pub record IsSide (m : Matrix) (side : Side) : Type 0 where
+pub record IsSide (m : Matrix) (side : StayingLines) : Type 0 where
   pub rising : IsStrictlyIncreasing side.stays.items
-  pub in_range : AllBelow (size_of m side.kind) side.stays.items
+  pub in_range : AllBelow (count_of_kind m side.kind) side.stays.items
   pub parallel : IsParallel side
 
 -- rising numbers of crossing lines
-pub record IsAcross (m : Matrix) (kind : Kind) (across : List ℕ) : Type 0 where
+pub record IsAcross (m : Matrix) (kind : LineKind) (across : List ℕ) : Type 0 where
   pub rising : IsStrictlyIncreasing across
   pub in_range : AllBelow (cross_size m kind) across
 
 -- the lines at two places are not one, and have one sum
-abbrev pub may_be_twins : Side → ℕ → ℕ → Bool
+abbrev pub may_be_twins : StayingLines → ℕ → ℕ → Bool
 may_be_twins side place other =
     slice_index side.sums.items other == slice_index side.sums.items place && not (slice_index side.stays.items other == slice_index side.stays.items place)
 
 -- no other line has the sum of the line at a place
-abbrev pub IsAlone : Side → ℕ → Type 0
+abbrev pub IsAlone : StayingLines → ℕ → Type 0
 IsAlone side place = (other : ℕ) → other < length side.stays.items → may_be_twins side place other ≡ false
 
 -- the counts and sums are those of the nonzeros in these crossing lines
-pub record IsCounted (m : Matrix) (side : Side) (across : List ℕ) : Type 0 where
+pub record AreNonzerosCounted (m : Matrix) (side : StayingLines) (across : List ℕ) : Type 0 where
   pub counts : (at : ℕ) → at < length side.stays.items
       → slice_index side.counts.items at ≡ nonzeros_at across (table (entry m) side.kind (slice_index side.stays.items at))
   pub sums : (at : ℕ) → at < length side.stays.items
       → slice_index side.sums.items at ≡ weight_at across (table (entry m) side.kind (slice_index side.stays.items at))
 
 -- a marked line is not reducible
-abbrev pub IsSettled : Bool → Matrix → Side → List ℕ → Type 0
+abbrev pub IsSettled : Bool → Matrix → StayingLines → List ℕ → Type 0
 IsSettled binary m side across = (at : ℕ) → at < length side.stays.items → slice_index_or side.settled.items at false ≡ true
     → reason_for binary (entry m) side.kind side.stays.items across (slice_index side.stays.items at) ≡ None
 
 -- the step with the first reducible line of some lines of the kind
-abbrev pub first_step_of : Bool → (ℕ → ℕ → ℤ) → Kind → List ℕ → List ℕ → List ℕ → Option Step
+abbrev pub first_step_of : Bool → (ℕ → ℕ → ℤ) → LineKind → List ℕ → List ℕ → List ℕ → Option Step
 first_step_of binary M kind own across [] = None
 first_step_of binary M kind own across (line ∷ lines) =
     option_or (option_map (λ reason. record { line = line_named kind line; reason = reason }) (reason_for binary M kind own across line))
@@ -75,13 +75,13 @@ abbrev pub is_negative : (ℕ → ℕ → ℤ) → List ℕ → ℕ → ℕ → 
 is_negative M across line twin = not (twin == line) && equal_at across (M twin) (λ other. neg_ℤ (M line other))
 
 -- why a line with two nonzeros or more is reducible
-abbrev pub twin_reason : Bool → (ℕ → ℕ → ℤ) → Kind → List ℕ → List ℕ → ℕ → Option Reason
+abbrev pub twin_reason : Bool → (ℕ → ℕ → ℤ) → LineKind → List ℕ → List ℕ → ℕ → Option Reason
 twin_reason binary M kind own across line =
     option_or (option_map (λ twin. Copy (line_named kind twin)) (find (is_copy (table M kind) across line) own))
     (if binary then None else option_map (λ twin. Negative (line_named kind twin)) (find (is_negative (table M kind) across line) own))
 
 -- a line was found at a place: it is the first that is reducible, for this reason
-pub record IsFirst (binary : Bool) (m : Matrix) (side : Side) (across : List ℕ) (found : Found) : Type 0 where
+pub record IsFirstReducible (binary : Bool) (m : Matrix) (side : StayingLines) (across : List ℕ) (found : Found) : Type 0 where
   pub in_range : found.place < length side.stays.items
   pub reason : reason_for binary (entry m) side.kind side.stays.items across (slice_index side.stays.items found.place) ≡ Some found.reason
   pub step : first_step_of binary (entry m) side.kind side.stays.items across side.stays.items

@@ -4,10 +4,10 @@ use Rattle.cmr_base.specs.Matrix.{Matrix}
 use Rattle.cmr_base.specs.Trees.{support}
 use Rattle.cmr_base.specs.LineSets.{first_lines}
 use Rattle.cmr_base.specs.Members.{IsIn}
-use Rattle.sp_reduce.specs.declared.kind.Kind.{Kind}
-use Rattle.sp_reduce.specs.declared.kind.Kind.TheVariants.{Rows, Columns}
+use Rattle.sp_reduce.specs.declared.kind.LineKind.{LineKind}
+use Rattle.sp_reduce.specs.declared.kind.LineKind.TheVariants.{Rows, Columns}
 use Rattle.sp_reduce.specs.declared.tallies.Tallies.{Tallies}
-use Rattle.sp_reduce.specs.Kinds.{size_of, cross_size}
+use Rattle.sp_reduce.specs.Kinds.{count_of_kind, cross_size}
 use Rattle.sp_reduce.specs.Sides.{weight}
 
 -- of so many lines, these are marked
@@ -29,19 +29,19 @@ abbrev pub is_passed : Matrix → ℕ → ℕ → ℕ → ℕ → Bool
 is_passed m row column i j = is_before row column i j && support m i j
 
 -- the same of a line of the kind and a crossing line
-abbrev pub turned : (ℕ → ℕ → Bool) → Kind → ℕ → ℕ → Bool
-turned test Rows line other = test line other
-turned test Columns line other = test other line
+abbrev pub by_kind : (ℕ → ℕ → Bool) → LineKind → ℕ → ℕ → Bool
+by_kind test Rows line other = test line other
+by_kind test Columns line other = test other line
 
 -- the sum of the numbers of the marked places that pass the test
 abbrev pub tally : (ℕ → ℕ) → List Bool → ℕ → (ℕ → Bool) → ℕ
 tally number marks size test = sum_by (λ k. if slice_index_or marks k false && test k then number k else 0) (first_lines size)
 
 -- each line of the kind has the count and the weights of its nonzeros that were passed
-pub record AreTallies (m : Matrix) (kind : Kind) (marks : List Bool) (row column : ℕ) (tallies : Tallies) : Type 0 where
-  pub many_counts : length tallies.counts.items ≡ size_of m kind
-  pub many_sums : length tallies.sums.items ≡ size_of m kind
-  pub counts : (line : ℕ) → line < size_of m kind
-      → slice_index tallies.counts.items line ≡ tally (λ _. 1) marks (cross_size m kind) (turned (is_passed m row column) kind line)
-  pub sums : (line : ℕ) → line < size_of m kind
-      → slice_index tallies.sums.items line ≡ tally weight marks (cross_size m kind) (turned (is_passed m row column) kind line)
+pub record AreTallies (m : Matrix) (kind : LineKind) (marks : List Bool) (row column : ℕ) (tallies : Tallies) : Type 0 where
+  pub many_counts : length tallies.counts.items ≡ count_of_kind m kind
+  pub many_sums : length tallies.sums.items ≡ count_of_kind m kind
+  pub counts : (line : ℕ) → line < count_of_kind m kind
+      → slice_index tallies.counts.items line ≡ tally (λ _. 1) marks (cross_size m kind) (by_kind (is_passed m row column) kind line)
+  pub sums : (line : ℕ) → line < count_of_kind m kind
+      → slice_index tallies.sums.items line ≡ tally weight marks (cross_size m kind) (by_kind (is_passed m row column) kind line)

@@ -4,15 +4,15 @@ ghost use Rattle.std.specs.List.{remove};
 ghost use Rattle.cmr_base.specs.Matrix.{entry, IsMatrix};
 ghost use Rattle.cmr_base.specs.LineSets.{AllBelow};
 ghost use Rattle.sp_reduce.specs.Kinds.{cross_size, table};
-ghost use Rattle.sp_reduce.specs.Sides.{IsParallel, IsSide, IsAcross, IsCounted, IsSettled};
-ghost use Rattle.sp_reduce.specs.Changes.{IsBefore, IsCutAt, IsHeld, IsHeldAt, HasForgotten, IsSameAt, IsForgetting, IsUnsettled};
+ghost use Rattle.sp_reduce.specs.Sides.{IsParallel, IsSide, IsAcross, AreNonzerosCounted, IsSettled};
+ghost use Rattle.sp_reduce.specs.Changes.{WasRightBefore, IsRemovedAt, IsHeld, IsHeldAt, HasForgotten, IsSameAt, IsForgetting, IsUnsettled};
 
-use crate::kind::{is_nonzero, number_of};
-use crate::side::Side;
+use crate::kind::{index_of_line, is_nonzero};
+use crate::side::StayingLines;
 use crate::tallies::weight;
 use cmr_base::{Matrix, Reason};
 
-impl Side {
+impl StayingLines {
     // A crossing line is gone for this reason. These are left.
     pub fn renew(
         &mut self,
@@ -24,16 +24,16 @@ impl Side {
     )
         requires shape { IsMatrix matrix.now }
         requires side { IsSide matrix.now self.old }
-        requires before { IsBefore binary matrix.now self.old across.now gone reason }
+        requires before { WasRightBefore binary matrix.now self.old across.now gone reason }
         ensures kind { self.new.kind ≡ self.old.kind }
         ensures stays { self.new.stays.items ≡ self.old.stays.items }
         ensures side { IsSide matrix.now self.new }
-        ensures counted { IsCounted matrix.now self.new across.now }
+        ensures counted { AreNonzerosCounted matrix.now self.new across.now }
         ensures settled { IsSettled binary matrix.now self.new across.now }
     {
         self.forget(matrix, gone);
         if let Reason::Unit(line) = reason {
-            if let Some(place) = self.place_of(number_of(line)) {
+            if let Some(place) = self.place_of(index_of_line(line)) {
                 self.unsettle(matrix, place, across, binary);
             }
         }
@@ -53,7 +53,7 @@ impl Side {
         requires place { place < length self.old.stays.items }
         requires parallel { IsParallel self.old }
         ensures line { result ≡ slice_index self.old.stays.items place }
-        ensures cut { IsCutAt place self.old self.new }
+        ensures cut { IsRemovedAt place self.old self.new }
     {
         self.counts.remove(place);
         self.sums.remove(place);
@@ -102,7 +102,7 @@ impl Side {
     pub fn unsettle(&mut self, matrix: &Matrix, changed: usize, across: &[u32], binary: bool)
         requires side { IsSide matrix.now self.old }
         requires across { IsAcross matrix.now self.old.kind across.now }
-        requires counted { IsCounted matrix.now self.old across.now }
+        requires counted { AreNonzerosCounted matrix.now self.old across.now }
         requires changed { changed < length self.old.stays.items }
         ensures same { self.new ≡ record self.old { settled = self.new.settled } }
         ensures long { length self.new.settled.items ≡ length self.old.stays.items }
@@ -124,7 +124,7 @@ impl Side {
     )
         requires side { IsSide matrix.now self.old }
         requires across { IsAcross matrix.now self.old.kind across.now }
-        requires counted { IsCounted matrix.now self.old across.now }
+        requires counted { AreNonzerosCounted matrix.now self.old across.now }
         requires changed { changed < length self.old.stays.items }
         requires place { place < length self.old.stays.items }
         ensures same { self.new ≡ record self.old { settled = self.new.settled } }

@@ -4,43 +4,43 @@ ghost use Rattle.std.specs.Ordering.{int_eq};
 ghost use Rattle.cmr_base.specs.Matrix.{entry, is_nonzero, IsEntry};
 ghost use Rattle.cmr_base.specs.LineSets.{AllBelow};
 ghost use Rattle.cmr_base.specs.Reductions.{nonzeros_at, equal_at};
-ghost use Rattle.sp_reduce.specs.Kinds.{number_of, line_named, cross_named, other_kind, own_line, size_of, cross_size, table};
+ghost use Rattle.sp_reduce.specs.Kinds.{index_of_line, line_named, cross_named, other_kind, own_line, count_of_kind, cross_size, table};
 
 use cmr_base::{Line, Matrix};
 
 #[derive(Clone, Copy, Debug, PartialEq, Eq)]
-pub enum Kind {
+pub enum LineKind {
     Rows,
     Columns,
 }
 
-impl Kind {
+impl LineKind {
     // The line of this kind with a number.
     pub fn line(self, number: u32) -> Line
         ensures { result ≡ line_named self number }
     {
         match self {
-            Kind::Rows => Line::Row(number),
-            Kind::Columns => Line::Column(number),
+            LineKind::Rows => Line::Row(number),
+            LineKind::Columns => Line::Column(number),
         }
     }
 
-    pub fn other(self) -> Kind
+    pub fn other(self) -> LineKind
         ensures { result ≡ other_kind self }
     {
         match self {
-            Kind::Rows => Kind::Columns,
-            Kind::Columns => Kind::Rows,
+            LineKind::Rows => LineKind::Columns,
+            LineKind::Columns => LineKind::Rows,
         }
     }
 
     // How many lines of this kind there are.
     pub fn size(self, matrix: &Matrix) -> u32
-        ensures { result ≡ size_of matrix.now self }
+        ensures { result ≡ count_of_kind matrix.now self }
     {
         match self {
-            Kind::Rows => matrix.rows(),
-            Kind::Columns => matrix.columns(),
+            LineKind::Rows => matrix.rows(),
+            LineKind::Columns => matrix.columns(),
         }
     }
 
@@ -49,8 +49,8 @@ impl Kind {
         ensures { result ≡ own_line self row column }
     {
         match self {
-            Kind::Rows => row,
-            Kind::Columns => column,
+            LineKind::Rows => row,
+            LineKind::Columns => column,
         }
     }
 
@@ -59,14 +59,14 @@ impl Kind {
         ensures { result ≡ cross_named self number }
     {
         match self {
-            Kind::Rows => Line::Column(number),
-            Kind::Columns => Line::Row(number),
+            LineKind::Rows => Line::Column(number),
+            LineKind::Columns => Line::Row(number),
         }
     }
 }
 
-pub fn number_of(line: Line) -> u32
-    ensures { result ≡ number_of line }
+pub fn index_of_line(line: Line) -> u32
+    ensures { result ≡ index_of_line line }
 {
     match line {
         Line::Row(number) | Line::Column(number) => number,
@@ -74,32 +74,32 @@ pub fn number_of(line: Line) -> u32
 }
 
 // The entry of a line of the kind and a line of the other kind.
-pub fn entry(matrix: &Matrix, kind: Kind, line: u32, other: u32) -> i8
-    requires line { line < size_of matrix.now kind }
+pub fn entry(matrix: &Matrix, kind: LineKind, line: u32, other: u32) -> i8
+    requires line { line < count_of_kind matrix.now kind }
     requires other { other < cross_size matrix.now kind }
     ensures value { result ≡ table (entry matrix.now) kind line other }
     ensures small { IsEntry result }
 {
     match kind {
-        Kind::Rows => matrix.entry(line, other),
-        Kind::Columns => matrix.entry(other, line),
+        LineKind::Rows => matrix.entry(line, other),
+        LineKind::Columns => matrix.entry(other, line),
     }
 }
 
-pub fn is_nonzero(matrix: &Matrix, kind: Kind, line: u32, other: u32) -> bool
-    requires line { line < size_of matrix.now kind }
+pub fn is_nonzero(matrix: &Matrix, kind: LineKind, line: u32, other: u32) -> bool
+    requires line { line < count_of_kind matrix.now kind }
     requires other { other < cross_size matrix.now kind }
     ensures { result ≡ is_nonzero (table (entry matrix.now) kind line other) }
 {
     match kind {
-        Kind::Rows => matrix.is_nonzero(line, other),
-        Kind::Columns => matrix.is_nonzero(other, line),
+        LineKind::Rows => matrix.is_nonzero(line, other),
+        LineKind::Columns => matrix.is_nonzero(other, line),
     }
 }
 
-fn is_equal(matrix: &Matrix, kind: Kind, line: u32, twin: u32, other: u32) -> bool
-    requires line { line < size_of matrix.now kind }
-    requires twin { twin < size_of matrix.now kind }
+fn is_equal(matrix: &Matrix, kind: LineKind, line: u32, twin: u32, other: u32) -> bool
+    requires line { line < count_of_kind matrix.now kind }
+    requires twin { twin < count_of_kind matrix.now kind }
     requires other { other < cross_size matrix.now kind }
     ensures { result ≡ int_eq (table (entry matrix.now) kind twin other)
         (table (entry matrix.now) kind line other) }
@@ -107,9 +107,9 @@ fn is_equal(matrix: &Matrix, kind: Kind, line: u32, twin: u32, other: u32) -> bo
     entry(matrix, kind, twin, other) == entry(matrix, kind, line, other)
 }
 
-fn is_opposite(matrix: &Matrix, kind: Kind, line: u32, twin: u32, other: u32) -> bool
-    requires line { line < size_of matrix.now kind }
-    requires twin { twin < size_of matrix.now kind }
+fn is_opposite(matrix: &Matrix, kind: LineKind, line: u32, twin: u32, other: u32) -> bool
+    requires line { line < count_of_kind matrix.now kind }
+    requires twin { twin < count_of_kind matrix.now kind }
     requires other { other < cross_size matrix.now kind }
     ensures { result ≡ int_eq (table (entry matrix.now) kind twin other)
         (neg_ℤ (table (entry matrix.now) kind line other)) }
@@ -117,8 +117,8 @@ fn is_opposite(matrix: &Matrix, kind: Kind, line: u32, twin: u32, other: u32) ->
     entry(matrix, kind, twin, other) == -entry(matrix, kind, line, other)
 }
 
-pub fn count_nonzeros(matrix: &Matrix, kind: Kind, line: u32, across: &[u32]) -> usize
-    requires line { line < size_of matrix.now kind }
+pub fn count_nonzeros(matrix: &Matrix, kind: LineKind, line: u32, across: &[u32]) -> usize
+    requires line { line < count_of_kind matrix.now kind }
     requires across { AllBelow (cross_size matrix.now kind) across.now }
     ensures { result ≡ nonzeros_at across.now (table (entry matrix.now) kind line) }
 {
@@ -132,9 +132,9 @@ pub fn count_nonzeros(matrix: &Matrix, kind: Kind, line: u32, across: &[u32]) ->
 }
 
 // Whether two lines are equal where they cross these lines.
-pub fn are_equal(matrix: &Matrix, kind: Kind, line: u32, twin: u32, across: &[u32]) -> bool
-    requires line { line < size_of matrix.now kind }
-    requires twin { twin < size_of matrix.now kind }
+pub fn are_equal(matrix: &Matrix, kind: LineKind, line: u32, twin: u32, across: &[u32]) -> bool
+    requires line { line < count_of_kind matrix.now kind }
+    requires twin { twin < count_of_kind matrix.now kind }
     requires across { AllBelow (cross_size matrix.now kind) across.now }
     ensures { result ≡ equal_at across.now (table (entry matrix.now) kind twin)
         (table (entry matrix.now) kind line) }
@@ -148,9 +148,9 @@ pub fn are_equal(matrix: &Matrix, kind: Kind, line: u32, twin: u32, across: &[u3
 }
 
 // Whether each of two lines is the negative of the other where they cross these lines.
-pub fn are_opposite(matrix: &Matrix, kind: Kind, line: u32, twin: u32, across: &[u32]) -> bool
-    requires line { line < size_of matrix.now kind }
-    requires twin { twin < size_of matrix.now kind }
+pub fn are_opposite(matrix: &Matrix, kind: LineKind, line: u32, twin: u32, across: &[u32]) -> bool
+    requires line { line < count_of_kind matrix.now kind }
+    requires twin { twin < count_of_kind matrix.now kind }
     requires across { AllBelow (cross_size matrix.now kind) across.now }
     ensures { result ≡ equal_at across.now (table (entry matrix.now) kind twin)
         (λ other. neg_ℤ (table (entry matrix.now) kind line other)) }

@@ -4,9 +4,9 @@ ghost use Rattle.std.specs.List.{list_any};
 ghost use Rattle.cmr_base.specs.Matrix.{height, entry};
 ghost use Rattle.cmr_base.specs.LineSets.{AllBelow};
 ghost use Rattle.cmr_base.specs.Reductions.{line_reason, HasLine};
-ghost use Rattle.sp_reduce.specs.Kinds.{size_of, cross_size, table, reason_for, is_twin};
+ghost use Rattle.sp_reduce.specs.Kinds.{count_of_kind, cross_size, table, reason_for, is_twin};
 
-use crate::kind::{Kind, are_equal, are_opposite, count_nonzeros};
+use crate::kind::{LineKind, are_equal, are_opposite, count_nonzeros};
 use cmr_base::{Line, LineSet, Matrix};
 
 /// Whether the line is reducible among these lines: where it crosses them it has at most one nonzero, or it equals
@@ -21,21 +21,28 @@ pub fn is_reducible_line(matrix: &Matrix, lines: &LineSet, line: Line, binary: b
     let rows = lines.rows.as_slice();
     let columns = lines.columns.as_slice();
     match line {
-        Line::Row(row) => is_reducible(matrix, Kind::Rows, row, rows, columns, binary),
-        Line::Column(column) => is_reducible(matrix, Kind::Columns, column, columns, rows, binary),
+        Line::Row(row) => is_reducible(matrix, LineKind::Rows, row, rows, columns, binary),
+        Line::Column(column) => is_reducible(
+            matrix,
+            LineKind::Columns,
+            column,
+            columns,
+            rows,
+            binary,
+        ),
     }
 }
 
 fn is_reducible(
     matrix: &Matrix,
-    kind: Kind,
+    kind: LineKind,
     line: u32,
     own: &[u32],
     across: &[u32],
     binary: bool,
 ) -> bool
-    requires line { line < size_of matrix.now kind }
-    requires own { AllBelow (size_of matrix.now kind) own.now }
+    requires line { line < count_of_kind matrix.now kind }
+    requires own { AllBelow (count_of_kind matrix.now kind) own.now }
     requires across { AllBelow (cross_size matrix.now kind) across.now }
     ensures { result ≡ is_some (reason_for binary (entry matrix.now) kind own.now across.now line) }
 {
@@ -45,14 +52,14 @@ fn is_reducible(
 
 fn has_twin(
     matrix: &Matrix,
-    kind: Kind,
+    kind: LineKind,
     line: u32,
     own: &[u32],
     across: &[u32],
     binary: bool,
 ) -> bool
-    requires line { line < size_of matrix.now kind }
-    requires own { AllBelow (size_of matrix.now kind) own.now }
+    requires line { line < count_of_kind matrix.now kind }
+    requires own { AllBelow (count_of_kind matrix.now kind) own.now }
     requires across { AllBelow (cross_size matrix.now kind) across.now }
     ensures { result ≡ list_any
         (is_twin binary (table (entry matrix.now) kind) across.now line)
@@ -69,14 +76,14 @@ fn has_twin(
 // Whether it is another line that equals this one, or is its negative.
 pub fn is_twin(
     matrix: &Matrix,
-    kind: Kind,
+    kind: LineKind,
     line: u32,
     twin: u32,
     across: &[u32],
     binary: bool,
 ) -> bool
-    requires line { line < size_of matrix.now kind }
-    requires twin { twin < size_of matrix.now kind }
+    requires line { line < count_of_kind matrix.now kind }
+    requires twin { twin < count_of_kind matrix.now kind }
     requires across { AllBelow (cross_size matrix.now kind) across.now }
     ensures { result ≡ is_twin binary (table (entry matrix.now) kind) across.now line twin }
 {

@@ -4,13 +4,13 @@ ghost use Rattle.std.specs.List.Sorted.{IsStrictlyIncreasing};
 ghost use Rattle.cmr_base.specs.Matrix.{height, entry, IsMatrix};
 ghost use Rattle.cmr_base.specs.LineSets.{AllBelow, without};
 ghost use Rattle.cmr_base.specs.Reductions.{first_step, lines_of, rows_without, columns_without, removal, removal_on};
-ghost use Rattle.sp_reduce.specs.declared.kind.Kind.TheVariants.{Rows};
-ghost use Rattle.sp_reduce.specs.Kinds.{number_of, line_named};
+ghost use Rattle.sp_reduce.specs.declared.kind.LineKind.TheVariants.{Rows};
+ghost use Rattle.sp_reduce.specs.Kinds.{index_of_line, line_named};
 ghost use Rattle.sp_reduce.specs.Sides.{first_step_of};
 ghost use Rattle.sp_reduce.specs.Changes.{ArePaired};
 
-use crate::kind::Kind;
-use crate::side::Side;
+use crate::kind::LineKind;
+use crate::side::StayingLines;
 use cmr_base::{Indices, LineSet, Matrix, Memory, Step, StepList};
 use std::alloc::Global;
 
@@ -56,8 +56,14 @@ pub fn reduce_lines(
 {
     let row_numbers = lines.rows.as_slice();
     let column_numbers = lines.columns.as_slice();
-    let mut rows = Side::new(alloc, matrix, Kind::Rows, row_numbers, column_numbers)?;
-    let mut columns = Side::new(alloc, matrix, Kind::Columns, column_numbers, row_numbers)?;
+    let mut rows = StayingLines::new(alloc, matrix, LineKind::Rows, row_numbers, column_numbers)?;
+    let mut columns = StayingLines::new(
+        alloc,
+        matrix,
+        LineKind::Columns,
+        column_numbers,
+        row_numbers,
+    )?;
     let mut steps = StepList::new(alloc);
     'steps: while let Some(step) = next_step(matrix, &mut rows, &mut columns, binary) {
         steps.push(step)?;
@@ -70,7 +76,12 @@ pub fn reduce_lines(
 }
 
 // The next step of the stated order, which is made.
-fn next_step(matrix: &Matrix, rows: &mut Side, columns: &mut Side, binary: bool) -> Option<Step>
+fn next_step(
+    matrix: &Matrix,
+    rows: &mut StayingLines,
+    columns: &mut StayingLines,
+    binary: bool,
+) -> Option<Step>
     requires shape { IsMatrix matrix.now }
     requires kind { rows.old.kind ≡ Rows }
     requires paired { ArePaired binary matrix.now rows.old columns.old }
@@ -95,14 +106,19 @@ fn next_step(matrix: &Matrix, rows: &mut Side, columns: &mut Side, binary: bool)
 }
 
 // The first reducible line of one side goes.
-fn remove_first(matrix: &Matrix, own: &mut Side, across: &mut Side, binary: bool) -> Option<Step>
+fn remove_first(
+    matrix: &Matrix,
+    own: &mut StayingLines,
+    across: &mut StayingLines,
+    binary: bool,
+) -> Option<Step>
     requires shape { IsMatrix matrix.now }
     requires paired { ArePaired binary matrix.now own.old across.old }
     ensures kind { own.new.kind ≡ own.old.kind }
     ensures paired { ArePaired binary matrix.now own.new across.new }
     ensures across { across.new.stays.items ≡ across.old.stays.items }
     ensures named { IfSome result (λ step. step.line ≡ line_named own.old.kind
-        (number_of step.line)) }
+        (index_of_line step.line)) }
     ensures step { MatchOption result
         ((first_step_of binary (entry matrix.now) own.old.kind own.old.stays.items
         across.old.stays.items own.old.stays.items
@@ -111,7 +127,7 @@ fn remove_first(matrix: &Matrix, own: &mut Side, across: &mut Side, binary: bool
         (λ step. (first_step_of binary (entry matrix.now) own.old.kind own.old.stays.items
         across.old.stays.items own.old.stays.items
         ≡ Some step)
-        × (own.new.stays.items ≡ without own.old.stays.items (number_of step.line))) }
+        × (own.new.stays.items ≡ without own.old.stays.items (index_of_line step.line))) }
 {
     let found = own.first_reducible(matrix, &across.stays, binary)?;
     let line = own.remove(found.place);

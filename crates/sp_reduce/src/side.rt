@@ -4,10 +4,10 @@ ghost use Rattle.std.specs.List.Sorted.{IsStrictlyIncreasing};
 ghost use Rattle.cmr_base.specs.Matrix.{entry, is_nonzero, IsMatrix};
 ghost use Rattle.cmr_base.specs.LineSets.{AllBelow};
 ghost use Rattle.cmr_base.specs.Reductions.{nonzeros_at, equal_at, first_equal};
-ghost use Rattle.sp_reduce.specs.Kinds.{size_of, cross_size, table, line_named, reason_for, is_twin};
-ghost use Rattle.sp_reduce.specs.Sides.{weight, weight_at, is_copy, is_negative, twin_reason, may_be_twins, IsAlone, IsParallel, IsSide, IsAcross, IsCounted, IsSettled, IsFirst, first_step_of};
+ghost use Rattle.sp_reduce.specs.Kinds.{count_of_kind, cross_size, table, line_named, reason_for, is_twin};
+ghost use Rattle.sp_reduce.specs.Sides.{weight, weight_at, is_copy, is_negative, twin_reason, may_be_twins, IsAlone, IsParallel, IsSide, IsAcross, AreNonzerosCounted, IsSettled, IsFirstReducible, first_step_of};
 
-use crate::kind::{Kind, are_equal, are_opposite, is_nonzero};
+use crate::kind::{LineKind, are_equal, are_opposite, is_nonzero};
 use crate::tallies::{Tallies, marks_of};
 use cmr_base::{Matrix, Memory, Reason};
 use std::alloc::Global;
@@ -15,8 +15,8 @@ use std::alloc::Global;
 // Each line that stays has the count of its nonzeros in the crossing lines that stay, and the sum of the weights of
 // these crossing lines: lines with different sums are no twins. A settled line is known not to be reducible.
 #[derive(Debug, Drop)]
-pub struct Side {
-    pub kind: Kind,
+pub struct StayingLines {
+    pub kind: LineKind,
     pub stays: Vec<u32>,
     pub counts: Vec<u32>,
     pub sums: Vec<u64>,
@@ -30,23 +30,23 @@ pub struct Found {
     pub reason: Reason,
 }
 
-impl Side {
+impl StayingLines {
     // Counts the nonzeros of some lines in some crossing lines.
     pub fn new(
         alloc: Global,
         matrix: &Matrix,
-        kind: Kind,
+        kind: LineKind,
         stays: &[u32],
         across: &[u32],
-    ) -> Result<Side, Memory>
+    ) -> Result<StayingLines, Memory>
         requires shape { IsMatrix matrix.now }
         requires stays_rise { IsStrictlyIncreasing stays.now }
-        requires stays_in { AllBelow (size_of matrix.now kind) stays.now }
+        requires stays_in { AllBelow (count_of_kind matrix.now kind) stays.now }
         requires across { IsAcross matrix.now kind across.now }
         ensures kind { IfOk result (λ side. side.kind ≡ kind) }
         ensures stays { IfOk result (λ side. side.stays.items ≡ stays.now) }
         ensures side { IfOk result (IsSide matrix.now) }
-        ensures counted { IfOk result (λ side. IsCounted matrix.now side across.now) }
+        ensures counted { IfOk result (λ side. AreNonzerosCounted matrix.now side across.now) }
         ensures settled { IfOk result (λ side. (binary : Bool)
             → IsSettled binary matrix.now side across.now) }
     {
@@ -58,7 +58,7 @@ impl Side {
             counts.push(tallies.counts[*line as usize])?;
             sums.push(tallies.sums[*line as usize])?;
         }
-        Ok(Side {
+        Ok(StayingLines {
             kind,
             stays: Vec::from_slice(alloc, stays)?,
             counts,
@@ -76,13 +76,13 @@ impl Side {
     ) -> Option<Found>
         requires side { IsSide matrix.now self.old }
         requires across { IsAcross matrix.now self.old.kind across.now }
-        requires counted { IsCounted matrix.now self.old across.now }
+        requires counted { AreNonzerosCounted matrix.now self.old across.now }
         requires settled { IsSettled binary matrix.now self.old across.now }
         ensures found { MatchOption result
             (first_step_of binary (entry matrix.now) self.old.kind self.old.stays.items across.now
             self.old.stays.items
             ≡ None)
-            (IsFirst binary matrix.now self.old across.now) }
+            (IsFirstReducible binary matrix.now self.old across.now) }
         ensures same { self.new ≡ record self.old { settled = self.new.settled } }
         ensures long { length self.new.settled.items ≡ length self.old.stays.items }
         ensures settled { IsSettled binary matrix.now self.new across.now }
@@ -105,7 +105,7 @@ impl Side {
     ) -> Option<Reason>
         requires side { IsSide matrix.now self.old }
         requires across { IsAcross matrix.now self.old.kind across.now }
-        requires counted { IsCounted matrix.now self.old across.now }
+        requires counted { AreNonzerosCounted matrix.now self.old across.now }
         requires settled { IsSettled binary matrix.now self.old across.now }
         requires place { place < length self.old.stays.items }
         ensures reason { result ≡ reason_for binary (entry matrix.now) self.old.kind
@@ -125,7 +125,7 @@ impl Side {
     fn reason(&self, matrix: &Matrix, place: usize, across: &[u32], binary: bool) -> Option<Reason>
         requires side { IsSide matrix.now self.now }
         requires across { IsAcross matrix.now self.now.kind across.now }
-        requires counted { IsCounted matrix.now self.now across.now }
+        requires counted { AreNonzerosCounted matrix.now self.now across.now }
         requires place { place < length self.now.stays.items }
         ensures { result ≡ reason_for binary (entry matrix.now) self.now.kind self.now.stays.items
             across.now (slice_index self.now.stays.items place) }
@@ -149,7 +149,7 @@ impl Side {
     ) -> Option<Reason>
         requires side { IsSide matrix.now self.now }
         requires across { IsAcross matrix.now self.now.kind across.now }
-        requires counted { IsCounted matrix.now self.now across.now }
+        requires counted { AreNonzerosCounted matrix.now self.now across.now }
         requires place { place < length self.now.stays.items }
         ensures { result ≡ twin_reason binary (entry matrix.now) self.now.kind self.now.stays.items
             across.now (slice_index self.now.stays.items place) }
@@ -180,7 +180,7 @@ impl Side {
     ) -> Option<Reason>
         requires side { IsSide matrix.now self.now }
         requires across { IsAcross matrix.now self.now.kind across.now }
-        requires counted { IsCounted matrix.now self.now across.now }
+        requires counted { AreNonzerosCounted matrix.now self.now across.now }
         requires place { place < length self.now.stays.items }
         ensures { result ≡ twin_reason binary (entry matrix.now) self.now.kind self.now.stays.items
             across.now (slice_index self.now.stays.items place) }
@@ -198,7 +198,7 @@ impl Side {
     fn first_copy(&self, matrix: &Matrix, place: usize, across: &[u32]) -> Option<u32>
         requires side { IsSide matrix.now self.now }
         requires across { IsAcross matrix.now self.now.kind across.now }
-        requires counted { IsCounted matrix.now self.now across.now }
+        requires counted { AreNonzerosCounted matrix.now self.now across.now }
         requires place { place < length self.now.stays.items }
         ensures { result ≡ find
             (is_copy (table (entry matrix.now) self.now.kind) across.now
@@ -216,7 +216,7 @@ impl Side {
     fn first_negative(&self, matrix: &Matrix, place: usize, across: &[u32]) -> Option<u32>
         requires side { IsSide matrix.now self.now }
         requires across { IsAcross matrix.now self.now.kind across.now }
-        requires counted { IsCounted matrix.now self.now across.now }
+        requires counted { AreNonzerosCounted matrix.now self.now across.now }
         requires place { place < length self.now.stays.items }
         ensures { result ≡ find
             (is_negative (table (entry matrix.now) self.now.kind) across.now
@@ -241,7 +241,7 @@ impl Side {
     ) -> bool
         requires side { IsSide matrix.now self.now }
         requires across { IsAcross matrix.now self.now.kind across.now }
-        requires counted { IsCounted matrix.now self.now across.now }
+        requires counted { AreNonzerosCounted matrix.now self.now across.now }
         requires place { place < length self.now.stays.items }
         requires other { other < length self.now.stays.items }
         ensures { result ≡ is_twin binary (table (entry matrix.now) self.now.kind) across.now
@@ -264,7 +264,7 @@ impl Side {
     fn is_copy(&self, matrix: &Matrix, place: usize, other: usize, across: &[u32]) -> bool
         requires side { IsSide matrix.now self.now }
         requires across { IsAcross matrix.now self.now.kind across.now }
-        requires counted { IsCounted matrix.now self.now across.now }
+        requires counted { AreNonzerosCounted matrix.now self.now across.now }
         requires place { place < length self.now.stays.items }
         requires other { other < length self.now.stays.items }
         ensures { result ≡ is_copy (table (entry matrix.now) self.now.kind) across.now
@@ -283,7 +283,7 @@ impl Side {
     fn is_negative(&self, matrix: &Matrix, place: usize, other: usize, across: &[u32]) -> bool
         requires side { IsSide matrix.now self.now }
         requires across { IsAcross matrix.now self.now.kind across.now }
-        requires counted { IsCounted matrix.now self.now across.now }
+        requires counted { AreNonzerosCounted matrix.now self.now across.now }
         requires place { place < length self.now.stays.items }
         requires other { other < length self.now.stays.items }
         ensures { result ≡ is_negative (table (entry matrix.now) self.now.kind) across.now
@@ -314,8 +314,8 @@ fn has_sum(sums: &[u64], from: usize, to: usize, sum: u64) -> bool
     false
 }
 
-fn first_nonzero(matrix: &Matrix, kind: Kind, line: u32, across: &[u32]) -> Option<u32>
-    requires line { line < size_of matrix.now kind }
+fn first_nonzero(matrix: &Matrix, kind: LineKind, line: u32, across: &[u32]) -> Option<u32>
+    requires line { line < count_of_kind matrix.now kind }
     requires across { AllBelow (cross_size matrix.now kind) across.now }
     ensures { result ≡ find
         (λ other. is_nonzero (table (entry matrix.now) kind line other))

@@ -6,7 +6,7 @@ ghost use Rattle.sp_reduce.specs.Kinds.{cross_size};
 ghost use Rattle.sp_reduce.specs.Sides.{weight};
 ghost use Rattle.sp_reduce.specs.Tallies.{AreMarks, AreTallies, AreWeights};
 
-use crate::kind::Kind;
+use crate::kind::LineKind;
 use cmr_base::{MAX_ROWS, Matrix, Memory};
 use std::alloc::Global;
 
@@ -43,7 +43,7 @@ impl Tallies {
     pub fn new(
         alloc: Global,
         matrix: &Matrix,
-        kind: Kind,
+        kind: LineKind,
         marks: &[bool],
     ) -> Result<Tallies, Memory>
         requires shape { IsMatrix matrix.now }
@@ -62,7 +62,14 @@ impl Tallies {
         Ok(tallies)
     }
 
-    fn add_row(&mut self, matrix: &Matrix, kind: Kind, marks: &[bool], weights: &[u64], row: u32)
+    fn add_row(
+        &mut self,
+        matrix: &Matrix,
+        kind: LineKind,
+        marks: &[bool],
+        weights: &[u64],
+        row: u32,
+    )
         requires shape { IsMatrix matrix.now }
         requires marks { length marks.now ≡ cross_size matrix.now kind }
         requires weights { AreWeights marks.now weights.now }

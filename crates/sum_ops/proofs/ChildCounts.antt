@@ -6,7 +6,7 @@ use Rattle.cmr_base.specs.declared.line.Line.{Line}
 use Rattle.cmr_base.specs.declared.line.Line.TheVariants.{Row, Column}
 use Rattle.cmr_base.specs.declared.line_set.LineSet.{LineSet}
 use Rattle.cmr_base.specs.Members.{IsIn, IsDistinct}
-use Rattle.cmr_base.specs.Separations.{Lines, listed, opposite, is_same_line, with_lines, rows_in, columns_in, count_in, AreEnough}
+use Rattle.cmr_base.specs.Separations.{Lines, listed, opposite, is_same_line, with_lines, rows_in, columns_in, count_lines_in, AreEnough}
 use Rattle.cmr_base.proofs.ListsWithout.{increasing_distinct}
 use Rattle.cmr_base.proofs.RowLists.{eq_of}
 use Rattle.cmr_base.proofs.Lists.{filter_or, filter_same}
@@ -67,7 +67,7 @@ named_few (Column k ∷ more) rows columns dr dc =
     omega arith
 
 -- enough lines are not on a side
-others_enough : (inside : Bool) (side : Lines) (rows columns : List ℕ) (least : ℕ) → AreEnough rows columns side least → least ≤ count_in (opposite (on_side inside side)) rows columns
+others_enough : (inside : Bool) (side : Lines) (rows columns : List ℕ) (least : ℕ) → AreEnough rows columns side least → least ≤ count_lines_in (opposite (on_side inside side)) rows columns
 others_enough true side rows columns least enough = enough.two
 others_enough false side rows columns least enough =
     let a = ap length (filter_same (λ r. not (not (side (Row r)))) (λ r. side (Row r)) (λ r. not_not (side (Row r))) rows) in

@@ -13,7 +13,7 @@ use Rattle.sum_ops.specs.declared.plan.LowerBlock.TheVariants.{Spread as SpreadB
 use Rattle.sum_ops.specs.declared.plan.Plan.{Plan}
 use Rattle.sum_ops.specs.declared.spread.Spread.{Spread}
 use Rattle.sum_ops.specs.Spreads.{spread_entry}
-use Rattle.sum_ops.specs.Plans.{entries_of, upper_block, lower_entry, Fits, LowerFits}
+use Rattle.sum_ops.specs.Plans.{entries_of, upper_block, lower_entry, FitsPlan, LowerFits}
 
 either : (b : Bool) (x : ℤ) → IsEntry x → IsEntry (cond b x (pos 0))
 either true x h = h
@@ -22,7 +22,7 @@ either false x h = zero_is_entry
 spread-zeros : (d x y z w a b : ℤ) → spread d x y z w (pos 0) (pos 0) a b ≡ pos 0
 spread-zeros d x y z w a b = simp products
 
-module _ (plan : Plan) (first second : Matrix) (fits : Fits plan first second) (other : IsMatrix second) where
+module _ (plan : Plan) (first second : Matrix) (fits : FitsPlan plan first second) (other : IsMatrix second) where
   spread_small : (block : Spread) → LowerFits (SpreadBlock block) plan first second → (r c : ℕ) → plan.up ≤ r → c < plan.columns → IsEntry (spread_entry block first second r c)
   spread_small block lower r c from l = elim (cases_lt r (height second)) [
     | inl lt ↦ lower.1 r c from lt l

@@ -2,7 +2,7 @@
 use Rattle.std.specs.Prelude.{◌≤◌, ◌-◌, ℤ, Bool}
 use Rattle.cmr_base.specs.Matrix.{Matrix, height, entry}
 use Rattle.cmr_base.specs.Signing.{IsSign}
-use Rattle.cmr_base.specs.MatrixSums.{connecting_rows, connecting_columns, EndsIn, BeginsWith}
+use Rattle.cmr_base.specs.MatrixSums.{connecting_rows, connecting_columns, EndsIn, BeginsWithConnector}
 
 -- the matrix ends in connecting lines of this kind with this corner
 pub record IsLastCorner (flat : Bool) (m : Matrix) (corner : ℤ) : Type 0 where
@@ -16,7 +16,7 @@ pub record IsFirstCorner (flat : Bool) (m : Matrix) (corner : ℤ) : Type 0 wher
   pub rows : connecting_rows flat ≤ height m
   pub columns : connecting_columns flat ≤ m.width
   pub sign : IsSign corner
-  pub begins : BeginsWith flat corner (height m - connecting_rows flat) (m.width - connecting_columns flat) (entry m)
+  pub begins : BeginsWithConnector flat corner (height m - connecting_rows flat) (m.width - connecting_columns flat) (entry m)
 
 -- the first matrix ends in connecting lines of a kind and the second begins with such lines, with one corner
 pub record HaveOneCorner (last begin : Bool) (first second : Matrix) : Type 0 where

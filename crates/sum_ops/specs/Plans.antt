@@ -7,8 +7,8 @@ use Rattle.sum_ops.specs.declared.plan.LowerBlock.TheVariants.{Zero, Product, Sp
 use Rattle.sum_ops.specs.declared.plan.Plan.{Plan}
 use Rattle.sum_ops.specs.Spreads.{spread_entry, LinesAreThere}
 
-abbrev pub rows_of : Plan → Matrix → ℕ
-rows_of plan second = plan.rows + (height second - plan.up)
+abbrev pub rows_of_sum : Plan → Matrix → ℕ
+rows_of_sum plan second = plan.rows + (height second - plan.up)
 
 abbrev pub columns_of : Plan → Matrix → ℕ
 columns_of plan second = plan.columns + (second.width - plan.left)
@@ -33,7 +33,7 @@ LowerFits (Spread block) plan first second =
     LinesAreThere block first second × ((r c : ℕ) → plan.up ≤ r → r < height second → c < plan.columns → IsEntry (spread_entry block first second r c))
 
 -- the lines that the plan takes are lines of the matrices
-pub record Fits (plan : Plan) (first second : Matrix) : Type 0 where
+pub record FitsPlan (plan : Plan) (first second : Matrix) : Type 0 where
   pub rows : plan.rows ≤ height first
   pub columns : plan.columns ≤ first.width
   pub up : plan.up ≤ height second

@@ -6,7 +6,7 @@ ghost use Rattle.cmr_base.specs.declared.line.Line.TheVariants.{Row, Column};
 ghost use Rattle.cmr_base.specs.Separations.{listed, is_same_line, with_lines, child_one, child_two, connector_lines, first_is_flat, second_is_flat, AreEnough};
 ghost use Rattle.sum_ops.specs.Children.{on_side, on_list, chosen, AreOfChild, HasFewer};
 
-use cmr_base::{Connector, Indices, Line, LineSet, LineSetPair, Memory, Three, Two};
+use cmr_base::{Indices, Line, LineSet, LineSetPair, Memory, Three, Two};
 use std::alloc::Global;
 
 /// The lines of the children of a two-separation of some lines: those of side one with the row of side two, and those of
@@ -47,27 +47,12 @@ pub fn three_parts(alloc: Global, lines: &LineSet, three: &Three) -> Result<Line
     ensures fewer_in_one { IfOk result (λ pair. HasFewer lines.now pair.one) }
     ensures fewer_in_two { IfOk result (λ pair. HasFewer lines.now pair.two) }
 {
-    let first = connector_lines(three.first, three.form.first_is_flat());
-    let second = connector_lines(three.second, three.form.second_is_flat());
+    let first = three.first.lines(three.form.first_is_flat());
+    let second = three.second.lines(three.form.second_is_flat());
     Ok(LineSetPair {
         one: child(alloc, lines, &three.side, true, &second)?,
         two: child(alloc, lines, &three.side, false, &first)?,
     })
-}
-
-fn connector_lines(connector: Connector, flat: bool) -> [Line; 3]
-    ensures { result ≡ connector_lines flat connector }
-{
-    let other = if flat {
-        Line::Column(connector.other)
-    } else {
-        Line::Row(connector.other)
-    };
-    [
-        Line::Row(connector.row),
-        Line::Column(connector.column),
-        other,
-    ]
 }
 
 // The lines of a side, side one where `inside` holds, with some lines more.

@@ -3,7 +3,7 @@ ghost use Rattle.std.specs.Prelude.{◌≡◌, ◌<◌, ◌≤◌, ◌+◌, ◌-
 ghost use Rattle.cmr_base.specs.LineSets.{first_lines};
 ghost use Rattle.cmr_base.specs.Matrix.{height, IsEntry, HasTernaryEntries, IsMatrix};
 ghost use Rattle.cmr_base.specs.MatrixSums.{filled};
-ghost use Rattle.sum_ops.specs.Plans.{Fits, entries_of, lower_entry, rows_of, columns_of};
+ghost use Rattle.sum_ops.specs.Plans.{FitsPlan, entries_of, lower_entry, rows_of_sum, columns_of};
 
 use crate::spread::Spread;
 use cmr_base::{MAX_COLUMNS, MAX_ROWS, Matrix, Memory, product};
@@ -34,10 +34,10 @@ pub struct Plan {
 impl Plan {
     /// The matrix of the four blocks.
     pub fn sum(self, alloc: Global, first: &Matrix, second: &Matrix) -> Result<Matrix, Memory>
-        requires fits { Fits self first.now second.now }
-        requires rows { rows_of self second.now ≤ MAX_ROWS }
+        requires fits { FitsPlan self first.now second.now }
+        requires rows { rows_of_sum self second.now ≤ MAX_ROWS }
         requires columns { columns_of self second.now ≤ MAX_COLUMNS }
-        ensures blocks { IfOk result (λ sum. sum ≡ filled (rows_of self second.now)
+        ensures blocks { IfOk result (λ sum. sum ≡ filled (rows_of_sum self second.now)
             (columns_of self second.now) (entries_of self first.now second.now)) }
         ensures small { IfOk result HasTernaryEntries }
     {
@@ -58,9 +58,9 @@ impl Plan {
         columns: u32,
         cells: &mut Vec<i8>,
     ) -> Result<(), Memory>
-        requires fits { Fits self first.now second.now }
+        requires fits { FitsPlan self first.now second.now }
         requires second { IsMatrix second.now }
-        requires row { row < rows_of self second.now }
+        requires row { row < rows_of_sum self second.now }
         requires columns { columns ≡ columns_of self second.now }
         ensures { OnOk result (cells.new.items
             ≡ cells.old.items
@@ -73,9 +73,9 @@ impl Plan {
     }
 
     fn entry(self, first: &Matrix, second: &Matrix, row: u32, column: u32) -> i8
-        requires fits { Fits self first.now second.now }
+        requires fits { FitsPlan self first.now second.now }
         requires second { IsMatrix second.now }
-        requires row { row < rows_of self second.now }
+        requires row { row < rows_of_sum self second.now }
         requires column { column < columns_of self second.now }
         ensures value { result ≡ entries_of self first.now second.now row column }
         ensures small { IsEntry result }
@@ -102,7 +102,7 @@ impl Plan {
     }
 
     fn lower_entry(self, first: &Matrix, second: &Matrix, row: u32, column: u32) -> i8
-        requires fits { Fits self first.now second.now }
+        requires fits { FitsPlan self first.now second.now }
         requires second { IsMatrix second.now }
         requires from { self.up ≤ row }
         requires row { row < height second.now }

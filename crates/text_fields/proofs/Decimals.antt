@@ -8,13 +8,13 @@ use Rattle.std.proofs.lemmas.Fmt.{digits_decimal, digits_value-decimal, decimal_
 use Rattle.std.proofs.lemmas.Str.Parse.{IsNumeralModel, numerals_by_fold}
 use Rattle.std.proofs.lemmas.Bool.Decides.{nat_tests}
 use Rattle.text_fields.specs.Words.{is_space}
-use Rattle.text_fields.specs.Numbers.{number_of, count_in}
+use Rattle.text_fields.specs.Numbers.{number_of_digits, count_in}
 use Rattle.text_fields.proofs.LineWords.{IsSolid, IsWord}
 
 abbrev read_on : ℕ → List ℕ → ℕ
 read_on n digits = fold (λ n digit. 10 * n + (digit - 48)) n digits
 
-own : IsNumeralModel (λ digits. list_all is_ascii_digit digits ≡ true) number_of
+own : IsNumeralModel (λ digits. list_all is_ascii_digit digits ≡ true) number_of_digits
 own = numerals_by_fold _ (search rules) read_on (search rules)
 
 digit_solid : (b : ℕ) → is_ascii_digit b ≡ true → is_space b ≡ false
@@ -34,12 +34,12 @@ decimal_word n small = go (decimal n) (decimal_nonempty n small) (digits_decimal
     go [] some all = absurd (omega arith)
     go (b ∷ digits) some all = record { first = b; others = digits; word_is = refl; solid = digits_solid (b ∷ digits) all }
 
-count_of_digits : (digits : List ℕ) → 0 < length digits → list_all is_ascii_digit digits ≡ true → number_of digits < 2 ^ 31 → count_in digits ≡ Ok (number_of digits)
+count_of_digits : (digits : List ℕ) → 0 < length digits → list_all is_ascii_digit digits ≡ true → number_of_digits digits < 2 ^ 31 → count_in digits ≡ Ok (number_of_digits digits)
 count_of_digits [] some all small = absurd (omega arith)
 count_of_digits (b ∷ digits) some all small =
     let first : is_ascii_digit b ≡ true = grind (arith, all) in
     let no_plus : eqb b 43 ≡ false = grind (arith, nat_tests) in
-    let below : ltb (number_of (b ∷ digits)) (2 ^ 31) ≡ true = grind (arith, nat_tests) in
+    let below : ltb (number_of_digits (b ∷ digits)) (2 ^ 31) ≡ true = grind (arith, nat_tests) in
     rw (no_plus, all, below) refl
 
 -- a count is read as it was written

@@ -7,15 +7,15 @@ use Rattle.text_fields.specs.declared.error.NumberFault.TheVariants.{NotNumber, 
 use Rattle.text_fields.specs.Result.{◌>>=◌}
 
 -- the number that decimal digits spell
-abbrev pub number_of : List ℕ → ℕ
-number_of digits = fold (λ n digit. 10 * n + (digit - 48)) 0 digits
+abbrev pub number_of_digits : List ℕ → ℕ
+number_of_digits digits = fold (λ n digit. 10 * n + (digit - 48)) 0 digits
 
 -- one or more digits of a number below 2^31
 abbrev pub magnitude : List ℕ → Result ℕ NumberFault
 magnitude [] = Err NotNumber
 magnitude (digit ∷ digits) =
     if list_all is_ascii_digit (digit ∷ digits)
-    then (if nat_lt (number_of (digit ∷ digits)) (2 ^ 31) then Ok (number_of (digit ∷ digits)) else Err TooBig)
+    then (if nat_lt (number_of_digits (digit ∷ digits)) (2 ^ 31) then Ok (number_of_digits (digit ∷ digits)) else Err TooBig)
     else Err NotNumber
 
 -- without a leading plus

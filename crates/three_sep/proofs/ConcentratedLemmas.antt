@@ -22,7 +22,7 @@ use Rattle.cmr_base.proofs.SeedLemmas.{good_three_seed, three_separation_of_seed
 use Rattle.cuts.specs.declared.corners.Corners.{Corners}
 use Rattle.cuts.specs.Cuts.{AreInside}
 use Rattle.cuts.proofs.CutLemmas.{lower_at, upper_at}
-use Rattle.line_growth.specs.declared.rule.Rule.{Rule}
+use Rattle.line_growth.specs.declared.rule.GrowthRule.{GrowthRule}
 use Rattle.line_growth.specs.GrowingSets.{IsClosedIn}
 use Rattle.line_growth.specs.Rules.{IsRuleOf, lower_of, upper_of}
 use Rattle.three_sep.specs.declared.connectors.Connectors.{Connectors}
@@ -116,7 +116,7 @@ module _ (m : Matrix) (a b : Connector) (x : Line) (S : Lines) (good : IsGoodThr
         none (seed_at Concentrated d y) T (refl, (refl, (refl, (refl, (refl, (refl, (refl, tt))))))) other
 
     -- a column that a row of column j pulls in is in side two
-    none_pulled : (rule : Rule) (candidates : List ℕ) (row : ℕ) → lower_of m rule ≡ spread_at (entry m) d.first d.second → row < height m → entry m row d.second.column ≢ pos 0
+    none_pulled : (rule : GrowthRule) (candidates : List ℕ) (row : ℕ) → lower_of m rule ≡ spread_at (entry m) d.first d.second → row < height m → entry m row d.second.column ≢ pos 0
         → (pulled : IsPulled m rule candidates row) → S (Column pulled.column) ≡ true → ⊥
     none_pulled rule candidates row lower inside nonzero pulled column_one =
         pulled.unlike (lower_at m closed_elsewhere row pulled.column inside pulled.inside (rows_two row d.second.column inside pair.second_lines.1.0 column_two nonzero) column_one
@@ -134,7 +134,7 @@ module _ (m : Matrix) where
       true_is (S (Column d.second.column)) (λ out. some_elsewhere m s.pair.first s.pair.second s.line S (concentrated_seed s S ef g) d pair row_one out none)
 
   -- a row of column j pulls in a column that is in side one with row i
-  pub none_past : (d : Connectors) (rule : Rule) (candidates : List ℕ) (row : ℕ) → IsConnectorPair (height m) m.width (entry m) Concentrated d.first d.second → lower_of m rule ≡ spread_at (entry m) d.first d.second
+  pub none_past : (d : Connectors) (rule : GrowthRule) (candidates : List ℕ) (row : ℕ) → IsConnectorPair (height m) m.width (entry m) Concentrated d.first d.second → lower_of m rule ≡ spread_at (entry m) d.first d.second
       → AreCandidates m d.first.row candidates → row < height m → entry m row d.second.column ≢ pos 0 → IsPulled m rule candidates row → HasNoneBetween m d.first.row d.second.column
   none_past d rule candidates row pair lower are inside nonzero pulled s S ef g row_one =
       true_is (S (Column d.second.column)) (λ out.
@@ -209,7 +209,7 @@ pair_of m c q o inside corners lq lo column row = record {
   second_lines = (inside.row_two, (inside.column_two, (lo, tt)));
 }
 
-pub spread_connectors : (m : Matrix) (rule : Rule) (d : Connectors) → IsConnectorPair (height m) m.width (entry m) Concentrated d.first d.second → IsRuleOf m rule → upper_of m rule ≡ zeros → lower_of m rule ≡ spread_at (entry m) d.first d.second → AreConnectorsOf m Concentrated rule d
+pub spread_connectors : (m : Matrix) (rule : GrowthRule) (d : Connectors) → IsConnectorPair (height m) m.width (entry m) Concentrated d.first d.second → IsRuleOf m rule → upper_of m rule ≡ zeros → lower_of m rule ≡ spread_at (entry m) d.first d.second → AreConnectorsOf m Concentrated rule d
 spread_connectors m rule d pair inside upper lower = record { pair = pair; inside = inside; upper = upper; lower = lower }
 
 -- ---- candidates

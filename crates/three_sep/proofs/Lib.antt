@@ -4,5 +4,4 @@ pub mod SearchLemmas
 pub mod SideLemmas
 pub mod SeedForms
 pub mod HeldLemmas
-pub mod TurnedLines
 pub mod ConcentratedLemmas

@@ -16,7 +16,7 @@ use Rattle.cmr_base.proofs.SeedLemmas.{three_separation_of_seed}
 use Rattle.cuts.specs.declared.corners.Corners.{Corners}
 use Rattle.cuts.specs.Cuts.{AreInside}
 use Rattle.cuts.proofs.CutLemmas.{other_closed, other_enough}
-use Rattle.line_growth.specs.declared.rule.Rule.{Rule}
+use Rattle.line_growth.specs.declared.rule.GrowthRule.{GrowthRule}
 use Rattle.line_growth.specs.GrowingSets.{HasNoLeaving, HasNone, IsClosedIn, IsLeaving, Leaves}
 use Rattle.line_growth.specs.Rules.{IsRuleOf, exchanged, lower_of, upper_of}
 use Rattle.three_sep.specs.declared.connectors.Connectors.{Connectors}
@@ -28,7 +28,7 @@ use Rattle.three_sep.proofs.SearchLemmas.{first_has, second_out, seed_at, seed_f
 
 -- ---- separations that do not exist
 
-module _ (m : Matrix) (rule : Rule) (first second : List Line) where
+module _ (m : Matrix) (rule : GrowthRule) (first second : List Line) where
   pub none_leaving : HasNoLeaving m rule first second 4 → HasNoneParting m rule first second
   none_leaving none T closed has out enough = none T closed has (record { none = out; enough = enough.two })
 
@@ -53,7 +53,7 @@ module _ (m : Matrix) (rule : Rule) (first second : List Line) where
 
 -- ---- seeds
 
-module _ (m : Matrix) (form : Form) (rule : Rule) (d : Connectors) (are : AreConnectorsOf m form rule d) where
+module _ (m : Matrix) (form : Form) (rule : GrowthRule) (d : Connectors) (are : AreConnectorsOf m form rule d) where
   module _ (x : Line) (S : Lines) (good : IsGoodSeed m (seed_at form d x) S) where
     closed : IsClosedIn m (upper_of m rule) (lower_of m rule) S
     closed = subst (λ (u : ℕ → ℕ → ℤ). IsClosedIn m u (lower_of m rule) S) (sym are.upper) (subst (λ (l : ℕ → ℕ → ℤ). IsClosedIn m (upper_block (entry m) form d.first d.second) l S) (sym are.lower) good.1.grown.closed)

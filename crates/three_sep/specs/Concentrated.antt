@@ -9,7 +9,7 @@ use Rattle.cmr_base.specs.Signing.{IsSign}
 use Rattle.cmr_base.specs.Separations.{Lines, zeros, spread_at, core_determinant}
 use Rattle.cmr_base.specs.Seeds.{IsConnectorPair}
 use Rattle.cuts.specs.declared.corners.Corners.{Corners}
-use Rattle.line_growth.specs.declared.rule.Rule.{Rule}
+use Rattle.line_growth.specs.declared.rule.GrowthRule.{GrowthRule}
 use Rattle.line_growth.specs.GrowingSets.{IsClosedIn}
 use Rattle.line_growth.specs.Rules.{lower_of}
 use Rattle.three_sep.specs.declared.connectors.Connectors.{Connectors}
@@ -69,7 +69,7 @@ pub record AreCandidates (m : Matrix) (i : ℕ) (candidates : List ℕ) : Type 0
   pub others : (j : ℕ) → j < m.width → has_column candidates j ≡ false → HasNoneBetween m i j
 
 -- the row pulls in a column that is no candidate
-pub record IsPulled (m : Matrix) (rule : Rule) (candidates : List ℕ) (row : ℕ) : Type 0 where
+pub record IsPulled (m : Matrix) (rule : GrowthRule) (candidates : List ℕ) (row : ℕ) : Type 0 where
   pub column : ℕ
   pub inside : column < m.width
   pub passed : has_column candidates column ≡ false

@@ -10,7 +10,7 @@ use Rattle.cmr_base.specs.Separations.{AreEnough, Lines, connector_lines, first_
 use Rattle.cmr_base.specs.Seeds.{HasAll, IsConnectorPair, IsLine}
 use Rattle.cuts.specs.declared.corners.Corners.{Corners}
 use Rattle.line_growth.specs.declared.rule.Block.TheVariants.{Product}
-use Rattle.line_growth.specs.declared.rule.Rule.{Rule}
+use Rattle.line_growth.specs.declared.rule.GrowthRule.{GrowthRule}
 use Rattle.line_growth.specs.GrowingSets.{HasNone, IsClosedIn}
 use Rattle.line_growth.specs.Rules.{IsRuleOf, lower_of, upper_of}
 use Rattle.three_sep.specs.declared.connectors.Connectors.{Connectors}
@@ -27,7 +27,7 @@ abbrev pub seconds : Form → Connectors → List Line
 seconds form d = connector_lines (second_is_flat form) d.second
 
 -- the rule of two products
-abbrev pub rule_of : Corners → Rule
+abbrev pub rule_of : Corners → GrowthRule
 rule_of c = record { upper = Product (record { row = c.i; column = c.j }); lower = Product (record { row = c.k; column = c.p }) }
 
 -- of the concentrated form: the lines are in the matrix
@@ -36,7 +36,7 @@ pub record ArePlaced (m : Matrix) (d : Connectors) : Type 0 where
   pub second : AllByRecursion (IsLine (height m) m.width) (seconds Concentrated d)
 
 -- two connectors of a form, and the rule of its blocks
-pub record AreConnectorsOf (m : Matrix) (form : Form) (rule : Rule) (d : Connectors) : Type 0 where
+pub record AreConnectorsOf (m : Matrix) (form : Form) (rule : GrowthRule) (d : Connectors) : Type 0 where
   pub pair : IsConnectorPair (height m) m.width (entry m) form d.first d.second
   pub inside : IsRuleOf m rule
   pub upper : upper_of m rule ≡ upper_block (entry m) form d.first d.second
@@ -46,5 +46,5 @@ abbrev pub all_front : Form → Connectors → List ℕ
 all_front form d = corner_front form (corners_of d) ++ d.first.other ∷ d.second.other ∷ []
 
 -- no set that is closed by the rule has some lines and none of others, with four lines or more on each side
-abbrev pub HasNoneParting : Matrix → Rule → (first second : List Line) → Type 0
+abbrev pub HasNoneParting : Matrix → GrowthRule → (first second : List Line) → Type 0
 HasNoneParting m rule first second = (T : Lines) → IsClosedIn m (upper_of m rule) (lower_of m rule) T → HasAll T first → HasNone T second → ¬ (AreEnough (first_lines (height m)) (first_lines m.width) T 4)

@@ -7,7 +7,7 @@ ghost use Rattle.three_sep.specs.Connectors.{ArePlaced, connectors_at, rule_of};
 
 use cmr_base::{Connector, RowsAndColumns};
 use cuts::Corners;
-use line_growth::{Block, Place, Rule, SpreadLines};
+use line_growth::{Block, GrowthRule, Place, SpreadLines};
 
 /// Two connectors.
 #[derive(Clone, Copy)]
@@ -37,7 +37,7 @@ impl Connectors {
     }
 
     /// The rule of the concentrated form: nothing above, and below what the columns p and q and the rows k and o make.
-    pub fn spread_rule(&self, matrix: &RowsAndColumns<'_>) -> Rule
+    pub fn spread_rule(&self, matrix: &RowsAndColumns<'_>) -> GrowthRule
         requires { ArePlaced matrix.now self.now }
         ensures rule { IsRuleOf matrix.now result }
         ensures upper { upper_of matrix.now result ≡ zeros }
@@ -46,7 +46,7 @@ impl Connectors {
     {
         let Connectors { first, second } = *self;
         let lines = SpreadLines::at(matrix, second.row, second.other, first.column, first.other);
-        Rule {
+        GrowthRule {
             upper: Block::Zero,
             lower: Block::Spread(lines),
         }
@@ -54,11 +54,11 @@ impl Connectors {
 }
 
 /// The rule of the other forms: both blocks are products.
-pub fn rule_at(corners: &Corners) -> Rule
+pub fn rule_at(corners: &Corners) -> GrowthRule
     ensures { result ≡ rule_of corners.now }
 {
     let Corners { i, p, k, j } = *corners;
-    Rule {
+    GrowthRule {
         upper: Block::Product(Place { row: i, column: j }),
         lower: Block::Product(Place { row: k, column: p }),
     }

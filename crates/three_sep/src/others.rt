@@ -2,7 +2,7 @@
 ghost use Rattle.std.specs.Prelude.{◌≡◌, ◌≢◌, ◌<◌, ◌↔◌, pos, true, false, IsTrue};
 ghost use Rattle.cmr_base.specs.Matrix.{height, entry, IsMatrix};
 ghost use Rattle.cmr_base.specs.declared.line.Line.TheVariants.{Row, Column};
-ghost use Rattle.cmr_base.specs.Separations.{IsTied, connector_lines, first_is_flat, second_is_flat};
+ghost use Rattle.cmr_base.specs.Separations.{IsTied, first_is_flat, second_is_flat};
 ghost use Rattle.cmr_base.specs.Seeds.{IsLine};
 ghost use Rattle.three_sep.specs.NumberedSeeds.{IsBeside};
 ghost use Rattle.cuts.specs.Cuts.{AreInside, HasNames, name_of};
@@ -32,18 +32,6 @@ pub fn line_of(flat: bool, other: u32) -> Line
         Line::Column(other)
     } else {
         Line::Row(other)
-    }
-}
-
-/// The lines of a connector.
-pub fn connector_lines(connector: Connector, flat: bool) -> [Line; 3]
-    ensures { result ≡ connector_lines flat connector }
-{
-    let Connector { row, column, other } = connector;
-    if flat {
-        [Line::Row(row), Line::Column(column), Line::Column(other)]
-    } else {
-        [Line::Row(row), Line::Column(column), Line::Row(other)]
     }
 }
 

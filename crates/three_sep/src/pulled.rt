@@ -10,7 +10,7 @@ ghost use Rattle.three_sep.specs.Concentrated.{AreCandidates, HasNoneBetween, Is
 use crate::connectors::Connectors;
 use cmr_base::RowsAndColumns;
 use cmr_base::columns::has_column;
-use line_growth::Rule;
+use line_growth::GrowthRule;
 
 /// Whether column j is shown to be in side one with row i, by two connectors that have these: a row that is not 0 in it pulls a
 /// column into side two that is no candidate.
@@ -40,7 +40,7 @@ pub fn is_in_side_one(
 }
 
 // Whether a row pulls in a column in which it is not 0, and which is no candidate.
-fn pulls_other(matrix: &RowsAndColumns<'_>, rule: Rule, candidates: &[u64], row: u32) -> bool
+fn pulls_other(matrix: &RowsAndColumns<'_>, rule: GrowthRule, candidates: &[u64], row: u32) -> bool
     requires rule { IsRuleOf matrix.now rule }
     requires candidates { length candidates.now ≡ words_for matrix.now.width }
     requires row { row < height matrix.now }

@@ -11,8 +11,7 @@ ghost use Rattle.three_sep.specs.Searches.{HasCorners, HasNoGood, HoldsFirst, Is
 use crate::concentrated::first_concentrated;
 use crate::connectors::{Connectors, rule_at};
 use crate::others::{
-    connector_lines, count_of, is_first_other, is_second_other, line_of, may_have_columns,
-    may_have_rows,
+    count_of, is_first_other, is_second_other, line_of, may_have_columns, may_have_rows,
 };
 use crate::sides::{first_of_lines, leaves, may_part};
 use cmr_base::{Connector, Form, Line, Matrix, Memory, RowsAndColumns, Three};
@@ -288,7 +287,7 @@ impl Search {
             column: p,
             other: q,
         };
-        let first = connector_lines(connector, form.first_is_flat());
+        let first = connector.lines(form.first_is_flat());
         let second = [Line::Row(k), Line::Column(j)];
         let held = leaves(matrix, &mut self.side, rule_at(corners), &first, &second)?;
         Ok(held)

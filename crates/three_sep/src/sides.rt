@@ -11,10 +11,10 @@ ghost use Rattle.three_sep.specs.NumberedSeeds.{HasLines};
 ghost use Rattle.three_sep.specs.Searches.{HasNoGood, IsFirstOf};
 
 use crate::connectors::Connectors;
-use crate::others::{connector_lines, is_beside};
+use crate::others::is_beside;
 use cmr_base::{Form, Line, Memory, RowsAndColumns, Three};
 use cuts::LEAST_SIDE;
-use line_growth::{GrowingSet, Rule, line_at};
+use line_growth::{GrowingSet, GrowthRule, line_at};
 use std::alloc::Global;
 
 /// How many rows are tried.
@@ -24,7 +24,7 @@ const TRIES: u32 = 3;
 pub fn leaves(
     matrix: &RowsAndColumns<'_>,
     side: &mut GrowingSet,
-    rule: Rule,
+    rule: GrowthRule,
     first: &[Line],
     second: &[Line],
 ) -> Result<bool, Memory>
@@ -47,7 +47,7 @@ pub fn leaves(
 fn leaves_with(
     matrix: &RowsAndColumns<'_>,
     side: &mut GrowingSet,
-    rule: Rule,
+    rule: GrowthRule,
     first: &[Line],
     second: &[Line],
     line: Line,
@@ -72,7 +72,7 @@ fn leaves_beside(
     matrix: &RowsAndColumns<'_>,
     side: &GrowingSet,
     grown: &mut GrowingSet,
-    rule: Rule,
+    rule: GrowthRule,
     second: &[Line],
     line: Line,
 ) -> Result<bool, Memory>
@@ -97,7 +97,7 @@ fn leaves_beside(
 pub fn may_part(
     matrix: &RowsAndColumns<'_>,
     side: &mut GrowingSet,
-    rule: Rule,
+    rule: GrowthRule,
     first: &[Line],
     second: &[Line],
 ) -> Result<bool, Memory>
@@ -140,7 +140,7 @@ fn has_row(lines: &[Line], row: u32) -> bool {
 fn is_refused(
     matrix: &RowsAndColumns<'_>,
     side: &mut GrowingSet,
-    rule: Rule,
+    rule: GrowthRule,
     first: &[Line],
     second: &[Line],
     line: Line,
@@ -171,7 +171,7 @@ pub fn first_of_lines(
     side: &GrowingSet,
     grown: &mut GrowingSet,
     form: Form,
-    rule: Rule,
+    rule: GrowthRule,
     connectors: &Connectors,
 ) -> Result<Option<Three>, Memory>
     requires room { HasRoom matrix.now side.now }
@@ -185,7 +185,7 @@ pub fn first_of_lines(
     ensures none { IfOk result (λ answer.
         IfNone answer (HasNoGood matrix.now (all_front form connectors.now))) }
 {
-    let second = connector_lines(connectors.second, form.second_is_flat());
+    let second = connectors.second.lines(form.second_is_flat());
     for place in 0..matrix.rows() + matrix.columns() {
         let line = line_at(matrix, place);
         if is_beside(form, connectors, line)

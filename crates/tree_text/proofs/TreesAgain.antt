@@ -16,7 +16,7 @@ use Rattle.cmr_base.specs.declared.network.Pair.{Pair}
 use Rattle.cmr_base.specs.declared.separation.Connector.{Connector}
 use Rattle.cmr_base.specs.declared.separation.Two.{Two}
 use Rattle.cmr_base.specs.declared.separation.Three.{Three}
-use Rattle.pivots.specs.declared.place.PivotPlace.{PivotPlace}
+use Rattle.pivots.specs.declared.place.PlacedPivot.{PlacedPivot}
 use Rattle.cmr_base.specs.declared.separation.Form.TheVariants.{Delta, YForm, Mixed, Concentrated}
 use Rattle.cmr_base.specs.LineSets.{AllBelow}
 use Rattle.cmr_base.specs.Reductions.{HasLine}
@@ -31,8 +31,8 @@ use Rattle.text_fields.specs.Reading.{field, times, fields, another}
 use Rattle.text_fields.specs.Spelling.{texts_of}
 use Rattle.text_fields.proofs.LineWords.{IsWord, IsSolid, words_of_lines, words_in_lines}
 use Rattle.text_fields.proofs.Decimals.{decimal_word}
-use Rattle.tree_type.specs.Trees.{Finding, Empty, Cycle, Reduced, OneSum, Network, Conetwork, R10, TwoSum, ThreeSum, Enumerated, Violator, Undecided, Pivoted, Tree, Trees, Branch, NoTrees, MoreTrees, trees_from, count_trees, lines_of}
-use Rattle.tree_type.specs.Invariant.{AreLinesOf, HasSizes, size_of, Fits, HasChildren, IsTreeWithin, AreTreesWithin, IsTreeFor}
+use Rattle.tree_type.specs.Trees.{Finding, Empty, Cycle, Reduced, OneSum, Network, Conetwork, R10, TwoSum, ThreeSum, Enumerated, Violator, Undecided, Pivoted, Tree, Trees, Branch, NoTrees, MoreTrees, trees_from, count_trees, lines_at_root}
+use Rattle.tree_type.specs.Invariant.{AreLinesOf, HasArcsAndWalks, size_of, FitsLines, HasChildren, IsTreeWithin, AreTreesWithin, IsTreeFor}
 use Rattle.tree_text.specs.declared.error.TreeKind.{TreeKind}
 use Rattle.tree_text.specs.declared.error.TreeKind.TheVariants.{Short}
 use Rattle.tree_text.specs.declared.kind_word.KindWord.{KindWord}
@@ -78,7 +78,7 @@ pairs_again last pairs small all = again_times (another_pair last) pair_words (�
         let head = again_field Short (limited last) (decimal pair.head) pair.head (limited_again last pair.head q.1 (omega (arith, small))) in
         again_bind (field Short (limited last)) _ (decimal pair.tail ∷ []) (decimal pair.head ∷ []) pair.tail (before ++ pair ∷ []) tail (again_wrap (field Short (limited last)) (λ (head : ℕ). before ++ (record { tail = pair.tail; head = head }) ∷ []) (decimal pair.head ∷ []) pair.head head)
 
-network_again : (arcs walks : ℕ) (n : net.Network) → arcs ≤ 1000 → HasSizes arcs walks n → Again (network arcs walks) (network_words n) n
+network_again : (arcs walks : ℕ) (n : net.Network) → arcs ≤ 1000 → HasArcsAndWalks arcs walks n → Again (network arcs walks) (network_words n) n
 network_again arc_count walk_count n small has =
     let arcs = subst (λ k. Again (times (another_pair arc_count) k []) (flat_map pair_words n.arcs) n.arcs) has.arc_count (pairs_again arc_count n.arcs small has.arc_nodes) in
     let walks = subst (λ k. Again (times (another_pair arc_count) k []) (flat_map pair_words n.walks) n.walks) has.walk_count (pairs_again arc_count n.walks small has.walk_nodes) in
@@ -129,7 +129,7 @@ module _ (sizes : Sizes) (few_rows : sizes.rows ≤ 1000) (few_columns : sizes.c
       let second = again_bind (field Short (line_of sizes.columns lines.columns)) _ (number_of_line t.column ∷ []) (set_words t.side) t.column t (column_again t.column column) last in
       again_bind (field Short (line_of sizes.rows lines.rows)) _ (number_of_line t.row ∷ []) (number_of_line t.column ∷ set_words t.side) t.row t (row_again t.row row) second
 
-  place_again : (place : PivotPlace) → Contains lines.rows place.row → Contains lines.columns place.column → Again (pivot_place sizes lines) (number_of_line place.row ∷ number_of_line place.column ∷ []) place
+  place_again : (place : PlacedPivot) → Contains lines.rows place.row → Contains lines.columns place.column → Again (pivot_place sizes lines) (number_of_line place.row ∷ number_of_line place.column ∷ []) place
   place_again place row column =
       let last = again_wrap (field Short (line_of sizes.columns lines.columns)) (λ (column : ℕ). record { row = place.row; column = column }) (number_of_line place.column ∷ []) place.column (column_again place.column column) in
       again_bind (field Short (line_of sizes.rows lines.rows)) _ (number_of_line place.row ∷ []) (number_of_line place.column ∷ []) place.row place (row_again place.row row) last
@@ -160,7 +160,7 @@ module _ (sizes : Sizes) (few_rows : sizes.rows ≤ 1000) (few_columns : sizes.c
   counted : (read : Reader (Finding × ℕ)) (words : List (List ℕ)) (finding : Finding) (n m : ℕ) → m ≡ n → Again read words (finding, n) → Again read words (finding, m)
   counted read words finding n m e again = subst (λ k. Again read words (finding, k)) (sym e) again
 
-  own_again : (finding : Finding) (trees : Trees) → Fits lines finding trees → HasChildren finding (count_trees trees) → Again (own_part sizes lines (kind_of finding)) (own_words finding trees) (finding, count_trees trees)
+  own_again : (finding : Finding) (trees : Trees) → FitsLines lines finding trees → HasChildren finding (count_trees trees) → Again (own_part sizes lines (kind_of finding)) (own_words finding trees) (finding, count_trees trees)
   own_again Empty trees fits e = counted (own_part sizes lines kind.Empty) [] Empty 0 (count_trees trees) e (again_done (Empty, 0))
   own_again (Cycle fault) trees fits e = counted (own_part sizes lines kind.Cycle) (set_words fault) (Cycle fault) 0 (count_trees trees) e (again_wrap (line_set sizes (Some lines)) (λ (f : LineSet). (Cycle f, 0)) (set_words fault) fault (part_again fault fits))
   own_again (Reduced steps) trees fits e =
@@ -182,7 +182,7 @@ module _ (sizes : Sizes) (few_rows : sizes.rows ≤ 1000) (few_columns : sizes.c
   own_again (Violator fault) trees fits e = counted (own_part sizes lines kind.Violator) (set_words fault) (Violator fault) 0 (count_trees trees) e (again_wrap (line_set sizes (Some lines)) (λ (f : LineSet). (Violator f, 0)) (set_words fault) fault (part_again fault fits))
   own_again Undecided trees fits e = counted (own_part sizes lines kind.Undecided) [] Undecided 0 (count_trees trees) e (again_done (Undecided, 0))
   own_again (Pivoted place) trees fits e =
-      counted (own_part sizes lines kind.Pivoted) (own_words (Pivoted place) trees) (Pivoted place) 1 (count_trees trees) e (again_wrap (pivot_place sizes lines) (λ (p : PivotPlace). (Pivoted p, 1)) (own_words (Pivoted place) trees) place (place_again place fits.0 fits.1))
+      counted (own_part sizes lines kind.Pivoted) (own_words (Pivoted place) trees) (Pivoted place) 1 (count_trees trees) e (again_wrap (pivot_place sizes lines) (λ (p : PlacedPivot). (Pivoted p, 1)) (own_words (Pivoted place) trees) place (place_again place fits.0 fits.1))
 
 -- each kind has a word
 word_among : (k : KindWord) → kind_among kind_words (word_of k) ≡ Ok k
@@ -294,14 +294,14 @@ trees_back : (trees : Trees) → trees_from (list_of trees) ≡ trees
 trees_back NoTrees = refl
 trees_back (MoreTrees tree trees) = ap (λ ts. MoreTrees tree ts) (trees_back trees)
 
-part_of : (whole : LineSet) (levels : ℕ) (tree : Tree) → IsTreeWithin whole levels tree → AreLinesOf (lines_of tree) whole
+part_of : (whole : LineSet) (levels : ℕ) (tree : Tree) → IsTreeWithin whole levels tree → AreLinesOf (lines_at_root tree) whole
 part_of whole levels (Branch lines finding trees) within = within.1
 
 module _ (v : Version) (sizes : Sizes) (few_rows : sizes.rows ≤ 1000) (few_columns : sizes.columns ≤ 1000) where
   abbrev header : Header
   header = record { version = v; sizes = sizes }
 
-  front_again : (parent : Option LineSet) (lines : LineSet) (finding : Finding) (trees : Trees) → has_word v (kind_of finding) ≡ true → IsSome sizes parent lines → Fits lines finding trees → HasChildren finding (count_trees trees)
+  front_again : (parent : Option LineSet) (lines : LineSet) (finding : Finding) (trees : Trees) → has_word v (kind_of finding) ≡ true → IsSome sizes parent lines → FitsLines lines finding trees → HasChildren finding (count_trees trees)
       → Again (front header parent) (front_words lines finding trees) (record { lines = lines; finding = finding; children = count_trees trees })
   front_again parent lines finding trees has some fits children =
       let head : NodeFront = record { lines = lines; finding = finding; children = count_trees trees } in
@@ -311,7 +311,7 @@ module _ (v : Version) (sizes : Sizes) (few_rows : sizes.rows ≤ 1000) (few_col
       again_bind (field Short (kind_in v)) _ (word_of (kind_of finding) ∷ []) (set_words lines ++ own_words finding trees) (kind_of finding) head (again_field Short (kind_in v) (word_of (kind_of finding)) (kind_of finding) (kind_again v (kind_of finding) has)) set
 
   mutual
-    node_again : (levels : ℕ) (parent : Option LineSet) (tree : Tree) (whole : LineSet) → IsKnown v tree → IsSome sizes parent (lines_of tree) → IsTreeWithin whole levels tree → Again (node header levels parent) (node_words tree) tree
+    node_again : (levels : ℕ) (parent : Option LineSet) (tree : Tree) (whole : LineSet) → IsKnown v tree → IsSome sizes parent (lines_at_root tree) → IsTreeWithin whole levels tree → Again (node header levels parent) (node_words tree) tree
     node_again levels parent (Branch lines finding trees) whole known some (l, part, fits, children, below) =
         let more : levels ≡ suc (levels - 1) = omega (arith, l) in
         let head : NodeFront = record { lines = lines; finding = finding; children = count_trees trees } in
@@ -326,7 +326,7 @@ module _ (v : Version) (sizes : Sizes) (few_rows : sizes.rows ≤ 1000) (few_col
     forest_again levels lines before NoTrees known rows columns rows_in columns_in within = subst (λ ts. Again {K = TreeKind} (λ text. Ok (before, text)) [] ts) (sym (append-nil before)) (again_done before)
     forest_again levels lines before (MoreTrees tree trees) known rows columns rows_in columns_in within =
         let read = node header levels (Some lines) in
-        let some = some_from sizes few_rows few_columns lines rows columns rows_in columns_in (lines_of tree) (part_of lines levels tree within.0) in
+        let some = some_from sizes few_rows few_columns lines rows columns rows_in columns_in (lines_at_root tree) (part_of lines levels tree within.0) in
         let one = again_wrap read (λ t. before ++ t ∷ []) (node_words tree) tree (node_again levels (Some lines) tree lines known.0 some within.0) in
         subst (Again (times (another_tree read) (suc (count_trees trees)) before) (node_words tree ++ forest_words trees)) (append_assoc before (tree ∷ []) (list_of trees))
         (again_bind (another_tree read before) (λ (next : List Tree × Text). times (another_tree read) (count_trees trees) next.0 next.1) (node_words tree) (forest_words trees) (before ++ tree ∷ []) ((before ++ tree ∷ []) ++ list_of trees) one (forest_again levels lines (before ++ tree ∷ []) trees known.1 rows columns rows_in columns_in within.1))
@@ -403,7 +403,7 @@ module _ (sizes : Sizes) (few_rows : sizes.rows ≤ 1000) (few_columns : sizes.c
         ),
       )
 
-  own_all : (whole : Option LineSet) (lines : LineSet) (finding : Finding) (trees : Trees) → IsSome sizes whole lines → Fits lines finding trees → AreWords (own_words finding trees)
+  own_all : (whole : Option LineSet) (lines : LineSet) (finding : Finding) (trees : Trees) → IsSome sizes whole lines → FitsLines lines finding trees → AreWords (own_words finding trees)
   own_all whole lines finding trees some fits = go finding fits
     where
       p : length lines.rows ≤ sizes.rows
@@ -426,14 +426,14 @@ module _ (sizes : Sizes) (few_rows : sizes.rows ≤ 1000) (few_columns : sizes.c
       names (Row line ∷ steps) all = (lettered 114 line refl (row line all.0), names steps all.1)
       names (Column line ∷ steps) all = (lettered 99 line refl (column line all.0), names steps all.1)
 
-      network : (arcs walks : ℕ) (n : net.Network) → arcs ≤ 1000 → HasSizes arcs walks n → AreWords (network_words n)
+      network : (arcs walks : ℕ) (n : net.Network) → arcs ≤ 1000 → HasArcsAndWalks arcs walks n → AreWords (network_words n)
       network arcs walks n small has = all-append IsWord (flat_map pair_words n.arcs) (flat_map pair_words n.walks) (pairs_words arcs n.arcs small has.arc_nodes) (pairs_words arcs n.walks small has.walk_nodes)
 
       connector : (flat : Bool) (c : Connector) → HasConnector flat lines.rows lines.columns c → AreWords (connector_words c)
       connector true c has = (line_word c.row (row c.row has.0), (line_word c.column (column c.column has.1), (line_word c.other (column c.other has.2), tt)))
       connector false c has = (line_word c.row (row c.row has.0), (line_word c.column (column c.column has.1), (line_word c.other (row c.other has.2), tt)))
 
-      go : (finding : Finding) → Fits lines finding trees → AreWords (own_words finding trees)
+      go : (finding : Finding) → FitsLines lines finding trees → AreWords (own_words finding trees)
       go Empty fits = tt
       go (Cycle fault) fits = part fault fits
       go (Reduced steps) fits = (decimal_word (length steps) (let h = fits.1 in omega (arith, h, p, q, few_rows, few_columns)), names steps fits.0)
@@ -450,7 +450,7 @@ module _ (sizes : Sizes) (few_rows : sizes.rows ≤ 1000) (few_columns : sizes.c
       go (Pivoted place) fits = (line_word place.row (row place.row fits.0), (line_word place.column (column place.column fits.1), tt))
 
   mutual
-    node_all : (levels : ℕ) (parent : Option LineSet) (tree : Tree) (whole : LineSet) → IsSome sizes parent (lines_of tree) → IsTreeWithin whole levels tree → AllByRecursion AreWords (node_lines tree)
+    node_all : (levels : ℕ) (parent : Option LineSet) (tree : Tree) (whole : LineSet) → IsSome sizes parent (lines_at_root tree) → IsTreeWithin whole levels tree → AllByRecursion AreWords (node_lines tree)
     node_all levels parent (Branch lines finding trees) whole some (l, part, fits, children, below) = (
       (kind_word (kind_of finding), set_all parent lines some),
       all-append AreWords (line_for (own_words finding trees)) (forest_lines trees) (line_for_words (own_words finding trees) (own_all parent lines finding trees some fits)) (forest_all (levels - 1) lines trees some.rows.rise some.columns.rise some.rows.below some.columns.below below),
@@ -459,7 +459,7 @@ module _ (sizes : Sizes) (few_rows : sizes.rows ≤ 1000) (few_columns : sizes.c
     forest_all : (levels : ℕ) (lines : LineSet) (trees : Trees) → IsStrictlyIncreasing lines.rows → IsStrictlyIncreasing lines.columns → AllBelow sizes.rows lines.rows → AllBelow sizes.columns lines.columns → AreTreesWithin lines levels trees → AllByRecursion AreWords (forest_lines trees)
     forest_all levels lines NoTrees rows columns rows_in columns_in within = tt
     forest_all levels lines (MoreTrees tree trees) rows columns rows_in columns_in within =
-        let some = some_from sizes few_rows few_columns lines rows columns rows_in columns_in (lines_of tree) (part_of lines levels tree within.0) in
+        let some = some_from sizes few_rows few_columns lines rows columns rows_in columns_in (lines_at_root tree) (part_of lines levels tree within.0) in
         all-append AreWords (node_lines tree) (forest_lines trees) (node_all levels (Some lines) tree lines some within.0) (forest_all levels lines trees rows columns rows_in columns_in within.1)
 
 -- the words in front of the root, and some way to read the root back
@@ -506,17 +506,17 @@ version_is_word version.Pivoted = plain_word _ _ (refl, tt)
 pub tree_again : (rows columns : ℕ) (root : Tree) → IsTreeFor rows columns root → tree (text_of (tree_text rows columns root)) ≡ Ok (record { rows = rows; columns = columns; root = root })
 tree_again rows columns root is =
     let sizes : Sizes = record { rows = rows; columns = columns } in
-    let part = part_of (lines_of root) 2001 root is.nodes in
-    let some : IsSome sizes None (lines_of root) = record {
-      rows = record { rise = part.rows_rise; below = is.root_rows; within = all_of (λ x. Unit {0}) (λ x. tt) (lines_of root).rows };
-      columns = record { rise = part.columns_rise; below = is.root_columns; within = all_of (λ x. Unit {0}) (λ x. tt) (lines_of root).columns };
+    let part = part_of (lines_at_root root) 2001 root is.nodes in
+    let some : IsSome sizes None (lines_at_root root) = record {
+      rows = record { rise = part.rows_rise; below = is.root_rows; within = all_of (λ x. Unit {0}) (λ x. tt) (lines_at_root root).rows };
+      columns = record { rise = part.columns_rise; below = is.root_columns; within = all_of (λ x. Unit {0}) (λ x. tt) (lines_at_root root).columns };
     } in
     let all : AllByRecursion AreWords (tree_lines rows columns root) = (
       (title_is_word (version_of root), (version_is_word (version_of root), tt)),
       (
         (decimal_word rows (let h = is.rows_in in omega (arith, h)), (decimal_word columns (let h = is.columns_in in omega (arith, h)), tt)),
-        node_all sizes is.rows_in is.columns_in 2001 None root (lines_of root) some is.nodes,
+        node_all sizes is.rows_in is.columns_in 2001 None root (lines_at_root root) some is.nodes,
       ),
     ) in
     let words = words_in_lines (tree_lines rows columns root) all ∙ ap (λ ws. title_word (title_of (version_of root)) ∷ version_word (version_of root) ∷ decimal rows ∷ decimal columns ∷ ws) (node_joined root) in
-    whole_again (λ header. node header 2001 None) (version_of root) rows columns root (node_words root) is.rows_in is.columns_in (node_again (version_of root) sizes is.rows_in is.columns_in 2001 None root (lines_of root) (known root) some is.nodes) (length (tree_text rows columns root)) (words_from 0 (tree_text rows columns root)) words
+    whole_again (λ header. node header 2001 None) (version_of root) rows columns root (node_words root) is.rows_in is.columns_in (node_again (version_of root) sizes is.rows_in is.columns_in 2001 None root (lines_at_root root) (known root) some is.nodes) (length (tree_text rows columns root)) (words_from 0 (tree_text rows columns root)) words

@@ -11,7 +11,7 @@ use Rattle.cmr_base.specs.declared.network.Pair.{Pair}
 use Rattle.cmr_base.specs.declared.separation.Connector.{Connector}
 use Rattle.cmr_base.specs.declared.separation.Two.{Two}
 use Rattle.cmr_base.specs.declared.separation.Three.{Three}
-use Rattle.pivots.specs.declared.place.PivotPlace.{PivotPlace}
+use Rattle.pivots.specs.declared.place.PlacedPivot.{PlacedPivot}
 use Rattle.cmr_base.specs.declared.separation.Form.{Form}
 use Rattle.cmr_base.specs.LineSets.{AllBelow}
 use Rattle.cmr_base.specs.Reductions.{HasLine}
@@ -25,8 +25,8 @@ use Rattle.text_fields.specs.Reading.{Fault, field, times, fields}
 use Rattle.text_fields.proofs.Fields.{field_ok, fields_ok}
 use Rattle.text_fields.proofs.Results.{bind_ok, ok_same}
 use Rattle.text_fields.specs.Spelling.{texts_of}
-use Rattle.tree_type.specs.Trees.{Finding, Empty, Cycle, Reduced, OneSum, Network, Conetwork, R10, TwoSum, ThreeSum, Enumerated, Violator, Undecided, Pivoted, Tree, Trees, Branch, trees_from, count_trees, lines_of}
-use Rattle.tree_type.specs.Invariant.{AreLinesOf, HasSizes, size_of, Fits, HasChildren, IsTreeWithin, AreTreesWithin, IsTreeFor}
+use Rattle.tree_type.specs.Trees.{Finding, Empty, Cycle, Reduced, OneSum, Network, Conetwork, R10, TwoSum, ThreeSum, Enumerated, Violator, Undecided, Pivoted, Tree, Trees, Branch, trees_from, count_trees, lines_at_root}
+use Rattle.tree_type.specs.Invariant.{AreLinesOf, HasArcsAndWalks, size_of, FitsLines, HasChildren, IsTreeWithin, AreTreesWithin, IsTreeFor}
 use Rattle.tree_text.specs.declared.error.TreeKind.{TreeKind}
 use Rattle.tree_text.specs.declared.error.TreeKind.TheVariants.{Short}
 use Rattle.tree_text.specs.declared.kind_word.KindWord.{KindWord}
@@ -106,7 +106,7 @@ pairs_ok last n text pairs h =
           all-append (λ pair. (pair.tail ≤ last) × (pair.head ≤ last)) s (pair ∷ []) held.1 ((low, high), tt),
         )
 
-network_ok : (arcs walks : ℕ) (text : Text) (n : net.Network × Text) → network arcs walks text ≡ Ok n → HasSizes arcs walks n.0
+network_ok : (arcs walks : ℕ) (text : Text) (n : net.Network × Text) → network arcs walks text ≡ Ok n → HasArcsAndWalks arcs walks n.0
 network_ok arc_count walk_count text n h =
     let arcs = bind_ok (times (another_pair arc_count) arc_count [] text) (λ (arcs : List Pair × Text). times (another_pair arc_count) walk_count [] arcs.1 >>= λ (walks : List Pair × Text). Ok (record { arcs = arcs.0; walks = walks.0 }, walks.1)) n h in
     let walks = bind_ok (times (another_pair arc_count) walk_count [] arcs.0.1) (λ (walks : List Pair × Text). Ok (record { arcs = arcs.0.0; walks = walks.0 }, walks.1)) n arcs.2 in
@@ -114,7 +114,7 @@ network_ok arc_count walk_count text n h =
     let e = ap (λ (p : net.Network × Text). p.0) (ok_same (made, walks.0.1) n walks.2) in
     let first = pairs_ok arc_count arc_count text arcs.0 arcs.1 in
     let second = pairs_ok arc_count walk_count arcs.0.1 walks.0 walks.1 in
-    subst (HasSizes arc_count walk_count) e (record { arc_count = first.0; walk_count = second.0; arc_nodes = first.1; walk_nodes = second.1 })
+    subst (HasArcsAndWalks arc_count walk_count) e (record { arc_count = first.0; walk_count = second.0; arc_nodes = first.1; walk_nodes = second.1 })
 
 module _ (sizes : Sizes) (lines : LineSet) where
   row_ok : (text : Text) (x : ℕ × Text) → field Short (line_of sizes.rows lines.rows) text ≡ Ok x → Contains lines.rows x.0
@@ -142,35 +142,35 @@ module _ (sizes : Sizes) (lines : LineSet) where
   set_ok : (text : Text) (set : LineSet × Text) → line_set sizes (Some lines) text ≡ Ok set → AreLinesOf set.0 lines
   set_ok text set h = lines_of_whole sizes lines set.0 (line_set_ok sizes (Some lines) text set h)
 
-  two_ok : (text : Text) (found : Two × Text) → two sizes lines text ≡ Ok found → (trees : Trees) → Fits lines (TwoSum found.0) trees
+  two_ok : (text : Text) (found : Two × Text) → two sizes lines text ≡ Ok found → (trees : Trees) → FitsLines lines (TwoSum found.0) trees
   two_ok text found h trees =
       let row = bind_ok (field Short (line_of sizes.rows lines.rows) text) (λ (row : ℕ × Text). field Short (line_of sizes.columns lines.columns) row.1 >>= λ (column : ℕ × Text). line_set sizes (Some lines) column.1 >>= λ (side : LineSet × Text). Ok (record { side = side.0; row = row.0; column = column.0 }, side.1)) found h in
       let column = bind_ok (field Short (line_of sizes.columns lines.columns) row.0.1) (λ (column : ℕ × Text). line_set sizes (Some lines) column.1 >>= λ (side : LineSet × Text). Ok (record { side = side.0; row = row.0.0; column = column.0 }, side.1)) found row.2 in
       let side = bind_ok (line_set sizes (Some lines) column.0.1) (λ (side : LineSet × Text). Ok (record { side = side.0; row = row.0.0; column = column.0.0 }, side.1)) found column.2 in
       let made : Two = record { side = side.0.0; row = row.0.0; column = column.0.0 } in
       let e = ap (λ (p : Two × Text). p.0) (ok_same (made, side.0.1) found side.2) in
-      subst (λ two. Fits lines (TwoSum two) trees) e (set_ok column.0.1 side.0 side.1, row_ok text row.0 row.1, column_ok row.0.1 column.0 column.1)
+      subst (λ two. FitsLines lines (TwoSum two) trees) e (set_ok column.0.1 side.0 side.1, row_ok text row.0 row.1, column_ok row.0.1 column.0 column.1)
 
-  place_ok : (text : Text) (found : PivotPlace × Text) → pivot_place sizes lines text ≡ Ok found → Contains lines.rows found.0.row × Contains lines.columns found.0.column
+  place_ok : (text : Text) (found : PlacedPivot × Text) → pivot_place sizes lines text ≡ Ok found → Contains lines.rows found.0.row × Contains lines.columns found.0.column
   place_ok text found h =
       let row = bind_ok (field Short (line_of sizes.rows lines.rows) text) (λ (row : ℕ × Text). field Short (line_of sizes.columns lines.columns) row.1 >>= λ (column : ℕ × Text). Ok (record { row = row.0; column = column.0 }, column.1)) found h in
       let column = bind_ok (field Short (line_of sizes.columns lines.columns) row.0.1) (λ (column : ℕ × Text). Ok (record { row = row.0.0; column = column.0 }, column.1)) found row.2 in
-      let made : PivotPlace = record { row = row.0.0; column = column.0.0 } in
-      let e = ap (λ (p : PivotPlace × Text). p.0) (ok_same (made, column.0.1) found column.2) in
-      subst (λ (place : PivotPlace). Contains lines.rows place.row × Contains lines.columns place.column) e (row_ok text row.0 row.1, column_ok row.0.1 column.0 column.1)
+      let made : PlacedPivot = record { row = row.0.0; column = column.0.0 } in
+      let e = ap (λ (p : PlacedPivot × Text). p.0) (ok_same (made, column.0.1) found column.2) in
+      subst (λ (place : PlacedPivot). Contains lines.rows place.row × Contains lines.columns place.column) e (row_ok text row.0 row.1, column_ok row.0.1 column.0 column.1)
 
-  three_ok : (form : Form) (text : Text) (found : Three × Text) → three sizes lines form text ≡ Ok found → (trees : Trees) → Fits lines (ThreeSum found.0) trees
+  three_ok : (form : Form) (text : Text) (found : Three × Text) → three sizes lines form text ≡ Ok found → (trees : Trees) → FitsLines lines (ThreeSum found.0) trees
   three_ok form text found h trees =
       let first = bind_ok (connector sizes lines (first_is_flat form) text) (λ (first : Connector × Text). connector sizes lines (second_is_flat form) first.1 >>= λ (second : Connector × Text). line_set sizes (Some lines) second.1 >>= λ (side : LineSet × Text). Ok (record { form = form; side = side.0; first = first.0; second = second.0 }, side.1)) found h in
       let second = bind_ok (connector sizes lines (second_is_flat form) first.0.1) (λ (second : Connector × Text). line_set sizes (Some lines) second.1 >>= λ (side : LineSet × Text). Ok (record { form = form; side = side.0; first = first.0.0; second = second.0 }, side.1)) found first.2 in
       let side = bind_ok (line_set sizes (Some lines) second.0.1) (λ (side : LineSet × Text). Ok (record { form = form; side = side.0; first = first.0.0; second = second.0.0 }, side.1)) found second.2 in
       let made : Three = record { form = form; side = side.0.0; first = first.0.0; second = second.0.0 } in
       let e = ap (λ (p : Three × Text). p.0) (ok_same (made, side.0.1) found side.2) in
-      subst (λ three. Fits lines (ThreeSum three) trees) e (set_ok second.0.1 side.0 side.1, connector_ok (first_is_flat form) text first.0 first.1, connector_ok (second_is_flat form) first.0.1 second.0 second.1)
+      subst (λ three. FitsLines lines (ThreeSum three) trees) e (set_ok second.0.1 side.0 side.1, connector_ok (first_is_flat form) text first.0 first.1, connector_ok (second_is_flat form) first.0.1 second.0 second.1)
 
   -- what was said fits the lines, whatever the children, where they are as many as was said
   abbrev IsFitting : Finding × ℕ → Type 0
-  IsFitting own = (trees : Trees) → count_trees trees ≡ own.1 → Fits lines own.0 trees × HasChildren own.0 (count_trees trees)
+  IsFitting own = (trees : Trees) → count_trees trees ≡ own.1 → FitsLines lines own.0 trees × HasChildren own.0 (count_trees trees)
 
   fitting_from : (own : Finding × ℕ) (rest : Text) (found : (Finding × ℕ) × Text) → ◌≡◌ {A = Result ((Finding × ℕ) × Text) (Fault TreeKind)} (Ok (own, rest)) (Ok found) → IsFitting own → IsFitting found.0
   fitting_from own rest found h fits = subst IsFitting (ap (λ (p : (Finding × ℕ) × Text). p.0) (ok_same (own, rest) found h)) fits
@@ -213,13 +213,13 @@ module _ (sizes : Sizes) (lines : LineSet) where
       fitting_from (Violator fault.0.0, 0) fault.0.1 found fault.2 (λ trees e. (set_ok text fault.0 fault.1, e))
   own_part_ok kind.Undecided text found h = fitting_from (Undecided, 0) text found h (λ trees e. (tt, e))
   own_part_ok kind.Pivoted text found h =
-      let place = bind_ok (pivot_place sizes lines text) (λ (found : PivotPlace × Text). Ok ((Pivoted found.0, 1), found.1)) found h in
+      let place = bind_ok (pivot_place sizes lines text) (λ (found : PlacedPivot × Text). Ok ((Pivoted found.0, 1), found.1)) found h in
       fitting_from (Pivoted place.0.0, 1) place.0.1 found place.2 (λ trees e. (place_ok text place.0 place.1, e))
 
 -- the front of a node that was read
 record IsFront (sizes : Sizes) (parent : Option LineSet) (head : NodeFront) : Type 0 where
   lines : IsSome sizes parent head.lines
-  fits : (trees : Trees) → count_trees trees ≡ head.children → Fits head.lines head.finding trees × HasChildren head.finding (count_trees trees)
+  fits : (trees : Trees) → count_trees trees ≡ head.children → FitsLines head.lines head.finding trees × HasChildren head.finding (count_trees trees)
 
 front_ok : (header : Header) (parent : Option LineSet) (text : Text) (head : NodeFront × Text) → front header parent text ≡ Ok head → IsFront header.sizes parent head.0
 front_ok header parent text head h =
@@ -241,8 +241,8 @@ count_from (tree ∷ trees) = ap suc (count_from trees)
 
 -- a node that was read: its lines are some of the parent's, and all else is as in a tree
 record IsRead (sizes : Sizes) (levels : ℕ) (parent : Option LineSet) (tree : Tree) : Type 0 where
-  lines : IsSome sizes parent (lines_of tree)
-  within : (whole : LineSet) → AreLinesOf (lines_of tree) whole → IsTreeWithin whole levels tree
+  lines : IsSome sizes parent (lines_at_root tree)
+  within : (whole : LineSet) → AreLinesOf (lines_at_root tree) whole → IsTreeWithin whole levels tree
 
 child_kept : (header : Header) (levels : ℕ) (lines : LineSet) → ((text : Text) (tree : Tree × Text) → node header levels (Some lines) text ≡ Ok tree → IsRead header.sizes levels (Some lines) tree.0)
     → (k : ℕ) (s : List Tree) (text : Text) (next : List Tree) (rest : Text) → (length s ≡ k) × AreTreesWithin lines levels (trees_from s) → another_tree (node header levels (Some lines)) s text ≡ Ok (next, rest)
@@ -251,7 +251,7 @@ child_kept header levels lines each k s text next rest held made =
     let one = bind_ok (node header levels (Some lines) text) (λ (tree : Tree × Text). Ok (s ++ tree.0 ∷ [], tree.1)) (next, rest) made in
     let e = ap (λ (p : List Tree × Text). p.0) (ok_same (s ++ one.0.0 ∷ [], one.0.1) (next, rest) one.2) in
     let is = each text one.0 one.1 in
-    let tree = is.within lines (lines_of_whole header.sizes lines (lines_of one.0.0) is.lines) in
+    let tree = is.within lines (lines_of_whole header.sizes lines (lines_at_root one.0.0) is.lines) in
     subst (λ trees. (length trees ≡ suc k) × AreTreesWithin lines levels (trees_from trees)) e (
       (let l = length_push s one.0.0 in let h = held.0 in omega (arith, l, h)),
       trees_push lines levels s one.0.0 held.1 tree,
@@ -285,5 +285,5 @@ root_ok version rows columns text tree rest few_rows few_columns h =
       columns_in = few_columns;
       root_rows = is.lines.rows.below;
       root_columns = is.lines.columns.below;
-      nodes = is.within (lines_of tree) (itself (lines_of tree) is.lines.rows.rise is.lines.columns.rise);
+      nodes = is.within (lines_at_root tree) (itself (lines_at_root tree) is.lines.rows.rise is.lines.columns.rise);
     }

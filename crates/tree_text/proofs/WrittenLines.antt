@@ -16,7 +16,7 @@ use Rattle.tree_type.specs.Trees.{Finding, Tree, Trees, Branch, tree_of, trees_f
 use Rattle.tree_type.proofs.Forests.{count_is}
 use Rattle.tree_type.proofs.NodeTrees.{said, tree_is, said_one_sum}
 use Rattle.tree_text.specs.Versions.{title_word, title_of, version_word}
-use Rattle.tree_text.specs.Canonical.{pair_words, network_words, line_for, own_line, node_lines, forest_lines, tree_text, version_of}
+use Rattle.tree_text.specs.Canonical.{pair_words, network_words, line_for, own_text_line, node_lines, forest_lines, tree_text, version_of}
 
 -- a line whose words were written
 pub ended_as : (text start : Draft) (words : List (List ℕ)) → text ≡ fold with_word start words → start.is_begun ≡ false → with_end text ≡ with_line start words
@@ -52,9 +52,9 @@ pub walks_some : (n : net.Network) → 0 < length n.walks → 0 < length (networ
 walks_some n some = later_words (flat_map pair_words n.arcs) n.walks some
 
 -- the own line of a one-sum
-pub one_sum_line : (node : Node) (children : NodeList) → node.kind ≡ kind.OneSum children → (decimal (length (nodes_in children)) ∷ []) ∷ [] ≡ own_line (tree_of node)
+pub one_sum_line : (node : Node) (children : NodeList) → node.kind ≡ kind.OneSum children → (decimal (length (nodes_in children)) ∷ []) ∷ [] ≡ own_text_line (tree_of node)
 one_sum_line node children is =
-    sym (ap own_line (tree_is node ∙ ap (λ (s : Finding × Trees). Branch node.lines s.0 s.1) (ap said is ∙ said_one_sum children)) ∙ ap (λ n. (decimal n ∷ []) ∷ []) (count_is children))
+    sym (ap own_text_line (tree_is node ∙ ap (λ (s : Finding × Trees). Branch node.lines s.0 s.1) (ap said is ∙ said_one_sum children)) ∙ ap (λ n. (decimal n ∷ []) ∷ []) (count_is children))
 
 -- the lines of a node with two children
 pub both_written : (start : Draft) (front one two : List (List (List ℕ))) → fold with_line (fold with_line (fold with_line start front) one) two ≡ fold with_line start (front ++ (one ++ (two ++ [])))

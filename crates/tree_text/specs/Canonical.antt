@@ -47,12 +47,12 @@ abbrev pub line_for : List (List ℕ) → List (List (List ℕ))
 line_for [] = []
 line_for (word ∷ words) = (word ∷ words) ∷ []
 
-abbrev pub own_line : Tree → List (List (List ℕ))
-own_line (Branch lines finding trees) = line_for (own_words finding trees)
+abbrev pub own_text_line : Tree → List (List (List ℕ))
+own_text_line (Branch lines finding trees) = line_for (own_words finding trees)
 
 -- a line with the kind and the lines of a node, and one with its own part
 abbrev pub front_lines : Tree → List (List (List ℕ))
-front_lines (Branch lines finding trees) = (word_of (kind_of finding) ∷ set_words lines) ∷ own_line (Branch lines finding trees)
+front_lines (Branch lines finding trees) = (word_of (kind_of finding) ∷ set_words lines) ∷ own_text_line (Branch lines finding trees)
 
 abbrev mutual
   -- a node's own lines, and those of its children

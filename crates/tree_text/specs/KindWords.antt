@@ -66,6 +66,3 @@ kind_of said.Enumerated = Enumerated
 kind_of (said.Violator fault) = Violator
 kind_of said.Undecided = Undecided
 kind_of (said.Pivoted place) = Pivoted
-
-abbrev pub finding_of : said.Tree → said.Finding
-finding_of (said.Branch lines finding trees) = finding

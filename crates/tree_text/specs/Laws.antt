@@ -10,7 +10,7 @@ use Rattle.tree_type.specs.declared.refusal.Refusal.{Refusal}
 use Rattle.tree_text.specs.Canonical.{tree_text}
 use Rattle.tree_text.specs.declared.header.Title.TheVariants as title
 use Rattle.tree_text.specs.declared.header.Version.TheVariants.{One, Two}
-use Rattle.tree_text.specs.Reading.{PlainTree, plain, tree}
+use Rattle.tree_text.specs.Reading.{PlainTree, plain_of, tree}
 use Rattle.tree_text.specs.Versions.{title_word, version_word}
 
 -- the canonical text of a tree that was read, in either version, stands for the same tree
@@ -32,5 +32,5 @@ pub record IsAcceptedAs (m : Matrix) (written read : SizedTree) : Type 0 where
 -- the canonical text of a sound tree stands for it, and each tree that the text stands for is accepted as that tree
 abbrev pub SoundTreesReadBack : Type 0
 SoundTreesReadBack = (m : Matrix) (written : SizedTree) → IsDecTree written → IsSound m written
-    → (tree (text_of (tree_text written.rows written.columns (tree_of written.root))) ≡ Ok (plain written))
-    × ((read : SizedTree) → tree (text_of (tree_text written.rows written.columns (tree_of written.root))) ≡ Ok (plain read) → IsAcceptedAs m written read)
+    → (tree (text_of (tree_text written.rows written.columns (tree_of written.root))) ≡ Ok (plain_of written))
+    × ((read : SizedTree) → tree (text_of (tree_text written.rows written.columns (tree_of written.root))) ≡ Ok (plain_of read) → IsAcceptedAs m written read)

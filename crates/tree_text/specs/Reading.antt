@@ -8,7 +8,7 @@ use Rattle.cmr_base.specs.declared.separation.Connector.{Connector}
 use Rattle.cmr_base.specs.declared.separation.Two.{Two}
 use Rattle.cmr_base.specs.declared.separation.Three.{Three}
 use Rattle.cmr_base.specs.declared.separation.Form.{Form}
-use Rattle.pivots.specs.declared.place.PivotPlace.{PivotPlace}
+use Rattle.pivots.specs.declared.place.PlacedPivot.{PlacedPivot}
 use Rattle.cmr_base.specs.Separations.{first_is_flat, second_is_flat}
 use Rattle.text_fields.specs.Words.{Text}
 use Rattle.text_fields.specs.Result.{◌>>=◌}
@@ -84,7 +84,7 @@ three sizes lines form text = do
   Ok (record { form = form; side = side.0; first = first.0; second = second.0 }, side.1)
 
 -- a row and a column of a node
-abbrev pub pivot_place : Sizes → LineSet → Reader PivotPlace
+abbrev pub pivot_place : Sizes → LineSet → Reader PlacedPivot
 pivot_place sizes lines text = do
   row ← field Short (line_of sizes.rows lines.rows) text
   column ← field Short (line_of sizes.columns lines.columns) row.1
@@ -157,8 +157,8 @@ pub record PlainTree : Type 0 where
   pub columns : ℕ
   pub root : Tree
 
-abbrev pub plain : SizedTree → PlainTree
-plain tree = record { rows = tree.rows; columns = tree.columns; root = tree_of tree.root }
+abbrev pub plain_of : SizedTree → PlainTree
+plain_of tree = record { rows = tree.rows; columns = tree.columns; root = tree_of tree.root }
 
 -- the title and the version, the sizes of the matrix, and the root
 abbrev pub tree : Text → Result PlainTree (Fault TreeKind)

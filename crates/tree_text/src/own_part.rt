@@ -19,7 +19,7 @@ use cmr_base::{
 };
 use std::alloc::Global;
 use text_fields::Words;
-use tree_type::{Finding, PivotPlace};
+use tree_type::{Finding, PlacedPivot};
 
 /// What a node says, and how many children it has.
 #[derive(Debug, Drop)]
@@ -183,12 +183,12 @@ fn read_three(
     })
 }
 
-fn read_place(words: &mut Words<'_>, sizes: Sizes, lines: &LineSet) -> Result<PivotPlace, TreeError>
+fn read_place(words: &mut Words<'_>, sizes: Sizes, lines: &LineSet) -> Result<PlacedPivot, TreeError>
     ensures { Reads (λ x. x) words.new result (pivot_place sizes lines.now words.old) }
 {
     let row = field::line_of(words, sizes.rows, &lines.rows)?;
     let column = field::line_of(words, sizes.columns, &lines.columns)?;
-    Ok(PivotPlace { row, column })
+    Ok(PlacedPivot { row, column })
 }
 
 /// What a node of this kind says of its lines, and how many children it has.

@@ -6,7 +6,7 @@ ghost use Rattle.tree_type.specs.Trees.{Branch, tree_of, trees_from};
 ghost use Rattle.tree_type.specs.Invariant.{HasChildren};
 ghost use Rattle.tree_text.specs.declared.error.TreeKind.TheVariants.{Short};
 ghost use Rattle.tree_type.specs.Findings.{finding_shown};
-ghost use Rattle.tree_text.specs.Reading.{another_tree, too_deep, node, plain, tree};
+ghost use Rattle.tree_text.specs.Reading.{another_tree, too_deep, node, plain_of, tree};
 
 use crate::header::Header;
 use crate::own_part::{Front, read_front};
@@ -19,7 +19,7 @@ use tree_type::{DecTree, Node, join_node};
 
 /// The tree that a text stands for, or the text's first fault.
 pub fn read_tree(alloc: Global, bytes: &[u8]) -> Result<DecTree, TreeError>
-    ensures { Gives plain result (tree (text_of bytes.now)) }
+    ensures { Gives plain_of result (tree (text_of bytes.now)) }
 {
     let mut words = Words::new(bytes);
     let title = field::title(&mut words)?;

@@ -5,10 +5,10 @@ ghost use Rattle.std.specs.List.{flat_map};
 ghost use Rattle.text_fields.specs.Words.{text_of};
 ghost use Rattle.text_fields.specs.Written.{with_word, with_line};
 ghost use Rattle.tree_type.specs.NodeCounts.{node_count};
-ghost use Rattle.tree_type.specs.Trees.{tree_of};
-ghost use Rattle.tree_text.specs.KindWords.{word_of, kind_of, finding_of};
+ghost use Rattle.tree_type.specs.Trees.{tree_of, finding_of};
+ghost use Rattle.tree_text.specs.KindWords.{word_of, kind_of};
 ghost use Rattle.tree_text.specs.Reading as reading;
-ghost use Rattle.tree_text.specs.Canonical.{number_of_line, line_name, set_words, pair_words, network_words, connector_words, line_for, own_line, front_lines, node_lines, tree_text};
+ghost use Rattle.tree_text.specs.Canonical.{number_of_line, line_name, set_words, pair_words, network_words, connector_words, line_for, own_text_line, front_lines, node_lines, tree_text};
 
 use crate::header::{title_of, title_word, version_of, version_word};
 use crate::kind_word::{kind_of, word_of};
@@ -16,7 +16,7 @@ use cmr_base::{Connector, Line, LineSet, Memory, Network, Pair, Three, Two};
 use itoa::Buffer;
 use std::alloc::Global;
 use text_fields::Writer;
-use tree_type::{DecTree, Kind, Node, PivotPlace};
+use tree_type::{DecTree, Kind, Node, PlacedPivot};
 
 /// The canonical text of a tree: in version 2, or a text of pivots where a node is pivoted.
 pub fn write_tree(alloc: Global, tree: &DecTree) -> Result<Vec<u8>, Memory>
@@ -24,7 +24,7 @@ pub fn write_tree(alloc: Global, tree: &DecTree) -> Result<Vec<u8>, Memory>
         (tree_of tree.now.root)) }
     // It is read again as the same tree.
     ensures again { IfOk result (λ v. reading.tree (text_of v.items)
-        ≡ Ok (reading.plain tree.now)) }
+        ≡ Ok (reading.plain_of tree.now)) }
     // It has a byte or more for each node.
     ensures nodes { IfOk result (λ v. node_count (tree_of tree.now.root) ≤ length v.items) }
 {
@@ -103,7 +103,7 @@ fn write_first_line(text: &mut Writer, node: &Node) -> Result<(), Memory>
 
 fn write_own_line(alloc: Global, text: &mut Writer, node: &Node) -> Result<(), Memory>
     requires { text.old.is_begun ≡ false }
-    ensures { OnOk result (text.new ≡ fold with_line text.old (own_line (tree_of node.now))) }
+    ensures { OnOk result (text.new ≡ fold with_line text.old (own_text_line (tree_of node.now))) }
 {
     match &node.kind {
         Kind::Cycle { fault } | Kind::Violator { fault } => write_fault(text, fault),
@@ -166,7 +166,7 @@ fn write_two(text: &mut Writer, two: &Two) -> Result<(), Memory>
     text.end_line()
 }
 
-fn write_place(text: &mut Writer, place: PivotPlace) -> Result<(), Memory>
+fn write_place(text: &mut Writer, place: PlacedPivot) -> Result<(), Memory>
     requires { text.old.is_begun ≡ false }
     ensures { OnOk result (text.new ≡ with_line text.old (number_of_line place.row
         ∷ number_of_line place.column ∷ [])) }

@@ -10,9 +10,9 @@ use Rattle.cmr_base.specs.Separations.{Lines, is_same_line, child_one, child_two
 use Rattle.cmr_base.proofs.ListsWithout.{in_from_contains, contains_from_in}
 use Rattle.cmr_base.proofs.RowLists.{filter_in, in_filter}
 use Rattle.cmr_base.proofs.Lists.{filter_same}
-use Rattle.cmr_base.proofs.Booleans.{eq_turned, not_is, is_not}
-use Rattle.tree_type.specs.Sides.{is_among, inside, outside, sides, HaveLines, IsReference, AreTwoBlocks, two_one, two_two, HasConnector, connector_rows, connector_columns, AreConnectors, AreThreeBlocks, three_one, three_two}
-use Rattle.tree_type.specs.SideLaws.{side_one, lines_in}
+use Rattle.cmr_base.proofs.Booleans.{eq_swapped, not_is, is_not}
+use Rattle.tree_type.specs.Sides.{is_among, inside, outside, sides, HaveLines, IsReference, AreTwoBlocks, two_one, two_two, HasConnector, connector_rows, connector_columns, AreConnectorsOfSides, AreThreeBlocks, three_one, three_two}
+use Rattle.tree_type.specs.SideLaws.{side_one, lines_kept}
 
 -- ---- tests
 
@@ -22,7 +22,7 @@ or_nothing false = refl
 
 among_is : (set : List ℕ) (x : ℕ) → is_among set x ≡ list_any (λ y. nat_eq y x) set
 among_is [] x = refl
-among_is (y ∷ ys) x = ap₂ (λ a b. a || b) (eq_turned x y) (among_is ys x)
+among_is (y ∷ ys) x = ap₂ (λ a b. a || b) (eq_swapped x y) (among_is ys x)
 
 -- ---- the lines of each side, of one kind
 
@@ -118,11 +118,11 @@ two_sums_separate M lines two = (to, from)
     )
 
 pub three_sums_separate : (M : ℕ → ℕ → ℤ) (lines : LineSet) (t : Three)
-    → (HaveLines 4 (sides lines t.side) × AreConnectors M (sides lines t.side) t × AreThreeBlocks M (sides lines t.side) t)
+    → (HaveLines 4 (sides lines t.side) × AreConnectorsOfSides M (sides lines t.side) t × AreThreeBlocks M (sides lines t.side) t)
     ↔ IsThreeSeparation M lines.rows lines.columns (side_one t.side) t.form t.first t.second
 three_sums_separate M lines t = (to, from)
   where
-    to : HaveLines 4 (sides lines t.side) × AreConnectors M (sides lines t.side) t × AreThreeBlocks M (sides lines t.side) t → IsThreeSeparation M lines.rows lines.columns (side_one t.side) t.form t.first t.second
+    to : HaveLines 4 (sides lines t.side) × AreConnectorsOfSides M (sides lines t.side) t × AreThreeBlocks M (sides lines t.side) t → IsThreeSeparation M lines.rows lines.columns (side_one t.side) t.form t.first t.second
     to (enough, joined, blocks) = record {
       one = connector_to_one lines t.side (first_is_flat t.form) t.first joined.first;
       two = connector_to_two lines t.side (second_is_flat t.form) t.second joined.second;
@@ -134,7 +134,7 @@ three_sums_separate M lines t = (to, from)
       enough = enough_to lines t.side 4 enough;
     }
 
-    from : IsThreeSeparation M lines.rows lines.columns (side_one t.side) t.form t.first t.second → HaveLines 4 (sides lines t.side) × AreConnectors M (sides lines t.side) t × AreThreeBlocks M (sides lines t.side) t
+    from : IsThreeSeparation M lines.rows lines.columns (side_one t.side) t.form t.first t.second → HaveLines 4 (sides lines t.side) × AreConnectorsOfSides M (sides lines t.side) t × AreThreeBlocks M (sides lines t.side) t
     from s = (
       enough_from lines t.side 4 s.enough,
       record {
@@ -164,8 +164,8 @@ not_among_is : (set : List ℕ) (x : ℕ) → not (is_among set x) ≡ not (list
 not_among_is set x = ap not (among_is set x)
 
 pub two_sums_have_children : (lines : LineSet) (two : Two)
-    → (two_one lines two ≡ lines_in (child_one (side_one two.side) (Row two.row ∷ [])) lines)
-    × (two_two lines two ≡ lines_in (child_two (side_one two.side) (Column two.column ∷ [])) lines)
+    → (two_one lines two ≡ lines_kept (child_one (side_one two.side) (Row two.row ∷ [])) lines)
+    × (two_two lines two ≡ lines_kept (child_two (side_one two.side) (Column two.column ∷ [])) lines)
 unfolding made
 two_sums_have_children lines two = (
   ap₂ made
@@ -185,8 +185,8 @@ named_column true c x = among_is (c.column ∷ c.other ∷ []) x
 named_column false c x = among_is (c.column ∷ []) x
 
 pub three_sums_have_children : (lines : LineSet) (t : Three)
-    → (three_one lines t ≡ lines_in (child_one (side_one t.side) (connector_lines (second_is_flat t.form) t.second)) lines)
-    × (three_two lines t ≡ lines_in (child_two (side_one t.side) (connector_lines (first_is_flat t.form) t.first)) lines)
+    → (three_one lines t ≡ lines_kept (child_one (side_one t.side) (connector_lines (second_is_flat t.form) t.second)) lines)
+    × (three_two lines t ≡ lines_kept (child_two (side_one t.side) (connector_lines (first_is_flat t.form) t.first)) lines)
 unfolding made
 three_sums_have_children lines t =
     let flat1 = first_is_flat t.form in

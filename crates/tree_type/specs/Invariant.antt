@@ -10,7 +10,7 @@ use Rattle.cmr_base.specs.LineSets.{AllBelow, IsRowSet, IsColumnSet}
 use Rattle.cmr_base.specs.Reductions.{HasLine}
 use Rattle.cmr_base.specs.Separations.{first_is_flat, second_is_flat}
 use Rattle.tree_type.specs.Sides.{HasConnector}
-use Rattle.tree_type.specs.Trees.{Finding, Cycle, Reduced, OneSum, Network, Conetwork, TwoSum, ThreeSum, Violator, Pivoted, Tree, Trees, Branch, NoTrees, MoreTrees, SizedTree, count_trees, lines_of, tree_of}
+use Rattle.tree_type.specs.Trees.{Finding, Cycle, Reduced, OneSum, Network, Conetwork, TwoSum, ThreeSum, Violator, Pivoted, Tree, Trees, Branch, NoTrees, MoreTrees, SizedTree, count_trees, lines_at_root, tree_of}
 
 -- lines of the matrix
 pub record AreLines (m : Matrix) (lines : LineSet) : Type 0 where
@@ -25,7 +25,7 @@ pub record AreLinesOf (part whole : LineSet) : Type 0 where
   pub columns : (column : ℕ) → Contains part.columns column → Contains whole.columns column
 
 -- so many arcs and walks, and nodes of a tree with so many arcs
-pub record HasSizes (arcs walks : ℕ) (n : net.Network) : Type 0 where
+pub record HasArcsAndWalks (arcs walks : ℕ) (n : net.Network) : Type 0 where
   pub arc_count : length n.arcs ≡ arcs
   pub walk_count : length n.walks ≡ walks
   pub arc_nodes : AllByRecursion (λ pair. (pair.tail ≤ arcs) × (pair.head ≤ arcs)) n.arcs
@@ -35,19 +35,19 @@ abbrev pub size_of : LineSet → ℕ
 size_of lines = length lines.rows + length lines.columns
 
 -- the lines that a node names in what it says are lines of the node, and its lists are as long as its lines allow
-abbrev pub Fits : LineSet → Finding → Trees → Type 0
-Fits lines (Cycle fault) trees = AreLinesOf fault lines
-Fits lines (Violator fault) trees = AreLinesOf fault lines
-Fits lines (Reduced steps) trees = AllByRecursion (HasLine lines.rows lines.columns) steps × (length steps ≤ size_of lines)
-Fits lines OneSum trees = count_trees trees ≤ size_of lines
-Fits lines (Network n) trees = HasSizes (length lines.rows) (length lines.columns) n
-Fits lines (Conetwork n) trees = HasSizes (length lines.columns) (length lines.rows) n
-Fits lines (TwoSum two) trees = AreLinesOf two.side lines × Contains lines.rows two.row × Contains lines.columns two.column
-Fits lines (ThreeSum three) trees = AreLinesOf three.side lines
+abbrev pub FitsLines : LineSet → Finding → Trees → Type 0
+FitsLines lines (Cycle fault) trees = AreLinesOf fault lines
+FitsLines lines (Violator fault) trees = AreLinesOf fault lines
+FitsLines lines (Reduced steps) trees = AllByRecursion (HasLine lines.rows lines.columns) steps × (length steps ≤ size_of lines)
+FitsLines lines OneSum trees = count_trees trees ≤ size_of lines
+FitsLines lines (Network n) trees = HasArcsAndWalks (length lines.rows) (length lines.columns) n
+FitsLines lines (Conetwork n) trees = HasArcsAndWalks (length lines.columns) (length lines.rows) n
+FitsLines lines (TwoSum two) trees = AreLinesOf two.side lines × Contains lines.rows two.row × Contains lines.columns two.column
+FitsLines lines (ThreeSum three) trees = AreLinesOf three.side lines
     × HasConnector (first_is_flat three.form) lines.rows lines.columns three.first
     × HasConnector (second_is_flat three.form) lines.rows lines.columns three.second
-Fits lines (Pivoted place) trees = Contains lines.rows place.row × Contains lines.columns place.column
-Fits lines finding trees = Unit {0}
+FitsLines lines (Pivoted place) trees = Contains lines.rows place.row × Contains lines.columns place.column
+FitsLines lines finding trees = Unit {0}
 
 -- how many children a node has
 abbrev pub HasChildren : Finding → ℕ → Type 0
@@ -62,7 +62,7 @@ abbrev mutual
   -- the node has lines of its parent, what it says fits them, and so do its children and theirs, down to at most so many levels
   pub IsTreeWithin : LineSet → ℕ → Tree → Type 0
   IsTreeWithin parent levels (Branch lines finding trees) =
-      (0 < levels) × AreLinesOf lines parent × Fits lines finding trees × HasChildren finding (count_trees trees) × AreTreesWithin lines (levels - 1) trees
+      (0 < levels) × AreLinesOf lines parent × FitsLines lines finding trees × HasChildren finding (count_trees trees) × AreTreesWithin lines (levels - 1) trees
 
   pub AreTreesWithin : LineSet → ℕ → Trees → Type 0
   AreTreesWithin parent levels NoTrees = Unit {0}
@@ -72,9 +72,9 @@ abbrev mutual
 pub record IsTreeFor (rows columns : ℕ) (tree : Tree) : Type 0 where
   pub rows_in : rows ≤ MAX_ROWS
   pub columns_in : columns ≤ MAX_COLUMNS
-  pub root_rows : AllBelow rows (lines_of tree).rows
-  pub root_columns : AllBelow columns (lines_of tree).columns
-  pub nodes : IsTreeWithin (lines_of tree) (MAX_DEPTH + 1) tree
+  pub root_rows : AllBelow rows (lines_at_root tree).rows
+  pub root_columns : AllBelow columns (lines_at_root tree).columns
+  pub nodes : IsTreeWithin (lines_at_root tree) (MAX_DEPTH + 1) tree
 
 -- what every decomposition tree is
 abbrev pub IsDecTree : SizedTree → Type 0

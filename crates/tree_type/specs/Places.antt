@@ -4,10 +4,10 @@ use Rattle.cmr_base.specs.declared.line.Line.{Line}
 use Rattle.cmr_base.specs.declared.line_set.LineSet.{LineSet}
 use Rattle.cmr_base.specs.Matrix.{Matrix}
 use Rattle.cmr_base.specs.Reductions.{rows_without, columns_without}
-use Rattle.pivots.specs.declared.place.PivotPlace.{PivotPlace}
+use Rattle.pivots.specs.declared.place.PlacedPivot.{PlacedPivot}
 use Rattle.pivots.specs.PivotedParts.{pivoted_part}
 use Rattle.tree_type.specs.Sides.{two_one, two_two, three_one, three_two}
-use Rattle.tree_type.specs.Trees.{Finding, Reduced, TwoSum, ThreeSum, Pivoted, Tree, Trees, Branch, NoTrees, MoreTrees, lines_of}
+use Rattle.tree_type.specs.Trees.{Finding, Reduced, TwoSum, ThreeSum, Pivoted, Tree, Trees, Branch, NoTrees, MoreTrees, lines_at_root}
 
 -- the lines that a node is to have: the root all lines of a matrix of these sizes, a child those that its parent gives it, and a
 -- child of a one-sum none that are named here
@@ -19,7 +19,7 @@ pub data Due : Type 0 where
 -- a pivot of the submatrix on some lines
 pub record MadePivot : Type 0 where
   pub lines : LineSet
-  pub place : PivotPlace
+  pub place : PlacedPivot
 
 -- the matrix after some pivots, of which the last one stands first
 abbrev pub matrix_after : Matrix → List MadePivot → Matrix
@@ -56,7 +56,7 @@ pivots_below lines finding pivots = pivots
 
 abbrev pub lines_of_each : Trees → List LineSet
 lines_of_each NoTrees = []
-lines_of_each (MoreTrees tree trees) = lines_of tree ∷ lines_of_each trees
+lines_of_each (MoreTrees tree trees) = lines_at_root tree ∷ lines_of_each trees
 
 abbrev mutual
   -- a node, and behind it the nodes below it

@@ -93,7 +93,7 @@ connector_columns true c = c.column ∷ c.other ∷ []
 connector_columns false c = c.column ∷ []
 
 -- the first connector in side one and the second in side two, with the values of the form
-pub record AreConnectors (M : ℕ → ℕ → ℤ) (s : Sides) (t : Three) : Type 0 where
+pub record AreConnectorsOfSides (M : ℕ → ℕ → ℤ) (s : Sides) (t : Three) : Type 0 where
   pub first : HasConnector (first_is_flat t.form) s.rows_one s.columns_one t.first
   pub second : HasConnector (second_is_flat t.form) s.rows_two s.columns_two t.second
   pub values : separations.AreConnectors M t.form t.first t.second

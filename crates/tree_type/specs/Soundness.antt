@@ -12,7 +12,7 @@ use Rattle.cmr_base.specs.CyclePlaces.{HasNoCycleFault}
 use Rattle.cmr_base.specs.Trees.{Reproduces}
 use Rattle.cmr_base.specs.R10.{IsR10}
 use Rattle.pivots.specs.PivotedParts.{IsTernaryPivot}
-use Rattle.tree_type.specs.Sides.{is_among, sides, HaveLines, IsReference, AreTwoBlocks, AreConnectors, HasCornerSign, AreThreeBlocks}
+use Rattle.tree_type.specs.Sides.{is_among, sides, HaveLines, IsReference, AreTwoBlocks, AreConnectorsOfSides, HasCornerSign, AreThreeBlocks}
 use Rattle.tree_type.specs.declared.refusal.Refusal.{Refusal}
 use Rattle.tree_type.specs.declared.refusal.Rule.{Rule}
 use Rattle.tree_type.specs.declared.refusal.Rule.TheVariants as rule
@@ -66,7 +66,7 @@ Demands rule.CycleFault m lines R10 children = HasNoCycleFault (entry (part m li
 Demands rule.TooShort m lines (TwoSum two) children = HaveLines 2 (sides lines two.side)
 Demands rule.TooShort m lines (ThreeSum three) children = HaveLines 4 (sides lines three.side)
 Demands rule.BadConnector m lines (TwoSum two) children = IsReference (entry m) (sides lines two.side) two.row two.column
-Demands rule.BadConnector m lines (ThreeSum three) children = AreConnectors (entry m) (sides lines three.side) three
+Demands rule.BadConnector m lines (ThreeSum three) children = AreConnectorsOfSides (entry m) (sides lines three.side) three
 Demands rule.CornerSign m lines (ThreeSum three) children = HasCornerSign (entry m) three
 Demands rule.BadBlock m lines (TwoSum two) children = AreTwoBlocks (entry m) (sides lines two.side) two.row two.column
 Demands rule.BadBlock m lines (ThreeSum three) children = AreThreeBlocks (entry m) (sides lines three.side) three

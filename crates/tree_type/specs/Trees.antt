@@ -5,7 +5,7 @@ use Rattle.cmr_base.specs.declared.line_set.LineSet.{LineSet}
 use Rattle.cmr_base.specs.declared.network.Network as net
 use Rattle.cmr_base.specs.declared.separation.Two.{Two}
 use Rattle.cmr_base.specs.declared.separation.Three.{Three}
-use Rattle.pivots.specs.declared.place.PivotPlace.{PivotPlace}
+use Rattle.pivots.specs.declared.place.PlacedPivot.{PlacedPivot}
 use Rattle.tree_type.specs.declared.tree.Node.{Node}
 use Rattle.tree_type.specs.declared.tree.Kind.TheOpen as open'
 use Rattle.tree_type.specs.declared.tree.Kind.TheFolds.{fold-Node, fold-NodeList}
@@ -25,7 +25,7 @@ pub data Finding : Type 0 where
   Enumerated : Finding
   Violator : LineSet → Finding
   Undecided : Finding
-  Pivoted : PivotPlace → Finding
+  Pivoted : PlacedPivot → Finding
 
 mutual
   -- a node: its lines, what it says of them, and its children
@@ -89,5 +89,8 @@ abbrev pub count_trees : Trees → ℕ
 count_trees NoTrees = 0
 count_trees (MoreTrees tree trees) = suc (count_trees trees)
 
-abbrev pub lines_of : Tree → LineSet
-lines_of (Branch lines finding trees) = lines
+abbrev pub finding_of : Tree → Finding
+finding_of (Branch lines finding trees) = finding
+
+abbrev pub lines_at_root : Tree → LineSet
+lines_at_root (Branch lines finding trees) = lines

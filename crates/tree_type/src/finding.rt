@@ -6,7 +6,7 @@ ghost use Rattle.tree_type.specs.Findings.{finding_shown};
 
 use crate::{Kind, Node, NodeList};
 use cmr_base::{LineList, LineSet, Memory, Network, Three, Two};
-use pivots::PivotPlace;
+use pivots::PlacedPivot;
 use std::alloc::Global;
 
 /// What a node says of the submatrix on its lines.
@@ -24,7 +24,7 @@ pub enum Finding {
     Enumerated,
     Violator(LineSet),
     Undecided,
-    Pivoted(PivotPlace),
+    Pivoted(PlacedPivot),
 }
 
 /// The node that says this of these lines, over these children, which are as many as it is to have.

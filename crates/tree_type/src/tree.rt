@@ -3,7 +3,7 @@ ghost use Rattle.std.specs.Prelude.{◌≡◌, ◌<◌, ◌++◌, [], ◌∷◌,
 ghost use Rattle.tree_type.specs.Trees.{nodes_in, tree_of, trees_of, trees_from};
 
 use cmr_base::{LineList, LineSet, Memory, Network, Three, Two};
-use pivots::PivotPlace;
+use pivots::PlacedPivot;
 use std::alloc::Global;
 
 /// A node: some lines of the matrix, and what is known of the submatrix on them.
@@ -53,7 +53,7 @@ pub enum Kind {
     Undecided,
     /// The submatrix is what its child says of the matrix in which it is replaced by its pivot at this place.
     Pivoted {
-        place: PivotPlace,
+        place: PlacedPivot,
         child: Box<Node>,
     },
 }

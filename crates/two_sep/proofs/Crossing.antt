@@ -15,7 +15,7 @@ use Rattle.cmr_base.proofs.ListedLines.{contains_first_lines, first_lines_contai
 use Rattle.cmr_base.proofs.SeedLemmas.{good_two_seed}
 use Rattle.cmr_base.proofs.SignEntries.{sign_of_entry}
 use Rattle.cmr_base.proofs.SignedProducts.{same_product}
-use Rattle.two_sep.specs.FirstSeeds.{Separates, HasNoTwoSeparation, HasNoGoodSeed, AreTogether, ArePassed, line_of}
+use Rattle.two_sep.specs.FirstSeeds.{TwoSeparates, HasNoTwoSeparation, HasNoGoodSeed, AreTogether, ArePassed, line_at_number}
 use Rattle.two_sep.proofs.LineNumbers.{line_of-row, line_of-column}
 
 first_factor : (g x : ℤ) → g *ℤ x ≢ pos 0 → g ≢ pos 0
@@ -52,10 +52,10 @@ module _ (m : Matrix) (is : IsMatrix m) where
         enough = s.enough;
       }
 
-  at_row : (side : Lines) (r : ℕ) → r < height m → side (line_of (height m) r) ≡ side (Row r)
+  at_row : (side : Lines) (r : ℕ) → r < height m → side (line_at_number (height m) r) ≡ side (Row r)
   at_row side r l = ap side (line_of-row (height m) r l)
 
-  at_column : (side : Lines) (c : ℕ) → c < m.width → side (line_of (height m) (height m + c)) ≡ side (Column c)
+  at_column : (side : Lines) (c : ℕ) → c < m.width → side (line_at_number (height m) (height m + c)) ≡ side (Column c)
   at_column side c l = ap side (line_of-column (height m) c)
 
   -- the lines of a nonzero without good seed are together
@@ -72,7 +72,7 @@ module _ (m : Matrix) (is : IsMatrix m) where
           absurd (none g.0 g.1 g.2)
 
   -- a separation has no reference whose lines are together
-  pub parted : (i j : ℕ) (side : Lines) → i < height m → j < m.width → AreTogether m i (height m + j) → Separates m side i j → ⊥
+  pub parted : (i j : ℕ) (side : Lines) → i < height m → j < m.width → AreTogether m i (height m + j) → TwoSeparates m side i j → ⊥
   parted i j side li lj together s = false≢true (sym s.two.0.1 ∙ (sym (at_row side i li) ∙ (together i j side s ∙ (at_column side j lj ∙ s.one.0.1))))
 
 -- ---- the labels
@@ -82,7 +82,7 @@ module _ (m : Matrix) where
   own_labels_passed is labels e = record {
     matrix = is;
     count = ap (λ (xs : List ℕ). length xs) e ∙ length-range_with_len 0 (height m + m.width);
-    labelled = λ x y hx hy f i j side s. ap (λ (k : ℕ). side (line_of (height m) k)) (sym (label x hx) ∙ (f ∙ label y hy));
+    labelled = λ x y hx hy f i j side s. ap (λ (k : ℕ). side (line_at_number (height m) k)) (sym (label x hx) ∙ (f ∙ label y hy));
     before = λ i j li lj b. absurd (elim b [
       | inl l ↦ (omega arith)
       | inr h ↦ (let l = h.1 in omega arith)

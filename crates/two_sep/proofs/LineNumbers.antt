@@ -4,12 +4,12 @@ use Rattle.cmr_base.specs.declared.line.Line.{Line}
 use Rattle.cmr_base.specs.declared.line.Line.TheVariants.{Row, Column}
 use Rattle.cmr_base.specs.Seeds.{IsLine, line_number}
 use Rattle.cmr_base.proofs.Booleans.{is_lt, is_not_lt}
-use Rattle.two_sep.specs.FirstSeeds.{line_of}
+use Rattle.two_sep.specs.FirstSeeds.{line_at_number}
 
-pub line_of-row : (m r : ℕ) → r < m → line_of m r ≡ Row r
+pub line_of-row : (m r : ℕ) → r < m → line_at_number m r ≡ Row r
 line_of-row m r l = rw (is_lt r m l) refl
 
-pub line_of-column : (m c : ℕ) → line_of m (m + c) ≡ Column c
+pub line_of-column : (m c : ℕ) → line_at_number m (m + c) ≡ Column c
 line_of-column m c = let e : (m + c) - m ≡ c = omega arith in rw (is_not_lt (m + c) m (omega arith), e) refl
 
 pub number_in : (m n : ℕ) (line : Line) → IsLine m n line → line_number m line < m + n

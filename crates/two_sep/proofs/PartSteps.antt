@@ -20,7 +20,7 @@ use Rattle.cmr_base.proofs.Booleans.{not_is, or_is, or_left, or_right, not_false
 use Rattle.cmr_base.specs.Seeds.{IsGrown, IsLine, line_number}
 use Rattle.cmr_base.proofs.SeedLemmas.{line_is}
 use Rattle.cmr_base.specs.ColumnSets.{has_column}
-use Rattle.two_sep.specs.FoundParts.{HasPartLine, AreFound, seen_lines}
+use Rattle.two_sep.specs.FoundParts.{HasPartLine, ArePartsFound, seen_lines}
 use Rattle.two_sep.proofs.LineNumbers.{number_in}
 use Rattle.line_growth.proofs.FilteredLines.{filter_more}
 use Rattle.two_sep.proofs.FirstTwo.{listed_filter}
@@ -83,7 +83,7 @@ module _ (m : Matrix) where
   abbrev h : ℕ
   h = height m
 
-  pub found_none : (seen : Lines) → ((line : Line) → seen line ≡ false) → AreFound m [] seen 0
+  pub found_none : (seen : Lines) → ((line : Line) → seen line ≡ false) → ArePartsFound m [] seen 0
   found_none seen e = record {
     row_sets = λ a l. absurd (omega arith);
     column_sets = λ a l. absurd (omega arith);
@@ -96,12 +96,12 @@ module _ (m : Matrix) where
     early = λ a l. absurd (omega arith);
   }
 
-  module _ (parts : List LineSet) (seen : Lines) (number : ℕ) (found : AreFound m parts seen number) (line : Line) (inside : IsLine (height m) m.width line) (number_is : line_number (height m) line ≡ number) where
+  module _ (parts : List LineSet) (seen : Lines) (number : ℕ) (found : ArePartsFound m parts seen number) (line : Line) (inside : IsLine (height m) m.width line) (number_is : line_number (height m) line ≡ number) where
     -- a line with this number is that line
     line_here : (other : Line) → IsLine h m.width other → number ≤ line_number h other → line_number h other < number + 1 → other ≡ line
     line_here other l low high = line_is h m.width other line l inside (omega arith)
 
-    pub found_passes : seen line ≡ true → AreFound m parts seen (number + 1)
+    pub found_passes : seen line ≡ true → ArePartsFound m parts seen (number + 1)
     found_passes here = record {
       row_sets = found.row_sets;
       column_sets = found.column_sets;
@@ -199,7 +199,7 @@ module _ (m : Matrix) where
               by_lists [] (c ∷ f.0) (rows_are ∙ none_pass (λ x. S (Row x)) h (λ k a. before (Row k) a (omega arith))) (columns_are ∙ f.1) ∙ at
 
       -- the parts with this one
-      pub found_more : (seen' : Lines) → ((x : Line) → seen' x ≡ (seen x || S x)) → AreFound m (parts ++ part ∷ []) seen' (number + 1)
+      pub found_more : (seen' : Lines) → ((x : Line) → seen' x ≡ (seen x || S x)) → ArePartsFound m (parts ++ part ∷ []) seen' (number + 1)
       found_more seen' is = record {
         row_sets = λ a l. each (λ p. IsRowSet m p.rows) found.row_sets (subst (IsRowSet m) (sym rows_are) (row_set_from_within m (filter (λ x. S (Row x)) (first_lines h)) (IsStrictlyIncreasing-filter (λ x. S (Row x)) (first_lines h) (first_lines_increase h)) (λ x i. (in_filter (λ x. S (Row x)) x (first_lines h) i).0))) a l;
         column_sets = λ a l. each (λ p. IsColumnSet m p.columns) found.column_sets (subst (IsColumnSet m) (sym columns_are) (column_set_from_within m (filter (λ x. S (Column x)) (first_lines m.width)) (IsStrictlyIncreasing-filter (λ x. S (Column x)) (first_lines m.width) (first_lines_increase m.width)) (λ x i. (in_filter (λ x. S (Column x)) x (first_lines m.width) i).0))) a l;
@@ -268,7 +268,7 @@ module _ (m : Matrix) where
           apart_from : (a b : ℕ) (line : Line) → a < length parts → b ≡ length parts → HasPartLine (parts ++ part ∷ []) a line → HasPartLine (parts ++ part ∷ []) b line → ⊥
           apart_from a b other p q i j = let k = new_line b other q j in false≢true (sym (unseen other (in_part other k) (inside_of other k)) ∙ found.in_seen a other p (old_line a other p i))
 
-  pub found_all : (parts : List LineSet) (seen : Lines) (number : ℕ) → AreFound m parts seen number → height m + m.width ≤ number → AreComponents m parts
+  pub found_all : (parts : List LineSet) (seen : Lines) (number : ℕ) → ArePartsFound m parts seen number → height m + m.width ≤ number → AreComponents m parts
   found_all parts seen number found full = record {
     row_sets = found.row_sets;
     column_sets = found.column_sets;

@@ -11,12 +11,12 @@ use Rattle.cmr_base.proofs.SeedLemmas.{line_is}
 use Rattle.cmr_base.proofs.Booleans.{not_false, not_is}
 use Rattle.line_growth.specs.declared.growing_set.GrowingSet.{GrowingSet}
 use Rattle.line_growth.specs.declared.rule.Block.TheVariants.{Product, Zero}
-use Rattle.line_growth.specs.declared.rule.Rule.{Rule}
+use Rattle.line_growth.specs.declared.rule.GrowthRule.{GrowthRule}
 use Rattle.line_growth.specs.GrowingSets.{HasNoLeaving, IsClosedIn, IsGrowing, IsLeaving, set_of}
 use Rattle.two_sep.specs.FirstSeeds.{HasNoGoodSeed, IsFirstGoodSide}
 use Rattle.two_sep.proofs.LineNumbers.{number_in}
 
-abbrev pub rule_at : ℕ → ℕ → Rule
+abbrev pub rule_at : ℕ → ℕ → GrowthRule
 rule_at i j = record { upper = Zero; lower = Product (record { row = i; column = j }) }
 
 module _ (m : Matrix) (i j : ℕ) (row : i < height m) (column : j < m.width) (nonzero : entry m i j ≢ pos 0) where

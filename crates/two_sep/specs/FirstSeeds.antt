@@ -9,18 +9,18 @@ use Rattle.cmr_base.specs.Separations.{Lines, listed, IsTwoSeparation}
 use Rattle.cmr_base.specs.Seeds.{IsGoodTwo, IsFirstTwo, line_number}
 
 -- a two-separation of all lines of the matrix
-abbrev pub Separates : Matrix → Lines → ℕ → ℕ → Type 0
-Separates m side i j = IsTwoSeparation (entry m) (first_lines (height m)) (first_lines m.width) side i j
+abbrev pub TwoSeparates : Matrix → Lines → ℕ → ℕ → Type 0
+TwoSeparates m side i j = IsTwoSeparation (entry m) (first_lines (height m)) (first_lines m.width) side i j
 
 abbrev pub HasNoTwoSeparation : Matrix → Type 0
-HasNoTwoSeparation m = (i j : ℕ) (side : Lines) → ¬ (Separates m side i j)
+HasNoTwoSeparation m = (i j : ℕ) (side : Lines) → ¬ (TwoSeparates m side i j)
 
 -- the separation of the first good two-seed
 pub record IsFirstTwoSeparation (m : Matrix) (two : Two) : Type 0 where
   pub row_set : IsRowSet m two.side.rows
   pub column_set : IsColumnSet m two.side.columns
   pub first : IsFirstTwo (height m) m.width (entry m) (listed two.side.rows two.side.columns) two.row two.column
-  pub separates : Separates m (listed two.side.rows two.side.columns) two.row two.column
+  pub separates : TwoSeparates m (listed two.side.rows two.side.columns) two.row two.column
 
 -- ---- at one nonzero
 
@@ -36,11 +36,11 @@ pub record IsFirstGoodSide (m : Matrix) (i j : ℕ) (side : Lines) : Type 0 wher
 -- ---- lines that no two-separation parts
 
 -- the line of a number, where there are so many rows
-abbrev pub line_of : ℕ → ℕ → Line
-line_of rows k = cond (nat_lt k rows) (Row k) (Column (k - rows))
+abbrev pub line_at_number : ℕ → ℕ → Line
+line_at_number rows k = cond (nat_lt k rows) (Row k) (Column (k - rows))
 
 abbrev pub AreTogether : Matrix → ℕ → ℕ → Type 0
-AreTogether m x y = (i j : ℕ) (side : Lines) → Separates m side i j → side (line_of (height m) x) ≡ side (line_of (height m) y)
+AreTogether m x y = (i j : ℕ) (side : Lines) → TwoSeparates m side i j → side (line_at_number (height m) x) ≡ side (line_at_number (height m) y)
 
 -- lines of one label are together, and so are the lines of each nonzero before (row, column)
 pub record ArePassed (m : Matrix) (row column : ℕ) (labels : List ℕ) : Type 0 where

@@ -20,7 +20,7 @@ seen_lines rows columns (Row row) = has_column rows row
 seen_lines rows columns (Column column) = has_column columns column
 
 -- the parts of the lines before one, which are those that were seen
-pub record AreFound (m : Matrix) (parts : List LineSet) (seen : Lines) (number : ℕ) : Type 0 where
+pub record ArePartsFound (m : Matrix) (parts : List LineSet) (seen : Lines) (number : ℕ) : Type 0 where
   pub row_sets : (a : ℕ) → a < length parts → IsRowSet m (part_at parts a).rows
   pub column_sets : (a : ℕ) → a < length parts → IsColumnSet m (part_at parts a).columns
   pub components : (a : ℕ) → a < length parts → IsComponent (height m) m.width (entry m) (listed (part_at parts a).rows (part_at parts a).columns)

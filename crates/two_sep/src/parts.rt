@@ -10,7 +10,7 @@ ghost use Rattle.two_sep.specs.FoundParts.{seen_lines};
 
 use cmr_base::columns::{add_set, empty_set, has_column};
 use cmr_base::{Line, LineSetList, Matrix, Memory, RowsAndColumns};
-use line_growth::{Block, GrowingSet, Rule, line_at};
+use line_growth::{Block, GrowingSet, GrowthRule, line_at};
 use std::alloc::Global;
 
 /// The connected parts, by their first lines: two lines are in one part where nonzeros link them.
@@ -62,7 +62,7 @@ fn grow_part(matrix: &RowsAndColumns<'_>, part: &mut GrowingSet, line: Line) -> 
     ensures grown { OnOk result (IsGrown (height matrix.now) matrix.now.width (entry matrix.now)
         zeros zeros (line ∷ []) (set_of part.new)) }
 {
-    let rule = Rule {
+    let rule = GrowthRule {
         upper: Block::Zero,
         lower: Block::Zero,
     };

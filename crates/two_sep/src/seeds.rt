@@ -5,7 +5,7 @@ ghost use Rattle.line_growth.specs.GrowingSets.{HasRoom, set_of};
 ghost use Rattle.two_sep.specs.FirstSeeds.{HasNoGoodSeed, IsFirstGoodSide};
 
 use cmr_base::{Line, Memory, RowsAndColumns};
-use line_growth::{Block, GrowingSet, Place, Rule, line_at};
+use line_growth::{Block, GrowingSet, GrowthRule, Place, line_at};
 use std::alloc::Global;
 
 /// The side to which the first good seed at a nonzero grows, `None` where no seed there is good. Where a line grows to all
@@ -24,7 +24,7 @@ pub fn first_good_side(
         × IsFirstGoodSide matrix.now row column (set_of side))) }
 {
     let rows = matrix.rows();
-    let rule = Rule {
+    let rule = GrowthRule {
         upper: Block::Zero,
         lower: Block::Product(Place { row, column }),
     };

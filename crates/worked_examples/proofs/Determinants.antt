@@ -6,8 +6,8 @@ use Rattle.cmr_base.specs.Determinants.{determinant}
 use Rattle.ghouila.specs.IntegralLaws.{IsFeasible, IsMidpoint, IsMultiple, IsVertex, HasIntegralVertices, row_value}
 
 -- 1 1 / 1 -1
-abbrev turned : Matrix
-turned = record { rows = (pos 1 ∷ pos 1 ∷ []) ∷ (pos 1 ∷ negsuc 0 ∷ []) ∷ []; width = 2 }
+abbrev hadamard : Matrix
+hadamard = record { rows = (pos 1 ∷ pos 1 ∷ []) ∷ (pos 1 ∷ negsuc 0 ∷ []) ∷ []; width = 2 }
 
 -- 1 1 0 / 0 1 1 / 1 0 1
 abbrev triangle : Matrix
@@ -29,15 +29,15 @@ edges = record {
   width = 6;
 }
 
-of_no_lines : determinant (entry turned) [] [] ≡ pos 1
+of_no_lines : determinant (entry hadamard) [] [] ≡ pos 1
 of_no_lines = refl
 
-of_turned : determinant (entry turned) (0 ∷ 1 ∷ []) (0 ∷ 1 ∷ []) ≡ negsuc 1
-of_turned = refl
+of_hadamard : determinant (entry hadamard) (0 ∷ 1 ∷ []) (0 ∷ 1 ∷ []) ≡ negsuc 1
+of_hadamard = refl
 
 -- the order of the lines gives the sign
-of_turned_columns : determinant (entry turned) (0 ∷ 1 ∷ []) (1 ∷ 0 ∷ []) ≡ pos 2
-of_turned_columns = refl
+of_hadamard_columns : determinant (entry hadamard) (0 ∷ 1 ∷ []) (1 ∷ 0 ∷ []) ≡ pos 2
+of_hadamard_columns = refl
 
 of_triangle : determinant (entry triangle) (0 ∷ 1 ∷ 2 ∷ []) (0 ∷ 1 ∷ 2 ∷ []) ≡ pos 2
 of_triangle = refl
@@ -64,18 +64,18 @@ bounds (suc row) = pos 0
 abbrev half : ℕ → ℤ
 half column = pos 1
 
-half_is_feasible : IsFeasible turned bounds half (pos 2)
+half_is_feasible : IsFeasible hadamard bounds half (pos 2)
 half_is_feasible = record { positive = omega (arith, ints); rows = rows; columns = λ column within. omega (arith, ints) }
   where
-    rows : (row : ℕ) → row < 2 → row_value turned (0 ∷ 1 ∷ []) half row ≤ℤ (pos 2 *ℤ bounds row)
+    rows : (row : ℕ) → row < 2 → row_value hadamard (0 ∷ 1 ∷ []) half row ≤ℤ (pos 2 *ℤ bounds row)
     rows zero within = omega (arith, ints)
     rows (suc zero) within = omega (arith, ints)
     rows (suc (suc row)) within = absurd (omega arith)
 
-half_is_vertex : IsVertex turned bounds half (pos 2)
+half_is_vertex : IsVertex hadamard bounds half (pos 2)
 half_is_vertex = record { feasible = half_is_feasible; extreme = extreme }
   where
-    extreme : (u v : ℕ → ℤ) (e : ℤ) → IsFeasible turned bounds u e → IsFeasible turned bounds v e → IsMidpoint 2 half (pos 2) u v e → (column : ℕ) → column < 2 → u column ≡ v column
+    extreme : (u v : ℕ → ℤ) (e : ℤ) → IsFeasible hadamard bounds u e → IsFeasible hadamard bounds v e → IsMidpoint 2 half (pos 2) u v e → (column : ℕ) → column < 2 → u column ≡ v column
     extreme u v e in_u in_v between zero within =
         let a = in_u.rows 0 (omega arith) in
         let b = in_u.rows 1 (omega arith) in
@@ -97,5 +97,5 @@ half_is_vertex = record { feasible = half_is_feasible; extreme = extreme }
 half_is_not_whole : ¬ (IsMultiple (pos 2) (pos 1))
 half_is_not_whole (k, e) = omega (arith, ints)
 
-no_integral_vertices : ¬ (HasIntegralVertices turned)
+no_integral_vertices : ¬ (HasIntegralVertices hadamard)
 no_integral_vertices all = half_is_not_whole (all bounds half (pos 2) half_is_vertex 0 (omega arith))

@@ -74,7 +74,7 @@ fn comparisons(rt: HostRuntime) -> Result<(), Fail> {
         (&[(0, 1)], &[(1, 0)], "1 1/-1/", true, true),
         // From a node below the meeting node to another one.
         (&[(1, 0), (0, 2)], &[(1, 2)], path, true, true),
-        // An arc turned round, and the walk turned round.
+        // An arc reversed, and the walk reversed.
         (&[(1, 0), (1, 2)], &[(0, 2)], path, true, false),
         (forwards, &[(2, 0)], path, true, false),
         // A path that is too short, a walk too many, none, and a node out of range.

@@ -1,7 +1,7 @@
 // Signings of sets of rows: each row gets +1 or -1, and every column sum is -1, 0 or 1.
 use crate::given::{bytes, indices, is_text, lines_text, matrix};
 use cmr_base::{Matrix, Memory};
-use ghouila::{Pivot, Signing, plain_signing, sign_or_violate};
+use ghouila::{Pivot, SigningOrViolator, plain_signing, sign_or_violate};
 use sign_tool::{SetSigning, sign_set};
 use std::alloc::Global;
 use std::test::Fail;
@@ -33,8 +33,8 @@ fn first(alloc: Global, matrix: &Matrix, rows: &[u32]) -> Result<Vec<u8>, Fail> 
 fn end(alloc: Global, matrix: &Matrix, rows: &[u32]) -> Result<Vec<u8>, Fail> {
     let rows = indices(alloc, matrix.rows(), rows)?;
     match sign_or_violate(alloc, matrix, &rows)? {
-        Signing::Signed(signs) => signs_text(alloc, signs.as_slice()),
-        Signing::Violated(lines) => lines_text(alloc, &lines),
+        SigningOrViolator::Signed(signs) => signs_text(alloc, signs.as_slice()),
+        SigningOrViolator::Violated(lines) => lines_text(alloc, &lines),
     }
 }
 

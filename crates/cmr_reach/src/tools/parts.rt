@@ -1,7 +1,7 @@
 //! The two matrices of a decomposition tree whose root is a sum of them.
 ghost use Rattle.clap.specs.Words.{app_of, found_of, rows_of};
 ghost use Rattle.std.specs.Prelude.{◌++◌, ◌≡◌, IfOk, IsTrue, OnOk};
-ghost use Rattle.tree_text.specs.Reading.{plain};
+ghost use Rattle.tree_text.specs.Reading.{plain_of};
 ghost use Rattle.tree_type.specs.Soundness.{IsSound};
 ghost use Rattle.cmr_base.specs.Matrix.{IsMatrix};
 ghost use Rattle.cmr_front.specs.Evidence.{ReportsTree};
@@ -176,7 +176,7 @@ fn check_and_part<'a>(
     tree: &DecTree,
 ) -> Result<Outcome<'a>, Memory>
     ensures { IfOk result (λ outcome. PartsDecides (parts_order_of options.now) matrix.now
-        (plain tree.now) (outcome_report outcome)) }
+        (plain_of tree.now) (outcome_report outcome)) }
 {
     let found = accept(alloc, matrix, tree)?;
     match &found {
@@ -193,7 +193,7 @@ fn part_root<'a>(
 ) -> Result<Outcome<'a>, Memory>
     requires { IsSound matrix.now tree.now }
     ensures { IfOk result (λ outcome. PartsDecides (parts_order_of options.now) matrix.now
-        (plain tree.now) (outcome_report outcome)) }
+        (plain_of tree.now) (outcome_report outcome)) }
 {
     let word = root_word(tree);
     let arranged = arrange_root(alloc, matrix, tree)?;
@@ -204,7 +204,7 @@ fn part_root<'a>(
 }
 
 fn root_word(tree: &DecTree) -> &'static [u8]
-    ensures { result.now ≡ root_word (root_of (plain tree.now)) }
+    ensures { result.now ≡ root_word (root_of (plain_of tree.now)) }
 {
     word_of(kind_of(tree.root()))
 }
@@ -212,7 +212,7 @@ fn root_word(tree: &DecTree) -> &'static [u8]
 // The two matrices of the root, where it is a sum of two.
 fn arrange_root(alloc: Global, matrix: &Matrix, tree: &DecTree) -> Result<Option<Arranged>, Memory>
     requires { IsSound matrix.now tree.now }
-    ensures { IfOk result (IsArranged matrix.now (root_of (plain tree.now))) }
+    ensures { IfOk result (IsArranged matrix.now (root_of (plain_of tree.now))) }
 {
     prove!(matrix.rows() <= MAX_ROWS);
     match &tree.root().kind {

@@ -13,7 +13,7 @@ ghost use Rattle.cmr_front.specs.Words.Reading.{Gives};
 ghost use Rattle.cmr_front.specs.declared.outcome.FaultKind.TheVariants as faults;
 ghost use Rattle.cmr_front.specs.declared.status.Answer.{Answer};
 ghost use Rattle.cmr_reach.specs.RowSet.{set_of_text};
-ghost use Rattle.cmr_reach.specs.Sign.{IsAnswerFor, SignDecides, SignReports, sign_app, sign_lines, sign_mark, sign_order, sign_order_in, sign_order_of, sign_report, sign_tool, signed_report, step_lines, step_words, violated_report};
+ghost use Rattle.cmr_reach.specs.Sign.{IsAnswerFor, SignDecides, SignReports, sign_app, sign_lines, sign_mark, sign_order, sign_order_in, sign_order_of, sign_report, sign_tool, signed_report, step_lines, sign_step_words, violated_report};
 
 use clap::{ArgMatches, Command};
 use cmr_base::{Indices, LineSet, Matrix, Memory, SignList, Word};
@@ -225,7 +225,7 @@ fn push_steps(text: &mut Vec<u8>, steps: &[Pivot]) -> Result<(), Memory>
 }
 
 fn push_step(text: &mut Vec<u8>, row: u32, column: Option<u32>) -> Result<(), Memory>
-    ensures { OnOk result (text.new.items ≡ text.old.items ++ step_words row column) }
+    ensures { OnOk result (text.new.items ≡ text.old.items ++ sign_step_words row column) }
 {
     match column {
         None => {

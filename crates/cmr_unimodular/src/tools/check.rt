@@ -3,7 +3,7 @@ ghost use Rattle.camion_sign.specs.Chains.{IsSoundChain};
 ghost use Rattle.cert_check.specs.Laws.{Tells};
 ghost use Rattle.clap.specs.Words.{app_of, found_of, rows_of};
 ghost use Rattle.std.specs.Prelude.{◌≡◌, IfOk, IsTrue};
-ghost use Rattle.tree_text.specs.Reading.{plain};
+ghost use Rattle.tree_text.specs.Reading.{plain_of};
 ghost use Rattle.tree_type.specs.Soundness.{IsSound};
 ghost use Rattle.tree_type.specs.Verdicts.{verdict_shown};
 ghost use Rattle.cmr_base.specs.LineSets.{AllBelow, IsColumnSet, IsRowSet};
@@ -218,7 +218,7 @@ fn decide_tree<'a>(
 
 fn check_tree<'a>(alloc: Global, matrix: &Matrix, tree: &DecTree) -> Result<Outcome<'a>, Memory>
     ensures { IfOk result (λ outcome.
-        TreeDecides matrix.now (plain tree.now) (outcome_report outcome)) }
+        TreeDecides matrix.now (plain_of tree.now) (outcome_report outcome)) }
 {
     let found = accept(alloc, matrix, tree)?;
     match &found {
@@ -230,7 +230,7 @@ fn check_tree<'a>(alloc: Global, matrix: &Matrix, tree: &DecTree) -> Result<Outc
 fn accepted_tree<'a>(alloc: Global, matrix: &Matrix, tree: &DecTree) -> Result<Outcome<'a>, Memory>
     requires { IsSound matrix.now tree.now }
     ensures { IfOk result (λ outcome.
-        TreeDecides matrix.now (plain tree.now) (outcome_report outcome)) }
+        TreeDecides matrix.now (plain_of tree.now) (outcome_report outcome)) }
 {
     let root = tree.root();
     let rows = matrix.rows();

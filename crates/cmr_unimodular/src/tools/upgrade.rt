@@ -1,7 +1,7 @@
 //! Writing a decomposition tree anew, in its canonical text.
 ghost use Rattle.clap.specs.Words.{app_of, found_of, rows_of};
 ghost use Rattle.std.specs.Prelude.{◌≡◌, IfOk, IsTrue};
-ghost use Rattle.tree_text.specs.Reading.{plain};
+ghost use Rattle.tree_text.specs.Reading.{plain_of};
 ghost use Rattle.cmr_front.specs.Evidence.{ReportsTree};
 ghost use Rattle.cmr_front.specs.Outcome.{outcome_report};
 ghost use Rattle.cmr_front.specs.Run.{Means, RunsOver, work};
@@ -120,7 +120,7 @@ fn upgrade_text<'a>(
 
 fn upgraded<'a>(alloc: Global, name: &'a str, tree: &DecTree) -> Result<Outcome<'a>, Memory>
     ensures { IfOk result (λ outcome. outcome_report outcome
-        ≡ upgrade_report name.entry.now (plain tree.now)) }
+        ≡ upgrade_report name.entry.now (plain_of tree.now)) }
 {
     let bytes = write_tree(alloc, tree)?;
     let output = upgraded_line(alloc, count_nodes(tree))?;

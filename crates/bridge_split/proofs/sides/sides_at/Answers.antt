@@ -5,7 +5,7 @@ use Rattle.cmr_base.specs.Matrix.{height}
 use Rattle.cmr_base.specs.Splits.{AreSides, IsOddClosed}
 use Rattle.cmr_base.specs.Trees.{support}
 use Rattle.cmr_base.proofs.Places.{members_below}
-use Rattle.bridge_split.specs.Cutting.{part_at, IsCutTable}
+use Rattle.bridge_split.specs.Cutting.{rows_at_part, IsCutTable}
 use Rattle.bridge_split.specs.Forests.{depth_at, parent_at, joins, HasRoute, IsTwoColoured}
 use Rattle.bridge_split.proofs.SidesOfParts.{parts_few, parts_below, sides_are, path_low, odd_closed}
 use Rattle.bridge_split.proofs.sides.sides_at.Goals as goal
@@ -20,7 +20,7 @@ new-requires-clause-few c =
 
 pub new-requires-clause-rows : goal.new-requires-clause-rows
 new-requires-clause-rows c =
-    subst (λ (parts : List (List ℕ)). (a : ℕ) → a < length parts → AllBelow (height c.args.matrix.now) (part_at parts a)) (sym c.as_slice-parts.ensures)
+    subst (λ (parts : List (List ℕ)). (a : ℕ) → a < length parts → AllBelow (height c.args.matrix.now) (rows_at_part parts a)) (sym c.as_slice-parts.ensures)
     (parts_below (support c.args.matrix.now) c.args.rows.now c.args.row c.args.parts.now c.requires.parts (height c.args.matrix.now) c.requires.rows)
 
 pub returns-in-None : goal.returns-in-None
@@ -61,6 +61,6 @@ returns c =
     let cuts = subst (λ (ps : List (List ℕ)). IsCutTable M c.args.row ps (length ps) table.cuts.items) c.as_slice-parts.ensures c.in_ok-table.ensures.cuts in
     let route = subst (λ (before : List ℕ). HasRoute (joins table) table.count (depth_at forest.depth.items) before c.push_path.new.path one two) c.new-path.ensures c.in_ok-push_path-in-Some.ensures in
     subst (IsOddClosed M c.args.rows.now c.args.row)
-    (sym (c.in_ok-parts_at_places-in-Some.ensures ∙ ap₂ (λ (ps : List (List ℕ)) (path : List ℕ). map (part_at ps) path) c.as_slice-parts.ensures c.as_slice.ensures))
+    (sym (c.in_ok-parts_at_places-in-Some.ensures ∙ ap₂ (λ (ps : List (List ℕ)) (path : List ℕ). map (rows_at_part ps) path) c.as_slice-parts.ensures c.as_slice.ensures))
     (odd_closed M c.args.rows.now c.args.row parts c.requires.parts table count cuts (depth_at forest.depth.items) (parent_at forest.parent.items) forest.reached.items c.push_path.new.path one two
     (MatchOption-at_some _ _ c.in-Some.conflict c.in-Some.is c.in_ok-grow.ensures.found) route)

@@ -1,6 +1,6 @@
 use Rattle.std.proofs.Common.{◌≢◌, ◌∙◌, pos, ap, sym, of_z, w8, nat_eq}
 use Rattle.cmr_base.specs.Matrix.{entry}
-use Rattle.camion_sign.specs.declared.walk.Step.{Step}
+use Rattle.camion_sign.specs.declared.walk.ReachedColumn.{ReachedColumn}
 use Rattle.camion_sign.specs.Walks.{flip}
 use Rattle.camion_sign.proofs.EntryTests.{test_two, zero_as_byte}
 use Rattle.camion_sign.proofs.FirstFaults.{fault_if, met_step}
@@ -20,5 +20,5 @@ returns-clause-fault c =
     let last : entry m t d ≢ pos 0 = λ z. c.if-entry-eq0.false (zero_as_byte c.entry.result (c.entry.ensures.value ∙ z)) in
     let two = test_two m t first t d c.entry-2.result c.entry-3.result w.fits.matrix c.entry-2.ensures.value c.entry-3.ensures.value c.entry-2.ensures.small c.entry-3.ensures.small c.requires.first last in
     let fault = fault_if m t first d walk w c.requires.order met c.requires.first last same two in
-    let flipped = c.flipped.ensures ∙ sym (ap (λ (s : Step). flip s.is_two same) step) in
+    let flipped = c.flipped.ensures ∙ sym (ap (λ (s : ReachedColumn). flip s.is_two same) step) in
     ((λ f. fault.0 (sym flipped ∙ f)), (λ f. flipped ∙ fault.1 f))

@@ -1,5 +1,5 @@
 use Rattle.std.proofs.Common.{◌≢◌, ◌∙◌, ◌++◌, ◌∷◌, [], List, Bool, true, pos, set, subst, arith, get_or, ap, refl, of_z, w8, nat_eq}
-use Rattle.camion_sign.specs.declared.walk.Step.{Step}
+use Rattle.camion_sign.specs.declared.walk.ReachedColumn.{ReachedColumn}
 use Rattle.camion_sign.specs.Walks.{progress}
 use Rattle.camion_sign.proofs.EntryTests.{test_two}
 use Rattle.cmr_base.specs.Matrix.{entry}
@@ -43,7 +43,7 @@ loop-column-preserved c =
     let x = get_or columns k 0 in
     let nonzero = c.row-column-items.ensures.nonzero k c.loop-column-test.true in
     let low = within m c.args.row x i.fits.matrix (let e = c.requires.early in let h = c.requires.row in omega arith) nonzero in
-    let leads = subst (λ (v : Step). entry m c.args.row v.column ≢ pos 0) (step_is c.args.walk.now.steps.items c.args.head from c.requires.open.within c.index-from.ensures) c.requires.leads in
+    let leads = subst (λ (v : ReachedColumn). entry m c.args.row v.column ≢ pos 0) (step_is c.args.walk.now.steps.items c.args.head from c.requires.open.within c.index-from.ensures) c.requires.leads in
     elim c.if-not-has_reached.branch [
       | then-not-has_reached+in_ok-reach w ↦
           reach_column m c.args.start.row c.args.start.column c.args.head c.args.row columns k from c.args.walk.now c.loop-column.walk i c.row-column-items.ensures c.loop-column-test.true

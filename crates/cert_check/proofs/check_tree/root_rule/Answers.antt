@@ -1,10 +1,10 @@
 use Rattle.std.proofs.Common.{rules, ◌∙◌, false, ap, sym, subst}
 use Rattle.std.proofs.lemmas.Bool.{true≢false}
 use Rattle.cmr_base.specs.LineSets.{first_lines}
-use Rattle.tree_type.specs.Trees.{tree_of}
+use Rattle.tree_type.specs.Trees.{tree_of, finding_of}
 use Rattle.tree_type.specs.Places.{AllLines}
 use Rattle.tree_type.specs.Soundness.{HasItsLines}
-use Rattle.cert_check.specs.Answers.{IsOwnRule, IsRuleAt, KeepsOwn, Stands, finding_of}
+use Rattle.cert_check.specs.Answers.{IsOwnRule, IsRuleAt, KeepsOwn, Stands}
 use Rattle.cert_check.proofs.Answering.{if_ok, root_stands, root_sizes, root_may, other_sizes, own_rule_at, own_is_kept, lines_at, lines_is}
 use Rattle.cert_check.proofs.check_tree.root_rule.Goals as goal
 

@@ -1,19 +1,19 @@
 use Rattle.std.proofs.Common.{◌<◌, ◌∙◌, length}
-use Rattle.cmr_io.specs.Files.{IsFirst, room_for, held_by}
+use Rattle.cmr_io.specs.Files.{IsFirstFile, room_for, held_by}
 use Rattle.cmr_io.proofs.FileLemmas.{of_first-set, of_first-set_other, of_first-set_same, of_first-push, of_first-push_other, of_first-push_none}
 use Rattle.cmr_io.proofs.memory_files.prepare.Goals as goal
 
 pub returns-in_ok-held-in-Some-clause-here : goal.returns-in_ok-held-in-Some-clause-here
 returns-in_ok-held-in-Some-clause-here c =
     let files = c.args.files.now.items in
-    let first : IsFirst c.args.name.now files c.in-Some.file = rw (← c.deref.ensures.value) c.in-Some.ensures.first in
+    let first : IsFirstFile c.args.name.now files c.in-Some.file = rw (← c.deref.ensures.value) c.in-Some.ensures.first in
     let within : c.in-Some.file < length files = rw (← c.deref.ensures.value) c.in-Some.ensures.within in
     of_first-set room_for c.args.name.now files c.in-Some.file c.prepare.new.self c.index_mut.result.now within first c.index_mut.ensures.value c.prepare.ensures.name ∙ c.prepare.ensures.room
 
 pub returns-in_ok-held-in-Some-clause-others : goal.returns-in_ok-held-in-Some-clause-others
 returns-in_ok-held-in-Some-clause-others c = λ other ne.
     let files = c.args.files.now.items in
-    let first : IsFirst c.args.name.now files c.in-Some.file = rw (← c.deref.ensures.value) c.in-Some.ensures.first in
+    let first : IsFirstFile c.args.name.now files c.in-Some.file = rw (← c.deref.ensures.value) c.in-Some.ensures.first in
     of_first-set_other room_for c.args.name.now other files c.in-Some.file c.prepare.new.self c.index_mut.result.now ne first c.index_mut.ensures.value c.prepare.ensures.name
 
 pub returns-in_ok-held-in-Some-clause-content : goal.returns-in_ok-held-in-Some-clause-content

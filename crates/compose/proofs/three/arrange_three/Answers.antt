@@ -3,8 +3,8 @@ use Rattle.std.proofs.lemmas.Result.{IfOk-weaker}
 use Rattle.cmr_base.specs.Matrix.{entry}
 use Rattle.cmr_base.specs.Separations.{listed, first_is_flat, second_is_flat}
 use Rattle.compose.specs.declared.sides.Sides.{Sides}
-use Rattle.compose.specs.Kinds.{kind_of}
-use Rattle.compose.specs.Arrangements.{Fits, arranged, three_lines, three_arrangement}
+use Rattle.compose.specs.Kinds.{kind_of_form}
+use Rattle.compose.specs.Arrangements.{HasSignedLines, arranged, three_lines, three_arrangement}
 use Rattle.compose.specs.RoundTrips.{IsRoundTrip}
 use Rattle.compose.proofs.FittingArrangements.{three_arrangement_fits, connector_there}
 use Rattle.compose.proofs.RoundTrips.{three_round_trips}
@@ -25,11 +25,11 @@ of-requires-2 c =
     let m = c.args.matrix.now in
     let three = c.args.three.now in
     let same : c.in_ok-three_lines.field-0 ≡ three_arrangement m three = c.in_ok-three_lines.ensures ∙ ap (λ (s : Sides). three_lines (entry m) three.form s three.first three.second) c.in_ok-sides.ensures.sides in
-    subst (Fits m) (sym same) (three_arrangement_fits m three c.in_ok-sides.ensures.shape.small c.requires)
+    subst (HasSignedLines m) (sym same) (three_arrangement_fits m three c.in_ok-sides.ensures.shape.small c.requires)
 
 pub returns-clause-round_trip : goal.returns-clause-round_trip
 returns-clause-round_trip c =
     let m = c.args.matrix.now in
     let three = c.args.three.now in
     let same : c.in_ok-three_lines.field-0 ≡ three_arrangement m three = c.in_ok-three_lines.ensures ∙ ap (λ (s : Sides). three_lines (entry m) three.form s three.first three.second) c.in_ok-sides.ensures.sides in
-    IfOk-weaker c.of-2.result _ _ (λ both e. subst (IsRoundTrip (kind_of three.form) m) (sym (e ∙ ap (arranged m) same)) (three_round_trips m three c.in_ok-sides.ensures.shape.small c.requires)) c.of-2.ensures
+    IfOk-weaker c.of-2.result _ _ (λ both e. subst (IsRoundTrip (kind_of_form three.form) m) (sym (e ∙ ap (arranged m) same)) (three_round_trips m three c.in_ok-sides.ensures.shape.small c.requires)) c.of-2.ensures

@@ -2,7 +2,7 @@ use Rattle.std.proofs.Common.{◌≡◌, ◌∙◌, ◌+◌, ◌++◌, ℕ, ℤ,
 use Rattle.cmr_base.specs.Matrix.{Matrix, height, rows_of, IsEntry}
 use Rattle.cmr_base.proofs.SmallEntries.{entry_as_byte}
 use Rattle.generate.specs.Generated.{negated_rows}
-use Rattle.generate.specs.Signs.{sign_of}
+use Rattle.generate.specs.Signs.{drawn_sign}
 use Rattle.generate.proofs.JoinedRows.{joined, times, negated_row, negated_cells, of_size}
 use Rattle.generate.proofs.sums.negated.Goals as goal
 
@@ -12,7 +12,7 @@ loop-row-preserved c =
     let signs = c.args.signs.now in
     let row = c.loop-row.row in
     let cells = c.loop-row.cells.items in
-    let pushed : c.push_multiple.new.cells.items ≡ cells ++ times (sign_of (get_or signs row 0)) (get_or rows row []) =
+    let pushed : c.push_multiple.new.cells.items ≡ cells ++ times (drawn_sign (get_or signs row 0)) (get_or rows row []) =
     c.in_ok-push_multiple.ensures ∙ ap (λ (s : ℤ). cells ++ times s (get_or rows row [])) (entry_as_byte c.sign.result c.sign.ensures.small ∙ c.sign.ensures.value) in
     ap (λ (xs : List ℤ). xs ++ joined (negated_rows (drop (row + 1) rows) (drop (row + 1) signs))) pushed
     ∙ negated_row rows signs row _ cells (omega (arith, c.loop-row-test.true, c.rows-rows.ensures.rows)) c.requires c.loop-row.invariant

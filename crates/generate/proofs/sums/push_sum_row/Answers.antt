@@ -3,7 +3,7 @@ use Rattle.cmr_base.specs.Matrix.{Matrix, height, entry, row_of}
 use Rattle.cmr_base.proofs.SmallEntries.{entry_as_byte}
 use Rattle.generate.specs.Generated.{circulant_sum}
 use Rattle.generate.proofs.JoinedRows.{times}
-use Rattle.generate.proofs.SumRows.{begun, grown_on, brought_behind, brought_within, brought_by_one, turned_byte}
+use Rattle.generate.proofs.SumRows.{begun, grown_on, brought_behind, brought_within, brought_by_one, negated_byte}
 use Rattle.generate.proofs.sums.push_sum_row.Goals as goal
 
 pub push_multiple-requires-clause-row : goal.push_multiple-requires-clause-row
@@ -36,11 +36,11 @@ loop-count-preserved c =
     let d = c.saturating_sub-before.result in
     let within = brought_within d c.args.row c.saturating_sub-before.ensures in
     let from = c.loop-count.auto.count in
-    let turned = turned_byte _ c.loop-count.invariant.small in
+    let is_negated = negated_byte _ c.loop-count.invariant.small in
     grown_on c.args.cells.now.items c.loop-count.cells.items c.extend_from_slice.new.self.items c.loop-count.count c.args.row _ _
     (omega (arith, from)) (omega (arith, from, within)) c.loop-count.invariant
-    (c.in_ok-extend_from_slice.ensures.items ∙ ap (λ (x : ℤ). c.loop-count.cells.items ++ x ∷ pos 0 ∷ pos 0 ∷ x ∷ []) turned)
-    turned
+    (c.in_ok-extend_from_slice.ensures.items ∙ ap (λ (x : ℤ). c.loop-count.cells.items ++ x ∷ pos 0 ∷ pos 0 ∷ x ∷ []) is_negated)
+    is_negated
 
 pub returns : goal.returns
 returns c =

@@ -8,12 +8,12 @@ use Rattle.cmr_base.specs.LineSets.{IsRowSet}
 use Rattle.cmr_base.specs.Signing.{IsSign}
 use Rattle.cmr_base.specs.Sums.{sum_over, IsEven, IsOdd}
 use Rattle.cmr_base.proofs.Lists.{HasOneMore, all_contained, contains_first, contains_later}
-use Rattle.ghouila.specs.Pivot.{IsOutside, reduced, IsTernaryRow, IsPivot, HasNoPivot, IsFirstTwo, KeepsOthers, PivotsRows}
+use Rattle.ghouila.specs.Pivot.{IsOutside, reduced, IsTernaryRow, IsPivot, HasNoPivot, IsFirstTwoEntry, KeepsRowsElsewhere, PivotsRows}
 use Rattle.ghouila.specs.Found.{marked, SignsRows, MarksViolator, MarksAnew}
-use Rattle.ghouila.specs.Outcome.{IsOutcome, AddsRun}
+use Rattle.ghouila.specs.MarkedSignings.{IsOutcome, AddsRun}
 use Rattle.ghouila.specs.SignRuns.{IsTakenBack}
 use Rattle.ghouila.specs.declared.by_pivots.Pivot.{Pivot}
-use Rattle.ghouila.specs.declared.by_pivots.Outcome.TheVariants.{Signed, Violated}
+use Rattle.ghouila.specs.declared.by_pivots.MarkedSigning.TheVariants.{Signed, Violated}
 use Rattle.cmr_base.specs.Members.{IsIn}
 use Rattle.ghouila.proofs.RunSteps.{steps_later, signs_set_aside, signs_set_pivot, violated_aside, first_and_others}
 use mathlib.Core.Path.{fun_ext}
@@ -136,7 +136,7 @@ sign_by_pivot-returns-in-Signed-clause-found t c =
     let s = c.in-Signed.signs in
     let found : SignsRows after left s.signs.items s.sums.items = subst (IsOutcome after left) c.in-Signed.is c.in_ok-signs.ensures.found in
     let pivots : PivotsRows m after c.args.row c.args.column left = subst (PivotsRows m after c.args.row c.args.column) c.deref-2.ensures.value c.make_pivot.ensures.pivoted in
-    let keeps : KeepsOthers m after left = subst (KeepsOthers m after) c.deref-2.ensures.value c.make_pivot.ensures.others in
+    let keeps : KeepsRowsElsewhere m after left = subst (KeepsRowsElsewhere m after) c.deref-2.ensures.value c.make_pivot.ensures.others in
     rw (c.sign_pivot.ensures.signs, c.sign_pivot.ensures.sums)
     (signs_before_pivot m after c.args.row c.args.column left s.signs.items s.sums.items keeps.same_height keeps.same_width c.requires.row c.requires.column c.requires.apart c.requires.nonzero c.requires.odd pivots found)
 
@@ -149,7 +149,7 @@ sign_by_pivot-returns-in-Violated-clause-found t c =
     let v = c.in-Violated.lines in
     let found : MarksViolator after left v.rows.items v.columns.items v.odd.items = subst (IsOutcome after left) c.in-Violated.is c.in_ok-signs.ensures.found in
     let pivots : PivotsRows m after c.args.row c.args.column left = subst (PivotsRows m after c.args.row c.args.column) c.deref-2.ensures.value c.make_pivot.ensures.pivoted in
-    let keeps : KeepsOthers m after left = subst (KeepsOthers m after) c.deref-2.ensures.value c.make_pivot.ensures.others in
+    let keeps : KeepsRowsElsewhere m after left = subst (KeepsRowsElsewhere m after) c.deref-2.ensures.value c.make_pivot.ensures.others in
     let same_row : (j : ℕ) → entry last c.args.row j ≡ entry m c.args.row j = λ j. c.sign_left.ensures.others.others c.args.row j c.requires.apart ∙ keeps.others c.args.row j c.requires.apart in
     rw (c.undo_pivot.ensures.rows, c.undo_pivot.ensures.odd)
     (marks_before_pivot m after c.args.row c.args.column left c.requires.row c.requires.column c.requires.apart c.requires.nonzero keeps.same_height keeps.same_width pivots v.rows.items v.columns.items v.odd.items c.undo_pivot.new.self.columns.items found
@@ -180,8 +180,8 @@ sign_by_pivot-returns-in-Some-clause-run t c =
     let m = c.args.work.now in
     let left = c.args.left.items in
     let corner = c.in-Some.corner in
-    let first : (place : ℕ) × (corner.row ≡ get_or left place 0) × IsFirstTwo m left c.args.row c.args.column place corner.column =
-    subst (λ xs. (place : ℕ) × (corner.row ≡ get_or xs place 0) × IsFirstTwo m xs c.args.row c.args.column place corner.column) c.deref.ensures.value c.in-Some.ensures.first in
+    let first : (place : ℕ) × (corner.row ≡ get_or left place 0) × IsFirstTwoEntry m left c.args.row c.args.column place corner.column =
+    subst (λ xs. (place : ℕ) × (corner.row ≡ get_or xs place 0) × IsFirstTwoEntry m xs c.args.row c.args.column place corner.column) c.deref.ensures.value c.in-Some.ensures.first in
     λ rows next. (
       [],
       sym (append-nil c.args.steps.now),
@@ -208,7 +208,7 @@ sign_by_pivot-returns-in-Signed-clause-run t c =
     let found : SignsRows after left s.signs.items s.sums.items = subst (IsOutcome after left) c.in-Signed.is c.in_ok-signs.ensures.found in
     let run : AddsRun after left c.push.new.self c.sign_left.new.steps (Signed s) = subst (AddsRun after left c.push.new.self c.sign_left.new.steps) c.in-Signed.is c.in_ok-signs.ensures.run in
     let pivots : PivotsRows m after c.args.row c.args.column left = subst (PivotsRows m after c.args.row c.args.column) c.deref-2.ensures.value c.make_pivot.ensures.pivoted in
-    let keeps : KeepsOthers m after left = subst (KeepsOthers m after) c.deref-2.ensures.value c.make_pivot.ensures.others in
+    let keeps : KeepsRowsElsewhere m after left = subst (KeepsRowsElsewhere m after) c.deref-2.ensures.value c.make_pivot.ensures.others in
     let small : AllByRecursion (λ other. IsTernaryRow m.width (reduced (entry m) c.args.row c.args.column other)) left = subst (AllByRecursion (λ other. IsTernaryRow m.width (reduced (entry m) c.args.row c.args.column other))) c.deref.ensures.value c.in_default.ensures.none in
     λ rows next. (
       step ∷ run.0,
@@ -228,7 +228,7 @@ sign_by_pivot-returns-in-Violated-clause-run t c =
     let found : MarksViolator after left v.rows.items v.columns.items v.odd.items = subst (IsOutcome after left) c.in-Violated.is c.in_ok-signs.ensures.found in
     let run : AddsRun after left c.push.new.self c.sign_left.new.steps (Violated v) = subst (AddsRun after left c.push.new.self c.sign_left.new.steps) c.in-Violated.is c.in_ok-signs.ensures.run in
     let pivots : PivotsRows m after c.args.row c.args.column left = subst (PivotsRows m after c.args.row c.args.column) c.deref-2.ensures.value c.make_pivot.ensures.pivoted in
-    let keeps : KeepsOthers m after left = subst (KeepsOthers m after) c.deref-2.ensures.value c.make_pivot.ensures.others in
+    let keeps : KeepsRowsElsewhere m after left = subst (KeepsRowsElsewhere m after) c.deref-2.ensures.value c.make_pivot.ensures.others in
     let small : AllByRecursion (λ other. IsTernaryRow m.width (reduced (entry m) c.args.row c.args.column other)) left = subst (AllByRecursion (λ other. IsTernaryRow m.width (reduced (entry m) c.args.row c.args.column other))) c.deref.ensures.value c.in_default.ensures.none in
     let same_row : (j : ℕ) → entry last c.args.row j ≡ entry m c.args.row j = λ j. c.sign_left.ensures.others.others c.args.row j c.requires.apart ∙ keeps.others c.args.row j c.requires.apart in
     let back : IsTakenBack m c.args.row c.args.column (marked v.rows.items) (marked v.columns.items) (marked (set v.rows.items c.args.row (get_or v.odd.items c.args.column false))) (marked c.undo_pivot.new.self.columns.items) =

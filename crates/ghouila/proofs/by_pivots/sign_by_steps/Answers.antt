@@ -1,7 +1,7 @@
 use Rattle.std.proofs.Common.{ℕ, List, sym, subst}
 use Rattle.cmr_base.specs.Matrix.{Matrix}
 use Rattle.cmr_base.specs.LineSets.{IsRowSet}
-use Rattle.ghouila.specs.Outcome.{IsOutcome}
+use Rattle.ghouila.specs.MarkedSignings.{IsOutcome}
 use Rattle.ghouila.proofs.NamedRows.{named_right}
 use Rattle.ghouila.proofs.by_pivots.sign_by_steps.Goals as goal
 

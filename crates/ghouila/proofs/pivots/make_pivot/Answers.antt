@@ -4,7 +4,7 @@ use Rattle.cmr_base.specs.Matrix.{Matrix, height, entry, IsEntry}
 use Rattle.cmr_base.specs.LineSets.{IsRowSet}
 use Rattle.cmr_base.proofs.Lists.{all_at, all-take, all_weaker}
 use Rattle.cmr_base.proofs.RisingLists.{row_set_rises, rising_front}
-use Rattle.ghouila.specs.Pivot.{IsOutside, reduced, IsTernaryRow, KeepsOthers, PivotsRows}
+use Rattle.ghouila.specs.Pivot.{IsOutside, reduced, IsTernaryRow, KeepsRowsElsewhere, PivotsRows}
 use Rattle.ghouila.proofs.PivotRow.{pivots_more, keeps_more, reduced_same}
 use Rattle.ghouila.proofs.pivots.make_pivot.Goals as goal
 
@@ -38,6 +38,6 @@ loop-other-preserved c =
     record {
       pivoted = subst (PivotsRows m c.pivot_row.new.work c.args.row c.args.column) more
           (pivots_more m now c.pivot_row.new.work c.args.row c.args.column other (take k left) row_out other_out apart c.requires.column c.loop-other.invariant.pivoted c.loop-other.invariant.others c.pivot_row.ensures.pivoted c.pivot_row.ensures.others);
-      others = subst (KeepsOthers m c.pivot_row.new.work) more
+      others = subst (KeepsRowsElsewhere m c.pivot_row.new.work) more
           (keeps_more m now c.pivot_row.new.work c.args.row c.args.column other (take k left) row_out other_out apart c.loop-other.invariant.others c.pivot_row.ensures.others);
     }

@@ -2,7 +2,7 @@ use Rattle.std.proofs.Common.{◌≡◌, ◌<◌, ◌+◌, ◌∙◌, [], ◌∷
 use mathlib.Core.Path.{ap₂}
 use Rattle.std.proofs.lemmas.Int.{ints, to_z-of_z}
 use Rattle.cmr_base.specs.Matrix.{Matrix, entry, IsEntry}
-use Rattle.ghouila.specs.Pivot.{reduced, KeepsOthers, PivotsRows}
+use Rattle.ghouila.specs.Pivot.{reduced, KeepsRowsElsewhere, PivotsRows}
 use Rattle.ghouila.proofs.Bytes.{reduced_bytes, product_bytes}
 use Rattle.ghouila.proofs.PivotRow.{IsReduced, keeps_with_entry, reduced_none, reduced_over, reduced_more, reduced_all}
 use Rattle.ghouila.proofs.pivots.pivot_row.Goals as goal
@@ -62,5 +62,5 @@ returns-clause-pivoted c =
     c.requires.column (omega arith) (turned ∙ ap neg_ℤ factor))
 
 pub returns-clause-others : goal.returns-clause-others
-returns-clause-others c = subst (λ (m : Matrix). KeepsOthers c.args.work.now m (c.args.other ∷ [])) (sym c.set-2.ensures)
+returns-clause-others c = subst (λ (m : Matrix). KeepsRowsElsewhere c.args.work.now m (c.args.other ∷ [])) (sym c.set-2.ensures)
     (keeps_with_entry c.args.work.now c.loop-last.work c.args.other c.args.column (to_z w8 (of_z w8 (pos 0 -ℤ to_z w8 (of_z w8 c.product-factor.result)))) c.loop-last.invariant.reduced.others)

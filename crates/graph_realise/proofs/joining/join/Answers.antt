@@ -4,7 +4,7 @@ use Rattle.cmr_base.specs.Members.{IsIn}
 use Rattle.cmr_base.specs.Trees.{support}
 use Rattle.cmr_base.proofs.Members.{in_at}
 use Rattle.graph_realise.specs.Joints.{IsArcJoined}
-use Rattle.graph_realise.specs.SideTables.{KeepsOthers}
+use Rattle.graph_realise.specs.SideTables.{KeepsOtherArcs}
 use Rattle.graph_realise.proofs.JoinLemmas.{clear_stays, joined_stays, joined_from}
 use Rattle.graph_realise.proofs.SideLemmas.{not_before, redrawn_more, redrawn_all, redrawn_others}
 use Rattle.graph_realise.proofs.joining.join.Goals.{then-arc-joint, else-arc-joint}
@@ -42,7 +42,7 @@ loop-arc-preserved c =
       | then-arc-joint w ↦ rw w.sides-is (record {
         tables = w.join_row.ensures.tables;
         joined = redrawn_more (λ r new. IsArcJoined M joint old new r) (λ r a b k h. joined_stays M joint old r a b k h) items index old c.loop-arc.sides w.join_row.new.sides so.joined
-            (subst (KeepsOthers c.loop-arc.sides w.join_row.new.sides) (sym w.if-arc-joint.true) w.join_row.ensures.others)
+            (subst (KeepsOtherArcs c.loop-arc.sides w.join_row.new.sides) (sym w.if-arc-joint.true) w.join_row.ensures.others)
             (joined_from M joint m old c.loop-arc.sides w.join_row.new.sides (get_or items index 0) c.requires.tables so.tables kept
             (subst (IsArcJoined M joint c.loop-arc.sides w.join_row.new.sides) (sym w.if-arc-joint.true) w.join_row.ensures.joined));
       })

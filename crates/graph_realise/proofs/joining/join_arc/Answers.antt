@@ -17,8 +17,8 @@ keep_part-requires-clause-line c =
 pub returns-in-Some-clause-joined : goal.returns-in-Some-clause-joined
 returns-in-Some-clause-joined c =
     let part = sym (get_or_read c.args.joint.now.part_of.items c.args.arc c.index.result.now (let l = c.requires.arc in let e = c.requires.joint.fits.rows in omega arith) c.index.ensures None) ∙ c.in-Some.is in
-    arc_joined (support c.args.matrix.now) c.args.joint.now c.args.arc c.in-Some.own c.args.matrix.now c.get-is_turned.result c.args.sides.now c.keep_part.new.sides c.add_hung.new.sides c.add_used.new.sides
-    c.requires.other part c.get-is_turned.ensures c.requires.joint.fits c.requires.joint.off c.requires.tables (c.requires.joint.fits.row_parts c.args.arc c.in-Some.own part)
+    arc_joined (support c.args.matrix.now) c.args.joint.now c.args.arc c.in-Some.own c.args.matrix.now c.get-is_reversed.result c.args.sides.now c.keep_part.new.sides c.add_hung.new.sides c.add_used.new.sides
+    c.requires.other part c.get-is_reversed.ensures c.requires.joint.fits c.requires.joint.off c.requires.tables (c.requires.joint.fits.row_parts c.args.arc c.in-Some.own part)
     c.keep_part.ensures c.add_hung.ensures c.add_used.ensures
 
 pub returns-in-Some-clause-others : goal.returns-in-Some-clause-others

@@ -5,7 +5,7 @@ use Rattle.cmr_base.specs.ColumnSets.{has_column}
 use Rattle.cmr_base.specs.Planes.{words_for}
 use Rattle.cmr_base.specs.Trees.{support}
 use Rattle.cmr_base.proofs.GraphicMatrices.{nonzero_in_range}
-use Rattle.graph_realise.specs.Joints.{AreOfRows, IsNamed, number_at}
+use Rattle.graph_realise.specs.Joints.{AreOfRows, IsPartNumber, number_at}
 use Rattle.graph_realise.proofs.JointLemmas.{named_more, named_none}
 use Rattle.graph_realise.proofs.joint.parts_with_columns.Goals as goal
 
@@ -52,4 +52,4 @@ returns-clause-parts c = λ column.
     let k = c.len-place-end.ensures in
     let b = c.loop-place.auto.place-end in
     let e : c.loop-place.place ≡ length c.args.parts.now = omega arith in
-    subst (λ (n : ℕ). IsNamed (support c.args.matrix.now) c.args.row c.args.parts.now n column (number_at c.loop-place.numbers.items column)) e (c.loop-place.invariant.named column)
+    subst (λ (n : ℕ). IsPartNumber (support c.args.matrix.now) c.args.row c.args.parts.now n column (number_at c.loop-place.numbers.items column)) e (c.loop-place.invariant.named column)

@@ -2,8 +2,8 @@ use Rattle.std.proofs.Common.{◌≡◌, ◌≤◌, length, ap, subst, arith}
 use Rattle.std.specs.Prelude.{OnOk}
 use Rattle.text_fields.specs.Written.{Draft}
 use Rattle.text_fields.proofs.Lines.{line_ended}
-use Rattle.matrix_text.specs.Canonical.{number_of_line}
 use Rattle.matrix_text.proofs.submatrix.write_lines.Goals as goal
+use Rattle.text_fields.specs.LineNumbers.{number_of_line}
 
 pub returns : goal.returns
 returns c =

@@ -2,7 +2,7 @@ use Rattle.std.proofs.Common.{◌≡◌, ap, ◌∙◌, arith}
 use Rattle.std.proofs.lemmas.Grind.{common_steps}
 use Rattle.cmr_base.proofs.RisingLists.{rising_count}
 use Rattle.text_fields.specs.Words.{text_of}
-use Rattle.matrix_text.specs.Submatrix.{submatrix}
+use Rattle.matrix_text.specs.Submatrix.{named_lines}
 use Rattle.matrix_text.specs.Canonical.{submatrix_text}
 use Rattle.matrix_text.proofs.SubmatrixAgain.{submatrix_again}
 use Rattle.matrix_text.proofs.submatrix.write_submatrix.Goals as goal
@@ -16,4 +16,4 @@ overflow_cast-column_count c = let few = rising_count c.args.columns c.args.line
 pub returns-clause-again : goal.returns-clause-again
 returns-clause-again c =
     let text : c.into_bytes.result.items ≡ submatrix_text c.args.rows c.args.columns c.args.lines.now = grind (arith, common_steps) in
-    ap (λ text. submatrix c.args.rows c.args.columns (text_of text)) text ∙ submatrix_again c.args.rows c.args.columns c.args.lines.now c.requires.rows c.requires.columns c.len-row_count.ensures.rising c.len-column_count.ensures.rising c.requires.rows_in c.requires.columns_in
+    ap (λ text. named_lines c.args.rows c.args.columns (text_of text)) text ∙ submatrix_again c.args.rows c.args.columns c.args.lines.now c.requires.rows c.requires.columns c.len-row_count.ensures.rising c.len-column_count.ensures.rising c.requires.rows_in c.requires.columns_in

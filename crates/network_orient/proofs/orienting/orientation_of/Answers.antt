@@ -7,7 +7,7 @@ use Rattle.cmr_base.proofs.ReproducedCuts.{support_realised}
 use Rattle.cmr_base.proofs.WholeMatrices.{is_ternary}
 use Rattle.ghouila.proofs.NetworkSignings.{networks_are_unimodular}
 use Rattle.network_orient.specs.SignsBetween.{AreSignsBetween}
-use Rattle.network_orient.proofs.Orientations.{one_support, agrees_where_network, turned_reproduces}
+use Rattle.network_orient.proofs.Orientations.{one_support, agrees_where_network, reversed_reproduces}
 use Rattle.network_orient.proofs.orienting.orientation_of.Goals as goal
 
 pub returns-in_default : goal.returns-in_default
@@ -35,12 +35,12 @@ returns-in-WrongRow c =
       wrong.passed (networks_are_unimodular reproduced.reproduced (is_ternary reproduced.reproduced reproduced.ensures.shape) (c.in-Some.net, reproduced.ensures.reproduced)).1,
     )
 
-pub returns-in_ok-turned_network-in-Found : goal.returns-in_ok-turned_network-in-Found
-returns-in_ok-turned_network-in-Found c =
+pub returns-in_ok-reversed_network-in-Found : goal.returns-in_ok-reversed_network-in-Found
+returns-in_ok-reversed_network-in-Found c =
     let m = c.args.matrix.now in
     let reproduced = c.in_ok-reproduced in
     let signs = c.in-Found.signs in
     let are = subst (AreSignsBetween reproduced.reproduced m) c.in-Found.is c.in_ok-signs.ensures in
-    subst (λ (net : Network). Reproduces net m) (sym c.in_ok-turned_network-in-Found.ensures)
-    (turned_reproduces c.in-Some.net reproduced.reproduced m signs.rows.items signs.columns.items (reproduced.ensures.rows ∙ c.rows.ensures.rows) (reproduced.ensures.columns ∙ c.columns.ensures.columns)
+    subst (λ (net : Network). Reproduces net m) (sym c.in_ok-reversed_network-in-Found.ensures)
+    (reversed_reproduces c.in-Some.net reproduced.reproduced m signs.rows.items signs.columns.items (reproduced.ensures.rows ∙ c.rows.ensures.rows) (reproduced.ensures.columns ∙ c.columns.ensures.columns)
     reproduced.ensures.reproduced are.multiplied)

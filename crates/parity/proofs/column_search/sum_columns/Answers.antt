@@ -1,6 +1,6 @@
 use Rattle.std.proofs.Common.{◌≡◌, ◌<◌, ◌+◌, ◌^◌, ◌∙◌, [], ap, ap₂, sym, subst, take, get_or}
 use Rattle.std.proofs.Math.Pow.{pow_pos}
-use Rattle.parity.specs.Planes.{AreSums, SumPlanes, minus_of, support_of, with_row}
+use Rattle.parity.specs.Planes.{AreSums, SumPlanes, minus_of, support_of, with_added_row}
 use Rattle.cmr_base.specs.Matrix.{is_nonzero}
 use Rattle.cmr_base.specs.Planes.{is_minus}
 use Rattle.parity.proofs.PlaneLemmas.{length-row, number_of-row}
@@ -24,7 +24,7 @@ loop-row-preserved c =
     let s = c.loop-row.sums in
     let row = get_or rows i 0 in
     let is = c.requires.shape in
-    let after : c.add_row.new.self ≡ with_row s (support_of m row) (minus_of m row) = c.add_row.ensures ∙ ap₂ (with_row s) (number_of-row m is_nonzero (get_or rows i 0) c.support_words.result.now c.requires.shape (c.requires.rows i c.loop-row-test.true) c.support_words.ensures) (number_of-row m is_minus row c.minus_words.result.now c.requires.shape (c.requires.rows i c.loop-row-test.true) c.minus_words.ensures) in
+    let after : c.add_row.new.self ≡ with_added_row s (support_of m row) (minus_of m row) = c.add_row.ensures ∙ ap₂ (with_added_row s) (number_of-row m is_nonzero (get_or rows i 0) c.support_words.result.now c.requires.shape (c.requires.rows i c.loop-row-test.true) c.support_words.ensures) (number_of-row m is_minus row c.minus_words.result.now c.requires.shape (c.requires.rows i c.loop-row-test.true) c.minus_words.ensures) in
     record {
       so_far = subst (λ (t : SumPlanes). AreSums m (take (i + 1) rows) t.ones t.twos) (sym after) (sums_more m rows i s.ones s.twos is c.loop-row-test.true c.loop-row.invariant.so_far);
       words = ap (λ (t : SumPlanes). t.words) after ∙ c.loop-row.invariant.words;

@@ -3,7 +3,7 @@ use Rattle.std.specs.List.{AllByRecursion}
 use Rattle.cmr_base.specs.LineSets.{AllBelow, IsRowSet, first_lines, without}
 use Rattle.cmr_base.specs.Matrix.{Matrix, height, entry}
 use Rattle.cmr_base.specs.Signing.{IsSign}
-use Rattle.ghouila.specs.Pivot.{IsOutside, reduced, IsTernaryRow, KeepsOthers, PivotsRows, IsFirstTwo}
+use Rattle.ghouila.specs.Pivot.{IsOutside, reduced, IsTernaryRow, KeepsRowsElsewhere, PivotsRows, IsFirstTwoEntry}
 use Rattle.pivots.proofs.LinesBefore.{pivot_place}
 use Rattle.pivots.proofs.MadePivots.{others_below, others_rise, others_outside, made_pivot, first_two}
 use Rattle.pivots.proofs.matrix_pivot.pivot.Goals as goal
@@ -22,7 +22,7 @@ returns-in-Some c =
     first_two m c.args.row c.args.column (pivot_place m c.args.row c.args.column c.other_rows.ensures.shape c.requires.row c.requires.column c.requires.nonzero) c.other_rows.ensures.shape
     c.in-Some.two.row c.in-Some.two.column first.0 c.in_ok-two_lines.field-0 c.in_ok-two_lines-2.field-0 c.in-Some.ensures.some.1
     (first.1 ∙ ap (λ (rows : List ℕ). get_or rows first.0 0) left)
-    (subst (λ (rows : List ℕ). IsFirstTwo m rows c.args.row c.args.column first.0 c.in-Some.two.column) left first.2)
+    (subst (λ (rows : List ℕ). IsFirstTwoEntry m rows c.args.row c.args.column first.0 c.in-Some.two.column) left first.2)
     c.in_ok-two_lines.ensures c.in_ok-two_lines-2.ensures
 
 pub make_pivot-requires-clause-rows : goal.make_pivot-requires-clause-rows
@@ -48,6 +48,6 @@ returns c =
     let left = c.as_slice-left.ensures.items ∙ c.in_ok-others.ensures.others in
     let work = c.in_ok-work.ensures.copy in
     made_pivot m c.args.row c.args.column (pivot_place m c.args.row c.args.column c.other_rows.ensures.shape c.requires.row c.requires.column c.requires.nonzero) c.make_pivot.new.work c.multiply_row.new.work
-    (subst (λ (before : Matrix). KeepsOthers before c.make_pivot.new.work (without (first_lines (height c.args.matrix.now)) c.args.row)) work (subst (KeepsOthers c.in_ok-work.work c.make_pivot.new.work) left c.make_pivot.ensures.others))
+    (subst (λ (before : Matrix). KeepsRowsElsewhere before c.make_pivot.new.work (without (first_lines (height c.args.matrix.now)) c.args.row)) work (subst (KeepsRowsElsewhere c.in_ok-work.work c.make_pivot.new.work) left c.make_pivot.ensures.others))
     (subst (λ (before : Matrix). PivotsRows before c.make_pivot.new.work c.args.row c.args.column (without (first_lines (height c.args.matrix.now)) c.args.row)) work (subst (PivotsRows c.in_ok-work.work c.make_pivot.new.work c.args.row c.args.column) left c.make_pivot.ensures.pivoted))
     c.multiply_row.ensures.others c.multiply_row.ensures.row c.multiply_row.ensures.shape

@@ -3,7 +3,7 @@ use Rattle.cmr_base.specs.Matrix.{height}
 use Rattle.cmr_base.proofs.RisingLists.{row_set_rises}
 use Rattle.cmr_base.proofs.Members.{rising_distinct}
 use Rattle.ghouila.specs.Answer.{IsAnswerOfRun}
-use Rattle.ghouila.specs.declared.by_pivots.Signing.TheVariants.{Signed}
+use Rattle.ghouila.specs.declared.by_pivots.SigningOrViolator.TheVariants.{Signed}
 use Rattle.sign_tool.proofs.StepRows.{names_each_once}
 use Rattle.sign_tool.proofs.signing.sign_set.Goals as goal
 

@@ -3,7 +3,7 @@ use Rattle.cmr_base.specs.declared.line.Line.{Line}
 use Rattle.cmr_base.specs.Matrix.{entry}
 use Rattle.cmr_base.specs.Reductions.{line_reason}
 use Rattle.sp_reduce.specs.Kinds.{reason_for}
-use Rattle.sp_reduce.specs.declared.kind.Kind.TheVariants.{Rows, Columns}
+use Rattle.sp_reduce.specs.declared.kind.LineKind.TheVariants.{Rows, Columns}
 use Rattle.sp_reduce.proofs.reducible.is_reducible_line.Goals as goal
 
 pub returns-in-Row : goal.returns-in-Row

@@ -1,7 +1,7 @@
 use Rattle.std.proofs.Common.{◌≡◌, ◌∙◌, sym, ap, subst}
 use Rattle.cmr_base.specs.Matrix.{entry}
-use Rattle.sp_reduce.specs.declared.kind.Kind.{Kind}
-use Rattle.sp_reduce.specs.Kinds.{line_named, number_of, other_kind}
+use Rattle.sp_reduce.specs.declared.kind.LineKind.{LineKind}
+use Rattle.sp_reduce.specs.Kinds.{line_named, index_of_line, other_kind}
 use Rattle.sp_reduce.specs.Sides.{first_step_of}
 use Rattle.sp_reduce.proofs.StatedOrder.{by_row, without_row, columns_next}
 use Rattle.sp_reduce.proofs.removal.next_step.Goals as goal
@@ -14,8 +14,8 @@ returns-in-Some-clause-step c =
     let step = c.in-Some.step in
     let made = c.in-Some.ensures.step in
     let gone = without_row R C c.remove_first.new.own.stays.items c.remove_first.new.across.stays.items step.line
-    (subst (λ (kind : Kind). step.line ≡ line_named kind (number_of step.line)) c.requires.kind c.in-Some.ensures.named) made.1 c.remove_first.ensures.across in (
-      by_row c.args.binary M R C step (ap (λ (kind : Kind). first_step_of c.args.binary M kind R C R) (sym c.requires.kind) ∙ made.0),
+    (subst (λ (kind : LineKind). step.line ≡ line_named kind (index_of_line step.line)) c.requires.kind c.in-Some.ensures.named) made.1 c.remove_first.ensures.across in (
+      by_row c.args.binary M R C step (ap (λ (kind : LineKind). first_step_of c.args.binary M kind R C R) (sym c.requires.kind) ∙ made.0),
       gone.0,
       gone.1,
     )
@@ -30,5 +30,5 @@ returns-in-None-clause-step c =
     let none = c.in-None.ensures.step in
     columns_next c.args.binary M columns.kind R C rows.stays.items columns.stays.items c.remove_first-in-None.new.across.stays.items c.remove_first-in-None.new.own.stays.items c.remove_first-in-None.result
     (c.remove_first.ensures.paired.kinds ∙ ap other_kind (c.remove_first.ensures.kind ∙ c.requires.kind)) none.1 c.remove_first.ensures.across c.remove_first-in-None.ensures.across
-    (ap (λ (kind : Kind). first_step_of c.args.binary M kind R C R) (sym c.requires.kind) ∙ none.0)
+    (ap (λ (kind : LineKind). first_step_of c.args.binary M kind R C R) (sym c.requires.kind) ∙ none.0)
     c.remove_first-in-None.ensures.named c.remove_first-in-None.ensures.step

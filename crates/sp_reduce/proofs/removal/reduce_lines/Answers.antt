@@ -1,7 +1,7 @@
 use Rattle.std.proofs.Common.{◌≡◌, ◌<◌, ◌+◌, ◌++◌, [], ◌∷◌, ◌∙◌, sym, subst, ℕ, List, length}
 use Rattle.cmr_base.specs.Matrix.{entry}
 use Rattle.cmr_base.specs.Reductions.{removal_on, rows_without}
-use Rattle.sp_reduce.specs.Sides.{IsCounted, IsSettled}
+use Rattle.sp_reduce.specs.Sides.{AreNonzerosCounted, IsSettled}
 use Rattle.sp_reduce.proofs.Pairs.{paired_new}
 use Rattle.sp_reduce.proofs.StatedOrder.{at_start, one_step, fewer_left, at_end}
 use Rattle.sp_reduce.proofs.removal.reduce_lines.Goals as goal
@@ -19,8 +19,8 @@ steps-init c =
     record {
       kind = c.in_ok-rows.ensures.kind;
       paired = paired_new binary m rows columns R C c.in_ok-rows.ensures.kind c.in_ok-columns.ensures.kind r k c.in_ok-rows.ensures.side c.in_ok-columns.ensures.side
-          (subst (λ (lines : List ℕ). IsCounted m rows lines) c.as_slice-column_numbers.ensures.items c.in_ok-rows.ensures.counted)
-          (subst (λ (lines : List ℕ). IsCounted m columns lines) c.as_slice-row_numbers.ensures.items c.in_ok-columns.ensures.counted)
+          (subst (λ (lines : List ℕ). AreNonzerosCounted m rows lines) c.as_slice-column_numbers.ensures.items c.in_ok-rows.ensures.counted)
+          (subst (λ (lines : List ℕ). AreNonzerosCounted m columns lines) c.as_slice-row_numbers.ensures.items c.in_ok-columns.ensures.counted)
           (subst (λ (lines : List ℕ). IsSettled binary m rows lines) c.as_slice-column_numbers.ensures.items (c.in_ok-rows.ensures.settled binary))
           (subst (λ (lines : List ℕ). IsSettled binary m columns lines) c.as_slice-row_numbers.ensures.items (c.in_ok-columns.ensures.settled binary));
       way = rw (c.new-steps.ensures, r, k) (at_start binary (entry m) R C);

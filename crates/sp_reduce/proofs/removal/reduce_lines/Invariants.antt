@@ -1,7 +1,7 @@
 use Rattle.std.proofs.Common.{◌≡◌, ◌+◌, length}
 use Rattle.cmr_base.specs.Matrix.{entry}
 use Rattle.cmr_base.specs.Reductions.{removal_on}
-use Rattle.sp_reduce.specs.declared.kind.Kind.TheVariants.{Rows}
+use Rattle.sp_reduce.specs.declared.kind.LineKind.TheVariants.{Rows}
 use Rattle.sp_reduce.specs.Changes.{ArePaired}
 use Rattle.sp_reduce.proofs.StatedOrder.{IsOnTheWay}
 use Rattle.sp_reduce.proofs.removal.reduce_lines.Given as goal

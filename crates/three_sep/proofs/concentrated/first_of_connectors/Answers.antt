@@ -1,7 +1,7 @@
 use Rattle.std.proofs.Common.{◌≡◌, sym, subst}
 use Rattle.cmr_base.specs.declared.separation.Form.TheVariants.{Concentrated}
 use Rattle.cmr_base.specs.Matrix.{Matrix}
-use Rattle.line_growth.specs.declared.rule.Rule.{Rule}
+use Rattle.line_growth.specs.declared.rule.GrowthRule.{GrowthRule}
 use Rattle.line_growth.specs.GrowingSets.{HasNoLeaving, set_of}
 use Rattle.line_growth.specs.Rules.{IsRuleOf, exchanged}
 use Rattle.three_sep.specs.Connectors.{firsts, seconds}
@@ -10,7 +10,7 @@ use Rattle.line_growth.proofs.SetSteps.{told_no}
 use Rattle.three_sep.proofs.SideLemmas.{no_good_parting, none_leaving, none_left}
 use Rattle.three_sep.proofs.concentrated.first_of_connectors.Goals as goal
 
-exchanged_rule : (m : Matrix) (rule other : Rule) → other ≡ exchanged rule → IsRuleOf m rule → IsRuleOf m other
+exchanged_rule : (m : Matrix) (rule other : GrowthRule) → other ≡ exchanged rule → IsRuleOf m rule → IsRuleOf m other
 exchanged_rule m rule other e is = subst (IsRuleOf m) (sym e) (record { upper = is.lower; lower = is.upper })
 
 pub returns-then-not-branch-clause-none : goal.returns-then-not-branch-clause-none
@@ -30,7 +30,7 @@ returns-then-not-branch-2-clause-none c =
     let d = c.args.connectors.now in
     let rule = c.spread_rule-rule in
     no_good_parting m Concentrated rule.result d (spread_connectors m rule.result d c.requires rule.ensures.rule rule.ensures.upper rule.ensures.lower)
-    (none_left m rule.result (firsts Concentrated d) (seconds Concentrated d) (subst (λ (r : Rule). HasNoLeaving m r (seconds Concentrated d) (firsts Concentrated d) 4) c.exchanged.ensures
+    (none_left m rule.result (firsts Concentrated d) (seconds Concentrated d) (subst (λ (r : GrowthRule). HasNoLeaving m r (seconds Concentrated d) (firsts Concentrated d) 4) c.exchanged.ensures
     (told_no m c.exchanged.result (seconds Concentrated d) (firsts Concentrated d) 4 c.in_ok-leaves-2.field-0 (set_of c.leaves-2.new.side) c.in_ok-leaves-2.ensures.told c.if-not-branch-2.true)))
 
 pub returns-then-not-branch-3-clause-none : goal.returns-then-not-branch-3-clause-none

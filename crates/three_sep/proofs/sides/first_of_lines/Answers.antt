@@ -22,7 +22,7 @@ second_is flat known second lines e is = is ∙ ap (λ (z : Bool). connector_lin
 pub leaves_beside-requires-clause-second : goal.leaves_beside-requires-clause-second
 leaves_beside-requires-clause-second c =
     let d = c.args.connectors.now in
-    subst (λ (xs : List Line). AllByRecursion (IsLine (height c.args.matrix.now) c.args.matrix.now.width) xs) (sym (second_is _ _ d.second _ c.second_is_flat.ensures c.connector_lines-second.ensures))
+    subst (λ (xs : List Line). AllByRecursion (IsLine (height c.args.matrix.now) c.args.matrix.now.width) xs) (sym (second_is _ _ d.second _ c.second_is_flat.ensures c.lines-second.ensures))
     c.requires.connectors.pair.second_lines
 
 pub returns-then-branch-clause-first : goal.returns-then-branch-clause-first
@@ -33,7 +33,7 @@ returns-then-branch-clause-first c =
     let x = c.line_at-line.result in
     let S = set_of c.leaves_beside.new.grown in
     let three = c.in_ok-separation_of.field-0 in
-    let second = second_is _ _ d.second _ c.second_is_flat.ensures c.connector_lines-second.ensures in
+    let second = second_is _ _ d.second _ c.second_is_flat.ensures c.lines-second.ensures in
     let told : TellsClosed m c.args.rule (x ∷ firsts form d) (seconds form d) 4 c.in_ok-leaves_beside.field-0 S =
     subst (λ (xs : List Line). TellsClosed m c.args.rule (x ∷ firsts form d) xs 4 c.in_ok-leaves_beside.field-0 S) second (c.in_ok-leaves_beside.ensures.told (firsts form d) c.requires.growing) in
     let leaving = told_yes m c.args.rule (x ∷ firsts form d) (seconds form d) 4 c.in_ok-leaves_beside.field-0 S told c.if-branch.true in
@@ -48,7 +48,7 @@ loop-place-preserved c =
     let form = c.args.form in
     let d = c.args.connectors.now in
     let x = c.line_at-line.result in
-    let second = second_is _ _ d.second _ c.second_is_flat.ensures c.connector_lines-second.ensures in
+    let second = second_is _ _ d.second _ c.second_is_flat.ensures c.lines-second.ensures in
     elim c.else-is_beside.branch [
       | else-is_beside-via-then-is_beside+in_ok-leaves_beside+else-branch w ↦ (
         subst (λ (z : GrowingSet). HasRoom m z) (sym w.grown-is) w.in_ok-leaves_beside.ensures.room,

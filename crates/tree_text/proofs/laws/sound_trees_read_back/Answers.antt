@@ -5,7 +5,7 @@ use Rattle.tree_type.specs.Places.{places}
 use Rattle.tree_type.specs.Soundness.{IsSoundTree}
 use Rattle.tree_type.specs.Trees.{tree_of}
 use Rattle.tree_type.specs.Verdicts.{verdict_of}
-use Rattle.tree_text.specs.Reading.{PlainTree, plain}
+use Rattle.tree_text.specs.Reading.{PlainTree, plain_of}
 use Rattle.tree_text.proofs.TreesAgain.{tree_again}
 use Rattle.tree_text.proofs.laws.sound_trees_read_back.Goals as goal
 
@@ -14,7 +14,7 @@ returns c = λ m written is sound.
     let again = tree_again written.rows written.columns (tree_of written.root) is in (
       again,
       λ read e.
-          let same : plain written ≡ plain read = ok_same (plain written) (plain read) (sym again ∙ e) in
+          let same : plain_of written ≡ plain_of read = ok_same (plain_of written) (plain_of read) (sym again ∙ e) in
           let kept = subst (λ (t : PlainTree). IsSoundTree m t.rows t.columns t.root) same sound in
           record {
             sound = kept;

@@ -3,7 +3,7 @@ use Rattle.cmr_base.specs.declared.line.Line.{Line}
 use Rattle.cmr_base.specs.declared.line_set.LineSet.{LineSet}
 use Rattle.line_growth.specs.declared.growing_set.GrowingSet.{GrowingSet}
 use Rattle.line_growth.specs.GrowingSets.{HasRoom, set_of}
-use Rattle.two_sep.specs.FoundParts.{AreFound, seen_lines}
+use Rattle.two_sep.specs.FoundParts.{ArePartsFound, seen_lines}
 use Rattle.two_sep.proofs.PartSteps.{found_all, found_more, found_passes, seen_joined}
 use Rattle.two_sep.proofs.parts.components_of.Goals as goal
 use Rattle.two_sep.proofs.parts.components_of.Goals.{then-not-is_seen+in_ok-grow_part+in_ok-line_set+in_ok-push, else-not-is_seen}
@@ -31,9 +31,9 @@ loop-place-preserved c =
             rows = ap (λ (xs : List ℕ). length xs) seen_rows ∙ w.add_set.ensures.size ∙ so.rows;
             columns = ap (λ (xs : List ℕ). length xs) seen_columns ∙ w.add_set-then-not-is_seen.ensures.size ∙ so.columns;
             room = subst (λ (z : GrowingSet). HasRoom m z) (sym w.part-is) w.in_ok-grow_part.ensures.room;
-            found = subst (λ (ps : List LineSet). AreFound m ps (seen_lines c.if-not-is_seen.seen_rows.items c.if-not-is_seen.seen_columns.items) (number + 1)) (sym (w.parts-is ∙ w.in_ok-push.ensures.ok))
-                (subst (λ (xs : List ℕ). AreFound m (parts ++ w.in_ok-line_set.field-0 ∷ []) (seen_lines xs c.if-not-is_seen.seen_columns.items) (number + 1)) (sym seen_rows)
-                (subst (λ (xs : List ℕ). AreFound m (parts ++ w.in_ok-line_set.field-0 ∷ []) (seen_lines w.add_set.new.set.items xs) (number + 1)) (sym seen_columns) more));
+            found = subst (λ (ps : List LineSet). ArePartsFound m ps (seen_lines c.if-not-is_seen.seen_rows.items c.if-not-is_seen.seen_columns.items) (number + 1)) (sym (w.parts-is ∙ w.in_ok-push.ensures.ok))
+                (subst (λ (xs : List ℕ). ArePartsFound m (parts ++ w.in_ok-line_set.field-0 ∷ []) (seen_lines xs c.if-not-is_seen.seen_columns.items) (number + 1)) (sym seen_rows)
+                (subst (λ (xs : List ℕ). ArePartsFound m (parts ++ w.in_ok-line_set.field-0 ∷ []) (seen_lines w.add_set.new.set.items xs) (number + 1)) (sym seen_columns) more));
           }
       | else-not-is_seen w ↦
           let seen_rows = ap (λ v. v.items) w.seen_rows-is in
@@ -43,9 +43,9 @@ loop-place-preserved c =
             rows = ap (λ (xs : List ℕ). length xs) seen_rows ∙ so.rows;
             columns = ap (λ (xs : List ℕ). length xs) seen_columns ∙ so.columns;
             room = subst (λ (z : GrowingSet). HasRoom m z) (sym w.part-is) so.room;
-            found = subst (λ (ps : List LineSet). AreFound m ps (seen_lines c.if-not-is_seen.seen_rows.items c.if-not-is_seen.seen_columns.items) (number + 1)) (sym w.parts-is)
-                (subst (λ (xs : List ℕ). AreFound m parts (seen_lines xs c.if-not-is_seen.seen_columns.items) (number + 1)) (sym seen_rows)
-                (subst (λ (xs : List ℕ). AreFound m parts (seen_lines rows xs) (number + 1)) (sym seen_columns) same));
+            found = subst (λ (ps : List LineSet). ArePartsFound m ps (seen_lines c.if-not-is_seen.seen_rows.items c.if-not-is_seen.seen_columns.items) (number + 1)) (sym w.parts-is)
+                (subst (λ (xs : List ℕ). ArePartsFound m parts (seen_lines xs c.if-not-is_seen.seen_columns.items) (number + 1)) (sym seen_rows)
+                (subst (λ (xs : List ℕ). ArePartsFound m parts (seen_lines rows xs) (number + 1)) (sym seen_columns) same));
           }
     ]
 

@@ -3,7 +3,7 @@ use Rattle.cmr_base.specs.declared.line.Line.TheVariants.{Column, Row}
 use Rattle.cmr_base.specs.Matrix.{entry}
 use Rattle.cmr_base.specs.Separations.{product_at, zeros}
 use Rattle.line_growth.specs.declared.growing_set.GrowingSet.{GrowingSet}
-use Rattle.line_growth.specs.declared.rule.Rule.{Rule}
+use Rattle.line_growth.specs.declared.rule.GrowthRule.{GrowthRule}
 use Rattle.line_growth.specs.GrowingSets.{HasNoLeaving, HasRoom, IsGrowing, set_of}
 use Rattle.line_growth.specs.Rules.{lower_of, upper_of}
 use Rattle.line_growth.proofs.SetSteps.{told_no, told_yes}
@@ -40,7 +40,7 @@ loop-place-preserved c =
           let none : HasNoLeaving m (rule_at i j) start (Row i ∷ []) 2 = told_no m (rule_at i j) start (Row i ∷ []) 2 w.in_ok-close.field-0 (set_of w.close.new.self) told w.if-branch.false in
           let bad = w.close-then-not-has.new.self in
           let pulled : IsGrowing m (product_at (entry m) i j) zeros (seed.result ∷ []) bad =
-          subst (λ (r : Rule). IsGrowing m (upper_of m r) (lower_of m r) (seed.result ∷ []) bad) w.exchanged.ensures (w.in_ok-close-2.ensures.growing (seed.result ∷ []) (w.in_ok-start-2.ensures.growing _ _)) in
+          subst (λ (r : GrowthRule). IsGrowing m (upper_of m r) (lower_of m r) (seed.result ∷ []) bad) w.exchanged.ensures (w.in_ok-close-2.ensures.growing (seed.result ∷ []) (w.in_ok-start-2.ensures.growing _ _)) in
           record {
             side_room = subst (λ (z : GrowingSet). HasRoom m z) (sym w.side-is) w.in_ok-close.ensures.room;
             bad_room = subst (λ (z : GrowingSet). HasRoom m z) (sym w.bad-is) w.in_ok-close-2.ensures.room;

@@ -2,7 +2,7 @@ use Rattle.std.proofs.Common.{◌≡◌, ◌≢◌, ◌<◌, ◌≤◌, ◌∙�
 use Rattle.bridge_split.specs.declared.cuts.CutTable.{CutTable}
 use Rattle.bridge_split.specs.Forests.{AreInOneTree, HasTreeRoom, joins, depth_at, parent_at}
 use Rattle.bridge_split.proofs.CutTables.{disagree_back}
-use Rattle.bridge_split.proofs.PathRoutes.{route_one, route_front, route_back, turned, climbs}
+use Rattle.bridge_split.proofs.PathRoutes.{route_one, route_front, route_back, swapped, climbs}
 use Rattle.bridge_split.proofs.forest.Forest.+push_path.Goals as goal
 use Rattle.std.proofs.lemmas.List.{get_or_default}
 
@@ -15,7 +15,7 @@ module _ (table : CutTable) (depths parents reached : List ℕ) (room : HasTreeR
       → AreInOneTree (joins table) table.count (depth_at depths) (parent_at parents) reached v y × (x < table.count) × (joins table x v ≡ true) × (depth_at depths x ≡ suc (depth_at depths v))
   up_here x y v a b t n ea eb l ev =
       let f : a ≡ depth_at depths x = ea ∙ get_or_default depths x a 4294967295 (low x y t) in
-      let g : b ≡ depth_at depths y = eb ∙ get_or_default depths y b 4294967295 (low y x (turned (joins table) table.count (depth_at depths) (parent_at parents) reached x y t)) in
+      let g : b ≡ depth_at depths y = eb ∙ get_or_default depths y b 4294967295 (low y x (swapped (joins table) table.count (depth_at depths) (parent_at parents) reached x y t)) in
       climbs (joins table) table.count (depth_at depths) (parent_at parents) reached x y v t n (omega arith)
       (ev ∙ get_or_default parents x v 0 (let k = t.are.inside x t.one_in in let r = room.parents_are in omega arith))
 
@@ -44,9 +44,9 @@ push_path-requires-else-index t c =
     let D = joins c.args.table.now in
     let n = c.args.table.now.count in
     let u = up_here c.args.table.now s.depth.items s.parent.items s.reached.items c.requires.room c.args.two c.args.one c.index-else-index.result.now c.index-else-one-two.result.now c.index.result.now
-    (turned D n (depth_at s.depth.items) (parent_at s.parent.items) s.reached.items c.args.one c.args.two c.requires.tree) (λ e. c.if-one-two.false (sym e))
+    (swapped D n (depth_at s.depth.items) (parent_at s.parent.items) s.reached.items c.args.one c.args.two c.requires.tree) (λ e. c.if-one-two.false (sym e))
     c.index-else-one-two.ensures c.index.ensures (let l = c.if-index.false in omega arith) c.index-else-index.ensures in
-    ((let d = c.decreases in let e = u.3 in omega arith), (c.requires.room, turned D n (depth_at s.depth.items) (parent_at s.parent.items) s.reached.items c.index-else-index.result.now c.args.one u.0))
+    ((let d = c.decreases in let e = u.3 in omega arith), (c.requires.room, swapped D n (depth_at s.depth.items) (parent_at s.parent.items) s.reached.items c.index-else-index.result.now c.args.one u.0))
 
 pub returns-in_ok-push : goal.returns-in_ok-push
 returns-in_ok-push t c =
@@ -67,7 +67,7 @@ returns-in_ok-push-3 t c =
     let D = joins c.args.table.now in
     let n = c.args.table.now.count in
     let u = up_here c.args.table.now s.depth.items s.parent.items s.reached.items c.requires.room c.args.two c.args.one c.index-else-index.result.now c.index-else-one-two.result.now c.index.result.now
-    (turned D n (depth_at s.depth.items) (parent_at s.parent.items) s.reached.items c.args.one c.args.two c.requires.tree) (λ e. c.if-one-two.false (sym e))
+    (swapped D n (depth_at s.depth.items) (parent_at s.parent.items) s.reached.items c.args.one c.args.two c.requires.tree) (λ e. c.if-one-two.false (sym e))
     c.index-else-one-two.ensures c.index.ensures (let l = c.if-index.false in omega arith) c.index-else-index.ensures in
     route_back D n (depth_at s.depth.items) c.args.path.now c.push_path-else-index.new.path c.push-else-index.new.self
     c.args.one c.index-else-index.result.now c.args.two c.in_ok-push-3.ensures.ok c.in_ok-push_path-2.ensures u.1

@@ -3,7 +3,7 @@ use Rattle.std.proofs.lemmas.Bool.{cases_eq}
 use Rattle.cmr_base.specs.Matrix.{height}
 use Rattle.cmr_base.specs.Trees.{support}
 use Rattle.cmr_base.proofs.Places.{members_below}
-use Rattle.bridge_split.specs.PartNumbers.{number_at, IsNumbering}
+use Rattle.bridge_split.specs.PartNumbers.{number_at, IsBetweenParts}
 use Rattle.bridge_split.specs.declared.part_walk.PartWalk.{PartWalk}
 use Rattle.bridge_split.proofs.PartWalks.{all_numbered, some_or_none}
 use Rattle.bridge_split.proofs.NumberSteps.{passed_more}
@@ -21,10 +21,10 @@ loop-place-preserved c =
     let p = c.loop-place.place in
     let so = c.loop-place.invariant in
     let s = c.loop-place.self in
-    let at : (v : PartWalk) (count : ℕ) → c.if-is_left.self ≡ v → c.if-is_left.count ≡ count → IsNumbering m S i count (p + 1) v.part.items v.reached.items
-    → IsNumbering m S i c.if-is_left.count (p + 1) c.if-is_left.self.part.items c.if-is_left.self.reached.items =
-    λ v count e f h. subst (λ (u : PartWalk). IsNumbering m S i c.if-is_left.count (p + 1) u.part.items u.reached.items) (sym e)
-    (subst (λ (k : ℕ). IsNumbering m S i k (p + 1) v.part.items v.reached.items) (sym f) h) in
+    let at : (v : PartWalk) (count : ℕ) → c.if-is_left.self ≡ v → c.if-is_left.count ≡ count → IsBetweenParts m S i count (p + 1) v.part.items v.reached.items
+    → IsBetweenParts m S i c.if-is_left.count (p + 1) c.if-is_left.self.part.items c.if-is_left.self.reached.items =
+    λ v count e f h. subst (λ (u : PartWalk). IsBetweenParts m S i c.if-is_left.count (p + 1) u.part.items u.reached.items) (sym e)
+    (subst (λ (k : ℕ). IsBetweenParts m S i k (p + 1) v.part.items v.reached.items) (sym f) h) in
     elim c.if-is_left.branch [
       | then-is_left w ↦
           at w.walk_from.new.self (c.loop-place.count + 1) w.self-is w.count-is (record {

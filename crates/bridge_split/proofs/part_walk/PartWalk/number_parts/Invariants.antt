@@ -1,5 +1,5 @@
-use Rattle.bridge_split.specs.PartNumbers.{IsNumbering}
+use Rattle.bridge_split.specs.PartNumbers.{IsBetweenParts}
 use Rattle.bridge_split.proofs.part_walk.PartWalk.number_parts.Given as goal
 
 abbrev pub invariant-loop-place : goal.invariant-loop-place
-invariant-loop-place l = IsNumbering l.matrix l.rows l.row l.count l.place l.self.part.items l.self.reached.items
+invariant-loop-place l = IsBetweenParts l.matrix l.rows l.row l.count l.place l.self.part.items l.self.reached.items

@@ -17,5 +17,5 @@ pub returns : goal.returns
 returns c =
     let m = c.args.self.now in
     let lines = c.args.lines.now in
-    let turned = c.self.invariant.columns_are ∙ ap transposed c.self.view_is in
-    IfOk-weaker c.part_on.result _ _ (λ part e. e ∙ ap (λ (t : Matrix). submatrix t lines.columns lines.rows) turned ∙ sym (transposed-submatrix m lines.rows lines.columns (is_ternary m (subst IsMatrix c.self.view_is c.self.invariant.is_matrix)))) c.part_on.ensures
+    let columns_are = c.self.invariant.columns_are ∙ ap transposed c.self.view_is in
+    IfOk-weaker c.part_on.result _ _ (λ part e. e ∙ ap (λ (t : Matrix). submatrix t lines.columns lines.rows) columns_are ∙ sym (transposed-submatrix m lines.rows lines.columns (is_ternary m (subst IsMatrix c.self.view_is c.self.invariant.is_matrix)))) c.part_on.ensures

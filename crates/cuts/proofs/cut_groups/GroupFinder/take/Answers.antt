@@ -1,7 +1,7 @@
 use Rattle.std.proofs.Common.{refl, subst, sym}
 use Rattle.cuts.specs.declared.cut_groups.GroupFinder.{GroupFinder}
 use Rattle.cuts.specs.Finders.{AreFound}
-use Rattle.cuts.specs.LineSets.{set_of}
+use Rattle.cuts.specs.LineSets.{as_set}
 use Rattle.cuts.proofs.CoverLemmas.{group_named}
 use Rattle.cuts.proofs.FinderLemmas.{found_kept}
 use Rattle.cuts.proofs.cut_groups.GroupFinder.take.Goals as goal
@@ -11,7 +11,7 @@ pub note-requires-clause-found : goal.note-requires-clause-found
 note-requires-clause-found c = record {
   groups = c.rename.ensures.names;
   taken = c.add_rest.ensures.size;
-  together = group_named c.args.matrix.now c.args.self.now.groups c.rename.new.self (set_of c.is_covered.new.search.parted) c.args.line c.requires.line c.requires.found.together (c.in_ok-is_covered.ensures.one_side c.if-branch.true) c.rename.ensures.get;
+  together = group_named c.args.matrix.now c.args.self.now.groups c.rename.new.self (as_set c.is_covered.new.search.parted) c.args.line c.requires.line c.requires.found.together (c.in_ok-is_covered.ensures.one_side c.if-branch.true) c.rename.ensures.get;
 }
 
 pub returns : goal.returns

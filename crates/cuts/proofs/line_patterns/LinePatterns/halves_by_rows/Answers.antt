@@ -1,5 +1,5 @@
 use Rattle.std.proofs.Common.{inr}
-use Rattle.cuts.specs.LineSets.{set_of}
+use Rattle.cuts.specs.LineSets.{as_set}
 use Rattle.cuts.proofs.CoverLemmas.{rows_halved}
 use Rattle.cuts.proofs.line_patterns.LinePatterns.halves_by_rows.Goals as goal
 
@@ -7,5 +7,5 @@ pub grown_halves-requires-clause-halved : goal.grown_halves-requires-clause-halv
 grown_halves-requires-clause-halved c =
     let m = c.args.matrix.now in
     let lines = c.args.side.now.lines in
-    rows_halved m lines.rows.items lines.columns.items c.args.self.now.rows (set_of c.in_ok-one.one) (set_of c.in_ok-other.other) c.rows-shape.ensures.shape c.requires.patterns.rows (λ x l t. inr (c.in_ok-one.ensures.lines x l t))
+    rows_halved m lines.rows.items lines.columns.items c.args.self.now.rows (as_set c.in_ok-one.one) (as_set c.in_ok-other.other) c.rows-shape.ensures.shape c.requires.patterns.rows (λ x l t. inr (c.in_ok-one.ensures.lines x l t))
     (λ x l t. inr (c.in_ok-other.ensures.lines x l t))

@@ -4,8 +4,9 @@ use Rattle.std.proofs.lemmas.List.{set-set, get_or_read}
 use Rattle.cmr_base.specs.Matrix.{entry}
 use Rattle.cmr_base.specs.Sums.{sum_over}
 use Rattle.cmr_base.proofs.Integers.{sums}
-use Rattle.ghouila.specs.Found.{HasParity, bit, marked}
+use Rattle.ghouila.specs.Found.{HasParity, marked}
 use Rattle.ghouila.proofs.marked_lines.MarkedLines.undo_pivot.Goals as goal
+use Rattle.cmr_base.specs.Cuts.{bit}
 
 -- one more where it was there
 parity-add_bit : (odd there : Bool) (z : ℤ) → HasParity odd z → HasParity (not (beq odd there)) (z +ℤ bit there)

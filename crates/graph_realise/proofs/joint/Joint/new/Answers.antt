@@ -1,12 +1,12 @@
 use Rattle.std.proofs.Common.{◌≡◌, ◌∙◌, ℕ, List, Option, length, refl, sym, ap, subst, arith}
 use Rattle.cmr_base.specs.Trees.{support}
-use Rattle.graph_realise.specs.Joints.{AreMarks, number_at}
+use Rattle.graph_realise.specs.Joints.{ArePartMarks, number_at}
 use Rattle.graph_realise.specs.Tables.{Grid}
 use Rattle.graph_realise.proofs.JointLemmas.{named_number}
 use Rattle.graph_realise.proofs.joint.Joint.new.Goals as goal
 
-marked : (numbers given : List (Option ℕ)) (count many : ℕ) (marks : Grid) → given ≡ numbers → count ≡ many → AreMarks given count marks → AreMarks numbers many marks
-marked numbers given count many marks e f h = subst (λ (xs : List (Option ℕ)). AreMarks xs many marks) e (subst (λ (n : ℕ). AreMarks given n marks) f h)
+marked : (numbers given : List (Option ℕ)) (count many : ℕ) (marks : Grid) → given ≡ numbers → count ≡ many → ArePartMarks given count marks → ArePartMarks numbers many marks
+marked numbers given count many marks e f h = subst (λ (xs : List (Option ℕ)). ArePartMarks xs many marks) e (subst (λ (n : ℕ). ArePartMarks given n marks) f h)
 
 pub marks_of-requires-clause-numbers : goal.marks_of-requires-clause-numbers
 marks_of-requires-clause-numbers c = λ row part e.

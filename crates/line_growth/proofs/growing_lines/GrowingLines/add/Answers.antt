@@ -1,6 +1,6 @@
 use Rattle.std.proofs.Common.{◌≡◌, ◌∙◌, sym, ap, refl, arith, false}
 use Rattle.cmr_base.specs.ColumnSets.{has_column}
-use Rattle.line_growth.specs.GrowingLines.{is_in}
+use Rattle.line_growth.specs.GrowingLines.{is_inside}
 use Rattle.line_growth.proofs.LineSteps.{added_already, adds, some_left}
 use Rattle.line_growth.proofs.growing_lines.GrowingLines.add.Goals as goal
 
@@ -13,7 +13,7 @@ returns-then-has_column c = added_already c.args.self.now.size c.args.line c.arg
 pub returns : goal.returns
 returns c =
     let lines = c.args.self.now in
-    let out : is_in lines c.args.line ≡ false = ap (λ v. has_column v c.args.line) (sym c.deref.ensures.value) ∙ sym c.has_column.ensures ∙ c.if-has_column.false in
+    let out : is_inside lines c.args.line ≡ false = ap (λ v. has_column v c.args.line) (sym c.deref.ensures.value) ∙ sym c.has_column.ensures ∙ c.if-has_column.false in
     let some = some_left lines.size c.args.line lines c.requires.lines c.requires.line out in
     let set = c.add_column.ensures in
     adds lines.size c.args.line lines _ c.requires.lines c.requires.line out refl set.size set.here set.kept set.only (omega (arith, some)) c.in_ok-push.ensures.items

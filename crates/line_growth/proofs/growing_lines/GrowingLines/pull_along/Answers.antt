@@ -4,21 +4,21 @@ use Rattle.cmr_base.specs.Matrix.{entry}
 use Rattle.cmr_base.specs.Trees.{support}
 use Rattle.cmr_base.proofs.Booleans.{false_is, not_both}
 use Rattle.line_growth.specs.declared.growing_lines.GrowingLines.{GrowingLines}
-use Rattle.line_growth.specs.GrowingLines.{HasAdded, HasGrown, is_in}
+use Rattle.line_growth.specs.GrowingLines.{HasAdded, HasGrown, is_inside}
 use Rattle.line_growth.specs.Rules.{sum_at}
 use Rattle.line_growth.proofs.LineSteps.{grown_more}
 use Rattle.line_growth.proofs.growing_lines.GrowingLines.pull_along.Goals as goal
 use Rattle.line_growth.proofs.growing_lines.GrowingLines.pull_along.Goals.{then-is_unlike+in_ok-add, else-is_unlike}
 
 -- one line more was looked at, and the row is 0 between
-looked : (along : ℕ → Bool) (agrees : ℕ → Type 0) (lines after : GrowingLines) (from line : ℕ) → ((x : ℕ) → from ≤ x → x < line → along x ≡ false) → ((x : ℕ) → x < from → along x ≡ true → is_in lines x ≡ false → agrees x)
-    → ((x : ℕ) → is_in lines x ≡ true → is_in after x ≡ true) → (is_in after line ≡ false → agrees line) → (x : ℕ) → x < line + 1 → along x ≡ true → is_in after x ≡ false → agrees x
+looked : (along : ℕ → Bool) (agrees : ℕ → Type 0) (lines after : GrowingLines) (from line : ℕ) → ((x : ℕ) → from ≤ x → x < line → along x ≡ false) → ((x : ℕ) → x < from → along x ≡ true → is_inside lines x ≡ false → agrees x)
+    → ((x : ℕ) → is_inside lines x ≡ true → is_inside after x ≡ true) → (is_inside after line ≡ false → agrees line) → (x : ℕ) → x < line + 1 → along x ≡ true → is_inside after x ≡ false → agrees x
 looked along agrees lines after from line zeros done kept here x l t e = elim (cases_lt x line) [
   | inl low ↦ elim (cases_lt x from) [
-    | inl before ↦ done x before t (false_is (is_in lines x) (λ s. not_both (is_in after x) (kept x s) e))
+    | inl before ↦ done x before t (false_is (is_inside lines x) (λ s. not_both (is_inside after x) (kept x s) e))
     | inr between ↦ absurd (not_both (along x) t (zeros x between low))
   ]
-  | inr high ↦ let q : x ≡ line = omega arith in subst agrees (sym q) (here (subst (λ (z : ℕ). is_in after z ≡ false) q e))
+  | inr high ↦ let q : x ≡ line = omega arith in subst agrees (sym q) (here (subst (λ (z : ℕ). is_inside after z ≡ false) q e))
 ]
 
 pub loop-line-preserved : goal.loop-line-preserved
@@ -39,14 +39,14 @@ loop-line-preserved c =
           record {
             grown = subst (λ (h : GrowingLines). HasGrown count (λ x. ¬ (agrees x)) c.args.self.now h) (sym w.self-is)
                 (grown_more count (λ x. ¬ (agrees x)) c.args.self.now lines w.add.new.self so.grown line added (c.is_unlike.ensures.yes w.if-is_unlike.true));
-            done = subst (λ (h : GrowingLines). (x : ℕ) → x < line + 1 → along x ≡ true → is_in h x ≡ false → agrees x) (sym w.self-is)
-                (looked along agrees lines w.add.new.self from line zeros so.done added.grown.kept (λ e. absurd (not_both (is_in w.add.new.self line) added.line_in e)));
+            done = subst (λ (h : GrowingLines). (x : ℕ) → x < line + 1 → along x ≡ true → is_inside h x ≡ false → agrees x) (sym w.self-is)
+                (looked along agrees lines w.add.new.self from line zeros so.done added.grown.kept (λ e. absurd (not_both (is_inside w.add.new.self line) added.line_in e)));
             few = few;
           }
       | else-is_unlike w ↦ record {
         grown = subst (λ (h : GrowingLines). HasGrown count (λ x. ¬ (agrees x)) c.args.self.now h) (sym w.self-is) so.grown;
-        done = subst (λ (h : GrowingLines). (x : ℕ) → x < line + 1 → along x ≡ true → is_in h x ≡ false → agrees x) (sym w.self-is)
-            (looked along agrees lines lines from line zeros so.done (λ x e. e) (λ e. elim (c.is_unlike.ensures.no w.if-is_unlike.false) [ inl t ↦ absurd (not_both (is_in lines line) t e) | inr h ↦ h ]));
+        done = subst (λ (h : GrowingLines). (x : ℕ) → x < line + 1 → along x ≡ true → is_inside h x ≡ false → agrees x) (sym w.self-is)
+            (looked along agrees lines lines from line zeros so.done (λ x e. e) (λ e. elim (c.is_unlike.ensures.no w.if-is_unlike.false) [ inl t ↦ absurd (not_both (is_inside lines line) t e) | inr h ↦ h ]));
         few = few;
       }
     ]

@@ -6,7 +6,7 @@ use Rattle.cmr_base.proofs.Integers.{products, sums}
 use Rattle.cmr_base.proofs.RowLists.{two_cases}
 use Rattle.line_growth.specs.declared.growing_lines.GrowingLines.{GrowingLines}
 use Rattle.line_growth.specs.declared.rule.Sum.{Sum}
-use Rattle.line_growth.specs.GrowingLines.{HasGrown, HasPulled, is_in}
+use Rattle.line_growth.specs.GrowingLines.{HasGrown, HasPulled, is_inside}
 use Rattle.line_growth.specs.Rules.{sum_at}
 use Rattle.line_growth.proofs.LineSteps.{grown_joined}
 use Rattle.line_growth.proofs.growing_lines.GrowingLines.pull_by_nonzeros.Goals as goal
@@ -22,10 +22,10 @@ module _ (m : Matrix) (row : ℕ) (sum : Sum) (count : ℕ) where
   agrees x = entry m row x ≡ sum_at m sum x
 
   abbrev Agree : ℕ → GrowingLines → Type 0
-  Agree along lines = (x : ℕ) → support m along x ≡ true → is_in lines x ≡ false → agrees x
+  Agree along lines = (x : ℕ) → support m along x ≡ true → is_inside lines x ≡ false → agrees x
 
-  out_before : (before after : GrowingLines) (x : ℕ) → HasGrown count (λ y. ¬ (agrees y)) before after → is_in after x ≡ false → is_in before x ≡ false
-  out_before before after x grown e = false_is (is_in before x) (λ t. not_both (is_in after x) (grown.kept x t) e)
+  out_before : (before after : GrowingLines) (x : ℕ) → HasGrown count (λ y. ¬ (agrees y)) before after → is_inside after x ≡ false → is_inside before x ≡ false
+  out_before before after x grown e = false_is (is_inside before x) (λ t. not_both (is_inside after x) (grown.kept x t) e)
 
   -- along the row, and then along the others
   all_pulled : (start first second third : GrowingLines) → HasGrown count (λ y. ¬ (agrees y)) start first → HasGrown count (λ y. ¬ (agrees y)) first second → HasGrown count (λ y. ¬ (agrees y)) second third

@@ -1,6 +1,6 @@
 use Rattle.std.proofs.Common.{◌≡◌, ◌+◌, ◌<◌, ◌≤◌, ◌^◌, ◌*◌, ◌∙◌, ℕ, cond, false, get_or, length, set, ap, ap₂, subst, sym, arith}
 use Rattle.sp_reduce.specs.Kinds.{own_line, other_kind}
-use Rattle.sp_reduce.specs.declared.kind.Kind.{Kind}
+use Rattle.sp_reduce.specs.declared.kind.LineKind.{LineKind}
 use Rattle.sp_reduce.proofs.TallyLemmas.{tallies_same, tallies_step, passed_row, counts_small, cross_small, sums_small, own_in, other_in, weights_small}
 use Rattle.sp_reduce.proofs.tallies.Tallies.add_row.Goals as goal
 
@@ -34,7 +34,7 @@ add-requires-clause-small c =
     let crossing = own_line (other_kind kind) row next in
     let few : length c.args.marks.now ≤ 1000 = omega (arith, cross_small m kind c.requires.shape, c.requires.marks) in
     let in_marks : crossing < length c.args.marks.now = omega (arith, other_in m kind row next c.requires.row c.in-Some.ensures.first.1, c.requires.marks) in
-    subst (λ (n : ℕ). get_or c.args.weights.now n 0 ≤ 1000 ^ 5) (sym (c.own-other.ensures ∙ ap (λ (k : Kind). own_line k row next) c.other.ensures))
+    subst (λ (n : ℕ). get_or c.args.weights.now n 0 ≤ 1000 ^ 5) (sym (c.own-other.ensures ∙ ap (λ (k : LineKind). own_line k row next) c.other.ensures))
     (weights_small c.args.marks.now c.args.weights.now c.requires.weights few crossing in_marks)
 
 pub columns-preserved : goal.columns-preserved
@@ -47,7 +47,7 @@ columns-preserved c =
     let sums = c.columns.self.sums.items in
     let found = c.in-Some.ensures.first in
     let small = c.in-Some.ensures.small in
-    let other : c.own-other.result ≡ own_line (other_kind kind) row next = c.own-other.ensures ∙ ap (λ (k : Kind). own_line k row next) c.other.ensures in
+    let other : c.own-other.result ≡ own_line (other_kind kind) row next = c.own-other.ensures ∙ ap (λ (k : LineKind). own_line k row next) c.other.ensures in
     let weights = c.args.weights.now in
     let in_marks : own_line (other_kind kind) row next < length marks = omega (arith, other_in c.args.matrix.now kind row next c.requires.row found.1, c.requires.marks) in
     record {

@@ -1,12 +1,12 @@
 use Rattle.std.proofs.Common.{rules, arith, ◌≡◌, ◌∙◌, ℕ, ap, replicate}
 use Rattle.sp_reduce.specs.declared.tallies.Tallies.{Tallies}
-use Rattle.sp_reduce.specs.Kinds.{size_of}
+use Rattle.sp_reduce.specs.Kinds.{count_of_kind}
 use Rattle.sp_reduce.proofs.TallyLemmas.{cross_small, tallies_start}
 use Rattle.sp_reduce.proofs.tallies.Tallies.new.Goals as goal
 
 pub rows-init : goal.rows-init
 rows-init c =
-    let size : c.size-size.result ≡ size_of c.args.matrix.now c.args.kind = c.size-size.ensures in
+    let size : c.size-size.result ≡ count_of_kind c.args.matrix.now c.args.kind = c.size-size.ensures in
     let counts : c.in_ok-vec.field-0.items ≡ replicate c.size-size.result 0 = search rules in
     let sums : c.in_ok-vec-2.field-0.items ≡ replicate c.size-size.result 0 = search rules in
     let tallies : Tallies = record { counts = c.in_ok-vec.field-0; sums = c.in_ok-vec-2.field-0 } in

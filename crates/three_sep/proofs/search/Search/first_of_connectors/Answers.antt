@@ -1,5 +1,5 @@
 use Rattle.std.proofs.Common.{IfNone, IfOk, IfSome, sym, subst}
-use Rattle.line_growth.specs.declared.rule.Rule.{Rule}
+use Rattle.line_growth.specs.declared.rule.GrowthRule.{GrowthRule}
 use Rattle.line_growth.specs.GrowingSets.{IsGrowing}
 use Rattle.line_growth.specs.Rules.{lower_of, upper_of}
 use Rattle.three_sep.specs.declared.connectors.Connectors.{Connectors}
@@ -13,7 +13,7 @@ first_of_lines-requires-clause-connectors c =
     let m = c.args.matrix.now in
     let d = c.args.corners.now in
     subst (λ (e : Connectors). AreConnectorsOf m c.args.form c.rule_at-rule.result e) (sym c.at-connectors.ensures)
-    (subst (λ (r : Rule). AreConnectorsOf m c.args.form r (connectors_at d c.args.q c.args.o)) (sym c.rule_at-rule.ensures)
+    (subst (λ (r : GrowthRule). AreConnectorsOf m c.args.form r (connectors_at d c.args.q c.args.o)) (sym c.rule_at-rule.ensures)
     (crossing_connectors m c.args.form c.requires.crossing d c.args.q c.args.o c.requires.corners c.requires.held.tied c.requires.tied c.requires.held.line c.requires.line))
 
 pub first_of_lines-requires-clause-growing : goal.first_of_lines-requires-clause-growing
@@ -21,7 +21,7 @@ first_of_lines-requires-clause-growing c =
     let m = c.args.matrix.now in
     let side = c.args.self.now.side in
     subst (λ (e : Connectors). IsGrowing m (upper_of m c.rule_at-rule.result) (lower_of m c.rule_at-rule.result) (firsts c.args.form e) side) (sym c.at-connectors.ensures)
-    (subst (λ (r : Rule). IsGrowing m (upper_of m r) (lower_of m r) (held_lines c.args.form c.args.corners.now c.args.q) side) (sym c.rule_at-rule.ensures) c.requires.held.growing)
+    (subst (λ (r : GrowthRule). IsGrowing m (upper_of m r) (lower_of m r) (held_lines c.args.form c.args.corners.now c.args.q) side) (sym c.rule_at-rule.ensures) c.requires.held.growing)
 
 pub returns-clause-first : goal.returns-clause-first
 returns-clause-first c = subst (λ (e : Connectors). IfOk c.first_of_lines.result (λ answer. IfSome answer (IsFirstOf c.args.matrix.now (all_front c.args.form e)))) c.at-connectors.ensures c.first_of_lines.ensures.first

@@ -1,6 +1,6 @@
 use Rattle.std.proofs.Common.{ap, arith, subst, Bool, sym, ◌∙◌, ◌∷◌, []}
 use Rattle.cmr_base.specs.declared.line.Line.TheVariants.{Column, Row}
-use Rattle.line_growth.specs.declared.rule.Rule.{Rule}
+use Rattle.line_growth.specs.declared.rule.GrowthRule.{GrowthRule}
 use Rattle.line_growth.specs.Rules.{IsRuleOf}
 use Rattle.three_sep.specs.Connectors.{HasNoneParting}
 use Rattle.three_sep.specs.declared.search.Search.{Search}
@@ -13,10 +13,10 @@ use Rattle.three_sep.proofs.search.Search.first_of_corners.Goals.{then-branch+in
 
 pub returns-then-not-branch-clause-none : goal.returns-then-not-branch-clause-none
 returns-then-not-branch-clause-none c = no_good_corners c.args.matrix.now c.args.form c.requires.crossing c.args.corners.now
-    (subst (λ (r : Rule). HasNoneParting c.args.matrix.now r (Row c.args.corners.now.i ∷ Column c.args.corners.now.p ∷ []) (Row c.args.corners.now.k ∷ Column c.args.corners.now.j ∷ [])) c.rule_at.ensures (c.in_ok-may_part.ensures.none c.if-not-branch.true))
+    (subst (λ (r : GrowthRule). HasNoneParting c.args.matrix.now r (Row c.args.corners.now.i ∷ Column c.args.corners.now.p ∷ []) (Row c.args.corners.now.k ∷ Column c.args.corners.now.j ∷ [])) c.rule_at.ensures (c.in_ok-may_part.ensures.none c.if-not-branch.true))
 
 pub may_part-requires-clause-rule : goal.may_part-requires-clause-rule
-may_part-requires-clause-rule c = subst (λ (r : Rule). IsRuleOf c.args.matrix.now r) (sym c.rule_at.ensures) (rule_inside c.args.matrix.now c.args.corners.now c.requires.corners.inside)
+may_part-requires-clause-rule c = subst (λ (r : GrowthRule). IsRuleOf c.args.matrix.now r) (sym c.rule_at.ensures) (rule_inside c.args.matrix.now c.args.corners.now c.requires.corners.inside)
 
 pub hold_first-requires-clause-line : goal.hold_first-requires-clause-line
 hold_first-requires-clause-line c =

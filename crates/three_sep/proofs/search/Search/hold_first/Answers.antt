@@ -6,7 +6,7 @@ use Rattle.cmr_base.specs.Matrix.{Matrix, entry}
 use Rattle.cmr_base.specs.Separations.{Lines, connector_lines, product_at}
 use Rattle.cuts.specs.declared.corners.Corners.{Corners}
 use Rattle.line_growth.specs.declared.growing_set.GrowingSet.{GrowingSet}
-use Rattle.line_growth.specs.declared.rule.Rule.{Rule}
+use Rattle.line_growth.specs.declared.rule.GrowthRule.{GrowthRule}
 use Rattle.line_growth.specs.GrowingSets.{IsGrowing, TellsClosed, set_of}
 use Rattle.line_growth.specs.Rules.{IsRuleOf, lower_of, upper_of}
 use Rattle.three_sep.specs.Connectors.{rule_of}
@@ -20,14 +20,14 @@ pub returns-then-not-is_first_other-clause-no : goal.returns-then-not-is_first_o
 returns-then-not-is_first_other-clause-no c = λ e. no_good_first c.args.matrix.now c.args.form c.requires.crossing c.args.corners.now c.args.q (c.is_first_other.ensures.no c.if-not-is_first_other.true)
 
 pub leaves-requires-clause-rule : goal.leaves-requires-clause-rule
-leaves-requires-clause-rule c = subst (λ (r : Rule). IsRuleOf c.args.matrix.now r) (sym c.rule_at.ensures) (rule_inside c.args.matrix.now c.args.corners.now c.requires.inside)
+leaves-requires-clause-rule c = subst (λ (r : GrowthRule). IsRuleOf c.args.matrix.now r) (sym c.rule_at.ensures) (rule_inside c.args.matrix.now c.args.corners.now c.requires.inside)
 
-module _ (m : Matrix) (form : Form) (d : Corners) (q : ℕ) (rule : Rule) (lines : List Line) (same : rule ≡ rule_of d) (are : lines ≡ held_lines form d q) where
+module _ (m : Matrix) (form : Form) (d : Corners) (q : ℕ) (rule : GrowthRule) (lines : List Line) (same : rule ≡ rule_of d) (are : lines ≡ held_lines form d q) where
   growing_as : (side : GrowingSet) → IsGrowing m (upper_of m rule) (lower_of m rule) lines side → IsGrowing m (product_at (entry m) d.i d.j) (product_at (entry m) d.k d.p) (held_lines form d q) side
-  growing_as side g = subst (λ (r : Rule). IsGrowing m (upper_of m r) (lower_of m r) (held_lines form d q) side) same (subst (λ (xs : List Line). IsGrowing m (upper_of m rule) (lower_of m rule) xs side) are g)
+  growing_as side g = subst (λ (r : GrowthRule). IsGrowing m (upper_of m r) (lower_of m r) (held_lines form d q) side) same (subst (λ (xs : List Line). IsGrowing m (upper_of m rule) (lower_of m rule) xs side) are g)
 
   told_as : (out : List Line) (told : Bool) (S : Lines) → TellsClosed m rule lines out 4 told S → TellsClosed m (rule_of d) (held_lines form d q) out 4 told S
-  told_as out told S t = subst (λ (r : Rule). TellsClosed m r (held_lines form d q) out 4 told S) same (subst (λ (xs : List Line). TellsClosed m rule xs out 4 told S) are t)
+  told_as out told S t = subst (λ (r : GrowthRule). TellsClosed m r (held_lines form d q) out 4 told S) same (subst (λ (xs : List Line). TellsClosed m rule xs out 4 told S) are t)
 
 pub returns-clause-held : goal.returns-clause-held
 returns-clause-held c =
@@ -35,7 +35,7 @@ returns-clause-held c =
     let form = c.args.form in
     let d = c.args.corners.now in
     let q = c.args.q in
-    let are = c.connector_lines-first.ensures ∙ ap (λ (z : Bool). connector_lines z (first_at d q)) c.first_is_flat.ensures in
+    let are = c.lines-first.ensures ∙ ap (λ (z : Bool). connector_lines z (first_at d q)) c.first_is_flat.ensures in
     let side = c.leaves.new.side in
     λ t. record {
       kept = record { side = c.in_ok-held.ensures.room; grown = c.requires.search.grown; names = c.requires.search.names; together = c.requires.search.together };
@@ -51,7 +51,7 @@ returns-clause-no c =
     let form = c.args.form in
     let d = c.args.corners.now in
     let q = c.args.q in
-    let are = c.connector_lines-first.ensures ∙ ap (λ (z : Bool). connector_lines z (first_at d q)) c.first_is_flat.ensures in
+    let are = c.lines-first.ensures ∙ ap (λ (z : Bool). connector_lines z (first_at d q)) c.first_is_flat.ensures in
     let side = c.leaves.new.side in
     λ t. no_good_side m form c.requires.crossing d q (told_no m (rule_of d) (held_lines form d q) (Row d.k ∷ Column d.j ∷ []) 4 c.in_ok-held.held (set_of side)
     (told_as m form d q c.rule_at.result _ c.rule_at.ensures are (Row d.k ∷ Column d.j ∷ []) c.in_ok-held.held (set_of side) c.in_ok-held.ensures.told) t)
