@@ -13,6 +13,15 @@ use Rattle.cuts.specs.Patterns.{AreAtMostBeside, AreAtMostListed, AreOpen, AreRu
 
 -- ---- lines that are not in a set
 
+-- each of so many numbers passes a test or does not
+pub count_both : (p : ℕ → Bool) (k : ℕ) → count p k + count (λ x. not (p x)) k ≡ k
+count_both p zero = refl
+count_both p (suc k) = go (p k) (count_both p k)
+  where
+    go : (t : Bool) → count p k + count (λ x. not (p x)) k ≡ k → cond t (suc (count p k)) (count p k) + cond (not t) (suc (count (λ x. not (p x)) k)) (count (λ x. not (p x)) k) ≡ suc k
+    go true h = omega (arith, h)
+    go false h = omega (arith, h)
+
 one_more : (n s : ℕ) (t : Bool) → s ≡ n → s + cond t 1 0 ≡ cond t (suc n) n
 one_more n s true e = omega (arith, e)
 one_more n s false e = omega (arith, e)

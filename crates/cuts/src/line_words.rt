@@ -1,9 +1,9 @@
 // Rows and columns of a matrix as words.
-ghost use Rattle.std.specs.Prelude.{◌≡◌, ◌<◌, ◌⊎◌, ℕ, true, false, length, slice_index_or, IfOk};
+ghost use Rattle.std.specs.Prelude.{◌≡◌, ◌<◌, ◌⊎◌, ℕ, true, false, nat_le, length, slice_index_or, IfOk};
 ghost use Rattle.cmr_base.specs.ColumnSets.{has_column};
 ghost use Rattle.cmr_base.specs.Matrix.{height};
 ghost use Rattle.cmr_base.specs.Planes.{words_for};
-ghost use Rattle.cmr_base.specs.Seeds.{count_outside};
+ghost use Rattle.cmr_base.specs.Seeds.{count_inside, count_outside};
 ghost use Rattle.cmr_base.specs.declared.line.Line.{Line};
 ghost use Rattle.cuts.specs.Covers.{AreWithin};
 ghost use Rattle.cuts.specs.LineSets.{HasWords, columns_heap, is_in_heap, rows_heap, as_set};
@@ -115,6 +115,8 @@ impl LineWords {
     /// Whether there are enough lines for a side of a cut.
     pub fn are_enough(&self, matrix: &RowsAndColumns<'_>) -> bool
         requires { HasWords matrix.now self.now }
+        ensures { result ≡ nat_le LEAST_SIDE (count_inside (height matrix.now) matrix.now.width
+            (as_set self.now)) }
     {
         let lines = matrix.rows().saturating_add(matrix.columns());
         lines.saturating_sub(self.count_others(matrix)) >= LEAST_SIDE

@@ -54,8 +54,7 @@ impl Patterns {
 /// How many of so many rows are not in a set.
 pub fn count_others(set: &[u64], rows: u32) -> u32
     requires { length set.now ≡ words_for rows }
-    ensures few { result ≤ rows }
-    ensures others { result ≡ count (λ x. not (has_column set.now x)) rows }
+    ensures { result ≡ count (λ x. not (has_column set.now x)) rows }
 {
     let mut others = 0;
     for row in 0..rows {

@@ -3,7 +3,7 @@ use Rattle.cuts.proofs.PatternLemmas.{most_of_others, most_of_sorted}
 use Rattle.cuts.proofs.patterns.Patterns.of.Goals as goal
 
 pub returns-then-not-have_two_classes-clause-most : goal.returns-then-not-have_two_classes-clause-most
-returns-then-not-have_two_classes-clause-most c = most_of_others c.args.own.now c.args.numbers.now c.args.rows _ c.count_others.ensures.others
+returns-then-not-have_two_classes-clause-most c = most_of_others c.args.own.now c.args.numbers.now c.args.rows _ c.count_others.ensures
 
 pub returns-clause-most : goal.returns-clause-most
 returns-clause-most c =
