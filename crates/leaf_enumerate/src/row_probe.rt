@@ -4,6 +4,9 @@ use cmr_base::{Matrix, Memory};
 use first_hit::Probe;
 use std::alloc::Global;
 
+/// How many row sets a worker asks in one run. It is no power of two, so that the runs of each worker have large and small sets alike.
+const RUN_SIZE: u64 = 1000;
+
 /// The question whether the row set with a number holds.
 #[derive(Drop)]
 pub struct RowProbe<'a, S> {
@@ -22,8 +25,7 @@ impl<'a, S: Sought> Probe for RowProbe<'a, S> {
         self.sought.first(alloc, self.matrix, from, to)
     }
 
-    // No power of two, so that the runs of each worker have large and small sets alike.
     fn run(&self) -> u64 {
-        1000
+        RUN_SIZE
     }
 }
