@@ -4,7 +4,6 @@ ghost use Rattle.std.specs.List.{AllByRecursion};
 ghost use Rattle.cmr_base.specs.LineSets.{AllBelow, IsRowSet};
 ghost use Rattle.cmr_base.specs.Matrix.{entry, height, is_nonzero, IsMatrix};
 ghost use Rattle.cmr_base.specs.Members.{IsIn};
-ghost use Rattle.cmr_base.specs.Sums.{sum_over};
 ghost use Rattle.balance.specs.Kept.{AreAlike, AreKept, AreKeptBelow, IsCandidate, IsLeastAlike};
 
 use cmr_base::{Indices, MAX_ROWS, Matrix, Memory};

@@ -1,7 +1,7 @@
 // The columns with three nonzeros or more in some rows.
 ghost use Rattle.std.specs.Prelude.{◌≡◌, ◌<◌, ◌≤◌, ◌&&◌, ◌||◌, true, false, ℕ, length, IfOk, MatchOption};
 ghost use Rattle.cmr_base.specs.LineSets.{AllBelow};
-ghost use Rattle.cmr_base.specs.Matrix.{height, IsMatrix};
+ghost use Rattle.cmr_base.specs.Matrix.{height};
 ghost use Rattle.cmr_base.specs.Planes.{words_for};
 ghost use Rattle.cmr_base.specs.ColumnSets.{has_column};
 ghost use Rattle.bridge_split.specs.Counting.{AreCounts, HasCountWords};

@@ -1,5 +1,5 @@
 // Breadth-first trees in which each part disagrees with its parent.
-ghost use Rattle.std.specs.Prelude.{◌≡◌, ◌<◌, ◌≤◌, ◌+◌, ◌++◌, ◌∷◌, [], ℕ, length, slice_index, slice_set, IfOk, OnOk, MatchOption};
+ghost use Rattle.std.specs.Prelude.{◌≡◌, ◌<◌, ◌+◌, ◌++◌, ◌∷◌, [], ℕ, length, slice_index, slice_set, IfOk, OnOk, MatchOption};
 ghost use Rattle.cmr_base.specs.Members.{IsIn};
 ghost use Rattle.bridge_split.specs.Forests.{AreInOneTree, Extends, HasRoute, HasTreeRoom, IsConflict, IsGrowing, IsGrown, IsSquare, IsTwoColoured, depth_at, joins, parent_at};
 

@@ -1,5 +1,5 @@
 // Chain texts, read.
-ghost use Rattle.std.specs.Prelude.{◌≡◌, ◌≤◌, ◌<◌, ◌*◌, ◌-◌, codes, IfOk, []};
+ghost use Rattle.std.specs.Prelude.{◌≡◌, ◌≤◌, ◌<◌, ◌*◌, ◌-◌, IfOk, []};
 ghost use Rattle.cmr_base.specs.declared.line_set.LineSet.{LineSet};
 ghost use Rattle.text_fields.specs.Words.{text_of};
 ghost use Rattle.text_fields.specs.Reading.{field, times, Gives, Reads};

@@ -1,5 +1,5 @@
 // The check of chains.
-ghost use Rattle.std.specs.Prelude.{◌≡◌, ◌≢◌, ◌<◌, ◌≤◌, ◌+◌, ◌+ℤ◌, ◌⊎◌, ◌↔◌, ℕ, ℤ, pos, length, map, cond, nat_eq, slice_index, IsTrue, IfOk, OnOk, MatchOption, IfSome};
+ghost use Rattle.std.specs.Prelude.{◌≡◌, ◌<◌, ◌≤◌, ◌+◌, ◌+ℤ◌, ◌↔◌, ℕ, ℤ, pos, length, map, cond, nat_eq, slice_index, IsTrue, IfOk, MatchOption};
 ghost use Rattle.std.specs.List.{AllByRecursion};
 ghost use Rattle.std.specs.List.Sorted.{IsStrictlyIncreasing};
 ghost use Rattle.cmr_base.specs.Matrix.{Matrix, height, entry, IsMatrix};
@@ -7,7 +7,6 @@ ghost use Rattle.cmr_base.specs.Members.{IsIn};
 ghost use Rattle.cmr_base.specs.LineSets.{AllBelow};
 ghost use Rattle.cmr_base.specs.Signing.{IsSign};
 ghost use Rattle.cmr_base.specs.Sums.{sum_over};
-ghost use Rattle.cmr_base.specs.declared.line.Line.TheVariants.{Row, Column};
 ghost use Rattle.camion_sign.specs.declared.step.SignStep.TheVariants.{Free, Forced};
 ghost use Rattle.camion_sign.specs.SignSteps.{AreSigns, IsUnsignedOne, IsZeroModFour, signed_by};
 ghost use Rattle.camion_sign.specs.Chains.{HasTwoEach, IsFirstBrokenPart, IsSignedViolator, IsSoundChain, KeepsRule};

@@ -1,5 +1,5 @@
 // The first cycle place whose sum is 2 modulo 4.
-ghost use Rattle.std.specs.Prelude.{◌≡◌, ◌≢◌, ◌<◌, ◌≤◌, ◌⊎◌, ◌↔◌, ℕ, List, pos, IsTrue, IfOk, MatchOption};
+ghost use Rattle.std.specs.Prelude.{◌≡◌, ◌≢◌, ◌<◌, ◌↔◌, ℕ, List, pos, IsTrue, IfOk, MatchOption};
 ghost use Rattle.cmr_base.specs.Matrix.{height, entry};
 ghost use Rattle.cmr_base.specs.CyclePlaces.{HasNoCycleFault, IsCyclePlace, IsFaultAt};
 ghost use Rattle.camion_sign.specs.Walks.{HasPlacesAndMarks, HasWalked, place_in};

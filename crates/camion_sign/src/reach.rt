@@ -1,5 +1,5 @@
 // Walks from the first column of the places of a row.
-ghost use Rattle.std.specs.Prelude.{◌≡◌, ◌≢◌, ◌<◌, ◌≤◌, ◌+◌, ◌⊎◌, ℕ, pos, true, false, IsTrue, IfOk, OnOk, slice_set};
+ghost use Rattle.std.specs.Prelude.{◌≡◌, ◌≢◌, ◌<◌, ◌≤◌, ◌+◌, ◌⊎◌, ℕ, pos, true, false, IfOk, OnOk, slice_set};
 ghost use Rattle.cmr_base.specs.Matrix.{height, entry};
 ghost use Rattle.camion_sign.specs.Walks.{HasPlacesAndMarks, IsWalking, IsOpen, GrowsFrom, HasSettled, HasWalked, IsUntouched, NoneWaits, step_at, place_in, flip};
 

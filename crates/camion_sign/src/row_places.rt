@@ -1,5 +1,5 @@
 // The cycle places of a row, found out as they are asked for.
-ghost use Rattle.std.specs.Prelude.{◌≡◌, ◌≢◌, ◌<◌, ◌↔◌, ℕ, List, Some, pos, true, false, IsTrue, IfOk, OnOk, length, slice_index_or};
+ghost use Rattle.std.specs.Prelude.{◌≡◌, ◌≢◌, ◌<◌, ℕ, List, Some, pos, true, false, IsTrue, IfOk, OnOk, length};
 ghost use Rattle.cmr_base.specs.Matrix.{height, entry, IsEntry};
 ghost use Rattle.cmr_base.specs.CyclePlaces.{IsCyclePlace};
 ghost use Rattle.camion_sign.specs.SignOrder.{IsCycleLines, IsPlaceOf};

@@ -1,6 +1,6 @@
 // Camion's signing of a 0/1 matrix, row after row.
-ghost use Rattle.std.specs.Prelude.{◌≡◌, ◌≢◌, ◌<◌, ◌≤◌, ◌+◌, ◌*◌, ◌+ℤ◌, ◌⊎◌, ◌↔◌, ℕ, List, pos, true, false, length, IsTrue, IfOk, OnOk, MatchOption};
-ghost use Rattle.cmr_base.specs.Matrix.{height, entry, IsMatrix, IsEntry};
+ghost use Rattle.std.specs.Prelude.{◌<◌, ◌≤◌, ◌+◌, ◌*◌, ◌+ℤ◌, ◌↔◌, ℕ, length, IsTrue, IfOk, OnOk, MatchOption};
+ghost use Rattle.cmr_base.specs.Matrix.{height, entry, IsMatrix};
 ghost use Rattle.cmr_base.specs.Signing.{IsSign};
 ghost use Rattle.cmr_base.specs.Sums.{IsOdd};
 ghost use Rattle.cmr_base.specs.Supports.{HaveOneSupport};

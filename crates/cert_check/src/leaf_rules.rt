@@ -1,5 +1,5 @@
 // The rules on what a leaf says.
-ghost use Rattle.std.specs.Prelude.{◌≡◌, ◌≤◌, ◌↔◌, ℕ, min, length, IfOk, IsTrue};
+ghost use Rattle.std.specs.Prelude.{◌≡◌, ◌↔◌, min, IfOk, IsTrue};
 ghost use Rattle.cmr_base.specs.CyclePlaces.{HasNoCycleFault};
 ghost use Rattle.cmr_base.specs.Matrix.{Matrix, entry};
 ghost use Rattle.cmr_base.specs.R10.{IsR10};

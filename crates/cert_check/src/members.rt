@@ -1,5 +1,5 @@
 // Lines of a set.
-ghost use Rattle.std.specs.Prelude.{◌≡◌, ◌↔◌, IsTrue, Contains};
+ghost use Rattle.std.specs.Prelude.{◌↔◌, IsTrue, Contains};
 
 use cmr_base::Indices;
 use tree_type::has_line;

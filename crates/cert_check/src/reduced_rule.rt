@@ -1,5 +1,5 @@
 // The rule on reductions.
-ghost use Rattle.std.specs.Prelude.{◌≡◌, ◌↔◌, false, IfOk, IsTrue, IsSome};
+ghost use Rattle.std.specs.Prelude.{◌↔◌, false, IfOk, IsTrue, IsSome};
 ghost use Rattle.cmr_base.specs.Matrix.{entry};
 ghost use Rattle.cmr_base.specs.Reductions.{HasLine, line_reason};
 ghost use Rattle.tree_type.specs.Trees as says;

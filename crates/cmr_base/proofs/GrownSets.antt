@@ -10,7 +10,7 @@ use Rattle.cmr_base.specs.Seeds.{IsLine, IsClosed, HasAll, IsGrown}
 use Rattle.cmr_base.proofs.Booleans.{eq_of}
 use Rattle.cmr_base.proofs.Lists.{all_weaker}
 use Rattle.cmr_base.proofs.ListedLines.{contains_first_lines, first_lines_contain}
-use Rattle.cmr_base.proofs.LineCounts.{outside, count_same, inside_more, same, same_line, line_same}
+use Rattle.cmr_base.proofs.LineCounts.{count_outside, count_same, inside_more, same, same_line, line_same}
 
 pub int_dec : (a b : ℤ) → (a ≡ b) ⊎ (a ≡ b → ⊥)
 int_dec a b = go (int_eq a b) refl
@@ -55,7 +55,7 @@ module _ (m n : ℕ) (M : ℕ → ℕ → ℤ) (upper lower : ℕ → ℕ → �
       go false true x (inl h) = inl (λ e f. absurd (false≢true e), λ e f. h)
       go false true x (inr h) = inr (λ k. h (k.1 refl refl))
 
-  -- a line outside that stands in every closed set that holds T
+  -- a line count_outside that stands in every closed set that holds T
   record Forced (T : Lines) : Type 0 where
     line : Line
     is : IsLine m n line
@@ -105,7 +105,7 @@ module _ (m n : ℕ) (M : ℕ → ℕ → ℤ) (upper lower : ℕ → ℕ → �
   abbrev plus : Line → Lines → Lines
   plus x T y = cond (same x y) true (T y)
 
-  fewer : (x : Line) (T : Lines) → IsLine m n x → T x ≡ false → outside m n T ≡ suc (outside m n (plus x T))
+  fewer : (x : Line) (T : Lines) → IsLine m n x → T x ≡ false → count_outside m n T ≡ suc (count_outside m n (plus x T))
   fewer x T l e =
       inside_more m n x (λ y. not (T y)) l (ap not e)
       ∙ ap₂ (λ (a b : ℕ). suc (a + b))
@@ -130,17 +130,17 @@ module _ (m n : ℕ) (M : ℕ → ℕ → ℤ) (upper lower : ℕ → ℕ → �
       go true g h = subst P (line_same x y g) p
       go false g h = f h
 
-  grow : (start : List Line) (k : ℕ) (T : Lines) → outside m n T ≤ k → HasAll T start → ((U : Lines) → IsClosed m n M upper lower U → HasAll U start → (x : Line) → IsLine m n x → T x ≡ true → U x ≡ true)
+  grow : (start : List Line) (k : ℕ) (T : Lines) → count_outside m n T ≤ k → HasAll T start → ((U : Lines) → IsClosed m n M upper lower U → HasAll U start → (x : Line) → IsLine m n x → T x ≡ true → U x ≡ true)
       → (S : Lines) × IsGrown m n M upper lower start S
   grow start zero T l has least = go (next T)
     where
       go : IsClosed m n M upper lower T ⊎ Forced T → (S : Lines) × IsGrown m n M upper lower start S
       go (inl closed) = (T, record { closed = closed; has = has; least = least })
-      go (inr f) = absurd (plain (outside m n T) (outside m n (plus f.line T)) l (fewer f.line T f.is f.out))
+      go (inr f) = absurd (plain (count_outside m n T) (count_outside m n (plus f.line T)) l (fewer f.line T f.is f.out))
         where
           plain : (a b : ℕ) → a ≤ 0 → a ≡ suc b → ⊥
           plain a b l e = omega arith
-  grow start (suc k) T l has least = go (next T) (λ f. grow start k (plus f.line T) (plain (outside m n T) (outside m n (plus f.line T)) k l (fewer f.line T f.is f.out)) (all_weaker (λ x. T x ≡ true) (λ x. plus f.line T x ≡ true) (λ x e. plus_old f.line x T e) start has)
+  grow start (suc k) T l has least = go (next T) (λ f. grow start k (plus f.line T) (plain (count_outside m n T) (count_outside m n (plus f.line T)) k l (fewer f.line T f.is f.out)) (all_weaker (λ x. T x ≡ true) (λ x. plus f.line T x ≡ true) (λ x e. plus_old f.line x T e) start has)
       (λ U closed hasU x i e. plus_is f.line x T (λ y. U y ≡ true) e (f.forced U closed (least U closed hasU)) (λ g. least U closed hasU x i g)))
     where
       plain : (a b k : ℕ) → a ≤ suc k → a ≡ suc b → b ≤ k
@@ -174,4 +174,4 @@ module _ (m n : ℕ) (M : ℕ → ℕ → ℤ) (upper lower : ℕ → ℕ → �
       go false f g more = more g
 
   pub grown_exists : (start : List Line) → (S : Lines) × IsGrown m n M upper lower start S
-  grown_exists start = grow start (outside m n (member start)) (member start) (omega arith) (all_members start) (λ U closed has x l e. members_within start U has x e)
+  grown_exists start = grow start (count_outside m n (member start)) (member start) (omega arith) (all_members start) (λ U closed has x l e. members_within start U has x e)

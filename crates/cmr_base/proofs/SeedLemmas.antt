@@ -12,7 +12,7 @@ use Rattle.cmr_base.specs.Separations.{Lines, opposite, count_lines_in, AreEnoug
 use Rattle.cmr_base.specs.Seeds.{IsLine, line_number, form_number, IsClosed, HasAll, IsGood, IsGoodTwo, IsGoodThree}
 use Rattle.cmr_base.proofs.Lists.{all_weaker, all_both}
 use Rattle.cmr_base.proofs.ListedLines.{has_line_from_line, line_from_has_line}
-use Rattle.cmr_base.proofs.LineCounts.{count, inside, inside_is, outside_is, AreApart, one_beside, at_least}
+use Rattle.cmr_base.proofs.LineCounts.{count, count_inside, inside_is, outside_is, AreApart, one_beside, at_least}
 use Rattle.cmr_base.proofs.GrownSets.{grown_exists}
 use Rattle.cmr_base.proofs.Booleans.{false_is}
 
@@ -26,7 +26,7 @@ count_grows p q (suc k) h = go (p k) (q k) (h k (omega arith)) (count_grows p q 
     go false true f l = omega arith
     go false false f l = l
 
-inside_grows : (m n : ℕ) (S T : Lines) → ((x : Line) → IsLine m n x → S x ≡ true → T x ≡ true) → inside m n S ≤ inside m n T
+inside_grows : (m n : ℕ) (S T : Lines) → ((x : Line) → IsLine m n x → S x ≡ true → T x ≡ true) → count_inside m n S ≤ count_inside m n T
 inside_grows m n S T h =
     let r = count_grows (λ r. S (Row r)) (λ r. T (Row r)) m (λ y l. h (Row y) l) in
     let c = count_grows (λ c. S (Column c)) (λ c. T (Column c)) n (λ y l. h (Column y) l) in

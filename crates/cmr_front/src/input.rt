@@ -1,5 +1,5 @@
 // Reading the files of a tool.
-ghost use Rattle.std.specs.Prelude.{◌≡◌, ◌≢◌, ◌≤◌, ◌++◌, [], ◌∷◌, IfOk, IfErr, IsTrue, Ok, OnOk, OnErr, length, map};
+ghost use Rattle.std.specs.Prelude.{◌≡◌, ◌≤◌, ◌++◌, [], ◌∷◌, IfOk, IfErr, IsTrue, Ok, OnOk, OnErr, length, map};
 ghost use Rattle.cmr_io.specs.Calls.{next_number};
 ghost use Rattle.cmr_io.specs.Causes.{Rose};
 ghost use Rattle.cmr_io.specs.Kept.{KeepsNames};

@@ -1,4 +1,4 @@
-ghost use Rattle.std.specs.Prelude.{◌≡◌, ◌≢◌, ◌≤◌, ◌<◌, ◌+◌, ◌-◌, ◌^◌, ◌++◌, [], ℕ, List, true, false, None, Some, IsTrue, IfNone, IfSome, OnOk, OnErr, length, take, drop, min, unwrap_or, vec_len};
+ghost use Rattle.std.specs.Prelude.{◌≡◌, ◌≢◌, ◌≤◌, ◌<◌, ◌+◌, ◌-◌, ◌^◌, ◌++◌, [], ℕ, List, false, None, Some, IsTrue, IfNone, IfSome, OnOk, OnErr, length, take, drop, min, unwrap_or, vec_len};
 ghost use Rattle.cmr_io.specs.Files.{content_in, room_in, bytes_at, name_at, has_name, is_writable_at, IsFirstFile};
 ghost use Rattle.cmr_io.specs.Limit.{taken_by_put, given_by_next};
 ghost use Rattle.cmr_io.specs.Writes.{Writes};

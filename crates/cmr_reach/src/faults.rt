@@ -1,6 +1,6 @@
 // What is decided by faults: a yes, a no that names one, or nothing.
 ghost use Rattle.std.specs.Prelude.{◌≡◌, ◌++◌, IfOk, OnOk, option_map};
-ghost use Rattle.cmr_base.specs.LineSets.{AllBelow, submatrix_sum};
+ghost use Rattle.cmr_base.specs.LineSets.{AllBelow};
 ghost use Rattle.cmr_base.specs.Matrix.{height};
 ghost use Rattle.cmr_front.specs.Outcome.{outcome_report};
 ghost use Rattle.cmr_reach.specs.Faults.{fault_report, named_fault, open_report, yes_report};

@@ -1,6 +1,6 @@
 // Lines with the signs by which they are multiplied.
-ghost use Rattle.std.specs.Prelude.{◌≡◌, ◌<◌, ◌++◌, map, pos, IfOk, OnOk};
-ghost use Rattle.cmr_base.specs.Matrix.{entry, height, IsEntry, IsMatrix};
+ghost use Rattle.std.specs.Prelude.{◌≡◌, ◌<◌, ◌++◌, map, IfOk, OnOk};
+ghost use Rattle.cmr_base.specs.Matrix.{entry, height, IsEntry};
 ghost use Rattle.cmr_base.specs.Signing.{IsSign};
 ghost use Rattle.compose.specs.Arrangements.{plain, framed, signed_entry, signed_submatrix, AreSignedLines};
 

@@ -1,6 +1,5 @@
 // Groups of lines that no cut parts, found one after the other.
 ghost use Rattle.std.specs.Prelude.{◌≡◌, ◌<◌, true, IfOk, OnOk, MatchOption};
-ghost use Rattle.cmr_base.specs.Separations.{Lines};
 ghost use Rattle.cmr_base.specs.declared.line.Line.{Line};
 ghost use Rattle.cuts.specs.Covers.{AreOnOneSide};
 ghost use Rattle.cuts.specs.Cuts.{HasNames, HoldTogether, IsCut};

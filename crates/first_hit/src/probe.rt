@@ -1,6 +1,6 @@
 // Questions about numbers.
 ghost use Rattle.std.specs.Prelude.{◌≤◌, ◌^◌, ◌↔◌, ℕ, IsTrue, IfOk};
-ghost use Rattle.first_hit.specs.First.{IsFirst, NoneBetween};
+ghost use Rattle.first_hit.specs.First.{IsFirst};
 
 use cmr_base::Memory;
 use std::alloc::Global;

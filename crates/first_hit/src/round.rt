@@ -23,7 +23,6 @@ pub struct Round {
 }
 
 impl Round {
-    ghost use Rattle.first_hit.specs.First.{IsFirst};
     ghost use Rattle.first_hit.specs.Runs.{IsFirstInRuns};
 
     /// The round from a number on with at most so many rows. Where few numbers are left, the runs are shorter, so that

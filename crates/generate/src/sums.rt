@@ -1,5 +1,5 @@
 // Two-sums of R10 matrices, with some rows negated.
-ghost use Rattle.std.specs.Prelude.{◌≡◌, ◌≤◌, ◌<◌, ◌+◌, ◌-◌, ◌*◌, ◌^◌, ◌*ℤ◌, ◌++◌, ◌==◌, if◌then◌else◌, neg_ℤ, ℕ, pos, length, map, take, replicate, slice_index_or, IfOk, OnOk, true, Bool, cond};
+ghost use Rattle.std.specs.Prelude.{◌≡◌, ◌≤◌, ◌<◌, ◌+◌, ◌-◌, ◌*◌, ◌^◌, ◌*ℤ◌, ◌++◌, ◌==◌, pos, length, map, replicate, IfOk, OnOk};
 ghost use Rattle.cmr_base.specs.Matrix.{height, row_of, IsEntry};
 ghost use Rattle.generate.specs.Signs.{drawn_sign};
 ghost use Rattle.generate.specs.Generated.{circulant, circulant_sum, negated_rows, generated_sum};

@@ -1,10 +1,9 @@
-ghost use Rattle.std.specs.Prelude.{◌≡◌, ◌<◌, ◌≤◌, ◌↔◌, ◌+ℤ◌, ◌∷◌, [], ℕ, Bool, true, false, length, replicate, slice_set, slice_index_or, IfOk};
+ghost use Rattle.std.specs.Prelude.{◌≡◌, ◌<◌, ◌≤◌, ◌↔◌, ◌∷◌, [], ℕ, true, false, length, replicate, slice_set, slice_index_or, IfOk};
 ghost use Rattle.cmr_base.specs.Matrix.{Matrix, height, entry};
 ghost use Rattle.cmr_base.specs.Members.{IsIn};
 ghost use Rattle.cmr_base.specs.Sums.{sum_over};
 ghost use Rattle.ghouila.specs.Pivot.{HasSquareViolator};
 ghost use Rattle.ghouila.specs.Found.{HasParity, marked, MarksViolator, MarksAnew};
-ghost use Rattle.cmr_base.specs.Cuts.{bit};
 
 use crate::pivots::Corner;
 use cmr_base::{Indices, LineSet, MAX_COLUMNS, MAX_ROWS, Matrix, Memory};

@@ -1,5 +1,4 @@
-ghost use Rattle.std.specs.Prelude.{◌≡◌, ◌<◌, ◌≤◌, ◌+◌, ◌^◌, ◌*ℤ◌, ℕ, ℤ, List, IfOk, IfSome, IfNone, IsTrue, length, slice_index, slice_index_or, pos};
-ghost use Rattle.std.specs.List.{AllByRecursion};
+ghost use Rattle.std.specs.Prelude.{◌≡◌, ◌<◌, ◌≤◌, ◌+◌, ◌^◌, ◌*ℤ◌, ℤ, IfOk, IfSome, IfNone, IsTrue, length};
 ghost use Rattle.cmr_base.specs.LineSets.{AllBelow};
 ghost use Rattle.cmr_base.specs.Matrix.{Matrix, height, IsEntry};
 ghost use Rattle.cmr_base.specs.Signing.{IsSign, signed_sum, IsSigning, IsFirstSigning, HasNoSigning};

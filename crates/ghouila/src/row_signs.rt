@@ -1,5 +1,5 @@
 ghost use Rattle.std.specs.Prelude.{◌≡◌, ◌<◌, ◌+ℤ◌, ℕ, pos, length, map, replicate, slice_set, slice_index_or, IfOk};
-ghost use Rattle.cmr_base.specs.Matrix.{Matrix, height, entry, IsEntry};
+ghost use Rattle.cmr_base.specs.Matrix.{Matrix, height, entry};
 ghost use Rattle.cmr_base.specs.LineSets.{AllBelow};
 ghost use Rattle.ghouila.specs.Pivot.{IsTernaryRow};
 

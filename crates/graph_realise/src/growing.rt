@@ -1,8 +1,8 @@
 // A tree grown arc by arc from the sides of its arcs.
-ghost use Rattle.std.specs.Prelude.{◌≡◌, ◌<◌, ◌≤◌, ℕ, true, IfOk, length};
+ghost use Rattle.std.specs.Prelude.{◌≡◌, ◌<◌, ◌≤◌, true, IfOk, length};
 ghost use Rattle.cmr_base.specs.Cuts.{IsCuts};
 ghost use Rattle.cmr_base.specs.GrownTrees.{arcs_by, grown, node_of, pair_of, reversed_unless, walks_by};
-ghost use Rattle.cmr_base.specs.LineSets.{AllBelow, first_lines};
+ghost use Rattle.cmr_base.specs.LineSets.{AllBelow};
 ghost use Rattle.cmr_base.specs.Matrix.{height, IsMatrix};
 ghost use Rattle.cmr_base.specs.Trees.{RealisesSupport, support};
 ghost use Rattle.graph_realise.specs.Growing.{AreNear, IsPlaceInOrder, IsSpotIn, is_beyond, is_past};

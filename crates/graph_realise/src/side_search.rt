@@ -1,8 +1,8 @@
 // The search for the sides of a tree by splitting.
-ghost use Rattle.std.specs.Prelude.{◌≡◌, ◌<◌, ℕ, OnOk, IfOk, MatchOption};
+ghost use Rattle.std.specs.Prelude.{◌<◌, ℕ, IfOk, MatchOption};
 ghost use Rattle.cmr_base.specs.LineSets.{AllBelow};
 ghost use Rattle.cmr_base.specs.Matrix.{height};
-ghost use Rattle.cmr_base.specs.Splits.{AreSides, HasNoThree, Splits};
+ghost use Rattle.cmr_base.specs.Splits.{AreSides, Splits};
 ghost use Rattle.cmr_base.specs.Trees.{support};
 ghost use Rattle.graph_realise.specs.Searches.{AreWholeBelow, IsSearch, IsSplit};
 ghost use Rattle.graph_realise.specs.SideTables.{AreTablesOf, KeepsOutside};

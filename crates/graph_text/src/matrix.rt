@@ -1,9 +1,9 @@
 //! The matrix of a network, with the directions of its paths or without.
-ghost use Rattle.std.specs.Prelude.{◌≡◌, ◌≤◌, ◌<◌, ◌*◌, ◌++◌, IfOk, OnOk, IsTrue, false, length, map};
+ghost use Rattle.std.specs.Prelude.{◌≡◌, ◌≤◌, ◌<◌, ◌*◌, ◌++◌, IfOk, OnOk, IsTrue, false, map};
 ghost use Rattle.cmr_base.specs.LineSets.{first_lines};
 ghost use Rattle.cmr_base.specs.Matrix.{IsMatrix, height};
 ghost use Rattle.cmr_base.specs.MatrixSums.{filled};
-ghost use Rattle.cmr_base.specs.Trees.{IsBinary, IsNetworkOf, Reproduces, ReproducesSupport, support};
+ghost use Rattle.cmr_base.specs.Trees.{IsBinary, IsNetworkOf, Reproduces, ReproducesSupport};
 ghost use Rattle.graph_text.specs.Supports.{one_at};
 
 use cmr_base::{MAX_COLUMNS, MAX_ROWS, Matrix, Memory, Network};

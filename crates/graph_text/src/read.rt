@@ -1,6 +1,5 @@
 //! Graph texts, read.
-ghost use Rattle.std.specs.Prelude.{◌≡◌, ◌≤◌, ◌<◌, ◌^◌, ◌∷◌, IfOk, Ok, bytes_eq, length, map};
-ghost use Rattle.cmr_base.specs.Trees.{IsNetworkOf};
+ghost use Rattle.std.specs.Prelude.{◌≡◌, ◌≤◌, ◌<◌, IfOk, Ok, bytes_eq, length, map};
 ghost use Rattle.text_fields.specs.Reading.{Gives, Reads, field};
 ghost use Rattle.text_fields.specs.Spelling.{words_in};
 ghost use Rattle.text_fields.specs.Words.{text_of};

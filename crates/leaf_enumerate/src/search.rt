@@ -1,5 +1,5 @@
 // The least submatrix of a kind, by the sets of the shorter side.
-ghost use Rattle.std.specs.Prelude.{◌≡◌, ◌≤◌, ◌^◌, IfOk, IfSome, IfNone};
+ghost use Rattle.std.specs.Prelude.{◌≤◌, ◌^◌, IfOk, IfSome, IfNone};
 ghost use Rattle.cmr_base.specs.Matrix.{height, transposed};
 ghost use Rattle.first_hit.specs.First.{NoneBetween};
 ghost use Rattle.leaf_enumerate.specs.Searched.{HasSearched, HasSearchedFor, HoldsNowhere, IsLeastOf, shorter_side};

@@ -1,7 +1,4 @@
 // Violators as what is looked for.
-ghost use Rattle.std.specs.Prelude.{◌≡◌, IfOk};
-ghost use Rattle.cmr_base.specs.LineSets.{IsRowSet, set_numbered};
-ghost use Rattle.cmr_base.specs.Matrix.{height};
 ghost use Rattle.cmr_base.specs.Violator.{IsLeastByRows};
 ghost use Rattle.leaf_enumerate.specs.RowSets.{HasColumnSet};
 

@@ -1,14 +1,14 @@
 // A set of lines that grows until it is closed.
-ghost use Rattle.std.specs.Prelude.{◌≡◌, ◌<◌, ◌≤◌, ◌+◌, ◌∷◌, ◌↔◌, [], filter, ℕ, ℤ, List, length, true, false, IsTrue, IfOk, OnOk};
+ghost use Rattle.std.specs.Prelude.{◌≡◌, ◌<◌, ◌+◌, ◌∷◌, ◌↔◌, [], filter, ℕ, ℤ, List, length, true, false, IsTrue, IfOk, OnOk};
 ghost use Rattle.std.specs.List.{AllByRecursion};
 ghost use Rattle.cmr_base.specs.ColumnSets.{has_column};
 ghost use Rattle.cmr_base.specs.LineSets.{first_lines};
-ghost use Rattle.cmr_base.specs.Matrix.{Matrix, entry, height};
+ghost use Rattle.cmr_base.specs.Matrix.{Matrix, height};
 ghost use Rattle.cmr_base.specs.Planes.{words_for};
 ghost use Rattle.cmr_base.specs.Seeds.{IsLine, line_number, count_outside};
 ghost use Rattle.cmr_base.specs.declared.line.Line.{Line};
 ghost use Rattle.cmr_base.specs.declared.line.Line.TheVariants.{Row, Column};
-ghost use Rattle.line_growth.specs.Rules.{IsBlockOf, IsRuleOf, block_entry, lower_of, upper_of};
+ghost use Rattle.line_growth.specs.Rules.{IsRuleOf, lower_of, upper_of};
 ghost use Rattle.line_growth.specs.GrowingSets.{HasNone, HasRoom, IsGrowing, KeepsGrowing, TellsClosed, set_of, work};
 
 use crate::growing_lines::GrowingLines;

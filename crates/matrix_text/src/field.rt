@@ -1,4 +1,4 @@
-ghost use Rattle.std.specs.Prelude.{◌≤◌, ◌<◌, ◌-◌, ℕ, IfOk, length, slice_index_or, false};
+ghost use Rattle.std.specs.Prelude.{◌≤◌, ◌<◌, ◌-◌, IfOk, length, slice_index_or, false};
 ghost use Rattle.cmr_base.specs.Matrix.{IsEntry};
 ghost use Rattle.text_fields.specs.Reading.{field, Reads};
 ghost use Rattle.matrix_text.specs.declared.error.TextKind.TheVariants.{Short};

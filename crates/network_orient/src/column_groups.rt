@@ -1,5 +1,5 @@
 // Columns in groups: the signs that turn one matrix into another are known up to one factor for each group.
-ghost use Rattle.std.specs.Prelude.{◌≡◌, ◌≢◌, ◌<◌, ◌≤◌, ◌*ℤ◌, ◌⊎◌, ◌↔◌, ℕ, pos, replicate, length, slice_index_or, IfOk, IsTrue, MatchOption};
+ghost use Rattle.std.specs.Prelude.{◌≡◌, ◌≢◌, ◌<◌, ◌⊎◌, ◌↔◌, ℕ, pos, replicate, length, IfOk, IsTrue, MatchOption};
 ghost use Rattle.cmr_base.specs.LineSets.{first_lines};
 ghost use Rattle.cmr_base.specs.Matrix.{height, entry, IsEntry};
 ghost use Rattle.cmr_base.specs.Signing.{IsSign};

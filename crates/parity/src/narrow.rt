@@ -1,6 +1,6 @@
 //! The search for column sets in a matrix of at most 64 columns: a row is one word.
 
-ghost use Rattle.std.specs.Prelude.{◌≡◌, ◌<◌, ◌≤◌, ◌^◌, true, false, IfOk, IfSome, IfNone, OnOk, length, slice_index_or, bit_and, bit_xor};
+ghost use Rattle.std.specs.Prelude.{◌≡◌, ◌<◌, ◌≤◌, ◌^◌, true, false, IfOk, IfSome, IfNone, OnOk, length, slice_index_or};
 ghost use Rattle.cmr_base.specs.Matrix.{height, IsMatrix};
 ghost use Rattle.cmr_base.specs.LineSets.{AllBelow};
 ghost use Rattle.cmr_base.specs.Violator.{HasNoColumnSet};

@@ -1,6 +1,5 @@
-ghost use Rattle.std.specs.Prelude.{◌≡◌, ◌≢◌, ◌<◌, ◌≤◌, ◌++◌, ◌↔◌, [], ◌∷◌, if◌then◌else◌, IfOk, IsTrue, OnOk, pos, filter, nat_lt, length, ℕ};
+ghost use Rattle.std.specs.Prelude.{◌≡◌, ◌≢◌, ◌<◌, ◌≤◌, ◌++◌, ◌↔◌, [], ◌∷◌, if◌then◌else◌, IfOk, IsTrue, OnOk, pos, filter, nat_lt, ℕ};
 ghost use Rattle.std.specs.List.Sorted.{IsStrictlyIncreasing};
-ghost use Rattle.cmr_base.specs.Indices.{IsAbove};
 ghost use Rattle.cmr_base.specs.LineSets.{AllBelow, IsRowSet, IsColumnSet};
 ghost use Rattle.cmr_base.specs.Matrix.{height, entry};
 ghost use Rattle.cmr_base.specs.Members.{IsIn};

@@ -1,11 +1,8 @@
-ghost use Rattle.std.specs.Prelude.{◌≡◌, ◌≢◌, ◌<◌, ◌≤◌, [], ◌∷◌, IfOk, pos, ℕ};
-ghost use Rattle.std.specs.List.Sorted.{IsStrictlyIncreasing};
-ghost use Rattle.std.specs.List.{AllByRecursion};
-ghost use Rattle.cmr_base.specs.LineSets.{AllBelow, IsRowSet, first_lines, without};
+ghost use Rattle.std.specs.Prelude.{◌≡◌, ◌≢◌, ◌<◌, [], ◌∷◌, IfOk, pos, ℕ};
+ghost use Rattle.cmr_base.specs.LineSets.{first_lines, without};
 ghost use Rattle.cmr_base.specs.Matrix.{height, entry, IsMatrix};
-ghost use Rattle.cmr_base.specs.Signing.{IsSign};
-ghost use Rattle.ghouila.specs.Pivot.{reduced, IsTernaryRow, KeepsRowsElsewhere};
-ghost use Rattle.ghouila.specs.PivotLaws.{pivot_entry, pivot_at};
+ghost use Rattle.ghouila.specs.Pivot.{KeepsRowsElsewhere};
+ghost use Rattle.ghouila.specs.PivotLaws.{pivot_entry};
 ghost use Rattle.pivots.specs.ChosenLines.{two_lines};
 ghost use Rattle.pivots.specs.Pivoted.{IsPivoted};
 

@@ -1,9 +1,8 @@
 // What the removal of a line changes on its own side and on the other one.
-ghost use Rattle.std.specs.Prelude.{◌≡◌, ◌<◌, ◌≤◌, ℕ, false, length, slice_index, slice_index_or, IfSome, IfNone};
+ghost use Rattle.std.specs.Prelude.{◌≡◌, ◌<◌, ℕ, false, length, slice_index, slice_index_or, IfSome, IfNone};
 ghost use Rattle.std.specs.List.{remove};
-ghost use Rattle.cmr_base.specs.Matrix.{entry, IsMatrix};
-ghost use Rattle.cmr_base.specs.LineSets.{AllBelow};
-ghost use Rattle.sp_reduce.specs.Kinds.{cross_size, table};
+ghost use Rattle.cmr_base.specs.Matrix.{IsMatrix};
+ghost use Rattle.sp_reduce.specs.Kinds.{cross_size};
 ghost use Rattle.sp_reduce.specs.Sides.{IsParallel, IsSide, IsAcross, AreNonzerosCounted, IsSettled};
 ghost use Rattle.sp_reduce.specs.Changes.{WasRightBefore, IsRemovedAt, IsHeld, IsHeldAt, HasForgotten, IsSameAt, IsForgetting, IsUnsettled};
 

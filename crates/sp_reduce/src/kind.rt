@@ -1,5 +1,5 @@
 // Rows and columns alike: lines of one kind, and those of the other kind, which they cross.
-ghost use Rattle.std.specs.Prelude.{◌≡◌, ◌<◌, ◌≤◌, neg_ℤ};
+ghost use Rattle.std.specs.Prelude.{◌≡◌, ◌<◌, neg_ℤ};
 ghost use Rattle.std.specs.Ordering.{int_eq};
 ghost use Rattle.cmr_base.specs.Matrix.{entry, is_nonzero, IsEntry};
 ghost use Rattle.cmr_base.specs.LineSets.{AllBelow};

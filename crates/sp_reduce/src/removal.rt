@@ -1,6 +1,5 @@
 // The stated order of removals.
-ghost use Rattle.std.specs.Prelude.{◌≡◌, ◌≤◌, ◌+◌, length, MatchOption, None, Some, IfOk, IfSome};
-ghost use Rattle.std.specs.List.Sorted.{IsStrictlyIncreasing};
+ghost use Rattle.std.specs.Prelude.{◌≡◌, ◌+◌, length, MatchOption, None, Some, IfOk, IfSome};
 ghost use Rattle.cmr_base.specs.Matrix.{height, entry, IsMatrix};
 ghost use Rattle.cmr_base.specs.LineSets.{AllBelow, without};
 ghost use Rattle.cmr_base.specs.Reductions.{first_step, lines_of, rows_without, columns_without, removal, removal_on};

@@ -1,11 +1,10 @@
 // The lines of one kind that stay, and what is known of each.
-ghost use Rattle.std.specs.Prelude.{IfOk, if◌then◌else◌, Bool, ℕ, false, ◌≡◌, ◌≢◌, ◌<◌, ◌≤◌, ◌^◌, not, neg_ℤ, length, slice_index, slice_get, find, Some, None, MatchOption};
+ghost use Rattle.std.specs.Prelude.{IfOk, Bool, ℕ, false, ◌≡◌, ◌≢◌, ◌<◌, ◌≤◌, length, slice_index, find, Some, None, MatchOption};
 ghost use Rattle.std.specs.List.Sorted.{IsStrictlyIncreasing};
 ghost use Rattle.cmr_base.specs.Matrix.{entry, is_nonzero, IsMatrix};
 ghost use Rattle.cmr_base.specs.LineSets.{AllBelow};
-ghost use Rattle.cmr_base.specs.Reductions.{nonzeros_at, equal_at, first_equal};
-ghost use Rattle.sp_reduce.specs.Kinds.{count_of_kind, cross_size, table, line_named, reason_for, is_twin};
-ghost use Rattle.sp_reduce.specs.Sides.{weight, weight_at, is_copy, is_negative, twin_reason, may_be_twins, IsAlone, IsParallel, IsSide, IsAcross, AreNonzerosCounted, IsSettled, IsFirstReducible, first_step_of};
+ghost use Rattle.sp_reduce.specs.Kinds.{count_of_kind, cross_size, table, reason_for, is_twin};
+ghost use Rattle.sp_reduce.specs.Sides.{is_copy, is_negative, twin_reason, may_be_twins, IsAlone, IsParallel, IsSide, IsAcross, AreNonzerosCounted, IsSettled, IsFirstReducible, first_step_of};
 
 use crate::kind::{LineKind, are_equal, are_opposite, is_nonzero};
 use crate::tallies::{Tallies, marks_of};

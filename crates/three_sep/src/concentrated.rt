@@ -12,7 +12,7 @@ ghost use Rattle.cmr_base.specs.Trees.{support};
 ghost use Rattle.cuts.specs.Cuts.{AreInside};
 ghost use Rattle.three_sep.specs.Connectors.{all_front};
 ghost use Rattle.three_sep.specs.Searches.{HasNoGood, IsFirstOf, corner_front, first_at, second_at};
-ghost use Rattle.three_sep.specs.Concentrated.{AreConcentratedCorners, AreCandidates, HasNoneBetween, IsFirstPair, IsFirstRow, IsNoOtherColumn, IsOtherColumn, IsOtherRow};
+ghost use Rattle.three_sep.specs.Concentrated.{AreConcentratedCorners, AreCandidates, HasNoneBetween, IsFirstPair, IsFirstRow, IsNoOtherColumn, IsOtherColumn};
 
 use crate::connectors::Connectors;
 use crate::held::held_columns;

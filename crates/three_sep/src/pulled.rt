@@ -4,7 +4,7 @@ ghost use Rattle.cmr_base.specs.declared.separation.Form.TheVariants.{Concentrat
 ghost use Rattle.cmr_base.specs.Matrix.{height, entry};
 ghost use Rattle.cmr_base.specs.Planes.{words_for};
 ghost use Rattle.cmr_base.specs.Seeds.{IsConnectorPair};
-ghost use Rattle.line_growth.specs.Rules.{IsRuleOf, lower_of};
+ghost use Rattle.line_growth.specs.Rules.{IsRuleOf};
 ghost use Rattle.three_sep.specs.Concentrated.{AreCandidates, HasNoneBetween, IsPulled};
 
 use crate::connectors::Connectors;

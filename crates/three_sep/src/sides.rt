@@ -1,5 +1,5 @@
 // Sides that grow from the lines of one connector and leave those of another.
-ghost use Rattle.std.specs.Prelude.{◌≡◌, ◌∷◌, ◌++◌, true, false, List, IfOk, IfSome, IfNone, OnOk};
+ghost use Rattle.std.specs.Prelude.{◌≡◌, ◌∷◌, true, false, List, IfOk, IfSome, IfNone, OnOk};
 ghost use Rattle.std.specs.List.{AllByRecursion};
 ghost use Rattle.cmr_base.specs.declared.line.Line.{Line};
 ghost use Rattle.cmr_base.specs.Matrix.{height};

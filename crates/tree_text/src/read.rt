@@ -1,7 +1,7 @@
 // Reading of trees.
-ghost use Rattle.std.specs.Prelude.{◌≡◌, ◌≤◌, ◌<◌, ◌++◌, ◌∷◌, [], Some, None, map, length, IfOk, OnOk, option_copied};
+ghost use Rattle.std.specs.Prelude.{◌≡◌, ◌≤◌, ◌<◌, ◌++◌, ◌∷◌, [], Some, None, map, length, OnOk, option_copied};
 ghost use Rattle.text_fields.specs.Words.{text_of};
-ghost use Rattle.text_fields.specs.Reading.{field, times, Fails, Gives, Reads};
+ghost use Rattle.text_fields.specs.Reading.{field, Fails, Gives, Reads};
 ghost use Rattle.tree_type.specs.Trees.{Branch, tree_of, trees_from};
 ghost use Rattle.tree_type.specs.Invariant.{HasChildren};
 ghost use Rattle.tree_text.specs.declared.error.TreeKind.TheVariants.{Short};

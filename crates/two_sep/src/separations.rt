@@ -1,5 +1,5 @@
 // The first two-separation.
-ghost use Rattle.std.specs.Prelude.{◌≡◌, ◌≤◌, ◌<◌, ◌+◌, IfOk, MatchOption};
+ghost use Rattle.std.specs.Prelude.{◌<◌, ◌+◌, IfOk, MatchOption};
 ghost use Rattle.cmr_base.specs.Matrix.{height};
 ghost use Rattle.two_sep.specs.FirstSeeds.{HasNoTwoSeparation, IsFirstTwoSeparation, ArePassed};
 

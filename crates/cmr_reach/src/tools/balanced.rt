@@ -1,8 +1,7 @@
 //! Testing whether a matrix is balanced.
-ghost use Rattle.balance.specs.BalanceFaults.{IsBalanced};
 ghost use Rattle.balance.specs.Searched.{HasSearchedFaults};
 ghost use Rattle.clap.specs.Words.{app_of, found_of, rows_of};
-ghost use Rattle.std.specs.Prelude.{◌≡◌, ◌≤◌, IfOk, IsTrue, false, true};
+ghost use Rattle.std.specs.Prelude.{◌≡◌, IfOk, IsTrue, false, true};
 ghost use Rattle.tree_type.specs.Invariant.{IsDecTree};
 ghost use Rattle.tree_type.specs.Trees.{tree_of};
 ghost use Rattle.tree_type.specs.Verdicts as verdicts;
@@ -14,7 +13,7 @@ ghost use Rattle.cmr_front.specs.Run.{Means, RunsOver, work};
 ghost use Rattle.cmr_front.specs.Status.{answer_status};
 ghost use Rattle.cmr_front.specs.Words.Reading.{Gives};
 ghost use Rattle.cmr_front.specs.declared.status.Answer.{Answer};
-ghost use Rattle.cmr_reach.specs.Balanced.{BalancedDecides, IsDecomposed, IsInRanges, IsUntold, balanced_app, balanced_order, balanced_order_in, balanced_order_of, balanced_tool, search_report};
+ghost use Rattle.cmr_reach.specs.Balanced.{BalancedDecides, IsInRanges, IsUntold, balanced_app, balanced_order, balanced_order_in, balanced_order_of, balanced_tool, search_report};
 
 use crate::faults::{fault_outcome, open_outcome, yes_outcome};
 use balance::{LeastSubmatrix, least_balance_fault};

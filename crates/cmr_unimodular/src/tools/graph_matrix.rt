@@ -1,5 +1,5 @@
 // The matrix of a graph text.
-ghost use Rattle.std.specs.Prelude.{◌≡◌, ◌≤◌, IfOk};
+ghost use Rattle.std.specs.Prelude.{◌≤◌, IfOk};
 ghost use Rattle.cmr_base.specs.Trees.{IsNetworkOf};
 ghost use Rattle.cmr_front.specs.GraphText.{ReportsGraph};
 ghost use Rattle.cmr_front.specs.Outcome.{outcome_report};
