@@ -20,8 +20,8 @@ use Rattle.cmr_base.proofs.SignEntries.{sign_is_nonzero}
 use Rattle.ghouila.proofs.SignProducts.{sign_nonzero}
 use Rattle.ghouila.proofs.SignedSums.{zero_or_sign}
 use Rattle.balance.specs.BalanceFaults.{IsBalanceFault}
-use Rattle.balance.specs.Searched.{HasNoFaultBelow}
-use Rattle.balance.specs.Kept.{IsCandidate}
+use Rattle.balance.specs.SearchedFaults.{HasNoFaultBelow}
+use Rattle.balance.specs.CandidateColumns.{IsCandidate}
 use Rattle.balance.proofs.NonzeroCounts.{mark, mark_zero, mark_sign, counted, two_from_sum, two_is_even}
 use Rattle.balance.proofs.FilterSums.{with_line, sum-with_line, all-with_line, rises-with_line, sum_split, sum_part}
 use Rattle.balance.proofs.ColumnPairs.{some_nonzero, third_zero}

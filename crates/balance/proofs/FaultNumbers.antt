@@ -10,8 +10,8 @@ use Rattle.cmr_base.proofs.RisingLists.{RisesIn, column_set_rises}
 use Rattle.cmr_base.proofs.SetNumbers.{number_of_numbered, numbered_same, row_set-numbered}
 use Rattle.first_hit.specs.First.{NoneBetween}
 use Rattle.balance.specs.BalanceFaults.{IsBalanced, IsBalanceFault, HasNoFaultColumns, IsLeastFaultByRows}
-use Rattle.balance.specs.Kept.{AreKept, MakeFault, MakeFaultAt}
-use Rattle.balance.specs.Searched.{HasNoFaultBelow}
+use Rattle.balance.specs.CandidateColumns.{AreKept, MakeFault, MakeFaultAt}
+use Rattle.balance.specs.SearchedFaults.{HasNoFaultBelow}
 use Rattle.balance.proofs.FaultSets.{none_more, none_at_all, least_found}
 use Rattle.balance.proofs.KeptColumns.{kept_fault, kept_least, sum_number}
 

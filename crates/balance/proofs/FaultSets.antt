@@ -9,7 +9,7 @@ use Rattle.cmr_base.proofs.SetNumbers.{number_of_numbered, numbered_same, row_se
 use Rattle.cmr_base.proofs.SumLaws.{sum_over-exchange}
 use Rattle.cmr_base.proofs.TransposedLemmas.{entries-transposed, row_set-transposed, column_set_from_transposed, column_set-transposed, row_set_from_transposed}
 use Rattle.balance.specs.BalanceFaults.{IsBalanceFault, IsBalanced, HasNoFaultColumns, IsLeastFaultColumns, IsLeastFaultByRows, IsLeastFaultByColumns}
-use Rattle.balance.specs.Searched.{HasNoFaultBelow}
+use Rattle.balance.specs.SearchedFaults.{HasNoFaultBelow}
 
 pub none_more : (m : Matrix) (number : ℕ) → HasNoFaultColumns m (set_numbered (height m) 0 number) → HasNoFaultBelow m number → HasNoFaultBelow m (number + 1)
 none_more m number none before others is h = elim (cases_lt (set_number others) number) [

@@ -16,8 +16,8 @@ use Rattle.cmr_base.proofs.RowLists.{filter_in, in_filter}
 use Rattle.cmr_base.proofs.SumLaws.{sum_over-exchange}
 use Rattle.cmr_base.proofs.Booleans.{not_is}
 use Rattle.balance.specs.BalanceFaults.{row_nonzeros, column_nonzeros, IsBalanceFault}
-use Rattle.balance.specs.Searched.{HasNoFaultBelow}
-use Rattle.balance.specs.Kept.{IsCandidate, AreAlike, IsLeastAlike, AreKept}
+use Rattle.balance.specs.SearchedFaults.{HasNoFaultBelow}
+use Rattle.balance.specs.CandidateColumns.{IsCandidate, AreAlike, IsLeastAlike, AreKept}
 use Rattle.balance.proofs.NonzeroCounts.{mark, two_from_sum, two_is_even}
 use Rattle.balance.proofs.FilterSums.{sum_split, rises-part}
 use Rattle.balance.proofs.AddedLines.{only, added_false, not_added, sum_only}

@@ -11,7 +11,7 @@ use Rattle.cmr_base.proofs.Integers.{sums}
 use Rattle.cmr_base.proofs.Members.{all_in, all_of_members, in-append, in_at, increasing-append}
 use Rattle.cmr_base.proofs.Parity.{IsFour, even-add, two_mod_four_not_four}
 use Rattle.ghouila.proofs.Cycles.{four_or_two}
-use Rattle.balance.specs.Kept.{AreAlike, AreKept, AreKeptBelow, IsCandidate, IsLeastAlike}
+use Rattle.balance.specs.CandidateColumns.{AreAlike, AreKept, AreKeptBelow, IsCandidate, IsLeastAlike}
 use Rattle.balance.proofs.NonzeroCounts.{two_is_even}
 
 -- a sum of entries is at most as large as their number

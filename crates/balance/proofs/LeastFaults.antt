@@ -7,8 +7,8 @@ use Rattle.leaf_enumerate.specs.declared.search.LeastSubmatrix.{LeastSubmatrix}
 use Rattle.leaf_enumerate.specs.declared.search.LeastSubmatrix.TheVariants.{Clean, Found, TooMany}
 use Rattle.leaf_enumerate.specs.Searched.{HasSearchedFor}
 use Rattle.balance.specs.BalanceFaults.{IsLeastFaultByRows}
-use Rattle.balance.specs.Kept.{MakeFaultAt}
-use Rattle.balance.specs.Searched.{HasSearchedFaults}
+use Rattle.balance.specs.CandidateColumns.{MakeFaultAt}
+use Rattle.balance.specs.SearchedFaults.{HasSearchedFaults}
 use Rattle.balance.proofs.FaultNumbers.{balanced_after}
 use Rattle.balance.proofs.FaultSets.{balanced_from_transposed, least_from_transposed}
 

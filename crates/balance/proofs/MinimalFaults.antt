@@ -19,7 +19,7 @@ use Rattle.ghouila.proofs.Cycles.{four_or_two}
 use Rattle.ghouila.proofs.SignProducts.{sign_nonzero}
 use Rattle.ghouila.proofs.SignedSums.{zero_or_sign}
 use Rattle.balance.specs.BalanceFaults.{row_nonzeros, column_nonzeros, IsBalanceFault}
-use Rattle.balance.specs.Searched.{HasNoFaultBelow}
+use Rattle.balance.specs.SearchedFaults.{HasNoFaultBelow}
 use Rattle.balance.proofs.NonzeroCounts.{mark, mark_zero, mark_sign, counted, two_from_sum, two_is_even}
 use Rattle.balance.proofs.FilterSums.{with_line, sum-with_line, all-with_line, rises-with_line, sum_split, sum_part, sum_empty, number_less, rises-part, fewer_kept}
 use Rattle.balance.proofs.ColumnPairs.{some_nonzero, one_term, third_zero}

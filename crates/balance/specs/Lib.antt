@@ -1,4 +1,4 @@
 pub mod BalanceFaults
 pub mod Laws
-pub mod Searched
-pub mod Kept
+pub mod SearchedFaults
+pub mod CandidateColumns

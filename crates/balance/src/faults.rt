@@ -1,6 +1,6 @@
 // Balance faults as what is looked for.
 ghost use Rattle.balance.specs.BalanceFaults.{IsLeastFaultByRows};
-ghost use Rattle.balance.specs.Kept.{MakeFaultAt};
+ghost use Rattle.balance.specs.CandidateColumns.{MakeFaultAt};
 
 use crate::set_fault::fault_columns;
 use cmr_base::{LineSet, Matrix, Memory, write_set};

@@ -4,7 +4,7 @@ ghost use Rattle.std.specs.List.{AllByRecursion};
 ghost use Rattle.cmr_base.specs.LineSets.{AllBelow, IsRowSet};
 ghost use Rattle.cmr_base.specs.Matrix.{entry, height, is_nonzero, IsMatrix};
 ghost use Rattle.cmr_base.specs.Members.{IsIn};
-ghost use Rattle.balance.specs.Kept.{AreAlike, AreKept, AreKeptBelow, IsCandidate, IsLeastAlike};
+ghost use Rattle.balance.specs.CandidateColumns.{AreAlike, AreKept, AreKeptBelow, IsCandidate, IsLeastAlike};
 
 use cmr_base::{Indices, MAX_ROWS, Matrix, Memory};
 use parity::is_two_mod_four;

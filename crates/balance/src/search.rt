@@ -1,6 +1,6 @@
 // The least balance fault, set by set of the shorter side.
 ghost use Rattle.std.specs.Prelude.{◌≤◌, IfOk};
-ghost use Rattle.balance.specs.Searched.{HasSearchedFaults};
+ghost use Rattle.balance.specs.SearchedFaults.{HasSearchedFaults};
 
 use crate::faults::Faults;
 use cmr_base::{MAX_LINES, Matrix, Memory, RowsAndColumns};

@@ -4,7 +4,7 @@ ghost use Rattle.std.specs.List.{AllByRecursion};
 ghost use Rattle.cmr_base.specs.LineSets.{AllBelow, IsRowSet};
 ghost use Rattle.cmr_base.specs.Matrix.{entry, height, IsMatrix};
 ghost use Rattle.balance.specs.BalanceFaults.{column_nonzeros, row_nonzeros, IsBalanceFault};
-ghost use Rattle.balance.specs.Kept.{AreKept, MakeFault};
+ghost use Rattle.balance.specs.CandidateColumns.{AreKept, MakeFault};
 
 use crate::kept::{is_candidate, kept_columns};
 use cmr_base::{Indices, MAX_COLUMNS, MAX_ROWS, Matrix, Memory};

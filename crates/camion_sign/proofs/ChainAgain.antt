@@ -12,7 +12,7 @@ use Rattle.cmr_base.specs.declared.line_set.LineSet.{LineSet}
 use Rattle.std.proofs.Math.Nat.{mul-le-mul_left, mul-le-mul_right}
 use Rattle.cmr_base.proofs.Lists.{all-append}
 use Rattle.cmr_base.proofs.Parts.{length-rising}
-use Rattle.text_fields.specs.Words.{Text, text_of, words_from}
+use Rattle.text_fields.specs.TextWords.{Text, text_of, words_from}
 use Rattle.text_fields.specs.Result.{◌>>=◌}
 use Rattle.text_fields.specs.Reading.{Fault, field, times, ended}
 use Rattle.text_fields.specs.Spelling.{texts_of}

@@ -2,7 +2,7 @@
 use Rattle.std.proofs.Common.{◌≡◌, ◌∙◌, ◌∷◌, [], ◌++◌, ℕ, List, length, map, Result, Ok, Err, false, refl, ap, sym}
 use Rattle.std.specs.Prelude.{fold, codes, OnOk}
 use Rattle.std.specs.Fmt.{decimal}
-use Rattle.text_fields.specs.Words.{Text}
+use Rattle.text_fields.specs.TextWords.{Text}
 use Rattle.text_fields.specs.Written.{Draft, with_word, with_line, with_end}
 use Rattle.text_fields.proofs.Lines.{line_written, lines_written}
 use Rattle.camion_sign.specs.declared.step.SignStep.{SignStep}

@@ -12,7 +12,7 @@ use Rattle.camion_sign.specs.declared.walk.Walk.{Walk}
 use Rattle.camion_sign.specs.declared.fault.Fault.{Fault}
 use Rattle.camion_sign.specs.Trails.{IsUpTo, IsTrail, trail_sum}
 use Rattle.camion_sign.specs.Walks.{HasWalked, TwoIf, flip, step_at, place_in}
-use Rattle.camion_sign.specs.Faults.{HasNoFaultAt, IsColumnFault, IsFirstFault}
+use Rattle.camion_sign.specs.FaultLines.{HasNoFaultAt, IsColumnFault, IsFirstFault}
 use Rattle.camion_sign.proofs.Trails.{not_after, path_trail, trail_path}
 use Rattle.camion_sign.proofs.Walks.{two_add}
 use Rattle.camion_sign.proofs.EntryTests.{two_not}

@@ -8,7 +8,7 @@ use Rattle.cmr_base.specs.Members.{IsIn}
 use Rattle.camion_sign.specs.declared.fault.Fault.{Fault}
 use Rattle.cmr_base.specs.CyclePlaces.{IsCyclePlace, HasNoCycleFault, IsPath, IsCycleFault, path_rows, path_columns, cycle_rows, cycle_columns}
 use Rattle.camion_sign.specs.SignOrder.{IsCycleLines}
-use Rattle.camion_sign.specs.Faults.{IsBuilt, IsFirstFault, IsGathering, IsLeastFrom, left_to_gather, within}
+use Rattle.camion_sign.specs.FaultLines.{IsBuilt, IsFirstFault, IsGathering, IsLeastFrom, left_to_gather, within}
 use Rattle.camion_sign.proofs.Steps as steps
 use Rattle.ghouila.proofs.SignsUnique.{row_in}
 

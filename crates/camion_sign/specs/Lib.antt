@@ -3,7 +3,7 @@ pub mod NonzerosView
 pub mod ListedMatrixView
 pub mod Trails
 pub mod Walks
-pub mod Faults
+pub mod FaultLines
 pub mod SignSteps
 pub mod Chains
 pub mod SignOrder

@@ -1,7 +1,7 @@
 // Chain texts, read.
 ghost use Rattle.std.specs.Prelude.{◌≡◌, ◌≤◌, ◌<◌, ◌*◌, ◌-◌, IfOk, []};
 ghost use Rattle.cmr_base.specs.declared.line_set.LineSet.{LineSet};
-ghost use Rattle.text_fields.specs.Words.{text_of};
+ghost use Rattle.text_fields.specs.TextWords.{text_of};
 ghost use Rattle.text_fields.specs.Reading.{field, times, Gives, Reads};
 ghost use Rattle.text_fields.specs.Result.{renamed};
 ghost use Rattle.camion_sign.specs.declared.chain_error.ChainKind.TheVariants.{Short};

@@ -2,7 +2,7 @@
 ghost use Rattle.std.specs.Prelude.{◌≡◌, ◌≤◌, ◌<◌, ◌+◌, ◌*◌, ◌∷◌, [], false, codes, fold, length, map, Ok, OnOk, IfOk};
 ghost use Rattle.std.specs.List.{AllByRecursion};
 ghost use Rattle.cmr_base.specs.LineSets.{AllBelow};
-ghost use Rattle.text_fields.specs.Words.{text_of};
+ghost use Rattle.text_fields.specs.TextWords.{text_of};
 ghost use Rattle.text_fields.specs.Written.{with_word, with_line};
 ghost use Rattle.camion_sign.specs.ChainTexts.{AreLinesIn, AreRising, IsRisingStep, IsStepIn, chain as chain_in, chain_text, line_set_words, number_of_line, step_words};
 

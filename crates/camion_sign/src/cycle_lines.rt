@@ -4,7 +4,7 @@ ghost use Rattle.cmr_base.specs.Matrix.{height, entry};
 ghost use Rattle.cmr_base.specs.Members.{IsIn};
 ghost use Rattle.cmr_base.specs.CyclePlaces.{HasNoCycleFault, IsCycleFault, path_rows, path_columns, cycle_rows, cycle_columns};
 ghost use Rattle.cmr_base.specs.Violator.{IsViolator};
-ghost use Rattle.camion_sign.specs.Faults.{IsBuilt, IsLeastFrom, within};
+ghost use Rattle.camion_sign.specs.FaultLines.{IsBuilt, IsLeastFrom, within};
 ghost use Rattle.network_orient.specs.FirstRows.{HasNoFaultBefore};
 
 use crate::fault::{first_fault, passed_rows};

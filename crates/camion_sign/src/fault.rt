@@ -3,7 +3,7 @@ ghost use Rattle.std.specs.Prelude.{◌≡◌, ◌≢◌, ◌<◌, ◌↔◌, �
 ghost use Rattle.cmr_base.specs.Matrix.{height, entry};
 ghost use Rattle.cmr_base.specs.CyclePlaces.{HasNoCycleFault, IsCyclePlace, IsFaultAt};
 ghost use Rattle.camion_sign.specs.Walks.{HasPlacesAndMarks, HasWalked, place_in};
-ghost use Rattle.camion_sign.specs.Faults.{HasNoFaultAt, IsColumnFault, IsFirstFault};
+ghost use Rattle.camion_sign.specs.FaultLines.{HasNoFaultAt, IsColumnFault, IsFirstFault};
 ghost use Rattle.network_orient.specs.FirstRows.{HasNoFaultBefore};
 
 use crate::listed_matrix::ListedMatrix;

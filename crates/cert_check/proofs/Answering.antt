@@ -14,7 +14,7 @@ use Rattle.cmr_base.proofs.Lists.{all-append}
 use Rattle.tree_type.specs.declared.refusal.Refusal.{Refusal}
 use Rattle.tree_type.specs.declared.refusal.Rule.{Rule}
 use Rattle.tree_type.specs.declared.refusal.Rule.TheVariants as rule
-use Rattle.tree_type.specs.Trees.{Finding, Reduced, TwoSum, ThreeSum, Pivoted, Tree, Trees, Branch, NoTrees, MoreTrees, SizedTree, one_tree, two_trees, lines_at_root, tree_of, finding_of}
+use Rattle.tree_type.specs.DecompositionTrees.{Finding, Reduced, TwoSum, ThreeSum, Pivoted, Tree, Trees, Branch, NoTrees, MoreTrees, SizedTree, one_tree, two_trees, lines_at_root, tree_of, finding_of}
 use Rattle.tree_type.specs.declared.tree.Node.{Node}
 use Rattle.tree_type.proofs.NodeTrees.{said, tree_is, said_reduced, said_two_sum, said_three_sum, said_pivoted}
 use Rattle.tree_type.specs.declared.tree.Kind.{Kind}

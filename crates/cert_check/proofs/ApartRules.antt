@@ -12,13 +12,13 @@ use Rattle.tree_type.specs.declared.refusal.Rule.{Rule}
 use Rattle.tree_type.specs.declared.refusal.Rule.TheVariants as rule
 use Rattle.tree_type.specs.declared.tree.Node.{Node}
 use Rattle.tree_type.specs.declared.tree.NodeList.{NodeList}
-use Rattle.tree_type.specs.Trees.{OneSum, trees_from, tree_of, nodes_in, trees_of}
+use Rattle.tree_type.specs.DecompositionTrees.{OneSum, trees_from, tree_of, nodes_in, trees_of}
 use Rattle.tree_type.specs.Invariant.{size_of}
 use Rattle.tree_type.specs.Places.{lines_of_each}
 use Rattle.tree_type.specs.Soundness.{AreApart, Demands, rule_number}
 use Rattle.tree_type.proofs.Forests.{trees_are}
 use Rattle.cert_check.specs.Answers.{IsFirstBrokenRule, unless}
-use Rattle.cert_check.specs.Children.{lines_in}
+use Rattle.cert_check.specs.NodeLines.{lines_in}
 use Rattle.cert_check.proofs.Answering.{lines_is}
 use Rattle.std.proofs.lemmas.List.Sums.{sum_by-cons}
 

@@ -8,7 +8,7 @@ use Rattle.tree_type.specs.declared.refusal.Refusal.{Refusal}
 use Rattle.tree_type.specs.declared.tree.Node.{Node}
 use Rattle.tree_type.specs.declared.tree.NodeList.{NodeList}
 use Rattle.tree_type.specs.declared.tree.Kind.TheVariants as kind
-use Rattle.tree_type.specs.Trees.{OneSum, Tree, Trees, Branch, trees_from, tree_of, nodes_in, trees_of}
+use Rattle.tree_type.specs.DecompositionTrees.{OneSum, Tree, Trees, Branch, trees_from, tree_of, nodes_in, trees_of}
 use Rattle.tree_type.specs.Invariant.{AreLines, AreTreesWithin}
 use Rattle.tree_type.specs.Places.{Due, Unnamed, MadePivot, places_from, places_below}
 use Rattle.tree_type.proofs.Forests.{trees_are, count_of}

@@ -14,7 +14,7 @@ use Rattle.cmr_base.specs.CyclePlaces.{HasNoCycleFault}
 use Rattle.cmr_base.specs.R10.{IsR10}
 use Rattle.tree_type.specs.declared.refusal.Rule.{Rule}
 use Rattle.tree_type.specs.declared.refusal.Rule.TheVariants as rule
-use Rattle.tree_type.specs.Trees.{Finding, Cycle, R10, Enumerated, TwoSum, ThreeSum, Violator, Pivoted, Trees, Branch, NoTrees, two_trees, one_tree, tree_of}
+use Rattle.tree_type.specs.DecompositionTrees.{Finding, Cycle, R10, Enumerated, TwoSum, ThreeSum, Violator, Pivoted, Trees, Branch, NoTrees, two_trees, one_tree, tree_of}
 use Rattle.tree_type.specs.declared.tree.Node.{Node}
 use Rattle.tree_type.specs.declared.tree.Kind.{Kind}
 use Rattle.tree_type.specs.Invariant.{AreLines}

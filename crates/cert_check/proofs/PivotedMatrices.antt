@@ -6,7 +6,7 @@ use Rattle.cmr_base.proofs.FilledMatrices.{height-filled}
 use Rattle.pivots.specs.declared.place.PlacedPivot.{PlacedPivot}
 use Rattle.pivots.specs.PivotedParts.{replaced_entry, pivoted_part, IsPlaceIn, IsTernaryPivot}
 use Rattle.pivots.proofs.PartLaws.{free_before_pivot, part_pivots_stay_matrices}
-use Rattle.tree_type.specs.Trees.{Tree}
+use Rattle.tree_type.specs.DecompositionTrees.{Tree}
 use Rattle.tree_type.specs.Invariant.{AreLines}
 use Rattle.tree_type.specs.Places.{MadePivot, matrix_after}
 use Rattle.cert_check.specs.Answers.{Stands}

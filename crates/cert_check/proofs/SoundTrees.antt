@@ -15,7 +15,7 @@ use Rattle.r10_leaf.proofs.FreeR10.{fault_free_r10_has_no_violator}
 use Rattle.ghouila.proofs.ViolatedLines.{FreeIn}
 use Rattle.tree_type.specs.declared.refusal.Rule.{Rule}
 use Rattle.tree_type.specs.declared.refusal.Rule.TheVariants as rule
-use Rattle.tree_type.specs.Trees.{Finding, Empty, Cycle, Reduced, OneSum, Network, Conetwork, R10, TwoSum, ThreeSum, Enumerated, Violator, Undecided, Pivoted, Tree, Trees, Branch, NoTrees, MoreTrees, count_trees, lines_at_root}
+use Rattle.tree_type.specs.DecompositionTrees.{Finding, Empty, Cycle, Reduced, OneSum, Network, Conetwork, R10, TwoSum, ThreeSum, Enumerated, Violator, Undecided, Pivoted, Tree, Trees, Branch, NoTrees, MoreTrees, count_trees, lines_at_root}
 use Rattle.tree_type.specs.Verdicts.{first_in, first_among, fault_at, open_at, verdict_from, verdict_of}
 use Rattle.tree_type.specs.Invariant.{AreLines, FitsLines, HasChildren, IsTreeWithin, AreTreesWithin, IsTreeFor}
 use Rattle.tree_type.specs.Places.{Due, AllLines, MadePivot, matrix_after, pivots_below, places_from, places_below, due_child, lines_left, lines_of_each}

@@ -25,11 +25,11 @@ use Rattle.cmr_base.proofs.Integers.{products}
 use Rattle.cmr_base.proofs.Places.{contained_below}
 use Rattle.tree_type.specs.declared.refusal.Rule.{Rule}
 use Rattle.tree_type.specs.declared.refusal.Rule.TheVariants as rule
-use Rattle.tree_type.specs.Trees.{TwoSum, ThreeSum}
+use Rattle.tree_type.specs.DecompositionTrees.{TwoSum, ThreeSum}
 use Rattle.tree_type.specs.Invariant.{AreLines}
 use Rattle.tree_type.specs.Soundness.{AreReductions, Demands, rule_number}
 use Rattle.cert_check.specs.Answers.{Says, unless}
-use Rattle.cert_check.specs.Sides.{sides_from, IsConnectorIn}
+use Rattle.cert_check.specs.SideLines.{sides_from, IsConnectorIn}
 use Rattle.cert_check.proofs.Sieves.{passed}
 
 -- ---- blocks

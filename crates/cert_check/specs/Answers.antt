@@ -5,7 +5,7 @@ use Rattle.cmr_base.specs.declared.line_set.LineSet.{LineSet}
 use Rattle.cmr_base.specs.Matrix.{Matrix}
 use Rattle.tree_type.specs.declared.refusal.Refusal.{Refusal}
 use Rattle.tree_type.specs.declared.refusal.Rule.{Rule}
-use Rattle.tree_type.specs.Trees.{Finding, Cycle, Violator, Undecided, Tree, Trees, Branch, SizedTree, lines_at_root, finding_of}
+use Rattle.tree_type.specs.DecompositionTrees.{Finding, Cycle, Violator, Undecided, Tree, Trees, Branch, SizedTree, lines_at_root, finding_of}
 use Rattle.tree_type.specs.Invariant.{AreLines, IsTreeWithin}
 use Rattle.tree_type.specs.Places.{Due, These, Unnamed, MadePivot, matrix_after, Place, due_child, pivots_below, places_from, places_below, lines_of_each}
 use Rattle.tree_type.specs.Soundness.{Demands, KeepsAll, rule_number, BreaksFirst, IsSound, IsFirstBroken, IsBroken}

@@ -4,7 +4,7 @@ use Rattle.cmr_base.specs.Matrix.{Matrix, entry, IsMatrix}
 use Rattle.cmr_base.specs.LineSets.{IsRowSet, IsColumnSet}
 use Rattle.cmr_base.specs.Signing.{IsTotallyUnimodular, HasNoSigning}
 use Rattle.cmr_base.specs.Violator.{IsViolator, HasNoViolator}
-use Rattle.tree_type.specs.Trees.{SizedTree, tree_of}
+use Rattle.tree_type.specs.DecompositionTrees.{SizedTree, tree_of}
 use Rattle.tree_type.specs.Invariant.{IsDecTree}
 use Rattle.tree_type.specs.Verdicts.{Verdict, Yes, No, Open, verdict_of}
 use Rattle.tree_type.specs.Soundness.{IsSound}

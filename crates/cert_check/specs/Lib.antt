@@ -1,4 +1,4 @@
 pub mod Laws
 pub mod Answers
-pub mod Sides
-pub mod Children
+pub mod SideLines
+pub mod NodeLines

@@ -4,12 +4,12 @@ ghost use Rattle.std.specs.List.{AllByRecursion, list_any};
 ghost use Rattle.cmr_base.specs.Matrix.{entry, height};
 ghost use Rattle.cmr_base.specs.LineSets.{AllBelow};
 ghost use Rattle.tree_type.specs.Sides.{is_among};
-ghost use Rattle.tree_type.specs.Trees as says;
+ghost use Rattle.tree_type.specs.DecompositionTrees as says;
 ghost use Rattle.tree_type.specs.Invariant.{AreLines, size_of};
 ghost use Rattle.tree_type.specs.Places.{lines_of_each};
 ghost use Rattle.tree_type.specs.Soundness.{AreApart};
 ghost use Rattle.cert_check.specs.Answers.{IsFirstBrokenRule};
-ghost use Rattle.cert_check.specs.Children.{lines_in};
+ghost use Rattle.cert_check.specs.NodeLines.{lines_in};
 
 use crate::leaf_rules::{is_empty, unless};
 use cmr_base::{Indices, LineSet, Matrix};

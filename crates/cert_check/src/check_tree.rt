@@ -1,7 +1,7 @@
 // The check of a tree, node by node in preorder.
 ghost use Rattle.std.specs.Prelude.{◌++◌, ◌↔◌, [], ◌∷◌, true, false, None, IfOk, IsTrue};
 ghost use Rattle.pivots.specs.PivotedParts.{pivoted_part, IsPlaceIn, IsTernaryPivot};
-ghost use Rattle.tree_type.specs.Trees.{tree_of};
+ghost use Rattle.tree_type.specs.DecompositionTrees.{tree_of};
 ghost use Rattle.tree_type.specs.Invariant.{AreLines};
 ghost use Rattle.tree_type.specs.Places.{AllLines};
 ghost use Rattle.tree_type.specs.Soundness.{HasItsLines};

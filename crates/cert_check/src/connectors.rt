@@ -6,7 +6,7 @@ ghost use Rattle.cmr_base.specs.Separations as separations;
 ghost use Rattle.cmr_base.specs.Separations.{first_is_flat, second_is_flat, corner_product, core_determinant, AreTied, AreCrossing, AreConcentrated, IsTied, HaveCornerSign};
 ghost use Rattle.cmr_base.specs.Signing.{IsSign};
 ghost use Rattle.tree_type.specs.Sides.{HasConnector, AreConnectorsOfSides};
-ghost use Rattle.cert_check.specs.Sides.{sides_from, IsConnectorIn};
+ghost use Rattle.cert_check.specs.SideLines.{sides_from, IsConnectorIn};
 
 use crate::members::is_in;
 use crate::spread::core_of;

@@ -1,10 +1,10 @@
 // The lines that a child is to have.
 ghost use Rattle.std.specs.Prelude.{◌≡◌, IfOk};
 ghost use Rattle.cmr_base.specs.Reductions.{rows_without, columns_without};
-ghost use Rattle.tree_type.specs.Trees.{tree_of};
+ghost use Rattle.tree_type.specs.DecompositionTrees.{tree_of};
 ghost use Rattle.tree_type.specs.Places.{lines_left};
 ghost use Rattle.cert_check.specs.Answers.{due_from, due_child_of};
-ghost use Rattle.cert_check.specs.Sides.{two_child, three_child};
+ghost use Rattle.cert_check.specs.SideLines.{two_child, three_child};
 
 use cmr_base::{Line, LineSet, Memory, Three, Two};
 use std::alloc::Global;

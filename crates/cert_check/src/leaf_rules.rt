@@ -4,7 +4,7 @@ ghost use Rattle.cmr_base.specs.CyclePlaces.{HasNoCycleFault};
 ghost use Rattle.cmr_base.specs.Matrix.{Matrix, entry};
 ghost use Rattle.cmr_base.specs.R10.{IsR10};
 ghost use Rattle.cmr_base.specs.declared.line_set.LineSet.{LineSet};
-ghost use Rattle.tree_type.specs.Trees as says;
+ghost use Rattle.tree_type.specs.DecompositionTrees as says;
 ghost use Rattle.tree_type.specs.Invariant.{AreLines, size_of};
 ghost use Rattle.cert_check.specs.Answers.{Says, unless};
 

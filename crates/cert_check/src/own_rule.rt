@@ -1,6 +1,6 @@
 // The rules on what one node says.
 ghost use Rattle.std.specs.Prelude.{◌≡◌, ◌↔◌, IfOk, IsTrue};
-ghost use Rattle.tree_type.specs.Trees.{tree_of};
+ghost use Rattle.tree_type.specs.DecompositionTrees.{tree_of};
 ghost use Rattle.cert_check.specs.Answers.{IsOwnRule, Stands};
 
 use crate::apart_rule::apart_rule;

@@ -1,8 +1,8 @@
 // The rules on pivots.
 ghost use Rattle.std.specs.Prelude.{◌≡◌, ◌↔◌, List, Contains, IfOk, IsTrue};
 ghost use Rattle.pivots.specs.PivotedParts.{IsPlaceIn, IsTernaryPivot};
-ghost use Rattle.tree_type.specs.Trees as says;
-ghost use Rattle.tree_type.specs.Trees.{tree_of, finding_of};
+ghost use Rattle.tree_type.specs.DecompositionTrees as says;
+ghost use Rattle.tree_type.specs.DecompositionTrees.{tree_of, finding_of};
 ghost use Rattle.tree_type.specs.Invariant.{AreLines};
 ghost use Rattle.tree_type.specs.Places.{MadePivot};
 ghost use Rattle.tree_type.specs.Soundness.{MayStand};

@@ -2,7 +2,7 @@
 ghost use Rattle.std.specs.Prelude.{◌↔◌, false, IfOk, IsTrue, IsSome};
 ghost use Rattle.cmr_base.specs.Matrix.{entry};
 ghost use Rattle.cmr_base.specs.Reductions.{HasLine, line_reason};
-ghost use Rattle.tree_type.specs.Trees as says;
+ghost use Rattle.tree_type.specs.DecompositionTrees as says;
 ghost use Rattle.tree_type.specs.Invariant.{AreLines};
 ghost use Rattle.tree_type.specs.Soundness.{AreReductions};
 ghost use Rattle.cert_check.specs.Answers.{Says};

@@ -6,7 +6,7 @@ ghost use Rattle.cmr_base.specs.Matrix.{entry, height};
 ghost use Rattle.cmr_base.specs.LineSets.{AllBelow};
 ghost use Rattle.cmr_base.specs.Separations.{spread_at};
 ghost use Rattle.tree_type.specs.Sides.{AreEntries};
-ghost use Rattle.cert_check.specs.Sides.{IsConnectorIn};
+ghost use Rattle.cert_check.specs.SideLines.{IsConnectorIn};
 
 use cmr_base::{Connector, Core, Factors, Indices, Matrix};
 

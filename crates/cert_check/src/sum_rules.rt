@@ -4,10 +4,10 @@ ghost use Rattle.cmr_base.specs.Matrix.{entry, height};
 ghost use Rattle.cmr_base.specs.declared.line_set.LineSet.{LineSet};
 ghost use Rattle.cmr_base.specs.Separations.{zeros, product_at, spread_at, first_is_flat, second_is_flat};
 ghost use Rattle.tree_type.specs.Sides.{sides, AreEntries, HaveLines, IsReference, AreTwoBlocks, HasConnector, AreThreeBlocks};
-ghost use Rattle.tree_type.specs.Trees as says;
+ghost use Rattle.tree_type.specs.DecompositionTrees as says;
 ghost use Rattle.tree_type.specs.Invariant.{AreLines, size_of};
 ghost use Rattle.cert_check.specs.Answers.{Says};
-ghost use Rattle.cert_check.specs.Sides.{sides_from, IsConnectorIn};
+ghost use Rattle.cert_check.specs.SideLines.{sides_from, IsConnectorIn};
 
 use crate::blocks::{is_made_block, is_zero_block};
 use crate::connectors::{are_connectors, have_corner_sign};

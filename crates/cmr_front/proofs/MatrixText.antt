@@ -2,7 +2,7 @@
 use Rattle.std.proofs.Common.{◌≡◌, ℕ, Bool, true, List, [], ◌∷◌, Ok, Err, length, map, get_or, ap, sym, subst, refl, arith}
 use Rattle.cmr_base.specs.Matrix.{Matrix, IsMatrix}
 use Rattle.cmr_base.specs.Trees.{IsBinary}
-use Rattle.text_fields.specs.Words.{text_of}
+use Rattle.text_fields.specs.TextWords.{text_of}
 use Rattle.matrix_text.proofs.BinaryTexts.{dense_binary, sparse_binary}
 use Rattle.matrix_text.proofs.ReadMatrices.{dense_is_matrix, sparse_is_matrix}
 use Rattle.cmr_front.specs.declared.input.Text.{Text}

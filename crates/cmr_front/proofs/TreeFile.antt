@@ -1,7 +1,7 @@
 -- Tools that read one tree text.
 use Rattle.std.proofs.Common.{◌≡◌, ℕ, List, [], ◌∷◌, Ok, refl, arith}
-use Rattle.text_fields.specs.Words.{text_of}
-use Rattle.tree_text.specs.Reading.{PlainTree, tree}
+use Rattle.text_fields.specs.TextWords.{text_of}
+use Rattle.tree_text.specs.TreeReading.{PlainTree, tree}
 use Rattle.cmr_front.specs.declared.outcome.FaultKind.TheVariants as faults
 use Rattle.cmr_front.specs.declared.status.Answer.{Answer}
 use Rattle.cmr_front.specs.Evidence.{ReportsTree, SaysOfTree, evidence_file, tree_tool}

@@ -10,7 +10,7 @@ use Rattle.cmr_front.specs.declared.outcome.Stop.{Stop}
 use Rattle.cmr_front.specs.declared.status.Failure.TheVariants.{Device}
 use Rattle.cmr_front.specs.Outcome.{cannot_write_line, outcome_report, stop_report}
 use Rattle.cmr_front.specs.Status.{failure_status}
-use Rattle.cmr_front.specs.Written.{IsWritten}
+use Rattle.cmr_front.specs.SinkLines.{IsWritten}
 
 -- What the names hold, what all reads of the shelf have given, and whether the last call of the shelf failed; what standard
 -- output and standard error have got; and how often a call on each device has failed.

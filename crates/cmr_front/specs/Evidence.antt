@@ -1,10 +1,10 @@
 -- Tools that read evidence, alone or behind a matrix text.
 use Rattle.std.specs.Prelude.{◌≡◌, ℕ, List, [], ◌∷◌, Ok}
 use Rattle.cmr_base.specs.Matrix.{Matrix}
-use Rattle.text_fields.specs.Words.{text_of}
+use Rattle.text_fields.specs.TextWords.{text_of}
 use Rattle.tree_type.specs.Soundness.{IsBrokenTree, IsSoundTree}
 use Rattle.tree_type.specs.declared.refusal.Rule.{Rule}
-use Rattle.tree_text.specs.Reading.{PlainTree, tree}
+use Rattle.tree_text.specs.TreeReading.{PlainTree, tree}
 use Rattle.cmr_front.specs.declared.input.InputKind.TheVariants.{Evidence}
 use Rattle.cmr_front.specs.declared.outcome.FaultKind.TheVariants as faults
 use Rattle.cmr_front.specs.declared.status.Answer.{Answer}

@@ -1,10 +1,10 @@
 -- Tools that read one graph text.
 use Rattle.std.specs.Prelude.{◌≡◌, ℕ, List, Result, Ok, Err}
 use Rattle.text_fields.specs.Reading.{Fault}
-use Rattle.text_fields.specs.Words.{text_of}
+use Rattle.text_fields.specs.TextWords.{text_of}
 use Rattle.graph_text.specs.declared.error.GraphKind.{GraphKind}
 use Rattle.graph_text.specs.declared.read.SizedNetwork.{SizedNetwork}
-use Rattle.graph_text.specs.Reading.{IsGraph}
+use Rattle.graph_text.specs.GraphReading.{IsGraph}
 use Rattle.cmr_front.specs.declared.outcome.FaultKind.TheVariants as faults
 use Rattle.cmr_front.specs.declared.outcome.Stop.{Stop}
 use Rattle.cmr_front.specs.declared.outcome.Stop.TheVariants as stops

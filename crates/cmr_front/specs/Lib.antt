@@ -2,7 +2,7 @@ pub mod Words
 pub mod Status
 pub mod Report
 pub mod Outcome
-pub mod Written
+pub mod SinkLines
 pub mod Inputs
 pub mod Tool
 pub mod Texts

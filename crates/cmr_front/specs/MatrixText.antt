@@ -1,7 +1,7 @@
 -- Tools that read one matrix text.
 use Rattle.std.specs.Prelude.{◌≡◌, ℕ, Bool, List, [], ◌∷◌, Result, Ok}
 use Rattle.cmr_base.specs.Matrix.{Matrix}
-use Rattle.text_fields.specs.Words.{text_of}
+use Rattle.text_fields.specs.TextWords.{text_of}
 use Rattle.text_fields.specs.Reading.{Fault}
 use Rattle.matrix_text.specs.declared.error.TextKind.{TextKind}
 use Rattle.matrix_text.specs.Dense.{dense}

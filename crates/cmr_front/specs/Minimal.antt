@@ -3,7 +3,7 @@ use Rattle.std.specs.Prelude.{◌≡◌, ◌++◌, ℕ, List, [], Option, Some, 
 use Rattle.cmr_base.specs.Matrix.{Matrix, height}
 use Rattle.cmr_base.specs.GreedySets.{IsGreedySet, IsMinimalWithout}
 use Rattle.cmr_base.specs.declared.line_set.LineSet.{LineSet}
-use Rattle.matrix_text.specs.Canonical.{submatrix_text}
+use Rattle.matrix_text.specs.CanonicalMatrices.{submatrix_text}
 use Rattle.cmr_front.specs.Printed.{line_set_text}
 use Rattle.cmr_front.specs.Report.{File, asked_file}
 

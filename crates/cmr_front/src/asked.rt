@@ -2,7 +2,7 @@
 ghost use Rattle.std.specs.Prelude.{◌≡◌, ◌++◌, IfSome, OnOk, map, option_map};
 ghost use Rattle.cmr_base.specs.LineSets.{AllBelow};
 ghost use Rattle.cmr_base.specs.Matrix.{height};
-ghost use Rattle.matrix_text.specs.Canonical.{dense_text, submatrix_text};
+ghost use Rattle.matrix_text.specs.CanonicalMatrices.{dense_text, submatrix_text};
 ghost use Rattle.cmr_front.specs.Minimal.{minimal_file};
 ghost use Rattle.cmr_front.specs.Outcome.{file_of};
 ghost use Rattle.cmr_front.specs.Printed.{steps_text};

@@ -3,7 +3,7 @@ ghost use Rattle.std.specs.Prelude.{◌≡◌, ◌++◌, IsTrue, map};
 ghost use Rattle.std.specs.List.{concat};
 ghost use Rattle.std.specs.Fmt.{decimal};
 ghost use Rattle.cmr_front.specs.Outcome.{cannot_write_line, fault_line, chain_kind_name, graph_kind_name, kind_name, stop_report, text_kind_name, tree_kind_name};
-ghost use Rattle.cmr_front.specs.Written.{IsWritten};
+ghost use Rattle.cmr_front.specs.SinkLines.{IsWritten};
 
 use crate::outcome::{FaultKind, Stop};
 use camion_sign::ChainKind;

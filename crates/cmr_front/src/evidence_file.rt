@@ -1,9 +1,9 @@
 // The files of a tool that reads evidence, alone or behind a matrix text.
 ghost use Rattle.std.specs.Prelude.{◌≡◌, ◌∷◌, [], IfOk, IfErr, Ok, map};
-ghost use Rattle.text_fields.specs.Words.{text_of};
+ghost use Rattle.text_fields.specs.TextWords.{text_of};
 ghost use Rattle.matrix_text.specs.Submatrix.{named_lines};
 ghost use Rattle.camion_sign.specs.ChainTexts.{chain};
-ghost use Rattle.tree_text.specs.Reading.{plain_of, tree};
+ghost use Rattle.tree_text.specs.TreeReading.{plain_of, tree};
 ghost use Rattle.cmr_base.specs.LineSets.{AllBelow};
 ghost use Rattle.std.specs.List.Sorted.{IsStrictlyIncreasing};
 ghost use Rattle.cmr_front.specs.Inputs.{input_file};

@@ -1,9 +1,9 @@
 // The file of a tool that reads one graph text.
 ghost use Rattle.std.specs.Prelude.{IfOk, IfErr, Ok};
 ghost use Rattle.text_fields.specs.Spelling.{words_in};
-ghost use Rattle.text_fields.specs.Words.{text_of};
+ghost use Rattle.text_fields.specs.TextWords.{text_of};
 ghost use Rattle.graph_text.specs.GraphTexts.{IsGraphText};
-ghost use Rattle.graph_text.specs.Reading.{IsGraph};
+ghost use Rattle.graph_text.specs.GraphReading.{IsGraph};
 ghost use Rattle.cmr_front.specs.GraphText.{StopsGraph};
 
 use crate::outcome::{FaultKind, Stop};

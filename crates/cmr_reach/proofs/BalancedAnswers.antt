@@ -7,7 +7,7 @@ use Rattle.cmr_base.specs.CyclePlaces.{IsCycleFault}
 use Rattle.cmr_base.proofs.WholeMatrices.{is_ternary}
 use Rattle.tree_type.specs.Invariant.{IsDecTree, IsTreeFor}
 use Rattle.tree_type.specs.Soundness.{IsSound}
-use Rattle.tree_type.specs.Trees.{SizedTree, Tree, tree_of}
+use Rattle.tree_type.specs.DecompositionTrees.{SizedTree, Tree, tree_of}
 use Rattle.tree_type.specs.Verdicts as verdicts
 use Rattle.tree_type.specs.Verdicts.{verdict_of}
 use Rattle.decomp_tree.specs.PivotedShapes.{IsShapeWith}
@@ -17,7 +17,7 @@ use Rattle.cert_check.proofs.SoundTrees.{tells}
 use Rattle.leaf_enumerate.specs.declared.search.LeastSubmatrix.{LeastSubmatrix}
 use Rattle.leaf_enumerate.specs.declared.search.LeastSubmatrix.TheVariants.{Clean, Found, TooMany}
 use Rattle.balance.specs.BalanceFaults.{IsBalanced, IsLeastFault}
-use Rattle.balance.specs.Searched.{HasSearchedFaults}
+use Rattle.balance.specs.SearchedFaults.{HasSearchedFaults}
 use Rattle.balance.proofs.FaultLaws.{cycle_fault_unbalanced, free_is_balanced}
 use Rattle.cmr_front.specs.declared.status.Answer.{Answer}
 use Rattle.cmr_front.specs.declared.status.Answer.TheVariants.{Yes, No, Undecided, Refused}

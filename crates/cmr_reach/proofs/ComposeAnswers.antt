@@ -2,13 +2,13 @@
 use Rattle.std.proofs.Common.{◌≡◌, ◌∙◌, ℕ, List, false, ap, sym, refl, arith, Ok}
 use Rattle.std.proofs.lemmas.Bool.{false≢true}
 use Rattle.cmr_base.specs.Matrix.{Matrix, HasTernaryEntries, IsMatrix}
-use Rattle.text_fields.specs.Words.{text_of}
-use Rattle.matrix_text.specs.Canonical.{dense_text}
+use Rattle.text_fields.specs.TextWords.{text_of}
+use Rattle.matrix_text.specs.CanonicalMatrices.{dense_text}
 use Rattle.matrix_text.specs.Dense.{dense}
 use Rattle.matrix_text.proofs.DenseAgain.{dense_again}
 use Rattle.compose.specs.declared.sum_kind.SumKind.{SumKind}
 use Rattle.compose.specs.declared.sum_kind.SumKind.TheVariants as kinds
-use Rattle.compose.specs.Kinds.{HaveSum, IsCauseOf, sum_of}
+use Rattle.compose.specs.SumKinds.{HaveSum, IsCauseOf, sum_of}
 use Rattle.sum_ops.specs.declared.error.SumError.TheVariants as errors
 use Rattle.cmr_front.specs.declared.status.Answer.{Answer}
 use Rattle.cmr_front.specs.declared.status.Answer.TheVariants.{Yes, No, Undecided, Refused}

@@ -4,15 +4,15 @@ use Rattle.std.proofs.lemmas.List.{length-map}
 use Rattle.cmr_base.specs.LineSets.{submatrix}
 use Rattle.cmr_base.specs.Matrix.{Matrix, IsMatrix, entry, height}
 use Rattle.cmr_base.proofs.Parts.{is_matrix-submatrix}
-use Rattle.text_fields.specs.Words.{text_of}
-use Rattle.matrix_text.specs.Canonical.{dense_text}
+use Rattle.text_fields.specs.TextWords.{text_of}
+use Rattle.matrix_text.specs.CanonicalMatrices.{dense_text}
 use Rattle.compose.specs.declared.arrangement.Arranged.{Arranged}
 use Rattle.compose.specs.declared.sum_kind.SumKind.{SumKind}
-use Rattle.compose.specs.Kinds.{sum_of}
+use Rattle.compose.specs.SumKinds.{sum_of}
 use Rattle.compose.proofs.SumSizes.{sums_lose_lines}
-use Rattle.tree_text.specs.Reading.{PlainTree, tree}
+use Rattle.tree_text.specs.TreeReading.{PlainTree, tree}
 use Rattle.tree_type.specs.Places.{places}
-use Rattle.tree_type.specs.Trees.{Finding, TwoSum, ThreeSum}
+use Rattle.tree_type.specs.DecompositionTrees.{Finding, TwoSum, ThreeSum}
 use Rattle.tree_type.proofs.OneRefusal.{one_refusal, sound_unbroken}
 use Rattle.cmr_front.specs.declared.matrix_file.MatrixForm.{MatrixForm}
 use Rattle.cmr_front.specs.declared.matrix_file.MatrixForm.TheVariants.{Dense}

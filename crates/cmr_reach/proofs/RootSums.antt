@@ -7,12 +7,12 @@ use Rattle.cmr_base.specs.declared.line_set.LineSet.{LineSet}
 use Rattle.cmr_base.specs.declared.separation.Three.{Three}
 use Rattle.cmr_base.specs.declared.separation.Two.{Two}
 use Rattle.compose.specs.Arrangements.{arranged, three_arrangement, two_arrangement}
-use Rattle.compose.specs.Kinds.{kind_of_form}
+use Rattle.compose.specs.SumKinds.{kind_of_form}
 use Rattle.compose.specs.RoundTrips.{IsRoundTrip, IsThreeOf, IsTwoOf}
 use Rattle.compose.specs.declared.arrangement.Arranged.{Arranged}
 use Rattle.compose.specs.declared.sum_kind.SumKind.TheVariants as sums
 use Rattle.tree_type.specs.Soundness.{IsSound, IsSoundTree}
-use Rattle.tree_type.specs.Trees.{Branch, Finding, SizedTree, Trees, ThreeSum, TwoSum, tree_of, finding_of}
+use Rattle.tree_type.specs.DecompositionTrees.{Branch, Finding, SizedTree, Trees, ThreeSum, TwoSum, tree_of, finding_of}
 use Rattle.tree_type.specs.declared.refusal.Rule.TheVariants as rule
 use Rattle.tree_type.specs.declared.tree.Kind.{Kind}
 use Rattle.tree_type.specs.declared.tree.Node.{Node}

@@ -6,7 +6,7 @@ use Rattle.std.proofs.lemmas.Fmt.{length-decimal-le_succ}
 use Rattle.cmr_base.specs.Matrix.{Matrix, IsEntry, IsMatrix, entry, height}
 use Rattle.text_fields.specs.Written.{text_line, text_of_lines}
 use Rattle.text_fields.proofs.Entries.{entry_cases, minus_one_text, one_text, zero_text}
-use Rattle.matrix_text.specs.Canonical.{dense_text}
+use Rattle.matrix_text.specs.CanonicalMatrices.{dense_text}
 use Rattle.matrix_text.proofs.Entries.{all_entries, all_widths}
 
 -- at most two bytes

@@ -6,11 +6,11 @@ use Rattle.std.proofs.lemmas.Slice.Eq.{bytes_eq-Decides}
 use Rattle.cmr_base.specs.LineSets.{submatrix}
 use Rattle.cmr_base.specs.Matrix.{Matrix}
 use Rattle.cmr_base.proofs.Booleans.{is_not_lt}
-use Rattle.text_fields.specs.Words.{text_of}
-use Rattle.matrix_text.specs.Canonical.{dense_text}
+use Rattle.text_fields.specs.TextWords.{text_of}
+use Rattle.matrix_text.specs.CanonicalMatrices.{dense_text}
 use Rattle.compose.specs.declared.arrangement.Arranged.{Arranged}
 use Rattle.compose.specs.declared.sum_kind.SumKind.{SumKind}
-use Rattle.tree_text.specs.Reading.{PlainTree, tree}
+use Rattle.tree_text.specs.TreeReading.{PlainTree, tree}
 use Rattle.cmr_front.specs.declared.outcome.FaultKind.TheVariants as faults
 use Rattle.cmr_front.specs.declared.status.Answer.TheVariants.{Yes}
 use Rattle.cmr_front.specs.Evidence.{ReportsTree, evidence_files}

@@ -9,9 +9,9 @@ use Rattle.leaf_enumerate.specs.Searched.{shorter_side}
 use Rattle.leaf_enumerate.specs.declared.search.LeastSubmatrix.{LeastSubmatrix}
 use Rattle.leaf_enumerate.specs.declared.search.LeastSubmatrix.TheVariants.{Clean, Found, TooMany}
 use Rattle.balance.specs.BalanceFaults.{IsBalanced, IsBalanceFault}
-use Rattle.balance.specs.Searched.{HasSearchedFaults}
+use Rattle.balance.specs.SearchedFaults.{HasSearchedFaults}
 use Rattle.tree_type.specs.Invariant.{IsTreeFor}
-use Rattle.tree_type.specs.Trees.{Tree}
+use Rattle.tree_type.specs.DecompositionTrees.{Tree}
 use Rattle.tree_type.specs.Verdicts as verdicts
 use Rattle.tree_type.specs.Verdicts.{verdict_of}
 use Rattle.decomp_tree.specs.PivotedShapes.{IsShapeWith}
@@ -20,7 +20,7 @@ use Rattle.cmr_front.specs.declared.status.Answer.TheVariants.{Yes, No, Undecide
 use Rattle.cmr_front.specs.MatrixText.{Source, matrix_tool, source}
 use Rattle.cmr_front.specs.Report.{Report}
 use Rattle.cmr_front.specs.Tool.{Tool}
-use Rattle.cmr_reach.specs.Faults.{fault_report, open_report, yes_report}
+use Rattle.cmr_reach.specs.FaultReports.{fault_report, open_report, yes_report}
 use Rattle.clap.specs.Words.{App, Row, Text}
 use Rattle.cmr_front.specs.declared.matrix_file.MatrixForm.{MatrixForm}
 use Rattle.cmr_front.specs.Words.Arguments.{fault_rule, file_rule, form_rule, lines_rule, pivots_rule, tool_app, workers_rule}

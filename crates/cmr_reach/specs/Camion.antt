@@ -8,7 +8,7 @@ use Rattle.cmr_front.specs.declared.status.Answer.TheVariants.{Yes, No, Undecide
 use Rattle.cmr_front.specs.MatrixText.{Source, matrix_tool, source}
 use Rattle.cmr_front.specs.Report.{Report}
 use Rattle.cmr_front.specs.Tool.{Tool}
-use Rattle.cmr_reach.specs.Faults.{fault_report, yes_report}
+use Rattle.cmr_reach.specs.FaultReports.{fault_report, yes_report}
 use Rattle.clap.specs.Words.{App, Row, Text}
 use Rattle.cmr_front.specs.declared.matrix_file.MatrixForm.{MatrixForm}
 use Rattle.cmr_front.specs.Words.Arguments.{fault_rule, file_rule, form_rule, tool_app}

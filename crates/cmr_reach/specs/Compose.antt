@@ -3,11 +3,11 @@ use Rattle.std.specs.Prelude.{◌≡◌, ◌≤◌, ◌+◌, ◌++◌, ℕ, fals
 use Rattle.std.specs.Fmt.{decimal}
 use Rattle.cmr_base.specs.declared.limits.TheConstants.{MAX_COLUMNS, MAX_ROWS}
 use Rattle.cmr_base.specs.Matrix.{Matrix, HasTernaryEntries, IsMatrix, height, nonzeros_of}
-use Rattle.text_fields.specs.Words.{text_of}
-use Rattle.matrix_text.specs.Canonical.{dense_text}
+use Rattle.text_fields.specs.TextWords.{text_of}
+use Rattle.matrix_text.specs.CanonicalMatrices.{dense_text}
 use Rattle.matrix_text.specs.Dense.{dense}
 use Rattle.compose.specs.declared.sum_kind.SumKind.{SumKind}
-use Rattle.compose.specs.Kinds.{HaveSum, lost_columns, lost_rows, sum_of}
+use Rattle.compose.specs.SumKinds.{HaveSum, lost_columns, lost_rows, sum_of}
 use Rattle.cmr_front.specs.declared.outcome.FaultKind.TheVariants as faults
 use Rattle.cmr_front.specs.declared.status.Answer.{Answer}
 use Rattle.cmr_front.specs.declared.status.Answer.TheVariants.{Yes, No, Undecided, Refused}

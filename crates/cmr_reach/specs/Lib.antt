@@ -1,4 +1,4 @@
-pub mod Faults
+pub mod FaultReports
 pub mod Camion
 pub mod RowSet
 pub mod Sign

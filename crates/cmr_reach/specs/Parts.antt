@@ -2,16 +2,16 @@
 use Rattle.std.specs.Prelude.{◌≡◌, ◌⊎◌, ◌++◌, ℕ, false, List, [], ◌∷◌, Ok, Option, Some, None, codes}
 use Rattle.cmr_base.specs.Matrix.{Matrix, IsMatrix}
 use Rattle.cmr_base.specs.LineSets.{submatrix}
-use Rattle.matrix_text.specs.Canonical.{dense_text}
+use Rattle.matrix_text.specs.CanonicalMatrices.{dense_text}
 use Rattle.compose.specs.declared.arrangement.Arranged.{Arranged}
 use Rattle.compose.specs.declared.sum_kind.SumKind.{SumKind}
 use Rattle.compose.specs.declared.sum_kind.SumKind.TheVariants as sums
 use Rattle.compose.specs.Arrangements.{arranged, three_arrangement, two_arrangement}
-use Rattle.compose.specs.Kinds.{kind_of_form as sum_kind_of}
+use Rattle.compose.specs.SumKinds.{kind_of_form as sum_kind_of}
 use Rattle.compose.specs.RoundTrips.{IsRoundTrip}
 use Rattle.tree_text.specs.KindWords.{kind_of, word_of}
-use Rattle.tree_text.specs.Reading.{PlainTree}
-use Rattle.tree_type.specs.Trees.{Finding, TwoSum, ThreeSum, finding_of}
+use Rattle.tree_text.specs.TreeReading.{PlainTree}
+use Rattle.tree_type.specs.DecompositionTrees.{Finding, TwoSum, ThreeSum, finding_of}
 use Rattle.tree_type.specs.declared.refusal.Rule.{Rule}
 use Rattle.cmr_front.specs.declared.matrix_file.MatrixForm.TheVariants.{Dense}
 use Rattle.cmr_front.specs.declared.outcome.FaultKind.TheVariants as faults

@@ -3,10 +3,10 @@
 use Rattle.std.specs.Prelude.{◌≡◌, ◌≢◌, ℕ, false, List, [], ◌∷◌, Ok}
 use Rattle.cmr_base.specs.Matrix.{Matrix}
 use Rattle.cmr_base.specs.LineSets.{submatrix}
-use Rattle.text_fields.specs.Words.{text_of}
+use Rattle.text_fields.specs.TextWords.{text_of}
 use Rattle.compose.specs.declared.arrangement.Arranged.{Arranged}
 use Rattle.compose.specs.declared.sum_kind.SumKind.{SumKind}
-use Rattle.tree_text.specs.Reading.{PlainTree, tree}
+use Rattle.tree_text.specs.TreeReading.{PlainTree, tree}
 use Rattle.cmr_front.specs.declared.matrix_file.MatrixForm.TheVariants.{Dense}
 use Rattle.cmr_front.specs.declared.status.Answer.TheVariants.{Yes}
 use Rattle.cmr_front.specs.Evidence.{evidence_files}

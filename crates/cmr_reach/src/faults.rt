@@ -3,7 +3,7 @@ ghost use Rattle.std.specs.Prelude.{◌≡◌, ◌++◌, IfOk, OnOk, option_map}
 ghost use Rattle.cmr_base.specs.LineSets.{AllBelow};
 ghost use Rattle.cmr_base.specs.Matrix.{height};
 ghost use Rattle.cmr_front.specs.Outcome.{outcome_report};
-ghost use Rattle.cmr_reach.specs.Faults.{fault_report, named_fault, open_report, yes_report};
+ghost use Rattle.cmr_reach.specs.FaultReports.{fault_report, named_fault, open_report, yes_report};
 
 use cmr_base::{LineSet, Matrix, Memory};
 use cmr_front::asked::push_submatrix;

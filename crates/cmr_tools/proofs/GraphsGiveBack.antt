@@ -3,10 +3,10 @@ use Rattle.std.proofs.Common.{◌≡◌, ◌≤◌, ◌∙◌, ℕ, Bool, List, 
 use Rattle.std.specs.Prelude.{if◌then◌else◌}
 use Rattle.cmr_base.specs.Matrix.{Matrix, height, IsMatrix}
 use Rattle.cmr_base.specs.declared.network.Network.{Network as Net}
-use Rattle.text_fields.specs.Words.{text_of, words_from}
+use Rattle.text_fields.specs.TextWords.{text_of, words_from}
 use Rattle.graph_text.specs.declared.read.SizedNetwork.{SizedNetwork}
 use Rattle.graph_text.specs.GraphTexts.{graph_text}
-use Rattle.graph_text.specs.Reading.{IsGraph}
+use Rattle.graph_text.specs.GraphReading.{IsGraph}
 use Rattle.graph_text.proofs.ReadAgain.{graph_again}
 use Rattle.graph_text.proofs.TextLengths.{graph_text_within}
 use Rattle.graph_text.proofs.WrittenEdges.{written_is_text}

@@ -1,6 +1,6 @@
 -- The tool of each order is lawful.
 use Rattle.cmr_front.specs.Tool.{IsLawful}
-use Rattle.cmr_tools.specs.Words.{Order, tool_of, tu, regular, series_parallel, test, generate, check, upgrade, camion, sign, balanced, parts, compose}
+use Rattle.cmr_tools.specs.ToolOrders.{Order, tool_of, tu, regular, series_parallel, test, generate, check, upgrade, camion, sign, balanced, parts, compose}
 use Rattle.cmr_unimodular.proofs.TuAnswers.{tu_lawful}
 use Rattle.cmr_unimodular.proofs.RegularAnswers.{regular_lawful}
 use Rattle.cmr_unimodular.proofs.SeriesParallelAnswers.{series_parallel_lawful}

@@ -5,7 +5,7 @@ use Rattle.cmr_front.specs.Report.{Held}
 use Rattle.cmr_front.specs.Run.{Means, Runs, work}
 use Rattle.cmr_front.specs.Status.{answer_status}
 use Rattle.cmr_front.specs.declared.status.Answer.{Answer}
-use Rattle.cmr_tools.specs.Words.{order_of, tool_of}
+use Rattle.cmr_tools.specs.ToolOrders.{order_of, tool_of}
 use Rattle.cmr_tools.specs.declared.command.Command.{Command}
 
 pub runs_of : (command named : Command) (standing : Standing) (before after : Devices) (status : ℕ) → command ≡ named

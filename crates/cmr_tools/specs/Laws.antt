@@ -12,7 +12,7 @@ use Rattle.cmr_unimodular.specs.declared.tools.graphic_network.TestedProperty.{T
 use Rattle.cmr_unimodular.specs.GraphMatrix.{graph_matrix_report, graph_matrix_tool, test_tool}
 use Rattle.cmr_unimodular.specs.GraphicNetwork.{IsTestable, TestDecides, is_binary, TestOrder}
 use Rattle.cmr_front.specs.Tool.{IsFaultOfFile}
-use Rattle.cmr_tools.specs.Words.{Order, tool_of}
+use Rattle.cmr_tools.specs.ToolOrders.{Order, tool_of}
 
 -- With `-c` a text gives the matrix, and no other report.
 abbrev pub GivesMatrix : TestedProperty → List ℕ → Matrix → Type 0

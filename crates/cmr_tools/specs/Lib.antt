@@ -1,2 +1,2 @@
-pub mod Words
+pub mod ToolOrders
 pub mod Laws

@@ -5,7 +5,7 @@ ghost use Rattle.cmr_front.specs.Run.{Means, RunsOver, work};
 ghost use Rattle.cmr_front.specs.Status.{answer_status};
 ghost use Rattle.cmr_front.specs.Words.Reading.{Gives};
 ghost use Rattle.cmr_front.specs.declared.status.Answer.{Answer};
-ghost use Rattle.cmr_tools.specs.Words.{order, order_of, order_with, tool_named, tool_of};
+ghost use Rattle.cmr_tools.specs.ToolOrders.{order, order_of, order_with, tool_named, tool_of};
 
 use cmr_base::{Word, WordList};
 use cmr_front::words::WordsError;

@@ -2,7 +2,7 @@
 ghost use Rattle.std.specs.Prelude.{◌≡◌, Some, IsTrue};
 ghost use Rattle.cmr_front.specs.Run.{Means, RunsOver};
 ghost use Rattle.cmr_front.specs.Status.{answer_status};
-ghost use Rattle.cmr_tools.specs.Words.{Order, order, ordered, tool_of};
+ghost use Rattle.cmr_tools.specs.ToolOrders.{Order, order, ordered, tool_of};
 ghost use Rattle.cmr_front.specs.declared.status.Answer.{Answer};
 
 use crate::command::{obey, read_words};

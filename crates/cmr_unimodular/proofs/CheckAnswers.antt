@@ -1,7 +1,7 @@
 -- What the answers of `check` say of the matrix and of the evidence.
 use Rattle.std.proofs.Common.{◌≡◌, ◌∙◌, ℕ, List, [], ◌∷◌, drop, sym, subst, refl, ap, inl, inr, arith, length}
 use Rattle.std.proofs.lemmas.List.FromFn.{length-range_with_len}
-use Rattle.text_fields.specs.Words.{text_of}
+use Rattle.text_fields.specs.TextWords.{text_of}
 use Rattle.matrix_text.specs.Submatrix.{named_lines}
 use Rattle.cmr_base.specs.Matrix.{Matrix, IsMatrix, entry, height}
 use Rattle.cmr_base.specs.LineSets.{IsColumnSet, IsRowSet}
@@ -20,10 +20,10 @@ use Rattle.camion_sign.proofs.ChainChecks.{lead_from, rule_signs}
 use Rattle.camion_sign.proofs.ChainViolators.{chains_mean_violators, chains_refute_regularity, unsigned_signs}
 use Rattle.cert_check.specs.Laws.{IsRefuted, Tells}
 use Rattle.cert_check.proofs.Answering.{lines_is}
-use Rattle.tree_text.specs.Reading.{PlainTree, tree}
+use Rattle.tree_text.specs.TreeReading.{PlainTree, tree}
 use Rattle.tree_type.specs.Places.{places}
 use Rattle.tree_type.specs.Soundness.{IsSound, IsSoundTree}
-use Rattle.tree_type.specs.Trees.{Branch, SizedTree, Tree, lines_at_root, tree_of}
+use Rattle.tree_type.specs.DecompositionTrees.{Branch, SizedTree, Tree, lines_at_root, tree_of}
 use Rattle.tree_type.specs.declared.refusal.Rule.TheVariants as rule
 use Rattle.tree_type.specs.Verdicts as verdicts
 use Rattle.tree_type.specs.Verdicts.{Verdict, verdict_of}

@@ -2,7 +2,7 @@
 use Rattle.std.proofs.Common.{◌≡◌, ◌∙◌, ℕ, ap, sym, subst}
 use Rattle.cmr_base.specs.Matrix.{Matrix, height}
 use Rattle.tree_type.specs.Invariant.{IsTreeFor}
-use Rattle.tree_type.specs.Trees.{SizedTree, tree_of}
+use Rattle.tree_type.specs.DecompositionTrees.{SizedTree, tree_of}
 use Rattle.decomp_tree.proofs.OneVerdict as decompositions
 use Rattle.cmr_front.specs.Report.{Report}
 use Rattle.cmr_front.specs.Status.{answer_status}

@@ -4,7 +4,7 @@ use Rattle.std.proofs.lemmas.Bool.{cases_lt}
 use Rattle.cmr_base.specs.declared.line_set.LineSet.{LineSet}
 use Rattle.cmr_base.specs.Matrix.{Matrix, height, IsMatrix}
 use Rattle.tree_type.specs.Soundness.{part}
-use Rattle.tree_type.specs.Trees.{Tree}
+use Rattle.tree_type.specs.DecompositionTrees.{Tree}
 use Rattle.tree_type.specs.Verdicts.{first_in, open_at}
 use Rattle.decomp_tree.specs.PivotedShapes.{IsShapeWith}
 use Rattle.decomp_tree.specs.Shapes.{HasFault, IsReducible, IsApart, IsNetwork, IsConetwork, IsR10Matrix, IsTwoSum, IsThreeSum, IsShort, IsLeft, IsFirstCase}

@@ -9,7 +9,7 @@ use Rattle.cmr_base.specs.declared.line_set.LineSet.{LineSet}
 use Rattle.tree_type.specs.declared.tree.Node.{Node}
 use Rattle.tree_type.specs.declared.tree.NodeList.{NodeList}
 use Rattle.tree_type.specs.declared.tree.Kind.TheVariants as kind
-use Rattle.tree_type.specs.Trees.{Finding, OneSum, TwoSum, ThreeSum, Tree, Trees, Branch, MoreTrees, lines_at_root, nodes_in, two_trees, tree_of, trees_from, finding_of}
+use Rattle.tree_type.specs.DecompositionTrees.{Finding, OneSum, TwoSum, ThreeSum, Tree, Trees, Branch, MoreTrees, lines_at_root, nodes_in, two_trees, tree_of, trees_from, finding_of}
 use Rattle.tree_type.specs.Invariant.{IsTreeFor}
 use Rattle.cert_check.proofs.Answering.{two_sum_is, three_sum_is}
 use Rattle.cert_check.proofs.Children.{child_first, one_sum_is}

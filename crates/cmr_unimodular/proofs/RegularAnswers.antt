@@ -10,7 +10,7 @@ use Rattle.camion_sign.specs.declared.step.SignStep.{SignStep}
 use Rattle.camion_sign.specs.ChainTexts.{AreLinesIn, chain_text}
 use Rattle.camion_sign.specs.Chains.{IsSoundChain}
 use Rattle.cert_check.specs.Laws.{IsRefuted, Tells}
-use Rattle.tree_type.specs.Trees.{SizedTree}
+use Rattle.tree_type.specs.DecompositionTrees.{SizedTree}
 use Rattle.tree_type.specs.Verdicts as verdicts
 use Rattle.tree_type.specs.Verdicts.{Verdict}
 use Rattle.cmr_front.specs.declared.outcome.Outcome.{Outcome}

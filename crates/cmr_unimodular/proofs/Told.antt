@@ -7,7 +7,7 @@ use Rattle.cmr_base.specs.Matrix.{Matrix, height, IsMatrix}
 use Rattle.decomp_tree.specs.PivotedShapes.{IsShapeWith}
 use Rattle.decomp_tree.proofs.PivotedRoots.{root_is_whole}
 use Rattle.tree_type.specs.declared.tree.Node.{Node}
-use Rattle.tree_type.specs.Trees.{SizedTree, tree_of}
+use Rattle.tree_type.specs.DecompositionTrees.{SizedTree, tree_of}
 use Rattle.tree_type.specs.Verdicts as verdicts
 use Rattle.tree_type.specs.Verdicts.{Verdict, fault_at, first_in, open_at, verdict_from}
 use Rattle.cert_check.specs.Laws.{Tells}

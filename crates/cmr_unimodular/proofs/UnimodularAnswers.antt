@@ -6,7 +6,7 @@ use Rattle.cmr_base.specs.declared.line_set.LineSet.{LineSet}
 use Rattle.cert_check.specs.Laws.{IsRefuted}
 use Rattle.ghouila.proofs.DeterminantLaw.{ghouila_houri}
 use Rattle.ghouila.proofs.HoffmanKruskal.{hoffman_kruskal}
-use Rattle.tree_type.specs.Trees.{SizedTree}
+use Rattle.tree_type.specs.DecompositionTrees.{SizedTree}
 use Rattle.tree_type.specs.Verdicts as verdicts
 use Rattle.tree_type.specs.Verdicts.{Verdict}
 use Rattle.cmr_front.specs.declared.status.Answer.{Answer}

@@ -1,7 +1,7 @@
 -- What the answer of `upgrade` says of the tree.
 use Rattle.std.proofs.Common.{◌≡◌, ◌∙◌, ℕ, List, Ok, ap, sym, arith}
-use Rattle.text_fields.specs.Words.{text_of}
-use Rattle.tree_text.specs.Reading.{PlainTree, tree}
+use Rattle.text_fields.specs.TextWords.{text_of}
+use Rattle.tree_text.specs.TreeReading.{PlainTree, tree}
 use Rattle.tree_text.proofs.ReadTrees.{written_again}
 use Rattle.cmr_front.specs.declared.status.Answer.{Answer}
 use Rattle.cmr_front.specs.declared.status.Answer.TheVariants.{Yes, No, Undecided, Refused}

@@ -6,7 +6,7 @@ use Rattle.cmr_base.specs.LineSets.{submatrix_sum}
 use Rattle.cmr_base.specs.Supports.{HaveOneSupport}
 use Rattle.cmr_base.specs.Violator.{HasNoViolator, IsViolator}
 use Rattle.cmr_base.specs.declared.line_set.LineSet.{LineSet}
-use Rattle.text_fields.specs.Words.{text_of}
+use Rattle.text_fields.specs.TextWords.{text_of}
 use Rattle.matrix_text.specs.Submatrix.{named_lines}
 use Rattle.camion_sign.specs.Chains.{IsFirstBrokenPart, IsRegular, IsSoundChain}
 use Rattle.camion_sign.specs.ChainTexts.{chain}
@@ -15,7 +15,7 @@ use Rattle.tree_type.specs.Verdicts as verdicts
 use Rattle.tree_type.specs.Verdicts.{Verdict, verdict_of}
 use Rattle.tree_type.specs.declared.refusal.Rule.{Rule}
 use Rattle.tree_type.specs.declared.refusal.Rule.TheVariants.{NotViolator}
-use Rattle.tree_text.specs.Reading.{PlainTree}
+use Rattle.tree_text.specs.TreeReading.{PlainTree}
 use Rattle.cert_check.specs.Laws.{IsRefuted, Tells}
 use Rattle.cmr_front.specs.declared.outcome.FaultKind.TheVariants as faults
 use Rattle.cmr_front.specs.declared.status.Answer.{Answer}

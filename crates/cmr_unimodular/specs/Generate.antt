@@ -3,7 +3,7 @@ use Rattle.std.specs.Prelude.{◌≡◌, ◌≤◌, ◌<◌, ◌^◌, ◌++◌, 
 use Rattle.std.specs.Fmt.{decimal}
 use Rattle.cmr_base.specs.declared.limits.TheConstants.{MAX_LINES, MAX_ROWS}
 use Rattle.cmr_base.specs.Matrix.{Matrix, height, nonzeros_of, IsMatrix}
-use Rattle.matrix_text.specs.Canonical.{dense_text}
+use Rattle.matrix_text.specs.CanonicalMatrices.{dense_text}
 use Rattle.generate.specs.declared.making.MakeKind.{MakeKind}
 use Rattle.generate.specs.declared.making.MakeKind.TheVariants.{Network, TwoSum}
 use Rattle.generate.specs.Generated.{IsGenerated}

@@ -2,7 +2,7 @@
 use Rattle.std.specs.Prelude.{◌≡◌, ℕ, Bool, true, false, List, []}
 use Rattle.cmr_base.specs.Matrix.{Matrix, height, IsMatrix}
 use Rattle.graph_text.specs.declared.read.SizedNetwork.{SizedNetwork}
-use Rattle.matrix_text.specs.Canonical.{dense_text}
+use Rattle.matrix_text.specs.CanonicalMatrices.{dense_text}
 use Rattle.cmr_front.specs.declared.status.Answer.{Answer}
 use Rattle.cmr_front.specs.declared.status.Answer.TheVariants.{Yes, No, Undecided, Refused}
 use Rattle.cmr_front.specs.GraphText.{graph_tool}

@@ -4,7 +4,7 @@ use Rattle.cmr_base.specs.Matrix.{Matrix, height}
 use Rattle.cmr_base.specs.Reductions.{IsSeriesParallel, removal}
 use Rattle.cmr_base.specs.declared.line_set.LineSet.{LineSet}
 use Rattle.sp_reduce.specs.declared.removal.Reduction.{Reduction}
-use Rattle.matrix_text.specs.Canonical.{submatrix_text}
+use Rattle.matrix_text.specs.CanonicalMatrices.{submatrix_text}
 use Rattle.cmr_front.specs.declared.status.Answer.{Answer}
 use Rattle.cmr_front.specs.declared.status.Answer.TheVariants.{Yes, No, Undecided, Refused}
 use Rattle.cmr_front.specs.MatrixText.{Source, matrix_tool, source}

@@ -12,7 +12,7 @@ use Rattle.cmr_front.specs.MatrixText.{Source, matrix_tool, source}
 use Rattle.cmr_front.specs.Tool.{Tool}
 use Rattle.cmr_unimodular.specs.Verdict.{VerdictOrder, Decides, IsDecomposition, IsOpenPart, verdict_in}
 use Rattle.cert_check.specs.Laws.{IsRefuted}
-use Rattle.tree_type.specs.Trees.{SizedTree}
+use Rattle.tree_type.specs.DecompositionTrees.{SizedTree}
 use Rattle.tree_type.specs.Verdicts as verdicts
 use Rattle.cmr_base.specs.declared.line_set.LineSet.{LineSet}
 use Rattle.clap.specs.Words.{App, Row, Text, first_of}

@@ -1,10 +1,10 @@
 -- What the words of `upgrade` order, what it reports on a tree text, and what its answer means.
 use Rattle.std.specs.Prelude.{◌≡◌, ◌++◌, ℕ, List, [], ◌∷◌, Ok, codes, Option, Some}
 use Rattle.std.specs.Fmt.{decimal}
-use Rattle.text_fields.specs.Words.{text_of}
+use Rattle.text_fields.specs.TextWords.{text_of}
 use Rattle.tree_type.specs.NodeCounts.{node_count}
-use Rattle.tree_text.specs.Canonical.{tree_text}
-use Rattle.tree_text.specs.Reading.{PlainTree, tree}
+use Rattle.tree_text.specs.CanonicalTrees.{tree_text}
+use Rattle.tree_text.specs.TreeReading.{PlainTree, tree}
 use Rattle.cmr_front.specs.declared.status.Answer.{Answer}
 use Rattle.cmr_front.specs.declared.status.Answer.TheVariants.{Yes, No, Undecided, Refused}
 use Rattle.cmr_front.specs.Evidence.{tree_tool}

@@ -6,15 +6,15 @@ use Rattle.cmr_base.specs.CyclePlaces.{HasNoCycleFault}
 use Rattle.cmr_base.specs.LineSets.{submatrix_sum}
 use Rattle.cmr_base.specs.R10.{IsR10}
 use Rattle.cmr_base.specs.Trees.{IsNetworkMatrix, IsConetworkMatrix}
-use Rattle.matrix_text.specs.Canonical.{submatrix_text}
+use Rattle.matrix_text.specs.CanonicalMatrices.{submatrix_text}
 use Rattle.two_sep.specs.FirstSeeds.{HasNoTwoSeparation}
 use Rattle.three_sep.specs.ThreeSeparations.{HasNoThreeSeparation}
 use Rattle.tree_type.specs.Invariant.{AreLines, IsDecTree}
 use Rattle.tree_type.specs.Soundness.{IsSound, part}
-use Rattle.tree_type.specs.Trees.{SizedTree, tree_of}
+use Rattle.tree_type.specs.DecompositionTrees.{SizedTree, tree_of}
 use Rattle.tree_type.specs.Verdicts as verdicts
 use Rattle.tree_type.specs.Verdicts.{Verdict, verdict_of}
-use Rattle.tree_text.specs.Canonical.{tree_text}
+use Rattle.tree_text.specs.CanonicalTrees.{tree_text}
 use Rattle.decomp_tree.specs.Shapes.{Applies, IsApart, IsReducible}
 use Rattle.decomp_tree.specs.PivotedShapes.{IsShapeWith}
 use Rattle.cert_check.specs.Laws.{Tells}

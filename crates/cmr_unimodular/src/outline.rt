@@ -2,7 +2,7 @@
 ghost use Rattle.std.specs.Prelude.{◌≡◌, ◌+◌, ◌++◌, OnOk, codes};
 ghost use Rattle.std.specs.Fmt.{decimal};
 ghost use Rattle.cmr_unimodular.specs.Outline.{IsAtDepth, outline_from, outline_line, pivot_words, place_words, size_and_place};
-ghost use Rattle.tree_type.specs.Trees.{tree_of, finding_of};
+ghost use Rattle.tree_type.specs.DecompositionTrees.{tree_of, finding_of};
 
 use cmr_base::Memory;
 use itoa::Buffer;

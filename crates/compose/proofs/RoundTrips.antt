@@ -12,7 +12,7 @@ use Rattle.cmr_base.specs.Separations.{listed, product_at, spread_at, zeros, con
 use Rattle.cmr_base.proofs.SignEntries.{sign_of_entry}
 use Rattle.compose.specs.declared.sides.Sides.{Sides}
 use Rattle.compose.specs.Arrangements.{sides_of, three_lines, arranged}
-use Rattle.compose.specs.Kinds.{kind_of_form}
+use Rattle.compose.specs.SumKinds.{kind_of_form}
 use Rattle.compose.specs.RoundTrips.{IsRoundTrip, TwoRoundTrip, ThreeRoundTrip}
 use Rattle.compose.proofs.SideLines.{to_one, to_two, from_one, from_two}
 use Rattle.compose.proofs.Orders.{one_first, two_first, core_rows, core_columns}

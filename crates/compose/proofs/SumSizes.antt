@@ -8,7 +8,7 @@ use Rattle.cmr_base.specs.Separations.{zeros}
 use Rattle.cmr_base.specs.MatrixSums.{HaveCornerSum, connecting_columns, connecting_rows, core_block, corner_sum, filled, four_blocks, sum_along}
 use Rattle.compose.specs.declared.sum_kind.SumKind.{SumKind}
 use Rattle.compose.specs.declared.sum_kind.SumKind.TheVariants.{One, Two, Delta, YForm, Mixed, Concentrated}
-use Rattle.compose.specs.Kinds.{HaveSum, LosesColumns, LosesRows, SumsLoseLines}
+use Rattle.compose.specs.SumKinds.{HaveSum, LosesColumns, LosesRows, SumsLoseLines}
 
 filled_height : (m n : ℕ) (entries : ℕ → ℕ → ℤ) → height (filled m n entries) ≡ m
 filled_height m n entries = length-map (first_lines m) (λ row. map (entries row) (first_lines n)) ∙ length-range_with_len 0 m

@@ -1,3 +1,3 @@
 pub mod Arrangements
-pub mod Kinds
+pub mod SumKinds
 pub mod RoundTrips

@@ -9,7 +9,7 @@ use Rattle.compose.specs.declared.sum_kind.SumKind.{SumKind}
 use Rattle.compose.specs.declared.sum_kind.SumKind.TheVariants as kind
 use Rattle.compose.specs.declared.arrangement.Arranged.{Arranged}
 use Rattle.compose.specs.Arrangements.{IsOrder, arranged, two_arrangement, three_arrangement}
-use Rattle.compose.specs.Kinds.{kind_of_form, HaveSum, sum_of}
+use Rattle.compose.specs.SumKinds.{kind_of_form, HaveSum, sum_of}
 
 -- a two-separation of all lines of the matrix
 abbrev pub IsTwoOf : Matrix → Two → Type 0

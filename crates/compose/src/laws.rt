@@ -1,5 +1,5 @@
 //! Laws over the definitions alone. Each is a function that does nothing: its contract is the law.
-ghost use Rattle.compose.specs.Kinds.{SumsLoseLines};
+ghost use Rattle.compose.specs.SumKinds.{SumsLoseLines};
 ghost use Rattle.compose.specs.RoundTrips.{TwoRoundTrip, ThreeRoundTrip};
 
 /// The two matrices of a separation have the connecting lines of its sum, and their sum is the matrix with its lines in

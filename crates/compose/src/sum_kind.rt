@@ -1,8 +1,8 @@
 // The sums by their kinds.
 ghost use Rattle.std.specs.Prelude.{◌≡◌, ◌≤◌, ◌+◌, IfOk, IfErr};
 ghost use Rattle.cmr_base.specs.Matrix.{height};
-ghost use Rattle.compose.specs.Kinds.{kind_of_form, HaveSum, lost_rows, lost_columns, IsCauseOf};
-ghost use Rattle.compose.specs.Kinds.{sum_of as the_sum_of};
+ghost use Rattle.compose.specs.SumKinds.{kind_of_form, HaveSum, lost_rows, lost_columns, IsCauseOf};
+ghost use Rattle.compose.specs.SumKinds.{sum_of as the_sum_of};
 
 use cmr_base::{Form, MAX_COLUMNS, MAX_ROWS, Matrix};
 use std::alloc::Global;

@@ -3,7 +3,7 @@ ghost use Rattle.std.specs.Prelude.{◌≡◌, ◌<◌, IfOk};
 ghost use Rattle.cmr_base.specs.Matrix.{height, entry};
 ghost use Rattle.compose.specs.Arrangements.{arranged, last_rows, last_columns, begin_rows, begin_columns, corner_lines, core_lines, three_lines, three_arrangement, HasConnectorLines};
 ghost use Rattle.cmr_base.specs.Separations.{first_is_flat, second_is_flat};
-ghost use Rattle.compose.specs.Kinds.{kind_of_form};
+ghost use Rattle.compose.specs.SumKinds.{kind_of_form};
 ghost use Rattle.compose.specs.RoundTrips.{IsThreeOf, IsRoundTrip};
 
 use crate::Arranged;

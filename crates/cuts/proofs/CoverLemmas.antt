@@ -13,10 +13,10 @@ use Rattle.cmr_base.proofs.SeedLemmas.{count_grows}
 use Rattle.cmr_base.proofs.TransposedLines.{support-transposed}
 use Rattle.cuts.specs.declared.groups.Groups.{Groups}
 use Rattle.cmr_base.specs.Seeds.{count}
-use Rattle.cuts.specs.Cuts.{IsCut, name_of, HoldTogether}
+use Rattle.cuts.specs.LineCuts.{IsCut, name_of, HoldTogether}
 use Rattle.cuts.specs.Covers.{IsHalved, IsMet, AreOnOneSide, AreWithin, AreOutside, Covers, AddsAtMost, AreUnlike, AreAllUnlike, AreClasses, may_be_outside, AreAtMost, LeavesFew, GetName, words_set}
 use Rattle.cuts.specs.Classes.{AreClassNumbers}
-use Rattle.cuts.specs.LineSets.{is_between, is_in_heap, rows_heap, columns_heap, as_set}
+use Rattle.cuts.specs.WordSets.{is_between, is_in_heap, rows_heap, columns_heap, as_set}
 use Rattle.cuts.specs.Patterns.{HasPatterns}
 use Rattle.cuts.specs.declared.heaps.Heaps.{Heaps}
 use Rattle.cuts.specs.declared.line_patterns.LinePatterns.{LinePatterns}

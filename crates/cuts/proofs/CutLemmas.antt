@@ -9,7 +9,7 @@ use Rattle.cmr_base.proofs.Booleans.{not_is, not_false, not_not}
 use Rattle.cmr_base.proofs.LineCounts.{count_same, inside_is}
 use Rattle.cmr_base.proofs.ListedLines.{contains_first_lines}
 use Rattle.cuts.specs.declared.corners.Corners.{Corners}
-use Rattle.cuts.specs.Cuts.{IsCut}
+use Rattle.cuts.specs.LineCuts.{IsCut}
 
 -- ---- closed sets
 

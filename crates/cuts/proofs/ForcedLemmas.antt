@@ -10,9 +10,9 @@ use Rattle.cuts.specs.declared.line_words.LineWords.{LineWords}
 use Rattle.cuts.specs.declared.sides.Side.{Side}
 use Rattle.cuts.specs.Classes.{IsUnlikeOne}
 use Rattle.cuts.specs.Covers.{AddsAtMost, AreClasses, AreOutside, AreWithin, Covers, words_set}
-use Rattle.cuts.specs.Cuts.{IsCut}
-use Rattle.cuts.specs.LineSets.{as_set}
-use Rattle.cuts.specs.Sides.{HasNumbers, IsForced}
+use Rattle.cuts.specs.LineCuts.{IsCut}
+use Rattle.cuts.specs.WordSets.{as_set}
+use Rattle.cuts.specs.CutSides.{HasNumbers, IsForced}
 use Rattle.cuts.proofs.CoverLemmas.{column_classes, one_pattern, row_classes}
 use Rattle.cuts.proofs.CutLemmas.{other_is_cut}
 use Rattle.cmr_base.specs.Components.{IsLineOf}

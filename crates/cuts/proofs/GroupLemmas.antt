@@ -9,8 +9,8 @@ use Rattle.cmr_base.proofs.Booleans.{not_both}
 use Rattle.cuts.specs.declared.groups.Groups.{Groups}
 use Rattle.cuts.specs.declared.line_words.LineWords.{LineWords}
 use Rattle.cuts.specs.Covers.{AddsAtMost, AreOnOneSide, AreWithin, Covers, GetName, words_set}
-use Rattle.cuts.specs.Cuts.{HoldTogether, IsCut, name_of}
-use Rattle.cuts.specs.LineSets.{as_set}
+use Rattle.cuts.specs.LineCuts.{HoldTogether, IsCut, name_of}
+use Rattle.cuts.specs.WordSets.{as_set}
 use Rattle.cuts.proofs.CoverLemmas.{covers_less, covers_more, group_of_covers}
 use Rattle.cmr_base.specs.Components.{IsLineOf}
 

@@ -15,9 +15,9 @@ use Rattle.cuts.specs.declared.sides.NumberedSet.{NumberedSet}
 use Rattle.cuts.specs.declared.sides.Side.{Side}
 use Rattle.cuts.specs.Classes.{AreClassNumbers, AreNumbers}
 use Rattle.cuts.specs.Covers.{words_set}
-use Rattle.cuts.specs.LineSets.{columns_heap, is_in_heap, rows_heap, as_set}
+use Rattle.cuts.specs.WordSets.{columns_heap, is_in_heap, rows_heap, as_set}
 use Rattle.cuts.specs.Patterns.{AreAtMostBeside, HasPatterns}
-use Rattle.cuts.specs.Sides.{HasNumbers, HasSetNumbers}
+use Rattle.cuts.specs.CutSides.{HasNumbers, HasSetNumbers}
 use Rattle.cuts.proofs.ClassLemmas.{of_columns, of_rows}
 
 pub numbers_at : (m m' : Matrix) (set set' numbers numbers' : List ℕ) → m' ≡ m → set' ≡ set → numbers' ≡ numbers → AreNumbers (support m) m.width set numbers → AreNumbers (support m') m'.width set' numbers'

@@ -9,7 +9,7 @@ use Rattle.cmr_base.specs.Seeds.{IsLine}
 use Rattle.cmr_base.specs.Trees.{support}
 use Rattle.cuts.specs.declared.groups.Groups.{Groups}
 use Rattle.cmr_base.specs.Seeds.{count}
-use Rattle.cuts.specs.Cuts.{IsCut, name_of}
+use Rattle.cuts.specs.LineCuts.{IsCut, name_of}
 use Rattle.cmr_base.specs.Components.{IsLineOf}
 
 -- each line of the first set is in the second, each line of the matrix that is meant

@@ -1,7 +1,7 @@
-pub mod Cuts
+pub mod LineCuts
 pub mod Covers
 pub mod Classes
-pub mod LineSets
+pub mod WordSets
 pub mod Patterns
-pub mod Sides
+pub mod CutSides
 pub mod Finders

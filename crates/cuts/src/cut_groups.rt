@@ -2,9 +2,9 @@
 ghost use Rattle.std.specs.Prelude.{◌≡◌, ◌<◌, true, IfOk, OnOk, MatchOption};
 ghost use Rattle.cmr_base.specs.declared.line.Line.{Line};
 ghost use Rattle.cuts.specs.Covers.{AreOnOneSide};
-ghost use Rattle.cuts.specs.Cuts.{HasNames, HoldTogether, IsCut};
+ghost use Rattle.cuts.specs.LineCuts.{HasNames, HoldTogether, IsCut};
 ghost use Rattle.cuts.specs.Finders.{AreFound};
-ghost use Rattle.cuts.specs.LineSets.{HasWords, as_set};
+ghost use Rattle.cuts.specs.WordSets.{HasWords, as_set};
 ghost use Rattle.cmr_base.specs.Components.{IsLineOf};
 
 use crate::cut_search::CutSearch;

@@ -1,8 +1,8 @@
 // The lines that cuts part from some lines of side one.
 ghost use Rattle.std.specs.Prelude.{◌≡◌, true, IfOk, OnOk};
 ghost use Rattle.cuts.specs.Covers.{AreWithin, Covers};
-ghost use Rattle.cuts.specs.LineSets.{HasWords, as_set};
-ghost use Rattle.cuts.specs.Sides.{HasNumbers};
+ghost use Rattle.cuts.specs.WordSets.{HasWords, as_set};
+ghost use Rattle.cuts.specs.CutSides.{HasNumbers};
 
 use crate::line_patterns::LinePatterns;
 use crate::line_words::LineWords;

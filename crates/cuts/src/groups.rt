@@ -5,8 +5,8 @@ ghost use Rattle.cmr_base.specs.Matrix.{height};
 ghost use Rattle.cmr_base.specs.Planes.{words_for};
 ghost use Rattle.cmr_base.specs.declared.line.Line.{Line};
 ghost use Rattle.cuts.specs.Covers.{GetName};
-ghost use Rattle.cuts.specs.Cuts.{HasNames, name_of};
-ghost use Rattle.cuts.specs.LineSets.{HasWords, as_set};
+ghost use Rattle.cuts.specs.LineCuts.{HasNames, name_of};
+ghost use Rattle.cuts.specs.WordSets.{HasWords, as_set};
 ghost use Rattle.cmr_base.specs.Components.{IsLineOf};
 
 use crate::line_words::LineWords;

@@ -2,9 +2,9 @@
 ghost use Rattle.std.specs.Prelude.{◌≡◌, ◌<◌, ◌+◌, true, IfOk, MatchOption};
 ghost use Rattle.cmr_base.specs.Separations.{Lines};
 ghost use Rattle.cuts.specs.Covers.{Covers, IsHalved};
-ghost use Rattle.cuts.specs.LineSets.{HasWords, as_set};
+ghost use Rattle.cuts.specs.WordSets.{HasWords, as_set};
 ghost use Rattle.cuts.specs.Patterns.{HasPatterns};
-ghost use Rattle.cuts.specs.Sides.{AreHalves, HasNumbers};
+ghost use Rattle.cuts.specs.CutSides.{AreHalves, HasNumbers};
 
 use crate::LEAST_SIDE;
 use crate::line_words::LineWords;

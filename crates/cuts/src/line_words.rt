@@ -6,7 +6,7 @@ ghost use Rattle.cmr_base.specs.Planes.{words_for};
 ghost use Rattle.cmr_base.specs.Seeds.{count_inside, count_outside};
 ghost use Rattle.cmr_base.specs.declared.line.Line.{Line};
 ghost use Rattle.cuts.specs.Covers.{AreWithin};
-ghost use Rattle.cuts.specs.LineSets.{HasWords, columns_heap, is_in_heap, rows_heap, as_set};
+ghost use Rattle.cuts.specs.WordSets.{HasWords, columns_heap, is_in_heap, rows_heap, as_set};
 ghost use Rattle.cmr_base.specs.Components.{IsLineOf};
 
 use crate::LEAST_SIDE;

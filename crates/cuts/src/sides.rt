@@ -8,8 +8,8 @@ ghost use Rattle.cmr_base.specs.Trees.{support};
 ghost use Rattle.cmr_base.specs.declared.line.Line.{Line};
 ghost use Rattle.cuts.specs.Classes.{AreNumbers, IsUnlikeOne};
 ghost use Rattle.cuts.specs.Covers.{AddsAtMost};
-ghost use Rattle.cuts.specs.LineSets.{HasWords, as_set};
-ghost use Rattle.cuts.specs.Sides.{HasNumbers, HasSetNumbers, IsForced};
+ghost use Rattle.cuts.specs.WordSets.{HasWords, as_set};
+ghost use Rattle.cuts.specs.CutSides.{HasNumbers, HasSetNumbers, IsForced};
 ghost use Rattle.cmr_base.specs.Components.{IsLineOf};
 
 use crate::line_words::LineWords;

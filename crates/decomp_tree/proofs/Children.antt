@@ -5,7 +5,7 @@ use Rattle.cmr_base.specs.declared.line_set.LineSet.{LineSet}
 use Rattle.cmr_base.specs.Matrix.{Matrix}
 use Rattle.tree_type.specs.Invariant.{AreLines, HasChildren}
 use Rattle.tree_type.proofs.PlacedLines.{lines_within}
-use Rattle.tree_type.specs.Trees.{Finding, Tree}
+use Rattle.tree_type.specs.DecompositionTrees.{Finding, Tree}
 use Rattle.decomp_tree.specs.declared.drafts.Draft.{Draft}
 use Rattle.decomp_tree.specs.Seen.{AreFewer, AreDrawn}
 use Rattle.decomp_tree.specs.Sketches.{sketch_of, lines_of_sketch, IsDrafted, IsDraftedBehind}

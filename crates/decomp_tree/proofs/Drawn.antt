@@ -5,7 +5,7 @@ use Rattle.cmr_base.specs.declared.line_set.LineSet.{LineSet}
 use Rattle.cmr_base.specs.CyclePlaces.{HasNoCycleFault}
 use Rattle.cmr_base.specs.Matrix.{Matrix, entry}
 use Rattle.cmr_base.proofs.Lists.{all-append}
-use Rattle.tree_type.specs.Trees.{Finding, Tree, Branch, trees_from, count_trees}
+use Rattle.tree_type.specs.DecompositionTrees.{Finding, Tree, Branch, trees_from, count_trees}
 use Rattle.tree_type.specs.Invariant.{size_of, HasChildren, AreTreesWithin}
 use Rattle.tree_type.specs.Places.{places_from, places_below, due_child, lines_of_each}
 use Rattle.tree_type.specs.Soundness.{part}

@@ -5,7 +5,7 @@ use Rattle.cmr_base.specs.Matrix.{Matrix}
 use Rattle.pivots.specs.declared.drawn.DrawnPlace.{DrawnPlace}
 use Rattle.pivots.specs.DrawnPlaces.{drawn_place}
 use Rattle.pivots.specs.PivotedParts.{IsMadePart, ShowsFirstTwoIn}
-use Rattle.tree_type.specs.Trees.{Tree, Branch, NoTrees, Violator}
+use Rattle.tree_type.specs.DecompositionTrees.{Tree, Branch, NoTrees, Violator}
 use Rattle.tree_type.specs.Invariant.{AreLines, size_of}
 use Rattle.tree_type.specs.Verdicts.{verdict_of}
 use Rattle.cert_check.proofs.PivotedMatrices.{lines_pivoted}

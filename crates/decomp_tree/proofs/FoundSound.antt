@@ -8,7 +8,7 @@ use Rattle.pivots.specs.declared.place.PlacedPivot.{PlacedPivot}
 use Rattle.pivots.specs.DrawnPlaces.{drawn_place}
 use Rattle.pivots.specs.PivotedParts.{IsPlaceIn, IsTernaryPivot, pivoted_part}
 use Rattle.pivots.proofs.PartLaws.{part_pivots_take_violators_back}
-use Rattle.tree_type.specs.Trees.{Tree}
+use Rattle.tree_type.specs.DecompositionTrees.{Tree}
 use Rattle.tree_type.specs.Invariant.{AreLines, AreLinesOf, size_of}
 use Rattle.tree_type.specs.Places.{These, MadePivot, matrix_after}
 use Rattle.tree_type.specs.Soundness.{HasItsLines}

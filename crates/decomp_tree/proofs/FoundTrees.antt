@@ -10,7 +10,7 @@ use Rattle.pivots.specs.DrawnPlaces.{drawn_place}
 use Rattle.pivots.specs.PivotedParts.{AreAmong, IsPlaceIn, pivoted_part}
 use Rattle.pivots.proofs.DrawnPlaces.{drawn_in}
 use Rattle.pivots.proofs.PartLaws.{lines_before_among}
-use Rattle.tree_type.specs.Trees.{Finding, Empty, Cycle, Reduced, OneSum, Network, Conetwork, R10, TwoSum, ThreeSum, Enumerated, Violator, Undecided, Pivoted, Tree, Trees, Branch, NoTrees, MoreTrees, count_trees, lines_at_root}
+use Rattle.tree_type.specs.DecompositionTrees.{Finding, Empty, Cycle, Reduced, OneSum, Network, Conetwork, R10, TwoSum, ThreeSum, Enumerated, Violator, Undecided, Pivoted, Tree, Trees, Branch, NoTrees, MoreTrees, count_trees, lines_at_root}
 use Rattle.tree_type.specs.Invariant.{AreLinesOf, size_of, FitsLines, HasChildren, IsTreeWithin, AreTreesWithin}
 use Rattle.tree_type.specs.Verdicts.{Verdict, Yes, No, Open, verdict_of}
 use Rattle.decomp_tree.specs.Seen.{IsFalling, AreFalling, IsDrawn}

@@ -12,7 +12,7 @@ use Rattle.cert_check.proofs.Leaves.{free_empty, free_network, free_conetwork}
 use Rattle.cert_check.proofs.Sums.{free_two, free_three}
 use Rattle.cert_check.proofs.OneSums.{free_apart}
 use Rattle.cert_check.proofs.Reductions.{free_reduced}
-use Rattle.tree_type.specs.Trees.{Finding, Empty, Cycle, Reduced, OneSum, Network, Conetwork, R10, TwoSum, ThreeSum, Enumerated, Violator, Undecided}
+use Rattle.tree_type.specs.DecompositionTrees.{Finding, Empty, Cycle, Reduced, OneSum, Network, Conetwork, R10, TwoSum, ThreeSum, Enumerated, Violator, Undecided}
 use Rattle.tree_type.specs.Invariant.{AreLines, HasChildren}
 use Rattle.tree_type.specs.Places.{These, lines_left}
 use Rattle.tree_type.specs.Soundness.{part, AreApart, HasItsLines}

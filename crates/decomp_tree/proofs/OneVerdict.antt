@@ -2,7 +2,7 @@
 use Rattle.std.proofs.Common.{◌≡◌, ◌∙◌, ℕ, ap, sym}
 use Rattle.cmr_base.specs.Matrix.{Matrix, height}
 use Rattle.tree_type.specs.Invariant.{IsTreeFor}
-use Rattle.tree_type.specs.Trees.{Tree}
+use Rattle.tree_type.specs.DecompositionTrees.{Tree}
 use Rattle.tree_type.specs.Verdicts.{verdict_of}
 use Rattle.decomp_tree.specs.PivotedShapes.{IsShapeWith}
 use Rattle.decomp_tree.proofs.OnePivoted.{one_pivoted_shape}

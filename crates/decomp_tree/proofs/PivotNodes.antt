@@ -9,7 +9,7 @@ use Rattle.pivots.specs.declared.place.PlacedPivot.{PlacedPivot}
 use Rattle.pivots.specs.PivotedParts.{IsTernaryPivot}
 use Rattle.tree_type.specs.declared.refusal.Rule.{Rule}
 use Rattle.tree_type.specs.declared.refusal.Rule.TheVariants as rule
-use Rattle.tree_type.specs.Trees.{Violator, Undecided, Pivoted, Tree, Branch, NoTrees, one_tree, lines_at_root}
+use Rattle.tree_type.specs.DecompositionTrees.{Violator, Undecided, Pivoted, Tree, Branch, NoTrees, one_tree, lines_at_root}
 use Rattle.tree_type.specs.Places.{Due, These, MadePivot, matrix_after, places_from}
 use Rattle.tree_type.specs.Soundness.{HasItsSizes, HasItsLines, Demands, KeepsAll}
 use Rattle.decomp_tree.specs.PivotedShapes.{undecided}

@@ -4,7 +4,7 @@ use Rattle.std.specs.List.{AllByRecursion}
 use Rattle.cmr_base.specs.declared.line_set.LineSet.{LineSet}
 use Rattle.cmr_base.specs.Matrix.{Matrix, IsMatrix}
 use Rattle.cmr_base.proofs.Lists.{all-append, all_front, all_back}
-use Rattle.tree_type.specs.Trees.{Finding, Tree, Trees, Branch, NoTrees, MoreTrees, lines_at_root}
+use Rattle.tree_type.specs.DecompositionTrees.{Finding, Tree, Trees, Branch, NoTrees, MoreTrees, lines_at_root}
 use Rattle.tree_type.specs.Invariant.{AreLines, IsTreeWithin, AreTreesWithin}
 use Rattle.tree_type.specs.Places.{Due, MadePivot, Place, matrix_after, places_from, places_below, due_child, lines_of_each}
 use Rattle.tree_type.specs.Soundness.{HasItsSizes, HasItsLines, Demands, KeepsAll}

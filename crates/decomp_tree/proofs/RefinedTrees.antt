@@ -1,7 +1,7 @@
 -- Trees in which others stand in the places of undecided nodes: by their nodes, their lines and their counts.
 use Rattle.std.proofs.Common.{◌≡◌, ◌∙◌, ◌++◌, suc, false, List, [], ◌∷◌, refl, ap, ap₂, subst}
 use Rattle.cmr_base.specs.declared.line_set.LineSet.{LineSet}
-use Rattle.tree_type.specs.Trees.{Finding, Empty, Cycle, Reduced, OneSum, Network, Conetwork, R10, TwoSum, ThreeSum, Enumerated, Violator, Undecided, Pivoted, Tree, Trees, Branch, NoTrees, MoreTrees, trees_from, count_trees, lines_at_root}
+use Rattle.tree_type.specs.DecompositionTrees.{Finding, Empty, Cycle, Reduced, OneSum, Network, Conetwork, R10, TwoSum, ThreeSum, Enumerated, Violator, Undecided, Pivoted, Tree, Trees, Branch, NoTrees, MoreTrees, trees_from, count_trees, lines_at_root}
 use Rattle.tree_type.specs.Places.{lines_of_each}
 use Rattle.decomp_tree.specs.Refined.{is_undecided, Refines, AllRefine}
 

@@ -26,8 +26,8 @@ use Rattle.cmr_base.proofs.ListsWithout.{contains_from_in, in_from_contains, in-
 use Rattle.cmr_base.proofs.Members.{distinct_few}
 use Rattle.cmr_base.proofs.Parts.{height-transposed, length-rising}
 use Rattle.cmr_base.proofs.ListedLines.{has_line_from_listed, listed_from_has_line}
-use Rattle.sp_reduce.specs.Digests.{HasNoReducibleLine}
-use Rattle.tree_type.specs.Trees.{Empty, Cycle, Reduced, OneSum, Network, Conetwork, R10, Enumerated, Violator, Undecided}
+use Rattle.sp_reduce.specs.RowDigests.{HasNoReducibleLine}
+use Rattle.tree_type.specs.DecompositionTrees.{Empty, Cycle, Reduced, OneSum, Network, Conetwork, R10, Enumerated, Violator, Undecided}
 use Rattle.tree_type.specs.Invariant.{AreLines, AreLinesOf, HasArcsAndWalks, size_of}
 use Rattle.tree_type.specs.Places.{lines_left}
 use Rattle.tree_type.specs.Soundness.{part}

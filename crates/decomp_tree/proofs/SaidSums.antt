@@ -15,7 +15,7 @@ use Rattle.three_sep.specs.ThreeSeparations.{IsFirstThreeSeparation}
 use Rattle.tree_type.specs.Invariant.{AreLines, AreLinesOf}
 use Rattle.tree_type.specs.Sides.{HasConnector, two_one, two_two, three_one, three_two}
 use Rattle.tree_type.specs.Soundness.{part}
-use Rattle.tree_type.specs.Trees.{TwoSum, ThreeSum}
+use Rattle.tree_type.specs.DecompositionTrees.{TwoSum, ThreeSum}
 use Rattle.decomp_tree.specs.Shapes.{IsTwoSum, IsThreeSum, set_in, connector_in, two_in, three_in}
 use Rattle.decomp_tree.specs.Seen.{IsPlacedSet, IsPlacedConnector, HasNoneBefore, IsSaid}
 use Rattle.decomp_tree.proofs.Numbered.{height_in}

@@ -8,7 +8,7 @@ use Rattle.tree_type.specs.declared.tree.Node.{Node}
 use Rattle.tree_type.specs.Findings.{finding_shown}
 use Rattle.tree_type.specs.Invariant.{AreLines, HasChildren}
 use Rattle.tree_type.specs.Soundness.{part}
-use Rattle.tree_type.specs.Trees.{Finding, Empty, Cycle, Reduced, OneSum, Network, Conetwork, R10, TwoSum, ThreeSum, Enumerated, Violator, Undecided, Pivoted, Tree, NoTrees, Branch, tree_of, trees_from}
+use Rattle.tree_type.specs.DecompositionTrees.{Finding, Empty, Cycle, Reduced, OneSum, Network, Conetwork, R10, TwoSum, ThreeSum, Enumerated, Violator, Undecided, Pivoted, Tree, NoTrees, Branch, tree_of, trees_from}
 use Rattle.tree_type.proofs.Forests.{count_list, count_of}
 use Rattle.decomp_tree.specs.declared.drafts.Draft.{Draft}
 use Rattle.decomp_tree.specs.declared.drafts.Front.{Front}

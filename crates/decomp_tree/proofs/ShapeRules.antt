@@ -27,7 +27,7 @@ use Rattle.sp_reduce.proofs.Orders.{search_none, after_step}
 use Rattle.tree_type.specs.Invariant.{AreLines}
 use Rattle.tree_type.specs.declared.refusal.Rule.{Rule}
 use Rattle.tree_type.specs.declared.refusal.Rule.TheVariants as rule
-use Rattle.tree_type.specs.Trees.{Finding, Empty, Cycle, Reduced, OneSum, Network, Conetwork, R10, TwoSum, ThreeSum, Enumerated, Violator, Undecided}
+use Rattle.tree_type.specs.DecompositionTrees.{Finding, Empty, Cycle, Reduced, OneSum, Network, Conetwork, R10, TwoSum, ThreeSum, Enumerated, Violator, Undecided}
 use Rattle.tree_type.specs.Soundness.{part, AreReductions, AreApart, Demands}
 use Rattle.tree_type.proofs.PlacedLines.{part_is}
 use Rattle.decomp_tree.specs.Shapes.{Case, HasNoLines, HasFault, IsReducible, IsApart, IsNetwork, IsConetwork, IsR10Matrix, IsTwoSum, IsThreeSum, IsShort, IsLeft, case_number, Applies, IsFirstCase, NodeSays, numbered, numbered_line, set_in, two_in, three_in, finding_in, HasParts}

@@ -6,7 +6,7 @@ use Rattle.cmr_base.specs.Matrix.{Matrix, height, IsMatrix}
 use Rattle.cmr_base.proofs.Lists.{all-append, all_front, all_back}
 use Rattle.tree_type.specs.declared.refusal.Rule.{Rule}
 use Rattle.tree_type.specs.declared.refusal.Rule.TheVariants as rule
-use Rattle.tree_type.specs.Trees.{Finding, Empty, Cycle, Reduced, OneSum, Network, Conetwork, R10, TwoSum, ThreeSum, Enumerated, Violator, Undecided, Pivoted, Tree, Trees, Branch, NoTrees, MoreTrees, lines_at_root}
+use Rattle.tree_type.specs.DecompositionTrees.{Finding, Empty, Cycle, Reduced, OneSum, Network, Conetwork, R10, TwoSum, ThreeSum, Enumerated, Violator, Undecided, Pivoted, Tree, Trees, Branch, NoTrees, MoreTrees, lines_at_root}
 use Rattle.tree_type.specs.Invariant.{AreLines, IsTreeWithin, AreTreesWithin, IsTreeFor}
 use Rattle.tree_type.specs.Places.{Due, AllLines, MadePivot, Place, matrix_after, places_from, places_below, pivots_below, due_child, lines_of_each}
 use Rattle.tree_type.specs.Soundness.{HasItsSizes, HasItsLines, Demands, MayStand, KeepsAll}

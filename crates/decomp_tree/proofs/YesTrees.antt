@@ -1,7 +1,7 @@
 -- Trees that say yes, which alone may stand below pivots.
 use Rattle.std.proofs.Common.{◌≡◌, ◌⊎◌, inl, inr, List, [], ◌∷◌, Option, Some, None, refl, sym, subst}
 use Rattle.cmr_base.specs.declared.line_set.LineSet.{LineSet}
-use Rattle.tree_type.specs.Trees.{Finding, Empty, Cycle, Reduced, OneSum, Network, Conetwork, R10, TwoSum, ThreeSum, Enumerated, Violator, Undecided, Pivoted, Tree, Trees, Branch, MoreTrees}
+use Rattle.tree_type.specs.DecompositionTrees.{Finding, Empty, Cycle, Reduced, OneSum, Network, Conetwork, R10, TwoSum, ThreeSum, Enumerated, Violator, Undecided, Pivoted, Tree, Trees, Branch, MoreTrees}
 use Rattle.tree_type.specs.Places.{MadePivot}
 use Rattle.tree_type.specs.Soundness.{MayStand}
 use Rattle.cert_check.proofs.SoundTrees.{none_or}

@@ -2,7 +2,7 @@
 use Rattle.std.specs.Prelude.{◌≤◌, ℕ}
 use Rattle.cmr_base.specs.declared.limits.TheConstants.{MAX_LINES}
 use Rattle.cmr_base.specs.Matrix.{Matrix, height, IsMatrix}
-use Rattle.tree_type.specs.Trees.{Tree}
+use Rattle.tree_type.specs.DecompositionTrees.{Tree}
 use Rattle.tree_type.specs.Invariant.{IsTreeFor}
 use Rattle.tree_type.specs.Soundness.{IsSoundTree}
 use Rattle.decomp_tree.specs.Shapes.{IsShape}

@@ -3,7 +3,7 @@ use Rattle.std.specs.Prelude.{◌≡◌, ◌≤◌, ℕ, Some}
 use Rattle.cmr_base.specs.declared.limits.TheConstants.{MAX_LINES}
 use Rattle.cmr_base.specs.declared.line_set.LineSet.{LineSet}
 use Rattle.cmr_base.specs.Matrix.{Matrix, height, IsMatrix}
-use Rattle.tree_type.specs.Trees.{Tree}
+use Rattle.tree_type.specs.DecompositionTrees.{Tree}
 use Rattle.tree_type.specs.Invariant.{AreLines, IsTreeFor}
 use Rattle.tree_type.specs.Soundness.{IsSoundTree, part}
 use Rattle.tree_type.specs.Verdicts.{first_in, open_at}

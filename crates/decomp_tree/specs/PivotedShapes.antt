@@ -9,7 +9,7 @@ use Rattle.pivots.specs.declared.drawn.DrawnPlace.{DrawnPlace}
 use Rattle.pivots.specs.declared.place.PlacedPivot.{PlacedPivot}
 use Rattle.pivots.specs.DrawnPlaces.{drawn_place}
 use Rattle.pivots.specs.PivotedParts.{pivoted_part, AreAmong, IsTernaryPivot, ShowsFirstTwoIn}
-use Rattle.tree_type.specs.Trees.{Tree, Branch, NoTrees, Undecided, Violator, Pivoted, one_tree}
+use Rattle.tree_type.specs.DecompositionTrees.{Tree, Branch, NoTrees, Undecided, Violator, Pivoted, one_tree}
 use Rattle.tree_type.specs.Verdicts.{Verdict, Yes, No, Open, verdict_of}
 use Rattle.decomp_tree.specs.Refined.{Refines}
 use Rattle.decomp_tree.specs.Seen.{IsDrawn}

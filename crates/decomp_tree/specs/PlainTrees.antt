@@ -4,7 +4,7 @@ use Rattle.cmr_base.specs.declared.network.Network as net
 use Rattle.cmr_base.specs.Matrix.{Matrix, height}
 use Rattle.tree_type.specs.Invariant.{IsTreeFor}
 use Rattle.decomp_tree.specs.Shapes.{IsShape}
-use Rattle.tree_type.specs.Trees.{Finding, Network, Conetwork, Tree, Trees, Branch, NoTrees, MoreTrees}
+use Rattle.tree_type.specs.DecompositionTrees.{Finding, Network, Conetwork, Tree, Trees, Branch, NoTrees, MoreTrees}
 
 abbrev pub no_network : net.Network
 no_network = record { arcs = []; walks = [] }

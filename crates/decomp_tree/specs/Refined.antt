@@ -1,7 +1,7 @@
 -- Trees in which others stand in the places of undecided nodes.
 use Rattle.std.specs.Prelude.{◌≡◌, Bool, true, false}
 use Rattle.cmr_base.specs.declared.line_set.LineSet.{LineSet}
-use Rattle.tree_type.specs.Trees.{Finding, Undecided, Tree, Trees, Branch, NoTrees, MoreTrees}
+use Rattle.tree_type.specs.DecompositionTrees.{Finding, Undecided, Tree, Trees, Branch, NoTrees, MoreTrees}
 
 abbrev pub is_undecided : Finding → Bool
 is_undecided Undecided = true

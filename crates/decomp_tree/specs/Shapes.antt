@@ -19,7 +19,7 @@ use Rattle.cmr_base.specs.Separations.{Lines, first_is_flat, second_is_flat, IsT
 use Rattle.cmr_base.specs.Components.{AreComponents}
 use Rattle.two_sep.specs.FirstSeeds.{IsFirstTwoSeparation}
 use Rattle.three_sep.specs.ThreeSeparations.{IsFirstThreeSeparation}
-use Rattle.tree_type.specs.Trees.{Finding, Empty, Cycle, Reduced, OneSum, Network, Conetwork, R10, TwoSum, ThreeSum, Enumerated, Violator, Undecided, Tree}
+use Rattle.tree_type.specs.DecompositionTrees.{Finding, Empty, Cycle, Reduced, OneSum, Network, Conetwork, R10, TwoSum, ThreeSum, Enumerated, Violator, Undecided, Tree}
 use Rattle.tree_type.specs.Places.{Place, places}
 use Rattle.tree_type.specs.Soundness.{part, HasItsLines}
 

@@ -3,7 +3,7 @@ use Rattle.std.specs.Prelude.{◌≡◌, ◌++◌, Bool, true, ℕ, List, [], �
 use Rattle.cmr_base.specs.declared.line_set.LineSet.{LineSet}
 use Rattle.cmr_base.specs.CyclePlaces.{HasNoCycleFault}
 use Rattle.cmr_base.specs.Matrix.{Matrix, entry}
-use Rattle.tree_type.specs.Trees.{Finding}
+use Rattle.tree_type.specs.DecompositionTrees.{Finding}
 use Rattle.tree_type.specs.Soundness.{part}
 use Rattle.decomp_tree.specs.declared.drafts.Front.{Front}
 use Rattle.decomp_tree.specs.declared.drafts.Draft.{Draft, out-Draft}

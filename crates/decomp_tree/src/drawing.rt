@@ -1,7 +1,7 @@
 // The tree of a matrix.
 ghost use Rattle.std.specs.Prelude.{◌≡◌, ◌≤◌, IfOk};
 ghost use Rattle.cmr_base.specs.Matrix.{height};
-ghost use Rattle.tree_type.specs.Trees.{tree_of};
+ghost use Rattle.tree_type.specs.DecompositionTrees.{tree_of};
 ghost use Rattle.tree_type.specs.Soundness.{IsSound};
 ghost use Rattle.decomp_tree.specs.PivotedShapes.{IsShapeWith, pivots_within};
 

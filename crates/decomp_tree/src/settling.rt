@@ -1,7 +1,7 @@
 // Drafts that are settled: cycle faults are looked for late, from the root down, and pivots are made where nothing decides.
 ghost use Rattle.std.specs.Prelude.{◌≡◌, ◌<◌, ◌^◌, ◌++◌, ◌∷◌, [], length, map, IfOk, OnOk};
 ghost use Rattle.cmr_base.specs.Matrix.{IsMatrix};
-ghost use Rattle.tree_type.specs.Trees.{Branch, Cycle, NoTrees, tree_of, trees_from};
+ghost use Rattle.tree_type.specs.DecompositionTrees.{Branch, Cycle, NoTrees, tree_of, trees_from};
 ghost use Rattle.tree_type.specs.Invariant.{AreLines, HasChildren};
 ghost use Rattle.tree_type.specs.Findings.{finding_shown};
 ghost use Rattle.decomp_tree.specs.PivotedShapes.{IsBehind, IsDrawnWith, IsFound};

@@ -1,7 +1,7 @@
 // What the tree of a submatrix after a pivot says of the submatrix.
 ghost use Rattle.std.specs.Prelude.{◌≡◌, IfOk};
 ghost use Rattle.pivots.specs.PivotedParts.{IsPlaceIn};
-ghost use Rattle.tree_type.specs.Trees.{Branch, NoTrees, Pivoted, one_tree, tree_of};
+ghost use Rattle.tree_type.specs.DecompositionTrees.{Branch, NoTrees, Pivoted, one_tree, tree_of};
 ghost use Rattle.tree_type.specs.Invariant.{AreLines, HasChildren};
 ghost use Rattle.tree_type.specs.Findings.{finding_shown};
 ghost use Rattle.tree_type.specs.Verdicts.{verdict_of};

@@ -5,7 +5,7 @@ use Rattle.std.proofs.lemmas.Nat.{div-add-mod'}
 use Rattle.std.proofs.Math.Nat.{mod-lt, lt-div-mul-add, div-lt_iff_lt-mul, div-mul-le_self}
 use Rattle.first_hit.specs.declared.round.Round.{Round}
 use Rattle.first_hit.specs.First.{NoneBetween, IsFirst}
-use Rattle.first_hit.specs.Runs.{IsFirstInRuns, NoneInRows, run_start}
+use Rattle.first_hit.specs.WorkerRuns.{IsFirstInRuns, NoneInRows, run_start}
 
 -- ---- the whole round
 

@@ -23,7 +23,7 @@ pub struct Round {
 }
 
 impl Round {
-    ghost use Rattle.first_hit.specs.Runs.{IsFirstInRuns};
+    ghost use Rattle.first_hit.specs.WorkerRuns.{IsFirstInRuns};
 
     /// The round from a number on with at most so many rows. Where few numbers are left, the runs are shorter, so that
     /// each worker has one.

@@ -2,7 +2,7 @@
 ghost use Rattle.std.specs.Prelude.{◌≡◌, ◌<◌, ◌≤◌, ◌+◌, IfOk};
 ghost use Rattle.std.specs.Thread.{IsSync};
 ghost use Rattle.first_hit.specs.First.{IsFirst};
-ghost use Rattle.first_hit.specs.Runs.{IsFirstInRuns, lesser};
+ghost use Rattle.first_hit.specs.WorkerRuns.{IsFirstInRuns, lesser};
 
 use crate::probe::Probe;
 use crate::round::Round;

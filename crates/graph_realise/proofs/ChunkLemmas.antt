@@ -9,7 +9,7 @@ use Rattle.cmr_base.proofs.ColumnWords.{chunk_of}
 use Rattle.cmr_base.proofs.Members.{in_at, in-append, increasing-append}
 use Rattle.cmr_base.proofs.Places.{found_at}
 use Rattle.cmr_base.proofs.RowLists.{in_or_not, not_both}
-use Rattle.graph_realise.specs.Tables.{Grid, cell, AreChunksFilled, AreChunksOf, IsRowFilled, IsWordSet}
+use Rattle.graph_realise.specs.BitTables.{Grid, cell, AreChunksFilled, AreChunksOf, IsRowFilled, IsWordSet}
 use Rattle.graph_realise.proofs.SideLemmas.{not_before}
 use Rattle.graph_realise.proofs.TableLemmas.{cell_past, keeps_rows_trans}
 

@@ -11,7 +11,7 @@ use Rattle.graph_realise.specs.Branches.{branch_at}
 use Rattle.graph_realise.specs.Joints.{AreHung, AreOff, FitsJoint, IsArcJoined, IsClearBeside, IsLineFor, by_part, AreChosen, branch_end, hanging_of, hung, is_at_first, is_chosen, is_part, is_used, joined_side, number_at, part_or_first}
 use Rattle.graph_realise.specs.Merging.{column_half, end_off, merged_lies, spot, reversed_lies, reversed_side}
 use Rattle.graph_realise.specs.SideTables.{side_in, end_in, KeepsRow, AreTablesOf, IsArcChanged}
-use Rattle.graph_realise.specs.Tables.{Grid, cell, IsRowFilled}
+use Rattle.graph_realise.specs.BitTables.{Grid, cell, IsRowFilled}
 use Rattle.graph_realise.proofs.SideLemmas.{keeps_row_same, keeps_row_trans}
 use Rattle.graph_realise.proofs.TableLemmas.{cell_past}
 use Rattle.graph_realise.specs.declared.arc_sides.ArcSides.{ArcSides}

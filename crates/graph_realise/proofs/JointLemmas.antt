@@ -10,8 +10,8 @@ use Rattle.cmr_base.proofs.Booleans.{and_is, not_is, or_is, or_true}
 use Rattle.cmr_base.proofs.Members.{in-append, in_at}
 use Rattle.cmr_base.proofs.RowLists.{not_both, in_or_not, is_eq, is_ne, same_or_not}
 use Rattle.graph_realise.specs.Joints.{ArePartMarks, AreNumbered, AreOfRows, IsPartNumber, IsPartTouched, is_part, number_at}
-use Rattle.graph_realise.specs.Tables.{Grid, cell, IsCellSet}
-use Rattle.graph_realise.specs.Numbers.{AreDisjoint}
+use Rattle.graph_realise.specs.BitTables.{Grid, cell, IsCellSet}
+use Rattle.graph_realise.specs.RowNumbers.{AreDisjoint}
 use Rattle.cmr_base.proofs.Places.{found_at}
 
 -- ---- the columns of the rows of a part

@@ -15,8 +15,8 @@ use Rattle.cmr_base.proofs.RowLists.{is_eq, is_ne, not_both, same_or_not}
 use Rattle.graph_realise.specs.Branches.{branch_at}
 use Rattle.graph_realise.specs.Joints.{AreInRows, ArePartMarks, AreOff, FitsJoint, IsArcJoined, IsClearBeside, IsJointOf, IsPartWith, IsPartTouched, by_part, branch_end, hanging_of, number_at, part_or_first}
 use Rattle.graph_realise.specs.Merging.{DescribesParts, Hanging, KeepsCuts, hanging_by, heavier, merged_lies, merged_side, spot, reversed_lies, reversed_side}
-use Rattle.graph_realise.specs.Numbers.{AreDisjoint}
-use Rattle.graph_realise.specs.Searches.{AreWholeBelow, IsSplit}
+use Rattle.graph_realise.specs.RowNumbers.{AreDisjoint}
+use Rattle.graph_realise.specs.TreeSearches.{AreWholeBelow, IsSplit}
 use Rattle.graph_realise.specs.SideTables.{side_in, end_in, AreClear, KeepsOutside}
 use Rattle.graph_realise.specs.declared.arc_sides.ArcSides.{ArcSides}
 use Rattle.graph_realise.specs.declared.joint.Joint.{Joint}

@@ -9,7 +9,7 @@ use Rattle.cmr_base.proofs.Members.{in_at}
 use Rattle.cmr_base.proofs.Booleans.{eq_swapped, not_not}
 use Rattle.cmr_base.proofs.RowLists.{not_both, is_eq, is_ne}
 use Rattle.std.proofs.lemmas.Bool.{cases_lt}
-use Rattle.graph_realise.specs.Tables.{IsRowFilled}
+use Rattle.graph_realise.specs.BitTables.{IsRowFilled}
 use Rattle.graph_realise.specs.SideTables.{side_in, end_in, AreClear, KeepsOtherArcs, KeepsRow}
 use Rattle.graph_realise.proofs.TableLemmas.{cell_past}
 use Rattle.graph_realise.specs.Rays.{is_first, star_end, AreSeen, IsRay, IsRayAfter}

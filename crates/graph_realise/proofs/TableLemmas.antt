@@ -12,7 +12,7 @@ use Rattle.cmr_base.proofs.RowLists.{same_or_not}
 use Rattle.cmr_base.proofs.Booleans.{is_not_lt, is_lt}
 use Rattle.cmr_base.proofs.ColumnWords.{chunk_of, place_of}
 use Rattle.graph_realise.specs.declared.table.Table.TheInside.{Inside}
-use Rattle.graph_realise.specs.Tables.{Grid, cell, IsCellSet, IsRowFilled, IsWordSet, KeepsOtherRows}
+use Rattle.graph_realise.specs.BitTables.{Grid, cell, IsCellSet, IsRowFilled, IsWordSet, KeepsOtherRows}
 use Rattle.graph_realise.specs.TableLayout.{grid_of, IsLaidOut}
 
 pub cell_inside : (table : Grid) (row column : ℕ) → column < table.width → cell table row column ≡ is_in (words_for table.width) table.words row column

@@ -10,7 +10,7 @@ pub use Rattle.bridge_split.specs.PartNumbers.{number_at, is_number as is_part}
 use Rattle.graph_realise.specs.Branches.{AreBranches, branch_at}
 use Rattle.graph_realise.specs.Merging.{Hanging, heavier, spot, merged_lies, reversed_side, reversed_lies}
 use Rattle.graph_realise.specs.SideTables.{side_in, end_in, IsArcChanged}
-use Rattle.graph_realise.specs.Tables.{AreChunksOf, Grid, cell}
+use Rattle.graph_realise.specs.BitTables.{AreChunksOf, Grid, cell}
 use Rattle.graph_realise.specs.declared.arc_sides.ArcSides.{ArcSides}
 use Rattle.graph_realise.specs.declared.joint.Joint.{Joint}
 

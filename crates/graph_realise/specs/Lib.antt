@@ -2,12 +2,12 @@ pub mod Laws
 pub mod Branches
 pub mod Growing
 pub mod Joints
-pub mod Numbers
+pub mod RowNumbers
 pub mod Merging
-pub mod Searches
+pub mod TreeSearches
 pub mod Orders
 pub mod Rays
 pub mod SideTables
 pub mod Stars
 pub mod TableLayout
-pub mod Tables
+pub mod BitTables

@@ -2,7 +2,7 @@
 use Rattle.std.specs.Prelude.{◌≡◌, ◌≢◌, ◌<◌, ℕ, Bool, false, cond, List, slice_index}
 use Rattle.cmr_base.specs.Matrix.{Matrix, height}
 use Rattle.cmr_base.specs.Members.{IsIn}
-use Rattle.graph_realise.specs.Tables.{cell}
+use Rattle.graph_realise.specs.BitTables.{cell}
 use Rattle.graph_realise.specs.declared.arc_sides.ArcSides.{ArcSides}
 
 -- the side of an arc where another arc is

@@ -2,7 +2,7 @@ use Rattle.std.specs.Prelude.{◌≡◌, ◌≤◌, ◌*◌, length}
 use Rattle.cmr_base.specs.declared.limits.TheConstants.{MAX_COLUMNS, MAX_ROWS}
 use Rattle.cmr_base.specs.Planes.{words_for}
 use Rattle.graph_realise.specs.declared.table.Table.TheInside.{Inside}
-use Rattle.graph_realise.specs.Tables.{Grid}
+use Rattle.graph_realise.specs.BitTables.{Grid}
 
 abbrev pub grid_of : Inside → Grid
 grid_of a = record { height = a.height; width = a.width; words = a.words.items }

@@ -8,7 +8,7 @@ ghost use Rattle.cmr_base.specs.Trees.{support};
 ghost use Rattle.graph_realise.specs.Joints.{AreChosen, AreHung, FitsJoint, FitsMatrix, IsArcJoined, IsClearBeside, IsLineFor, hanging_of, is_at_first, is_used, number_at};
 ghost use Rattle.graph_realise.specs.Merging.{spot};
 ghost use Rattle.graph_realise.specs.SideTables.{AreTablesOf, IsArcChanged, KeepsOtherArcs, KeepsOutside, side_in, end_in};
-ghost use Rattle.graph_realise.specs.Tables.{cell, AreChunksOf};
+ghost use Rattle.graph_realise.specs.BitTables.{cell, AreChunksOf};
 
 use crate::arc_sides::ArcSides;
 use crate::branches::Branch;

@@ -8,8 +8,8 @@ ghost use Rattle.cmr_base.specs.Planes.{words_for};
 ghost use Rattle.cmr_base.specs.Trees.{support};
 ghost use Rattle.cmr_base.specs.ColumnSets.{has_column};
 ghost use Rattle.graph_realise.specs.Joints.{AreInRows, ArePartMarks, AreNumbered, AreOfRows, IsJointOf, IsPartNumber, number_at};
-ghost use Rattle.graph_realise.specs.Numbers.{AreDisjoint};
-ghost use Rattle.graph_realise.specs.Tables.{AreChunksOf};
+ghost use Rattle.graph_realise.specs.RowNumbers.{AreDisjoint};
+ghost use Rattle.graph_realise.specs.BitTables.{AreChunksOf};
 
 use crate::branches::{Branch, branches_at};
 use crate::table::Table;

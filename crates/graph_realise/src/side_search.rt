@@ -4,7 +4,7 @@ ghost use Rattle.cmr_base.specs.LineSets.{AllBelow};
 ghost use Rattle.cmr_base.specs.Matrix.{height};
 ghost use Rattle.cmr_base.specs.Splits.{AreSides, Splits};
 ghost use Rattle.cmr_base.specs.Trees.{support};
-ghost use Rattle.graph_realise.specs.Searches.{AreWholeBelow, IsSearch, IsSplit};
+ghost use Rattle.graph_realise.specs.TreeSearches.{AreWholeBelow, IsSearch, IsSplit};
 ghost use Rattle.graph_realise.specs.SideTables.{AreTablesOf, KeepsOutside};
 
 use crate::arc_sides::ArcSides;

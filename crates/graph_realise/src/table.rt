@@ -4,7 +4,7 @@ ghost use Rattle.cmr_base.specs.Matrix.{height};
 ghost use Rattle.cmr_base.specs.Planes.{has_bit, words_for};
 ghost use Rattle.cmr_base.specs.Trees.{support};
 ghost use Rattle.cmr_base.specs.ColumnSets.{has_column};
-ghost use Rattle.graph_realise.specs.Tables.{cell, AreChunksOf, IsCellSet, IsRowFilled, IsWordSet};
+ghost use Rattle.graph_realise.specs.BitTables.{cell, AreChunksOf, IsCellSet, IsRowFilled, IsWordSet};
 
 use cmr_base::columns::outside;
 use cmr_base::{MAX_COLUMNS, MAX_ROWS, Matrix, Memory, has_bit, with_bit, words_for};
@@ -20,7 +20,7 @@ pub struct Table {
 }
 
 impl Model for Table {
-    ghost use Rattle.graph_realise.specs.Tables.{Grid};
+    ghost use Rattle.graph_realise.specs.BitTables.{Grid};
 
     ghost Value = { Grid };
 

@@ -1,7 +1,7 @@
 -- The edges of a text, one after another.
 use Rattle.std.proofs.Common.{◌≡◌, ◌<◌, ◌≤◌, ◌∙◌, ℕ, List, [], ◌∷◌, length, Result, Ok, Err, refl, sym, ap, arith}
 use Rattle.std.proofs.lemmas.List.{length_push}
-use Rattle.text_fields.specs.Words.{Text}
+use Rattle.text_fields.specs.TextWords.{Text}
 use Rattle.text_fields.specs.Result.{◌>>=◌}
 use Rattle.text_fields.specs.Reading.{Fault, Fails, field, placed}
 use Rattle.text_fields.specs.declared.error.FieldError.{FieldError}
@@ -15,7 +15,7 @@ use Rattle.graph_text.specs.declared.edges.Element.TheVariants.{Row, Column}
 use Rattle.graph_text.specs.declared.edges.NodeWord.{NodeWord}
 use Rattle.graph_text.specs.declared.error.GraphKind.{GraphKind}
 use Rattle.graph_text.specs.declared.error.GraphKind.TheVariants.{Short}
-use Rattle.graph_text.specs.Reading.{edge_behind, edges_from, element_in, next_node, node_at, with_edge}
+use Rattle.graph_text.specs.GraphReading.{edge_behind, edges_from, element_in, next_node, node_at, with_edge}
 
 abbrev Rest : Type 0
 Rest = (Element × Edge) × Text

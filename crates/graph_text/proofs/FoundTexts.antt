@@ -20,7 +20,7 @@ use Rattle.graph_text.specs.declared.error.GraphKind.TheVariants.{BadElement, To
 use Rattle.graph_text.specs.declared.read.SizedNetwork.{SizedNetwork}
 use Rattle.graph_text.specs.GraphKinds.{graph_kind}
 use Rattle.graph_text.specs.GraphTexts.{row_letter, column_letter, lettered_name, SpellEdges, IsGraphText}
-use Rattle.graph_text.specs.Reading.{all_within, edges_from, element_in, ends, network_in, no_edges, node_at, node_within, graph_number_in, sized, with_edge}
+use Rattle.graph_text.specs.GraphReading.{all_within, edges_from, element_in, ends, network_in, no_edges, node_at, node_within, graph_number_in, sized, with_edge}
 
 placed_ok : {A : Type 0} (place : ℕ) (r : Result A GraphKind) (x : A) → placed place r ≡ Ok x → r ≡ Ok x
 placed_ok place (Ok y) x h = ap Ok (ok_same y x h)

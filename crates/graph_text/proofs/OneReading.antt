@@ -1,13 +1,13 @@
 -- A text has one reading.
 use Rattle.std.proofs.Common.{◌≡◌, ◌∙◌, inl, inr, Result, Ok, Err, sym, ap, subst}
 use Rattle.cmr_base.specs.Trees.{IsTree}
-use Rattle.text_fields.specs.Words.{Text}
+use Rattle.text_fields.specs.TextWords.{Text}
 use Rattle.text_fields.specs.Reading.{Fault}
 use Rattle.text_fields.proofs.Results.{ok_same}
 use Rattle.graph_text.specs.declared.error.GraphKind.{GraphKind}
 use Rattle.graph_text.specs.declared.read.SizedNetwork.{SizedNetwork}
 use Rattle.graph_text.specs.Laws.{ReadingsAreOne}
-use Rattle.graph_text.specs.Reading.{HasNoTree, IsGraph, network_in}
+use Rattle.graph_text.specs.GraphReading.{HasNoTree, IsGraph, network_in}
 
 -- there is no tree where there is one
 tree_and_none : (text : Text) (net : SizedNetwork) → IsGraph text (Ok net) → HasNoTree text → ⊥

@@ -18,7 +18,7 @@ use Rattle.graph_text.specs.declared.edges.NodeWord.{NodeWord}
 use Rattle.graph_text.specs.declared.error.GraphKind.{GraphKind}
 use Rattle.graph_text.specs.declared.read.SizedNetwork.{SizedNetwork}
 use Rattle.graph_text.specs.GraphTexts.{row_letter, column_letter, lettered_name, SpellEdges, IsGraphText}
-use Rattle.graph_text.specs.Reading.{all_within, edges_from, element_in, ends, IsGraph, network_in, no_edges, node_at, sized, with_edge}
+use Rattle.graph_text.specs.GraphReading.{all_within, edges_from, element_in, ends, IsGraph, network_in, no_edges, node_at, sized, with_edge}
 
 -- the edges of one sort
 abbrev pub letter_of : Element → ℕ

@@ -15,7 +15,7 @@ use Rattle.cmr_base.proofs.Integers.{sums}
 use Rattle.cmr_base.proofs.Parts.{each-map}
 use Rattle.cmr_base.proofs.ReproducedCuts.{support_realised}
 use Rattle.cmr_base.proofs.SmallEntries.{zero_is_entry}
-use Rattle.graph_text.specs.Supports.{one_at}
+use Rattle.graph_text.specs.SupportMatrix.{one_at}
 
 -- what each entry and 0 has, each entry has, past the last row and column too
 each_filled : (P : ℤ → Type 0) (f : ℕ → ℕ → ℤ) (columns rows : List ℕ) → P (pos 0) → ((r c : ℕ) → P (f r c)) → (r c : ℕ) → P (get_or (get_or (map (λ row. map (f row) columns) rows) r []) c (pos 0))

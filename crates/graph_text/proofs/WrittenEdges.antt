@@ -8,7 +8,7 @@ use Rattle.cmr_base.specs.declared.network.Pair.{Pair}
 use Rattle.cmr_base.specs.Trees.{head, tail, IsNetworkOf}
 use Rattle.cmr_base.proofs.Lists.{all-append}
 use Rattle.text_fields.specs.Spelling.{words_in}
-use Rattle.text_fields.specs.Words.{is_space}
+use Rattle.text_fields.specs.TextWords.{is_space}
 use Rattle.text_fields.specs.Written.{text_line, text_of_lines}
 use Rattle.text_fields.proofs.LineWords.{IsWord, words_of_lines, words_in_lines}
 use Rattle.text_fields.proofs.Decimals.{count_of_decimal, decimal_word}

@@ -1,5 +1,5 @@
 pub mod GraphKinds
 pub mod GraphTexts
 pub mod Laws
-pub mod Reading
-pub mod Supports
+pub mod GraphReading
+pub mod SupportMatrix

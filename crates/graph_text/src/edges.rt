@@ -1,6 +1,6 @@
 //! The edges of a graph text as far as it was read.
 ghost use Rattle.std.specs.Prelude.{◌≡◌, OnOk};
-ghost use Rattle.graph_text.specs.Reading.{ends, no_edges, with_edge};
+ghost use Rattle.graph_text.specs.GraphReading.{ends, no_edges, with_edge};
 
 use cmr_base::{ItemList, Memory, Pair};
 use std::alloc::Global;

@@ -4,7 +4,7 @@ ghost use Rattle.cmr_base.specs.LineSets.{first_lines};
 ghost use Rattle.cmr_base.specs.Matrix.{IsMatrix, height};
 ghost use Rattle.cmr_base.specs.MatrixSums.{filled};
 ghost use Rattle.cmr_base.specs.Trees.{IsBinary, IsNetworkOf, Reproduces, ReproducesSupport};
-ghost use Rattle.graph_text.specs.Supports.{one_at};
+ghost use Rattle.graph_text.specs.SupportMatrix.{one_at};
 
 use cmr_base::{MAX_COLUMNS, MAX_ROWS, Matrix, Memory, Network};
 use std::alloc::Global;

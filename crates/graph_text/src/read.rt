@@ -2,9 +2,9 @@
 ghost use Rattle.std.specs.Prelude.{◌≡◌, ◌≤◌, ◌<◌, IfOk, Ok, bytes_eq, length, map};
 ghost use Rattle.text_fields.specs.Reading.{Gives, Reads, field};
 ghost use Rattle.text_fields.specs.Spelling.{words_in};
-ghost use Rattle.text_fields.specs.Words.{text_of};
+ghost use Rattle.text_fields.specs.TextWords.{text_of};
 ghost use Rattle.graph_text.specs.GraphTexts.{IsGraphText, lettered_name};
-ghost use Rattle.graph_text.specs.Reading.{IsReading, all_within, edge_behind, edges_from, element_in, ends, network_in, next_node, no_edges, node_at, node_within, graph_number_in};
+ghost use Rattle.graph_text.specs.GraphReading.{IsReading, all_within, edge_behind, edges_from, element_in, ends, network_in, next_node, no_edges, node_at, node_within, graph_number_in};
 ghost use Rattle.graph_text.specs.declared.edges.Element.TheVariants.{Row, Column};
 ghost use Rattle.graph_text.specs.declared.error.GraphKind.TheVariants.{Short};
 

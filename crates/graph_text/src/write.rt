@@ -3,9 +3,9 @@ ghost use Rattle.std.specs.Prelude.{◌≡◌, ◌≤◌, ◌<◌, ◌+◌, ◌+
 ghost use Rattle.std.specs.Fmt.{decimal};
 ghost use Rattle.cmr_base.specs.Trees.{IsNetworkOf};
 ghost use Rattle.text_fields.specs.Written.{text_line, text_of_lines};
-ghost use Rattle.text_fields.specs.Words.{text_of};
+ghost use Rattle.text_fields.specs.TextWords.{text_of};
 ghost use Rattle.graph_text.specs.GraphTexts.{edge_lines, edge_words, graph_text, lettered_name, transposed_graph_text};
-ghost use Rattle.graph_text.specs.Reading.{IsGraph};
+ghost use Rattle.graph_text.specs.GraphReading.{IsGraph};
 
 use cmr_base::{MAX_COLUMNS, MAX_ROWS, Memory, Network, Pair, PairList};
 use itoa::Buffer;

@@ -8,11 +8,11 @@ use Rattle.cmr_base.proofs.Rows.{each-rows_of}
 use Rattle.text_fields.specs.Numbers.{signed_in}
 use Rattle.text_fields.specs.Reading.{Gives}
 use Rattle.text_fields.specs.Result.{renamed}
-use Rattle.text_fields.specs.Words.{Text}
+use Rattle.text_fields.specs.TextWords.{Text}
 use Rattle.text_fields.specs.declared.error.FieldError.{FieldError}
 use Rattle.text_fields.proofs.Results.{bind_ok}
 use Rattle.matrix_text.specs.declared.error.TextKind.{TextKind}
-use Rattle.matrix_text.specs.Kinds.{text_kind}
+use Rattle.matrix_text.specs.TextKinds.{text_kind}
 use Rattle.matrix_text.specs.Values.{allowed, entry_in}
 use Rattle.matrix_text.specs.Dense.{dense}
 use Rattle.matrix_text.specs.Sparse.{value_at, matrix_of_triples, sparse}

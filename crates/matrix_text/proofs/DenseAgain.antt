@@ -6,14 +6,14 @@ use Rattle.std.specs.List.{AllByRecursion, flat_map}
 use Rattle.std.proofs.Math.Nat.{suc-mul, zero-mul}
 use Rattle.std.proofs.lemmas.List.{take_at, drop_at, length-append}
 use Rattle.cmr_base.specs.Matrix.{Matrix, height, entry, IsMatrix, IsEntry, rows_of}
-use Rattle.text_fields.specs.Words.{text_of, words_from}
+use Rattle.text_fields.specs.TextWords.{text_of, words_from}
 use Rattle.text_fields.proofs.LineWords.{IsWord, words_in_lines}
 use Rattle.text_fields.proofs.Decimals.{decimal_word, count_of_decimal}
 use Rattle.text_fields.proofs.Entries.{entry_cases, entry_word, entry_again}
 use Rattle.text_fields.proofs.Spelled.{Spell-rows, words-rows}
 use Rattle.matrix_text.specs.Values.{allowed, entry_in}
 use Rattle.matrix_text.specs.Dense.{dense}
-use Rattle.matrix_text.specs.Canonical.{dense_lines, dense_text}
+use Rattle.matrix_text.specs.CanonicalMatrices.{dense_lines, dense_text}
 use Rattle.matrix_text.proofs.Entries.{all_entries, all_widths}
 use Rattle.matrix_text.proofs.DenseTexts.{dense_only}
 

@@ -4,7 +4,7 @@ use Rattle.std.specs.Prelude.{IfOk}
 use Rattle.std.proofs.lemmas.List.{append-nil}
 use Rattle.cmr_base.specs.declared.limits.TheConstants.{MAX_COLUMNS, MAX_ROWS}
 use Rattle.cmr_base.specs.Matrix.{Matrix, rows_of}
-use Rattle.text_fields.specs.Words.{Text}
+use Rattle.text_fields.specs.TextWords.{Text}
 use Rattle.text_fields.specs.Result.{◌>>=◌}
 use Rattle.text_fields.specs.Numbers.{count_in}
 use Rattle.text_fields.specs.Spelling.{texts_of, Spell}
@@ -15,7 +15,7 @@ use Rattle.text_fields.proofs.Results.{bind_ok}
 use Rattle.text_fields.proofs.Fields.{fields_ok, fields_again, ended_ok}
 use Rattle.matrix_text.specs.declared.error.TextKind.{TextKind}
 use Rattle.matrix_text.specs.declared.error.TextKind.TheVariants.{Short, Extra, TooManyRows, TooManyColumns}
-use Rattle.matrix_text.specs.Kinds.{limit_kind}
+use Rattle.matrix_text.specs.TextKinds.{limit_kind}
 use Rattle.matrix_text.specs.Values.{limited, entry_in}
 use Rattle.matrix_text.specs.Dense.{IsDense, dense}
 use Rattle.matrix_text.proofs.Lines.{size_found}

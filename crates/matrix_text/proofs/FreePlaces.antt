@@ -1,6 +1,6 @@
 -- Places that are not taken.
 use Rattle.std.proofs.Common.{◌≡◌, ◌<◌, ◌≤◌, ◌∙◌, ℕ, Bool, false, cond, List, ◌∷◌, Result, Ok, Err, refl, ap, subst, arith}
-use Rattle.text_fields.specs.Words.{Text}
+use Rattle.text_fields.specs.TextWords.{Text}
 use Rattle.text_fields.specs.Result.{◌>>=◌}
 use Rattle.text_fields.specs.Numbers.{count_in}
 use Rattle.text_fields.specs.Reading.{Fault, field}
@@ -9,7 +9,7 @@ use Rattle.text_fields.proofs.Limits.{line_in_ok, line_in_again}
 use Rattle.text_fields.proofs.Fields.{field_ok, field-same}
 use Rattle.matrix_text.specs.declared.error.TextKind.{TextKind}
 use Rattle.matrix_text.specs.declared.error.TextKind.TheVariants.{Short, RowOutOfRange, ColumnOutOfRange, TwiceNamed}
-use Rattle.matrix_text.specs.Kinds.{limit_kind}
+use Rattle.matrix_text.specs.TextKinds.{limit_kind}
 use Rattle.matrix_text.specs.Values.{line_in, free_column_in}
 use Rattle.matrix_text.specs.Sparse.{free_place}
 use Rattle.matrix_text.proofs.Lines.{free_column_in-same}

@@ -2,7 +2,7 @@
 use Rattle.std.proofs.Common.{◌≡◌, ◌<◌, ◌≤◌, ◌+◌, ◌-◌, ◌*◌, ◌∙◌, ℕ, suc, Bool, false, cond, List, ◌∷◌, length, get_or, take, drop, Ok, Err, ap, sym, arith}
 use Rattle.std.proofs.lemmas.List.{get_or-take, get_or-drop, length-take-le, length-drop}
 use Rattle.std.proofs.Math.Nat.{suc-mul, mul-le-mul_right}
-use Rattle.text_fields.specs.Words.{Text}
+use Rattle.text_fields.specs.TextWords.{Text}
 use Rattle.text_fields.specs.Numbers.{count_in}
 use Rattle.text_fields.specs.Reading.{field}
 use Rattle.text_fields.proofs.Fields.{field_ok, field-same}
@@ -10,7 +10,7 @@ use Rattle.text_fields.proofs.Limits.{limited_ok, line_in_ok}
 use Rattle.text_fields.proofs.Results.{bind-same}
 use Rattle.matrix_text.specs.declared.error.TextKind.{TextKind}
 use Rattle.matrix_text.specs.declared.error.TextKind.TheVariants.{Short, ColumnOutOfRange, TwiceNamed}
-use Rattle.matrix_text.specs.Kinds.{limit_kind}
+use Rattle.matrix_text.specs.TextKinds.{limit_kind}
 use Rattle.matrix_text.specs.Values.{limited, line_in, free_column_in}
 
 -- a count of at most so much that was read

@@ -8,9 +8,9 @@ use Rattle.cmr_base.proofs.Parts.{each-map}
 use Rattle.cmr_base.proofs.Views.{is_matrix-cells}
 use Rattle.text_fields.specs.Numbers.{signed_in}
 use Rattle.text_fields.specs.Result.{renamed}
-use Rattle.text_fields.specs.Words.{Text}
+use Rattle.text_fields.specs.TextWords.{Text}
 use Rattle.text_fields.proofs.Results.{bind_ok}
-use Rattle.matrix_text.specs.Kinds.{text_kind}
+use Rattle.matrix_text.specs.TextKinds.{text_kind}
 use Rattle.matrix_text.specs.Values.{allowed, entry_in}
 use Rattle.matrix_text.specs.Dense.{dense}
 use Rattle.matrix_text.specs.Sparse.{sparse, value_at}

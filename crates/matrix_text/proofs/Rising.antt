@@ -3,7 +3,7 @@ use Rattle.std.proofs.Common.{◌≡◌, ◌+◌, ◌-◌, ◌∙◌, ℕ, zero,
 use Rattle.std.proofs.lemmas.List.{append-nil}
 use Rattle.std.proofs.lemmas.List.Sums.{fold_push}
 use Rattle.cmr_base.proofs.RisingLists.{RisesIn}
-use Rattle.text_fields.specs.Words.{Text}
+use Rattle.text_fields.specs.TextWords.{Text}
 use Rattle.text_fields.specs.Numbers.{count_in}
 use Rattle.text_fields.specs.Spelling.{texts_of, Spell}
 use Rattle.text_fields.specs.Reading.{field, times}
@@ -12,7 +12,7 @@ use Rattle.text_fields.proofs.Results.{bind_ok, ok_same}
 use Rattle.text_fields.proofs.Fields.{field_ok}
 use Rattle.matrix_text.specs.declared.error.TextKind.{TextKind}
 use Rattle.matrix_text.specs.declared.error.TextKind.TheVariants.{Short}
-use Rattle.matrix_text.specs.Kinds.{limit_kind}
+use Rattle.matrix_text.specs.TextKinds.{limit_kind}
 use Rattle.matrix_text.specs.Values.{rising_line_in}
 use Rattle.matrix_text.specs.Submatrix.{numbers_of, last_number, another_line}
 

@@ -10,13 +10,13 @@ use Rattle.std.proofs.lemmas.List.Folds.{list_any-append}
 use Rattle.std.proofs.lemmas.List.Sums.{count_by-le-length, sum_by-cons}
 use Rattle.cmr_base.specs.declared.limits.TheConstants.{MAX_COLUMNS, MAX_ROWS}
 use Rattle.cmr_base.specs.Matrix.{Matrix, height, entry, IsMatrix, is_nonzero, nonzeros_of}
-use Rattle.text_fields.specs.Words.{text_of, words_from}
+use Rattle.text_fields.specs.TextWords.{text_of, words_from}
 use Rattle.text_fields.proofs.LineWords.{IsWord, words_in_lines}
 use Rattle.text_fields.proofs.Decimals.{decimal_word, count_of_decimal}
 use Rattle.text_fields.proofs.Entries.{entry_word}
 use Rattle.matrix_text.specs.Values.{entry_in}
 use Rattle.matrix_text.specs.Sparse.{Triple, names, is_place_named, value_at, SpellTriples, IsPlaced, NameOnce, sparse}
-use Rattle.matrix_text.specs.Canonical.{row_triples, triples_from, triple_line, sparse_lines, sparse_text}
+use Rattle.matrix_text.specs.CanonicalMatrices.{row_triples, triples_from, triple_line, sparse_lines, sparse_text}
 use Rattle.matrix_text.proofs.Places.{table_of, value_unnamed}
 use Rattle.matrix_text.proofs.Entries.{all_entries, all_widths}
 use Rattle.matrix_text.proofs.DenseAgain.{entry_in_again}

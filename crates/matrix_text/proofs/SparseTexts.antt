@@ -7,7 +7,7 @@ use Rattle.std.proofs.lemmas.List.Folds.{list_any-append}
 use Rattle.cmr_base.specs.declared.limits.TheConstants.{MAX_COLUMNS, MAX_ROWS}
 use Rattle.cmr_base.specs.Matrix.{Matrix}
 use Rattle.cmr_base.proofs.Booleans.{eq_swapped}
-use Rattle.text_fields.specs.Words.{Text}
+use Rattle.text_fields.specs.TextWords.{Text}
 use Rattle.text_fields.specs.Result.{◌>>=◌, renamed}
 use Rattle.text_fields.specs.Numbers.{count_in}
 use Rattle.text_fields.specs.Spelling.{texts_of}
@@ -18,7 +18,7 @@ use Rattle.text_fields.proofs.Results.{bind_ok, ok_same, renamed_ok}
 use Rattle.text_fields.proofs.Fields.{field_ok, ended_ok}
 use Rattle.matrix_text.specs.declared.error.TextKind.{TextKind}
 use Rattle.matrix_text.specs.declared.error.TextKind.TheVariants.{Short, Extra, TooManyRows, TooManyColumns}
-use Rattle.matrix_text.specs.Kinds.{text_kind, limit_kind}
+use Rattle.matrix_text.specs.TextKinds.{text_kind, limit_kind}
 use Rattle.matrix_text.specs.Values.{count, limited, entry_in}
 use Rattle.matrix_text.specs.Sparse.{Triple, names, is_place_named, matrix_of_triples, SpellTriples, IsPlaced, NameOnce, IsSparse, free_place, another_triple, matrix_by_triples, sparse}
 use Rattle.matrix_text.proofs.Lines.{size_found}

@@ -8,13 +8,13 @@ use Rattle.cmr_base.specs.declared.limits.TheConstants.{MAX_COLUMNS, MAX_ROWS}
 use Rattle.cmr_base.specs.LineSets.{AllBelow}
 use Rattle.cmr_base.specs.declared.line_set.LineSet.{LineSet}
 use Rattle.cmr_base.proofs.RisingLists.{rising_count}
-use Rattle.text_fields.specs.Words.{text_of, words_from}
+use Rattle.text_fields.specs.TextWords.{text_of, words_from}
 use Rattle.text_fields.specs.Numbers.{count_in}
 use Rattle.text_fields.specs.Spelling.{Spell}
 use Rattle.text_fields.proofs.LineWords.{IsWord, words_in_lines}
 use Rattle.text_fields.proofs.Decimals.{decimal_word, count_of_decimal}
 use Rattle.matrix_text.specs.Submatrix.{numbers_of, named_lines}
-use Rattle.matrix_text.specs.Canonical.{submatrix_lines, submatrix_text}
+use Rattle.matrix_text.specs.CanonicalMatrices.{submatrix_lines, submatrix_text}
 use Rattle.matrix_text.proofs.SubmatrixTexts.{submatrix_only}
 use Rattle.text_fields.specs.LineNumbers.{number_of_line}
 

@@ -5,7 +5,7 @@ use Rattle.std.proofs.lemmas.List.{append-nil, map-append}
 use Rattle.std.proofs.lemmas.Bool.Decides.{nat_tests}
 use Rattle.cmr_base.specs.declared.line_set.LineSet.{LineSet}
 use Rattle.cmr_base.proofs.RisingLists.{rising_count, RisesIn, rises_in, rising_in_range, rising_increases}
-use Rattle.text_fields.specs.Words.{Text}
+use Rattle.text_fields.specs.TextWords.{Text}
 use Rattle.text_fields.specs.Result.{◌>>=◌}
 use Rattle.text_fields.specs.Numbers.{count_in}
 use Rattle.text_fields.specs.Spelling.{texts_of, Spell}
@@ -17,7 +17,7 @@ use Rattle.text_fields.proofs.Fields.{field_ok, ended_ok}
 use Rattle.text_fields.proofs.LineWords.{split_texts}
 use Rattle.matrix_text.specs.declared.error.TextKind.{TextKind}
 use Rattle.matrix_text.specs.declared.error.TextKind.TheVariants.{Short, Extra, RowOutOfRange, ColumnOutOfRange, OtherSize}
-use Rattle.matrix_text.specs.Kinds.{text_kind, limit_kind}
+use Rattle.matrix_text.specs.TextKinds.{text_kind, limit_kind}
 use Rattle.matrix_text.specs.Values.{count, limited, own_size}
 use Rattle.matrix_text.specs.Submatrix.{IsSubmatrix, numbers_of, rising_lines, named_lines}
 use Rattle.matrix_text.proofs.Lines.{size_found}

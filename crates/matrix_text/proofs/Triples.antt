@@ -1,6 +1,6 @@
 -- Reading triples one after another.
 use Rattle.std.proofs.Common.{◌≡◌, ◌+◌, ◌-◌, ◌*◌, ◌∙◌, ℕ, ℤ, Bool, false, List, [], ◌∷◌, ◌++◌, get_or, Ok, refl, ap, sym, subst, arith}
-use Rattle.text_fields.specs.Words.{Text}
+use Rattle.text_fields.specs.TextWords.{Text}
 use Rattle.text_fields.specs.Result.{◌>>=◌}
 use Rattle.text_fields.specs.Reading.{field, Fails}
 use Rattle.text_fields.proofs.Fields.{bind_fails}

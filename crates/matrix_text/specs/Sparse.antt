@@ -3,7 +3,7 @@ use Rattle.std.specs.Prelude.{◌≡◌, ◌<◌, ◌≤◌, false, length, ◌=
 use Rattle.std.specs.List.{AllByRecursion, list_any, range_with_len}
 use Rattle.cmr_base.specs.declared.limits.TheConstants.{MAX_COLUMNS, MAX_ROWS}
 use Rattle.cmr_base.specs.Matrix.{Matrix}
-use Rattle.text_fields.specs.Words.{Text}
+use Rattle.text_fields.specs.TextWords.{Text}
 use Rattle.text_fields.specs.Result.{◌>>=◌}
 use Rattle.text_fields.specs.Numbers.{count_in}
 use Rattle.text_fields.specs.Reading.{Fault, field, times, ended}

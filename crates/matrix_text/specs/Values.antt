@@ -5,7 +5,7 @@ use Rattle.text_fields.specs.Result.{◌>>=◌, renamed}
 use Rattle.text_fields.specs.Numbers.{count_in, signed_in}
 use Rattle.matrix_text.specs.declared.error.TextKind.{TextKind}
 use Rattle.matrix_text.specs.declared.error.TextKind.TheVariants.{BadEntry, NotBinary, ColumnOutOfRange, TwiceNamed, OtherSize}
-use Rattle.matrix_text.specs.Kinds.{text_kind, limit_kind}
+use Rattle.matrix_text.specs.TextKinds.{text_kind, limit_kind}
 
 -- a count
 abbrev pub count : List ℕ → Result ℕ TextKind

@@ -2,14 +2,14 @@ ghost use Rattle.std.specs.Prelude.{◌≡◌, ◌<◌, ℕ, pos, true, false, l
 ghost use Rattle.std.specs.Fmt.{signed_decimal};
 ghost use Rattle.cmr_base.specs.Matrix.{Matrix, height, row_of, IsEntry};
 ghost use Rattle.cmr_base.specs.Trees.{IsBinary};
-ghost use Rattle.text_fields.specs.Words.{text_of};
+ghost use Rattle.text_fields.specs.TextWords.{text_of};
 ghost use Rattle.text_fields.specs.Spelling.{words_in};
 ghost use Rattle.text_fields.specs.Reading.{fields, Gives, Reads};
 ghost use Rattle.text_fields.specs.Written.{with_line};
 ghost use Rattle.matrix_text.specs.declared.error.TextKind.TheVariants.{Short};
 ghost use Rattle.matrix_text.specs.Values.{entry_in};
 ghost use Rattle.matrix_text.specs.Dense.{IsDense, dense};
-ghost use Rattle.matrix_text.specs.Canonical.{dense_text};
+ghost use Rattle.matrix_text.specs.CanonicalMatrices.{dense_text};
 
 use crate::error::{TextError, TextKind};
 use crate::field;

@@ -1,12 +1,12 @@
 ghost use Rattle.std.specs.Prelude.{◌≡◌, ◌≤◌, ◌<◌, ◌*◌, ◌+◌, ◌-◌, length, map, fold, Ok, IsTrue, IfOk, OnOk, slice_index_or, true, false};
 ghost use Rattle.cmr_base.specs.Matrix.{Matrix, IsEntry, height, row_of};
 ghost use Rattle.cmr_base.specs.Trees.{IsBinary};
-ghost use Rattle.text_fields.specs.Words.{text_of};
+ghost use Rattle.text_fields.specs.TextWords.{text_of};
 ghost use Rattle.text_fields.specs.Spelling.{words_in};
 ghost use Rattle.text_fields.specs.Reading.{Gives, Reads};
 ghost use Rattle.text_fields.specs.Written.{with_line};
 ghost use Rattle.matrix_text.specs.Sparse.{IsSparse, sparse, free_place, matrix_by_triples};
-ghost use Rattle.matrix_text.specs.Canonical.{sparse_text, row_triples, triple_line};
+ghost use Rattle.matrix_text.specs.CanonicalMatrices.{sparse_text, row_triples, triple_line};
 
 use crate::error::{TextError, TextKind};
 use crate::field;

@@ -1,11 +1,11 @@
 ghost use Rattle.std.specs.Prelude.{◌≡◌, ◌≤◌, false, map, Ok, IfOk, OnOk};
 ghost use Rattle.cmr_base.specs.declared.line_set.LineSet.{LineSet};
 ghost use Rattle.cmr_base.specs.LineSets.{AllBelow};
-ghost use Rattle.text_fields.specs.Words.{text_of};
+ghost use Rattle.text_fields.specs.TextWords.{text_of};
 ghost use Rattle.text_fields.specs.Spelling.{words_in};
 ghost use Rattle.text_fields.specs.Reading.{Gives, Reads};
 ghost use Rattle.text_fields.specs.Written.{with_line};
-ghost use Rattle.matrix_text.specs.Canonical.{submatrix_text};
+ghost use Rattle.matrix_text.specs.CanonicalMatrices.{submatrix_text};
 ghost use Rattle.matrix_text.specs.Submatrix.{IsSubmatrix, named_lines, rising_lines};
 ghost use Rattle.text_fields.specs.LineNumbers.{number_of_line};
 

@@ -1,7 +1,7 @@
 ghost use Rattle.std.specs.Prelude.{◌≡◌, ◌≤◌, ◌<◌, ◌-◌, IfOk, length, slice_index_or, false};
 ghost use Rattle.cmr_base.specs.Matrix.{IsEntry};
 ghost use Rattle.text_fields.specs.Result.{renamed};
-ghost use Rattle.matrix_text.specs.Kinds.{limit_kind};
+ghost use Rattle.matrix_text.specs.TextKinds.{limit_kind};
 ghost use Rattle.matrix_text.specs.Values.{count, own_size, free_column_in, allowed, entry_in};
 
 use crate::error::TextKind;

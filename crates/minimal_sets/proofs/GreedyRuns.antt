@@ -9,7 +9,7 @@ use Rattle.cmr_base.specs.GreedySets.{IsGreedyFrom}
 use Rattle.cmr_base.proofs.Members.{IsWithin}
 use Rattle.cmr_base.proofs.RemovedLines.{rows_increase, columns_increase, rows_within, columns_within}
 use Rattle.cmr_base.proofs.GreedyLemmas.{IsInherited}
-use Rattle.minimal_sets.specs.Runs.{rows_left, columns_left}
+use Rattle.minimal_sets.specs.LeftOut.{rows_left, columns_left}
 
 pub rows_left-increase : (lines : List Line) (rows : List ℕ) → IsStrictlyIncreasing rows → IsStrictlyIncreasing (rows_left rows lines)
 rows_left-increase [] rows rises = rises

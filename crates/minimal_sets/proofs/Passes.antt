@@ -9,7 +9,7 @@ use Rattle.cmr_base.specs.Reductions.{lines_of}
 use Rattle.cmr_base.specs.GreedySets.{IsGreedyFrom, IsGreedySet}
 use Rattle.cmr_base.proofs.GreedyLemmas.{IsInherited}
 use Rattle.cmr_base.proofs.RemovedLines.{first_lines_increase, in_first_lines, row_set_from_within, column_set_from_within}
-use Rattle.minimal_sets.specs.Runs.{line_numbered, lines_between, rows_left, columns_left}
+use Rattle.minimal_sets.specs.LeftOut.{line_numbered, lines_between, rows_left, columns_left}
 use Rattle.minimal_sets.proofs.RunLemmas.{lines_between-append, all_lines}
 use Rattle.minimal_sets.proofs.GreedyRuns.{rows_left-increase, columns_left-increase, rows_left-within, columns_left-within, greedy-append, greedy_left, greedy_kept}
 use Rattle.cmr_base.proofs.Places.{members_below}

@@ -9,7 +9,7 @@ use Rattle.cmr_base.specs.declared.line.Line.TheVariants.{Row, Column}
 use Rattle.cmr_base.specs.LineSets.{first_lines, without}
 use Rattle.cmr_base.specs.Members.{IsIn}
 use Rattle.cmr_base.specs.Reductions.{lines_of}
-use Rattle.minimal_sets.specs.Runs.{line_numbered, lines_between, rows_left, columns_left, is_outside}
+use Rattle.minimal_sets.specs.LeftOut.{line_numbered, lines_between, rows_left, columns_left, is_outside}
 
 filter-filter : (p q : ℕ → Bool) (xs : List ℕ) → filter p (filter q xs) ≡ filter (λ x. q x && p x) xs
 filter-filter p q [] = refl

@@ -4,7 +4,7 @@ ghost use Rattle.std.specs.List.Sorted.{IsStrictlyIncreasing};
 ghost use Rattle.cmr_base.specs.Matrix.{IsMatrix, height};
 ghost use Rattle.cmr_base.specs.LineSets.{AllBelow, IsRowSet, IsColumnSet, submatrix};
 ghost use Rattle.cmr_base.specs.GreedySets.{IsHereditary, IsGreedyFrom, IsGreedySet, IsMinimalWithout};
-ghost use Rattle.minimal_sets.specs.Runs.{lines_between, rows_left, columns_left, is_outside};
+ghost use Rattle.minimal_sets.specs.LeftOut.{lines_between, rows_left, columns_left, is_outside};
 
 use crate::property::Property;
 use cmr_base::{Indices, LineSet, MAX_COLUMNS, MAX_ROWS, Matrix, Memory};

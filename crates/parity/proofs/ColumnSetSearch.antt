@@ -5,7 +5,7 @@ use Rattle.cmr_base.specs.Matrix.{Matrix, IsMatrix}
 use Rattle.cmr_base.specs.Violator.{HasNoColumnSet, IsLeastColumnSet}
 use Rattle.parity.specs.declared.narrow.Equation.{Equation}
 use Rattle.parity.specs.Equations.{IsBasis, IsLowest, common, reduced, solved}
-use Rattle.parity.specs.Planes.{AreSums, equations_of, outside}
+use Rattle.parity.specs.PlaneSums.{AreSums, equations_of, outside}
 use Rattle.parity.proofs.Bits.{common-xor}
 use Rattle.parity.proofs.Elimination.{even_where_cleared, least_solution}
 use Rattle.parity.proofs.Systems.{column_set_from_solution, no_column_set, outside_apart, outside_lt}

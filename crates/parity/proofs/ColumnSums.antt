@@ -8,7 +8,7 @@ use Rattle.cmr_base.specs.Matrix.{Matrix, height, entry, IsMatrix}
 use Rattle.cmr_base.specs.Sums.{sum_over}
 use Rattle.cmr_base.proofs.Integers.{sums}
 use Rattle.cmr_base.proofs.SumSteps.{sum_over-take_more}
-use Rattle.parity.specs.Planes.{AreSums, HasResidue, minus_of, support_of}
+use Rattle.parity.specs.PlaneSums.{AreSums, HasResidue, minus_of, support_of}
 use Rattle.parity.proofs.Systems.{entry_bits, minus_of-lt, support_of-lt}
 
 pub no_sums : (m : Matrix) → AreSums m [] 0 0

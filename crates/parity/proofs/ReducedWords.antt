@@ -8,7 +8,7 @@ use Rattle.cmr_base.specs.LineSets.{AllBelow}
 use Rattle.cmr_base.proofs.Lists.{all-append, all-map, all_at, all_by_places}
 use Rattle.parity.specs.declared.narrow.Equation.{Equation}
 use Rattle.parity.specs.Equations.{AreCleared, AreReduced, IsBasis, IsLowest, IsReducedBy, cleared_by, reduced}
-use Rattle.parity.specs.Planes.{equations_of, outside, support_of}
+use Rattle.parity.specs.PlaneSums.{equations_of, outside, support_of}
 use Rattle.parity.proofs.Elimination.{basis_none, basis_push, basis_skip, reduced-append}
 use Rattle.parity.proofs.Systems.{outside_apart, outside_lt, support_of-lt}
 

@@ -20,7 +20,7 @@ use Rattle.cmr_base.proofs.SumLaws.{sum_over-exchange}
 use Rattle.cmr_base.proofs.PlaneWords.{bit_at-bits_of, bits_of-lt}
 use Rattle.parity.specs.Equations.{common}
 use Rattle.cmr_base.specs.Planes.{is_minus}
-use Rattle.parity.specs.Planes.{AreSums, HasResidue, equations_of, minus_of, outside, support_of}
+use Rattle.parity.specs.PlaneSums.{AreSums, HasResidue, equations_of, minus_of, outside, support_of}
 use Rattle.parity.proofs.Bits.{common-lt, common-xor, ones-zero}
 use Rattle.parity.proofs.Elimination.{IsLeastSolution, apart_at, bit_cases}
 use Rattle.parity.proofs.Residues.{HasDouble, HasParity, all_numbered, at_numbered, count_from_even, count_from_two, double-numbered, even_from_count, parity-numbered, two_from_count}

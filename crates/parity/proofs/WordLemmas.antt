@@ -7,7 +7,7 @@ use Rattle.std.proofs.lemmas.List.{drop_all, drop_more, get_or-drop, get_or_past
 use Rattle.std.proofs.lemmas.Nat.Bits.{bit_at_and, bit_at_xor, bit_at-zero, bit_at-lt, bit_at_cat_low, bit_at_cat_high, bit_at-pow_same, bit_at-pow_other, same_from_bits}
 use Rattle.std.proofs.lemmas.Bool.{cases_lt, cases_eq}
 use Rattle.parity.specs.Equations.{number_of, IsLowest}
-use Rattle.parity.specs.Planes.{outside}
+use Rattle.parity.specs.PlaneSums.{outside}
 use Rattle.parity.proofs.Bits.{ones-zero}
 
 -- each word has 64 bits

@@ -1,6 +1,6 @@
 pub mod Equations
-pub mod Planes
+pub mod PlaneSums
 pub mod SumsView
 pub mod BasisView
 pub mod SearchView
-pub mod ColumnSets
+pub mod GivenColumns

@@ -1,7 +1,7 @@
 use Rattle.std.specs.Prelude.{◌≡◌, length}
 use Rattle.parity.specs.declared.sums.Sums.TheInside.{Inside}
 use Rattle.parity.specs.Equations.{number_of}
-use Rattle.parity.specs.Planes.{SumPlanes}
+use Rattle.parity.specs.PlaneSums.{SumPlanes}
 
 abbrev pub planes_of : Inside → SumPlanes
 planes_of a = record { words = length a.ones.items; ones = number_of a.ones.items; twos = number_of a.twos.items }

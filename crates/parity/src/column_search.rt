@@ -2,10 +2,10 @@ ghost use Rattle.std.specs.Prelude.{◌≡◌, ◌<◌, ◌≤◌, ◌*◌, ◌^
 ghost use Rattle.cmr_base.specs.Matrix.{height, IsMatrix};
 ghost use Rattle.cmr_base.specs.LineSets.{AllBelow, set_numbered};
 ghost use Rattle.cmr_base.specs.Violator.{HasNoColumnSet, IsLeastColumnSet};
-ghost use Rattle.parity.specs.ColumnSets.{HasLeastColumnSet};
+ghost use Rattle.parity.specs.GivenColumns.{HasLeastColumnSet};
 ghost use Rattle.parity.specs.Equations.{IsBasis, IsLowest, number_of, reduced, solved};
 ghost use Rattle.cmr_base.specs.Planes.{words_for};
-ghost use Rattle.parity.specs.Planes.{AreSums, equations_of, outside};
+ghost use Rattle.parity.specs.PlaneSums.{AreSums, equations_of, outside};
 
 use crate::basis::Basis;
 use crate::narrow::has_column_set;

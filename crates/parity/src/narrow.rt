@@ -4,9 +4,9 @@ ghost use Rattle.std.specs.Prelude.{◌≡◌, ◌<◌, ◌≤◌, ◌^◌, true
 ghost use Rattle.cmr_base.specs.Matrix.{height, IsMatrix};
 ghost use Rattle.cmr_base.specs.LineSets.{AllBelow};
 ghost use Rattle.cmr_base.specs.Violator.{HasNoColumnSet};
-ghost use Rattle.parity.specs.ColumnSets.{HasLeastColumnSet};
+ghost use Rattle.parity.specs.GivenColumns.{HasLeastColumnSet};
 ghost use Rattle.parity.specs.Equations.{AreCleared, AreReduced, IsLowest, cleared_by};
-ghost use Rattle.parity.specs.Planes.{AreSums, equations_of, outside};
+ghost use Rattle.parity.specs.PlaneSums.{AreSums, equations_of, outside};
 
 use cmr_base::{Matrix, Memory};
 

@@ -1,6 +1,6 @@
 ghost use Rattle.std.specs.Prelude.{◌≡◌, IfOk, length, bit_and, bit_xor};
 ghost use Rattle.parity.specs.Equations.{number_of};
-ghost use Rattle.parity.specs.Planes.{SumPlanes, outside, with_added_row};
+ghost use Rattle.parity.specs.PlaneSums.{SumPlanes, outside, with_added_row};
 
 use crate::words::{clear, empty_set};
 use cmr_base::Memory;
@@ -15,7 +15,7 @@ pub struct Sums {
 }
 
 impl Model for Sums {
-    ghost use Rattle.parity.specs.Planes.{SumPlanes};
+    ghost use Rattle.parity.specs.PlaneSums.{SumPlanes};
 
     ghost Value = { SumPlanes };
 

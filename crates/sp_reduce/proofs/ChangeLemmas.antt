@@ -13,8 +13,8 @@ use Rattle.cmr_base.proofs.Members.{IsWithin}
 use Rattle.cmr_base.proofs.ListsWithout.{in_from_contains, in-get_or, increasing_distinct, same_place, place_of, place_is, within-without, without_increases}
 use Rattle.sp_reduce.specs.declared.kind.LineKind.{LineKind}
 use Rattle.sp_reduce.specs.declared.side.StayingLines.{StayingLines}
-use Rattle.sp_reduce.specs.Kinds.{line_named, cross_named, index_of_line, count_of_kind, cross_size, table, is_twin}
-use Rattle.sp_reduce.specs.Sides.{weight, weight_at, IsSide, IsAcross, AreNonzerosCounted, IsSettled}
+use Rattle.sp_reduce.specs.LineKinds.{line_named, cross_named, index_of_line, count_of_kind, cross_size, table, is_twin}
+use Rattle.sp_reduce.specs.StayingSides.{weight, weight_at, IsSide, IsAcross, AreNonzerosCounted, IsSettled}
 use Rattle.sp_reduce.specs.Changes.{IsRemovedAt, crosses, IsHeld, IsForgetting, IsUnsettled, WasRightBefore}
 use Rattle.sp_reduce.proofs.KindLemmas.{number-line_named, meant_for}
 use Rattle.sp_reduce.proofs.Meanings.{irreducible_from_none, none_from_irreducible, irreducible_fewer}

@@ -6,7 +6,7 @@ use Rattle.cmr_base.specs.declared.line.Reason.{Reason}
 use Rattle.cmr_base.specs.Matrix.{Matrix}
 use Rattle.sp_reduce.specs.declared.kind.LineKind.{LineKind}
 use Rattle.sp_reduce.specs.declared.kind.LineKind.TheVariants.{Rows, Columns}
-use Rattle.sp_reduce.specs.Kinds.{line_named, index_of_line, other_kind, count_of_kind, cross_size, table, reason_for}
+use Rattle.sp_reduce.specs.LineKinds.{line_named, index_of_line, other_kind, count_of_kind, cross_size, table, reason_for}
 use Rattle.sp_reduce.proofs.Meanings.{IsMeant, meaning}
 
 pub number-line_named : (kind : LineKind) (number : ℕ) → index_of_line (line_named kind number) ≡ number

@@ -5,8 +5,8 @@ use Rattle.std.proofs.lemmas.List.{get_or_append_left}
 use Rattle.std.proofs.Math.Seq.{get_or-append_seam}
 use Rattle.cmr_base.specs.Matrix.{Matrix, entry}
 use Rattle.sp_reduce.specs.declared.side.StayingLines.{StayingLines}
-use Rattle.sp_reduce.specs.Kinds.{table, is_twin}
-use Rattle.sp_reduce.specs.Sides.{weight}
+use Rattle.sp_reduce.specs.LineKinds.{table, is_twin}
+use Rattle.sp_reduce.specs.StayingSides.{weight}
 use Rattle.sp_reduce.specs.Changes.{crosses, HasForgotten, IsSameAt, IsUnsettled}
 
 -- ---- the numbers of the lines so far

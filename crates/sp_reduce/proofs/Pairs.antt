@@ -6,8 +6,8 @@ use Rattle.cmr_base.proofs.ListsWithout.{contains_from_in, in-get_or}
 use Rattle.sp_reduce.specs.declared.kind.LineKind.{LineKind}
 use Rattle.sp_reduce.specs.declared.kind.LineKind.TheVariants.{Rows, Columns}
 use Rattle.sp_reduce.specs.declared.side.StayingLines.{StayingLines}
-use Rattle.sp_reduce.specs.Kinds.{other_kind, count_of_kind, reason_for}
-use Rattle.sp_reduce.specs.Sides.{IsSide, IsAcross, AreNonzerosCounted, IsSettled}
+use Rattle.sp_reduce.specs.LineKinds.{other_kind, count_of_kind, reason_for}
+use Rattle.sp_reduce.specs.StayingSides.{IsSide, IsAcross, AreNonzerosCounted, IsSettled}
 use Rattle.sp_reduce.specs.Changes.{IsRemovedAt, WasRightBefore, ArePaired}
 use Rattle.sp_reduce.proofs.KindLemmas.{other-other, size-other}
 use Rattle.sp_reduce.proofs.SideLemmas.{side_marked, counted_marked}

@@ -11,7 +11,7 @@ use Rattle.cmr_base.specs.Reductions.{nonzeros_at, equal_at}
 use Rattle.cmr_base.proofs.Integers.{sums, products, one-mul, minus_one-mul, mul-neg}
 use Rattle.cmr_base.specs.Members.{IsIn}
 use Rattle.cmr_base.proofs.ListsWithout.{true_is_false, in_without, without_increases, increasing_distinct}
-use Rattle.sp_reduce.specs.Kinds.{is_twin}
+use Rattle.sp_reduce.specs.LineKinds.{is_twin}
 use Rattle.cmr_base.proofs.ThinLines.{nonzero_is, zero_is, is_and, is_equal, count_from_thin}
 use Rattle.cmr_base.proofs.ReducibleLines.{IsFactor, HasTwin, IsReducible}
 use Rattle.cmr_base.proofs.Booleans.{or_left, or_right}

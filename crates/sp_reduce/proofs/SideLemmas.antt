@@ -8,8 +8,8 @@ use Rattle.cmr_base.specs.declared.line.Step.{Step}
 use Rattle.cmr_base.specs.Matrix.{Matrix, entry}
 use Rattle.sp_reduce.specs.declared.kind.LineKind.{LineKind}
 use Rattle.sp_reduce.specs.declared.side.StayingLines.{StayingLines}
-use Rattle.sp_reduce.specs.Kinds.{line_named, reason_for}
-use Rattle.sp_reduce.specs.Sides.{IsSide, IsAcross, AreNonzerosCounted, IsSettled, first_step_of}
+use Rattle.sp_reduce.specs.LineKinds.{line_named, reason_for}
+use Rattle.sp_reduce.specs.StayingSides.{IsSide, IsAcross, AreNonzerosCounted, IsSettled, first_step_of}
 use Rattle.sp_reduce.proofs.Searches.{some_not_none}
 
 pub side_marked : (m : Matrix) (side side' : StayingLines) → side' ≡ record side { settled = side'.settled } → length side'.settled.items ≡ length side.stays.items → IsSide m side → IsSide m side'

@@ -11,8 +11,8 @@ use Rattle.cmr_base.specs.Reductions.{line_reason, rows_without, columns_without
 use Rattle.cmr_base.proofs.RemovedLines.{has_line_from_among, fewer_lines}
 use Rattle.sp_reduce.specs.declared.kind.LineKind.{LineKind}
 use Rattle.sp_reduce.specs.declared.kind.LineKind.TheVariants.{Rows, Columns}
-use Rattle.sp_reduce.specs.Kinds.{line_named, index_of_line}
-use Rattle.sp_reduce.specs.Sides.{first_step_of}
+use Rattle.sp_reduce.specs.LineKinds.{line_named, index_of_line}
+use Rattle.sp_reduce.specs.StayingSides.{first_step_of}
 use Rattle.sp_reduce.proofs.Searches.{some_not_none}
 use Rattle.sp_reduce.proofs.Orders.{search_is, after_step, empty_from_length}
 

@@ -11,8 +11,8 @@ use Rattle.cmr_base.proofs.ListsWithout.{place_of, place_is}
 use Rattle.sp_reduce.specs.declared.kind.LineKind.{LineKind}
 use Rattle.sp_reduce.specs.declared.kind.LineKind.TheVariants.{Rows, Columns}
 use Rattle.sp_reduce.specs.declared.tallies.Tallies.{Tallies}
-use Rattle.sp_reduce.specs.Kinds.{count_of_kind, cross_size, other_kind, own_line, table}
-use Rattle.sp_reduce.specs.Sides.{weight, weight_at, IsAcross}
+use Rattle.sp_reduce.specs.LineKinds.{count_of_kind, cross_size, other_kind, own_line, table}
+use Rattle.sp_reduce.specs.StayingSides.{weight, weight_at, IsAcross}
 use Rattle.sp_reduce.specs.Tallies.{AreMarks, AreTallies, AreWeights, is_passed, by_kind}
 use Rattle.sp_reduce.proofs.PlaceSums.{tally_same, tally_none, tally_bound, tally_marked, one_more}
 use Rattle.sp_reduce.proofs.Weights.{weight_small}

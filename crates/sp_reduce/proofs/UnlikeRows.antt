@@ -16,9 +16,9 @@ use Rattle.cmr_base.proofs.Parts.{height-transposed, is_matrix-transposed}
 use Rattle.cmr_base.proofs.RemovedLines.{in_first_lines}
 use Rattle.cmr_base.proofs.ThinLines.{and_is, not_is, false_is, equal_is, nonzero_is, thin_from_count}
 use Rattle.cmr_base.proofs.TransposedLemmas.{entries-transposed}
-use Rattle.sp_reduce.specs.Kinds.{is_twin}
+use Rattle.sp_reduce.specs.LineKinds.{is_twin}
 use Rattle.digests.specs.Digests.{AreDifferent}
-use Rattle.sp_reduce.specs.Digests.{digest_of, digest_at, AreUnlikeRows, HasNoReducibleLine}
+use Rattle.sp_reduce.specs.RowDigests.{digest_of, digest_at, AreUnlikeRows, HasNoReducibleLine}
 use Rattle.sp_reduce.proofs.SideLemmas.{none_is}
 use Rattle.sp_reduce.proofs.Views.{reason_of_twin}
 use Rattle.sp_reduce.proofs.Weights.{nonzero-neg}

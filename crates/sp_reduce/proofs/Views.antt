@@ -7,7 +7,7 @@ use Rattle.cmr_base.specs.declared.line.Line.{Line}
 use Rattle.cmr_base.specs.declared.line.Reason.TheVariants.{Unit as One, Copy, Negative}
 use Rattle.cmr_base.specs.Matrix.{is_nonzero}
 use Rattle.cmr_base.specs.Reductions.{nonzeros_at, equal_at, first_equal, first_reason}
-use Rattle.sp_reduce.specs.Kinds.{is_twin}
+use Rattle.sp_reduce.specs.LineKinds.{is_twin}
 use Rattle.cmr_base.proofs.Booleans.{or_false}
 use Rattle.cmr_base.proofs.ThinLines.{nonzero_found}
 use Rattle.cmr_base.proofs.ReducibleLines.{some_map}

@@ -7,8 +7,8 @@ use Rattle.cmr_base.specs.declared.line.Reason.TheVariants.{Copy, Negative}
 use Rattle.cmr_base.specs.Matrix.{Matrix, entry, is_nonzero}
 use Rattle.cmr_base.specs.Reductions.{equal_at}
 use Rattle.cmr_base.specs.Members.{IsIn}
-use Rattle.sp_reduce.specs.Sides.{weight, weight_at, is_copy, is_negative, twin_reason, may_be_twins, IsAlone, AreNonzerosCounted}
-use Rattle.sp_reduce.specs.Kinds.{line_named, table}
+use Rattle.sp_reduce.specs.StayingSides.{weight, weight_at, is_copy, is_negative, twin_reason, may_be_twins, IsAlone, AreNonzerosCounted}
+use Rattle.sp_reduce.specs.LineKinds.{line_named, table}
 use Rattle.sp_reduce.specs.declared.side.StayingLines.{StayingLines}
 use Rattle.cmr_base.proofs.ThinLines.{and_is, is_and, false_is, equal_is}
 use Rattle.sp_reduce.proofs.Searches.{find_none}

@@ -5,8 +5,8 @@ use Rattle.cmr_base.specs.declared.line.Reason.{Reason}
 use Rattle.cmr_base.specs.Matrix.{Matrix, entry, is_nonzero}
 use Rattle.cmr_base.specs.LineSets.{without}
 use Rattle.sp_reduce.specs.declared.side.StayingLines.{StayingLines}
-use Rattle.sp_reduce.specs.Kinds.{other_kind, table, reason_for, is_twin}
-use Rattle.sp_reduce.specs.Sides.{IsParallel, IsSide, IsAcross, AreNonzerosCounted, IsSettled, weight}
+use Rattle.sp_reduce.specs.LineKinds.{other_kind, table, reason_for, is_twin}
+use Rattle.sp_reduce.specs.StayingSides.{IsParallel, IsSide, IsAcross, AreNonzerosCounted, IsSettled, weight}
 
 -- the line at a place is gone, and nothing else
 pub record IsRemovedAt (place : ℕ) (old new : StayingLines) : Type 0 where

@@ -1,6 +1,6 @@
 pub mod Laws
-pub mod Kinds
-pub mod Sides
+pub mod LineKinds
+pub mod StayingSides
 pub mod Tallies
 pub mod Changes
-pub mod Digests
+pub mod RowDigests

@@ -7,8 +7,8 @@ use Rattle.cmr_base.specs.Members.{IsIn}
 use Rattle.sp_reduce.specs.declared.kind.LineKind.{LineKind}
 use Rattle.sp_reduce.specs.declared.kind.LineKind.TheVariants.{Rows, Columns}
 use Rattle.sp_reduce.specs.declared.tallies.Tallies.{Tallies}
-use Rattle.sp_reduce.specs.Kinds.{count_of_kind, cross_size}
-use Rattle.sp_reduce.specs.Sides.{weight}
+use Rattle.sp_reduce.specs.LineKinds.{count_of_kind, cross_size}
+use Rattle.sp_reduce.specs.StayingSides.{weight}
 
 -- of so many lines, these are marked
 pub record AreMarks (size : ℕ) (lines : List ℕ) (marks : List Bool) : Type 0 where

@@ -2,8 +2,8 @@
 ghost use Rattle.std.specs.Prelude.{◌≡◌, ◌<◌, ℕ, false, length, slice_index, slice_index_or, IfSome, IfNone};
 ghost use Rattle.std.specs.List.{remove};
 ghost use Rattle.cmr_base.specs.Matrix.{IsMatrix};
-ghost use Rattle.sp_reduce.specs.Kinds.{cross_size};
-ghost use Rattle.sp_reduce.specs.Sides.{IsParallel, IsSide, IsAcross, AreNonzerosCounted, IsSettled};
+ghost use Rattle.sp_reduce.specs.LineKinds.{cross_size};
+ghost use Rattle.sp_reduce.specs.StayingSides.{IsParallel, IsSide, IsAcross, AreNonzerosCounted, IsSettled};
 ghost use Rattle.sp_reduce.specs.Changes.{WasRightBefore, IsRemovedAt, IsHeld, IsHeldAt, HasForgotten, IsSameAt, IsForgetting, IsUnsettled};
 
 use crate::kind::{index_of_line, is_nonzero};

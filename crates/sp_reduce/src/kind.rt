@@ -4,7 +4,7 @@ ghost use Rattle.std.specs.Ordering.{int_eq};
 ghost use Rattle.cmr_base.specs.Matrix.{entry, is_nonzero, IsEntry};
 ghost use Rattle.cmr_base.specs.LineSets.{AllBelow};
 ghost use Rattle.cmr_base.specs.Reductions.{nonzeros_at, equal_at};
-ghost use Rattle.sp_reduce.specs.Kinds.{index_of_line, line_named, cross_named, other_kind, own_line, count_of_kind, cross_size, table};
+ghost use Rattle.sp_reduce.specs.LineKinds.{index_of_line, line_named, cross_named, other_kind, own_line, count_of_kind, cross_size, table};
 
 use cmr_base::{Line, Matrix};
 

@@ -3,7 +3,7 @@ ghost use Rattle.std.specs.Prelude.{◌≡◌, ◌<◌, Bool, true, false, IfOk}
 ghost use Rattle.cmr_base.specs.Matrix.{height, entry};
 ghost use Rattle.cmr_base.specs.LineSets.{first_lines};
 ghost use Rattle.cmr_base.specs.Reductions.{nonzeros_at};
-ghost use Rattle.sp_reduce.specs.Digests.{digest_of, AreUnlikeRows, HasNoReducibleLine};
+ghost use Rattle.sp_reduce.specs.RowDigests.{digest_of, AreUnlikeRows, HasNoReducibleLine};
 
 use cmr_base::{Matrix, Memory, RowsAndColumns};
 use digests::{are_different, mixed};

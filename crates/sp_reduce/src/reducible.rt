@@ -4,7 +4,7 @@ ghost use Rattle.std.specs.List.{list_any};
 ghost use Rattle.cmr_base.specs.Matrix.{height, entry};
 ghost use Rattle.cmr_base.specs.LineSets.{AllBelow};
 ghost use Rattle.cmr_base.specs.Reductions.{line_reason, HasLine};
-ghost use Rattle.sp_reduce.specs.Kinds.{count_of_kind, cross_size, table, reason_for, is_twin};
+ghost use Rattle.sp_reduce.specs.LineKinds.{count_of_kind, cross_size, table, reason_for, is_twin};
 
 use crate::kind::{LineKind, are_equal, are_opposite, count_nonzeros};
 use cmr_base::{Line, LineSet, Matrix};

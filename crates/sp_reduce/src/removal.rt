@@ -4,8 +4,8 @@ ghost use Rattle.cmr_base.specs.Matrix.{height, entry, IsMatrix};
 ghost use Rattle.cmr_base.specs.LineSets.{AllBelow, without};
 ghost use Rattle.cmr_base.specs.Reductions.{first_step, lines_of, rows_without, columns_without, removal, removal_on};
 ghost use Rattle.sp_reduce.specs.declared.kind.LineKind.TheVariants.{Rows};
-ghost use Rattle.sp_reduce.specs.Kinds.{index_of_line, line_named};
-ghost use Rattle.sp_reduce.specs.Sides.{first_step_of};
+ghost use Rattle.sp_reduce.specs.LineKinds.{index_of_line, line_named};
+ghost use Rattle.sp_reduce.specs.StayingSides.{first_step_of};
 ghost use Rattle.sp_reduce.specs.Changes.{ArePaired};
 
 use crate::kind::LineKind;

@@ -3,8 +3,8 @@ ghost use Rattle.std.specs.Prelude.{IfOk, Bool, ℕ, false, ◌≡◌, ◌≢◌
 ghost use Rattle.std.specs.List.Sorted.{IsStrictlyIncreasing};
 ghost use Rattle.cmr_base.specs.Matrix.{entry, is_nonzero, IsMatrix};
 ghost use Rattle.cmr_base.specs.LineSets.{AllBelow};
-ghost use Rattle.sp_reduce.specs.Kinds.{count_of_kind, cross_size, table, reason_for, is_twin};
-ghost use Rattle.sp_reduce.specs.Sides.{is_copy, is_negative, twin_reason, may_be_twins, IsAlone, IsParallel, IsSide, IsAcross, AreNonzerosCounted, IsSettled, IsFirstReducible, first_step_of};
+ghost use Rattle.sp_reduce.specs.LineKinds.{count_of_kind, cross_size, table, reason_for, is_twin};
+ghost use Rattle.sp_reduce.specs.StayingSides.{is_copy, is_negative, twin_reason, may_be_twins, IsAlone, IsParallel, IsSide, IsAcross, AreNonzerosCounted, IsSettled, IsFirstReducible, first_step_of};
 
 use crate::kind::{LineKind, are_equal, are_opposite, is_nonzero};
 use crate::tallies::{Tallies, marks_of};

@@ -2,8 +2,8 @@
 ghost use Rattle.std.specs.Prelude.{◌≡◌, ◌<◌, ◌≤◌, ◌+◌, ◌*◌, ◌^◌, if◌then◌else◌, length, set, slice_index, IfOk};
 ghost use Rattle.cmr_base.specs.Matrix.{height, IsMatrix};
 ghost use Rattle.cmr_base.specs.LineSets.{AllBelow};
-ghost use Rattle.sp_reduce.specs.Kinds.{cross_size};
-ghost use Rattle.sp_reduce.specs.Sides.{weight};
+ghost use Rattle.sp_reduce.specs.LineKinds.{cross_size};
+ghost use Rattle.sp_reduce.specs.StayingSides.{weight};
 ghost use Rattle.sp_reduce.specs.Tallies.{AreMarks, AreTallies, AreWeights};
 
 use crate::kind::LineKind;

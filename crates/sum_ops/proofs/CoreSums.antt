@@ -8,7 +8,7 @@ use Rattle.cmr_base.specs.MatrixSums.{filled, four_blocks, core_block, HaveConce
 use Rattle.cmr_base.proofs.FilledMatrices.{entry-filled}
 use Rattle.cmr_base.proofs.SmallEntries.{entry_as_byte}
 use Rattle.cmr_base.proofs.SignEntries.{sign_is_entry}
-use Rattle.sum_ops.specs.Cores.{core_determinant_at, IsLastCore, IsFirstCore}
+use Rattle.sum_ops.specs.SumCores.{core_determinant_at, IsLastCore, IsFirstCore}
 use Rattle.sum_ops.specs.declared.spread.Spread.{Spread}
 use Rattle.sum_ops.specs.Spreads.{spread_entry}
 

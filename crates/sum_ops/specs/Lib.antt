@@ -1,6 +1,6 @@
 pub mod Spreads
 pub mod Plans
 pub mod Corners
-pub mod Cores
-pub mod Causes
+pub mod SumCores
+pub mod SumCauses
 pub mod Children

@@ -3,8 +3,8 @@ ghost use Rattle.std.specs.Prelude.{◌≡◌, ◌≤◌, ◌+◌, IfOk, IfErr, 
 ghost use Rattle.cmr_base.specs.Matrix.{height, HasTernaryEntries};
 ghost use Rattle.cmr_base.specs.MatrixSums.{HaveConcentratedSum};
 ghost use Rattle.cmr_base.specs.MatrixSums.{concentrated_sum as the_concentrated_sum};
-ghost use Rattle.sum_ops.specs.Causes.{IsConcentratedCause};
-ghost use Rattle.sum_ops.specs.Cores.{IsLastCore, IsFirstCore};
+ghost use Rattle.sum_ops.specs.SumCauses.{IsConcentratedCause};
+ghost use Rattle.sum_ops.specs.SumCores.{IsLastCore, IsFirstCore};
 
 use crate::SumError;
 use crate::cores::{is_first_core, last_core};

@@ -4,7 +4,7 @@ ghost use Rattle.cmr_base.specs.Cores.{IsBounded};
 ghost use Rattle.cmr_base.specs.Matrix.{height, entry, IsMatrix};
 ghost use Rattle.cmr_base.specs.MatrixSums.{IsCore};
 ghost use Rattle.cmr_base.specs.Signing.{IsSign};
-ghost use Rattle.sum_ops.specs.Cores.{HaveSigns, core_determinant_at, IsLastCore, IsFirstCore};
+ghost use Rattle.sum_ops.specs.SumCores.{HaveSigns, core_determinant_at, IsLastCore, IsFirstCore};
 
 use cmr_base::{Core, Matrix};
 

@@ -4,7 +4,7 @@ ghost use Rattle.cmr_base.specs.Matrix.{height};
 ghost use Rattle.cmr_base.specs.MatrixSums.{HaveTwoSum, HaveCornerSum, HaveThreeSum, connecting_rows, connecting_columns};
 ghost use Rattle.cmr_base.specs.MatrixSums.{one_sum as the_one_sum, two_sum as the_two_sum, corner_sum as the_corner_sum, three_sum as the_three_sum};
 ghost use Rattle.cmr_base.specs.declared.separation.Form.TheVariants.{Delta, YForm, Mixed};
-ghost use Rattle.sum_ops.specs.Causes.{IsCause};
+ghost use Rattle.sum_ops.specs.SumCauses.{IsCause};
 ghost use Rattle.sum_ops.specs.Corners.{HaveOneCorner};
 
 use crate::SumError;

@@ -7,7 +7,7 @@ use Rattle.std.specs.Fmt.{decimal}
 use Rattle.std.proofs.lemmas.Fmt.{digits_decimal, digits_value-decimal, decimal_nonempty}
 use Rattle.std.proofs.lemmas.Str.Parse.{IsNumeralModel, numerals_by_fold}
 use Rattle.std.proofs.lemmas.Bool.Decides.{nat_tests}
-use Rattle.text_fields.specs.Words.{is_space}
+use Rattle.text_fields.specs.TextWords.{is_space}
 use Rattle.text_fields.specs.Numbers.{number_of_digits, count_in}
 use Rattle.text_fields.proofs.LineWords.{IsSolid, IsWord}
 

@@ -2,7 +2,7 @@
 use Rattle.std.proofs.Common.{◌≡◌, ◌≢◌, ◌<◌, ◌≤◌, ◌+◌, ◌-◌, ◌∙◌, ℕ, zero, suc, ℤ, pos, negsuc, neg_ℤ, true, false, List, [], ◌∷◌, length, drop, get_or, refl, ap, subst, inl, inr, arith}
 use Rattle.std.specs.Fmt.{signed_decimal}
 use Rattle.std.proofs.lemmas.Bool.{cases_eq}
-use Rattle.text_fields.specs.Words.{is_space, with_word, run_and_words, words_from}
+use Rattle.text_fields.specs.TextWords.{is_space, with_word, run_and_words, words_from}
 use Rattle.text_fields.proofs.Runs.{words_skip, run_more, run_stops}
 use Rattle.text_fields.proofs.Entries.{zero_text, one_text, minus_one_text}
 

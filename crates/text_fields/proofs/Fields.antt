@@ -1,7 +1,7 @@
 -- Fields of a text.
 use Rattle.std.proofs.Common.{◌≡◌, ◌∙◌, ℕ, zero, suc, List, [], ◌∷◌, ◌++◌, length, append_assoc, Result, Ok, Err, refl, ap, sym}
 use Rattle.std.proofs.lemmas.List.{append-nil}
-use Rattle.text_fields.specs.Words.{Text}
+use Rattle.text_fields.specs.TextWords.{Text}
 use Rattle.text_fields.specs.Result.{◌>>=◌}
 use Rattle.text_fields.specs.Reading.{Fault, due_of, due, placed, field, another, times, ended_of, ended, Fails, Gives, Reads}
 use Rattle.text_fields.specs.Spelling.{texts_of, Spell}

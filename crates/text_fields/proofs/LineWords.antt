@@ -1,7 +1,7 @@
 -- The words of lines.
 use Rattle.std.proofs.Common.{◌≡◌, ◌+◌, ◌∙◌, ℕ, suc, Bool, true, false, List, [], ◌∷◌, ◌++◌, length, refl, ap, sym, subst, append_assoc, arith}
 use Rattle.std.specs.List.{AllByRecursion, join_with_byte, flat_map}
-use Rattle.text_fields.specs.Words.{is_space, with_word, run_and_words, words_from}
+use Rattle.text_fields.specs.TextWords.{is_space, with_word, run_and_words, words_from}
 use Rattle.text_fields.specs.Spelling.{texts_of, words_in}
 use Rattle.text_fields.specs.Written.{text_line, text_of_lines}
 

@@ -1,6 +1,6 @@
 -- A step so many times, seen from the middle of its loop.
 use Rattle.std.proofs.Common.{◌≡◌, ◌<◌, ◌≤◌, ◌+◌, ◌-◌, ◌∙◌, ℕ, suc, Result, Ok, Err, refl, sym, arith}
-use Rattle.text_fields.specs.Words.{Text}
+use Rattle.text_fields.specs.TextWords.{Text}
 use Rattle.text_fields.specs.Reading.{Fault, times, Fails}
 use Rattle.text_fields.specs.declared.error.FieldError.{FieldError}
 use Rattle.text_fields.specs.declared.error.FieldError.TheVariants as errors

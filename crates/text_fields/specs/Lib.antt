@@ -1,4 +1,4 @@
-pub mod Words
+pub mod TextWords
 pub mod Result
 pub mod Numbers
 pub mod Reading

@@ -2,7 +2,7 @@
 use Rattle.std.specs.Prelude.{◌≡◌, ℕ, zero, suc, List, [], ◌∷◌, ◌++◌, Result, Ok, Err}
 use Rattle.text_fields.specs.declared.error.FieldError.{FieldError}
 use Rattle.text_fields.specs.declared.error.FieldError.TheVariants as errors
-use Rattle.text_fields.specs.Words.{Text}
+use Rattle.text_fields.specs.TextWords.{Text}
 use Rattle.text_fields.specs.Result.{◌>>=◌}
 
 -- a kind, and the offset of the word at fault

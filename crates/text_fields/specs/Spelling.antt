@@ -1,6 +1,6 @@
 -- What words spell, apart from their places.
 use Rattle.std.specs.Prelude.{◌≡◌, ℕ, List, [], ◌∷◌, map, Result, Ok}
-use Rattle.text_fields.specs.Words.{words_from}
+use Rattle.text_fields.specs.TextWords.{words_from}
 
 abbrev pub texts_of : List (ℕ × List ℕ) → List (List ℕ)
 texts_of words = map (λ word. word.1) words

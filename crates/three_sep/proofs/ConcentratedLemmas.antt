@@ -20,7 +20,7 @@ use Rattle.cmr_base.proofs.ListedLines.{first_lines_contain, has_line_from_line}
 use Rattle.cmr_base.proofs.RowLists.{same_or_not}
 use Rattle.cmr_base.proofs.SeedLemmas.{good_three_seed, three_separation_of_seed, form_is}
 use Rattle.cuts.specs.declared.corners.Corners.{Corners}
-use Rattle.cuts.specs.Cuts.{AreInside}
+use Rattle.cuts.specs.LineCuts.{AreInside}
 use Rattle.cuts.proofs.CutLemmas.{lower_at, upper_at}
 use Rattle.line_growth.specs.declared.rule.GrowthRule.{GrowthRule}
 use Rattle.line_growth.specs.GrowingSets.{IsClosedIn}

@@ -17,7 +17,7 @@ use Rattle.cmr_base.specs.declared.separation.Three.{Three}
 use Rattle.cmr_base.specs.Separations.{AreCrossing, IsTied, Lines, connector_lines, first_is_flat, second_is_flat}
 use Rattle.cmr_base.specs.Seeds.{IsLine, form_number, line_number, IsBefore}
 use Rattle.three_sep.specs.NumberedSeeds.{Seed, IsBeside, IsCrossing, IsGoodSeed, seed_key, HasLines, seed_of}
-use Rattle.cuts.specs.Cuts.{AreInside, IsCutAt, IsCut, HasNames, HoldTogether, name_of}
+use Rattle.cuts.specs.LineCuts.{AreInside, IsCutAt, IsCut, HasNames, HoldTogether, name_of}
 use Rattle.three_sep.specs.Searches.{BeginsWith, HasNoGood, IsFirstOf, HasNoneBelow, corner_front, corners_of, first_at, line_count, other_line, HasNoColumn, HasNoRow, LacksColumn, LacksRow, IsNoSecondRow, IsNoSecondColumn}
 use Rattle.three_sep.specs.declared.connectors.Connectors.{Connectors}
 use Rattle.three_sep.specs.Connectors.{all_front, connectors_at}

@@ -14,7 +14,7 @@ use Rattle.cmr_base.proofs.RemovedLines.{first_lines_increase, first_lines_in, i
 use Rattle.cmr_base.proofs.RowLists.{filter_in, in_filter, two_cases}
 use Rattle.cmr_base.proofs.SeedLemmas.{three_separation_of_seed}
 use Rattle.cuts.specs.declared.corners.Corners.{Corners}
-use Rattle.cuts.specs.Cuts.{AreInside}
+use Rattle.cuts.specs.LineCuts.{AreInside}
 use Rattle.cuts.proofs.CutLemmas.{other_closed, other_enough}
 use Rattle.line_growth.specs.declared.rule.GrowthRule.{GrowthRule}
 use Rattle.line_growth.specs.GrowingSets.{HasNoLeaving, HasNone, IsClosedIn, IsLeaving, Leaves}

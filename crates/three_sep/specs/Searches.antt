@@ -10,7 +10,7 @@ use Rattle.cuts.specs.declared.corners.Corners.{Corners}
 use Rattle.cuts.specs.declared.groups.Groups.{Groups}
 use Rattle.three_sep.specs.declared.connectors.Connectors.{Connectors}
 use Rattle.three_sep.specs.declared.search.Search.{Search}
-use Rattle.cuts.specs.Cuts.{AreInside, HasNames, HoldTogether, IsCut, name_of}
+use Rattle.cuts.specs.LineCuts.{AreInside, HasNames, HoldTogether, IsCut, name_of}
 use Rattle.cmr_base.specs.Separations.{IsTied, Lines, connector_lines, first_is_flat, product_at, second_is_flat}
 use Rattle.cmr_base.specs.Seeds.{IsLine, IsBefore, IsGrown, form_number}
 use Rattle.line_growth.specs.GrowingSets.{HasRoom, IsGrowing, set_of}

@@ -9,7 +9,7 @@ ghost use Rattle.cmr_base.specs.Signing.{IsSign};
 ghost use Rattle.cmr_base.specs.Separations.{core_determinant};
 ghost use Rattle.cmr_base.specs.Seeds.{IsConnectorPair, form_number};
 ghost use Rattle.cmr_base.specs.Trees.{support};
-ghost use Rattle.cuts.specs.Cuts.{AreInside};
+ghost use Rattle.cuts.specs.LineCuts.{AreInside};
 ghost use Rattle.three_sep.specs.Connectors.{all_front};
 ghost use Rattle.three_sep.specs.Searches.{HasNoGood, IsFirstOf, corner_front, first_at, second_at};
 ghost use Rattle.three_sep.specs.Concentrated.{AreConcentratedCorners, AreCandidates, HasNoneBetween, IsFirstPair, IsFirstRow, IsNoOtherColumn, IsOtherColumn};

@@ -5,7 +5,7 @@ ghost use Rattle.cmr_base.specs.declared.line.Line.TheVariants.{Row, Column};
 ghost use Rattle.cmr_base.specs.Separations.{IsTied, first_is_flat, second_is_flat};
 ghost use Rattle.cmr_base.specs.Seeds.{IsLine};
 ghost use Rattle.three_sep.specs.NumberedSeeds.{IsBeside};
-ghost use Rattle.cuts.specs.Cuts.{AreInside, HasNames, name_of};
+ghost use Rattle.cuts.specs.LineCuts.{AreInside, HasNames, name_of};
 ghost use Rattle.three_sep.specs.Searches.{HasNoColumn, HasNoRow, LacksColumn, LacksRow, first_at, line_count, other_line, second_at};
 
 use crate::connectors::Connectors;

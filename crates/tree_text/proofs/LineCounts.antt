@@ -4,8 +4,8 @@ use Rattle.std.specs.List.{join_with_byte}
 use Rattle.std.proofs.lemmas.List.{length-append}
 use Rattle.text_fields.specs.Written.{text_line, text_of_lines}
 use Rattle.tree_type.specs.NodeCounts.{node_count, nodes_below}
-use Rattle.tree_type.specs.Trees.{Tree, Trees, Branch, NoTrees, MoreTrees}
-use Rattle.tree_text.specs.Canonical.{front_lines, node_lines, forest_lines, tree_lines, tree_text}
+use Rattle.tree_type.specs.DecompositionTrees.{Tree, Trees, Branch, NoTrees, MoreTrees}
+use Rattle.tree_text.specs.CanonicalTrees.{front_lines, node_lines, forest_lines, tree_lines, tree_text}
 
 mutual
   nodes_have_lines : (tree : Tree) → node_count tree ≤ length (node_lines tree)

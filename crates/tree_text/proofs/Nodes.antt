@@ -2,7 +2,7 @@
 use Rattle.std.proofs.Common.{◌≡◌, ◌-◌, ◌∙◌, ◌+◌, ◌++◌, ◌∷◌, [], ℕ, suc, List, length, map, Option, Some, None, Result, Ok, Err, refl, ap, sym, arith}
 use Rattle.std.proofs.lemmas.List.{length-map, length_push}
 use Rattle.cmr_base.specs.declared.line_set.LineSet.{LineSet}
-use Rattle.text_fields.specs.Words.{Text}
+use Rattle.text_fields.specs.TextWords.{Text}
 use Rattle.text_fields.specs.Result.{◌>>=◌}
 use Rattle.text_fields.specs.Reading.{Fault, field, times, ended, Fails}
 use Rattle.text_fields.specs.declared.error.FieldError.{FieldError}
@@ -10,16 +10,16 @@ use Rattle.text_fields.specs.declared.error.FieldError.TheVariants as errors
 use Rattle.text_fields.proofs.Results.{bind_ok, ok_same}
 use Rattle.text_fields.proofs.Fields.{bind_fails}
 use Rattle.tree_type.specs.declared.tree.Node.{Node}
-use Rattle.tree_type.specs.Trees.{Tree, Branch, tree_of, trees_from}
+use Rattle.tree_type.specs.DecompositionTrees.{Tree, Branch, tree_of, trees_from}
 use Rattle.tree_text.specs.declared.error.TreeKind.{TreeKind}
 use Rattle.tree_text.specs.declared.error.TreeKind.TheVariants.{Short, Extra}
 use Rattle.tree_text.specs.declared.header.Header.{Header}
 use Rattle.tree_text.specs.declared.header.Title.{Title}
 use Rattle.tree_text.specs.declared.header.Version.{Version}
-use Rattle.tree_text.specs.Values.{limited}
+use Rattle.tree_text.specs.TreeValues.{limited}
 use Rattle.tree_text.specs.Versions.{title_in, version_in}
-use Rattle.tree_text.specs.Findings.{NodeFront}
-use Rattle.tree_text.specs.Reading.{Reader, PlainTree, another_tree, front, node, tree}
+use Rattle.tree_text.specs.ReadFindings.{NodeFront}
+use Rattle.tree_text.specs.TreeReading.{Reader, PlainTree, another_tree, front, node, tree}
 
 pub levels_left : (header : Header) (levels : ℕ) (parent : Option LineSet) (text : Text) → ¬ (levels ≡ 0) → node header levels parent text ≡ node header (suc (levels - 1)) parent text
 levels_left header levels parent text some = let more : levels ≡ suc (levels - 1) = omega (arith, some) in ap (λ k. node header k parent text) more

@@ -1,13 +1,13 @@
 -- What was read as a tree is written as a text of the same tree.
 use Rattle.std.proofs.Common.{◌≡◌, ◌≤◌, ℕ, List, [], ◌∷◌, None, Ok, subst}
-use Rattle.text_fields.specs.Words.{Text, text_of}
+use Rattle.text_fields.specs.TextWords.{Text, text_of}
 use Rattle.text_fields.specs.Reading.{field, ended_of}
 use Rattle.text_fields.proofs.Results.{bind_ok, ok_same}
 use Rattle.tree_type.specs.Invariant.{IsTreeFor}
 use Rattle.tree_text.specs.declared.error.TreeKind.TheVariants.{Short, Extra}
-use Rattle.tree_text.specs.Canonical.{tree_text}
-use Rattle.tree_text.specs.Reading.{PlainTree, node, tree}
-use Rattle.tree_text.specs.Values.{limited}
+use Rattle.tree_text.specs.CanonicalTrees.{tree_text}
+use Rattle.tree_text.specs.TreeReading.{PlainTree, node, tree}
+use Rattle.tree_text.specs.TreeValues.{limited}
 use Rattle.tree_text.specs.Versions.{title_in, version_in}
 use Rattle.tree_text.proofs.TreesAgain.{tree_again}
 use Rattle.tree_text.proofs.TreesRead.{field_value, root_ok}

@@ -25,13 +25,13 @@ use Rattle.tree_type.specs.Sides.{HasConnector}
 use Rattle.cmr_base.proofs.Lists.{all_contain, all_weaker, all_of, all-append}
 use Rattle.cmr_base.proofs.RisingLists.{rises_in, rising_count}
 use Rattle.cmr_base.proofs.Places.{contained_below}
-use Rattle.text_fields.specs.Words.{Text, is_space, text_of, words_from}
+use Rattle.text_fields.specs.TextWords.{Text, is_space, text_of, words_from}
 use Rattle.text_fields.specs.Result.{◌>>=◌}
 use Rattle.text_fields.specs.Reading.{field, times, fields, another}
 use Rattle.text_fields.specs.Spelling.{texts_of}
 use Rattle.text_fields.proofs.LineWords.{IsWord, IsSolid, words_of_lines, words_in_lines}
 use Rattle.text_fields.proofs.Decimals.{decimal_word}
-use Rattle.tree_type.specs.Trees.{Finding, Empty, Cycle, Reduced, OneSum, Network, Conetwork, R10, TwoSum, ThreeSum, Enumerated, Violator, Undecided, Pivoted, Tree, Trees, Branch, NoTrees, MoreTrees, trees_from, count_trees, lines_at_root}
+use Rattle.tree_type.specs.DecompositionTrees.{Finding, Empty, Cycle, Reduced, OneSum, Network, Conetwork, R10, TwoSum, ThreeSum, Enumerated, Violator, Undecided, Pivoted, Tree, Trees, Branch, NoTrees, MoreTrees, trees_from, count_trees, lines_at_root}
 use Rattle.tree_type.specs.Invariant.{AreLinesOf, HasArcsAndWalks, size_of, FitsLines, HasChildren, IsTreeWithin, AreTreesWithin, IsTreeFor}
 use Rattle.tree_text.specs.declared.error.TreeKind.{TreeKind}
 use Rattle.tree_text.specs.declared.error.TreeKind.TheVariants.{Short}
@@ -41,12 +41,12 @@ use Rattle.tree_text.specs.declared.value.Sizes.{Sizes}
 use Rattle.tree_text.specs.declared.header.Header.{Header}
 use Rattle.tree_text.specs.declared.header.Version.{Version}
 use Rattle.tree_text.specs.declared.header.Version.TheVariants as version
-use Rattle.tree_text.specs.Findings.{NodeFront}
+use Rattle.tree_text.specs.ReadFindings.{NodeFront}
 use Rattle.tree_text.specs.Versions.{title_word, title_in, title_of, version_word, version_in}
 use Rattle.tree_text.specs.KindWords.{word_of, kind_words, kind_among, has_word, kind_in, kind_of}
-use Rattle.tree_text.specs.Values.{limited, line_of, step_in}
-use Rattle.tree_text.specs.Reading.{Reader, rising_lines, line_set, another_pair, network, connector, two, three, pivot_place, own_part, front, another_tree, node, tree}
-use Rattle.tree_text.specs.Canonical.{number_of_line, line_name, set_words, pair_words, network_words, connector_words, own_words, line_for, front_lines, node_lines, forest_lines, is_pivot, has_pivot, have_pivot, version_of, tree_lines, tree_text}
+use Rattle.tree_text.specs.TreeValues.{limited, line_of, step_in}
+use Rattle.tree_text.specs.TreeReading.{Reader, rising_lines, line_set, another_pair, network, connector, two, three, pivot_place, own_part, front, another_tree, node, tree}
+use Rattle.tree_text.specs.CanonicalTrees.{number_of_line, line_name, set_words, pair_words, network_words, connector_words, own_words, line_for, front_lines, node_lines, forest_lines, is_pivot, has_pivot, have_pivot, version_of, tree_lines, tree_text}
 use Rattle.tree_text.proofs.Nodes.{read_whole}
 use Rattle.tree_text.proofs.TreesRead.{AreSome, IsSome}
 use Rattle.text_fields.proofs.ReadAgain.{Again, again_done, again_field, again_bind, again_wrap, again_times}

@@ -19,13 +19,13 @@ use Rattle.cmr_base.specs.Separations.{first_is_flat, second_is_flat}
 use Rattle.tree_type.specs.Sides.{HasConnector}
 use Rattle.cmr_base.proofs.Lists.{all-append, all_contained}
 use Rattle.cmr_base.proofs.RisingLists.{RisesIn, rising_increases, rising_in_range}
-use Rattle.text_fields.specs.Words.{Text}
+use Rattle.text_fields.specs.TextWords.{Text}
 use Rattle.text_fields.specs.Result.{◌>>=◌}
 use Rattle.text_fields.specs.Reading.{Fault, field, times, fields}
 use Rattle.text_fields.proofs.Fields.{field_ok, fields_ok}
 use Rattle.text_fields.proofs.Results.{bind_ok, ok_same}
 use Rattle.text_fields.specs.Spelling.{texts_of}
-use Rattle.tree_type.specs.Trees.{Finding, Empty, Cycle, Reduced, OneSum, Network, Conetwork, R10, TwoSum, ThreeSum, Enumerated, Violator, Undecided, Pivoted, Tree, Trees, Branch, trees_from, count_trees, lines_at_root}
+use Rattle.tree_type.specs.DecompositionTrees.{Finding, Empty, Cycle, Reduced, OneSum, Network, Conetwork, R10, TwoSum, ThreeSum, Enumerated, Violator, Undecided, Pivoted, Tree, Trees, Branch, trees_from, count_trees, lines_at_root}
 use Rattle.tree_type.specs.Invariant.{AreLinesOf, HasArcsAndWalks, size_of, FitsLines, HasChildren, IsTreeWithin, AreTreesWithin, IsTreeFor}
 use Rattle.tree_text.specs.declared.error.TreeKind.{TreeKind}
 use Rattle.tree_text.specs.declared.error.TreeKind.TheVariants.{Short}
@@ -34,10 +34,10 @@ use Rattle.tree_text.specs.declared.kind_word.KindWord.TheVariants as kind
 use Rattle.tree_text.specs.declared.value.Sizes.{Sizes}
 use Rattle.tree_text.specs.declared.header.Header.{Header}
 use Rattle.tree_text.specs.declared.header.Version.{Version}
-use Rattle.tree_text.specs.Findings.{NodeFront}
+use Rattle.tree_text.specs.ReadFindings.{NodeFront}
 use Rattle.tree_text.specs.KindWords.{kind_in}
-use Rattle.tree_text.specs.Values.{limited, line_of, step_in}
-use Rattle.tree_text.specs.Reading.{rising_lines, line_set, another_pair, network, connector, two, three, pivot_place, own_part, front, another_tree, too_deep, node}
+use Rattle.tree_text.specs.TreeValues.{limited, line_of, step_in}
+use Rattle.tree_text.specs.TreeReading.{rising_lines, line_set, another_pair, network, connector, two, three, pivot_place, own_part, front, another_tree, too_deep, node}
 use Rattle.tree_text.proofs.WordsRead.{times_keep, spelled_all, limited_ok, IsAmong, line_of_ok, step_ok, lines_ok}
 
 -- a value that was read by a field

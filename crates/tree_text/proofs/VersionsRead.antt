@@ -1,12 +1,12 @@
 -- What stands for a tree in version 1 stands for it in version 2.
 use Rattle.std.proofs.Common.{◌≡◌, ℕ, zero, suc, true, List, [], ◌∷◌, ◌++◌, cond, Option, Some, None, Result, Ok, Err, refl, ap, sym, subst}
 use Rattle.cmr_base.specs.declared.line_set.LineSet.{LineSet}
-use Rattle.text_fields.specs.Words.{Text}
+use Rattle.text_fields.specs.TextWords.{Text}
 use Rattle.text_fields.specs.Result.{◌>>=◌}
 use Rattle.text_fields.specs.Reading.{Fault, ended, field, placed, times}
 use Rattle.text_fields.proofs.Fields.{field_ok}
 use Rattle.text_fields.proofs.Results.{bind_ok, guard_ok}
-use Rattle.tree_type.specs.Trees.{Finding, Tree, Branch, trees_from}
+use Rattle.tree_type.specs.DecompositionTrees.{Finding, Tree, Branch, trees_from}
 use Rattle.tree_text.specs.declared.error.TreeKind.{TreeKind}
 use Rattle.tree_text.specs.declared.error.TreeKind.TheVariants.{Short, Extra, UnknownKind}
 use Rattle.tree_text.specs.declared.header.Header.{Header}
@@ -17,10 +17,10 @@ use Rattle.tree_text.specs.declared.header.Version.TheVariants.{One, Two}
 use Rattle.tree_text.specs.declared.kind_word.KindWord.{KindWord}
 use Rattle.tree_text.specs.declared.kind_word.KindWord.TheVariants as kinds
 use Rattle.tree_text.specs.declared.value.Sizes.{Sizes}
-use Rattle.tree_text.specs.Findings.{NodeFront}
+use Rattle.tree_text.specs.ReadFindings.{NodeFront}
 use Rattle.tree_text.specs.KindWords.{has_word, kind_among, kind_in, kind_words}
-use Rattle.tree_text.specs.Reading.{PlainTree, Reader, another_tree, front, line_set, node, own_part, tree}
-use Rattle.tree_text.specs.Values.{limited}
+use Rattle.tree_text.specs.TreeReading.{PlainTree, Reader, another_tree, front, line_set, node, own_part, tree}
+use Rattle.tree_text.specs.TreeValues.{limited}
 use Rattle.tree_text.specs.Versions.{title_word, title_in, version_in, version_word}
 use Rattle.tree_text.proofs.Nodes.{read_whole}
 

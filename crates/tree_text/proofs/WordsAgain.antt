@@ -13,7 +13,7 @@ use Rattle.cmr_base.specs.declared.line_set.LineSet.{LineSet}
 use Rattle.cmr_base.specs.Reductions.{HasLine}
 use Rattle.tree_type.specs.Sides.{is_among}
 use Rattle.cmr_base.proofs.RisingLists.{RisesIn}
-use Rattle.text_fields.specs.Words.{Text}
+use Rattle.text_fields.specs.TextWords.{Text}
 use Rattle.text_fields.specs.Reading.{field, times}
 use Rattle.text_fields.proofs.Decimals.{count_of_decimal}
 use Rattle.text_fields.proofs.Limits as numbers
@@ -22,9 +22,9 @@ use Rattle.tree_text.specs.declared.error.TreeKind.{TreeKind}
 use Rattle.tree_text.specs.declared.error.TreeKind.TheVariants.{Short}
 use Rattle.tree_text.specs.declared.value.Sizes.{Sizes}
 use Rattle.tree_text.specs.Faults.{tree_kind}
-use Rattle.tree_text.specs.Values.{limited, line_in, among, line_of, last_number, next_line, step_in}
-use Rattle.tree_text.specs.Reading.{another_line}
-use Rattle.tree_text.specs.Canonical.{number_of_line, line_name}
+use Rattle.tree_text.specs.TreeValues.{limited, line_in, among, line_of, last_number, next_line, step_in}
+use Rattle.tree_text.specs.TreeReading.{another_line}
+use Rattle.tree_text.specs.CanonicalTrees.{number_of_line, line_name}
 use Rattle.tree_text.proofs.WordsRead.{IsAmong}
 
 pub limited_again : (most n : ℕ) → n ≤ most → most ≤ 2000 → limited most (decimal n) ≡ Ok n

@@ -11,7 +11,7 @@ use Rattle.cmr_base.specs.Reductions.{HasLine}
 use Rattle.tree_type.specs.Sides.{is_among}
 use Rattle.tree_type.proofs.Among.{among_contains}
 use Rattle.cmr_base.proofs.RisingLists.{RisesIn}
-use Rattle.text_fields.specs.Words.{Text}
+use Rattle.text_fields.specs.TextWords.{Text}
 use Rattle.text_fields.specs.Result.{◌>>=◌, renamed}
 use Rattle.text_fields.specs.Reading.{field, times}
 use Rattle.text_fields.specs.Spelling.{Spell}
@@ -22,8 +22,8 @@ use Rattle.text_fields.proofs.Results.{bind_ok, ok_same, guard_ok}
 use Rattle.tree_text.specs.declared.error.TreeKind.TheVariants.{Short, NotNumber, NotRising, NotPart}
 use Rattle.tree_text.specs.declared.value.Sizes.{Sizes}
 use Rattle.tree_text.specs.Faults.{tree_kind}
-use Rattle.tree_text.specs.Values.{limited, line_in, among, line_of, last_number, next_line, step_in}
-use Rattle.tree_text.specs.Reading.{another_line}
+use Rattle.tree_text.specs.TreeValues.{limited, line_in, among, line_of, last_number, next_line, step_in}
+use Rattle.tree_text.specs.TreeReading.{another_line}
 
 -- what each step keeps, all steps keep
 pub times_keep : {S F : Type 0} (step : S → Text → Result (S × Text) F) (P : ℕ → S → Type 0) → ((k : ℕ) (s : S) (text : Text) (next : S) (rest : Text) → P k s → step s text ≡ Ok (next, rest) → P (suc k) next)

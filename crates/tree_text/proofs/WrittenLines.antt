@@ -12,11 +12,11 @@ use Rattle.text_fields.proofs.Lines.{line_written, lines_written}
 use Rattle.tree_type.specs.declared.tree.Node.{Node}
 use Rattle.tree_type.specs.declared.tree.NodeList.{NodeList}
 use Rattle.tree_type.specs.declared.tree.Kind.TheVariants as kind
-use Rattle.tree_type.specs.Trees.{Finding, Tree, Trees, Branch, tree_of, trees_from, nodes_in}
+use Rattle.tree_type.specs.DecompositionTrees.{Finding, Tree, Trees, Branch, tree_of, trees_from, nodes_in}
 use Rattle.tree_type.proofs.Forests.{count_is}
 use Rattle.tree_type.proofs.NodeTrees.{said, tree_is, said_one_sum}
 use Rattle.tree_text.specs.Versions.{title_word, title_of, version_word}
-use Rattle.tree_text.specs.Canonical.{pair_words, network_words, line_for, own_text_line, node_lines, forest_lines, tree_text, version_of}
+use Rattle.tree_text.specs.CanonicalTrees.{pair_words, network_words, line_for, own_text_line, node_lines, forest_lines, tree_text, version_of}
 
 -- a line whose words were written
 pub ended_as : (text start : Draft) (words : List (List ℕ)) → text ≡ fold with_word start words → start.is_begun ≡ false → with_end text ≡ with_line start words

@@ -2,7 +2,7 @@
 use Rattle.std.specs.Prelude.{if◌then◌else◌, ℕ, Bool, true, false, List, [], ◌∷◌, Result, Ok, Err, codes, bytes_eq}
 use Rattle.cmr_base.specs.declared.separation.Form.TheVariants.{Delta, YForm, Mixed, Concentrated}
 use Rattle.text_fields.specs.Result.{◌>>=◌}
-use Rattle.tree_type.specs.Trees as said
+use Rattle.tree_type.specs.DecompositionTrees as said
 use Rattle.tree_text.specs.declared.error.TreeKind.{TreeKind}
 use Rattle.tree_text.specs.declared.error.TreeKind.TheVariants.{UnknownKind}
 use Rattle.tree_text.specs.declared.kind_word.KindWord.{KindWord}

@@ -1,16 +1,16 @@
 -- Laws of tree texts.
 use Rattle.std.specs.Prelude.{◌≡◌, ℕ, List, ◌∷◌, Ok}
 use Rattle.cmr_base.specs.Matrix.{Matrix}
-use Rattle.text_fields.specs.Words.{Text, text_of}
+use Rattle.text_fields.specs.TextWords.{Text, text_of}
 use Rattle.tree_type.specs.Invariant.{IsDecTree}
 use Rattle.tree_type.specs.Soundness.{IsSound, IsBroken}
-use Rattle.tree_type.specs.Trees.{SizedTree, tree_of}
+use Rattle.tree_type.specs.DecompositionTrees.{SizedTree, tree_of}
 use Rattle.tree_type.specs.Verdicts.{verdict_of}
 use Rattle.tree_type.specs.declared.refusal.Refusal.{Refusal}
-use Rattle.tree_text.specs.Canonical.{tree_text}
+use Rattle.tree_text.specs.CanonicalTrees.{tree_text}
 use Rattle.tree_text.specs.declared.header.Title.TheVariants as title
 use Rattle.tree_text.specs.declared.header.Version.TheVariants.{One, Two}
-use Rattle.tree_text.specs.Reading.{PlainTree, plain_of, tree}
+use Rattle.tree_text.specs.TreeReading.{PlainTree, plain_of, tree}
 use Rattle.tree_text.specs.Versions.{title_word, version_word}
 
 -- the canonical text of a tree that was read, in either version, stands for the same tree

@@ -1,8 +1,8 @@
 pub mod Faults
 pub mod Versions
 pub mod KindWords
-pub mod Values
-pub mod Findings
-pub mod Reading
-pub mod Canonical
+pub mod TreeValues
+pub mod ReadFindings
+pub mod TreeReading
+pub mod CanonicalTrees
 pub mod Laws

@@ -4,7 +4,7 @@ ghost use Rattle.text_fields.specs.Reading.{field, Reads};
 ghost use Rattle.tree_text.specs.declared.error.TreeKind.TheVariants.{Short};
 ghost use Rattle.tree_text.specs.KindWords.{kind_in};
 ghost use Rattle.tree_text.specs.Versions.{title_in, version_in};
-ghost use Rattle.tree_text.specs.Values.{limited, line_of, next_line, step_in};
+ghost use Rattle.tree_text.specs.TreeValues.{limited, line_of, next_line, step_in};
 
 use crate::header::{Title, Version, title_in, version_in};
 use crate::kind_word::{KindWord, kind_in};

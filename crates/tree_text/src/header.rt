@@ -1,8 +1,8 @@
 // What a tree text says before its root: its title, its version and the sizes of its matrix.
 ghost use Rattle.std.specs.Prelude.{◌≡◌};
-ghost use Rattle.tree_type.specs.Trees.{tree_of};
+ghost use Rattle.tree_type.specs.DecompositionTrees.{tree_of};
 ghost use Rattle.tree_text.specs.Versions.{title_word, title_in, title_of, version_word, version_in};
-ghost use Rattle.tree_text.specs.Canonical.{has_pivot, version_of};
+ghost use Rattle.tree_text.specs.CanonicalTrees.{has_pivot, version_of};
 
 use crate::TreeKind;
 use crate::value::Sizes;

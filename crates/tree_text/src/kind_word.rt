@@ -1,6 +1,6 @@
 // The kinds of nodes and their words.
 ghost use Rattle.std.specs.Prelude.{◌≡◌};
-ghost use Rattle.tree_type.specs.Trees.{tree_of, finding_of};
+ghost use Rattle.tree_type.specs.DecompositionTrees.{tree_of, finding_of};
 ghost use Rattle.tree_text.specs.KindWords.{word_of, kind_among, has_word, kind_in, kind_of};
 
 use crate::TreeKind;

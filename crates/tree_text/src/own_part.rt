@@ -4,10 +4,10 @@ ghost use Rattle.cmr_base.specs.Separations.{first_is_flat, second_is_flat};
 ghost use Rattle.text_fields.specs.Reading.{times, fields, Reads};
 ghost use Rattle.tree_type.specs.Invariant.{HasChildren};
 ghost use Rattle.tree_text.specs.declared.error.TreeKind.TheVariants.{Short};
-ghost use Rattle.tree_text.specs.Values.{step_in};
+ghost use Rattle.tree_text.specs.TreeValues.{step_in};
 ghost use Rattle.tree_type.specs.Findings.{finding_shown};
-ghost use Rattle.tree_text.specs.Findings.{own_shown, front_shown};
-ghost use Rattle.tree_text.specs.Reading.{rising_lines, line_set, another_pair, network, connector, two, three, pivot_place, own_part, front};
+ghost use Rattle.tree_text.specs.ReadFindings.{own_shown, front_shown};
+ghost use Rattle.tree_text.specs.TreeReading.{rising_lines, line_set, another_pair, network, connector, two, three, pivot_place, own_part, front};
 
 use crate::header::Header;
 use crate::kind_word::KindWord;
@@ -183,7 +183,11 @@ fn read_three(
     })
 }
 
-fn read_place(words: &mut Words<'_>, sizes: Sizes, lines: &LineSet) -> Result<PlacedPivot, TreeError>
+fn read_place(
+    words: &mut Words<'_>,
+    sizes: Sizes,
+    lines: &LineSet,
+) -> Result<PlacedPivot, TreeError>
     ensures { Reads (λ x. x) words.new result (pivot_place sizes lines.now words.old) }
 {
     let row = field::line_of(words, sizes.rows, &lines.rows)?;

@@ -1,12 +1,12 @@
 // Reading of trees.
 ghost use Rattle.std.specs.Prelude.{◌≡◌, ◌≤◌, ◌<◌, ◌++◌, ◌∷◌, [], Some, None, map, length, OnOk, option_copied};
-ghost use Rattle.text_fields.specs.Words.{text_of};
+ghost use Rattle.text_fields.specs.TextWords.{text_of};
 ghost use Rattle.text_fields.specs.Reading.{field, Fails, Gives, Reads};
-ghost use Rattle.tree_type.specs.Trees.{Branch, tree_of, trees_from};
+ghost use Rattle.tree_type.specs.DecompositionTrees.{Branch, tree_of, trees_from};
 ghost use Rattle.tree_type.specs.Invariant.{HasChildren};
 ghost use Rattle.tree_text.specs.declared.error.TreeKind.TheVariants.{Short};
 ghost use Rattle.tree_type.specs.Findings.{finding_shown};
-ghost use Rattle.tree_text.specs.Reading.{another_tree, too_deep, node, plain_of, tree};
+ghost use Rattle.tree_text.specs.TreeReading.{another_tree, too_deep, node, plain_of, tree};
 
 use crate::header::Header;
 use crate::own_part::{Front, read_front};

@@ -1,6 +1,6 @@
 // What a word of a tree text stands for.
 ghost use Rattle.std.specs.Prelude.{◌≡◌, ◌≤◌, ◌<◌, IfOk, option_copied};
-ghost use Rattle.tree_text.specs.Values.{limited, line_in, among, line_of, next_line, step_in};
+ghost use Rattle.tree_text.specs.TreeValues.{limited, line_in, among, line_of, next_line, step_in};
 
 use crate::TreeKind;
 use cmr_base::{Indices, Line, LineSet};

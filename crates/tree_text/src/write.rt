@@ -2,13 +2,13 @@
 ghost use Rattle.std.specs.Prelude.{◌≡◌, ◌≤◌, ◌+◌, ◌++◌, ◌∷◌, [], false, fold, length, map, Ok, IfOk, OnOk};
 ghost use Rattle.std.specs.Fmt.{decimal};
 ghost use Rattle.std.specs.List.{flat_map};
-ghost use Rattle.text_fields.specs.Words.{text_of};
+ghost use Rattle.text_fields.specs.TextWords.{text_of};
 ghost use Rattle.text_fields.specs.Written.{with_word, with_line};
 ghost use Rattle.tree_type.specs.NodeCounts.{node_count};
-ghost use Rattle.tree_type.specs.Trees.{tree_of, finding_of};
+ghost use Rattle.tree_type.specs.DecompositionTrees.{tree_of, finding_of};
 ghost use Rattle.tree_text.specs.KindWords.{word_of, kind_of};
-ghost use Rattle.tree_text.specs.Reading as reading;
-ghost use Rattle.tree_text.specs.Canonical.{number_of_line, line_name, set_words, pair_words, network_words, connector_words, line_for, own_text_line, front_lines, node_lines, tree_text};
+ghost use Rattle.tree_text.specs.TreeReading as reading;
+ghost use Rattle.tree_text.specs.CanonicalTrees.{number_of_line, line_name, set_words, pair_words, network_words, connector_words, line_for, own_text_line, front_lines, node_lines, tree_text};
 
 use crate::header::{title_of, title_word, version_of, version_word};
 use crate::kind_word::{kind_of, word_of};

@@ -8,7 +8,7 @@ use Rattle.cmr_base.specs.declared.line_set.LineSet.{LineSet}
 use Rattle.cmr_base.specs.Matrix.{Matrix, entry}
 use Rattle.tree_type.specs.declared.refusal.Rule.{Rule}
 use Rattle.tree_type.specs.declared.refusal.Rule.TheVariants as rule
-use Rattle.tree_type.specs.Trees.{Empty, Reduced, OneSum, TwoSum, Undecided, Tree, Branch, NoTrees, one_tree, two_trees}
+use Rattle.tree_type.specs.DecompositionTrees.{Empty, Reduced, OneSum, TwoSum, Undecided, Tree, Branch, NoTrees, one_tree, two_trees}
 use Rattle.tree_type.specs.Verdicts.{Yes, Open, verdict_of}
 use Rattle.tree_type.specs.Places.{AllLines, These, Unnamed, places}
 use Rattle.tree_type.specs.Soundness.{Keeps, KeepsAll, IsSoundTree, IsBrokenTree, AreReductions, rule_number}

@@ -3,7 +3,7 @@ use Rattle.std.proofs.Common.{◌≡◌, ◌∙◌, suc, List, [], ◌∷◌, le
 use Rattle.std.proofs.lemmas.List.{length-map}
 use Rattle.tree_type.specs.declared.tree.Node.{Node}
 use Rattle.tree_type.specs.declared.tree.NodeList.{NodeList, fold_out-NodeList}
-use Rattle.tree_type.specs.Trees.{Finding, Tree, Trees, kind_step, node_step, list_step, tree_of, trees_of, trees_from, count_trees, nodes_in}
+use Rattle.tree_type.specs.DecompositionTrees.{Finding, Tree, Trees, kind_step, node_step, list_step, tree_of, trees_of, trees_from, count_trees, nodes_in}
 
 pub trees_are : (nodes : NodeList) → trees_of nodes ≡ trees_from (map tree_of (nodes_in nodes))
 trees_are nodes = fold_out-NodeList (Finding × Trees) Tree Trees kind_step node_step list_step nodes

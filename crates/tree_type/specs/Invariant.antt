@@ -10,7 +10,7 @@ use Rattle.cmr_base.specs.LineSets.{AllBelow, IsRowSet, IsColumnSet}
 use Rattle.cmr_base.specs.Reductions.{HasLine}
 use Rattle.cmr_base.specs.Separations.{first_is_flat, second_is_flat}
 use Rattle.tree_type.specs.Sides.{HasConnector}
-use Rattle.tree_type.specs.Trees.{Finding, Cycle, Reduced, OneSum, Network, Conetwork, TwoSum, ThreeSum, Violator, Pivoted, Tree, Trees, Branch, NoTrees, MoreTrees, SizedTree, count_trees, lines_at_root, tree_of}
+use Rattle.tree_type.specs.DecompositionTrees.{Finding, Cycle, Reduced, OneSum, Network, Conetwork, TwoSum, ThreeSum, Violator, Pivoted, Tree, Trees, Branch, NoTrees, MoreTrees, SizedTree, count_trees, lines_at_root, tree_of}
 
 -- lines of the matrix
 pub record AreLines (m : Matrix) (lines : LineSet) : Type 0 where

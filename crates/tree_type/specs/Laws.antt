@@ -1,7 +1,7 @@
 -- Laws of the rules of decomposition trees.
 use Rattle.std.specs.Prelude.{◌≡◌}
 use Rattle.cmr_base.specs.Matrix.{Matrix}
-use Rattle.tree_type.specs.Trees.{SizedTree}
+use Rattle.tree_type.specs.DecompositionTrees.{SizedTree}
 use Rattle.tree_type.specs.Soundness.{IsSound, IsBroken}
 use Rattle.tree_type.specs.declared.refusal.Refusal.{Refusal}
 

@@ -1,4 +1,4 @@
-pub mod Trees
+pub mod DecompositionTrees
 pub mod NodeCounts
 pub mod Verdicts
 pub mod Sides

@@ -1,6 +1,6 @@
 -- How many nodes a tree has.
 use Rattle.std.specs.Prelude.{◌+◌, ℕ, suc}
-use Rattle.tree_type.specs.Trees.{Tree, Trees, Branch, NoTrees, MoreTrees}
+use Rattle.tree_type.specs.DecompositionTrees.{Tree, Trees, Branch, NoTrees, MoreTrees}
 
 abbrev mutual
   -- a node and the nodes below it

@@ -16,7 +16,7 @@ use Rattle.tree_type.specs.Sides.{is_among, sides, HaveLines, IsReference, AreTw
 use Rattle.tree_type.specs.declared.refusal.Refusal.{Refusal}
 use Rattle.tree_type.specs.declared.refusal.Rule.{Rule}
 use Rattle.tree_type.specs.declared.refusal.Rule.TheVariants as rule
-use Rattle.tree_type.specs.Trees.{Finding, Empty, Cycle, Reduced, OneSum, Network, Conetwork, R10, TwoSum, ThreeSum, Enumerated, Violator, Undecided, Pivoted, Tree, SizedTree, tree_of}
+use Rattle.tree_type.specs.DecompositionTrees.{Finding, Empty, Cycle, Reduced, OneSum, Network, Conetwork, R10, TwoSum, ThreeSum, Enumerated, Violator, Undecided, Pivoted, Tree, SizedTree, tree_of}
 use Rattle.tree_type.specs.Invariant.{size_of}
 use Rattle.tree_type.specs.Places.{Due, AllLines, These, Unnamed, MadePivot, matrix_after, Place, places}
 

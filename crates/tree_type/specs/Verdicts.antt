@@ -2,7 +2,7 @@
 use Rattle.std.specs.Prelude.{Option, Some, None}
 use Rattle.std.specs.Option.{option_or}
 use Rattle.cmr_base.specs.declared.line_set.LineSet.{LineSet}
-use Rattle.tree_type.specs.Trees.{Finding, Cycle, Violator, Undecided, Tree, Trees, Branch, NoTrees, MoreTrees}
+use Rattle.tree_type.specs.DecompositionTrees.{Finding, Cycle, Violator, Undecided, Tree, Trees, Branch, NoTrees, MoreTrees}
 use Rattle.tree_type.specs.declared.verdicts.VerdictOf.{VerdictOf}
 use Rattle.tree_type.specs.declared.verdicts.VerdictOf.TheVariants as shown
 

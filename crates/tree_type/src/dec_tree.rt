@@ -1,6 +1,6 @@
 // Whole trees.
 ghost use Rattle.std.specs.Prelude.{◌≡◌};
-ghost use Rattle.tree_type.specs.Trees.{SizedTree};
+ghost use Rattle.tree_type.specs.DecompositionTrees.{SizedTree};
 ghost use Rattle.tree_type.specs.Invariant.{IsDecTree};
 
 use crate::Node;
@@ -15,7 +15,7 @@ pub struct DecTree {
 }
 
 impl Model for DecTree {
-    ghost use Rattle.tree_type.specs.Trees.{SizedTree};
+    ghost use Rattle.tree_type.specs.DecompositionTrees.{SizedTree};
     ghost use Rattle.tree_type.specs.Invariant.{IsDecTree};
     ghost use Rattle.tree_type.specs.contracts.tree.Node as e;
     ghost use Rattle.std.specs.Coded.{codes};

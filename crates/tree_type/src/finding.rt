@@ -1,6 +1,6 @@
 // What a node says, without its lines and its children.
 ghost use Rattle.std.specs.Prelude.{◌≡◌, ◌<◌, ◌++◌, ◌∷◌, [], length, map, IfOk};
-ghost use Rattle.tree_type.specs.Trees.{Branch, tree_of, trees_from};
+ghost use Rattle.tree_type.specs.DecompositionTrees.{Branch, tree_of, trees_from};
 ghost use Rattle.tree_type.specs.Invariant.{HasChildren};
 ghost use Rattle.tree_type.specs.Findings.{finding_shown};
 

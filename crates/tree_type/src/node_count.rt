@@ -1,6 +1,6 @@
 // How many nodes a tree has.
 ghost use Rattle.std.specs.Prelude.{◌≡◌, ◌<◌, ◌^◌};
-ghost use Rattle.tree_type.specs.Trees.{tree_of};
+ghost use Rattle.tree_type.specs.DecompositionTrees.{tree_of};
 ghost use Rattle.tree_type.specs.NodeCounts.{node_count};
 
 use crate::{DecTree, Kind, Node};

@@ -1,6 +1,6 @@
 // The nodes of a decomposition tree.
 ghost use Rattle.std.specs.Prelude.{◌≡◌, ◌<◌, ◌++◌, [], ◌∷◌, length, map, slice_get, Some, OnOk, OnErr};
-ghost use Rattle.tree_type.specs.Trees.{nodes_in, tree_of, trees_of, trees_from};
+ghost use Rattle.tree_type.specs.DecompositionTrees.{nodes_in, tree_of, trees_of, trees_from};
 
 use cmr_base::{LineList, LineSet, Memory, Network, Three, Two};
 use pivots::PlacedPivot;

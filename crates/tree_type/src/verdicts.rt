@@ -1,6 +1,6 @@
 // What a tree says of the matrix.
 ghost use Rattle.std.specs.Prelude.{◌≡◌, option_copied};
-ghost use Rattle.tree_type.specs.Trees.{tree_of};
+ghost use Rattle.tree_type.specs.DecompositionTrees.{tree_of};
 ghost use Rattle.tree_type.specs.Verdicts.{first_in, fault_at, open_at, verdict_of, verdict_shown};
 
 use crate::{DecTree, Kind, Node};

@@ -1,7 +1,7 @@
 // Connected parts, two-separations, groups of lines that no cut parts, three-separations, and the lines of the children.
 ghost use Rattle.std.specs.Prelude.{◌<◌, ◌+◌};
 ghost use Rattle.cmr_base.specs.Matrix.{height};
-ghost use Rattle.cuts.specs.Cuts.{HasNames};
+ghost use Rattle.cuts.specs.LineCuts.{HasNames};
 
 use crate::given::{bytes, is_text, lines_text, matrix, named_lines_text, row_text, sparse};
 use cmr_base::{LineSet, LineSetPair, Matrix, Memory, RowsAndColumns, Three};

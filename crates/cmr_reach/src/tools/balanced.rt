@@ -1,9 +1,9 @@
 //! Testing whether a matrix is balanced.
-ghost use Rattle.balance.specs.Searched.{HasSearchedFaults};
+ghost use Rattle.balance.specs.SearchedFaults.{HasSearchedFaults};
 ghost use Rattle.clap.specs.Words.{app_of, found_of, rows_of};
 ghost use Rattle.std.specs.Prelude.{◌≡◌, IfOk, IsTrue, false, true};
 ghost use Rattle.tree_type.specs.Invariant.{IsDecTree};
-ghost use Rattle.tree_type.specs.Trees.{tree_of};
+ghost use Rattle.tree_type.specs.DecompositionTrees.{tree_of};
 ghost use Rattle.tree_type.specs.Verdicts as verdicts;
 ghost use Rattle.tree_type.specs.Verdicts.{verdict_of};
 ghost use Rattle.cmr_base.specs.CyclePlaces.{HasNoCycleFault};

@@ -1,7 +1,7 @@
 //! The two matrices of a decomposition tree whose root is a sum of them.
 ghost use Rattle.clap.specs.Words.{app_of, found_of, rows_of};
 ghost use Rattle.std.specs.Prelude.{◌++◌, ◌≡◌, IfOk, IsTrue, OnOk};
-ghost use Rattle.tree_text.specs.Reading.{plain_of};
+ghost use Rattle.tree_text.specs.TreeReading.{plain_of};
 ghost use Rattle.tree_type.specs.Soundness.{IsSound};
 ghost use Rattle.cmr_base.specs.Matrix.{IsMatrix};
 ghost use Rattle.cmr_front.specs.Evidence.{ReportsTree};

@@ -3,7 +3,7 @@ ghost use Rattle.camion_sign.specs.Chains.{IsSoundChain};
 ghost use Rattle.cert_check.specs.Laws.{Tells};
 ghost use Rattle.clap.specs.Words.{app_of, found_of, rows_of};
 ghost use Rattle.std.specs.Prelude.{◌≡◌, IfOk, IsTrue};
-ghost use Rattle.tree_text.specs.Reading.{plain_of};
+ghost use Rattle.tree_text.specs.TreeReading.{plain_of};
 ghost use Rattle.tree_type.specs.Soundness.{IsSound};
 ghost use Rattle.tree_type.specs.Verdicts.{verdict_shown};
 ghost use Rattle.cmr_base.specs.LineSets.{AllBelow, IsColumnSet, IsRowSet};

@@ -1,7 +1,7 @@
 //! Writing a decomposition tree anew, in its canonical text.
 ghost use Rattle.clap.specs.Words.{app_of, found_of, rows_of};
 ghost use Rattle.std.specs.Prelude.{◌≡◌, IfOk, IsTrue};
-ghost use Rattle.tree_text.specs.Reading.{plain_of};
+ghost use Rattle.tree_text.specs.TreeReading.{plain_of};
 ghost use Rattle.cmr_front.specs.Evidence.{ReportsTree};
 ghost use Rattle.cmr_front.specs.Outcome.{outcome_report};
 ghost use Rattle.cmr_front.specs.Run.{Means, RunsOver, work};

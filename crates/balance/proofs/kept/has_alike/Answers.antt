@@ -2,7 +2,7 @@ use Rattle.std.proofs.Common.{refl, subst}
 use Rattle.std.proofs.lemmas.List.{take_all}
 use Rattle.std.proofs.lemmas.Bool.{false≢true}
 use Rattle.std.specs.List.{AllByRecursion}
-use Rattle.balance.specs.Kept.{AreAlike}
+use Rattle.balance.specs.CandidateColumns.{AreAlike}
 use Rattle.balance.proofs.KeptSteps.{some_alike, none_alike}
 use Rattle.balance.proofs.kept.has_alike.Goals as goal
 

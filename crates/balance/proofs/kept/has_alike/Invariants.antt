@@ -1,6 +1,6 @@
 use Rattle.std.proofs.Common.{take}
 use Rattle.std.specs.List.{AllByRecursion}
-use Rattle.balance.specs.Kept.{AreAlike}
+use Rattle.balance.specs.CandidateColumns.{AreAlike}
 use Rattle.balance.proofs.kept.has_alike.Given as goal
 
 abbrev pub invariant-loop-other : goal.invariant-loop-other

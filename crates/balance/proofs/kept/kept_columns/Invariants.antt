@@ -1,4 +1,4 @@
-use Rattle.balance.specs.Kept.{AreKeptBelow}
+use Rattle.balance.specs.CandidateColumns.{AreKeptBelow}
 use Rattle.balance.proofs.kept.kept_columns.Given as goal
 
 abbrev pub invariant-loop-column : goal.invariant-loop-column

@@ -1,6 +1,6 @@
 use Rattle.std.proofs.Common.{subst, IfOk}
 use Rattle.cmr_base.specs.Matrix.{Matrix}
-use Rattle.balance.specs.Searched.{HasSearchedFaults}
+use Rattle.balance.specs.SearchedFaults.{HasSearchedFaults}
 use Rattle.balance.proofs.LeastFaults.{searched}
 use Rattle.balance.proofs.search.least_balance_fault.Goals as goal
 

@@ -1,6 +1,6 @@
 use Rattle.std.proofs.Common.{◌-◌, ℕ, List, length, subst}
 use Rattle.std.proofs.lemmas.List.{length-drop, take_all}
-use Rattle.camion_sign.specs.Faults.{IsLeastFrom}
+use Rattle.camion_sign.specs.FaultLines.{IsLeastFrom}
 use Rattle.std.proofs.Common.{drop, arith}
 use Rattle.cmr_base.specs.CyclePlaces.{path_columns}
 use Rattle.camion_sign.proofs.LineLists.{more_columns}

@@ -1,6 +1,6 @@
 use Rattle.std.proofs.Common.{◌-◌, ℕ, List, length, subst}
 use Rattle.std.proofs.lemmas.List.{length-drop, take_all}
-use Rattle.camion_sign.specs.Faults.{IsLeastFrom}
+use Rattle.camion_sign.specs.FaultLines.{IsLeastFrom}
 use Rattle.std.proofs.Common.{[], arith}
 use Rattle.cmr_base.specs.CyclePlaces.{path_rows}
 use Rattle.std.proofs.Common.{drop}

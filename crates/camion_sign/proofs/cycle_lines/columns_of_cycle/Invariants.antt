@@ -1,5 +1,5 @@
 use Rattle.cmr_base.specs.CyclePlaces.{cycle_columns}
-use Rattle.camion_sign.specs.Faults.{IsGathering, left_to_gather}
+use Rattle.camion_sign.specs.FaultLines.{IsGathering, left_to_gather}
 use Rattle.camion_sign.proofs.cycle_lines.columns_of_cycle.Given as goal
 
 abbrev pub invariant-lines : goal.invariant-lines

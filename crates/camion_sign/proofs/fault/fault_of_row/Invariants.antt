@@ -1,5 +1,5 @@
 use Rattle.std.proofs.Common.{ℕ, ◌<◌}
-use Rattle.camion_sign.specs.Faults.{HasNoFaultAt}
+use Rattle.camion_sign.specs.FaultLines.{HasNoFaultAt}
 use Rattle.camion_sign.specs.Walks.{HasPlacesAndMarks}
 use Rattle.camion_sign.proofs.fault.fault_of_row.Given as goal
 

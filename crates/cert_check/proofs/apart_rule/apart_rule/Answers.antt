@@ -1,5 +1,5 @@
 use Rattle.std.proofs.Common.{sym, subst}
-use Rattle.tree_type.specs.Trees.{OneSum, trees_of}
+use Rattle.tree_type.specs.DecompositionTrees.{OneSum, trees_of}
 use Rattle.tree_type.specs.Places.{lines_of_each}
 use Rattle.cert_check.specs.Answers.{IsFirstBrokenRule}
 use Rattle.cert_check.proofs.ApartRules.{apart_says}

@@ -1,7 +1,7 @@
 use Rattle.std.proofs.Common.{◌<◌, take}
 use Rattle.std.specs.List.{AllByRecursion}
 use Rattle.tree_type.specs.Invariant.{size_of}
-use Rattle.cert_check.specs.Children.{lines_in}
+use Rattle.cert_check.specs.NodeLines.{lines_in}
 use Rattle.cert_check.proofs.apart_rule.are_filled.Given as goal
 
 abbrev pub invariant-loop-child : goal.invariant-loop-child

@@ -1,6 +1,6 @@
 use Rattle.std.proofs.Common.{◌∙◌, ◌+◌, drop, sym, ap, subst}
 use Rattle.std.proofs.lemmas.List.{drop_all}
-use Rattle.cert_check.specs.Children.{lines_in}
+use Rattle.cert_check.specs.NodeLines.{lines_in}
 use Rattle.cert_check.proofs.Children.{child_first}
 use Rattle.cert_check.proofs.ApartRules.{IsBeside, beside_here, beside_later, beside_none}
 use Rattle.cert_check.proofs.apart_rule.columns_beside.Goals as goal

@@ -1,7 +1,7 @@
 use Rattle.std.proofs.Common.{◌≡◌, take}
 use Rattle.std.specs.Prelude.{count_by}
 use Rattle.tree_type.specs.Sides.{is_among}
-use Rattle.cert_check.specs.Children.{lines_in}
+use Rattle.cert_check.specs.NodeLines.{lines_in}
 use Rattle.cert_check.proofs.apart_rule.count_column.Given as goal
 
 abbrev pub invariant-loop-child : goal.invariant-loop-child

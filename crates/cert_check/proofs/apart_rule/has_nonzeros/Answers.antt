@@ -1,5 +1,5 @@
 use Rattle.cmr_base.specs.Matrix.{entry}
-use Rattle.cert_check.specs.Children.{lines_in}
+use Rattle.cert_check.specs.NodeLines.{lines_in}
 use Rattle.cert_check.proofs.ApartRules.{inside_test}
 use Rattle.cert_check.proofs.apart_rule.has_nonzeros.Goals as goal
 

@@ -2,7 +2,7 @@ use Rattle.std.proofs.Common.{◌≡◌}
 use Rattle.std.specs.Prelude.{count_by}
 use Rattle.tree_type.specs.Sides.{is_among}
 use Rattle.cmr_base.proofs.Lists.{all_at}
-use Rattle.cert_check.specs.Children.{lines_in}
+use Rattle.cert_check.specs.NodeLines.{lines_in}
 use Rattle.cert_check.proofs.apart_rule.have_nonzeros.Goals as goal
 
 pub has_nonzeros-requires-clause-one : goal.has_nonzeros-requires-clause-one

@@ -2,7 +2,7 @@ use Rattle.std.proofs.Common.{◌≡◌, ◌≢◌, ◌&&◌, true, pos, take}
 use Rattle.std.specs.List.{AllByRecursion, list_any}
 use Rattle.cmr_base.specs.Matrix.{entry}
 use Rattle.tree_type.specs.Sides.{is_among}
-use Rattle.cert_check.specs.Children.{lines_in}
+use Rattle.cert_check.specs.NodeLines.{lines_in}
 use Rattle.cert_check.proofs.apart_rule.have_nonzeros.Given as goal
 
 abbrev pub invariant-loop-row : goal.invariant-loop-row

@@ -2,7 +2,7 @@ use Rattle.std.proofs.Common.{◌≡◌, take}
 use Rattle.std.specs.Prelude.{count_by}
 use Rattle.std.specs.List.{AllByRecursion}
 use Rattle.tree_type.specs.Sides.{is_among}
-use Rattle.cert_check.specs.Children.{lines_in}
+use Rattle.cert_check.specs.NodeLines.{lines_in}
 use Rattle.cert_check.proofs.apart_rule.have_rows.Given as goal
 
 abbrev pub invariant-loop-row : goal.invariant-loop-row

@@ -1,5 +1,5 @@
 use Rattle.std.proofs.Common.{rules, true, ◌≡◌, ◌+◌, ◌++◌, [], ◌∷◌, suc, drop, length, List, ℕ, Some, None, ap, sym, subst, arith}
-use Rattle.tree_type.specs.Trees.{tree_of, Reduced, TwoSum, ThreeSum, Pivoted, one_tree, NoTrees}
+use Rattle.tree_type.specs.DecompositionTrees.{tree_of, Reduced, TwoSum, ThreeSum, Pivoted, one_tree, NoTrees}
 use Rattle.tree_type.specs.Places.{places_from}
 use Rattle.tree_type.specs.Soundness.{IsFirstBroken}
 use Rattle.tree_type.specs.declared.tree.Node.{the_lemmas}

@@ -1,5 +1,5 @@
 use Rattle.std.proofs.Common.{◌≡◌, drop}
-use Rattle.tree_type.specs.Trees.{tree_of}
+use Rattle.tree_type.specs.DecompositionTrees.{tree_of}
 use Rattle.cert_check.proofs.Children.{AreLeft}
 use Rattle.cert_check.proofs.check_tree.+check.Given as goal
 

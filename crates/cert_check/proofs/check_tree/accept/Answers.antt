@@ -1,6 +1,6 @@
 use Rattle.std.proofs.Common.{[], false, None, sym, subst}
 use Rattle.tree_type.specs.declared.refusal.Rule.TheVariants as rule
-use Rattle.tree_type.specs.Trees.{tree_of}
+use Rattle.tree_type.specs.DecompositionTrees.{tree_of}
 use Rattle.tree_type.specs.Places.{AllLines, places}
 use Rattle.tree_type.specs.Soundness.{IsFirstBroken}
 use Rattle.cert_check.specs.Answers.{Answers, AnswersOn, AnswersBelow, IsRuleAt, KeepsOwn, Stands, nodes_below}

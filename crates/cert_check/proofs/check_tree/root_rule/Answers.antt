@@ -1,7 +1,7 @@
 use Rattle.std.proofs.Common.{rules, ◌∙◌, false, ap, sym, subst}
 use Rattle.std.proofs.lemmas.Bool.{true≢false}
 use Rattle.cmr_base.specs.LineSets.{first_lines}
-use Rattle.tree_type.specs.Trees.{tree_of, finding_of}
+use Rattle.tree_type.specs.DecompositionTrees.{tree_of, finding_of}
 use Rattle.tree_type.specs.Places.{AllLines}
 use Rattle.tree_type.specs.Soundness.{HasItsLines}
 use Rattle.cert_check.specs.Answers.{IsOwnRule, IsRuleAt, KeepsOwn, Stands}

@@ -1,7 +1,7 @@
 use Rattle.std.proofs.Common.{rules, ◌∙◌, Some, sym, subst}
 use Rattle.std.proofs.lemmas.Bool.{true≢false}
 use Rattle.tree_type.specs.declared.refusal.Rule.TheVariants as rule
-use Rattle.tree_type.specs.Trees.{tree_of}
+use Rattle.tree_type.specs.DecompositionTrees.{tree_of}
 use Rattle.tree_type.specs.Soundness.{HasItsLines}
 use Rattle.cert_check.specs.Answers.{due_from, unless, IsOwnRule, IsRuleAt, KeepsOwn}
 use Rattle.cert_check.proofs.Answering.{own_refused, standing_decides, own_stays, lines_at, sizes_due, lines_is}

@@ -1,4 +1,4 @@
-use Rattle.tree_type.specs.Trees.{tree_of}
+use Rattle.tree_type.specs.DecompositionTrees.{tree_of}
 use Rattle.cert_check.proofs.SoundTrees.{tells}
 use Rattle.cert_check.proofs.laws.sound_means.Goals as goal
 

@@ -1,5 +1,5 @@
 use Rattle.std.proofs.Common.{◌≤◌, length, sym, subst}
-use Rattle.tree_type.specs.Trees.{Enumerated}
+use Rattle.tree_type.specs.DecompositionTrees.{Enumerated}
 use Rattle.cert_check.specs.Answers.{Says}
 use Rattle.cert_check.proofs.OwnRules.{few_lines, part_sizes, enumerated_says}
 use Rattle.cert_check.proofs.leaf_rules.enumerated_rule.Goals as goal

@@ -1,5 +1,5 @@
 use Rattle.std.proofs.Common.{sym, subst}
-use Rattle.tree_type.specs.Trees.{R10}
+use Rattle.tree_type.specs.DecompositionTrees.{R10}
 use Rattle.cert_check.specs.Answers.{Says}
 use Rattle.cert_check.proofs.OwnRules.{r10_says}
 use Rattle.cert_check.proofs.leaf_rules.r10_rule.Goals as goal

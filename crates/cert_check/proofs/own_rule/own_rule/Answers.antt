@@ -1,5 +1,5 @@
 use Rattle.std.proofs.Common.{[]}
-use Rattle.tree_type.specs.Trees.{Empty, Cycle, OneSum, Violator, NoTrees, trees_of}
+use Rattle.tree_type.specs.DecompositionTrees.{Empty, Cycle, OneSum, Violator, NoTrees, trees_of}
 use Rattle.tree_type.specs.declared.tree.Kind.TheVariants as kind
 use Rattle.tree_type.proofs.NodeTrees.{said_empty, said_cycle, said_one_sum, said_violator}
 use Rattle.cert_check.proofs.OwnRules.{own_of, own_lines, cycle_lines, two_lines, three_lines, violator_lines, pivot_lines}

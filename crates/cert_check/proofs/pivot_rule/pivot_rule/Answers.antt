@@ -1,5 +1,5 @@
 use Rattle.std.proofs.Common.{rules, sym, subst}
-use Rattle.tree_type.specs.Trees.{Pivoted}
+use Rattle.tree_type.specs.DecompositionTrees.{Pivoted}
 use Rattle.cert_check.specs.Answers.{Says}
 use Rattle.cert_check.proofs.OwnRules.{pivot_says}
 use Rattle.cert_check.proofs.pivot_rule.pivot_rule.Goals as goal

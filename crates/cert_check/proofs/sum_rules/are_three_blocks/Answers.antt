@@ -1,5 +1,5 @@
 use Rattle.cmr_base.specs.Matrix.{entry}
-use Rattle.cert_check.specs.Sides.{sides_from}
+use Rattle.cert_check.specs.SideLines.{sides_from}
 use Rattle.cert_check.proofs.SumRules.{made_blocks}
 use Rattle.cert_check.proofs.sum_rules.are_three_blocks.Goals as goal
 

@@ -1,7 +1,7 @@
 use Rattle.std.proofs.Common.{rules, sym, subst}
-use Rattle.tree_type.specs.Trees.{TwoSum}
+use Rattle.tree_type.specs.DecompositionTrees.{TwoSum}
 use Rattle.cert_check.specs.Answers.{Says}
-use Rattle.cert_check.specs.Sides.{sides_from}
+use Rattle.cert_check.specs.SideLines.{sides_from}
 use Rattle.cert_check.proofs.SumRules.{two_says}
 use Rattle.cert_check.proofs.sum_rules.two_rule_on.Goals as goal
 

@@ -3,7 +3,7 @@ use Rattle.std.specs.Prelude.{IsTrue, slice_get}
 use Rattle.cmr_io.specs.Whole.{AppendsFront}
 use Rattle.cmr_front.specs.Report.{File, with_files}
 use Rattle.cmr_front.specs.Outcome.{cannot_write_line, file_of}
-use Rattle.cmr_front.specs.Written.{IsWritten}
+use Rattle.cmr_front.specs.SinkLines.{IsWritten}
 use Rattle.cmr_front.specs.Ending.{IsLeftAt, cut_short, unwritten}
 use Rattle.cmr_front.proofs.Files.{file_at}
 use Rattle.cmr_front.proofs.carry_out.deliver.Goals as goal

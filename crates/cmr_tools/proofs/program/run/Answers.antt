@@ -1,6 +1,6 @@
 use Rattle.std.proofs.Common.{◌≡◌, None, Err, refl, subst, sym, inl, arith}
 use Rattle.cmr_front.specs.declared.outcome.Stop.TheVariants as stops
-use Rattle.cmr_tools.specs.Words.{order, order_of, ordered}
+use Rattle.cmr_tools.specs.ToolOrders.{order, order_of, ordered}
 use Rattle.cmr_front.specs.Words.Reading.{Gives}
 use Rattle.cmr_front.specs.Ending.{devices, standing}
 use Rattle.cmr_front.specs.Run.{IsNothing}

@@ -1,7 +1,7 @@
 use Rattle.std.proofs.Common.{rules, ◌≡◌, ◌∙◌, ◌+◌, ◌++◌, map, ap, sym, subst}
 use Rattle.std.proofs.lemmas.Result.{on_ok_weaker}
 use Rattle.tree_type.specs.declared.tree.Node.{the_lemmas}
-use Rattle.tree_type.specs.Trees.{tree_of, trees_from, nodes_in, Reduced, OneSum, NoTrees, one_tree}
+use Rattle.tree_type.specs.DecompositionTrees.{tree_of, trees_from, nodes_in, Reduced, OneSum, NoTrees, one_tree}
 use Rattle.cert_check.proofs.Answering.{reduced_is}
 use Rattle.cert_check.proofs.Children.{one_sum_is}
 use Rattle.cmr_unimodular.specs.Outline.{AreAtDepth, IsAtDepth, outline_from, outline_below}

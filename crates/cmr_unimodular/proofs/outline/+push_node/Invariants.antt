@@ -1,5 +1,5 @@
 use Rattle.std.proofs.Common.{◌≡◌, ◌++◌, ◌+◌, drop, map}
-use Rattle.tree_type.specs.Trees.{tree_of, trees_from}
+use Rattle.tree_type.specs.DecompositionTrees.{tree_of, trees_from}
 use Rattle.cmr_unimodular.specs.Outline.{AreAtDepth, outline_from, outline_below}
 use Rattle.cmr_unimodular.proofs.outline.+push_node.Given as goal
 

@@ -1,5 +1,5 @@
 use Rattle.std.proofs.Common.{sym, subst}
-use Rattle.tree_type.specs.Trees.{tree_of}
+use Rattle.tree_type.specs.DecompositionTrees.{tree_of}
 use Rattle.cmr_unimodular.specs.Outline.{IsAtDepth}
 use Rattle.cmr_unimodular.proofs.Outlines.{root_depth}
 use Rattle.cmr_unimodular.proofs.outline.push_outline.Goals as goal

@@ -1,6 +1,6 @@
 use Rattle.std.proofs.Common.{length, ap, arith}
 use Rattle.cert_check.proofs.SoundTrees.{tells}
-use Rattle.tree_type.specs.Trees.{tree_of}
+use Rattle.tree_type.specs.DecompositionTrees.{tree_of}
 use Rattle.cmr_unimodular.specs.Verdict.{IsDecomposition}
 use Rattle.cmr_unimodular.proofs.Told.{root_height, told}
 use Rattle.cmr_unimodular.proofs.verdict.decomposed.Goals as goal

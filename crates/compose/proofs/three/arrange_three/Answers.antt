@@ -3,7 +3,7 @@ use Rattle.std.proofs.lemmas.Result.{IfOk-weaker}
 use Rattle.cmr_base.specs.Matrix.{entry}
 use Rattle.cmr_base.specs.Separations.{listed, first_is_flat, second_is_flat}
 use Rattle.compose.specs.declared.sides.Sides.{Sides}
-use Rattle.compose.specs.Kinds.{kind_of_form}
+use Rattle.compose.specs.SumKinds.{kind_of_form}
 use Rattle.compose.specs.Arrangements.{HasSignedLines, arranged, three_lines, three_arrangement}
 use Rattle.compose.specs.RoundTrips.{IsRoundTrip}
 use Rattle.compose.proofs.FittingArrangements.{three_arrangement_fits, connector_there}

@@ -1,4 +1,4 @@
-use Rattle.cuts.specs.LineSets.{as_set}
+use Rattle.cuts.specs.WordSets.{as_set}
 use Rattle.cuts.proofs.GroupLemmas.{covered_group, none_among}
 use Rattle.cuts.proofs.cut_groups.is_covered.Goals as goal
 

@@ -1,4 +1,4 @@
-use Rattle.cuts.specs.LineSets.{as_set}
+use Rattle.cuts.specs.WordSets.{as_set}
 use Rattle.cuts.proofs.CoverLemmas.{halved_within}
 use Rattle.cuts.proofs.line_patterns.grown_halves.Goals as goal
 

@@ -1,7 +1,7 @@
 use Rattle.std.proofs.Common.{◌≡◌, ◌⊎◌, ℕ, true, length, slice_index_or}
 use Rattle.cmr_base.specs.ColumnSets.{has_column}
 use Rattle.cmr_base.specs.Planes.{words_for}
-use Rattle.cuts.specs.LineSets.{is_in_heap}
+use Rattle.cuts.specs.WordSets.{is_in_heap}
 use Rattle.cuts.proofs.line_words.add_heap.Given as goal
 
 abbrev pub invariant-loop-line : goal.invariant-loop-line

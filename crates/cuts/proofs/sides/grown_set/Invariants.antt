@@ -1,6 +1,6 @@
 use Rattle.std.proofs.Common.{◌≡◌, ◌⊎◌, ◌≤◌, ◌-◌, ℕ, true}
 use Rattle.cmr_base.specs.ColumnSets.{has_column}
-use Rattle.cuts.specs.Sides.{HasSetNumbers}
+use Rattle.cuts.specs.CutSides.{HasSetNumbers}
 use Rattle.cuts.proofs.sides.grown_set.Given as goal
 
 abbrev pub invariant-loop-row : goal.invariant-loop-row

@@ -1,6 +1,6 @@
 use Rattle.std.proofs.Common.{◌∙◌, ℕ, ap, sym, subst}
 use Rattle.cmr_base.specs.LineSets.{first_lines}
-use Rattle.tree_type.specs.Trees.{SizedTree, tree_of}
+use Rattle.tree_type.specs.DecompositionTrees.{SizedTree, tree_of}
 use Rattle.tree_type.specs.Soundness.{IsSoundTree}
 use Rattle.decomp_tree.specs.PivotedShapes.{IsDrawnWith, IsShapeWith}
 use Rattle.decomp_tree.proofs.PivotedRoots.{whole_shape, whole_sound, whole_tree}

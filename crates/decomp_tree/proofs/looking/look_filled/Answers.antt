@@ -1,6 +1,6 @@
 use Rattle.std.proofs.Common.{false, subst}
 use Rattle.cmr_base.specs.Matrix.{Matrix}
-use Rattle.sp_reduce.specs.Digests.{HasNoReducibleLine}
+use Rattle.sp_reduce.specs.RowDigests.{HasNoReducibleLine}
 use Rattle.decomp_tree.specs.Shapes.{IsReducible}
 use Rattle.decomp_tree.proofs.Said.{none_next, none_reducible}
 use Rattle.decomp_tree.specs.Nodes.{inner_of}

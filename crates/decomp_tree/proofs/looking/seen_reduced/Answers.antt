@@ -2,7 +2,7 @@ use Rattle.std.proofs.Common.{◌∙◌, ◌<◌, List, [], ◌∷◌, length, s
 use Rattle.cmr_base.specs.declared.line.Line.{Line}
 use Rattle.cmr_base.specs.declared.line.Step.{Step}
 use Rattle.cmr_base.specs.declared.line_set.LineSet.{LineSet}
-use Rattle.tree_type.specs.Trees.{Reduced}
+use Rattle.tree_type.specs.DecompositionTrees.{Reduced}
 use Rattle.tree_type.specs.declared.finding.Finding.TheVariants as held
 use Rattle.decomp_tree.specs.Shapes.{set_in}
 use Rattle.decomp_tree.specs.Seen.{IsSaid}

@@ -2,7 +2,7 @@ use Rattle.std.proofs.Common.{[], ◌∷◌, sym, subst}
 use Rattle.cmr_base.specs.declared.line_set.LineSet.{LineSet}
 use Rattle.cmr_base.specs.declared.separation.Three.{Three}
 use Rattle.tree_type.specs.Sides.{three_one, three_two}
-use Rattle.tree_type.specs.Trees.{ThreeSum}
+use Rattle.tree_type.specs.DecompositionTrees.{ThreeSum}
 use Rattle.tree_type.specs.declared.finding.Finding.TheVariants as held
 use Rattle.decomp_tree.specs.Seen.{IsSaid}
 use Rattle.decomp_tree.proofs.Said.{seen_as}

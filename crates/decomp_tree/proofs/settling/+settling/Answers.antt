@@ -8,7 +8,7 @@ use Rattle.cmr_base.proofs.Lists.{no_items}
 use Rattle.pivots.specs.PivotedParts.{IsPivotedPart}
 use Rattle.tree_type.specs.Findings.{finding_shown}
 use Rattle.tree_type.specs.Invariant.{size_of}
-use Rattle.tree_type.specs.Trees.{Branch, NoTrees, Violator, tree_of}
+use Rattle.tree_type.specs.DecompositionTrees.{Branch, NoTrees, Violator, tree_of}
 use Rattle.tree_type.specs.Verdicts.{verdict_of}
 use Rattle.tree_type.specs.declared.tree.Node.{Node}
 use Rattle.decomp_tree.specs.declared.drafts.Draft.{Draft}

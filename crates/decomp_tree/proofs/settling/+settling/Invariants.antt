@@ -1,6 +1,6 @@
 use Rattle.std.proofs.Common.{◌≡◌, ◌+◌, ◌*◌, ◌++◌, length, map}
 use Rattle.std.specs.Vec.Iter.{into_iter_items, into_iter_len}
-use Rattle.tree_type.specs.Trees.{tree_of}
+use Rattle.tree_type.specs.DecompositionTrees.{tree_of}
 use Rattle.tree_type.specs.Invariant.{size_of}
 use Rattle.decomp_tree.specs.Sketches.{lines_of_sketch, sketch_of}
 use Rattle.decomp_tree.proofs.Settled.{AreSettled}

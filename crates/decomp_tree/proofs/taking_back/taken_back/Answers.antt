@@ -1,6 +1,6 @@
 use Rattle.std.proofs.Common.{◌≡◌, ◌∙◌, ap, sym, subst}
 use Rattle.std.proofs.lemmas.Result.{IfOk-weaker}
-use Rattle.tree_type.specs.Trees.{Branch, NoTrees, Violator, tree_of}
+use Rattle.tree_type.specs.DecompositionTrees.{Branch, NoTrees, Violator, tree_of}
 use Rattle.tree_type.specs.Verdicts.{No, verdict_of, verdict_shown}
 use Rattle.decomp_tree.specs.PivotedShapes.{IsToldBeforePivot}
 use Rattle.decomp_tree.proofs.taking_back.taken_back.Goals as goal

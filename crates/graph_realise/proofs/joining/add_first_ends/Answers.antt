@@ -2,7 +2,7 @@ use Rattle.std.proofs.Common.{◌&&◌, ◌||◌, ◌∙◌, true, false, refl, 
 use Rattle.cmr_base.specs.Trees.{support}
 use Rattle.cmr_base.proofs.Booleans.{and_same, or_false}
 use Rattle.graph_realise.specs.SideTables.{side_in, end_in}
-use Rattle.graph_realise.specs.Tables.{cell}
+use Rattle.graph_realise.specs.BitTables.{cell}
 use Rattle.graph_realise.proofs.JoinLemmas.{changed_by, filled_as, filled_same}
 use Rattle.graph_realise.proofs.joining.add_first_ends.Goals as goal
 

@@ -1,6 +1,6 @@
 use Rattle.std.proofs.Common.{◌&&◌, not}
 use Rattle.graph_realise.specs.SideTables.{side_in, end_in}
-use Rattle.graph_realise.specs.Tables.{cell}
+use Rattle.graph_realise.specs.BitTables.{cell}
 use Rattle.graph_realise.proofs.JoinLemmas.{changed_by}
 use Rattle.graph_realise.proofs.joining.reverse_part.Goals as goal
 

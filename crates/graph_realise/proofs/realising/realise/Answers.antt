@@ -3,7 +3,7 @@ use Rattle.cmr_base.specs.LineSets.{first_lines}
 use Rattle.cmr_base.specs.Matrix.{height}
 use Rattle.cmr_base.specs.Trees.{support}
 use Rattle.cmr_base.proofs.LineSetLemmas.{first_below}
-use Rattle.graph_realise.specs.Searches.{IsSearch}
+use Rattle.graph_realise.specs.TreeSearches.{IsSearch}
 use Rattle.graph_realise.specs.declared.side_search.TreeSearch.TheVariants.{Found, NoTree}
 use Rattle.graph_realise.proofs.AllRows.{cuts_of_all, none_of_all}
 use Rattle.graph_realise.proofs.realising.realise.Goals as goal

@@ -4,8 +4,8 @@ use Rattle.cmr_base.specs.ColumnSets.{Denies}
 use Rattle.cmr_base.specs.Splits.{HasNoThree, Splits}
 use Rattle.cmr_base.specs.Trees.{support}
 use Rattle.bridge_split.specs.SplitCases.{AreSidesOf}
-use Rattle.graph_realise.specs.Searches.{IsSearch, IsSplit}
-use Rattle.graph_realise.specs.Tables.{AreChunksOf}
+use Rattle.graph_realise.specs.TreeSearches.{IsSearch, IsSplit}
+use Rattle.graph_realise.specs.BitTables.{AreChunksOf}
 use Rattle.graph_realise.proofs.NoCuts.{no_odd}
 use Rattle.bridge_split.proofs.SidesOfParts.{parts_few}
 use Rattle.graph_realise.proofs.SearchLemmas.{all_numbered, clear_more, fits, joined_clear, joined_cuts, kept_more, named_off, none_more, others_more, whole_more, parts_disjoint, parts_in_rows, some_three, with_below, with_fewer}

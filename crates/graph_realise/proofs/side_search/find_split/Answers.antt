@@ -4,7 +4,7 @@ use Rattle.std.proofs.lemmas.Result.{IfOk-weaker}
 use Rattle.cmr_base.specs.Splits.{AreParts, IsFirstSplit, Splits}
 use Rattle.cmr_base.specs.Trees.{support}
 use Rattle.bridge_split.specs.declared.splitting.SplitRow.{SplitRow}
-use Rattle.graph_realise.specs.Searches.{AreWholeBelow, IsSplit}
+use Rattle.graph_realise.specs.TreeSearches.{AreWholeBelow, IsSplit}
 use Rattle.graph_realise.proofs.SearchLemmas.{split_is}
 use Rattle.graph_realise.proofs.side_search.find_split.Goals as goal
 

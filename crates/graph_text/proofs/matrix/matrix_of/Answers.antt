@@ -3,7 +3,7 @@ use Rattle.std.proofs.lemmas.Result.{IfOk-weaker}
 use Rattle.cmr_base.specs.Matrix.{IsMatrix, height}
 use Rattle.cmr_base.specs.Trees.{IsBinary, ReproducesSupport}
 use Rattle.cmr_base.proofs.FilledMatrices.{height-filled}
-use Rattle.graph_text.specs.Supports.{one_at}
+use Rattle.graph_text.specs.SupportMatrix.{one_at}
 use Rattle.graph_text.proofs.SupportCells.{ones_are_binary, ones_are_matrix, ones_reproduced}
 use Rattle.graph_text.proofs.matrix.matrix_of.Goals as goal
 

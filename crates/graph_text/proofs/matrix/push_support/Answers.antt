@@ -1,6 +1,6 @@
 use Rattle.std.proofs.Common.{◌≡◌, ◌∙◌, rules, to_z, of_z, w8}
 use Rattle.std.proofs.lemmas.Int.{to_z-of_z}
-use Rattle.graph_text.specs.Supports.{one_at}
+use Rattle.graph_text.specs.SupportMatrix.{one_at}
 use Rattle.cmr_base.proofs.FilledCells.{entry_pushed}
 use Rattle.graph_text.proofs.matrix.push_support.Goals as goal
 

@@ -1,6 +1,6 @@
 use Rattle.std.proofs.Common.{◌≡◌, ◌++◌, map}
 use Rattle.cmr_base.specs.LineSets.{first_lines}
-use Rattle.graph_text.specs.Supports.{one_at}
+use Rattle.graph_text.specs.SupportMatrix.{one_at}
 use Rattle.graph_text.proofs.matrix.push_support.Given as goal
 
 -- the row's places so far

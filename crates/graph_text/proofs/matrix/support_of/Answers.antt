@@ -4,7 +4,7 @@ use Rattle.cmr_base.specs.LineSets.{first_lines}
 use Rattle.cmr_base.specs.Matrix.{Matrix, IsEntry, height, rows_of}
 use Rattle.cmr_base.proofs.FilledCells.{cells_more, cut, small, whole}
 use Rattle.cmr_base.proofs.SmallEntries.{zero_is_entry}
-use Rattle.graph_text.specs.Supports.{one_at}
+use Rattle.graph_text.specs.SupportMatrix.{one_at}
 use Rattle.graph_text.proofs.SupportCells.{cells, one_is_entry, row_cells}
 use Rattle.graph_text.proofs.matrix.support_of.Goals as goal
 

@@ -1,7 +1,7 @@
 use Rattle.std.proofs.Common.{◌≡◌, map}
 use Rattle.std.specs.List.{flat_map}
 use Rattle.cmr_base.specs.LineSets.{first_lines}
-use Rattle.graph_text.specs.Supports.{one_at}
+use Rattle.graph_text.specs.SupportMatrix.{one_at}
 use Rattle.graph_text.proofs.matrix.support_of.Given as goal
 
 -- the rows so far

@@ -1,5 +1,5 @@
 use Rattle.std.proofs.Common.{◌≡◌, drop}
-use Rattle.graph_text.specs.Reading.{all_within}
+use Rattle.graph_text.specs.GraphReading.{all_within}
 use Rattle.graph_text.proofs.read.all_within.Given as goal
 
 -- what is left makes the whole

@@ -1,9 +1,9 @@
 use Rattle.std.proofs.Common.{◌≡◌, ◌∷◌, ◌∙◌, ℕ, List, ap, sym}
 use Rattle.std.proofs.lemmas.Result.{err_from_is_err_and}
-use Rattle.text_fields.specs.Words.{Text}
+use Rattle.text_fields.specs.TextWords.{Text}
 use Rattle.graph_text.specs.declared.edges.Edge.{Edge}
 use Rattle.graph_text.specs.declared.edges.Element.{Element}
-use Rattle.graph_text.specs.Reading.{edges_from, no_edges}
+use Rattle.graph_text.specs.GraphReading.{edges_from, no_edges}
 use Rattle.graph_text.proofs.EdgeSteps.{edge_fails, edge_keeps_size, edge_read, edges_few}
 use Rattle.graph_text.proofs.read.read_edges.Goals as goal
 

@@ -1,5 +1,5 @@
 use Rattle.std.proofs.Common.{◌≡◌, ◌≤◌, length}
-use Rattle.graph_text.specs.Reading.{edges_from, no_edges}
+use Rattle.graph_text.specs.GraphReading.{edges_from, no_edges}
 use Rattle.graph_text.proofs.read.read_edges.Given as goal
 
 -- what is left makes the whole

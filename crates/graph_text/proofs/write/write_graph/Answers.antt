@@ -1,10 +1,10 @@
 use Rattle.std.proofs.Common.{◌++◌, ◌∙◌, List, ℕ, Ok, length, ap, sym, subst}
 use Rattle.std.proofs.lemmas.List.Concat.{flat_map-append}
-use Rattle.text_fields.specs.Words.{text_of, words_from}
+use Rattle.text_fields.specs.TextWords.{text_of, words_from}
 use Rattle.text_fields.specs.Written.{text_line, text_of_lines}
 use Rattle.graph_text.specs.declared.read.SizedNetwork.{SizedNetwork}
 use Rattle.graph_text.specs.GraphTexts.{row_letter, column_letter, edge_lines, graph_text}
-use Rattle.graph_text.specs.Reading.{IsGraph}
+use Rattle.graph_text.specs.GraphReading.{IsGraph}
 use Rattle.graph_text.proofs.ReadAgain.{graph_again}
 use Rattle.graph_text.proofs.WrittenEdges.{written_is_text}
 use Rattle.graph_text.proofs.write.write_graph.Goals as goal

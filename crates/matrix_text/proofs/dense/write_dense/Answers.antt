@@ -6,7 +6,7 @@ use Rattle.cmr_base.specs.Matrix.{height}
 use Rattle.cmr_base.proofs.Entries.{no_minus}
 use Rattle.text_fields.specs.Written.{Draft, with_line, text_of_lines}
 use Rattle.text_fields.proofs.Lines.{lines_written}
-use Rattle.text_fields.specs.Words.{text_of}
+use Rattle.text_fields.specs.TextWords.{text_of}
 use Rattle.matrix_text.specs.Dense.{dense}
 use Rattle.matrix_text.proofs.DenseAgain.{dense_again}
 use Rattle.matrix_text.proofs.dense.write_dense.Goals as goal

@@ -6,7 +6,7 @@ use Rattle.text_fields.specs.Reading.{placed, Gives}
 use Rattle.text_fields.proofs.Entries.{entry_again}
 use Rattle.text_fields.proofs.Fields.{placed_reads}
 use Rattle.matrix_text.specs.declared.error.TextKind.{TextKind}
-use Rattle.matrix_text.specs.Kinds.{text_kind}
+use Rattle.matrix_text.specs.TextKinds.{text_kind}
 use Rattle.matrix_text.specs.Values.{allowed, entry_in}
 use Rattle.matrix_text.proofs.field.entry.Goals as goal
 

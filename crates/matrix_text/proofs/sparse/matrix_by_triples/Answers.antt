@@ -4,7 +4,7 @@ use Rattle.std.specs.Prelude.{replicate}
 use Rattle.std.proofs.lemmas.Result.{err_from_is_err_and}
 use Rattle.cmr_base.specs.Matrix.{Matrix, height, rows_of, with_entry}
 use Rattle.cmr_base.proofs.Rows.{length-rows_of, replicate-rows_of, set-rows_of}
-use Rattle.text_fields.specs.Words.{Text}
+use Rattle.text_fields.specs.TextWords.{Text}
 use Rattle.text_fields.specs.Reading.{times}
 use Rattle.text_fields.proofs.Times.{all_to_come, goes_on, ends, is_done}
 use Rattle.text_fields.proofs.Fields.{bind_fails}

@@ -1,4 +1,4 @@
-use Rattle.text_fields.specs.Words.{text_of}
+use Rattle.text_fields.specs.TextWords.{text_of}
 use Rattle.matrix_text.proofs.BinaryTexts.{sparse_binary}
 use Rattle.matrix_text.proofs.SparseTexts.{found, only}
 use Rattle.matrix_text.proofs.sparse.read_sparse.Goals as goal

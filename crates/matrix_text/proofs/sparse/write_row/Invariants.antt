@@ -2,7 +2,7 @@ use Rattle.std.proofs.Common.{◌≡◌, ◌+◌, map, drop, false}
 use Rattle.std.specs.Prelude.{fold}
 use Rattle.cmr_base.specs.Matrix.{row_of}
 use Rattle.text_fields.specs.Written.{with_line}
-use Rattle.matrix_text.specs.Canonical.{triple_line, row_triples}
+use Rattle.matrix_text.specs.CanonicalMatrices.{triple_line, row_triples}
 use Rattle.matrix_text.proofs.sparse.write_row.Given as goal
 
 abbrev pub invariant-loop-column : goal.invariant-loop-column

@@ -7,8 +7,8 @@ use Rattle.cmr_base.specs.Matrix.{height, nonzeros_of}
 use Rattle.cmr_base.proofs.Entries.{no_minus}
 use Rattle.text_fields.specs.Written.{Draft, with_line, text_of_lines}
 use Rattle.text_fields.proofs.Lines.{lines_written, lines_end}
-use Rattle.matrix_text.specs.Canonical.{triple_line, row_triples, triples_from}
-use Rattle.text_fields.specs.Words.{text_of}
+use Rattle.matrix_text.specs.CanonicalMatrices.{triple_line, row_triples, triples_from}
+use Rattle.text_fields.specs.TextWords.{text_of}
 use Rattle.matrix_text.specs.Sparse.{sparse}
 use Rattle.matrix_text.proofs.SparseAgain.{sparse_again}
 use Rattle.matrix_text.proofs.sparse.write_sparse.Goals as goal

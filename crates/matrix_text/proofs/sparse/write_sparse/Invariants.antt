@@ -1,7 +1,7 @@
 use Rattle.std.proofs.Common.{◌≡◌, ◌+◌, map, drop, false}
 use Rattle.std.specs.Prelude.{fold}
 use Rattle.text_fields.specs.Written.{with_line}
-use Rattle.matrix_text.specs.Canonical.{triple_line, triples_from}
+use Rattle.matrix_text.specs.CanonicalMatrices.{triple_line, triples_from}
 use Rattle.matrix_text.proofs.sparse.write_sparse.Given as goal
 
 abbrev pub invariant-loop-row : goal.invariant-loop-row

@@ -1,4 +1,4 @@
-use Rattle.text_fields.specs.Words.{text_of}
+use Rattle.text_fields.specs.TextWords.{text_of}
 use Rattle.matrix_text.proofs.SubmatrixTexts.{found, only}
 use Rattle.matrix_text.proofs.submatrix.read_submatrix.Goals as goal
 

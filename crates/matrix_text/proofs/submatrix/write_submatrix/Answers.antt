@@ -1,9 +1,9 @@
 use Rattle.std.proofs.Common.{◌≡◌, ap, ◌∙◌, arith}
 use Rattle.std.proofs.lemmas.Grind.{common_steps}
 use Rattle.cmr_base.proofs.RisingLists.{rising_count}
-use Rattle.text_fields.specs.Words.{text_of}
+use Rattle.text_fields.specs.TextWords.{text_of}
 use Rattle.matrix_text.specs.Submatrix.{named_lines}
-use Rattle.matrix_text.specs.Canonical.{submatrix_text}
+use Rattle.matrix_text.specs.CanonicalMatrices.{submatrix_text}
 use Rattle.matrix_text.proofs.SubmatrixAgain.{submatrix_again}
 use Rattle.matrix_text.proofs.submatrix.write_submatrix.Goals as goal
 

@@ -5,7 +5,7 @@ use Rattle.cmr_base.specs.Matrix.{height}
 use Rattle.cmr_base.specs.LineSets.{submatrix}
 use Rattle.cmr_base.proofs.WholeMatrices.{is_ternary}
 use Rattle.cmr_base.proofs.Submatrices.{inherited_from_hereditary}
-use Rattle.minimal_sets.specs.Runs.{lines_between, rows_left, columns_left}
+use Rattle.minimal_sets.specs.LeftOut.{lines_between, rows_left, columns_left}
 use Rattle.minimal_sets.proofs.Passes.{count_is, row_set_left, column_set_left, pass_left, pass_kept}
 use Rattle.minimal_sets.proofs.greedy.leave_out.Goals as goal
 use Rattle.minimal_sets.proofs.greedy.leave_out.Goals.{then-count-gt1, else-count-gt1}

@@ -1,7 +1,7 @@
 use Rattle.std.proofs.Common.{sym, subst, get_or, List, ℕ}
 use Rattle.cmr_base.specs.Indices.{IsAbove}
 use Rattle.cmr_base.proofs.LineSetLemmas.{kept_below}
-use Rattle.minimal_sets.specs.Runs.{is_outside}
+use Rattle.minimal_sets.specs.LeftOut.{is_outside}
 use Rattle.minimal_sets.proofs.greedy.outside.Goals as goal
 
 pub push-requires : goal.push-requires

@@ -1,5 +1,5 @@
 use Rattle.std.proofs.Common.{◌≡◌, take, filter}
-use Rattle.minimal_sets.specs.Runs.{is_outside}
+use Rattle.minimal_sets.specs.LeftOut.{is_outside}
 use Rattle.minimal_sets.proofs.greedy.outside.Given as goal
 
 abbrev pub invariant-loop-number : goal.invariant-loop-number

@@ -1,5 +1,5 @@
 use Rattle.std.proofs.Common.{◌∙◌, ap, filter}
-use Rattle.minimal_sets.specs.Runs.{is_outside}
+use Rattle.minimal_sets.specs.LeftOut.{is_outside}
 use Rattle.minimal_sets.proofs.RunLemmas.{rows_outside, columns_outside}
 use Rattle.minimal_sets.proofs.greedy.without_run.Goals as goal
 use Rattle.cmr_base.proofs.Places.{members_below}

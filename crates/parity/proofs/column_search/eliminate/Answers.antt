@@ -1,6 +1,6 @@
 use Rattle.std.proofs.Common.{◌≡◌, ◌+◌, ◌∙◌, ◌++◌, ◌∷◌, [], ap, sym, subst, take, get_or, arith, List, ℕ}
 use Rattle.parity.specs.Equations.{IsBasis, IsLowest, System, number_of, reduced}
-use Rattle.parity.specs.Planes.{equations_of, outside, support_of}
+use Rattle.parity.specs.PlaneSums.{equations_of, outside, support_of}
 use Rattle.cmr_base.specs.Matrix.{is_nonzero}
 use Rattle.parity.proofs.PlaneLemmas.{length-row, number_of-row}
 use Rattle.parity.proofs.Elimination.{basis_push, basis_skip}

@@ -1,6 +1,6 @@
 use Rattle.std.proofs.Common.{◌≡◌, ◌<◌, ◌+◌, ◌^◌, ◌∙◌, [], ap, ap₂, sym, subst, take, get_or}
 use Rattle.std.proofs.Math.Pow.{pow_pos}
-use Rattle.parity.specs.Planes.{AreSums, SumPlanes, minus_of, support_of, with_added_row}
+use Rattle.parity.specs.PlaneSums.{AreSums, SumPlanes, minus_of, support_of, with_added_row}
 use Rattle.cmr_base.specs.Matrix.{is_nonzero}
 use Rattle.cmr_base.specs.Planes.{is_minus}
 use Rattle.parity.proofs.PlaneLemmas.{length-row, number_of-row}

@@ -1,5 +1,5 @@
 use Rattle.std.proofs.Common.{◌≡◌, ◌<◌, ◌^◌, take}
-use Rattle.parity.specs.Planes.{AreSums}
+use Rattle.parity.specs.PlaneSums.{AreSums}
 use Rattle.parity.proofs.column_search.sum_columns.Given as goal
 
 abbrev pub invariant-loop-row : goal.invariant-loop-row

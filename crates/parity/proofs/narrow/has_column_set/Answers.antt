@@ -1,7 +1,7 @@
 use Rattle.std.proofs.Common.{◌≡◌, ◌^◌, ◌∙◌, ◌++◌, ◌∷◌, [], length, ap, sym, subst}
 use Rattle.cmr_base.specs.LineSets.{set_numbered}
 use Rattle.parity.specs.Equations.{AreReduced, IsLowest, solved}
-use Rattle.parity.specs.Planes.{equations_of, outside}
+use Rattle.parity.specs.PlaneSums.{equations_of, outside}
 use Rattle.parity.proofs.ColumnSetSearch.{least_from_free, none_from_cleared, none_without_halves}
 use Rattle.parity.proofs.ReducedWords.{reduced_by_rows}
 use Rattle.parity.proofs.narrow.has_column_set.Goals as goal

@@ -2,7 +2,7 @@ use Rattle.std.proofs.Common.{◌≡◌, ◌<◌, ◌∙◌, get_or}
 use Rattle.std.proofs.Math.Pow.{pow_pos}
 use Rattle.cmr_base.specs.Matrix.{is_nonzero}
 use Rattle.cmr_base.specs.Planes.{is_minus}
-use Rattle.parity.specs.Planes.{minus_of, support_of}
+use Rattle.parity.specs.PlaneSums.{minus_of, support_of}
 use Rattle.parity.proofs.ColumnSums.{no_sums, sums_more, twos_small}
 use Rattle.parity.proofs.PlaneLemmas.{one_word}
 use Rattle.parity.proofs.narrow.sum_rows.Goals as goal

@@ -1,6 +1,6 @@
 use Rattle.std.proofs.Common.{◌≡◌, ◌∙◌, ◌++◌, ◌∷◌, [], ap, sym, take, get_or}
 use Rattle.cmr_base.specs.Matrix.{is_nonzero}
-use Rattle.parity.specs.Planes.{equations_of, outside, support_of}
+use Rattle.parity.specs.PlaneSums.{equations_of, outside, support_of}
 use Rattle.parity.proofs.PlaneLemmas.{one_word}
 use Rattle.parity.proofs.Systems.{equations_more}
 use Rattle.parity.proofs.narrow.write_equations.Goals as goal

@@ -1,5 +1,5 @@
 use Rattle.std.proofs.Common.{◌≡◌, take}
-use Rattle.parity.specs.Planes.{equations_of}
+use Rattle.parity.specs.PlaneSums.{equations_of}
 use Rattle.parity.proofs.narrow.write_equations.Given as goal
 
 abbrev pub invariant-loop-row : goal.invariant-loop-row

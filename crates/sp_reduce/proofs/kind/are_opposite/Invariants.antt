@@ -1,7 +1,7 @@
 use Rattle.std.proofs.Common.{◌≡◌, take, true, neg_ℤ}
 use Rattle.cmr_base.specs.Matrix.{entry}
 use Rattle.cmr_base.specs.Reductions.{equal_at}
-use Rattle.sp_reduce.specs.Kinds.{table}
+use Rattle.sp_reduce.specs.LineKinds.{table}
 use Rattle.sp_reduce.proofs.kind.are_opposite.Given as goal
 
 abbrev pub invariant-others : goal.invariant-others

@@ -1,7 +1,7 @@
 use Rattle.std.proofs.Common.{◌≡◌, ◌≤◌, take}
 use Rattle.cmr_base.specs.Matrix.{entry}
 use Rattle.cmr_base.specs.Reductions.{nonzeros_at}
-use Rattle.sp_reduce.specs.Kinds.{table}
+use Rattle.sp_reduce.specs.LineKinds.{table}
 use Rattle.sp_reduce.proofs.kind.count_nonzeros.Given as goal
 
 -- the nonzeros so far

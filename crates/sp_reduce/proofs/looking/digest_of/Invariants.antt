@@ -1,5 +1,5 @@
 use Rattle.std.proofs.Common.{◌≡◌, drop}
-use Rattle.sp_reduce.specs.Digests.{digest_from, digest_of}
+use Rattle.sp_reduce.specs.RowDigests.{digest_from, digest_of}
 use Rattle.sp_reduce.proofs.looking.digest_of.Given as goal
 
 -- the words that are left come to the digest of all

@@ -1,5 +1,5 @@
 use Rattle.std.proofs.Common.{subst}
-use Rattle.sp_reduce.specs.Digests.{AreUnlikeRows}
+use Rattle.sp_reduce.specs.RowDigests.{AreUnlikeRows}
 use Rattle.sp_reduce.proofs.UnlikeRows.{none_reducible}
 use Rattle.sp_reduce.proofs.looking.first_look.Goals as goal
 

@@ -5,7 +5,7 @@ use Rattle.cmr_base.specs.LineSets.{first_lines}
 use Rattle.cmr_base.specs.Reductions.{nonzeros_at}
 use Rattle.cmr_base.proofs.Places.{each_more}
 use Rattle.digests.specs.Digests.{AreDifferent}
-use Rattle.sp_reduce.specs.Digests.{digest_of, digest_at}
+use Rattle.sp_reduce.specs.RowDigests.{digest_of, digest_at}
 use Rattle.sp_reduce.proofs.Loops.{pushed_each}
 use Rattle.sp_reduce.proofs.UnlikeRows.{unlike_rows}
 use Rattle.sp_reduce.proofs.looking.has_unlike_rows.Goals as goal

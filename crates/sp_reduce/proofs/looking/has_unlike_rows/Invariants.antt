@@ -2,7 +2,7 @@ use Rattle.std.proofs.Common.{◌≡◌, ◌<◌, ℕ, length, get_or}
 use Rattle.cmr_base.specs.Matrix.{entry}
 use Rattle.cmr_base.specs.LineSets.{first_lines}
 use Rattle.cmr_base.specs.Reductions.{nonzeros_at}
-use Rattle.sp_reduce.specs.Digests.{digest_at}
+use Rattle.sp_reduce.specs.RowDigests.{digest_at}
 use Rattle.sp_reduce.proofs.looking.has_unlike_rows.Given as goal
 
 -- the rows so far have two nonzeros or more, and these are their digests

@@ -1,7 +1,7 @@
 use Rattle.std.proofs.Common.{◌<◌, ◌≤◌, ◌∙◌, sym, arith}
 use Rattle.cmr_base.specs.Matrix.{entry}
 use Rattle.cmr_base.specs.Reductions.{nonzeros_at}
-use Rattle.sp_reduce.specs.Kinds.{line_named, cross_named, table}
+use Rattle.sp_reduce.specs.LineKinds.{line_named, cross_named, table}
 use Rattle.std.proofs.Common.{le-leb}
 use Rattle.sp_reduce.proofs.Views.{reason_of_thin, reason_of_twin}
 use Rattle.sp_reduce.proofs.reducible.is_reducible.Goals as goal

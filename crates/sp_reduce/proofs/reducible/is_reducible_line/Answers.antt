@@ -2,7 +2,7 @@ use Rattle.std.proofs.Common.{◌∙◌, sym, ap, ap₂, is_some, List, ℕ}
 use Rattle.cmr_base.specs.declared.line.Line.{Line}
 use Rattle.cmr_base.specs.Matrix.{entry}
 use Rattle.cmr_base.specs.Reductions.{line_reason}
-use Rattle.sp_reduce.specs.Kinds.{reason_for}
+use Rattle.sp_reduce.specs.LineKinds.{reason_for}
 use Rattle.sp_reduce.specs.declared.kind.LineKind.TheVariants.{Rows, Columns}
 use Rattle.sp_reduce.proofs.reducible.is_reducible_line.Goals as goal
 

@@ -1,8 +1,8 @@
 use Rattle.std.proofs.Common.{◌≡◌, ◌∙◌, sym, ap, subst}
 use Rattle.cmr_base.specs.Matrix.{entry}
 use Rattle.sp_reduce.specs.declared.kind.LineKind.{LineKind}
-use Rattle.sp_reduce.specs.Kinds.{line_named, index_of_line, other_kind}
-use Rattle.sp_reduce.specs.Sides.{first_step_of}
+use Rattle.sp_reduce.specs.LineKinds.{line_named, index_of_line, other_kind}
+use Rattle.sp_reduce.specs.StayingSides.{first_step_of}
 use Rattle.sp_reduce.proofs.StatedOrder.{by_row, without_row, columns_next}
 use Rattle.sp_reduce.proofs.removal.next_step.Goals as goal
 

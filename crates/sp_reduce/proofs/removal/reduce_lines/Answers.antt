@@ -1,7 +1,7 @@
 use Rattle.std.proofs.Common.{◌≡◌, ◌<◌, ◌+◌, ◌++◌, [], ◌∷◌, ◌∙◌, sym, subst, ℕ, List, length}
 use Rattle.cmr_base.specs.Matrix.{entry}
 use Rattle.cmr_base.specs.Reductions.{removal_on, rows_without}
-use Rattle.sp_reduce.specs.Sides.{AreNonzerosCounted, IsSettled}
+use Rattle.sp_reduce.specs.StayingSides.{AreNonzerosCounted, IsSettled}
 use Rattle.sp_reduce.proofs.Pairs.{paired_new}
 use Rattle.sp_reduce.proofs.StatedOrder.{at_start, one_step, fewer_left, at_end}
 use Rattle.sp_reduce.proofs.removal.reduce_lines.Goals as goal

@@ -3,8 +3,8 @@ use Rattle.cmr_base.specs.declared.line.Line.{Line}
 use Rattle.cmr_base.specs.Matrix.{entry}
 use Rattle.cmr_base.specs.LineSets.{without}
 use Rattle.sp_reduce.specs.declared.side.StayingLines.{StayingLines}
-use Rattle.sp_reduce.specs.Kinds.{line_named, index_of_line, reason_for}
-use Rattle.sp_reduce.specs.Sides.{IsSettled, first_step_of}
+use Rattle.sp_reduce.specs.LineKinds.{line_named, index_of_line, reason_for}
+use Rattle.sp_reduce.specs.StayingSides.{IsSettled, first_step_of}
 use Rattle.sp_reduce.specs.Changes.{ArePaired}
 use Rattle.sp_reduce.proofs.KindLemmas.{number-line_named}
 use Rattle.sp_reduce.proofs.SideLemmas.{side_marked}

@@ -1,6 +1,6 @@
 use Rattle.std.proofs.Common.{◌≡◌, take, find, None}
 use Rattle.cmr_base.specs.Matrix.{entry, is_nonzero}
-use Rattle.sp_reduce.specs.Kinds.{table}
+use Rattle.sp_reduce.specs.LineKinds.{table}
 use Rattle.sp_reduce.proofs.side.first_nonzero.Given as goal
 
 abbrev pub invariant-others : goal.invariant-others

@@ -1,6 +1,6 @@
 use Rattle.std.proofs.Common.{ℕ, cond, false, get_or, arith}
 use Rattle.std.proofs.lemmas.Grind.{common_steps}
-use Rattle.sp_reduce.specs.Sides.{weight}
+use Rattle.sp_reduce.specs.StayingSides.{weight}
 use Rattle.sp_reduce.proofs.Loops.{pushed_each}
 use Rattle.sp_reduce.proofs.tallies.weights_of.Goals as goal
 

@@ -1,5 +1,5 @@
 use Rattle.std.proofs.Common.{◌≡◌, ◌<◌, ◌≤◌, ℕ, cond, false, length, get_or}
-use Rattle.sp_reduce.specs.Sides.{weight}
+use Rattle.sp_reduce.specs.StayingSides.{weight}
 use Rattle.sp_reduce.proofs.tallies.weights_of.Given as goal
 
 -- the lines so far have their weights

@@ -1,6 +1,6 @@
 use Rattle.std.proofs.Common.{◌-◌}
 use Rattle.cmr_base.specs.Matrix.{height}
-use Rattle.sum_ops.specs.Cores.{core_determinant_at}
+use Rattle.sum_ops.specs.SumCores.{core_determinant_at}
 use Rattle.sum_ops.proofs.CoreSums.{last_core_of}
 use Rattle.sum_ops.proofs.concentrated.shared_core.Goals as goal
 

@@ -1,6 +1,6 @@
 use Rattle.std.proofs.Common.{◌≡◌, ◌∙◌, subst, sym, arith}
 use Rattle.cmr_base.specs.Signing.{IsSign}
-use Rattle.sum_ops.specs.Cores.{core_determinant_at}
+use Rattle.sum_ops.specs.SumCores.{core_determinant_at}
 use Rattle.cmr_base.proofs.SmallNumbers.{small_as_byte}
 use Rattle.sum_ops.proofs.CoreSums.{byte}
 use Rattle.sum_ops.proofs.cores.has_sign_determinant.Goals as goal

@@ -1,7 +1,7 @@
 use Rattle.std.proofs.Common.{◌≡◌, ◌≢◌, ◌<◌, ℕ, pos}
 use Rattle.cmr_base.specs.declared.line.Line.TheVariants.{Row, Column}
 use Rattle.cmr_base.specs.Matrix.{entry}
-use Rattle.cuts.specs.Cuts.{name_of}
+use Rattle.cuts.specs.LineCuts.{name_of}
 use Rattle.three_sep.proofs.others.has_column.Given as goal
 
 abbrev pub invariant-loop-column : goal.invariant-loop-column

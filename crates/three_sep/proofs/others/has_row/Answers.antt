@@ -1,7 +1,7 @@
 use Rattle.std.proofs.Common.{◌≡◌, ◌≢◌, arith, pos}
 use Rattle.cmr_base.specs.declared.line.Line.TheVariants.{Row, Column}
 use Rattle.cmr_base.specs.Matrix.{entry}
-use Rattle.cuts.specs.Cuts.{name_of}
+use Rattle.cuts.specs.LineCuts.{name_of}
 use Rattle.cmr_base.proofs.Places.{each_more}
 use Rattle.three_sep.proofs.others.has_row.Goals as goal
 

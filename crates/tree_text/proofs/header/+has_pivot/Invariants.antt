@@ -1,6 +1,6 @@
 use Rattle.std.proofs.Common.{◌≡◌, drop, map}
-use Rattle.tree_type.specs.Trees.{tree_of, trees_from}
-use Rattle.tree_text.specs.Canonical.{has_pivot, have_pivot}
+use Rattle.tree_type.specs.DecompositionTrees.{tree_of, trees_from}
+use Rattle.tree_text.specs.CanonicalTrees.{has_pivot, have_pivot}
 use Rattle.tree_text.proofs.header.+has_pivot.Given as goal
 
 abbrev pub decreases-has_pivot : goal.decreases-has_pivot

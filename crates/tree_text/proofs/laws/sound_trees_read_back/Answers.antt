@@ -3,9 +3,9 @@ use Rattle.text_fields.proofs.Results.{ok_same}
 use Rattle.tree_type.proofs.OneRefusal.{sound_unbroken}
 use Rattle.tree_type.specs.Places.{places}
 use Rattle.tree_type.specs.Soundness.{IsSoundTree}
-use Rattle.tree_type.specs.Trees.{tree_of}
+use Rattle.tree_type.specs.DecompositionTrees.{tree_of}
 use Rattle.tree_type.specs.Verdicts.{verdict_of}
-use Rattle.tree_text.specs.Reading.{PlainTree, plain_of}
+use Rattle.tree_text.specs.TreeReading.{PlainTree, plain_of}
 use Rattle.tree_text.proofs.TreesAgain.{tree_again}
 use Rattle.tree_text.proofs.laws.sound_trees_read_back.Goals as goal
 

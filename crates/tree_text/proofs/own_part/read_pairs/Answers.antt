@@ -1,7 +1,7 @@
 use Rattle.std.proofs.Common.{[], refl}
 use Rattle.text_fields.specs.Reading.{times}
 use Rattle.text_fields.proofs.Times.{goes_on}
-use Rattle.tree_text.specs.Reading.{another_pair}
+use Rattle.tree_text.specs.TreeReading.{another_pair}
 use Rattle.tree_text.proofs.own_part.read_pairs.Goals as goal
 
 pub loop-preserved : goal.loop-preserved

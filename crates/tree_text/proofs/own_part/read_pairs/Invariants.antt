@@ -1,6 +1,6 @@
 use Rattle.std.proofs.Common.{◌≡◌, ◌-◌, []}
 use Rattle.text_fields.specs.Reading.{times}
-use Rattle.tree_text.specs.Reading.{another_pair}
+use Rattle.tree_text.specs.TreeReading.{another_pair}
 use Rattle.tree_text.proofs.own_part.read_pairs.Given as goal
 
 abbrev pub invariant-loop : goal.invariant-loop

@@ -3,7 +3,7 @@ use Rattle.std.proofs.lemmas.List.{length_push}
 use Rattle.std.proofs.lemmas.List.Sums.{fold_push}
 use Rattle.text_fields.specs.Reading.{times}
 use Rattle.text_fields.proofs.Times.{goes_on}
-use Rattle.tree_text.specs.Reading.{another_line}
+use Rattle.tree_text.specs.TreeReading.{another_line}
 use Rattle.tree_text.proofs.RisingMembers.{below_push}
 use Rattle.tree_text.proofs.own_part.read_rising.Goals as goal
 

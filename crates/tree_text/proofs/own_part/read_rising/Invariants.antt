@@ -1,7 +1,7 @@
 use Rattle.std.proofs.Common.{◌≡◌, ◌-◌, ◌<◌, ℕ, length, get_or, option_copied}
 use Rattle.text_fields.specs.Reading.{times}
-use Rattle.tree_text.specs.Values.{last_number}
-use Rattle.tree_text.specs.Reading.{another_line, rising_lines}
+use Rattle.tree_text.specs.TreeValues.{last_number}
+use Rattle.tree_text.specs.TreeReading.{another_line, rising_lines}
 use Rattle.tree_text.proofs.own_part.read_rising.Given as goal
 
 abbrev pub invariant-loop : goal.invariant-loop

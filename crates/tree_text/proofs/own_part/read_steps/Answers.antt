@@ -2,7 +2,7 @@ use Rattle.std.proofs.Common.{refl}
 use Rattle.text_fields.specs.Reading.{another, fields}
 use Rattle.text_fields.proofs.Times.{goes_on}
 use Rattle.tree_text.specs.declared.error.TreeKind.TheVariants.{Short}
-use Rattle.tree_text.specs.Values.{step_in}
+use Rattle.tree_text.specs.TreeValues.{step_in}
 use Rattle.tree_text.proofs.own_part.read_steps.Goals as goal
 
 pub loop-preserved : goal.loop-preserved

@@ -1,7 +1,7 @@
 use Rattle.std.proofs.Common.{◌≡◌, ◌-◌}
 use Rattle.text_fields.specs.Reading.{another, times, fields}
 use Rattle.tree_text.specs.declared.error.TreeKind.TheVariants.{Short}
-use Rattle.tree_text.specs.Values.{step_in}
+use Rattle.tree_text.specs.TreeValues.{step_in}
 use Rattle.tree_text.proofs.own_part.read_steps.Given as goal
 
 abbrev pub invariant-loop : goal.invariant-loop

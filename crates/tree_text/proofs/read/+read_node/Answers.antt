@@ -2,10 +2,10 @@ use Rattle.std.proofs.Common.{◌≡◌, [], ◌∙◌, ◌<◌, ◌≤◌, ◌+
 use Rattle.std.proofs.lemmas.Result.{err_from_is_err_and}
 use Rattle.text_fields.specs.Reading.{times, Fails}
 use Rattle.text_fields.proofs.Times.{goes_on, ends, is_done}
-use Rattle.tree_type.specs.Trees.{Branch, tree_of, trees_from}
+use Rattle.tree_type.specs.DecompositionTrees.{Branch, tree_of, trees_from}
 use Rattle.tree_text.specs.declared.own_part.Front.{Front}
-use Rattle.tree_text.specs.Findings.{front_shown}
-use Rattle.tree_text.specs.Reading.{another_tree, node}
+use Rattle.tree_text.specs.ReadFindings.{front_shown}
+use Rattle.tree_text.specs.TreeReading.{another_tree, node}
 use Rattle.tree_text.proofs.Nodes.{levels_left, children_fail, node_made, child_fails, child_joined, one_node_more}
 use Rattle.tree_text.proofs.read.+read_node.Goals as goal
 

@@ -1,7 +1,7 @@
 use Rattle.std.proofs.Common.{◌≡◌, ◌-◌, [], length, map, Some}
 use Rattle.text_fields.specs.Reading.{times}
-use Rattle.tree_type.specs.Trees.{tree_of}
-use Rattle.tree_text.specs.Reading.{another_tree, node}
+use Rattle.tree_type.specs.DecompositionTrees.{tree_of}
+use Rattle.tree_text.specs.TreeReading.{another_tree, node}
 use Rattle.tree_text.proofs.read.+read_node.Given as goal
 
 abbrev pub decreases-read_node : goal.decreases-read_node

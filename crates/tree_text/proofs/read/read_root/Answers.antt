@@ -1,8 +1,8 @@
 use Rattle.std.proofs.Common.{◌≡◌, ◌++◌, ◌∷◌, [], ◌∙◌, None, Ok, map, ap, subst, arith}
 use Rattle.std.proofs.lemmas.Result.{err_from_is_err_and}
 use Rattle.text_fields.specs.Reading.{Fails}
-use Rattle.tree_type.specs.Trees.{tree_of}
-use Rattle.tree_text.specs.Reading.{another_tree, node}
+use Rattle.tree_type.specs.DecompositionTrees.{tree_of}
+use Rattle.tree_text.specs.TreeReading.{another_tree, node}
 use Rattle.tree_text.proofs.Nodes.{first_fails, only_one, not_none}
 use Rattle.tree_text.proofs.read.read_root.Goals as goal
 

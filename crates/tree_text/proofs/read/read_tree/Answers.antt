@@ -1,8 +1,8 @@
 use Rattle.std.proofs.lemmas.Result.{err_from_is_err_and}
 use Rattle.std.proofs.Common.{subst}
 use Rattle.text_fields.specs.Reading.{Fails}
-use Rattle.tree_type.specs.Trees.{tree_of}
-use Rattle.tree_text.specs.Reading.{tree}
+use Rattle.tree_type.specs.DecompositionTrees.{tree_of}
+use Rattle.tree_text.specs.TreeReading.{tree}
 use Rattle.tree_text.proofs.Nodes.{root_fails}
 use Rattle.tree_text.proofs.TreesRead.{root_ok}
 use Rattle.tree_text.proofs.read.read_tree.Goals as goal

@@ -1,7 +1,7 @@
 use Rattle.std.specs.Prelude.{fold}
 use Rattle.text_fields.specs.Written.{with_line}
-use Rattle.tree_type.specs.Trees.{tree_of}
-use Rattle.tree_text.specs.Canonical.{node_lines}
+use Rattle.tree_type.specs.DecompositionTrees.{tree_of}
+use Rattle.tree_text.specs.CanonicalTrees.{node_lines}
 use Rattle.tree_text.proofs.WrittenLines.{child_written}
 use Rattle.tree_text.proofs.write.+write_node.Goals as goal
 

@@ -1,8 +1,8 @@
 use Rattle.std.proofs.Common.{◌≡◌, drop, map, false}
 use Rattle.std.specs.Prelude.{fold}
 use Rattle.text_fields.specs.Written.{with_line}
-use Rattle.tree_type.specs.Trees.{tree_of, trees_from}
-use Rattle.tree_text.specs.Canonical.{node_lines, forest_lines}
+use Rattle.tree_type.specs.DecompositionTrees.{tree_of, trees_from}
+use Rattle.tree_text.specs.CanonicalTrees.{node_lines, forest_lines}
 use Rattle.tree_text.proofs.write.+write_node.Given as goal
 
 abbrev pub decreases-write_node : goal.decreases-write_node

@@ -1,7 +1,7 @@
 use Rattle.std.proofs.Common.{◌≡◌, subst}
 use Rattle.std.specs.Prelude.{OnOk}
 use Rattle.text_fields.specs.Written.{Draft}
-use Rattle.tree_text.specs.Canonical.{set_words}
+use Rattle.tree_text.specs.CanonicalTrees.{set_words}
 use Rattle.tree_text.proofs.WrittenLines.{ended_as}
 use Rattle.tree_text.proofs.write.write_fault.Goals as goal
 

@@ -2,8 +2,8 @@ use Rattle.std.proofs.Common.{◌≡◌, ◌∷◌, ◌∙◌, ap, subst}
 use Rattle.std.specs.Prelude.{OnOk, fold}
 use Rattle.text_fields.specs.Written.{Draft, with_word}
 use Rattle.tree_text.specs.KindWords.{word_of, kind_of}
-use Rattle.tree_type.specs.Trees.{tree_of, finding_of}
-use Rattle.tree_text.specs.Canonical.{set_words}
+use Rattle.tree_type.specs.DecompositionTrees.{tree_of, finding_of}
+use Rattle.tree_text.specs.CanonicalTrees.{set_words}
 use Rattle.tree_text.proofs.WrittenLines.{ended_as}
 use Rattle.tree_text.proofs.write.write_first_line.Goals as goal
 

@@ -1,7 +1,7 @@
 use Rattle.std.proofs.Common.{◌≡◌, map, drop}
 use Rattle.std.specs.Prelude.{fold}
 use Rattle.text_fields.specs.Written.{with_word}
-use Rattle.tree_text.specs.Canonical.{line_name}
+use Rattle.tree_text.specs.CanonicalTrees.{line_name}
 use Rattle.tree_text.proofs.write.write_line_names.Given as goal
 
 -- what is left makes the whole

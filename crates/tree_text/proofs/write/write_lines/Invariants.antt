@@ -1,7 +1,7 @@
 use Rattle.std.proofs.Common.{◌≡◌, map, drop}
 use Rattle.std.specs.Prelude.{fold}
 use Rattle.text_fields.specs.Written.{with_word}
-use Rattle.tree_text.specs.Canonical.{number_of_line}
+use Rattle.tree_text.specs.CanonicalTrees.{number_of_line}
 use Rattle.tree_text.proofs.write.write_lines.Given as goal
 
 -- what is left makes the whole

@@ -2,7 +2,7 @@ use Rattle.std.proofs.Common.{◌≡◌, ◌<◌, ◌∙◌, length, ap, subst, 
 use Rattle.std.specs.Prelude.{OnOk, fold}
 use Rattle.std.specs.List.{flat_map}
 use Rattle.text_fields.specs.Written.{Draft, with_word}
-use Rattle.tree_text.specs.Canonical.{pair_words, network_words}
+use Rattle.tree_text.specs.CanonicalTrees.{pair_words, network_words}
 use Rattle.tree_text.proofs.WrittenLines.{network_ended, arcs_some, walks_some}
 use Rattle.tree_text.proofs.write.write_network.Goals.{else-len-eq0-via-then-len-eq0+else-len-eq0-2, else-len-eq0-via-else-len-eq0}
 use Rattle.tree_text.proofs.write.write_network.Goals as goal

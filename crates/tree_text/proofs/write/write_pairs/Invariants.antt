@@ -2,7 +2,7 @@ use Rattle.std.proofs.Common.{◌≡◌, drop}
 use Rattle.std.specs.Prelude.{fold}
 use Rattle.std.specs.List.{flat_map}
 use Rattle.text_fields.specs.Written.{with_word}
-use Rattle.tree_text.specs.Canonical.{pair_words}
+use Rattle.tree_text.specs.CanonicalTrees.{pair_words}
 use Rattle.tree_text.proofs.write.write_pairs.Given as goal
 
 -- what is left makes the whole

@@ -2,7 +2,7 @@ use Rattle.std.proofs.Common.{◌≡◌, ◌∷◌, ◌∙◌, map, length, ap, 
 use Rattle.std.specs.Prelude.{OnOk, fold}
 use Rattle.std.specs.Fmt.{decimal}
 use Rattle.text_fields.specs.Written.{Draft, with_word}
-use Rattle.tree_text.specs.Canonical.{line_name}
+use Rattle.tree_text.specs.CanonicalTrees.{line_name}
 use Rattle.tree_text.proofs.WrittenLines.{ended_as}
 use Rattle.tree_text.proofs.write.write_steps.Goals as goal
 

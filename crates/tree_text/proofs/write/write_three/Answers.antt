@@ -1,7 +1,7 @@
 use Rattle.std.proofs.Common.{◌≡◌, ◌++◌, ◌∙◌, ap, subst}
 use Rattle.std.specs.Prelude.{OnOk, fold}
 use Rattle.text_fields.specs.Written.{Draft, with_word}
-use Rattle.tree_text.specs.Canonical.{set_words, connector_words}
+use Rattle.tree_text.specs.CanonicalTrees.{set_words, connector_words}
 use Rattle.tree_text.proofs.WrittenLines.{ended_as}
 use Rattle.tree_text.proofs.write.write_three.Goals as goal
 

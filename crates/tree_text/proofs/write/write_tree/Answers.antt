@@ -1,9 +1,9 @@
 use Rattle.std.proofs.Common.{◌≡◌, ◌≤◌, ◌∙◌, ℕ, List, length, ap, refl, subst, sym}
-use Rattle.text_fields.specs.Words.{text_of}
+use Rattle.text_fields.specs.TextWords.{text_of}
 use Rattle.tree_type.specs.NodeCounts.{node_count}
-use Rattle.tree_type.specs.Trees.{tree_of}
-use Rattle.tree_text.specs.Reading.{tree}
-use Rattle.tree_text.specs.Canonical.{tree_text}
+use Rattle.tree_type.specs.DecompositionTrees.{tree_of}
+use Rattle.tree_text.specs.TreeReading.{tree}
+use Rattle.tree_text.specs.CanonicalTrees.{tree_text}
 use Rattle.tree_text.proofs.LineCounts.{nodes_have_bytes}
 use Rattle.tree_text.proofs.TreesAgain.{tree_again}
 use Rattle.tree_text.proofs.WrittenLines.{whole_written}

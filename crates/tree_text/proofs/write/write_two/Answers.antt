@@ -1,7 +1,7 @@
 use Rattle.std.proofs.Common.{◌≡◌, ◌∷◌, ◌∙◌, ap, subst}
 use Rattle.std.specs.Prelude.{OnOk, fold}
 use Rattle.text_fields.specs.Written.{Draft, with_word}
-use Rattle.tree_text.specs.Canonical.{number_of_line, set_words}
+use Rattle.tree_text.specs.CanonicalTrees.{number_of_line, set_words}
 use Rattle.tree_text.proofs.WrittenLines.{ended_as}
 use Rattle.tree_text.proofs.write.write_two.Goals as goal
 

@@ -1,4 +1,4 @@
-use Rattle.tree_type.specs.Trees.{tree_of}
+use Rattle.tree_type.specs.DecompositionTrees.{tree_of}
 use Rattle.tree_type.specs.Places.{places}
 use Rattle.tree_type.proofs.OneRefusal.{one_refusal, sound_unbroken}
 use Rattle.tree_type.proofs.SoundOrBroken.{sound_or_broken}

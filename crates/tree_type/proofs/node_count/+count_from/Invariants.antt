@@ -1,5 +1,5 @@
 use Rattle.std.proofs.Common.{◌≡◌, ◌+◌, drop, map}
-use Rattle.tree_type.specs.Trees.{tree_of, trees_from}
+use Rattle.tree_type.specs.DecompositionTrees.{tree_of, trees_from}
 use Rattle.tree_type.specs.NodeCounts.{node_count, nodes_below}
 use Rattle.tree_type.proofs.node_count.+count_from.Given as goal
 

@@ -1,5 +1,5 @@
 use Rattle.std.proofs.Common.{◌≡◌, drop, map}
-use Rattle.tree_type.specs.Trees.{tree_of, trees_from}
+use Rattle.tree_type.specs.DecompositionTrees.{tree_of, trees_from}
 use Rattle.tree_type.specs.Verdicts.{first_in, first_among, fault_at}
 use Rattle.tree_type.proofs.verdicts.+first_fault.Given as goal
 

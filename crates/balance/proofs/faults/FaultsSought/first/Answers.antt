@@ -2,7 +2,7 @@ use Rattle.std.proofs.Common.{◌≡◌, ◌∙◌, List, ℕ, ap, sym, subst, a
 use Rattle.cmr_base.specs.Matrix.{height}
 use Rattle.cmr_base.specs.LineSets.{IsRowSet, set_numbered}
 use Rattle.cmr_base.proofs.SetNumbers.{row_set-numbered}
-use Rattle.balance.specs.Kept.{MakeFault}
+use Rattle.balance.specs.CandidateColumns.{MakeFault}
 use Rattle.balance.proofs.FaultNumbers.{make_fault, one_more}
 use Rattle.balance.proofs.faults.FaultsSought.first.Goals as goal
 

@@ -1,5 +1,5 @@
 use Rattle.first_hit.specs.First.{NoneBetween}
-use Rattle.balance.specs.Kept.{MakeFaultAt}
+use Rattle.balance.specs.CandidateColumns.{MakeFaultAt}
 use Rattle.balance.proofs.faults.FaultsSought.first.Given as goal
 
 abbrev pub invariant-loop-number : goal.invariant-loop-number

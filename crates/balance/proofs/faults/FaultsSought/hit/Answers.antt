@@ -1,6 +1,6 @@
 use Rattle.std.proofs.Common.{◌∙◌, refl, subst, sym}
 use Rattle.std.proofs.lemmas.Bool.{false≢true}
-use Rattle.balance.specs.Kept.{MakeFault}
+use Rattle.balance.specs.CandidateColumns.{MakeFault}
 use Rattle.balance.proofs.FaultNumbers.{make_fault}
 use Rattle.balance.proofs.faults.FaultsSought.hit.Goals as goal
 

@@ -1,7 +1,7 @@
 use Rattle.std.proofs.Common.{◌∙◌, ℕ, List, subst, sym}
 use Rattle.cmr_base.specs.Matrix.{entry}
 use Rattle.balance.specs.BalanceFaults.{IsBalanceFault}
-use Rattle.balance.specs.Kept.{AreKept, MakeFault}
+use Rattle.balance.specs.CandidateColumns.{AreKept, MakeFault}
 use Rattle.balance.proofs.FaultNumbers.{first_fault}
 use Rattle.balance.proofs.faults.FaultsSought.lines.Goals as goal
 

@@ -1,5 +1,5 @@
 use Rattle.std.proofs.lemmas.Result.{IfOk-weaker}
-use Rattle.tree_type.specs.Trees.{tree_of}
+use Rattle.tree_type.specs.DecompositionTrees.{tree_of}
 use Rattle.cmr_reach.specs.Balanced.{decomposed}
 use Rattle.cmr_reach.proofs.BalancedAnswers.{balanced_by_tree, tree_for, undecomposed}
 use Rattle.cmr_reach.proofs.tools.balanced.without_cycle_fault.Goals as goal

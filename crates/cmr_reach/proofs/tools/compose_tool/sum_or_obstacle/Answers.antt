@@ -1,5 +1,5 @@
 use Rattle.std.proofs.Common.{subst, arith}
-use Rattle.compose.specs.Kinds.{IsCauseOf}
+use Rattle.compose.specs.SumKinds.{IsCauseOf}
 use Rattle.cmr_reach.proofs.ComposeAnswers.{not_ternary}
 use Rattle.cmr_reach.proofs.tools.compose_tool.sum_or_obstacle.Goals as goal
 

@@ -1,4 +1,4 @@
-use Rattle.tree_type.specs.Trees.{ThreeSum, TwoSum, tree_of, two_trees}
+use Rattle.tree_type.specs.DecompositionTrees.{ThreeSum, TwoSum, tree_of, two_trees}
 use Rattle.tree_type.specs.declared.tree.Kind.TheVariants as kind
 use Rattle.tree_type.proofs.NodeTrees.{said_three_sum, said_two_sum}
 use Rattle.cmr_reach.proofs.RootSums.{sound_by_kind, three_by_kind, three_of_root, two_by_kind, two_of_root}

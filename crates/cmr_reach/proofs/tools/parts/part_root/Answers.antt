@@ -1,6 +1,6 @@
 use Rattle.std.proofs.Common.{◌∙◌, ap, subst}
 use Rattle.std.proofs.lemmas.Result.{IfOk-weaker}
-use Rattle.tree_text.specs.Reading.{plain_of}
+use Rattle.tree_text.specs.TreeReading.{plain_of}
 use Rattle.cmr_reach.specs.Parts.{IsArranged, parted, parts_report, root_of, parts_order_of}
 use Rattle.cmr_reach.proofs.RootSums.{with_both}
 use Rattle.cmr_reach.proofs.tools.parts.part_root.Goals as goal

@@ -1,6 +1,6 @@
 use Rattle.std.proofs.Common.{◌∙◌, length, ap, arith, subst, sym}
 use Rattle.std.proofs.lemmas.Result.{IfOk-weaker}
-use Rattle.tree_type.specs.Trees.{tree_of}
+use Rattle.tree_type.specs.DecompositionTrees.{tree_of}
 use Rattle.cert_check.specs.Laws.{Tells}
 use Rattle.cert_check.proofs.SoundTrees.{tells}
 use Rattle.cmr_unimodular.specs.Check.{accepted, accepted_report}

@@ -1,4 +1,4 @@
-use Rattle.cuts.specs.Cuts.{IsCut}
+use Rattle.cuts.specs.LineCuts.{IsCut}
 use Rattle.cuts.proofs.GroupLemmas.{apart_together}
 use Rattle.cuts.proofs.cut_groups.GroupFinder.new.Goals as goal
 

@@ -1,7 +1,7 @@
 use Rattle.std.proofs.Common.{refl, subst, sym}
 use Rattle.cuts.specs.declared.cut_groups.GroupFinder.{GroupFinder}
 use Rattle.cuts.specs.Finders.{AreFound}
-use Rattle.cuts.specs.LineSets.{as_set}
+use Rattle.cuts.specs.WordSets.{as_set}
 use Rattle.cuts.proofs.CoverLemmas.{group_named}
 use Rattle.cuts.proofs.FinderLemmas.{found_kept}
 use Rattle.cuts.proofs.cut_groups.GroupFinder.take.Goals as goal

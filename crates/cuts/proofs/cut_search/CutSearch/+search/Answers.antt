@@ -1,8 +1,8 @@
 use Rattle.std.proofs.Common.{MatchOption, Option, subst}
 use Rattle.cuts.specs.declared.line_patterns.Halves.{Halves}
-use Rattle.cuts.specs.LineSets.{as_set}
+use Rattle.cuts.specs.WordSets.{as_set}
 use Rattle.cuts.specs.declared.sides.Side.{Side}
-use Rattle.cuts.specs.Sides.{AreHalves, IsForced}
+use Rattle.cuts.specs.CutSides.{AreHalves, IsForced}
 use Rattle.cuts.proofs.CoverLemmas.{covers_both, covers_halves, covers_halves_beside, covers_line, covers_rest}
 use Rattle.cuts.proofs.ForcedLemmas.{covers_as, covers_forced, covers_forced_beside, within_both}
 use Rattle.cuts.proofs.cut_search.CutSearch.+search.Goals as goal

@@ -1,4 +1,4 @@
-use Rattle.cuts.specs.LineSets.{as_set}
+use Rattle.cuts.specs.WordSets.{as_set}
 use Rattle.cuts.proofs.CoverLemmas.{covers_few, covers_few_beside, patterns_few}
 use Rattle.cuts.proofs.line_patterns.LinePatterns.are_few.Goals as goal
 

@@ -1,5 +1,5 @@
 use Rattle.std.proofs.Common.{inr}
-use Rattle.cuts.specs.LineSets.{as_set}
+use Rattle.cuts.specs.WordSets.{as_set}
 use Rattle.cuts.proofs.CoverLemmas.{rows_halved}
 use Rattle.cuts.proofs.line_patterns.LinePatterns.halves_by_rows.Goals as goal
 

@@ -1,6 +1,6 @@
 use Rattle.std.proofs.Common.{inl, inr}
 use Rattle.cmr_base.proofs.Booleans.{not_both}
-use Rattle.cuts.specs.LineSets.{as_set}
+use Rattle.cuts.specs.WordSets.{as_set}
 use Rattle.cuts.proofs.GroupLemmas.{none_among}
 use Rattle.cuts.proofs.sides.Side.with_line.Goals as goal
 

@@ -1,5 +1,5 @@
 use Rattle.std.proofs.Common.{◌+◌}
-use Rattle.first_hit.specs.Runs.{NoneInRows}
+use Rattle.first_hit.specs.WorkerRuns.{NoneInRows}
 use Rattle.first_hit.proofs.round.Round.first_of_worker.Given as goal
 
 abbrev pub invariant-loop-row : goal.invariant-loop-row

@@ -1,7 +1,7 @@
 use Rattle.std.proofs.Common.{◌≡◌, ◌∙◌, ℕ, List, Option, length, refl, sym, ap, subst, arith}
 use Rattle.cmr_base.specs.Trees.{support}
 use Rattle.graph_realise.specs.Joints.{ArePartMarks, number_at}
-use Rattle.graph_realise.specs.Tables.{Grid}
+use Rattle.graph_realise.specs.BitTables.{Grid}
 use Rattle.graph_realise.proofs.JointLemmas.{named_number}
 use Rattle.graph_realise.proofs.joint.Joint.new.Goals as goal
 

@@ -1,6 +1,6 @@
 use Rattle.std.proofs.Common.{◌+◌, ◌*◌, ◌||◌, ◌∙◌, ℕ, Bool, ap₂, arith}
 use Rattle.std.specs.Int.Bits.{bit_or}
-use Rattle.graph_realise.specs.Tables.{cell}
+use Rattle.graph_realise.specs.BitTables.{cell}
 use Rattle.graph_realise.proofs.TableLemmas.{filled_word, filled_row}
 use Rattle.cmr_base.proofs.WordBits.{has_bit-or}
 use Rattle.graph_realise.proofs.table.Table.add.Goals as goal

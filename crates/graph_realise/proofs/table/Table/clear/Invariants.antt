@@ -1,5 +1,5 @@
 use Rattle.std.proofs.Common.{◌*◌, false}
-use Rattle.graph_realise.specs.Tables.{IsRowFilled}
+use Rattle.graph_realise.specs.BitTables.{IsRowFilled}
 use Rattle.graph_realise.proofs.table.Table.clear.Given as goal
 
 abbrev pub invariant-loop-chunk : goal.invariant-loop-chunk

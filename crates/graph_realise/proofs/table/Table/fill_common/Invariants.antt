@@ -1,6 +1,6 @@
 use Rattle.std.proofs.Common.{◌*◌, ◌&&◌}
 use Rattle.cmr_base.specs.ColumnSets.{has_column}
-use Rattle.graph_realise.specs.Tables.{IsRowFilled}
+use Rattle.graph_realise.specs.BitTables.{IsRowFilled}
 use Rattle.graph_realise.proofs.table.Table.fill_common.Given as goal
 
 abbrev pub invariant-loop-chunk : goal.invariant-loop-chunk

@@ -1,6 +1,6 @@
 use Rattle.std.proofs.Common.{◌*◌, ◌&&◌, not}
 use Rattle.cmr_base.specs.ColumnSets.{has_column}
-use Rattle.graph_realise.specs.Tables.{IsRowFilled}
+use Rattle.graph_realise.specs.BitTables.{IsRowFilled}
 use Rattle.graph_realise.proofs.table.Table.fill_outside.Given as goal
 
 abbrev pub invariant-loop-chunk : goal.invariant-loop-chunk

@@ -1,5 +1,5 @@
 use Rattle.std.proofs.Common.{◌+◌, ◌*◌, ◌&&◌, ◌∙◌, not, ℕ, Bool, ap₂, arith}
-use Rattle.graph_realise.specs.Tables.{Grid, cell}
+use Rattle.graph_realise.specs.BitTables.{Grid, cell}
 use Rattle.graph_realise.proofs.TableLemmas.{filled_word, filled_row}
 use Rattle.graph_realise.proofs.table.Table.reverse.Goals as goal
 

@@ -1,5 +1,5 @@
 use Rattle.std.proofs.Common.{◌*◌, ◌&&◌, not}
-use Rattle.graph_realise.specs.Tables.{cell, IsRowFilled}
+use Rattle.graph_realise.specs.BitTables.{cell, IsRowFilled}
 use Rattle.graph_realise.proofs.table.Table.reverse.Given as goal
 
 abbrev pub invariant-loop-chunk : goal.invariant-loop-chunk

@@ -4,7 +4,7 @@ use Rattle.cmr_base.specs.Planes.{has_bit}
 use Rattle.cmr_base.specs.Trees.{support}
 use Rattle.cmr_base.proofs.Booleans.{and_true}
 use Rattle.cmr_base.proofs.WordBits.{bit_at_chunk, has_bit-and}
-use Rattle.graph_realise.specs.Tables.{Grid, cell, AreChunksFilled}
+use Rattle.graph_realise.specs.BitTables.{Grid, cell, AreChunksFilled}
 use Rattle.graph_realise.proofs.ChunkLemmas.{chunks_none, chunks_more, chunks_row, chunks_same, not_filled, off_chunks}
 use Rattle.graph_realise.proofs.table.Table.take_out.Goals.{then-word-gone-ne0, else-word-gone-ne0}
 use Rattle.graph_realise.proofs.table.Table.take_out.Goals as goal

@@ -1,6 +1,6 @@
 use Rattle.std.proofs.Common.{◌&&◌, not}
 use Rattle.cmr_base.specs.Trees.{support}
-use Rattle.graph_realise.specs.Tables.{cell, AreChunksFilled}
+use Rattle.graph_realise.specs.BitTables.{cell, AreChunksFilled}
 use Rattle.graph_realise.proofs.table.Table.take_out.Given as goal
 
 abbrev pub invariant-loop-chunk : goal.invariant-loop-chunk

@@ -3,7 +3,7 @@ use Rattle.cmr_base.specs.Matrix.{Matrix, height}
 use Rattle.cmr_base.specs.LineSets.{AllBelow, set_numbered}
 use Rattle.cmr_base.specs.Violator.{HasNoColumnSet}
 use Rattle.cmr_base.proofs.SetNumbers.{row_set-numbered}
-use Rattle.parity.specs.ColumnSets.{HasLeastColumnSet}
+use Rattle.parity.specs.GivenColumns.{HasLeastColumnSet}
 use Rattle.leaf_enumerate.proofs.RowSets.{least_has, none_more}
 use Rattle.leaf_enumerate.proofs.violators.ViolatorsSought.first.Goals as goal
 

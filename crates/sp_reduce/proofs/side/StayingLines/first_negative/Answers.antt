@@ -1,8 +1,8 @@
 use Rattle.std.proofs.Common.{◌<◌, length, arith, ◌∙◌, sym, ap, get_or, Some}
 use Rattle.std.proofs.lemmas.List.{get_or_read}
 use Rattle.cmr_base.specs.Matrix.{entry}
-use Rattle.sp_reduce.specs.Kinds.{table}
-use Rattle.sp_reduce.specs.Sides.{is_negative}
+use Rattle.sp_reduce.specs.LineKinds.{table}
+use Rattle.sp_reduce.specs.StayingSides.{is_negative}
 use Rattle.sp_reduce.proofs.Searches.{find_here, find_more}
 use Rattle.sp_reduce.proofs.side.StayingLines.first_negative.Goals as goal
 

@@ -1,7 +1,7 @@
 use Rattle.std.proofs.Common.{◌≡◌, take, get_or, find, None}
 use Rattle.cmr_base.specs.Matrix.{entry}
-use Rattle.sp_reduce.specs.Kinds.{table}
-use Rattle.sp_reduce.specs.Sides.{is_negative}
+use Rattle.sp_reduce.specs.LineKinds.{table}
+use Rattle.sp_reduce.specs.StayingSides.{is_negative}
 use Rattle.sp_reduce.proofs.side.StayingLines.first_negative.Given as goal
 
 abbrev pub invariant-places : goal.invariant-places

@@ -1,7 +1,7 @@
 use Rattle.std.proofs.Common.{◌≡◌, ◌<◌, ◌∙◌, sym, ap, get_or, length, Some, None, arith}
 use Rattle.cmr_base.specs.Matrix.{entry}
 use Rattle.sp_reduce.specs.declared.side.StayingLines.{StayingLines}
-use Rattle.sp_reduce.specs.Kinds.{reason_for}
+use Rattle.sp_reduce.specs.LineKinds.{reason_for}
 use Rattle.sp_reduce.proofs.SideLemmas.{side_marked, counted_marked, across_marked, first_step_here, first_step_more}
 use Rattle.sp_reduce.proofs.side.StayingLines.first_reducible.Goals as goal
 

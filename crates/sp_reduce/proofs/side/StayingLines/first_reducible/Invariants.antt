@@ -1,6 +1,6 @@
 use Rattle.std.proofs.Common.{◌≡◌, take, length, None}
 use Rattle.cmr_base.specs.Matrix.{entry}
-use Rattle.sp_reduce.specs.Sides.{IsSettled, first_step_of}
+use Rattle.sp_reduce.specs.StayingSides.{IsSettled, first_step_of}
 use Rattle.sp_reduce.proofs.side.StayingLines.first_reducible.Given as goal
 
 -- no line so far is reducible, and marks alone have changed

@@ -1,5 +1,5 @@
 use Rattle.std.proofs.Common.{◌≡◌, ◌<◌, ◌≤◌, ℕ}
-use Rattle.sp_reduce.specs.Sides.{IsParallel}
+use Rattle.sp_reduce.specs.StayingSides.{IsParallel}
 use Rattle.sp_reduce.specs.Changes.{HasForgotten, IsSameAt}
 use Rattle.sp_reduce.proofs.side.StayingLines.forget.Given as goal
 

@@ -5,8 +5,8 @@ use Rattle.cmr_base.specs.Matrix.{height, entry}
 use Rattle.cmr_base.specs.LineSets.{AllBelow}
 use Rattle.cmr_base.specs.Reductions.{nonzeros_at}
 use Rattle.sp_reduce.specs.declared.kind.LineKind.{LineKind}
-use Rattle.sp_reduce.specs.Kinds.{cross_size, count_of_kind, table}
-use Rattle.sp_reduce.specs.Sides.{weight_at}
+use Rattle.sp_reduce.specs.LineKinds.{cross_size, count_of_kind, table}
+use Rattle.sp_reduce.specs.StayingSides.{weight_at}
 use Rattle.sp_reduce.specs.Tallies.{AreMarks, AreTallies}
 use Rattle.sp_reduce.proofs.KindLemmas.{size-other}
 use Rattle.sp_reduce.proofs.Loops.{pushed_each}

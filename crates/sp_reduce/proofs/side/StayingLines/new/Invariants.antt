@@ -1,8 +1,8 @@
 use Rattle.std.proofs.Common.{◌≡◌, ◌<◌, ℕ, length, get_or}
 use Rattle.cmr_base.specs.Matrix.{entry}
 use Rattle.cmr_base.specs.Reductions.{nonzeros_at}
-use Rattle.sp_reduce.specs.Kinds.{table}
-use Rattle.sp_reduce.specs.Sides.{weight_at}
+use Rattle.sp_reduce.specs.LineKinds.{table}
+use Rattle.sp_reduce.specs.StayingSides.{weight_at}
 use Rattle.sp_reduce.proofs.side.StayingLines.new.Given as goal
 
 -- the lines so far have their counts and their sums

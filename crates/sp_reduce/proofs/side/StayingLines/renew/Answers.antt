@@ -1,7 +1,7 @@
 use Rattle.std.proofs.Common.{◌≡◌, ◌<◌, ◌∙◌, sym, ap, subst, List, ℕ, length, get_or, refl}
 use Rattle.sp_reduce.specs.declared.side.StayingLines.{StayingLines}
-use Rattle.sp_reduce.specs.Kinds.{line_named}
-use Rattle.sp_reduce.specs.Sides.{IsAcross}
+use Rattle.sp_reduce.specs.LineKinds.{line_named}
+use Rattle.sp_reduce.specs.StayingSides.{IsAcross}
 use Rattle.sp_reduce.specs.Changes.{IsUnsettled}
 use Rattle.cmr_base.specs.Members.{IsIn}
 use Rattle.cmr_base.proofs.ListsWithout.{place_of, place_is}

@@ -1,5 +1,5 @@
 use Rattle.std.proofs.Common.{◌≡◌, ◌+◌, ◌<◌, ◌≤◌, ◌^◌, ◌*◌, ◌∙◌, ℕ, cond, false, get_or, length, set, ap, ap₂, subst, sym, arith}
-use Rattle.sp_reduce.specs.Kinds.{own_line, other_kind}
+use Rattle.sp_reduce.specs.LineKinds.{own_line, other_kind}
 use Rattle.sp_reduce.specs.declared.kind.LineKind.{LineKind}
 use Rattle.sp_reduce.proofs.TallyLemmas.{tallies_same, tallies_step, passed_row, counts_small, cross_small, sums_small, own_in, other_in, weights_small}
 use Rattle.sp_reduce.proofs.tallies.Tallies.add_row.Goals as goal

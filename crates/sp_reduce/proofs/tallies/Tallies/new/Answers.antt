@@ -1,6 +1,6 @@
 use Rattle.std.proofs.Common.{rules, arith, ◌≡◌, ◌∙◌, ℕ, ap, replicate}
 use Rattle.sp_reduce.specs.declared.tallies.Tallies.{Tallies}
-use Rattle.sp_reduce.specs.Kinds.{count_of_kind}
+use Rattle.sp_reduce.specs.LineKinds.{count_of_kind}
 use Rattle.sp_reduce.proofs.TallyLemmas.{cross_small, tallies_start}
 use Rattle.sp_reduce.proofs.tallies.Tallies.new.Goals as goal
 

@@ -1,5 +1,5 @@
 use Rattle.cuts.proofs.GroupLemmas.{apart_together}
-use Rattle.cuts.specs.Cuts.{IsCut}
+use Rattle.cuts.specs.LineCuts.{IsCut}
 use Rattle.three_sep.proofs.search.Search.new.Goals as goal
 
 pub returns : goal.returns

@@ -5,7 +5,7 @@ use Rattle.cmr_base.specs.declared.separation.Form.TheVariants as form
 use Rattle.cmr_base.specs.Matrix.{Matrix, height}
 use Rattle.cmr_base.specs.MatrixSums.{one_sum, HaveTwoSum, two_sum, HaveThreeSum, three_sum}
 use Rattle.sum_ops.specs.declared.error.SumError.{SumError}
-use Rattle.sum_ops.specs.Causes.{IsCause, IsConcentratedCause}
+use Rattle.sum_ops.specs.SumCauses.{IsCause, IsConcentratedCause}
 use Rattle.compose.specs.declared.sum_kind.SumKind.{SumKind}
 use Rattle.compose.specs.declared.sum_kind.SumKind.TheVariants.{One, Two, Delta, YForm, Mixed, Concentrated}
 

@@ -4,7 +4,7 @@ use Rattle.std.specs.Fmt.{signed_decimal}
 use Rattle.cmr_base.specs.declared.line_set.LineSet.{LineSet}
 use Rattle.cmr_base.specs.Matrix.{Matrix, height}
 use Rattle.cmr_base.specs.LineSets.{first_lines, submatrix_sum}
-use Rattle.matrix_text.specs.Canonical.{submatrix_text}
+use Rattle.matrix_text.specs.CanonicalMatrices.{submatrix_text}
 use Rattle.cmr_front.specs.declared.status.Answer.TheVariants.{Yes, No, Undecided}
 use Rattle.cmr_front.specs.Printed.{line_set_text, open_line}
 use Rattle.cmr_front.specs.Report.{Report, asked_file}

@@ -10,10 +10,10 @@ use Rattle.cmr_base.specs.declared.separation.Three.{Three}
 use Rattle.cmr_base.specs.declared.separation.Form.{Form}
 use Rattle.pivots.specs.declared.place.PlacedPivot.{PlacedPivot}
 use Rattle.cmr_base.specs.Separations.{first_is_flat, second_is_flat}
-use Rattle.text_fields.specs.Words.{Text}
+use Rattle.text_fields.specs.TextWords.{Text}
 use Rattle.text_fields.specs.Result.{◌>>=◌}
 use Rattle.text_fields.specs.Reading.{Fault, field, times, fields, ended}
-use Rattle.tree_type.specs.Trees.{Finding, Empty, Cycle, Reduced, OneSum, Network, Conetwork, R10, TwoSum, ThreeSum, Enumerated, Violator, Undecided, Pivoted, Tree, Branch, SizedTree, trees_from, tree_of}
+use Rattle.tree_type.specs.DecompositionTrees.{Finding, Empty, Cycle, Reduced, OneSum, Network, Conetwork, R10, TwoSum, ThreeSum, Enumerated, Violator, Undecided, Pivoted, Tree, Branch, SizedTree, trees_from, tree_of}
 use Rattle.tree_type.specs.Invariant.{size_of}
 use Rattle.tree_text.specs.declared.error.TreeKind.{TreeKind}
 use Rattle.tree_text.specs.declared.error.TreeKind.TheVariants.{Short, Extra, TooDeep}
@@ -21,10 +21,10 @@ use Rattle.tree_text.specs.declared.kind_word.KindWord.{KindWord}
 use Rattle.tree_text.specs.declared.kind_word.KindWord.TheVariants as kind
 use Rattle.tree_text.specs.declared.value.Sizes.{Sizes}
 use Rattle.tree_text.specs.declared.header.Header.{Header}
-use Rattle.tree_text.specs.Findings.{NodeFront}
+use Rattle.tree_text.specs.ReadFindings.{NodeFront}
 use Rattle.tree_text.specs.Versions.{title_in, version_in}
 use Rattle.tree_text.specs.KindWords.{kind_in}
-use Rattle.tree_text.specs.Values.{limited, line_of, last_number, next_line, step_in}
+use Rattle.tree_text.specs.TreeValues.{limited, line_of, last_number, next_line, step_in}
 
 -- reading a value off the front of a text
 abbrev pub Reader : Type 0 → Type 0

@@ -11,7 +11,7 @@ use Rattle.cmr_base.specs.Reductions.{nonzeros_at, equal_at}
 use Rattle.sp_reduce.specs.declared.kind.LineKind.{LineKind}
 use Rattle.sp_reduce.specs.declared.side.Found.{Found}
 use Rattle.sp_reduce.specs.declared.side.StayingLines.{StayingLines}
-use Rattle.sp_reduce.specs.Kinds.{line_named, count_of_kind, cross_size, table, reason_for}
+use Rattle.sp_reduce.specs.LineKinds.{line_named, count_of_kind, cross_size, table, reason_for}
 
 -- sums of these tell sets of lines apart, mostly
 abbrev pub weight : ℕ → ℕ

@@ -1,7 +1,7 @@
 -- What was read of a node's own part.
 use Rattle.std.specs.Prelude.{ℕ}
 use Rattle.cmr_base.specs.declared.line_set.LineSet.{LineSet}
-use Rattle.tree_type.specs.Trees.{Finding}
+use Rattle.tree_type.specs.DecompositionTrees.{Finding}
 use Rattle.tree_type.specs.Findings.{finding_shown}
 use Rattle.tree_text.specs.declared.own_part.OwnPart.{OwnPart}
 use Rattle.tree_text.specs.declared.own_part.Front.{Front}

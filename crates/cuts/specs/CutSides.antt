@@ -10,8 +10,8 @@ use Rattle.cuts.specs.Classes.{AreClassNumbers, AreNumbers}
 use Rattle.cmr_base.specs.Separations.{Lines}
 use Rattle.cuts.specs.declared.line_words.LineWords.{LineWords}
 use Rattle.cuts.specs.Covers.{AreOutside, AreWithin, IsHalved}
-use Rattle.cuts.specs.Cuts.{IsCut}
-use Rattle.cuts.specs.LineSets.{HasWords, as_set}
+use Rattle.cuts.specs.LineCuts.{IsCut}
+use Rattle.cuts.specs.WordSets.{HasWords, as_set}
 
 -- a set of rows, and numbers of the columns for it
 pub record HasSetNumbers (m : Matrix) (rows : NumberedSet) : Type 0 where
