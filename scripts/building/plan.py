@@ -57,7 +57,8 @@ class Plan:
     def next(self, built: Collection[str], running: Mapping[str, int], processors: int) -> Iterator[tuple[str, int]]:
         """The crates to begin with so many processors, and the jobs of each. `running` has the jobs of those that run.
 
-        Those with the longest ways come first. Each gets one processor, and the first of them those that the others leave.
+        Those with the longest ways come first. Each gets one processor, and the first of them those that the others leave: at least two
+        where there are many and no crate with a longer way runs, and also those of proofs that take a small share of its own time.
         """
         done, free = set(built), processors - sum(running.values())
         longest = max((self._ways[it] for it in running), default=0.0)

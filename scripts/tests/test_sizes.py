@@ -32,6 +32,8 @@ WITHIN = """\
     36 of at most  100 characters of a line of a clause
      2 of at most   10 clauses of a function
      2 of at most   51 lines of a body
+     0 of at most   21 names of definitions in two crates
+     0 of at most    0 modules of definitions with one name in two crates
 """
 
 
@@ -52,11 +54,12 @@ class SizesTest(ScriptTest):
         file.write_text(text, encoding="utf-8")
 
     def lists(self, *lines):
-        """The run ends with status 1, and prints these lines one below the other beside those of four counts that are kept."""
+        """The run ends with status 1, and prints these lines one below the other beside those of the counts that are kept."""
         run = self.run_script("sizes", self.folder)
         self.assertEqual((run.returncode, run.stderr), (1, ""))
         self.assertIn("\n".join(lines), run.stdout)
-        self.assertEqual(len(run.stdout.splitlines()), 4 + len(lines))
+        listed = sum(it.startswith("    ") and " of at most " not in it for it in lines)
+        self.assertEqual(len(run.stdout.splitlines()), len(WITHIN.splitlines()) + listed)
 
     def test_counts_that_are_kept(self):
         run = self.run_script("sizes", self.folder)
@@ -94,6 +97,26 @@ class SizesTest(ScriptTest):
     def test_long_bodies(self):
         self.put("crates/low/src/long.rt", function("kept", [], 51) + function("long", ["    ensures { 1 }"], 52))
         self.lists("    52 of at most   51 lines of a body", "    crates/low/src/long.rt:55: long: 52")
+
+    def test_shared_names(self):
+        """A root and laws may stand in each crate. A name in two files of one crate stands in one crate."""
+        for crate in ("high", "low"):
+            for module in ("Lib", "Laws", f"Of{crate}"):
+                self.put(f"crates/{crate}/specs/{module}.antt", "pub mod Sums\npub use Rattle.low.specs.Sums.{total}\n")
+        self.put("crates/low/specs/More.antt", "abbrev pub IsSum : ℕ → Type 0\npub record IsPart (n : ℕ) : Type 0 where\n")
+        self.put("crates/low/specs/Sums.antt", "abbrev pub IsSum : ℕ → Type 0\n")
+        self.test_counts_that_are_kept()
+        self.put("crates/high/specs/Sums.antt", "".join(f"pub data Kind{number} : Type 0 where\n" for number in range(22)))
+        self.put("crates/top/specs/Kinds.antt", "".join(f"abbrev pub Kind{number} : ℕ\n" for number in range(21)))
+        self.lists("     1 of at most    0 modules of definitions with one name in two crates", "    Sums: high, low")
+        self.put("crates/high/specs/Totals.antt", "pub record IsSum (n : ℕ) : Type 0 where\n")
+        self.lists(
+            "    22 of at most   21 names of definitions in two crates",
+            "    IsSum: high, low",
+            *(f"    Kind{number}: high, top" for number in sorted(range(21), key=str)),
+            "     1 of at most    0 modules of definitions with one name in two crates",
+            "    Sums: high, low",
+        )
 
 
 if __name__ == "__main__":

@@ -1,4 +1,4 @@
--- PartSides of parts by the depths in their trees, and odd closed lists by routes.
+-- Sides of parts by the depths in their trees, and odd closed lists by routes.
 use Rattle.std.proofs.Common.{ℕ, zero, suc, ◌+◌, ◌%◌, ◌/◌, Bool, true, List, [], ◌∷◌, ◌≡◌, ◌≢◌, ◌<◌, ◌≤◌, ◌∙◌, sym, ap, refl, arith, subst, inl, inr, length, get_or, map}
 use Rattle.std.proofs.lemmas.List.{get_or-map, length-map}
 use Rattle.cmr_base.specs.LineSets.{AllBelow}

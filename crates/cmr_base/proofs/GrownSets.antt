@@ -55,7 +55,7 @@ module _ (m n : ℕ) (M : ℕ → ℕ → ℤ) (upper lower : ℕ → ℕ → �
       go false true x (inl h) = inl (λ e f. absurd (false≢true e), λ e f. h)
       go false true x (inr h) = inr (λ k. h (k.1 refl refl))
 
-  -- a line count_outside that stands in every closed set that holds T
+  -- a line outside that stands in every closed set that holds T
   record Forced (T : Lines) : Type 0 where
     line : Line
     is : IsLine m n line

@@ -33,7 +33,7 @@ abbrev pub pair_of : List HungArc → ℕ → Pair
 pair_of [] row = record { tail = 0; head = 0 }
 pair_of (arc ∷ arcs) row = cond (nat_eq row arc.row) (record { tail = arc.node; head = suc (length arcs) }) (pair_of arcs row)
 
--- the same, or reversed_unless round
+-- the same, or reversed
 abbrev pub reversed_unless : Bool → Pair → Pair
 reversed_unless as_it_is pair = cond as_it_is pair (record { tail = pair.head; head = pair.tail })
 

@@ -14,7 +14,7 @@ abbrev pub IsLine : ℕ → ℕ → Line → Type 0
 IsLine m n (Row row) = row < m
 IsLine m n (Column column) = column < n
 
--- No line count_outside the set breaks a rule with the lines count_inside: the entries between the set and the other lines are those of the rules.
+-- No line outside the set breaks a rule with the lines inside: the entries between the set and the other lines are those of the rules.
 abbrev pub IsClosed : ℕ → ℕ → (ℕ → ℕ → ℤ) → (upper lower : ℕ → ℕ → ℤ) → Lines → Type 0
 IsClosed m n M upper lower lines = HasBlocks M (first_lines m) (first_lines n) lines upper lower
 

@@ -13,7 +13,7 @@ use Rattle.clap.specs.declared.parser.matches.ArgMatches.{ArgMatches}
 use Rattle.cmr_front.specs.declared.words.WordsError.{WordsError}
 use Rattle.cmr_front.specs.declared.words.WordsError.TheVariants.{Refused, Memory}
 use Rattle.cmr_front.specs.Words.Parsing.{faultless, is_dash, matches_in, matches_with_input}
-use Rattle.cmr_front.specs.Words.Reading.{Gives, ◌>>=◌}
+use Rattle.cmr_front.specs.Words.ReadWords.{Gives, ◌>>=◌}
 
 pub simple_of_free : (a : App) → is_simple_and_free a ≡ true → is_simple a ≡ true
 simple_of_free a free = (and_parts _ _ free).0

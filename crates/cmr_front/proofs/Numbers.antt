@@ -11,7 +11,7 @@ use Rattle.clap.specs.declared.builder.value_parser.ValueParser.TheVariants as v
 use Rattle.clap.proofs.ValueTestLemmas.{Accepts-accepts, accepts-Accepts}
 use Rattle.cmr_front.specs.declared.matrix_file.MatrixForm.{MatrixForm}
 use Rattle.cmr_front.specs.Words.Parsing.{form_in, lines_in, number_from, pivots_in, workers_in}
-use Rattle.cmr_front.specs.Words.Reading.{◌>>=◌}
+use Rattle.cmr_front.specs.Words.ReadWords.{◌>>=◌}
 use Rattle.cmr_base.specs.declared.limits.TheConstants.{MAX_LINES}
 
 number_from-some : (least most : ℕ) (text : List ℕ) → IsSignedIn (pos least) (pos most) text → number_from least most text ≡ Some (digits_value 10 (without_leading_sign text))

@@ -1,4 +1,4 @@
 -- Words of the command line, as the tools read them.
 pub mod Arguments
-pub mod Reading
+pub mod ReadWords
 pub mod Parsing

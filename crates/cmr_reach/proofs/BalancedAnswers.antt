@@ -30,7 +30,7 @@ use Rattle.cmr_reach.specs.Balanced.{BalancedDecides, BalancedMeans, IsDecompose
 use Rattle.clap.specs.Words.{Row, Text}
 use Rattle.cmr_front.specs.declared.matrix_file.MatrixForm.{MatrixForm}
 use Rattle.cmr_front.specs.Words.Parsing.{fault_in, file_in, matches_with_input}
-use Rattle.cmr_front.specs.Words.Reading.{◌>>=◌}
+use Rattle.cmr_front.specs.Words.ReadWords.{◌>>=◌}
 use Rattle.cmr_front.proofs.Numbers.{with_numbers}
 use Rattle.cmr_reach.proofs.CamionAnswers.{not_both}
 

@@ -13,7 +13,7 @@ use Rattle.clap.specs.Words.{App, Row, Text}
 use Rattle.cmr_front.specs.declared.matrix_file.MatrixForm.{MatrixForm}
 use Rattle.cmr_front.specs.Words.Arguments.{fault_rule, file_rule, form_rule, tool_app}
 use Rattle.cmr_front.specs.Words.Parsing.{fault_in, file_in, form_in, matches_with_input}
-use Rattle.cmr_front.specs.Words.Reading.{◌>>=◌}
+use Rattle.cmr_front.specs.Words.ReadWords.{◌>>=◌}
 use Rattle.cmr_reach.specs.declared.tools.camion.CamionOptions.{CamionOptions}
 
 -- ---- the words

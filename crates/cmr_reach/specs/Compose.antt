@@ -27,7 +27,7 @@ use Rattle.compose.specs.declared.sum_kind.SumKind.TheVariants.{One, Two, Delta,
 use Rattle.cmr_front.specs.declared.matrix_file.MatrixForm.{MatrixForm}
 use Rattle.cmr_front.specs.Words.Arguments.{form_rule, operand_rule, output_rule, required, tool_app}
 use Rattle.cmr_front.specs.Words.Parsing.{form_in, matches_in}
-use Rattle.cmr_front.specs.Words.Reading.{◌>>=◌}
+use Rattle.cmr_front.specs.Words.ReadWords.{◌>>=◌}
 use Rattle.cmr_reach.specs.declared.tools.compose_tool.ComposeOptions.{ComposeOptions}
 
 -- ---- the words

@@ -30,7 +30,7 @@ use Rattle.clap.specs.Words.{App, Row, Text, first_of}
 use Rattle.cmr_front.specs.declared.matrix_file.MatrixForm.{MatrixForm}
 use Rattle.cmr_front.specs.Words.Arguments.{form_rule, operand_rule, required, tool_app, value_rule}
 use Rattle.cmr_front.specs.Words.Parsing.{form_in, matches_in}
-use Rattle.cmr_front.specs.Words.Reading.{◌>>=◌}
+use Rattle.cmr_front.specs.Words.ReadWords.{◌>>=◌}
 use Rattle.cmr_reach.specs.declared.tools.parts.PartsOptions.{PartsOptions}
 
 -- ---- the words

@@ -25,7 +25,7 @@ use Rattle.clap.specs.Words.{App, Row, Text, first_of}
 use Rattle.cmr_front.specs.declared.matrix_file.MatrixForm.{MatrixForm}
 use Rattle.cmr_front.specs.Words.Arguments.{form_rule, operand_rule, tool_app}
 use Rattle.cmr_front.specs.Words.Parsing.{form_in, matches_in}
-use Rattle.cmr_front.specs.Words.Reading.{◌>>=◌}
+use Rattle.cmr_front.specs.Words.ReadWords.{◌>>=◌}
 use Rattle.cmr_reach.specs.declared.tools.sign.SignOptions.{SignOptions}
 
 -- ---- the words

@@ -20,6 +20,7 @@ use Rattle.cmr_unimodular.specs.Tu.{TuOrder, tu_order, tu_order_of, tu_tool}
 use Rattle.cmr_unimodular.specs.Regular.{RegularOrder, regular_order, regular_order_of, regular_tool}
 use Rattle.cmr_unimodular.specs.Generate.{GenerateOrder, generate_order, generate_order_of, generate_tool}
 use Rattle.cmr_front.specs.Run.{Ordered, nothing, work}
+use Rattle.cmr_front.specs.Words.ReadWords.{◌>>=◌}
 use Rattle.cmr_unimodular.specs.GraphMatrix.{test_tool}
 use Rattle.cmr_front.specs.Tool.{Tool}
 
@@ -86,15 +87,10 @@ order_with tool.Balanced words = option_map balanced (balanced_order words)
 order_with tool.Parts words = option_map parts (parts_order words)
 order_with tool.Compose words = option_map compose (compose_order words)
 
--- the same, where a tool is named
-abbrev pub order_named : Option ToolName → List (List ℕ) → Option Order
-order_named None words = None
-order_named (Some name) words = order_with name words
-
 -- the first word names the tool, which takes the others; nothing where the words are refused
 abbrev pub order : List (List ℕ) → Option Order
 order [] = None
-order (word ∷ words) = order_named (tool_named word) words
+order (word ∷ words) = tool_named word >>= λ name. order_with name words
 
 -- what is ordered: nothing where the words are refused
 abbrev pub ordered : Option Order → Ordered

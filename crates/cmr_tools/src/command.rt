@@ -3,7 +3,7 @@
 ghost use Rattle.std.specs.Prelude.{◌≡◌, IfOk, IsTrue};
 ghost use Rattle.cmr_front.specs.Run.{Means, RunsOver, work};
 ghost use Rattle.cmr_front.specs.Status.{answer_status};
-ghost use Rattle.cmr_front.specs.Words.Reading.{Gives};
+ghost use Rattle.cmr_front.specs.Words.ReadWords.{Gives};
 ghost use Rattle.cmr_front.specs.declared.status.Answer.{Answer};
 ghost use Rattle.cmr_tools.specs.ToolOrders.{order, order_of, order_with, tool_named, tool_of};
 

@@ -30,7 +30,7 @@ use Rattle.cmr_unimodular.proofs.OneVerdict.{one_verdict}
 use Rattle.cmr_unimodular.proofs.UnimodularAnswers.{unimodular_means}
 use Rattle.clap.specs.Words.{Row, Text, first_of}
 use Rattle.cmr_front.specs.declared.matrix_file.MatrixForm.{MatrixForm}
-use Rattle.cmr_front.specs.Words.Reading.{◌>>=◌}
+use Rattle.cmr_front.specs.Words.ReadWords.{◌>>=◌}
 use Rattle.cmr_front.specs.Words.Parsing.{fault_in, file_in, matches_with_input}
 use Rattle.cmr_front.proofs.Numbers.{with_numbers}
 

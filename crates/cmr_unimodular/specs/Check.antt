@@ -36,7 +36,7 @@ use Rattle.cmr_front.specs.declared.matrix_file.MatrixForm.{MatrixForm}
 use Rattle.cmr_unimodular.specs.declared.tools.check.CheckOptions.{CheckOptions}
 use Rattle.cmr_front.specs.Words.Arguments.{form_rule, operand_rule, tool_app}
 use Rattle.cmr_front.specs.Words.Parsing.{form_in, matches_in}
-use Rattle.cmr_front.specs.Words.Reading.{◌>>=◌}
+use Rattle.cmr_front.specs.Words.ReadWords.{◌>>=◌}
 
 -- ---- the words
 

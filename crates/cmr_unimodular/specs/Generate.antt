@@ -17,7 +17,7 @@ use Rattle.clap.specs.Words.{App, Row, Text, first_of}
 use Rattle.cmr_unimodular.specs.declared.tools.generate_tool.GenerateOptions.{GenerateOptions}
 use Rattle.cmr_front.specs.Words.Arguments.{lines_rule, operand_rule, output_rule, pivots_rule, tool_app, workers_rule}
 use Rattle.cmr_front.specs.Words.Parsing.{lines_in, matches_in, number_from, pivots_in, workers_in}
-use Rattle.cmr_front.specs.Words.Reading.{◌>>=◌}
+use Rattle.cmr_front.specs.Words.ReadWords.{◌>>=◌}
 
 -- ---- the words
 

@@ -19,7 +19,7 @@ use Rattle.cmr_front.specs.declared.matrix_file.MatrixForm.{MatrixForm}
 use Rattle.cmr_unimodular.specs.declared.tools.graphic_network.TestOptions.{TestOptions}
 use Rattle.cmr_front.specs.Words.Arguments.{file_rule, form_rule, from_graph_rule, graph_rule, minimal_rule, tool_app, transposed_rule}
 use Rattle.cmr_front.specs.Words.Parsing.{file_in, form_in, has_flag, matches_with_input}
-use Rattle.cmr_front.specs.Words.Reading.{◌>>=◌}
+use Rattle.cmr_front.specs.Words.ReadWords.{◌>>=◌}
 
 -- ---- the words
 

@@ -18,7 +18,7 @@ use Rattle.cmr_front.specs.declared.matrix_file.MatrixForm.{MatrixForm}
 use Rattle.cmr_unimodular.specs.declared.tools.series_parallel.SpOptions.{SpOptions}
 use Rattle.cmr_front.specs.Words.Arguments.{binary_rule, file_rule, form_rule, minimal_rule, rest_rule, steps_rule, tool_app}
 use Rattle.cmr_front.specs.Words.Parsing.{file_in, form_in, has_flag, matches_with_input}
-use Rattle.cmr_front.specs.Words.Reading.{◌>>=◌}
+use Rattle.cmr_front.specs.Words.ReadWords.{◌>>=◌}
 
 -- ---- the words
 

@@ -15,7 +15,7 @@ use Rattle.clap.specs.Words.{App, Row, Text, first_of}
 use Rattle.cmr_unimodular.specs.declared.tools.upgrade.UpgradeOptions.{UpgradeOptions}
 use Rattle.cmr_front.specs.Words.Arguments.{operand_rule, required, tool_app, tree_rule}
 use Rattle.cmr_front.specs.Words.Parsing.{matches_in}
-use Rattle.cmr_front.specs.Words.Reading.{◌>>=◌}
+use Rattle.cmr_front.specs.Words.ReadWords.{◌>>=◌}
 
 -- ---- the words
 

@@ -16,7 +16,7 @@ use crate::rule::{Block, GrowthRule};
 use cmr_base::{Line, LineSet, Memory, RowsAndColumns};
 use std::alloc::Global;
 
-/// A set of the lines of a matrix. It begins with some lines, and grows by a rule: a line count_outside that breaks the rule with
+/// A set of the lines of a matrix. It begins with some lines, and grows by a rule: a line outside that breaks the rule with
 /// a line inside is pulled in.
 #[derive(Drop)]
 pub struct GrowingSet {
@@ -131,7 +131,7 @@ impl GrowingSet {
         Ok(false)
     }
 
-    /// How many lines are count_outside.
+    /// How many lines are outside.
     pub fn left(&self, matrix: &RowsAndColumns<'_>) -> u32
         requires { HasRoom matrix.now self.now }
         ensures { result ≡ count_outside (height matrix.now) matrix.now.width (set_of self.now) }

@@ -17,7 +17,7 @@ use Rattle.matrix_text.specs.Values.{own_size, limited, rising_line_in}
 abbrev pub numbers_of : List ℕ → List ℕ
 numbers_of lines = map (λ line. line + 1) lines
 
--- these words are a named_lines text of the lines, in a matrix of these sizes
+-- these words are a submatrix text of the lines, in a matrix of these sizes
 pub record IsSubmatrix (height width : ℕ) (words : List (List ℕ)) (lines : LineSet) : Type 0 where
   pub height_word : List ℕ
   pub width_word : List ℕ
@@ -47,7 +47,7 @@ another_line most outside lines text = do
 abbrev pub rising_lines : ℕ → TextKind → ℕ → Text → Result (List ℕ × Text) (Fault TextKind)
 rising_lines most outside n text = times (another_line most outside) n [] text
 
--- reading: the lines that a named_lines text names in a matrix of these sizes, or its first fault
+-- reading: the lines that a submatrix text names in a matrix of these sizes, or its first fault
 abbrev pub named_lines : ℕ → ℕ → Text → Result LineSet (Fault TextKind)
 named_lines height width text = do
   same_height ← field Short (own_size height) text

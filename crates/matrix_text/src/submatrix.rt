@@ -15,16 +15,16 @@ use cmr_base::{Indices, LineSet, MAX_COLUMNS, MAX_ROWS, Memory};
 use std::alloc::Global;
 use text_fields::{Words, Writer};
 
-/// The lines that a named_lines text names in a matrix of these sizes, or the text's first fault.
+/// The lines that a submatrix text names in a matrix of these sizes, or the text's first fault.
 pub fn read_submatrix(
     alloc: Global,
     bytes: &[u8],
     rows: u32,
     columns: u32,
 ) -> Result<LineSet, TextError>
-    // What is read is a named_lines text of the lines.
+    // What is read is a submatrix text of the lines.
     ensures found { IfOk result (IsSubmatrix rows columns (words_in bytes.now)) }
-    // A named_lines text of some lines is read as these lines, unless memory runs out.
+    // A submatrix text of some lines is read as these lines, unless memory runs out.
     ensures only { (lines : LineSet) → IsSubmatrix rows columns (words_in bytes.now) lines
         → Gives (λ lines. lines) result (Ok lines) }
     // Which fault is the first.
@@ -74,7 +74,7 @@ fn rising_lines(
     Ok(lines)
 }
 
-/// The canonical named_lines text of some lines in a matrix of these sizes.
+/// The canonical submatrix text of some lines in a matrix of these sizes.
 pub fn write_submatrix(
     alloc: Global,
     lines: &LineSet,

@@ -8,7 +8,7 @@ use Rattle.clap.specs.Words.{App, Kinds, Row, Text, fault_of, first_of, matches_
 use Rattle.clap.specs.ValueTests.{is_signed_in}
 use Rattle.cmr_front.specs.declared.matrix_file.MatrixForm.{MatrixForm}
 use Rattle.cmr_front.specs.declared.matrix_file.MatrixForm.TheVariants.{Dense, Sparse}
-use Rattle.cmr_front.specs.Words.Reading.{◌>>=◌}
+use Rattle.cmr_front.specs.Words.ReadWords.{◌>>=◌}
 use Rattle.cmr_base.specs.declared.limits.TheConstants.{MAX_LINES}
 
 abbrev pub is_dash : Text → Bool

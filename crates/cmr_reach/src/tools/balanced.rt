@@ -11,7 +11,7 @@ ghost use Rattle.cmr_base.specs.Matrix.{IsMatrix, entry};
 ghost use Rattle.cmr_front.specs.Outcome.{outcome_report};
 ghost use Rattle.cmr_front.specs.Run.{Means, RunsOver, work};
 ghost use Rattle.cmr_front.specs.Status.{answer_status};
-ghost use Rattle.cmr_front.specs.Words.Reading.{Gives};
+ghost use Rattle.cmr_front.specs.Words.ReadWords.{Gives};
 ghost use Rattle.cmr_front.specs.declared.status.Answer.{Answer};
 ghost use Rattle.cmr_reach.specs.Balanced.{BalancedDecides, IsInRanges, IsUntold, balanced_app, balanced_order, balanced_order_in, balanced_order_of, balanced_tool, search_report};
 

@@ -8,7 +8,7 @@ ghost use Rattle.cmr_front.specs.Run.{Means, RunsOver, work};
 ghost use Rattle.cmr_front.specs.Status.{answer_status};
 ghost use Rattle.cmr_front.specs.Texts.{ReportsText};
 ghost use Rattle.cmr_front.specs.Tool.{HasOneReport, IsDecision};
-ghost use Rattle.cmr_front.specs.Words.Reading.{Gives};
+ghost use Rattle.cmr_front.specs.Words.ReadWords.{Gives};
 ghost use Rattle.cmr_front.specs.declared.outcome.FaultKind.TheVariants as faults;
 ghost use Rattle.cmr_front.specs.declared.status.Answer.{Answer};
 ghost use Rattle.cmr_reach.specs.Compose.{ComposeDecides, ComposeReports, IsComposition, compose_app, compose_order, compose_order_in, compose_order_of, compose_tool, composed_line, composed_report, obstacle_name, obstacle_report, sum_in};

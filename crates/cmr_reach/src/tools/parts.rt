@@ -11,7 +11,7 @@ ghost use Rattle.cmr_front.specs.Refusals.{refusal_line};
 ghost use Rattle.cmr_front.specs.Run.{Means, RunsOver, work};
 ghost use Rattle.cmr_front.specs.Status.{answer_status};
 ghost use Rattle.cmr_front.specs.Tool.{HasOneReport, IsDecision};
-ghost use Rattle.cmr_front.specs.Words.Reading.{Gives};
+ghost use Rattle.cmr_front.specs.Words.ReadWords.{Gives};
 ghost use Rattle.cmr_front.specs.declared.status.Answer.{Answer};
 ghost use Rattle.cmr_reach.specs.Parts.{IsArranged, PartsDecides, PartsReports, other_root_report, parts_app, parts_lines, parts_order, parts_order_in, parts_order_of, parts_report, parts_tool, root_of, root_word, said_refused};
 

@@ -13,7 +13,7 @@ ghost use Rattle.cmr_front.specs.Outcome.{outcome_report};
 ghost use Rattle.cmr_front.specs.Run.{Means, RunsOver, work};
 ghost use Rattle.cmr_front.specs.Status.{answer_status};
 ghost use Rattle.cmr_front.specs.Tool.{IsDecision};
-ghost use Rattle.cmr_front.specs.Words.Reading.{Gives};
+ghost use Rattle.cmr_front.specs.Words.ReadWords.{Gives};
 ghost use Rattle.cmr_front.specs.declared.status.Answer.{Answer};
 ghost use Rattle.cmr_unimodular.specs.Check.{ChainDecides, CheckReportsBy, EvidenceReports, TreeDecides, ViolatorDecides, accepted_report, check_app, check_order, check_order_in, check_order_of, check_tool, evidence_kind, irregular_report, is_of_support, kind_named, refused_report, refused_step_report, said};
 ghost use Rattle.cmr_unimodular.specs.declared.tools.check.EvidenceKind.TheVariants as kinds;

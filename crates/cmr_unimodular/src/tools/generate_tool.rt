@@ -5,7 +5,7 @@ ghost use Rattle.cmr_base.specs.Matrix.{IsMatrix};
 ghost use Rattle.cmr_front.specs.Outcome.{outcome_report};
 ghost use Rattle.cmr_front.specs.Run.{Means, RunsOver, work};
 ghost use Rattle.cmr_front.specs.Status.{answer_status};
-ghost use Rattle.cmr_front.specs.Words.Reading.{Gives};
+ghost use Rattle.cmr_front.specs.Words.ReadWords.{Gives};
 ghost use Rattle.cmr_front.specs.declared.status.Answer.{Answer};
 ghost use Rattle.cmr_unimodular.specs.Generate.{GenerateDecides, IsInRange, generate_app, generate_order, generate_order_in, generate_order_of, generate_report, generate_tool, generate_verdict, make_kind_in, kind_word, most_size, number_in, size_in, summary_line};
 ghost use Rattle.cmr_unimodular.specs.Verdict.{verdict_order_of};

@@ -9,7 +9,7 @@ ghost use Rattle.cmr_front.specs.Outcome.{file_of, outcome_report};
 ghost use Rattle.cmr_front.specs.Report.{asked_file};
 ghost use Rattle.cmr_front.specs.Run.{Means, RunsOver, work};
 ghost use Rattle.cmr_front.specs.Status.{answer_status};
-ghost use Rattle.cmr_front.specs.Words.Reading.{Gives};
+ghost use Rattle.cmr_front.specs.Words.ReadWords.{Gives};
 ghost use Rattle.cmr_front.specs.declared.status.Answer.{Answer};
 ghost use Rattle.cmr_unimodular.specs.GraphMatrix.{test_tool};
 ghost use Rattle.cmr_unimodular.specs.GraphicNetwork.{Has, IsTestable, Shows, TestDecides, is_binary, is_test_asked, path_tool, property_name, test_app, test_no, test_order, test_order_in, test_order_of, test_yes, tested_lines, tested_matrix, tool_name, written_graph};

@@ -11,7 +11,7 @@ ghost use Rattle.cmr_front.specs.Outcome.{file_of, outcome_report};
 ghost use Rattle.cmr_front.specs.Report.{asked_file};
 ghost use Rattle.cmr_front.specs.Run.{Means, RunsOver, work};
 ghost use Rattle.cmr_front.specs.Status.{answer_status};
-ghost use Rattle.cmr_front.specs.Words.Reading.{Gives};
+ghost use Rattle.cmr_front.specs.Words.ReadWords.{Gives};
 ghost use Rattle.cmr_front.specs.declared.status.Answer.{Answer};
 ghost use Rattle.cmr_unimodular.specs.Regular.{HasLinesIn, IsSignedTo, RegularDecides, chain_file, chain_with, regular_app, regular_order, regular_order_in, regular_order_of, regular_report, regular_tool, regular_verdict};
 ghost use Rattle.cmr_unimodular.specs.Verdict.{verdict_in, verdict_order_of, verdict_report};

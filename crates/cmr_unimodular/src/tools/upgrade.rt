@@ -7,7 +7,7 @@ ghost use Rattle.cmr_front.specs.Outcome.{outcome_report};
 ghost use Rattle.cmr_front.specs.Run.{Means, RunsOver, work};
 ghost use Rattle.cmr_front.specs.Status.{answer_status};
 ghost use Rattle.cmr_front.specs.Tool.{HasOneReport, IsDecision};
-ghost use Rattle.cmr_front.specs.Words.Reading.{Gives};
+ghost use Rattle.cmr_front.specs.Words.ReadWords.{Gives};
 ghost use Rattle.cmr_front.specs.declared.status.Answer.{Answer};
 ghost use Rattle.cmr_unimodular.specs.Upgrade.{UpgradeDecides, upgrade_app, upgrade_order, upgrade_order_in, upgrade_order_of, upgrade_report, upgrade_tool, upgraded_line};
 

@@ -1,7 +1,7 @@
 use Rattle.std.proofs.Common.{◌≡◌, None, Err, refl, subst, sym, inl, arith}
 use Rattle.cmr_front.specs.declared.outcome.Stop.TheVariants as stops
 use Rattle.cmr_tools.specs.ToolOrders.{order, order_of, ordered}
-use Rattle.cmr_front.specs.Words.Reading.{Gives}
+use Rattle.cmr_front.specs.Words.ReadWords.{Gives}
 use Rattle.cmr_front.specs.Ending.{devices, standing}
 use Rattle.cmr_front.specs.Run.{IsNothing}
 use Rattle.cmr_front.proofs.Endings.{IsLawfulOrder, refused_memory, runs}

@@ -1,7 +1,7 @@
 use Rattle.std.proofs.Common.{rules, subst}
 use Rattle.clap.specs.Words.{app_of, found_of, rows_of}
 use Rattle.cmr_front.specs.Words.Parsing.{matches_with_input}
-use Rattle.cmr_front.specs.Words.Reading.{Gives, ◌>>=◌}
+use Rattle.cmr_front.specs.Words.ReadWords.{Gives, ◌>>=◌}
 use Rattle.cmr_unimodular.specs.Regular.{regular_app, regular_order_in, regular_order_of, regular_order, regular_tool}
 use Rattle.cmr_front.proofs.Matches.{Gives-matches_with_input, as_defined}
 use Rattle.cmr_unimodular.proofs.tools.regular.read_regular.Goals as goal
