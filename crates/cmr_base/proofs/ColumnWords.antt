@@ -107,7 +107,7 @@ zero_bits n fits none = elim (cases_lt 0 n) [
   | inr l ↦ omega arith
 ]
 
-some_bit : (n : ℕ) → n < 2 ^ 64 → n ≢ 0 → (k : ℕ) × (k < 64) × (has_bit n k ≡ true)
+pub some_bit : (n : ℕ) → n < 2 ^ 64 → n ≢ 0 → (k : ℕ) × (k < 64) × (has_bit n k ≡ true)
 some_bit n fits n0 = let b = bit_at-trailing_zeros w64 n (omega arith) fits in (trailing_zeros w64 n, b.0, ap (λ bit. eqb bit 1) b.1)
 
 -- two words without a common bit
@@ -154,6 +154,12 @@ is_part_word a b fa fb all =
 
 pub in_chunk : (column chunk : ℕ) → 64 * chunk ≤ column → column < 64 * (chunk + 1) → 64 * chunk + column % 64 ≡ column
 in_chunk column chunk l h = omega arith
+
+pub empty_more : (words : List ℕ) (chunk : ℕ) → ((k : ℕ) → k < 64 * chunk → has_column words k ≡ false) → get_or words chunk 0 ≡ 0 → (k : ℕ) → k < 64 * (chunk + 1) → has_column words k ≡ false
+empty_more words chunk so none k h = elim (cases_lt k (64 * chunk)) [
+  | inl l ↦ so k l
+  | inr l ↦ let at : k / 64 ≡ chunk = omega arith in ap (λ word. has_bit word (k % 64)) (ap (λ place. get_or words place 0) at ∙ none) ∙ has_bit-zero (k % 64)
+]
 
 module _ (one two : List ℕ) (chunk : ℕ) where
   pub unshared : ((k : ℕ) → k < 64 * chunk → has_column one k ≡ true → has_column two k ≡ false) → ((k : ℕ) → k < 64 → has_bit (get_or one chunk 0) k ≡ true → has_bit (get_or two chunk 0) k ≡ true → ⊥)

@@ -111,6 +111,18 @@ pub fn outside(word: u64, other: u64) -> u64
     word & !other
 }
 
+/// Whether no column is in a set.
+pub fn is_empty(set: &[u64]) -> bool
+    ensures { IsTrue result ↔ ((column : ℕ) → has_column set.now column ≡ false) }
+{
+    for chunk in 0..set.len() {
+        if set[chunk] != 0 {
+            return false;
+        }
+    }
+    true
+}
+
 /// Whether some column is in both sets.
 pub fn meets(one: &[u64], two: &[u64]) -> bool
     requires { length one.now ≡ length two.now }

@@ -12,7 +12,7 @@ ghost use Rattle.cmr_base.specs.Components.{IsLineOf};
 use crate::LEAST_SIDE;
 use crate::heaps::Heaps;
 use crate::patterns::{Patterns, count_others};
-use cmr_base::columns::{add_column, add_set, empty_set, has_column, meets};
+use cmr_base::columns::{add_column, add_set, empty_set, has_column, is_empty, meets};
 use cmr_base::{Line, Memory, RowsAndColumns};
 use std::alloc::Global;
 
@@ -107,9 +107,9 @@ impl LineWords {
         Ok(lines)
     }
 
-    /// Whether there are no lines: a set that has a line meets itself.
+    /// Whether there are no lines.
     pub fn are_none(&self) -> bool {
-        !meets(&self.rows, &self.rows) && !meets(&self.columns, &self.columns)
+        is_empty(&self.rows) && is_empty(&self.columns)
     }
 
     /// Whether there are enough lines for a side of a cut.

@@ -20,7 +20,7 @@ use crate::independent::columns_of;
 use crate::pulled::is_in_side_one;
 use crate::sides::{first_of_lines, leaves, may_part};
 use cmr_base::columns::{
-    add_column, add_common, empty_set, has_column, meets, next_column, remove_column,
+    add_column, add_common, empty_set, has_column, is_empty, meets, next_column, remove_column,
 };
 use cmr_base::{Connector, Core, Form, Line, MAX_COLUMNS, Memory, RowsAndColumns, Three};
 use cuts::Corners;
@@ -79,17 +79,6 @@ fn candidates_for(alloc: Global, matrix: &RowsAndColumns<'_>, i: u32) -> Result<
     Ok(candidates)
 }
 
-// Whether a column is a candidate.
-fn has_candidate(candidates: &[u64]) -> bool
-    requires { length candidates.now ≤ 16 }
-    ensures { result ≡ false → (j : ℕ) → has_column candidates.now j ≡ false }
-{
-    match next_column(candidates, 0) {
-        Some(_column) => true,
-        None => false,
-    }
-}
-
 // The rows k.
 fn first_of_corner(
     alloc: Global,
@@ -107,8 +96,7 @@ fn first_of_corner(
     ensures none { IfOk result (λ answer.
         IfNone answer (HasNoGood matrix.now (form_number Concentrated ∷ i ∷ p ∷ []))) }
 {
-    let _columns = matrix.columns();
-    if !has_candidate(candidates) {
+    if is_empty(candidates) {
         return Ok(None);
     }
     for k in 0..matrix.rows() {

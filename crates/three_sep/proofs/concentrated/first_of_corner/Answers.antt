@@ -1,11 +1,11 @@
-use Rattle.std.proofs.Common.{[], ◌∷◌, ◌∙◌, List, ℕ, ap, sym, arith}
+use Rattle.std.proofs.Common.{[], ◌∷◌, ◌∙◌, List, ℕ, ap, sym, refl, arith}
 use Rattle.cmr_base.specs.ColumnSets.{has_column}
 use Rattle.three_sep.proofs.SearchLemmas.{found_some, none_more, level_ends, good_inside}
 use Rattle.three_sep.proofs.ConcentratedLemmas.{no_candidates}
 use Rattle.three_sep.proofs.concentrated.first_of_corner.Goals as goal
 
-pub returns-then-not-has_candidate-clause-none : goal.returns-then-not-has_candidate-clause-none
-returns-then-not-has_candidate-clause-none c = no_candidates c.args.matrix.now c.args.i c.args.p c.args.candidates.now.items c.requires.candidates (λ j. ap (λ (xs : List ℕ). has_column xs j) (sym c.deref.ensures.value) ∙ c.has_candidate.ensures c.if-not-has_candidate.true j)
+pub returns-then-is_empty-clause-none : goal.returns-then-is_empty-clause-none
+returns-then-is_empty-clause-none c = no_candidates c.args.matrix.now c.args.i c.args.p c.args.candidates.now.items c.requires.candidates (λ j. ap (λ (xs : List ℕ). has_column xs j) (sym c.deref.ensures.value) ∙ c.if-is_empty.ensures.0 refl j)
 
 pub returns-in-Some-clause-first : goal.returns-in-Some-clause-first
 returns-in-Some-clause-first c = found_some c.args.matrix.now (3 ∷ c.args.i ∷ c.args.p ∷ []) c.loop-k.k c.in_ok-three.field-0 c.in-Some.three (omega arith) c.loop-k.invariant.0 c.in-Some.is c.in_ok-three.ensures.first
