@@ -4,7 +4,9 @@ ghost use Rattle.std.specs.Prelude.{◌≡◌, ◌<◌, ◌≤◌, ◌*◌, ◌/
 ghost use Rattle.cmr_base.specs.LineSets.{first_lines};
 ghost use Rattle.cmr_base.specs.Planes.{has_bit, words_for};
 ghost use Rattle.cmr_base.specs.ColumnSets.{has_column, Denies, HasCommon, IsApart, IsWithin};
+ghost use Rattle.cmr_base.specs.Seeds.{count};
 
+use crate::runs::first_bits;
 use crate::{MAX_COLUMNS, Memory, has_bit, with_bit, words_for};
 use std::alloc::Global;
 
@@ -206,6 +208,20 @@ pub fn count_columns(set: &[u64]) -> u32
     while let Some(column) = next_column(set, from) {
         count += 1;
         from = column + 1;
+    }
+    count
+}
+
+/// How many of the first so many columns are in a set.
+pub fn count_below(set: &[u64], columns: u32) -> u32
+    requires { length set.now ≡ words_for columns }
+    ensures count { result ≡ count (has_column set.now) columns }
+    ensures few { result ≤ columns }
+{
+    let mut count = 0;
+    for chunk in 0..set.len() {
+        let places = (columns - 64 * chunk as u32).min(64);
+        count += first_bits(set[chunk], places).count_ones();
     }
     count
 }

@@ -131,8 +131,8 @@ fn bits_from(words: &[u64], column: u32, count: u32) -> u64
     low | (words[chunk + 1] << (64 - shift))
 }
 
-// The first so many bits of a word.
-fn first_bits(word: u64, count: u32) -> u64
+/// The first so many bits of a word.
+pub fn first_bits(word: u64, count: u32) -> u64
     requires { (1 ≤ count) × (count ≤ 64) }
     ensures inside { (k : ℕ) → k < count → has_bit result k ≡ has_bit word k }
     ensures past { (k : ℕ) → count ≤ k → has_bit result k ≡ false }

@@ -12,7 +12,7 @@ ghost use Rattle.cmr_base.specs.Components.{IsLineOf};
 use crate::LEAST_SIDE;
 use crate::heaps::Heaps;
 use crate::patterns::{Patterns, count_others};
-use cmr_base::columns::{add_column, add_set, empty_set, has_column, is_empty, meets};
+use cmr_base::columns::{add_column, add_set, count_below, empty_set, has_column, is_empty, meets};
 use cmr_base::{Line, Memory, RowsAndColumns};
 use std::alloc::Global;
 
@@ -118,8 +118,8 @@ impl LineWords {
         ensures { result ≡ nat_le LEAST_SIDE (count_inside (height matrix.now) matrix.now.width
             (as_set self.now)) }
     {
-        let lines = matrix.rows().saturating_add(matrix.columns());
-        lines.saturating_sub(self.count_others(matrix)) >= LEAST_SIDE
+        let rows = count_below(&self.rows, matrix.rows());
+        rows + count_below(&self.columns, matrix.columns()) >= LEAST_SIDE
     }
 
     /// How many lines of the matrix are not among these.

@@ -7,7 +7,7 @@ ghost use Rattle.cmr_base.specs.Seeds.{count};
 ghost use Rattle.cuts.specs.Patterns.{AreAtMostBeside, AreAtMostListed, AreOpen, AreShort, AreRunsCounted};
 
 use crate::heaps::{Heaps, middle_heaps, no_heaps};
-use cmr_base::columns::has_column;
+use cmr_base::columns::{count_below, has_column};
 use cmr_base::{MAX_ROWS, Memory};
 use std::alloc::Global;
 
@@ -56,13 +56,7 @@ pub fn count_others(set: &[u64], rows: u32) -> u32
     requires { length set.now ≡ words_for rows }
     ensures { result ≡ count (λ x. not (has_column set.now x)) rows }
 {
-    let mut others = 0;
-    for row in 0..rows {
-        if !has_column(set, row) {
-            others += 1;
-        }
-    }
-    others
+    rows - count_below(set, rows)
 }
 
 // How many of the rows that are not among some have class 0.
