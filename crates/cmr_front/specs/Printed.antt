@@ -1,11 +1,10 @@
 -- Texts of lines and of steps, as they are printed and written.
 use Rattle.std.specs.Prelude.{◌+◌, ◌++◌, ℕ, ℤ, List, [], ◌∷◌, codes}
 use Rattle.std.specs.Fmt.{decimal, signed_decimal}
-use Rattle.cmr_base.specs.declared.line.Line.{Line}
-use Rattle.cmr_base.specs.declared.line.Line.TheVariants.{Row, Column}
 use Rattle.cmr_base.specs.declared.line.Reason.{Reason}
 use Rattle.cmr_base.specs.declared.line.Reason.TheVariants.{Zero, Unit as One, Copy, Negative}
 use Rattle.cmr_base.specs.declared.line.Step.{Step}
+use Rattle.text_fields.specs.LineNumbers.{line_name}
 
 -- numbers of lines, counted from 1, each after a space
 abbrev pub line_numbers : List ℕ → List ℕ
@@ -22,11 +21,6 @@ violator_line rows columns sum = codes "violator " ++ line_set_text rows columns
 
 abbrev pub open_line : List ℕ → List ℕ → List ℕ
 open_line rows columns = codes "open " ++ line_set_text rows columns ++ codes "\n"
-
--- a row or a column by its letter and its number, counted from 1
-abbrev pub line_name : Line → List ℕ
-line_name (Row row) = codes "r" ++ decimal (row + 1)
-line_name (Column column) = codes "c" ++ decimal (column + 1)
 
 -- a reason, and the line that it names
 abbrev pub reason_words : Reason → List ℕ

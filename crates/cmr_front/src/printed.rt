@@ -1,12 +1,14 @@
 // Texts of lines and of steps.
-ghost use Rattle.std.specs.Prelude.{◌≡◌, ◌+◌, ◌++◌, ◌∷◌, IfOk, OnOk, codes};
-ghost use Rattle.std.specs.Fmt.{decimal, signed_decimal};
+ghost use Rattle.std.specs.Prelude.{◌≡◌, ◌++◌, IfOk, OnOk, codes};
+ghost use Rattle.std.specs.Fmt.{signed_decimal};
+ghost use Rattle.text_fields.specs.LineNumbers.{line_name};
 ghost use Rattle.cmr_front.specs.Minimal.{minimal_line};
-ghost use Rattle.cmr_front.specs.Printed.{line_name, line_numbers, line_set_text, open_line, reason_words, steps_text, violator_line};
+ghost use Rattle.cmr_front.specs.Printed.{line_numbers, line_set_text, open_line, reason_words, steps_text, violator_line};
 
 use cmr_base::{Indices, Line, LineSet, Memory, Reason, Step, StepList};
 use itoa::Buffer;
 use std::alloc::Global;
+use text_fields::push_line_name;
 
 /// Appends a set of lines: `rows LIST columns LIST`.
 pub fn push_line_set(text: &mut Vec<u8>, lines: &LineSet) -> Result<(), Memory>
@@ -117,22 +119,4 @@ fn push_named(text: &mut Vec<u8>, reason: &[u8], line: Line) -> Result<(), Memor
 {
     text.extend_from_slice(reason)?;
     push_line_name(text, line)
-}
-
-fn push_line_name(text: &mut Vec<u8>, line: Line) -> Result<(), Memory>
-    ensures { OnOk result (text.new.items ≡ text.old.items ++ line_name line) }
-{
-    match line {
-        Line::Row(row) => push_letter(text, b'r', row),
-        Line::Column(column) => push_letter(text, b'c', column),
-    }
-}
-
-fn push_letter(text: &mut Vec<u8>, letter: u8, number: u32) -> Result<(), Memory>
-    ensures { OnOk result (text.new.items ≡ text.old.items ++ letter ∷ decimal (number + 1)) }
-{
-    let mut buffer = Buffer::new();
-    text.push(letter)?;
-    text.extend_from_slice(buffer.format(u64::from(number) + 1).as_bytes())?;
-    Ok(())
 }

@@ -1,11 +1,18 @@
 -- The words for lines of a matrix.
-use Rattle.std.specs.Prelude.{◌+◌, ◌++◌, ℕ, List, ◌∷◌, fold, length, map}
+use Rattle.std.specs.Prelude.{◌+◌, ◌++◌, ℕ, List, ◌∷◌, codes, fold, length, map}
 use Rattle.std.specs.Fmt.{decimal}
+use Rattle.cmr_base.specs.declared.line.Line.{Line}
+use Rattle.cmr_base.specs.declared.line.Line.TheVariants.{Row, Column}
 use Rattle.cmr_base.specs.declared.line_set.LineSet.{LineSet}
 
 -- a line's number, counted from 1
 abbrev pub number_of_line : ℕ → List ℕ
 number_of_line line = decimal (line + 1)
+
+-- a row or a column by its letter and its number
+abbrev pub line_name : Line → List ℕ
+line_name (Row row) = codes "r" ++ number_of_line row
+line_name (Column column) = codes "c" ++ number_of_line column
 
 -- the number of the last line, counted from 1; 0 where there is none
 abbrev pub last_number : List ℕ → ℕ

@@ -2,11 +2,13 @@
 #![tactic(auto)]
 
 mod error;
+mod line_name;
 mod number;
 mod words;
 mod writer;
 
 pub use error::{FieldError, LimitFault, NumberFault};
+pub use line_name::push_line_name;
 pub use number::{count_in, limited, line_in, rising_line_in, signed_in};
 pub use words::{Words, at_place};
 pub use writer::Writer;

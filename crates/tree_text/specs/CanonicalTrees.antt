@@ -2,23 +2,16 @@
 use Rattle.std.specs.Prelude.{◌++◌, ◌||◌, if◌then◌else◌, Bool, true, false, ℕ, List, [], ◌∷◌, length, map}
 use Rattle.std.specs.List.{flat_map}
 use Rattle.std.specs.Fmt.{decimal}
-use Rattle.cmr_base.specs.declared.line.Line.{Line}
-use Rattle.cmr_base.specs.declared.line.Line.TheVariants.{Row, Column}
 use Rattle.cmr_base.specs.declared.network.Network as net
 use Rattle.cmr_base.specs.declared.network.Pair.{Pair}
 use Rattle.cmr_base.specs.declared.separation.Connector.{Connector}
-pub use Rattle.text_fields.specs.LineNumbers.{number_of_line, set_words}
+pub use Rattle.text_fields.specs.LineNumbers.{number_of_line, line_name, set_words}
 use Rattle.text_fields.specs.Written.{text_of_lines}
 use Rattle.tree_type.specs.DecompositionTrees.{Finding, Cycle, Reduced, OneSum, Network, Conetwork, TwoSum, ThreeSum, Violator, Pivoted, Tree, Trees, Branch, NoTrees, MoreTrees, count_trees}
 use Rattle.tree_text.specs.declared.header.Version.{Version}
 use Rattle.tree_text.specs.declared.header.Version.TheVariants as version
 use Rattle.tree_text.specs.Versions.{title_word, title_of, version_word}
 use Rattle.tree_text.specs.KindWords.{word_of, kind_of}
-
--- r or c, and the line's number
-abbrev pub line_name : Line → List ℕ
-line_name (Row row) = 114 ∷ number_of_line row
-line_name (Column column) = 99 ∷ number_of_line column
 
 abbrev pub pair_words : Pair → List (List ℕ)
 pair_words pair = decimal pair.tail ∷ decimal pair.head ∷ []

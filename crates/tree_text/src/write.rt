@@ -15,7 +15,7 @@ use crate::kind_word::{kind_of, word_of};
 use cmr_base::{Connector, Line, LineSet, Memory, Network, Pair, Three, Two};
 use itoa::Buffer;
 use std::alloc::Global;
-use text_fields::Writer;
+use text_fields::{Writer, push_line_name};
 use tree_type::{DecTree, Kind, Node, PlacedPivot};
 
 /// The canonical text of a tree: in version 2, or a text of pivots where a node is pivoted.
@@ -236,19 +236,8 @@ fn write_line_names(alloc: Global, text: &mut Writer, lines: &[Line]) -> Result<
 fn write_line_name(alloc: Global, text: &mut Writer, line: Line) -> Result<(), Memory>
     ensures { OnOk result (text.new ≡ with_word text.old (line_name line)) }
 {
-    match line {
-        Line::Row(row) => write_lettered(alloc, text, b'r', row),
-        Line::Column(column) => write_lettered(alloc, text, b'c', column),
-    }
-}
-
-fn write_lettered(alloc: Global, text: &mut Writer, letter: u8, line: u32) -> Result<(), Memory>
-    ensures { OnOk result (text.new ≡ with_word text.old (letter ∷ number_of_line line)) }
-{
-    let mut digits = Buffer::new();
     let mut word = Vec::new(alloc);
-    word.push(letter)?;
-    word.extend_from_slice(digits.format(u64::from(line) + 1).as_bytes())?;
+    push_line_name(&mut word, line)?;
     text.word(&word)
 }
 
