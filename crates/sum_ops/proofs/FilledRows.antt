@@ -13,7 +13,7 @@ use Rattle.sum_ops.specs.declared.plan.LowerBlock.TheVariants.{Spread as SpreadB
 use Rattle.sum_ops.specs.declared.plan.Plan.{Plan}
 use Rattle.sum_ops.specs.declared.spread.Spread.{Spread}
 use Rattle.sum_ops.specs.Spreads.{spread_entry}
-use Rattle.sum_ops.specs.Plans.{entries_of, upper_block, lower_entry, FitsPlan, LowerFits}
+use Rattle.sum_ops.specs.Plans.{entries_of, upper_entry, lower_entry, FitsPlan, LowerFits}
 
 either : (b : Bool) (x : ℤ) → IsEntry x → IsEntry (cond b x (pos 0))
 either true x h = h
@@ -43,7 +43,7 @@ module _ (plan : Plan) (first second : Matrix) (fits : FitsPlan plan first secon
   entries_small r c = go (nat_lt r plan.rows) (nat_lt c plan.columns) refl
     where
       go : (s t : Bool) → nat_lt c plan.columns ≡ t
-          → IsEntry (cond s (cond t (entry first r c) (upper_block plan first second r (plan.left + (c - plan.columns)))) (cond t (lower_entry plan.lower plan.rows first second (plan.up + (r - plan.rows)) c) (entry second (plan.up + (r - plan.rows)) (plan.left + (c - plan.columns)))))
+          → IsEntry (cond s (cond t (entry first r c) (upper_entry plan first second r (plan.left + (c - plan.columns)))) (cond t (lower_entry plan.lower plan.rows first second (plan.up + (r - plan.rows)) c) (entry second (plan.up + (r - plan.rows)) (plan.left + (c - plan.columns)))))
       go true true e = fits.first_matrix.small r c
       go true false e = either plan.upper (entry first r plan.columns *ℤ entry second 0 (plan.left + (c - plan.columns))) (product_is_entry (entry first r plan.columns) (entry second 0 (plan.left + (c - plan.columns))) (fits.first_matrix.small r plan.columns) (other.small 0 (plan.left + (c - plan.columns))))
       go false true e = lower_small (plan.up + (r - plan.rows)) c (omega arith) (lt_of c plan.columns e)

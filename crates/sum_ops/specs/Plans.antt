@@ -13,8 +13,8 @@ rows_of_sum plan second = plan.rows + (height second - plan.up)
 abbrev pub columns_of : Plan → Matrix → ℕ
 columns_of plan second = plan.columns + (second.width - plan.left)
 
-abbrev pub upper_block : Plan → Matrix → Matrix → ℕ → ℕ → ℤ
-upper_block plan first second r c = cond plan.upper (entry first r plan.columns *ℤ entry second 0 c) (pos 0)
+abbrev pub upper_entry : Plan → Matrix → Matrix → ℕ → ℕ → ℤ
+upper_entry plan first second r c = cond plan.upper (entry first r plan.columns *ℤ entry second 0 c) (pos 0)
 
 -- after so many rows of the first matrix
 abbrev pub lower_entry : LowerBlock → (rows : ℕ) (first second : Matrix) → ℕ → ℕ → ℤ
@@ -23,7 +23,7 @@ lower_entry Product rows first second r c = entry second r 0 *ℤ entry first ro
 lower_entry (Spread block) rows first second r c = spread_entry block first second r c
 
 abbrev pub entries_of : Plan → Matrix → Matrix → ℕ → ℕ → ℤ
-entries_of plan first second = four_blocks plan.rows plan.columns plan.up plan.left (entry first) (upper_block plan first second) (lower_entry plan.lower plan.rows first second) (entry second)
+entries_of plan first second = four_blocks plan.rows plan.columns plan.up plan.left (entry first) (upper_entry plan first second) (lower_entry plan.lower plan.rows first second) (entry second)
 
 -- the lines that make the lower block are lines of the matrices, and its entries are -1, 0 and 1
 abbrev pub LowerFits : LowerBlock → Plan → Matrix → Matrix → Type 0
