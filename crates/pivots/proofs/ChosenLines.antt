@@ -9,7 +9,7 @@ use Rattle.cmr_base.proofs.LineSetLemmas.{taken_below}
 use Rattle.cmr_base.proofs.ListsWithout.{place_of, place_is}
 use Rattle.cmr_base.proofs.Members.{in_at}
 use Rattle.cmr_base.proofs.RowLists.{filter_in, in_filter}
-use Rattle.pivots.specs.ChosenLines.{with_line}
+use Rattle.pivots.specs.ChosenLines.{with_or_without}
 
 -- ---- members
 
@@ -78,7 +78,7 @@ line_is_there x line true (inl e) = (e, refl)
 line_is_there x line true (inr h) = absurd h
 line_is_there x line false h = absurd h
 
-pub line_there : (lines : List ℕ) (line : ℕ) (has : Bool) → IsIn line (with_line lines line has) ↔ (has ≡ true)
+pub line_there : (lines : List ℕ) (line : ℕ) (has : Bool) → IsIn line (with_or_without lines line has) ↔ (has ≡ true)
 line_there lines line has = (there, (λ e. in_front line (low ++ cond has (line ∷ []) []) high (in_back line low (cond has (line ∷ []) []) (put e))))
   where
     low : List ℕ
@@ -90,7 +90,7 @@ line_there lines line has = (there, (λ e. in_front line (low ++ cond has (line 
     put : has ≡ true → IsIn line (cond has (line ∷ []) [])
     put e = subst (λ b. IsIn line (cond b (line ∷ []) [])) (sym e) (inl refl)
 
-    there : IsIn line (with_line lines line has) → has ≡ true
+    there : IsIn line (with_or_without lines line has) → has ≡ true
     there h = elim (in_either line (low ++ cond has (line ∷ []) []) high h) [
       | inr k ↦ absurd (let r = high_member line line lines k in let l = r.1 in omega arith)
       | inl k ↦ elim (in_either line low (cond has (line ∷ []) []) k) [
@@ -99,7 +99,7 @@ line_there lines line has = (there, (λ e. in_front line (low ++ cond has (line 
       ]
     ]
 
-pub others_there : (lines : List ℕ) (line : ℕ) (has : Bool) (x : ℕ) → x ≢ line → IsIn x (with_line lines line has) ↔ IsIn x lines
+pub others_there : (lines : List ℕ) (line : ℕ) (has : Bool) (x : ℕ) → x ≢ line → IsIn x (with_or_without lines line has) ↔ IsIn x lines
 others_there lines line has x other = (from, to)
   where
     low : List ℕ
@@ -108,7 +108,7 @@ others_there lines line has x other = (from, to)
     high : List ℕ
     high = filter (λ other. nat_lt line other) lines
 
-    from : IsIn x (with_line lines line has) → IsIn x lines
+    from : IsIn x (with_or_without lines line has) → IsIn x lines
     from h = elim (in_either x (low ++ cond has (line ∷ []) []) high h) [
       | inr k ↦ (high_member x line lines k).0
       | inl k ↦ elim (in_either x low (cond has (line ∷ []) []) k) [
@@ -117,7 +117,7 @@ others_there lines line has x other = (from, to)
       ]
     ]
 
-    to : IsIn x lines → IsIn x (with_line lines line has)
+    to : IsIn x lines → IsIn x (with_or_without lines line has)
     to h = elim (cases_lt x line) [
       | inl l ↦ in_front x (low ++ cond has (line ∷ []) []) high (in_front x low (cond has (line ∷ []) []) (low_is_member x line lines h l))
       | inr ge ↦ in_back x (low ++ cond has (line ∷ []) []) high (high_is_member x line lines h (omega arith))

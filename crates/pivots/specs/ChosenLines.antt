@@ -2,8 +2,8 @@
 use Rattle.std.specs.Prelude.{◌++◌, ℕ, Bool, if◌then◌else◌, List, [], ◌∷◌, filter, min, max, nat_lt}
 
 -- the set with the line, or without it
-abbrev pub with_line : List ℕ → ℕ → Bool → List ℕ
-with_line lines line has = (filter (λ other. nat_lt other line) lines ++ (if has then line ∷ [] else [])) ++ filter (λ other. nat_lt line other) lines
+abbrev pub with_or_without : List ℕ → ℕ → Bool → List ℕ
+with_or_without lines line has = (filter (λ other. nat_lt other line) lines ++ (if has then line ∷ [] else [])) ++ filter (λ other. nat_lt line other) lines
 
 -- two lines, the lower one first
 abbrev pub two_lines : ℕ → ℕ → List ℕ

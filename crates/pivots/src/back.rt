@@ -6,7 +6,7 @@ ghost use Rattle.cmr_base.specs.Members.{IsIn};
 ghost use Rattle.cmr_base.specs.Sums.{IsOdd};
 ghost use Rattle.cmr_base.specs.Violator.{IsViolator};
 ghost use Rattle.ghouila.specs.PivotLaws.{pivot_at, AreLinesBefore};
-ghost use Rattle.pivots.specs.ChosenLines.{with_line};
+ghost use Rattle.pivots.specs.ChosenLines.{with_or_without};
 ghost use Rattle.pivots.specs.PivotedParts.{pivoted_part, IsPlaceIn, AreAmong};
 
 use crate::PlacedPivot;
@@ -42,8 +42,8 @@ pub fn violator_before(
     let has_row = is_odd(matrix.column_sum(rows, column));
     let has_column = is_odd(matrix.row_sum(row, columns));
     Ok(LineSet {
-        rows: with_line(alloc, &lines.rows, row, has_row)?,
-        columns: with_line(alloc, &lines.columns, column, has_column)?,
+        rows: with_or_without(alloc, &lines.rows, row, has_row)?,
+        columns: with_or_without(alloc, &lines.columns, column, has_column)?,
     })
 }
 
@@ -79,8 +79,8 @@ fn is_odd(sum: i32) -> bool
 }
 
 // The set with a line, or without it.
-fn with_line(alloc: Global, lines: &Indices, line: u32, has: bool) -> Result<Indices, Memory>
-    ensures lines { IfOk result (λ made. made ≡ with_line lines.now line has) }
+fn with_or_without(alloc: Global, lines: &Indices, line: u32, has: bool) -> Result<Indices, Memory>
+    ensures lines { IfOk result (λ made. made ≡ with_or_without lines.now line has) }
     ensures rising { IfOk result IsStrictlyIncreasing }
 {
     let mut made = lines_up_to(alloc, lines, line, has)?;
