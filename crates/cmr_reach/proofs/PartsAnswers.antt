@@ -9,6 +9,7 @@ use Rattle.matrix_text.specs.CanonicalMatrices.{dense_text}
 use Rattle.compose.specs.declared.arrangement.Arranged.{Arranged}
 use Rattle.compose.specs.declared.sum_kind.SumKind.{SumKind}
 use Rattle.compose.specs.SumKinds.{sum_of}
+use Rattle.compose.proofs.Orders.{order_count}
 use Rattle.compose.proofs.SumSizes.{sums_lose_lines}
 use Rattle.tree_text.specs.TreeReading.{PlainTree, tree}
 use Rattle.tree_type.specs.Places.{places}
@@ -73,8 +74,8 @@ module _ (m : Matrix) (finding : Finding) (kind : SumKind) (both : Arranged) (ar
 
   pub whole_is_matrix : IsMatrix whole
   whole_is_matrix = is_matrix-submatrix m both.rows both.columns are.whole
-      (let e = are.round_trip.rows.as_many in let l = are.whole.height_in in omega arith)
-      (let e = are.round_trip.columns.as_many in let l = are.whole.width_in in omega arith)
+      (let e = order_count (height m) both.rows are.round_trip.rows in let l = are.whole.height_in in omega arith)
+      (let e = order_count m.width both.columns are.round_trip.columns in let l = are.whole.width_in in omega arith)
 
   is_composed : IsComposed kind both.first both.second
   is_composed =
@@ -82,8 +83,8 @@ module _ (m : Matrix) (finding : Finding) (kind : SumKind) (both : Arranged) (ar
       let tall = ap height are.round_trip.sum in
       let wide = ap (λ (x : Matrix). x.width) are.round_trip.sum in
       record {
-        rows = let h = height_whole in let e = are.round_trip.rows.as_many in let l = are.whole.height_in in omega arith;
-        columns = let e = are.round_trip.columns.as_many in let l = are.whole.width_in in omega arith;
+        rows = let h = height_whole in let e = order_count (height m) both.rows are.round_trip.rows in let l = are.whole.height_in in omega arith;
+        columns = let e = order_count m.width both.columns are.round_trip.columns in let l = are.whole.width_in in omega arith;
         connected = are.round_trip.connected;
         is_matrix = subst IsMatrix (sym are.round_trip.sum) whole_is_matrix;
       }

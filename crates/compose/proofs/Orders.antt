@@ -1,13 +1,16 @@
 -- The orders of the lines of a sum have each line of the matrix once.
-use Rattle.std.proofs.Common.{◌≡◌, ◌≢◌, ◌<◌, ◌≤◌, ◌+◌, ◌∙◌, ◌++◌, inl, inr, ℕ, Bool, true, false, List, [], ◌∷◌, length, refl, arith, length-append}
+use Rattle.std.proofs.Common.{◌≡◌, ◌≢◌, ◌<◌, ◌≤◌, ◌+◌, ◌∙◌, ◌++◌, ◌⊎◌, inl, inr, ℕ, Bool, true, false, List, [], ◌∷◌, length, refl, sym, subst, arith, length-append}
+use Rattle.std.proofs.lemmas.Bool.{cases_lt}
 use Rattle.std.proofs.lemmas.List.FromFn.{length-range_with_len}
 use Rattle.cmr_base.specs.LineSets.{first_lines}
-use Rattle.cmr_base.specs.Members.{IsIn}
-use Rattle.cmr_base.proofs.ListsWithout.{contains_from_in, increasing_distinct}
+use Rattle.cmr_base.specs.Members.{IsIn, IsDistinct}
+use Rattle.cmr_base.specs.R10.{IsOrder}
+use Rattle.cmr_base.proofs.ListsWithout.{increasing_distinct}
 use Rattle.cmr_base.proofs.ListedLines.{contains_first_lines, in_from_listed}
+use Rattle.cmr_base.proofs.Members.{distinct_few}
 use Rattle.cmr_base.proofs.Places.{fewer_distinct}
 use Rattle.cmr_base.proofs.RemovedLines.{first_lines_in, first_lines_increase}
-use Rattle.compose.specs.Arrangements.{IsOrder, lines_on, others}
+use Rattle.compose.specs.Arrangements.{lines_on, others}
 use Rattle.compose.proofs.SideLines.{is_listed, both_sides, others_one, others_two, to_one, to_two, to_others}
 
 in_left : (xs ys : List ℕ) (x : ℕ) → IsIn x xs → IsIn x (xs ++ ys)
@@ -19,12 +22,58 @@ in_right : (xs ys : List ℕ) (x : ℕ) → IsIn x ys → IsIn x (xs ++ ys)
 in_right [] ys x h = h
 in_right (z ∷ zs) ys x h = inr (in_right zs ys x h)
 
+first_distinct : (n : ℕ) → IsDistinct (first_lines n)
+first_distinct n = increasing_distinct (first_lines n) (first_lines_increase n)
+
+-- a list of all lines is no shorter than there are
+all_many : (n : ℕ) (xs : List ℕ) → ((x : ℕ) → x < n → IsIn x xs) → n ≤ length xs
+all_many n xs each =
+    let many = fewer_distinct (first_lines n) xs (first_distinct n) (λ x h. each x (first_lines_in n x h)) in
+    let count = length-range_with_len 0 n in
+    omega arith
+
+-- an order has as many lines as there are
+pub order_count : (n : ℕ) (xs : List ℕ) → IsOrder n xs → length xs ≡ n
+order_count n xs order =
+    let many = all_many n xs (λ x. (order.all x).1) in
+    let few = distinct_few n xs order.distinct (λ x. (order.all x).0) in
+    omega arith
+
+-- a line that comes once more could be left out
+no_more : (n : ℕ) (before : List ℕ) (y : ℕ) (ys : List ℕ) → length before + length (y ∷ ys) ≤ n → ((x : ℕ) → x < n → IsIn x before ⊎ IsIn x (y ∷ ys)) → ¬ (IsIn y ys)
+no_more n before y ys few each again =
+    let many = all_many n (before ++ ys) (λ x l. left x (each x l)) in
+    let count = length-append before ys in
+    omega arith
+  where
+    left : (x : ℕ) → IsIn x before ⊎ IsIn x (y ∷ ys) → IsIn x (before ++ ys)
+    left x (inl h) = in_left before ys x h
+    left x (inr (inl e)) = in_right before ys x (subst (λ z. IsIn z ys) (sym e) again)
+    left x (inr (inr h)) = in_right before ys x h
+
+-- all lines are among some and the rest, which are no more than there are
+rest_distinct : (n : ℕ) (before rest : List ℕ) → length before + length rest ≤ n → ((x : ℕ) → x < n → IsIn x before ⊎ IsIn x rest) → IsDistinct rest
+rest_distinct n before [] few each = tt
+rest_distinct n before (y ∷ ys) few each = (no_more n before y ys few each, rest_distinct n (y ∷ before) ys (omega arith) (λ x l. moved x (each x l)))
+  where
+    moved : (x : ℕ) → IsIn x before ⊎ IsIn x (y ∷ ys) → IsIn x (y ∷ before) ⊎ IsIn x ys
+    moved x (inl h) = inl (inr h)
+    moved x (inr (inl e)) = inl (inl e)
+    moved x (inr (inr h)) = inr h
+
 -- no more lines than there are, and all of them
 all_lines : (n : ℕ) (xs : List ℕ) → length xs ≤ n → ((x : ℕ) → x < n → IsIn x xs) → IsOrder n xs
-all_lines n xs few each =
-    let many = fewer_distinct (first_lines n) xs (increasing_distinct (first_lines n) (first_lines_increase n)) (λ x h. each x (first_lines_in n x h)) in
-    let count = length-range_with_len 0 n in
-    record { as_many = omega arith; each = λ x l. contains_from_in xs x (each x l) }
+all_lines n xs few each = record { distinct = rest_distinct n [] xs (omega arith) (λ x l. inr (each x l)); all = λ x. (below x, each x) }
+  where
+    below : (x : ℕ) → IsIn x xs → x < n
+    below x h = elim (cases_lt x n) [
+      | inl l ↦ l
+      | inr above ↦ absurd (let many = fewer_distinct (x ∷ first_lines n) xs ((λ i. let l = first_lines_in n x i in omega arith), first_distinct n) all in let count = length-range_with_len 0 n in omega arith)
+    ]
+      where
+        all : (y : ℕ) → IsIn y (x ∷ first_lines n) → IsIn y xs
+        all y (inl e) = subst (λ z. IsIn z xs) (sym e) h
+        all y (inr i) = each y (first_lines_in n y i)
 
 module _ (list : List ℕ) (n : ℕ) where
   abbrev one : List ℕ

@@ -1,6 +1,6 @@
 -- The two matrices whose sum is a matrix with a separation: each is a submatrix of it with some lines multiplied by -1. The lines
 -- of the matrix come in the sum in an order of their own.
-use Rattle.std.specs.Prelude.{Contains, ◌≡◌, ◌<◌, ◌≤◌, ◌++◌, ◌*ℤ◌, filter, ℕ, ℤ, pos, Bool, true, false, List, [], ◌∷◌, map, length}
+use Rattle.std.specs.Prelude.{◌<◌, ◌≤◌, ◌++◌, ◌*ℤ◌, filter, ℕ, ℤ, pos, Bool, true, false, List, [], ◌∷◌, map, length}
 use Rattle.std.specs.List.{AllByRecursion}
 use Rattle.cmr_base.specs.declared.line_set.LineSet.{LineSet}
 use Rattle.cmr_base.specs.declared.separation.Connector.{Connector}
@@ -52,11 +52,6 @@ sides_of m one = record {
   rows_two = lines_on false one.rows (first_lines (height m));
   columns_two = lines_on false one.columns (first_lines m.width);
 }
-
--- as many lines as there are, and each of them: each once
-pub record IsOrder (count : ℕ) (lines : List ℕ) : Type 0 where
-  pub as_many : length lines ≡ count
-  pub each : (line : ℕ) → line < count → Contains lines line
 
 -- the signed lines of both matrices are lines of this one
 pub record HasSignedLines (m : Matrix) (arrangement : Arrangement) : Type 0 where

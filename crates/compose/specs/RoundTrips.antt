@@ -4,11 +4,12 @@ use Rattle.cmr_base.specs.declared.separation.Two.{Two}
 use Rattle.cmr_base.specs.declared.separation.Three.{Three}
 use Rattle.cmr_base.specs.Matrix.{Matrix, height, entry, HasTernaryEntries}
 use Rattle.cmr_base.specs.LineSets.{first_lines, submatrix}
+use Rattle.cmr_base.specs.R10.{IsOrder}
 use Rattle.cmr_base.specs.Separations.{listed, IsTwoSeparation, IsThreeSeparation, HaveCornerSign}
 use Rattle.compose.specs.declared.sum_kind.SumKind.{SumKind}
 use Rattle.compose.specs.declared.sum_kind.SumKind.TheVariants as kind
 use Rattle.compose.specs.declared.arrangement.Arranged.{Arranged}
-use Rattle.compose.specs.Arrangements.{IsOrder, arranged, two_arrangement, three_arrangement}
+use Rattle.compose.specs.Arrangements.{arranged, two_arrangement, three_arrangement}
 use Rattle.compose.specs.SumKinds.{kind_of_form, HaveSum, sum_of}
 
 -- a two-separation of all lines of the matrix

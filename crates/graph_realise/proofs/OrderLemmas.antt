@@ -13,7 +13,7 @@ use Rattle.cmr_base.specs.declared.network.Pair.{Pair}
 use Rattle.cmr_base.proofs.GrownNodes.{IsOrderOf, length-grown}
 use Rattle.cmr_base.proofs.Members.{in_at}
 use Rattle.cmr_base.proofs.RowLists.{not_both, is_eq}
-use Rattle.graph_realise.specs.Orders.{IsOrder}
+use Rattle.graph_realise.specs.Orders.{IsGrowingOrder}
 use Rattle.cmr_base.proofs.Places.{found_at}
 use Rattle.cmr_base.proofs.CutTrees.{root_beyond, three_beyond}
 
@@ -84,9 +84,9 @@ module _ (M : ℕ → ℕ → Bool) (m : ℕ) (side : ℕ → ℕ → Bool) (lie
           pick (inr g) = o.0 z g
 
   -- one arc more
-  pub order_more : (order : List ℕ) (place arc : ℕ) → arc < m → IsOrder (beyond side lies) arc order → place ≤ length order
+  pub order_more : (order : List ℕ) (place arc : ℕ) → arc < m → IsGrowingOrder (beyond side lies) arc order → place ≤ length order
       → ((k : ℕ) → k + 1 ≡ place → beyond side lies arc (get_or order k 0) ≡ true) → ((k : ℕ) → place ≤ k → k < length order → beyond side lies arc (get_or order k 0) ≡ false)
-      → (new : List ℕ) → new ≡ insert order place arc → length new ≡ length order + 1 → IsOrder (beyond side lies) (arc + 1) new
+      → (new : List ℕ) → new ≡ insert order place arc → length new ≡ length order + 1 → IsGrowingOrder (beyond side lies) (arc + 1) new
   order_more order place arc l so le last behind new e long = rw e (record {
     ordered = inserted_ordered order place arc l (λ y h. let k = so.only y h in omega arith) (λ h. let k = so.only arc h in absurd (omega arith)) so.ordered le last behind;
     all = λ row k. inserted_in order place arc row (before row (cases_lt row arc) k);
@@ -103,7 +103,7 @@ module _ (M : ℕ → ℕ → Bool) (m : ℕ) (side : ℕ → ℕ → Bool) (lie
       after row (inr k) = let q = so.only row k in omega arith
 
 -- the order as it is asked for by the tree
-pub order_of : (beyond' : ℕ → ℕ → Bool) (m : ℕ) (order : List ℕ) → IsOrder beyond' m order → IsOrderOf beyond' (first_lines m) order
+pub order_of : (beyond' : ℕ → ℕ → Bool) (m : ℕ) (order : List ℕ) → IsGrowingOrder beyond' m order → IsOrderOf beyond' (first_lines m) order
 order_of beyond' m order so = record {
   order = so.ordered;
   all = λ x h. so.all x (first_lines_in m x h);

@@ -4,7 +4,7 @@ use Rattle.cmr_base.specs.GrownTrees.{IsOrdered}
 use Rattle.cmr_base.specs.Members.{IsIn}
 
 -- of the first rows, so many of them
-pub record IsOrder (beyond : ℕ → ℕ → Bool) (count : ℕ) (order : List ℕ) : Type 0 where
+pub record IsGrowingOrder (beyond : ℕ → ℕ → Bool) (count : ℕ) (order : List ℕ) : Type 0 where
   pub ordered : IsOrdered beyond order
   pub all : (row : ℕ) → row < count → IsIn row order
   pub only : (row : ℕ) → IsIn row order → row < count

@@ -6,7 +6,7 @@ ghost use Rattle.cmr_base.specs.LineSets.{AllBelow};
 ghost use Rattle.cmr_base.specs.Matrix.{height, IsMatrix};
 ghost use Rattle.cmr_base.specs.Trees.{RealisesSupport, support};
 ghost use Rattle.graph_realise.specs.Growing.{AreNear, IsPlaceInOrder, IsSpotIn, is_beyond, is_past};
-ghost use Rattle.graph_realise.specs.Orders.{IsOrder};
+ghost use Rattle.graph_realise.specs.Orders.{IsGrowingOrder};
 ghost use Rattle.graph_realise.specs.SideTables.{AreTablesOf, side_in, end_in};
 
 use crate::arc_sides::ArcSides;
@@ -90,7 +90,8 @@ fn growing_order(
     requires near { AreNear sides.now (height matrix.now) near.now }
     requires cuts { IsCuts (support matrix.now) (λ r. r < height matrix.now) (side_in sides.now)
         (end_in sides.now) }
-    ensures { IfOk result (λ order. IsOrder (is_beyond sides.now) (height matrix.now) order.items) }
+    ensures { IfOk result (λ order. IsGrowingOrder (is_beyond sides.now) (height matrix.now)
+        order.items) }
 {
     let mut order = Vec::new(alloc);
     for arc in 0..matrix.rows() {

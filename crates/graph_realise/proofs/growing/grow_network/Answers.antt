@@ -6,12 +6,12 @@ use Rattle.cmr_base.specs.Trees.{support}
 use Rattle.cmr_base.proofs.CutTrees.{cuts_realise_support}
 use Rattle.cmr_base.proofs.Members.{in_at}
 use Rattle.graph_realise.specs.Growing.{is_beyond}
-use Rattle.graph_realise.specs.Orders.{IsOrder}
+use Rattle.graph_realise.specs.Orders.{IsGrowingOrder}
 use Rattle.graph_realise.specs.SideTables.{side_in, end_in}
 use Rattle.graph_realise.proofs.OrderLemmas.{order_of}
 use Rattle.graph_realise.proofs.growing.grow_network.Goals as goal
 
-order_below : (beyond : ℕ → ℕ → Bool) (m : ℕ) (order : List ℕ) → IsOrder beyond m order → AllBelow m order
+order_below : (beyond : ℕ → ℕ → Bool) (m : ℕ) (order : List ℕ) → IsGrowingOrder beyond m order → AllBelow m order
 order_below beyond m order so k h = so.only (get_or order k 0) (in_at order k h)
 
 pub grown_arcs-requires-clause-order : goal.grown_arcs-requires-clause-order
