@@ -18,11 +18,11 @@ use Rattle.tree_type.specs.Places.{lines_of_each}
 use Rattle.tree_type.specs.Soundness.{AreApart, Demands, rule_number}
 use Rattle.tree_type.proofs.Forests.{trees_are}
 use Rattle.cert_check.specs.Answers.{IsFirstBrokenRule, unless}
-use Rattle.cert_check.specs.NodeLines.{lines_in}
+use Rattle.cert_check.specs.NodeLines.{line_sets}
 use Rattle.cert_check.proofs.Answering.{lines_is}
 use Rattle.std.proofs.lemmas.List.Sums.{sum_by-cons}
 
-pub lines_at : (P : LineSet → Type 0) (nodes : List Node) (i : ℕ) (child other : Node) → i < length nodes → child ≡ get_or nodes i other → AllByRecursion P (lines_in nodes) → P child.lines
+pub lines_at : (P : LineSet → Type 0) (nodes : List Node) (i : ℕ) (child other : Node) → i < length nodes → child ≡ get_or nodes i other → AllByRecursion P (line_sets nodes) → P child.lines
 lines_at P [] i child other l e h = absurd (omega (arith, l))
 lines_at P (node ∷ nodes) zero child other l e h = subst (λ n. P n.lines) (sym e) h.0
 lines_at P (node ∷ nodes) (suc i) child other l e h = lines_at P nodes i child other (omega (arith, l)) e h.1
@@ -76,16 +76,16 @@ inside_test M children row inside columns b same h = (
 
 -- ---- the lines of the children
 
-of_each : (nodes : List Node) → lines_of_each (trees_from (map tree_of nodes)) ≡ lines_in nodes
+of_each : (nodes : List Node) → lines_of_each (trees_from (map tree_of nodes)) ≡ line_sets nodes
 of_each [] = refl
 of_each (node ∷ nodes) = rw (lines_is node, of_each nodes) refl
 
-pub children_lines : (children : NodeList) → lines_of_each (trees_of children) ≡ lines_in (nodes_in children)
+pub children_lines : (children : NodeList) → lines_of_each (trees_of children) ≡ line_sets (nodes_in children)
 children_lines children = ap lines_of_each (trees_are children) ∙ of_each (nodes_in children)
 
 -- ---- the rule
 
-length_lines : (nodes : List Node) → length (lines_in nodes) ≡ length nodes
+length_lines : (nodes : List Node) → length (line_sets nodes) ≡ length nodes
 length_lines [] = refl
 length_lines (node ∷ nodes) = ap suc (length_lines nodes)
 
@@ -98,9 +98,9 @@ nonzeros_from M lines children apart =
     (λ row hr. all_weaker (Contains lines.columns) (λ column. M row column ≢ pos 0 → list_any (λ child. is_among child.rows row && is_among child.columns column) children ≡ true) (λ column hc. apart.nonzeros row column hr hc) lines.columns (all_contain lines.columns)) lines.rows
     (all_contain lines.rows)
 
-apart_test : (M : ℕ → ℕ → ℤ) (lines : LineSet) (nodes : List Node) (b : Bool) → 2 ≤ length nodes → AllByRecursion (λ child. 0 < size_of child) (lines_in nodes)
-    → AllByRecursion (λ row. count_by (λ child. is_among child.rows row) (lines_in nodes) ≡ 1) lines.rows → AllByRecursion (λ column. count_by (λ child. is_among child.columns column) (lines_in nodes) ≡ 1) lines.columns
-    → IsTrue b ↔ HasNonzeros M (lines_in nodes) lines.rows lines.columns → IsTrue b ↔ AreApart M lines (lines_in nodes)
+apart_test : (M : ℕ → ℕ → ℤ) (lines : LineSet) (nodes : List Node) (b : Bool) → 2 ≤ length nodes → AllByRecursion (λ child. 0 < size_of child) (line_sets nodes)
+    → AllByRecursion (λ row. count_by (λ child. is_among child.rows row) (line_sets nodes) ≡ 1) lines.rows → AllByRecursion (λ column. count_by (λ child. is_among child.columns column) (line_sets nodes) ≡ 1) lines.columns
+    → IsTrue b ↔ HasNonzeros M (line_sets nodes) lines.rows lines.columns → IsTrue b ↔ AreApart M lines (line_sets nodes)
 apart_test M lines nodes b two filled rows columns h = (
   (λ t. record {
     two = (let e = length_lines nodes in omega (arith, e, two));
@@ -108,20 +108,20 @@ apart_test M lines nodes b two filled rows columns h = (
     rows = rows;
     columns = columns;
     nonzeros = λ row column hr hc.
-        all_contained (λ c. M row c ≢ pos 0 → list_any (λ child. is_among child.rows row && is_among child.columns c) (lines_in nodes) ≡ true) lines.columns column
-        (all_contained (λ r. AllByRecursion (λ c. M r c ≢ pos 0 → list_any (λ child. is_among child.rows r && is_among child.columns c) (lines_in nodes) ≡ true) lines.columns) lines.rows row (h.0 t) hr) hc;
+        all_contained (λ c. M row c ≢ pos 0 → list_any (λ child. is_among child.rows row && is_among child.columns c) (line_sets nodes) ≡ true) lines.columns column
+        (all_contained (λ r. AllByRecursion (λ c. M r c ≢ pos 0 → list_any (λ child. is_among child.rows r && is_among child.columns c) (line_sets nodes) ≡ true) lines.columns) lines.rows row (h.0 t) hr) hc;
   }),
-  λ apart. h.1 (nonzeros_from M lines (lines_in nodes) apart),
+  λ apart. h.1 (nonzeros_from M lines (line_sets nodes) apart),
 )
 
 -- the same by lists that are those of the lines
-pub apart_tested : (M : ℕ → ℕ → ℤ) (lines : LineSet) (rows columns : List ℕ) (nodes : List Node) (b : Bool) → rows ≡ lines.rows → columns ≡ lines.columns → 2 ≤ length nodes → AllByRecursion (λ child. 0 < size_of child) (lines_in nodes)
-    → AllByRecursion (λ row. count_by (λ child. is_among child.rows row) (lines_in nodes) ≡ 1) rows → AllByRecursion (λ column. count_by (λ child. is_among child.columns column) (lines_in nodes) ≡ 1) columns
-    → IsTrue b ↔ HasNonzeros M (lines_in nodes) rows columns → IsTrue b ↔ AreApart M lines (lines_in nodes)
+pub apart_tested : (M : ℕ → ℕ → ℤ) (lines : LineSet) (rows columns : List ℕ) (nodes : List Node) (b : Bool) → rows ≡ lines.rows → columns ≡ lines.columns → 2 ≤ length nodes → AllByRecursion (λ child. 0 < size_of child) (line_sets nodes)
+    → AllByRecursion (λ row. count_by (λ child. is_among child.rows row) (line_sets nodes) ≡ 1) rows → AllByRecursion (λ column. count_by (λ child. is_among child.columns column) (line_sets nodes) ≡ 1) columns
+    → IsTrue b ↔ HasNonzeros M (line_sets nodes) rows columns → IsTrue b ↔ AreApart M lines (line_sets nodes)
 apart_tested M lines rows columns nodes b e f two filled by_rows by_columns h =
-    apart_test M lines nodes b two filled (subst (AllByRecursion (λ row. count_by (λ child. is_among child.rows row) (lines_in nodes) ≡ 1)) e by_rows)
-    (subst (AllByRecursion (λ column. count_by (λ child. is_among child.columns column) (lines_in nodes) ≡ 1)) f by_columns)
-    (subst (λ cs. IsTrue b ↔ HasNonzeros M (lines_in nodes) lines.rows cs) f (subst (λ rs. IsTrue b ↔ HasNonzeros M (lines_in nodes) rs columns) e h))
+    apart_test M lines nodes b two filled (subst (AllByRecursion (λ row. count_by (λ child. is_among child.rows row) (line_sets nodes) ≡ 1)) e by_rows)
+    (subst (AllByRecursion (λ column. count_by (λ child. is_among child.columns column) (line_sets nodes) ≡ 1)) f by_columns)
+    (subst (λ cs. IsTrue b ↔ HasNonzeros M (line_sets nodes) lines.rows cs) f (subst (λ rs. IsTrue b ↔ HasNonzeros M (line_sets nodes) rs columns) e h))
 
 apart_decides : (m : Matrix) (lines : LineSet) (children : List LineSet) (b : Bool) → IsTrue b ↔ AreApart (entry m) lines children → IsFirstBrokenRule m lines OneSum children (unless b rule.NotApart)
 apart_decides m lines children true h = kept
@@ -135,6 +135,6 @@ apart_decides m lines children false h = ((λ d. true≢false (sym (h.1 d))), be
     before rule.NotApart l = absurd (omega (arith, l))
     before _ l = tt
 
-pub apart_says : (m : Matrix) (lines : LineSet) (children : NodeList) (nodes : List Node) (b : Bool) → nodes ≡ nodes_in children → IsTrue b ↔ AreApart (entry m) lines (lines_in nodes) → IsFirstBrokenRule m lines OneSum (lines_of_each (trees_of children)) (unless b rule.NotApart)
+pub apart_says : (m : Matrix) (lines : LineSet) (children : NodeList) (nodes : List Node) (b : Bool) → nodes ≡ nodes_in children → IsTrue b ↔ AreApart (entry m) lines (line_sets nodes) → IsFirstBrokenRule m lines OneSum (lines_of_each (trees_of children)) (unless b rule.NotApart)
 apart_says m lines children nodes b e h =
-    apart_decides m lines (lines_of_each (trees_of children)) b (subst (λ each. IsTrue b ↔ AreApart (entry m) lines each) (ap lines_in e ∙ sym (children_lines children)) h)
+    apart_decides m lines (lines_of_each (trees_of children)) b (subst (λ each. IsTrue b ↔ AreApart (entry m) lines each) (ap line_sets e ∙ sym (children_lines children)) h)

@@ -9,7 +9,7 @@ ghost use Rattle.tree_type.specs.Invariant.{AreLines, size_of};
 ghost use Rattle.tree_type.specs.Places.{lines_of_each};
 ghost use Rattle.tree_type.specs.Soundness.{AreApart};
 ghost use Rattle.cert_check.specs.Answers.{IsFirstBrokenRule};
-ghost use Rattle.cert_check.specs.NodeLines.{lines_in};
+ghost use Rattle.cert_check.specs.NodeLines.{line_sets};
 
 use crate::leaf_rules::{is_empty, unless};
 use cmr_base::{Indices, LineSet, Matrix};
@@ -28,7 +28,7 @@ pub fn apart_rule(matrix: &Matrix, lines: &LineSet, children: &NodeList) -> Opti
 
 fn are_apart(matrix: &Matrix, lines: &LineSet, children: &[Node]) -> bool
     requires { AreLines matrix.now lines.now }
-    ensures { IsTrue result ↔ AreApart (entry matrix.now) lines.now (lines_in children.now) }
+    ensures { IsTrue result ↔ AreApart (entry matrix.now) lines.now (line_sets children.now) }
 {
     let rows = lines.rows.as_slice();
     let columns = lines.columns.as_slice();
@@ -48,7 +48,7 @@ fn are_apart(matrix: &Matrix, lines: &LineSet, children: &[Node]) -> bool
 }
 
 fn are_filled(children: &[Node]) -> bool
-    ensures { IsTrue result ↔ AllByRecursion (λ child. 0 < size_of child) (lines_in children.now) }
+    ensures { IsTrue result ↔ AllByRecursion (λ child. 0 < size_of child) (line_sets children.now) }
 {
     for child in children {
         if is_empty(&child.lines) {
@@ -62,7 +62,7 @@ fn are_filled(children: &[Node]) -> bool
 fn have_rows(children: &[Node], rows: &[u32]) -> bool
     ensures { IsTrue result
         ↔ AllByRecursion
-        (λ row. count_by (λ child. is_among child.rows row) (lines_in children.now) ≡ 1)
+        (λ row. count_by (λ child. is_among child.rows row) (line_sets children.now) ≡ 1)
         rows.now }
 {
     for row in rows {
@@ -74,7 +74,7 @@ fn have_rows(children: &[Node], rows: &[u32]) -> bool
 }
 
 fn count_row(children: &[Node], row: u32) -> usize
-    ensures { result ≡ count_by (λ child. is_among child.rows row) (lines_in children.now) }
+    ensures { result ≡ count_by (λ child. is_among child.rows row) (line_sets children.now) }
 {
     let mut count = 0;
     for child in children {
@@ -88,7 +88,7 @@ fn count_row(children: &[Node], row: u32) -> usize
 fn have_columns(children: &[Node], columns: &[u32]) -> bool
     ensures { IsTrue result
         ↔ AllByRecursion
-        (λ column. count_by (λ child. is_among child.columns column) (lines_in children.now) ≡ 1)
+        (λ column. count_by (λ child. is_among child.columns column) (line_sets children.now) ≡ 1)
         columns.now }
 {
     for column in columns {
@@ -100,7 +100,7 @@ fn have_columns(children: &[Node], columns: &[u32]) -> bool
 }
 
 fn count_column(children: &[Node], column: u32) -> usize
-    ensures { result ≡ count_by (λ child. is_among child.columns column) (lines_in children.now) }
+    ensures { result ≡ count_by (λ child. is_among child.columns column) (line_sets children.now) }
 {
     let mut count = 0;
     for child in children {
@@ -116,7 +116,7 @@ fn have_nonzeros(matrix: &Matrix, children: &[Node], rows: &[u32], columns: &[u3
     requires rows { AllBelow (height matrix.now) rows.now }
     requires columns { AllBelow matrix.now.width columns.now }
     requires one { AllByRecursion
-        (λ row. count_by (λ child. is_among child.rows row) (lines_in children.now) ≡ 1)
+        (λ row. count_by (λ child. is_among child.rows row) (line_sets children.now) ≡ 1)
         rows.now }
     ensures { IsTrue result
         ↔ AllByRecursion
@@ -124,7 +124,7 @@ fn have_nonzeros(matrix: &Matrix, children: &[Node], rows: &[u32], columns: &[u3
         (λ column. entry matrix.now row column ≢ pos 0
         → list_any
         (λ child. is_among child.rows row && is_among child.columns column)
-        (lines_in children.now)
+        (line_sets children.now)
         ≡ true)
         columns.now)
         rows.now }
@@ -140,13 +140,13 @@ fn have_nonzeros(matrix: &Matrix, children: &[Node], rows: &[u32], columns: &[u3
 fn has_nonzeros(matrix: &Matrix, children: &[Node], row: u32, columns: &[u32]) -> bool
     requires row { row < height matrix.now }
     requires columns { AllBelow matrix.now.width columns.now }
-    requires one { count_by (λ child. is_among child.rows row) (lines_in children.now) ≡ 1 }
+    requires one { count_by (λ child. is_among child.rows row) (line_sets children.now) ≡ 1 }
     ensures { IsTrue result
         ↔ AllByRecursion
         (λ column. entry matrix.now row column ≢ pos 0
         → list_any
         (λ child. is_among child.rows row && is_among child.columns column)
-        (lines_in children.now)
+        (line_sets children.now)
         ≡ true)
         columns.now }
 {
@@ -155,11 +155,11 @@ fn has_nonzeros(matrix: &Matrix, children: &[Node], row: u32, columns: &[u32]) -
 
 // The columns of the one child that has this row.
 fn columns_beside(children: &[Node], row: u32) -> &Indices
-    requires { count_by (λ child. is_among child.rows row) (lines_in children.now) ≡ 1 }
+    requires { count_by (λ child. is_among child.rows row) (line_sets children.now) ≡ 1 }
     ensures { (column : ℕ)
         → list_any
         (λ child. is_among child.rows row && is_among child.columns column)
-        (lines_in children.now)
+        (line_sets children.now)
         ≡ is_among result.now column }
 {
     for child in children {
