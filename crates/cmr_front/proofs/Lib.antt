@@ -7,6 +7,7 @@ pub mod TreeFile
 pub mod GraphFile
 pub mod Matches
 pub mod Parts
+pub mod AddedArguments
 pub mod Endings
 pub mod Files
 pub mod Numbers

@@ -1,6 +1,7 @@
 //! The arguments that the tools share, and the command of `clap` that takes them.
-ghost use Rattle.std.specs.Prelude.{◌≡◌, IfOk, [], false};
-ghost use Rattle.clap.specs.Words.{app_of, rule_of, with_rule};
+ghost use Rattle.std.specs.Prelude.{◌≡◌, IfOk, [], false, map};
+ghost use Rattle.std.specs.List.{AllByRecursion};
+ghost use Rattle.clap.specs.Words.{app_of, rule_of};
 ghost use Rattle.cmr_front.specs.Words.Arguments as arguments;
 
 use clap::{Arg, ArgAction, Command};
@@ -45,8 +46,8 @@ pub const EVIDENCE: &str = "evidence";
 
 pub const WORKERS: &str = "workers";
 
-/// A command with no argument. A name of the program, help and version are no words of it.
-pub fn bare_command<'a>(alloc: Global, name: &'a str) -> Command<'a>
+// A command with no argument.
+fn bare_command<'a>(alloc: Global, name: &'a str) -> Command<'a>
     ensures { app_of result ≡ arguments.tool_app name.now [] }
 {
     Command::new(alloc, name)
@@ -215,10 +216,15 @@ pub fn file_operand<'a>(alloc: Global) -> Arg<'a>
     Arg::new(alloc, FILE)
 }
 
-/// The command with one more argument.
-pub fn add<'a>(command: Command<'a>, arg: Arg<'a>) -> Result<Command<'a>, AllocError>
-    requires { arg.global ≡ false }
-    ensures { IfOk result (λ c. app_of c ≡ with_rule (app_of command.entry) (rule_of arg.entry)) }
+/// The command of a tool, with these arguments in their order. A name of the program, help and version are no words of it.
+pub fn tool_command<'a>(
+    alloc: Global,
+    name: &'a str,
+    args: Vec<Arg<'a>>,
+) -> Result<Command<'a>, AllocError>
+    requires { AllByRecursion (λ arg. arg.global ≡ false) args.items }
+    ensures { IfOk result (λ command.
+        app_of command ≡ arguments.tool_app name.now (map rule_of args.entry.items)) }
 {
-    command.arg(arg)
+    bare_command(alloc, name).args(args)
 }

@@ -57,13 +57,15 @@ const LABEL: &[u8] = b"balanced";
 fn balanced_command<'a>(alloc: Global) -> Result<Command<'a>, AllocError>
     ensures { IfOk result (λ c. app_of c ≡ balanced_app) }
 {
-    let bare = arguments::bare_command(alloc, "balanced");
-    let with_form = arguments::add(bare, arguments::form_option(alloc))?;
-    let with_lines = arguments::add(with_form, arguments::lines_option(alloc))?;
-    let with_pivots = arguments::add(with_lines, arguments::pivots_option(alloc))?;
-    let with_workers = arguments::add(with_pivots, arguments::workers_option(alloc))?;
-    let with_fault = arguments::add(with_workers, arguments::fault_option(alloc))?;
-    arguments::add(with_fault, arguments::file_operand(alloc))
+    let args = vec![in alloc;
+        arguments::form_option(alloc),
+        arguments::lines_option(alloc),
+        arguments::pivots_option(alloc),
+        arguments::workers_option(alloc),
+        arguments::fault_option(alloc),
+        arguments::file_operand(alloc),
+    ]?;
+    arguments::tool_command(alloc, "balanced", args)
 }
 
 fn options_in<'a>(matches: &ArgMatches<'a>) -> Result<BalancedOptions<'a>, WordsError>

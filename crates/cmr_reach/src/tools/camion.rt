@@ -36,10 +36,12 @@ pub struct CamionOptions<'a> {
 fn camion_command<'a>(alloc: Global) -> Result<Command<'a>, AllocError>
     ensures { IfOk result (λ c. app_of c ≡ camion_app) }
 {
-    let bare = arguments::bare_command(alloc, "camion");
-    let with_form = arguments::add(bare, arguments::form_option(alloc))?;
-    let with_fault = arguments::add(with_form, arguments::fault_option(alloc))?;
-    arguments::add(with_fault, arguments::file_operand(alloc))
+    let args = vec![in alloc;
+        arguments::form_option(alloc),
+        arguments::fault_option(alloc),
+        arguments::file_operand(alloc),
+    ]?;
+    arguments::tool_command(alloc, "camion", args)
 }
 
 fn options_in<'a>(matches: &ArgMatches<'a>) -> Result<CamionOptions<'a>, WordsError>

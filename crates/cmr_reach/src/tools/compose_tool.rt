@@ -56,15 +56,14 @@ const SECOND: &str = "second";
 fn compose_command<'a>(alloc: Global) -> Result<Command<'a>, AllocError>
     ensures { IfOk result (λ c. app_of c ≡ compose_app) }
 {
-    let bare = arguments::bare_command(alloc, "compose");
-    let with_form = arguments::add(bare, arguments::form_option(alloc))?;
-    let with_sum = arguments::add(with_form, arguments::operand(alloc, SUM))?;
-    let with_first = arguments::add(with_sum, arguments::operand(alloc, FIRST))?;
-    let with_second = arguments::add(with_first, arguments::operand(alloc, SECOND))?;
-    arguments::add(
-        with_second,
+    let args = vec![in alloc;
+        arguments::form_option(alloc),
+        arguments::operand(alloc, SUM),
+        arguments::operand(alloc, FIRST),
+        arguments::operand(alloc, SECOND),
         arguments::required(arguments::output_option(alloc)),
-    )
+    ]?;
+    arguments::tool_command(alloc, "compose", args)
 }
 
 fn sum_in(matches: &ArgMatches<'_>) -> Result<SumKind, WordsError>

@@ -60,14 +60,14 @@ const SECOND: &str = "second";
 fn parts_command<'a>(alloc: Global) -> Result<Command<'a>, AllocError>
     ensures { IfOk result (λ c. app_of c ≡ parts_app) }
 {
-    let first = arguments::required(arguments::value_option(alloc, FIRST, 'A'));
-    let second = arguments::required(arguments::value_option(alloc, SECOND, 'B'));
-    let bare = arguments::bare_command(alloc, "parts");
-    let with_form = arguments::add(bare, arguments::form_option(alloc))?;
-    let with_matrix = arguments::add(with_form, arguments::operand(alloc, MATRIX))?;
-    let with_tree = arguments::add(with_matrix, arguments::operand(alloc, TREE))?;
-    let with_first = arguments::add(with_tree, first)?;
-    arguments::add(with_first, second)
+    let args = vec![in alloc;
+        arguments::form_option(alloc),
+        arguments::operand(alloc, MATRIX),
+        arguments::operand(alloc, TREE),
+        arguments::required(arguments::value_option(alloc, FIRST, 'A')),
+        arguments::required(arguments::value_option(alloc, SECOND, 'B')),
+    ]?;
+    arguments::tool_command(alloc, "parts", args)
 }
 
 fn options_in<'a>(matches: &ArgMatches<'a>) -> Result<PartsOptions<'a>, WordsError>

@@ -47,10 +47,12 @@ pub struct SignOptions<'a> {
 fn sign_command<'a>(alloc: Global) -> Result<Command<'a>, AllocError>
     ensures { IfOk result (λ c. app_of c ≡ sign_app) }
 {
-    let bare = arguments::bare_command(alloc, "sign");
-    let with_form = arguments::add(bare, arguments::form_option(alloc))?;
-    let with_matrix = arguments::add(with_form, arguments::operand(alloc, MATRIX))?;
-    arguments::add(with_matrix, arguments::operand(alloc, ROWS))
+    let args = vec![in alloc;
+        arguments::form_option(alloc),
+        arguments::operand(alloc, MATRIX),
+        arguments::operand(alloc, ROWS),
+    ]?;
+    arguments::tool_command(alloc, "sign", args)
 }
 
 fn options_in<'a>(matches: &ArgMatches<'a>) -> Result<SignOptions<'a>, WordsError>

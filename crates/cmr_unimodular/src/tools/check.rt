@@ -57,10 +57,12 @@ pub struct CheckOptions<'a> {
 fn check_command<'a>(alloc: Global) -> Result<Command<'a>, AllocError>
     ensures { IfOk result (λ c. app_of c ≡ check_app) }
 {
-    let bare = arguments::bare_command(alloc, "check");
-    let with_form = arguments::add(bare, arguments::form_option(alloc))?;
-    let with_matrix = arguments::add(with_form, arguments::operand(alloc, MATRIX))?;
-    arguments::add(with_matrix, arguments::operand(alloc, EVIDENCE))
+    let args = vec![in alloc;
+        arguments::form_option(alloc),
+        arguments::operand(alloc, MATRIX),
+        arguments::operand(alloc, EVIDENCE),
+    ]?;
+    arguments::tool_command(alloc, "check", args)
 }
 
 fn options_in<'a>(matches: &ArgMatches<'a>) -> Result<CheckOptions<'a>, WordsError>

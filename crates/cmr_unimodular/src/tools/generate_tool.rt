@@ -60,14 +60,16 @@ const MOST_NUMBER: u32 = 2_147_483_647;
 fn generate_command<'a>(alloc: Global) -> Result<Command<'a>, AllocError>
     ensures { IfOk result (λ c. app_of c ≡ generate_app) }
 {
-    let bare = arguments::bare_command(alloc, "generate");
-    let with_kind = arguments::add(bare, arguments::operand(alloc, KIND))?;
-    let with_size = arguments::add(with_kind, arguments::operand(alloc, SIZE))?;
-    let with_number = arguments::add(with_size, arguments::operand(alloc, NUMBER))?;
-    let with_lines = arguments::add(with_number, arguments::lines_option(alloc))?;
-    let with_pivots = arguments::add(with_lines, arguments::pivots_option(alloc))?;
-    let with_workers = arguments::add(with_pivots, arguments::workers_option(alloc))?;
-    arguments::add(with_workers, arguments::output_option(alloc))
+    let args = vec![in alloc;
+        arguments::operand(alloc, KIND),
+        arguments::operand(alloc, SIZE),
+        arguments::operand(alloc, NUMBER),
+        arguments::lines_option(alloc),
+        arguments::pivots_option(alloc),
+        arguments::workers_option(alloc),
+        arguments::output_option(alloc),
+    ]?;
+    arguments::tool_command(alloc, "generate", args)
 }
 
 fn kind_in(matches: &ArgMatches<'_>) -> Result<MakeKind, WordsError>

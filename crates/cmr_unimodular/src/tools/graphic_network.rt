@@ -73,13 +73,15 @@ fn tool_name<'a>(property: TestedProperty) -> &'a str
 fn test_command<'a>(alloc: Global, property: TestedProperty) -> Result<Command<'a>, AllocError>
     ensures { IfOk result (λ c. app_of c ≡ test_app property) }
 {
-    let bare = arguments::bare_command(alloc, tool_name(property));
-    let with_form = arguments::add(bare, arguments::form_option(alloc))?;
-    let with_transposed = arguments::add(with_form, arguments::transposed_flag(alloc))?;
-    let with_minimal = arguments::add(with_transposed, arguments::minimal_option(alloc))?;
-    let with_graph = arguments::add(with_minimal, arguments::graph_option(alloc))?;
-    let with_from_graph = arguments::add(with_graph, arguments::from_graph_flag(alloc))?;
-    arguments::add(with_from_graph, arguments::file_operand(alloc))
+    let args = vec![in alloc;
+        arguments::form_option(alloc),
+        arguments::transposed_flag(alloc),
+        arguments::minimal_option(alloc),
+        arguments::graph_option(alloc),
+        arguments::from_graph_flag(alloc),
+        arguments::file_operand(alloc),
+    ]?;
+    arguments::tool_command(alloc, tool_name(property), args)
 }
 
 // Whether an option of the test of a matrix stands among the words, be it with the value that it has where it is left out.

@@ -61,16 +61,18 @@ pub struct RegularOptions<'a> {
 fn regular_command<'a>(alloc: Global) -> Result<Command<'a>, AllocError>
     ensures { IfOk result (λ c. app_of c ≡ regular_app) }
 {
-    let bare = arguments::bare_command(alloc, "regular");
-    let with_form = arguments::add(bare, arguments::form_option(alloc))?;
-    let with_lines = arguments::add(with_form, arguments::lines_option(alloc))?;
-    let with_pivots = arguments::add(with_lines, arguments::pivots_option(alloc))?;
-    let with_workers = arguments::add(with_pivots, arguments::workers_option(alloc))?;
-    let with_tree = arguments::add(with_workers, arguments::tree_option(alloc))?;
-    let with_fault = arguments::add(with_tree, arguments::fault_option(alloc))?;
-    let with_output = arguments::add(with_fault, arguments::output_option(alloc))?;
-    let with_chain = arguments::add(with_output, arguments::chain_option(alloc))?;
-    arguments::add(with_chain, arguments::file_operand(alloc))
+    let args = vec![in alloc;
+        arguments::form_option(alloc),
+        arguments::lines_option(alloc),
+        arguments::pivots_option(alloc),
+        arguments::workers_option(alloc),
+        arguments::tree_option(alloc),
+        arguments::fault_option(alloc),
+        arguments::output_option(alloc),
+        arguments::chain_option(alloc),
+        arguments::file_operand(alloc),
+    ]?;
+    arguments::tool_command(alloc, "regular", args)
 }
 
 fn options_in<'a>(matches: &ArgMatches<'a>) -> Result<RegularOptions<'a>, WordsError>

@@ -49,13 +49,15 @@ pub struct SpOptions<'a> {
 fn series_parallel_command<'a>(alloc: Global) -> Result<Command<'a>, AllocError>
     ensures { IfOk result (λ c. app_of c ≡ series_parallel_app) }
 {
-    let bare = arguments::bare_command(alloc, "series-parallel");
-    let with_form = arguments::add(bare, arguments::form_option(alloc))?;
-    let with_binary = arguments::add(with_form, arguments::binary_flag(alloc))?;
-    let with_minimal = arguments::add(with_binary, arguments::minimal_option(alloc))?;
-    let with_steps = arguments::add(with_minimal, arguments::steps_option(alloc))?;
-    let with_rest = arguments::add(with_steps, arguments::rest_option(alloc))?;
-    arguments::add(with_rest, arguments::file_operand(alloc))
+    let args = vec![in alloc;
+        arguments::form_option(alloc),
+        arguments::binary_flag(alloc),
+        arguments::minimal_option(alloc),
+        arguments::steps_option(alloc),
+        arguments::rest_option(alloc),
+        arguments::file_operand(alloc),
+    ]?;
+    arguments::tool_command(alloc, "series-parallel", args)
 }
 
 fn options_in<'a>(matches: &ArgMatches<'a>) -> Result<SpOptions<'a>, WordsError>

@@ -40,12 +40,11 @@ pub struct UpgradeOptions<'a> {
 fn upgrade_command<'a>(alloc: Global) -> Result<Command<'a>, AllocError>
     ensures { IfOk result (λ c. app_of c ≡ upgrade_app) }
 {
-    let bare = arguments::bare_command(alloc, "upgrade");
-    let with_evidence = arguments::add(bare, arguments::operand(alloc, EVIDENCE))?;
-    arguments::add(
-        with_evidence,
+    let args = vec![in alloc;
+        arguments::operand(alloc, EVIDENCE),
         arguments::required(arguments::tree_option(alloc)),
-    )
+    ]?;
+    arguments::tool_command(alloc, "upgrade", args)
 }
 
 fn options_in<'a>(matches: &ArgMatches<'a>) -> Result<UpgradeOptions<'a>, WordsError>
