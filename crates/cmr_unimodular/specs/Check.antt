@@ -22,7 +22,7 @@ use Rattle.cmr_front.specs.declared.status.Answer.{Answer}
 use Rattle.cmr_front.specs.declared.status.Answer.TheVariants.{Yes, No, Undecided, Refused}
 use Rattle.cmr_front.specs.Evidence.{IsBrokenFor, IsSoundFor, ReportsTree, SaysOfTree, evidence_tool}
 use Rattle.cmr_front.specs.MatrixText.{matrix_in}
-use Rattle.cmr_front.specs.Printed.{open_line, violator_line}
+use Rattle.cmr_front.specs.Printed.{violator_line}
 use Rattle.cmr_front.specs.Refusals.{refusal_line}
 use Rattle.cmr_front.specs.Report.{Report}
 use Rattle.cmr_front.specs.Status.{answer_status}
@@ -31,6 +31,7 @@ use Rattle.cmr_front.specs.Tool.{Tool}
 use Rattle.cmr_unimodular.specs.declared.tools.check.EvidenceKind.{EvidenceKind}
 use Rattle.cmr_unimodular.specs.declared.tools.check.EvidenceKind.TheVariants as kinds
 use Rattle.cmr_unimodular.specs.Tu.{IsNotUnimodular, IsUnimodular}
+use Rattle.cmr_unimodular.specs.Verdict.{answer_of, answer_word, named_line}
 use Rattle.clap.specs.Words.{App, Row, Text, first_of}
 use Rattle.cmr_front.specs.declared.matrix_file.MatrixForm.{MatrixForm}
 use Rattle.cmr_unimodular.specs.declared.tools.check.CheckOptions.{CheckOptions}
@@ -94,11 +95,9 @@ said answer output = record { status = answer_status answer; output = output; er
 abbrev pub violator_in : Matrix → LineSet → List ℕ
 violator_in m lines = violator_line lines.rows lines.columns (submatrix_sum m lines.rows lines.columns)
 
--- what is said of evidence that keeps its rules, by its verdict
+-- what is said of evidence that keeps its rules: its verdict
 abbrev pub accepted_report : Matrix → Verdict → Report
-accepted_report m verdicts.Yes = said Yes (codes "accepted: yes\n")
-accepted_report m (verdicts.No fault) = said No (codes "accepted: no\n" ++ violator_in m fault)
-accepted_report m (verdicts.Open lines) = said Undecided (codes "accepted: undecided\n" ++ open_line lines.rows lines.columns)
+accepted_report m verdict = said (answer_of verdict) (codes "accepted" ++ answer_word verdict ++ named_line m verdict)
 
 -- the node at this path is the first that breaks a rule, and this is the rule
 abbrev pub refused_report : List ℕ → Rule → Report

@@ -77,7 +77,8 @@ fn push_size_and_place(text: &mut Vec<u8>, node: &Node) -> Result<(), Memory>
     push_place(text, node)
 }
 
-fn push_size(text: &mut Vec<u8>, rows: usize, columns: usize) -> Result<(), Memory>
+/// Appends a blank and how many rows and columns there are.
+pub fn push_size(text: &mut Vec<u8>, rows: usize, columns: usize) -> Result<(), Memory>
     ensures { OnOk result (text.new.items
         ≡ text.old.items ++ codes " " ++ decimal rows ++ codes "x" ++ decimal columns) }
 {

@@ -103,7 +103,8 @@ pub fn report_tree<'a>(
     })
 }
 
-fn answer_of(verdict: &VerdictOf<'_>) -> Answer
+/// The answer that a verdict is.
+pub fn answer_of(verdict: &VerdictOf<'_>) -> Answer
     ensures { result ≡ answer_of (verdict_shown verdict.now) }
 {
     match verdict {
@@ -113,7 +114,8 @@ fn answer_of(verdict: &VerdictOf<'_>) -> Answer
     }
 }
 
-fn answer_word(verdict: &VerdictOf<'_>) -> &'static [u8]
+/// What stands behind the label: the answer in words.
+pub fn answer_word(verdict: &VerdictOf<'_>) -> &'static [u8]
     ensures { result.now ≡ answer_word (verdict_shown verdict.now) }
 {
     match verdict {
@@ -141,7 +143,8 @@ fn verdict_text(
     Ok(text)
 }
 
-fn push_named_line(
+/// Appends the line of the violator or of the open lines that a verdict names.
+pub fn push_named_line(
     text: &mut Vec<u8>,
     matrix: &Matrix,
     verdict: &VerdictOf<'_>,

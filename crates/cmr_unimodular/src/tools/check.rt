@@ -18,6 +18,7 @@ ghost use Rattle.cmr_front.specs.declared.status.Answer.{Answer};
 ghost use Rattle.cmr_unimodular.specs.Check.{ChainDecides, CheckReportsBy, EvidenceReports, TreeDecides, ViolatorDecides, accepted_report, check_app, check_order, check_order_in, check_order_of, check_tool, evidence_kind, irregular_report, is_of_support, kind_named, refused_report, refused_step_report, said};
 ghost use Rattle.cmr_unimodular.specs.declared.tools.check.EvidenceKind.TheVariants as kinds;
 
+use crate::verdict::{answer_of, answer_word, push_named_line};
 use camion_sign::{SizedChain, chain_signs, check_chain};
 use cert_check::accept;
 use clap::{ArgMatches, Command};
@@ -28,7 +29,7 @@ use cmr_front::evidence_file::{
 use cmr_front::input::{Input, Text};
 use cmr_front::matrix_file::{MatrixForm, read_matrix};
 use cmr_front::outcome::{Outcome, Stop};
-use cmr_front::printed::{push_open_line, push_violator_line};
+use cmr_front::printed::push_violator_line;
 use cmr_front::refusal_line::push_refusal_line;
 use cmr_front::status::Answer;
 use cmr_front::tool::{Tool, run_tool};
@@ -215,7 +216,17 @@ fn decide_tree<'a>(
         result }
 {
     let tree = read_tree_file(alloc, file, evidence)?;
-    Ok(check_tree(alloc, matrix, &tree)?)
+    decide_on_tree(alloc, matrix, &tree)
+}
+
+fn decide_on_tree<'a>(
+    alloc: Global,
+    matrix: &Matrix,
+    tree: &DecTree,
+) -> Result<Outcome<'a>, Stop<'a>>
+    ensures { IsDecision (TreeDecides matrix.now (plain_of tree.now)) result }
+{
+    Ok(check_tree(alloc, matrix, tree)?)
 }
 
 fn check_tree<'a>(alloc: Global, matrix: &Matrix, tree: &DecTree) -> Result<Outcome<'a>, Memory>
@@ -329,19 +340,10 @@ fn accepted<'a>(
     ensures { IfOk result (λ outcome. outcome_report outcome
         ≡ accepted_report matrix.now (verdict_shown verdict.now)) }
 {
-    match verdict {
-        VerdictOf::Yes => Ok(said(alloc, Answer::Yes, b"accepted: yes\n".to_vec(alloc)?)),
-        VerdictOf::No(fault) => {
-            let mut text = b"accepted: no\n".to_vec(alloc)?;
-            push_violator_line(&mut text, fault, matrix.sum(fault))?;
-            Ok(said(alloc, Answer::No, text))
-        }
-        VerdictOf::Undecided(lines) => {
-            let mut text = b"accepted: undecided\n".to_vec(alloc)?;
-            push_open_line(&mut text, lines)?;
-            Ok(said(alloc, Answer::Undecided, text))
-        }
-    }
+    let mut text = b"accepted".to_vec(alloc)?;
+    text.extend_from_slice(answer_word(verdict))?;
+    push_named_line(&mut text, matrix, verdict)?;
+    Ok(said(alloc, answer_of(verdict), text))
 }
 
 fn refused<'a>(alloc: Global, path: &PathList, rule: Rule) -> Result<Outcome<'a>, Memory>

@@ -10,6 +10,7 @@ ghost use Rattle.cmr_front.specs.declared.status.Answer.{Answer};
 ghost use Rattle.cmr_unimodular.specs.Generate.{GenerateDecides, IsInRange, generate_app, generate_order, generate_order_in, generate_order_of, generate_report, generate_tool, generate_verdict, make_kind_in, kind_word, most_size, number_in, size_in, summary_line};
 ghost use Rattle.cmr_unimodular.specs.Verdict.{verdict_order_of};
 
+use crate::outline::push_size;
 use crate::verdict::{VerdictOptions, give_verdict};
 use clap::{ArgMatches, Command};
 use cmr_base::{MAX_ROWS, Matrix, Memory, Word};
@@ -230,10 +231,7 @@ fn summary(alloc: Global, what: MakeKind, matrix: &Matrix) -> Result<Vec<u8>, Me
     let mut buffer = Buffer::new();
     let mut text = b"generated ".as_slice().to_vec(alloc)?;
     text.extend_from_slice(kind_word(what))?;
-    text.extend_from_slice(b" ")?;
-    text.extend_from_slice(buffer.format(matrix.rows()).as_bytes())?;
-    text.extend_from_slice(b"x")?;
-    text.extend_from_slice(buffer.format(matrix.columns()).as_bytes())?;
+    push_size(&mut text, matrix.rows() as usize, matrix.columns() as usize)?;
     text.extend_from_slice(b" nonzeros ")?;
     text.extend_from_slice(buffer.format(matrix.nonzeros()).as_bytes())?;
     text.push(b'\n')?;

@@ -155,8 +155,27 @@ fn sign_and_test<'a, R: Threads + Sync>(
     let signing = signing_of(alloc, matrix)?;
     let asked = verdict_options(options);
     let tree = decomposed(rt, alloc, &asked, &signing.signed)?;
-    let told = report_tree(alloc, &asked, &signing.signed, &tree)?;
-    with_signing(alloc, options, matrix, signing, &tree, told)
+    report_signing(alloc, options, matrix, signing, &tree)
+}
+
+// The report of the tree of a signed matrix, with the files of the signing.
+fn report_signing<'a>(
+    alloc: Global,
+    options: &RegularOptions<'a>,
+    matrix: &Matrix,
+    signing: SignedMatrix,
+    tree: &DecTree,
+) -> Result<Outcome<'a>, Memory>
+    requires signed { IsSignedTo matrix.now signing.steps signing.signed }
+    requires few { length signing.steps ≤ height matrix.now * matrix.now.width }
+    requires steps { AllByRecursion (IsStepIn (height matrix.now) matrix.now.width) signing.steps }
+    requires tells { Tells signing.signed (verdict_in tree.now) }
+    ensures { IfOk result (λ outcome. outcome_report outcome
+        ≡ regular_report (regular_order_of options.now) matrix.now signing.steps signing.signed
+        tree.now) }
+{
+    let told = report_tree(alloc, &verdict_options(options), &signing.signed, tree)?;
+    with_signing(alloc, options, matrix, signing, tree, told)
 }
 
 // A signed matrix, and the steps that signed it.

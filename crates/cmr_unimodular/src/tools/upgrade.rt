@@ -114,7 +114,13 @@ fn upgrade_text<'a>(
         result }
 {
     let tree = read_tree_file(alloc, options.evidence, evidence)?;
-    Ok(upgraded(alloc, options.tree, &tree)?)
+    upgrade_tree(alloc, options.tree, &tree)
+}
+
+fn upgrade_tree<'a>(alloc: Global, name: &'a str, tree: &DecTree) -> Result<Outcome<'a>, Stop<'a>>
+    ensures { IsDecision (UpgradeDecides name.entry.now (plain_of tree.now)) result }
+{
+    Ok(upgraded(alloc, name, tree)?)
 }
 
 fn upgraded<'a>(alloc: Global, name: &'a str, tree: &DecTree) -> Result<Outcome<'a>, Memory>

@@ -1,8 +1,15 @@
+use Rattle.std.proofs.Common.{rules, subst}
 use Rattle.clap.specs.Words.{app_of, found_of, rows_of}
+use Rattle.cmr_front.specs.Words.Parsing.{matches_in}
+use Rattle.cmr_front.specs.Words.ReadWords.{Gives, ◌>>=◌}
 use Rattle.cmr_unimodular.specs.Generate.{generate_app, generate_order_in, generate_order_of, generate_order, generate_tool}
 use Rattle.cmr_front.proofs.Matches.{Gives-matches_in, as_defined}
 use Rattle.cmr_unimodular.proofs.tools.generate_tool.read_generate.Goals as goal
 use Rattle.cmr_unimodular.proofs.GenerateAnswers.{generate_order-ranges}
+
+pub returns-in_err-matches-clause-value : goal.returns-in_err-matches-clause-value
+returns-in_err-matches-clause-value c =
+    subst (λ app. Gives generate_order_of c.from_residual-in_err-matches.result (matches_in app c.args.words.now >>= generate_order_in)) c.in_ok-generate_command.ensures (search rules)
 
 pub returns-clause-value : goal.returns-clause-value
 returns-clause-value c =

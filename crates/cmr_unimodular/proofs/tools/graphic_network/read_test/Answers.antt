@@ -1,9 +1,16 @@
+use Rattle.std.proofs.Common.{rules, subst}
 use Rattle.clap.specs.Words.{app_of, found_of, rows_of}
+use Rattle.cmr_front.specs.Words.Parsing.{matches_with_input}
+use Rattle.cmr_front.specs.Words.ReadWords.{Gives, ◌>>=◌}
 use Rattle.cmr_unimodular.specs.GraphicNetwork.{test_app, test_order_in, test_order_of, test_order}
 use Rattle.cmr_front.proofs.Matches.{Gives-matches_with_input, as_defined}
 use Rattle.cmr_unimodular.proofs.tools.graphic_network.read_test.Goals as goal
 use Rattle.cmr_unimodular.specs.GraphMatrix.{test_tool}
 use Rattle.cmr_unimodular.proofs.GraphMatrixAnswers.{test_in_ranges}
+
+pub returns-in_err-matches-clause-value : goal.returns-in_err-matches-clause-value
+returns-in_err-matches-clause-value c =
+    subst (λ app. Gives test_order_of c.from_residual-in_err-matches.result (matches_with_input app c.args.words.now >>= test_order_in)) c.in_ok-test_command.ensures (search rules)
 
 pub returns-clause-value : goal.returns-clause-value
 returns-clause-value c =

@@ -1,17 +1,14 @@
-use Rattle.std.proofs.Common.{◌∙◌, ap, subst}
-use Rattle.cmr_unimodular.specs.Verdict.{IsDecomposition, IsTold, VerdictOrder, verdict_in, verdict_report}
+use Rattle.std.proofs.Common.{subst}
+use Rattle.cmr_unimodular.specs.Verdict.{IsDecomposition, IsTold, VerdictOrder, verdict_in}
 use Rattle.cmr_unimodular.specs.Regular.{regular_order_of}
 use Rattle.cmr_unimodular.proofs.RegularAnswers.{reported}
 use Rattle.cmr_unimodular.proofs.tools.regular.sign_and_test.Goals as goal
-
-pub with_signing-requires-clause-told : goal.with_signing-requires-clause-told
-with_signing-requires-clause-told g c = c.in_ok-told.ensures ∙ ap (λ o. verdict_report o c.in_ok-signing.signing.signed c.in_ok-tree.tree) c.verdict_options-asked.ensures.order
 
 pub returns : goal.returns
 returns g c =
     let signed = c.in_ok-signing.signing.signed in
     let tree = c.in_ok-tree.tree in
-    reported (regular_order_of c.args.options.now) c.args.matrix.now signed c.in_ok-signing.signing.steps tree c.with_signing.result c.in_ok-signing.ensures.signed
+    reported (regular_order_of c.args.options.now) c.args.matrix.now signed c.in_ok-signing.signing.steps tree c.report_signing.result c.in_ok-signing.ensures.signed
     (subst (λ (o : VerdictOrder). IsDecomposition o.lines o.pivots signed tree) c.verdict_options-asked.ensures.order c.in_ok-tree.ensures.decomposition)
     (subst (λ (o : VerdictOrder). IsTold o.lines signed (verdict_in tree)) c.verdict_options-asked.ensures.order c.in_ok-tree.ensures.told)
-    c.with_signing.ensures
+    c.report_signing.ensures

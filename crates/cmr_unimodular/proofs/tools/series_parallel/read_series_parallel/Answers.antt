@@ -1,7 +1,14 @@
+use Rattle.std.proofs.Common.{rules, subst}
 use Rattle.clap.specs.Words.{app_of, found_of, rows_of}
+use Rattle.cmr_front.specs.Words.Parsing.{matches_with_input}
+use Rattle.cmr_front.specs.Words.ReadWords.{Gives, ◌>>=◌}
 use Rattle.cmr_unimodular.specs.SeriesParallel.{series_parallel_app, series_parallel_order_in, series_parallel_order_of}
 use Rattle.cmr_front.proofs.Matches.{Gives-matches_with_input}
 use Rattle.cmr_unimodular.proofs.tools.series_parallel.read_series_parallel.Goals as goal
+
+pub returns-in_err-matches : goal.returns-in_err-matches
+returns-in_err-matches c =
+    subst (λ app. Gives series_parallel_order_of c.from_residual-in_err-matches.result (matches_with_input app c.args.words.now >>= series_parallel_order_in)) c.in_ok-series_parallel_command.ensures (search rules)
 
 pub returns : goal.returns
 returns c =

@@ -1,8 +1,15 @@
+use Rattle.std.proofs.Common.{rules, subst}
 use Rattle.clap.specs.Words.{app_of, found_of, rows_of}
+use Rattle.cmr_front.specs.Words.Parsing.{matches_with_input}
+use Rattle.cmr_front.specs.Words.ReadWords.{Gives, ◌>>=◌}
 use Rattle.cmr_unimodular.specs.Tu.{tu_app, tu_order_in, tu_order_of, tu_order, tu_tool}
 use Rattle.cmr_front.proofs.Matches.{Gives-matches_with_input, as_defined}
 use Rattle.cmr_unimodular.proofs.tools.tu.read_tu.Goals as goal
 use Rattle.cmr_unimodular.proofs.TuAnswers.{tu_order-ranges}
+
+pub returns-in_err-matches-clause-value : goal.returns-in_err-matches-clause-value
+returns-in_err-matches-clause-value c =
+    subst (λ app. Gives tu_order_of c.from_residual-in_err-matches.result (matches_with_input app c.args.words.now >>= tu_order_in)) c.in_ok-tu_command.ensures (search rules)
 
 pub returns-clause-value : goal.returns-clause-value
 returns-clause-value c =
