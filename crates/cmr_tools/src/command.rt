@@ -97,23 +97,23 @@ fn read_options<'a>(
     ensures ranges { IfOk result (λ command. (tool_of (order_of command)).InRanges) }
 {
     match name {
-        ToolName::Tu => Ok(Command::Tu(read_tu(alloc, words)?)),
-        ToolName::Regular => Ok(Command::Regular(read_regular(alloc, words)?)),
-        ToolName::SeriesParallel => Ok(Command::SeriesParallel(read_series_parallel(
-            alloc, words,
-        )?)),
+        ToolName::Tu => read_tu(alloc, words).map(Command::Tu),
+        ToolName::Regular => read_regular(alloc, words).map(Command::Regular),
+        ToolName::SeriesParallel => {
+            read_series_parallel(alloc, words).map(Command::SeriesParallel)
+        }
         ToolName::Test(property) => {
             let options = read_test(alloc, property, words)?;
             Ok(Command::Test(property, options))
         }
-        ToolName::Generate => Ok(Command::Generate(read_generate(alloc, words)?)),
-        ToolName::Check => Ok(Command::Check(read_check(alloc, words)?)),
-        ToolName::Upgrade => Ok(Command::Upgrade(read_upgrade(alloc, words)?)),
-        ToolName::Camion => Ok(Command::Camion(read_camion(alloc, words)?)),
-        ToolName::Sign => Ok(Command::Sign(read_sign(alloc, words)?)),
-        ToolName::Balanced => Ok(Command::Balanced(read_balanced(alloc, words)?)),
-        ToolName::Parts => Ok(Command::Parts(read_parts(alloc, words)?)),
-        ToolName::Compose => Ok(Command::Compose(read_compose(alloc, words)?)),
+        ToolName::Generate => read_generate(alloc, words).map(Command::Generate),
+        ToolName::Check => read_check(alloc, words).map(Command::Check),
+        ToolName::Upgrade => read_upgrade(alloc, words).map(Command::Upgrade),
+        ToolName::Camion => read_camion(alloc, words).map(Command::Camion),
+        ToolName::Sign => read_sign(alloc, words).map(Command::Sign),
+        ToolName::Balanced => read_balanced(alloc, words).map(Command::Balanced),
+        ToolName::Parts => read_parts(alloc, words).map(Command::Parts),
+        ToolName::Compose => read_compose(alloc, words).map(Command::Compose),
     }
 }
 
