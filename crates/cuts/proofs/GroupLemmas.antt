@@ -1,5 +1,5 @@
 -- Groups while they are found.
-use Rattle.std.proofs.Common.{Result, Ok, Err, IfOk, OnOk, ℕ, ◌+◌, Bool, true, false, cond, List, ◌≡◌, ◌<◌, ◌≤◌, ◌∙◌, sym, ap, arith, ◌⊎◌, inl, inr, get_or}
+use Rattle.std.proofs.Common.{Result, Ok, Err, IfOk, ℕ, ◌+◌, Bool, true, false, cond, List, ◌≡◌, ◌<◌, ◌≤◌, ◌∙◌, sym, ap, arith, ◌⊎◌, inl, inr, get_or}
 use Rattle.cmr_base.specs.declared.line.Line.{Line}
 use Rattle.cmr_base.specs.declared.line.Line.TheVariants.{Row, Column}
 use Rattle.cmr_base.specs.ColumnSets.{has_column}
@@ -8,7 +8,9 @@ use Rattle.cmr_base.specs.Separations.{Lines}
 use Rattle.cmr_base.proofs.Booleans.{not_both}
 use Rattle.cuts.specs.declared.groups.Groups.{Groups}
 use Rattle.cuts.specs.declared.line_words.LineWords.{LineWords}
-use Rattle.cuts.specs.Covers.{AddsAtMost, AreOnOneSide, AreWithin, Covers, GetName, words_set}
+use Rattle.cuts.specs.declared.sides.Side.{Side}
+use Rattle.cuts.specs.Covers.{AddsAtMost, AreOnOneSide, GetName, words_set}
+use Rattle.cuts.specs.CutSearches.{HasMarked}
 use Rattle.cuts.specs.LineCuts.{HoldTogether, IsCut, name_of}
 use Rattle.cuts.specs.WordSets.{as_set}
 use Rattle.cuts.proofs.CoverLemmas.{covers_less, covers_more, group_of_covers}
@@ -90,12 +92,16 @@ none_among lines rows columns (Row r) = rows r
 none_among lines rows columns (Column c) = columns c
 
 -- two searches: with the lines of a name in side one, and with these in side two
-pub covered_group : {E : Type 0} (m : Matrix) (groups : Groups) (name : ℕ) (line : Line) (none one group nothing first second more P1 P2 : Lines) (found : Result Bool E) → IsLineOf m line → HoldTogether (IsCut m) m groups → ((x : Line) → none x ≡ false)
-    → ((x : Line) → IsLineOf m x → one x ≡ true → (none x ≡ true) ⊎ (x ≡ line)) → ((x : Line) → IsLineOf m x → group x ≡ true → name_of m groups x ≡ name) → AreWithin m nothing none → AreWithin m first one → AreWithin m second group
-    → AddsAtMost m more first group → Covers m more nothing P1 → OnOk found (AreWithin m P1 P2) → IfOk found (λ covered. covered ≡ true → Covers m first second P2) → IfOk found (λ covered. covered ≡ true → AreOnOneSide m line P2)
-covered_group m groups name line none one group nothing first second more P1 P2 (Ok covered) lx together empty only named in_none in_one in_group adds h1 within h2 = λ e.
-    group_of_covers m groups name one group more none P2 line lx
-    (λ x l h. elim (only x l h) [ inl old ↦ absurd (not_both (none x) old (empty x)) | inr same ↦ same ])
-    together named (λ x l t. elim (adds x l t) [ inl old ↦ inl (in_one x l old) | inr new ↦ inr new ]) (λ x l. empty x)
-    (covers_less m more none P2 more nothing (λ x l t. t) in_none (covers_more m more nothing P1 P2 within h1)) (covers_less m one group P2 first second in_one in_group (h2 e))
-covered_group m groups name line none one group nothing first second more P1 P2 (Err e) lx together empty only named in_none in_one in_group adds h1 within h2 = h2
+pub covered_group : {E : Type 0} (m : Matrix) (groups : Groups) (name : ℕ) (line : Line) (group : Lines) (nothing first second more : Side) (before between after : LineWords) (covered : Bool) (found : Result Bool E) → IsLineOf m line
+    → HoldTogether (IsCut m) m groups → ((x : Line) → as_set nothing.lines x ≡ false) → ((x : Line) → IsLineOf m x → as_set first.lines x ≡ true → (as_set nothing.lines x ≡ true) ⊎ (x ≡ line))
+    → ((x : Line) → IsLineOf m x → group x ≡ true → name_of m groups x ≡ name) → AddsAtMost m (as_set more.lines) (as_set first.lines) group → AddsAtMost m (as_set second.lines) (as_set nothing.lines) group
+    → covered ≡ true → HasMarked m more nothing before between covered → IfOk found (HasMarked m first second between after) → IfOk found (λ covered. covered ≡ true → AreOnOneSide m line (as_set after))
+covered_group m groups name line group nothing first second more before between after covered (Ok last) lx together empty only named adds_more adds_second is h1 h2 = λ e.
+    group_of_covers m groups name (as_set first.lines) group (as_set more.lines) (as_set nothing.lines) (as_set after) line lx
+    (λ x l h. elim (only x l h) [ inl old ↦ absurd (not_both (as_set nothing.lines x) old (empty x)) | inr same ↦ same ])
+    together named adds_more (λ x l. empty x)
+    (covers_more m (as_set more.lines) (as_set nothing.lines) (as_set between) (as_set after) h2.more (h1.covers is))
+    (covers_less m (as_set first.lines) group (as_set after) (as_set first.lines) (as_set second.lines) (λ x l t. t)
+    (λ x l t. elim (adds_second x l t) [ inl old ↦ absurd (not_both (as_set nothing.lines x) old (empty x)) | inr new ↦ new ])
+    (h2.covers e))
+covered_group m groups name line group nothing first second more before between after covered (Err e) lx together empty only named adds_more adds_second is h1 h2 = h2

@@ -3,6 +3,7 @@ pub mod CutLemmas
 pub mod ClassLemmas
 pub mod CoverLemmas
 pub mod ForcedLemmas
+pub mod SearchSteps
 pub mod PatternLemmas
 pub mod SideLemmas
 pub mod GroupLemmas

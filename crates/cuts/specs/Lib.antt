@@ -4,4 +4,5 @@ pub mod Classes
 pub mod WordSets
 pub mod Patterns
 pub mod CutSides
+pub mod CutSearches
 pub mod Finders

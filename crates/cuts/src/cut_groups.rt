@@ -138,15 +138,13 @@ fn is_covered(
         → AreOnOneSide matrix.now line (as_set search.new.parted)) }
 {
     let depth = matrix.rows() + matrix.columns() + 2;
-    let none = LineWords::new(alloc, matrix)?;
-    let one = none.with_line(alloc, matrix, line)?;
+    let nothing = Side::empty(alloc, matrix)?;
+    let first = nothing.with_line(alloc, matrix, line)?;
     let group = groups.lines(alloc, matrix, name)?;
-    let nothing = Side::of(alloc, matrix, &none)?;
-    let first = Side::of(alloc, matrix, &one)?;
-    let second = Side::of(alloc, matrix, &group)?;
     let more = first.grown(alloc, matrix, &group)?;
     if !search.search(alloc, matrix, &more, &nothing, depth)? {
         return Ok(false);
     }
+    let second = nothing.grown(alloc, matrix, &group)?;
     search.search(alloc, matrix, &first, &second, depth)
 }

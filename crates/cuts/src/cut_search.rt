@@ -1,8 +1,8 @@
 // The lines that cuts part from some lines of side one.
-ghost use Rattle.std.specs.Prelude.{◌≡◌, true, IfOk, OnOk};
-ghost use Rattle.cuts.specs.Covers.{AreWithin, Covers};
-ghost use Rattle.cuts.specs.WordSets.{HasWords, as_set};
-ghost use Rattle.cuts.specs.CutSides.{HasNumbers};
+ghost use Rattle.std.specs.Prelude.{IfOk};
+ghost use Rattle.cuts.specs.CutSearches.{CanSearch, HasMarked};
+ghost use Rattle.cuts.specs.Patterns.{HasPatterns};
+ghost use Rattle.cuts.specs.WordSets.{HasWords};
 
 use crate::line_patterns::LinePatterns;
 use crate::line_words::LineWords;
@@ -24,6 +24,7 @@ pub struct CutSearch {
 impl CutSearch {
     /// Marks the lines of side two of each cut that has some lines in side one and some in side two, and says so; or gives
     /// up.
+    #[cycle(search)]
     pub fn search(
         &mut self,
         alloc: Global,
@@ -32,15 +33,9 @@ impl CutSearch {
         two: &Side,
         depth: u32,
     ) -> Result<bool, Memory>
-        requires parted { HasWords matrix.now self.old.parted }
-        requires one { HasNumbers matrix.now one.now }
-        requires two { HasNumbers matrix.now two.now }
-        ensures size { OnOk result (HasWords matrix.now self.new.parted) }
-        ensures more { OnOk result (AreWithin matrix.now (as_set self.old.parted)
-            (as_set self.new.parted)) }
-        ensures covers { IfOk result (λ covered. covered ≡ true
-            → Covers matrix.now (as_set one.now.lines) (as_set two.now.lines)
-            (as_set self.new.parted)) }
+        requires { CanSearch matrix.now self.old.parted one.now two.now }
+        ensures { IfOk result
+            (HasMarked matrix.now one.now two.now self.old.parted self.new.parted) }
     {
         if one.lines.meets(matrix, &two.lines) {
             return Ok(true);
@@ -58,6 +53,23 @@ impl CutSearch {
             return self.search(alloc, matrix, one, &more, depth - 1);
         }
         self.states -= 1;
+        self.search_state(alloc, matrix, one, two, depth - 1)
+    }
+
+    // The same of a state in which no line is forced. The searches that it begins have this depth.
+    #[cycle(search)]
+    fn search_state(
+        &mut self,
+        alloc: Global,
+        matrix: &RowsAndColumns<'_>,
+        one: &Side,
+        two: &Side,
+        depth: u32,
+    ) -> Result<bool, Memory>
+        requires { CanSearch matrix.now self.old.parted one.now two.now }
+        ensures { IfOk result
+            (HasMarked matrix.now one.now two.now self.old.parted self.new.parted) }
+    {
         let near = LinePatterns::of(alloc, matrix, one)?;
         if near.are_few(matrix, &one.lines) {
             return Ok(true);
@@ -70,29 +82,67 @@ impl CutSearch {
         if far.are_few(matrix, &two.lines) {
             return Ok(true);
         }
-        let least = least_heap(matrix, one, two, &near, &far);
+        self.search_halves(alloc, matrix, one, two, &near, &far, depth)
+    }
+
+    // The same by halves of the lines beside side one, or beside side two.
+    #[cycle(search)]
+    fn search_halves(
+        &mut self,
+        alloc: Global,
+        matrix: &RowsAndColumns<'_>,
+        one: &Side,
+        two: &Side,
+        near: &LinePatterns,
+        far: &LinePatterns,
+        depth: u32,
+    ) -> Result<bool, Memory>
+        requires sides { CanSearch matrix.now self.old.parted one.now two.now }
+        requires near { HasPatterns matrix.now one.now.lines near.now }
+        requires far { HasPatterns matrix.now two.now.lines far.now }
+        ensures { IfOk result
+            (HasMarked matrix.now one.now two.now self.old.parted self.new.parted) }
+    {
+        let least = least_heap(matrix, one, two, near, far);
         if let Some(halves) = near.halves(alloc, matrix, one, least)? {
-            if !self.search(alloc, matrix, &halves.one, two, depth - 1)? {
+            if !self.search(alloc, matrix, &halves.one, two, depth)? {
                 return Ok(false);
             }
-            return self.search(alloc, matrix, &halves.other, two, depth - 1);
+            return self.search(alloc, matrix, &halves.other, two, depth);
         }
         if let Some(halves) = far.halves(alloc, matrix, two, 0)? {
-            if !self.search(alloc, matrix, one, &halves.one, depth - 1)? {
+            if !self.search(alloc, matrix, one, &halves.one, depth)? {
                 return Ok(false);
             }
-            return self.search(alloc, matrix, one, &halves.other, depth - 1);
+            return self.search(alloc, matrix, one, &halves.other, depth);
         }
+        self.search_by_line(alloc, matrix, one, two, depth)
+    }
+
+    // The same with a line in side one, and then in side two.
+    #[cycle(search)]
+    fn search_by_line(
+        &mut self,
+        alloc: Global,
+        matrix: &RowsAndColumns<'_>,
+        one: &Side,
+        two: &Side,
+        depth: u32,
+    ) -> Result<bool, Memory>
+        requires { CanSearch matrix.now self.old.parted one.now two.now }
+        ensures { IfOk result
+            (HasMarked matrix.now one.now two.now self.old.parted self.new.parted) }
+    {
         let Some(line) = next_line(matrix, &one.lines, &two.lines, &self.parted) else {
             self.parted.add_rest(matrix, &one.lines);
             return Ok(true);
         };
         let more_one = one.with_line(alloc, matrix, line)?;
-        if !self.search(alloc, matrix, &more_one, two, depth - 1)? {
+        if !self.search(alloc, matrix, &more_one, two, depth)? {
             return Ok(false);
         }
         let more_two = two.with_line(alloc, matrix, line)?;
-        self.search(alloc, matrix, one, &more_two, depth - 1)
+        self.search(alloc, matrix, one, &more_two, depth)
     }
 }
 

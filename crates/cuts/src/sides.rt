@@ -31,19 +31,16 @@ pub struct Side {
 }
 
 impl Side {
-    /// Some lines.
-    pub fn of(alloc: Global, matrix: &RowsAndColumns<'_>, lines: &LineWords) -> Result<Side, Memory>
-        requires { HasWords matrix.now lines.now }
+    /// No lines.
+    pub fn empty(alloc: Global, matrix: &RowsAndColumns<'_>) -> Result<Side, Memory>
         ensures numbers { IfOk result (HasNumbers matrix.now) }
-        ensures lines { IfOk result (λ side. (x : Line) → IsLineOf matrix.now x
-            → as_set side.lines x ≡ true → as_set lines.now x ≡ true) }
+        ensures none { IfOk result (λ side. (x : Line) → as_set side.lines x ≡ false) }
     {
-        let none = Side {
+        Ok(Side {
             lines: LineWords::new(alloc, matrix)?,
             row_numbers: vec![in alloc; 0u64; matrix.rows() as usize]?,
             column_numbers: vec![in alloc; 0u64; matrix.columns() as usize]?,
-        };
-        none.grown(alloc, matrix, lines)
+        })
     }
 
     /// The lines and others.

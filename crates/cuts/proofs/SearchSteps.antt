@@ -1,0 +1,35 @@
+-- What a search does by other searches.
+use Rattle.std.proofs.Common.{Result, Ok, Err, IfOk, Bool, true, ◌≡◌}
+use Rattle.cmr_base.specs.Matrix.{Matrix}
+use Rattle.cmr_base.specs.Separations.{Lines}
+use Rattle.cuts.specs.declared.line_words.LineWords.{LineWords}
+use Rattle.cuts.specs.declared.sides.Side.{Side}
+use Rattle.cuts.specs.Covers.{Covers}
+use Rattle.cuts.specs.CutSearches.{HasMarked}
+use Rattle.cuts.specs.WordSets.{HasWords, as_set}
+use Rattle.cuts.proofs.CoverLemmas.{covers_more}
+
+-- from one state to another: what is marked then covers the first one where it covers the second
+abbrev pub Leads : Matrix → (from_one from_two to_one to_two : Side) → Type 0
+Leads m from_one from_two to_one to_two = (P : Lines) → Covers m (as_set from_one.lines) (as_set from_two.lines) P → Covers m (as_set to_one.lines) (as_set to_two.lines) P
+
+-- nothing is marked, since the lines are covered
+pub covered_at_once : (m : Matrix) (one two : Side) (parted : LineWords) → HasWords m parted → Covers m (as_set one.lines) (as_set two.lines) (as_set parted) → HasMarked m one two parted parted true
+covered_at_once m one two parted size covers = record { size = size; more = λ x l e. e; covers = λ e. covers }
+
+-- one state is searched in the place of another
+pub searched_as : {E : Type 0} (m : Matrix) (one two other_one other_two : Side) (before after : LineWords) (found : Result Bool E) → Leads m other_one other_two one two → IfOk found (HasMarked m other_one other_two before after)
+    → IfOk found (HasMarked m one two before after)
+searched_as m one two other_one other_two before after (Ok covered) leads h = record { size = h.size; more = h.more; covers = λ e. leads (as_set after) (h.covers e) }
+searched_as m one two other_one other_two before after (Err e) leads h = h
+
+-- two states are searched, one after the other
+pub searched_both : {E : Type 0} (m : Matrix) (one two first_one first_two second_one second_two : Side) (before between after : LineWords) (covered : Bool) (found : Result Bool E)
+    → ((P : Lines) → Covers m (as_set first_one.lines) (as_set first_two.lines) P → Covers m (as_set second_one.lines) (as_set second_two.lines) P → Covers m (as_set one.lines) (as_set two.lines) P)
+    → covered ≡ true → HasMarked m first_one first_two before between covered → IfOk found (HasMarked m second_one second_two between after) → IfOk found (HasMarked m one two before after)
+searched_both m one two first_one first_two second_one second_two before between after covered (Ok last) both is h1 h2 = record {
+  size = h2.size;
+  more = λ x l e. h2.more x l (h1.more x l e);
+  covers = λ e. both (as_set after) (covers_more m (as_set first_one.lines) (as_set first_two.lines) (as_set between) (as_set after) h2.more (h1.covers is)) (h2.covers e);
+}
+searched_both m one two first_one first_two second_one second_two before between after covered (Err e) both is h1 h2 = h2
