@@ -31,7 +31,7 @@ WITHIN = """\
     19 of at most  800 lines of a file of code
     36 of at most  100 characters of a line of a clause
      2 of at most   10 clauses of a function
-     2 of at most   51 lines of a body
+     2 of at most   40 lines of a body
      0 of at most   16 names of definitions in two crates
      0 of at most    0 modules of definitions with one name in two crates
 """
@@ -95,8 +95,8 @@ class SizesTest(ScriptTest):
         self.lists("    12 of at most   10 clauses of a function", "    crates/low/src/many.rt:15: more: 12")
 
     def test_long_bodies(self):
-        self.put("crates/low/src/long.rt", function("kept", [], 51) + function("long", ["    ensures { 1 }"], 52))
-        self.lists("    52 of at most   51 lines of a body", "    crates/low/src/long.rt:55: long: 52")
+        self.put("crates/low/src/long.rt", function("kept", [], 40) + function("long", ["    ensures { 1 }"], 41))
+        self.lists("    41 of at most   40 lines of a body", "    crates/low/src/long.rt:44: long: 41")
 
     def test_shared_names(self):
         """A root and laws may stand in each crate. A name in two files of one crate stands in one crate."""

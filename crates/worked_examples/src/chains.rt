@@ -53,7 +53,7 @@ fn checked(alloc: Global, matrix: &Matrix, text: &str) -> Result<Vec<u8>, Fail> 
 }
 
 #[test]
-fn checked_chains(rt: HostRuntime) -> Result<(), Fail> {
+fn chains_with_a_broken_part(rt: HostRuntime) -> Result<(), Fail> {
     let fano = binary(rt.alloc(), FANO)?;
     for (text, expected) in [
         (CHAIN, SIGNED_FANO),
@@ -84,6 +84,16 @@ fn checked_chains(rt: HostRuntime) -> Result<(), Fail> {
             "cmr-chain 1/3 4 9/free 1 1/free 1 2/free 1 4/free 2 1/forced 2 4 2 2 1 2 1 4/free 2 3/free 3 2/forced 3 3 3 3 1 2 3 1 2 3/forced 3 4 2 2 1 3 2 4/violator 2 2 1 3 2 4/",
             "broken 10/",
         ),
+    ] {
+        is_text(&rt, &checked(rt.alloc(), &fano, text)?, expected)?;
+    }
+    Ok(())
+}
+
+#[test]
+fn chains_of_other_sizes_or_of_few_steps(rt: HostRuntime) -> Result<(), Fail> {
+    let fano = binary(rt.alloc(), FANO)?;
+    for (text, expected) in [
         // Other sizes, no step, and a violator whose ones are not all signed.
         (
             "cmr-chain 1/3 5 9/free 1 1/free 1 2/free 1 4/free 2 1/forced 2 4 2 2 1 2 1 4/free 2 3/free 3 2/forced 3 3 3 3 1 2 3 1 2 3/forced 3 4 2 2 1 3 2 4/violator 2 2 2 3 3 4/",
