@@ -9,7 +9,7 @@ use Rattle.compose.specs.declared.sum_kind.SumKind.TheVariants as sums
 use Rattle.compose.specs.Arrangements.{arranged, three_arrangement, two_arrangement}
 use Rattle.compose.specs.SumKinds.{kind_of_form as sum_kind_of}
 use Rattle.compose.specs.RoundTrips.{IsRoundTrip}
-use Rattle.tree_text.specs.KindWords.{kind_of, word_of}
+use Rattle.tree_text.specs.KindWords.{kind_of, word_of_kind}
 use Rattle.tree_text.specs.TreeReading.{PlainTree}
 use Rattle.tree_type.specs.DecompositionTrees.{Finding, TwoSum, ThreeSum, finding_of}
 use Rattle.tree_type.specs.declared.refusal.Rule.{Rule}
@@ -89,7 +89,7 @@ said_refused output = record { status = answer_status Refused; output = output; 
 
 -- the word of what a root says
 abbrev pub root_word : Finding → List ℕ
-root_word finding = word_of (kind_of finding)
+root_word finding = word_of_kind (kind_of finding)
 
 -- the root says something else than a sum of two matrices
 abbrev pub other_root_report : List ℕ → Report

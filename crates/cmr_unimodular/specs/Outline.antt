@@ -6,7 +6,7 @@ use Rattle.cmr_base.specs.declared.line_set.LineSet.{LineSet}
 use Rattle.pivots.specs.declared.place.PlacedPivot.{PlacedPivot}
 use Rattle.tree_type.specs.Invariant.{IsTreeWithin, AreTreesWithin}
 use Rattle.tree_type.specs.DecompositionTrees.{Finding, Empty, Cycle, Reduced, OneSum, Network, Conetwork, R10, TwoSum, ThreeSum, Enumerated, Violator, Undecided, Pivoted, Tree, Trees, Branch, NoTrees, MoreTrees}
-use Rattle.tree_text.specs.KindWords.{kind_of, word_of}
+use Rattle.tree_text.specs.KindWords.{kind_of, word_of_kind}
 
 -- row I column J
 abbrev pub pivot_words : PlacedPivot → List ℕ
@@ -34,7 +34,7 @@ size_and_place lines finding = codes " " ++ decimal (length lines.rows) ++ codes
 
 -- the depth of a node, its kind, its size and the place of its pivot
 abbrev pub outline_line : ℕ → LineSet → Finding → List ℕ
-outline_line depth lines finding = decimal depth ++ codes " " ++ word_of (kind_of finding) ++ size_and_place lines finding
+outline_line depth lines finding = decimal depth ++ codes " " ++ word_of_kind (kind_of finding) ++ size_and_place lines finding
 
 abbrev mutual
   -- a node, and behind it the nodes below it

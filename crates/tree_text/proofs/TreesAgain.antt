@@ -43,7 +43,7 @@ use Rattle.tree_text.specs.declared.header.Version.{Version}
 use Rattle.tree_text.specs.declared.header.Version.TheVariants as version
 use Rattle.tree_text.specs.ReadFindings.{NodeFront}
 use Rattle.tree_text.specs.Versions.{title_word, title_in, title_of, version_word, version_in}
-use Rattle.tree_text.specs.KindWords.{word_of, kind_words, kind_among, has_word, kind_in, kind_of}
+use Rattle.tree_text.specs.KindWords.{word_of_kind, kind_words, kind_among, has_word, kind_in, kind_of}
 use Rattle.tree_text.specs.TreeValues.{limited, line_of, step_in}
 use Rattle.tree_text.specs.TreeReading.{Reader, rising_lines, line_set, another_pair, network, connector, two, three, pivot_place, own_part, front, another_tree, node, tree}
 use Rattle.tree_text.specs.CanonicalTrees.{number_of_line, line_name, set_words, pair_words, network_words, connector_words, own_words, line_for, front_lines, node_lines, forest_lines, is_pivot, has_pivot, have_pivot, version_of, tree_lines, tree_text}
@@ -185,7 +185,7 @@ module _ (sizes : Sizes) (few_rows : sizes.rows ≤ 1000) (few_columns : sizes.c
       counted (own_part sizes lines kind.Pivoted) (own_words (Pivoted place) trees) (Pivoted place) 1 (count_trees trees) e (again_wrap (pivot_place sizes lines) (λ (p : PlacedPivot). (Pivoted p, 1)) (own_words (Pivoted place) trees) place (place_again place fits.0 fits.1))
 
 -- each kind has a word
-word_among : (k : KindWord) → kind_among kind_words (word_of k) ≡ Ok k
+word_among : (k : KindWord) → kind_among kind_words (word_of_kind k) ≡ Ok k
 word_among kind.Empty = refl
 word_among kind.Cycle = refl
 word_among kind.Reduced = refl
@@ -204,7 +204,7 @@ word_among kind.Undecided = refl
 word_among kind.Pivoted = refl
 
 -- a version reads the words that it has
-kind_again : (v : Version) (k : KindWord) → has_word v k ≡ true → kind_in v (word_of k) ≡ Ok k
+kind_again : (v : Version) (k : KindWord) → has_word v k ≡ true → kind_in v (word_of_kind k) ≡ Ok k
 kind_again v k has = rw (word_among k, has) refl
 
 abbrev mutual
@@ -276,7 +276,7 @@ known tree = go (has_pivot tree) refl
 
 -- the words of a node and of those below it
 abbrev front_words : LineSet → Finding → Trees → List (List ℕ)
-front_words lines finding trees = word_of (kind_of finding) ∷ (set_words lines ++ own_words finding trees)
+front_words lines finding trees = word_of_kind (kind_of finding) ∷ (set_words lines ++ own_words finding trees)
 
 abbrev mutual
   node_words : Tree → List (List ℕ)
@@ -308,7 +308,7 @@ module _ (v : Version) (sizes : Sizes) (few_rows : sizes.rows ≤ 1000) (few_col
       let own = again_wrap (own_part sizes lines (kind_of finding)) (λ (own : Finding × ℕ). record { lines = lines; finding = own.0; children = own.1 }) (own_words finding trees) (finding, count_trees trees)
       (own_again sizes few_rows few_columns lines some.rows.rise some.columns.rise some.rows.below some.columns.below finding trees fits children) in
       let set = again_bind (line_set sizes parent) _ (set_words lines) (own_words finding trees) lines head (set_again sizes few_rows few_columns parent lines some) own in
-      again_bind (field Short (kind_in v)) _ (word_of (kind_of finding) ∷ []) (set_words lines ++ own_words finding trees) (kind_of finding) head (again_field Short (kind_in v) (word_of (kind_of finding)) (kind_of finding) (kind_again v (kind_of finding) has)) set
+      again_bind (field Short (kind_in v)) _ (word_of_kind (kind_of finding) ∷ []) (set_words lines ++ own_words finding trees) (kind_of finding) head (again_field Short (kind_in v) (word_of_kind (kind_of finding)) (kind_of finding) (kind_again v (kind_of finding) has)) set
 
   mutual
     node_again : (levels : ℕ) (parent : Option LineSet) (tree : Tree) (whole : LineSet) → IsKnown v tree → IsSome sizes parent (lines_at_root tree) → IsTreeWithin whole levels tree → Again (node header levels parent) (node_words tree) tree
@@ -339,7 +339,7 @@ mutual
   node_joined : (tree : Tree) → words_of_lines (node_lines tree) ≡ node_words tree
   node_joined (Branch lines finding trees) =
       flat_map-append (λ line. line) (front_lines (Branch lines finding trees)) (forest_lines trees)
-      ∙ ap₂ (λ (xs ys : List (List ℕ)). xs ++ ys) (ap (λ ws. (word_of (kind_of finding) ∷ set_words lines) ++ ws) (own_joined (own_words finding trees))) (forest_joined trees)
+      ∙ ap₂ (λ (xs ys : List (List ℕ)). xs ++ ys) (ap (λ ws. (word_of_kind (kind_of finding) ∷ set_words lines) ++ ws) (own_joined (own_words finding trees))) (forest_joined trees)
 
   forest_joined : (trees : Trees) → words_of_lines (forest_lines trees) ≡ forest_words trees
   forest_joined NoTrees = refl
@@ -352,7 +352,7 @@ AreWords words = AllByRecursion IsWord words
 plain_word : (b : ℕ) (bytes : List ℕ) → IsSolid (b ∷ bytes) → IsWord (b ∷ bytes)
 plain_word b bytes solid = record { first = b; others = bytes; word_is = refl; solid = solid }
 
-kind_word : (k : KindWord) → IsWord (word_of k)
+kind_word : (k : KindWord) → IsWord (word_of_kind k)
 kind_word kind.Empty = plain_word _ _ (refl, (refl, (refl, (refl, (refl, tt)))))
 kind_word kind.Cycle = plain_word _ _ (refl, (refl, (refl, (refl, (refl, tt)))))
 kind_word kind.Reduced = plain_word _ _ (refl, (refl, (refl, (refl, (refl, (refl, (refl, tt)))))))

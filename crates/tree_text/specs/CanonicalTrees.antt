@@ -11,7 +11,7 @@ use Rattle.tree_type.specs.DecompositionTrees.{Finding, Cycle, Reduced, OneSum, 
 use Rattle.tree_text.specs.declared.header.Version.{Version}
 use Rattle.tree_text.specs.declared.header.Version.TheVariants as version
 use Rattle.tree_text.specs.Versions.{title_word, title_of, version_word}
-use Rattle.tree_text.specs.KindWords.{word_of, kind_of}
+use Rattle.tree_text.specs.KindWords.{word_of_kind, kind_of}
 
 abbrev pub pair_words : Pair → List (List ℕ)
 pair_words pair = decimal pair.tail ∷ decimal pair.head ∷ []
@@ -45,7 +45,7 @@ own_text_line (Branch lines finding trees) = line_for (own_words finding trees)
 
 -- a line with the kind and the lines of a node, and one with its own part
 abbrev pub front_lines : Tree → List (List (List ℕ))
-front_lines (Branch lines finding trees) = (word_of (kind_of finding) ∷ set_words lines) ∷ own_text_line (Branch lines finding trees)
+front_lines (Branch lines finding trees) = (word_of_kind (kind_of finding) ∷ set_words lines) ∷ own_text_line (Branch lines finding trees)
 
 abbrev mutual
   -- a node's own lines, and those of its children

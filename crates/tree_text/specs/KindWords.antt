@@ -10,23 +10,23 @@ use Rattle.tree_text.specs.declared.kind_word.KindWord.TheVariants.{Empty, Cycle
 use Rattle.tree_text.specs.declared.header.Version.{Version}
 use Rattle.tree_text.specs.declared.header.Version.TheVariants as version
 
-abbrev pub word_of : KindWord → List ℕ
-word_of Empty = codes "empty"
-word_of Cycle = codes "cycle"
-word_of Reduced = codes "reduced"
-word_of OneSum = codes "onesum"
-word_of Network = codes "network"
-word_of Conetwork = codes "conetwork"
-word_of R10 = codes "r10"
-word_of TwoSum = codes "twosum"
-word_of (ThreeSum Delta) = codes "delta"
-word_of (ThreeSum YForm) = codes "y"
-word_of (ThreeSum Mixed) = codes "mixed"
-word_of (ThreeSum Concentrated) = codes "concentrated"
-word_of Enumerated = codes "enumerated"
-word_of Violator = codes "violator"
-word_of Undecided = codes "undecided"
-word_of Pivoted = codes "pivoted"
+abbrev pub word_of_kind : KindWord → List ℕ
+word_of_kind Empty = codes "empty"
+word_of_kind Cycle = codes "cycle"
+word_of_kind Reduced = codes "reduced"
+word_of_kind OneSum = codes "onesum"
+word_of_kind Network = codes "network"
+word_of_kind Conetwork = codes "conetwork"
+word_of_kind R10 = codes "r10"
+word_of_kind TwoSum = codes "twosum"
+word_of_kind (ThreeSum Delta) = codes "delta"
+word_of_kind (ThreeSum YForm) = codes "y"
+word_of_kind (ThreeSum Mixed) = codes "mixed"
+word_of_kind (ThreeSum Concentrated) = codes "concentrated"
+word_of_kind Enumerated = codes "enumerated"
+word_of_kind Violator = codes "violator"
+word_of_kind Undecided = codes "undecided"
+word_of_kind Pivoted = codes "pivoted"
 
 abbrev pub kind_words : List KindWord
 kind_words =
@@ -36,7 +36,7 @@ kind_words =
 -- the first of some kinds whose word it is
 abbrev pub kind_among : List KindWord → List ℕ → Result KindWord TreeKind
 kind_among [] word = Err UnknownKind
-kind_among (kind ∷ kinds) word = if bytes_eq word (word_of kind) then Ok kind else kind_among kinds word
+kind_among (kind ∷ kinds) word = if bytes_eq word (word_of_kind kind) then Ok kind else kind_among kinds word
 
 -- version 1 has no word for concentrated three-sums, and only texts of pivots have one for pivoted nodes
 abbrev pub has_word : Version → KindWord → Bool

@@ -1,7 +1,7 @@
 // The kinds of nodes and their words.
 ghost use Rattle.std.specs.Prelude.{◌≡◌};
 ghost use Rattle.tree_type.specs.DecompositionTrees.{tree_of, finding_of};
-ghost use Rattle.tree_text.specs.KindWords.{word_of, kind_among, has_word, kind_in, kind_of};
+ghost use Rattle.tree_text.specs.KindWords.{word_of_kind, kind_among, has_word, kind_in, kind_of};
 
 use crate::TreeKind;
 use crate::header::Version;
@@ -48,7 +48,7 @@ const KIND_WORDS: [KindWord; 16] = [
 
 /// The kind's word.
 pub fn word_of(kind: KindWord) -> &'static [u8]
-    ensures { result.now ≡ word_of kind }
+    ensures { result.now ≡ word_of_kind kind }
 {
     match kind {
         KindWord::Empty => b"empty",

@@ -6,7 +6,7 @@ ghost use Rattle.text_fields.specs.TextWords.{text_of};
 ghost use Rattle.text_fields.specs.Written.{with_word, with_line};
 ghost use Rattle.tree_type.specs.NodeCounts.{node_count};
 ghost use Rattle.tree_type.specs.DecompositionTrees.{tree_of, finding_of};
-ghost use Rattle.tree_text.specs.KindWords.{word_of, kind_of};
+ghost use Rattle.tree_text.specs.KindWords.{word_of_kind, kind_of};
 ghost use Rattle.tree_text.specs.TreeReading as reading;
 ghost use Rattle.tree_text.specs.CanonicalTrees.{number_of_line, line_name, set_words, pair_words, network_words, connector_words, line_for, own_text_line, front_lines, node_lines, tree_text};
 
@@ -92,7 +92,7 @@ fn write_front(alloc: Global, text: &mut Writer, node: &Node) -> Result<(), Memo
 
 fn write_first_line(text: &mut Writer, node: &Node) -> Result<(), Memory>
     requires { text.old.is_begun ≡ false }
-    ensures { OnOk result (text.new ≡ with_line text.old (word_of (kind_of (finding_of
+    ensures { OnOk result (text.new ≡ with_line text.old (word_of_kind (kind_of (finding_of
         (tree_of node.now)))
         ∷ set_words node.now.lines)) }
 {
