@@ -5,7 +5,7 @@ ghost use Rattle.cmr_base.specs.Matrix.{IsMatrix};
 ghost use Rattle.tree_type.specs.Invariant.{AreLines};
 ghost use Rattle.tree_type.specs.Findings.{finding_shown};
 ghost use Rattle.decomp_tree.specs.Seen.{keeps_free};
-ghost use Rattle.decomp_tree.specs.Fronts.{IsFront};
+ghost use Rattle.decomp_tree.specs.Fronts.{IsFrontOf};
 ghost use Rattle.decomp_tree.specs.Obstructions.{IsKnown};
 ghost use Rattle.decomp_tree.specs.Sketches.{Sketched, sketch_of, sketches_from, is_free_in, lines_of_sketch, IsDrafted, IsDraftedBehind};
 
@@ -99,7 +99,7 @@ fn front_of<R: Threads + Sync>(
     requires shape { IsMatrix matrix.now }
     requires lines { AreLines matrix.now lines.now }
     requires known { IsKnown matrix.now obstruction.now }
-    ensures { IfOk result (λ front. IsFront limits.limit matrix.now lines.now front.value) }
+    ensures { IfOk result (λ front. IsFrontOf limits.limit matrix.now lines.now front.value) }
 {
     let Seen { finding, children } = look(rt, alloc, matrix, lines, obstruction, limits)?;
     let front = Front {
