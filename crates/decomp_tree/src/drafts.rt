@@ -48,7 +48,7 @@ pub fn draft_root<R: Threads + Sync>(
     requires shape { IsMatrix matrix.now }
     requires lines { AreLines matrix.now lines.now }
     ensures lines { IfOk result (λ drawn. lines_of_sketch (sketch_of drawn) ≡ lines.now) }
-    ensures drafted { IfOk result (λ drawn. IsDrafted limits.limit matrix.now (sketch_of drawn)) }
+    ensures drafted { IfOk result (λ drawn. IsDrafted limits.lines matrix.now (sketch_of drawn)) }
 {
     let mut drafts = Vec::new(alloc);
     let unknown = Obstruction::unknown(matrix.by_rows());
@@ -74,7 +74,7 @@ pub fn draw<R: Threads + Sync>(
     requires lines { AreLines matrix.now lines.now }
     requires known { IsKnown matrix.now obstruction.now }
     requires sought { obstruction.now.sought ≤ 4000 }
-    ensures { OnOk result (IsDraftedBehind limits.limit matrix.now lines.now
+    ensures { OnOk result (IsDraftedBehind limits.lines matrix.now lines.now
         (map sketch_of drafts.old.items) (map sketch_of drafts.new.items)) }
 {
     let front = front_of(rt, alloc, matrix, lines, obstruction, limits)?;
@@ -99,7 +99,7 @@ fn front_of<R: Threads + Sync>(
     requires shape { IsMatrix matrix.now }
     requires lines { AreLines matrix.now lines.now }
     requires known { IsKnown matrix.now obstruction.now }
-    ensures { IfOk result (λ front. IsFrontOf limits.limit matrix.now lines.now front.value) }
+    ensures { IfOk result (λ front. IsFrontOf limits.lines matrix.now lines.now front.value) }
 {
     let Seen { finding, children } = look(rt, alloc, matrix, lines, obstruction, limits)?;
     let front = Front {

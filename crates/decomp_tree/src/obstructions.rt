@@ -175,8 +175,8 @@ fn obstruction_in(
         rows: middle_of(alloc, &lines.rows)?,
         columns: middle_of(alloc, &lines.columns)?,
     };
-    let inner = matrix.part(alloc, &middle)?;
-    if has_no_graphic_support(alloc, &inner)? {
+    let submatrix = matrix.part(alloc, &middle)?;
+    if has_no_graphic_support(alloc, &submatrix)? {
         return Ok(Obstruction {
             lines: Some(middle),
             sought: size,
