@@ -11,7 +11,7 @@ ghost use Rattle.decomp_tree.specs.Sketches.{Sketched, sketch_of, sketches_from,
 
 use crate::faults::keeps_free;
 use crate::looking::look;
-use crate::obstructions::Obstruction;
+use crate::obstructions::{MORE_LINES, Obstruction};
 use crate::search_limits::SearchLimits;
 use crate::seen::Seen;
 use cmr_base::{LineSet, LineSetList, Memory, RowsAndColumns};
@@ -73,7 +73,7 @@ pub fn draw<R: Threads + Sync>(
     requires shape { IsMatrix matrix.now }
     requires lines { AreLines matrix.now lines.now }
     requires known { IsKnown matrix.now obstruction.now }
-    requires sought { obstruction.now.sought ≤ 4000 }
+    requires sought { obstruction.now.sought ≤ MORE_LINES }
     ensures { OnOk result (IsDraftedBehind limits.lines matrix.now lines.now
         (map sketch_of drafts.old.items) (map sketch_of drafts.new.items)) }
 {
