@@ -26,13 +26,14 @@ impl Block {
 
 fn nothing() {}
 """
-WITHIN = """\
+SHARED = 20
+WITHIN = f"""\
      1 of at most  230 lines of README.md
     19 of at most  800 lines of a file of code
     36 of at most  100 characters of a line of a clause
      2 of at most   10 clauses of a function
      2 of at most   40 lines of a body
-     0 of at most   13 names of definitions in two crates
+     0 of at most {SHARED:4} names of definitions in two crates
      0 of at most    0 modules of definitions with one name in two crates
 """
 
@@ -40,6 +41,10 @@ WITHIN = """\
 def function(name, clauses, body):
     lines = [f"fn {name}()", *clauses, "{", *["    step();"] * body, "}"]
     return "\n".join(lines) + "\n"
+
+
+def kinds(count, before, after):
+    return "".join(f"{before} Kind{number} {after}" for number in range(count))
 
 
 class SizesTest(ScriptTest):
@@ -106,16 +111,33 @@ class SizesTest(ScriptTest):
         self.put("crates/low/specs/More.antt", "abbrev pub IsSum : ℕ → Type 0\npub record IsPart (n : ℕ) : Type 0 where\n")
         self.put("crates/low/specs/Sums.antt", "abbrev pub IsSum : ℕ → Type 0\n")
         self.test_counts_that_are_kept()
-        self.put("crates/high/specs/Sums.antt", "".join(f"pub data Kind{number} : Type 0 where\n" for number in range(14)))
-        self.put("crates/top/specs/Kinds.antt", "".join(f"abbrev pub Kind{number} : ℕ\n" for number in range(13)))
+        self.put("crates/high/specs/Sums.antt", kinds(SHARED + 1, "pub data", ": Type 0 where\n"))
+        self.put("crates/top/specs/Kinds.antt", kinds(SHARED, "abbrev pub", ": ℕ\n"))
         self.lists("     1 of at most    0 modules of definitions with one name in two crates", "    Sums: high, low")
         self.put("crates/high/specs/Totals.antt", "pub record IsSum (n : ℕ) : Type 0 where\n")
         self.lists(
-            "    14 of at most   13 names of definitions in two crates",
+            f"{SHARED + 1:6} of at most {SHARED:4} names of definitions in two crates",
             "    IsSum: high, low",
-            *(f"    Kind{number}: high, top" for number in sorted(range(13), key=str)),
+            *(f"    Kind{number}: high, top" for number in sorted(range(SHARED), key=str)),
             "     1 of at most    0 modules of definitions with one name in two crates",
             "    Sums: high, low",
+        )
+
+    def test_shared_names_further_in(self):
+        """A definition may stand within a module or among those that cite one another. Fields of records are none."""
+        records = kinds(SHARED, "  pub record", "(n : ℕ) : Type 0 where\n    pub count : ℕ\n\n")
+        self.put("crates/low/specs/Kinds.antt", f"module _ (m : ℕ) where\n{records}  abbrev pub nodes : ℕ\n")
+        self.put("crates/low/specs/Sums.antt", "pub record IsSum (n : ℕ) : Type 0 where\n  pub total : ℕ\n")
+        fields = "".join(f"  pub {name} : ℕ\n" for name in ("count", "total", "nodes"))
+        self.put("crates/top/specs/Views.antt", f"pub record IsView : Type 0 where\n{fields}")
+        self.put("crates/top/specs/Colours.antt", kinds(SHARED, "pub data", ": Type 0 where\n"))
+        self.put("crates/top/specs/Counts.antt", "abbrev mutual\n  pub depth : ℕ\n  depth = 0\n")
+        self.assertEqual(self.run_script("sizes", self.folder).returncode, 0)
+        self.put("crates/top/specs/Trees.antt", "abbrev mutual\n  pub nodes : ℕ\n  nodes = 0\n")
+        self.lists(
+            f"{SHARED + 1:6} of at most {SHARED:4} names of definitions in two crates",
+            *(f"    Kind{number}: low, top" for number in sorted(range(SHARED), key=str)),
+            "    nodes: low, top",
         )
 
 

@@ -7,7 +7,7 @@ use Rattle.cmr_base.specs.Splits.{Splits, IsFirstSplit}
 use Rattle.cmr_base.specs.Trees.{support}
 use Rattle.cmr_base.proofs.ListsWithout.{place_of, IsPlaceOf, place_is}
 use Rattle.cmr_base.proofs.Places.{each_more, found_at}
-use Rattle.bridge_split.specs.PartNumbers.{number_at, AreNumbered, HasPartRoom, IsSearching}
+use Rattle.bridge_split.specs.PartNumbers.{number_at, ArePartNumbers, HasPartRoom, IsSearching}
 use Rattle.bridge_split.proofs.NumberedParts.{linked_number}
 use Rattle.bridge_split.proofs.PartWalks.{same_number}
 
@@ -23,7 +23,7 @@ before_place xs p x h =
 
 module _ (M : ℕ → ℕ → Bool) (S : List ℕ) (rises : IsStrictlyIncreasing S) where
   -- a row with two parts or more splits
-  pub splits_two : (i : ℕ) (numbers : List (Option ℕ)) (count : ℕ) → AreNumbered M S i (number_at numbers) count → IsIn i S → 2 ≤ count → Splits M S i
+  pub splits_two : (i : ℕ) (numbers : List (Option ℕ)) (count : ℕ) → ArePartNumbers M S i (number_at numbers) count → IsIn i S → 2 ≤ count → Splits M S i
   splits_two i numbers count n hi l =
       let a = n.filled 0 (omega arith) in
       let b = n.filled 1 (omega arith) in
@@ -38,7 +38,7 @@ module _ (M : ℕ → ℕ → Bool) (S : List ℕ) (rises : IsStrictlyIncreasing
         apart = λ link. let e = same_number (number_at numbers b.0) 0 1 (sym (linked_number M S i rises numbers count n a.0 b.0 a.1 b.1 a.2 b.2 link) ∙ a.3) b.3 in omega arith;
       }
 
-  pub splits_none : (i : ℕ) (numbers : List (Option ℕ)) (count : ℕ) → AreNumbered M S i (number_at numbers) count → count < 2 → ¬ (Splits M S i)
+  pub splits_none : (i : ℕ) (numbers : List (Option ℕ)) (count : ℕ) → ArePartNumbers M S i (number_at numbers) count → count < 2 → ¬ (Splits M S i)
   splits_none i numbers count n l s =
       let a = n.numbered s.one s.one_in s.one_other in
       let b = n.numbered s.two s.two_in s.two_other in
@@ -61,7 +61,7 @@ module _ (M : ℕ → ℕ → Bool) (S : List ℕ) (rises : IsStrictlyIncreasing
       go q = none (place_of row S) (let m = q.in_range in omega arith) (subst (Splits M S) (sym q.there) s)
 
 module _ (m : Matrix) (S : List ℕ) (rises : IsStrictlyIncreasing S) where
-  pub searching_on : (p count : ℕ) (part part' : List (Option ℕ)) (seen seen' : List ℕ) → IsSearching m S p part seen → p < length S → HasPartRoom m part' seen' → AreNumbered (support m) S (get_or S p 0) (number_at part') count → count < 2
+  pub searching_on : (p count : ℕ) (part part' : List (Option ℕ)) (seen seen' : List ℕ) → IsSearching m S p part seen → p < length S → HasPartRoom m part' seen' → ArePartNumbers (support m) S (get_or S p 0) (number_at part') count → count < 2
       → IsSearching m S (p + 1) part' seen'
   searching_on p count part part' seen seen' w l room n few = record {
     room = room;

@@ -5,7 +5,7 @@ use Rattle.cmr_base.specs.Members.{IsIn}
 use Rattle.cmr_base.proofs.Members.{in-append, in_at}
 use Rattle.cmr_base.proofs.Places.{each_more}
 use Rattle.bridge_split.specs.declared.cuts.CutTable.{CutTable}
-use Rattle.bridge_split.specs.Forests.{depth_at, parent_at, joins, IsSquare, HasTreeRoom, IsSettled, IsGrowing, IsGrown, IsConflict, IsTwoColoured, IsReachingFrom, IsGrowingFrom, IsGrownTo}
+use Rattle.bridge_split.specs.Forests.{depth_at, parent_at, joins, IsSquare, HasTreeRoom, IsSettledPair, IsGrowingForest, IsGrownForest, IsConflict, IsTwoColoured, IsReachingFrom, IsGrowingFrom, IsGrownTo}
 use Rattle.bridge_split.specs.Forests.{Extends}
 use Rattle.bridge_split.proofs.GrowingLists.{extends_none, extends_more, extends_one, in_longer}
 use Rattle.bridge_split.proofs.CutTables.{disagree_back}
@@ -13,18 +13,18 @@ use Rattle.bridge_split.proofs.Forests.{was_reached, few_reached, root_reached, 
 
 module _ (table : CutTable) where
   -- the part at head, as the code reads it
-  pub part_low : (depths parents reached : List ℕ) (head part : ℕ) → IsGrowing (joins table) table.count (depth_at depths) (parent_at parents) reached head → head < length reached → part ≡ get_or reached head part → part < table.count
+  pub part_low : (depths parents reached : List ℕ) (head part : ℕ) → IsGrowingForest (joins table) table.count (depth_at depths) (parent_at parents) reached head → head < length reached → part ≡ get_or reached head part → part < table.count
   part_low depths parents reached head part w l e =
       subst (λ (v : ℕ). v < table.count) (sym (e ∙ get_or_default reached head part 0 l)) (w.are.inside (get_or reached head 0) (in_at reached head l))
 
-  pub depth_low : (depths parents reached : List ℕ) (head part depth : ℕ) → IsGrowing (joins table) table.count (depth_at depths) (parent_at parents) reached head → HasTreeRoom table.count depths parents → head < length reached
+  pub depth_low : (depths parents reached : List ℕ) (head part depth : ℕ) → IsGrowingForest (joins table) table.count (depth_at depths) (parent_at parents) reached head → HasTreeRoom table.count depths parents → head < length reached
       → part ≡ get_or reached head part → depth ≡ get_or depths part depth → depth ≤ head
   depth_low depths parents reached head part depth w room l e f =
       let m = part_low depths parents reached head part w l e in
       let g : depth ≡ depth_at depths (get_or reached head 0) = f ∙ get_or_default depths part depth 4294967295 (let r = room.depths_are in omega arith) ∙ ap (depth_at depths) (e ∙ get_or_default reached head part 0 l) in
       let h = w.are.low head l in omega arith
 
-  pub reaching_starts : (depths parents reached : List ℕ) (head part depth : ℕ) → IsGrowing (joins table) table.count (depth_at depths) (parent_at parents) reached head → HasTreeRoom table.count depths parents → head < length reached
+  pub reaching_starts : (depths parents reached : List ℕ) (head part depth : ℕ) → IsGrowingForest (joins table) table.count (depth_at depths) (parent_at parents) reached head → HasTreeRoom table.count depths parents → head < length reached
       → part ≡ get_or reached head part → depth ≡ get_or depths part depth → IsReachingFrom table reached depths parents reached head part depth 0
   reaching_starts depths parents reached head part depth w room l e f = record {
     room = room;
@@ -84,7 +84,7 @@ module _ (table : CutTable) where
       depth_is = w.depth_is;
     })
       where
-        settled : (far : ℕ) × (far ≡ get_or depths upto far) × (far ≢ 4294967295) × (far % 2 ≢ depth % 2) × (upto < table.count) → IsSettled (joins table) table.count (depth_at depths) reached (get_or reached head 0) upto
+        settled : (far : ℕ) × (far ≡ get_or depths upto far) × (far ≢ 4294967295) × (far % 2 ≢ depth % 2) × (upto < table.count) → IsSettledPair (joins table) table.count (depth_at depths) reached (get_or reached head 0) upto
         settled (far, f, some, parity, inside) =
             let e : far ≡ depth_at depths upto = f ∙ get_or_default depths upto far 4294967295 (let r = w.room.depths_are in omega arith) in
             record {
@@ -92,7 +92,7 @@ module _ (table : CutTable) where
               parity = λ n. parity (ap (λ (v : ℕ). v % 2) e ∙ n ∙ ap (λ (v : ℕ). v % 2) (ap (depth_at depths) w.part_is ∙ w.depth_is));
             }
 
-    pub reaching_ends : table.count ≤ upto → IsGrowing (joins table) table.count (depth_at depths) (parent_at parents) reached (head + 1)
+    pub reaching_ends : table.count ≤ upto → IsGrowingForest (joins table) table.count (depth_at depths) (parent_at parents) reached (head + 1)
     reaching_ends l = rw (add-one head) (head_settled (joins table) table.count (depth_at depths) (parent_at parents) reached head upto w.reaching head_now l)
 
     pub reaching_conflict : (far : ℕ) → upto < table.count → upto ≢ part → joins table part upto ≡ true → far ≡ get_or depths upto far → far ≢ 4294967295 → far % 2 ≡ depth % 2
@@ -107,7 +107,7 @@ module _ (table : CutTable) where
   -- ---- a tree
 
   pub growing_starts : (depths parents reached depths' parents' reached' : List ℕ) (start : ℕ) → IsSquare table → HasTreeRoom table.count depths parents → start < table.count → depth_at depths start ≡ 4294967295
-      → IsGrown (joins table) table.count (depth_at depths) (parent_at parents) reached → depths' ≡ set depths start 0 → parents' ≡ set parents start start → reached' ≡ reached ++ start ∷ []
+      → IsGrownForest (joins table) table.count (depth_at depths) (parent_at parents) reached → depths' ≡ set depths start 0 → parents' ≡ set parents start start → reached' ≡ reached ++ start ∷ []
       → IsGrowingFrom table reached depths' parents' reached' start (length reached)
   growing_starts depths parents reached depths' parents' reached' start square room inside none w p q r = rw (p, q, r) (record {
     room = record { depths_are = length-set depths start 0 ∙ room.depths_are; parents_are = length-set parents start start ∙ room.parents_are };
@@ -119,7 +119,7 @@ module _ (table : CutTable) where
   })
 
   module _ (before depths parents reached : List ℕ) (start head : ℕ) (w : IsGrowingFrom table before depths parents reached start head) where
-    pub growing_on : (depths' parents' reached' : List ℕ) → HasTreeRoom table.count depths' parents' → Extends reached reached' → IsGrowing (joins table) table.count (depth_at depths') (parent_at parents') reached' (head + 1)
+    pub growing_on : (depths' parents' reached' : List ℕ) → HasTreeRoom table.count depths' parents' → Extends reached reached' → IsGrowingForest (joins table) table.count (depth_at depths') (parent_at parents') reached' (head + 1)
         → IsGrowingFrom table before depths' parents' reached' start (head + 1)
     growing_on depths' parents' reached' room extends growing = record {
       room = room;
@@ -131,7 +131,7 @@ module _ (table : CutTable) where
     pub growing_few : length reached ≤ table.count
     growing_few = few_reached (joins table) table.count (depth_at depths) (parent_at parents) reached w.growing.are
 
-    pub growing_ends : length reached ≤ head → IsGrown (joins table) table.count (depth_at depths) (parent_at parents) reached
+    pub growing_ends : length reached ≤ head → IsGrownForest (joins table) table.count (depth_at depths) (parent_at parents) reached
     growing_ends l = tree_grown (joins table) table.count (depth_at depths) (parent_at parents) reached head w.growing l
 
   -- ---- all trees
@@ -154,7 +154,7 @@ module _ (table : CutTable) where
           (λ n. some (f ∙ get_or_default depths place far 4294967295 (let r = w.room.depths_are in omega arith) ∙ n)));
     })
 
-    pub grown_more : (depths' parents' reached' : List ℕ) → HasTreeRoom table.count depths' parents' → Extends reached reached' → IsIn place reached' → IsGrown (joins table) table.count (depth_at depths') (parent_at parents') reached'
+    pub grown_more : (depths' parents' reached' : List ℕ) → HasTreeRoom table.count depths' parents' → Extends reached reached' → IsIn place reached' → IsGrownForest (joins table) table.count (depth_at depths') (parent_at parents') reached'
         → IsGrownTo table depths' parents' reached' (place + 1)
     grown_more depths' parents' reached' room extends here grown = record {
       room = room;

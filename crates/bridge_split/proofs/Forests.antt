@@ -8,16 +8,16 @@ use Rattle.cmr_base.proofs.ListsWithout.{place_of, IsPlaceOf, place_is}
 use Rattle.cmr_base.proofs.Members.{distinct_few, in-append, in_at}
 use Rattle.cmr_base.proofs.RowLists.{in_or_not, not_both, is_eq, is_ne}
 use Rattle.cmr_base.proofs.Lists.{length-more}
-use Rattle.bridge_split.specs.Forests.{AreReached, IsSettled, AreSettled, IsGrowing, IsGrown, IsReaching, IsConflict, IsTwoColoured}
+use Rattle.bridge_split.specs.Forests.{IsForest, IsSettledPair, AreSettledPairs, IsGrowingForest, IsGrownForest, IsReachingForest, IsConflict, IsTwoColoured}
 use Rattle.bridge_split.proofs.GrowingLists.{once-append}
 
 module _ (D : ℕ → ℕ → Bool) (count : ℕ) where
   -- no more are reached than there are
-  pub few_reached : (depth parent : ℕ → ℕ) (reached : List ℕ) → AreReached D count depth parent reached → length reached ≤ count
+  pub few_reached : (depth parent : ℕ → ℕ) (reached : List ℕ) → IsForest D count depth parent reached → length reached ≤ count
   few_reached depth parent reached are = distinct_few count reached are.once are.inside
 
   -- what was not reached, and what was
-  pub not_reached : (depth parent : ℕ → ℕ) (reached : List ℕ) (x : ℕ) → AreReached D count depth parent reached → depth x ≡ 4294967295 → ¬ (IsIn x reached)
+  pub not_reached : (depth parent : ℕ → ℕ) (reached : List ℕ) (x : ℕ) → IsForest D count depth parent reached → depth x ≡ 4294967295 → ¬ (IsIn x reached)
   not_reached depth parent reached x are e h = go (place_is x reached h)
     where
       go : IsPlaceOf x reached (place_of x reached) → ⊥
@@ -28,10 +28,10 @@ module _ (D : ℕ → ℕ → Bool) (count : ℕ) where
           let s = few_reached depth parent reached are in
           let k = are.few in omega arith
 
-  pub was_reached : (depth parent : ℕ → ℕ) (reached : List ℕ) (x : ℕ) → AreReached D count depth parent reached → depth x ≢ 4294967295 → IsIn x reached
+  pub was_reached : (depth parent : ℕ → ℕ) (reached : List ℕ) (x : ℕ) → IsForest D count depth parent reached → depth x ≢ 4294967295 → IsIn x reached
   was_reached depth parent reached x are n = elim (in_or_not x reached) [ inl h ↦ h | inr m ↦ absurd (n (are.unreached x m)) ]
 
-  module _ (depth parent : ℕ → ℕ) (reached : List ℕ) (are : AreReached D count depth parent reached) (x k d : ℕ) (depth' parent' : ℕ → ℕ)
+  module _ (depth parent : ℕ → ℕ) (reached : List ℕ) (are : IsForest D count depth parent reached) (x k d : ℕ) (depth' parent' : ℕ → ℕ)
       (inside : x < count) (none : depth x ≡ 4294967295) (now : depth' x ≡ d) (same : (z : ℕ) → z ≢ x → depth' z ≡ depth z) (now_up : parent' x ≡ k) (same_up : (z : ℕ) → z ≢ x → parent' z ≡ parent z) where
     new : ¬ (IsIn x reached)
     new = not_reached depth parent reached x are none
@@ -51,13 +51,13 @@ module _ (D : ℕ → ℕ → Bool) (count : ℕ) where
     len : length (reached ++ x ∷ []) ≡ suc (length reached)
     len = length-more reached x
 
-    still_settled : (a y : ℕ) → IsIn a reached → IsSettled D count depth reached a y → IsSettled D count depth' (reached ++ x ∷ []) a y
+    still_settled : (a y : ℕ) → IsIn a reached → IsSettledPair D count depth reached a y → IsSettledPair D count depth' (reached ++ x ∷ []) a y
     still_settled a y h s = record { there = there y (inl s.there); parity = λ e. s.parity (ap (λ (v : ℕ). v % 2) (sym (old y s.there)) ∙ e ∙ ap (λ (v : ℕ). v % 2) (old a h)) }
 
-    all_settled : (head : ℕ) → head ≤ length reached → AreSettled D count depth reached head → AreSettled D count depth' (reached ++ x ∷ []) head
+    all_settled : (head : ℕ) → head ≤ length reached → AreSettledPairs D count depth reached head → AreSettledPairs D count depth' (reached ++ x ∷ []) head
     all_settled head l settled p y m inside n e =
         let q = at_place p (omega arith) in
-        subst (λ (a : ℕ). IsSettled D count depth' (reached ++ x ∷ []) a y) (sym q)
+        subst (λ (a : ℕ). IsSettledPair D count depth' (reached ++ x ∷ []) a y) (sym q)
         (still_settled (get_or reached p 0) y (in_at reached p (omega arith))
         (settled p y m inside (λ f. n (q ∙ f)) (subst (λ (a : ℕ). D a y ≡ true) q e)))
 
@@ -74,7 +74,7 @@ module _ (D : ℕ → ℕ → Bool) (count : ℕ) where
       unfolding root'
       root_same z n = ap (λ (t : Bool). cond t r (are.root z)) (is_ne z x n)
 
-      pub reach_more : (w : AreReached D count depth' parent' (reached ++ x ∷ [])) × (w.root x ≡ r) × ((z : ℕ) → IsIn z reached → w.root z ≡ are.root z)
+      pub reach_more : (w : IsForest D count depth' parent' (reached ++ x ∷ [])) × (w.root x ≡ r) × ((z : ℕ) → IsIn z reached → w.root z ≡ are.root z)
       reach_more = (
         record {
           root = root';
@@ -115,7 +115,7 @@ module _ (D : ℕ → ℕ → Bool) (count : ℕ) where
               (there k (inl u.0), now ∙ u.1 ∙ ap suc (sym (old k u.0)), u.2, root_now ∙ u.3 ∙ sym (root_same k (other_than k u.0))))
 
     -- a root
-    pub root_reached : d ≡ 0 → AreSettled D count depth reached (length reached) → IsGrowing D count depth' parent' (reached ++ x ∷ []) (length reached)
+    pub root_reached : d ≡ 0 → AreSettledPairs D count depth reached (length reached) → IsGrowingForest D count depth' parent' (reached ++ x ∷ []) (length reached)
     root_reached e settled =
         let more = reach_more x (omega arith) (λ f. refl) (λ l. absurd (omega arith)) in
         record {
@@ -130,10 +130,10 @@ module _ (D : ℕ → ℕ → Bool) (count : ℕ) where
 
   -- ---- in the middle of the numbers joined to the one at head
 
-  module _ (depth parent : ℕ → ℕ) (reached : List ℕ) (head upto : ℕ) (w : IsReaching D count depth parent reached head upto) (l : head < length reached) where
+  module _ (depth parent : ℕ → ℕ) (reached : List ℕ) (head upto : ℕ) (w : IsReachingForest D count depth parent reached head upto) (l : head < length reached) where
     -- one more is reached
     pub joined_reached : (k d : ℕ) (depth' parent' : ℕ → ℕ) → upto < count → depth upto ≡ 4294967295 → depth' upto ≡ d → ((z : ℕ) → z ≢ upto → depth' z ≡ depth z) → parent' upto ≡ k → ((z : ℕ) → z ≢ upto → parent' z ≡ parent z)
-        → k ≡ get_or reached head 0 → d ≡ suc (depth k) → D upto k ≡ true → IsReaching D count depth' parent' (reached ++ upto ∷ []) head (suc upto)
+        → k ≡ get_or reached head 0 → d ≡ suc (depth k) → D upto k ≡ true → IsReachingForest D count depth' parent' (reached ++ upto ∷ []) head (suc upto)
     joined_reached k d depth' parent' inside none now same now_up same_up k_is d_is join =
         let are = w.growing.are in
         let kin : IsIn k reached = subst (λ (v : ℕ). IsIn v reached) (sym k_is) (in_at reached head l) in
@@ -155,7 +155,7 @@ module _ (D : ℕ → ℕ → Bool) (count : ℕ) where
           };
           so_far = λ y m n e.
               let f = at head l in
-              subst (λ (a : ℕ). IsSettled D count depth' (reached ++ upto ∷ []) a y) (sym f) (elim (cases_lt y upto) [
+              subst (λ (a : ℕ). IsSettledPair D count depth' (reached ++ upto ∷ []) a y) (sym f) (elim (cases_lt y upto) [
                 | inl lt ↦ still_settled depth parent reached are upto k d depth' parent' inside none now same now_up same_up (get_or reached head 0) y (in_at reached head l)
                     (w.so_far y lt (λ g. n (f ∙ g)) (subst (λ (a : ℕ). D a y ≡ true) f e))
                 | inr ge ↦
@@ -170,7 +170,7 @@ module _ (D : ℕ → ℕ → Bool) (count : ℕ) where
         odd n e = omega arith
 
     -- one that is not joined, or is settled
-    pub passes : (get_or reached head 0 ≡ upto) ⊎ ((D (get_or reached head 0) upto ≡ false) ⊎ IsSettled D count depth reached (get_or reached head 0) upto) → IsReaching D count depth parent reached head (suc upto)
+    pub passes : (get_or reached head 0 ≡ upto) ⊎ ((D (get_or reached head 0) upto ≡ false) ⊎ IsSettledPair D count depth reached (get_or reached head 0) upto) → IsReachingForest D count depth parent reached head (suc upto)
     passes h = record {
       growing = w.growing;
       so_far = λ y m n e. elim (cases_lt y upto) [
@@ -181,21 +181,21 @@ module _ (D : ℕ → ℕ → Bool) (count : ℕ) where
               | inl f ↦ absurd (n (f ∙ q))
               | inr g ↦ elim g [
                 | inl f ↦ absurd (not_both (D (get_or reached head 0) y) e (ap (D (get_or reached head 0)) (sym q) ∙ f))
-                | inr s ↦ subst (IsSettled D count depth reached (get_or reached head 0)) q s
+                | inr s ↦ subst (IsSettledPair D count depth reached (get_or reached head 0)) q s
               ]
             ]
       ];
     }
 
     -- all are settled
-    pub head_settled : count ≤ upto → IsGrowing D count depth parent reached (suc head)
+    pub head_settled : count ≤ upto → IsGrowingForest D count depth parent reached (suc head)
     head_settled m = record {
       are = w.growing.are;
       settled = λ p y k inside n e. elim (cases_lt p head) [
         | inl lt ↦ w.growing.settled p y lt inside n e
         | inr ge ↦
             let q : head ≡ p = omega arith in
-            subst (λ (v : ℕ). IsSettled D count depth reached (get_or reached v 0) y) q
+            subst (λ (v : ℕ). IsSettledPair D count depth reached (get_or reached v 0) y) q
             (w.so_far y (omega arith) (λ f. n (ap (λ (v : ℕ). get_or reached v 0) (sym q) ∙ f)) (ap (λ (v : ℕ). D (get_or reached v 0) y) q ∙ e))
       ];
       origin = w.growing.origin;
@@ -226,7 +226,7 @@ module _ (D : ℕ → ℕ → Bool) (count : ℕ) where
 
   -- ---- from tree to tree
 
-  pub none_reached : (depth parent : ℕ → ℕ) → count ≤ 1000 → ((x : ℕ) → depth x ≡ 4294967295) → IsGrown D count depth parent []
+  pub none_reached : (depth parent : ℕ → ℕ) → count ≤ 1000 → ((x : ℕ) → depth x ≡ 4294967295) → IsGrownForest D count depth parent []
   none_reached depth parent few free = record {
     are = record {
       root = λ x. x;
@@ -241,10 +241,10 @@ module _ (D : ℕ → ℕ → Bool) (count : ℕ) where
     settled = λ p y l. absurd (omega arith);
   }
 
-  pub tree_grown : (depth parent : ℕ → ℕ) (reached : List ℕ) (head : ℕ) → IsGrowing D count depth parent reached head → length reached ≤ head → IsGrown D count depth parent reached
+  pub tree_grown : (depth parent : ℕ → ℕ) (reached : List ℕ) (head : ℕ) → IsGrowingForest D count depth parent reached head → length reached ≤ head → IsGrownForest D count depth parent reached
   tree_grown depth parent reached head w l = record { are = w.are; settled = λ p y m. w.settled p y (omega arith) }
 
-  pub all_grown : (depth parent : ℕ → ℕ) (reached : List ℕ) → IsGrown D count depth parent reached → ((x : ℕ) → x < count → IsIn x reached) → IsTwoColoured D count depth
+  pub all_grown : (depth parent : ℕ → ℕ) (reached : List ℕ) → IsGrownForest D count depth parent reached → ((x : ℕ) → x < count → IsIn x reached) → IsTwoColoured D count depth
   all_grown depth parent reached w all = record { parity = λ x y lx ly n e. go x y ly n e (place_is x reached (all x lx)) }
     where
       go : (x y : ℕ) → y < count → x ≢ y → D x y ≡ true → IsPlaceOf x reached (place_of x reached) → depth y % 2 ≢ depth x % 2

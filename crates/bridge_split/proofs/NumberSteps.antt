@@ -7,7 +7,7 @@ use Rattle.cmr_base.specs.Members.{IsIn}
 use Rattle.cmr_base.specs.Trees.{support}
 use Rattle.cmr_base.proofs.Places.{more_placed}
 use Rattle.cmr_base.specs.ColumnSets.{has_column}
-use Rattle.bridge_split.specs.PartNumbers.{number_at, HasPartRoom, KeepsParts, IsLeft, IsTouched, IsBetween, ArePassed, IsMeeting, IsWalkingFrom}
+use Rattle.bridge_split.specs.PartNumbers.{number_at, HasPartRoom, KeepsParts, IsLeft, IsTouched, IsBetween, ArePassedRows, IsMeeting, IsWalkingFrom}
 use Rattle.bridge_split.proofs.PartWalks.{kept, meets, one_less_left, starts}
 
 module _ (m : Matrix) (S : List ℕ) (i number x : ℕ) (part part' : List (Option ℕ)) (reached reached' : List ℕ) (hx : IsIn x S) (low : x < height m) (left : IsLeft i (number_at part) x)
@@ -30,7 +30,7 @@ module _ (m : Matrix) (S : List ℕ) (i number x : ℕ) (part part' : List (Opti
     few = let f = w.few in omega arith;
   }
 
-  pub starts_from : (place : ℕ) → IsStrictlyIncreasing S → IsBetween (support m) S i (number_at part) number → place < length S → x ≡ get_or S place 0 → ArePassed (support m) S i (number_at part) place → number < 1000
+  pub starts_from : (place : ℕ) → IsStrictlyIncreasing S → IsBetween (support m) S i (number_at part) number → place < length S → x ≡ get_or S place 0 → ArePassedRows (support m) S i (number_at part) place → number < 1000
       → HasPartRoom m part' reached' → ((c : ℕ) → has_column reached' c ≡ (support m x c && not (support m i c))) → IsWalkingFrom m S i number x part part' reached' 1
   starts_from place rises b inside at before few room' more = record {
     room = room';
@@ -53,8 +53,8 @@ passes_one m S i number before part reached met place w free = record {
 }
 
 -- the rows up to a place more were met
-pub passed_more : (M : ℕ → ℕ → Bool) (S : List ℕ) (i place : ℕ) (part part' : ℕ → Option ℕ) → ArePassed M S i part place → KeepsParts part part' → (get_or S place 0 ≡ i) ⊎ ((a : ℕ) × (part' (get_or S place 0) ≡ Some a))
-    → ArePassed M S i part' (place + 1)
+pub passed_more : (M : ℕ → ℕ → Bool) (S : List ℕ) (i place : ℕ) (part part' : ℕ → Option ℕ) → ArePassedRows M S i part place → KeepsParts part part' → (get_or S place 0 ≡ i) ⊎ ((a : ℕ) × (part' (get_or S place 0) ≡ Some a))
+    → ArePassedRows M S i part' (place + 1)
 passed_more M S i place part part' before keeps here = record {
   passed = more_placed (λ x. (x ≡ i) ⊎ ((a : ℕ) × (part' x ≡ Some a))) S place (λ p l. elim (before.passed p l) [ inl e ↦ inl e | inr f ↦ inr (f.0, keeps (get_or S p 0) f.0 f.1) ]) here;
 }

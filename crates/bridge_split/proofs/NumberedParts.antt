@@ -10,7 +10,7 @@ use Rattle.cmr_base.proofs.ListsWithout.{place_of, IsPlaceOf, place_is}
 use Rattle.cmr_base.proofs.Members.{in_at, some_in}
 use Rattle.cmr_base.proofs.Submatrices.{increasing_places}
 use Rattle.cmr_base.proofs.RowLists.{is_eq, filter_in, in_filter}
-use Rattle.bridge_split.specs.PartNumbers.{is_number, number_at, numbered_rows, numbered_parts, AreNumbered}
+use Rattle.bridge_split.specs.PartNumbers.{is_number, number_at, numbered_rows, numbered_parts, ArePartNumbers}
 use Rattle.bridge_split.proofs.Links.{joined_off}
 use Rattle.bridge_split.proofs.PartWalks.{same_number, no_number}
 
@@ -32,7 +32,7 @@ first_least xs rises x h = go (place_is x xs h)
       | inr n ↦ let l = increasing_places xs 0 (place_of x xs) rises (omega arith) p.in_range in let f = p.there in omega arith
     ]
 
-module _ (M : ℕ → ℕ → Bool) (S : List ℕ) (i : ℕ) (rises : IsStrictlyIncreasing S) (numbers : List (Option ℕ)) (count : ℕ) (n : AreNumbered M S i (number_at numbers) count) where
+module _ (M : ℕ → ℕ → Bool) (S : List ℕ) (i : ℕ) (rises : IsStrictlyIncreasing S) (numbers : List (Option ℕ)) (count : ℕ) (n : ArePartNumbers M S i (number_at numbers) count) where
   -- rows of one part have one number
   pub linked_number : (j k : ℕ) → IsIn j S → IsIn k S → j ≢ i → k ≢ i → AreLinked M S i j k → number_at numbers j ≡ number_at numbers k
   linked_number j k hj hk nj nk (rows, e) = go j rows hj nj e

@@ -9,7 +9,7 @@ use Rattle.cmr_base.proofs.Places.{found_at}
 use Rattle.cmr_base.proofs.RowLists.{not_both}
 use Rattle.cmr_base.proofs.Submatrices.{increasing_places}
 use Rattle.cmr_base.proofs.Booleans.{and_is, is_and, is_not, not_is, or_is, or_left, or_right}
-use Rattle.bridge_split.specs.PartNumbers.{is_none, left_in, KeepsParts, IsPast, AreNumbered, AreMet, AreClosed, IsWalking, IsBetween, ArePassed, IsTouched}
+use Rattle.bridge_split.specs.PartNumbers.{is_none, left_in, KeepsParts, IsPast, ArePartNumbers, AreMet, AreClosed, IsWalkingPart, IsBetween, ArePassedRows, IsTouched}
 use Rattle.bridge_split.proofs.Links.{joined_back, linked_on, linked_from}
 
 -- ---- numbers that are there or not
@@ -107,8 +107,8 @@ module _ (M : ℕ → ℕ → Bool) (S : List ℕ) (i : ℕ) where
       ]
 
     -- in the middle of a part
-    pub meets : (reached reached' : ℕ → Bool) → IsWalking M S i part number reached → (column : ℕ) → reached column ≡ true → M x column ≡ true
-        → ((c : ℕ) → reached' c ≡ (reached c || (M x c && not (M i c)))) → IsWalking M S i part' number reached'
+    pub meets : (reached reached' : ℕ → Bool) → IsWalkingPart M S i part number reached → (column : ℕ) → reached column ≡ true → M x column ≡ true
+        → ((c : ℕ) → reached' c ≡ (reached c || (M x c && not (M i c)))) → IsWalkingPart M S i part' number reached'
     meets reached reached' w column here meet more = record {
       are = record {
         others = others' (suc number) w.are (omega arith);
@@ -138,8 +138,8 @@ module _ (M : ℕ → ℕ → Bool) (S : List ℕ) (i : ℕ) where
             )
 
     -- the first row of a part
-    pub starts : (reached' : ℕ → Bool) → IsStrictlyIncreasing S → IsBetween M S i part number → (place : ℕ) → place < length S → x ≡ get_or S place 0 → ArePassed M S i part place → number < 1000
-        → ((c : ℕ) → reached' c ≡ (M x c && not (M i c))) → IsWalking M S i part' number reached'
+    pub starts : (reached' : ℕ → Bool) → IsStrictlyIncreasing S → IsBetween M S i part number → (place : ℕ) → place < length S → x ≡ get_or S place 0 → ArePassedRows M S i part place → number < 1000
+        → ((c : ℕ) → reached' c ≡ (M x c && not (M i c))) → IsWalkingPart M S i part' number reached'
     starts reached' rises b place inside at before few more = record {
       are = record {
         others = others' number b.are (omega arith);
@@ -185,7 +185,7 @@ module _ (M : ℕ → ℕ → Bool) (S : List ℕ) (i : ℕ) where
   -- ---- from part to part
 
   -- a part is done where no row is touched
-  pub part_done : (part : ℕ → Option ℕ) (number : ℕ) (reached : ℕ → Bool) → IsWalking M S i part number reached → ((x : ℕ) → IsIn x S → ¬ (IsTouched M i part reached x)) → IsBetween M S i part (suc number)
+  pub part_done : (part : ℕ → Option ℕ) (number : ℕ) (reached : ℕ → Bool) → IsWalkingPart M S i part number reached → ((x : ℕ) → IsIn x S → ¬ (IsTouched M i part reached x)) → IsBetween M S i part (suc number)
   part_done part number reached w none = record {
     are = w.are;
     closed = λ j k a e l hk join. elim (cases_lt a number) [
@@ -202,7 +202,7 @@ module _ (M : ℕ → ℕ → Bool) (S : List ℕ) (i : ℕ) where
       ]
 
   -- all rows were passed
-  pub all_numbered : (part : ℕ → Option ℕ) (count place : ℕ) → IsBetween M S i part count → ArePassed M S i part place → length S ≤ place → AreNumbered M S i part count
+  pub all_numbered : (part : ℕ → Option ℕ) (count place : ℕ) → IsBetween M S i part count → ArePassedRows M S i part place → length S ≤ place → ArePartNumbers M S i part count
   all_numbered part count place b before l = record {
     numbered = λ k h n. let f = every k h n in (f.0, (b.are.others k f.0 f.1).2, f.1);
     own = elim (some_or_none (part i)) [ inl e ↦ e | inr f ↦ absurd ((b.are.others i f.0 f.1).1 refl) ];

@@ -26,7 +26,7 @@ module _ (D : ℕ → ℕ → Bool) (count : ℕ) where
   IsRoute x (z ∷ w ∷ rest) y = (x ≡ z) × (z < count) × (D z w ≡ true) × (z ≢ w) × IsRoute w (w ∷ rest) y
 
   -- the numbers that were reached, each with its depth, its parent and the root of its tree
-  pub record AreReached (depth parent : ℕ → ℕ) (reached : List ℕ) : Type 0 where
+  pub record IsForest (depth parent : ℕ → ℕ) (reached : List ℕ) : Type 0 where
     pub root : ℕ → ℕ
     pub inside : (x : ℕ) → IsIn x reached → x < count
     pub once : IsDistinct reached
@@ -37,34 +37,34 @@ module _ (D : ℕ → ℕ → Bool) (count : ℕ) where
     pub few : count ≤ MAX_ROWS
 
   -- y was reached, and the depths of x and y are of two parities
-  pub record IsSettled (depth : ℕ → ℕ) (reached : List ℕ) (x y : ℕ) : Type 0 where
+  pub record IsSettledPair (depth : ℕ → ℕ) (reached : List ℕ) (x y : ℕ) : Type 0 where
     pub there : IsIn y reached
     pub parity : depth y % 2 ≢ depth x % 2
 
-  abbrev pub AreSettled : (ℕ → ℕ) → List ℕ → ℕ → Type 0
-  AreSettled depth reached head = (p y : ℕ) → p < head → y < count → slice_index reached p ≢ y → D (slice_index reached p) y ≡ true → IsSettled depth reached (slice_index reached p) y
+  abbrev pub AreSettledPairs : (ℕ → ℕ) → List ℕ → ℕ → Type 0
+  AreSettledPairs depth reached head = (p y : ℕ) → p < head → y < count → slice_index reached p ≢ y → D (slice_index reached p) y ≡ true → IsSettledPair depth reached (slice_index reached p) y
 
   -- in the middle of a tree: the numbers before head are settled, and those from head on are in this tree
-  pub record IsGrowing (depth parent : ℕ → ℕ) (reached : List ℕ) (head : ℕ) : Type 0 where
-    pub are : AreReached depth parent reached
-    pub settled : AreSettled depth reached head
+  pub record IsGrowingForest (depth parent : ℕ → ℕ) (reached : List ℕ) (head : ℕ) : Type 0 where
+    pub are : IsForest depth parent reached
+    pub settled : AreSettledPairs depth reached head
     pub origin : ℕ
     pub current : (p : ℕ) → head ≤ p → p < length reached → are.root (slice_index reached p) ≡ origin
     pub fits : head ≤ length reached
 
   -- between two trees
-  pub record IsGrown (depth parent : ℕ → ℕ) (reached : List ℕ) : Type 0 where
-    pub are : AreReached depth parent reached
-    pub settled : AreSettled depth reached (length reached)
+  pub record IsGrownForest (depth parent : ℕ → ℕ) (reached : List ℕ) : Type 0 where
+    pub are : IsForest depth parent reached
+    pub settled : AreSettledPairs depth reached (length reached)
 
   -- in the middle of the numbers that are joined to the one at head
-  pub record IsReaching (depth parent : ℕ → ℕ) (reached : List ℕ) (head upto : ℕ) : Type 0 where
-    pub growing : IsGrowing depth parent reached head
-    pub so_far : (y : ℕ) → y < upto → slice_index reached head ≢ y → D (slice_index reached head) y ≡ true → IsSettled depth reached (slice_index reached head) y
+  pub record IsReachingForest (depth parent : ℕ → ℕ) (reached : List ℕ) (head upto : ℕ) : Type 0 where
+    pub growing : IsGrowingForest depth parent reached head
+    pub so_far : (y : ℕ) → y < upto → slice_index reached head ≢ y → D (slice_index reached head) y ≡ true → IsSettledPair depth reached (slice_index reached head) y
 
   -- two numbers of one tree
   pub record AreInOneTree (depth parent : ℕ → ℕ) (reached : List ℕ) (x y : ℕ) : Type 0 where
-    pub are : AreReached depth parent reached
+    pub are : IsForest depth parent reached
     pub one_in : IsIn x reached
     pub two_in : IsIn y reached
     pub same : are.root x ≡ are.root y
@@ -103,18 +103,18 @@ pub record HasTreeRoom (count : ℕ) (depths parents : List ℕ) : Type 0 where
 -- the numbers below a place were reached
 pub record IsGrownTo (table : CutTable) (depths parents reached : List ℕ) (place : ℕ) : Type 0 where
   pub room : HasTreeRoom table.count depths parents
-  pub grown : IsGrown (joins table) table.count (depth_at depths) (parent_at parents) reached
+  pub grown : IsGrownForest (joins table) table.count (depth_at depths) (parent_at parents) reached
   pub passed : (x : ℕ) → x < place → IsIn x reached
 
 pub record IsGrowingFrom (table : CutTable) (before : List ℕ) (depths parents reached : List ℕ) (start head : ℕ) : Type 0 where
   pub room : HasTreeRoom table.count depths parents
-  pub growing : IsGrowing (joins table) table.count (depth_at depths) (parent_at parents) reached head
+  pub growing : IsGrowingForest (joins table) table.count (depth_at depths) (parent_at parents) reached head
   pub extends : Extends before reached
   pub start_in : IsIn start reached
 
 pub record IsReachingFrom (table : CutTable) (before : List ℕ) (depths parents reached : List ℕ) (head part depth upto : ℕ) : Type 0 where
   pub room : HasTreeRoom table.count depths parents
-  pub reaching : IsReaching (joins table) table.count (depth_at depths) (parent_at parents) reached head upto
+  pub reaching : IsReachingForest (joins table) table.count (depth_at depths) (parent_at parents) reached head upto
   pub extends : Extends before reached
   pub head_in : head < length before
   pub part_is : slice_index reached head ≡ part

@@ -56,7 +56,7 @@ IsTouched M i part reached x = IsLeft i part x × ((column : ℕ) × (reached co
 
 module _ (M : ℕ → ℕ → Bool) (S : List ℕ) (i : ℕ) where
   -- The parts of the rows but i are numbered by their first rows.
-  pub record AreNumbered (part : ℕ → Option ℕ) (count : ℕ) : Type 0 where
+  pub record ArePartNumbers (part : ℕ → Option ℕ) (count : ℕ) : Type 0 where
     pub numbered : (k : ℕ) → IsIn k S → k ≢ i → (a : ℕ) × (a < count) × (part k ≡ Some a)
     pub own : part i ≡ None
     pub linked : (j k a : ℕ) → part j ≡ Some a → part k ≡ Some a → AreLinked M S i j k
@@ -79,7 +79,7 @@ module _ (M : ℕ → ℕ → Bool) (S : List ℕ) (i : ℕ) where
     AreClosed count = (j k a : ℕ) → part j ≡ Some a → a < count → IsIn k S → AreJoined M i j k → part k ≡ Some a
 
     -- in the middle of a part: the columns that are reached are those of its rows but those of row i
-    pub record IsWalking (number : ℕ) (reached : ℕ → Bool) : Type 0 where
+    pub record IsWalkingPart (number : ℕ) (reached : ℕ → Bool) : Type 0 where
       pub are : AreMet (suc number)
       pub closed : AreClosed number
       pub into : (column : ℕ) → reached column ≡ true → (k : ℕ) × (part k ≡ Some number) × (M k column ≡ true) × (M i column ≡ false)
@@ -91,13 +91,13 @@ module _ (M : ℕ → ℕ → Bool) (S : List ℕ) (i : ℕ) where
       pub closed : AreClosed count
 
     -- the rows before a place of S were met
-    pub record ArePassed (place : ℕ) : Type 0 where
+    pub record ArePassedRows (place : ℕ) : Type 0 where
       pub passed : (p : ℕ) → p < place → (slice_index S p ≡ i) ⊎ ((a : ℕ) × (part (slice_index S p) ≡ Some a))
 
 -- in the middle of the rows, so many of which were met: where none was, the rows before a place are not touched
 pub record IsMeeting (m : Matrix) (S : List ℕ) (i number : ℕ) (before part : List (Option ℕ)) (reached : List ℕ) (met place : ℕ) : Type 0 where
   pub room : HasPartRoom m part reached
-  pub walk : IsWalking (support m) S i (number_at part) number (has_column reached)
+  pub walk : IsWalkingPart (support m) S i (number_at part) number (has_column reached)
   pub keeps : KeepsParts (number_at before) (number_at part)
   pub fewer : left_in S (number_at part) + met ≤ left_in S (number_at before)
   pub none : met ≡ 0 → (p : ℕ) → p < place → ¬ (IsTouched (support m) i (number_at part) (has_column reached) (slice_index S p))
@@ -106,7 +106,7 @@ pub record IsMeeting (m : Matrix) (S : List ℕ) (i number : ℕ) (before part :
 -- in the middle of a part whose first row was met; where none was met at last, no row is touched
 pub record IsWalkingFrom (m : Matrix) (S : List ℕ) (i number first : ℕ) (before part : List (Option ℕ)) (reached : List ℕ) (met : ℕ) : Type 0 where
   pub room : HasPartRoom m part reached
-  pub walk : IsWalking (support m) S i (number_at part) number (has_column reached)
+  pub walk : IsWalkingPart (support m) S i (number_at part) number (has_column reached)
   pub keeps : KeepsParts (number_at before) (number_at part)
   pub first_in : number_at part first ≡ Some number
   pub none : met ≡ 0 → (x : ℕ) → IsIn x S → ¬ (IsTouched (support m) i (number_at part) (has_column reached) x)
@@ -115,7 +115,7 @@ pub record IsWalkingFrom (m : Matrix) (S : List ℕ) (i number first : ℕ) (bef
 pub record IsBetweenParts (m : Matrix) (S : List ℕ) (i count place : ℕ) (part : List (Option ℕ)) (reached : List ℕ) : Type 0 where
   pub room : HasPartRoom m part reached
   pub between : IsBetween (support m) S i (number_at part) count
-  pub before : ArePassed (support m) S i (number_at part) place
+  pub before : ArePassedRows (support m) S i (number_at part) place
   pub fewer : count ≤ place
 
 -- the rows before a place of S do not split

@@ -1,7 +1,7 @@
 // Breadth-first trees in which each part disagrees with its parent.
 ghost use Rattle.std.specs.Prelude.{◌≡◌, ◌<◌, ◌+◌, ◌++◌, ◌∷◌, [], ℕ, length, slice_index, slice_set, IfOk, OnOk, MatchOption};
 ghost use Rattle.cmr_base.specs.Members.{IsIn};
-ghost use Rattle.bridge_split.specs.Forests.{AreInOneTree, Extends, HasRoute, HasTreeRoom, IsConflict, IsGrowing, IsGrown, IsSquare, IsTwoColoured, depth_at, joins, parent_at};
+ghost use Rattle.bridge_split.specs.Forests.{AreInOneTree, Extends, HasRoute, HasTreeRoom, IsConflict, IsGrowingForest, IsGrownForest, IsSquare, IsTwoColoured, depth_at, joins, parent_at};
 
 use crate::cuts::CutTable;
 use cmr_base::{Memory, PathList};
@@ -73,14 +73,15 @@ impl Forest {
         requires room { HasTreeRoom table.now.count self.old.depth.items self.old.parent.items }
         requires root { root < table.now.count }
         requires unreached { depth_at self.old.depth.items root ≡ UNREACHED }
-        requires grown { IsGrown (joins table.now) table.now.count (depth_at self.old.depth.items)
-            (parent_at self.old.parent.items) self.old.reached.items }
+        requires grown { IsGrownForest (joins table.now) table.now.count
+            (depth_at self.old.depth.items) (parent_at self.old.parent.items)
+            self.old.reached.items }
         ensures room { OnOk result (HasTreeRoom table.now.count self.new.depth.items
             self.new.parent.items) }
         ensures extends { OnOk result (Extends self.old.reached.items self.new.reached.items) }
         ensures root { OnOk result (IsIn root self.new.reached.items) }
         ensures found { IfOk result (λ found. MatchOption found
-            (IsGrown (joins table.now) table.now.count (depth_at self.new.depth.items)
+            (IsGrownForest (joins table.now) table.now.count (depth_at self.new.depth.items)
             (parent_at self.new.parent.items) self.new.reached.items)
             (λ conflict. IsConflict (joins table.now) table.now.count
             (depth_at self.new.depth.items) (parent_at self.new.parent.items) self.new.reached.items
@@ -103,14 +104,14 @@ impl Forest {
         requires table { IsSquare table.now }
         requires room { HasTreeRoom table.now.count self.old.depth.items self.old.parent.items }
         requires head { head < length self.old.reached.items }
-        requires growing { IsGrowing (joins table.now) table.now.count
+        requires growing { IsGrowingForest (joins table.now) table.now.count
             (depth_at self.old.depth.items) (parent_at self.old.parent.items) self.old.reached.items
             head }
         ensures room { OnOk result (HasTreeRoom table.now.count self.new.depth.items
             self.new.parent.items) }
         ensures extends { OnOk result (Extends self.old.reached.items self.new.reached.items) }
         ensures found { IfOk result (λ found. MatchOption found
-            (IsGrowing (joins table.now) table.now.count (depth_at self.new.depth.items)
+            (IsGrowingForest (joins table.now) table.now.count (depth_at self.new.depth.items)
             (parent_at self.new.parent.items) self.new.reached.items (head + 1))
             (λ two. IsConflict (joins table.now) table.now.count (depth_at self.new.depth.items)
             (parent_at self.new.parent.items) self.new.reached.items

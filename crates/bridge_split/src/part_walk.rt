@@ -6,7 +6,7 @@ ghost use Rattle.cmr_base.specs.Matrix.{height};
 ghost use Rattle.cmr_base.specs.Members.{IsIn};
 ghost use Rattle.cmr_base.specs.Trees.{support};
 ghost use Rattle.cmr_base.specs.ColumnSets.{has_column};
-ghost use Rattle.bridge_split.specs.PartNumbers.{AreNumbered, HasPartRoom, IsBetween, IsLeft, IsBetweenParts, IsTouched, IsWalking, KeepsParts, left_in, number_at};
+ghost use Rattle.bridge_split.specs.PartNumbers.{ArePartNumbers, HasPartRoom, IsBetween, IsLeft, IsBetweenParts, IsTouched, IsWalkingPart, KeepsParts, left_in, number_at};
 
 use cmr_base::columns::{add_outside, meets};
 use cmr_base::{MAX_ROWS, Matrix, Memory, words_for};
@@ -39,7 +39,7 @@ impl PartWalk {
         requires row { IsIn row rows.now }
         requires room { HasPartRoom matrix.now self.old.part.items self.old.reached.items }
         ensures room { HasPartRoom matrix.now self.new.part.items self.new.reached.items }
-        ensures parts { AreNumbered (support matrix.now) rows.now row
+        ensures parts { ArePartNumbers (support matrix.now) rows.now row
             (number_at self.new.part.items) result }
     {
         self.clear();
@@ -106,11 +106,11 @@ impl PartWalk {
         requires few { length rows.now ≤ MAX_ROWS }
         requires row { row < height matrix.now }
         requires room { HasPartRoom matrix.now self.old.part.items self.old.reached.items }
-        requires walk { IsWalking (support matrix.now) rows.now row (number_at self.old.part.items)
-            number (has_column self.old.reached.items) }
+        requires walk { IsWalkingPart (support matrix.now) rows.now row
+            (number_at self.old.part.items) number (has_column self.old.reached.items) }
         ensures room { HasPartRoom matrix.now self.new.part.items self.new.reached.items }
-        ensures walk { IsWalking (support matrix.now) rows.now row (number_at self.new.part.items)
-            number (has_column self.new.reached.items) }
+        ensures walk { IsWalkingPart (support matrix.now) rows.now row
+            (number_at self.new.part.items) number (has_column self.new.reached.items) }
         ensures keeps { KeepsParts (number_at self.old.part.items) (number_at self.new.part.items) }
         ensures fewer { left_in rows.now (number_at self.new.part.items) + result
             ≤ left_in rows.now (number_at self.old.part.items) }

@@ -11,7 +11,7 @@ use Rattle.tree_type.specs.Invariant.{AreLines}
 use Rattle.decomp_tree.specs.declared.drafts.Draft.{Draft, fold_out-Draft}
 use Rattle.decomp_tree.specs.declared.drafts.Front.{Front}
 use Rattle.decomp_tree.specs.Seen.{HasNoneAmong, keeps_free}
-use Rattle.decomp_tree.specs.Fronts.{IsFront}
+use Rattle.decomp_tree.specs.Fronts.{IsFrontOf}
 use Rattle.decomp_tree.specs.Sketches.{Sketch, Sketched, sketches_from, draft_step, sketch_of, front_in, is_free_in, drafts_in, lines_of_sketch, IsDrafted, AreDrafted, IsDraftedBehind}
 use Rattle.decomp_tree.proofs.FreeNodes.{none_by_children}
 
@@ -53,7 +53,7 @@ module _ (limit : ℕ) (m : Matrix) where
       let both = and_is (is_free_in draft) (list_all is_free_in drafts) e in
       (subst (HasNoneAmong m) (sym (lines_are draft) ∙ d.0) ((parts_of draft d.1).1 both.0), free_each children drafts d.2 both.1)
 
-  module _ (few : limit ≤ 24) (is : IsMatrix m) (lines : LineSet) (are : AreLines m lines) (front : Front) (is_front : IsFront limit m lines front) (drafts : List Draft) (drafted : AreDrafted limit m front.children (sketches_from (map sketch_of drafts))) where
+  module _ (few : limit ≤ 24) (is : IsMatrix m) (lines : LineSet) (are : AreLines m lines) (front : Front) (is_front : IsFrontOf limit m lines front) (drafts : List Draft) (drafted : AreDrafted limit m front.children (sketches_from (map sketch_of drafts))) where
     none_among : (keeps_free (finding_shown front.finding) && list_all is_free_in drafts) ≡ true → HasNoneAmong m lines
     none_among e =
         let both = and_is (keeps_free (finding_shown front.finding)) (list_all is_free_in drafts) e in
@@ -67,7 +67,7 @@ module _ (limit : ℕ) (m : Matrix) where
       order = e;
       lines_are = is_front.lines_are;
       drafted = (
-        subst (λ some. IsFront limit m some front) (sym is_front.lines_are) is_front,
+        subst (λ some. IsFrontOf limit m some front) (sym is_front.lines_are) is_front,
         (λ yes. subst (HasNoneAmong m) (sym is_front.lines_are) (none_among yes)),
         drafted,
       );

@@ -29,11 +29,11 @@ free_due : (m : Matrix) (due child : LineSet) → HasItsLines (These due) child 
 free_due m due child has free = subst (λ columns. IsFreeOn m (record { rows = due.rows; columns = columns })) has.1 (subst (λ rows. IsFreeOn m (record { rows = rows; columns = child.columns })) has.0 free)
 
 module _ (limit : ℕ) (few : limit ≤ 24) (m : Matrix) (is : IsMatrix m) (lines : LineSet) (are : AreLines m lines) where
-  abbrev inner : Matrix
-  inner = part m lines
+  abbrev submatrix : Matrix
+  submatrix = part m lines
 
-  free_by : (case : Case) (found : Finding) (parts children : List LineSet) → Applies limit inner case → NodeSays case inner found parts
-      → (is_unsearched (finding_in lines found) ≡ false → case_number HasFault < case_number case → HasNoCycleFault (entry inner)) → HasParts (finding_in lines found) children (map (set_in lines) parts)
+  free_by : (case : Case) (found : Finding) (parts children : List LineSet) → Applies limit submatrix case → NodeSays case submatrix found parts
+      → (is_unsearched (finding_in lines found) ≡ false → case_number HasFault < case_number case → HasNoCycleFault (entry submatrix)) → HasParts (finding_in lines found) children (map (set_in lines) parts)
       → AreDue lines (finding_in lines found) 0 children → HasChildren (finding_in lines found) (length children) → keeps_free (finding_in lines found) ≡ true → AllByRecursion (IsFreeOn m) children → IsFreeOn m lines
   free_by HasNoLines Empty parts children applies says searched has due count keeps free = free_empty m lines (let a = applies.0 in let b = applies.1 in omega (arith, a, b, height_in m lines))
   free_by HasFault (Cycle fault) parts children applies says searched has due count keeps free = absurd (true≢false (sym keeps))
@@ -44,7 +44,7 @@ module _ (limit : ℕ) (few : limit ≤ 24) (m : Matrix) (is : IsMatrix m) (line
   free_by IsNetwork (Network net) parts children applies says searched has due count keeps free = free_network m lines is are (net, says)
   free_by IsConetwork (Conetwork net) parts children applies says searched has due count keeps free = free_conetwork m lines is are (net, says)
   free_by IsR10Matrix R10 parts children applies says searched has due count keeps free =
-      free_from_part m lines (fault_free_r10_has_no_violator inner (part_is m lines is are).rectangular (part_is m lines is are).small applies (searched refl (omega arith)))
+      free_from_part m lines (fault_free_r10_has_no_violator submatrix (part_is m lines is are).rectangular (part_is m lines is are).small applies (searched refl (omega arith)))
   free_by IsTwoSum (TwoSum two) parts [] applies says searched has due count keeps free = absurd (omega (arith, count))
   free_by IsTwoSum (TwoSum two) parts (one ∷ []) applies says searched has due count keeps free = absurd (omega (arith, count))
   free_by IsTwoSum (TwoSum two) parts (one ∷ other ∷ children) applies says searched has due count keeps free =
@@ -64,7 +64,7 @@ module _ (limit : ℕ) (few : limit ≤ 24) (m : Matrix) (is : IsMatrix m) (line
   none_by_children finding children said keeps none =
       none_from_free m lines
       (free_by said.case said.found said.parts children said.applies said.says
-      (subst (λ f. is_unsearched f ≡ false → case_number HasFault < case_number said.case → HasNoCycleFault (entry inner)) said.finding_is said.searched)
+      (subst (λ f. is_unsearched f ≡ false → case_number HasFault < case_number said.case → HasNoCycleFault (entry submatrix)) said.finding_is said.searched)
       (subst (λ f. HasParts f children (map (set_in lines) said.parts)) said.finding_is said.parts_are)
       (subst (λ f. AreDue lines f 0 children) said.finding_is said.due) (subst (λ f. HasChildren f (length children)) said.finding_is said.count)
       (subst (λ f. keeps_free f ≡ true) said.finding_is keeps) (all_weaker (HasNoneAmong m) (IsFreeOn m) (free_from_none m) children none))

@@ -16,7 +16,7 @@ use Rattle.decomp_tree.specs.Shapes.{HasFault, case_number}
 use Rattle.decomp_tree.specs.Seen.{HasNoneAmong, AreFewer, IsNamedFault, IsSaid, is_unsearched, IsDrawn, AreDrawn}
 use Rattle.decomp_tree.specs.Refined.{is_undecided, AllRefine}
 use Rattle.decomp_tree.specs.PivotedShapes.{IsBehind, IsFound, IsDrawnWith}
-use Rattle.decomp_tree.specs.Fronts.{IsFront}
+use Rattle.decomp_tree.specs.Fronts.{IsFrontOf}
 use Rattle.decomp_tree.specs.Sketches.{sketches_from, sketch_of, front_in, is_free_in, drafts_in, lines_of_sketch, IsDrafted, AreDrafted, HasNoLateFault}
 use Rattle.decomp_tree.proofs.Children.{has_children}
 use Rattle.decomp_tree.proofs.DraftLemmas.{lines_are, parts_of}
@@ -80,7 +80,7 @@ module _ (limit : ℕ) (m : Matrix) where
   settled_all children drafts trees d all = subst (λ some. AreDrawn limit m some trees) (lines_each children drafts d) all
 
   -- a node without late cycle fault
-  node_drawn : (front : Front) → IsFront limit m front.lines front → HasNoLateFault m front.lines (finding_shown front.finding) → (trees : List Tree) → AreDrawn limit m front.children trees
+  node_drawn : (front : Front) → IsFrontOf limit m front.lines front → HasNoLateFault m front.lines (finding_shown front.finding) → (trees : List Tree) → AreDrawn limit m front.children trees
       → IsDrawn limit m front.lines (Branch front.lines (finding_shown front.finding) (trees_from trees))
   node_drawn front is late trees children = drawn_node limit m front.lines (finding_shown front.finding) front.children trees is.said (λ l. go (is_unsearched (finding_shown front.finding)) refl l) children
     where

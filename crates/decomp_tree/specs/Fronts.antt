@@ -6,6 +6,6 @@ use Rattle.tree_type.specs.Findings.{finding_shown}
 use Rattle.decomp_tree.specs.declared.drafts.Front.{Front}
 use Rattle.decomp_tree.specs.Seen.{IsSaid}
 
-pub record IsFront (limit : ℕ) (m : Matrix) (lines : LineSet) (front : Front) : Type 0 where
+pub record IsFrontOf (limit : ℕ) (m : Matrix) (lines : LineSet) (front : Front) : Type 0 where
   pub lines_are : front.lines ≡ lines
   pub said : IsSaid limit m lines (finding_shown front.finding) front.children

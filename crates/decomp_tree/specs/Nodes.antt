@@ -1,19 +1,19 @@
 -- What is looked at: some lines of a matrix, the submatrix on them, and how leaves are searched.
 use Rattle.cmr_base.specs.Matrix.{Matrix}
 use Rattle.tree_type.specs.Soundness.{part}
-use Rattle.decomp_tree.specs.declared.node_view.NodeView.{NodeView}
+use Rattle.decomp_tree.specs.declared.searched_node.SearchedNode.{SearchedNode}
 use Rattle.decomp_tree.specs.declared.seen.Seen.{Seen}
 use Rattle.decomp_tree.specs.Shapes.{Case, case_number}
 use Rattle.decomp_tree.specs.Seen.{HasNoneBefore, IsSeen}
 
 -- the submatrix on the lines
-abbrev pub inner_of : NodeView → Matrix
-inner_of node = part node.matrix.now node.lines.now
+abbrev pub submatrix_of : SearchedNode → Matrix
+submatrix_of node = part node.matrix.now node.lines.now
 
 -- no case before this one applies to the submatrix, unless that of a cycle fault does
-abbrev pub HasNoCaseBefore : Case → NodeView → Type 0
-HasNoCaseBefore case node = HasNoneBefore node.limits.limit (inner_of node) (case_number case)
+abbrev pub HasNoCaseBefore : Case → SearchedNode → Type 0
+HasNoCaseBefore case node = HasNoneBefore node.limits.lines (submatrix_of node) (case_number case)
 
 -- what is seen of the lines
-abbrev pub IsSeenAt : NodeView → Seen → Type 0
-IsSeenAt node seen = IsSeen node.limits.limit node.matrix.now node.lines.now seen
+abbrev pub IsSeenAt : SearchedNode → Seen → Type 0
+IsSeenAt node seen = IsSeen node.limits.lines node.matrix.now node.lines.now seen

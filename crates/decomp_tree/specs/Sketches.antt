@@ -10,7 +10,7 @@ use Rattle.decomp_tree.specs.declared.drafts.Draft.{Draft, out-Draft}
 use Rattle.decomp_tree.specs.declared.drafts.Draft.TheOpen as open'
 use Rattle.decomp_tree.specs.declared.drafts.Draft.TheFolds.{fold-Draft}
 use Rattle.decomp_tree.specs.Seen.{HasNoneAmong, is_unsearched}
-use Rattle.decomp_tree.specs.Fronts.{IsFront}
+use Rattle.decomp_tree.specs.Fronts.{IsFrontOf}
 
 mutual
   -- what a node says, whether it is known that no violator stands among its lines, and its children
@@ -49,7 +49,7 @@ abbrev mutual
   -- each node says what it is to say but for late cycle faults, and no violator stands where none is said to
   pub IsDrafted : ℕ → Matrix → Sketch → Type 0
   IsDrafted limit m (Sketched front is_free below) =
-      IsFront limit m front.lines front × (IsTrue is_free → HasNoneAmong m front.lines) × AreDrafted limit m front.children below
+      IsFrontOf limit m front.lines front × (IsTrue is_free → HasNoneAmong m front.lines) × AreDrafted limit m front.children below
 
   pub AreDrafted : ℕ → Matrix → List LineSet → Sketches → Type 0
   AreDrafted limit m [] NoSketches = Unit {0}

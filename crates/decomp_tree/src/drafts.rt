@@ -5,13 +5,13 @@ ghost use Rattle.cmr_base.specs.Matrix.{IsMatrix};
 ghost use Rattle.tree_type.specs.Invariant.{AreLines};
 ghost use Rattle.tree_type.specs.Findings.{finding_shown};
 ghost use Rattle.decomp_tree.specs.Seen.{keeps_free};
-ghost use Rattle.decomp_tree.specs.Fronts.{IsFront};
+ghost use Rattle.decomp_tree.specs.Fronts.{IsFrontOf};
 ghost use Rattle.decomp_tree.specs.Obstructions.{IsKnown};
 ghost use Rattle.decomp_tree.specs.Sketches.{Sketched, sketch_of, sketches_from, is_free_in, lines_of_sketch, IsDrafted, IsDraftedBehind};
 
 use crate::faults::keeps_free;
 use crate::looking::look;
-use crate::obstructions::Obstruction;
+use crate::obstructions::{MORE_LINES, Obstruction};
 use crate::search_limits::SearchLimits;
 use crate::seen::Seen;
 use cmr_base::{LineSet, LineSetList, Memory, RowsAndColumns};
@@ -48,7 +48,7 @@ pub fn draft_root<R: Threads + Sync>(
     requires shape { IsMatrix matrix.now }
     requires lines { AreLines matrix.now lines.now }
     ensures lines { IfOk result (λ drawn. lines_of_sketch (sketch_of drawn) ≡ lines.now) }
-    ensures drafted { IfOk result (λ drawn. IsDrafted limits.limit matrix.now (sketch_of drawn)) }
+    ensures drafted { IfOk result (λ drawn. IsDrafted limits.lines matrix.now (sketch_of drawn)) }
 {
     let mut drafts = Vec::new(alloc);
     let unknown = Obstruction::unknown(matrix.by_rows());
@@ -73,8 +73,8 @@ pub fn draw<R: Threads + Sync>(
     requires shape { IsMatrix matrix.now }
     requires lines { AreLines matrix.now lines.now }
     requires known { IsKnown matrix.now obstruction.now }
-    requires sought { obstruction.now.sought ≤ 4000 }
-    ensures { OnOk result (IsDraftedBehind limits.limit matrix.now lines.now
+    requires sought { obstruction.now.sought ≤ MORE_LINES }
+    ensures { OnOk result (IsDraftedBehind limits.lines matrix.now lines.now
         (map sketch_of drafts.old.items) (map sketch_of drafts.new.items)) }
 {
     let front = front_of(rt, alloc, matrix, lines, obstruction, limits)?;
@@ -99,7 +99,7 @@ fn front_of<R: Threads + Sync>(
     requires shape { IsMatrix matrix.now }
     requires lines { AreLines matrix.now lines.now }
     requires known { IsKnown matrix.now obstruction.now }
-    ensures { IfOk result (λ front. IsFront limits.limit matrix.now lines.now front.value) }
+    ensures { IfOk result (λ front. IsFrontOf limits.lines matrix.now lines.now front.value) }
 {
     let Seen { finding, children } = look(rt, alloc, matrix, lines, obstruction, limits)?;
     let front = Front {

@@ -23,18 +23,18 @@ pub fn fault_from(
     alloc: Global,
     _matrix: &Matrix,
     lines: &LineSet,
-    inner: &RowsAndColumns<'_>,
+    submatrix: &RowsAndColumns<'_>,
     first: u32,
 ) -> Result<Option<LineSet>, Memory>
     requires shape { IsMatrix _matrix.now }
     requires lines { AreLines _matrix.now lines.now }
-    requires inner { inner.now ≡ part _matrix.now lines.now }
-    requires passed { HasNoFaultBefore inner.now first }
+    requires submatrix { submatrix.now ≡ part _matrix.now lines.now }
+    requires passed { HasNoFaultBefore submatrix.now first }
     ensures { IfOk result (λ found. MatchOption found
         (HasNoCycleFault (entry (part _matrix.now lines.now)))
         (IsNamedFault _matrix.now lines.now)) }
 {
-    match cycle_fault_from(alloc, inner, first)? {
+    match cycle_fault_from(alloc, submatrix, first)? {
         Some(found) => Ok(Some(named_set(alloc, lines, &found)?)),
         None => Ok(None),
     }
@@ -47,17 +47,17 @@ pub fn certain_fault(
     alloc: Global,
     matrix: &Matrix,
     lines: &LineSet,
-    inner: &RowsAndColumns<'_>,
+    submatrix: &RowsAndColumns<'_>,
     of_rows: &Orientation,
 ) -> Result<Option<LineSet>, Memory>
     requires shape { IsMatrix matrix.now }
     requires lines { AreLines matrix.now lines.now }
-    requires inner { inner.now ≡ part matrix.now lines.now }
-    requires of_rows { IsOrientation inner.now of_rows.now }
+    requires submatrix { submatrix.now ≡ part matrix.now lines.now }
+    requires of_rows { IsOrientation submatrix.now of_rows.now }
     ensures { IfOk result (λ found. IfSome found (IsNamedFault matrix.now lines.now)) }
 {
     match of_rows {
-        Orientation::WrongSigns { row, .. } => fault_from(alloc, matrix, lines, inner, *row),
+        Orientation::WrongSigns { row, .. } => fault_from(alloc, matrix, lines, submatrix, *row),
         Orientation::Directed(_) | Orientation::NoTree => Ok(None),
     }
 }
@@ -67,19 +67,19 @@ pub fn certain_fault_transposed(
     alloc: Global,
     matrix: &Matrix,
     lines: &LineSet,
-    inner: &RowsAndColumns<'_>,
+    submatrix: &RowsAndColumns<'_>,
     of_columns: &Orientation,
 ) -> Result<Option<LineSet>, Memory>
     requires shape { IsMatrix matrix.now }
     requires lines { AreLines matrix.now lines.now }
-    requires inner { inner.now ≡ part matrix.now lines.now }
-    requires of_columns { IsOrientation (transposed inner.now) of_columns.now }
+    requires submatrix { submatrix.now ≡ part matrix.now lines.now }
+    requires of_columns { IsOrientation (transposed submatrix.now) of_columns.now }
     ensures { IfOk result (λ found. IfSome found (IsNamedFault matrix.now lines.now)) }
 {
     match of_columns {
         Orientation::WrongSigns { net, .. } => {
-            let row = rows_of_transposed(alloc, net, inner.by_rows())?;
-            fault_from(alloc, matrix, lines, inner, row)
+            let row = rows_of_transposed(alloc, net, submatrix.by_rows())?;
+            fault_from(alloc, matrix, lines, submatrix, row)
         }
         Orientation::Directed(_) | Orientation::NoTree => Ok(None),
     }
@@ -115,16 +115,16 @@ fn fault_of(
     alloc: Global,
     _matrix: &RowsAndColumns<'_>,
     lines: &LineSet,
-    inner: &RowsAndColumns<'_>,
+    submatrix: &RowsAndColumns<'_>,
 ) -> Result<Option<LineSet>, Memory>
     requires shape { IsMatrix _matrix.now }
     requires lines { AreLines _matrix.now lines.now }
-    requires inner { inner.now ≡ part _matrix.now lines.now }
+    requires submatrix { submatrix.now ≡ part _matrix.now lines.now }
     ensures { IfOk result (λ found. MatchOption found
         (HasNoCycleFault (entry (part _matrix.now lines.now)))
         (IsNamedFault _matrix.now lines.now)) }
 {
-    match cycle_fault_of(alloc, inner)? {
+    match cycle_fault_of(alloc, submatrix)? {
         Some(found) => Ok(Some(named_set(alloc, lines, &found)?)),
         None => Ok(None),
     }

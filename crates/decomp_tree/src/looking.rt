@@ -9,15 +9,15 @@ ghost use Rattle.tree_type.specs.Soundness.{part};
 ghost use Rattle.two_sep.specs.FirstSeeds.{IsFirstTwoSeparation};
 ghost use Rattle.three_sep.specs.ThreeSeparations.{IsFirstThreeSeparation};
 ghost use Rattle.decomp_tree.specs.Obstructions.{IsKnown};
-ghost use Rattle.decomp_tree.specs.Nodes.{HasNoCaseBefore, IsSeenAt, inner_of};
+ghost use Rattle.decomp_tree.specs.Nodes.{HasNoCaseBefore, IsSeenAt, submatrix_of};
 ghost use Rattle.decomp_tree.specs.Seen.{IsSeen};
 ghost use Rattle.decomp_tree.specs.Shapes.{IsApart, IsConetwork, IsNetwork, IsR10Matrix, IsReducible, IsShort, IsThreeSum, IsTwoSum};
 
 use crate::faults::{certain_fault, certain_fault_transposed, fault_from};
 use crate::naming::{named_parts, named_set, named_steps, named_three, named_two};
-use crate::node_view::NodeView;
 use crate::obstructions::Obstruction;
 use crate::search_limits::SearchLimits;
+use crate::searched_node::SearchedNode;
 use crate::seen::{Seen, above_one, above_two, leaf};
 use cmr_base::{LineSet, Matrix, Memory, RowsAndColumns, Three, Two};
 use leaf_enumerate::{LeastSubmatrix, least_violator_of};
@@ -43,7 +43,7 @@ pub fn look<R: Threads + Sync>(
     requires shape { IsMatrix matrix.now }
     requires lines { AreLines matrix.now lines.now }
     requires known { IsKnown matrix.now obstruction.now }
-    ensures { IfOk result (IsSeen limits.limit matrix.now lines.now) }
+    ensures { IfOk result (IsSeen limits.lines matrix.now lines.now) }
 {
     let whole = matrix.by_rows();
     let part = whole.part(alloc, lines)?;
@@ -51,11 +51,11 @@ pub fn look<R: Threads + Sync>(
         return Ok(leaf(alloc, Finding::Empty));
     }
     let columns = matrix.columns_of(alloc, lines)?;
-    let inner = RowsAndColumns::of(&part, &columns);
-    let node = NodeView {
+    let submatrix = RowsAndColumns::of(&part, &columns);
+    let node = SearchedNode {
         matrix: whole,
         lines,
-        inner: &inner,
+        submatrix: &submatrix,
         limits,
     };
     look_filled(rt, alloc, &node, obstruction)
@@ -65,14 +65,14 @@ pub fn look<R: Threads + Sync>(
 fn look_filled<R: Threads + Sync>(
     rt: &R,
     alloc: Global,
-    node: &NodeView<'_>,
+    node: &SearchedNode<'_>,
     obstruction: &Obstruction,
 ) -> Result<Seen, Memory>
     requires none { HasNoCaseBefore IsReducible node.now }
     requires known { IsKnown node.now.matrix.now obstruction.now }
     ensures { IfOk result (IsSeenAt node.now) }
 {
-    match first_look(alloc, node.inner)? {
+    match first_look(alloc, node.submatrix)? {
         FirstLook::Irreducible => { look_irreducible(rt, alloc, node, obstruction) }
         FirstLook::Unclear => { look_unclear(rt, alloc, node, obstruction) }
     }
@@ -82,14 +82,14 @@ fn look_filled<R: Threads + Sync>(
 fn look_unclear<R: Threads + Sync>(
     rt: &R,
     alloc: Global,
-    node: &NodeView<'_>,
+    node: &SearchedNode<'_>,
     obstruction: &Obstruction,
 ) -> Result<Seen, Memory>
     requires none { HasNoCaseBefore IsReducible node.now }
     requires known { IsKnown node.now.matrix.now obstruction.now }
     ensures { IfOk result (IsSeenAt node.now) }
 {
-    let reduction = reduce(alloc, node.inner.by_rows(), false)?;
+    let reduction = reduce(alloc, node.submatrix.by_rows(), false)?;
     if reduction.steps.len() > 0 {
         return seen_reduced(alloc, node, &reduction);
     }
@@ -97,14 +97,18 @@ fn look_unclear<R: Threads + Sync>(
 }
 
 // The removed lines, and those that are left.
-fn seen_reduced(alloc: Global, node: &NodeView<'_>, reduction: &Reduction) -> Result<Seen, Memory>
+fn seen_reduced(
+    alloc: Global,
+    node: &SearchedNode<'_>,
+    reduction: &Reduction,
+) -> Result<Seen, Memory>
     requires none { HasNoCaseBefore IsReducible node.now }
     requires some { 0 < length reduction.now.steps }
-    requires steps { reduction.now.steps ≡ (removal false (inner_of node.now)).steps }
+    requires steps { reduction.now.steps ≡ (removal false (submatrix_of node.now)).steps }
     requires rest_rows { reduction.now.rest.rows
-        ≡ (removal false (inner_of node.now)).rows }
+        ≡ (removal false (submatrix_of node.now)).rows }
     requires rest_columns { reduction.now.rest.columns
-        ≡ (removal false (inner_of node.now)).columns }
+        ≡ (removal false (submatrix_of node.now)).columns }
     ensures { IfOk result (IsSeenAt node.now) }
 {
     let steps = named_steps(alloc, node.lines, reduction.steps.as_slice())?;
@@ -116,14 +120,14 @@ fn seen_reduced(alloc: Global, node: &NodeView<'_>, reduction: &Reduction) -> Re
 fn look_irreducible<R: Threads + Sync>(
     rt: &R,
     alloc: Global,
-    node: &NodeView<'_>,
+    node: &SearchedNode<'_>,
     obstruction: &Obstruction,
 ) -> Result<Seen, Memory>
     requires none { HasNoCaseBefore IsApart node.now }
     requires known { IsKnown node.now.matrix.now obstruction.now }
     ensures { IfOk result (IsSeenAt node.now) }
 {
-    let parts = components_of(alloc, node.inner)?;
+    let parts = components_of(alloc, node.submatrix)?;
     if parts.len() >= 2 {
         return Ok(Seen {
             finding: Finding::OneSum,
@@ -138,7 +142,7 @@ fn look_irreducible<R: Threads + Sync>(
 fn look_connected<R: Threads + Sync>(
     rt: &R,
     alloc: Global,
-    node: &NodeView<'_>,
+    node: &SearchedNode<'_>,
     obstruction: &Obstruction,
 ) -> Result<Seen, Memory>
     requires none { HasNoCaseBefore IsNetwork node.now }
@@ -155,13 +159,13 @@ fn look_connected<R: Threads + Sync>(
 fn look_tested<R: Threads + Sync>(
     rt: &R,
     alloc: Global,
-    node: &NodeView<'_>,
+    node: &SearchedNode<'_>,
 ) -> Result<Seen, Memory>
     requires none { HasNoCaseBefore IsNetwork node.now }
     ensures { IfOk result (IsSeenAt node.now) }
 {
-    let of_rows = orientation_of(alloc, node.inner.by_rows())?;
-    if let Some(fault) = certain_fault(alloc, node.matrix, node.lines, node.inner, &of_rows)? {
+    let of_rows = orientation_of(alloc, node.submatrix.by_rows())?;
+    if let Some(fault) = certain_fault(alloc, node.matrix, node.lines, node.submatrix, &of_rows)? {
         return Ok(leaf(alloc, Finding::Cycle(fault)));
     }
     if let Some(net) = of_rows.directed() {
@@ -174,13 +178,19 @@ fn look_tested<R: Threads + Sync>(
 fn look_transposed<R: Threads + Sync>(
     rt: &R,
     alloc: Global,
-    node: &NodeView<'_>,
+    node: &SearchedNode<'_>,
 ) -> Result<Seen, Memory>
     requires none { HasNoCaseBefore IsConetwork node.now }
     ensures { IfOk result (IsSeenAt node.now) }
 {
-    let of_columns = orientation_of(alloc, node.inner.by_columns())?;
-    let fault = certain_fault_transposed(alloc, node.matrix, node.lines, node.inner, &of_columns)?;
+    let of_columns = orientation_of(alloc, node.submatrix.by_columns())?;
+    let fault = certain_fault_transposed(
+        alloc,
+        node.matrix,
+        node.lines,
+        node.submatrix,
+        &of_columns,
+    )?;
     if let Some(fault) = fault {
         return Ok(leaf(alloc, Finding::Cycle(fault)));
     }
@@ -194,24 +204,24 @@ fn look_transposed<R: Threads + Sync>(
 fn look_no_network<R: Threads + Sync>(
     rt: &R,
     alloc: Global,
-    node: &NodeView<'_>,
+    node: &SearchedNode<'_>,
 ) -> Result<Seen, Memory>
     requires none { HasNoCaseBefore IsR10Matrix node.now }
     ensures { IfOk result (IsSeenAt node.now) }
 {
-    if is_r10(node.inner.by_rows()) {
+    if is_r10(node.submatrix.by_rows()) {
         return look_r10(alloc, node);
     }
     look_separated(rt, alloc, node)
 }
 
 // An R10 matrix, which has no violator but where it has a cycle fault.
-fn look_r10(alloc: Global, node: &NodeView<'_>) -> Result<Seen, Memory>
+fn look_r10(alloc: Global, node: &SearchedNode<'_>) -> Result<Seen, Memory>
     requires none { HasNoCaseBefore IsR10Matrix node.now }
-    requires r10 { IsR10 (inner_of node.now) }
+    requires r10 { IsR10 (submatrix_of node.now) }
     ensures { IfOk result (IsSeenAt node.now) }
 {
-    if let Some(fault) = fault_from(alloc, node.matrix, node.lines, node.inner, 0)? {
+    if let Some(fault) = fault_from(alloc, node.matrix, node.lines, node.submatrix, 0)? {
         return Ok(leaf(alloc, Finding::Cycle(fault)));
     }
     Ok(leaf(alloc, Finding::R10))
@@ -221,15 +231,15 @@ fn look_r10(alloc: Global, node: &NodeView<'_>) -> Result<Seen, Memory>
 fn look_separated<R: Threads + Sync>(
     rt: &R,
     alloc: Global,
-    node: &NodeView<'_>,
+    node: &SearchedNode<'_>,
 ) -> Result<Seen, Memory>
     requires none { HasNoCaseBefore IsTwoSum node.now }
     ensures { IfOk result (IsSeenAt node.now) }
 {
-    if let Some(two) = two_separation_of(alloc, node.inner)? {
+    if let Some(two) = two_separation_of(alloc, node.submatrix)? {
         return seen_two(alloc, node, &two);
     }
-    if let Some(fault) = fault_from(alloc, node.matrix, node.lines, node.inner, 0)? {
+    if let Some(fault) = fault_from(alloc, node.matrix, node.lines, node.submatrix, 0)? {
         return Ok(leaf(alloc, Finding::Cycle(fault)));
     }
     look_faultless(rt, alloc, node)
@@ -239,22 +249,22 @@ fn look_separated<R: Threads + Sync>(
 fn look_faultless<R: Threads + Sync>(
     rt: &R,
     alloc: Global,
-    node: &NodeView<'_>,
+    node: &SearchedNode<'_>,
 ) -> Result<Seen, Memory>
     requires none { HasNoCaseBefore IsThreeSum node.now }
-    requires faultless { HasNoCycleFault (entry (inner_of node.now)) }
+    requires faultless { HasNoCycleFault (entry (submatrix_of node.now)) }
     ensures { IfOk result (IsSeenAt node.now) }
 {
-    if let Some(three) = three_separation_of(alloc, node.inner)? {
+    if let Some(three) = three_separation_of(alloc, node.submatrix)? {
         return seen_three(alloc, node, &three);
     }
     look_last(rt, alloc, node)
 }
 
 // A two-separation, and the lines of the children.
-fn seen_two(alloc: Global, node: &NodeView<'_>, found: &Two) -> Result<Seen, Memory>
+fn seen_two(alloc: Global, node: &SearchedNode<'_>, found: &Two) -> Result<Seen, Memory>
     requires none { HasNoCaseBefore IsTwoSum node.now }
-    requires found { IsFirstTwoSeparation (inner_of node.now) found.now }
+    requires found { IsFirstTwoSeparation (submatrix_of node.now) found.now }
     ensures { IfOk result (IsSeenAt node.now) }
 {
     let two = named_two(alloc, node.lines, found)?;
@@ -264,10 +274,10 @@ fn seen_two(alloc: Global, node: &NodeView<'_>, found: &Two) -> Result<Seen, Mem
 }
 
 // A three-separation, and the lines of the children.
-fn seen_three(alloc: Global, node: &NodeView<'_>, found: &Three) -> Result<Seen, Memory>
+fn seen_three(alloc: Global, node: &SearchedNode<'_>, found: &Three) -> Result<Seen, Memory>
     requires none { HasNoCaseBefore IsThreeSum node.now }
-    requires faultless { HasNoCycleFault (entry (inner_of node.now)) }
-    requires found { IsFirstThreeSeparation (inner_of node.now) found.now }
+    requires faultless { HasNoCycleFault (entry (submatrix_of node.now)) }
+    requires found { IsFirstThreeSeparation (submatrix_of node.now) found.now }
     ensures { IfOk result (IsSeenAt node.now) }
 {
     let three = named_three(alloc, node.lines, found)?;
@@ -277,16 +287,20 @@ fn seen_three(alloc: Global, node: &NodeView<'_>, found: &Three) -> Result<Seen,
 }
 
 // The cases of a matrix without separation.
-fn look_last<R: Threads + Sync>(rt: &R, alloc: Global, node: &NodeView<'_>) -> Result<Seen, Memory>
+fn look_last<R: Threads + Sync>(
+    rt: &R,
+    alloc: Global,
+    node: &SearchedNode<'_>,
+) -> Result<Seen, Memory>
     requires none { HasNoCaseBefore IsShort node.now }
-    requires faultless { HasNoCycleFault (entry (inner_of node.now)) }
+    requires faultless { HasNoCycleFault (entry (submatrix_of node.now)) }
     ensures { IfOk result (IsSeenAt node.now) }
 {
     let finding = match least_violator_of(
         rt,
         alloc,
-        node.inner,
-        node.limits.limit(),
+        node.submatrix,
+        node.limits.lines(),
         node.limits.workers(),
     )? {
         LeastSubmatrix::Found(found) => Finding::Violator(named_set(alloc, node.lines, &found)?),

@@ -15,8 +15,8 @@ use tree_type::{Finding, copy_of};
 // The fewest lines of a submatrix in which an obstruction is sought. Smaller ones are tested themselves.
 const LEAST_LINES: u32 = 40;
 
-// More lines than any matrix has.
-const MORE_LINES: u32 = 4000;
+/// More lines than any matrix has.
+pub const MORE_LINES: u32 = 4000;
 
 /// Lines on which neither the matrix nor the transposed one has a graphic support, where such are known. So no submatrix that
 /// has all these lines is a network matrix or the transposed matrix of one, and no test of it is needed.
@@ -31,7 +31,7 @@ impl Obstruction {
     /// Nothing is known.
     pub fn unknown(_matrix: &Matrix) -> Obstruction
         ensures known { IsKnown _matrix.now result }
-        ensures sought { result.sought ≤ 4000 }
+        ensures sought { result.sought ≤ MORE_LINES }
     {
         Obstruction {
             lines: None,
@@ -65,9 +65,9 @@ impl Obstruction {
         requires shape { IsMatrix matrix.now }
         requires known { IsKnown matrix.now self.now }
         requires lines { AreLines matrix.now child.now }
-        requires sought { self.now.sought ≤ 4000 }
+        requires sought { self.now.sought ≤ MORE_LINES }
         ensures known { IfOk result (IsKnown matrix.now) }
-        ensures sought { IfOk result (λ obstruction. obstruction.sought ≤ 4000) }
+        ensures sought { IfOk result (λ obstruction. obstruction.sought ≤ MORE_LINES) }
     {
         if self.stands_in(matrix, child) {
             return self.copied(alloc, matrix);
@@ -84,9 +84,9 @@ impl Obstruction {
 
     fn copied(&self, alloc: Global, _matrix: &Matrix) -> Result<Obstruction, Memory>
         requires known { IsKnown _matrix.now self.now }
-        requires sought { self.now.sought ≤ 4000 }
+        requires sought { self.now.sought ≤ MORE_LINES }
         ensures known { IfOk result (IsKnown _matrix.now) }
-        ensures sought { IfOk result (λ obstruction. obstruction.sought ≤ 4000) }
+        ensures sought { IfOk result (λ obstruction. obstruction.sought ≤ MORE_LINES) }
     {
         if let Some(own) = &self.lines {
             return Ok(Obstruction {
@@ -167,16 +167,16 @@ fn obstruction_in(
 ) -> Result<Obstruction, Memory>
     requires shape { IsMatrix matrix.now }
     requires lines { AreLines matrix.now lines.now }
-    requires size { size ≤ 4000 }
+    requires size { size ≤ MORE_LINES }
     ensures known { IfOk result (IsKnown matrix.now) }
-    ensures sought { IfOk result (λ obstruction. obstruction.sought ≤ 4000) }
+    ensures sought { IfOk result (λ obstruction. obstruction.sought ≤ MORE_LINES) }
 {
     let middle = LineSet {
         rows: middle_of(alloc, &lines.rows)?,
         columns: middle_of(alloc, &lines.columns)?,
     };
-    let inner = matrix.part(alloc, &middle)?;
-    if has_no_graphic_support(alloc, &inner)? {
+    let submatrix = matrix.part(alloc, &middle)?;
+    if has_no_graphic_support(alloc, &submatrix)? {
         return Ok(Obstruction {
             lines: Some(middle),
             sought: size,

@@ -8,26 +8,26 @@ use first_hit::Workers;
 /// The most lines on the shorter side of a matrix whose sets of them are gone through, and how many workers share that.
 #[derive(Clone, Copy, Debug)]
 pub struct SearchLimits {
-    limit: u32,
+    lines: u32,
     workers: Workers,
-    ghost few_lines: { limit ≤ MAX_LINES },
+    ghost few_lines: { lines ≤ MAX_LINES },
 }
 
 impl SearchLimits {
     /// So many lines, and these workers.
-    pub fn new(limit: u32, workers: Workers) -> SearchLimits
-        requires { limit ≤ MAX_LINES }
-        ensures limit { result.limit ≡ limit }
+    pub fn new(lines: u32, workers: Workers) -> SearchLimits
+        requires { lines ≤ MAX_LINES }
+        ensures lines { result.lines ≡ lines }
         ensures workers { result.workers ≡ workers }
     {
-        SearchLimits { limit, workers }
+        SearchLimits { lines, workers }
     }
 
     /// How many lines.
-    pub fn limit(self) -> u32
-        ensures { result ≡ self.limit }
+    pub fn lines(self) -> u32
+        ensures { result ≡ self.lines }
     {
-        self.limit
+        self.lines
     }
 
     /// How many workers.

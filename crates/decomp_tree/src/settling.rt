@@ -34,7 +34,7 @@ pub fn draw_root<R: Threads + Sync>(
     requires shape { IsMatrix matrix.now }
     requires lines { AreLines matrix.now lines.now }
     ensures { IfOk result (λ node.
-        IsDrawnWith limits.limit pivots state matrix.now lines.now (tree_of node)) }
+        IsDrawnWith limits.lines pivots state matrix.now lines.now (tree_of node)) }
 {
     let columns = matrix.transposed(alloc)?;
     let both = RowsAndColumns::of(matrix, &columns);
@@ -64,9 +64,9 @@ fn settle<R: Threads + Sync>(
     requires state { state < 2 ^ 31 }
     requires shape { IsMatrix matrix.now }
     requires lines { AreLines matrix.now (lines_of_sketch (sketch_of drawn)) }
-    requires drafted { IsDrafted limits.limit matrix.now (sketch_of drawn) }
+    requires drafted { IsDrafted limits.lines matrix.now (sketch_of drawn) }
     ensures { OnOk result (IsBehind
-        (IsDrawnWith limits.limit pivots state matrix.now (lines_of_sketch (sketch_of drawn)))
+        (IsDrawnWith limits.lines pivots state matrix.now (lines_of_sketch (sketch_of drawn)))
         (map tree_of nodes.old.items)
         (map tree_of nodes.new.items)) }
 {
@@ -119,7 +119,7 @@ fn find<R: Threads + Sync>(
     requires shape { IsMatrix matrix.now }
     requires lines { AreLines matrix.now lines.now }
     ensures { IfOk result (λ node.
-        IsFound limits.limit pivots state matrix.now lines.now (tree_of node)) }
+        IsFound limits.lines pivots state matrix.now lines.now (tree_of node)) }
 {
     if pivots == 0 {
         return leaf(alloc, lines, Finding::Undecided);

@@ -32,8 +32,8 @@ pub loop-child-preserved : goal.loop-child-preserved
 loop-child-preserved g t c =
     let items = c.as_slice-child-items.result.now in
     let i = c.loop-child.child-index in
-    drafted_next c.args.limits.limit c.args.matrix.now items i c.child-item.result (map sketch_of c.loop-child.children.items) (map sketch_of c.draw.new.drafts.items) c.loop-child-test.true c.loop-child.invariant
-    (subst (λ (child : LineSet). IsDraftedBehind c.args.limits.limit c.args.matrix.now child (map sketch_of c.loop-child.children.items) (map sketch_of c.draw.new.drafts.items)) c.child-item.is c.in_ok-draw.ensures)
+    drafted_next c.args.limits.lines c.args.matrix.now items i c.child-item.result (map sketch_of c.loop-child.children.items) (map sketch_of c.draw.new.drafts.items) c.loop-child-test.true c.loop-child.invariant
+    (subst (λ (child : LineSet). IsDraftedBehind c.args.limits.lines c.args.matrix.now child (map sketch_of c.loop-child.children.items) (map sketch_of c.draw.new.drafts.items)) c.child-item.is c.in_ok-draw.ensures)
 
 pub returns : goal.returns
 returns g t c =
@@ -42,6 +42,6 @@ returns g t c =
     let same : items ≡ front.children = c.as_slice-child-items.ensures ∙ ap (λ (f : Front). f.children) c.deref.ensures in
     let all : c.loop-child.child-index ≡ length items = (let a = c.loop-child-test.false in let b = c.loop-child.auto.child-index-end in omega (arith, a, b)) in
     let sketches = map sketch_of c.loop-child.children.items in
-    drafted_behind c.args.limits.limit c.args.matrix.now c.args.limits.few_lines c.requires.shape c.args.lines.now c.requires.lines front c.in_ok-front.ensures c.loop-child.children.items
-    (subst (λ (children : List LineSet). AreDrafted c.args.limits.limit c.args.matrix.now children (sketches_from sketches)) same (drafted_all c.args.limits.limit c.args.matrix.now items c.loop-child.child-index sketches all c.loop-child.invariant))
+    drafted_behind c.args.limits.lines c.args.matrix.now c.args.limits.few_lines c.requires.shape c.args.lines.now c.requires.lines front c.in_ok-front.ensures c.loop-child.children.items
+    (subst (λ (children : List LineSet). AreDrafted c.args.limits.lines c.args.matrix.now children (sketches_from sketches)) same (drafted_all c.args.limits.lines c.args.matrix.now items c.loop-child.child-index sketches all c.loop-child.invariant))
     (map sketch_of c.args.drafts.now.items) (map sketch_of c.push_draft.new.drafts.items) c.in_ok-push_draft.ensures

@@ -7,4 +7,4 @@ decreases-draw g l = length l.lines.now.rows + length l.lines.now.columns
 
 -- the children so far are drawn
 abbrev pub invariant-loop-child : goal.invariant-loop-child
-invariant-loop-child g l = AreDrafted l.limits.limit l.matrix (take l.child-index l.child-items) (sketches_from (map sketch_of l.children.items))
+invariant-loop-child g l = AreDrafted l.limits.lines l.matrix (take l.child-index l.child-items) (sketches_from (map sketch_of l.children.items))

@@ -10,8 +10,8 @@ use Rattle.decomp_tree.proofs.looking.look.Goals.{else-rows-eq0-via-then-rows-eq
 pub returns-then-columns-eq0 : goal.returns-then-columns-eq0
 returns-then-columns-eq0 g c =
     let same = c.in_ok-part.ensures ∙ ap (λ (m : Matrix). part m c.args.lines.now) c.by_rows-whole.ensures.matrix in
-    subst (IsSeen c.args.limits.limit c.args.matrix.now c.args.lines.now) (sym c.leaf.ensures)
-    (seen_empty c.args.limits.limit c.args.matrix.now c.requires.shape c.args.lines.now c.requires.lines
+    subst (IsSeen c.args.limits.lines c.args.matrix.now c.args.lines.now) (sym c.leaf.ensures)
+    (seen_empty c.args.limits.lines c.args.matrix.now c.requires.shape c.args.lines.now c.requires.lines
     (ap height (sym same) ∙ sym c.rows.ensures.rows ∙ c.if-rows-eq0.true)
     (ap (λ (m : Matrix). m.width) (sym same) ∙ sym c.columns.ensures.columns ∙ c.if-columns-eq0.true))
 
@@ -24,4 +24,4 @@ look_filled-requires-clause-none g c =
       | else-rows-eq0-via-then-rows-eq0+else-columns-eq0 w ↦ (λ (h : (height (part m lines) ≡ 0) × ((part m lines).width ≡ 0)). w.if-columns-eq0.false (w.columns.ensures.columns ∙ ap (λ (n : Matrix). n.width) same ∙ h.1))
       | else-rows-eq0-via-else-rows-eq0 w ↦ (λ (h : (height (part m lines) ≡ 0) × ((part m lines).width ≡ 0)). w.if-rows-eq0.false (c.rows.ensures.rows ∙ ap height same ∙ h.0))
     ] in
-    λ κs lives. none_after_fault c.args.limits.limit (part m lines) (none_next c.args.limits.limit (part m lines) HasNoLines (none_first c.args.limits.limit (part m lines)) no_lines)
+    λ κs lives. none_after_fault c.args.limits.lines (part m lines) (none_next c.args.limits.lines (part m lines) HasNoLines (none_first c.args.limits.lines (part m lines)) no_lines)

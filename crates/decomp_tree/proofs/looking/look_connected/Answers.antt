@@ -1,10 +1,10 @@
 use Rattle.decomp_tree.specs.Shapes.{IsNetwork, IsConetwork}
 use Rattle.decomp_tree.proofs.Said.{none_next}
-use Rattle.decomp_tree.specs.Nodes.{inner_of}
+use Rattle.decomp_tree.specs.Nodes.{submatrix_of}
 use Rattle.decomp_tree.proofs.looking.look_connected.Goals as goal
 
 pub look_no_network-requires-clause-none : goal.look_no_network-requires-clause-none
 look_no_network-requires-clause-none g c =
-    let n = inner_of c.args.node.now in
+    let n = submatrix_of c.args.node.now in
     let none = c.stands_in.ensures c.if-stands_in.true in
-    λ κs lives. none_next c.args.node.now.limits.limit n IsConetwork (none_next c.args.node.now.limits.limit n IsNetwork c.requires.none none.0) none.1
+    λ κs lives. none_next c.args.node.now.limits.lines n IsConetwork (none_next c.args.node.now.limits.lines n IsNetwork c.requires.none none.0) none.1

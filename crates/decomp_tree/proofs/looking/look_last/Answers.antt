@@ -13,21 +13,21 @@ pub returns : goal.returns
 returns g c =
     let m = c.args.node.now.matrix.now in
     let lines = c.args.node.now.lines.now in
-    let limit = c.args.node.now.limits.limit in
-    let searched = subst (λ (n : ℕ). HasSearched c.args.node.now.inner.now n c.in_ok-found.field-0) c.limit.ensures c.in_ok-found.ensures in
+    let limit = c.args.node.now.limits.lines in
+    let searched = subst (λ (n : ℕ). HasSearched c.args.node.now.submatrix.now n c.in_ok-found.field-0) c.lines.ensures c.in_ok-found.ensures in
     subst (IsSeen limit m lines) (sym c.leaf.ensures) (elim c.match-branch-2.branch [
       | in-Found+in_ok-named_set-in-Found w ↦
           let found = w.in-Found.found in
-          let has = subst (λ (k : Matrix). (shorter_side k ≤ limit) × IsLeastViolator k found.rows found.columns) c.args.node.now.inner_is (subst (HasSearched c.args.node.now.inner.now limit) w.in-Found.is searched) in
+          let has = subst (λ (k : Matrix). (shorter_side k ≤ limit) × IsLeastViolator k found.rows found.columns) c.args.node.now.submatrix_is (subst (HasSearched c.args.node.now.submatrix.now limit) w.in-Found.is searched) in
           subst (λ (f : Finding). IsSeen limit m lines (record { finding = f; children = [] })) (sym (w.finding-is ∙ ap held.Violator w.in_ok-named_set-in-Found.ensures))
           (seen_violator limit m c.args.node.now.shape lines c.args.node.now.are_lines found c.args.node.now.limits.few_lines c.requires.none c.requires.faultless has.0 has.1)
       | in-Clean w ↦
-          let has = subst (λ (k : Matrix). (shorter_side k ≤ limit) × HasNoViolator k) c.args.node.now.inner_is (subst (HasSearched c.args.node.now.inner.now limit) w.in-Clean.is searched) in
+          let has = subst (λ (k : Matrix). (shorter_side k ≤ limit) × HasNoViolator k) c.args.node.now.submatrix_is (subst (HasSearched c.args.node.now.submatrix.now limit) w.in-Clean.is searched) in
           subst (λ (f : Finding). IsSeen limit m lines (record { finding = f; children = [] })) (sym w.finding-is)
           (seen_enumerated limit m c.args.node.now.shape lines c.args.node.now.are_lines c.requires.none c.requires.faultless has.0 has.1)
       | in-TooMany w ↦
           let shorter = w.in-TooMany.shorter in
-          let has = subst (λ (k : Matrix). (limit < shorter) × (shorter ≡ shorter_side k)) c.args.node.now.inner_is (subst (HasSearched c.args.node.now.inner.now limit) w.in-TooMany.is searched) in
+          let has = subst (λ (k : Matrix). (limit < shorter) × (shorter ≡ shorter_side k)) c.args.node.now.submatrix_is (subst (HasSearched c.args.node.now.submatrix.now limit) w.in-TooMany.is searched) in
           subst (λ (f : Finding). IsSeen limit m lines (record { finding = f; children = [] })) (sym w.finding-is)
           (seen_undecided limit m c.args.node.now.shape lines c.args.node.now.are_lines c.requires.none c.requires.faultless (subst (λ (n : ℕ). limit < n) has.1 has.0))
     ])

@@ -19,8 +19,8 @@ pub returns-in-Some : goal.returns-in-Some
 returns-in-Some g c =
     let m = c.args.node.now.matrix.now in
     let lines = c.args.node.now.lines.now in
-    subst (IsSeen c.args.node.now.limits.limit m lines) (sym c.leaf.ensures)
-    (seen_fault c.args.node.now.limits.limit m c.args.node.now.shape lines c.args.node.now.are_lines c.in-Some.fault
+    subst (IsSeen c.args.node.now.limits.lines m lines) (sym c.leaf.ensures)
+    (seen_fault c.args.node.now.limits.lines m c.args.node.now.shape lines c.args.node.now.are_lines c.in-Some.fault
     (subst (λ (o : Option LineSet). IfSome o (IsNamedFault m lines)) c.in-Some.is c.in_ok-fault.ensures))
 
 pub returns-in-Some-directed : goal.returns-in-Some-directed
@@ -29,14 +29,14 @@ returns-in-Some-directed g c =
     let m = c.args.node.now.matrix.now in
     let lines = c.args.node.now.lines.now in
     let reproduces = MatchOption-at_some _ _ n (sym c.directed.ensures ∙ c.in-Some-directed.is) (directed_decides c.by_columns.result.now c.in_ok-of_columns.of_columns c.in_ok-of_columns.ensures) in
-    subst (IsSeen c.args.node.now.limits.limit m lines) (sym c.leaf-in-Some-directed.ensures)
-    (seen_conetwork c.args.node.now.limits.limit m c.args.node.now.shape lines c.args.node.now.are_lines n c.requires.none
-    (subst (Reproduces n) (c.by_columns.ensures.matrix ∙ ap transposed c.args.node.now.inner_is) reproduces))
+    subst (IsSeen c.args.node.now.limits.lines m lines) (sym c.leaf-in-Some-directed.ensures)
+    (seen_conetwork c.args.node.now.limits.lines m c.args.node.now.shape lines c.args.node.now.are_lines n c.requires.none
+    (subst (Reproduces n) (c.by_columns.ensures.matrix ∙ ap transposed c.args.node.now.submatrix_is) reproduces))
 
 pub look_no_network-requires-clause-none : goal.look_no_network-requires-clause-none
 look_no_network-requires-clause-none g c =
     let m = c.args.node.now.matrix.now in
     let lines = c.args.node.now.lines.now in
     let none = MatchOption-at_none _ _ (sym c.directed.ensures ∙ c.in_default-directed.is) (directed_decides c.by_columns.result.now c.in_ok-of_columns.of_columns c.in_ok-of_columns.ensures) in
-    let no_conetwork = subst (λ (k : Matrix). ¬ (IsNetworkMatrix k)) (c.by_columns.ensures.matrix ∙ ap transposed c.args.node.now.inner_is) none in
-    λ κs lives. none_next c.args.node.now.limits.limit (part m lines) IsConetwork c.requires.none no_conetwork
+    let no_conetwork = subst (λ (k : Matrix). ¬ (IsNetworkMatrix k)) (c.by_columns.ensures.matrix ∙ ap transposed c.args.node.now.submatrix_is) none in
+    λ κs lives. none_next c.args.node.now.limits.lines (part m lines) IsConetwork c.requires.none no_conetwork

@@ -17,4 +17,4 @@ pub returns-then-branch-clause-known : goal.returns-then-branch-clause-known
 returns-then-branch-clause-known c =
     let are = some_are_lines c.args.matrix.now c.args.lines.now (record { rows = c.in_ok-middle_of.field-0; columns = c.in_ok-middle_of-2.field-0 })
     c.requires.lines c.in_ok-middle_of.ensures c.in_ok-middle_of-2.ensures in
-    record { are_lines = are; none = subst HasNoGraphicSupport c.in_ok-inner.ensures (c.in_ok-has_no_graphic_support.ensures c.if-branch.true) }
+    record { are_lines = are; none = subst HasNoGraphicSupport c.in_ok-submatrix.ensures (c.in_ok-has_no_graphic_support.ensures c.if-branch.true) }

@@ -28,24 +28,24 @@ use Rattle.decomp_tree.proofs.settling.+settling.Goals as goal
 pub find-returns-in_default : goal.find-returns-in_default
 find-returns-in_default g t c =
     IfOk-weaker c.leaf-in_default.result (λ node. tree_of node ≡ undecided c.args.lines.now) _
-    (λ node e. found_no_place c.args.limits.limit c.args.pivots c.args.state c.args.matrix.now c.args.lines.now (tree_of node) c.if-pivots-eq0.false (sym c.drawn_place.ensures.drawn ∙ c.in_default.is) e) c.leaf-in_default.ensures
+    (λ node e. found_no_place c.args.limits.lines c.args.pivots c.args.state c.args.matrix.now c.args.lines.now (tree_of node) c.if-pivots-eq0.false (sym c.drawn_place.ensures.drawn ∙ c.in_default.is) e) c.leaf-in_default.ensures
 
 pub find-draw_root-requires-clause-lines : goal.find-draw_root-requires-clause-lines
 find-draw_root-requires-clause-lines g t c =
     let made = subst (IsPivotedPart c.args.matrix.now c.args.lines.now c.in-Some.drawn.place) c.in-Ternary.is c.in_ok-fault.ensures in
-    λ κs lives. lines_made c.args.limits.limit c.args.pivots c.args.state c.args.matrix.now c.args.lines.now c.in-Some.drawn (sym c.drawn_place.ensures.drawn ∙ c.in-Some.is) c.in-Ternary.after made c.requires.lines
+    λ κs lives. lines_made c.args.limits.lines c.args.pivots c.args.state c.args.matrix.now c.args.lines.now c.in-Some.drawn (sym c.drawn_place.ensures.drawn ∙ c.in-Some.is) c.in-Ternary.after made c.requires.lines
 
 pub find-taken_back-requires-clause-fault : goal.find-taken_back-requires-clause-fault
 find-taken_back-requires-clause-fault g t c =
     let made = subst (IsPivotedPart c.args.matrix.now c.args.lines.now c.in-Some.drawn.place) c.in-Ternary.is c.in_ok-fault.ensures in
-    let are = lines_made c.args.limits.limit c.args.pivots c.args.state c.args.matrix.now c.args.lines.now c.in-Some.drawn (sym c.drawn_place.ensures.drawn ∙ c.in-Some.is) c.in-Ternary.after made c.requires.lines in
-    fault_drawn c.args.limits.limit (c.args.pivots - 1) c.in-Some.drawn.state c.in-Ternary.after c.args.lines.now (tree_of c.in_ok-tree-in-Ternary.tree) are c.in_ok-tree-in-Ternary.ensures
+    let are = lines_made c.args.limits.lines c.args.pivots c.args.state c.args.matrix.now c.args.lines.now c.in-Some.drawn (sym c.drawn_place.ensures.drawn ∙ c.in-Some.is) c.in-Ternary.after made c.requires.lines in
+    fault_drawn c.args.limits.lines (c.args.pivots - 1) c.in-Some.drawn.state c.in-Ternary.after c.args.lines.now (tree_of c.in_ok-tree-in-Ternary.tree) are c.in_ok-tree-in-Ternary.ensures
 
 pub find-returns-in-Violated : goal.find-returns-in-Violated
 find-returns-in-Violated g t c =
     let shows = subst (IsPivotedPart c.args.matrix.now c.args.lines.now c.in-Some.drawn.place) c.in-Violated.is c.in_ok-fault.ensures in
     IfOk-weaker c.leaf-in-Violated.result (λ node. tree_of node ≡ Branch c.args.lines.now (Violator c.in-Violated.fault) NoTrees) _
-    (λ node e. found_two c.args.limits.limit c.args.pivots c.args.state c.args.matrix.now c.args.lines.now c.in-Some.drawn (sym c.drawn_place.ensures.drawn ∙ c.in-Some.is) (tree_of node) c.in-Violated.fault c.if-pivots-eq0.false shows e)
+    (λ node e. found_two c.args.limits.lines c.args.pivots c.args.state c.args.matrix.now c.args.lines.now c.in-Some.drawn (sym c.drawn_place.ensures.drawn ∙ c.in-Some.is) (tree_of node) c.in-Violated.fault c.if-pivots-eq0.false shows e)
     c.leaf-in-Violated.ensures
 
 pub find-returns-in_ok-tree-in-Ternary : goal.find-returns-in_ok-tree-in-Ternary
@@ -53,7 +53,7 @@ find-returns-in_ok-tree-in-Ternary g t c =
     let made = subst (IsPivotedPart c.args.matrix.now c.args.lines.now c.in-Some.drawn.place) c.in-Ternary.is c.in_ok-fault.ensures in
     let found = tree_of c.in_ok-tree-in-Ternary.tree in
     IfOk-weaker c.taken_back.result (λ node. IsToldBeforePivot c.args.matrix.now c.args.lines.now c.in-Some.drawn.place found (verdict_of found) (tree_of node)) _
-    (λ node told. found_after c.args.limits.limit c.args.pivots c.args.state c.args.matrix.now c.args.lines.now c.in-Some.drawn (sym c.drawn_place.ensures.drawn ∙ c.in-Some.is) (tree_of node) found c.in-Ternary.after c.if-pivots-eq0.false made
+    (λ node told. found_after c.args.limits.lines c.args.pivots c.args.state c.args.matrix.now c.args.lines.now c.in-Some.drawn (sym c.drawn_place.ensures.drawn ∙ c.in-Some.is) (tree_of node) found c.in-Ternary.after c.if-pivots-eq0.false made
     c.in_ok-tree-in-Ternary.ensures told)
     c.taken_back.ensures
 
@@ -75,16 +75,16 @@ pub settle-returns-in-Some : goal.settle-returns-in-Some
 settle-returns-in-Some g t c =
     let m = c.args.matrix.now in
     let found = subst (λ (o : Option LineSet). MatchOption o (HasNoLateFault m c.deref.result.now.lines (finding_shown c.deref-2.result.now.finding)) (λ fault. IsNamedFault m c.deref.result.now.lines fault × (is_unsearched (finding_shown c.deref-2.result.now.finding) ≡ true))) c.in-Some.is c.in_ok-fault.ensures in
-    fault_settled c.args.limits.limit m c.args.drawn c.requires.drafted c.args.pivots c.args.state c.requires.shape (lines_in c.args.limits.limit m c.args.drawn c.requires.drafted c.requires.lines) c.in-Some.fault
+    fault_settled c.args.limits.lines m c.args.drawn c.requires.drafted c.args.pivots c.args.state c.requires.shape (lines_in c.args.limits.lines m c.args.drawn c.requires.drafted c.requires.lines) c.in-Some.fault
     (subst (λ (front : Front). IsNamedFault m front.lines c.in-Some.fault) c.deref.ensures found.0) (map tree_of c.args.nodes.now.items) (map tree_of c.push_fault.new.nodes.items) c.in_ok-push_fault.ensures
 
 pub settle-returns-then-is_undecided : goal.settle-returns-then-is_undecided
 settle-returns-then-is_undecided g t c =
     let m = c.args.matrix.now in
-    found_settled c.args.limits.limit m c.args.drawn c.requires.drafted c.args.pivots c.args.state
+    found_settled c.args.limits.lines m c.args.drawn c.requires.drafted c.args.pivots c.args.state
     (subst (λ (front : Front). is_undecided (finding_shown front.finding) ≡ true) c.deref-3.ensures (sym c.is_undecided.ensures ∙ c.if-is_undecided.true)) (tree_of c.in_ok-found.found)
-    (subst (λ (front : Front). IsFound c.args.limits.limit c.args.pivots c.args.state m front.lines (tree_of c.in_ok-found.found)) c.deref-then-is_undecided.ensures
-    (subst (λ (whole : Matrix). IsFound c.args.limits.limit c.args.pivots c.args.state whole c.deref-then-is_undecided.result.now.lines (tree_of c.in_ok-found.found)) c.by_rows-whole.ensures.matrix c.in_ok-found.ensures))
+    (subst (λ (front : Front). IsFound c.args.limits.lines c.args.pivots c.args.state m front.lines (tree_of c.in_ok-found.found)) c.deref-then-is_undecided.ensures
+    (subst (λ (whole : Matrix). IsFound c.args.limits.lines c.args.pivots c.args.state whole c.deref-then-is_undecided.result.now.lines (tree_of c.in_ok-found.found)) c.by_rows-whole.ensures.matrix c.in_ok-found.ensures))
     (map tree_of c.args.nodes.now.items) (map tree_of c.push.new.self.items) (tree_behind c.args.nodes.now.items c.push.new.self.items c.in_ok-found.found c.in_ok-push.ensures.items)
 
 pub settle-settle-requires : goal.settle-settle-requires
@@ -94,7 +94,7 @@ settle-settle-requires g t c =
     let child = c.in-Some-child.child in
     let all = next_child at.yielded child (into_iter_items at.child-iterator) (into_iter_items c.next.new.self) (into_iter_items c.into_iter-child-iterator.result) (drafts_in c.args.drawn)
     c.in-Some-child.ensures.steps.0 at.invariant.0 (c.into_iter-child-iterator.ensures.into_iter_gives.0 ∙ ap (λ d. d.children.items) (out-roll-Draft _)) in
-    let known = child_at c.args.limits.limit m c.args.drawn c.requires.drafted at.yielded child (into_iter_items c.next.new.self) all in
+    let known = child_at c.args.limits.lines m c.args.drawn c.requires.drafted at.yielded child (into_iter_items c.next.new.self) all in
     let fewer = known.1.fewer in
     let falls : 4 * (c.args.pivots + size_of (lines_of_sketch (sketch_of child))) + 2 < t = omega (arith, c.decreases, fewer) in
     λ κs lives. (
@@ -121,7 +121,7 @@ pub settle-loop-child-init : goal.settle-loop-child-init
 settle-loop-child-init g t c = (
   refl,
   search rules,
-  subst (λ (nodes : List Node). AreSettled c.args.limits.limit c.args.pivots c.args.state c.args.matrix.now [] (map tree_of nodes)) (sym c.new-children.ensures.items) ([], tt, refl),
+  subst (λ (nodes : List Node). AreSettled c.args.limits.lines c.args.pivots c.args.state c.args.matrix.now [] (map tree_of nodes)) (sym c.new-children.ensures.items) ([], tt, refl),
 )
 
 pub settle-loop-child-preserved : goal.settle-loop-child-preserved
@@ -134,7 +134,7 @@ settle-loop-child-preserved g t c =
           let gone = c.in-Some-child.ensures.steps.1 in
           let short = ap length steps in
           omega arith),
-      settled_next c.args.limits.limit c.args.matrix.now c.args.pivots c.args.state at.yielded child (map tree_of at.children.items) (map tree_of c.settle.new.nodes.items) at.invariant.2 c.in_ok-settle.ensures,
+      settled_next c.args.limits.lines c.args.matrix.now c.args.pivots c.args.state at.yielded child (map tree_of at.children.items) (map tree_of c.settle.new.nodes.items) at.invariant.2 c.in_ok-settle.ensures,
     )
 
 pub settle-push_node-requires : goal.settle-push_node-requires
@@ -142,8 +142,8 @@ settle-push_node-requires g t c =
     let at = c.loop-child in
     let none = c.in-None.ensures.steps in
     let all = all_yielded at.yielded (into_iter_items at.child-iterator) (into_iter_items c.into_iter-child-iterator.result) (drafts_in c.args.drawn) (sym at.invariant.1 ∙ none.0) at.invariant.0 (c.into_iter-child-iterator.ensures.into_iter_gives.0 ∙ ap (λ d. d.children.items) (out-roll-Draft _)) in
-    count_settled c.args.limits.limit c.args.matrix.now c.args.drawn c.requires.drafted c.args.pivots c.args.state at.children.items
-    (subst (λ (drafts : List Draft). AreSettled c.args.limits.limit c.args.pivots c.args.state c.args.matrix.now (map (λ child. lines_of_sketch (sketch_of child)) drafts) (map tree_of at.children.items)) all at.invariant.2)
+    count_settled c.args.limits.lines c.args.matrix.now c.args.drawn c.requires.drafted c.args.pivots c.args.state at.children.items
+    (subst (λ (drafts : List Draft). AreSettled c.args.limits.lines c.args.pivots c.args.state c.args.matrix.now (map (λ child. lines_of_sketch (sketch_of child)) drafts) (map tree_of at.children.items)) all at.invariant.2)
 
 pub settle-returns : goal.settle-returns
 settle-returns g t c =
@@ -152,8 +152,8 @@ settle-returns g t c =
     let none = c.in-None.ensures.steps in
     let all = all_yielded at.yielded (into_iter_items at.child-iterator) (into_iter_items c.into_iter-child-iterator.result) (drafts_in c.args.drawn) (sym at.invariant.1 ∙ none.0) at.invariant.0 (c.into_iter-child-iterator.ensures.into_iter_gives.0 ∙ ap (λ d. d.children.items) (out-roll-Draft _)) in
     let late = subst (λ (o : Option LineSet). MatchOption o (HasNoLateFault m c.deref.result.now.lines (finding_shown c.deref-2.result.now.finding)) (λ fault. IsNamedFault m c.deref.result.now.lines fault × (is_unsearched (finding_shown c.deref-2.result.now.finding) ≡ true))) c.in_default.is c.in_ok-fault.ensures in
-    whole_settled c.args.limits.limit m c.args.drawn c.requires.drafted c.args.pivots c.args.state at.children.items
-    (subst (λ (drafts : List Draft). AreSettled c.args.limits.limit c.args.pivots c.args.state m (map (λ child. lines_of_sketch (sketch_of child)) drafts) (map tree_of at.children.items)) all at.invariant.2)
+    whole_settled c.args.limits.lines m c.args.drawn c.requires.drafted c.args.pivots c.args.state at.children.items
+    (subst (λ (drafts : List Draft). AreSettled c.args.limits.lines c.args.pivots c.args.state m (map (λ child. lines_of_sketch (sketch_of child)) drafts) (map tree_of at.children.items)) all at.invariant.2)
     (subst (λ (front : Front). is_undecided (finding_shown front.finding) ≡ false) c.deref-3.ensures (sym c.is_undecided.ensures ∙ c.if-is_undecided.false))
     (subst (λ (front : Front). HasNoLateFault m (front_in c.args.drawn).lines (finding_shown front.finding)) c.deref-2.ensures (subst (λ (front : Front). HasNoLateFault m front.lines (finding_shown c.deref-2.result.now.finding)) c.deref.ensures late))
     (map tree_of c.args.nodes.now.items) (map tree_of c.push_node.new.nodes.items) c.in_ok-push_node.ensures

@@ -19,4 +19,4 @@ decreases-find g l = 4 * (l.pivots + size_of l.lines.now)
 abbrev pub invariant-settle-loop-child : goal.invariant-settle-loop-child
 invariant-settle-loop-child g l = (l.yielded ++ into_iter_items l.child-iterator ≡ into_iter_items l.initial.child-iterator)
     × (into_iter_len l.child-iterator ≡ length (into_iter_items l.child-iterator))
-    × AreSettled l.limits.limit l.pivots l.state l.matrix (map (λ draft. lines_of_sketch (sketch_of draft)) l.yielded) (map tree_of l.children.items)
+    × AreSettled l.limits.lines l.pivots l.state l.matrix (map (λ draft. lines_of_sketch (sketch_of draft)) l.yielded) (map tree_of l.children.items)

@@ -9,12 +9,12 @@ use cmr_base::{LineSet, Matrix, RowsAndColumns};
 
 /// Some lines of a matrix, the submatrix on them, and how much may be searched there.
 #[derive(Clone, Copy)]
-pub struct NodeView<'a> {
+pub struct SearchedNode<'a> {
     pub matrix: &'a Matrix,
     pub lines: &'a LineSet,
-    pub inner: &'a RowsAndColumns<'a>,
+    pub submatrix: &'a RowsAndColumns<'a>,
     pub limits: SearchLimits,
     ghost shape: { IsMatrix matrix.now },
     ghost are_lines: { AreLines matrix.now lines.now },
-    ghost inner_is: { inner.now ≡ part matrix.now lines.now },
+    ghost submatrix_is: { submatrix.now ≡ part matrix.now lines.now },
 }
