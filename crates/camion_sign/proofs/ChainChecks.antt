@@ -5,6 +5,7 @@ use Rattle.std.specs.List.{AllByRecursion}
 use Rattle.std.specs.List.Sorted.{IsStrictlyIncreasing}
 use Rattle.std.proofs.lemmas.Bool.{cases_lt}
 use Rattle.std.proofs.lemmas.List.{take_all, take_more, drop_all, length-drop, get_or_default}
+use Rattle.std.proofs.Math.Seq.{drop-cons}
 use Rattle.cmr_base.specs.Matrix.{Matrix, height, entry, with_entry, IsMatrix}
 use Rattle.cmr_base.specs.Members.{IsIn}
 use Rattle.cmr_base.specs.Sums.{sum_over}
@@ -154,6 +155,33 @@ pub forced_option : (a s : Matrix) (row column : ℕ) (cycle : LineSet) (sum : �
 forced_option a s row column cycle sum None is signs here row_set column_set row_here column_here two_each others e h = λ v rule. h v rule.is_sign (subst (λ z. IsZeroModFour (z +ℤ v)) (sym e) (forced_rest a s row column cycle v is signs rule))
 forced_option a s row column cycle sum (Some v) is signs here row_set column_set row_here column_here two_each others e h =
     forced_from a s row column cycle v is signs here row_set column_set row_here column_here two_each others h.0 (subst (λ z. IsZeroModFour (z +ℤ v)) e h.1)
+
+-- ---- the steps that were followed
+
+-- up to one that breaks its rule
+pub followed_to : (a s : Matrix) (steps : List SignStep) (n : ℕ) (tested : SignStep) → n < length steps → tested ≡ get_or steps n tested → AreSigns a s → LeadTo (KeepsRule a) (unsigned a) (take n steps) s
+    → ((v : ℤ) → ¬ (KeepsRule a s tested v)) → HasFollowed a steps (record { signs = s; kept = n })
+followed_to a s steps n tested l e signs lead none = record {
+  within = omega (arith, l);
+  signs = signs;
+  leads = lead;
+  breaks = λ step rest f v rule. none v (subst (λ x. KeepsRule a s x v) (same step rest f) rule);
+}
+  where
+    same : (step : SignStep) (rest : List SignStep) → drop n steps ≡ step ∷ rest → step ≡ tested
+    same step rest f = let first = drop-cons steps n tested l in cc
+
+-- all of them
+pub followed_all : (a s : Matrix) (steps : List SignStep) (n count : ℕ) → length steps ≤ n → count ≡ length steps → AreSigns a s → LeadTo (KeepsRule a) (unsigned a) (take n steps) s → HasFollowed a steps (record { signs = s; kept = count })
+followed_all a s steps n count l e signs lead = record {
+  within = omega (arith, e);
+  signs = signs;
+  leads = subst (λ xs. LeadTo (KeepsRule a) (unsigned a) xs s) (take_all n steps l ∙ sym (take_all count steps (omega (arith, e)))) lead;
+  breaks = λ step rest f. absurd (none_left step rest (sym (drop_all count steps (omega (arith, e))) ∙ f));
+}
+  where
+    none_left : (step : SignStep) (rest : List SignStep) → [] ≡ step ∷ rest → ⊥
+    none_left step rest f = cc
 
 -- ---- the whole chain
 

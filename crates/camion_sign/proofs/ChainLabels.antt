@@ -9,15 +9,31 @@ use Rattle.cmr_base.proofs.RowLists.{is_eq, is_ne, eq_of}
 use Rattle.cmr_base.proofs.Booleans.{true_is_false}
 use Rattle.ghouila.proofs.SignProducts.{sign_nonzero}
 use Rattle.ghouila.proofs.SignsUnique.{row_in, column_in}
-use Rattle.camion_sign.specs.SignSteps.{AreSigns, IsUnsignedOne}
+use Rattle.camion_sign.specs.declared.step.SignStep.{SignStep}
+use Rattle.camion_sign.specs.SignSteps.{AreSigns, IsUnsignedOne, step_row, step_column, unsigned}
 use Rattle.camion_sign.specs.Chains.{AreJoined, JoinsTo, AreLinked, IsFreeStep}
 use Rattle.camion_sign.specs.ChainStates.{AreLabels, label_place, label_in}
+use Rattle.camion_sign.proofs.ChainViolators.{entry-unsigned}
 use Rattle.camion_sign.proofs.GivenSigns.{HasOneMore, one_more, signs_more, here_or, keeps, joined_on, links_more}
 use Rattle.cmr_base.specs.Components.{IsLineOf}
 
 place_inside : (a : Matrix) (labels : List ℕ) (x : Line) → length labels ≡ height a + a.width → IsLineOf a x → label_place a x < length labels
 place_inside a labels (Row row) e l = omega arith
 place_inside a labels (Column column) e l = omega arith
+
+one_place : (a : Matrix) (x y : Line) → IsLineOf a x → IsLineOf a y → label_place a x ≡ label_place a y → x ≡ y
+one_place a (Row i) (Row k) l m e = ap Row e
+one_place a (Row i) (Column k) l m e = absurd (omega arith)
+one_place a (Column i) (Row k) l m e = absurd (omega arith)
+one_place a (Column i) (Column k) l m e = let same : i ≡ k = omega arith in ap Column same
+
+-- where no entry is signed, each line has its own
+pub own_labels_are : (a : Matrix) (labels : List ℕ) → length labels ≡ height a + a.width → ((k : ℕ) → k < length labels → get_or labels k 0 ≡ k) → AreLabels a (unsigned a) labels
+own_labels_are a labels long own = record {
+  one_each = long;
+  joined = λ i k h. absurd (h (entry-unsigned a i k));
+  linked = λ x y l m e. ([], one_place a x y l m (sym (own (label_place a x) (place_inside a labels x long l)) ∙ e ∙ own (label_place a y) (place_inside a labels y long m)));
+}
 
 -- linked lines have one label
 one_label : (a s : Matrix) (labels : List ℕ) → AreLabels a s labels → (x y : Line) → AreJoined s x y → label_in a labels x ≡ label_in a labels y
@@ -90,9 +106,15 @@ pub differ_test : (x y z : ℕ) → y ≡ z → (not (nat_eq x y) ≡ true) ↔ 
 differ_test x y z e = ((λ h f. true_is_false (sym h ∙ ap not (is_eq x y (f ∙ sym e)))), (λ d. ap not (is_ne x y (λ f. d (f ∙ e)))))
 
 -- after one more sign
-pub labels_given : (a s t : Matrix) (labels made : List ℕ) (row column n : ℕ) (v : ℤ) → IsMatrix a → AreSigns a s → IsUnsignedOne a s row column → IsSign v → AreLabels a s labels → t ≡ with_entry s row column v → n ≡ height a
+labels_given : (a s t : Matrix) (labels made : List ℕ) (row column n : ℕ) (v : ℤ) → IsMatrix a → AreSigns a s → IsUnsignedOne a s row column → IsSign v → AreLabels a s labels → t ≡ with_entry s row column v → n ≡ height a
     → made ≡ map (λ l. cond (nat_eq l (get_or labels (n + column) 0)) (get_or labels row 0) l) labels → AreLabels a t made
 labels_given a s t labels made row column n v is signs here u w e f g =
     subst (λ x. AreLabels a x made) (sym e) (labels_more a s (with_entry s row column v) labels made row column v u (one_more a s is.rectangular signs row column v here.one) (signs_more a s is.rectangular signs row column v here.one u) w
     (row_in a row column here.one) (column_in a row column is.rectangular here.one)
     (subst (λ k. made ≡ map (λ l. cond (nat_eq l (get_or labels (k + column) 0)) (get_or labels row 0) l) labels) f g))
+
+-- where a step keeps its rule
+pub step_labels : (a s t : Matrix) (labels made : List ℕ) (step : SignStep) (row column n : ℕ) (v : ℤ) → IsMatrix a → AreSigns a s → IsUnsignedOne a s (step_row step) (step_column step) → IsSign v → AreLabels a s labels
+    → row ≡ step_row step → column ≡ step_column step → t ≡ with_entry s row column v → n ≡ height a → made ≡ map (λ l. cond (nat_eq l (get_or labels (n + column) 0)) (get_or labels row 0) l) labels → AreLabels a t made
+step_labels a s t labels made step row column n v is signs here u w e f g h k =
+    labels_given a s t labels made row column n v is signs (subst (λ i. IsUnsignedOne a s i column) (sym e) (subst (λ j. IsUnsignedOne a s (step_row step) j) (sym f) here)) u w g h k

@@ -1,5 +1,5 @@
 -- The state of the check of a chain.
-use Rattle.std.specs.Prelude.{◌≡◌, ◌≢◌, ◌<◌, ◌≤◌, ◌+◌, ◌⊎◌, ℕ, ℤ, pos, List, ◌∷◌, take, drop, length, slice_index}
+use Rattle.std.specs.Prelude.{◌≡◌, ◌≢◌, ◌≤◌, ◌+◌, ◌⊎◌, ℕ, ℤ, pos, List, ◌∷◌, take, drop, length, slice_index}
 use Rattle.cmr_base.specs.Matrix.{Matrix, height, entry}
 use Rattle.cmr_base.specs.Members.{IsIn}
 use Rattle.cmr_base.specs.declared.line.Line.{Line}

@@ -8,7 +8,7 @@ ghost use Rattle.cmr_base.specs.LineSets.{AllBelow};
 ghost use Rattle.cmr_base.specs.Signing.{IsSign};
 ghost use Rattle.cmr_base.specs.Sums.{sum_over};
 ghost use Rattle.camion_sign.specs.declared.step.SignStep.TheVariants.{Free, Forced};
-ghost use Rattle.camion_sign.specs.SignSteps.{AreSigns, IsUnsignedOne, IsZeroModFour, signed_by};
+ghost use Rattle.camion_sign.specs.SignSteps.{AreSigns, IsUnsignedOne, IsZeroModFour, signed_by, unsigned};
 ghost use Rattle.camion_sign.specs.Chains.{HasTwoEach, IsFirstBrokenPart, IsSignedViolator, IsSoundChain, KeepsRule};
 ghost use Rattle.camion_sign.specs.ChainStates.{AllSignedBut, IsOpenBut, AreLabels, HasFollowed};
 
@@ -68,24 +68,38 @@ fn follow(alloc: Global, matrix: &Matrix, steps: &[SignStep]) -> Result<Followed
 {
     let mut signs = Matrix::zero(alloc, matrix.rows(), matrix.columns())?;
     let mut labels = first_labels(alloc, matrix)?;
-    for kept in 0..steps.len() {
-        match sign_of_step(matrix, &signs, &labels, &steps[kept]) {
-            Some(sign) => give_sign(matrix, &mut signs, &mut labels, &steps[kept], sign),
-            None => return Ok(Followed { signs, kept }),
-        }
-    }
-    Ok(Followed {
-        signs,
-        kept: steps.len(),
-    })
+    let kept = sign_by_steps(matrix, &mut signs, &mut labels, steps);
+    Ok(Followed { signs, kept })
 }
 
-// A label of its own for each line.
+// A label of its own for each line, as long as no entry is signed.
 fn first_labels(alloc: Global, matrix: &Matrix) -> Result<Vec<u32>, Memory>
-    ensures { IfOk result (λ labels. (length labels.items ≡ height matrix.now + matrix.now.width)
-        × ((k : ℕ) → k < length labels.items → slice_index labels.items k ≡ k)) }
+    ensures { IfOk result (λ labels. AreLabels matrix.now (unsigned matrix.now) labels.items) }
 {
     own_labels(alloc, matrix.rows() + matrix.columns())
+}
+
+// Gives the signs of the first steps, as many of them as keep their rules, and tells how many these are.
+fn sign_by_steps(
+    matrix: &Matrix,
+    signs: &mut Matrix,
+    labels: &mut Vec<u32>,
+    steps: &[SignStep],
+) -> usize
+    requires matrix { IsMatrix matrix.now }
+    requires unsigned { signs.old ≡ unsigned matrix.now }
+    requires labels { AreLabels matrix.now signs.old labels.old.items }
+    ensures followed { HasFollowed matrix.now steps.now
+        (record { signs = signs.new; kept = result }) }
+    ensures few { result ≤ 1000000 }
+{
+    for kept in 0..steps.len() {
+        match sign_of_step(matrix, signs, labels, &steps[kept]) {
+            Some(sign) => give_sign(matrix, signs, labels, &steps[kept], sign),
+            None => return kept,
+        }
+    }
+    steps.len()
 }
 
 fn give_sign(matrix: &Matrix, signs: &mut Matrix, labels: &mut Vec<u32>, step: &SignStep, sign: i8)
@@ -96,16 +110,9 @@ fn give_sign(matrix: &Matrix, signs: &mut Matrix, labels: &mut Vec<u32>, step: &
     ensures labels { AreLabels matrix.now signs.new labels.new.items }
 {
     let rows = matrix.rows() as usize;
-    match step {
-        SignStep::Free { row, column } => {
-            signs.set(*row, *column, sign);
-            join(labels, *row as usize, rows + *column as usize);
-        }
-        SignStep::Forced { row, column, .. } => {
-            signs.set(*row, *column, sign);
-            join(labels, *row as usize, rows + *column as usize);
-        }
-    }
+    let (row, column) = step.place();
+    signs.set(row, column, sign);
+    join(labels, row as usize, rows + column as usize);
 }
 
 // Gives all places with the label of one place the label of another.

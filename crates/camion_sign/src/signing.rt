@@ -58,16 +58,33 @@ fn all_rows_signed(alloc: Global, matrix: &RowsAndColumns<'_>) -> Result<Signing
     ensures shape { IfOk result (λ signing. IsMatrix matrix.now) }
 {
     let listed = ListedMatrix::new(alloc, matrix)?;
-    let mut places = RowPlaces::new(alloc, &listed)?;
-    let mut signing = Signing {
-        signs: Matrix::zero(alloc, listed.rows(), listed.columns())?,
-        steps: SignStepList::new(alloc),
-    };
-    for row in 0..listed.rows() {
-        places.begin(&listed);
-        sign_row(alloc, &listed, &mut places, row, &mut signing)?;
-    }
+    let mut signing = no_signs(alloc, &listed)?;
+    sign_rows(alloc, &listed, &mut signing)?;
     Ok(signing)
+}
+
+// Before the first step.
+fn no_signs(alloc: Global, matrix: &ListedMatrix<'_>) -> Result<Signing, Memory>
+    ensures { IfOk result (IsAtRow matrix.now 0) }
+{
+    Ok(Signing {
+        signs: Matrix::zero(alloc, matrix.rows(), matrix.columns())?,
+        steps: SignStepList::new(alloc),
+    })
+}
+
+// Signs the ones of all rows.
+fn sign_rows(alloc: Global, matrix: &ListedMatrix<'_>, signing: &mut Signing) -> Result<(), Memory>
+    requires { IsAtRow matrix.now 0 signing.old }
+    ensures state { OnOk result (IsAtRow matrix.now (height matrix.now) signing.new) }
+    ensures shape { OnOk result (IsMatrix matrix.now) }
+{
+    let mut places = RowPlaces::new(alloc, matrix)?;
+    for row in 0..matrix.rows() {
+        places.begin(matrix);
+        sign_row(alloc, matrix, &mut places, row, signing)?;
+    }
+    Ok(())
 }
 
 // Signs the ones of a row.

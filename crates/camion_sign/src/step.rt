@@ -1,4 +1,7 @@
 // Steps that sign the ones of a matrix, and chains.
+ghost use Rattle.std.specs.Prelude.{◌≡◌};
+ghost use Rattle.camion_sign.specs.SignSteps.{step_row, step_column};
+
 use cmr_base::{ItemList, LineSet};
 
 /// One sign: it is free, or the cycle of a place forces it.
@@ -13,6 +16,19 @@ pub enum SignStep {
         column: u32,
         cycle: LineSet,
     },
+}
+
+impl SignStep {
+    // The row and the column of the one that it signs.
+    pub fn place(&self) -> (u32, u32)
+        ensures row { result.0 ≡ step_row self.now }
+        ensures column { result.1 ≡ step_column self.now }
+    {
+        match self {
+            SignStep::Free { row, column } => (*row, *column),
+            SignStep::Forced { row, column, .. } => (*row, *column),
+        }
+    }
 }
 
 /// Signs, one after another.

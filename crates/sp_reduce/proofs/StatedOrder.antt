@@ -85,6 +85,9 @@ pub record IsOnTheWay (binary : Bool) (M : ℕ → ℕ → ℤ) (end : Removal) 
   pub rows_are : (removal_on binary M fuel R C).rows ≡ end.rows
   pub columns_are : (removal_on binary M fuel R C).columns ≡ end.columns
 
+pub removal_is : (end : Removal) (steps : List Step) (rows columns : List ℕ) → steps ≡ end.steps → rows ≡ end.rows → columns ≡ end.columns → end ≡ record { steps = steps; rows = rows; columns = columns }
+removal_is end steps rows columns e f g = rw (e, f, g) refl
+
 pub at_start : (binary : Bool) (M : ℕ → ℕ → ℤ) (R C : List ℕ) → IsOnTheWay binary M (removal_on binary M (length R + length C) R C) [] R C
 at_start binary M R C = record { fuel = length R + length C; enough = omega arith; steps_are = refl; rows_are = refl; columns_are = refl }
 

@@ -6,6 +6,7 @@ use Rattle.std.proofs.Math.Nat.{le_trans, mul-le-mul_right}
 use Rattle.cmr_base.specs.Matrix.{Matrix, height, entry, is_nonzero, IsMatrix}
 use Rattle.cmr_base.specs.Trees.{support}
 use Rattle.cmr_base.specs.Reductions.{nonzeros_at}
+use Rattle.cmr_base.specs.LineSets.{AllBelow}
 use Rattle.cmr_base.specs.Members.{IsIn}
 use Rattle.cmr_base.proofs.ListsWithout.{place_of, place_is}
 use Rattle.sp_reduce.specs.declared.kind.LineKind.{LineKind}
@@ -13,7 +14,7 @@ use Rattle.sp_reduce.specs.declared.kind.LineKind.TheVariants.{Rows, Columns}
 use Rattle.sp_reduce.specs.declared.tallies.Tallies.{Tallies}
 use Rattle.sp_reduce.specs.LineKinds.{count_of_kind, cross_size, other_kind, own_line, table}
 use Rattle.sp_reduce.specs.StayingSides.{weight, weight_at, IsAcross}
-use Rattle.sp_reduce.specs.Tallies.{AreMarks, AreTallies, AreWeights, is_passed, by_kind}
+use Rattle.sp_reduce.specs.Tallies.{AreMarks, AreTallies, AreTalliesAt, AreTalliesOf, AreWeights, is_passed, by_kind}
 use Rattle.sp_reduce.proofs.PlaceSums.{tally_same, tally_none, tally_bound, tally_marked, one_more}
 use Rattle.sp_reduce.proofs.Weights.{weight_small}
 
@@ -209,12 +210,21 @@ module _ (m : Matrix) (kind : LineKind) (marks : List Bool) (across : List ℕ) 
       go Rows = refl
       go Columns = refl
 
-  pub counts_are : (l : ℕ) → l < count_of_kind m kind → get_or t.counts.items l 0 ≡ nonzeros_at across (table (entry m) kind l)
+  counts_are : (l : ℕ) → l < count_of_kind m kind → get_or t.counts.items l 0 ≡ nonzeros_at across (table (entry m) kind l)
   counts_are l h =
       are.counts l h ∙ tally_same (λ _. 1) marks (cross_size m kind) (by_kind (is_passed m (height m) 0) kind l) (by_kind (support m) kind l) (λ k g. by_kind_all m kind l k h g)
       ∙ tally_marked (λ _. 1) marks (cross_size m kind) across (by_kind (support m) kind l) marked is.rising inside ∙ by_table l (λ _. 1)
 
-  pub sums_are : (l : ℕ) → l < count_of_kind m kind → get_or t.sums.items l 0 ≡ weight_at across (table (entry m) kind l)
+  sums_are : (l : ℕ) → l < count_of_kind m kind → get_or t.sums.items l 0 ≡ weight_at across (table (entry m) kind l)
   sums_are l h =
       are.sums l h ∙ tally_same weight marks (cross_size m kind) (by_kind (is_passed m (height m) 0) kind l) (by_kind (support m) kind l) (λ k g. by_kind_all m kind l k h g)
       ∙ tally_marked weight marks (cross_size m kind) across (by_kind (support m) kind l) marked is.rising inside ∙ by_table l weight
+
+  -- and of some lines alone
+  pub tallies_of : (lines : List ℕ) (some : Tallies) → AllBelow (count_of_kind m kind) lines → AreTalliesAt lines (length lines) t some → AreTalliesOf m kind lines across some
+  tallies_of lines some below at = record {
+    many_counts = at.many_counts;
+    many_sums = at.many_sums;
+    counts = λ k h. at.counts k h ∙ counts_are (get_or lines k 0) (below k h);
+    sums = λ k h. at.sums k h ∙ sums_are (get_or lines k 0) (below k h);
+  }

@@ -4,6 +4,7 @@ use Rattle.std.specs.List.{remove}
 use Rattle.cmr_base.specs.declared.line.Reason.{Reason}
 use Rattle.cmr_base.specs.Matrix.{Matrix, entry, is_nonzero}
 use Rattle.cmr_base.specs.LineSets.{without}
+use Rattle.cmr_base.specs.Reductions.{Removal, removal_on}
 use Rattle.sp_reduce.specs.declared.side.StayingLines.{StayingLines}
 use Rattle.sp_reduce.specs.LineKinds.{other_kind, table, reason_for, is_twin}
 use Rattle.sp_reduce.specs.StayingSides.{IsParallel, IsSide, IsAcross, AreNonzerosCounted, IsSettled, weight}
@@ -72,3 +73,7 @@ pub record ArePaired (binary : Bool) (m : Matrix) (own across : StayingLines) : 
   pub across_counted : AreNonzerosCounted m across own.stays.items
   pub own_settled : IsSettled binary m own across.stays.items
   pub across_settled : IsSettled binary m across own.stays.items
+
+-- the stated order from the lines of two sides to its end
+abbrev pub removal_from : Bool → Matrix → (rows columns : StayingLines) → Removal
+removal_from binary m rows columns = removal_on binary (entry m) (length rows.stays.items + length columns.stays.items) rows.stays.items columns.stays.items

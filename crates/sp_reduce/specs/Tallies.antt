@@ -1,14 +1,15 @@
 -- Nonzeros of all lines of a kind in marked crossing lines, counted row by row.
 use Rattle.std.specs.Prelude.{◌≡◌, ◌<◌, ◌&&◌, ◌||◌, ◌==◌, ◌↔◌, nat_lt, if◌then◌else◌, Bool, true, false, ℕ, List, length, slice_index, slice_index_or, sum_by}
-use Rattle.cmr_base.specs.Matrix.{Matrix}
+use Rattle.cmr_base.specs.Matrix.{Matrix, entry}
 use Rattle.cmr_base.specs.Trees.{support}
 use Rattle.cmr_base.specs.LineSets.{first_lines}
 use Rattle.cmr_base.specs.Members.{IsIn}
+use Rattle.cmr_base.specs.Reductions.{nonzeros_at}
 use Rattle.sp_reduce.specs.declared.kind.LineKind.{LineKind}
 use Rattle.sp_reduce.specs.declared.kind.LineKind.TheVariants.{Rows, Columns}
 use Rattle.sp_reduce.specs.declared.tallies.Tallies.{Tallies}
-use Rattle.sp_reduce.specs.LineKinds.{count_of_kind, cross_size}
-use Rattle.sp_reduce.specs.StayingSides.{weight}
+use Rattle.sp_reduce.specs.LineKinds.{count_of_kind, cross_size, table}
+use Rattle.sp_reduce.specs.StayingSides.{weight, weight_at}
 
 -- of so many lines, these are marked
 pub record AreMarks (size : ℕ) (lines : List ℕ) (marks : List Bool) : Type 0 where
@@ -45,3 +46,17 @@ pub record AreTallies (m : Matrix) (kind : LineKind) (marks : List Bool) (row co
       → slice_index tallies.counts.items line ≡ tally (λ _. 1) marks (cross_size m kind) (by_kind (is_passed m row column) kind line)
   pub sums : (line : ℕ) → line < count_of_kind m kind
       → slice_index tallies.sums.items line ≡ tally weight marks (cross_size m kind) (by_kind (is_passed m row column) kind line)
+
+-- the first of these lines have the tallies that they have among all
+pub record AreTalliesAt (lines : List ℕ) (count : ℕ) (all tallies : Tallies) : Type 0 where
+  pub many_counts : length tallies.counts.items ≡ count
+  pub many_sums : length tallies.sums.items ≡ count
+  pub counts : (at : ℕ) → at < count → slice_index tallies.counts.items at ≡ slice_index all.counts.items (slice_index lines at)
+  pub sums : (at : ℕ) → at < count → slice_index tallies.sums.items at ≡ slice_index all.sums.items (slice_index lines at)
+
+-- each of these lines has the count and the weights of its nonzeros in these crossing lines
+pub record AreTalliesOf (m : Matrix) (kind : LineKind) (lines across : List ℕ) (tallies : Tallies) : Type 0 where
+  pub many_counts : length tallies.counts.items ≡ length lines
+  pub many_sums : length tallies.sums.items ≡ length lines
+  pub counts : (at : ℕ) → at < length lines → slice_index tallies.counts.items at ≡ nonzeros_at across (table (entry m) kind (slice_index lines at))
+  pub sums : (at : ℕ) → at < length lines → slice_index tallies.sums.items at ≡ weight_at across (table (entry m) kind (slice_index lines at))

@@ -1,12 +1,12 @@
 // The stated order of removals.
-ghost use Rattle.std.specs.Prelude.{◌≡◌, ◌+◌, length, MatchOption, None, Some, IfOk, IfSome};
+ghost use Rattle.std.specs.Prelude.{◌≡◌, ◌+◌, length, MatchOption, None, Some, IfOk, IfSome, OnOk};
 ghost use Rattle.cmr_base.specs.Matrix.{height, entry, IsMatrix};
 ghost use Rattle.cmr_base.specs.LineSets.{AllBelow, without};
 ghost use Rattle.cmr_base.specs.Reductions.{first_step, lines_of, rows_without, columns_without, removal, removal_on};
 ghost use Rattle.sp_reduce.specs.declared.kind.LineKind.TheVariants.{Rows};
 ghost use Rattle.sp_reduce.specs.LineKinds.{index_of_line, line_named};
 ghost use Rattle.sp_reduce.specs.StayingSides.{first_step_of};
-ghost use Rattle.sp_reduce.specs.Changes.{ArePaired};
+ghost use Rattle.sp_reduce.specs.Changes.{ArePaired, removal_from};
 
 use crate::kind::LineKind;
 use crate::side::StayingLines;
@@ -63,15 +63,59 @@ pub fn reduce_lines(
         column_numbers,
         row_numbers,
     )?;
-    let mut steps = StepList::new(alloc);
-    'steps: while let Some(step) = next_step(matrix, &mut rows, &mut columns, binary) {
-        steps.push(step)?;
-    }
+    reduce_sides(alloc, matrix, &mut rows, &mut columns, binary)
+}
+
+// The same from the lines of two sides on.
+fn reduce_sides(
+    alloc: Global,
+    matrix: &Matrix,
+    rows: &mut StayingLines,
+    columns: &mut StayingLines,
+    binary: bool,
+) -> Result<Reduction, Memory>
+    requires shape { IsMatrix matrix.now }
+    requires kind { rows.old.kind ≡ Rows }
+    requires paired { ArePaired binary matrix.now rows.old columns.old }
+    ensures { IfOk result (λ reduction. removal_from binary matrix.now rows.old columns.old
+        ≡ record {
+          steps = reduction.steps;
+          rows = reduction.rest.rows;
+          columns = reduction.rest.columns;
+        }) }
+{
+    let steps = remove_all(alloc, matrix, rows, columns, binary)?;
     let rest = LineSet {
         rows: Indices::of(alloc, &rows.stays)?,
         columns: Indices::of(alloc, &columns.stays)?,
     };
     Ok(Reduction { steps, rest })
+}
+
+// Makes all steps of the stated order.
+fn remove_all(
+    alloc: Global,
+    matrix: &Matrix,
+    rows: &mut StayingLines,
+    columns: &mut StayingLines,
+    binary: bool,
+) -> Result<StepList, Memory>
+    requires shape { IsMatrix matrix.now }
+    requires kind { rows.old.kind ≡ Rows }
+    requires paired { ArePaired binary matrix.now rows.old columns.old }
+    ensures paired { OnOk result (ArePaired binary matrix.now rows.new columns.new) }
+    ensures end { IfOk result (λ steps. removal_from binary matrix.now rows.old columns.old
+        ≡ record {
+          steps = steps;
+          rows = rows.new.stays.items;
+          columns = columns.new.stays.items;
+        }) }
+{
+    let mut steps = StepList::new(alloc);
+    'steps: while let Some(step) = next_step(matrix, rows, columns, binary) {
+        steps.push(step)?;
+    }
+    Ok(steps)
 }
 
 // The next step of the stated order, which is made.

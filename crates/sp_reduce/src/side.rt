@@ -7,7 +7,7 @@ ghost use Rattle.sp_reduce.specs.LineKinds.{count_of_kind, cross_size, table, re
 ghost use Rattle.sp_reduce.specs.StayingSides.{is_copy, is_negative, twin_reason, may_be_twins, IsAlone, IsParallel, IsSide, IsAcross, AreNonzerosCounted, IsSettled, IsFirstReducible, first_step_of};
 
 use crate::kind::{LineKind, are_equal, are_opposite, is_nonzero};
-use crate::tallies::{Tallies, marks_of};
+use crate::tallies::Tallies;
 use cmr_base::{Matrix, Memory, Reason};
 use std::alloc::Global;
 
@@ -49,19 +49,12 @@ impl StayingLines {
         ensures settled { IfOk result (λ side. (binary : Bool)
             → IsSettled binary matrix.now side across.now) }
     {
-        let marks = marks_of(alloc, kind.other().size(matrix), across)?;
-        let tallies = Tallies::new(alloc, matrix, kind, &marks)?;
-        let mut counts = Vec::with_capacity(alloc, stays.len())?;
-        let mut sums = Vec::with_capacity(alloc, stays.len())?;
-        'lines: for line in stays {
-            counts.push(tallies.counts[*line as usize])?;
-            sums.push(tallies.sums[*line as usize])?;
-        }
+        let tallies = Tallies::of_lines(alloc, matrix, kind, stays, across)?;
         Ok(StayingLines {
             kind,
             stays: Vec::from_slice(alloc, stays)?,
-            counts,
-            sums,
+            counts: tallies.counts,
+            sums: tallies.sums,
             settled: vec![in alloc; false; stays.len()]?,
         })
     }

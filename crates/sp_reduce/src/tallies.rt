@@ -2,9 +2,9 @@
 ghost use Rattle.std.specs.Prelude.{◌≡◌, ◌<◌, ◌≤◌, ◌+◌, ◌*◌, ◌^◌, if◌then◌else◌, length, set, slice_index, IfOk};
 ghost use Rattle.cmr_base.specs.Matrix.{height, IsMatrix};
 ghost use Rattle.cmr_base.specs.LineSets.{AllBelow};
-ghost use Rattle.sp_reduce.specs.LineKinds.{cross_size};
-ghost use Rattle.sp_reduce.specs.StayingSides.{weight};
-ghost use Rattle.sp_reduce.specs.Tallies.{AreMarks, AreTallies, AreWeights};
+ghost use Rattle.sp_reduce.specs.LineKinds.{count_of_kind, cross_size};
+ghost use Rattle.sp_reduce.specs.StayingSides.{weight, IsAcross};
+ghost use Rattle.sp_reduce.specs.Tallies.{AreMarks, AreTallies, AreTalliesAt, AreTalliesOf, AreWeights};
 
 use crate::kind::LineKind;
 use cmr_base::{MAX_ROWS, Matrix, Memory};
@@ -27,7 +27,7 @@ pub fn weight(number: u32) -> u64
 }
 
 // For each of so many lines, whether it is one of these.
-pub fn marks_of(alloc: Global, size: u32, lines: &[u32]) -> Result<Vec<bool>, Memory>
+fn marks_of(alloc: Global, size: u32, lines: &[u32]) -> Result<Vec<bool>, Memory>
     requires { AllBelow size lines.now }
     ensures { IfOk result (λ marks. AreMarks size lines.now marks.items) }
 {
@@ -39,8 +39,42 @@ pub fn marks_of(alloc: Global, size: u32, lines: &[u32]) -> Result<Vec<bool>, Me
 }
 
 impl Tallies {
+    // Of some lines alone, in their order: their nonzeros in some crossing lines.
+    pub fn of_lines(
+        alloc: Global,
+        matrix: &Matrix,
+        kind: LineKind,
+        lines: &[u32],
+        across: &[u32],
+    ) -> Result<Tallies, Memory>
+        requires shape { IsMatrix matrix.now }
+        requires lines { AllBelow (count_of_kind matrix.now kind) lines.now }
+        requires across { IsAcross matrix.now kind across.now }
+        ensures { IfOk result (AreTalliesOf matrix.now kind lines.now across.now) }
+    {
+        let marks = marks_of(alloc, kind.other().size(matrix), across)?;
+        let all = Tallies::new(alloc, matrix, kind, &marks)?;
+        all.at(alloc, lines)
+    }
+
+    fn at(&self, alloc: Global, lines: &[u32]) -> Result<Tallies, Memory>
+        requires counts { AllBelow (length self.now.counts.items) lines.now }
+        requires sums { AllBelow (length self.now.sums.items) lines.now }
+        ensures { IfOk result (AreTalliesAt lines.now (length lines.now) self.now) }
+    {
+        let mut tallies = Tallies {
+            counts: Vec::with_capacity(alloc, lines.len())?,
+            sums: Vec::with_capacity(alloc, lines.len())?,
+        };
+        'lines: for line in lines {
+            tallies.counts.push(self.counts[*line as usize])?;
+            tallies.sums.push(self.sums[*line as usize])?;
+        }
+        Ok(tallies)
+    }
+
     // Goes through the nonzeros of all rows.
-    pub fn new(
+    fn new(
         alloc: Global,
         matrix: &Matrix,
         kind: LineKind,

@@ -1,5 +1,5 @@
 -- One more connected part.
-use Rattle.std.proofs.Common.{◌≡◌, ◌<◌, ◌≤◌, ◌+◌, ◌-◌, ◌⊎◌, inl, inr, ◌∙◌, ◌++◌, ◌||◌, not, cond, filter, nat_eq, ℕ, zero, suc, ℤ, Bool, true, false, List, [], ◌∷◌, length, ap, ap₂, sym, subst, refl, arith}
+use Rattle.std.proofs.Common.{◌≡◌, ◌<◌, ◌≤◌, ◌+◌, ◌⊎◌, inl, inr, ◌∙◌, ◌++◌, ◌||◌, not, cond, filter, nat_eq, ℕ, zero, suc, ℤ, Bool, true, false, List, [], ◌∷◌, length, ap, ap₂, sym, subst, refl, arith}
 use Rattle.std.specs.List.{list_any}
 use Rattle.std.proofs.lemmas.Bool.{false≢true, cases_lt}
 use Rattle.std.proofs.lemmas.List.Kept.{IsStrictlyIncreasing-filter}
@@ -20,7 +20,8 @@ use Rattle.cmr_base.proofs.Booleans.{not_is, or_is, or_left, or_right, not_false
 use Rattle.cmr_base.specs.Seeds.{IsGrown, IsLine, line_number}
 use Rattle.cmr_base.proofs.SeedLemmas.{line_is}
 use Rattle.cmr_base.specs.ColumnSets.{has_column}
-use Rattle.two_sep.specs.FoundParts.{HasPartLine, ArePartsFound, seen_lines}
+use Rattle.two_sep.specs.declared.parts.FoundParts.{FoundParts}
+use Rattle.two_sep.specs.FoundParts.{HasFound, HasPartLine, ArePartsFound, lines_found, seen_lines}
 use Rattle.two_sep.proofs.LineNumbers.{number_in}
 use Rattle.line_growth.proofs.FilteredLines.{filter_more}
 use Rattle.two_sep.proofs.FirstTwo.{listed_filter}
@@ -73,6 +74,10 @@ opposite_apart m n M S s = record {
   lower = λ r c hr hc e f. s.upper r c hr hc (not_false (S (Row r)) e) (not_is (S (Column c)) f);
 }
 
+pub none_seen : (rows columns : List ℕ) → ((r : ℕ) → has_column rows r ≡ false) → ((c : ℕ) → has_column columns c ≡ false) → (x : Line) → seen_lines rows columns x ≡ false
+none_seen rows columns no_row no_column (Row r) = no_row r
+none_seen rows columns no_row no_column (Column c) = no_column c
+
 -- what was seen before, and a set
 pub seen_joined : (rows columns rows' columns' more_rows more_columns : List ℕ) (S : Lines) → ((r : ℕ) → has_column rows' r ≡ (has_column rows r || has_column more_rows r)) → ((c : ℕ) → has_column columns' c ≡ (has_column columns c || has_column more_columns c))
     → ((r : ℕ) → has_column more_rows r ≡ S (Row r)) → ((c : ℕ) → has_column more_columns c ≡ S (Column c)) → (x : Line) → seen_lines rows' columns' x ≡ (seen_lines rows columns x || S x)
@@ -101,7 +106,7 @@ module _ (m : Matrix) where
     line_here : (other : Line) → IsLine h m.width other → number ≤ line_number h other → line_number h other < number + 1 → other ≡ line
     line_here other l low high = line_is h m.width other line l inside (omega arith)
 
-    pub found_passes : seen line ≡ true → ArePartsFound m parts seen (number + 1)
+    found_passes : seen line ≡ true → ArePartsFound m parts seen (number + 1)
     found_passes here = record {
       row_sets = found.row_sets;
       column_sets = found.column_sets;
@@ -277,3 +282,11 @@ module _ (m : Matrix) where
     once = found.once;
     ordered = found.ordered;
   }
+
+-- a line of a part that was found adds none
+pub found_passed : (m : Matrix) (number : ℕ) (found : FoundParts) → HasFound m number found → (line : Line) → IsLine (height m) m.width line → line_number (height m) line ≡ number → lines_found found line ≡ true → HasFound m (number + 1) found
+found_passed m number found has line inside number_is here = record {
+  rows = has.rows;
+  columns = has.columns;
+  are = found_passes m found.parts (lines_found found) number has.are line inside number_is here;
+}

@@ -10,6 +10,8 @@ use Rattle.cmr_base.specs.Separations.{Lines, listed}
 use Rattle.cmr_base.specs.Seeds.{IsLine, line_number}
 use Rattle.cmr_base.specs.Components.{IsComponent, part_at, first_number}
 use Rattle.cmr_base.specs.ColumnSets.{has_column}
+use Rattle.cmr_base.specs.Planes.{words_for}
+use Rattle.two_sep.specs.declared.parts.FoundParts.{FoundParts}
 
 abbrev pub HasPartLine : List LineSet → ℕ → Line → Type 0
 HasPartLine parts a line = HasLine (part_at parts a).rows (part_at parts a).columns line
@@ -30,3 +32,13 @@ pub record ArePartsFound (m : Matrix) (parts : List LineSet) (seen : Lines) (num
   pub once : (a b : ℕ) (line : Line) → a < length parts → b < length parts → HasPartLine parts a line → HasPartLine parts b line → a ≡ b
   pub ordered : (a b : ℕ) → a < b → b < length parts → first_number (height m) (part_at parts a) < first_number (height m) (part_at parts b)
   pub early : (a : ℕ) → a < length parts → first_number (height m) (part_at parts a) < number
+
+-- the lines of the parts that were found
+abbrev pub lines_found : FoundParts → Lines
+lines_found found = seen_lines found.rows.items found.columns.items
+
+-- the parts of the lines before one were found
+pub record HasFound (m : Matrix) (number : ℕ) (found : FoundParts) : Type 0 where
+  pub rows : length found.rows.items ≡ words_for (height m)
+  pub columns : length found.columns.items ≡ words_for m.width
+  pub are : ArePartsFound m found.parts (lines_found found) number

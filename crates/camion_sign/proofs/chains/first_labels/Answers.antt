@@ -3,6 +3,7 @@ use Rattle.std.specs.List.{range_with_len}
 use Rattle.std.proofs.lemmas.List.FromFn.{length-range_with_len, get_or-range_with_len}
 use Rattle.std.proofs.lemmas.Result.{IfOk-weaker}
 use Rattle.cmr_base.specs.Matrix.{height}
+use Rattle.camion_sign.proofs.ChainLabels.{own_labels_are}
 use Rattle.camion_sign.proofs.chains.first_labels.Goals as goal
 
 pub returns : goal.returns
@@ -13,5 +14,5 @@ returns c =
     (λ labels e.
     let made = e ∙ sizes in
     let size = ap (λ (items : List ℕ). length items) made ∙ length-range_with_len 0 (height m + m.width) in
-    (size, λ k l. ap (λ (items : List ℕ). slice_index items k) made ∙ (let f = get_or-range_with_len 0 (height m + m.width) k 0 (omega arith) in omega arith)))
+    own_labels_are m labels.items size (λ k l. ap (λ (items : List ℕ). slice_index items k) made ∙ (let f = get_or-range_with_len 0 (height m + m.width) k 0 (omega arith) in omega arith)))
     c.own_labels.ensures

@@ -1,0 +1,10 @@
+use Rattle.std.proofs.Common.{◌∙◌}
+use Rattle.cmr_base.specs.Matrix.{height}
+use Rattle.camion_sign.proofs.PlaceLinks.{same_zeros}
+use Rattle.camion_sign.proofs.SigningStates.{start_state}
+use Rattle.camion_sign.proofs.signing.no_signs.Goals as goal
+
+pub returns : goal.returns
+returns c =
+    let m = c.args.matrix.now in
+    start_state m (record { signs = c.in_ok-zero.field-0; steps = c.new.result }) (c.in_ok-zero.ensures ∙ same_zeros c.rows.result c.columns.result (height m) m.width c.rows.ensures.rows c.columns.ensures.columns) c.new.ensures
