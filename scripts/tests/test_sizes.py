@@ -32,7 +32,7 @@ WITHIN = """\
     36 of at most  100 characters of a line of a clause
      2 of at most   10 clauses of a function
      2 of at most   51 lines of a body
-     0 of at most   16 names of definitions in two crates
+     0 of at most   14 names of definitions in two crates
      0 of at most    0 modules of definitions with one name in two crates
 """
 
@@ -106,14 +106,14 @@ class SizesTest(ScriptTest):
         self.put("crates/low/specs/More.antt", "abbrev pub IsSum : ℕ → Type 0\npub record IsPart (n : ℕ) : Type 0 where\n")
         self.put("crates/low/specs/Sums.antt", "abbrev pub IsSum : ℕ → Type 0\n")
         self.test_counts_that_are_kept()
-        self.put("crates/high/specs/Sums.antt", "".join(f"pub data Kind{number} : Type 0 where\n" for number in range(17)))
-        self.put("crates/top/specs/Kinds.antt", "".join(f"abbrev pub Kind{number} : ℕ\n" for number in range(16)))
+        self.put("crates/high/specs/Sums.antt", "".join(f"pub data Kind{number} : Type 0 where\n" for number in range(15)))
+        self.put("crates/top/specs/Kinds.antt", "".join(f"abbrev pub Kind{number} : ℕ\n" for number in range(14)))
         self.lists("     1 of at most    0 modules of definitions with one name in two crates", "    Sums: high, low")
         self.put("crates/high/specs/Totals.antt", "pub record IsSum (n : ℕ) : Type 0 where\n")
         self.lists(
-            "    17 of at most   16 names of definitions in two crates",
+            "    15 of at most   14 names of definitions in two crates",
             "    IsSum: high, low",
-            *(f"    Kind{number}: high, top" for number in sorted(range(16), key=str)),
+            *(f"    Kind{number}: high, top" for number in sorted(range(14), key=str)),
             "     1 of at most    0 modules of definitions with one name in two crates",
             "    Sums: high, low",
         )

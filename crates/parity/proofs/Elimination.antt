@@ -9,7 +9,7 @@ use Rattle.std.proofs.lemmas.Bool.{cases_lt, cases_eq}
 use lib.Bits.{xor_self}
 use Rattle.cmr_base.proofs.Lists.{all-append, all_back, all_front, all_weaker}
 use Rattle.parity.specs.declared.narrow.Equation.{Equation}
-use Rattle.parity.specs.Equations.{IsBasis, IsLowest, cleared_by, common, corrected_by, reduced, solved}
+use Rattle.parity.specs.Equations.{IsBasis, IsLowest, cleared_by, common, corrected_by, reduced_by, solved}
 use Rattle.parity.proofs.Bits.{DiffersAt, and-xor, common-lt, common-pow, common-xor, common-xor_right, differs, lowest_differs}
 
 -- ---- one equation
@@ -38,28 +38,28 @@ corrected_even : (e : Equation) (number : ℕ) → common e.columns number ≡ 0
 corrected_even e number none = rw none refl
 
 -- ---- reducing
-pub reduced-append : (es fs : List Equation) (number : ℕ) → reduced (es ++ fs) number ≡ reduced fs (reduced es number)
-reduced-append [] fs number = refl
-reduced-append (e ∷ es) fs number = reduced-append es fs (cleared_by e number)
+pub reduced_by-append : (es fs : List Equation) (number : ℕ) → reduced_by (es ++ fs) number ≡ reduced_by fs (reduced_by es number)
+reduced_by-append [] fs number = refl
+reduced_by-append (e ∷ es) fs number = reduced_by-append es fs (cleared_by e number)
 
 -- adding equations that hold for a set changes no parity of what is common with it
-common-reduced : (es : List Equation) (number set : ℕ) → AllByRecursion (λ e. common e.columns set ≡ 0) es → common (reduced es number) set ≡ common number set
-common-reduced [] number set hold = refl
-common-reduced (e ∷ es) number set hold = common-reduced es (cleared_by e number) set hold.1 ∙ elim (bit_cases number e.pivot) [
+common-reduced_by : (es : List Equation) (number set : ℕ) → AllByRecursion (λ e. common e.columns set ≡ 0) es → common (reduced_by es number) set ≡ common number set
+common-reduced_by [] number set hold = refl
+common-reduced_by (e ∷ es) number set hold = common-reduced_by es (cleared_by e number) set hold.1 ∙ elim (bit_cases number e.pivot) [
   | inl one ↦ ap (λ n. common n set) (cleared_set e number one) ∙ common-xor number e.columns set ∙ omega (arith, hold.0, common-lt number set)
   | inr none ↦ ap (λ n. common n set) (cleared_clear e number none)
 ]
 
-reduced_apart : (es : List Equation) (number gone : ℕ) → AllByRecursion (λ e. bit_and e.columns gone ≡ 0) es → bit_and number gone ≡ 0 → bit_and (reduced es number) gone ≡ 0
-reduced_apart [] number gone all apart = apart
-reduced_apart (e ∷ es) number gone all apart = reduced_apart es (cleared_by e number) gone all.1 (elim (bit_cases number e.pivot) [
+reduced_by_apart : (es : List Equation) (number gone : ℕ) → AllByRecursion (λ e. bit_and e.columns gone ≡ 0) es → bit_and number gone ≡ 0 → bit_and (reduced_by es number) gone ≡ 0
+reduced_by_apart [] number gone all apart = apart
+reduced_by_apart (e ∷ es) number gone all apart = reduced_by_apart es (cleared_by e number) gone all.1 (elim (bit_cases number e.pivot) [
   | inl one ↦ ap (λ n. bit_and n gone) (cleared_set e number one) ∙ and-xor number e.columns gone ∙ ap₂ bit_xor apart all.0
   | inr none ↦ ap (λ n. bit_and n gone) (cleared_clear e number none) ∙ apart
 ])
 
-reduced_lt : (es : List Equation) (number width : ℕ) → AllByRecursion (λ e. e.columns < 2 ^ width) es → number < 2 ^ width → reduced es number < 2 ^ width
-reduced_lt [] number width all h = h
-reduced_lt (e ∷ es) number width all h = reduced_lt es (cleared_by e number) width all.1 (elim (bit_cases number e.pivot) [
+reduced_by_lt : (es : List Equation) (number width : ℕ) → AllByRecursion (λ e. e.columns < 2 ^ width) es → number < 2 ^ width → reduced_by es number < 2 ^ width
+reduced_by_lt [] number width all h = h
+reduced_by_lt (e ∷ es) number width all h = reduced_by_lt es (cleared_by e number) width all.1 (elim (bit_cases number e.pivot) [
   | inl one ↦ subst (λ n. n < 2 ^ width) (sym (cleared_set e number one)) (xor_lt width number e.columns h all.0)
   | inr none ↦ subst (λ n. n < 2 ^ width) (sym (cleared_clear e number none)) h
 ])
@@ -68,50 +68,50 @@ reduced_lt (e ∷ es) number width all h = reduced_lt es (cleared_by e number) w
 pub basis_none : (width gone : ℕ) → IsBasis width gone [] []
 basis_none width gone = record { follow = λ set hold. tt; cleared = tt; lowest = tt; apart = tt; small = tt }
 
-pub basis_skip : (width gone : ℕ) (rows : List ℕ) (es : List Equation) (row : ℕ) → IsBasis width gone rows es → reduced es row ≡ 0 → IsBasis width gone (rows ++ row ∷ []) es
+pub basis_skip : (width gone : ℕ) (rows : List ℕ) (es : List Equation) (row : ℕ) → IsBasis width gone rows es → reduced_by es row ≡ 0 → IsBasis width gone (rows ++ row ∷ []) es
 basis_skip width gone rows es row basis none = record {
   follow = λ set hold. basis.follow set (all_front (λ r. common r set ≡ 0) rows (row ∷ []) hold);
-  cleared = all-append (λ r. reduced es r ≡ 0) rows (row ∷ []) basis.cleared (none, tt);
+  cleared = all-append (λ r. reduced_by es r ≡ 0) rows (row ∷ []) basis.cleared (none, tt);
   lowest = basis.lowest;
   apart = basis.apart;
   small = basis.small;
 }
 
-pub basis_push : (width gone : ℕ) (rows : List ℕ) (es : List Equation) (row pivot : ℕ) → IsBasis width gone rows es → bit_and row gone ≡ 0 → row < 2 ^ width → IsLowest (reduced es row) pivot
-    → IsBasis width gone (rows ++ row ∷ []) (es ++ record { pivot = pivot; columns = reduced es row } ∷ [])
+pub basis_push : (width gone : ℕ) (rows : List ℕ) (es : List Equation) (row pivot : ℕ) → IsBasis width gone rows es → bit_and row gone ≡ 0 → row < 2 ^ width → IsLowest (reduced_by es row) pivot
+    → IsBasis width gone (rows ++ row ∷ []) (es ++ record { pivot = pivot; columns = reduced_by es row } ∷ [])
 basis_push width gone rows es row pivot basis apart small low = record {
   follow = λ set hold.
       let before = basis.follow set (all_front (λ r. common r set ≡ 0) rows (row ∷ []) hold) in
       let last = (all_back (λ r. common r set ≡ 0) rows (row ∷ []) hold).0 in
-      all-append (λ f. common f.columns set ≡ 0) es (e ∷ []) before (common-reduced es row set before ∙ last, tt);
-  cleared = all-append (λ r. reduced (es ++ e ∷ []) r ≡ 0) rows (row ∷ [])
-      (all_weaker (λ r. reduced es r ≡ 0) (λ r. reduced (es ++ e ∷ []) r ≡ 0) (λ r none. reduced-append es (e ∷ []) r ∙ ap (cleared_by e) none ∙ cleared_clear e 0 (bit_at-zero pivot)) rows basis.cleared)
-      (reduced-append es (e ∷ []) row ∙ cleared_set e (reduced es row) low.there ∙ xor_self (reduced es row), tt);
+      all-append (λ f. common f.columns set ≡ 0) es (e ∷ []) before (common-reduced_by es row set before ∙ last, tt);
+  cleared = all-append (λ r. reduced_by (es ++ e ∷ []) r ≡ 0) rows (row ∷ [])
+      (all_weaker (λ r. reduced_by es r ≡ 0) (λ r. reduced_by (es ++ e ∷ []) r ≡ 0) (λ r none. reduced_by-append es (e ∷ []) r ∙ ap (cleared_by e) none ∙ cleared_clear e 0 (bit_at-zero pivot)) rows basis.cleared)
+      (reduced_by-append es (e ∷ []) row ∙ cleared_set e (reduced_by es row) low.there ∙ xor_self (reduced_by es row), tt);
   lowest = all-append (λ f. IsLowest f.columns f.pivot) es (e ∷ []) basis.lowest (low, tt);
-  apart = all-append (λ f. bit_and f.columns gone ≡ 0) es (e ∷ []) basis.apart (reduced_apart es row gone basis.apart apart, tt);
-  small = all-append (λ f. f.columns < 2 ^ width) es (e ∷ []) basis.small (reduced_lt es row width basis.small small, tt);
+  apart = all-append (λ f. bit_and f.columns gone ≡ 0) es (e ∷ []) basis.apart (reduced_by_apart es row gone basis.apart apart, tt);
+  small = all-append (λ f. f.columns < 2 ^ width) es (e ∷ []) basis.small (reduced_by_lt es row width basis.small small, tt);
 }
   where
     e : Equation
-    e = record { pivot = pivot; columns = reduced es row }
+    e = record { pivot = pivot; columns = reduced_by es row }
 
 -- what is reduced to nothing has an even number in common with each set for which the rows hold
-pub even_where_cleared : (width gone : ℕ) (rows : List ℕ) (es : List Equation) (number set : ℕ) → IsBasis width gone rows es → reduced es number ≡ 0 → AllByRecursion (λ row. common row set ≡ 0) rows → common number set ≡ 0
+pub even_where_cleared : (width gone : ℕ) (rows : List ℕ) (es : List Equation) (number set : ℕ) → IsBasis width gone rows es → reduced_by es number ≡ 0 → AllByRecursion (λ row. common row set ≡ 0) rows → common number set ≡ 0
 even_where_cleared width gone rows es number set basis none hold =
-    sym (common-reduced es number set (basis.follow set hold)) ∙ ap (λ n. common n set) none ∙ common-zero set
+    sym (common-reduced_by es number set (basis.follow set hold)) ∙ ap (λ n. common n set) none ∙ common-zero set
   where
     common-zero : (b : ℕ) → common 0 b ≡ 0
     common-zero b = omega (arith, common-xor 0 0 b)
 
 -- ---- solving
 -- what is common with the solved set is what the reduced number has in common with the set before
-common-solved : (es : List Equation) (number start : ℕ) → common number (solved es start) ≡ common (reduced es number) start
+common-solved : (es : List Equation) (number start : ℕ) → common number (solved es start) ≡ common (reduced_by es number) start
 common-solved [] number start = refl
 common-solved (e ∷ es) number start =
     by (solved es start) (common-solved es (cleared_by e number) start) (common_cases e.columns (solved es start)) (bit_cases number e.pivot)
   where
-    by : (set : ℕ) → common (cleared_by e number) set ≡ common (reduced (e ∷ es) number) start → (common e.columns set ≡ 1) ⊎ (common e.columns set ≡ 0) → (bit_at number e.pivot ≡ 1) ⊎ (bit_at number e.pivot ≡ 0)
-        → common number (corrected_by e set) ≡ common (reduced (e ∷ es) number) start
+    by : (set : ℕ) → common (cleared_by e number) set ≡ common (reduced_by (e ∷ es) number) start → (common e.columns set ≡ 1) ⊎ (common e.columns set ≡ 0) → (bit_at number e.pivot ≡ 1) ⊎ (bit_at number e.pivot ≡ 0)
+        → common number (corrected_by e set) ≡ common (reduced_by (e ∷ es) number) start
     by set later (inl odd) (inl one) =
         ap (common number) (corrected_odd e set odd) ∙ common-xor_right number set (2 ^ e.pivot)
         ∙ omega (arith, common-pow number e.pivot, one, odd, common-xor number e.columns set)
@@ -167,13 +167,13 @@ pub apart_at : (number gone column : ℕ) → bit_at number column ≡ 1 → bit
 apart_at number gone column one apart =
     omega (arith, one, bit_at-lt gone column, bit_at_and number gone column, ap (λ n. bit_at n column) apart, bit_at-zero column)
 
-pub least_solution : (width gone : ℕ) (rows : List ℕ) (es : List Equation) (odd free : ℕ) → IsBasis width gone rows es → bit_and odd gone ≡ 0 → odd < 2 ^ width → IsLowest (reduced es odd) free
+pub least_solution : (width gone : ℕ) (rows : List ℕ) (es : List Equation) (odd free : ℕ) → IsBasis width gone rows es → bit_and odd gone ≡ 0 → odd < 2 ^ width → IsLowest (reduced_by es odd) free
     → IsLeastSolution width gone rows odd (solved es (2 ^ free))
 least_solution width gone rows es odd free basis odd_apart odd_small low = record {
   hold = hold;
   fails = fails;
   apart = same_from_bits (bit_and set gone) 0 (λ column. at column (bit_cases set column) ∙ sym (bit_at-zero column));
-  small = solved_lt es (2 ^ free) width (pivots_below es basis.lowest basis.small) (pow_below free width (below_width (reduced es odd) free width low.there (reduced_lt es odd width basis.small odd_small)));
+  small = solved_lt es (2 ^ free) width (pivots_below es basis.lowest basis.small) (pow_below free width (below_width (reduced_by es odd) free width low.there (reduced_by_lt es odd width basis.small odd_small)));
   least = λ other other_holds other_fails. elim (cases_lt other set) [
     | inl less ↦ absurd (no_less other other_holds other_fails (differs set other less))
     | inr more ↦ more
@@ -184,10 +184,10 @@ least_solution width gone rows es odd free basis odd_apart odd_small low = recor
     set = solved es (2 ^ free)
 
     hold : AllByRecursion (λ row. common row set ≡ 0) rows
-    hold = all_weaker (λ row. reduced es row ≡ 0) (λ row. common row set ≡ 0) (λ row none. common-solved es row (2 ^ free) ∙ ap (λ n. common n (2 ^ free)) none ∙ common-pow 0 free ∙ bit_at-zero free) rows basis.cleared
+    hold = all_weaker (λ row. reduced_by es row ≡ 0) (λ row. common row set ≡ 0) (λ row none. common-solved es row (2 ^ free) ∙ ap (λ n. common n (2 ^ free)) none ∙ common-pow 0 free ∙ bit_at-zero free) rows basis.cleared
 
     fails : common odd set ≡ 1
-    fails = common-solved es odd (2 ^ free) ∙ common-pow (reduced es odd) free ∙ low.there
+    fails = common-solved es odd (2 ^ free) ∙ common-pow (reduced_by es odd) free ∙ low.there
 
     pivots_below : (fs : List Equation) → AllByRecursion (λ e. IsLowest e.columns e.pivot) fs → AllByRecursion (λ e. e.columns < 2 ^ width) fs → AllByRecursion (λ e. e.pivot < width) fs
     pivots_below [] lows smalls = tt
@@ -199,7 +199,7 @@ least_solution width gone rows es odd free basis odd_apart odd_small low = recor
 
     at : (column : ℕ) → (bit_at set column ≡ 1) ⊎ (bit_at set column ≡ 0) → bit_at (bit_and set gone) column ≡ 0
     at column (inl one) =
-        let off : bit_at gone column ≡ 0 = solved_at (λ c. bit_at gone c ≡ 0) es free column (apart_at (reduced es odd) gone free low.there (reduced_apart es odd gone basis.apart odd_apart)) (pivots_apart es basis.lowest basis.apart) one in
+        let off : bit_at gone column ≡ 0 = solved_at (λ c. bit_at gone c ≡ 0) es free column (apart_at (reduced_by es odd) gone free low.there (reduced_by_apart es odd gone basis.apart odd_apart)) (pivots_apart es basis.lowest basis.apart) one in
         bit_at_and set gone column ∙ omega (arith, off)
     at column (inr none) = bit_at_and set gone column ∙ omega (arith, none)
 
@@ -215,6 +215,6 @@ least_solution width gone rows es odd free basis odd_apart odd_small low = recor
         let place = found.0 in
         let mine = basis.follow set hold in
         let others = basis.follow other other_holds in
-        let last : Agrees other free = (reduced es odd, low, common-reduced es odd set mine ∙ fails ∙ sym other_fails ∙ sym (common-reduced es odd other others)) in
+        let last : Agrees other free = (reduced_by es odd, low, common-reduced_by es odd set mine ∙ fails ∙ sym other_fails ∙ sym (common-reduced_by es odd other others)) in
         let b = solved_at (Agrees other) es free place last (agree other es basis.lowest mine others) found.1.has in
         omega (arith, b.2, lowest_differs b.0 set other place b.1 found.1)

@@ -7,10 +7,10 @@ use Rattle.cmr_base.specs.Matrix.{Matrix, height, IsMatrix}
 use Rattle.cmr_base.specs.LineSets.{AllBelow}
 use Rattle.cmr_base.proofs.Lists.{all-append, all-map, all_at, all_by_places}
 use Rattle.parity.specs.declared.narrow.Equation.{Equation}
-use Rattle.parity.specs.Equations.{AreCleared, AreReduced, IsBasis, IsLowest, IsReducedBy, cleared_by, reduced}
-use Rattle.parity.specs.PlaneSums.{equations_of, outside, support_of}
-use Rattle.parity.proofs.Elimination.{basis_none, basis_push, basis_skip, reduced-append}
-use Rattle.parity.proofs.Systems.{outside_apart, outside_lt, support_of-lt}
+use Rattle.parity.specs.Equations.{AreCleared, AreReduced, IsBasis, IsLowest, IsReducedBy, cleared_by, reduced_by}
+use Rattle.parity.specs.PlaneSums.{equations_of, support_of, without_columns}
+use Rattle.parity.proofs.Elimination.{basis_none, basis_push, basis_skip, reduced_by-append}
+use Rattle.parity.proofs.Systems.{support_of-lt, without_columns_apart, without_columns_lt}
 
 pub reduced_none : (words : List ℕ) → AreReduced 0 words words
 reduced_none words width gone all = record { equations = []; basis = basis_none width gone; rest = λ at le lt. refl }
@@ -27,8 +27,8 @@ reduced_more place words before after lt len so_far (inl (none, same)) width gon
 reduced_more place words before after lt len so_far (inr (pivot, low, added)) width gone all =
     let is = so_far width gone all in
     let row = get_or words place 0 in
-    let here : get_or before place 0 ≡ reduced is.equations row = is.rest place (omega arith) lt in
-    let e : Equation = record { pivot = pivot; columns = reduced is.equations row } in
+    let here : get_or before place 0 ≡ reduced_by is.equations row = is.rest place (omega arith) lt in
+    let e : Equation = record { pivot = pivot; columns = reduced_by is.equations row } in
     let own = all_at (λ word. (bit_and word gone ≡ 0) × (word < 2 ^ width)) words place 0 all lt in record {
       equations = is.equations ++ e ∷ [];
       basis = subst (λ rows. IsBasis width gone rows (is.equations ++ e ∷ [])) (sym (take_more words place 0 lt))
@@ -37,34 +37,34 @@ reduced_more place words before after lt len so_far (inr (pivot, low, added)) wi
           added.behind at (omega (arith, le)) (omega (arith, inside, len))
           ∙ ap (λ (n : ℕ). cleared_by (record { pivot = pivot; columns = n }) (get_or before at 0)) here
           ∙ ap (cleared_by e) (is.rest at (omega (arith, le)) inside)
-          ∙ sym (reduced-append is.equations (e ∷ []) (get_or words at 0));
+          ∙ sym (reduced_by-append is.equations (e ∷ []) (get_or words at 0));
     }
 
 -- the equations of rows, and behind them a set without the columns that are gone
-pub reduced_by_rows : (m : Matrix) (gone number : ℕ) (rows after : List ℕ) → IsMatrix m → AllBelow (height m) rows → number < 2 ^ m.width → AreReduced (length rows) (equations_of m gone rows ++ outside gone number ∷ []) after
-    → (es : List Equation) × IsBasis m.width gone (equations_of m gone rows) es × (get_or after (length rows) 0 ≡ reduced es (outside gone number))
-reduced_by_rows m gone number rows after is below small reduced_by = (
+pub reduced_by_rows : (m : Matrix) (gone number : ℕ) (rows after : List ℕ) → IsMatrix m → AllBelow (height m) rows → number < 2 ^ m.width → AreReduced (length rows) (equations_of m gone rows ++ without_columns gone number ∷ []) after
+    → (es : List Equation) × IsBasis m.width gone (equations_of m gone rows) es × (get_or after (length rows) 0 ≡ reduced_by es (without_columns gone number))
+reduced_by_rows m gone number rows after is below small are_reduced = (
   by.equations,
   subst (λ words. IsBasis m.width gone words by.equations) (ap (λ n. take n (equations ++ last ∷ [])) (sym long) ∙ take-append_seam equations (last ∷ [])) by.basis,
   by.rest (length rows) (omega arith) (omega (arith, length-append equations (last ∷ []), long))
-      ∙ ap (reduced by.equations) (get_or-append_right equations (last ∷ []) (length rows) (length rows) 0 long (omega arith) ∙ (let none : length rows - length rows ≡ 0 = omega arith in ap (λ k. get_or (last ∷ []) k 0) none)),
+      ∙ ap (reduced_by by.equations) (get_or-append_right equations (last ∷ []) (length rows) (length rows) 0 long (omega arith) ∙ (let none : length rows - length rows ≡ 0 = omega arith in ap (λ k. get_or (last ∷ []) k 0) none)),
 )
   where
     equations : List ℕ
     equations = equations_of m gone rows
 
     last : ℕ
-    last = outside gone number
+    last = without_columns gone number
 
     long : length equations ≡ length rows
-    long = length-map rows (λ row. outside gone (support_of m row))
+    long = length-map rows (λ row. without_columns gone (support_of m row))
 
     IsFit : ℕ → Type 0
     IsFit word = (bit_and word gone ≡ 0) × (word < 2 ^ m.width)
 
     by : IsReducedBy m.width gone (length rows) (equations ++ last ∷ []) after
-    by = reduced_by m.width gone (all-append IsFit equations (last ∷ [])
-        (all-map IsFit (λ row. outside gone (support_of m row)) rows (all_by_places (λ row. IsFit (outside gone (support_of m row))) rows 0 (λ k lt.
+    by = are_reduced m.width gone (all-append IsFit equations (last ∷ [])
+        (all-map IsFit (λ row. without_columns gone (support_of m row)) rows (all_by_places (λ row. IsFit (without_columns gone (support_of m row))) rows 0 (λ k lt.
         let row = get_or rows k 0 in
-        (outside_apart gone (support_of m row), outside_lt gone (support_of m row) m.width (support_of-lt m row is (below k lt))))))
-        ((outside_apart gone number, outside_lt gone number m.width small), tt))
+        (without_columns_apart gone (support_of m row), without_columns_lt gone (support_of m row) m.width (support_of-lt m row is (below k lt))))))
+        ((without_columns_apart gone number, without_columns_lt gone number m.width small), tt))

@@ -20,7 +20,7 @@ use Rattle.cmr_base.proofs.SumLaws.{sum_over-exchange}
 use Rattle.cmr_base.proofs.PlaneWords.{bit_at-bits_of, bits_of-lt}
 use Rattle.parity.specs.Equations.{common}
 use Rattle.cmr_base.specs.Planes.{is_minus}
-use Rattle.parity.specs.PlaneSums.{AreSums, HasResidue, equations_of, minus_of, outside, support_of}
+use Rattle.parity.specs.PlaneSums.{AreSums, HasResidue, equations_of, minus_of, support_of, without_columns}
 use Rattle.parity.proofs.Bits.{common-lt, common-xor, ones-zero}
 use Rattle.parity.proofs.Elimination.{IsLeastSolution, apart_at, bit_cases}
 use Rattle.parity.proofs.Residues.{HasDouble, HasParity, all_numbered, at_numbered, count_from_even, count_from_two, double-numbered, even_from_count, parity-numbered, two_from_count}
@@ -53,8 +53,8 @@ row_parity m row set is small =
     let at : column ≡ 0 + column = omega arith in
     subst (λ c. HasParity (entry m row c) (bit_at (support_of m row) column)) at (entry_parity m row column is))
 
-common-outside : (gone number set : ℕ) → bit_and set gone ≡ 0 → common (outside gone number) set ≡ common number set
-common-outside gone number set apart =
+common-without_columns : (gone number set : ℕ) → bit_and set gone ≡ 0 → common (without_columns gone number) set ≡ common number set
+common-without_columns gone number set apart =
     common-xor number (bit_and number gone) set ∙ omega (arith, common-lt number set, ap (λ n. count_ones n % 2) none, ones-zero)
   where
     none : bit_and (bit_and number gone) set ≡ 0
@@ -65,8 +65,8 @@ common-outside gone number set apart =
 -- a set without the columns of odd sum has equations in which these are left out
 pub record Solves (m : Matrix) (rows : List ℕ) (ones twos set : ℕ) : Type 0 where
   pub apart : bit_and set ones ≡ 0
-  pub hold : AllByRecursion (λ row. common (outside ones (support_of m row)) set ≡ 0) rows
-  pub fails : common (outside ones twos) set ≡ 1
+  pub hold : AllByRecursion (λ row. common (without_columns ones (support_of m row)) set ≡ 0) rows
+  pub fails : common (without_columns ones twos) set ≡ 1
 
 even_low : (sum : ℤ) (low high : ℕ) → low < 2 → HasResidue sum low high → low ≡ 0 → IsEven sum
 even_low sum low high small h none =
@@ -92,21 +92,21 @@ whole_double m rows ones twos set are small apart =
 
 pub violator_from_solution : (m : Matrix) (rows : List ℕ) (ones twos set : ℕ) → IsMatrix m → AreSums m rows ones twos → set < 2 ^ m.width → Solves m rows ones twos set → IsViolator (entry m) rows (set_numbered m.width 0 set)
 violator_from_solution m rows ones twos set is are small solves = record {
-  even_rows = all_weaker (λ row. common (outside ones (support_of m row)) set ≡ 0) (λ row. IsEven (sum_over (set_numbered m.width 0 set) (λ column. entry m row column)))
-      (λ row none. even_from_count (sum_over (set_numbered m.width 0 set) (λ column. entry m row column)) (count_ones (bit_and (support_of m row) set)) (row_parity m row set is small) (sym (common-outside ones (support_of m row) set solves.apart) ∙ none)) rows solves.hold;
+  even_rows = all_weaker (λ row. common (without_columns ones (support_of m row)) set ≡ 0) (λ row. IsEven (sum_over (set_numbered m.width 0 set) (λ column. entry m row column)))
+      (λ row none. even_from_count (sum_over (set_numbered m.width 0 set) (λ column. entry m row column)) (count_ones (bit_and (support_of m row) set)) (row_parity m row set is small) (sym (common-without_columns ones (support_of m row) set solves.apart) ∙ none)) rows solves.hold;
   even_columns = all_numbered (λ column. IsEven (sum_over rows (λ row. entry m row column))) m.width 0 set (λ column lt one.
       let at : column ≡ 0 + column = omega arith in
       subst (λ c. IsEven (sum_over rows (λ row. entry m row c))) at (even_low (sum_over rows (λ row. entry m row column)) (bit_at ones column) (bit_at twos column) (bit_at-lt ones column) (are.each column) (apart_at set ones column one solves.apart)));
   two_mod_four = subst IsTwoModFour (sum_over-exchange (set_numbered m.width 0 set) rows (λ column row. entry m row column))
-      (two_from_count (sum_over (set_numbered m.width 0 set) (λ column. sum_over rows (λ row. entry m row column))) (count_ones (bit_and twos set)) (whole_double m rows ones twos set are small solves.apart) (sym (common-outside ones twos set solves.apart) ∙ solves.fails));
+      (two_from_count (sum_over (set_numbered m.width 0 set) (λ column. sum_over rows (λ row. entry m row column))) (count_ones (bit_and twos set)) (whole_double m rows ones twos set are small solves.apart) (sym (common-without_columns ones twos set solves.apart) ∙ solves.fails));
 }
 
 pub solution_from_violator : (m : Matrix) (rows : List ℕ) (ones twos set : ℕ) → IsMatrix m → AreSums m rows ones twos → set < 2 ^ m.width → IsViolator (entry m) rows (set_numbered m.width 0 set) → Solves m rows ones twos set
 solution_from_violator m rows ones twos set is are small violator = record {
   apart = apart;
-  hold = all_weaker (λ row. IsEven (sum_over (set_numbered m.width 0 set) (λ column. entry m row column))) (λ row. common (outside ones (support_of m row)) set ≡ 0)
-      (λ row even. common-outside ones (support_of m row) set apart ∙ count_from_even (sum_over (set_numbered m.width 0 set) (λ column. entry m row column)) (count_ones (bit_and (support_of m row) set)) (row_parity m row set is small) even) rows violator.even_rows;
-  fails = common-outside ones twos set apart
+  hold = all_weaker (λ row. IsEven (sum_over (set_numbered m.width 0 set) (λ column. entry m row column))) (λ row. common (without_columns ones (support_of m row)) set ≡ 0)
+      (λ row even. common-without_columns ones (support_of m row) set apart ∙ count_from_even (sum_over (set_numbered m.width 0 set) (λ column. entry m row column)) (count_ones (bit_and (support_of m row) set)) (row_parity m row set is small) even) rows violator.even_rows;
+  fails = common-without_columns ones twos set apart
       ∙ count_from_two (sum_over (set_numbered m.width 0 set) (λ column. sum_over rows (λ row. entry m row column))) (count_ones (bit_and twos set)) (whole_double m rows ones twos set are small apart)
       (subst IsTwoModFour (sum_over-exchange rows (set_numbered m.width 0 set) (λ row column. entry m row column)) violator.two_mod_four);
 }
@@ -126,20 +126,20 @@ solution_from_violator m rows ones twos set is are small violator = record {
     apart = same_from_bits (bit_and set ones) 0 (λ column. bit_at_and set ones column ∙ at_bit column (bit_cases set column) ∙ sym (bit_at-zero column))
 
 -- ---- the answer
-pub outside_apart : (gone number : ℕ) → bit_and (outside gone number) gone ≡ 0
-outside_apart gone number = same_from_bits (bit_and (outside gone number) gone) 0 (λ i.
-    bit_at_and (outside gone number) gone i
+pub without_columns_apart : (gone number : ℕ) → bit_and (without_columns gone number) gone ≡ 0
+without_columns_apart gone number = same_from_bits (bit_and (without_columns gone number) gone) 0 (λ i.
+    bit_at_and (without_columns gone number) gone i
     ∙ omega (arith, bit_at_xor number (bit_and number gone) i, bit_at_and number gone i, bit_at-lt number i, bit_at-lt gone i, bit_at-zero i))
 
-pub outside_lt : (gone number width : ℕ) → number < 2 ^ width → outside gone number < 2 ^ width
-outside_lt gone number width h = xor_lt width number (bit_and number gone) h (omega (arith, and_le_l number gone))
+pub without_columns_lt : (gone number width : ℕ) → number < 2 ^ width → without_columns gone number < 2 ^ width
+without_columns_lt gone number width h = xor_lt width number (bit_and number gone) h (omega (arith, and_le_l number gone))
 
-pub column_set_from_solution : (m : Matrix) (rows : List ℕ) (ones twos set : ℕ) → IsMatrix m → AreSums m rows ones twos → IsLeastSolution m.width ones (equations_of m ones rows) (outside ones twos) set → IsLeastColumnSet m rows (set_numbered m.width 0 set)
+pub column_set_from_solution : (m : Matrix) (rows : List ℕ) (ones twos set : ℕ) → IsMatrix m → AreSums m rows ones twos → IsLeastSolution m.width ones (equations_of m ones rows) (without_columns ones twos) set → IsLeastColumnSet m rows (set_numbered m.width 0 set)
 column_set_from_solution m rows ones twos set is are solution = record {
   column_set = column_set-numbered m set;
   violator = violator_from_solution m rows ones twos set is are solution.small (record {
     apart = solution.apart;
-    hold = all_unmapped (λ n. common n set ≡ 0) (λ row. outside ones (support_of m row)) rows solution.hold;
+    hold = all_unmapped (λ n. common n set ≡ 0) (λ row. without_columns ones (support_of m row)) rows solution.hold;
     fails = solution.fails;
   });
   least = λ others is_set violator.
@@ -147,17 +147,17 @@ column_set_from_solution m rows ones twos set is are solution = record {
       let rises = column_set_rises m others is_set in
       let small = set_number-lt m.width others rises in
       let solves = solution_from_violator m rows ones twos number is are small (subst (IsViolator (entry m) rows) (sym (numbered_same m.width others rises)) violator) in
-      omega (arith, number_of_numbered m.width set solution.small, solution.least number (all-map (λ n. common n number ≡ 0) (λ row. outside ones (support_of m row)) rows solves.hold) solves.fails);
+      omega (arith, number_of_numbered m.width set solution.small, solution.least number (all-map (λ n. common n number ≡ 0) (λ row. without_columns ones (support_of m row)) rows solves.hold) solves.fails);
 }
 
 pub no_column_set : (m : Matrix) (rows : List ℕ) (ones twos : ℕ) → IsMatrix m → AreSums m rows ones twos
-    → ((set : ℕ) → AllByRecursion (λ n. common n set ≡ 0) (equations_of m ones rows) → common (outside ones twos) set ≡ 0) → HasNoColumnSet m rows
+    → ((set : ℕ) → AllByRecursion (λ n. common n set ≡ 0) (equations_of m ones rows) → common (without_columns ones twos) set ≡ 0) → HasNoColumnSet m rows
 no_column_set m rows ones twos is are none others is_set violator =
     let number = set_number others in
     let rises = column_set_rises m others is_set in
     let small = set_number-lt m.width others rises in
     let solves = solution_from_violator m rows ones twos number is are small (subst (IsViolator (entry m) rows) (sym (numbered_same m.width others rises)) violator) in
-    omega (arith, solves.fails, none number (all-map (λ n. common n number ≡ 0) (λ row. outside ones (support_of m row)) rows solves.hold))
+    omega (arith, solves.fails, none number (all-map (λ n. common n number ≡ 0) (λ row. without_columns ones (support_of m row)) rows solves.hold))
 
-pub equations_more : (m : Matrix) (gone : ℕ) (rows : List ℕ) (i : ℕ) → i < length rows → equations_of m gone (take (i + 1) rows) ≡ equations_of m gone (take i rows) ++ outside gone (support_of m (get_or rows i 0)) ∷ []
-equations_more m gone rows i h = map_more (λ row. outside gone (support_of m row)) rows i 0 h
+pub equations_more : (m : Matrix) (gone : ℕ) (rows : List ℕ) (i : ℕ) → i < length rows → equations_of m gone (take (i + 1) rows) ≡ equations_of m gone (take i rows) ++ without_columns gone (support_of m (get_or rows i 0)) ∷ []
+equations_more m gone rows i h = map_more (λ row. without_columns gone (support_of m row)) rows i 0 h

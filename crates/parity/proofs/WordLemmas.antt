@@ -7,7 +7,7 @@ use Rattle.std.proofs.lemmas.List.{drop_all, drop_more, get_or-drop, get_or_past
 use Rattle.std.proofs.lemmas.Nat.Bits.{bit_at_and, bit_at_xor, bit_at-zero, bit_at-lt, bit_at_cat_low, bit_at_cat_high, bit_at-pow_same, bit_at-pow_other, same_from_bits}
 use Rattle.std.proofs.lemmas.Bool.{cases_lt, cases_eq}
 use Rattle.parity.specs.Equations.{number_of, IsLowest}
-use Rattle.parity.specs.PlaneSums.{outside}
+use Rattle.parity.specs.PlaneSums.{without_columns}
 use Rattle.parity.proofs.Bits.{ones-zero}
 
 -- each word has 64 bits
@@ -79,11 +79,11 @@ number_of-carry ones twos support minus after o_words t_words s_words m_words t_
     joined eo et es em = cc
 
 -- words without those of a second list
-pub number_of-outside : (bits gone after : List ℕ) → AreWords bits → AreWords gone → length bits ≡ length after → length gone ≡ length after
+pub number_of-without_columns : (bits gone after : List ℕ) → AreWords bits → AreWords gone → length bits ≡ length after → length gone ≡ length after
     → ((k : ℕ) → k < length after → get_or after k 0 ≡ bit_xor (get_or bits k 0) (bit_and (get_or bits k 0) (get_or gone k 0)))
-    → number_of after ≡ outside (number_of gone) (number_of bits)
-number_of-outside bits gone after b_words g_words b_long g_long each =
-    same_from_bits (number_of after) (outside (number_of gone) (number_of bits)) (λ i.
+    → number_of after ≡ without_columns (number_of gone) (number_of bits)
+number_of-without_columns bits gone after b_words g_words b_long g_long each =
+    same_from_bits (number_of after) (without_columns (number_of gone) (number_of bits)) (λ i.
     bit_at-number_of after i fits
     ∙ ap (λ n. bit_at n (i % 64)) (all (i / 64) (cases_lt (i / 64) (length after)))
     ∙ bits_are (get_or bits (i / 64) 0) (get_or gone (i / 64) 0) (i % 64)

@@ -29,9 +29,9 @@ abbrev pub cleared_by : Equation → ℕ → ℕ
 cleared_by e number = if bit_at number e.pivot == 1 then bit_xor number e.columns else number
 
 -- all of them, from the first to the last
-abbrev pub reduced : List Equation → ℕ → ℕ
-reduced [] number = number
-reduced (e ∷ es) number = reduced es (cleared_by e number)
+abbrev pub reduced_by : List Equation → ℕ → ℕ
+reduced_by [] number = number
+reduced_by (e ∷ es) number = reduced_by es (cleared_by e number)
 
 -- the pivot taken in or out where the equation does not hold
 abbrev pub corrected_by : Equation → ℕ → ℕ
@@ -45,7 +45,7 @@ solved (e ∷ es) number = corrected_by e (solved es number)
 -- the equations that some rows leave: they follow from the rows, and the rows are reduced to nothing by them. All are sets of the first columns, without those that are gone
 pub record IsBasis (width gone : ℕ) (rows : List ℕ) (es : List Equation) : Type 0 where
   pub follow : (set : ℕ) → AllByRecursion (λ row. common row set ≡ 0) rows → AllByRecursion (λ e. common e.columns set ≡ 0) es
-  pub cleared : AllByRecursion (λ row. reduced es row ≡ 0) rows
+  pub cleared : AllByRecursion (λ row. reduced_by es row ≡ 0) rows
   pub lowest : AllByRecursion (λ e. IsLowest e.columns e.pivot) es
   pub apart : AllByRecursion (λ e. bit_and e.columns gone ≡ 0) es
   pub small : AllByRecursion (λ e. e.columns < 2 ^ width) es
@@ -64,7 +64,7 @@ AreCleared place before after = ((slice_index_or before place 0 ≡ 0) × (after
 pub record IsReducedBy (width gone place : ℕ) (before after : List ℕ) : Type 0 where
   pub equations : List Equation
   pub basis : IsBasis width gone (take place before) equations
-  pub rest : (at : ℕ) → place ≤ at → at < length before → slice_index_or after at 0 ≡ reduced equations (slice_index_or before at 0)
+  pub rest : (at : ℕ) → place ≤ at → at < length before → slice_index_or after at 0 ≡ reduced_by equations (slice_index_or before at 0)
 
 abbrev pub AreReduced : ℕ → List ℕ → List ℕ → Type 0
 AreReduced place before after = (width gone : ℕ) → AllByRecursion (λ word. (bit_and word gone ≡ 0) × (word < 2 ^ width)) before → IsReducedBy width gone place before after

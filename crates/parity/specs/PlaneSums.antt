@@ -13,9 +13,9 @@ support_of m row = bits_of is_nonzero (row_of m row)
 abbrev pub minus_of : Matrix → ℕ → ℕ
 minus_of m row = bits_of is_minus (row_of m row)
 
--- the columns of the one set that are not in the other
-abbrev pub outside : ℕ → ℕ → ℕ
-outside gone number = bit_xor number (bit_and number gone)
+-- the columns of a set, without those that are gone
+abbrev pub without_columns : ℕ → ℕ → ℕ
+without_columns gone number = bit_xor number (bit_and number gone)
 
 -- two planes of so many words: the low and the high bits of column sums modulo 4
 pub record SumPlanes : Type 0 where
@@ -38,4 +38,4 @@ pub record AreSums (m : Matrix) (rows : List ℕ) (ones twos : ℕ) : Type 0 whe
 
 -- the equations of some rows, in the columns that are not gone
 abbrev pub equations_of : Matrix → ℕ → List ℕ → List ℕ
-equations_of m gone rows = map (λ row. outside gone (support_of m row)) rows
+equations_of m gone rows = map (λ row. without_columns gone (support_of m row)) rows

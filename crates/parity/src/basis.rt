@@ -1,5 +1,5 @@
 ghost use Rattle.std.specs.Prelude.{◌≡◌, ◌<◌, ◌≤◌, ◌+◌, ◌*◌, ◌/◌, ◌++◌, [], ◌∷◌, IfOk, OnOk, OnErr, Some, length, slice_get};
-ghost use Rattle.parity.specs.Equations.{number_of, cleared_by, corrected_by, reduced, solved};
+ghost use Rattle.parity.specs.Equations.{number_of, cleared_by, corrected_by, reduced_by, solved};
 
 use crate::words::{add, have_odd_common, is_set, toggle, words_at};
 use cmr_base::{MAX_COLUMNS, MAX_ROWS, Memory};
@@ -70,7 +70,7 @@ impl Basis {
     /// Adds to a set of columns the equations of the basis, in their order, each where its pivot is in the set then.
     pub fn reduce(&self, columns: &mut [u64])
         requires { length columns.old ≡ self.now.words }
-        ensures { number_of columns.new ≡ reduced self.now.equations (number_of columns.old) }
+        ensures { number_of columns.new ≡ reduced_by self.now.equations (number_of columns.old) }
     {
         for place in 0..self.len() {
             let (pivot, equation) = self.get(place);

@@ -3,9 +3,9 @@ ghost use Rattle.cmr_base.specs.Matrix.{height, IsMatrix};
 ghost use Rattle.cmr_base.specs.LineSets.{AllBelow, set_numbered};
 ghost use Rattle.cmr_base.specs.Violator.{HasNoColumnSet, IsLeastColumnSet};
 ghost use Rattle.parity.specs.GivenColumns.{HasLeastColumnSet};
-ghost use Rattle.parity.specs.Equations.{IsBasis, IsLowest, number_of, reduced, solved};
+ghost use Rattle.parity.specs.Equations.{IsBasis, IsLowest, number_of, reduced_by, solved};
 ghost use Rattle.cmr_base.specs.Planes.{words_for};
-ghost use Rattle.parity.specs.PlaneSums.{AreSums, equations_of, outside};
+ghost use Rattle.parity.specs.PlaneSums.{AreSums, equations_of, without_columns};
 
 use crate::basis::Basis;
 use crate::narrow::has_column_set;
@@ -189,11 +189,11 @@ fn free_column(sums: &Sums, basis: &Basis, equation: &mut [u64]) -> Option<u32>
     requires basis { basis.now.words ≡ sums.now.words }
     requires equation { length equation.old ≡ sums.now.words }
     requires few { 64 * length equation.old < 2 ^ 32 }
-    ensures some { IfSome result (IsLowest (reduced basis.now.equations (outside sums.now.ones
-        sums.now.twos))) }
+    ensures some { IfSome result (IsLowest (reduced_by basis.now.equations
+        (without_columns sums.now.ones sums.now.twos))) }
     ensures inside { IfSome result (λ free. free < 64 * length equation.old) }
-    ensures none { IfNone result (reduced basis.now.equations (outside sums.now.ones sums.now.twos)
-        ≡ 0) }
+    ensures none { IfNone result (reduced_by basis.now.equations
+        (without_columns sums.now.ones sums.now.twos) ≡ 0) }
 {
     sums.write_halves(equation);
     basis.reduce(equation);

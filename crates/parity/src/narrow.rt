@@ -6,7 +6,7 @@ ghost use Rattle.cmr_base.specs.LineSets.{AllBelow};
 ghost use Rattle.cmr_base.specs.Violator.{HasNoColumnSet};
 ghost use Rattle.parity.specs.GivenColumns.{HasLeastColumnSet};
 ghost use Rattle.parity.specs.Equations.{AreCleared, AreReduced, IsLowest, cleared_by};
-ghost use Rattle.parity.specs.PlaneSums.{AreSums, equations_of, outside};
+ghost use Rattle.parity.specs.PlaneSums.{AreSums, equations_of, without_columns};
 
 use cmr_base::{Matrix, Memory};
 
@@ -124,7 +124,7 @@ fn cleared_by(equation: Equation, columns: u64) -> u64
 
 // The columns that are not among the others.
 fn without(columns: u64, others: u64) -> u64
-    ensures { result ≡ outside others columns }
+    ensures { result ≡ without_columns others columns }
 {
     columns ^ (columns & others)
 }

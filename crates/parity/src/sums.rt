@@ -1,6 +1,6 @@
 ghost use Rattle.std.specs.Prelude.{◌≡◌, IfOk, length, bit_and, bit_xor};
 ghost use Rattle.parity.specs.Equations.{number_of};
-ghost use Rattle.parity.specs.PlaneSums.{SumPlanes, outside, with_added_row};
+ghost use Rattle.parity.specs.PlaneSums.{SumPlanes, with_added_row, without_columns};
 
 use crate::words::{clear, empty_set};
 use cmr_base::Memory;
@@ -58,7 +58,7 @@ impl Sums {
     pub fn mask_row(&self, support: &[u64], equation: &mut [u64])
         requires support { length support.now ≡ self.now.words }
         requires equation { length equation.old ≡ self.now.words }
-        ensures { number_of equation.new ≡ outside self.now.ones (number_of support.now) }
+        ensures { number_of equation.new ≡ without_columns self.now.ones (number_of support.now) }
     {
         write_outside(support, &self.ones, equation);
     }
@@ -66,7 +66,7 @@ impl Sums {
     /// Writes the columns whose sum is 2 modulo 4.
     pub fn write_halves(&self, equation: &mut [u64])
         requires { length equation.old ≡ self.now.words }
-        ensures { number_of equation.new ≡ outside self.now.ones self.now.twos }
+        ensures { number_of equation.new ≡ without_columns self.now.ones self.now.twos }
     {
         write_outside(&self.twos, &self.ones, equation);
     }
@@ -92,7 +92,7 @@ fn add_planes(ones: &mut [u64], twos: &mut [u64], support: &[u64], minus: &[u64]
 fn write_outside(bits: &[u64], gone: &[u64], into: &mut [u64])
     requires bits { length bits.now ≡ length into.old }
     requires gone { length gone.now ≡ length into.old }
-    ensures { number_of into.new ≡ outside (number_of gone.now) (number_of bits.now) }
+    ensures { number_of into.new ≡ without_columns (number_of gone.now) (number_of bits.now) }
 {
     for place in 0..into.len() {
         into[place] = bits[place] ^ (bits[place] & gone[place]);

@@ -1,10 +1,10 @@
 use Rattle.std.proofs.Common.{◌≡◌, ◌+◌, ◌∙◌, ◌++◌, ◌∷◌, [], ap, sym, subst, take, get_or, arith, List, ℕ}
-use Rattle.parity.specs.Equations.{IsBasis, IsLowest, System, number_of, reduced}
-use Rattle.parity.specs.PlaneSums.{equations_of, outside, support_of}
+use Rattle.parity.specs.Equations.{IsBasis, IsLowest, System, number_of, reduced_by}
+use Rattle.parity.specs.PlaneSums.{equations_of, support_of, without_columns}
 use Rattle.cmr_base.specs.Matrix.{is_nonzero}
 use Rattle.parity.proofs.PlaneLemmas.{length-row, number_of-row}
 use Rattle.parity.proofs.Elimination.{basis_push, basis_skip}
-use Rattle.parity.proofs.Systems.{equations_more, outside_apart, outside_lt, support_of-lt}
+use Rattle.parity.proofs.Systems.{equations_more, support_of-lt, without_columns_apart, without_columns_lt}
 use Rattle.parity.proofs.column_search.eliminate.Goals as goal
 use Rattle.parity.proofs.column_search.eliminate.Goals.{in-Some+in_ok-push, in_default}
 
@@ -22,19 +22,19 @@ loop-row-preserved c =
     let i = c.loop-row.row-index in
     let es = c.loop-row.basis.equations in
     let before = equations_of m gone (take i rows) in
-    let row = outside gone (support_of m (get_or rows i 0)) in
+    let row = without_columns gone (support_of m (get_or rows i 0)) in
     let more = sym (equations_more m gone rows i c.loop-row-test.true) in
-    let left : number_of c.reduce.new.columns ≡ reduced es row = c.reduce.ensures ∙ ap (reduced es) (c.mask_row.ensures ∙ ap (outside gone) (number_of-row m is_nonzero (get_or rows i 0) c.support_words.result.now c.requires.shape (c.requires.rows i c.loop-row-test.true) c.support_words.ensures)) in
-    let small = outside_lt gone (support_of m (get_or rows i 0)) m.width (support_of-lt m (get_or rows i 0) c.requires.shape (c.requires.rows i c.loop-row-test.true)) in
+    let left : number_of c.reduce.new.columns ≡ reduced_by es row = c.reduce.ensures ∙ ap (reduced_by es) (c.mask_row.ensures ∙ ap (without_columns gone) (number_of-row m is_nonzero (get_or rows i 0) c.support_words.result.now c.requires.shape (c.requires.rows i c.loop-row-test.true) c.support_words.ensures)) in
+    let small = without_columns_lt gone (support_of m (get_or rows i 0)) m.width (support_of-lt m (get_or rows i 0) c.requires.shape (c.requires.rows i c.loop-row-test.true)) in
     elim c.match-lowest.branch [
       | in-Some+in_ok-push w ↦
           let pivot = w.in-Some.pivot in
-          let after : c.match-lowest.basis ≡ record { words = c.loop-row.basis.words; equations = es ++ record { pivot = pivot; columns = reduced es row } ∷ [] } =
+          let after : c.match-lowest.basis ≡ record { words = c.loop-row.basis.words; equations = es ++ record { pivot = pivot; columns = reduced_by es row } ∷ [] } =
           w.basis-is ∙ w.in_ok-push.ensures.ok ∙ ap (λ (n : ℕ). record { words = c.loop-row.basis.words; equations = es ++ record { pivot = pivot; columns = n } ∷ [] }) left in
           record {
             so_far = subst (λ (s : System). IsBasis m.width gone (equations_of m gone (take (i + 1) rows)) s.equations) (sym after)
-                (subst (λ (rs : List ℕ). IsBasis m.width gone rs (es ++ record { pivot = pivot; columns = reduced es row } ∷ [])) more
-                (basis_push m.width gone before es row pivot c.loop-row.invariant.so_far (outside_apart gone (support_of m (get_or rows i 0))) small (subst (λ (n : ℕ). IsLowest n pivot) left w.in-Some.ensures.some)));
+                (subst (λ (rs : List ℕ). IsBasis m.width gone rs (es ++ record { pivot = pivot; columns = reduced_by es row } ∷ [])) more
+                (basis_push m.width gone before es row pivot c.loop-row.invariant.so_far (without_columns_apart gone (support_of m (get_or rows i 0))) small (subst (λ (n : ℕ). IsLowest n pivot) left w.in-Some.ensures.some)));
             words = ap (λ (s : System). s.words) after ∙ c.loop-row.invariant.words;
           }
       | in_default w ↦ record {

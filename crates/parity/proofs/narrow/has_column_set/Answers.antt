@@ -1,7 +1,7 @@
 use Rattle.std.proofs.Common.{◌≡◌, ◌^◌, ◌∙◌, ◌++◌, ◌∷◌, [], length, ap, sym, subst}
 use Rattle.cmr_base.specs.LineSets.{set_numbered}
 use Rattle.parity.specs.Equations.{AreReduced, IsLowest, solved}
-use Rattle.parity.specs.PlaneSums.{equations_of, outside}
+use Rattle.parity.specs.PlaneSums.{equations_of, without_columns}
 use Rattle.parity.proofs.ColumnSetSearch.{least_from_free, none_from_cleared, none_without_halves}
 use Rattle.parity.proofs.ReducedWords.{reduced_by_rows}
 use Rattle.parity.proofs.narrow.has_column_set.Goals as goal
@@ -16,7 +16,7 @@ returns-in-Some-clause-yes c = λ e.
     let rows = c.args.rows.now in
     let ones = c.sum_rows-sums.result.ones in
     let twos = c.sum_rows-sums.result.twos in
-    let words : c.deref_mut.result.now ≡ equations_of m ones rows ++ outside ones twos ∷ [] =
+    let words : c.deref_mut.result.now ≡ equations_of m ones rows ++ without_columns ones twos ∷ [] =
     c.deref_mut.ensures.value ∙ c.in_ok-push.ensures.items ∙ ap (λ items. items ++ c.without-halves.result ∷ []) c.in_ok-write_equations.ensures ∙ ap (λ n. equations_of m ones rows ++ n ∷ []) c.without-halves.ensures in
     let by = reduced_by_rows m ones twos rows c.eliminate.new.words c.requires.shape c.requires.rows c.sum_rows-sums.ensures.small
     (subst (λ ws. AreReduced (length rows) ws c.eliminate.new.words) words c.eliminate.ensures.reduced) in (
@@ -31,7 +31,7 @@ returns-in-None-clause-no c = λ e.
     let rows = c.args.rows.now in
     let ones = c.sum_rows-sums.result.ones in
     let twos = c.sum_rows-sums.result.twos in
-    let words : c.deref_mut.result.now ≡ equations_of m ones rows ++ outside ones twos ∷ [] =
+    let words : c.deref_mut.result.now ≡ equations_of m ones rows ++ without_columns ones twos ∷ [] =
     c.deref_mut.ensures.value ∙ c.in_ok-push.ensures.items ∙ ap (λ items. items ++ c.without-halves.result ∷ []) c.in_ok-write_equations.ensures ∙ ap (λ n. equations_of m ones rows ++ n ∷ []) c.without-halves.ensures in
     let by = reduced_by_rows m ones twos rows c.eliminate.new.words c.requires.shape c.requires.rows c.sum_rows-sums.ensures.small
     (subst (λ ws. AreReduced (length rows) ws c.eliminate.new.words) words c.eliminate.ensures.reduced) in

@@ -1,6 +1,6 @@
 use Rattle.std.proofs.Common.{◌≡◌, ◌∙◌, ◌++◌, ◌∷◌, [], ap, sym, take, get_or}
 use Rattle.cmr_base.specs.Matrix.{is_nonzero}
-use Rattle.parity.specs.PlaneSums.{equations_of, outside, support_of}
+use Rattle.parity.specs.PlaneSums.{equations_of, support_of, without_columns}
 use Rattle.parity.proofs.PlaneLemmas.{one_word}
 use Rattle.parity.proofs.Systems.{equations_more}
 use Rattle.parity.proofs.narrow.write_equations.Goals as goal
@@ -15,5 +15,5 @@ loop-row-preserved c =
     let word : c.support_word.result ≡ support_of m row = c.support_word.ensures ∙ one_word m is_nonzero row c.requires.shape (c.requires.rows i c.loop-row-test.true) c.requires.narrow in
     c.in_ok-push.ensures.items
     ∙ ap (λ items. items ++ c.without.result ∷ []) c.loop-row.invariant
-    ∙ ap (λ n. equations_of m gone (take i rows) ++ n ∷ []) (c.without.ensures ∙ ap (outside gone) word)
+    ∙ ap (λ n. equations_of m gone (take i rows) ++ n ∷ []) (c.without.ensures ∙ ap (without_columns gone) word)
     ∙ sym (equations_more m gone rows i c.loop-row-test.true)

@@ -1,5 +1,5 @@
 use Rattle.std.proofs.Common.{◌∙◌, sym, rules, arith}
-use Rattle.parity.proofs.WordLemmas.{AreWords, number_of-outside}
+use Rattle.parity.proofs.WordLemmas.{AreWords, number_of-without_columns}
 use Rattle.parity.proofs.sums.write_outside.Goals as goal
 
 pub returns : goal.returns
@@ -7,4 +7,4 @@ returns c =
     let bits : AreWords c.args.bits.now = λ k. search rules in
     let gone : AreWords c.args.gone.now = λ k. search rules in
     let long = c.loop-place.auto.into in
-    number_of-outside c.args.bits.now c.args.gone.now c.loop-place.into bits gone (c.requires.bits ∙ sym long) (c.requires.gone ∙ sym long) (λ k h. c.loop-place.invariant k (omega (arith, long)))
+    number_of-without_columns c.args.bits.now c.args.gone.now c.loop-place.into bits gone (c.requires.bits ∙ sym long) (c.requires.gone ∙ sym long) (λ k h. c.loop-place.invariant k (omega (arith, long)))

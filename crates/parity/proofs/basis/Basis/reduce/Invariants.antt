@@ -1,7 +1,7 @@
 use Rattle.std.proofs.Common.{◌≡◌, drop}
-use Rattle.parity.specs.Equations.{number_of, reduced}
+use Rattle.parity.specs.Equations.{number_of, reduced_by}
 use Rattle.parity.proofs.basis.Basis.reduce.Given as goal
 
 -- the equations that are left lead to the same
 abbrev pub invariant-loop-place : goal.invariant-loop-place
-invariant-loop-place l = reduced (drop l.place l.self.equations) (number_of l.columns) ≡ reduced l.self.equations (number_of l.initial.columns)
+invariant-loop-place l = reduced_by (drop l.place l.self.equations) (number_of l.columns) ≡ reduced_by l.self.equations (number_of l.initial.columns)
