@@ -1,5 +1,7 @@
 // Violators as what is looked for.
+ghost use Rattle.std.specs.Prelude.{◌≡◌, ◌≤◌, IfOk};
 ghost use Rattle.cmr_base.specs.Violator.{IsLeastByRows};
+ghost use Rattle.first_hit.specs.First.{IsFirst};
 ghost use Rattle.leaf_enumerate.specs.RowSets.{HasColumnSet};
 
 use crate::row_sets::row_set;
@@ -31,17 +33,9 @@ impl Sought for Violators {
         from: u64,
         to: u64,
     ) -> Result<Option<u64>, Memory> {
-        let count = matrix.rows();
         let mut search = ColumnSearch::new(alloc, matrix)?;
-        let mut set = Vec::with_capacity(alloc, count as usize)?;
-        for number in from..to {
-            write_set(&mut set, count, number)?;
-            let has = search.has(&set)?;
-            if has {
-                return Ok(Some(number));
-            }
-        }
-        Ok(None)
+        let mut set = Vec::with_capacity(alloc, matrix.rows() as usize)?;
+        first_row_set(matrix, &mut search, &mut set, from, to)
     }
 
     fn lines(&self, alloc: Global, matrix: &Matrix, number: u64) -> Result<LineSet, Memory> {
@@ -51,4 +45,26 @@ impl Sought for Violators {
             None => unreachable!(),
         }
     }
+}
+
+// The least number of a range whose row set makes a violator with some column set. The list is room for a row set.
+fn first_row_set(
+    matrix: &Matrix,
+    search: &mut ColumnSearch<'_>,
+    set: &mut Vec<u32>,
+    from: u64,
+    to: u64,
+) -> Result<Option<u64>, Memory>
+    requires range { from ≤ to }
+    requires search { search.old ≡ matrix.now }
+    ensures { IfOk result (IsFirst (HasColumnSet matrix.now) from to) }
+{
+    let count = matrix.rows();
+    for number in from..to {
+        write_set(set, count, number)?;
+        if search.has(set)? {
+            return Ok(Some(number));
+        }
+    }
+    Ok(None)
 }

@@ -3,6 +3,7 @@ ghost use Rattle.cmr_base.specs.Matrix.{height, IsMatrix};
 ghost use Rattle.cmr_base.specs.LineSets.{AllBelow, set_numbered};
 ghost use Rattle.cmr_base.specs.Violator.{HasNoColumnSet, IsLeastColumnSet};
 ghost use Rattle.parity.specs.GivenColumns.{HasLeastColumnSet};
+ghost use Rattle.parity.specs.SearchView.{IsRoomFor};
 ghost use Rattle.parity.specs.Equations.{IsBasis, IsLowest, number_of, reduced_by, solved};
 ghost use Rattle.cmr_base.specs.Planes.{words_for};
 ghost use Rattle.parity.specs.PlaneSums.{AreSums, equations_of, without_columns};
@@ -34,10 +35,16 @@ pub fn first_column_set(
 #[derive(Drop)]
 pub struct ColumnSearch<'a> {
     matrix: &'a Matrix,
+    wide: WideRoom,
+    narrow: Vec<u64>,
+}
+
+// Room for the search in a matrix of any number of columns.
+#[derive(Drop)]
+struct WideRoom {
     sums: Sums,
     basis: Basis,
     equation: Vec<u64>,
-    narrow: Vec<u64>,
 }
 
 impl<'a> Model for ColumnSearch<'a> {
@@ -57,13 +64,12 @@ impl<'a> ColumnSearch<'a> {
     pub fn new(alloc: Global, matrix: &'a Matrix) -> Result<ColumnSearch<'a>, Memory>
         ensures { IfOk result (λ search. search ≡ matrix.entry.now) }
     {
-        let words = words_for(matrix.columns());
+        let wide = wide_room(alloc, matrix)?;
+        let narrow = Vec::with_capacity(alloc, matrix.rows() as usize + 1)?;
         Ok(ColumnSearch {
             matrix,
-            sums: Sums::new(alloc, words)?,
-            basis: Basis::new(alloc, words, matrix.rows() as usize)?,
-            equation: empty_set(alloc, words)?,
-            narrow: Vec::with_capacity(alloc, matrix.rows() as usize + 1)?,
+            wide,
+            narrow,
         })
     }
 
@@ -79,13 +85,7 @@ impl<'a> ColumnSearch<'a> {
         if 0 < columns && columns <= 64 {
             return has_column_set(self.matrix, rows, &mut self.narrow);
         }
-        has_wide(
-            self.matrix,
-            &mut self.sums,
-            &mut self.basis,
-            &mut self.equation,
-            rows,
-        )
+        has_wide(self.matrix, &mut self.wide, rows)
     }
 
     /// The column set of least number that makes a violator with exactly these rows, or `None` where no column
@@ -96,48 +96,82 @@ impl<'a> ColumnSearch<'a> {
         ensures least { IfOk result (λ answer. IfSome answer (IsLeastColumnSet self.old rows.now)) }
         ensures none { IfOk result (λ answer. IfNone answer (HasNoColumnSet self.old rows.now)) }
     {
-        sum_columns(self.matrix, &mut self.sums, rows);
-        eliminate(
-            self.matrix,
-            &self.sums,
-            &mut self.basis,
-            &mut self.equation,
-            rows,
-        )?;
-        match free_column(&self.sums, &self.basis, &mut self.equation) {
-            None => Ok(None),
-            Some(free) => {
-                let count = self.matrix.columns();
-                Ok(Some(solution(alloc, &self.basis, &mut self.equation, free, count)?))
-            }
-        }
+        first_wide(alloc, self.matrix, &mut self.wide, rows)
     }
 }
 
+fn wide_room(alloc: Global, matrix: &Matrix) -> Result<WideRoom, Memory>
+    ensures { IfOk result (IsRoomFor (words_for matrix.now.width)) }
+{
+    let words = words_for(matrix.columns());
+    let sums = Sums::new(alloc, words)?;
+    let basis = Basis::new(alloc, words, matrix.rows() as usize)?;
+    let equation = empty_set(alloc, words)?;
+    Ok(WideRoom {
+        sums,
+        basis,
+        equation,
+    })
+}
+
 // Whether some column set makes a violator with exactly these rows.
-fn has_wide(
-    matrix: &Matrix,
-    sums: &mut Sums,
-    basis: &mut Basis,
-    equation: &mut [u64],
-    rows: &[u32],
-) -> Result<bool, Memory>
+fn has_wide(matrix: &Matrix, room: &mut WideRoom, rows: &[u32]) -> Result<bool, Memory>
     requires rows { AllBelow (height matrix.now) rows.now }
-    requires sums { sums.old.words ≡ words_for matrix.now.width }
-    requires basis { basis.old.words ≡ words_for matrix.now.width }
-    requires equation { length equation.old ≡ words_for matrix.now.width }
     requires shape { IsMatrix matrix.now }
+    requires room { IsRoomFor (words_for matrix.now.width) room.old }
     ensures yes { IfOk result (λ has. has ≡ true → HasLeastColumnSet matrix.now rows.now) }
     ensures no { IfOk result (λ has. has ≡ false → HasNoColumnSet matrix.now rows.now) }
-    ensures sums { sums.new.words ≡ sums.old.words }
-    ensures basis { basis.new.words ≡ basis.old.words }
+    ensures room { IsRoomFor (words_for matrix.now.width) room.new }
 {
-    sum_columns(matrix, sums, rows);
-    eliminate(matrix, sums, basis, equation, rows)?;
-    match free_column(sums, basis, equation) {
+    match free_column(matrix, room, rows)? {
         Some(_free) => Ok(true),
         None => Ok(false),
     }
+}
+
+// The column set of least number that makes a violator with exactly these rows, or `None` where no column set does.
+fn first_wide(
+    alloc: Global,
+    matrix: &Matrix,
+    room: &mut WideRoom,
+    rows: &[u32],
+) -> Result<Option<Indices>, Memory>
+    requires rows { AllBelow (height matrix.now) rows.now }
+    requires shape { IsMatrix matrix.now }
+    requires room { IsRoomFor (words_for matrix.now.width) room.old }
+    ensures least { IfOk result (λ answer. IfSome answer (IsLeastColumnSet matrix.now rows.now)) }
+    ensures none { IfOk result (λ answer. IfNone answer (HasNoColumnSet matrix.now rows.now)) }
+    ensures room { IsRoomFor (words_for matrix.now.width) room.new }
+{
+    let Some(free) = free_column(matrix, room, rows)? else {
+        return Ok(None);
+    };
+    let count = matrix.columns();
+    let columns = solution(alloc, &room.basis, &mut room.equation, free, count)?;
+    Ok(Some(columns))
+}
+
+// The column that is no pivot and leads to the solution of least number, or `None` where there is no solution.
+fn free_column(matrix: &Matrix, room: &mut WideRoom, rows: &[u32]) -> Result<Option<u32>, Memory>
+    requires rows { AllBelow (height matrix.now) rows.now }
+    requires shape { IsMatrix matrix.now }
+    requires room { IsRoomFor (words_for matrix.now.width) room.old }
+    ensures least { IfOk result (λ free. IfSome free (λ column. IsLeastColumnSet matrix.now rows.now
+        (set_numbered matrix.now.width 0 (solved room.new.basis.equations (2 ^ column))))) }
+    ensures inside { IfOk result (λ free. IfSome free (λ column.
+        column < 64 * words_for matrix.now.width)) }
+    ensures none { IfOk result (λ free. IfNone free (HasNoColumnSet matrix.now rows.now)) }
+    ensures room { IsRoomFor (words_for matrix.now.width) room.new }
+{
+    sum_columns(matrix, &mut room.sums, rows);
+    eliminate(
+        matrix,
+        &room.sums,
+        &mut room.basis,
+        &mut room.equation,
+        rows,
+    )?;
+    Ok(lowest_left(&room.sums, &room.basis, &mut room.equation))
 }
 
 // The sums of the rows in each column, modulo 4.
@@ -185,7 +219,7 @@ fn eliminate(
 
 // The least column in what the equations leave of the columns whose sum is 2 modulo 4, of which a solution has an odd
 // number. Where they leave none, there is no solution.
-fn free_column(sums: &Sums, basis: &Basis, equation: &mut [u64]) -> Option<u32>
+fn lowest_left(sums: &Sums, basis: &Basis, equation: &mut [u64]) -> Option<u32>
     requires basis { basis.now.words ≡ sums.now.words }
     requires equation { length equation.old ≡ sums.now.words }
     requires few { 64 * length equation.old < 2 ^ 32 }

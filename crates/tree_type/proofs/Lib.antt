@@ -6,3 +6,4 @@ pub mod OneRefusal
 mod SoundOrBroken
 pub mod SideLemmas
 pub mod Among
+mod ChildLines

@@ -1,6 +1,6 @@
 // The lines on the sides of a separation, and those that the children of a sum are to have.
 ghost use Rattle.std.specs.Prelude.{◌≡◌, IfOk};
-ghost use Rattle.tree_type.specs.Sides.{is_among, inside, outside, inside_with, outside_with, two_one, two_two, three_one, three_two, connector_rows, connector_columns};
+ghost use Rattle.tree_type.specs.Sides.{is_among, inside, outside, inside_with, outside_with, two_one, two_two, three_one, three_two};
 
 use cmr_base::{Connector, Indices, LineSet, Memory, Three, Two};
 use std::alloc::Global;
@@ -17,10 +17,7 @@ pub fn side_one(alloc: Global, lines: &LineSet, set: &LineSet) -> Result<LineSet
     ensures rows { IfOk result (λ one. one.rows ≡ inside set.now.rows lines.now.rows) }
     ensures columns { IfOk result (λ one. one.columns ≡ inside set.now.columns lines.now.columns) }
 {
-    Ok(LineSet {
-        rows: inside_with(alloc, &set.rows, &[], &lines.rows)?,
-        columns: inside_with(alloc, &set.columns, &[], &lines.columns)?,
-    })
+    one_with(alloc, lines, set, &[], &[])
 }
 
 /// The lines of side two, those that are not in the set.
@@ -28,10 +25,7 @@ pub fn side_two(alloc: Global, lines: &LineSet, set: &LineSet) -> Result<LineSet
     ensures rows { IfOk result (λ two. two.rows ≡ outside set.now.rows lines.now.rows) }
     ensures columns { IfOk result (λ two. two.columns ≡ outside set.now.columns lines.now.columns) }
 {
-    Ok(LineSet {
-        rows: outside_with(alloc, &set.rows, &[], &lines.rows)?,
-        columns: outside_with(alloc, &set.columns, &[], &lines.columns)?,
-    })
+    other_with(alloc, lines, set, &[], &[])
 }
 
 /// The same lines.
@@ -48,102 +42,76 @@ pub fn copy_of(alloc: Global, lines: &LineSet) -> Result<LineSet, Memory>
 pub fn two_one(alloc: Global, lines: &LineSet, two: &Two) -> Result<LineSet, Memory>
     ensures { IfOk result (λ one. one ≡ two_one lines.now two.now) }
 {
-    let side = &two.side;
-    Ok(LineSet {
-        rows: inside_with(alloc, &side.rows, &[two.row], &lines.rows)?,
-        columns: inside_with(alloc, &side.columns, &[], &lines.columns)?,
-    })
+    one_with(alloc, lines, &two.side, &[two.row], &[])
 }
 
 /// The lines of the second child of a two-sum: side two with the column of the reference.
 pub fn two_two(alloc: Global, lines: &LineSet, two: &Two) -> Result<LineSet, Memory>
     ensures { IfOk result (λ other. other ≡ two_two lines.now two.now) }
 {
-    let side = &two.side;
-    Ok(LineSet {
-        rows: outside_with(alloc, &side.rows, &[], &lines.rows)?,
-        columns: outside_with(alloc, &side.columns, &[two.column], &lines.columns)?,
-    })
+    other_with(alloc, lines, &two.side, &[], &[two.column])
 }
 
 /// The lines of the first child of a three-sum: side one with the second connector.
 pub fn three_one(alloc: Global, lines: &LineSet, three: &Three) -> Result<LineSet, Memory>
     ensures { IfOk result (λ one. one ≡ three_one lines.now three.now) }
 {
-    one_with(
-        alloc,
-        lines,
-        &three.side,
-        three.form.second_is_flat(),
-        three.second,
-    )
+    let Connector { row, column, other } = three.second;
+    if three.form.second_is_flat() {
+        one_with(alloc, lines, &three.side, &[row], &[column, other])
+    } else {
+        one_with(alloc, lines, &three.side, &[row, other], &[column])
+    }
 }
 
 /// The lines of the second child of a three-sum: side two with the first connector.
 pub fn three_two(alloc: Global, lines: &LineSet, three: &Three) -> Result<LineSet, Memory>
     ensures { IfOk result (λ other. other ≡ three_two lines.now three.now) }
 {
-    other_with(
-        alloc,
-        lines,
-        &three.side,
-        three.form.first_is_flat(),
-        three.first,
-    )
+    let Connector { row, column, other } = three.first;
+    if three.form.first_is_flat() {
+        other_with(alloc, lines, &three.side, &[row], &[column, other])
+    } else {
+        other_with(alloc, lines, &three.side, &[row, other], &[column])
+    }
 }
 
-// Side one with a connector of side two.
+// Side one, and a few rows and columns more.
 fn one_with(
     alloc: Global,
     lines: &LineSet,
     side: &LineSet,
-    is_flat: bool,
-    connector: Connector,
+    rows: &[u32],
+    columns: &[u32],
 ) -> Result<LineSet, Memory>
-    ensures rows { IfOk result (λ one. one.rows ≡ inside_with side.now.rows
-        (connector_rows is_flat connector) lines.now.rows) }
+    ensures rows { IfOk result (λ one. one.rows
+        ≡ inside_with side.now.rows rows.now lines.now.rows) }
     ensures columns { IfOk result (λ one. one.columns
-        ≡ inside_with side.now.columns (connector_columns is_flat connector) lines.now.columns) }
+        ≡ inside_with side.now.columns columns.now lines.now.columns) }
 {
-    let Connector { row, column, other } = connector;
-    if is_flat {
-        Ok(LineSet {
-            rows: inside_with(alloc, &side.rows, &[row], &lines.rows)?,
-            columns: inside_with(alloc, &side.columns, &[column, other], &lines.columns)?,
-        })
-    } else {
-        Ok(LineSet {
-            rows: inside_with(alloc, &side.rows, &[row, other], &lines.rows)?,
-            columns: inside_with(alloc, &side.columns, &[column], &lines.columns)?,
-        })
-    }
+    Ok(LineSet {
+        rows: inside_with(alloc, &side.rows, rows, &lines.rows)?,
+        columns: inside_with(alloc, &side.columns, columns, &lines.columns)?,
+    })
 }
 
-// Side two with a connector of side one.
+// Side two, and a few rows and columns more.
 fn other_with(
     alloc: Global,
     lines: &LineSet,
     side: &LineSet,
-    is_flat: bool,
-    connector: Connector,
+    rows: &[u32],
+    columns: &[u32],
 ) -> Result<LineSet, Memory>
-    ensures rows { IfOk result (λ other. other.rows ≡ outside_with side.now.rows
-        (connector_rows is_flat connector) lines.now.rows) }
+    ensures rows { IfOk result (λ other. other.rows
+        ≡ outside_with side.now.rows rows.now lines.now.rows) }
     ensures columns { IfOk result (λ other. other.columns
-        ≡ outside_with side.now.columns (connector_columns is_flat connector) lines.now.columns) }
+        ≡ outside_with side.now.columns columns.now lines.now.columns) }
 {
-    let Connector { row, column, other } = connector;
-    if is_flat {
-        Ok(LineSet {
-            rows: outside_with(alloc, &side.rows, &[row], &lines.rows)?,
-            columns: outside_with(alloc, &side.columns, &[column, other], &lines.columns)?,
-        })
-    } else {
-        Ok(LineSet {
-            rows: outside_with(alloc, &side.rows, &[row, other], &lines.rows)?,
-            columns: outside_with(alloc, &side.columns, &[column], &lines.columns)?,
-        })
-    }
+    Ok(LineSet {
+        rows: outside_with(alloc, &side.rows, rows, &lines.rows)?,
+        columns: outside_with(alloc, &side.columns, columns, &lines.columns)?,
+    })
 }
 
 // The lines that are in a set or among a few more.
