@@ -37,7 +37,7 @@ fn is_clean_by_rows(alloc: Global, matrix: &Matrix) -> Result<bool, Memory>
     let mut set = Vec::with_capacity(alloc, count as usize)?;
     for number in 0..set_count(count) {
         write_set(&mut set, count, number)?;
-        if let Some(_columns) = search.first(alloc, &set)? {
+        if search.has(&set)? {
             return Ok(false);
         }
     }
